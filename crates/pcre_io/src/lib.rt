@@ -1,0 +1,23 @@
+//! Where bytes come from and go to: sources, sinks and sets of files, which count their faults and may tell what
+//! they hold.
+#![tactic(auto)]
+
+mod file_set;
+mod mem_files;
+mod mem_sink;
+mod mem_source;
+mod memory;
+mod names;
+mod std_streams;
+mod traits;
+mod whole;
+
+pub use file_set::FileSet;
+pub use mem_files::MemFiles;
+pub use mem_sink::MemSink;
+pub use mem_source::MemSource;
+pub use memory::Memory;
+pub use names::{Name, NameList};
+pub use std_streams::{StdSink, StdSource};
+pub use traits::{Failed, IoError, Sink, Source};
+pub use whole::write_all;

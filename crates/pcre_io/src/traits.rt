@@ -1,0 +1,47 @@
+//! Sources and sinks.
+ghost use Rattle.std.specs.Prelude.{◌≤◌, ◌<◌, ℕ, length, IfOk};
+ghost use Rattle.std.specs.Io.{ReadsAtMost, WritesAtMost};
+ghost use Rattle.std.specs.Io.KnownBytes.{ReadConsumes, WriteAppends};
+ghost use Rattle.pcre_io.specs.Told.{StopsAt, Told, Kept};
+ghost use Rattle.pcre_io.specs.Causes.{CountsFaults, HasCause};
+
+/// A read failed.
+#[derive(Debug, Clone, Copy, PartialEq, Eq)]
+pub struct Failed;
+
+/// Why a write, or the opening of a file, was refused.
+#[derive(Debug, Clone, Copy, PartialEq, Eq)]
+pub enum IoError {
+    /// The outside refused, and counted a fault.
+    Failed,
+    /// Memory lacked.
+    Memory,
+}
+
+/// Where bytes come from.
+pub trait Source {
+    /// The bytes that it has left and its fault place, where it tells them, and how many faults it has counted.
+    ghost tells: { Self → Told };
+
+    /// Moves the next bytes into `buf`, and says how many. None, with room in `buf`, is the end. A read that failed
+    /// counted a fault and moved nothing.
+    fn read(&mut self, buf: &mut [u8]) -> Result<usize, Failed>
+        ensures bound { ReadsAtMost result buf.new }
+        ensures bytes { ReadConsumes (tells self.old).left (tells self.new).left result buf.new }
+        ensures stop { StopsAt (tells self.old).stop (tells self.new).stop result (length buf.old) }
+        ensures cause { CountsFaults (tells self.old).faults (tells self.new).faults result };
+}
+
+/// Where bytes go.
+pub trait Sink {
+    /// The bytes that it holds, where it tells them, and how many faults it has counted.
+    ghost tells: { Self → Kept };
+
+    /// Takes the first bytes of a piece, at least one of a piece that isn't empty, and says how many. A write that was
+    /// refused took nothing; one that failed counted a fault.
+    fn write(&mut self, bytes: &[u8]) -> Result<usize, IoError>
+        ensures bound { WritesAtMost result bytes.now }
+        ensures some { IfOk result (λ n. 0 < length bytes.now → 0 < n) }
+        ensures bytes { WriteAppends (tells self.old).held (tells self.new).held result bytes.now }
+        ensures cause { HasCause (tells self.old).faults (tells self.new).faults result };
+}
