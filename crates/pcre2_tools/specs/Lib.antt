@@ -1,0 +1,4 @@
+pub mod Text
+pub mod Scan
+pub mod Plans
+pub mod Runs

@@ -1,0 +1,19 @@
+//! The program pcre2grep, which is pcre2test too: `run` is the tool over any files, streams and words, and `main` runs
+//! it on the real ones.
+#![tactic(auto)]
+
+mod lines;
+mod plans;
+mod real;
+#[cfg(test)]
+mod tests;
+mod top;
+mod word;
+
+pub use top::run;
+
+use std::process::ExitCode;
+
+fn main(rt: HostRuntime) -> ExitCode {
+    real::run_real(&rt)
+}
