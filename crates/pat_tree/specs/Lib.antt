@@ -1,2 +1,6 @@
 pub mod Nested
 pub mod Groups
+pub mod Parts
+pub mod Rules
+pub mod Refs
+pub mod Growing

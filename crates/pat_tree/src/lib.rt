@@ -1,14 +1,20 @@
 //! What a pattern is: a tree of numbered nodes with its classes, names and options.
 #![tactic(auto)]
 
+mod draft;
 mod lists;
 mod memory;
+mod names;
 mod nodes;
 mod options;
 mod steps;
+mod tree;
 
+pub use draft::{BadRef, Draft};
 pub use lists::{ByteList, GroupList, Kids, ListOf, NumberList, PartList, TextList, Word};
 pub use memory::Memory;
+pub use names::{NameEntry, NameTable};
 pub use nodes::{AnchorKind, ClassSpec, Cond, Item, Node, NodeId, Part, Placed, SetName, Verb};
 pub use options::{Bsr, MatchOptions, Newline, Options, PartialMode};
 pub use steps::Steps;
+pub use tree::Tree;

@@ -1,0 +1,4 @@
+pub mod Growing
+pub mod Reached
+pub mod Loose
+pub mod Named

@@ -1,0 +1,196 @@
+//! A tree in the making.
+ghost use Rattle.std.specs.List.{list_all};
+ghost use Rattle.std.specs.Prelude.{true, if◌then◌else◌, ℕ, ◌||◌, ◌≡◌, ◌+◌, ◌<◌, ◌≤◌, [], ◌∷◌, ◌++◌, length, IfOk, OnOk, OnErr, All, MatchResult, Some, None};
+ghost use Rattle.pat_tree.specs.Nested.{trees, tree_at, nest};
+ghost use Rattle.pat_tree.specs.Parts.{with_node, with_root};
+ghost use Rattle.pat_tree.specs.Rules.{kids_of, asserted_by, classes_of, verb_names_of, numbers_of, IsNamed, IsOrdered, IsDefine, is_test};
+ghost use Rattle.pat_tree.specs.Refs.{refs, refs_of, named_by, is_called, is_group, has_group, bad_ref, least_of};
+ghost use Rattle.pat_tree.specs.Growing.{Makes, loose, without, is_fresh, Replaces};
+
+use crate::lists::Word;
+use crate::memory::Memory;
+use crate::names::NameTable;
+use crate::nodes::{ClassSpec, Cond, Node, NodeId, Placed};
+use crate::options::Options;
+use crate::tree::Tree;
+use std::alloc::Global;
+use std::marker::Model;
+
+/// A tree in the making: its nodes, classes, names and verb names in the order of adding.
+#[derive(Drop)]
+pub struct Draft {
+    options: Options,
+    nodes: Vec<Placed>,
+    classes: Vec<ClassSpec>,
+    names: NameTable,
+    verb_names: Vec<Word>,
+}
+
+impl Model for Draft {
+    ghost use Rattle.pat_tree.specs.Parts.{DraftParts};
+    ghost use Rattle.pat_tree.specs.Growing.{AreBelow};
+
+    ghost Value = { DraftParts };
+
+    ghost view = { λ d. record { options = d.options; nodes = d.nodes.items; classes = d.classes.items; names = d.names; verb_names = d.verb_names.items } };
+
+    ghost invariant = { λ d. AreBelow 0 d.nodes.items };
+}
+
+impl Draft {
+    /// A draft with these options and nothing else. Takes no memory.
+    pub fn new(alloc: Global, options: Options) -> Draft
+        ensures { result ≡ record { options = options; nodes = []; classes = []; names = []; verb_names = [] } }
+    {
+        Draft {
+            options,
+            nodes: Vec::new(alloc),
+            classes: Vec::new(alloc),
+            names: NameTable::new(alloc),
+            verb_names: Vec::new(alloc),
+        }
+    }
+
+    /// Adds a node and answers its number. `at` is its place in the pattern. What it names was added before, and no
+    /// other node has its children. The draft is unchanged after a refusal.
+    pub fn add(&mut self, node: Node, at: u32) -> Result<NodeId, Memory>
+        requires room { length self.old.nodes < 4294967295 }
+        requires kids { All (λ k. k < length self.old.nodes) (kids_of node) }
+        requires fresh { is_fresh (loose self.old.nodes) (kids_of node) ≡ true }
+        requires classes { All (λ n. n < length self.old.classes) (classes_of node) }
+        requires verb_names { All (λ n. n < length self.old.verb_names) (verb_names_of node) }
+        requires numbered { All (λ n. 1 ≤ n) (numbers_of node) }
+        requires named { IsNamed node }
+        requires ordered { IsOrdered node }
+        requires define { IsDefine node }
+        requires test { All (λ k. is_test (tree_at (trees self.old.nodes) k) ≡ true) (asserted_by node) }
+        ensures grows { OnOk result (self.new ≡ with_node self.old (record { node = node; at = at })) }
+        ensures number { IfOk result (λ id. id ≡ length self.old.nodes) }
+        ensures count { OnOk result (length self.new.nodes ≡ length self.old.nodes + 1) }
+        ensures made { IfOk result (λ id. Makes self.old.nodes self.new.nodes id (nest (trees self.old.nodes) node)) }
+        ensures refs { OnOk result (refs self.new.nodes ≡ refs self.old.nodes ++ refs_of (record { node = node; at = at })) }
+        ensures loose { OnOk result (loose self.new.nodes ≡ without (kids_of node) (loose self.old.nodes) ++ length self.old.nodes ∷ []) }
+        ensures replaces { IfOk result (λ id. Replaces self.old.nodes (kids_of node) self.new.nodes id) }
+        ensures groups { OnOk result ((n : ℕ) → has_group self.new.nodes n ≡ (has_group self.old.nodes n || is_group n node)) }
+        ensures refused { OnErr result (self.new ≡ self.old) }
+    {
+        let id = self.nodes.len() as u32;
+        self.nodes.push(Placed { node, at })?;
+        Ok(id)
+    }
+
+    /// The tree of a root, where each reference, condition and call of the nodes names groups that stand on a node.
+    /// Else the leftmost that does not is told. Takes no memory.
+    pub fn finish(self, root: NodeId) -> Result<Tree, BadRef>
+        requires root { root < length self.nodes }
+        requires names { All (λ entry. has_group self.nodes entry.group ≡ true) self.names }
+        ensures { MatchResult result (λ tree. (tree ≡ with_root self root) × (bad_ref (has_group self.nodes) (refs self.nodes) ≡ None)) (λ bad. bad_ref (has_group self.nodes) (refs self.nodes) ≡ Some bad.at) }
+    {
+        match leftmost_bad(&self.nodes) {
+            Some(at) => Err(BadRef { at }),
+            None => {
+                let Draft {
+                    options,
+                    nodes,
+                    classes,
+                    names,
+                    verb_names,
+                } = self;
+                Ok(Tree::of(options, nodes, classes, names, verb_names, root))
+            }
+        }
+    }
+}
+
+/// A reference, condition or call names no group.
+#[derive(Clone, Copy, Debug, PartialEq, Eq)]
+pub struct BadRef {
+    /// The leftmost place of one in the pattern.
+    pub at: u32,
+}
+
+/// Whether some node is a capturing group of this number.
+fn has_group(nodes: &[Placed], number: u16) -> bool
+    ensures { result ≡ has_group nodes.now number }
+{
+    nodes.iter().any(|placed| is_group(&placed.node, number))
+}
+
+fn is_group(node: &Node, number: u16) -> bool
+    ensures { result ≡ is_group number node.now }
+{
+    match node {
+        Node::Group {
+            number: Some(own),
+            ..
+        } => *own == number,
+        _ => false,
+    }
+}
+
+/// Whether each group that a node names stands on a node.
+#[tactic(auto, using(crate::proofs::Named::call_stands, crate::proofs::Named::stand_beside))]
+fn names_groups(nodes: &[Placed], node: &Node) -> bool
+    ensures { result ≡ list_all (has_group nodes.now) (named_by node.now) }
+{
+    match node {
+        Node::Ref { groups, .. } => all_stand(nodes, groups.as_slice()),
+        Node::Cond {
+            test: Cond::AnySet(groups),
+            ..
+        } => all_stand(nodes, groups.as_slice()),
+        Node::Cond {
+            test: Cond::InCallOf(groups),
+            ..
+        } => all_stand_or_whole(nodes, groups.as_slice()),
+        Node::Call { group } => stands_or_whole(nodes, *group),
+        _ => true,
+    }
+}
+
+fn all_stand(nodes: &[Placed], groups: &[u16]) -> bool
+    ensures { result ≡ list_all (has_group nodes.now) groups.now }
+{
+    groups.iter().all(|group| has_group(nodes, *group))
+}
+
+/// As `all_stand`, but 0 is the whole pattern.
+fn all_stand_or_whole(nodes: &[Placed], groups: &[u16]) -> bool
+    ensures { result ≡ list_all (is_called (has_group nodes.now)) groups.now }
+{
+    groups.iter().all(|group| stands_or_whole(nodes, *group))
+}
+
+#[tactic(auto, unfolding(crate::specs::Refs::is_called))]
+fn stands_or_whole(nodes: &[Placed], group: u16) -> bool
+    ensures { result ≡ is_called (has_group nodes.now) group }
+{
+    group == 0 || has_group(nodes, group)
+}
+
+/// The leftmost place of a node that names a group that stands on no node.
+fn leftmost_bad(nodes: &[Placed]) -> Option<u32>
+    ensures { result ≡ bad_ref (has_group nodes.now) (refs nodes.now) }
+{
+    let mut leftmost = None;
+    let mut i = nodes.len();
+    while i > 0 {
+        i -= 1;
+        let placed = &nodes[i];
+        leftmost = with_place(names_groups(nodes, &placed.node), placed.at, leftmost);
+    }
+    leftmost
+}
+
+/// The lesser of a place and another one, where the place is bad.
+fn with_place(is_good: bool, at: u32, leftmost: Option<u32>) -> Option<u32>
+    ensures { result ≡ (if is_good then leftmost else Some (least_of at leftmost)) }
+{
+    if is_good {
+        return leftmost;
+    }
+    match leftmost {
+        Some(other) => Some(at.min(other)),
+        None => Some(at),
+    }
+}
