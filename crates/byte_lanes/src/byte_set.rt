@@ -1,0 +1,110 @@
+// Sets of bytes, and the least place of a member.
+ghost use Rattle.std.specs.Prelude.{◌≡◌, ℕ, ◌+◌, ◌<◌, ◌≤◌, ◌==◌, ◌||◌, List, Bool, true, false, length, slice_index};
+ghost use Rattle.byte_lanes.specs.Places.{IsLeast, least_from};
+ghost use Rattle.byte_lanes.specs.Lanes.{HasLanes};
+ghost use Rattle.byte_lanes.specs.Sets.{flags, flag, has_byte, IsIn};
+
+use crate::lanes::{both, by_high_nibble, by_low_nibble, by_top, load, same};
+use crate::scan;
+use crate::scan::Probe;
+use std::marker::Model;
+use std::simd::prelude::*;
+
+// The bit that stands for the high half of a byte, at that half's place.
+const BITS: [u8; 16] = [1, 2, 4, 8, 16, 32, 64, 128, 1, 2, 4, 8, 16, 32, 64, 128];
+
+/// A set of byte values, for [`find_in_set`]. Contracts see it as a list of 256 flags, one for each byte.
+// Byte b is bit b / 16 % 8 of entry b % 16 of `low` or, from 128 on, of `high`.
+#[derive(Drop)]
+pub struct ByteSet {
+    low: [u8; 16],
+    high: [u8; 16],
+}
+
+impl Model for ByteSet {
+    ghost Value = { List Bool };
+
+    ghost view = { λ s. flags s.low s.high };
+}
+
+impl ByteSet {
+    /// The set without members.
+    pub fn empty() -> ByteSet
+        ensures { (b : ℕ) → has_byte result b ≡ false }
+    {
+        ByteSet {
+            low: [0; 16],
+            high: [0; 16],
+        }
+    }
+
+    /// Adds `b`. Every other byte stays a member or stays none.
+    pub fn insert(&mut self, b: u8)
+        ensures { (k : ℕ) → has_byte self.new k ≡ (has_byte self.old k || k == b) }
+    {
+        let row = (b % 16) as usize;
+        if b < 128 {
+            self.low[row] |= 1 << (b / 16);
+        } else {
+            self.high[row] |= 1 << (b / 16 - 8);
+        }
+    }
+
+    /// Whether `b` is a member.
+    #[inline]
+    pub fn has(&self, b: u8) -> bool
+        ensures { result ≡ has_byte self.now b }
+    {
+        let row = (b % 16) as usize;
+        if b < 128 {
+            (self.low[row] >> (b / 16)) & 1 == 1
+        } else {
+            (self.high[row] >> (b / 16 - 8)) & 1 == 1
+        }
+    }
+
+    // All bits of each lane whose byte is a member. The low half of a byte picks its row of bits, and the high
+    // half the bit of that row.
+    #[inline(always)]
+    fn lanes(&self, v: u8x32) -> u8x32
+        ensures { HasLanes result (λ k. flag (has_byte self.now (slice_index v k))) }
+    {
+        let rows = by_top(v, by_low_nibble(&self.low, v), by_low_nibble(&self.high, v));
+        let bits = by_high_nibble(&BITS, v);
+        same(both(rows, bits), bits)
+    }
+}
+
+/// The least place of `bytes` at or past `from` whose byte is in the set, and the length where there is none.
+/// `from` is at most the length. It costs the same for every set.
+pub fn find_in_set(bytes: &[u8], from: usize, set: &ByteSet) -> usize
+    requires { from ≤ length bytes.now }
+    ensures least { IsLeast (IsIn set.now bytes.now) from (length bytes.now) result }
+    ensures value { result ≡ least_from (λ k. has_byte set.now (slice_index bytes.now k)) from (length bytes.now) }
+{
+    scan::least(&InSet { bytes, set }, from, bytes.len())
+}
+
+// The places whose byte is in the set.
+#[derive(Drop)]
+struct InSet<'a> {
+    bytes: &'a [u8],
+    set: &'a ByteSet,
+}
+
+impl<'a> Probe for InSet<'a> {
+    ghost places = { λ s. length s.bytes.now };
+
+    ghost hit = { λ s. IsIn s.set.now s.bytes.now };
+
+    #[inline(always)]
+    fn lanes(&self, i: usize) -> u8x32 {
+        self.set.lanes(load(self.bytes, i))
+    }
+
+    #[inline(always)]
+    fn confirm(&self, i: usize) -> bool {
+        let bytes = self.bytes;
+        self.set.has(bytes[i])
+    }
+}
