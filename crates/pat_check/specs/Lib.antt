@@ -1,0 +1,4 @@
+pub mod Nodes
+pub mod Lengths
+pub mod Lead
+pub mod Size
