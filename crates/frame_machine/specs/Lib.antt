@@ -5,3 +5,5 @@ pub mod Parts
 pub mod Run
 pub mod PlaceAnswer
 pub mod Written
+pub mod Laws
+pub mod Rows

@@ -94,14 +94,14 @@ module _ (g : Setting) where
   abbrev pub is_refused_as_empty : State → Bool
   is_refused_as_empty s = (s.keep == s.place) && (notempty g || notempty_atstart g && (s.keep == g.start))
 
-  -- a state answers, is passed over, or, where it was accepted and only its end is refused, ends the walk
-  abbrev pub at_state : How → State → Walked → Walked
-  at_state how s w =
+  -- what a state answers; none where it is passed over. One that was accepted and of which only the end is refused fails its place.
+  abbrev pub decision : How → State → Option PlaceAnswer
+  decision how s =
       elim (is_refused_as_empty s) [
-        | true ↦ w
+        | true ↦ None
         | false ↦ elim (is_refused_by_end s) [
-          | false ↦ answers (Matched (outcome s))
-          | true ↦ elim how [ reached ↦ w | accepted ↦ answers (Failed Exhausted) ]
+          | false ↦ Some (Matched (outcome s))
+          | true ↦ elim how [ reached ↦ None | accepted ↦ Some (Failed Exhausted) ]
         ]
       ]
 
@@ -109,7 +109,7 @@ module _ (g : Setting) where
   unfoldable pub walk : ℕ → Stream → Walked
   walk n (ends e) = answers (at_ending e)
   walk n (note k ▸ x) = with_note k (walk n x)
-  walk n (state how s ▸ x) = at_state how s (walk n x)
+  walk n (state how s ▸ x) = elim (decision how s) [ None ↦ walk n x | Some a ↦ answers a ]
   walk zero (step ▸ x) = answers MatchLimit
   walk (suc n) (step ▸ x) = walk n x
 
