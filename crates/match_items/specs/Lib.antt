@@ -1,2 +1,3 @@
 pub mod Scene
 pub mod Items
+pub mod Rows

@@ -2,3 +2,4 @@ pub mod Nodes
 pub mod Lengths
 pub mod Lead
 pub mod Size
+pub mod Rows
