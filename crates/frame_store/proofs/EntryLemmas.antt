@@ -1,10 +1,10 @@
 -- What a record of each kind stands for.
-use Rattle.std.proofs.Common.{◌≡◌, ◌≢◌, ◌≤◌, ◌∙◌, ℕ, Bool, true, false, List, [], ◌∷◌, nat_eq, if◌then◌else◌, refl, sym, ap, subst, arith}
-use Rattle.std.proofs.lemmas.Bool.{cond-false, ne_eqb}
+use Rattle.std.proofs.Common.{◌≡◌, ◌≢◌, ◌⊎◌, inl, inr, ◌∙◌, ℕ, true, false, List, [], ◌∷◌, nat_eq, if◌then◌else◌, refl, sym, ap, subst, arith}
+use Rattle.std.proofs.lemmas.Bool.{cond-true, cond-false, eq-eqb, ne_eqb, cases_eq}
 use Rattle.frame_store.specs.declared.records.Record.{Record}
 use Rattle.frame_store.specs.declared.kinds.TheConstants.{KIND_UNDO, KIND_LATER_BRANCH, KIND_GROUP_OPEN, KIND_CALLED_GROUP, KIND_TURN_OPEN, KIND_TURN_OR_EXIT, KIND_LATER_TURN, KIND_FEWER_ITEMS, KIND_MORE_ITEMS, KIND_ATOMIC_OPEN, KIND_LOOK_OPEN, KIND_LOOK_ALL_OPEN, KIND_LOOK_TEST, KIND_DENIAL_OPEN, KIND_DENIAL_TEST, KIND_CALL_OPEN, KIND_ATOMIC_LEFT, KIND_MARK_PASSED, KIND_COMMIT_PASSED, KIND_PRUNE_PASSED, KIND_SKIP_PASSED, KIND_THEN_PASSED}
 use Rattle.frame_store.specs.Captures.{Captures}
-use Rattle.frame_store.specs.Entry.{Entry, Undo, LaterBranch, GroupOpen, CalledGroup, TurnOpen, TurnOrExit, LaterTurn, FewerItems, MoreItems, AtomicOpen, LookOpen, LookAllOpen, LookTest, DenialOpen, DenialTest, CallOpen, AtomicLeft, MarkPassed, CommitPassed, PrunePassed, SkipPassed, ThenPassed, Other, site_of, kept_of, kept_value, entry_table, entry_in, entry_of}
+use Rattle.frame_store.specs.Entry.{Entry, Undo, LaterBranch, GroupOpen, CalledGroup, TurnOpen, TurnOrExit, LaterTurn, FewerItems, MoreItems, AtomicOpen, LookOpen, LookAllOpen, LookTest, DenialOpen, DenialTest, CallOpen, AtomicLeft, MarkPassed, CommitPassed, PrunePassed, SkipPassed, ThenPassed, Other, site_of, kept_of, kept_value, entry_table, entry_in, entry_of, entry_kind, KnownKindLaw, OtherEntryLaw}
 use Rattle.frame_store.specs.Undo.{taken_back}
 
 pub entry_of-undo : (r : Record) → r.kind ≡ KIND_UNDO → entry_of r ≡ Undo (site_of r) r.slot (kept_value r)
@@ -123,3 +123,41 @@ plain h = record { same = h }
 pub taken_back-not_undo : (r : Record) (caps : Captures) → r.kind ≢ KIND_UNDO → taken_back (entry_of r) caps ≡ caps
 taken_back-not_undo r caps n =
     (subst IsPlain (sym (entry_in-tail _ _ _ _ _ n)) (entry_in_plain _ _ _ (plain (λ caps. refl), (plain (λ caps. refl), (plain (λ caps. refl), (plain (λ caps. refl), (plain (λ caps. refl), (plain (λ caps. refl), (plain (λ caps. refl), (plain (λ caps. refl), (plain (λ caps. refl), (plain (λ caps. refl), (plain (λ caps. refl), (plain (λ caps. refl), (plain (λ caps. refl), (plain (λ caps. refl), (plain (λ caps. refl), (plain (λ caps. refl), (plain (λ caps. refl), (plain (λ caps. refl), (plain (λ caps. refl), (plain (λ caps. refl), (plain (λ caps. refl), tt))))))))))))))))))))) (plain (λ caps. refl)))).same caps
+
+abbrev HaveKinds : List (ℕ × Entry) → Type 0
+HaveKinds [] = Unit {0}
+HaveKinds ((k, e) ∷ rest) = (entry_kind e ≡ k) × HaveKinds rest
+
+-- none of these numbers is the kind
+abbrev HasNoRow : List (ℕ × Entry) → ℕ → Type 0
+HasNoRow [] kind = Unit {0}
+HasNoRow ((k, e) ∷ rest) kind = (kind ≢ k) × HasNoRow rest kind
+
+-- an entry of a table has the kind that it is found by, or the table has none
+entry_in_kind : (table : List (ℕ × Entry)) (kind : ℕ) (other : Entry) → HaveKinds table → (entry_kind (entry_in table kind other) ≡ kind) ⊎ HasNoRow table kind
+unfolding entry_in
+entry_in_kind [] kind other h = inr tt
+entry_in_kind ((k, e) ∷ rest) kind other h =
+    elim (cases_eq kind k) [
+      | inl same ↦ inl (ap entry_kind (cond-true _ _ _ (eq-eqb _ _ same)) ∙ h.0 ∙ sym same)
+      | inr differs ↦
+          elim (entry_in_kind rest kind other h.1) [
+            | inl found ↦ inl (ap entry_kind (cond-false _ _ _ (ne_eqb _ _ differs)) ∙ found)
+            | inr none ↦ inr (differs, none)
+          ]
+    ]
+
+entry_in_none : (table : List (ℕ × Entry)) (kind : ℕ) (other : Entry) → HasNoRow table kind → entry_in table kind other ≡ other
+unfolding entry_in
+entry_in_none [] kind other h = refl
+entry_in_none ((k, e) ∷ rest) kind other h = cond-false _ _ _ (ne_eqb _ _ h.0) ∙ entry_in_none rest kind other h.1
+
+pub entry_kind-entry_of : KnownKindLaw
+entry_kind-entry_of r h =
+    elim (entry_in_kind (entry_table r) r.kind (Other (site_of r)) (refl, (refl, (refl, (refl, (refl, (refl, (refl, (refl, (refl, (refl, (refl, (refl, (refl, (refl, (refl, (refl, (refl, (refl, (refl, (refl, (refl, (refl, tt))))))))))))))))))))))) [
+      | inl found ↦ found
+      | inr none ↦ absurd (omega arith)
+    ]
+
+pub entry_of-other : OtherEntryLaw
+entry_of-other r h = entry_in_none (entry_table r) r.kind (Other (site_of r)) (λ e. omega arith, (λ e. omega arith, (λ e. omega arith, (λ e. omega arith, (λ e. omega arith, (λ e. omega arith, (λ e. omega arith, (λ e. omega arith, (λ e. omega arith, (λ e. omega arith, (λ e. omega arith, (λ e. omega arith, (λ e. omega arith, (λ e. omega arith, (λ e. omega arith, (λ e. omega arith, (λ e. omega arith, (λ e. omega arith, (λ e. omega arith, (λ e. omega arith, (λ e. omega arith, (λ e. omega arith, tt))))))))))))))))))))))

@@ -1,6 +1,8 @@
 -- The oldest and the later records.
-use Rattle.std.proofs.Common.{◌≡◌, ◌≤◌, ◌<◌, ◌-◌, ◌+◌, ℕ, suc, ◌∙◌, List, [], ◌∷◌, ◌++◌, length, take, drop, get_or, reverse, map, refl, sym, ap, arith}
-use Rattle.std.proofs.lemmas.List.{reverse-append, length-reverse, length-drop, length-map, take-append-drop, take-map, drop-map, take_more, drop_at, take_at}
+use Rattle.std.proofs.Common.{◌≡◌, ◌≤◌, ◌<◌, ◌-◌, ◌+◌, ℕ, suc, ◌∙◌, List, [], ◌∷◌, ◌++◌, length, take, drop, get_or, reverse, map, slice_get, Some, sym, ap, arith}
+use Rattle.std.proofs.lemmas.List.{reverse-append, length-reverse, length-drop, length-map, take-append-drop, take-map, drop-map, take_more, drop_at, take_at, get_or_at, get_or_append_left}
+use Rattle.std.proofs.lemmas.Option.{slice_get-get_or}
+use Rattle.std.proofs.Math.Seq.{take-add}
 use Rattle.frame_store.specs.Stack.{up_to, past}
 
 module _ {X : Type 0} where
@@ -57,3 +59,30 @@ module _ {X : Type 0} where
 
   pub length-up_to : (n : ℕ) (xs : List X) → n ≤ length xs → length (up_to n xs) ≡ n
   length-up_to n xs h = omega (arith, length-drop (length xs - n) xs)
+
+  pub past-past : (low high : ℕ) (xs : List X) → low ≤ high → high ≤ length xs → past high xs ++ past low (up_to high xs) ≡ past low xs
+  past-past low high xs h within =
+      let len : length (up_to high xs) ≡ high = length-up_to high xs within in
+      let e : length xs - low ≡ length xs - high + (length (up_to high xs) - low) = omega (arith, len) in
+      sym (ap (λ k. take k xs) e ∙ take-add (length xs - high) (length (up_to high xs) - low) xs)
+
+  reverse-cons : (x : X) (xs : List X) → reverse (x ∷ xs) ≡ reverse xs ++ x ∷ []
+  reverse-cons x xs = reverse-append (x ∷ []) xs
+
+  -- counted from the oldest, the newest item stands last
+  pub slice_get-reverse-here : (x : X) (xs : List X) → slice_get (reverse (x ∷ xs)) (length xs) ≡ Some x
+  slice_get-reverse-here x xs =
+      let len : length (reverse (x ∷ xs)) ≡ suc (length xs) = length-reverse (x ∷ xs) in
+      slice_get-get_or (reverse (x ∷ xs)) (length xs) x (omega (arith, len))
+      ∙ ap (λ (ys : List X). Some (get_or ys (length xs) x)) (reverse-cons x xs)
+      ∙ ap Some (get_or_at (reverse xs) x [] x (length xs) (length-reverse xs))
+
+  -- and the others where they stood without it
+  pub slice_get-reverse-below : (x : X) (xs : List X) (i : ℕ) → i < length xs → slice_get (reverse (x ∷ xs)) i ≡ slice_get (reverse xs) i
+  slice_get-reverse-below x xs i h =
+      let len : length (reverse xs) ≡ length xs = length-reverse xs in
+      let more : length (reverse (x ∷ xs)) ≡ suc (length xs) = length-reverse (x ∷ xs) in
+      slice_get-get_or (reverse (x ∷ xs)) i x (omega (arith, more, h))
+      ∙ ap (λ (ys : List X). Some (get_or ys i x)) (reverse-cons x xs)
+      ∙ ap Some (get_or_append_left (reverse xs) (x ∷ []) x i (omega (arith, len, h)))
+      ∙ sym (slice_get-get_or (reverse xs) i x (omega (arith, len, h)))

@@ -1,13 +1,16 @@
 -- The way back over lists of entries.
-use Rattle.std.proofs.Common.{◌≡◌, ◌<◌, ◌≤◌, ℕ, ◌-◌, take, drop, reverse, All, ◌∙◌, List, [], ◌∷◌, ◌++◌, length, get_or, set, filter, Option, Some, None, refl, sym, ap}
+use Rattle.std.proofs.Common.{◌≡◌, ◌<◌, ◌≤◌, ℕ, ◌-◌, take, drop, reverse, All, false, ◌∙◌, List, [], ◌∷◌, length, get_or, Option, None, refl, sym, ap}
 use Rattle.std.proofs.lemmas.List.{length-set, set-set, set-get_or, take_rest}
-use Rattle.std.proofs.lemmas.List.Elements.{All-weaker}
+use Rattle.std.proofs.lemmas.List.Elements.{All-cons, All-head, All-tail, All-weaker}
+use Rattle.std.proofs.lemmas.Bool.{false≢true}
 use Rattle.frame_store.specs.declared.records.Record.{Record}
-use Rattle.frame_store.specs.Captures.{Captures, capture, with_capture}
+use Rattle.frame_store.specs.declared.kinds.TheConstants.{KIND_UNDO}
+use Rattle.frame_store.specs.Captures.{Captures, HasGroup, capture, with_capture}
 use Rattle.frame_store.specs.Entry.{Entry, Undo, entry_of, entries}
-use Rattle.frame_store.specs.Stack.{past}
-use Rattle.frame_store.specs.Undo.{taken_back, undone, is_undo, Write, written, IsTrail, HasSlot, TrailLaw, AppendLaw, FilterLaw, LengthLaw}
-use Rattle.frame_store.proofs.StackLemmas.{past-map, past-reverse, reverse-take}
+use Rattle.frame_store.specs.Stack.{past, up_to}
+use Rattle.frame_store.specs.Undo.{taken_back, undone, is_undo, written, IsTrail, HasSlot, TrailLaw, AppendLaw, FilterLaw, PlainLaw, LengthLaw}
+use Rattle.frame_store.proofs.EntryLemmas.{entry_of-undo}
+use Rattle.frame_store.proofs.StackLemmas.{past-map, past-reverse, past-past, reverse-take}
 
 pub length-taken_back : (e : Entry) (caps : Captures) → length (taken_back e caps) ≡ length caps
 length-taken_back (Undo at slot old) caps = length-set caps _ old
@@ -28,6 +31,17 @@ unfolding undone
 undone-filter [] caps = refl
 undone-filter (Undo at slot old ∷ older) caps = undone-filter older (with_capture caps slot old)
 undone-filter (_ ∷ older) caps = undone-filter older caps
+
+taken_back-plain : (e : Entry) (caps : Captures) → is_undo e ≡ false → taken_back e caps ≡ caps
+taken_back-plain (Undo at slot old) caps h = absurd (false≢true (sym h))
+taken_back-plain _ caps h = refl
+
+pub undone-plain : PlainLaw
+unfolding undone
+undone-plain [] caps h = refl
+undone-plain (newest ∷ older) caps h =
+    ap (undone older) (taken_back-plain newest caps (All-head (λ e. is_undo e ≡ false) newest older h))
+    ∙ undone-plain older caps (All-tail (λ e. is_undo e ≡ false) newest older h)
 
 -- a write is taken back by the value that stood before it
 with_capture-taken_back : (caps : Captures) (group : ℕ) (value : Option _) → with_capture (with_capture caps group value) group (capture caps group) ≡ caps
@@ -69,3 +83,22 @@ past-entries to xs h =
 -- the newest of the first i records is taken back first
 pub entries-take : (i : ℕ) (xs : List Record) (d : Record) → 0 < i → i ≤ length xs → entries (reverse (take i xs)) ≡ entry_of (get_or xs (i - 1) d) ∷ entries (reverse (take (i - 1) xs))
 entries-take i xs d p h = ap entries (reverse-take i xs d p h)
+
+-- going back to a height in two steps is going back to it in one
+pub undone-past_up_to : (low high : ℕ) (stack : List Entry) (caps : Captures) → low ≤ high → high ≤ length stack → undone (past low (up_to high stack)) (undone (past high stack) caps) ≡ undone (past low stack) caps
+undone-past_up_to low high stack caps h within =
+    sym (undone-append (past high stack) (past low (up_to high stack)) caps)
+    ∙ ap (λ (es : List Entry). undone es caps) (past-past low high stack h within)
+
+-- a pushed undo record of a register that is there, and any other pushed record, leave all slots there
+pub AllHaveSlots-undo : (caps : Captures) (r : Record) (older : List Record) → r.kind ≡ KIND_UNDO → HasGroup caps r.slot → All (HasSlot caps) (entries older) → All (HasSlot caps) (entries (r ∷ older))
+AllHaveSlots-undo caps r older undo has h =
+    All-cons (HasSlot caps) (entry_of r) (entries older) (rw (entry_of-undo r undo) has) h
+
+HasSlot-plain : (caps : Captures) (e : Entry) → is_undo e ≡ false → HasSlot caps e
+HasSlot-plain caps (Undo at slot old) h = absurd (false≢true (sym h))
+HasSlot-plain caps _ h = tt
+
+pub AllHaveSlots-plain : (caps : Captures) (r : Record) (older : List Record) → is_undo (entry_of r) ≡ false → All (HasSlot caps) (entries older) → All (HasSlot caps) (entries (r ∷ older))
+AllHaveSlots-plain caps r older plain h =
+    All-cons (HasSlot caps) (entry_of r) (entries older) (HasSlot-plain caps (entry_of r) plain) h

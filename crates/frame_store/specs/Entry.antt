@@ -1,5 +1,5 @@
 -- What a record stands for: one constructor for each kind.
-use Rattle.std.specs.Prelude.{ℕ, List, [], ◌∷◌, map, Option, Some, None, nat_eq, if◌then◌else◌}
+use Rattle.std.specs.Prelude.{◌≡◌, ◌≢◌, ◌<◌, ◌≤◌, ◌+◌, ℕ, List, [], ◌∷◌, map, Option, Some, None, nat_eq, if◌then◌else◌}
 use Rattle.frame_store.specs.declared.registers.Span.{Span}
 use Rattle.frame_store.specs.declared.records.Record.{Record}
 use Rattle.frame_store.specs.declared.kinds.TheConstants.{KIND_UNDO, KIND_LATER_BRANCH, KIND_GROUP_OPEN, KIND_CALLED_GROUP, KIND_TURN_OPEN, KIND_TURN_OR_EXIT, KIND_LATER_TURN, KIND_FEWER_ITEMS, KIND_MORE_ITEMS, KIND_ATOMIC_OPEN, KIND_LOOK_OPEN, KIND_LOOK_ALL_OPEN, KIND_LOOK_TEST, KIND_DENIAL_OPEN, KIND_DENIAL_TEST, KIND_CALL_OPEN, KIND_ATOMIC_LEFT, KIND_MARK_PASSED, KIND_COMMIT_PASSED, KIND_PRUNE_PASSED, KIND_SKIP_PASSED, KIND_THEN_PASSED}
@@ -107,7 +107,7 @@ entry_of r = entry_in (entry_table r) r.kind (Other (site_of r))
 abbrev pub entries : List Record → List Entry
 entries = map entry_of
 
--- the height of the innermost part that was open at the event
+-- where an event was
 abbrev pub entry_site : Entry → Site
 entry_site (Undo at slot old) = at
 entry_site (LaterBranch at kept next) = at
@@ -132,3 +132,49 @@ entry_site (PrunePassed at kept height) = at
 entry_site (SkipPassed at kept height next) = at
 entry_site (ThenPassed at kept) = at
 entry_site (Other at) = at
+
+-- the kind of an entry's record, or one past the last kind
+abbrev pub entry_kind : Entry → ℕ
+entry_kind (Undo at slot old) = KIND_UNDO
+entry_kind (LaterBranch at kept next) = KIND_LATER_BRANCH
+entry_kind (GroupOpen at kept) = KIND_GROUP_OPEN
+entry_kind (CalledGroup at kept) = KIND_CALLED_GROUP
+entry_kind (TurnOpen at kept count) = KIND_TURN_OPEN
+entry_kind (TurnOrExit at kept count) = KIND_TURN_OR_EXIT
+entry_kind (LaterTurn at kept count) = KIND_LATER_TURN
+entry_kind (FewerItems at kept least last) = KIND_FEWER_ITEMS
+entry_kind (MoreItems at kept count last) = KIND_MORE_ITEMS
+entry_kind (AtomicOpen at kept) = KIND_ATOMIC_OPEN
+entry_kind (LookOpen at kept) = KIND_LOOK_OPEN
+entry_kind (LookAllOpen at kept) = KIND_LOOK_ALL_OPEN
+entry_kind (LookTest at kept) = KIND_LOOK_TEST
+entry_kind (DenialOpen at kept) = KIND_DENIAL_OPEN
+entry_kind (DenialTest at kept) = KIND_DENIAL_TEST
+entry_kind (CallOpen at kept group) = KIND_CALL_OPEN
+entry_kind (AtomicLeft at kept height) = KIND_ATOMIC_LEFT
+entry_kind (MarkPassed at kept) = KIND_MARK_PASSED
+entry_kind (CommitPassed at kept height) = KIND_COMMIT_PASSED
+entry_kind (PrunePassed at kept height) = KIND_PRUNE_PASSED
+entry_kind (SkipPassed at kept height next) = KIND_SKIP_PASSED
+entry_kind (ThenPassed at kept) = KIND_THEN_PASSED
+entry_kind (Other at) = KIND_THEN_PASSED + 1
+
+-- each kind has an entry of its own
+abbrev pub KnownKindLaw : Type 0
+KnownKindLaw = (r : Record) → r.kind ≤ KIND_THEN_PASSED → entry_kind (entry_of r) ≡ r.kind
+
+-- a record of no known kind has nothing left to try
+abbrev pub OtherEntryLaw : Type 0
+OtherEntryLaw = (r : Record) → KIND_THEN_PASSED < r.kind → entry_of r ≡ Other (site_of r)
+
+-- a record of kind 0 is an undo record of the register in its slot
+abbrev pub UndoKindLaw : Type 0
+UndoKindLaw = (r : Record) → r.kind ≡ 0 → entry_of r ≡ Undo (site_of r) r.slot (kept_value r)
+
+-- an undo record keeps a span where its count is 1
+abbrev pub SetValueLaw : Type 0
+SetValueLaw = (r : Record) → r.count ≡ 1 → kept_value r ≡ Some (record { from = r.from; to = r.to })
+
+-- with any other count it keeps that the register was unset
+abbrev pub UnsetValueLaw : Type 0
+UnsetValueLaw = (r : Record) → r.count ≢ 1 → kept_value r ≡ None

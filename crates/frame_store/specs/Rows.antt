@@ -3,8 +3,7 @@ use Rattle.std.specs.Prelude.{◌≡◌, ℕ, List, [], ◌∷◌, Option, Some,
 use Rattle.frame_store.specs.declared.registers.Span.{Span}
 use Rattle.frame_store.specs.declared.records.Record.{Record}
 use Rattle.frame_store.specs.declared.kinds.TheConstants.{KIND_UNDO, KIND_TURN_OPEN}
-use Rattle.frame_store.specs.Captures.{Captures}
-use Rattle.frame_store.specs.Entry.{Site, Kept, Entry, Undo, TurnOpen, Other, entry_of, entries}
+use Rattle.frame_store.specs.Entry.{Site, Kept, Undo, TurnOpen, Other, entry_of, entries}
 use Rattle.frame_store.specs.Stack.{up_to, past}
 use Rattle.frame_store.specs.Undo.{undone}
 

@@ -1,10 +1,9 @@
 -- The way back: what the undo records of a list keep, put back the newest first.
-use Rattle.std.specs.Prelude.{◌≡◌, ◌≢◌, ℕ, ◌<◌, ◌≤◌, Bool, true, false, List, [], ◌∷◌, ◌++◌, length, filter, Option, Some, None}
+use Rattle.std.specs.Prelude.{◌≡◌, ◌≢◌, ℕ, Bool, true, false, List, [], ◌∷◌, ◌++◌, length, filter, All, Option}
 use Rattle.frame_store.specs.declared.registers.Span.{Span}
 use Rattle.frame_store.specs.declared.records.Record.{Record}
-use Rattle.frame_store.specs.declared.kinds.TheConstants.{KIND_UNDO}
 use Rattle.frame_store.specs.Captures.{Captures, HasGroup, capture, with_capture}
-use Rattle.frame_store.specs.Entry.{Site, Entry, Undo, site_of, kept_value, entry_of}
+use Rattle.frame_store.specs.Entry.{Site, Entry, Undo, entry_of}
 
 -- the captures before an event
 abbrev pub taken_back : Entry → Captures → Captures
@@ -56,22 +55,14 @@ AppendLaw = (newer older : List Entry) (caps : Captures) → undone (newer ++ ol
 abbrev pub FilterLaw : Type 0
 FilterLaw = (stack : List Entry) (caps : Captures) → undone stack caps ≡ undone (filter is_undo stack) caps
 
+-- records that aren't undo records change nothing
+abbrev pub PlainLaw : Type 0
+PlainLaw = (stack : List Entry) (caps : Captures) → All (λ e. is_undo e ≡ false) stack → undone stack caps ≡ caps
+
 -- the registers stay as many
 abbrev pub LengthLaw : Type 0
 LengthLaw = (stack : List Entry) (caps : Captures) → length (undone stack caps) ≡ length caps
 
--- a record of kind 0 is an undo record of the register in its slot
-abbrev pub UndoKindLaw : Type 0
-UndoKindLaw = (r : Record) → r.kind ≡ 0 → entry_of r ≡ Undo (site_of r) r.slot (kept_value r)
-
 -- a record of another kind changes no register
 abbrev pub OtherKindLaw : Type 0
 OtherKindLaw = (r : Record) (caps : Captures) → r.kind ≢ 0 → taken_back (entry_of r) caps ≡ caps
-
--- an undo record keeps a span where its count is 1
-abbrev pub SetValueLaw : Type 0
-SetValueLaw = (r : Record) → r.count ≡ 1 → kept_value r ≡ Some (record { from = r.from; to = r.to })
-
--- with any other count it keeps that the register was unset
-abbrev pub UnsetValueLaw : Type 0
-UnsetValueLaw = (r : Record) → r.count ≢ 1 → kept_value r ≡ None

@@ -1,11 +1,13 @@
 //! The kinds of records: what each record of a search stands for.
 //!
-//! A search follows one path through the pattern. Each event that can be taken back, or whose end is still to come,
-//! leaves a record. The newest record is the first that is gone back to when the path fails.
+//! A search follows one path through the pattern, as pcre2matching describes it. Each event on the path that can be taken
+//! back, or whose end is still to come, leaves a record, and the newest is gone back to first where the path fails.
 //!
-//! `node` is the pattern's part, and `link` the height of the innermost part still open when the record was made. A
-//! record with something left to try, or with a place to return to, keeps the path as it was: its units, place, mark,
-//! passed marks, `\K` place and earliest inspected place. `count`, `from`, `to` and `slot` depend on the kind.
+//! In each record `node` is the part of the pattern, and `link` the height of the innermost part that was open at the
+//! event. But for undo records, the fields from `mark` to `units` and from `place` to `early` keep the path as it was at
+//! the event: its mark, the height of its last passed mark, its units, its place, its `\K` place and the earliest place
+//! that it inspected. What `slot`, `count`, `from` and `to` mean is said at each kind that has them. A kind that is not
+//! listed here has nothing left to try.
 
 /// A register was written. `slot` is the register, and its old value is the span from `from` to `to` where `count` is 1,
 /// and unset where `count` is another number.
@@ -45,12 +47,13 @@ pub const KIND_CALL_OPEN: u8 = 15;
 pub const KIND_ATOMIC_LEFT: u8 = 16;
 /// MARK was passed, or ACCEPT or FAIL with a name. The name is `mark`, met at `place`.
 pub const KIND_MARK_PASSED: u8 = 17;
-/// COMMIT was passed. Where the path fails, the search goes on below height `from`, by its rule.
+/// COMMIT was passed. Where the path fails, the search goes back to height `from` at once, which ends it where that is 0.
 pub const KIND_COMMIT_PASSED: u8 = 18;
-/// PRUNE was passed. Where the path fails, the search goes on below height `from`, by its rule.
+/// PRUNE was passed. Where the path fails, the search goes back to height `from` at once, which ends it at this start
+/// place where that is 0.
 pub const KIND_PRUNE_PASSED: u8 = 19;
-/// SKIP was passed. Where the path fails, the search goes on below height `from`, by its rule, with `to` as the next
-/// start place.
+/// SKIP was passed. Where the path fails, the search goes back to height `from` at once. Where that is 0, it ends at this
+/// start place, and the next one is `to`.
 pub const KIND_SKIP_PASSED: u8 = 20;
 /// THEN was passed in the branch `node`. Where the path fails, that branch has failed.
 pub const KIND_THEN_PASSED: u8 = 21;

@@ -78,10 +78,12 @@ impl Store {
         ensures pushed { OnOk result (self.new.records ≡ r ∷ self.old.records) }
         ensures peak { OnOk result (self.new.peak ≡ max self.old.peak (length self.new.records)) }
 
-        // The length and the spare room together never fall.
-        ensures room { length self.old.records + self.old.spare ≤ length self.new.records + self.new.spare }
         ensures succeeds { 0 < self.old.spare → IsOk result }
         ensures refused { OnErr result (self.new ≡ self.old) }
+
+        // It takes memory only where nothing was spare. The length and the spare room together never fall.
+        ensures in_room { 0 < self.old.spare → self.new.spare + 1 ≡ self.old.spare }
+        ensures room { length self.old.records + self.old.spare ≤ length self.new.records + self.new.spare }
     {
         if self.records.len() == self.records.capacity() && self.records.reserve(1).is_err() {
             return Err(Memory);
@@ -162,8 +164,7 @@ fn put_back(records: &[Record], registers: &mut Registers)
     ensures { registers.new ≡ undone (entries (reverse records.now)) registers.old }
 {
     'records: for i in (0..records.len()).rev() {
-        let r = records[i];
-        put_back_one(&r, registers);
+        put_back_one(&records[i], registers);
     }
 }
 

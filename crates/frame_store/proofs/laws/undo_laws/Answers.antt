@@ -1,4 +1,4 @@
-use Rattle.frame_store.proofs.UndoLemmas.{undone-trail, undone-append, undone-filter, length-undone}
+use Rattle.frame_store.proofs.UndoLemmas.{undone-trail, undone-append, undone-filter, undone-plain, length-undone}
 use Rattle.frame_store.proofs.laws.undo_laws.Goals as goal
 
 pub returns : goal.returns
@@ -6,5 +6,6 @@ returns c = record {
   trail = undone-trail;
   appended = undone-append;
   filtered = undone-filter;
+  plain = undone-plain;
   lengths = length-undone;
 }

@@ -1,13 +1,13 @@
-use Rattle.std.proofs.Common.{◌≡◌, ◌∷◌, ◌<◌, ◌≤◌, ◌-◌, ◌∙◌, All, List, length, take, reverse, get_or, sym, ap, subst, arith}
+use Rattle.std.proofs.Common.{◌≡◌, ◌-◌, ◌∙◌, All, List, length, take, reverse, get_or, sym, ap, subst, arith}
 use Rattle.std.proofs.lemmas.List.Elements.{All-head, All-tail}
 use Rattle.frame_store.specs.declared.records.Record.{Record}
 use Rattle.frame_store.specs.Entry.{Entry, entries, entry_of}
-use Rattle.frame_store.specs.Undo.{undone, taken_back, HasSlot}
+use Rattle.frame_store.specs.Undo.{undone, HasSlot}
 use Rattle.frame_store.proofs.UndoLemmas.{undone-cons, undone-nil, length-taken_back, AllHaveSlots-same, entries-take}
 use Rattle.frame_store.proofs.store.put_back.Goals as goal
 
 -- what a read past the end would give
-no_record : Record
+abbrev no_record : Record
 no_record =
     record { kind = 0; slot = 0; node = 0; link = 0; mark = 0; passed = 0; units = 0; count = 0; place = 0; keep = 0; early = 0; from = 0; to = 0 }
 
@@ -28,7 +28,7 @@ records-preserved c =
       back =
           ap (undone rest) c.put_back_one.ensures ∙ sym (undone-cons e rest regs)
           ∙ ap (λ (es : List Entry). undone es regs) (sym next) ∙ c.records.invariant.back;
-      slots = AllHaveSlots-same regs _ rest (ap length c.put_back_one.ensures ∙ length-taken_back e regs) slots;
+      slots = AllHaveSlots-same regs c.put_back_one.new.registers rest (ap length c.put_back_one.ensures ∙ length-taken_back e regs) slots;
     }
 
 pub returns : goal.returns

@@ -1,4 +1,4 @@
-use Rattle.std.proofs.Common.{◌≡◌, take, reverse, All, length}
+use Rattle.std.proofs.Common.{◌≡◌, take, reverse, All}
 use Rattle.frame_store.specs.Entry.{entries}
 use Rattle.frame_store.specs.Undo.{undone, HasSlot}
 use Rattle.frame_store.proofs.store.put_back.Given as goal

@@ -1,5 +1,4 @@
-use Rattle.std.proofs.Common.{◌∙◌, sym, ap}
-use Rattle.frame_store.specs.Undo.{taken_back, HasSlot}
+use Rattle.std.proofs.Common.{sym}
 use Rattle.frame_store.proofs.EntryLemmas.{entry_of-undo, taken_back-not_undo}
 use Rattle.frame_store.proofs.store.put_back_one.Goals as goal
 

@@ -1,4 +1,4 @@
-use Rattle.std.proofs.Common.{◌≡◌, ◌≤◌, ◌∙◌, length, sym, ap, arith, reverse}
+use Rattle.std.proofs.Common.{◌≡◌, ◌≤◌, ◌∙◌, length, sym, ap, reverse}
 use Rattle.std.proofs.lemmas.List.{length-reverse}
 use Rattle.frame_store.specs.Stack.{Stack, up_to}
 use Rattle.frame_store.proofs.StackLemmas.{up_to-reverse}

@@ -1,4 +1,4 @@
-use Rattle.std.proofs.Common.{◌≡◌, ◌≤◌, ◌-◌, ◌∙◌, List, length, take, drop, reverse, sym, ap, subst, arith, All}
+use Rattle.std.proofs.Common.{◌≡◌, ◌≤◌, ◌-◌, ◌∙◌, ℕ, List, length, take, drop, reverse, sym, ap, subst, All}
 use Rattle.std.proofs.lemmas.List.{length-reverse}
 use Rattle.frame_store.specs.declared.records.Record.{Record}
 use Rattle.frame_store.specs.Stack.{Stack, past}
@@ -26,4 +26,4 @@ returns-clause-undone c =
     let view : reverse c.self.inside.records.items ≡ c.args.self.now.records = ap (λ (s : Stack). s.records) c.self.view_is in
     c.put_back.ensures
     ∙ ap (λ (es : List Entry). undone es c.args.registers.now)
-      (sym (later c.args.self.now c.self.inside.records.items c.deref.result.now c.args.to view c.deref.ensures.value c.requires.within))
+    (sym (later c.args.self.now c.self.inside.records.items c.deref.result.now c.args.to view c.deref.ensures.value c.requires.within))
