@@ -1,6 +1,6 @@
 -- What a record of each kind stands for.
-use Rattle.std.proofs.Common.{◌≡◌, ◌≢◌, ◌⊎◌, inl, inr, ◌∙◌, ℕ, true, false, List, [], ◌∷◌, nat_eq, if◌then◌else◌, refl, sym, ap, subst, arith}
-use Rattle.std.proofs.lemmas.Bool.{cond-true, cond-false, eq-eqb, ne_eqb, cases_eq}
+use Rattle.std.proofs.Common.{◌≡◌, ◌≢◌, ◌⊎◌, inl, inr, ◌∙◌, ◌+◌, ◌≤◌, ℕ, true, false, List, [], ◌∷◌, nat_eq, if◌then◌else◌, refl, sym, ap, subst, arith}
+use Rattle.std.proofs.lemmas.Bool.{cond-true, cond-false, eq-eqb, ne_eqb, cases_eq, cases_lt}
 use Rattle.frame_store.specs.declared.records.Record.{Record}
 use Rattle.frame_store.specs.declared.kinds.TheConstants.{KIND_UNDO, KIND_LATER_BRANCH, KIND_GROUP_OPEN, KIND_CALLED_GROUP, KIND_TURN_OPEN, KIND_TURN_OR_EXIT, KIND_LATER_TURN, KIND_FEWER_ITEMS, KIND_MORE_ITEMS, KIND_ATOMIC_OPEN, KIND_LOOK_OPEN, KIND_LOOK_ALL_OPEN, KIND_LOOK_TEST, KIND_DENIAL_OPEN, KIND_DENIAL_TEST, KIND_CALL_OPEN, KIND_ATOMIC_LEFT, KIND_MARK_PASSED, KIND_COMMIT_PASSED, KIND_PRUNE_PASSED, KIND_SKIP_PASSED, KIND_THEN_PASSED}
 use Rattle.frame_store.specs.Captures.{Captures}
@@ -161,3 +161,13 @@ entry_kind-entry_of r h =
 
 pub entry_of-other : OtherEntryLaw
 entry_of-other r h = entry_in_none (entry_table r) r.kind (Other (site_of r)) (λ e. omega arith, (λ e. omega arith, (λ e. omega arith, (λ e. omega arith, (λ e. omega arith, (λ e. omega arith, (λ e. omega arith, (λ e. omega arith, (λ e. omega arith, (λ e. omega arith, (λ e. omega arith, (λ e. omega arith, (λ e. omega arith, (λ e. omega arith, (λ e. omega arith, (λ e. omega arith, (λ e. omega arith, (λ e. omega arith, (λ e. omega arith, (λ e. omega arith, (λ e. omega arith, (λ e. omega arith, tt))))))))))))))))))))))
+
+-- a record of another kind has an entry of another kind
+pub entry_kind-not : (r : Record) (k : ℕ) → k ≤ KIND_THEN_PASSED → r.kind ≢ k → entry_kind (entry_of r) ≢ k
+entry_kind-not r k h differs same =
+    elim (cases_lt KIND_THEN_PASSED r.kind) [
+      | inl past ↦
+          let other : entry_kind (entry_of r) ≡ KIND_THEN_PASSED + 1 = ap entry_kind (entry_of-other r past) in
+          omega (arith, other, same, h)
+      | inr within ↦ differs (sym (entry_kind-entry_of r within) ∙ same)
+    ]

@@ -18,6 +18,7 @@ pub record Kept : Type 0 where
   pub keep : ℕ
   pub early : ℕ
 
+-- what one event of a search leaves behind
 pub data Entry : Type 0 where
   -- a register was written, and held this before
   Undo : Site → (slot : ℕ) → (old : Option Span) → Entry
@@ -48,7 +49,7 @@ pub data Entry : Type 0 where
   CallOpen : Site → Kept → (group : ℕ) → Entry
   -- an atomic group or lookaround was left with its first outcome, and what stands past the height is dropped at once
   AtomicLeft : Site → Kept → (height : ℕ) → Entry
-  -- a verb was passed; the path goes back to the height where it fails
+  -- a verb was passed; where the path fails, it goes back to the height at once, or for THEN to the branch's end
   MarkPassed : Site → Kept → Entry
   CommitPassed : Site → Kept → (height : ℕ) → Entry
   PrunePassed : Site → Kept → (height : ℕ) → Entry

@@ -15,6 +15,7 @@ unfoldable pub undone : List Entry → Captures → Captures
 undone [] caps = caps
 undone (newest ∷ older) caps = undone older (taken_back newest caps)
 
+-- the event was a write to a register
 abbrev pub is_undo : Entry → Bool
 is_undo (Undo at slot old) = true
 is_undo _ = false

@@ -3,11 +3,11 @@
 //! A search follows one path through the pattern, as pcre2matching describes it. Each event on the path that can be taken
 //! back, or whose end is still to come, leaves a record, and the newest is gone back to first where the path fails.
 //!
-//! In each record `node` is the part of the pattern, and `link` the height of the innermost part that was open at the
-//! event. But for undo records, the fields from `mark` to `units` and from `place` to `early` keep the path as it was at
-//! the event: its mark, the height of its last passed mark, its units, its place, its `\K` place and the earliest place
-//! that it inspected. What `slot`, `count`, `from` and `to` mean is said at each kind that has them. A kind that is not
-//! listed here has nothing left to try.
+//! `node` and `link` say where the event was. But for undo records, the fields from `mark` to `units` and from `place` to
+//! `early` keep the path as it was at the event, so that it can be taken up again. What `slot`, `count`, `from` and `to`
+//! mean is said at each kind that has them. A kind that is not listed here has nothing left to try.
+//!
+//! The parts of a pattern that leave records are those of pcre2pattern, from "Vertical bar" to "Backtracking control".
 
 /// A register was written. `slot` is the register, and its old value is the span from `from` to `to` where `count` is 1,
 /// and unset where `count` is another number.

@@ -77,7 +77,6 @@ impl Store {
     pub fn push(&mut self, r: Record) -> Result<(), Memory>
         ensures pushed { OnOk result (self.new.records ≡ r ∷ self.old.records) }
         ensures peak { OnOk result (self.new.peak ≡ max self.old.peak (length self.new.records)) }
-
         ensures succeeds { 0 < self.old.spare → IsOk result }
         ensures refused { OnErr result (self.new ≡ self.old) }
 
@@ -110,7 +109,7 @@ impl Store {
         self.records.last()
     }
 
-    /// The record above the oldest `i`.
+    /// The record number `i`, counted from 0 at the oldest.
     pub fn get(&self, i: usize) -> &Record
         requires { i < length self.now.records }
         ensures { slice_get (reverse self.now.records) i ≡ Some result.now }
