@@ -12,7 +12,8 @@ use Rattle.pat_tree.specs.Nested.{Nested, Row, Test, Other, Callout}
 use Rattle.pat_tree.specs.Groups.{group_of}
 use Rattle.match_items.specs.Items.{one_less, is_none_left, places_back, after_item, item_reaches, longest_run, run_reaches, after_break, break_reaches, after_ref, ref_reaches, holds, anchor_reaches, earliest}
 use Rattle.pat_check.specs.Lengths.{SomeLengths}
-use Rattle.frame_machine.specs.Stream.{State, Ending, exhausted, by_verb, by_halt, next_branch, prune, skip, commit, is_partial, too_many_units, loop, abort, cut, note, hit_end, How, reached, accepted, step, state, Stream, Search, ends, ◌▸◌, nothing, gives, ◌or_else◌, each, no_ending, is_next_branch, is_verb, fails_alone, fails_inside, capture, with_capture, changes}
+use Rattle.frame_machine.specs.Stream.{State, Ending, exhausted, by_verb, by_halt, next_branch, prune, skip, commit, is_partial, too_many_units, loop, abort, cut, note, hit_end, How, reached, accepted, step, state, Stream, Search, ends, ◌▸◌, nothing, gives, ◌or_else◌, each, no_ending, is_next_branch, is_verb, fails_alone, fails_inside, captured, changes}
+use Rattle.frame_store.specs.Captures.{capture}
 use Rattle.frame_machine.specs.Setting.{Setting, branch_lengths, verb_name, held, hold, counts, reach, reach_if}
 use Rattle.frame_machine.specs.Tests.{move_to, goes_to, run_one, run_break, run_ref, run_anchor, offers, greedy, offer_and, reluctant, lazy_run, run_many}
 use Rattle.frame_machine.specs.Parts.{Searches, in_order, choices, branches, run_group, begun_at, ends_at, one_try, tries, tries_within, run_behind, run_atomic, run_look, asserts, tests, some_set, is_called, is_called_of, block_of, follow, run_callout, named, same_text, skip_to, backs, run_verb, is_over, is_active, turn, run_repeat, returns, run_tree, run_call, back_to, forget_passed}
@@ -91,7 +92,7 @@ module _ (g : Setting) (n : ℕ) where
   late_ref [] caseless s = late_if n g.options.match_unset_backref _ _ (late_gives n _ _) (late_nothing n)
   late_ref (m ∷ ns) caseless s =
       late_option n (capture s.caps m) _ _ (late_ref ns caseless s)
-      (λ span. late_reach_if (ref_reaches g.scene caseless span s.place) s _ (late_goes n (after_ref g.scene caseless span s.place) s))
+      (λ span. late_reach_if (ref_reaches g.scene span.from span.to caseless s.place) s _ (late_goes n (after_ref g.scene span.from span.to caseless s.place) s))
 
   late_anchor : (kind : AnchorKind) → LateSearch n (run_anchor g kind)
   unfolding run_anchor
@@ -166,7 +167,7 @@ module _ (g : Setting) (n : ℕ) where
   unfolding run_group
   late_group None f h s = h s
   late_group (Some k) f h s =
-      late_held 1 s _ (λ t. late_each n (f t) _ (h t) (λ how u. late_hold how (with_capture k s.place u)))
+      late_held 1 s _ (λ t. late_each n (f t) _ (h t) (λ how u. late_hold how (captured k s.place u)))
 
   late_atomic : (f : Search) → LateSearch n f → LateSearch n (run_atomic g f)
   unfolding run_atomic
@@ -273,10 +274,10 @@ module _ (g : Setting) (n : ℕ) where
   late_repeat below body zero (Some (suc m)) false h s =
       late_or_else (suc n) _ _ (late_turn below body 0 (Some (suc m)) false h s) (late_gives (suc n) reached s)
 
-  late_tree : (o : Option Nested) (run : Searches) → LateBelow n run → LateSearch n (run_tree o run)
+  late_tree : (o : Option Nested) (f : Searches) → LateBelow n f → LateSearch n (run_tree o f)
   unfolding run_tree
-  late_tree None run h s = late_nothing n
-  late_tree (Some t) run h s = h t s
+  late_tree None f h s = late_nothing n
+  late_tree (Some t) f h s = h t s
 
   late_call : (below : Searches) (k : ℕ) → LateBelow n below → LateSearch (suc n) (run_call g below k)
   unfolding run_call

@@ -6,7 +6,8 @@ use Rattle.pat_tree.specs.Nested.{Nested, Callout, repeat}
 use Rattle.pat_tree.specs.Groups.{group_of}
 use Rattle.match_items.specs.Items.{one_less, places_back}
 use Rattle.pat_check.specs.Lengths.{Lengths, SomeLengths}
-use Rattle.frame_machine.specs.Stream.{Span, State, Block, VerbEnding, next_branch, prune, skip, commit, loop, abort, Ending, exhausted, by_verb, by_halt, How, reached, accepted, note, step, name, shown, state, Stream, Search, ends, ◌▸◌, nothing, gives, ◌or_else◌, each, and_then, decide, catch, no_ending, is_next_branch, is_verb, fails_alone, fails_inside, capture, with_capture, changes}
+use Rattle.frame_machine.specs.Stream.{State, Block, VerbEnding, next_branch, prune, skip, commit, loop, abort, Ending, exhausted, by_verb, by_halt, How, reached, accepted, note, step, name, shown, state, Stream, Search, ends, ◌▸◌, nothing, gives, ◌or_else◌, each, and_then, decide, catch, no_ending, is_next_branch, is_verb, fails_alone, fails_inside, captured, changes}
+use Rattle.frame_store.specs.Captures.{Captures, capture}
 use Rattle.frame_machine.specs.Setting.{Setting, held, hold, verb_name}
 
 -- a search of each tree
@@ -42,7 +43,7 @@ module _ (g : Setting) where
   -- a capturing group has a number
   unfoldable pub run_group : Option ℕ → Search → Search
   run_group None f s = f s
-  run_group (Some n) f s = held g 1 s (λ t. each (f t) (λ how u. hold g how (with_capture n s.place u)))
+  run_group (Some n) f s = held g 1 s (λ t. each (f t) (λ how u. hold g how (captured n s.place u)))
 
 -- Branches of a lookbehind.
 
@@ -110,7 +111,7 @@ unfoldable pub tests : Bool → Search → Search → Search
 tests true yes' no' s = yes' s
 tests false yes' no' s = no' s
 
-abbrev pub some_set : List (Option Span) → List ℕ → Bool
+abbrev pub some_set : Captures → List ℕ → Bool
 some_set caps [] = false
 some_set caps (n ∷ ns) = elim (capture caps n) [ None ↦ some_set caps ns | Some span ↦ true ]
 
@@ -189,8 +190,8 @@ is_over low None s t = nat_le low 1 && (s.place == t.place)
 is_over low (Some n) s t = false
 
 unfoldable pub run_tree : Option Nested → Searches → Search
-run_tree None run s = nothing
-run_tree (Some t) run s = run t s
+run_tree None f s = nothing
+run_tree (Some t) f s = f t s
 
 -- a call of group n at p is active
 abbrev pub is_active : ℕ → ℕ → List (ℕ × ℕ) → Bool

@@ -3,12 +3,12 @@ use Rattle.std.specs.Prelude.{◌≡◌, ℕ, true, false, List, [], ◌∷◌, 
 use Rattle.pat_tree.specs.declared.nodes.Item.TheVariants.{Char}
 use Rattle.pat_tree.specs.declared.nodes.AnchorKind.TheVariants.{Caret, Dollar}
 use Rattle.pat_tree.specs.Nested.{one, seq, group, repeat, one_repeat, atomic, look, call, anchor, none}
-use Rattle.frame_machine.specs.Stream.{Span}
+use Rattle.frame_store.specs.Captures.{Captures}
 use Rattle.frame_machine.specs.Setting.{Setting}
 use Rattle.frame_machine.specs.PlaceAnswer.{PlaceAnswer, Matched, MatchLimit, FrameLimit, place_answer}
 use Rattle.frame_machine.specs.Written.{◌&◌, ◌⨾◌, text, search, steps, units, span}
 
-abbrev pub found : ℕ → ℕ → List (Option Span) → PlaceAnswer
+abbrev pub found : ℕ → ℕ → Captures → PlaceAnswer
 found p q caps = Matched (record { keep = p; to = q; mark = None; caps = caps })
 
 -- each of these searches gives its answer at its place

@@ -1,8 +1,10 @@
 -- What a search is about: the pattern, the subject, the options, the limits and the answers of callouts, which stay as they are.
 use Rattle.std.specs.Prelude.{ℕ, ◌+◌, Bool, true, false, ◌||◌, List, [], length, min, ℤ, Option, Some, None, nat_lt, nat_le, slice_index_or}
+use Rattle.pat_tree.specs.declared.options.MatchOptions.{MatchOptions}
 use Rattle.pat_tree.specs.declared.options.PartialMode.TheVariants.{Off, Soft, Hard}
 use Rattle.pat_tree.specs.declared.nodes.ClassSpec.{ClassSpec}
 use Rattle.pat_tree.specs.Nested.{Nested}
+use Rattle.pat_tree.specs.Parts.{TreeParts, tree_of}
 use Rattle.match_items.specs.Scene.{Scene, newline_kind, break_kind}
 use Rattle.pat_check.specs.Nodes as nodes
 use Rattle.pat_check.specs.Lengths as lengths
@@ -96,3 +98,22 @@ module _ (g : Setting) where
   unfoldable pub reach_if : Bool → State → Stream → Stream
   reach_if true s x = reach s x
   reach_if false s x = x
+
+-- What a search of a finished tree is about.
+abbrev pub setting_of : TreeParts → MatchOptions → List ℕ → ℕ → (ℕ → ℕ → Bool) → (ℕ → ℕ) → (ℕ → Bool) → (Block → ℤ) → Setting
+setting_of t matching subject start class_has fold is_word reply = record {
+  scene = record {
+    options = t.options;
+    matching = matching;
+    subject = subject;
+    start = start;
+    class_has = class_has;
+    fold = fold;
+    is_word = is_word;
+  };
+  whole = tree_of t;
+  groups = nodes.greatest_group (tree_of t);
+  classes = t.classes;
+  verb_names = t.verb_names;
+  reply = reply;
+}

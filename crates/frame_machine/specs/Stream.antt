@@ -1,14 +1,12 @@
 -- The states of a search, and its streams: what happens in order, and how it ends.
-use Rattle.std.specs.Prelude.{ℕ, zero, suc, ◌+◌, ◌-◌, Bool, true, false, List, [], ◌∷◌, ℤ, Option, Some, None, ◌==◌, ◌&&◌, replicate, slice_index_or, slice_set}
-
--- from and to
-abbrev pub Span : Type 0
-Span = ℕ × ℕ
+use Rattle.std.specs.Prelude.{ℕ, ◌+◌, Bool, true, false, List, [], ◌∷◌, ℤ, Option, Some, None, ◌==◌, ◌&&◌, replicate}
+use Rattle.frame_store.specs.declared.registers.Span.{Span}
+use Rattle.frame_store.specs.Captures.{Captures, with_capture}
 
 pub record State : Type 0 where
   pub place : ℕ
-  -- group n stands at n - 1
-  pub caps : List (Option Span)
+  -- what each group has captured
+  pub caps : Captures
   -- the number of the last name on the path
   pub mark : Option ℕ
   -- what SKIP looks for: (name, place), the last one first
@@ -161,20 +159,16 @@ abbrev pub fails_inside : Ending → Bool
 fails_inside exhausted = true
 fails_inside e = is_verb e
 
--- the span of group n
-abbrev pub capture : List (Option Span) → ℕ → Option Span
-capture caps n = slice_index_or caps (n - 1) None
-
 -- group n reaches from p to the state's place
-abbrev pub with_capture : ℕ → ℕ → State → State
-with_capture n p s = record s { caps = slice_set s.caps (n - 1) (Some (p, s.place)) }
+abbrev pub captured : ℕ → ℕ → State → State
+captured n p s = record s { caps = with_capture s.caps n (Some (record { from = p; to = s.place })) }
 
 abbrev pub same_span : Option Span → Option Span → Bool
 same_span None None = true
-same_span (Some a) (Some b) = (a.0 == b.0) && (a.1 == b.1)
+same_span (Some a) (Some b) = (a.from == b.from) && (a.to == b.to)
 same_span _ _ = false
 
 -- how many groups have another value
-unfoldable pub changes : List (Option Span) → List (Option Span) → ℕ
+unfoldable pub changes : Captures → Captures → ℕ
 changes (a ∷ old) (b ∷ new) = elim (same_span a b) [ true ↦ changes old new | false ↦ 1 + changes old new ]
 changes _ _ = 0

@@ -14,7 +14,8 @@ use Rattle.pat_tree.specs.declared.nodes.Part.TheVariants.{Range, Set}
 use Rattle.pat_tree.specs.declared.nodes.ClassSpec.{ClassSpec}
 use Rattle.pat_tree.specs.Nested.{Nested, Row, Callout, one, seq, group, none, more}
 use Rattle.match_items.specs.Scene.{Scene}
-use Rattle.frame_machine.specs.Stream.{Block, Span}
+use Rattle.frame_machine.specs.Stream.{Block}
+use Rattle.frame_store.specs.declared.registers.Span.{Span}
 use Rattle.frame_machine.specs.Setting.{Setting}
 
 -- Patterns.
@@ -130,7 +131,7 @@ abbrev pub lines_end_at : Newline → Setting → Setting
 lines_end_at newline = with_options (λ o. record o { newline = newline })
 
 abbrev pub span : ℕ → ℕ → Option Span
-span from' to = Some (from', to)
+span p q = Some (record { from = p; to = q })
 
 -- of what a callout is shown: its number, the next item's place in the pattern, the match's start and the present place
 abbrev pub seen : Block → ℕ × ℕ × ℕ × ℕ

@@ -6,17 +6,17 @@ use Rattle.pat_tree.specs.declared.nodes.AnchorKind.TheVariants.{Caret, Dollar, 
 use Rattle.pat_tree.specs.declared.nodes.Verb.TheVariants.{Accept, Fail, Commit, Prune, Skip, Then, Mark}
 use Rattle.pat_tree.specs.declared.nodes.Part.TheVariants.{Range, Set}
 use Rattle.pat_tree.specs.Nested.{Nested, Row, Test, Other, empty, one, line_break, seq, group, repeat, one_repeat, atomic, look, condition, call, ref, anchor, keep_out, verb, callout, none, more, any_set, in_call, in_call_of, never, assert, called, no_other, other}
-use Rattle.frame_machine.specs.Stream.{Span, Block}
+use Rattle.frame_store.specs.Captures.{Captures}
 use Rattle.frame_machine.specs.Setting.{Setting}
 use Rattle.frame_machine.specs.PlaceAnswer.{Loop, Abort, MatchLimit, FrameLimit, blocks, last_name}
 use Rattle.frame_machine.specs.Written.{◌&◌, ◌⨾◌, text, callout_at, digits, words, class_of, search, with_options, with_matching, with_classes, with_names, with_reply, from, soft, hard, no_start_optimize, utf, lines_end_at, span, seen}
 use Rattle.match_drive.specs.MatchAnswer.{MatchAnswer, Match, NoMatch, PartialFrom, Error, match_answer}
 
 -- a match from one place to another with these groups, and with the name of a number
-abbrev pub found : ℕ → ℕ → List (Option Span) → MatchAnswer
+abbrev pub found : ℕ → ℕ → Captures → MatchAnswer
 found p q caps = Match (record { keep = p; to = q; mark = None; caps = caps })
 
-abbrev pub found_with : ℕ → ℕ → ℕ → List (Option Span) → MatchAnswer
+abbrev pub found_with : ℕ → ℕ → ℕ → Captures → MatchAnswer
 found_with n p q caps = Match (record { keep = p; to = q; mark = Some n; caps = caps })
 
 -- each of these searches gives its answer

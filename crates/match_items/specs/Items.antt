@@ -139,17 +139,17 @@ module _ (g : Scene) where
       ]
 
   -- the place after the text from one place to another, where it stands again at p
-  abbrev pub after_ref : Bool → ℕ × ℕ → ℕ → Option ℕ
-  after_ref caseless span p =
-      after_text caseless (characters (slice_range g.subject span.0 span.1)) (characters (drop p g.subject)) p
+  abbrev pub after_ref : ℕ → ℕ → Bool → ℕ → Option ℕ
+  after_ref from to caseless p =
+      after_text caseless (characters (slice_range g.subject from to)) (characters (drop p g.subject)) p
 
   -- fewer characters are left, and all of them agree
   abbrev pub text_reaches : Bool → List ℕ → List ℕ → Bool
   text_reaches caseless xs ys = same_front caseless xs ys && nat_lt (length ys) (length xs)
 
-  abbrev pub ref_reaches : Bool → ℕ × ℕ → ℕ → Bool
-  ref_reaches caseless span p =
-      text_reaches caseless (characters (slice_range g.subject span.0 span.1)) (characters (drop p g.subject))
+  abbrev pub ref_reaches : ℕ → ℕ → Bool → ℕ → Bool
+  ref_reaches from to caseless p =
+      text_reaches caseless (characters (slice_range g.subject from to)) (characters (drop p g.subject))
 
   -- Simple assertions (pcre2pattern, "Simple assertions", "Circumflex and dollar").
 

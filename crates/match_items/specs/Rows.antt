@@ -72,14 +72,14 @@ pub record BreakRows : Type 0 where
   pub separator : after_break (scene Lf true (0xE2 ∷ 0x80 ∷ 0xA8 ∷ [])) 0 ≡ Some 3
 
 pub record ReferenceRows : Type 0 where
-  pub again : after_ref (bytes "abab") false (0, 2) 2 ≡ Some 4
-  pub other : after_ref (bytes "abac") false (0, 2) 2 ≡ None
-  pub caseless : after_ref (bytes "abAB") true (0, 2) 2 ≡ Some 4
+  pub again : after_ref (bytes "abab") 0 2 false 2 ≡ Some 4
+  pub other : after_ref (bytes "abac") 0 2 false 2 ≡ None
+  pub caseless : after_ref (bytes "abAB") 0 2 true 2 ≡ Some 4
   -- fewer characters are left: they agree, or one differs
-  pub short : (after_ref (bytes "aba") false (0, 2) 2 ≡ None) × (ref_reaches (bytes "aba") false (0, 2) 2 ≡ true)
-  pub other_short : ref_reaches (bytes "abc") false (0, 2) 2 ≡ false
+  pub short : (after_ref (bytes "aba") 0 2 false 2 ≡ None) × (ref_reaches (bytes "aba") 0 2 false 2 ≡ true)
+  pub other_short : ref_reaches (bytes "abc") 0 2 false 2 ≡ false
   -- the same characters in other lengths: k and the Kelvin sign
-  pub widths : after_ref (scene Lf true (107 ∷ 0xE2 ∷ 0x84 ∷ 0xAA ∷ [])) true (0, 1) 1 ≡ Some 4
+  pub widths : after_ref (scene Lf true (107 ∷ 0xE2 ∷ 0x84 ∷ 0xAA ∷ [])) 0 1 true 1 ≡ Some 4
 
 abbrev pub where_holds : Scene → AnchorKind → ℕ → List Bool
 where_holds g kind n = map (holds g kind) (range_with_len 0 n)
