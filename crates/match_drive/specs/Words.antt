@@ -55,6 +55,7 @@ unfoldable mutual
 -- the tree stands in the text from one place to another, and at no place before
 pub record StandsFirst (text : List ℕ) (t : Nested) (span : Span) : Type 0 where
   pub ends : end_of text t span.from ≡ Some span.to
+  pub ordered : span.from ≤ span.to
   pub within : span.to ≤ length text
   pub least : (k : ℕ) → k < span.from → end_of text t k ≡ None
 

@@ -36,7 +36,7 @@ fn takes(item: &Item, byte: u8) -> bool
 fn after(item: &Item, subject: &[u8], at: usize) -> Option<usize>
     requires { at ≤ length subject.now }
     ensures value { result ≡ after item.now (slice_get subject.now at) at }
-    ensures within { IfSome result (λ to. to ≤ length subject.now) }
+    ensures within { IfSome result (λ to. (at ≤ to) × (to ≤ length subject.now)) }
 {
     match subject.get(at) {
         Some(byte) if takes(item, *byte) => Some(at + 1),
@@ -51,7 +51,7 @@ fn end_of(tree: &Tree, id: NodeId, subject: &[u8], at: usize) -> Option<usize>
     requires word { is_word (tree_at (trees tree.now.nodes) id) ≡ true }
     requires at { at ≤ length subject.now }
     ensures value { result ≡ end_of subject.now (tree_at (trees tree.now.nodes) id) at }
-    ensures within { IfSome result (λ to. to ≤ length subject.now) }
+    ensures within { IfSome result (λ to. (at ≤ to) × (to ≤ length subject.now)) }
 {
     match tree.node(id) {
         Node::Empty => Some(at),

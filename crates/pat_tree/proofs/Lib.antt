@@ -1,4 +1,7 @@
 pub mod Growing
+pub mod Keeping
 pub mod Reached
 pub mod Loose
 pub mod Named
+pub mod Naming
+pub mod Taken

@@ -26,6 +26,12 @@ pub record TreeParts : Type 0 where
 abbrev pub with_node : DraftParts → Placed → DraftParts
 with_node d p = record d { nodes = d.nodes ++ p ∷ [] }
 
+abbrev pub with_class : DraftParts → ClassSpec → DraftParts
+with_class d spec = record d { classes = d.classes ++ spec ∷ [] }
+
+abbrev pub with_verb_name : DraftParts → List ℕ → DraftParts
+with_verb_name d name = record d { verb_names = d.verb_names ++ name ∷ [] }
+
 abbrev pub with_root : DraftParts → ℕ → TreeParts
 with_root d root = record { options = d.options; nodes = d.nodes; classes = d.classes; names = d.names; verb_names = d.verb_names; root = root }
 

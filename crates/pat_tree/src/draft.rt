@@ -2,7 +2,8 @@
 ghost use Rattle.std.specs.List.{list_all};
 ghost use Rattle.std.specs.Prelude.{true, if◌then◌else◌, ℕ, ◌||◌, ◌≡◌, ◌+◌, ◌<◌, ◌≤◌, [], ◌∷◌, ◌++◌, length, IfOk, OnOk, OnErr, All, MatchResult, Some, None};
 ghost use Rattle.pat_tree.specs.Nested.{trees, tree_at, nest};
-ghost use Rattle.pat_tree.specs.Parts.{with_node, with_root};
+ghost use Rattle.pat_tree.specs.Parts.{with_node, with_class, with_verb_name, with_root};
+ghost use Rattle.pat_tree.specs.Names.{with_name};
 ghost use Rattle.pat_tree.specs.Rules.{kids_of, asserted_by, classes_of, verb_names_of, numbers_of, IsNamed, IsOrdered, IsDefine, is_test};
 ghost use Rattle.pat_tree.specs.Refs.{refs, refs_of, named_by, is_called, is_group, has_group, bad_ref, least_of};
 ghost use Rattle.pat_tree.specs.Growing.{Makes, loose, without, is_fresh, Replaces};
@@ -19,6 +20,7 @@ use std::marker::Model;
 /// A tree in the making: its nodes, classes, names and verb names in the order of adding.
 #[derive(Drop)]
 pub struct Draft {
+    alloc: Global,
     options: Options,
     nodes: Vec<Placed>,
     classes: Vec<ClassSpec>,
@@ -28,13 +30,13 @@ pub struct Draft {
 
 impl Model for Draft {
     ghost use Rattle.pat_tree.specs.Parts.{DraftParts};
-    ghost use Rattle.pat_tree.specs.Growing.{AreBelow};
+    ghost use Rattle.pat_tree.specs.Sound.{DraftRules};
 
     ghost Value = { DraftParts };
 
     ghost view = { λ d. record { options = d.options; nodes = d.nodes.items; classes = d.classes.items; names = d.names; verb_names = d.verb_names.items } };
 
-    ghost invariant = { λ d. AreBelow 0 d.nodes.items };
+    ghost invariant = { λ d. DraftRules (record { options = d.options; nodes = d.nodes.items; classes = d.classes.items; names = d.names; verb_names = d.verb_names.items }) };
 }
 
 impl Draft {
@@ -43,6 +45,7 @@ impl Draft {
         ensures { result ≡ record { options = options; nodes = []; classes = []; names = []; verb_names = [] } }
     {
         Draft {
+            alloc,
             options,
             nodes: Vec::new(alloc),
             classes: Vec::new(alloc),
@@ -79,6 +82,41 @@ impl Draft {
         Ok(id)
     }
 
+    /// Adds a class and answers its number. The draft is unchanged after a refusal.
+    pub fn add_class(&mut self, spec: ClassSpec) -> Result<u32, Memory>
+        requires room { length self.old.classes < 4294967295 }
+        ensures grows { OnOk result (self.new ≡ with_class self.old spec) }
+        ensures number { IfOk result (λ id. id ≡ length self.old.classes) }
+        ensures refused { OnErr result (self.new ≡ self.old) }
+    {
+        let id = self.classes.len() as u32;
+        self.classes.push(spec)?;
+        Ok(id)
+    }
+
+    /// Adds a verb's name and answers its number. The draft is unchanged after a refusal.
+    pub fn add_verb_name(&mut self, name: &[u8]) -> Result<u32, Memory>
+        requires room { length self.old.verb_names < 4294967295 }
+        ensures grows { OnOk result (self.new ≡ with_verb_name self.old name.now) }
+        ensures number { IfOk result (λ id. id ≡ length self.old.verb_names) }
+        ensures refused { OnErr result (self.new ≡ self.old) }
+    {
+        let id = self.verb_names.len() as u32;
+        let word = Word::from_vec(name.to_vec(self.alloc)?);
+        self.verb_names.push(word)?;
+        Ok(id)
+    }
+
+    /// Gives a group a name: puts the pair in its place by the name's bytes, then by the group. A pair that is there
+    /// changes nothing. The draft is unchanged after a refusal.
+    pub fn add_name(&mut self, name: &[u8], group: u16) -> Result<(), Memory>
+        requires room { length self.old.names < 4294967295 }
+        ensures named { OnOk result (self.new ≡ record self.old { names = with_name (record { name = name.now; group = group }) self.old.names }) }
+        ensures refused { OnErr result (self.new ≡ self.old) }
+    {
+        self.names.add(self.alloc, name, group)
+    }
+
     /// The tree of a root, where each reference, condition and call of the nodes names groups that stand on a node.
     /// Else the leftmost that does not is told. Takes no memory.
     pub fn finish(self, root: NodeId) -> Result<Tree, BadRef>
@@ -90,6 +128,7 @@ impl Draft {
             Some(at) => Err(BadRef { at }),
             None => {
                 let Draft {
+                    alloc: _,
                     options,
                     nodes,
                     classes,

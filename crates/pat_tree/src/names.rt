@@ -1,8 +1,12 @@
 //! The names of groups.
-ghost use Rattle.std.specs.Prelude.{◌≡◌, [], length};
+ghost use Rattle.std.specs.List.Sorted.{IsSearchInRange};
+ghost use Rattle.std.specs.Prelude.{◌≡◌, ◌<◌, ◌≤◌, [], length, OnErr, OnOk, slice_index_or};
+ghost use Rattle.pat_tree.specs.Names.{IsOrdered, IsFound, name_cmp, with_name};
 
 use crate::lists::Word;
+use crate::memory::Memory;
 use std::alloc::Global;
+use std::cmp::Ordering;
 use std::marker::Model;
 
 /// A name, and a group that has it.
@@ -12,7 +16,7 @@ pub struct NameEntry {
     pub group: u16,
 }
 
-/// The names of groups with their groups, by name and then by group.
+/// The names of groups with their groups, each pair once, by the bytes of the name and then by the group.
 #[derive(Debug, Drop)]
 pub struct NameTable {
     entries: Vec<NameEntry>,
@@ -21,15 +25,18 @@ pub struct NameTable {
 impl Model for NameTable {
     ghost use Rattle.std.specs.Prelude.{List};
     ghost use Rattle.pat_tree.specs.declared.names.NameEntry.{NameEntry};
+    ghost use Rattle.pat_tree.specs.Names.{IsOrdered};
 
     ghost Value = { List NameEntry };
 
     ghost view = { λ table. table.entries.items };
+
+    ghost invariant = { λ table. IsOrdered table.entries.items };
 }
 
 impl NameTable {
     /// No name. Takes no memory.
-    pub fn new(alloc: Global) -> NameTable
+    pub(crate) fn new(alloc: Global) -> NameTable
         ensures { result ≡ [] }
     {
         NameTable {
@@ -39,8 +46,58 @@ impl NameTable {
 
     /// How many pairs there are.
     pub fn len(&self) -> usize
-        ensures { result ≡ length self.now }
+        ensures is { result ≡ length self.now }
+        ensures ordered { IsOrdered self.now }
     {
         self.entries.len()
     }
+
+    /// The name of the pair at a place counted from 0.
+    pub fn name(&self, i: usize) -> &[u8]
+        requires { i < length self.now }
+        ensures { (other : _) → result.now ≡ (slice_index_or self.now i other).name }
+    {
+        let entry = &self.entries[i];
+        entry.name.bytes()
+    }
+
+    /// The group of the pair at a place counted from 0.
+    pub fn group(&self, i: usize) -> u16
+        requires { i < length self.now }
+        ensures { (other : _) → result ≡ (slice_index_or self.now i other).group }
+    {
+        self.entries[i].group
+    }
+
+    /// Puts a pair in its place; one that is there changes nothing. The table is unchanged after a refusal.
+    pub(crate) fn add(&mut self, alloc: Global, name: &[u8], group: u16) -> Result<(), Memory>
+        ensures ok { OnOk result (self.new ≡ with_name (record { name = name.now; group = group }) self.old) }
+        ensures refused { OnErr result (self.new ≡ self.old) }
+    {
+        let Err(place) = find(&self.entries, name, group) else {
+            return Ok(());
+        };
+        let entry = NameEntry {
+            name: Word::from_vec(name.to_vec(alloc)?),
+            group,
+        };
+        self.entries.insert(place, entry)?;
+        Ok(())
+    }
+}
+
+/// The place of a pair in the table's order, or where it would stand.
+fn find(entries: &[NameEntry], name: &[u8], group: u16) -> Result<usize, usize>
+    requires { IsOrdered entries.now }
+    ensures within { IsSearchInRange result (length entries.now) }
+    ensures is { IsFound result entries.now (record { name = name.now; group = group }) }
+{
+    entries.binary_search_by(|entry| compare(entry, name, group))
+}
+
+/// How an entry stands to a pair in the table's order.
+fn compare(entry: &NameEntry, name: &[u8], group: u16) -> Ordering
+    ensures { result ≡ name_cmp entry.now (record { name = name.now; group = group }) }
+{
+    entry.name.bytes().cmp(name).then(entry.group.cmp(&group))
 }

@@ -1,5 +1,5 @@
 -- Runs, from the scan and the messages.
-use Rattle.std.proofs.Common.{◌≡◌, ℕ, ◌<◌, ◌≤◌, List, [], ◌∷◌, ◌++◌, Bool, true, false, if◌then◌else◌, nat_le, ◌⊎◌, inl, inr, Option, Ok, None, Some, refl, sym, ap, subst, ◌∙◌, arith, append-nil, filter, flat_map, codes}
+use Rattle.std.proofs.Common.{◌≡◌, ℕ, ◌<◌, List, [], ◌∷◌, ◌++◌, Bool, true, false, if◌then◌else◌, nat_le, ◌⊎◌, inl, inr, Option, Ok, refl, sym, ap, subst, ◌∙◌, arith, append-nil, flat_map}
 use Rattle.std.proofs.lemmas.Bool.{lt-leb}
 use Rattle.std.proofs.lemmas.List.Elements.{filter-append}
 use Rattle.std.proofs.lemmas.List.Concat.{flat_map-append}
@@ -7,13 +7,13 @@ use Rattle.std.specs.Io.KnownBytes.{Appends}
 use Rattle.std.proofs.KnownBytes.{Appends-nil, Consumes-nil}
 use Rattle.pcre_io.specs.Told.{Told, Kept, AppendsPrefix}
 use Rattle.pcre_io.specs.Causes.{Rose}
-use Rattle.line_feed.specs.Rows.{Row, Input, Ending, End, Fault, Limit, rows}
+use Rattle.line_feed.specs.Rows.{Row, Input, Ending, End, rows}
 use Rattle.line_feed.specs.Hears.{Hears}
 use Rattle.line_feed.proofs.Stops.{StopFell-nil}
 use Rattle.line_feed.proofs.Hearing.{hears-some}
 use Rattle.pcre2_tools.specs.declared.plans.Plan.{Plan}
 use Rattle.pcre2_tools.specs.Text.{Outcome, stands, shown, picked, text_of, message, status_of, grep_text}
-use Rattle.pcre2_tools.specs.Scan.{ScansAll, ScansSome, Scans, is_any, is_found}
+use Rattle.pcre2_tools.specs.Scan.{ScansAll, ScansSome, Scans, is_any}
 use Rattle.pcre2_tools.specs.Runs.{Stops, Runs, RunsAll, RunsSome, Says, refusal, line, text_by, tool_text}
 use Rattle.pcre2_tools.specs.Plans.{plan_of, second}
 use Rattle.pcre_io.specs.Files.{File}
@@ -112,3 +112,7 @@ runs-refused t plan words files text status result kept old new is by says = let
   subst (λ p. Runs (text_by p (second words) any.0) result kept kept old new) is
       (subst (λ o. Runs o result kept kept old new) (sym (by any.0)) (runs-said (refusal text status) status result kept kept old new (Appends-nil kept.held) refl says)),
 )
+
+-- memory lacked before anything was read or written
+pub runs-lacks : (t : Told) (text : Input → Outcome) (kept err : Kept) → (heard : Input) × Hears t t heard × RunsSome (text heard) 3 kept kept err err
+runs-lacks t text kept err = let any = hears-any t in (any.0, any.1, record { out = prefix-none _ _; err = prefix-none _ _; cause = inl refl })

@@ -1,24 +1,21 @@
 -- A scan, row by row.
-use Rattle.std.proofs.Common.{◌≡◌, ◌≢◌, ℕ, ◌+◌, ◌≤◌, ◌||◌, List, [], ◌∷◌, ◌++◌, Bool, true, false, if◌then◌else◌, Option, Result, None, Some, Ok, Err, refl, sym, ap, subst, ◌∙◌, arith, append_assoc, append-nil, filter, flat_map}
+use Rattle.std.proofs.Common.{◌≡◌, ◌≢◌, ℕ, ◌≤◌, ◌||◌, List, [], ◌∷◌, ◌++◌, Bool, true, false, if◌then◌else◌, Ok, Err, refl, sym, ap, subst, ◌∙◌, arith, append-nil, flat_map}
 use Rattle.std.proofs.lemmas.List.Elements.{filter-append}
 use Rattle.std.proofs.lemmas.List.Concat.{flat_map-append}
 use Rattle.std.specs.Io.KnownBytes.{Appends}
 use Rattle.std.proofs.KnownBytes.{Appends-trans, Appends-nil}
 use Rattle.pcre_io.specs.Told.{Told, Kept, AppendsPrefix}
-use Rattle.pcre_io.specs.Causes.{Rose}
-use Rattle.pcre_io.specs.declared.traits.IoError.{IoError}
-use Rattle.pcre_io.specs.declared.traits.IoError.TheVariants.{Failed}
 use Rattle.line_feed.specs.declared.phase.FeedError.TheVariants.{ReadFault, TooMuch, Memory}
-use Rattle.line_feed.specs.declared.phase.Phase.TheVariants.{Open, Ended, Closed}
-use Rattle.line_feed.specs.Rows.{Row, Ending, End, Fault, Limit}
+use Rattle.line_feed.specs.declared.phase.Phase.TheVariants.{Closed}
+use Rattle.line_feed.specs.Rows.{Row}
 use Rattle.line_feed.specs.View.{Feed}
-use Rattle.line_feed.specs.Answers.{Gives, Ends}
-use Rattle.line_feed.specs.Hears.{HasGiven, HasHeard, HasBegun}
-use Rattle.line_feed.proofs.Given.{HasGiven-gives, HasGiven-lacks, HasGiven-none, HasHeard-ends, HasHeard-breaks, HasHeard-overflows, HasBegun-given, live-gives}
+use Rattle.line_feed.specs.Answers.{Ends}
+use Rattle.line_feed.specs.Hears.{HasGiven}
+use Rattle.line_feed.proofs.Given.{HasGiven-gives, HasGiven-lacks, HasHeard-ends, HasHeard-breaks, HasHeard-overflows, HasBegun-given, live-gives}
 use Rattle.pcre2_tools.specs.declared.lines.Stop.{Stop}
 use Rattle.pcre2_tools.specs.declared.lines.Stop.TheVariants.{NoRow, NoWrite}
 use Rattle.pcre2_tools.specs.Text.{stands, shown, picked, text_of}
-use Rattle.pcre2_tools.specs.Scan.{shown_if, Passes, Turns, Wrote, ScansAll, ScansSome, Scans, is_any, is_found}
+use Rattle.pcre2_tools.specs.Scan.{shown_if, Turns, Wrote, Scans, is_any, is_found}
 use Rattle.pcre2_tools.proofs.Writes.{prefix-more, prefix-all}
 
 pub is_any-append : (xs ys : List Row) → is_any (xs ++ ys) ≡ (is_any xs || is_any ys)

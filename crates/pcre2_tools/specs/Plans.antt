@@ -1,5 +1,5 @@
 -- What the words of the program ask for.
-use Rattle.std.specs.Prelude.{true, false, ◌≡◌, ℕ, ◌==◌, ◌&&◌, ◌||◌, if◌then◌else◌, List, [], ◌∷◌, length, nat_le, Bool, codes, bytes_eq}
+use Rattle.std.specs.Prelude.{ℕ, ◌==◌, ◌&&◌, ◌||◌, if◌then◌else◌, List, [], ◌∷◌, length, nat_le, Bool, codes, bytes_eq}
 use Rattle.std.specs.List.{list_all}
 use Rattle.pcre2_tools.specs.declared.plans.Plan.{Plan}
 use Rattle.pcre2_tools.specs.declared.plans.Plan.TheVariants.{Grep, GrepNotBuilt, TestNotBuilt, NoTool}

@@ -1,10 +1,9 @@
 -- What a run of the tool does.
-use Rattle.std.specs.Prelude.{true, false, ◌≡◌, ℕ, ◌≤◌, if◌then◌else◌, List, [], ◌∷◌, ◌++◌, length, nat_le, Bool, codes, ◌⊎◌, Option}
+use Rattle.std.specs.Prelude.{true, false, ◌≡◌, ℕ, List, [], ◌∷◌, ◌++◌, nat_le, Bool, codes, ◌⊎◌, Option}
 use Rattle.std.specs.Io.KnownBytes.{Appends}
-use Rattle.pcre_io.specs.Told.{Told, Kept, AppendsPrefix}
+use Rattle.pcre_io.specs.Told.{Kept, AppendsPrefix}
 use Rattle.pcre_io.specs.Causes.{Rose}
 use Rattle.line_feed.specs.Rows.{Input}
-use Rattle.line_feed.specs.Hears.{Hears}
 use Rattle.pcre_io.specs.Files.{File}
 use Rattle.pcre2_tools.specs.declared.plans.Plan.{Plan}
 use Rattle.pcre2_tools.specs.declared.plans.Plan.TheVariants.{Grep, GrepNotBuilt, TestNotBuilt, NoTool}

@@ -1,11 +1,10 @@
 -- What a scan of an input does.
-use Rattle.std.specs.Prelude.{◌≡◌, ℕ, ◌+◌, ◌≤◌, if◌then◌else◌, List, [], ◌∷◌, ◌++◌, Bool, true, false, Option, Result, None, Some, Ok, Err}
-use Rattle.std.specs.Io.KnownBytes.{Appends, Keeps}
+use Rattle.std.specs.Prelude.{◌≡◌, ℕ, ◌≤◌, List, [], ◌∷◌, Bool, true, false, Option, Result, None, Some, Ok, Err}
+use Rattle.std.specs.Io.KnownBytes.{Appends}
 use Rattle.pcre_io.specs.Told.{Told, Kept, AppendsPrefix}
 use Rattle.pcre_io.specs.Causes.{Rose}
 use Rattle.pcre_io.specs.declared.traits.IoError.{IoError}
 use Rattle.pcre_io.specs.declared.traits.IoError.TheVariants.{Failed}
-use Rattle.line_feed.specs.declared.phase.FeedError.{FeedError}
 use Rattle.line_feed.specs.declared.phase.FeedError.TheVariants.{ReadFault, TooMuch, Memory}
 use Rattle.line_feed.specs.Rows.{Row, Ending, End, Fault, Limit}
 use Rattle.line_feed.specs.View.{Feed}

@@ -1,3 +1,4 @@
+//! The scan of an input.
 ghost use Rattle.std.specs.Prelude.{◌≡◌, ◌≢◌, ◌++◌, ◌∷◌, [], ◌||◌, OnOk, OnErr};
 ghost use Rattle.std.specs.Io.KnownBytes.{Appends};
 ghost use Rattle.pcre_io.specs.Told.{AppendsPrefix};
@@ -5,7 +6,7 @@ ghost use Rattle.pcre_io.specs.Causes.{HasCause};
 ghost use Rattle.line_feed.specs.declared.phase.Phase.TheVariants.{Closed};
 ghost use Rattle.pcre2_tools.specs.Scan.{Turns, Scans};
 
-use crate::word::is_in;
+use crate::word::Word;
 use line_feed::{FeedError, Line, LineFeed};
 use pcre_io::{IoError, Sink, Source, write_all};
 use std::alloc::Global;
@@ -36,7 +37,7 @@ fn show<O: Sink>(bytes: &[u8], out: &mut O) -> Result<(), IoError>
 // Scans the next line, where there is one. Says whether it was shown.
 fn turn<S: Source, O: Sink>(
     feed: &mut LineFeed,
-    word: &[u8],
+    word: &Word,
     source: &mut S,
     out: &mut O,
 ) -> Result<Option<bool>, Stop>
@@ -45,7 +46,7 @@ fn turn<S: Source, O: Sink>(
 {
     match feed.next(source) {
         Ok(Some(line)) => {
-            let found = is_in(word, line.bytes);
+            let found = word.stands_in(line.bytes);
             if found {
                 match show(line.bytes, out) {
                     Ok(()) => {}
@@ -68,7 +69,7 @@ fn either(a: bool, b: bool) -> bool
 /// Shows the lines of a source that hold the word. Says whether there is one.
 pub fn scan<S: Source, O: Sink>(
     alloc: Global,
-    word: &[u8],
+    word: &Word,
     source: &mut S,
     out: &mut O,
 ) -> Result<bool, Stop>

@@ -10,9 +10,8 @@ mod tests;
 mod top;
 mod word;
 
-pub use top::run;
-
 use std::process::ExitCode;
+pub use top::run;
 
 fn main(rt: HostRuntime) -> ExitCode {
     real::run_real(&rt)

@@ -55,8 +55,19 @@ fn run_words(rt: &HostRuntime, words: &[String]) -> u8 {
     let mut input = StdSource::new(rt.stdin());
     let mut out = StdSink::new(&mut writer);
     let mut err = StdSink::new(rt.stderr());
-    let status = run(rt.alloc(), words, &mut files, &mut input, &mut out, &mut err);
-    if writer.flush().is_err() { NO_WRITE } else { status }
+    let status = run(
+        rt.alloc(),
+        words,
+        &mut files,
+        &mut input,
+        &mut out,
+        &mut err,
+    );
+    if writer.flush().is_err() {
+        NO_WRITE
+    } else {
+        status
+    }
 }
 
 /// Runs the tool on the program's words, and answers the program's exit code.

@@ -1,5 +1,5 @@
 //! The tool over any source, sinks and files.
-ghost use Rattle.std.specs.Prelude.{◌≡◌, ◌<◌, map, string_bytes};
+ghost use Rattle.std.specs.Prelude.{◌≡◌, ◌<◌, ◌≤◌, length, map, string_bytes};
 ghost use Rattle.line_feed.specs.Rows.{Input};
 ghost use Rattle.line_feed.specs.Hears.{Hears};
 ghost use Rattle.pcre2_tools.specs.Text.{grep_text};
@@ -7,6 +7,7 @@ ghost use Rattle.pcre2_tools.specs.Runs.{Runs, Says, tool_text};
 
 use crate::lines::{Stop, scan};
 use crate::plans::{Plan, plan_for};
+use crate::word::Word;
 use line_feed::FeedError;
 use pcre_io::{FileSet, IoError, Sink, Source, write_all};
 use std::alloc::Global;
@@ -24,9 +25,9 @@ fn say<E: Sink>(err: &mut E, text: &[u8], status: u8) -> u8
 }
 
 // Scans the input for a word.
-fn grep<S: Source, O: Sink, E: Sink>(
+fn grep_word<S: Source, O: Sink, E: Sink>(
     alloc: Global,
-    word: &[u8],
+    word: &Word,
     input: &mut S,
     out: &mut O,
     err: &mut E,
@@ -46,6 +47,24 @@ fn grep<S: Source, O: Sink, E: Sink>(
         Err(Stop::NoRow(FeedError::Memory)) => 3,
         Err(Stop::NoWrite(IoError::Memory)) => 3,
         Err(Stop::NoWrite(IoError::Failed)) => 4,
+    }
+}
+
+// Scans the input for the word that is this text.
+fn grep<S: Source, O: Sink, E: Sink>(
+    alloc: Global,
+    text: &[u8],
+    input: &mut S,
+    out: &mut O,
+    err: &mut E,
+) -> u8
+    requires { length text.now ≤ 65536 }
+    ensures { (heard : Input) × Hears (S.tells input.old) (S.tells input.new) heard
+        × Runs (grep_text text.now heard) result (O.tells out.old) (O.tells out.new) (E.tells err.old) (E.tells err.new) }
+{
+    match Word::new(alloc, text) {
+        Ok(word) => grep_word(alloc, &word, input, out, err),
+        Err(_) => 3,
     }
 }
 

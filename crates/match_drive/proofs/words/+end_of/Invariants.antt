@@ -11,5 +11,6 @@ abbrev pub invariant-loop-kid : goal.invariant-loop-kid
 invariant-loop-kid l = record {
   rest : end_of_row l.subject (parts_from (trees l.tree.nodes) l.kid-items l.kid-index) l.to ≡ end_of l.subject (tree_at (trees l.tree.nodes) l.id) l.at;
   words : are_words (parts_from (trees l.tree.nodes) l.kid-items l.kid-index) ≡ true;
+  low : l.at ≤ l.to;
   within : l.to ≤ length l.subject;
 }

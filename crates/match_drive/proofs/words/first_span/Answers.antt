@@ -11,7 +11,8 @@ returns-in_default-clause-none c =
 pub returns-in-Some-end_of-clause-found : goal.returns-in-Some-end_of-clause-found
 returns-in-Some-end_of-clause-found c = record {
   ends = ap (λ r. end_of c.args.subject.now (tree_at (trees c.args.tree.now.nodes) r) c.in-Some.place) (sym c.root-in-loop-from.ensures) ∙ sym c.in-Some-end_of.ensures.value;
-  within = c.in-Some-end_of.ensures.within;
+  ordered = c.in-Some-end_of.ensures.within.0;
+  within = c.in-Some-end_of.ensures.within.1;
   least = clear_before c.args.subject.now _ c.loop-from.from c.lead-lead.result c.in-Some.place (c.lead-lead.ensures ∙ ap (λ r. lead (tree_at (trees c.args.tree.now.nodes) r)) c.root.ensures) c.in-Some.ensures c.loop-from.invariant;
 }
 

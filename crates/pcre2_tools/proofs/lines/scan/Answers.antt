@@ -1,4 +1,4 @@
-use Rattle.std.proofs.Common.{◌≡◌, ◌≢◌, [], ◌∷◌, ◌++◌, refl, sym, ap, ◌∙◌, ◌||◌}
+use Rattle.std.proofs.Common.{◌≡◌, [], ◌∷◌, ◌++◌, refl, sym, ap, ◌∙◌, ◌||◌}
 use Rattle.line_feed.specs.declared.phase.Phase.TheVariants.{Open, Closed}
 use Rattle.line_feed.proofs.Given.{HasGiven-none, HasGiven-gives, live-gives}
 use Rattle.pcre2_tools.proofs.Scanning.{Wrote-none, Wrote-more, found-more, scans-stops, scans-end}

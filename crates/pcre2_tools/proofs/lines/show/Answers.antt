@@ -1,4 +1,4 @@
-use Rattle.std.proofs.Common.{◌++◌, ◌∷◌, []}
+use Rattle.std.proofs.Common.{◌∷◌, []}
 use Rattle.pcre2_tools.proofs.Writes.{prefix-front, prefix-more}
 use Rattle.pcre2_tools.proofs.lines.show.Goals as goal
 

@@ -1,4 +1,4 @@
-use Rattle.std.proofs.Common.{◌≡◌, refl, ap, inl, inr, Err}
+use Rattle.std.proofs.Common.{refl, ap, inl, inr, Err}
 use Rattle.pcre2_tools.proofs.Running.{says-ok}
 use Rattle.pcre2_tools.proofs.top.say.Goals as goal
 

@@ -1,8 +1,7 @@
-use Rattle.std.proofs.Common.{arith, subst, All, ◌<◌, ◌+◌, ◌≡◌, length}
+use Rattle.std.proofs.Common.{length-append, ◌∷◌, [], arith, length}
 use Rattle.pat_tree.specs.declared.nodes.Placed.{Placed}
-use Rattle.pat_tree.specs.Rules.{kids_of}
 use Rattle.pat_tree.proofs.Growing.{makes_push, refs_push}
-use Rattle.pat_tree.proofs.Reached.{below_push}
+use Rattle.pat_tree.proofs.Keeping.{sound_push}
 use Rattle.pat_tree.proofs.Loose.{loose_push, replaces_push}
 use Rattle.pat_tree.proofs.draft.Draft.add.Goals as goal
 
@@ -24,8 +23,20 @@ returns-clause-replaces c =
 
 pub invariant_of-self-2 : goal.invariant_of-self-2
 invariant_of-self-2 c =
-    let ps = c.self.inside.nodes.items in
     let p : Placed = record { node = c.args.node; at = c.args.at } in
-    let e : length ps ≡ 0 + length ps = omega arith in
-    let kids = rw (← c.self.view_is) at c.requires.kids in
-    rw c.in_ok-push.ensures.items (below_push 0 ps p c.self.invariant (subst (λ m. All (λ k. k < m) (kids_of p.node)) e kids))
+    let given = rw (← c.self.view_is) at c.requires in
+    rw c.in_ok-push.ensures.items (record {
+      nodes = sound_push (length c.self.inside.classes.items) (length c.self.inside.verb_names.items) c.self.inside.nodes.items p c.self.invariant.nodes (record {
+        kids = given.kids;
+        classes = given.classes;
+        verb_names = given.verb_names;
+        numbered = given.numbered;
+        named = given.named;
+        ordered = given.ordered;
+        define = given.define;
+        test = given.test;
+      }) given.fresh;
+      node_count = omega (arith, given.room, length-append c.self.inside.nodes.items (p ∷ []));
+      class_count = c.self.invariant.class_count;
+      verb_name_count = c.self.invariant.verb_name_count;
+    })
