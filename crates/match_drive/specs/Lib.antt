@@ -1,1 +1,4 @@
 pub mod Words
+pub mod Places
+pub mod MatchAnswer
+pub mod Rows

@@ -1,0 +1,4 @@
+mod Late
+mod CutLaw
+mod WalkLaw
+mod RowProofs

@@ -1,0 +1,9 @@
+pub mod Stream
+pub mod Setting
+pub mod Tests
+pub mod Parts
+pub mod Run
+pub mod PlaceAnswer
+pub mod Written
+pub mod Laws
+pub mod Rows

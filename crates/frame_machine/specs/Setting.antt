@@ -1,0 +1,119 @@
+-- What a search is about: the pattern, the subject, the options, the limits and the answers of callouts, which stay as they are.
+use Rattle.std.specs.Prelude.{ℕ, ◌+◌, Bool, true, false, ◌||◌, List, [], length, min, ℤ, Option, Some, None, nat_lt, nat_le, slice_index_or}
+use Rattle.pat_tree.specs.declared.options.MatchOptions.{MatchOptions}
+use Rattle.pat_tree.specs.declared.options.PartialMode.TheVariants.{Off, Soft, Hard}
+use Rattle.pat_tree.specs.declared.nodes.ClassSpec.{ClassSpec}
+use Rattle.pat_tree.specs.Nested.{Nested}
+use Rattle.pat_tree.specs.Parts.{TreeParts, tree_of}
+use Rattle.match_items.specs.Scene.{Scene, newline_kind, break_kind}
+use Rattle.pat_check.specs.Nodes as nodes
+use Rattle.pat_check.specs.Lengths as lengths
+use Rattle.pat_check.specs.Lengths.{SomeLengths}
+use Rattle.pat_check.specs.Lead as lead
+use Rattle.frame_machine.specs.Stream.{State, Block, hit_end, note, How, Stream, Search, ends, ◌▸◌, by_halt, too_many_units, is_partial, gives}
+
+pub record Setting : Type 0 where
+  -- the subject, the start, the options, and the tests of characters
+  pub scene : Scene
+  pub open scene use *
+  -- the pattern, whose group 0 it is, and the greatest number of its groups
+  pub whole : Nested
+  pub groups : ℕ
+  pub classes : List ClassSpec
+  pub verb_names : List (List ℕ)
+  -- what a callout answers
+  pub reply : Block → ℤ
+
+module _ (g : Setting) where
+  -- What is known of the pattern.
+
+  abbrev pub has_lookbehind : Bool
+  has_lookbehind = nodes.has_lookbehind g.whole
+
+  abbrev pub can_be_empty : Bool
+  can_be_empty = lengths.can_be_empty g.options.match_unset_backref g.whole
+
+  -- the lengths of a branch of a lookbehind
+  abbrev pub branch_lengths : Nested → SomeLengths
+  branch_lengths t = lengths.branch_lengths g.options.match_unset_backref g.whole t
+
+  abbrev pub names_cr_or_lf : Bool
+  names_cr_or_lf = nodes.names_cr_or_lf g.classes g.whole
+
+  -- the bytes that every match begins with, where they are known
+  abbrev pub lead_set : Option (ℕ → Bool)
+  lead_set =
+      lead.lead_set g.options.utf (newline_kind g.options.newline g.options.utf)
+      (break_kind g.options.bsr g.options.utf) g.class_has g.fold g.whole
+
+  abbrev pub verb_name : ℕ → List ℕ
+  verb_name n = slice_index_or g.verb_names n []
+
+  -- Options that the pattern or the match may set, and the lower of two limits.
+
+  abbrev pub anchored : Bool
+  anchored = g.options.anchored || g.matching.anchored
+
+  abbrev pub endanchored : Bool
+  endanchored = g.options.endanchored || g.matching.endanchored
+
+  abbrev pub notempty : Bool
+  notempty = g.options.notempty || g.matching.notempty
+
+  abbrev pub notempty_atstart : Bool
+  notempty_atstart = g.options.notempty_atstart || g.matching.notempty_atstart
+
+  abbrev pub match_limit : ℕ
+  match_limit = lower g.options.match_limit g.matching.match_limit
+    where
+      lower : Option ℕ → ℕ → ℕ
+      lower None l = l
+      lower (Some k) l = min k l
+
+  -- n more units, where there is room for them
+  unfoldable pub held : ℕ → State → Search → Stream
+  held n s f =
+      elim (nat_le (s.units + n) g.matching.frame_limit) [
+        | true ↦ f (record s { units = s.units + n })
+        | false ↦ ends (by_halt too_many_units)
+      ]
+
+  unfoldable pub hold : How → Search
+  hold how s = held 1 s (gives how)
+
+  -- Reaching the subject's end counts (pcre2partial, "Partial matching in PCRE2").
+  abbrev pub counts : State → Bool
+  counts s = nat_lt s.early (length g.subject) || has_lookbehind || can_be_empty
+
+  -- the subject's end was reached, and x follows
+  unfoldable pub reach : State → Stream → Stream
+  reach s x =
+      elim g.matching.«partial» [
+        | Off ↦ x
+        | Soft ↦ elim (counts s) [ true ↦ note hit_end ▸ x | false ↦ x ]
+        | Hard ↦ elim (counts s) [ true ↦ ends (by_halt is_partial) | false ↦ x ]
+      ]
+
+  -- the same where the test is true
+  unfoldable pub reach_if : Bool → State → Stream → Stream
+  reach_if true s x = reach s x
+  reach_if false s x = x
+
+-- What a search of a finished tree is about.
+abbrev pub setting_of : TreeParts → MatchOptions → List ℕ → ℕ → (ℕ → ℕ → Bool) → (ℕ → ℕ) → (ℕ → Bool) → (Block → ℤ) → Setting
+setting_of t matching subject start class_has fold is_word reply = record {
+  scene = record {
+    options = t.options;
+    matching = matching;
+    subject = subject;
+    start = start;
+    class_has = class_has;
+    fold = fold;
+    is_word = is_word;
+  };
+  whole = tree_of t;
+  groups = nodes.greatest_group (tree_of t);
+  classes = t.classes;
+  verb_names = t.verb_names;
+  reply = reply;
+}

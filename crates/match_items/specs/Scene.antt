@@ -1,0 +1,43 @@
+-- What stands fixed while a subject is searched.
+use Rattle.std.specs.Prelude.{ℕ, Bool, true, false, List}
+use Rattle.pat_tree.specs.declared.options.Options.{Options}
+use Rattle.pat_tree.specs.declared.options.MatchOptions.{MatchOptions}
+use Rattle.pat_tree.specs.declared.options.Newline.{Newline}
+use Rattle.pat_tree.specs.declared.options.Newline.TheVariants as newline
+use Rattle.pat_tree.specs.declared.options.Bsr.{Bsr}
+use Rattle.pat_tree.specs.declared.options.Bsr.TheVariants as bsr
+use Rattle.byte_lanes.specs.declared.line_end.EndKind.{EndKind}
+use Rattle.byte_lanes.specs.declared.line_end.EndKind.TheVariants as kind
+
+pub record Scene : Type 0 where
+  -- the pattern's options, and the match's
+  pub options : Options
+  pub matching : MatchOptions
+  pub subject : List ℕ
+  -- the start that was given to the call
+  pub start : ℕ
+  -- the class of this number holds of a character
+  pub class_has : ℕ → ℕ → Bool
+  -- a character's simple folding in UTF, and whether it is a word character under UCP
+  pub fold : ℕ → ℕ
+  pub is_word : ℕ → Bool
+
+-- the texts of a newline convention: under ANY those past ASCII are other bytes in UTF (pcre2pattern, "Newline conventions")
+abbrev pub newline_kind : Newline → Bool → EndKind
+newline_kind newline.Cr utf = kind.Cr
+newline_kind newline.Lf utf = kind.Lf
+newline_kind newline.CrLf utf = kind.CrLf
+newline_kind newline.AnyCrLf utf = kind.AnyCrLf
+newline_kind newline.Any true = kind.AnyUtf
+newline_kind newline.Any false = kind.Any
+newline_kind newline.Nul utf = kind.Nul
+
+-- the texts of `\R` (pcre2pattern, "Newline sequences")
+abbrev pub break_kind : Bsr → Bool → EndKind
+break_kind bsr.Unicode true = kind.AnyUtf
+break_kind bsr.Unicode false = kind.Any
+break_kind bsr.AnyCrLf utf = kind.AnyCrLf
+
+abbrev pub is_crlf : Newline → Bool
+is_crlf newline.CrLf = true
+is_crlf _ = false

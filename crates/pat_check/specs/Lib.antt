@@ -1,0 +1,5 @@
+pub mod Nodes
+pub mod Lengths
+pub mod Lead
+pub mod Size
+pub mod Rows
