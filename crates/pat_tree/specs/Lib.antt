@@ -1,6 +1,7 @@
 pub mod Nested
 pub mod Groups
 pub mod Names
+pub mod Newlines
 pub mod Parts
 pub mod Rules
 pub mod Refs
