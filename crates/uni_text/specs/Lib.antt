@@ -1,0 +1,4 @@
+pub mod Ascii
+pub mod Characters
+pub mod Laws
+pub mod Rows
