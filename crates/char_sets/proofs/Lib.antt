@@ -1,0 +1,4 @@
+pub mod BitLemmas
+pub mod EdgeLemmas
+pub mod FoldLemmas
+pub mod PlaceLemmas

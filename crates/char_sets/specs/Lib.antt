@@ -1,0 +1,5 @@
+pub mod Laws
+pub mod Places
+pub mod Rows
+pub mod Sets
+pub mod Table

@@ -1,0 +1,58 @@
+// Where the answer of a class changes past the bytes.
+ghost use Rattle.std.specs.Prelude.{◌≡◌, ℕ, ◌<◌, ◌≤◌, ◌⊎◌, Bool, true, false, if◌then◌else◌, OnOk, All};
+ghost use Rattle.char_sets.specs.Places.{splits, IsSteady};
+ghost use Rattle.char_sets.specs.Sets as spec;
+
+use pat_tree::{Memory, Part, SetName};
+
+/// From this character on, up to the next edge, a class takes all characters or none.
+#[derive(Clone, Copy, Debug)]
+pub struct Edge {
+    pub from: u64,
+    pub takes: bool,
+}
+
+/// Adds the places past 256 at which the answer of a part may change.
+pub(crate) fn add_places(places: &mut Vec<u64>, part: &Part) -> Result<(), Memory>
+    ensures steady { OnOk result ((caseless : Bool) → IsSteady (spec.part_has caseless part.now) places.new.items) }
+    ensures kept { OnOk result ((a b : ℕ) → splits places.new.items a b ≡ false → splits places.old.items a b ≡ false) }
+    ensures past { OnOk result (All (λ p. 256 < p) places.old.items → All (λ p. 256 < p) places.new.items) }
+{
+    match *part {
+        Part::Range { from, to } => {
+            add_place(places, from as u64)?;
+            add_place(places, to as u64 + 1)?;
+            Ok(())
+        }
+        Part::Set { set, .. } => {
+            places.extend_from_slice(set_places(set))?;
+            Ok(())
+        }
+    }
+}
+
+fn add_place(places: &mut Vec<u64>, p: u64) -> Result<(), Memory>
+    ensures apart { OnOk result ((a b : ℕ) → 256 ≤ a → splits places.new.items a b ≡ false → (p ≤ a) ⊎ (b < p)) }
+    ensures kept { OnOk result ((a b : ℕ) → splits places.new.items a b ≡ false → splits places.old.items a b ≡ false) }
+    ensures past { OnOk result (All (λ q. 256 < q) places.old.items → All (λ q. 256 < q) places.new.items) }
+{
+    if p > 256 {
+        places.push(p)?;
+    }
+    Ok(())
+}
+
+/// The places past 256 at which a set begins or ends.
+fn set_places(set: SetName) -> &'static [u64]
+    ensures steady { (caseless : Bool) → IsSteady (spec.set_has (if caseless then spec.any_case set else set)) result.now }
+    ensures past { All (λ p. 256 < p) result.now }
+{
+    match set {
+        SetName::H => &[
+            0x1680, 0x1681, 0x180E, 0x180F, 0x2000, 0x200B, 0x202F, 0x2030, 0x205F, 0x2060, 0x3000,
+            0x3001,
+        ],
+        SetName::V => &[0x2028, 0x202A],
+        _ => &[],
+    }
+}

@@ -1,0 +1,10 @@
+//! The classes of a pattern as tables: whether a class takes a character.
+#![tactic(auto)]
+
+mod bytes;
+mod edges;
+mod entry;
+mod laws;
+mod sets;
+
+pub use laws::{ranges_fold, worked_rows};
