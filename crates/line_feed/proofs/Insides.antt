@@ -1,0 +1,130 @@
+-- The fields of a feed.
+use Rattle.std.proofs.Common.{◌≡◌, ◌≢◌, ◌⊎◌, inl, inr, ℕ, ◌+◌, ◌-◌, ◌<◌, ◌≤◌, List, ◌++◌, length, take, drop, slice_range, refl, sym, ap, subst, ◌∙◌, arith, ⊎_elim, length-append, length-drop, length-take-le}
+use Rattle.std.proofs.lemmas.Bool.{cases_lt, cases_eq}
+use Rattle.std.proofs.lemmas.List.{drop-take, drop-drop, take-take}
+use Rattle.byte_lanes.specs.declared.line_end.EndKind.{EndKind}
+use Rattle.byte_lanes.specs.Newlines.{newline_len}
+use Rattle.line_feed.specs.declared.feed.LineFeed.TheInside.{Inside}
+use Rattle.line_feed.specs.declared.phase.Phase.{Phase}
+use Rattle.line_feed.specs.declared.phase.Phase.TheVariants.{Open, Ended, Missed, Full}
+use Rattle.line_feed.specs.View.{Feed, HoldsRow, given}
+use Rattle.line_feed.specs.Inside.{IsWhole, IsNear, IsSearched, held_of, view_of}
+use Rattle.line_feed.specs.Steps.{MeetsBehind}
+use Rattle.line_feed.proofs.Newlines.{newline-far, newline-shorter, newline-drop, newline-end}
+
+pub range-long : (xs : List ℕ) (a b : ℕ) → a ≤ b → b ≤ length xs → length (slice_range xs a b) ≡ b - a
+range-long xs a b le within = let rest = length-drop a xs in length-take-le (b - a) (drop a xs) (omega arith)
+
+pub held-long : (f : Inside) → IsWhole f → length (held_of f) ≡ f.filled - f.start
+held-long f i = range-long f.buffer.items f.start f.filled i.held i.filled
+
+-- with a piece more
+pub searched-more : (kind : EndKind) (held piece : List ℕ) (n : ℕ) → IsSearched kind held n → IsSearched kind (held ++ piece) n
+searched-more kind held piece n h k l =
+    let far = (h k l).0 in
+    let long = length-append held piece in
+    (omega arith, newline-far kind held piece k far ∙ (h k l).1)
+
+pub near-more : (kind : EndKind) (held piece : List ℕ) (room : ℕ) → length piece ≤ room → room ≤ 65536 → (HoldsRow kind held → length held + room ≤ 65536) → IsNear kind (held ++ piece)
+near-more kind held piece room fits few near k some =
+    let long = length-append held piece in
+    let n = newline_len kind (held ++ piece) k in
+    ⊎_elim (λ inside.
+    let same = newline-shorter kind held piece k (omega arith) (omega arith) in
+    let all = near (k, subst (λ m. 0 < m) (sym same) some, λ _. omega arith) in
+    omega arith)
+    (λ past. omega arith)
+    (cases_lt (k + n) (length held))
+
+-- without its first bytes
+pub near-drop : (kind : EndKind) (held : List ℕ) (m : ℕ) → IsNear kind held → IsNear kind (drop m held)
+near-drop kind held m near k some =
+    let same = newline-drop kind held m k in
+    let long = length-drop m held in
+    let far = near (m + k) (subst (λ n. 0 < n) same some) in
+    omega arith
+
+-- parts of a part
+range-rest : (xs : List ℕ) (a b m : ℕ) → a + m ≤ b → slice_range xs (a + m) b ≡ drop m (slice_range xs a b)
+range-rest xs a b m le =
+    let r = b - (a + m) in
+    sym (ap (λ n. drop m (take n (drop a xs))) {x = b - a} {y = m + r} (omega arith) ∙ drop-take m r (drop a xs) ∙ ap (λ l. take r l) (drop-drop m a xs))
+
+range-front : (xs : List ℕ) (a b e : ℕ) → a + e ≤ b → slice_range xs a (a + e) ≡ take e (slice_range xs a b)
+range-front xs a b e le = ap (λ n. take n (drop a xs)) {x = a + e - a} {y = e} (omega arith) ∙ sym (take-take e (b - a) (drop a xs) (omega arith))
+
+range-mid : (xs : List ℕ) (a b e n : ℕ) → a + e + n ≤ b → slice_range xs (a + e) (a + e + n) ≡ slice_range (slice_range xs a b) e (e + n)
+range-mid xs a b e n le =
+    range-front xs (a + e) b n le
+    ∙ ap (λ l. take n l) (range-rest xs a b e (omega arith))
+    ∙ ap (λ k. take k (drop e (slice_range xs a b))) {x = n} {y = e + n - e} (omega arith)
+
+-- a row was given
+abbrev pub inside_given : Inside → ℕ → ℕ → Inside
+inside_given f end newline = record f {
+  from = f.start;
+  to = f.start + end;
+  start = f.start + end + newline;
+  searched = 0;
+  number = f.number + 1;
+  row_at = f.offset;
+  offset = f.offset + (end + newline);
+}
+
+rest-given : (f : Inside) (end newline : ℕ) → IsWhole f → end + newline ≤ length (held_of f) → held_of (inside_given f end newline) ≡ drop (end + newline) (held_of f)
+rest-given f end newline i le =
+    let long = held-long f i in
+    let ordered = i.held in
+    ap (λ a. slice_range f.buffer.items a f.filled) {x = f.start + end + newline} {y = f.start + (end + newline)} (omega arith)
+    ∙ range-rest f.buffer.items f.start f.filled (end + newline) (omega arith)
+
+pub view-given : (f : Inside) (end newline : ℕ) → IsWhole f → end + newline ≤ length (held_of f) → view_of (inside_given f end newline) ≡ given (view_of f) end newline
+view-given f end newline i le =
+    let long = held-long f i in
+    let ordered = i.held in
+    let front = range-front f.buffer.items f.start f.filled end (omega arith) in
+    let mid = range-mid f.buffer.items f.start f.filled end newline (omega arith) in
+    let rest = rest-given f end newline i le in
+    λ k. record {
+      kind = f.kind;
+      max = f.max;
+      row = record { bytes = front k; newline = mid k; number = f.number + 1; offset = f.offset };
+      held = rest k;
+      stored = length f.buffer.items;
+      number = f.number + 1;
+      offset = f.offset + (end + newline);
+      phase = f.phase;
+    }
+
+pub whole-given : (f : Inside) (end newline : ℕ) → IsWhole f → 0 < end + newline → end + newline ≤ length (held_of f) → IsWhole (inside_given f end newline)
+whole-given f end newline i some le =
+    let long = held-long f i in
+    let ordered = i.held in
+    let within = i.filled in
+    let number = i.number in
+    let taken = i.taken in
+    record {
+      row = omega arith;
+      newline = omega arith;
+      held = omega arith;
+      filled = i.filled;
+      stored = i.stored;
+      number = omega arith;
+      taken = omega arith;
+      open_few = λ p. (let few = i.open_few p in omega arith);
+      ended_few = λ p. (let few = i.ended_few p in omega arith);
+      missed_few = λ p. (let few = i.missed_few p in omega arith);
+      full = λ p. (let all = i.full p in omega arith);
+      searched = omega arith;
+      nothing = λ k l. absurd (omega arith);
+      near = subst (IsNear f.kind) (sym (rest-given f end newline i le)) (near-drop f.kind (held_of f) (end + newline) i.near);
+    }
+
+-- what is met behind a piece
+pub phase-cases : (n left : ℕ) (p : Phase) → MeetsBehind n left p → ((n ≡ 0) × (p ≡ Ended)) ⊎ (((0 < n) × (n ≡ left) × (p ≡ Full)) ⊎ ((0 < n) × (n ≢ left) × (p ≡ Open)))
+phase-cases n left p meets =
+    ⊎_elim (λ none. inl (none, meets.ended none))
+    (λ other.
+    let some : 0 < n = ⊎_elim (λ l. l) (λ z. absurd (other (omega arith))) (cases_lt 0 n) in
+    ⊎_elim (λ all. inr (inl (some, all, meets.full some all))) (λ few. inr (inr (some, few, meets.goes_on some few))) (cases_eq n left))
+    (cases_eq n 0)
