@@ -16,7 +16,7 @@ stands-within (b ∷ t) bytes k le h =
     let here = and_parts _ _ h in
     let l = ltb-true k (length bytes) here.0 in
     let next : k + 1 ≤ length bytes = omega arith in
-    let more : k + 1 + length t ≤ length bytes = stands-within t bytes (k + 1) next (and_parts _ _ here.1).1 in
+    let more : k + 1 + length t ≤ length bytes = stands-within t bytes (k + 1) next (and_parts (eqb (get_or bytes k 0) b) (stands t bytes (k + 1)) here.1).1 in
     omega (arith, more)
 
 stands-head : (b : ℕ) (t bytes : List ℕ) (k : ℕ) → stands (b ∷ t) bytes k ≡ true → get_or bytes k 0 ≡ b
