@@ -1,5 +1,5 @@
 -- Runs, from the scan and the messages.
-use Rattle.std.proofs.Common.{◌≡◌, ℕ, ◌<◌, List, [], ◌∷◌, ◌++◌, Bool, true, false, if◌then◌else◌, nat_le, ◌⊎◌, inl, inr, Option, Ok, refl, sym, ap, subst, ◌∙◌, arith, append-nil, flat_map}
+use Rattle.std.proofs.Common.{codes, decimal, append_assoc, ◌≡◌, ℕ, ◌<◌, List, [], ◌∷◌, ◌++◌, Bool, true, false, if◌then◌else◌, nat_le, ◌⊎◌, inl, inr, Option, Ok, refl, sym, ap, subst, ◌∙◌, arith, append-nil, flat_map}
 use Rattle.std.proofs.lemmas.Bool.{lt-leb}
 use Rattle.std.proofs.lemmas.List.Elements.{filter-append}
 use Rattle.std.proofs.lemmas.List.Concat.{flat_map-append}
@@ -7,12 +7,12 @@ use Rattle.std.specs.Io.KnownBytes.{Appends}
 use Rattle.std.proofs.KnownBytes.{Appends-nil, Consumes-nil}
 use Rattle.pcre_io.specs.Told.{Told, Kept, AppendsPrefix}
 use Rattle.pcre_io.specs.Causes.{Rose}
-use Rattle.line_feed.specs.Rows.{Row, Input, Ending, End, rows}
+use Rattle.line_feed.specs.Rows.{Row, Rows, Input, Stop as Stopped, At, Long, End}
 use Rattle.line_feed.specs.Hears.{Hears}
 use Rattle.line_feed.proofs.Stops.{StopFell-nil}
 use Rattle.line_feed.proofs.Hearing.{hears-some}
 use Rattle.pcre2_tools.specs.declared.plans.Plan.{Plan}
-use Rattle.pcre2_tools.specs.Text.{Outcome, stands, shown, picked, text_of, message, status_of, grep_text}
+use Rattle.pcre2_tools.specs.Text.{Outcome, stands, shown, picked, text_of, message, status_of, grep_text, lines, line_max}
 use Rattle.pcre2_tools.specs.Scan.{ScansAll, ScansSome, Scans, is_any}
 use Rattle.pcre2_tools.specs.Runs.{Stops, Runs, RunsAll, RunsSome, Says, refusal, line, text_by, tool_text}
 use Rattle.pcre2_tools.specs.Plans.{plan_of, second}
@@ -25,32 +25,32 @@ prefix-of_all a b xs h = subst (AppendsPrefix a b) (append-nil xs) (prefix-all a
 pub prefix-none : (a : Option (List ℕ)) (xs : List ℕ) → AppendsPrefix a a xs
 prefix-none a xs = prefix-front a a [] xs (prefix-of_all a a [] (Appends-nil a))
 
-pub status-end : (found : List Row) → status_of found End ≡ if is_any found then 0 else 1
+pub status-end : (found : List Row) → status_of found (At End) ≡ if is_any found then 0 else 1
 status-end [] = refl
 status-end (row ∷ more) = refl
 
 -- the whole text, for rows that are those of the input
-pub runs-text : (word : List ℕ) (given : List Row) (input : Input) (status : ℕ) (kept held old new : Kept) → rows input ≡ given → Appends kept.held held.held (text_of word given)
-    → Appends old.held new.held (message input.ending) → status ≡ status_of (picked word given) input.ending → RunsAll (grep_text word input) status kept held old new
-runs-text word given input status kept held old new is out err answer = record {
-  out = subst (λ r. Appends kept.held held.held (text_of word r)) (sym is) out;
-  err = err;
-  answer = answer ∙ ap (λ r. status_of (picked word r) input.ending) (sym is);
+pub runs-text : (word : List ℕ) (given : List Row) (stop : Stopped) (input : Input) (status : ℕ) (kept held old new : Kept) → lines input ≡ record { rows = given; stop = stop } → Appends kept.held held.held (text_of word given)
+    → Appends old.held new.held (message stop) → status ≡ status_of (picked word given) stop → RunsAll (grep_text word input) status kept held old new
+runs-text word given stop input status kept held old new is out err answer = record {
+  out = subst (λ (r : Rows). Appends kept.held held.held (text_of word r.rows)) (sym is) out;
+  err = subst (λ (r : Rows). Appends old.held new.held (message r.stop)) (sym is) err;
+  answer = answer ∙ ap (λ (r : Rows). status_of (picked word r.rows) r.stop) (sym is);
 }
 
 pub runs-end : (word : List ℕ) (before after : Told) (kept held err : Kept) (found : Bool) → Scans word before after kept held (Ok found)
     → (heard : Input) × Hears before after heard × Runs (grep_text word heard) (if found then 0 else 1) kept held err err
 runs-end word before after kept held err true scans =
-    let all = scans.0 in let input : Input = record { bytes = all.heard.bytes; ending = End } in (
-      input,
+    let all = scans.0 in (
+      all.heard.input,
       all.heard.hears,
-      runs-text word all.given input 0 kept held err err all.heard.all all.wrote.written (Appends-nil err.held) (ap (λ t. if t then 0 else 1) scans.1 ∙ sym (status-end (picked word all.given))),
+      runs-text word all.given (At End) all.heard.input 0 kept held err err all.heard.all all.wrote.written (Appends-nil err.held) (ap (λ t. if t then 0 else 1) scans.1 ∙ sym (status-end (picked word all.given))),
     )
 runs-end word before after kept held err false scans =
-    let all = scans.0 in let input : Input = record { bytes = all.heard.bytes; ending = End } in (
-      input,
+    let all = scans.0 in (
+      all.heard.input,
       all.heard.hears,
-      runs-text word all.given input 1 kept held err err all.heard.all all.wrote.written (Appends-nil err.held) (ap (λ t. if t then 0 else 1) scans.1 ∙ sym (status-end (picked word all.given))),
+      runs-text word all.given (At End) all.heard.input 1 kept held err err all.heard.all all.wrote.written (Appends-nil err.held) (ap (λ t. if t then 0 else 1) scans.1 ∙ sym (status-end (picked word all.given))),
     )
 
 -- a message behind a whole text
@@ -67,13 +67,16 @@ runs-said text status result kept held old new out is says = by_test (nat_le 3 r
     }
     by_test false says = record { out = out; err = says.1; answer = says.0 ∙ is }
 
-pub runs-cut : (word : List ℕ) (before after : Told) (kept held old new : Kept) (ending : Ending) (result : ℕ) → ((found : List Row) → status_of found ending ≡ 2) → ScansAll word before after kept held ending
-    → Says (message ending) 2 result old new → (heard : Input) × Hears before after heard × Runs (grep_text word heard) result kept held old new
-runs-cut word before after kept held old new ending result two all says =
-    let input : Input = record { bytes = all.heard.bytes; ending = ending } in (
+pub runs-cut : (word : List ℕ) (before after : Told) (kept held old new : Kept) (stop : Stopped) (result : ℕ) → ((found : List Row) → status_of found stop ≡ 2) → ScansAll word before after kept held stop
+    → Says (message stop) 2 result old new → (heard : Input) × Hears before after heard × Runs (grep_text word heard) result kept held old new
+runs-cut word before after kept held old new stop result two all says =
+    let input = all.heard.input in
+    let is = all.heard.all in (
       input,
       all.heard.hears,
-      runs-said (grep_text word input) 2 result kept held old new (subst (λ r. Appends kept.held held.held (text_of word r)) (sym all.heard.all) all.wrote.written) (sym (two (picked word (rows input)))) says,
+      runs-said (grep_text word input) 2 result kept held old new (subst (λ (r : Rows). Appends kept.held held.held (text_of word r.rows)) (sym is) all.wrote.written)
+      (sym (ap (λ (r : Rows). status_of (picked word r.rows) r.stop) is ∙ two (picked word all.given)))
+      (subst (λ (r : Rows). Says (message r.stop) 2 result old new) (sym is) says),
     )
 
 pub text-append : (word : List ℕ) (given more : List Row) → text_of word (given ++ more) ≡ text_of word given ++ text_of word more
@@ -116,3 +119,7 @@ runs-refused t plan words files text status result kept old new is by says = let
 -- memory lacked before anything was read or written
 pub runs-lacks : (t : Told) (text : Input → Outcome) (kept err : Kept) → (heard : Input) × Hears t t heard × RunsSome (text heard) 3 kept kept err err
 runs-lacks t text kept err = let any = hears-any t in (any.0, any.1, record { out = prefix-none _ _; err = prefix-none _ _; cause = inl refl })
+
+-- what is written of a line that is too long
+pub text-long : (n : ℕ) → codes "pcre2grep: (standard input): line " ++ decimal n ++ codes " is too long\n" ≡ message (Long n)
+text-long n = simp append_assoc

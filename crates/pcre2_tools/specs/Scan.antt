@@ -5,14 +5,15 @@ use Rattle.pcre_io.specs.Told.{Told, Kept, AppendsPrefix}
 use Rattle.pcre_io.specs.Causes.{Rose}
 use Rattle.pcre_io.specs.declared.traits.IoError.{IoError}
 use Rattle.pcre_io.specs.declared.traits.IoError.TheVariants.{Failed}
-use Rattle.line_feed.specs.declared.phase.FeedError.TheVariants.{ReadFault, TooMuch, Memory}
-use Rattle.line_feed.specs.Rows.{Row, Ending, End, Fault, Limit}
+use Rattle.line_feed.specs.declared.phase.FeedError.TheVariants.{ReadFault, TooLong, TooMuch, Memory}
+use Rattle.byte_lanes.specs.declared.line_end.EndKind.TheVariants.{Lf}
+use Rattle.line_feed.specs.Rows.{Row, Stop as Stopped, At, Long, End, Fault, Limit}
 use Rattle.line_feed.specs.View.{Feed}
 use Rattle.line_feed.specs.Answers.{Gives, Ends, Refuses}
 use Rattle.line_feed.specs.Hears.{HasHeard, HasBegun}
 use Rattle.pcre2_tools.specs.declared.lines.Stop.{Stop}
 use Rattle.pcre2_tools.specs.declared.lines.Stop.TheVariants.{NoRow, NoWrite}
-use Rattle.pcre2_tools.specs.Text.{stands, shown, picked, text_of}
+use Rattle.pcre2_tools.specs.Text.{stands, shown, picked, text_of, line_max}
 
 abbrev pub shown_if : Bool → Row → List ℕ
 shown_if true row = shown row
@@ -54,20 +55,21 @@ pub record Wrote (word : List ℕ) (given : List Row) (kept held : Kept) : Type 
   pub later : kept.faults ≤ held.faults
 
 -- the whole input was scanned
-pub record ScansAll (word : List ℕ) (before after : Told) (kept held : Kept) (ending : Ending) : Type 0 where
+pub record ScansAll (word : List ℕ) (before after : Told) (kept held : Kept) (stop : Stopped) : Type 0 where
   pub given : List Row
-  pub heard : HasHeard before after given ending
+  pub heard : HasHeard Lf line_max before after given stop
   pub wrote : Wrote word given kept held
 
 -- a part was scanned
 pub record ScansSome (word : List ℕ) (before after : Told) (kept held : Kept) : Type 0 where
   pub given : List Row
-  pub begun : HasBegun before after given
+  pub begun : HasBegun Lf line_max before after given
   pub written : AppendsPrefix kept.held held.held (text_of word given)
 
 abbrev pub Scans : List ℕ → Told → Told → Kept → Kept → Result Bool Stop → Type 0
-Scans word before after kept held (Ok found) = (all : ScansAll word before after kept held End) × (found ≡ is_found word all.given)
-Scans word before after kept held (Err (NoRow ReadFault)) = ScansAll word before after kept held Fault
-Scans word before after kept held (Err (NoRow TooMuch)) = ScansAll word before after kept held Limit
+Scans word before after kept held (Ok found) = (all : ScansAll word before after kept held (At End)) × (found ≡ is_found word all.given)
+Scans word before after kept held (Err (NoRow ReadFault)) = ScansAll word before after kept held (At Fault)
+Scans word before after kept held (Err (NoRow TooMuch)) = ScansAll word before after kept held (At Limit)
+Scans word before after kept held (Err (NoRow (TooLong number))) = ScansAll word before after kept held (Long number)
 Scans word before after kept held (Err (NoRow Memory)) = ScansSome word before after kept held
 Scans word before after kept held (Err (NoWrite e)) = ScansSome word before after kept held × (e ≡ Failed → Rose kept.faults held.faults)

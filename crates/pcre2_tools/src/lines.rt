@@ -3,13 +3,18 @@ ghost use Rattle.std.specs.Prelude.{◌≡◌, ◌≢◌, ◌++◌, ◌∷◌, [
 ghost use Rattle.std.specs.Io.KnownBytes.{Appends};
 ghost use Rattle.pcre_io.specs.Told.{AppendsPrefix};
 ghost use Rattle.pcre_io.specs.Causes.{HasCause};
+ghost use Rattle.byte_lanes.specs.declared.line_end.EndKind.TheVariants.{Lf};
 ghost use Rattle.line_feed.specs.declared.phase.Phase.TheVariants.{Closed};
 ghost use Rattle.pcre2_tools.specs.Scan.{Turns, Scans};
 
 use crate::word::Word;
+use byte_lanes::EndKind;
 use line_feed::{FeedError, Line, LineFeed};
 use pcre_io::{IoError, Sink, Source, write_all};
 use std::alloc::Global;
+
+// The greatest number of bytes of a line, before its newline.
+const LINE_MAX: usize = 1_048_576;
 
 /// Why a scan stopped.
 #[derive(Debug, Clone, Copy, PartialEq, Eq, Drop)]
@@ -42,6 +47,7 @@ fn turn<S: Source, O: Sink>(
     out: &mut O,
 ) -> Result<Option<bool>, Stop>
     requires live { feed.old.phase ≢ Closed }
+    requires kind { feed.old.kind ≡ Lf }
     ensures { Turns word.now feed.old feed.new (S.tells source.old) (S.tells source.new) (O.tells out.old) (O.tells out.new) result }
 {
     match feed.next(source) {
@@ -75,7 +81,7 @@ pub fn scan<S: Source, O: Sink>(
 ) -> Result<bool, Stop>
     ensures { Scans word.now (S.tells source.old) (S.tells source.new) (O.tells out.old) (O.tells out.new) result }
 {
-    let mut feed = LineFeed::new(alloc);
+    let mut feed = LineFeed::new(alloc, EndKind::Lf, LINE_MAX);
     let mut any = false;
     'line: loop {
         match turn(&mut feed, word, source, out) {

@@ -3,6 +3,7 @@
 #![tactic(auto)]
 
 mod lines;
+mod messages;
 mod plans;
 mod real;
 #[cfg(test)]

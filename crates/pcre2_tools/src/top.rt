@@ -3,26 +3,15 @@ ghost use Rattle.std.specs.Prelude.{◌≡◌, ◌<◌, ◌≤◌, length, map, 
 ghost use Rattle.line_feed.specs.Rows.{Input};
 ghost use Rattle.line_feed.specs.Hears.{Hears};
 ghost use Rattle.pcre2_tools.specs.Text.{grep_text};
-ghost use Rattle.pcre2_tools.specs.Runs.{Runs, Says, tool_text};
+ghost use Rattle.pcre2_tools.specs.Runs.{Runs, tool_text};
 
 use crate::lines::{Stop, scan};
+use crate::messages::{say, say_too_long};
 use crate::plans::{Plan, plan_for};
 use crate::word::Word;
 use line_feed::FeedError;
-use pcre_io::{FileSet, IoError, Sink, Source, write_all};
+use pcre_io::{FileSet, IoError, Sink, Source};
 use std::alloc::Global;
-
-// Writes a message, and answers this status.
-fn say<E: Sink>(err: &mut E, text: &[u8], status: u8) -> u8
-    requires { status < 3 }
-    ensures { Says text.now status result (E.tells err.old) (E.tells err.new) }
-{
-    match write_all(err, text) {
-        Ok(()) => status,
-        Err(IoError::Memory) => 3,
-        Err(IoError::Failed) => 4,
-    }
-}
 
 // Scans the input for a word.
 fn grep_word<S: Source, O: Sink, E: Sink>(
@@ -44,6 +33,7 @@ fn grep_word<S: Source, O: Sink, E: Sink>(
         Err(Stop::NoRow(FeedError::TooMuch)) => {
             say(err, b"pcre2grep: (standard input): input too large\n", 2)
         }
+        Err(Stop::NoRow(FeedError::TooLong { line })) => say_too_long(err, line),
         Err(Stop::NoRow(FeedError::Memory)) => 3,
         Err(Stop::NoWrite(IoError::Memory)) => 3,
         Err(Stop::NoWrite(IoError::Failed)) => 4,

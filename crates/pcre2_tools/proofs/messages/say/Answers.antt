@@ -1,6 +1,6 @@
 use Rattle.std.proofs.Common.{refl, ap, inl, inr, Err}
 use Rattle.pcre2_tools.proofs.Running.{says-ok}
-use Rattle.pcre2_tools.proofs.top.say.Goals as goal
+use Rattle.pcre2_tools.proofs.messages.say.Goals as goal
 
 pub returns-in-Ok : goal.returns-in-Ok
 returns-in-Ok g c = says-ok c.args.text.now c.args.status (g.E.Sink.tells c.args.err.now) (g.E.Sink.tells c.write_all.new.out) c.requires c.in-Ok.ensures.all
