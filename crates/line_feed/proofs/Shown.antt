@@ -1,5 +1,5 @@
 -- The first bytes of the input, which `front` has shown, beside the rows that were given since.
-use Rattle.std.proofs.Common.{◌≡◌, ◌≢◌, ◌⊎◌, inl, inr, ℕ, ◌+◌, ◌≤◌, List, [], ◌∷◌, ◌++◌, length, take, refl, sym, ap, subst, ◌∙◌, arith, ⊎_elim, append_assoc, append-nil, length-append}
+use Rattle.std.proofs.Common.{◌≡◌, ℕ, ◌≤◌, List, [], ◌∷◌, ◌++◌, length, take, refl, sym, ap, subst, ◌∙◌, arith, ⊎_elim, append-nil, length-append}
 use Rattle.std.proofs.lemmas.List.{take-append-le}
 use Rattle.pcre_io.specs.Told.{Told}
 use Rattle.line_feed.specs.declared.phase.Phase.{Phase}
@@ -9,7 +9,7 @@ use Rattle.line_feed.specs.View.{Feed, Follows, HasNoMore}
 use Rattle.line_feed.specs.Steps.{Moves}
 use Rattle.line_feed.specs.Answers.{Cuts, Gives, Lacks, Shows}
 use Rattle.line_feed.specs.Hears.{HasGiven, HasHeard, HasShown}
-use Rattle.line_feed.proofs.Given.{HasGiven-moved, HasGiven-cut, Stands, input-for, heard-of, phase-open}
+use Rattle.line_feed.proofs.Given.{HasGiven-moved, HasGiven-cut, input-for, heard-of, phase-open}
 
 nothing : (gone : List ℕ) → length gone ≡ 0 → gone ≡ []
 nothing [] h = refl
