@@ -7,7 +7,7 @@ use Rattle.byte_lanes.specs.declared.line_end.EndKind.{EndKind}
 use Rattle.byte_lanes.specs.Newlines.{newline_len}
 use Rattle.line_feed.specs.declared.phase.Phase.{Phase}
 use Rattle.line_feed.specs.declared.phase.Phase.TheVariants.{Open, Ended, Missed, Full, Closed}
-use Rattle.line_feed.specs.Rows.{Ending, End, Fault, Limit, Stop, At, Long, none_for, ahead, first_newline, has_crlf, ends_open, is_cut, sure_len, has_no_row, last_rows, rows_from}
+use Rattle.line_feed.specs.Rows.{Ending, End, Fault, Limit, Finish, At, Long, none_for, ahead, first_newline, has_crlf, ends_open, is_cut, sure_len, has_no_row, last_rows, rows_from}
 use Rattle.line_feed.specs.View.{Feed, Follows, HasNoMore, HoldsRow, given, next_row}
 use Rattle.line_feed.specs.Inside.{IsNear, IsSearched}
 use Rattle.line_feed.specs.Steps.{FirstEnd, EndsRow, EndsNone, IsNext, IsLast}
@@ -149,9 +149,9 @@ over-far f none far more ending follows =
     (cases_Bool (has_no_row f.kind bytes ending k))
 
 -- where only this ending can follow
-no_more-at : (f : Feed) (ending : Ending) (stop : Stop) → ((more : List ℕ) (e : Ending) → Follows f.phase more e → (more ≡ []) × (e ≡ ending)) → rows_from f.kind f.max (f.number + 1) f.offset f.held ending ≡ none_for stop
-    → HasNoMore f stop
-no_more-at f ending stop only is more e follows =
+no_more-at : (f : Feed) (ending : Ending) (finish : Finish) → ((more : List ℕ) (e : Ending) → Follows f.phase more e → (more ≡ []) × (e ≡ ending)) → rows_from f.kind f.max (f.number + 1) f.offset f.held ending ≡ none_for finish
+    → HasNoMore f finish
+no_more-at f ending finish only is more e follows =
     let h = only more e follows in
     ap (λ q. rows_from f.kind f.max (f.number + 1) f.offset q e) (ap (λ q. f.held ++ q) h.0 ∙ append-nil f.held) ∙ ap (λ q. rows_from f.kind f.max (f.number + 1) f.offset f.held q) h.1 ∙ is
 
