@@ -1,16 +1,16 @@
 -- The fields of a feed.
-use Rattle.std.proofs.Common.{◌≡◌, ◌≢◌, ◌⊎◌, inl, inr, ℕ, ◌+◌, ◌-◌, ◌<◌, ◌≤◌, List, ◌++◌, length, take, drop, slice_range, refl, sym, ap, subst, ◌∙◌, arith, ⊎_elim, length-append, length-drop, length-take-le}
+use Rattle.std.proofs.Common.{◌≡◌, ◌≢◌, ◌⊎◌, inl, inr, ℕ, ◌+◌, ◌-◌, ◌<◌, ◌≤◌, List, ◌++◌, length, take, drop, slice_range, sym, ap, subst, ◌∙◌, arith, ⊎_elim, length-append, length-drop, length-take-le}
 use Rattle.std.proofs.lemmas.Bool.{cases_lt, cases_eq}
 use Rattle.std.proofs.lemmas.List.{drop-take, drop-drop, take-take}
 use Rattle.byte_lanes.specs.declared.line_end.EndKind.{EndKind}
 use Rattle.byte_lanes.specs.Newlines.{newline_len}
 use Rattle.line_feed.specs.declared.feed.LineFeed.TheInside.{Inside}
 use Rattle.line_feed.specs.declared.phase.Phase.{Phase}
-use Rattle.line_feed.specs.declared.phase.Phase.TheVariants.{Open, Ended, Missed, Full}
-use Rattle.line_feed.specs.View.{Feed, HoldsRow, given}
+use Rattle.line_feed.specs.declared.phase.Phase.TheVariants.{Open, Ended, Full}
+use Rattle.line_feed.specs.View.{HoldsRow, given}
 use Rattle.line_feed.specs.Inside.{IsWhole, IsNear, IsSearched, held_of, view_of}
 use Rattle.line_feed.specs.Steps.{MeetsBehind}
-use Rattle.line_feed.proofs.Newlines.{newline-far, newline-shorter, newline-drop, newline-end}
+use Rattle.line_feed.proofs.Newlines.{newline-far, newline-shorter, newline-drop}
 
 pub range-long : (xs : List ℕ) (a b : ℕ) → a ≤ b → b ≤ length xs → length (slice_range xs a b) ≡ b - a
 range-long xs a b le within = let rest = length-drop a xs in length-take-le (b - a) (drop a xs) (omega arith)

@@ -1,14 +1,14 @@
 -- What the bytes that a feed holds tell of its rows, whatever follows.
-use Rattle.std.proofs.Common.{◌≡◌, ◌≢◌, ◌⊎◌, inl, inr, ℕ, ◌+◌, ◌-◌, ◌<◌, ◌≤◌, Bool, true, false, ◌&&◌, eqb, List, [], ◌∷◌, ◌++◌, length, take, drop, slice_range, get_or, refl, sym, ap, subst, ◌∙◌, arith, ⊎_elim, length-append, length-drop, length-take-le, append-nil, ◌^◌}
+use Rattle.std.proofs.Common.{◌≡◌, ◌≢◌, ◌⊎◌, inl, inr, ℕ, ◌+◌, ◌-◌, ◌<◌, ◌≤◌, true, false, ◌&&◌, eqb, List, [], ◌∷◌, ◌++◌, length, take, drop, slice_range, get_or, refl, sym, ap, subst, ◌∙◌, arith, ⊎_elim, length-append, length-drop, length-take-le, append-nil, ◌^◌}
 use Rattle.std.proofs.lemmas.Bool.{cases_Bool, cases_lt, both_ways, eq-eqb}
-use Rattle.std.proofs.lemmas.List.{get_or_append_left, take-append-le, drop-append-le, take_all, drop_all, take-append-drop}
+use Rattle.std.proofs.lemmas.List.{take-append-le, drop-append-le, take_all, drop_all, take-append-drop}
 use Rattle.std.proofs.Math.Seq.{take-add}
 use Rattle.byte_lanes.specs.declared.line_end.EndKind.{EndKind}
 use Rattle.byte_lanes.specs.Newlines.{newline_len}
 use Rattle.line_feed.specs.declared.phase.Phase.{Phase}
 use Rattle.line_feed.specs.declared.phase.Phase.TheVariants.{Open, Ended, Missed, Full, Closed}
-use Rattle.line_feed.specs.Rows.{Row, Ending, End, Fault, Limit, Stop, At, Long, none_for, ahead, first_newline, has_crlf, ends_open, is_cut, sure_len, has_no_row, last_rows, rows_from}
-use Rattle.line_feed.specs.View.{Feed, Follows, HasNoMore, HoldsRow, to_give, given, next_row}
+use Rattle.line_feed.specs.Rows.{Ending, End, Fault, Limit, Finish, At, Long, none_for, ahead, first_newline, has_crlf, ends_open, is_cut, sure_len, has_no_row, last_rows, rows_from}
+use Rattle.line_feed.specs.View.{Feed, Follows, HasNoMore, HoldsRow, given, next_row}
 use Rattle.line_feed.specs.Inside.{IsNear, IsSearched}
 use Rattle.line_feed.specs.Steps.{FirstEnd, EndsRow, EndsNone, IsNext, IsLast}
 use Rattle.line_feed.specs.Answers.{Cuts}
@@ -107,6 +107,7 @@ next-whole f k len first row room near =
       some = omega arith;
       within = omega arith;
       room = room;
+      plain = λ j l. ⊎_elim (λ some_there. absurd (first.least.before j (omega arith) l some_there)) (λ z. let e : newline_len f.kind f.held j ≡ 0 = omega arith in e) (cases_lt 0 (newline_len f.kind f.held j));
       near = omega arith;
       small = omega arith;
       rows = λ more ending follows.
@@ -148,9 +149,9 @@ over-far f none far more ending follows =
     (cases_Bool (has_no_row f.kind bytes ending k))
 
 -- where only this ending can follow
-no_more-at : (f : Feed) (ending : Ending) (stop : Stop) → ((more : List ℕ) (e : Ending) → Follows f.phase more e → (more ≡ []) × (e ≡ ending)) → rows_from f.kind f.max (f.number + 1) f.offset f.held ending ≡ none_for stop
-    → HasNoMore f stop
-no_more-at f ending stop only is more e follows =
+no_more-at : (f : Feed) (ending : Ending) (finish : Finish) → ((more : List ℕ) (e : Ending) → Follows f.phase more e → (more ≡ []) × (e ≡ ending)) → rows_from f.kind f.max (f.number + 1) f.offset f.held ending ≡ none_for finish
+    → HasNoMore f finish
+no_more-at f ending finish only is more e follows =
     let h = only more e follows in
     ap (λ q. rows_from f.kind f.max (f.number + 1) f.offset q e) (ap (λ q. f.held ++ q) h.0 ∙ append-nil f.held) ∙ ap (λ q. rows_from f.kind f.max (f.number + 1) f.offset f.held q) h.1 ∙ is
 
@@ -196,6 +197,9 @@ ended-last f at plain some room = record {
   some = omega arith;
   within = omega arith;
   room = room;
+  plain = λ j l.
+      let first = first-least f.kind f.held in
+      ⊎_elim (λ some_there. absurd (first.before j (omega arith) (omega arith) some_there)) (λ z. let e : newline_len f.kind f.held j ≡ 0 = omega arith in e) (cases_lt 0 (newline_len f.kind f.held j));
   near = omega arith;
   small = omega arith;
   rows = λ more e follows.
@@ -285,6 +289,7 @@ cuts-next f end newline next limit stored =
     record {
       bytes = sym (ap (λ l. l ++ drop (end + newline) f.held) whole ∙ take-append-drop (end + newline) f.held);
       some = omega arith;
+      plain = λ k l. next.plain k (omega arith);
       rows = next.rows;
       number = refl;
       offset = refl;

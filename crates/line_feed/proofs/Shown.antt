@@ -1,15 +1,15 @@
 -- The first bytes of the input, which `front` has shown, beside the rows that were given since.
-use Rattle.std.proofs.Common.{◌≡◌, ◌≢◌, ◌⊎◌, inl, inr, ℕ, ◌+◌, ◌≤◌, List, [], ◌∷◌, ◌++◌, length, take, refl, sym, ap, subst, ◌∙◌, arith, ⊎_elim, append_assoc, append-nil, length-append}
+use Rattle.std.proofs.Common.{◌≡◌, ℕ, ◌≤◌, List, [], ◌∷◌, ◌++◌, length, take, refl, sym, ap, subst, ◌∙◌, arith, ⊎_elim, append-nil, length-append}
 use Rattle.std.proofs.lemmas.List.{take-append-le}
 use Rattle.pcre_io.specs.Told.{Told}
 use Rattle.line_feed.specs.declared.phase.Phase.{Phase}
 use Rattle.line_feed.specs.declared.phase.Phase.TheVariants.{Open, Ended, Missed, Full, Closed}
-use Rattle.line_feed.specs.Rows.{Row, Ending, Stop}
+use Rattle.line_feed.specs.Rows.{Row, Ending, Finish}
 use Rattle.line_feed.specs.View.{Feed, Follows, HasNoMore}
 use Rattle.line_feed.specs.Steps.{Moves}
 use Rattle.line_feed.specs.Answers.{Cuts, Gives, Lacks, Shows}
 use Rattle.line_feed.specs.Hears.{HasGiven, HasHeard, HasShown}
-use Rattle.line_feed.proofs.Given.{HasGiven-moved, HasGiven-cut, Stands, input-for, heard-of, phase-open}
+use Rattle.line_feed.proofs.Given.{HasGiven-moved, HasGiven-cut, input-for, heard-of, phase-open}
 
 nothing : (gone : List ℕ) → length gone ≡ 0 → gone ≡ []
 nothing [] h = refl
@@ -79,11 +79,11 @@ front-of Full all more ending follows many = ap (λ l. take 1024 (all ++ l)) fol
 front-of Closed all more ending follows many = absurd follows
 
 -- there is no further row: the rows of the input, and its first bytes
-pub HasShown-stops : (before now : Told) (f : Feed) (given : List Row) (stop : Stop) (shown : List ℕ) → HasShown before now f given shown → HasNoMore f stop
-    → (heard : HasHeard f.kind f.max before now given stop) × (shown ≡ take 1024 heard.input.bytes)
-HasShown-stops before now f given stop shown has none =
+pub HasShown-stops : (before now : Told) (f : Feed) (given : List Row) (finish : Finish) (shown : List ℕ) → HasShown before now f given shown → HasNoMore f finish
+    → (heard : HasHeard f.kind f.max before now given finish) × (shown ≡ take 1024 heard.input.bytes)
+HasShown-stops before now f given finish shown has none =
     let input = input-for before now f given has.given_so in
-    let h = heard-of before now f given stop has.given_so none in
+    let h = heard-of before now f given finish has.given_so none in
     let all = has.given_so.gone ++ f.held in (
       h.0,
       has.first ∙ sym (front-of f.phase all input.more input.input.ending input.follows has.many) ∙ ap (λ l. take 1024 l) (sym input.bytes) ∙ ap (λ i. take 1024 i.bytes) (sym h.1),

@@ -1,4 +1,4 @@
-use Rattle.std.proofs.Common.{◌≡◌, ◌≢◌, ◌∙◌, ◌^◌, ◌≤◌, ◌+◌, refl, sym, ap, subst, arith}
+use Rattle.std.proofs.Common.{◌≡◌, ◌≢◌, ◌∙◌, ◌^◌, ◌≤◌, ◌+◌, refl, sym, subst, arith}
 use Rattle.line_feed.specs.declared.phase.Phase.TheVariants.{Open, Ended, Closed}
 use Rattle.line_feed.specs.Answers.{Cuts}
 use Rattle.line_feed.proofs.Looking.{cuts-next, ended-stops}

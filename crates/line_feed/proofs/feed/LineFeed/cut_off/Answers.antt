@@ -1,4 +1,4 @@
-use Rattle.std.proofs.Common.{◌≡◌, inl, inr, ap, arith}
+use Rattle.std.proofs.Common.{inl, inr, ap, arith}
 use Rattle.line_feed.proofs.Looking.{missed-over, full-over, last-missed, last-full}
 use Rattle.line_feed.proofs.feed.LineFeed.cut_off.Goals as goal
 

@@ -1,4 +1,4 @@
-use Rattle.std.proofs.Common.{◌≡◌, ◌≢◌, ◌∙◌, refl, sym, ap, subst, arith, rules}
+use Rattle.std.proofs.Common.{◌≡◌, ◌∙◌, refl, sym, subst, arith, rules}
 use Rattle.line_feed.specs.declared.phase.Phase.TheVariants.{Open}
 use Rattle.line_feed.specs.View.{HoldsRow}
 use Rattle.line_feed.specs.Steps.{Moves, IsLast}

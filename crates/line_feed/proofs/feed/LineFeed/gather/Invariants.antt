@@ -1,4 +1,4 @@
-use Rattle.std.proofs.Common.{◌≡◌, ◌≢◌, ℕ, ◌+◌, ◌-◌, ◌^◌, length}
+use Rattle.std.proofs.Common.{◌≡◌, ◌≢◌, ◌+◌, ◌-◌, ◌^◌, length}
 use Rattle.line_feed.specs.declared.phase.Phase.TheVariants.{Closed}
 use Rattle.line_feed.specs.View.{HoldsRow}
 use Rattle.line_feed.specs.Steps.{Moves}

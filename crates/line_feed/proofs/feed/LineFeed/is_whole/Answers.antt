@@ -1,4 +1,4 @@
-use Rattle.std.proofs.Common.{◌≡◌, ◌<◌, arith}
+use Rattle.std.proofs.Common.{arith}
 use Rattle.line_feed.proofs.Looking.{none-whole}
 use Rattle.line_feed.proofs.feed.LineFeed.is_whole.Goals as goal
 

@@ -1,4 +1,4 @@
-use Rattle.std.proofs.Common.{◌≡◌, ◌∙◌, ap, sym, subst, arith, length}
+use Rattle.std.proofs.Common.{◌∙◌, ap, sym, subst, arith, length}
 use Rattle.line_feed.specs.Steps.{IsNext}
 use Rattle.line_feed.proofs.Looking.{ended-over, ended-last, last-ended, nothing-held}
 use Rattle.line_feed.proofs.feed.LineFeed.last.Goals as goal

@@ -1,4 +1,4 @@
-use Rattle.std.proofs.Common.{◌≡◌, ◌-◌, length, sym, subst, ◌∙◌, ap}
+use Rattle.std.proofs.Common.{◌≡◌, ◌-◌, length, sym, subst}
 use Rattle.line_feed.specs.View.{HoldsRow}
 use Rattle.line_feed.specs.Inside.{IsSearched, held_of}
 use Rattle.line_feed.proofs.Looking.{searched-part}

@@ -1,4 +1,4 @@
-use Rattle.std.proofs.Common.{◌≡◌, ap, arith, length}
+use Rattle.std.proofs.Common.{ap, arith, length}
 use Rattle.line_feed.proofs.Looking.{over-far}
 use Rattle.line_feed.proofs.feed.LineFeed.part.Goals as goal
 

@@ -1,4 +1,4 @@
-use Rattle.std.proofs.Common.{◌≡◌, ◌≢◌, ℕ, ◌+◌, ◌-◌, ◌^◌, ◌≤◌, length, max}
+use Rattle.std.proofs.Common.{◌≢◌, ◌+◌, ◌-◌, ◌^◌, ◌≤◌, length, max}
 use Rattle.line_feed.specs.declared.phase.Phase.TheVariants.{Closed}
 use Rattle.line_feed.specs.Steps.{Moves}
 use Rattle.line_feed.proofs.Moving.{going}

@@ -1,4 +1,4 @@
-use Rattle.std.proofs.Common.{◌≡◌, ap, subst, arith}
+use Rattle.std.proofs.Common.{ap, subst, arith}
 use Rattle.line_feed.specs.Inside.{IsNear}
 use Rattle.line_feed.proofs.Looking.{next-whole, over-whole}
 use Rattle.line_feed.proofs.feed.LineFeed.row_to.Goals as goal
