@@ -1,8 +1,8 @@
 -- Worked rows of a search at one place: the limits, on both sides.
-use Rattle.std.specs.Prelude.{◌≡◌, ℕ, true, false, List, [], ◌∷◌, codes, Option, Some, None}
+use Rattle.std.specs.Prelude.{◌≡◌, ℕ, true, false, List, [], ◌∷◌, codes, Some, None}
 use Rattle.pat_tree.specs.declared.nodes.Item.TheVariants.{Char}
 use Rattle.pat_tree.specs.declared.nodes.AnchorKind.TheVariants.{Caret, Dollar}
-use Rattle.pat_tree.specs.Nested.{one, seq, group, repeat, one_repeat, atomic, look, call, anchor, none}
+use Rattle.pat_tree.specs.Nested.{seq, group, repeat, one_repeat, atomic, look, call, anchor, none}
 use Rattle.frame_store.specs.Captures.{Captures}
 use Rattle.frame_machine.specs.Setting.{Setting}
 use Rattle.frame_machine.specs.PlaceAnswer.{PlaceAnswer, Matched, MatchLimit, FrameLimit, place_answer}

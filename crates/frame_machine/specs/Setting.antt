@@ -5,6 +5,7 @@ use Rattle.pat_tree.specs.declared.options.PartialMode.TheVariants.{Off, Soft, H
 use Rattle.pat_tree.specs.declared.nodes.ClassSpec.{ClassSpec}
 use Rattle.pat_tree.specs.Nested.{Nested}
 use Rattle.pat_tree.specs.Parts.{TreeParts, tree_of}
+use Rattle.pat_tree.specs.Sound.{greatest, group_numbers}
 use Rattle.match_items.specs.Scene.{Scene, newline_kind, break_kind}
 use Rattle.pat_check.specs.Nodes as nodes
 use Rattle.pat_check.specs.Lengths as lengths
@@ -112,7 +113,7 @@ setting_of t matching subject start class_has fold is_word reply = record {
     is_word = is_word;
   };
   whole = tree_of t;
-  groups = nodes.greatest_group (tree_of t);
+  groups = greatest (group_numbers t.nodes);
   classes = t.classes;
   verb_names = t.verb_names;
   reply = reply;

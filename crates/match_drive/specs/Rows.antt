@@ -1,15 +1,15 @@
 -- Worked rows of a search over all start places: the answers that a user meets.
-use Rattle.std.specs.Prelude.{◌≡◌, ℕ, true, false, List, [], ◌∷◌, codes, Option, Some, None, ℤ, pos, negsuc, map}
+use Rattle.std.specs.Prelude.{◌≡◌, ℕ, true, false, List, [], ◌∷◌, codes, Option, Some, None, pos, negsuc, map}
 use Rattle.pat_tree.specs.declared.options.Newline.TheVariants.{CrLf}
 use Rattle.pat_tree.specs.declared.nodes.Item.TheVariants.{Char, AnyAll, NotNewline, Class}
-use Rattle.pat_tree.specs.declared.nodes.AnchorKind.TheVariants.{Caret, Dollar, SubjectStart, SubjectEnd, EndOrNewline, StartGiven, Word, NotWord}
-use Rattle.pat_tree.specs.declared.nodes.Verb.TheVariants.{Accept, Fail, Commit, Prune, Skip, Then, Mark}
-use Rattle.pat_tree.specs.declared.nodes.Part.TheVariants.{Range, Set}
-use Rattle.pat_tree.specs.Nested.{Nested, Row, Test, Other, empty, one, line_break, seq, group, repeat, one_repeat, atomic, look, condition, call, ref, anchor, keep_out, verb, callout, none, more, any_set, in_call, in_call_of, never, assert, called, no_other, other}
+use Rattle.pat_tree.specs.declared.nodes.AnchorKind.TheVariants.{Caret, Dollar, Word}
+use Rattle.pat_tree.specs.declared.nodes.Verb.TheVariants.{Accept, Commit, Skip, Then, Mark}
+use Rattle.pat_tree.specs.declared.nodes.Part.TheVariants.{Range}
+use Rattle.pat_tree.specs.Nested.{one, line_break, seq, group, repeat, one_repeat, atomic, look, condition, call, ref, anchor, keep_out, verb, callout, none, any_set, assert, other}
 use Rattle.frame_store.specs.Captures.{Captures}
 use Rattle.frame_machine.specs.Setting.{Setting}
-use Rattle.frame_machine.specs.PlaceAnswer.{Loop, Abort, MatchLimit, FrameLimit, blocks, last_name}
-use Rattle.frame_machine.specs.Written.{◌&◌, ◌⨾◌, text, callout_at, digits, words, class_of, search, with_options, with_matching, with_classes, with_names, with_reply, from, soft, hard, no_start_optimize, utf, lines_end_at, span, seen}
+use Rattle.frame_machine.specs.PlaceAnswer.{Loop, Abort, blocks, last_name}
+use Rattle.frame_machine.specs.Written.{◌&◌, ◌⨾◌, text, callout_at, digits, class_of, search, with_options, with_matching, with_classes, with_names, with_reply, from, soft, hard, no_start_optimize, utf, lines_end_at, span, seen}
 use Rattle.match_drive.specs.MatchAnswer.{MatchAnswer, Match, NoMatch, PartialFrom, Error, match_answer}
 
 -- a match from one place to another with these groups, and with the name of a number

@@ -1,5 +1,5 @@
 -- How many characters a tree can match (pcre2pattern, "Lookbehind assertions").
-use Rattle.std.specs.Prelude.{ℕ, zero, suc, ◌+◌, ◌*◌, Bool, true, false, ◌||◌, ◌==◌, nat_lt, nat_le, min, max, List, [], ◌∷◌, length, flat_map, Option, Some, None}
+use Rattle.std.specs.Prelude.{ℕ, zero, suc, ◌+◌, ◌*◌, Bool, true, false, ◌||◌, ◌==◌, nat_le, min, max, List, [], ◌∷◌, flat_map, Option, Some, None}
 use Rattle.std.specs.List.{list_any}
 use Rattle.pat_tree.specs.Nested.{Nested, Row, Test, Other, empty, one, line_break, seq, group, repeat, one_repeat, atomic, look, condition, call, ref, anchor, keep_out, verb, callout, none, more, any_set, in_call, in_call_of, never, assert, called, no_other, other}
 use Rattle.pat_tree.specs.Groups.{group_of}
