@@ -46,11 +46,15 @@ most_in_turns high (Some zero) = Some 0
 most_in_turns (Some n) (Some k) = Some (n * k)
 most_in_turns _ _ = None
 
--- the sums of n lengths, for each n within the bounds
+-- the sums of n lengths, for each n within the bounds, where the minimum is at most the maximum
+abbrev pub in_some_turns : ℕ → Option ℕ → SomeLengths → SomeLengths
+in_some_turns zero high None = only 0
+in_some_turns (suc low) high None = None
+in_some_turns low high (Some a) = between (low * a.least) (most_in_turns high a.most)
+
 abbrev pub in_turns : ℕ → Option ℕ → SomeLengths → SomeLengths
-in_turns zero high None = only 0
-in_turns (suc low) high None = None
-in_turns low high (Some a) = between (low * a.least) (most_in_turns high a.most)
+in_turns low None x = in_some_turns low None x
+in_turns low (Some high) x = elim (nat_le low high) [ true ↦ in_some_turns low (Some high) x | false ↦ None ]
 
 module _ (unset_matches : Bool) (whole : Nested) (of_group : ℕ → SomeLengths) where
   -- a reference to one group is as long as the group, where no other group can stand for it
