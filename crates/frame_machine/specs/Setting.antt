@@ -103,9 +103,9 @@ module _ (g : Setting) where
   reach_if false s x = x
 
 -- a class that is there holds of a character
-abbrev pub class_has : Option ClassSpec → ℕ → Bool
-class_has None c = false
-class_has (Some class) c = takes class c
+abbrev pub class_holds : Option ClassSpec → ℕ → Bool
+class_holds None c = false
+class_holds (Some class) c = takes class c
 
 -- What a search of a finished tree is about.
 abbrev pub setting_of : TreeParts → MatchOptions → List ℕ → ℕ → (ℕ → ℕ) → (ℕ → Bool) → (Block → ℤ) → Setting
@@ -115,7 +115,7 @@ setting_of t matching subject start fold is_word reply = record {
     matching = matching;
     subject = subject;
     start = start;
-    class_has = λ n c. class_has (slice_get t.classes n) c;
+    class_has = λ n c. class_holds (slice_get t.classes n) c;
     fold = fold;
     is_word = is_word;
   };
