@@ -1,6 +1,6 @@
 -- The stream of a search with depth d is cut after d Steps at least.
-use Rattle.std.proofs.Common.{◌≡◌, ◌≢◌, ℕ, zero, suc, ◌+◌, ◌-◌, Bool, true, false, List, [], ◌∷◌, take, drop, reverse, ℤ, pos, negsuc, Option, Some, None, refl}
-use Rattle.std.specs.Prelude.{nat_le, ◌==◌, option_map}
+use Rattle.std.proofs.Common.{◌≢◌, ℕ, zero, suc, ◌+◌, ◌-◌, Bool, true, false, List, [], ◌∷◌, drop, reverse, ℤ, pos, negsuc, Option, Some, None}
+use Rattle.std.specs.Prelude.{nat_le, ◌==◌}
 use Rattle.pat_tree.specs.declared.options.PartialMode.{PartialMode}
 use Rattle.pat_tree.specs.declared.options.PartialMode.TheVariants.{Off, Soft, Hard}
 use Rattle.pat_tree.specs.declared.nodes.Item.{Item}
@@ -10,16 +10,16 @@ use Rattle.pat_tree.specs.declared.nodes.Verb.TheVariants.{Accept, Fail, Commit,
 use Rattle.pat_tree.specs.Nested as tree
 use Rattle.pat_tree.specs.Nested.{Nested, Row, Test, Other, Callout}
 use Rattle.pat_tree.specs.Groups.{group_of}
-use Rattle.match_items.specs.Items.{one_less, is_none_left, places_back, after_item, item_reaches, longest_run, run_reaches, after_break, break_reaches, after_ref, ref_reaches, holds, anchor_reaches, earliest}
+use Rattle.match_items.specs.Items.{one_less, is_none_left, places_back, item_reaches, after_ref, ref_reaches, holds, anchor_reaches}
 use Rattle.pat_check.specs.Lengths.{SomeLengths}
-use Rattle.frame_machine.specs.Stream.{State, Ending, exhausted, by_verb, by_halt, next_branch, prune, skip, commit, is_partial, too_many_units, loop, abort, cut, note, hit_end, How, reached, accepted, step, state, Stream, Search, ends, ◌▸◌, nothing, gives, ◌or_else◌, each, no_ending, is_next_branch, is_verb, fails_alone, fails_inside, captured, changes}
+use Rattle.frame_machine.specs.Stream.{State, Ending, by_verb, by_halt, next_branch, prune, skip, commit, is_partial, too_many_units, loop, abort, cut, hit_end, How, reached, accepted, Stream, Search, nothing, gives, no_ending, is_next_branch, is_verb, fails_alone, fails_inside, captured, changes}
 use Rattle.frame_store.specs.Captures.{capture}
 use Rattle.frame_machine.specs.Setting.{Setting, branch_lengths, verb_name, held, hold, counts, reach, reach_if}
 use Rattle.frame_machine.specs.Tests.{move_to, goes_to, run_one, run_break, run_ref, run_anchor, offers, greedy, offer_and, reluctant, lazy_run, run_many}
 use Rattle.frame_machine.specs.Parts.{Searches, in_order, choices, branches, run_group, begun_at, ends_at, one_try, tries, tries_within, run_behind, run_atomic, run_look, asserts, tests, some_set, is_called, is_called_of, block_of, follow, run_callout, named, same_text, skip_to, backs, run_verb, is_over, is_active, turn, run_repeat, returns, run_tree, run_call, back_to, forget_passed}
 use Rattle.frame_machine.specs.Run.{level, levels, levels_behind, level_test, level_other, run}
 use Rattle.frame_machine.specs.Laws.{CutLaw}
-use Rattle.frame_machine.proofs.Late.{Late, late_zero, late_less, late_step, late_step_same, late_note, late_state, late_ends, late_nothing, late_gives, late_if, late_or_else, late_each, late_and_then, late_decide, late_catch, late_law}
+use Rattle.frame_machine.proofs.Late.{Late, late_zero, late_step, late_step_same, late_note, late_state, late_ends, late_nothing, late_gives, late_if, late_or_else, late_each, late_and_then, late_decide, late_catch, late_law}
 
 -- every stream of the search is late
 abbrev LateSearch : ℕ → Search → Type 0

@@ -1,5 +1,5 @@
 -- Streams that are cut late: after n Steps at least.
-use Rattle.std.proofs.Common.{◌≡◌, ◌≢◌, ℕ, zero, suc, ◌≤◌, Bool, true, false, refl, arith}
+use Rattle.std.proofs.Common.{◌≡◌, ◌≢◌, ℕ, zero, suc, ◌≤◌, Bool, true, false, arith}
 use Rattle.frame_machine.specs.Stream.{State, Ending, exhausted, by_verb, by_halt, cut, Note, How, reached, accepted, note, state, step, Stream, Search, ends, ◌▸◌, nothing, gives, ◌or_else◌, each, and_then, go_on, decide, catch}
 use Rattle.frame_machine.specs.Laws.{ending, step_count}
 

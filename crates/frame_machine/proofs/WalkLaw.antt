@@ -1,9 +1,8 @@
 -- What a walk meets before its answer.
-use Rattle.std.proofs.Common.{◌≡◌, ◌≢◌, ℕ, zero, suc, ◌+◌, ◌<◌, Bool, true, false, List, [], ◌∷◌, Option, Some, None, refl, sym, ap, arith}
-use Rattle.frame_machine.specs.Stream.{State, first_state, Ending, exhausted, by_verb, by_halt, is_partial, too_many_units, loop, abort, cut, How, reached, accepted, Event, note, state, step, Stream, ends, ◌▸◌}
+use Rattle.std.proofs.Common.{◌≡◌, ◌≢◌, ℕ, zero, suc, ◌+◌, ◌<◌, Bool, true, false, [], ◌∷◌, Option, Some, None, refl, ap, arith}
+use Rattle.frame_machine.specs.Stream.{State, first_state, exhausted, by_verb, by_halt, is_partial, too_many_units, loop, abort, cut, How, reached, accepted, note, state, step, Stream, ends, ◌▸◌}
 use Rattle.frame_machine.specs.Setting.{Setting, match_limit}
-use Rattle.frame_machine.specs.Run.{run}
-use Rattle.frame_machine.specs.PlaceAnswer.{PlaceAnswer, Matched, Failed, Exhausted, outcome, MatchLimit, NoDepth, Walked, answers, at_ending, decision, is_refused_as_empty, is_refused_by_end, walk, place_answer}
+use Rattle.frame_machine.specs.PlaceAnswer.{PlaceAnswer, Matched, Failed, Exhausted, outcome, MatchLimit, NoDepth, Walked, answers, at_ending, decision, is_refused_as_empty, is_refused_by_end, walk}
 use Rattle.frame_machine.specs.Laws.{after, told_in, steps_in, ArePassed, Gives, IsWalk, WalkLaw, NoCutAnswer}
 use Rattle.frame_machine.proofs.Late.{Late, LateEnd}
 use Rattle.frame_machine.proofs.CutLaw.{late_run}

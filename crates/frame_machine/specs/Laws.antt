@@ -1,10 +1,9 @@
 -- Laws on the ordered search.
-use Rattle.std.specs.Prelude.{◌≡◌, ◌≢◌, ◌≤◌, ℕ, zero, suc, ◌+◌, Option, Some, None, List, [], ◌∷◌}
+use Rattle.std.specs.Prelude.{◌≡◌, ◌≢◌, ◌≤◌, ℕ, suc, ◌+◌, Some, None, List, [], ◌∷◌}
 use Rattle.pat_tree.specs.Nested.{Nested}
-use Rattle.frame_machine.specs.Stream.{State, Ending, by_halt, cut, Note, How, Event, note, state, step, Stream, ends, ◌▸◌}
-use Rattle.frame_machine.specs.Setting.{Setting, match_limit}
+use Rattle.frame_machine.specs.Stream.{State, Ending, by_halt, cut, Note, Event, note, state, step, Stream, ends, ◌▸◌}
+use Rattle.frame_machine.specs.Setting.{Setting}
 use Rattle.frame_machine.specs.Run.{run}
-use Rattle.frame_machine.specs.Stream.{first_state}
 use Rattle.frame_machine.specs.PlaceAnswer.{PlaceAnswer, MatchLimit, NoDepth, Walked, at_ending, decision, walk, place_answer}
 
 -- The depth.

@@ -2,7 +2,7 @@
 use Rattle.std.specs.Prelude.{ℕ, zero, suc, ◌+◌, Bool, true, false, ◌&&◌, ◌||◌, not, List, [], ◌∷◌, length, Option, Some, None, ℤ, ◌==◌, filter_map}
 use Rattle.std.specs.Option.{option_or}
 use Rattle.std.specs.List.{list_any}
-use Rattle.frame_machine.specs.Stream.{State, first_state, Block, VerbEnding, next_branch, prune, skip, commit, Halt, is_partial, too_many_units, loop, abort, cut, Ending, exhausted, by_verb, by_halt, Note, name, shown, hit_end, How, reached, accepted, Event, note, state, step, Stream, ends, ◌▸◌}
+use Rattle.frame_machine.specs.Stream.{State, first_state, Block, VerbEnding, next_branch, prune, skip, commit, Halt, is_partial, too_many_units, loop, abort, cut, Ending, exhausted, by_verb, by_halt, Note, name, shown, hit_end, How, reached, accepted, note, state, step, Stream, ends, ◌▸◌}
 use Rattle.frame_store.specs.Captures.{Captures}
 use Rattle.frame_machine.specs.Setting.{Setting, endanchored, notempty, notempty_atstart, match_limit}
 use Rattle.frame_machine.specs.Run.{run}

@@ -1,10 +1,13 @@
--- Worked rows of a search at one place: the limits, on both sides.
-use Rattle.std.specs.Prelude.{◌≡◌, ℕ, true, false, List, [], ◌∷◌, codes, Option, Some, None}
+-- Worked rows of a search at one place: a stream, and the limits on both sides.
+use Rattle.std.specs.Prelude.{◌≡◌, ℕ, true, false, List, [], ◌∷◌, codes, Some, None}
 use Rattle.pat_tree.specs.declared.nodes.Item.TheVariants.{Char}
 use Rattle.pat_tree.specs.declared.nodes.AnchorKind.TheVariants.{Caret, Dollar}
-use Rattle.pat_tree.specs.Nested.{one, seq, group, repeat, one_repeat, atomic, look, call, anchor, none}
+use Rattle.pat_tree.specs.Nested.{seq, group, repeat, one_repeat, atomic, look, call, anchor, none}
 use Rattle.frame_store.specs.Captures.{Captures}
+use Rattle.frame_machine.specs.Stream.{first_state, exhausted, reached, state, step, ends, ◌▸◌}
 use Rattle.frame_machine.specs.Setting.{Setting}
+use Rattle.frame_machine.specs.Tests.{move_to}
+use Rattle.frame_machine.specs.Run.{run}
 use Rattle.frame_machine.specs.PlaceAnswer.{PlaceAnswer, Matched, MatchLimit, FrameLimit, place_answer}
 use Rattle.frame_machine.specs.Written.{◌&◌, ◌⨾◌, text, search, steps, units, span}
 
@@ -66,6 +69,12 @@ frame_limits =
     ∷ (units 3 (search 0 (seq (look false true true (one_repeat (Char 97 false) 1 (Some 2) false & none) & "b" ⨾ none) & none) (codes "aab")), 2, FrameLimit)
     ∷ []
 
+-- `a|b` on `b`
+abbrev pub either_letter : Setting
+either_letter = search 0 (text "a" & text "b" & none) (codes "b")
+
 pub record WorkedRows : Type 0 where
+  -- a stream: the first branch fails, the second one takes the letter
+  pub stream : run either_letter 1 either_letter.whole (first_state 0 0) ≡ step ▸ (step ▸ (state reached (move_to 1 (first_state 0 0)) ▸ ends exhausted))
   pub match_limits_answered : Answered match_limits
   pub frame_limits_answered : Answered frame_limits

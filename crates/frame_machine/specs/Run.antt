@@ -1,8 +1,8 @@
 -- The ordered search: the stream of a tree from a state.
-use Rattle.std.specs.Prelude.{ℕ, zero, suc, Bool, true, false, List, [], ◌∷◌}
+use Rattle.std.specs.Prelude.{ℕ, zero, suc, true, false, List, [], ◌∷◌}
 use Rattle.pat_tree.specs.Nested as tree
 use Rattle.pat_tree.specs.Nested.{Nested, Row, Test, Other}
-use Rattle.frame_machine.specs.Stream.{State, cut, by_halt, reached, Search, ends, gives}
+use Rattle.frame_machine.specs.Stream.{cut, by_halt, reached, Search, ends, gives}
 use Rattle.frame_machine.specs.Setting.{Setting, branch_lengths}
 use Rattle.frame_machine.specs.Tests.{run_one, run_break, run_many, run_ref, run_anchor}
 use Rattle.frame_machine.specs.Parts.{Searches, in_order, branches, run_group, run_behind, run_atomic, run_look, asserts, tests, some_set, is_called, is_called_of, run_callout, run_verb, run_repeat, run_call}

@@ -1,11 +1,14 @@
 -- What a search is about: the pattern, the subject, the options, the limits and the answers of callouts, which stay as they are.
-use Rattle.std.specs.Prelude.{ℕ, ◌+◌, Bool, true, false, ◌||◌, List, [], length, min, ℤ, Option, Some, None, nat_lt, nat_le, slice_index_or}
+use Rattle.std.specs.Prelude.{ℕ, ◌+◌, Bool, true, false, ◌||◌, List, [], length, min, ℤ, Option, Some, None, nat_lt, nat_le, slice_get, slice_index_or}
 use Rattle.pat_tree.specs.declared.options.MatchOptions.{MatchOptions}
 use Rattle.pat_tree.specs.declared.options.PartialMode.TheVariants.{Off, Soft, Hard}
 use Rattle.pat_tree.specs.declared.nodes.ClassSpec.{ClassSpec}
+use Rattle.pat_tree.specs.Newlines.{end_kind}
 use Rattle.pat_tree.specs.Nested.{Nested}
 use Rattle.pat_tree.specs.Parts.{TreeParts, tree_of}
-use Rattle.match_items.specs.Scene.{Scene, newline_kind, break_kind}
+use Rattle.pat_tree.specs.Sound.{greatest, group_numbers}
+use Rattle.char_sets.specs.Sets.{takes}
+use Rattle.match_items.specs.Scene.{Scene, break_kind}
 use Rattle.pat_check.specs.Nodes as nodes
 use Rattle.pat_check.specs.Lengths as lengths
 use Rattle.pat_check.specs.Lengths.{SomeLengths}
@@ -43,7 +46,7 @@ module _ (g : Setting) where
   -- the bytes that every match begins with, where they are known
   abbrev pub lead_set : Option (ℕ → Bool)
   lead_set =
-      lead.lead_set g.options.utf (newline_kind g.options.newline g.options.utf)
+      lead.lead_set g.options.utf (end_kind g.options.newline g.options.utf)
       (break_kind g.options.bsr g.options.utf) g.class_has g.fold g.whole
 
   abbrev pub verb_name : ℕ → List ℕ
@@ -99,20 +102,25 @@ module _ (g : Setting) where
   reach_if true s x = reach s x
   reach_if false s x = x
 
+-- a class that is there holds of a character
+abbrev pub class_holds : Option ClassSpec → ℕ → Bool
+class_holds None c = false
+class_holds (Some class) c = takes class c
+
 -- What a search of a finished tree is about.
-abbrev pub setting_of : TreeParts → MatchOptions → List ℕ → ℕ → (ℕ → ℕ → Bool) → (ℕ → ℕ) → (ℕ → Bool) → (Block → ℤ) → Setting
-setting_of t matching subject start class_has fold is_word reply = record {
+abbrev pub setting_of : TreeParts → MatchOptions → List ℕ → ℕ → (ℕ → ℕ) → (ℕ → Bool) → (Block → ℤ) → Setting
+setting_of t matching subject start fold is_word reply = record {
   scene = record {
     options = t.options;
     matching = matching;
     subject = subject;
     start = start;
-    class_has = class_has;
+    class_has = λ n c. class_holds (slice_get t.classes n) c;
     fold = fold;
     is_word = is_word;
   };
   whole = tree_of t;
-  groups = nodes.greatest_group (tree_of t);
+  groups = greatest (group_numbers t.nodes);
   classes = t.classes;
   verb_names = t.verb_names;
   reply = reply;

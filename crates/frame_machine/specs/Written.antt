@@ -1,5 +1,5 @@
 -- How patterns and searches are written in the worked rows.
-use Rattle.std.specs.Prelude.{ℕ, ◌+◌, Bool, true, false, ◌&&◌, ◌||◌, not, cond, List, [], ◌∷◌, map, codes, length, Option, Some, None, ℤ, pos, ◌==◌, nat_le, slice_get}
+use Rattle.std.specs.Prelude.{ℕ, ◌+◌, Bool, true, false, ◌&&◌, ◌||◌, not, cond, List, [], ◌∷◌, map, codes, Option, Some, None, ℤ, pos, ◌==◌, nat_le, slice_get}
 use Prim.Native.String.{String}
 use Rattle.std.specs.List.{list_any}
 use Rattle.pat_tree.specs.declared.options.Options.{Options}
@@ -13,7 +13,6 @@ use Rattle.pat_tree.specs.declared.nodes.Part.{Part}
 use Rattle.pat_tree.specs.declared.nodes.Part.TheVariants.{Range, Set}
 use Rattle.pat_tree.specs.declared.nodes.ClassSpec.{ClassSpec}
 use Rattle.pat_tree.specs.Nested.{Nested, Row, Callout, one, seq, group, none, more}
-use Rattle.match_items.specs.Scene.{Scene}
 use Rattle.frame_machine.specs.Stream.{Block}
 use Rattle.frame_store.specs.declared.registers.Span.{Span}
 use Rattle.frame_machine.specs.Setting.{Setting}

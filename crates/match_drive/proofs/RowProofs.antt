@@ -2,6 +2,8 @@
 use Rattle.std.proofs.Common.{refl}
 use Rattle.std.specs.Str.{chars}
 use Rattle.std.specs.Char.{encode_utf8}
+use Rattle.pat_tree.specs.Nested.{trees_after, trees}
+use Rattle.pat_tree.specs.Sound.{group_numbers}
 use Rattle.byte_lanes.specs.Newlines.{stands}
 use Rattle.byte_lanes.specs.Places.{least_of}
 use Rattle.pat_check.specs.Nodes.{nodes}
@@ -18,7 +20,7 @@ use Rattle.match_drive.specs.MatchAnswer.{from_place}
 use Rattle.match_drive.specs.Rows.{Answered, captures, inside, verbs, partials, places, Told, WorkedRows}
 
 computing : Unit {0}
-unfolding chars encode_utf8 stands least_of nodes lengths by_calls lead_to behind lead places_back run_places run_reaches ◌or_else◌ each decide catch changes held hold reach reach_if run_one run_break run_ref run_anchor offers greedy reluctant lazy_run run_many in_order choices branches run_group one_try tries tries_within run_behind run_atomic run_look asserts tests follow run_callout named backs run_verb turn run_repeat returns run_tree run_call level run walk from_place
+unfolding trees_after trees group_numbers chars encode_utf8 stands least_of nodes lengths by_calls lead_to behind lead places_back run_places run_reaches ◌or_else◌ each decide catch changes held hold reach reach_if run_one run_break run_ref run_anchor offers greedy reluctant lazy_run run_many in_order choices branches run_group one_try tries tries_within run_behind run_atomic run_look asserts tests follow run_callout named backs run_verb turn run_repeat returns run_tree run_call level run walk from_place
 computing = tt
 
 captures_hold : Answered captures
@@ -44,6 +46,7 @@ places_hold = (refl, (refl, (refl, (refl, (refl, (refl, (refl, (refl, (refl, (re
 told_hold : Told
 unfolding computing
 told_hold = record {
+  finished_tree = refl;
   automatic_callouts = refl;
   automatic_match = refl;
   failing = refl;

@@ -2,7 +2,7 @@
 use Rattle.std.specs.Prelude.{ℕ, zero, suc, ◌+◌, ◌-◌, Bool, true, false, List, [], ◌++◌, length, Option, Some, None}
 use Rattle.frame_machine.specs.Stream.{Note}
 use Rattle.frame_machine.specs.Setting.{Setting}
-use Rattle.frame_machine.specs.PlaceAnswer.{Outcome, Signal, Exhausted, PlaceAnswer, Matched, Failed, Partial, Walked, answers, has_hit, place_answer}
+use Rattle.frame_machine.specs.PlaceAnswer.{Outcome, Exhausted, PlaceAnswer, Matched, Failed, Partial, Walked, answers, has_hit, place_answer}
 use Rattle.match_drive.specs.Places.{within, place_after, is_excluded}
 
 pub data MatchAnswer : Type 0 where

@@ -1,5 +1,5 @@
 -- The start places of a search, in order.
-use Rattle.std.specs.Prelude.{ℕ, zero, suc, ◌+◌, Bool, true, false, ◌&&◌, ◌||◌, not, length, Option, Some, None, ◌==◌, nat_lt, nat_le, slice_index}
+use Rattle.std.specs.Prelude.{ℕ, ◌+◌, Bool, true, false, ◌&&◌, not, length, Option, Some, None, nat_lt, nat_le, slice_index}
 use Rattle.pat_tree.specs.declared.options.Newline.{Newline}
 use Rattle.pat_tree.specs.declared.options.Newline.TheVariants as newline
 use Rattle.pat_tree.specs.declared.options.PartialMode.{PartialMode}

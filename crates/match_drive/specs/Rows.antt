@@ -1,15 +1,19 @@
 -- Worked rows of a search over all start places: the answers that a user meets.
-use Rattle.std.specs.Prelude.{◌≡◌, ℕ, true, false, List, [], ◌∷◌, codes, Option, Some, None, ℤ, pos, negsuc, map}
+use Rattle.std.specs.Prelude.{◌≡◌, ℕ, true, false, List, [], ◌∷◌, codes, Option, Some, None, pos, negsuc, map}
 use Rattle.pat_tree.specs.declared.options.Newline.TheVariants.{CrLf}
 use Rattle.pat_tree.specs.declared.nodes.Item.TheVariants.{Char, AnyAll, NotNewline, Class}
-use Rattle.pat_tree.specs.declared.nodes.AnchorKind.TheVariants.{Caret, Dollar, SubjectStart, SubjectEnd, EndOrNewline, StartGiven, Word, NotWord}
-use Rattle.pat_tree.specs.declared.nodes.Verb.TheVariants.{Accept, Fail, Commit, Prune, Skip, Then, Mark}
-use Rattle.pat_tree.specs.declared.nodes.Part.TheVariants.{Range, Set}
-use Rattle.pat_tree.specs.Nested.{Nested, Row, Test, Other, empty, one, line_break, seq, group, repeat, one_repeat, atomic, look, condition, call, ref, anchor, keep_out, verb, callout, none, more, any_set, in_call, in_call_of, never, assert, called, no_other, other}
+use Rattle.pat_tree.specs.declared.nodes.AnchorKind.TheVariants.{Caret, Dollar, Word}
+use Rattle.pat_tree.specs.declared.nodes.Verb.TheVariants.{Accept, Commit, Skip, Then, Mark}
+use Rattle.pat_tree.specs.declared.nodes.Part.TheVariants.{Range}
+use Rattle.pat_tree.specs.declared.options.TheConstants.Options as plain
+use Rattle.pat_tree.specs.declared.options.TheConstants.MatchOptions as plain_match
+use Rattle.pat_tree.specs.declared.nodes.Node.TheVariants as node
+use Rattle.pat_tree.specs.Parts.{TreeParts}
+use Rattle.pat_tree.specs.Nested.{one, line_break, seq, group, repeat, one_repeat, atomic, look, condition, call, ref, anchor, keep_out, verb, callout, none, any_set, assert, other}
 use Rattle.frame_store.specs.Captures.{Captures}
-use Rattle.frame_machine.specs.Setting.{Setting}
-use Rattle.frame_machine.specs.PlaceAnswer.{Loop, Abort, MatchLimit, FrameLimit, blocks, last_name}
-use Rattle.frame_machine.specs.Written.{◌&◌, ◌⨾◌, text, callout_at, digits, words, class_of, search, with_options, with_matching, with_classes, with_names, with_reply, from, soft, hard, no_start_optimize, utf, lines_end_at, span, seen}
+use Rattle.frame_machine.specs.Setting.{Setting, setting_of}
+use Rattle.frame_machine.specs.PlaceAnswer.{Loop, Abort, blocks, last_name}
+use Rattle.frame_machine.specs.Written.{◌&◌, ◌⨾◌, text, callout_at, digits, class_of, search, with_options, with_matching, with_classes, with_names, with_reply, from, soft, hard, no_start_optimize, utf, lines_end_at, span, seen}
 use Rattle.match_drive.specs.MatchAnswer.{MatchAnswer, Match, NoMatch, PartialFrom, Error, match_answer}
 
 -- a match from one place to another with these groups, and with the name of a number
@@ -194,7 +198,22 @@ unmatched =
     with_names ("A" ∷ "B" ∷ []) (search 0 (seq ("X" ⨾ verb (Mark (Some 0)) & "Y" ⨾ none) & seq ("X" ⨾ verb (Mark (Some 1)) & "Z" ⨾ none)
     & none) (codes "XP"))
 
+-- the finished tree of `[ab]`, and a search of it
+abbrev pub letters : TreeParts
+letters = record {
+  options = plain.PLAIN;
+  nodes = record { node = node.One (Class 0); at = 0 } ∷ record { node = node.Group None (0 ∷ []); at = 0 } ∷ [];
+  classes = class_of (Range 97 98 ∷ []) ∷ [];
+  names = [];
+  verb_names = [];
+  root = 1;
+}
+
+abbrev pub search_of : TreeParts → List ℕ → Setting
+search_of t subject = setting_of t plain_match.PLAIN subject 0 (λ c. c) (λ c. false) (λ b. pos 0)
+
 pub record Told : Type 0 where
+  pub finished_tree : (match_answer (search_of letters (codes "xby"))).answer ≡ found 1 2 []
   pub automatic_callouts : callouts_of automatic ≡ (255, 0, 0, 0) ∷ (255, 3, 0, 0) ∷ (255, 8, 0, 1) ∷ (255, 10, 0, 2) ∷ []
   pub automatic_match : (match_answer automatic).answer ≡ found 0 2 []
   -- a callout's answer lets the path fail, or ends the search

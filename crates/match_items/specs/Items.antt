@@ -5,10 +5,11 @@ use Rattle.pat_tree.specs.declared.nodes.Item.{Item}
 use Rattle.pat_tree.specs.declared.nodes.Item.TheVariants.{Char, AnyAll, NotNewline, Class}
 use Rattle.pat_tree.specs.declared.nodes.AnchorKind.{AnchorKind}
 use Rattle.pat_tree.specs.declared.nodes.AnchorKind.TheVariants.{Caret, Dollar, SubjectStart, SubjectEnd, EndOrNewline, StartGiven, Word, NotWord}
+use Rattle.pat_tree.specs.Newlines.{end_kind}
 use Rattle.byte_lanes.specs.Newlines.{newline_len, newline_before_len}
 use Rattle.uni_text.specs.Ascii.{ascii_fold, is_word_char}
 use Rattle.uni_text.specs.Characters.{char_at, char_before}
-use Rattle.match_items.specs.Scene.{Scene, newline_kind, break_kind, is_crlf}
+use Rattle.match_items.specs.Scene.{Scene, break_kind, is_crlf}
 
 -- a maximum after one more
 abbrev pub one_less : Option ℕ → Option ℕ
@@ -41,10 +42,10 @@ module _ (g : Scene) where
 
   -- the length of the newline that begins at a place, and of the one that ends there; 0 where there is none
   abbrev pub newline_at : ℕ → ℕ
-  newline_at p = newline_len (newline_kind g.options.newline g.options.utf) g.subject p
+  newline_at p = newline_len (end_kind g.options.newline g.options.utf) g.subject p
 
   abbrev pub newline_before : ℕ → ℕ
-  newline_before p = newline_before_len (newline_kind g.options.newline g.options.utf) g.subject p
+  newline_before p = newline_before_len (end_kind g.options.newline g.options.utf) g.subject p
 
   -- a CR stands there, and is the last byte
   abbrev pub is_last_cr : ℕ → Bool

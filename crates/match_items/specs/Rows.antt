@@ -1,16 +1,15 @@
 -- Worked rows: items, `\R`, references and simple assertions at a place, and where they reach the subject's end.
-use Rattle.std.specs.Prelude.{◌≡◌, ℕ, ◌+◌, Bool, true, false, cond, ◌&&◌, ◌==◌, nat_le, List, [], ◌∷◌, map, codes, Option, Some, None}
+use Rattle.std.specs.Prelude.{◌≡◌, ℕ, ◌+◌, Bool, true, false, cond, ◌&&◌, ◌==◌, nat_le, List, [], ◌∷◌, map, codes, Some, None}
 use Rattle.std.specs.List.{range_with_len}
 use Prim.Native.String.{String}
 use Rattle.pat_tree.specs.declared.options.TheConstants.Options as plain
 use Rattle.pat_tree.specs.declared.options.TheConstants.MatchOptions as plain_match
 use Rattle.pat_tree.specs.declared.options.Newline.{Newline}
-use Rattle.pat_tree.specs.declared.options.Newline.TheVariants.{Cr, Lf, CrLf, AnyCrLf, Any, Nul}
+use Rattle.pat_tree.specs.declared.options.Newline.TheVariants.{Lf, CrLf, AnyCrLf, Nul}
 use Rattle.pat_tree.specs.declared.options.Bsr.TheVariants as bsr
-use Rattle.pat_tree.specs.declared.nodes.Item.{Item}
-use Rattle.pat_tree.specs.declared.nodes.Item.TheVariants.{Char, AnyAll, NotNewline, Class}
+use Rattle.pat_tree.specs.declared.nodes.Item.TheVariants.{Char, AnyAll, NotNewline}
 use Rattle.pat_tree.specs.declared.nodes.AnchorKind.{AnchorKind}
-use Rattle.pat_tree.specs.declared.nodes.AnchorKind.TheVariants.{Caret, Dollar, SubjectStart, SubjectEnd, EndOrNewline, StartGiven, Word, NotWord}
+use Rattle.pat_tree.specs.declared.nodes.AnchorKind.TheVariants.{Caret, Dollar, EndOrNewline, Word}
 use Rattle.match_items.specs.Scene.{Scene}
 use Rattle.match_items.specs.Items.{after_item, item_reaches, longest_run, run_reaches, after_break, break_reaches, after_ref, ref_reaches, holds, anchor_reaches, earliest, places_back}
 

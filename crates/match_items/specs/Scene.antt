@@ -22,16 +22,6 @@ pub record Scene : Type 0 where
   pub fold : ℕ → ℕ
   pub is_word : ℕ → Bool
 
--- the texts of a newline convention: under ANY those past ASCII are other bytes in UTF (pcre2pattern, "Newline conventions")
-abbrev pub newline_kind : Newline → Bool → EndKind
-newline_kind newline.Cr utf = kind.Cr
-newline_kind newline.Lf utf = kind.Lf
-newline_kind newline.CrLf utf = kind.CrLf
-newline_kind newline.AnyCrLf utf = kind.AnyCrLf
-newline_kind newline.Any true = kind.AnyUtf
-newline_kind newline.Any false = kind.Any
-newline_kind newline.Nul utf = kind.Nul
-
 -- the texts of `\R` (pcre2pattern, "Newline sequences")
 abbrev pub break_kind : Bsr → Bool → EndKind
 break_kind bsr.Unicode true = kind.AnyUtf

@@ -1,1 +1,2 @@
 mod RowProofs
+mod LengthLaw

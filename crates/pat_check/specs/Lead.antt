@@ -1,5 +1,5 @@
 -- The bytes that a match can begin with, as the start optimisations use them (pcre2api, "Option bits for pcre2_compile()", PCRE2_NO_START_OPTIMIZE).
-use Rattle.std.specs.Prelude.{ℕ, zero, suc, Bool, true, false, ◌||◌, ◌&&◌, ◌==◌, nat_lt, nat_le, List, [], ◌∷◌, Option, Some, None, slice_get, encode_utf8}
+use Rattle.std.specs.Prelude.{ℕ, zero, Bool, true, false, ◌||◌, ◌&&◌, ◌==◌, nat_lt, nat_le, List, [], ◌∷◌, Option, Some, None, encode_utf8}
 use Rattle.std.specs.List.{list_any}
 use Rattle.std.specs.Int.{is_in_range}
 use Rattle.pat_tree.specs.declared.nodes.Item.{Item}

@@ -1,5 +1,5 @@
 -- How many characters a tree can match (pcre2pattern, "Lookbehind assertions").
-use Rattle.std.specs.Prelude.{ℕ, zero, suc, ◌+◌, ◌*◌, Bool, true, false, ◌||◌, ◌==◌, nat_lt, nat_le, min, max, List, [], ◌∷◌, length, flat_map, Option, Some, None}
+use Rattle.std.specs.Prelude.{ℕ, zero, suc, ◌+◌, ◌*◌, Bool, true, false, ◌||◌, ◌==◌, nat_le, min, max, List, [], ◌∷◌, flat_map, Option, Some, None}
 use Rattle.std.specs.List.{list_any}
 use Rattle.pat_tree.specs.Nested.{Nested, Row, Test, Other, empty, one, line_break, seq, group, repeat, one_repeat, atomic, look, condition, call, ref, anchor, keep_out, verb, callout, none, more, any_set, in_call, in_call_of, never, assert, called, no_other, other}
 use Rattle.pat_tree.specs.Groups.{group_of}
@@ -46,11 +46,15 @@ most_in_turns high (Some zero) = Some 0
 most_in_turns (Some n) (Some k) = Some (n * k)
 most_in_turns _ _ = None
 
--- the sums of n lengths, for each n within the bounds
+-- the sums of n lengths, for each n within the bounds, where the minimum is at most the maximum
+abbrev pub in_some_turns : ℕ → Option ℕ → SomeLengths → SomeLengths
+in_some_turns zero high None = only 0
+in_some_turns (suc low) high None = None
+in_some_turns low high (Some a) = between (low * a.least) (most_in_turns high a.most)
+
 abbrev pub in_turns : ℕ → Option ℕ → SomeLengths → SomeLengths
-in_turns zero high None = only 0
-in_turns (suc low) high None = None
-in_turns low high (Some a) = between (low * a.least) (most_in_turns high a.most)
+in_turns low None x = in_some_turns low None x
+in_turns low (Some high) x = elim (nat_le low high) [ true ↦ in_some_turns low (Some high) x | false ↦ None ]
 
 module _ (unset_matches : Bool) (whole : Nested) (of_group : ℕ → SomeLengths) where
   -- a reference to one group is as long as the group, where no other group can stand for it

@@ -3,3 +3,4 @@ pub mod Lengths
 pub mod Lead
 pub mod Size
 pub mod Rows
+pub mod HasLength

@@ -1,8 +1,8 @@
 -- The nodes of a nested tree.
-use Rattle.std.specs.Prelude.{ℕ, suc, Bool, true, false, ◌||◌, ◌&&◌, not, ◌==◌, max, List, [], ◌∷◌, ◌++◌, length, filter, flat_map, slice_get, Option, Some, None}
+use Rattle.std.specs.Prelude.{ℕ, Bool, true, false, ◌||◌, not, ◌==◌, List, [], ◌∷◌, ◌++◌, length, filter, flat_map, slice_get, Option, Some, None}
 use Rattle.std.specs.List.{list_any}
 use Rattle.pat_tree.specs.declared.nodes.Item.{Item}
-use Rattle.pat_tree.specs.declared.nodes.Item.TheVariants.{Char, AnyAll, NotNewline, Class}
+use Rattle.pat_tree.specs.declared.nodes.Item.TheVariants.{Char, Class}
 use Rattle.pat_tree.specs.declared.nodes.Verb.TheVariants.{Accept}
 use Rattle.pat_tree.specs.declared.nodes.Part.{Part}
 use Rattle.pat_tree.specs.declared.nodes.Part.TheVariants.{Range, Set}
@@ -69,15 +69,6 @@ is_capture_of n _ = false
 
 abbrev pub captures : Nested → ℕ
 captures t = length (filter is_capture (all_nodes t))
-
--- the greatest number of a group, or 0
-abbrev pub greatest : List Nested → ℕ
-greatest [] = 0
-greatest (group (Some n) ts ∷ us) = max n (greatest us)
-greatest (t ∷ us) = greatest us
-
-abbrev pub greatest_group : Nested → ℕ
-greatest_group t = greatest (all_nodes t)
 
 abbrev pub number_twice : List Nested → Bool
 number_twice [] = false

@@ -1,14 +1,14 @@
 -- Worked rows: lengths, emptiness, first bytes and sizes of small patterns.
-use Rattle.std.specs.Prelude.{◌≡◌, ℕ, Bool, true, false, cond, ◌==◌, List, [], ◌∷◌, map, filter, Option, Some, None}
+use Rattle.std.specs.Prelude.{◌≡◌, ℕ, Bool, true, false, cond, ◌==◌, List, [], ◌∷◌, filter, Option, Some, None}
 use Rattle.std.specs.List.{range_with_len}
-use Rattle.pat_tree.specs.declared.nodes.Item.TheVariants.{Char, AnyAll, NotNewline, Class}
-use Rattle.pat_tree.specs.declared.nodes.Verb.TheVariants.{Accept, Mark}
+use Rattle.pat_tree.specs.declared.nodes.Item.TheVariants.{Char, Class}
+use Rattle.pat_tree.specs.declared.nodes.Verb.TheVariants.{Accept}
 use Rattle.pat_tree.specs.declared.nodes.Part.{Part}
 use Rattle.pat_tree.specs.declared.nodes.Part.TheVariants.{Range, Set}
 use Rattle.pat_tree.specs.declared.nodes.SetName.TheVariants.{V}
 use Rattle.pat_tree.specs.declared.nodes.ClassSpec.{ClassSpec}
-use Rattle.pat_tree.specs.Nested.{Nested, Row, Test, Other, empty, one, line_break, seq, group, repeat, one_repeat, atomic, look, condition, call, ref, anchor, keep_out, verb, callout, none, more, any_set, never, no_other, other}
-use Rattle.byte_lanes.specs.declared.line_end.EndKind.TheVariants.{Lf, CrLf, Any, AnyUtf}
+use Rattle.pat_tree.specs.Nested.{Nested, Row, empty, one, line_break, seq, group, repeat, one_repeat, look, condition, call, ref, verb, none, more, never, no_other}
+use Rattle.byte_lanes.specs.declared.line_end.EndKind.TheVariants.{Lf, Any, AnyUtf}
 use Rattle.pat_check.specs.Nodes.{has_lookbehind, names_cr_or_lf}
 use Rattle.pat_check.specs.Lengths.{SomeLengths, between, only, any_length, can_be_empty, branch_lengths, branch_fault}
 use Rattle.pat_check.specs.Lead.{lead_set}

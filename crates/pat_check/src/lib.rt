@@ -4,4 +4,4 @@
 
 mod laws;
 
-pub use laws::worked_rows;
+pub use laws::{lengths_are_bounds, worked_rows};
