@@ -1,5 +1,5 @@
 -- A pair takes its place in the table of names.
-use Rattle.std.specs.List.{insert, AllByRecursion}
+use Rattle.std.specs.List.{insert, All, AllByRecursion}
 use Rattle.std.specs.List.Sorted.{IsStrictlySortedBy, IsBinarySearchResult, IsNonDecreasingBy, IsSearchInRange}
 use Rattle.std.specs.Ordering.{ordering_index, ordering_reverse, is_lt}
 use Rattle.std.specs.Cmp.{IsTotalOrder}
@@ -7,7 +7,7 @@ use Rattle.std.specs.declared.cmp.Ordering.{Ordering}
 use Rattle.std.specs.declared.cmp.Ordering.TheVariants.{Less, Equal, Greater}
 use Rattle.std.proofs.Common.{false, ◌≡◌, ℕ, zero, suc, ◌+◌, ◌<◌, ◌≤◌, List, [], ◌∷◌, length, Result, Ok, Err, get_or, refl, sym, ap, ◌∙◌, arith, subst}
 use Rattle.std.proofs.lemmas.Cmp.{on_total, then_total, nat_cmp_total, nat_list_cmp_total, alike_right}
-use Rattle.std.proofs.lemmas.List.Elements.{All-get_or, All-from_recursion}
+use Rattle.std.proofs.lemmas.List.Elements.{All-get_or, All-from_recursion, recursion_from_All}
 use Rattle.std.proofs.lemmas.List.Sorted.{searchable_from_sorted}
 use Rattle.std.proofs.lemmas.Map.Keys.{Less-from_sorted}
 use Rattle.pat_tree.specs.declared.names.NameEntry.{NameEntry}
@@ -80,3 +80,15 @@ still_ordered e (x ∷ xs) sorted =
 
 pub still_ordered_at : (e f : NameEntry) (xs : List NameEntry) (i : ℕ) → with_name e xs ≡ insert xs i e → f ≡ e → IsOrdered xs → IsOrdered (insert xs i f)
 still_ordered_at e f xs i is same sorted = rw same (subst IsOrdered is (still_ordered e xs sorted))
+
+-- what holds of the names and of the pair holds of the names with the pair
+pub all_named : (P : NameEntry → Type 0) (e : NameEntry) (xs : List NameEntry) → P e → All P xs → All P (with_name e xs)
+all_named P e xs one all = All-from_recursion P (with_name e xs) (all_with P e xs one (recursion_from_All P xs all))
+
+pub length_named : (e : NameEntry) (xs : List NameEntry) → length (with_name e xs) ≤ length xs + 1
+length_named e [] = omega arith
+length_named e (x ∷ xs) =
+    let longer = length_named e xs in
+    let P : Ordering → Type 0 = λ o. length {A = NameEntry} (elim o [ Less ↦ x ∷ with_name e xs | Equal ↦ x ∷ xs | Greater ↦ e ∷ x ∷ xs ]) ≤ length xs + 2 in
+    let one : suc (length xs) + 1 ≡ length xs + 2 = omega arith in
+    rw one (elim (name_cmp x e) as P [ Less ↦ (let less : suc (length (with_name e xs)) ≤ length xs + 2 = omega (arith, longer) in less) | Equal ↦ (let same : suc (length xs) ≤ length xs + 2 = omega arith in same) | Greater ↦ (let more : suc (suc (length xs)) ≤ length xs + 2 = omega arith in more) ])

@@ -9,6 +9,8 @@ mod newline;
 mod nodes;
 mod options;
 mod steps;
+#[cfg(test)]
+mod tests;
 mod tree;
 
 pub use draft::{BadRef, Draft};
