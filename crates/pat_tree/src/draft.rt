@@ -18,7 +18,7 @@ use std::alloc::Global;
 use std::marker::Model;
 
 /// A tree in the making: its nodes, classes, names and verb names in the order of adding.
-#[derive(Drop)]
+#[derive(Debug, Drop)]
 pub struct Draft {
     alloc: Global,
     options: Options,

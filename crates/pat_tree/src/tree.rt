@@ -2,6 +2,7 @@
 ghost use Rattle.std.specs.Prelude.{true, ◌≡◌, ◌<◌, ◌≤◌, All, length, slice_index_or, slice_get, Some};
 ghost use Rattle.pat_tree.specs.Nested.{trees, tree_at, nest};
 ghost use Rattle.pat_tree.specs.Rules.{kids_of, numbers_of};
+ghost use Rattle.pat_tree.specs.Names.{AreInOrder};
 ghost use Rattle.pat_tree.specs.Refs.{named_by, has_group};
 ghost use Rattle.pat_tree.specs.Sound.{TreeRules, NodeRules, group_numbers, greatest};
 
@@ -12,7 +13,7 @@ use crate::options::Options;
 use std::marker::Model;
 
 /// A finished tree.
-#[derive(Drop)]
+#[derive(Debug, Drop)]
 pub struct Tree {
     options: Options,
     nodes: Vec<Placed>,
@@ -100,6 +101,7 @@ impl Tree {
     pub fn names(&self) -> &NameTable
         ensures is { result.now ≡ self.now.names }
         ensures stand { All (λ entry. has_group self.now.nodes entry.group ≡ true) self.now.names }
+        ensures ordered { AreInOrder self.now.names }
     {
         &self.names
     }

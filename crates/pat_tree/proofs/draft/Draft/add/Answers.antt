@@ -36,6 +36,7 @@ invariant_of-self-2 c =
         define = given.define;
         test = given.test;
       }) given.fresh;
+      ordered = c.self.invariant.ordered;
       node_count = omega (arith, given.room, length-append c.self.inside.nodes.items (p ∷ []));
       class_count = c.self.invariant.class_count;
       verb_name_count = c.self.invariant.verb_name_count;

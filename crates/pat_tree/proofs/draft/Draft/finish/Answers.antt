@@ -8,6 +8,7 @@ of-requires c =
       root = given.root;
       refs = rw c.deref.ensures.value at (sym c.leftmost_bad.ensures ∙ c.in-None.is);
       names = given.names;
+      ordered = c.self.invariant.ordered;
       node_count = c.self.invariant.node_count;
       class_count = c.self.invariant.class_count;
       verb_name_count = c.self.invariant.verb_name_count;
