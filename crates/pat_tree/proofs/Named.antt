@@ -85,3 +85,8 @@ module _ (stands : ℕ → Bool) where
   unfolding Good
   leftmost_is [] = All-nil Good
   leftmost_is (r ∷ rs) = one_more r rs (stands r.1) (bad_ref stands rs) refl (leftmost_is rs)
+
+-- two tests that agree find the same place
+pub bad_ref_same : (f g : ℕ → Bool) → ((n : ℕ) → f n ≡ g n) → (named : List (ℕ × ℕ)) → bad_ref f named ≡ bad_ref g named
+bad_ref_same f g same [] = refl
+bad_ref_same f g same (r ∷ rs) = rw (same r.1, bad_ref_same f g same rs) refl

@@ -1,6 +1,6 @@
 -- The groups that references, conditions and calls name (pcre2pattern, "Backreferences", "Conditional groups", "Recursive patterns").
 use Rattle.std.specs.List.{list_any, Any}
-use Rattle.std.specs.Prelude.{◌≡◌, ◌≤◌, All, min, ℕ, Bool, true, false, ◌==◌, ◌||◌, if◌then◌else◌, List, [], ◌∷◌, ◌++◌, map, Option, Some, None}
+use Rattle.std.specs.Prelude.{◌≡◌, ◌≤◌, All, min, ℕ, Bool, true, false, ◌==◌, ◌||◌, if◌then◌else◌, List, [], ◌∷◌, ◌++◌, map, slice_index_or, Option, Some, None}
 use Rattle.pat_tree.specs.declared.nodes.Cond.{Cond}
 use Rattle.pat_tree.specs.declared.nodes.Cond.TheVariants.{AnySet, InCallOf}
 use Rattle.pat_tree.specs.declared.nodes.Node.{Node}
@@ -48,6 +48,10 @@ is_group n t = is_in n (numbers_of t)
 -- some node is a capturing group of this number
 abbrev pub has_group : List Placed → ℕ → Bool
 has_group ps n = list_any (λ p. is_group n p.node) ps
+
+-- the number has a mark
+abbrev pub marked : List Bool → ℕ → Bool
+marked marks n = slice_index_or marks n false
 
 abbrev pub least_of : ℕ → Option ℕ → ℕ
 least_of a None = a

@@ -2,6 +2,7 @@
 #![tactic(auto)]
 
 mod draft;
+mod group_set;
 mod laws;
 mod lists;
 mod memory;
