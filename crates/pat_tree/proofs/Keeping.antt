@@ -1,5 +1,6 @@
 -- The rules stand as a draft grows.
 use Rattle.std.specs.Ordering.{ord_max, nat_cmp}
+use Rattle.std.specs.List.Sorted.{IsStrictlySortedBy}
 use Rattle.std.proofs.lemmas.Bool.Decides.{nat_tests}
 use Rattle.std.specs.List.{list_all, IsDistinct}
 use Rattle.std.proofs.Common.{Bool, true, false, ◌≡◌, ℕ, zero, suc, ◌+◌, ◌<◌, ◌≤◌, List, [], ◌∷◌, ◌++◌, length, max, Option, Some, None, refl, sym, ap, ◌∙◌, append_assoc, append-nil, arith, get_or, All, subst, if◌then◌else◌, drop, drop-cons}
@@ -24,7 +25,8 @@ unfolding children IsDistinct
 sound_none c v = record { below = tt; once = tt; each = All-nil (λ p. NodeRules c v [] p.node) }
 
 pub rules_none : (options : Options) → DraftRules (record { options = options; nodes = []; classes = []; names = []; verb_names = [] })
-rules_none options = record { nodes = sound_none 0 0; node_count = omega arith; class_count = omega arith; verb_name_count = omega arith }
+unfolding IsStrictlySortedBy
+rules_none options = record { nodes = sound_none 0 0; ordered = tt; node_count = omega arith; class_count = omega arith; verb_name_count = omega arith }
 
 -- the node of an assertion is a child
 asserted_below : (n : ℕ) (t : Node) → All (λ k. k < n) (kids_of t) → All (λ k. k < n) (asserted_by t)

@@ -3,6 +3,7 @@ pub mod Keeping
 pub mod Reached
 pub mod Lines
 pub mod Loose
+pub mod Marks
 pub mod Named
 pub mod Naming
 pub mod Taken

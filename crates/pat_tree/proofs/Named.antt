@@ -1,8 +1,10 @@
 -- The leftmost place that names no group.
-use Rattle.std.specs.List.{list_all}
-use Rattle.std.proofs.Common.{Bool, true, false, ◌||◌, ◌&&◌, ◌==◌, ◌≡◌, ℕ, List, [], ◌∷◌, ◌++◌, map, Option, Some, None, refl, sym, ap, if◌then◌else◌, arith}
+use Rattle.std.specs.List.{list_all, Any}
+use Rattle.std.proofs.lemmas.Bool.{cases_lt}
+use Rattle.std.proofs.lemmas.List.Elements.{All-cons, All-nil, All-weaker}
+use Rattle.std.proofs.Common.{min, suc, ◌≤◌, inl, inr, Bool, true, false, ◌||◌, ◌&&◌, ◌==◌, ◌≡◌, ℕ, List, [], ◌∷◌, ◌++◌, map, Option, Some, None, refl, sym, ap, if◌then◌else◌, arith}
 use Rattle.std.proofs.Math.Bool.{and-true}
-use Rattle.pat_tree.specs.Refs.{is_called, beside_whole, least_of, bad_ref}
+use Rattle.pat_tree.specs.Refs.{is_called, beside_whole, least_of, bad_ref, IsLeftmost}
 
 pub stand_beside : (stands : ℕ → Bool) (ns : List ℕ) → list_all (is_called stands) ns ≡ list_all stands (beside_whole ns)
 unfolding is_called
@@ -37,3 +39,54 @@ bad_at stands at (n ∷ ns) rest =
         | false ↦ ap Some (least_twice at (bad_ref stands rest))
       ]
     ])
+
+any_here : {X : Type 0} (P : X → Type 0) (x : X) (xs : List X) → P x → Any P (x ∷ xs)
+any_here P x xs h = (0, x, omega arith, refl, h)
+
+any_there : {X : Type 0} (P : X → Type 0) (x : X) (xs : List X) → Any P xs → Any P (x ∷ xs)
+any_there P x xs h = (suc h.0, h.1, omega (arith, h.2), h.3, h.4)
+
+module _ (stands : ℕ → Bool) where
+  Good : ℕ × ℕ → Type 0
+  Good r = stands r.1 ≡ true
+
+  Bad : ℕ → ℕ × ℕ → Type 0
+  Bad at r = (r.0 ≡ at) × (stands r.1 ≡ false)
+
+  Past : ℕ → ℕ × ℕ → Type 0
+  Past at r = stands r.1 ≡ false → at ≤ r.0
+
+  never_both : {A : Type 0} (t : Bool) → t ≡ true → t ≡ false → A
+  never_both true e f = absurd cc
+  never_both false e f = absurd cc
+
+  one_more : (r : ℕ × ℕ) (rs : List (ℕ × ℕ)) (t : Bool) (b : Option ℕ) → stands r.1 ≡ t → IsLeftmost stands rs b → IsLeftmost stands (r ∷ rs) (if t then b else Some (least_of r.0 b))
+  unfolding Good Bad Past
+  one_more r rs true None e ih = All-cons Good r rs e ih
+  one_more r rs true (Some at) e ih = (any_there (Bad at) r rs ih.0, All-cons (Past at) r rs (λ f. never_both (stands r.1) e f) ih.1)
+  one_more r rs false None e ih = (
+    any_here (Bad r.0) r rs (refl, e),
+    All-cons (Past r.0) r rs (λ f. omega arith) (All-weaker Good (Past r.0) (λ s good f. never_both (stands s.1) good f) rs ih),
+  )
+  one_more r rs false (Some at) e ih = elim (cases_lt at r.0) [
+    | inl less ↦ (
+        let is : min r.0 at ≡ at = omega (arith, less) in
+        let found : Any (Bad (min r.0 at)) (r ∷ rs) = rw is (any_there (Bad at) r rs ih.0) in
+        (found, All-cons (Past (min r.0 at)) r rs (λ f. omega arith) (All-weaker (Past at) (Past (min r.0 at)) (λ s past f. omega (arith, past f)) rs ih.1))
+        )
+    | inr more ↦ (
+        let is : min r.0 at ≡ r.0 = omega (arith, more) in
+        let found : Any (Bad (min r.0 at)) (r ∷ rs) = rw is (any_here (Bad r.0) r rs (refl, e)) in
+        (found, All-cons (Past (min r.0 at)) r rs (λ f. omega arith) (All-weaker (Past at) (Past (min r.0 at)) (λ s past f. omega (arith, past f)) rs ih.1))
+        )
+  ]
+
+  pub leftmost_is : (named : List (ℕ × ℕ)) → IsLeftmost stands named (bad_ref stands named)
+  unfolding Good
+  leftmost_is [] = All-nil Good
+  leftmost_is (r ∷ rs) = one_more r rs (stands r.1) (bad_ref stands rs) refl (leftmost_is rs)
+
+-- two tests that agree find the same place
+pub bad_ref_same : (f g : ℕ → Bool) → ((n : ℕ) → f n ≡ g n) → (named : List (ℕ × ℕ)) → bad_ref f named ≡ bad_ref g named
+bad_ref_same f g same [] = refl
+bad_ref_same f g same (r ∷ rs) = rw (same r.1, bad_ref_same f g same rs) refl

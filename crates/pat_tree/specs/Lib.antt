@@ -7,3 +7,4 @@ pub mod Rules
 pub mod Refs
 pub mod Growing
 pub mod Sound
+pub mod Rows

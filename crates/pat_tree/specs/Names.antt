@@ -13,8 +13,8 @@ abbrev pub name_cmp : NameEntry → NameEntry → Ordering
 name_cmp a b = ordering_then (slice_cmp nat_cmp a.name b.name) (nat_cmp a.group b.group)
 
 -- each pair once, in order
-abbrev pub IsOrdered : List NameEntry → Type 0
-IsOrdered = IsStrictlySortedBy name_cmp
+abbrev pub AreInOrder : List NameEntry → Type 0
+AreInOrder = IsStrictlySortedBy name_cmp
 
 -- the table with a pair in its place; a pair that is there changes nothing
 abbrev pub with_name : NameEntry → List NameEntry → List NameEntry

@@ -1,6 +1,6 @@
 -- The groups that references, conditions and calls name (pcre2pattern, "Backreferences", "Conditional groups", "Recursive patterns").
-use Rattle.std.specs.List.{list_any}
-use Rattle.std.specs.Prelude.{min, ℕ, Bool, ◌==◌, ◌||◌, if◌then◌else◌, List, [], ◌∷◌, ◌++◌, map, Option, Some, None}
+use Rattle.std.specs.List.{list_any, Any}
+use Rattle.std.specs.Prelude.{◌≡◌, ◌≤◌, All, min, ℕ, Bool, true, false, ◌==◌, ◌||◌, if◌then◌else◌, List, [], ◌∷◌, ◌++◌, map, slice_index_or, Option, Some, None}
 use Rattle.pat_tree.specs.declared.nodes.Cond.{Cond}
 use Rattle.pat_tree.specs.declared.nodes.Cond.TheVariants.{AnySet, InCallOf}
 use Rattle.pat_tree.specs.declared.nodes.Node.{Node}
@@ -49,6 +49,10 @@ is_group n t = is_in n (numbers_of t)
 abbrev pub has_group : List Placed → ℕ → Bool
 has_group ps n = list_any (λ p. is_group n p.node) ps
 
+-- the number has a mark
+abbrev pub marked : List Bool → ℕ → Bool
+marked marks n = slice_index_or marks n false
+
 abbrev pub least_of : ℕ → Option ℕ → ℕ
 least_of a None = a
 least_of a (Some b) = min a b
@@ -57,3 +61,9 @@ least_of a (Some b) = min a b
 abbrev pub bad_ref : (ℕ → Bool) → List (ℕ × ℕ) → Option ℕ
 bad_ref exists [] = None
 bad_ref exists (r ∷ rs) = if exists r.1 then bad_ref exists rs else Some (least_of r.0 (bad_ref exists rs))
+
+-- what makes a place the leftmost bad one: a group that does not stand is named there, and at no place before it;
+-- and where there is none, each group that is named stands
+abbrev pub IsLeftmost : (ℕ → Bool) → List (ℕ × ℕ) → Option ℕ → Type 0
+IsLeftmost stands named None = All (λ r. stands r.1 ≡ true) named
+IsLeftmost stands named (Some at) = Any (λ r. (r.0 ≡ at) × (stands r.1 ≡ false)) named × All (λ r. stands r.1 ≡ false → at ≤ r.0) named

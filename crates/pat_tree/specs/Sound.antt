@@ -5,6 +5,7 @@ use Rattle.pat_tree.specs.declared.nodes.Node.{Node}
 use Rattle.pat_tree.specs.declared.nodes.Placed.{Placed}
 use Rattle.pat_tree.specs.Nested.{trees, tree_at}
 use Rattle.pat_tree.specs.Rules.{kids_of, asserted_by, classes_of, verb_names_of, numbers_of, IsNamed, IsOrdered, IsDefine, is_test}
+use Rattle.pat_tree.specs.Names.{AreInOrder}
 use Rattle.pat_tree.specs.Parts.{DraftParts, TreeParts}
 use Rattle.pat_tree.specs.Refs.{refs, has_group, bad_ref}
 use Rattle.pat_tree.specs.Growing.{AreBelow}
@@ -50,6 +51,7 @@ pub record Sound (class_count name_count : ℕ) (ps : List Placed) : Type 0 wher
 -- a draft: its nodes, classes and verb names have numbers
 pub record DraftRules (d : DraftParts) : Type 0 where
   pub nodes : Sound (length d.classes) (length d.verb_names) d.nodes
+  pub ordered : AreInOrder d.names
   pub node_count : length d.nodes ≤ 4294967295
   pub class_count : length d.classes ≤ 4294967295
   pub verb_name_count : length d.verb_names ≤ 4294967295
@@ -62,6 +64,8 @@ pub record TreeRules (t : TreeParts) : Type 0 where
   pub refs : bad_ref (has_group t.nodes) (refs t.nodes) ≡ None
   -- and so do names
   pub names : All (λ entry. has_group t.nodes entry.group ≡ true) t.names
+  -- by the bytes of the name, and then by the group, each pair once
+  pub ordered : AreInOrder t.names
   pub node_count : length t.nodes ≤ 4294967295
   pub class_count : length t.classes ≤ 4294967295
   pub verb_name_count : length t.verb_names ≤ 4294967295

@@ -4,10 +4,11 @@ ghost use Rattle.std.specs.Prelude.{true, if◌then◌else◌, ℕ, ◌||◌, �
 ghost use Rattle.pat_tree.specs.Nested.{trees, tree_at, nest};
 ghost use Rattle.pat_tree.specs.Parts.{with_node, with_class, with_verb_name, with_root};
 ghost use Rattle.pat_tree.specs.Names.{with_name};
-ghost use Rattle.pat_tree.specs.Rules.{kids_of, asserted_by, classes_of, verb_names_of, numbers_of, IsNamed, IsOrdered, IsDefine, is_test};
-ghost use Rattle.pat_tree.specs.Refs.{refs, refs_of, named_by, is_called, is_group, has_group, bad_ref, least_of};
+ghost use Rattle.pat_tree.specs.Rules.{number_in, kids_of, asserted_by, classes_of, verb_names_of, numbers_of, IsNamed, IsOrdered, IsDefine, is_test};
+ghost use Rattle.pat_tree.specs.Refs.{refs, refs_of, named_by, is_called, is_group, has_group, marked, bad_ref, least_of};
 ghost use Rattle.pat_tree.specs.Growing.{Makes, loose, without, is_fresh, Replaces};
 
+use crate::group_set::GroupSet;
 use crate::lists::Word;
 use crate::memory::Memory;
 use crate::names::NameTable;
@@ -18,11 +19,13 @@ use std::alloc::Global;
 use std::marker::Model;
 
 /// A tree in the making: its nodes, classes, names and verb names in the order of adding.
-#[derive(Drop)]
+#[derive(Debug, Drop)]
 pub struct Draft {
     alloc: Global,
     options: Options,
     nodes: Vec<Placed>,
+    /// The capturing groups among the nodes.
+    groups: GroupSet,
     classes: Vec<ClassSpec>,
     names: NameTable,
     verb_names: Vec<Word>,
@@ -30,13 +33,15 @@ pub struct Draft {
 
 impl Model for Draft {
     ghost use Rattle.pat_tree.specs.Parts.{DraftParts};
+    ghost use Rattle.std.specs.Prelude.{◌≡◌, ℕ};
+    ghost use Rattle.pat_tree.specs.Refs.{has_group, marked};
     ghost use Rattle.pat_tree.specs.Sound.{DraftRules};
 
     ghost Value = { DraftParts };
 
     ghost view = { λ d. record { options = d.options; nodes = d.nodes.items; classes = d.classes.items; names = d.names; verb_names = d.verb_names.items } };
 
-    ghost invariant = { λ d. DraftRules (record { options = d.options; nodes = d.nodes.items; classes = d.classes.items; names = d.names; verb_names = d.verb_names.items }) };
+    ghost invariant = { λ d. DraftRules (record { options = d.options; nodes = d.nodes.items; classes = d.classes.items; names = d.names; verb_names = d.verb_names.items }) × ((n : ℕ) → marked d.groups n ≡ has_group d.nodes.items n) };
 }
 
 impl Draft {
@@ -48,6 +53,7 @@ impl Draft {
             alloc,
             options,
             nodes: Vec::new(alloc),
+            groups: GroupSet::new(alloc),
             classes: Vec::new(alloc),
             names: NameTable::new(alloc),
             verb_names: Vec::new(alloc),
@@ -78,7 +84,10 @@ impl Draft {
         ensures refused { OnErr result (self.new ≡ self.old) }
     {
         let id = self.nodes.len() as u32;
+        let number = group_number(&node);
+        self.groups.reserve(number)?;
         self.nodes.push(Placed { node, at })?;
+        self.groups.insert_reserved(number);
         Ok(id)
     }
 
@@ -124,13 +133,14 @@ impl Draft {
         requires names { All (λ entry. has_group self.nodes entry.group ≡ true) self.names }
         ensures { MatchResult result (λ tree. (tree ≡ with_root self root) × (bad_ref (has_group self.nodes) (refs self.nodes) ≡ None)) (λ bad. bad_ref (has_group self.nodes) (refs self.nodes) ≡ Some bad.at) }
     {
-        match leftmost_bad(&self.nodes) {
+        match leftmost_bad(&self.nodes, &self.groups) {
             Some(at) => Err(BadRef { at }),
             None => {
                 let Draft {
                     alloc: _,
                     options,
                     nodes,
+                    groups: _,
                     classes,
                     names,
                     verb_names,
@@ -148,75 +158,74 @@ pub struct BadRef {
     pub at: u32,
 }
 
-/// Whether some node is a capturing group of this number.
-fn has_group(nodes: &[Placed], number: u16) -> bool
-    ensures { result ≡ has_group nodes.now number }
-{
-    nodes.iter().any(|placed| is_group(&placed.node, number))
-}
-
-fn is_group(node: &Node, number: u16) -> bool
-    ensures { result ≡ is_group number node.now }
+/// The number of a capturing group.
+fn group_number(node: &Node) -> Option<u16>
+    ensures { number_in result ≡ numbers_of node.now }
 {
     match node {
-        Node::Group {
-            number: Some(own),
-            ..
-        } => *own == number,
-        _ => false,
+        Node::Group { number, .. } => *number,
+        _ => None,
     }
 }
 
 /// Whether each group that a node names stands on a node.
 #[tactic(auto, using(crate::proofs::Named::call_stands, crate::proofs::Named::stand_beside))]
-fn names_groups(nodes: &[Placed], node: &Node) -> bool
-    ensures { result ≡ list_all (has_group nodes.now) (named_by node.now) }
+fn names_groups(groups: &GroupSet, node: &Node) -> bool
+    ensures { result ≡ list_all (marked groups.now) (named_by node.now) }
 {
     match node {
-        Node::Ref { groups, .. } => all_stand(nodes, groups.as_slice()),
+        Node::Ref { groups: named, .. } => all_stand(groups, named.as_slice()),
         Node::Cond {
-            test: Cond::AnySet(groups),
+            test: Cond::AnySet(named),
             ..
-        } => all_stand(nodes, groups.as_slice()),
+        } => all_stand(groups, named.as_slice()),
         Node::Cond {
-            test: Cond::InCallOf(groups),
+            test: Cond::InCallOf(named),
             ..
-        } => all_stand_or_whole(nodes, groups.as_slice()),
-        Node::Call { group } => stands_or_whole(nodes, *group),
+        } => all_stand_or_whole(groups, named.as_slice()),
+        Node::Call { group } => stands_or_whole(groups, *group),
         _ => true,
     }
 }
 
-fn all_stand(nodes: &[Placed], groups: &[u16]) -> bool
-    ensures { result ≡ list_all (has_group nodes.now) groups.now }
+fn all_stand(groups: &GroupSet, named: &[u16]) -> bool
+    ensures { result ≡ list_all (marked groups.now) named.now }
 {
-    groups.iter().all(|group| has_group(nodes, *group))
+    named.iter().all(|group| groups.has(*group))
 }
 
 /// As `all_stand`, but 0 is the whole pattern.
-fn all_stand_or_whole(nodes: &[Placed], groups: &[u16]) -> bool
-    ensures { result ≡ list_all (is_called (has_group nodes.now)) groups.now }
+fn all_stand_or_whole(groups: &GroupSet, named: &[u16]) -> bool
+    ensures { result ≡ list_all (is_called (marked groups.now)) named.now }
 {
-    groups.iter().all(|group| stands_or_whole(nodes, *group))
+    named.iter().all(|group| stands_or_whole(groups, *group))
 }
 
 #[tactic(auto, unfolding(crate::specs::Refs::is_called))]
-fn stands_or_whole(nodes: &[Placed], group: u16) -> bool
-    ensures { result ≡ is_called (has_group nodes.now) group }
+fn stands_or_whole(groups: &GroupSet, group: u16) -> bool
+    ensures { result ≡ is_called (marked groups.now) group }
 {
-    group == 0 || has_group(nodes, group)
+    group == 0 || groups.has(group)
 }
 
-/// The leftmost place of a node that names a group that stands on no node.
-fn leftmost_bad(nodes: &[Placed]) -> Option<u32>
+/// The leftmost place of a node that names a group that stands on no node; these are the groups.
+fn leftmost_bad(nodes: &[Placed], groups: &GroupSet) -> Option<u32>
+    requires { (n : ℕ) → marked groups.now n ≡ has_group nodes.now n }
     ensures { result ≡ bad_ref (has_group nodes.now) (refs nodes.now) }
+{
+    leftmost_outside(nodes, groups)
+}
+
+/// The leftmost place of a node that names a group outside the set.
+fn leftmost_outside(nodes: &[Placed], groups: &GroupSet) -> Option<u32>
+    ensures { result ≡ bad_ref (marked groups.now) (refs nodes.now) }
 {
     let mut leftmost = None;
     let mut i = nodes.len();
     while i > 0 {
         i -= 1;
         let placed = &nodes[i];
-        leftmost = with_place(names_groups(nodes, &placed.node), placed.at, leftmost);
+        leftmost = with_place(names_groups(groups, &placed.node), placed.at, leftmost);
     }
     leftmost
 }

@@ -2,6 +2,8 @@
 #![tactic(auto)]
 
 mod draft;
+mod group_set;
+mod laws;
 mod lists;
 mod memory;
 mod names;
@@ -9,9 +11,15 @@ mod newline;
 mod nodes;
 mod options;
 mod steps;
+#[cfg(test)]
+mod tests;
 mod tree;
 
 pub use draft::{BadRef, Draft};
+pub use laws::{
+    a_bad_place_is_the_leftmost, a_loose_node_is_no_child, a_pair_takes_its_place, names_in_order,
+    nodes_stand_for_nested_trees, the_leftmost_bad_reference,
+};
 pub use lists::{ByteList, GroupList, Kids, ListOf, NumberList, PartList, TextList, Word};
 pub use memory::Memory;
 pub use names::{NameEntry, NameTable};

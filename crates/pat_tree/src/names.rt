@@ -1,7 +1,7 @@
 //! The names of groups.
 ghost use Rattle.std.specs.List.Sorted.{IsSearchInRange};
 ghost use Rattle.std.specs.Prelude.{◌≡◌, ◌<◌, ◌≤◌, [], length, OnErr, OnOk, slice_index_or};
-ghost use Rattle.pat_tree.specs.Names.{IsOrdered, IsFound, name_cmp, with_name};
+ghost use Rattle.pat_tree.specs.Names.{AreInOrder, IsFound, name_cmp, with_name};
 
 use crate::lists::Word;
 use crate::memory::Memory;
@@ -25,13 +25,13 @@ pub struct NameTable {
 impl Model for NameTable {
     ghost use Rattle.std.specs.Prelude.{List};
     ghost use Rattle.pat_tree.specs.declared.names.NameEntry.{NameEntry};
-    ghost use Rattle.pat_tree.specs.Names.{IsOrdered};
+    ghost use Rattle.pat_tree.specs.Names.{AreInOrder};
 
     ghost Value = { List NameEntry };
 
     ghost view = { λ table. table.entries.items };
 
-    ghost invariant = { λ table. IsOrdered table.entries.items };
+    ghost invariant = { λ table. AreInOrder table.entries.items };
 }
 
 impl NameTable {
@@ -47,7 +47,7 @@ impl NameTable {
     /// How many pairs there are.
     pub fn len(&self) -> usize
         ensures is { result ≡ length self.now }
-        ensures ordered { IsOrdered self.now }
+        ensures ordered { AreInOrder self.now }
     {
         self.entries.len()
     }
@@ -72,6 +72,7 @@ impl NameTable {
     /// Puts a pair in its place; one that is there changes nothing. The table is unchanged after a refusal.
     pub(crate) fn add(&mut self, alloc: Global, name: &[u8], group: u16) -> Result<(), Memory>
         ensures ok { OnOk result (self.new ≡ with_name (record { name = name.now; group = group }) self.old) }
+        ensures ordered { AreInOrder self.new }
         ensures refused { OnErr result (self.new ≡ self.old) }
     {
         let Err(place) = find(&self.entries, name, group) else {
@@ -88,7 +89,7 @@ impl NameTable {
 
 /// The place of a pair in the table's order, or where it would stand.
 fn find(entries: &[NameEntry], name: &[u8], group: u16) -> Result<usize, usize>
-    requires { IsOrdered entries.now }
+    requires { AreInOrder entries.now }
     ensures within { IsSearchInRange result (length entries.now) }
     ensures is { IsFound result entries.now (record { name = name.now; group = group }) }
 {

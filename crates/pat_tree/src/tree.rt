@@ -1,9 +1,11 @@
 //! A finished tree.
-ghost use Rattle.std.specs.Prelude.{true, ◌≡◌, ◌<◌, ◌≤◌, All, length, slice_index_or, slice_get, Some};
+ghost use Rattle.std.specs.Prelude.{true, nat_eq, ◌≡◌, ◌<◌, ◌≤◌, All, length, slice_index_or, slice_get, Some};
 ghost use Rattle.pat_tree.specs.Nested.{trees, tree_at, nest};
 ghost use Rattle.pat_tree.specs.Rules.{kids_of, numbers_of};
+ghost use Rattle.pat_tree.specs.Names.{AreInOrder};
 ghost use Rattle.pat_tree.specs.Refs.{named_by, has_group};
-ghost use Rattle.pat_tree.specs.Sound.{TreeRules, NodeRules, group_numbers, greatest};
+ghost use Rattle.pat_tree.specs.Sound.{TreeRules, NodeRules, children, group_numbers, greatest};
+ghost use Rattle.std.specs.List.{IsDistinct};
 
 use crate::lists::Word;
 use crate::names::NameTable;
@@ -12,7 +14,7 @@ use crate::options::Options;
 use std::marker::Model;
 
 /// A finished tree.
-#[derive(Drop)]
+#[derive(Debug, Drop)]
 pub struct Tree {
     options: Options,
     nodes: Vec<Placed>,
@@ -60,13 +62,15 @@ impl Tree {
         }
     }
 
-    /// The node of a number: its tree is made of its children's, and these have smaller numbers.
+    /// The node of a number. Its tree is made of its children's; these have smaller numbers and no other parent.
     pub fn node(&self, id: NodeId) -> &Node
         requires { id ≤ self.now.root }
+        ensures here { (other : _) → result.now ≡ (slice_index_or self.now.nodes id other).node }
         ensures is { nest (trees self.now.nodes) result.now ≡ tree_at (trees self.now.nodes) id }
         ensures below { All (λ k. k < id) (kids_of result.now) }
         ensures rules { NodeRules (length self.now.classes) (length self.now.verb_names) self.now.nodes result.now }
         ensures stand { All (λ n. has_group self.now.nodes n ≡ true) (named_by result.now) }
+        ensures once { IsDistinct nat_eq (children self.now.nodes) }
         ensures grouped { All (λ n. n ≤ greatest (group_numbers self.now.nodes)) (numbers_of result.now) }
     {
         let placed = &self.nodes[id as usize];
@@ -100,6 +104,7 @@ impl Tree {
     pub fn names(&self) -> &NameTable
         ensures is { result.now ≡ self.now.names }
         ensures stand { All (λ entry. has_group self.now.nodes entry.group ≡ true) self.now.names }
+        ensures ordered { AreInOrder self.now.names }
     {
         &self.names
     }
