@@ -1,1 +1,4 @@
 pub mod Table
+pub mod Numbers
+pub mod Effects
+pub mod Words

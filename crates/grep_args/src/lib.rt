@@ -1,10 +1,14 @@
 //! The words of pcre2grep: what they ask for.
 #![tactic(auto)]
 
+mod laws;
 mod options;
 mod plan;
 mod table;
+mod usage;
 
+pub use laws::{worked_faults, worked_plans};
 pub use options::{Flag, GrepOption, NumberOption, PlainOption, ValuedOption};
 pub use table::{by_letter, by_name};
 pub use plan::{BinaryMode, GrepPlan, HelpKind, NameMode, OffsetMode};
+pub use usage::{ArgError, UsageKind};
