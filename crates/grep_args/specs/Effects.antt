@@ -1,7 +1,7 @@
 -- What each option does to the plan (pcre2grep, "OPTIONS").
-use Rattle.std.specs.Prelude.{ℕ, ◌+◌, List, [], ◌∷◌, ◌++◌, map, Bool, true, false, ◌&&◌, Option, Some, None, Result, Ok, Err, codes, bytes_eq, nat_le, if◌then◌else◌}
-use Rattle.std.specs.Option.{option_or}
-use Rattle.std.specs.Char.{to_ascii_uppercase}
+use Rattle.std.specs.Prelude.{◌≡◌, ⊤, ℕ, List, [], ◌∷◌, ◌++◌, Bool, true, false, ◌&&◌, ◌||◌, Option, Some, None, Result, Ok, Err, codes, bytes_eq, nat_le, if◌then◌else◌}
+use Rattle.std.specs.Option.{option_or, ok_or}
+use Rattle.std.specs.Str.{str_eq_ignore_ascii_case}
 use Rattle.pat_tree.specs.declared.options.Newline.{Newline}
 use Rattle.pat_tree.specs.declared.options.Newline.TheVariants.{Cr, Lf, CrLf, AnyCrLf, Any, Nul}
 use Rattle.grep_args.specs.declared.plan.BinaryMode.{BinaryMode}
@@ -10,6 +10,8 @@ use Rattle.grep_args.specs.declared.plan.NameMode.TheVariants.{Auto}
 use Rattle.grep_args.specs.declared.plan.OffsetMode.{OffsetMode}
 use Rattle.grep_args.specs.declared.plan.OffsetMode.TheVariants.{NoOffsets, Lines, File}
 use Rattle.grep_args.specs.declared.plan.GrepPlan.{GrepPlan}
+use Rattle.grep_args.specs.declared.usage.Stop.{Stop}
+use Rattle.grep_args.specs.declared.usage.Stop.TheVariants.{Usage, Memory}
 use Rattle.grep_args.specs.declared.usage.UsageKind.{UsageKind}
 use Rattle.grep_args.specs.declared.usage.UsageKind.TheVariants.{BadNumber, BadValue, Exclude}
 use Rattle.grep_args.specs.declared.options.Flag.{Flag}
@@ -55,6 +57,13 @@ unset = record {
   help = None
 }
 
+infixl 10 ◌>>=◌
+
+-- what follows a success
+abbrev pub ◌>>=◌ : {A B E : Type 0} → Result A E → (A → Result B E) → Result B E
+Ok found >>= rest = rest found
+Err fault >>= rest = Err fault
+
 -- an option changes the plan or is at fault
 abbrev pub Effect : Type 0
 Effect = GrepPlan → Result GrepPlan UsageKind
@@ -72,24 +81,30 @@ switched InvertMatch plan = record plan { invert_match = true }
 switched WordRegex plan = record plan { word_regex = true }
 switched LineRegex plan = record plan { line_regex = true }
 
--- `-o`, `--line-offsets` and `--file-offsets` exclude each other
-abbrev pub shows_lines : List ℕ → Bool
-shows_lines [] = true
-shows_lines (group ∷ groups) = false
+-- more than one of `-o`, `--line-offsets` and `--file-offsets` is a fault
+abbrev pub is_empty : List ℕ → Bool
+is_empty [] = true
+is_empty (n ∷ ns) = false
 
-abbrev pub may_turn : OffsetMode → OffsetMode → Bool
-may_turn NoOffsets mode = true
-may_turn Lines Lines = true
-may_turn File File = true
-may_turn _ _ = false
+abbrev pub no_offsets : OffsetMode → Bool
+no_offsets NoOffsets = true
+no_offsets _ = false
+
+abbrev pub same_offsets : OffsetMode → OffsetMode → Bool
+same_offsets NoOffsets NoOffsets = true
+same_offsets Lines Lines = true
+same_offsets File File = true
+same_offsets _ _ = false
 
 abbrev pub offsets_shown : OffsetMode → Effect
 offsets_shown mode plan =
-    if shows_lines plan.only_matching && may_turn plan.offsets mode then Ok (record plan { offsets = mode }) else Err Exclude
+    if is_empty plan.only_matching && (no_offsets plan.offsets || same_offsets plan.offsets mode) then Ok (record plan { offsets = mode })
+    else Err Exclude
 
 abbrev pub group_shown : ℕ → Effect
 group_shown n plan =
-    if may_turn plan.offsets NoOffsets then Ok (record plan { only_matching = plan.only_matching ++ n ∷ [] }) else Err Exclude
+    if no_offsets plan.offsets then Ok (record plan { only_matching = plan.only_matching ++ n ∷ [] })
+    else Err Exclude
 
 -- of `--help` and `-V` the first given decides
 abbrev pub plain_effect : PlainOption → Effect
@@ -100,28 +115,27 @@ plain_effect (Offsets mode) plan = offsets_shown mode plan
 plain_effect (Help kind) plan = Ok (record plan { help = option_or plan.help (Some kind) })
 plain_effect NoEffect plan = Ok plan
 
--- a value that is a number, from `low` to `high`
-abbrev pub numbered : ℕ → ℕ → (ℕ → Effect) → Option ℕ → Effect
-numbered low high effect None plan = Err BadNumber
-numbered low high effect (Some n) plan = if nat_le low n && nat_le n high then effect n plan else Err BadValue
+-- a value that is a number from `low` to `high`
+abbrev pub within : ℕ → ℕ → Option ℕ → Result ℕ UsageKind
+within low high None = Err BadNumber
+within low high (Some n) = if nat_le low n && nat_le n high then Ok n else Err BadValue
 
-abbrev pub in_range : ℕ → ℕ → (ℕ → GrepPlan → GrepPlan) → List ℕ → Effect
-in_range low high change text = numbered low high (λ n plan. Ok (change n plan)) (number_of text)
+abbrev pub ranged : ℕ → ℕ → List ℕ → Result ℕ UsageKind
+ranged low high text = within low high (number_of text)
 
 abbrev pub number_effect : NumberOption → List ℕ → Effect
-number_effect AfterContext = in_range 0 greatest (λ n plan. record plan { after_context = n })
-number_effect BeforeContext = in_range 0 greatest (λ n plan. record plan { before_context = n })
-number_effect Context = in_range 0 greatest (λ n plan. record plan { after_context = n; before_context = n })
-number_effect MatchLimit = in_range 0 greatest (λ n plan. record plan { match_limit = n })
-number_effect FrameLimit = in_range 0 greatest (λ n plan. record plan { frame_limit = n })
-number_effect BufferSize = in_range 0 greatest (λ n plan. plan)
-number_effect MaxBufferSize = in_range 1 1073741824 (λ n plan. record plan { max_buffer_size = n })
-number_effect MaxCount = in_range 1 greatest (λ n plan. record plan { max_count = Some n })
+number_effect AfterContext text plan = ranged 0 greatest text >>= λ n. Ok (record plan { after_context = n })
+number_effect BeforeContext text plan = ranged 0 greatest text >>= λ n. Ok (record plan { before_context = n })
+number_effect Context text plan = ranged 0 greatest text >>= λ n. Ok (record plan { after_context = n; before_context = n })
+number_effect MatchLimit text plan = ranged 0 greatest text >>= λ n. Ok (record plan { match_limit = n })
+number_effect FrameLimit text plan = ranged 0 greatest text >>= λ n. Ok (record plan { frame_limit = n })
+number_effect BufferSize text plan = ranged 0 greatest text >>= λ n. Ok plan
+number_effect MaxBufferSize text plan = ranged 1 1073741824 text >>= λ n. Ok (record plan { max_buffer_size = n })
+number_effect MaxCount text plan = ranged 1 greatest text >>= λ n. Ok (record plan { max_count = Some n })
 
 -- a value that is one of a list of words
-abbrev pub listed : {A : Type 0} → (A → GrepPlan → GrepPlan) → Option A → Effect
-listed change None plan = Err BadValue
-listed change (Some choice) plan = Ok (change choice plan)
+abbrev pub listed : {A : Type 0} → Option A → Result A UsageKind
+listed choice = ok_or choice BadValue
 
 abbrev pub binary_of : List ℕ → Option BinaryMode
 binary_of word =
@@ -130,19 +144,16 @@ binary_of word =
     else if bytes_eq word (codes "without-match") then Some binary.WithoutMatch
     else None
 
--- the word is in any case
-abbrev pub newline_named : List ℕ → Option Newline
-newline_named word =
-    if bytes_eq word (codes "CR") then Some Cr
-    else if bytes_eq word (codes "LF") then Some Lf
-    else if bytes_eq word (codes "CRLF") then Some CrLf
-    else if bytes_eq word (codes "ANYCRLF") then Some AnyCrLf
-    else if bytes_eq word (codes "ANY") then Some Any
-    else if bytes_eq word (codes "NUL") then Some Nul
-    else None
-
+-- the words are in any case
 abbrev pub newline_of : List ℕ → Option Newline
-newline_of word = newline_named (map to_ascii_uppercase word)
+newline_of word =
+    if str_eq_ignore_ascii_case word (codes "CR") then Some Cr
+    else if str_eq_ignore_ascii_case word (codes "LF") then Some Lf
+    else if str_eq_ignore_ascii_case word (codes "CRLF") then Some CrLf
+    else if str_eq_ignore_ascii_case word (codes "ANYCRLF") then Some AnyCrLf
+    else if str_eq_ignore_ascii_case word (codes "ANY") then Some Any
+    else if str_eq_ignore_ascii_case word (codes "NUL") then Some Nul
+    else None
 
 -- the last value counts; patterns and their files add up
 abbrev pub value_effect : ValuedOption → List ℕ → Effect
@@ -151,9 +162,14 @@ value_effect valued.Regex text plan = Ok (record plan { patterns = plan.patterns
 value_effect valued.File text plan = Ok (record plan { pattern_files = plan.pattern_files ++ text ∷ [] })
 value_effect valued.Label text plan = Ok (record plan { label = text })
 value_effect valued.OmSeparator text plan = Ok (record plan { om_separator = text })
-value_effect valued.BinaryFiles text plan = listed (λ mode plan. record plan { binary = mode }) (binary_of text) plan
-value_effect valued.Newline text plan = listed (λ newline plan. record plan { newline = newline }) (newline_of text) plan
+value_effect valued.BinaryFiles text plan = listed (binary_of text) >>= λ mode. Ok (record plan { binary = mode })
+value_effect valued.Newline text plan = listed (newline_of text) >>= λ newline. Ok (record plan { newline = newline })
 
 -- the number of a group, joined to `-o`
 abbrev pub group_effect : List ℕ → Effect
-group_effect text = numbered 0 greatest group_shown (number_of text)
+group_effect text plan = ranged 0 greatest text >>= λ n. group_shown n plan
+
+-- what a call answers at a fault, where it doesn't want memory
+abbrev pub Stops : Result GrepPlan UsageKind → Stop → Type 0
+Stops effect (Usage kind) = effect ≡ Err kind
+Stops effect Memory = ⊤

@@ -1,16 +1,18 @@
 -- The plan of pcre2grep's words, or the first word at fault (pcre2grep, "OPTIONS" and "OPTIONS WITH DATA").
-use Rattle.std.specs.Prelude.{ℕ, ◌+◌, ◌-◌, ◌==◌, nat_eq, List, [], ◌∷◌, length, drop, Bool, true, false, ◌&&◌, ◌||◌, not, Option, Some, None, Result, Ok, Err, codes, bytes_eq, slice_get, if◌then◌else◌}
+use Rattle.std.specs.Prelude.{◌≡◌, ⊤, ℕ, ◌+◌, ◌-◌, ◌==◌, nat_eq, List, [], ◌∷◌, length, drop, Bool, true, false, ◌&&◌, ◌||◌, not, Option, Some, None, Result, Ok, Err, codes, bytes_eq, slice_get, if◌then◌else◌}
 use Rattle.std.specs.List.{list_any, before_first, after_first}
 use Rattle.std.specs.Char.{is_ascii_digit}
 use Rattle.grep_args.specs.declared.plan.GrepPlan.{GrepPlan}
 use Rattle.grep_args.specs.declared.plan.HelpKind.{HelpKind}
+use Rattle.grep_args.specs.declared.usage.ArgError.{ArgError}
+use Rattle.grep_args.specs.declared.usage.ArgError.TheVariants.{Usage, Memory}
 use Rattle.grep_args.specs.declared.usage.UsageKind.{UsageKind}
 use Rattle.grep_args.specs.declared.usage.UsageKind.TheVariants.{UnknownOption, MissingValue, NoPattern}
 use Rattle.grep_args.specs.declared.options.ValuedOption.{ValuedOption}
 use Rattle.grep_args.specs.declared.options.GrepOption.{GrepOption}
 use Rattle.grep_args.specs.declared.options.GrepOption.TheVariants.{Plain, OnlyMatching, Valued}
 use Rattle.grep_args.specs.Table.{by_letter, by_name}
-use Rattle.grep_args.specs.Effects.{unset, plain_effect, value_effect, group_shown, group_effect}
+use Rattle.grep_args.specs.Effects.{◌>>=◌, unset, plain_effect, value_effect, group_shown, group_effect}
 
 -- a fault, and the word that is told with it, counted from 0
 pub record Fault : Type 0 where
@@ -19,12 +21,6 @@ pub record Fault : Type 0 where
 
 abbrev pub Reads : Type 0 → Type 0
 Reads A = Result A Fault
-
-infixl 10 ◌>>=◌
-
-abbrev pub ◌>>=◌ : {A B : Type 0} → Reads A → (A → Reads B) → Reads B
-Ok found >>= rest = rest found
-Err fault >>= rest = Err fault
 
 abbrev pub fault : {A : Type 0} → UsageKind → ℕ → Reads A
 fault kind word = Err (record { kind = kind; word = word })
@@ -143,3 +139,8 @@ abbrev pub plan_of : List (List ℕ) → Reads GrepPlan
 plan_of words =
     options words 0 None unset >>= λ (plan, n).
       if has_patterns plan then Ok (record plan { files_from = n }) else pattern_word n (slice_get words n) plan.help plan
+
+-- what a call answers at a fault, where it doesn't want memory
+abbrev pub Refuses : {A : Type 0} → Reads A → ArgError → Type 0
+Refuses read (Usage kind word) = read ≡ fault kind word
+Refuses read Memory = ⊤

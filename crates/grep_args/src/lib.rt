@@ -1,7 +1,9 @@
 //! The words of pcre2grep: what they ask for.
 #![tactic(auto)]
 
+mod effects;
 mod laws;
+mod numbers;
 mod options;
 mod plan;
 mod table;

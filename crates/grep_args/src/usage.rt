@@ -1,4 +1,8 @@
 //! Faults in the words.
+ghost use Rattle.std.specs.Prelude.{◌≡◌};
+ghost use Rattle.grep_args.specs.declared.usage.Stop.TheVariants as stop;
+
+use std::alloc::AllocError;
 
 /// What is at fault in a word (pcre2grep, "OPTIONS" and "OPTIONS WITH DATA").
 #[derive(Clone, Copy, Debug, PartialEq, Eq)]
@@ -24,4 +28,43 @@ pub enum ArgError {
     Usage { kind: UsageKind, word: usize },
     /// Want of memory.
     Memory,
+}
+
+/// Why an option couldn't do what it does.
+#[derive(Clone, Copy, Debug, PartialEq, Eq)]
+pub enum Stop {
+    Usage(UsageKind),
+    Memory,
+}
+
+impl From<UsageKind> for Stop {
+    ghost from_gives = { λ kind stopped. stopped ≡ stop.Usage kind };
+
+    fn from(kind: UsageKind) -> Stop {
+        Stop::Usage(kind)
+    }
+}
+
+impl From<AllocError> for Stop {
+    ghost from_gives = { λ _ stopped. stopped ≡ stop.Memory };
+
+    fn from(_e: AllocError) -> Stop {
+        Stop::Memory
+    }
+}
+
+impl From<pat_tree::Memory> for Stop {
+    ghost from_gives = { λ _ stopped. stopped ≡ stop.Memory };
+
+    fn from(_e: pat_tree::Memory) -> Stop {
+        Stop::Memory
+    }
+}
+
+impl From<pcre_io::Memory> for Stop {
+    ghost from_gives = { λ _ stopped. stopped ≡ stop.Memory };
+
+    fn from(_e: pcre_io::Memory) -> Stop {
+        Stop::Memory
+    }
 }
