@@ -6,6 +6,8 @@ use Rattle.grep_args.specs.declared.plan.GrepPlan.{GrepPlan}
 use Rattle.grep_args.specs.declared.plan.HelpKind.{HelpKind}
 use Rattle.grep_args.specs.declared.usage.ArgError.{ArgError}
 use Rattle.grep_args.specs.declared.usage.ArgError.TheVariants.{Usage, Memory}
+use Rattle.grep_args.specs.declared.usage.Stop.{Stop}
+use Rattle.grep_args.specs.declared.usage.Stop.TheVariants as stop
 use Rattle.grep_args.specs.declared.usage.UsageKind.{UsageKind}
 use Rattle.grep_args.specs.declared.usage.UsageKind.TheVariants.{UnknownOption, MissingValue, NoPattern}
 use Rattle.grep_args.specs.declared.options.ValuedOption.{ValuedOption}
@@ -144,3 +146,7 @@ plan_of words =
 abbrev pub Refuses : {A : Type 0} → Reads A → ArgError → Type 0
 Refuses read (Usage kind word) = read ≡ fault kind word
 Refuses read Memory = ⊤
+
+abbrev pub stopped_at : Stop → ℕ → ArgError
+stopped_at (stop.Usage kind) word = Usage kind word
+stopped_at stop.Memory word = Memory

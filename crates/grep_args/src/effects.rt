@@ -138,7 +138,7 @@ fn newline(word: &str) -> Option<Newline>
 }
 
 /// Shows a group of each match, where no places are shown.
-fn show_group(plan: &mut GrepPlan, n: u32) -> Result<(), Stop>
+pub fn show_group(plan: &mut GrepPlan, n: u32) -> Result<(), Stop>
     ensures ok { OnOk result (group_shown n plan.old ≡ Ok plan.new) }
     ensures fault { IfErr result (Stops (group_shown n plan.old)) }
 {

@@ -3,6 +3,7 @@
 
 mod effects;
 mod laws;
+mod letters;
 mod numbers;
 mod options;
 mod plan;

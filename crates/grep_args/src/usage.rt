@@ -1,5 +1,6 @@
 //! Faults in the words.
 ghost use Rattle.std.specs.Prelude.{◌≡◌};
+ghost use Rattle.grep_args.specs.Words.{stopped_at};
 ghost use Rattle.grep_args.specs.declared.usage.Stop.TheVariants as stop;
 
 use std::alloc::AllocError;
@@ -35,6 +36,27 @@ pub enum ArgError {
 pub enum Stop {
     Usage(UsageKind),
     Memory,
+}
+
+impl UsageKind {
+    /// The fault of this kind in a word.
+    pub fn at(self, word: usize) -> ArgError
+        ensures { result ≡ ArgError.Usage self word }
+    {
+        ArgError::Usage { kind: self, word }
+    }
+}
+
+impl Stop {
+    /// The same with the word that is at fault.
+    pub fn at(self, word: usize) -> ArgError
+        ensures { result ≡ stopped_at self word }
+    {
+        match self {
+            Stop::Usage(kind) => kind.at(word),
+            Stop::Memory => ArgError::Memory,
+        }
+    }
 }
 
 impl From<UsageKind> for Stop {

@@ -1,0 +1,19 @@
+-- What one step of the reading makes of the whole.
+use Rattle.std.proofs.Common.{◌≡◌, ℕ, List, [], ◌∷◌, drop, Option, Some, None, slice_get, refl, ap, sym, ◌∙◌, subst}
+use Rattle.grep_args.specs.declared.plan.GrepPlan.{GrepPlan}
+use Rattle.grep_args.specs.declared.options.GrepOption.{GrepOption}
+use Rattle.grep_args.specs.declared.usage.ArgError.{ArgError}
+use Rattle.grep_args.specs.Table.{by_letter}
+use Rattle.grep_args.specs.Words.{Reads, Taken, letter, letters, Refuses}
+
+same_item : (x y : ℕ) → Some x ≡ Some y → x ≡ y
+same_item x y h = cc
+
+pub letters_step : (word : ℕ) (rest more : List ℕ) (b : ℕ) (option : GrepOption) (plan : GrepPlan) → slice_get rest 0 ≡ Some b → more ≡ drop 1 rest → by_letter b ≡ Some option → letters word rest plan ≡ letter word more (letters word more) (Some option) plan
+letters_step word [] more b option plan first rest known = cc
+letters_step word (x ∷ xs) more b option plan first rest known =
+    ap (λ o. letter word xs (letters word xs) o plan) (ap by_letter (same_item x b first) ∙ known)
+    ∙ ap (λ m. letter word m (letters word m) (Some option) plan) (sym rest)
+
+pub refuses_as : {A : Type 0} (read whole : Reads A) (error : ArgError) → read ≡ whole → Refuses read error → Refuses whole error
+refuses_as read whole error same h = subst (λ r. Refuses r error) same h
