@@ -1,5 +1,6 @@
 -- What one step of the reading makes of the whole.
-use Rattle.std.proofs.Common.{◌≡◌, ℕ, List, [], ◌∷◌, drop, Option, Some, None, slice_get, refl, ap, sym, ◌∙◌, subst}
+use Rattle.std.proofs.Common.{arith, length, Bool, true, false, ◌≡◌, ℕ, List, [], ◌∷◌, drop, Option, Some, None, slice_get, refl, ap, sym, ◌∙◌, subst}
+use Rattle.std.specs.List.{list_any, position_or_len}
 use Rattle.grep_args.specs.declared.plan.GrepPlan.{GrepPlan}
 use Rattle.grep_args.specs.declared.options.GrepOption.{GrepOption}
 use Rattle.grep_args.specs.declared.usage.ArgError.{ArgError}
@@ -17,3 +18,12 @@ letters_step word (x ∷ xs) more b option plan first rest known =
 
 pub refuses_as : {A : Type 0} (read whole : Reads A) (error : ArgError) → read ≡ whole → Refuses read error → Refuses whole error
 refuses_as read whole error same h = subst (λ r. Refuses r error) same h
+
+past_more : (p : ℕ → Bool) (x : ℕ) (xs : List ℕ) (here : Bool) → p x ≡ here → position_or_len p (x ∷ xs) ≡ length (x ∷ xs) → (position_or_len p xs ≡ length xs → list_any p xs ≡ false) → list_any p (x ∷ xs) ≡ false
+past_more p x xs true e h rest = grind arith
+past_more p x xs false e h rest = grind arith
+
+-- a text without a place that passes
+pub list_any_past : (p : ℕ → Bool) (xs : List ℕ) → position_or_len p xs ≡ length xs → list_any p xs ≡ false
+list_any_past p [] h = refl
+list_any_past p (x ∷ xs) h = past_more p x xs (p x) refl h (list_any_past p xs)

@@ -3,9 +3,18 @@ use Rattle.std.specs.Prelude.{Ok}
 use Rattle.grep_args.specs.declared.plan.GrepPlan.{GrepPlan}
 use Rattle.grep_args.specs.declared.letters.Rest.{Rest}
 use Rattle.grep_args.specs.declared.letters.Rest.TheVariants.{Letters, Used}
-use Rattle.grep_args.specs.Words.{Taken}
+use Rattle.grep_args.specs.declared.words.Word.{Word as Seen}
+use Rattle.grep_args.specs.declared.words.Word.TheVariants as seen
+use Rattle.grep_args.specs.Words.{Taken, Word, operand, terminator, name, joined}
 
 -- the letters of the rest, or nothing
 abbrev pub followed : Rest → (GrepPlan → Taken) → GrepPlan → Taken
 followed Letters others plan = others plan
 followed (Used awaited) others plan = Ok (plan, awaited)
+
+-- a word as the definition sees it
+abbrev pub word_seen : Seen → Word
+word_seen seen.Operand = operand
+word_seen seen.Terminator = terminator
+word_seen (seen.Name text) = name text.now
+word_seen (seen.Joined text) = joined text.now

@@ -9,6 +9,7 @@ mod options;
 mod plan;
 mod table;
 mod usage;
+mod words;
 
 pub use laws::{worked_faults, worked_plans};
 pub use options::{Flag, GrepOption, NumberOption, PlainOption, ValuedOption};
