@@ -1,5 +1,6 @@
 -- What one step of the reading makes of the whole.
-use Rattle.std.proofs.Common.{arith, length, Bool, true, false, ◌≡◌, ℕ, List, [], ◌∷◌, drop, Option, Some, None, slice_get, refl, ap, sym, ◌∙◌, subst}
+use Rattle.std.proofs.Common.{arith, length, map, ◌<◌, ◌+◌, get_or, Bool, true, false, ◌≡◌, ℕ, List, [], ◌∷◌, drop, Option, Some, None, slice_get, refl, ap, sym, ◌∙◌, subst}
+use Rattle.std.proofs.lemmas.List.{drop_more}
 use Rattle.std.specs.List.{list_any, position_or_len}
 use Rattle.grep_args.specs.declared.plan.GrepPlan.{GrepPlan}
 use Rattle.grep_args.specs.declared.options.GrepOption.{GrepOption}
@@ -27,3 +28,7 @@ past_more p x xs false e h rest = grind arith
 pub list_any_past : (p : ℕ → Bool) (xs : List ℕ) → position_or_len p xs ≡ length xs → list_any p xs ≡ false
 list_any_past p [] h = refl
 list_any_past p (x ∷ xs) h = past_more p x xs (p x) refl h (list_any_past p xs)
+
+-- a list from one of its places on
+pub map_drop : {A : Type 0} (f : A → List ℕ) (xs : List A) (n : ℕ) (x : A) (t : List ℕ) → n < length xs → x ≡ get_or xs n x → t ≡ f x → map f (drop n xs) ≡ t ∷ map f (drop (n + 1) xs)
+map_drop f xs n x t within is text = rw (drop_more xs n x, ← is, ← text) refl

@@ -136,11 +136,15 @@ pattern_word n (Some pattern) help plan = Ok (record plan { patterns = pattern �
 pattern_word n None None plan = fault NoPattern n
 pattern_word n None (Some kind) plan = Ok (record plan { files_from = n })
 
--- The plan of the words. Where a pattern is missing, no word is left after the options, so that n is the number of words.
+-- the plan after the first n words, which are the options; where no word is left, n is the number of words
+abbrev pub completed : List (List ℕ) → ℕ → GrepPlan → Reads GrepPlan
+completed words n plan =
+    if has_patterns plan then Ok (record plan { files_from = n })
+    else pattern_word n (slice_get words n) plan.help plan
+
+-- the plan of the words
 abbrev pub plan_of : List (List ℕ) → Reads GrepPlan
-plan_of words =
-    options words 0 None unset >>= λ (plan, n).
-      if has_patterns plan then Ok (record plan { files_from = n }) else pattern_word n (slice_get words n) plan.help plan
+plan_of words = options words 0 None unset >>= λ (plan, n). completed words n plan
 
 -- what a call answers at a fault, where it doesn't want memory
 abbrev pub Refuses : {A : Type 0} → Reads A → ArgError → Type 0

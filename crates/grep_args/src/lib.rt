@@ -7,12 +7,13 @@ mod letters;
 mod numbers;
 mod options;
 mod plan;
+mod reading;
 mod table;
 mod usage;
 mod words;
 
 pub use laws::{worked_faults, worked_plans};
 pub use options::{Flag, GrepOption, NumberOption, PlainOption, ValuedOption};
-pub use table::{by_letter, by_name};
+pub use reading::read;
 pub use plan::{BinaryMode, GrepPlan, HelpKind, NameMode, OffsetMode};
 pub use usage::{ArgError, UsageKind};

@@ -1,6 +1,7 @@
 //! Faults in the words.
 ghost use Rattle.std.specs.Prelude.{◌≡◌};
 ghost use Rattle.grep_args.specs.Words.{stopped_at};
+ghost use Rattle.grep_args.specs.declared.usage.ArgError.TheVariants as answer;
 ghost use Rattle.grep_args.specs.declared.usage.Stop.TheVariants as stop;
 
 use std::alloc::AllocError;
@@ -88,5 +89,21 @@ impl From<pcre_io::Memory> for Stop {
 
     fn from(_e: pcre_io::Memory) -> Stop {
         Stop::Memory
+    }
+}
+
+impl From<AllocError> for ArgError {
+    ghost from_gives = { λ _ error. error ≡ answer.Memory };
+
+    fn from(_e: AllocError) -> ArgError {
+        ArgError::Memory
+    }
+}
+
+impl From<pat_tree::Memory> for ArgError {
+    ghost from_gives = { λ _ error. error ≡ answer.Memory };
+
+    fn from(_e: pat_tree::Memory) -> ArgError {
+        ArgError::Memory
     }
 }

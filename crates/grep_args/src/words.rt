@@ -1,10 +1,11 @@
 //! The words one after the other, up to the first that is no option.
-ghost use Rattle.std.specs.Prelude.{◌≡◌, ◌≢◌, MatchOption, ◌+◌, ◌<◌, ◌≤◌, ◌^◌, [], ◌∷◌, List, ℕ, map, drop, length, string_bytes, IfOk, IfErr, Ok, Some, None};
+ghost use Rattle.std.specs.Prelude.{◌≡◌, ◌≢◌, Option, MatchOption, ◌+◌, ◌<◌, ◌≤◌, ◌^◌, [], ◌∷◌, List, ℕ, map, drop, length, string_bytes, IfOk, IfErr, Ok, Some, None};
 ghost use Rattle.std.specs.List.{before_first};
 ghost use Rattle.std.specs.Option.{option_copied};
+ghost use Rattle.grep_args.specs.declared.options.ValuedOption.{ValuedOption};
 ghost use Rattle.grep_args.specs.declared.plan.GrepPlan.{GrepPlan};
 ghost use Rattle.grep_args.specs.Words.{Reads, Opted, is_equals, joined_value, long, long_option, option_in, options, word_of, Refuses};
-ghost use Rattle.grep_args.specs.Rests.{word_seen};
+ghost use Rattle.grep_args.specs.Rests.{word_seen, followed_by};
 
 use crate::effects::{show_group, take_group, take_plain, take_value};
 use crate::letters::letters;
@@ -107,5 +108,67 @@ fn long_option(alloc: Global, plan: &mut GrepPlan, word: usize, text: &str) -> R
     match value {
         Some(value) => long_with(alloc, plan, word, option, value),
         None => long_alone(plan, word, option),
+    }
+}
+
+/// What comes after a word.
+enum Outcome {
+    /// Perhaps another option. An option that has no value yet takes the next word.
+    Goes(Option<ValuedOption>),
+    /// No option. So many words stand before the others.
+    Ends(usize),
+}
+
+/// A word in whose place an option may stand, after n words.
+fn option_in(alloc: Global, plan: &mut GrepPlan, n: usize, text: &str) -> Result<Outcome, ArgError>
+    requires { n < usize.MAX }
+    ensures ok { IfOk result (λ outcome. (others : ℕ → Option ValuedOption → GrepPlan → Opted) → option_in n (word_of text.now) others plan.old ≡ followed_by n outcome others plan.new) }
+    ensures fault { IfErr result (λ error. (others : ℕ → Option ValuedOption → GrepPlan → Opted) → Refuses (option_in n (word_of text.now) others plan.old) error) }
+{
+    match word_of(text) {
+        Word::Operand => Ok(Outcome::Ends(n)),
+        Word::Terminator => Ok(Outcome::Ends(n + 1)),
+        Word::Name(name) => match long_option(alloc, plan, n, name) {
+            Ok(awaited) => Ok(Outcome::Goes(awaited)),
+            Err(error) => Err(error),
+        },
+        Word::Joined(joined) => match letters(alloc, plan, n, joined) {
+            Ok(awaited) => Ok(Outcome::Goes(awaited)),
+            Err(error) => Err(error),
+        },
+    }
+}
+
+/// A word after n words, the value of an option where one awaits it.
+fn next_word(alloc: Global, plan: &mut GrepPlan, n: usize, awaited: Option<ValuedOption>, text: &str) -> Result<Outcome, ArgError>
+    requires { n < usize.MAX }
+    ensures ok { IfOk result (λ outcome. (words : List (List ℕ)) → options (text.now ∷ words) n awaited plan.old ≡ followed_by n outcome (options words) plan.new) }
+    ensures fault { IfErr result (λ error. (words : List (List ℕ)) → Refuses (options (text.now ∷ words) n awaited plan.old) error) }
+{
+    match awaited {
+        Some(option) => {
+            take_value(alloc, plan, option, text).map_err(|stop| stop.at(n))?;
+            Ok(Outcome::Goes(None))
+        }
+        None => option_in(alloc, plan, n, text),
+    }
+}
+
+/// The options at the front of the words. Answers how many words they take.
+pub fn options(alloc: Global, plan: &mut GrepPlan, words: &[String]) -> Result<usize, ArgError>
+    ensures ok { IfOk result (λ n. options (map string_bytes words.now) 0 None plan.old ≡ Ok (plan.new, n)) }
+    ensures fault { IfErr result (Refuses (options (map string_bytes words.now) 0 None plan.old)) }
+{
+    let mut awaited = None;
+    for (n, word) in words.iter().enumerate() {
+        match next_word(alloc, plan, n, awaited, word.as_str()) {
+            Ok(Outcome::Goes(next)) => awaited = next,
+            Ok(Outcome::Ends(count)) => return Ok(count),
+            Err(error) => return Err(error),
+        }
+    }
+    match awaited {
+        None => Ok(words.len()),
+        Some(_) => Err(UsageKind::MissingValue.at(words.len().saturating_sub(1))),
     }
 }
