@@ -1,9 +1,9 @@
 -- A letter or a name that stands in no row of the table has no option.
-use Rattle.std.proofs.Common.{◌≡◌, ◌≢◌, ℕ, Bool, false, cond, eqb, bytes_eq, List, [], ◌∷◌, Option, None, refl, ap, ◌∙◌}
+use Rattle.std.proofs.Common.{◌≡◌, ◌≢◌, ℕ, false, eqb, bytes_eq, List, [], ◌∷◌, None, refl}
 use Rattle.std.specs.List.{list_any, find}
 use Rattle.std.proofs.lemmas.Bool.{ne_eqb, false_from_ne_true}
 use Rattle.std.proofs.lemmas.Slice.Eq.{bytes_eq-Decides}
-use Rattle.grep_args.specs.Table.{Row, table, by_letter, by_name, has_letter, has_name}
+use Rattle.grep_args.specs.Table.{Row, has_letter, has_name}
 
 abbrev pub Differs : {A : Type 0} → A → List A → Type 0
 Differs x [] = Unit {0}

@@ -1,12 +1,12 @@
 -- What one step of the reading makes of the whole.
-use Rattle.std.proofs.Common.{arith, length, map, ◌<◌, ◌+◌, get_or, Bool, true, false, ◌≡◌, ℕ, List, [], ◌∷◌, drop, Option, Some, None, slice_get, refl, ap, sym, ◌∙◌, subst}
+use Rattle.std.proofs.Common.{arith, length, map, ◌<◌, ◌+◌, get_or, Bool, true, false, ◌≡◌, ℕ, List, [], ◌∷◌, drop, Some, slice_get, refl, ap, sym, ◌∙◌, subst}
 use Rattle.std.proofs.lemmas.List.{drop_more}
 use Rattle.std.specs.List.{list_any, position_or_len}
 use Rattle.grep_args.specs.declared.plan.GrepPlan.{GrepPlan}
 use Rattle.grep_args.specs.declared.options.GrepOption.{GrepOption}
 use Rattle.grep_args.specs.declared.usage.ArgError.{ArgError}
 use Rattle.grep_args.specs.Table.{by_letter}
-use Rattle.grep_args.specs.Words.{Reads, Taken, letter, letters, Refuses}
+use Rattle.grep_args.specs.Words.{Reads, letter, letters, Refuses}
 
 same_item : (x y : ℕ) → Some x ≡ Some y → x ≡ y
 same_item x y h = cc

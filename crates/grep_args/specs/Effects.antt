@@ -54,11 +54,10 @@ unset = record {
   max_buffer_size = 1048576;
   max_count = None;
   newline = Lf;
-  help = None
+  help = None;
 }
 
 infixl 10 ◌>>=◌
-
 -- what follows a success
 abbrev pub ◌>>=◌ : {A B E : Type 0} → Result A E → (A → Result B E) → Result B E
 Ok found >>= rest = rest found

@@ -3,3 +3,4 @@ pub mod Numbers
 pub mod Effects
 pub mod Words
 pub mod Rests
+pub mod Limits

@@ -1,5 +1,5 @@
 -- The plan of pcre2grep's words, or the first word at fault (pcre2grep, "OPTIONS" and "OPTIONS WITH DATA").
-use Rattle.std.specs.Prelude.{◌≡◌, ⊤, ℕ, ◌+◌, ◌-◌, ◌==◌, nat_eq, List, [], ◌∷◌, length, drop, Bool, true, false, ◌&&◌, ◌||◌, not, Option, Some, None, Result, Ok, Err, codes, bytes_eq, slice_get, if◌then◌else◌}
+use Rattle.std.specs.Prelude.{◌≡◌, ⊤, ℕ, ◌+◌, ◌-◌, ◌==◌, List, [], ◌∷◌, Bool, true, false, ◌||◌, Option, Some, None, Result, Ok, Err, bytes_eq, slice_get, if◌then◌else◌}
 use Rattle.std.specs.List.{list_any, before_first, after_first}
 use Rattle.std.specs.Char.{is_ascii_digit}
 use Rattle.grep_args.specs.declared.plan.GrepPlan.{GrepPlan}

@@ -38,7 +38,9 @@ fn show_offsets(plan: &mut GrepPlan, mode: OffsetMode) -> Result<(), UsageKind>
     ensures ok { OnOk result (offsets_shown mode plan.old ≡ Ok plan.new) }
     ensures fault { IfErr result (λ kind. offsets_shown mode plan.old ≡ Err kind) }
 {
-    if plan.only_matching.len() == 0 && (plan.offsets == OffsetMode::NoOffsets || plan.offsets == mode) {
+    if plan.only_matching.len() == 0
+        && (plan.offsets == OffsetMode::NoOffsets || plan.offsets == mode)
+    {
         plan.offsets = mode;
         Ok(())
     } else {
@@ -159,7 +161,12 @@ pub fn take_group(plan: &mut GrepPlan, text: &[u8]) -> Result<(), Stop>
 }
 
 /// Has an option do what it does with its value.
-pub fn take_value(alloc: Global, plan: &mut GrepPlan, option: ValuedOption, text: &str) -> Result<(), Stop>
+pub fn take_value(
+    alloc: Global,
+    plan: &mut GrepPlan,
+    option: ValuedOption,
+    text: &str,
+) -> Result<(), Stop>
     ensures ok { OnOk result (value_effect option text.now plan.old ≡ Ok plan.new) }
     ensures fault { IfErr result (Stops (value_effect option text.now plan.old)) }
 {

@@ -15,8 +15,7 @@ pub fn worked_plans()
         ≡ Ok (record unset { patterns = codes "-" ∷ []; only_matching = 5 ∷ 0 ∷ []; line_number = true; files_from = 3 }) }
     ensures help { plan_of (codes "-Vq" ∷ codes "--help" ∷ [])
         ≡ Ok (record unset { help = Some Version; quiet = true; files_from = 2 }) }
-{
-}
+{}
 
 /// Lists of words with the faults that are told.
 pub fn worked_faults()
@@ -26,5 +25,4 @@ pub fn worked_faults()
     ensures excluded { plan_of (codes "--line-offsets" ∷ codes "-no" ∷ codes "-Z" ∷ []) ≡ fault Exclude 1 }
     ensures unknown { plan_of (codes "--help" ∷ codes "--quiet=" ∷ []) ≡ fault UnknownOption 1 }
     ensures missing { plan_of (codes "-n" ∷ codes "-qe" ∷ []) ≡ fault MissingValue 1 }
-{
-}
+{}

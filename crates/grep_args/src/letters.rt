@@ -38,7 +38,13 @@ fn starts_with_digit(text: &str) -> bool
 }
 
 /// An option by its letter, with the rest of the word.
-fn letter(alloc: Global, plan: &mut GrepPlan, word: usize, option: GrepOption, rest: &str) -> Result<Rest, ArgError>
+fn letter(
+    alloc: Global,
+    plan: &mut GrepPlan,
+    word: usize,
+    option: GrepOption,
+    rest: &str,
+) -> Result<Rest, ArgError>
     ensures ok { IfOk result (λ step. (others : GrepPlan → Taken) → letter word rest.now others (Some option) plan.old ≡ followed step others plan.new) }
     ensures fault { IfErr result (λ error. (others : GrepPlan → Taken) → Refuses (letter word rest.now others (Some option) plan.old) error) }
 {
@@ -64,7 +70,12 @@ fn letter(alloc: Global, plan: &mut GrepPlan, word: usize, option: GrepOption, r
 }
 
 /// The options whose letters are joined after `-`. Answers the last where its value is the next word.
-pub fn letters(alloc: Global, plan: &mut GrepPlan, word: usize, text: &str) -> Result<Option<ValuedOption>, ArgError>
+pub fn letters(
+    alloc: Global,
+    plan: &mut GrepPlan,
+    word: usize,
+    text: &str,
+) -> Result<Option<ValuedOption>, ArgError>
     ensures ok { IfOk result (λ awaited. letters word text.now plan.old ≡ Ok (plan.new, awaited)) }
     ensures fault { IfErr result (Refuses (letters word text.now plan.old)) }
 {

@@ -14,6 +14,6 @@ mod words;
 
 pub use laws::{worked_faults, worked_plans};
 pub use options::{Flag, GrepOption, NumberOption, PlainOption, ValuedOption};
-pub use reading::read;
 pub use plan::{BinaryMode, GrepPlan, HelpKind, NameMode, OffsetMode};
+pub use reading::read;
 pub use usage::{ArgError, UsageKind};

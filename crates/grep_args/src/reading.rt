@@ -1,6 +1,7 @@
 //! The plan of the words.
 ghost use Rattle.std.specs.Prelude.{◌≡◌, map, string_bytes, IfOk, IfErr, Ok};
 ghost use Rattle.grep_args.specs.Effects.{unset};
+ghost use Rattle.grep_args.specs.Limits.{IsWithinLimits};
 ghost use Rattle.grep_args.specs.Words.{plan_of, completed, Refuses};
 
 use crate::effects::{bytes_of, name_of};
@@ -48,7 +49,12 @@ fn unset(alloc: Global) -> Result<GrepPlan, AllocError>
 }
 
 /// The pattern, where no option gives one, and where the files begin, after n words that are the options.
-fn complete(alloc: Global, mut plan: GrepPlan, words: &[String], n: usize) -> Result<GrepPlan, ArgError>
+fn complete(
+    alloc: Global,
+    mut plan: GrepPlan,
+    words: &[String],
+    n: usize,
+) -> Result<GrepPlan, ArgError>
     ensures ok { IfOk result (λ whole. completed (map string_bytes words.now) n plan ≡ Ok whole) }
     ensures fault { IfErr result (Refuses (completed (map string_bytes words.now) n plan)) }
 {
@@ -73,6 +79,7 @@ fn complete(alloc: Global, mut plan: GrepPlan, words: &[String], n: usize) -> Re
 pub fn read(alloc: Global, words: &[String]) -> Result<GrepPlan, ArgError>
     ensures plan { IfOk result (λ plan. plan_of (map string_bytes words.now) ≡ Ok plan) }
     ensures fault { IfErr result (Refuses (plan_of (map string_bytes words.now))) }
+    ensures limits { IfOk result IsWithinLimits }
 {
     let mut plan = unset(alloc)?;
     match options(alloc, &mut plan, words) {

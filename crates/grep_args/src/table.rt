@@ -46,8 +46,12 @@ pub fn by_name(name: &str) -> Option<GrepOption>
     ensures { result ≡ by_name name.now }
 {
     match name {
-        "after-context" => Some(GrepOption::Valued(ValuedOption::Number(NumberOption::AfterContext))),
-        "before-context" => Some(GrepOption::Valued(ValuedOption::Number(NumberOption::BeforeContext))),
+        "after-context" => Some(GrepOption::Valued(ValuedOption::Number(
+            NumberOption::AfterContext,
+        ))),
+        "before-context" => Some(GrepOption::Valued(ValuedOption::Number(
+            NumberOption::BeforeContext,
+        ))),
         "context" => Some(GrepOption::Valued(ValuedOption::Number(NumberOption::Context))),
         "text" => Some(GrepOption::Plain(PlainOption::Binary(BinaryMode::Text))),
         "binary-files" => Some(GrepOption::Valued(ValuedOption::BinaryFiles)),
@@ -67,7 +71,9 @@ pub fn by_name(name: &str) -> Option<GrepOption>
         "file-offsets" => Some(GrepOption::Plain(PlainOption::Offsets(OffsetMode::File))),
         "match-limit" => Some(GrepOption::Valued(ValuedOption::Number(NumberOption::MatchLimit))),
         "frame-limit" => Some(GrepOption::Valued(ValuedOption::Number(NumberOption::FrameLimit))),
-        "max-buffer-size" => Some(GrepOption::Valued(ValuedOption::Number(NumberOption::MaxBufferSize))),
+        "max-buffer-size" => Some(GrepOption::Valued(ValuedOption::Number(
+            NumberOption::MaxBufferSize,
+        ))),
         "max-count" => Some(GrepOption::Valued(ValuedOption::Number(NumberOption::MaxCount))),
         "newline" => Some(GrepOption::Valued(ValuedOption::Newline)),
         "line-number" => Some(GrepOption::Plain(PlainOption::Switch(Flag::LineNumber))),
@@ -76,8 +82,12 @@ pub fn by_name(name: &str) -> Option<GrepOption>
         "quiet" => Some(GrepOption::Plain(PlainOption::Switch(Flag::Quiet))),
         "no-messages" => Some(GrepOption::Plain(PlainOption::Switch(Flag::NoMessages))),
         "invert-match" => Some(GrepOption::Plain(PlainOption::Switch(Flag::InvertMatch))),
-        "word-regex" | "word-regexp" => Some(GrepOption::Plain(PlainOption::Switch(Flag::WordRegex))),
-        "line-regex" | "line-regexp" => Some(GrepOption::Plain(PlainOption::Switch(Flag::LineRegex))),
+        "word-regex" | "word-regexp" => Some(GrepOption::Plain(PlainOption::Switch(
+            Flag::WordRegex,
+        ))),
+        "line-regex" | "line-regexp" => Some(GrepOption::Plain(PlainOption::Switch(
+            Flag::LineRegex,
+        ))),
         "buffer-size" => Some(GrepOption::Valued(ValuedOption::Number(NumberOption::BufferSize))),
         "line-buffered" | "no-jit" => Some(GrepOption::Plain(PlainOption::NoEffect)),
         "help" => Some(GrepOption::Plain(PlainOption::Help(HelpKind::Help))),

@@ -62,7 +62,11 @@ fn name_and_value(text: &str) -> (&str, Option<&str>)
 }
 
 /// A long option without a value after `=`.
-fn long_alone(plan: &mut GrepPlan, word: usize, option: Option<GrepOption>) -> Result<Option<ValuedOption>, ArgError>
+fn long_alone(
+    plan: &mut GrepPlan,
+    word: usize,
+    option: Option<GrepOption>,
+) -> Result<Option<ValuedOption>, ArgError>
     ensures ok { IfOk result (λ awaited. long word option None plan.old ≡ Ok (plan.new, awaited)) }
     ensures fault { IfErr result (Refuses (long word option None plan.old)) }
 {
@@ -81,7 +85,13 @@ fn long_alone(plan: &mut GrepPlan, word: usize, option: Option<GrepOption>) -> R
 }
 
 /// A long option with the value after `=`.
-fn long_with(alloc: Global, plan: &mut GrepPlan, word: usize, option: Option<GrepOption>, value: &str) -> Result<Option<ValuedOption>, ArgError>
+fn long_with(
+    alloc: Global,
+    plan: &mut GrepPlan,
+    word: usize,
+    option: Option<GrepOption>,
+    value: &str,
+) -> Result<Option<ValuedOption>, ArgError>
     ensures ok { IfOk result (λ awaited. long word option (Some value.now) plan.old ≡ Ok (plan.new, awaited)) }
     ensures fault { IfErr result (Refuses (long word option (Some value.now) plan.old)) }
 {
@@ -99,7 +109,12 @@ fn long_with(alloc: Global, plan: &mut GrepPlan, word: usize, option: Option<Gre
 }
 
 /// A long option, without `--`. Answers it where its value is the next word.
-fn long_option(alloc: Global, plan: &mut GrepPlan, word: usize, text: &str) -> Result<Option<ValuedOption>, ArgError>
+fn long_option(
+    alloc: Global,
+    plan: &mut GrepPlan,
+    word: usize,
+    text: &str,
+) -> Result<Option<ValuedOption>, ArgError>
     ensures ok { IfOk result (λ awaited. long_option word text.now plan.old ≡ Ok (plan.new, awaited)) }
     ensures fault { IfErr result (Refuses (long_option word text.now plan.old)) }
 {
@@ -140,7 +155,13 @@ fn option_in(alloc: Global, plan: &mut GrepPlan, n: usize, text: &str) -> Result
 }
 
 /// A word after n words, the value of an option where one awaits it.
-fn next_word(alloc: Global, plan: &mut GrepPlan, n: usize, awaited: Option<ValuedOption>, text: &str) -> Result<Outcome, ArgError>
+fn next_word(
+    alloc: Global,
+    plan: &mut GrepPlan,
+    n: usize,
+    awaited: Option<ValuedOption>,
+    text: &str,
+) -> Result<Outcome, ArgError>
     requires { n < usize.MAX }
     ensures ok { IfOk result (λ outcome. (words : List (List ℕ)) → options (text.now ∷ words) n awaited plan.old ≡ followed_by n outcome (options words) plan.new) }
     ensures fault { IfErr result (λ error. (words : List (List ℕ)) → Refuses (options (text.now ∷ words) n awaited plan.old) error) }

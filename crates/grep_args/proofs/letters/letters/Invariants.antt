@@ -7,7 +7,7 @@ use Rattle.grep_args.proofs.letters.letters.Given as goal
 abbrev pub invariant-loop-first : goal.invariant-loop-first
 invariant-loop-first l = record {
   text : shadow (Utf8 l.rest);
-  same : letters l.word l.rest l.plan ≡ letters l.word l.text l.initial.plan
+  same : letters l.word l.rest l.plan ≡ letters l.word l.text l.initial.plan;
 }
 
 abbrev pub decreases-loop-first : goal.decreases-loop-first

@@ -1,4 +1,4 @@
-use Rattle.std.proofs.Common.{sym, ◌∙◌, ap, map, drop, ◌+◌, ◌∷◌}
+use Rattle.std.proofs.Common.{sym, ◌∙◌, ap, map, drop, ◌+◌}
 use Rattle.std.specs.String.{string_bytes}
 use Rattle.grep_args.specs.Words.{options}
 use Rattle.grep_args.proofs.Steps.{map_drop, refuses_as}
