@@ -155,6 +155,7 @@ completed_keeps true left right l r = l
 completed_keeps false left right l r = r
 
 plan_of_keeps : (words : List (List ℕ)) → IfOk (plan_of words) IsWithinLimits
+unfolding plan_of
 plan_of_keeps words =
     then_keeps _ _ (options words 0 None unset) _ (options_keep words 0 None unset (lit≤ tt, lit≤ tt, tt))
     (λ opted good. completed_keeps (has_patterns opted.0) _ _ good (pattern_keeps opted.1 (slice_get words opted.1) opted.0.help opted.0 good))

@@ -1,5 +1,5 @@
 -- What each option does to the plan (pcre2grep, "OPTIONS").
-use Rattle.std.specs.Prelude.{◌≡◌, ⊤, ℕ, List, [], ◌∷◌, ◌++◌, Bool, true, false, ◌&&◌, ◌||◌, Option, Some, None, Result, Ok, Err, codes, bytes_eq, nat_le, if◌then◌else◌}
+use Rattle.std.specs.Prelude.{ℕ, List, [], ◌∷◌, ◌++◌, Bool, true, false, ◌&&◌, ◌||◌, Option, Some, None, Result, Ok, Err, codes, bytes_eq, nat_le, if◌then◌else◌}
 use Rattle.std.specs.Option.{option_or, ok_or}
 use Rattle.std.specs.Str.{str_eq_ignore_ascii_case}
 use Rattle.pat_tree.specs.declared.options.Newline.{Newline}
@@ -10,8 +10,6 @@ use Rattle.grep_args.specs.declared.plan.NameMode.TheVariants.{Auto}
 use Rattle.grep_args.specs.declared.plan.OffsetMode.{OffsetMode}
 use Rattle.grep_args.specs.declared.plan.OffsetMode.TheVariants.{NoOffsets, Lines, File}
 use Rattle.grep_args.specs.declared.plan.GrepPlan.{GrepPlan}
-use Rattle.grep_args.specs.declared.usage.Stop.{Stop}
-use Rattle.grep_args.specs.declared.usage.Stop.TheVariants.{Usage, Memory}
 use Rattle.grep_args.specs.declared.usage.UsageKind.{UsageKind}
 use Rattle.grep_args.specs.declared.usage.UsageKind.TheVariants.{BadNumber, BadValue, Exclude}
 use Rattle.grep_args.specs.declared.options.Flag.{Flag}
@@ -167,8 +165,3 @@ value_effect valued.Newline text plan = listed (newline_of text) >>= λ newline.
 -- the number of a group, joined to `-o`
 abbrev pub group_effect : List ℕ → Effect
 group_effect text plan = ranged 0 greatest text >>= λ n. group_shown n plan
-
--- what a call answers at a fault, where it doesn't want memory
-abbrev pub Stops : Result GrepPlan UsageKind → Stop → Type 0
-Stops effect (Usage kind) = effect ≡ Err kind
-Stops effect Memory = ⊤

@@ -6,8 +6,6 @@ use Rattle.grep_args.specs.declared.plan.GrepPlan.{GrepPlan}
 use Rattle.grep_args.specs.declared.plan.HelpKind.{HelpKind}
 use Rattle.grep_args.specs.declared.usage.ArgError.{ArgError}
 use Rattle.grep_args.specs.declared.usage.ArgError.TheVariants.{Usage, Memory}
-use Rattle.grep_args.specs.declared.usage.Stop.{Stop}
-use Rattle.grep_args.specs.declared.usage.Stop.TheVariants as stop
 use Rattle.grep_args.specs.declared.usage.UsageKind.{UsageKind}
 use Rattle.grep_args.specs.declared.usage.UsageKind.TheVariants.{UnknownOption, MissingValue, NoPattern}
 use Rattle.grep_args.specs.declared.options.ValuedOption.{ValuedOption}
@@ -143,14 +141,10 @@ completed words n plan =
     else pattern_word n (slice_get words n) plan.help plan
 
 -- the plan of the words
-abbrev pub plan_of : List (List ℕ) → Reads GrepPlan
+unfoldable pub plan_of : List (List ℕ) → Reads GrepPlan
 plan_of words = options words 0 None unset >>= λ (plan, n). completed words n plan
 
 -- what a call answers at a fault, where it doesn't want memory
 abbrev pub Refuses : {A : Type 0} → Reads A → ArgError → Type 0
 Refuses read (Usage kind word) = read ≡ fault kind word
 Refuses read Memory = ⊤
-
-abbrev pub stopped_at : Stop → ℕ → ArgError
-stopped_at (stop.Usage kind) word = Usage kind word
-stopped_at stop.Memory word = Memory

@@ -1,7 +1,8 @@
 //! What each option does to the plan.
 ghost use Rattle.std.specs.Prelude.{◌≡◌, OnOk, IfOk, IfErr, Ok, Err};
 ghost use Rattle.std.specs.Str.{str_eq_ignore_ascii_case};
-ghost use Rattle.grep_args.specs.Effects.{switched, plain_effect, offsets_shown, group_shown, group_effect, ranged, binary_of, newline_of, number_effect, value_effect, Stops};
+ghost use Rattle.grep_args.specs.Effects.{switched, plain_effect, offsets_shown, group_shown, group_effect, ranged, binary_of, newline_of, number_effect, value_effect};
+ghost use Rattle.grep_args.specs.Stopping.{Stops};
 
 use crate::numbers::number;
 use crate::options::{Flag, NumberOption, PlainOption, ValuedOption};

@@ -2,7 +2,7 @@
 ghost use Rattle.std.specs.Prelude.{◌≡◌, ◌<◌, length, drop, slice_index, IfOk, IfErr, Ok, Err, Some};
 ghost use Rattle.grep_args.specs.declared.plan.GrepPlan.{GrepPlan};
 ghost use Rattle.grep_args.specs.Words.{Taken, letter, letters, starts_with_digit, Refuses};
-ghost use Rattle.grep_args.specs.Rests.{followed};
+ghost use Rattle.grep_args.specs.Steps.{followed};
 
 use crate::effects::{show_group, take_group, take_plain, take_value};
 use crate::options::{GrepOption, ValuedOption};

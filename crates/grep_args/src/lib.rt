@@ -12,8 +12,7 @@ mod table;
 mod usage;
 mod words;
 
-pub use laws::{worked_faults, worked_plans};
-pub use options::{Flag, GrepOption, NumberOption, PlainOption, ValuedOption};
+pub use laws::{last_values_count, offsets_exclude_groups, worked_faults, worked_plans};
 pub use plan::{BinaryMode, GrepPlan, HelpKind, NameMode, OffsetMode};
 pub use reading::read;
 pub use usage::{ArgError, UsageKind};

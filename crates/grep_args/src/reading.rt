@@ -76,6 +76,7 @@ fn complete(
 /// What the words of pcre2grep ask for, which stand after the tool's name (pcre2grep, "OPTIONS" and "OPTIONS WITH DATA").
 ///
 /// Without a plan, the first word at fault is told, or memory was wanting.
+#[tactic(auto, unfolding(crate::specs::Words::plan_of))]
 pub fn read(alloc: Global, words: &[String]) -> Result<GrepPlan, ArgError>
     ensures plan { IfOk result (λ plan. plan_of (map string_bytes words.now) ≡ Ok plan) }
     ensures fault { IfErr result (Refuses (plan_of (map string_bytes words.now))) }

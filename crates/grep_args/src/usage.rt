@@ -1,6 +1,6 @@
 //! Faults in the words.
 ghost use Rattle.std.specs.Prelude.{◌≡◌};
-ghost use Rattle.grep_args.specs.Words.{stopped_at};
+ghost use Rattle.grep_args.specs.Stopping.{stopped_at};
 ghost use Rattle.grep_args.specs.declared.usage.ArgError.TheVariants as answer;
 ghost use Rattle.grep_args.specs.declared.usage.Stop.TheVariants as stop;
 
@@ -41,7 +41,7 @@ pub enum Stop {
 
 impl UsageKind {
     /// The fault of this kind in a word.
-    pub fn at(self, word: usize) -> ArgError
+    pub(crate) fn at(self, word: usize) -> ArgError
         ensures { result ≡ ArgError.Usage self word }
     {
         ArgError::Usage { kind: self, word }
@@ -50,7 +50,7 @@ impl UsageKind {
 
 impl Stop {
     /// The same with the word that is at fault.
-    pub fn at(self, word: usize) -> ArgError
+    pub(crate) fn at(self, word: usize) -> ArgError
         ensures { result ≡ stopped_at self word }
     {
         match self {

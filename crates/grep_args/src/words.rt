@@ -5,7 +5,7 @@ ghost use Rattle.std.specs.Option.{option_copied};
 ghost use Rattle.grep_args.specs.declared.options.ValuedOption.{ValuedOption};
 ghost use Rattle.grep_args.specs.declared.plan.GrepPlan.{GrepPlan};
 ghost use Rattle.grep_args.specs.Words.{Reads, Opted, is_equals, joined_value, long, long_option, option_in, options, word_of, Refuses};
-ghost use Rattle.grep_args.specs.Rests.{word_seen, followed_by};
+ghost use Rattle.grep_args.specs.Steps.{word_seen, followed_by};
 
 use crate::effects::{show_group, take_group, take_plain, take_value};
 use crate::letters::letters;

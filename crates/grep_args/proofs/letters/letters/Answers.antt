@@ -1,6 +1,6 @@
 use Rattle.std.proofs.Common.{sym, ◌∙◌, ap, slice_get}
 use Rattle.grep_args.specs.Words.{letters}
-use Rattle.grep_args.proofs.Steps.{letters_step, refuses_as}
+use Rattle.grep_args.proofs.Stepping.{letters_step, refuses_as}
 use Rattle.grep_args.proofs.letters.letters.Goals as goal
 
 pub returns-in-Err-clause-fault : goal.returns-in-Err-clause-fault

@@ -8,6 +8,7 @@ use Rattle.grep_args.proofs.Keeping.{plan_within_limits}
 use Rattle.grep_args.proofs.reading.read.Goals as goal
 
 pub returns-in-Ok-clause-plan : goal.returns-in-Ok-clause-plan
+unfolding plan_of
 returns-in-Ok-clause-plan c = search rules
 
 pub returns-in-Ok-clause-limits : goal.returns-in-Ok-clause-limits

@@ -2,7 +2,7 @@ use Rattle.std.proofs.Common.{lit<, sym, cond, Some, None, ap}
 use Rattle.std.proofs.lemmas.Str.Pattern.{split_once_first}
 use Rattle.std.specs.List.{after_first}
 use Rattle.grep_args.specs.Words.{is_equals}
-use Rattle.grep_args.proofs.Steps.{list_any_past}
+use Rattle.grep_args.proofs.Stepping.{list_any_past}
 use Rattle.grep_args.proofs.words.name_and_value.Goals as goal
 
 pub returns-in-None-clause-value : goal.returns-in-None-clause-value

@@ -1,7 +1,7 @@
 use Rattle.std.proofs.Common.{sym, ◌∙◌, ap, map, drop, ◌+◌}
 use Rattle.std.specs.String.{string_bytes}
 use Rattle.grep_args.specs.Words.{options}
-use Rattle.grep_args.proofs.Steps.{map_drop, refuses_as}
+use Rattle.grep_args.proofs.Stepping.{map_drop, refuses_as}
 use Rattle.grep_args.proofs.words.options.Goals as goal
 
 pub returns-in-Err-clause-fault : goal.returns-in-Err-clause-fault

@@ -1,4 +1,4 @@
--- What comes after an option's letter in its word.
+-- What a step of the reading leaves to the next ones.
 use Rattle.std.specs.Prelude.{ℕ, ◌+◌, Option, Ok}
 use Rattle.grep_args.specs.declared.plan.GrepPlan.{GrepPlan}
 use Rattle.grep_args.specs.declared.letters.Rest.{Rest}
