@@ -16,3 +16,6 @@ pub use laws::{last_values_count, offsets_exclude_groups, worked_faults, worked_
 pub use plan::{BinaryMode, GrepPlan, HelpKind, NameMode, OffsetMode};
 pub use reading::read;
 pub use usage::{ArgError, UsageKind};
+
+#[cfg(test)]
+mod tests;
