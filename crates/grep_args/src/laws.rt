@@ -49,8 +49,7 @@ pub fn last_values_count()
         → in_turn (plain_effect (Binary first)) (plain_effect (Binary last)) plan ≡ plain_effect (Binary last) plan }
     ensures context { (text : List ℕ) (plan : GrepPlan)
         → number_effect Context text plan ≡ in_turn (number_effect AfterContext text) (number_effect BeforeContext text) plan }
-{
-}
+{}
 
 /// Of `-o`, `--line-offsets` and `--file-offsets` each excludes the others.
 pub fn offsets_exclude_groups()
@@ -62,5 +61,4 @@ pub fn offsets_exclude_groups()
         → plain_effect (Offsets File) plan ≡ Ok after → group_shown n after ≡ Err Exclude }
     ensures modes { (plan after : GrepPlan)
         → plain_effect (Offsets Lines) plan ≡ Ok after → plain_effect (Offsets File) after ≡ Err Exclude }
-{
-}
+{}
