@@ -55,10 +55,12 @@ pub fn last_values_count()
 pub fn offsets_exclude_groups()
     ensures groups { (n : ℕ) (mode : OffsetMode) (plan after : GrepPlan) → group_shown n plan ≡ Ok after
         → plain_effect (Offsets mode) after ≡ Err Exclude }
-    ensures offsets { (n : ℕ) (plan after : GrepPlan)
+    ensures lines { (n : ℕ) (plan after : GrepPlan)
         → plain_effect (Offsets Lines) plan ≡ Ok after → group_shown n after ≡ Err Exclude }
     ensures files { (n : ℕ) (plan after : GrepPlan)
         → plain_effect (Offsets File) plan ≡ Ok after → group_shown n after ≡ Err Exclude }
-    ensures modes { (plan after : GrepPlan)
+    ensures files_after_lines { (plan after : GrepPlan)
         → plain_effect (Offsets Lines) plan ≡ Ok after → plain_effect (Offsets File) after ≡ Err Exclude }
+    ensures lines_after_files { (plan after : GrepPlan)
+        → plain_effect (Offsets File) plan ≡ Ok after → plain_effect (Offsets Lines) after ≡ Err Exclude }
 {}

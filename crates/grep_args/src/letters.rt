@@ -45,8 +45,10 @@ fn letter(
     option: GrepOption,
     rest: &str,
 ) -> Result<Rest, ArgError>
-    ensures ok { IfOk result (λ step. (others : GrepPlan → Taken) → letter word rest.now others (Some option) plan.old ≡ followed step others plan.new) }
-    ensures fault { IfErr result (λ error. (others : GrepPlan → Taken) → Refuses (letter word rest.now others (Some option) plan.old) error) }
+    ensures ok { IfOk result (λ step. (others : GrepPlan → Taken)
+        → letter word rest.now others (Some option) plan.old ≡ followed step others plan.new) }
+    ensures fault { IfErr result (λ error. (others : GrepPlan → Taken)
+        → Refuses (letter word rest.now others (Some option) plan.old) error) }
 {
     match option {
         GrepOption::Plain(option) => {

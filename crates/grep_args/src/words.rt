@@ -137,8 +137,10 @@ enum Outcome {
 /// A word in whose place an option may stand, after n words.
 fn option_in(alloc: Global, plan: &mut GrepPlan, n: usize, text: &str) -> Result<Outcome, ArgError>
     requires { n < usize.MAX }
-    ensures ok { IfOk result (λ outcome. (others : ℕ → Option ValuedOption → GrepPlan → Opted) → option_in n (word_of text.now) others plan.old ≡ followed_by n outcome others plan.new) }
-    ensures fault { IfErr result (λ error. (others : ℕ → Option ValuedOption → GrepPlan → Opted) → Refuses (option_in n (word_of text.now) others plan.old) error) }
+    ensures ok { IfOk result (λ outcome. (others : ℕ → Option ValuedOption → GrepPlan → Opted)
+        → option_in n (word_of text.now) others plan.old ≡ followed_by n outcome others plan.new) }
+    ensures fault { IfErr result (λ error. (others : ℕ → Option ValuedOption → GrepPlan → Opted)
+        → Refuses (option_in n (word_of text.now) others plan.old) error) }
 {
     match word_of(text) {
         Word::Operand => Ok(Outcome::Ends(n)),
@@ -163,8 +165,10 @@ fn next_word(
     text: &str,
 ) -> Result<Outcome, ArgError>
     requires { n < usize.MAX }
-    ensures ok { IfOk result (λ outcome. (words : List (List ℕ)) → options (text.now ∷ words) n awaited plan.old ≡ followed_by n outcome (options words) plan.new) }
-    ensures fault { IfErr result (λ error. (words : List (List ℕ)) → Refuses (options (text.now ∷ words) n awaited plan.old) error) }
+    ensures ok { IfOk result (λ outcome. (words : List (List ℕ))
+        → options (text.now ∷ words) n awaited plan.old ≡ followed_by n outcome (options words) plan.new) }
+    ensures fault { IfErr result (λ error. (words : List (List ℕ))
+        → Refuses (options (text.now ∷ words) n awaited plan.old) error) }
 {
     match awaited {
         Some(option) => {
