@@ -1,0 +1,4 @@
+pub mod Absent
+pub mod Stepping
+pub mod Keeping
+pub mod Lasting

@@ -1,0 +1,90 @@
+//! The plan of the words.
+ghost use Rattle.std.specs.Prelude.{◌≡◌, map, string_bytes, IfOk, IfErr, Ok};
+ghost use Rattle.grep_args.specs.Effects.{unset};
+ghost use Rattle.grep_args.specs.Limits.{IsWithinLimits};
+ghost use Rattle.grep_args.specs.Words.{plan_of, completed, Refuses};
+
+use crate::effects::{bytes_of, name_of};
+use crate::plan::{BinaryMode, GrepPlan, NameMode, OffsetMode};
+use crate::usage::{ArgError, UsageKind};
+use crate::words::options;
+use pat_tree::{ByteList, Newline, NumberList, TextList};
+use pcre_io::NameList;
+use std::alloc::{AllocError, Global};
+
+/// The plan of no options.
+fn unset(alloc: Global) -> Result<GrepPlan, AllocError>
+    ensures { IfOk result (λ plan. plan ≡ unset) }
+{
+    Ok(GrepPlan {
+        patterns: TextList::new(alloc),
+        pattern_files: NameList::new(alloc),
+        files_from: 0,
+        after_context: 0,
+        before_context: 0,
+        binary: BinaryMode::Binary,
+        names: NameMode::Auto,
+        label: name_of(alloc, "(standard input)")?,
+        only_matching: NumberList::new(alloc),
+        om_separator: ByteList::new(alloc),
+        offsets: OffsetMode::NoOffsets,
+        count: false,
+        total_count: false,
+        fixed_strings: false,
+        ignore_case: false,
+        utf: false,
+        line_number: false,
+        quiet: false,
+        no_messages: false,
+        invert_match: false,
+        word_regex: false,
+        line_regex: false,
+        match_limit: 10_000_000,
+        frame_limit: 10_000_000,
+        max_buffer_size: 1_048_576,
+        max_count: None,
+        newline: Newline::Lf,
+        help: None,
+    })
+}
+
+/// The pattern, where no option gives one, and where the files begin, after n words that are the options.
+fn complete(
+    alloc: Global,
+    mut plan: GrepPlan,
+    words: &[String],
+    n: usize,
+) -> Result<GrepPlan, ArgError>
+    ensures ok { IfOk result (λ whole. completed (map string_bytes words.now) n plan ≡ Ok whole) }
+    ensures fault { IfErr result (Refuses (completed (map string_bytes words.now) n plan)) }
+{
+    plan.files_from = n;
+    if plan.patterns.len() > 0 || plan.pattern_files.len() > 0 {
+        return Ok(plan);
+    }
+    match words.get(n) {
+        Some(pattern) => {
+            plan.patterns.push(bytes_of(alloc, pattern.as_str())?)?;
+            plan.files_from = n + 1;
+            Ok(plan)
+        }
+        None if plan.help.is_none() => Err(UsageKind::NoPattern.at(n)),
+        None => Ok(plan),
+    }
+}
+
+/// What the words of pcre2grep ask for, which stand after the tool's name (pcre2grep, "OPTIONS" and "OPTIONS WITH DATA").
+///
+/// Without a plan, the first word at fault is told, or memory was wanting.
+#[tactic(auto, unfolding(crate::specs::Words::plan_of))]
+pub fn read(alloc: Global, words: &[String]) -> Result<GrepPlan, ArgError>
+    ensures plan { IfOk result (λ plan. plan_of (map string_bytes words.now) ≡ Ok plan) }
+    ensures fault { IfErr result (Refuses (plan_of (map string_bytes words.now))) }
+    ensures limits { IfOk result IsWithinLimits }
+{
+    let mut plan = unset(alloc)?;
+    match options(alloc, &mut plan, words) {
+        Ok(n) => complete(alloc, plan, words, n),
+        Err(error) => Err(error),
+    }
+}
