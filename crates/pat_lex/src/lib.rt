@@ -1,0 +1,14 @@
+//! The tokens of a pattern.
+#![tactic(auto)]
+
+mod bytes;
+mod comments;
+mod fault;
+mod names;
+mod targets;
+mod token;
+
+pub use fault::Fault;
+pub use token::{
+    CondText, LexFlags, OpenKind, OptionMask, QuantMode, StartItem, Target, Token, VerbKind,
+};
