@@ -1,8 +1,10 @@
 -- The number that digits write, with a ceiling.
-use Rattle.std.proofs.Common.{◌≡◌, ℕ, ◌+◌, ◌*◌, ◌^◌, ◌<◌, ◌≤◌, min, List, [], ◌∷◌, length, get_or, drop, fold, refl, sym, ap, ◌∙◌, arith, ◌⊎◌, inl, inr}
+use Rattle.std.proofs.Common.{◌≡◌, ℕ, ◌+◌, ◌*◌, ◌^◌, ◌<◌, ◌≤◌, ◌-◌, min, List, [], ◌∷◌, length, get_or, drop, fold, slice_range, length-take, refl, sym, ap, ◌∙◌, arith, ◌⊎◌, inl, inr}
 use Rattle.std.proofs.lemmas.List.{at_drop_more, at_drop_all}
 use Rattle.std.proofs.lemmas.Bool.{cases_lt}
 use Rattle.std.proofs.Math.Nat.{mul-le-mul_left}
+use Rattle.std.proofs.lemmas.Bool.Decides.{nat_tests}
+use Rattle.pat_lex.specs.Bytes.{numeral}
 use Rattle.std.specs.Char.{digit_value}
 
 abbrev pub push : ℕ → ℕ → ℕ → ℕ
@@ -33,3 +35,20 @@ digit_more radix n some cs i within =
 
 pub digits_all : (radix n : ℕ) (cs : List ℕ) (i : ℕ) → length cs ≤ i → fold (push radix) n (drop i cs) ≡ n
 digits_all radix n cs i past = at_drop_all (fold (push radix) n) cs i past
+
+digit_small : (c : ℕ) → digit_value c ≤ 36
+digit_small c = grind (arith, nat_tests)
+
+two_digits : (cs : List ℕ) → length cs ≤ 2 → fold (push 16) 0 cs ≤ 612
+two_digits [] short = omega arith
+two_digits (c ∷ []) short = omega (arith, digit_small c)
+two_digits (c ∷ d ∷ []) short = omega (arith, digit_small c, digit_small d)
+two_digits (c ∷ d ∷ e ∷ cs) short = absurd (omega arith)
+
+-- Two hexadecimal digits write a small number.
+pub numeral_small : (text : List ℕ) (from to : ℕ) → to ≤ from + 2 → numeral text 16 from to ≤ 612
+unfolding numeral
+numeral_small text from to short =
+    let cs = slice_range text from to in
+    let few : length cs ≤ 2 = omega (arith, length-take (to - from) (drop from text)) in
+    omega (arith, two_digits cs few)

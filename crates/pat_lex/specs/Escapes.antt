@@ -59,6 +59,10 @@ abbrev pub listed : Option Token → ℕ → Lexed → Lexed
 listed (Some token) after rest = Ok (token, after)
 listed None after rest = rest
 
+-- the greatest code of a character
+abbrev pub greatest : LexFlags → ℕ
+greatest flags = if flags.utf then 0x10_FFFF else 255
+
 module _ (text : List ℕ) where
   -- `\cx`: a small letter is made capital, and bit 6 of the code is inverted
   unfoldable pub control : ℕ → Lexed
@@ -67,14 +71,19 @@ module _ (text : List ℕ) where
     | Some c ↦ if is_in_range 32 126 c then Ok (Literal (bit_xor (to_ascii_uppercase c) 64), at + 3) else fault 102 at
   ]
 
-  -- `\p` or `\P`: one letter, or a name in braces, negated by a `^` before it ("Unicode character properties")
-  unfoldable pub property : Bool → ℕ → Lexed
-  property not_in at =
-      let from = if is_at text "^" (at + 3) then at + 4 else at + 3 in
+  -- a property whose name begins at a place and goes to a brace
+  unfoldable pub property_named : ℕ → ℕ → Bool → Lexed
+  property_named at from is_outside =
       let to = run_end text (λ c. not (c ∈ "}")) from in
-      let outside_it = if is_at text "^" (at + 3) then not not_in else not_in in
-      if is_at text "{" (at + 2) then (if is_at text "}" to then Ok (Property from to outside_it, to + 1) else fault 146 at)
-      else if passes_at text is_ascii_alphabetic (at + 2) then Ok (Property (at + 2) (at + 3) not_in, at + 3)
+      if is_at text "}" to then Ok (Property from to is_outside, to + 1) else fault 146 at
+
+  -- `\p`, or `\P` for the characters outside: one letter, or a name in braces, which a `^` before it turns round ("Unicode
+  -- character properties")
+  unfoldable pub property : Bool → ℕ → Lexed
+  property is_outside at =
+      if is_at text "{" (at + 2)
+      then (if is_at text "^" (at + 3) then property_named at (at + 4) (not is_outside) else property_named at (at + 3) is_outside)
+      else if passes_at text is_ascii_alphabetic (at + 2) then Ok (Property (at + 2) (at + 3) is_outside, at + 3)
       else fault 146 at
 
   -- a newline's opposite; a brace after it must begin a quantifier
@@ -83,23 +92,19 @@ module _ (text : List ℕ) where
       if is_at text "{" (at + 2) && not (is_counted text (at + 2)) then fault 195 at else Ok (NotNewline, at + 2)
 
   module _ (flags : LexFlags) where
-    -- the greatest code of a character
-    abbrev pub greatest : ℕ
-    greatest = if flags.utf then 0x10_FFFF else 255
-
     -- up to three octal digits from the place on
     unfoldable pub octal : ℕ → ℕ → Lexed
     octal at from =
         let to = min (digits_end text 8 from) (from + 3) in
         let code = numeral text 8 from to in
-        if nat_lt greatest code then fault 134 at else Ok (Literal code, to)
+        if nat_lt (greatest flags) code then fault 134 at else Ok (Literal code, to)
 
     -- digits between braces, from the place after the first
     unfoldable pub braced : ℕ → ℕ → Lexed
     braced radix at =
         let to = digits_end text radix (at + 3) in
         let code = numeral text radix (at + 3) to in
-        if nat_lt greatest code then fault 134 at
+        if nat_lt (greatest flags) code then fault 134 at
         else if to == at + 3 || not (is_at text "}" to) then fault 135 at
         else if flags.utf && is_in_range 0xD800 0xDFFF code then fault 173 at
         else Ok (Literal code, to + 1)
@@ -124,9 +129,9 @@ module _ (text : List ℕ) where
     numbered_escape at =
         let to = digits_end text 10 (at + 1) in
         let n = numeral text 10 (at + 1) to in
-        if nat_lt n 10 || (is_at text "89" (at + 1) || nat_le n flags.groups)
-        then (if nat_lt 65535 n then fault 161 at else Ok (Reference (Number n), to))
-        else octal at (at + 1)
+        if not (nat_lt n 10 || (is_at text "89" (at + 1) || nat_le n flags.groups)) then octal at (at + 1)
+        else if nat_lt 65535 n then fault 161 at
+        else Ok (Reference (Number n), to)
 
     -- the escapes that go on after their letter
     unfoldable pub longer : ℕ → ℕ → Lexed
@@ -140,7 +145,7 @@ module _ (text : List ℕ) where
         else if c ∈ "k" then name_escape text at
         else if c ∈ "N" then not_newline at
         else if c ∈ "CXLlUu" then fault 195 at
-        else if is_ascii_alphanumeric c then fault 103 at
+        else if is_ascii_alphabetic c then fault 103 at
         else Ok (Literal c, at + 2)
 
     unfoldable pub escape : ℕ → Lexed

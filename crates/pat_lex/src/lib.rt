@@ -3,8 +3,10 @@
 
 mod bytes;
 mod comments;
+mod escapes;
 mod fault;
 mod names;
+mod quantifiers;
 mod targets;
 mod token;
 

@@ -9,7 +9,7 @@ use crate::names::name_end;
 use crate::token::{Target, Token};
 
 /// The greatest number of a group.
-const GREATEST_GROUP: u64 = 65_535;
+pub(crate) const GREATEST_GROUP: u64 = 65_535;
 
 /// Past a sign.
 #[tactic(auto, unfolding(crate::specs::Targets::digits_start))]
