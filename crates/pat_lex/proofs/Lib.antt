@@ -1,4 +1,6 @@
 pub mod Runs
+pub mod Strings
+pub mod Marks
 pub mod Standing
 pub mod Places
 pub mod Numerals

@@ -1,5 +1,5 @@
 -- Classes (pcre2pattern, "Square brackets and character classes", "POSIX character classes").
-use Rattle.std.specs.Prelude.{ℕ, ◌+◌, Bool, true, false, ◌&&◌, ◌||◌, ◌==◌, List, [], ◌∷◌, drop, Option, Some, None, Ok, slice_get, slice_range, if◌then◌else◌, codes}
+use Rattle.std.specs.Prelude.{ℕ, ◌+◌, Bool, true, false, not, ◌&&◌, ◌||◌, ◌==◌, List, [], ◌∷◌, drop, Option, Some, None, Ok, slice_get, slice_range, if◌then◌else◌, codes}
 use Rattle.std.specs.Str.{bytes_eq}
 use Rattle.std.specs.Char.{is_ascii_alphanumeric}
 use Rattle.pat_tree.specs.declared.nodes.SetName.{SetName}
@@ -58,11 +58,13 @@ module _ (text : List ℕ) where
   -- a POSIX item whose second mark is given
   unfoldable pub posix : ℕ → ℕ → Lexed
   posix at to =
-      let negated = is_at text "^" (at + 2) in
-      let name = slice_range text (if negated then at + 3 else at + 2) to in
-      if is_at text ":" (at + 1)
-      then (elim (posix_set name) [ Some set ↦ Ok (Set set negated, to + 2) | None ↦ fault 130 at ])
-      else fault 113 at
+      let name = slice_range text (at + 2) to in
+      let negated = is_at name "^" 0 in
+      if not (is_at text ":" (at + 1)) then fault 113 at
+      else (elim (if negated then posix_set (drop 1 name) else posix_set name) [
+        Some set ↦ Ok (Set set negated, to + 2)
+        | None ↦ fault 130 at
+      ])
 
   -- `[` in a class
   unfoldable pub bracket : ℕ → Lexed

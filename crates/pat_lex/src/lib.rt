@@ -2,6 +2,8 @@
 #![tactic(auto)]
 
 mod bytes;
+mod callouts;
+mod classes;
 mod comments;
 mod escapes;
 mod fault;
