@@ -59,11 +59,10 @@ module _ (text : List ℕ) where
   -- `(?^` unsets i, m, n, s and x first; no hyphen follows it
   unfoldable pub setting : ℕ → Lexed
   setting at =
-      let reset = is_at text "^" (at + 2) in
-      let from = if reset then at + 3 else at + 2 in
-      let to = letters_end from in
-      let end = letters_end (to + 1) in
-      let set = slice_range text from to in
-      if is_at text "-" to && not reset
-      then setting_closed at reset set (slice_range text (to + 1) end) end
-      else setting_closed at reset set [] to
+      let to = letters_end (at + 2) in
+      let after_caret = letters_end (at + 3) in
+      let after_hyphen = letters_end (to + 1) in
+      let set = slice_range text (at + 2) to in
+      if is_at text "^" (at + 2) then setting_closed at true (slice_range text (at + 3) after_caret) [] after_caret
+      else if is_at text "-" to then setting_closed at false set (slice_range text (to + 1) after_hyphen) after_hyphen
+      else setting_closed at false set [] to

@@ -5,10 +5,12 @@ mod bytes;
 mod callouts;
 mod classes;
 mod comments;
+mod conditions;
 mod escapes;
 mod fault;
 mod names;
 mod quantifiers;
+mod settings;
 mod targets;
 mod token;
 
