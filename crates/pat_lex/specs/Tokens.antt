@@ -10,11 +10,11 @@ use Rattle.pat_lex.specs.Escapes.{escape}
 use Rattle.pat_lex.specs.Classes.{class_start, in_class}
 use Rattle.pat_lex.specs.Groups.{group}
 
-module _ (text : List ℕ) (flags : LexFlags) where
-  -- between `\Q` and `\E` ("Backslash")
-  unfoldable pub quoted : ℕ → ℕ → Lexed
-  quoted c at = if c ∈ "\\" && is_at text "E" (at + 1) then Ok (QuoteOff, at + 2) else Ok (Literal c, at + 1)
+-- between `\Q` and `\E` ("Backslash")
+unfoldable pub quoted : List ℕ → ℕ → ℕ → Lexed
+quoted text c at = if c ∈ "\\" && is_at text "E" (at + 1) then Ok (QuoteOff, at + 2) else Ok (Literal c, at + 1)
 
+module _ (text : List ℕ) (flags : LexFlags) where
   -- a quantifier, a blank or a character
   unfoldable pub rest : ℕ → ℕ → Lexed
   rest c at =
@@ -42,7 +42,7 @@ module _ (text : List ℕ) (flags : LexFlags) where
   token_at at = elim (slice_get text at) [
     None ↦ Ok (End, at)
     | Some c ↦
-      if flags.quoting then quoted c at
+      if flags.quoting then quoted text c at
       else if flags.in_class then in_class text flags c at
       else plain c at
   ]

@@ -8,13 +8,17 @@ mod comments;
 mod conditions;
 mod escapes;
 mod fault;
+mod groups;
+mod lexer;
 mod names;
 mod quantifiers;
 mod settings;
 mod targets;
 mod token;
+mod verbs;
 
 pub use fault::Fault;
+pub use lexer::next_token;
 pub use token::{
     CondText, LexFlags, OpenKind, OptionMask, QuantMode, StartItem, Target, Token, VerbKind,
 };
