@@ -1,5 +1,6 @@
 pub mod Runs
 pub mod Strings
+pub mod Lines
 pub mod Moving
 pub mod Letters
 pub mod Marks

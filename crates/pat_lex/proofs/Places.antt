@@ -1,9 +1,8 @@
 -- The first place that passes a test, a place at a time.
 use Rattle.std.proofs.Common.{◌≡◌, ℕ, suc, ◌+◌, ◌-◌, ◌<◌, ◌≤◌, Bool, true, false, ltb, eqb, eq-eqb, ne_eqb, ◌≢◌, List, length, sym, ap, ◌∙◌, arith}
 use Rattle.std.proofs.lemmas.Bool.{lt-ltb}
-use Rattle.pat_tree.specs.declared.options.Newline.{Newline}
 use Rattle.pat_lex.specs.declared.token.LexFlags.{LexFlags}
-use Rattle.pat_lex.specs.Comments.{first_place, newline_len, first_newline, skip, blank_end, blanks_end}
+use Rattle.pat_lex.specs.Comments.{first_place, newline_at, first_newline, skip, blank_end, blanks_end}
 
 one_more : (n i : ℕ) → i < n → n - i ≡ suc (n - (i + 1))
 one_more n i more = omega arith
@@ -17,17 +16,17 @@ first_later n i test more fails = rw (one_more n i more, fails)
 first_nowhere : (n i : ℕ) (test : ℕ → Bool) → n ≤ i → first_place (n - i) test i ≡ i
 first_nowhere n i test past = let e : n - i ≡ 0 = omega arith in rw e
 
-pub newline_here : (text : List ℕ) (newline : Newline) (i : ℕ) → i < length text → 0 < newline_len text newline i → first_newline text newline i ≡ i
+pub newline_here : (text : List ℕ) (flags : LexFlags) (i : ℕ) → i < length text → 0 < newline_at text flags i → first_newline text flags i ≡ i
 unfolding first_newline
-newline_here text newline i more begins = first_here (length text) i (λ j. ltb 0 (newline_len text newline j)) more (lt-ltb 0 (newline_len text newline i) begins)
+newline_here text flags i more begins = first_here (length text) i (λ j. ltb 0 (newline_at text flags j)) more (lt-ltb 0 (newline_at text flags i) begins)
 
-pub newline_later : (text : List ℕ) (newline : Newline) (i : ℕ) → i < length text → newline_len text newline i ≡ 0 → first_newline text newline i ≡ first_newline text newline (i + 1)
+pub newline_later : (text : List ℕ) (flags : LexFlags) (i : ℕ) → i < length text → newline_at text flags i ≡ 0 → first_newline text flags i ≡ first_newline text flags (i + 1)
 unfolding first_newline
-newline_later text newline i more none = first_later (length text) i (λ j. ltb 0 (newline_len text newline j)) more (ap (ltb 0) none)
+newline_later text flags i more none = first_later (length text) i (λ j. ltb 0 (newline_at text flags j)) more (ap (ltb 0) none)
 
-pub newline_nowhere : (text : List ℕ) (newline : Newline) (i : ℕ) → length text ≤ i → first_newline text newline i ≡ i
+pub newline_nowhere : (text : List ℕ) (flags : LexFlags) (i : ℕ) → length text ≤ i → first_newline text flags i ≡ i
 unfolding first_newline
-newline_nowhere text newline i past = first_nowhere (length text) i (λ j. ltb 0 (newline_len text newline j)) past
+newline_nowhere text flags i past = first_nowhere (length text) i (λ j. ltb 0 (newline_at text flags j)) past
 
 pub skip_here : (text : List ℕ) (flags : LexFlags) (n turn i : ℕ) → turn < n → blank_end text flags i ≡ i → skip text flags (n - turn) i ≡ i
 skip_here text flags n turn i more stays = rw (one_more n turn more, eq-eqb (blank_end text flags i) i stays)

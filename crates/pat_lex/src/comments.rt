@@ -2,64 +2,33 @@
 //! "PCRE2_EXTENDED").
 ghost use Rattle.std.specs.Prelude.{◌≡◌, ◌+◌, ◌<◌, ◌≤◌, length};
 ghost use Rattle.pat_lex.specs.Tell.{IsSound};
-ghost use Rattle.pat_lex.specs.Comments.{is_newline, joins, newline_len, first_newline, line_end, comment, is_extended, is_white, blank_end, blanks_end};
+ghost use Rattle.pat_lex.specs.Comments.{newline_at, first_newline, line_end, comment, is_extended, is_white, blank_end, blanks_end};
 
 use crate::bytes::{Run, byte, run_end, stands};
 use crate::fault::{Fault, UNCLOSED_COMMENT};
 use crate::token::{LexFlags, Token};
-use pat_tree::Newline;
-
-/// Whether the byte is a newline alone.
-fn is_newline(newline: Newline, c: u8) -> bool
-    ensures { result ≡ is_newline newline c }
-{
-    match newline {
-        Newline::Cr => c == b'\r',
-        Newline::Lf => c == b'\n',
-        Newline::CrLf => false,
-        Newline::AnyCrLf => c == b'\n' || c == b'\r',
-        Newline::Any => (10 <= c && c <= 13) || c == 0x85,
-        Newline::Nul => c == 0,
-    }
-}
-
-/// Whether CR with LF after it is one newline.
-fn joins(newline: Newline) -> bool
-    ensures { result ≡ joins newline }
-{
-    matches!(newline, Newline::CrLf | Newline::AnyCrLf | Newline::Any)
-}
+use pat_tree::newline_at;
 
 /// How long the newline is that begins at the place; 0 where none does.
-#[tactic(auto, unfolding(crate::specs::Comments::newline_len))]
-fn newline_len(text: &[u8], newline: Newline, i: usize) -> usize
+#[tactic(auto, using(crate::proofs::Lines::longest_within), unfolding(crate::specs::Comments::newline_at))]
+fn newline_len(text: &[u8], flags: LexFlags, i: usize) -> usize
     requires { i ≤ length text.now }
-    ensures value { result ≡ newline_len text.now newline i }
+    ensures value { result ≡ newline_at text.now flags i }
     ensures within { i + result ≤ length text.now }
 {
-    let alone = match byte(text, i) {
-        Some(c) => is_newline(newline, c),
-        None => false,
-    };
-    if joins(newline) && (stands(text, b'\r', i) && stands(text, b'\n', i + 1)) {
-        2
-    } else if alone {
-        1
-    } else {
-        0
-    }
+    newline_at(text, i, flags.newline, flags.utf)
 }
 
 /// Where the first newline from the place on begins, or the end of the text.
 #[tactic(auto, using(crate::proofs::Places::newline_here, crate::proofs::Places::newline_later, crate::proofs::Places::newline_nowhere))]
-fn first_newline(text: &[u8], newline: Newline, from: usize) -> usize
+fn first_newline(text: &[u8], flags: LexFlags, from: usize) -> usize
     requires { from ≤ length text.now }
-    ensures value { result ≡ first_newline text.now newline from }
+    ensures value { result ≡ first_newline text.now flags from }
     ensures past { from ≤ result }
     ensures within { result ≤ length text.now }
 {
     for i in from..text.len() {
-        if newline_len(text, newline, i) > 0 {
+        if newline_len(text, flags, i) > 0 {
             return i;
         }
     }
@@ -68,14 +37,14 @@ fn first_newline(text: &[u8], newline: Newline, from: usize) -> usize
 
 /// Past the first newline from the place on, or the end of the text.
 #[tactic(auto, unfolding(crate::specs::Comments::line_end))]
-fn line_end(text: &[u8], newline: Newline, from: usize) -> usize
+fn line_end(text: &[u8], flags: LexFlags, from: usize) -> usize
     requires { from ≤ length text.now }
-    ensures value { result ≡ line_end text.now newline from }
+    ensures value { result ≡ line_end text.now flags from }
     ensures past { from ≤ result }
     ensures within { result ≤ length text.now }
 {
-    let i = first_newline(text, newline, from);
-    i + newline_len(text, newline, i)
+    let i = first_newline(text, flags, from);
+    i + newline_len(text, flags, i)
 }
 
 /// A comment from `(?#` to a closing parenthesis.
@@ -122,7 +91,7 @@ pub(crate) fn blank_end(text: &[u8], flags: LexFlags, i: usize) -> usize
     if white {
         i + 1
     } else if stands(text, b'#', i) {
-        line_end(text, flags.newline, i + 1)
+        line_end(text, flags, i + 1)
     } else {
         i
     }
