@@ -14,6 +14,6 @@ xx_more letters i more =
 
 pub xx_all : (letters : List ℕ) (i : ℕ) → length letters ≤ i + 1 → has_xx (drop i letters) ≡ false
 xx_all letters i past = elim (cases_lt i (length letters)) [
-  inl more ↦ rw (drop_more letters i 0 more, at_drop_all (λ rest. rest) letters (i + 1) past) refl
+  | inl more ↦ rw (drop_more letters i 0 more, at_drop_all (λ rest. rest) letters (i + 1) past) refl
   | inr none ↦ at_drop_all has_xx letters i none
 ]

@@ -1,5 +1,6 @@
 pub mod Runs
 pub mod Strings
+pub mod RowProofs
 pub mod Lines
 pub mod Moving
 pub mod Letters

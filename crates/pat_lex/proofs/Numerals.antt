@@ -21,10 +21,10 @@ grows radix some n (c ∷ cs) =
 
 capped : (radix : ℕ) → 0 < radix → (n : ℕ) (cs : List ℕ) → min (2 ^ 32) (fold (push radix) (min (2 ^ 32) n) cs) ≡ min (2 ^ 32) (fold (push radix) n cs)
 capped radix some n cs = elim (cases_lt (2 ^ 32) n) [
-  inl large ↦
-    let left = grows radix some (min (2 ^ 32) n) cs in
-    let right = grows radix some n cs in
-    omega (arith, left, right)
+  | inl large ↦
+      let left = grows radix some (min (2 ^ 32) n) cs in
+      let right = grows radix some n cs in
+      omega (arith, left, right)
   | inr small ↦ ap (λ m. min (2 ^ 32) (fold (push radix) m cs)) (omega arith)
 ]
 

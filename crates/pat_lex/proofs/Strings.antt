@@ -11,10 +11,10 @@ add_one_twice : (i : ℕ) → i + 1 + 1 ≡ i + 2
 add_one_twice i = omega arith
 
 pub string_more : (text : List ℕ) (close i : ℕ) → i < length text → string_end close i (drop i text) ≡
-  (if get_or text i 0 == close then (if stands text close (i + 1) then string_end close (i + 2) (drop (i + 2) text) else Some i)
-  else string_end close (i + 1) (drop (i + 1) text))
+    (if get_or text i 0 == close then (if stands text close (i + 1) then string_end close (i + 2) (drop (i + 2) text) else Some i)
+    else string_end close (i + 1) (drop (i + 1) text))
 string_more text close i more = elim (cases_lt (i + 1) (length text)) [
-  inl later ↦ rw (two_more text i later, drop_more text (i + 1) 0 later, passes_is text (λ d. d == close) (i + 1) later, add_one_twice i) refl
+  | inl later ↦ rw (two_more text i later, drop_more text (i + 1) 0 later, passes_is text (λ d. d == close) (i + 1) later, add_one_twice i) refl
   | inr none ↦ rw (drop_more text i 0 more, at_drop_all (λ rest. rest) text (i + 1) none, passes_past text (λ d. d == close) (i + 1) none) refl
 ]
 

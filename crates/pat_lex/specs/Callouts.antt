@@ -32,19 +32,19 @@ module _ (text : List ℕ) where
   -- A string of a text so long that a place in it is no number of 32 bits is refused.
   unfoldable pub string_callout : ℕ → ℕ → Lexed
   string_callout at opener = elim (string_end (closer opener) (at + 4) (drop (at + 4) text)) [
-    None ↦ fault 139 at
+    | None ↦ fault 139 at
     | Some to ↦
-      if nat_le (2 ^ 32) to then fault 120 0
-      else if is_at text ")" (to + 1) then Ok (CalloutItem 0 (at + 4) to, to + 2)
-      else fault 139 at
+        if nat_le (2 ^ 32) to then fault 120 0
+        else if is_at text ")" (to + 1) then Ok (CalloutItem 0 (at + 4) to, to + 2)
+        else fault 139 at
   ]
 
   -- `(?C`
   unfoldable pub callout : ℕ → Lexed
   callout at = elim (slice_get text (at + 3)) [
-    None ↦ fault 114 (length text)
+    | None ↦ fault 114 (length text)
     | Some c ↦
-      if is_ascii_digit c || c ∈ ")" then numbered_callout at
-      else if c ∈ "`'\"^%#${" then string_callout at c
-      else fault 139 at
+        if is_ascii_digit c || c ∈ ")" then numbered_callout at
+        else if c ∈ "`'\"^%#${" then string_callout at c
+        else fault 139 at
   ]

@@ -44,14 +44,14 @@ module _ (text : List ℕ) where
   -- where the second mark of `[:name:]`, `[.x.]` or `[=x=]` stands, if the bracket begins one
   unfoldable pub posix_end : ℕ → Option ℕ
   posix_end bracket = elim (slice_get text (bracket + 1)) [
-    None ↦ None
+    | None ↦ None
     | Some mark ↦ if mark ∈ ":.=" then mark_again mark (bracket + 2) (drop (bracket + 2) text) else None
   ]
 
   -- `[` outside a class
   unfoldable pub class_start : ℕ → Lexed
   class_start at = elim (posix_end at) [
-    Some to ↦ if is_at text ":" (at + 1) then fault 112 at else fault 113 at
+    | Some to ↦ if is_at text ":" (at + 1) then fault 112 at else fault 113 at
     | None ↦ if is_at text "^" (at + 1) then Ok (ClassStart true, at + 2) else Ok (ClassStart false, at + 1)
   ]
 
@@ -62,7 +62,7 @@ module _ (text : List ℕ) where
       let negated = is_at name "^" 0 in
       if not (is_at text ":" (at + 1)) then fault 113 at
       else (elim (if negated then posix_set (drop 1 name) else posix_set name) [
-        Some set ↦ Ok (Set set negated, to + 2)
+        | Some set ↦ Ok (Set set negated, to + 2)
         | None ↦ fault 130 at
       ])
 
@@ -87,7 +87,7 @@ module _ (text : List ℕ) where
 
     unfoldable pub class_escape : ℕ → Lexed
     class_escape at = elim (slice_get text (at + 1)) [
-      None ↦ fault 101 at
+      | None ↦ fault 101 at
       | Some c ↦ listed (everywhere c) (at + 2) (longer_in_class c at)
     ]
 

@@ -64,6 +64,6 @@ module _ (text : List ℕ) where
   -- `(?(`: before a lookaround, or a callout or a comment, only `(?` is taken
   unfoldable pub condition : ℕ → Lexed
   condition at = elim (slice_get text (at + 3)) [
-    None ↦ fault 114 (length text)
+    | None ↦ fault 114 (length text)
     | Some c ↦ if c ∈ "?" || c ∈ "*" then Ok (CondStart Lookaround (at + 2) (at + 2), at + 2) else test at
   ]

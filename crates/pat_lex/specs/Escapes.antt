@@ -67,7 +67,7 @@ module _ (text : List ℕ) where
   -- `\cx`: a small letter is made capital, and bit 6 of the code is inverted
   unfoldable pub control : ℕ → Lexed
   control at = elim (slice_get text (at + 2)) [
-    None ↦ fault 102 at
+    | None ↦ fault 102 at
     | Some c ↦ if is_in_range 32 126 c then Ok (Literal (bit_xor (to_ascii_uppercase c) 64), at + 3) else fault 102 at
   ]
 
@@ -150,6 +150,6 @@ module _ (text : List ℕ) where
 
     unfoldable pub escape : ℕ → Lexed
     escape at = elim (slice_get text (at + 1)) [
-      None ↦ fault 101 at
+      | None ↦ fault 101 at
       | Some c ↦ listed (everywhere c) (at + 2) (listed (outside c) (at + 2) (longer c at))
     ]

@@ -66,17 +66,17 @@ module _ (text : List ℕ) where
   -- `(?` and the byte after it
   unfoldable pub special : ℕ → ℕ → Lexed
   special c at = elim (opened_by c) [
-    Some kind ↦ Ok (Open kind, at + 3)
+    | Some kind ↦ Ok (Open kind, at + 3)
     | None ↦
-      if c ∈ "#" then comment text at
-      else if c ∈ "<" then angle at
-      else if c ∈ "'" then named_group at (at + 3) (byte "'")
-      else if c ∈ "P" then python at
-      else if c ∈ "&" then named_call text at (at + 3)
-      else if c ∈ "R" then whole_call at
-      else if c ∈ "C" then callout text at
-      else if c ∈ "(" then condition text at
-      else number_or_setting c at
+        if c ∈ "#" then comment text at
+        else if c ∈ "<" then angle at
+        else if c ∈ "'" then named_group at (at + 3) (byte "'")
+        else if c ∈ "P" then python at
+        else if c ∈ "&" then named_call text at (at + 3)
+        else if c ∈ "R" then whole_call at
+        else if c ∈ "C" then callout text at
+        else if c ∈ "(" then condition text at
+        else number_or_setting c at
   ]
 
   -- An asterisk with neither a letter nor a colon after it is a quantifier after `(`.

@@ -13,3 +13,4 @@ pub mod Callouts
 pub mod Verbs
 pub mod Groups
 pub mod Tokens
+pub mod Rows

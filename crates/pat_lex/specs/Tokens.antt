@@ -40,9 +40,9 @@ module _ (text : List ℕ) (flags : LexFlags) where
 
   unfoldable pub token_at : ℕ → Lexed
   token_at at = elim (slice_get text at) [
-    None ↦ Ok (End, at)
+    | None ↦ Ok (End, at)
     | Some c ↦
-      if flags.quoting then quoted text c at
-      else if flags.in_class then in_class text flags c at
-      else plain c at
+        if flags.quoting then quoted text c at
+        else if flags.in_class then in_class text flags c at
+        else plain c at
   ]

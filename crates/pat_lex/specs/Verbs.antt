@@ -92,7 +92,7 @@ module _ (text : List ℕ) where
   closed_word at to =
       let word = slice_range text (at + 2) to in
       elim (start_word word) [
-        Some item ↦ Ok (Start item, to + 1)
+        | Some item ↦ Ok (Start item, to + 1)
         | None ↦ elim (verb_word word) [ Some verb ↦ named_verb at verb to | None ↦ fault 160 at ]
       ]
 
@@ -101,9 +101,9 @@ module _ (text : List ℕ) where
   colon_word at to =
       let word = slice_range text (at + 2) to in
       elim (verb_word word) [
-        Some verb ↦ named_verb at verb (to + 1)
+        | Some verb ↦ named_verb at verb (to + 1)
         | None ↦ elim (group_word word) [
-          Some kind ↦ Ok (Open kind, to + 1)
+          | Some kind ↦ Ok (Open kind, to + 1)
           | None ↦ if is_script_run word then fault 195 at else fault 160 at
         ]
       ]

@@ -4,7 +4,9 @@ ghost use Rattle.pat_lex.specs.Tell.{IsSound};
 ghost use Rattle.pat_lex.specs.Callouts.{string_end, closer, numbered_callout, string_callout, callout};
 
 use crate::bytes::{Run, byte, numeral, run_end, stands};
-use crate::fault::{CALLOUT_NUMBER_TOO_BIG, Fault, MALFORMED_CALLOUT, PATTERN_TOO_LARGE, UNCLOSED_GROUP};
+use crate::fault::{
+    CALLOUT_NUMBER_TOO_BIG, Fault, MALFORMED_CALLOUT, PATTERN_TOO_LARGE, UNCLOSED_GROUP,
+};
 use crate::token::Token;
 
 /// Where the string that begins at a place ends: at the first delimiter that doesn't stand twice.
@@ -45,11 +47,24 @@ fn numbered_callout(text: &[u8], at: usize) -> Result<(Token, usize), Fault>
     let to = run_end(text, Run::Digits(10), at + 3);
     let number = numeral(text, 10, at + 3, to);
     if number > 255 {
-        Err(Fault { number: CALLOUT_NUMBER_TOO_BIG, at })
+        Err(Fault {
+            number: CALLOUT_NUMBER_TOO_BIG,
+            at,
+        })
     } else if stands(text, b')', to) {
-        Ok((Token::CalloutItem { number: number as u8, text_from: 0, text_to: 0 }, to + 1))
+        Ok((
+            Token::CalloutItem {
+                number: number as u8,
+                text_from: 0,
+                text_to: 0,
+            },
+            to + 1,
+        ))
     } else {
-        Err(Fault { number: MALFORMED_CALLOUT, at })
+        Err(Fault {
+            number: MALFORMED_CALLOUT,
+            at,
+        })
     }
 }
 
@@ -61,14 +76,30 @@ fn string_callout(text: &[u8], at: usize, opener: u8) -> Result<(Token, usize), 
     ensures sound { IsSound text.now at result }
 {
     let Some(to) = string_end(text, closer(opener), at + 4) else {
-        return Err(Fault { number: MALFORMED_CALLOUT, at });
+        return Err(Fault {
+            number: MALFORMED_CALLOUT,
+            at,
+        });
     };
     if to > u32::MAX as usize {
-        Err(Fault { number: PATTERN_TOO_LARGE, at: 0 })
+        Err(Fault {
+            number: PATTERN_TOO_LARGE,
+            at: 0,
+        })
     } else if stands(text, b')', to + 1) {
-        Ok((Token::CalloutItem { number: 0, text_from: (at + 4) as u32, text_to: to as u32 }, to + 2))
+        Ok((
+            Token::CalloutItem {
+                number: 0,
+                text_from: (at + 4) as u32,
+                text_to: to as u32,
+            },
+            to + 2,
+        ))
     } else {
-        Err(Fault { number: MALFORMED_CALLOUT, at })
+        Err(Fault {
+            number: MALFORMED_CALLOUT,
+            at,
+        })
     }
 }
 
@@ -80,9 +111,17 @@ pub(crate) fn callout(text: &[u8], at: usize) -> Result<(Token, usize), Fault>
     ensures sound { IsSound text.now at result }
 {
     match byte(text, at + 3) {
-        None => Err(Fault { number: UNCLOSED_GROUP, at: text.len() }),
+        None => Err(Fault {
+            number: UNCLOSED_GROUP,
+            at: text.len(),
+        }),
         Some(b'0'..=b'9' | b')') => numbered_callout(text, at),
-        Some(c @ (b'`' | b'\'' | b'"' | b'^' | b'%' | b'#' | b'$' | b'{')) => string_callout(text, at, c),
-        Some(_) => Err(Fault { number: MALFORMED_CALLOUT, at }),
+        Some(c @ (b'`' | b'\'' | b'"' | b'^' | b'%' | b'#' | b'$' | b'{')) => string_callout(
+            text, at, c,
+        ),
+        Some(_) => Err(Fault {
+            number: MALFORMED_CALLOUT,
+            at,
+        }),
     }
 }

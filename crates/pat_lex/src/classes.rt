@@ -105,9 +105,15 @@ pub(crate) fn class_start(text: &[u8], at: usize) -> Result<(Token, usize), Faul
     match posix_end(text, at) {
         Some(_) => {
             if stands(text, b':', at + 1) {
-                Err(Fault { number: POSIX_OUTSIDE, at })
+                Err(Fault {
+                    number: POSIX_OUTSIDE,
+                    at,
+                })
             } else {
-                Err(Fault { number: COLLATING_ELEMENT, at })
+                Err(Fault {
+                    number: COLLATING_ELEMENT,
+                    at,
+                })
             }
         }
         None => {
@@ -129,14 +135,24 @@ fn posix(text: &[u8], at: usize, to: usize) -> Result<(Token, usize), Fault>
     ensures sound { IsSound text.now at result }
 {
     if !stands(text, b':', at + 1) {
-        return Err(Fault { number: COLLATING_ELEMENT, at });
+        return Err(Fault {
+            number: COLLATING_ELEMENT,
+            at,
+        });
     }
     let name = &text[at + 2..to];
     let not = stands(name, b'^', 0);
-    let set = if not { posix_set(&name[1..]) } else { posix_set(name) };
+    let set = if not {
+        posix_set(&name[1..])
+    } else {
+        posix_set(name)
+    };
     match set {
         Some(set) => Ok((Token::Set { set, not }, to + 2)),
-        None => Err(Fault { number: UNKNOWN_POSIX_NAME, at }),
+        None => Err(Fault {
+            number: UNKNOWN_POSIX_NAME,
+            at,
+        }),
     }
 }
 
@@ -168,10 +184,19 @@ fn longer_in_class(text: &[u8], flags: LexFlags, c: u8, at: usize) -> Result<(To
         b'p' => property(text, false, at),
         b'P' => property(text, true, at),
         b'B' | b'R' | b'N' | b'X' | b'A' | b'Z' | b'z' | b'G' | b'K' | b'g' | b'k' => {
-            Err(Fault { number: NOT_IN_CLASS, at })
+            Err(Fault {
+                number: NOT_IN_CLASS,
+                at,
+            })
         }
-        b'C' | b'L' | b'l' | b'U' | b'u' => Err(Fault { number: LEFT_OUT, at }),
-        b'A'..=b'Z' | b'a'..=b'z' => Err(Fault { number: UNKNOWN_ESCAPE, at }),
+        b'C' | b'L' | b'l' | b'U' | b'u' => Err(Fault {
+            number: LEFT_OUT,
+            at,
+        }),
+        b'A'..=b'Z' | b'a'..=b'z' => Err(Fault {
+            number: UNKNOWN_ESCAPE,
+            at,
+        }),
         _ => Ok((Token::Literal(u32::from(c)), at + 2)),
     }
 }
@@ -184,7 +209,10 @@ fn class_escape(text: &[u8], flags: LexFlags, at: usize) -> Result<(Token, usize
     ensures sound { IsSound text.now at result }
 {
     let Some(c) = byte(text, at + 1) else {
-        return Err(Fault { number: BACKSLASH_AT_END, at });
+        return Err(Fault {
+            number: BACKSLASH_AT_END,
+            at,
+        });
     };
     if let Some(token) = everywhere(c) {
         return Ok((token, at + 2));
@@ -194,7 +222,12 @@ fn class_escape(text: &[u8], flags: LexFlags, at: usize) -> Result<(Token, usize
 
 /// The token in a class that begins with this byte.
 #[tactic(auto, unfolding(crate::specs::Classes::in_class))]
-pub(crate) fn in_class(text: &[u8], flags: LexFlags, c: u8, at: usize) -> Result<(Token, usize), Fault>
+pub(crate) fn in_class(
+    text: &[u8],
+    flags: LexFlags,
+    c: u8,
+    at: usize,
+) -> Result<(Token, usize), Fault>
     requires { at < length text.now }
     ensures value { result ≡ in_class text.now flags c at }
     ensures sound { IsSound text.now at result }

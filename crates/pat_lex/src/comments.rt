@@ -58,7 +58,10 @@ pub(crate) fn comment(text: &[u8], at: usize) -> Result<(Token, usize), Fault>
     if stands(text, b')', to) {
         Ok((Token::Passed, to + 1))
     } else {
-        Err(Fault { number: UNCLOSED_COMMENT, at: text.len() })
+        Err(Fault {
+            number: UNCLOSED_COMMENT,
+            at: text.len(),
+        })
     }
 }
 

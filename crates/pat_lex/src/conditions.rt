@@ -38,9 +38,19 @@ fn test_closed(text: &[u8], at: usize, cond: CondText, to: usize) -> Result<(Tok
     ensures sound { IsSound text.now at result }
 {
     if stands(text, b')', to) {
-        Ok((Token::CondStart { cond, from: at + 3, to }, to + 1))
+        Ok((
+            Token::CondStart {
+                cond,
+                from: at + 3,
+                to,
+            },
+            to + 1,
+        ))
     } else {
-        Err(Fault { number: MALFORMED_CONDITION, at })
+        Err(Fault {
+            number: MALFORMED_CONDITION,
+            at,
+        })
     }
 }
 
@@ -52,7 +62,12 @@ fn quoted_test(text: &[u8], at: usize, close: u8) -> Result<(Token, usize), Faul
     ensures sound { IsSound text.now at result }
 {
     let to = name_end(text, at, at + 4, close)?;
-    test_closed(text, at, CondText::Group(Target::Named { from: at + 4, to }), to + 1)
+    test_closed(
+        text,
+        at,
+        CondText::Group(Target::Named { from: at + 4, to }),
+        to + 1,
+    )
 }
 
 /// `R&name`
@@ -64,7 +79,14 @@ fn call_test(text: &[u8], at: usize) -> Result<(Token, usize), Fault>
 {
     let to = name_end(text, at, at + 5, b')')?;
     let cond = CondText::InCallOf(Target::Named { from: at + 5, to });
-    Ok((Token::CondStart { cond, from: at + 3, to }, to + 1))
+    Ok((
+        Token::CondStart {
+            cond,
+            from: at + 3,
+            to,
+        },
+        to + 1,
+    ))
 }
 
 /// `name`, `R`, `Rn` or `DEFINE`
@@ -76,7 +98,14 @@ fn bare_test(text: &[u8], at: usize) -> Result<(Token, usize), Fault>
 {
     let to = name_end(text, at, at + 3, b')')?;
     let cond = named_test(text, at + 3, to);
-    Ok((Token::CondStart { cond, from: at + 3, to }, to + 1))
+    Ok((
+        Token::CondStart {
+            cond,
+            from: at + 3,
+            to,
+        },
+        to + 1,
+    ))
 }
 
 /// `n`, `+n` or `-n`
@@ -100,7 +129,10 @@ fn test(text: &[u8], at: usize) -> Result<(Token, usize), Fault>
     if begins_number(text, at + 3) {
         numbered_test(text, at)
     } else if stands(text, b'+', at + 3) || stands(text, b'-', at + 3) {
-        Err(Fault { number: MALFORMED_CONDITION, at })
+        Err(Fault {
+            number: MALFORMED_CONDITION,
+            at,
+        })
     } else if stands(text, b'<', at + 3) {
         quoted_test(text, at, b'>')
     } else if stands(text, b'\'', at + 3) {
@@ -108,7 +140,10 @@ fn test(text: &[u8], at: usize) -> Result<(Token, usize), Fault>
     } else if begins(text, b"R&", at + 3) {
         call_test(text, at)
     } else if begins(text, b"VERSION=", at + 3) || begins(text, b"VERSION>", at + 3) {
-        Err(Fault { number: LEFT_OUT, at })
+        Err(Fault {
+            number: LEFT_OUT,
+            at,
+        })
     } else {
         bare_test(text, at)
     }
@@ -122,10 +157,20 @@ pub(crate) fn condition(text: &[u8], at: usize) -> Result<(Token, usize), Fault>
     ensures sound { IsSound text.now at result }
 {
     match byte(text, at + 3) {
-        None => Err(Fault { number: UNCLOSED_GROUP, at: text.len() }),
+        None => Err(Fault {
+            number: UNCLOSED_GROUP,
+            at: text.len(),
+        }),
         Some(b'?' | b'*') => {
             let cond = CondText::Lookaround;
-            Ok((Token::CondStart { cond, from: at + 2, to: at + 2 }, at + 2))
+            Ok((
+                Token::CondStart {
+                    cond,
+                    from: at + 2,
+                    to: at + 2,
+                },
+                at + 2,
+            ))
         }
         Some(_) => test(text, at),
     }

@@ -26,16 +26,46 @@ pub(crate) fn everywhere(c: u8) -> Option<Token>
         b'n' => Token::Literal(0x0A),
         b'r' => Token::Literal(0x0D),
         b't' => Token::Literal(0x09),
-        b'd' => Token::Set { set: SetName::Digit, not: false },
-        b'D' => Token::Set { set: SetName::Digit, not: true },
-        b's' => Token::Set { set: SetName::Space, not: false },
-        b'S' => Token::Set { set: SetName::Space, not: true },
-        b'w' => Token::Set { set: SetName::Word, not: false },
-        b'W' => Token::Set { set: SetName::Word, not: true },
-        b'h' => Token::Set { set: SetName::H, not: false },
-        b'H' => Token::Set { set: SetName::H, not: true },
-        b'v' => Token::Set { set: SetName::V, not: false },
-        b'V' => Token::Set { set: SetName::V, not: true },
+        b'd' => Token::Set {
+            set: SetName::Digit,
+            not: false,
+        },
+        b'D' => Token::Set {
+            set: SetName::Digit,
+            not: true,
+        },
+        b's' => Token::Set {
+            set: SetName::Space,
+            not: false,
+        },
+        b'S' => Token::Set {
+            set: SetName::Space,
+            not: true,
+        },
+        b'w' => Token::Set {
+            set: SetName::Word,
+            not: false,
+        },
+        b'W' => Token::Set {
+            set: SetName::Word,
+            not: true,
+        },
+        b'h' => Token::Set {
+            set: SetName::H,
+            not: false,
+        },
+        b'H' => Token::Set {
+            set: SetName::H,
+            not: true,
+        },
+        b'v' => Token::Set {
+            set: SetName::V,
+            not: false,
+        },
+        b'V' => Token::Set {
+            set: SetName::V,
+            not: true,
+        },
         b'Q' => Token::QuoteOn,
         b'E' => Token::QuoteOff,
         _ => return None,
@@ -76,10 +106,16 @@ fn control(text: &[u8], at: usize) -> Result<(Token, usize), Fault>
                 let code = c.to_ascii_uppercase() ^ 64;
                 Ok((Token::Literal(u32::from(code)), at + 3))
             } else {
-                Err(Fault { number: BAD_CONTROL, at })
+                Err(Fault {
+                    number: BAD_CONTROL,
+                    at,
+                })
             }
         }
-        None => Err(Fault { number: BAD_CONTROL, at }),
+        None => Err(Fault {
+            number: BAD_CONTROL,
+            at,
+        }),
     }
 }
 
@@ -97,9 +133,19 @@ pub(crate) fn property(text: &[u8], not: bool, at: usize) -> Result<(Token, usiz
             property_named(text, at, at + 3, not)
         }
     } else if is_letter(text, at + 2) {
-        Ok((Token::Property { from: at + 2, to: at + 3, not }, at + 3))
+        Ok((
+            Token::Property {
+                from: at + 2,
+                to: at + 3,
+                not,
+            },
+            at + 3,
+        ))
     } else {
-        Err(Fault { number: MALFORMED_PROPERTY, at })
+        Err(Fault {
+            number: MALFORMED_PROPERTY,
+            at,
+        })
     }
 }
 
@@ -115,7 +161,10 @@ fn property_named(text: &[u8], at: usize, from: usize, not: bool) -> Result<(Tok
     if stands(text, b'}', to) {
         Ok((Token::Property { from, to, not }, to + 1))
     } else {
-        Err(Fault { number: MALFORMED_PROPERTY, at })
+        Err(Fault {
+            number: MALFORMED_PROPERTY,
+            at,
+        })
     }
 }
 
@@ -127,7 +176,10 @@ fn not_newline(text: &[u8], at: usize) -> Result<(Token, usize), Fault>
     ensures sound { IsSound text.now at result }
 {
     if stands(text, b'{', at + 2) && !is_counted(text, at + 2) {
-        Err(Fault { number: LEFT_OUT, at })
+        Err(Fault {
+            number: LEFT_OUT,
+            at,
+        })
     } else {
         Ok((Token::NotNewline, at + 2))
     }
@@ -142,7 +194,12 @@ fn greatest(flags: LexFlags) -> u64
 
 /// A code in up to three octal digits.
 #[tactic(auto, unfolding(crate::specs::Escapes::octal))]
-pub(crate) fn octal(text: &[u8], flags: LexFlags, at: usize, from: usize) -> Result<(Token, usize), Fault>
+pub(crate) fn octal(
+    text: &[u8],
+    flags: LexFlags,
+    at: usize,
+    from: usize,
+) -> Result<(Token, usize), Fault>
     requires order { at < from }
     requires within { from ≤ length text.now }
     ensures value { result ≡ octal text.now flags at from }
@@ -151,7 +208,10 @@ pub(crate) fn octal(text: &[u8], flags: LexFlags, at: usize, from: usize) -> Res
     let to = run_end(text, Run::Digits(8), from).min(from + 3);
     let code = numeral(text, 8, from, to);
     if code > greatest(flags) {
-        Err(Fault { number: CODE_TOO_LARGE, at })
+        Err(Fault {
+            number: CODE_TOO_LARGE,
+            at,
+        })
     } else {
         Ok((Token::Literal(code as u32), to))
     }
@@ -169,11 +229,20 @@ fn braced(text: &[u8], flags: LexFlags, radix: u32, at: usize) -> Result<(Token,
     let to = run_end(text, Run::Digits(radix), at + 3);
     let code = numeral(text, radix, at + 3, to);
     if code > greatest(flags) {
-        Err(Fault { number: CODE_TOO_LARGE, at })
+        Err(Fault {
+            number: CODE_TOO_LARGE,
+            at,
+        })
     } else if to == at + 3 || !stands(text, b'}', to) {
-        Err(Fault { number: BAD_CODE_DIGITS, at })
+        Err(Fault {
+            number: BAD_CODE_DIGITS,
+            at,
+        })
     } else if flags.utf && (0xD800 <= code && code <= 0xDFFF) {
-        Err(Fault { number: SURROGATE_CODE, at })
+        Err(Fault {
+            number: SURROGATE_CODE,
+            at,
+        })
     } else {
         Ok((Token::Literal(code as u32), to + 1))
     }
@@ -208,7 +277,10 @@ pub(crate) fn coded(text: &[u8], flags: LexFlags, c: u8, at: usize) -> Result<(T
     } else if stands(text, b'{', at + 2) {
         braced(text, flags, 8, at)
     } else {
-        Err(Fault { number: BAD_CODE_DIGITS, at })
+        Err(Fault {
+            number: BAD_CODE_DIGITS,
+            at,
+        })
     }
 }
 
@@ -227,7 +299,10 @@ fn numbered_escape(text: &[u8], flags: LexFlags, at: usize) -> Result<(Token, us
     if !is_reference {
         octal(text, flags, at, at + 1)
     } else if number > GREATEST_GROUP {
-        Err(Fault { number: GROUP_NUMBER_TOO_BIG, at })
+        Err(Fault {
+            number: GROUP_NUMBER_TOO_BIG,
+            at,
+        })
     } else {
         Ok((Token::Reference(Target::Number(number as u32)), to))
     }
@@ -249,8 +324,14 @@ fn longer(text: &[u8], flags: LexFlags, c: u8, at: usize) -> Result<(Token, usiz
         b'g' => group_escape(text, at),
         b'k' => name_escape(text, at),
         b'N' => not_newline(text, at),
-        b'C' | b'X' | b'L' | b'l' | b'U' | b'u' => Err(Fault { number: LEFT_OUT, at }),
-        b'A'..=b'Z' | b'a'..=b'z' => Err(Fault { number: UNKNOWN_ESCAPE, at }),
+        b'C' | b'X' | b'L' | b'l' | b'U' | b'u' => Err(Fault {
+            number: LEFT_OUT,
+            at,
+        }),
+        b'A'..=b'Z' | b'a'..=b'z' => Err(Fault {
+            number: UNKNOWN_ESCAPE,
+            at,
+        }),
         _ => Ok((Token::Literal(u32::from(c)), at + 2)),
     }
 }
@@ -263,7 +344,10 @@ pub(crate) fn escape(text: &[u8], flags: LexFlags, at: usize) -> Result<(Token, 
     ensures sound { IsSound text.now at result }
 {
     let Some(c) = byte(text, at + 1) else {
-        return Err(Fault { number: BACKSLASH_AT_END, at });
+        return Err(Fault {
+            number: BACKSLASH_AT_END,
+            at,
+        });
     };
     if let Some(token) = everywhere(c) {
         return Ok((token, at + 2));

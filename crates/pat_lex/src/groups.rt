@@ -74,9 +74,15 @@ fn python(text: &[u8], at: usize) -> Result<(Token, usize), Fault>
     } else if stands(text, b'>', at + 3) {
         named_call(text, at, at + 4)
     } else if at + 3 == text.len() {
-        Err(Fault { number: UNCLOSED_GROUP, at: text.len() })
+        Err(Fault {
+            number: UNCLOSED_GROUP,
+            at: text.len(),
+        })
     } else {
-        Err(Fault { number: UNKNOWN_GROUP, at })
+        Err(Fault {
+            number: UNKNOWN_GROUP,
+            at,
+        })
     }
 }
 
@@ -90,7 +96,10 @@ fn whole_call(text: &[u8], at: usize) -> Result<(Token, usize), Fault>
     if stands(text, b')', at + 3) {
         Ok((Token::CallTo(Target::Number(0)), at + 4))
     } else {
-        Err(Fault { number: UNCLOSED_GROUP, at: text.len() })
+        Err(Fault {
+            number: UNCLOSED_GROUP,
+            at: text.len(),
+        })
     }
 }
 
@@ -129,9 +138,15 @@ fn number_or_setting(text: &[u8], c: u8, at: usize) -> Result<(Token, usize), Fa
     } else if c != b'+' {
         setting(text, at)
     } else if at + 3 == text.len() {
-        Err(Fault { number: UNCLOSED_GROUP, at: text.len() })
+        Err(Fault {
+            number: UNCLOSED_GROUP,
+            at: text.len(),
+        })
     } else {
-        Err(Fault { number: UNKNOWN_GROUP, at })
+        Err(Fault {
+            number: UNKNOWN_GROUP,
+            at,
+        })
     }
 }
 
@@ -145,9 +160,14 @@ pub(crate) fn group(text: &[u8], at: usize) -> Result<(Token, usize), Fault>
     if stands(text, b'?', at + 1) {
         match byte(text, at + 2) {
             Some(c) => special(text, c, at),
-            None => Err(Fault { number: UNCLOSED_GROUP, at: text.len() }),
+            None => Err(Fault {
+                number: UNCLOSED_GROUP,
+                at: text.len(),
+            }),
         }
-    } else if stands(text, b'*', at + 1) && (is_letter(text, at + 2) || stands(text, b':', at + 2)) {
+    } else if stands(text, b'*', at + 1)
+        && (is_letter(text, at + 2) || stands(text, b':', at + 2))
+    {
         star_word(text, at)
     } else {
         Ok((Token::Open(OpenKind::Capture), at + 1))

@@ -9,6 +9,7 @@ mod conditions;
 mod escapes;
 mod fault;
 mod groups;
+mod laws;
 mod lexer;
 mod names;
 mod quantifiers;
@@ -18,7 +19,11 @@ mod token;
 mod verbs;
 
 pub use fault::Fault;
+pub use laws::worked_rows;
 pub use lexer::next_token;
 pub use token::{
     CondText, LexFlags, OpenKind, OptionMask, QuantMode, StartItem, Target, Token, VerbKind,
 };
+
+#[cfg(test)]
+mod tests;

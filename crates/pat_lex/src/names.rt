@@ -20,12 +20,21 @@ pub(crate) fn name_end(text: &[u8], at: usize, from: usize, close: u8) -> Result
 {
     let to = run_end(text, Run::Word, from);
     if to == from || is_digit(text, from) {
-        Err(Fault { number: EMPTY_NAME, at })
+        Err(Fault {
+            number: EMPTY_NAME,
+            at,
+        })
     } else if to - from > LONGEST_NAME {
-        Err(Fault { number: NAME_TOO_LONG, at })
+        Err(Fault {
+            number: NAME_TOO_LONG,
+            at,
+        })
     } else if stands(text, close, to) {
         Ok(to)
     } else {
-        Err(Fault { number: UNCLOSED_NAME, at })
+        Err(Fault {
+            number: UNCLOSED_NAME,
+            at,
+        })
     }
 }

@@ -32,18 +32,49 @@ pub(crate) fn is_counted(text: &[u8], brace: usize) -> bool
 /// A quantifier whose counts end at the place, with the `?` or `+` after it. EXTENDED ignores white space and `#` comments
 /// before the `+`, not before the `?`.
 #[tactic(auto, unfolding(crate::specs::Quantifiers::with_mode))]
-pub(crate) fn with_mode(text: &[u8], flags: LexFlags, min: u16, max: Option<u16>, i: usize) -> Result<(Token, usize), Fault>
+pub(crate) fn with_mode(
+    text: &[u8],
+    flags: LexFlags,
+    min: u16,
+    max: Option<u16>,
+    i: usize,
+) -> Result<(Token, usize), Fault>
     requires { i ≤ length text.now }
     ensures value { result ≡ with_mode text.now flags min max i }
     ensures sound { (at : ℕ) → at < i → IsSound text.now at result }
 {
-    let plus = if is_extended(flags) { blanks_end(text, flags, i) } else { i };
-    if stands(text, b'?', i) {
-        Ok((Token::Quantifier { min, max, mode: QuantMode::Lazy }, i + 1))
-    } else if stands(text, b'+', plus) {
-        Ok((Token::Quantifier { min, max, mode: QuantMode::Possessive }, plus + 1))
+    let plus = if is_extended(flags) {
+        blanks_end(text, flags, i)
     } else {
-        Ok((Token::Quantifier { min, max, mode: QuantMode::Greedy }, i))
+        i
+    };
+    if stands(text, b'?', i) {
+        Ok((
+            Token::Quantifier {
+                min,
+                max,
+                mode: QuantMode::Lazy,
+            },
+            i + 1,
+        ))
+    } else if stands(text, b'+', plus) {
+        Ok((
+            Token::Quantifier {
+                min,
+                max,
+                mode: QuantMode::Possessive,
+            },
+            plus + 1,
+        ))
+    } else {
+        Ok((
+            Token::Quantifier {
+                min,
+                max,
+                mode: QuantMode::Greedy,
+            },
+            i,
+        ))
     }
 }
 
@@ -58,7 +89,10 @@ pub(crate) fn counted(text: &[u8], flags: LexFlags, at: usize) -> Result<(Token,
     let low_end = run_end(text, Run::Digits(10), at + 1);
     let low = numeral(text, 10, at + 1, low_end);
     if low > GREATEST_COUNT {
-        return Err(Fault { number: COUNT_TOO_BIG, at });
+        return Err(Fault {
+            number: COUNT_TOO_BIG,
+            at,
+        });
     }
     let min = low as u16;
     if stands(text, b'}', low_end) {
@@ -70,9 +104,15 @@ pub(crate) fn counted(text: &[u8], flags: LexFlags, at: usize) -> Result<(Token,
     }
     let high = numeral(text, 10, low_end + 1, high_end);
     if high > GREATEST_COUNT {
-        Err(Fault { number: COUNT_TOO_BIG, at })
+        Err(Fault {
+            number: COUNT_TOO_BIG,
+            at,
+        })
     } else if high < low {
-        Err(Fault { number: COUNTS_OUT_OF_ORDER, at })
+        Err(Fault {
+            number: COUNTS_OUT_OF_ORDER,
+            at,
+        })
     } else {
         with_mode(text, flags, min, Some(high as u16), high_end + 1)
     }

@@ -52,12 +52,13 @@ fn set_by(letters: &[u8]) -> OptionMask
 fn unset_by(on: OptionMask, letters: &[u8]) -> OptionMask
     ensures { result ≡ unset_by on letters.now }
 {
+    let x = has(letters, b'x');
     OptionMask {
         i: has(letters, b'i'),
         m: has(letters, b'm'),
         s: has(letters, b's'),
-        x: has(letters, b'x'),
-        xx: has(letters, b'x') || (on.x && !on.xx),
+        x,
+        xx: x || (on.x && !on.xx),
         n: has(letters, b'n'),
         j: has(letters, b'J'),
         u: has(letters, b'U'),
@@ -66,7 +67,14 @@ fn unset_by(on: OptionMask, letters: &[u8]) -> OptionMask
 
 /// The letters that are set and those that are unset, with what closes them at a place.
 #[tactic(auto, unfolding(crate::specs::Settings::setting_closed))]
-fn setting_closed(text: &[u8], at: usize, reset: bool, set: &[u8], unset: &[u8], i: usize) -> Result<(Token, usize), Fault>
+fn setting_closed(
+    text: &[u8],
+    at: usize,
+    reset: bool,
+    set: &[u8],
+    unset: &[u8],
+    i: usize,
+) -> Result<(Token, usize), Fault>
     requires order { at ≤ i }
     requires within { i ≤ length text.now }
     ensures value { result ≡ setting_closed text.now at reset set.now unset.now i }
@@ -75,13 +83,35 @@ fn setting_closed(text: &[u8], at: usize, reset: bool, set: &[u8], unset: &[u8],
     let on = set_by(set);
     let off = unset_by(on, unset);
     if stands(text, b')', i) {
-        Ok((Token::OptionSet { reset, on, off, opens: false }, i + 1))
+        Ok((
+            Token::OptionSet {
+                reset,
+                on,
+                off,
+                opens: false,
+            },
+            i + 1,
+        ))
     } else if stands(text, b':', i) {
-        Ok((Token::OptionSet { reset, on, off, opens: true }, i + 1))
+        Ok((
+            Token::OptionSet {
+                reset,
+                on,
+                off,
+                opens: true,
+            },
+            i + 1,
+        ))
     } else if i == text.len() {
-        Err(Fault { number: UNCLOSED_GROUP, at: text.len() })
+        Err(Fault {
+            number: UNCLOSED_GROUP,
+            at: text.len(),
+        })
     } else {
-        Err(Fault { number: UNKNOWN_GROUP, at })
+        Err(Fault {
+            number: UNKNOWN_GROUP,
+            at,
+        })
     }
 }
 

@@ -4,7 +4,9 @@ ghost use Rattle.pat_lex.specs.Tell.{IsTold, IsSound};
 ghost use Rattle.pat_lex.specs.Targets.{digits_start, begins_number, numbered, enclosed, named_reference, named_call, group_escape, name_escape, numbered_call};
 
 use crate::bytes::{Run, is_digit, numeral, run_end, stands};
-use crate::fault::{Fault, GROUP_NUMBER_TOO_BIG, MALFORMED_REFERENCE, RELATIVE_ZERO, UNCLOSED_GROUP};
+use crate::fault::{
+    Fault, GROUP_NUMBER_TOO_BIG, MALFORMED_REFERENCE, RELATIVE_ZERO, UNCLOSED_GROUP,
+};
 use crate::names::name_end;
 use crate::token::{Target, Token};
 
@@ -48,16 +50,25 @@ pub(crate) fn numbered(text: &[u8], at: usize, from: usize) -> Result<(Target, u
     let to = run_end(text, Run::Digits(10), digits);
     let number = numeral(text, 10, digits, to);
     if number > GREATEST_GROUP {
-        Err(Fault { number: GROUP_NUMBER_TOO_BIG, at })
+        Err(Fault {
+            number: GROUP_NUMBER_TOO_BIG,
+            at,
+        })
     } else if stands(text, b'+', from) {
         if number == 0 {
-            Err(Fault { number: RELATIVE_ZERO, at })
+            Err(Fault {
+                number: RELATIVE_ZERO,
+                at,
+            })
         } else {
             Ok((Target::Plus(number as u32), to))
         }
     } else if stands(text, b'-', from) {
         if number == 0 {
-            Err(Fault { number: RELATIVE_ZERO, at })
+            Err(Fault {
+                number: RELATIVE_ZERO,
+                at,
+            })
         } else {
             Ok((Target::Minus(number as u32), to))
         }
@@ -79,10 +90,16 @@ fn enclosed(text: &[u8], at: usize, close: u8) -> Result<(Target, usize), Fault>
         if stands(text, close, to) {
             Ok((target, to + 1))
         } else {
-            Err(Fault { number: MALFORMED_REFERENCE, at })
+            Err(Fault {
+                number: MALFORMED_REFERENCE,
+                at,
+            })
         }
     } else if stands(text, b'+', at + 3) || stands(text, b'-', at + 3) {
-        Err(Fault { number: MALFORMED_REFERENCE, at })
+        Err(Fault {
+            number: MALFORMED_REFERENCE,
+            at,
+        })
     } else {
         let to = name_end(text, at, at + 3, close)?;
         Ok((Target::Named { from: at + 3, to }, to + 1))
@@ -91,7 +108,12 @@ fn enclosed(text: &[u8], at: usize, close: u8) -> Result<(Target, usize), Fault>
 
 /// A reference by a name.
 #[tactic(auto, unfolding(crate::specs::Targets::named_reference))]
-pub(crate) fn named_reference(text: &[u8], at: usize, from: usize, close: u8) -> Result<(Token, usize), Fault>
+pub(crate) fn named_reference(
+    text: &[u8],
+    at: usize,
+    from: usize,
+    close: u8,
+) -> Result<(Token, usize), Fault>
     requires order { at ≤ from }
     requires within { from ≤ length text.now }
     ensures value { result ≡ named_reference text.now at from close }
@@ -133,7 +155,10 @@ pub(crate) fn group_escape(text: &[u8], at: usize) -> Result<(Token, usize), Fau
         let (target, after) = numbered(text, at, at + 2)?;
         Ok((Token::Reference(target), after))
     } else {
-        Err(Fault { number: MALFORMED_REFERENCE, at })
+        Err(Fault {
+            number: MALFORMED_REFERENCE,
+            at,
+        })
     }
 }
 
@@ -151,7 +176,10 @@ pub(crate) fn name_escape(text: &[u8], at: usize) -> Result<(Token, usize), Faul
     } else if stands(text, b'\'', at + 2) {
         named_reference(text, at, at + 3, b'\'')
     } else {
-        Err(Fault { number: MALFORMED_REFERENCE, at })
+        Err(Fault {
+            number: MALFORMED_REFERENCE,
+            at,
+        })
     }
 }
 
@@ -166,6 +194,9 @@ pub(crate) fn numbered_call(text: &[u8], at: usize) -> Result<(Token, usize), Fa
     if stands(text, b')', to) {
         Ok((Token::CallTo(target), to + 1))
     } else {
-        Err(Fault { number: UNCLOSED_GROUP, at: text.len() })
+        Err(Fault {
+            number: UNCLOSED_GROUP,
+            at: text.len(),
+        })
     }
 }

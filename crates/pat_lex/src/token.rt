@@ -60,9 +60,16 @@ pub enum OpenKind {
     /// `(?|`
     BranchReset,
     /// `(?<name>`, the name between these places.
-    Named { from: usize, to: usize },
+    Named {
+        from: usize,
+        to: usize,
+    },
     /// A lookahead or a lookbehind.
-    Look { ahead: bool, positive: bool, atomic: bool },
+    Look {
+        ahead: bool,
+        positive: bool,
+        atomic: bool,
+    },
 }
 
 /// Options that a setting inside a pattern names, each by its letter (pcre2pattern, "Internal option setting").
@@ -154,11 +161,20 @@ pub enum Token {
     /// `\G`
     StartGiven,
     /// `\b`, or `\B` where `not`.
-    Boundary { not: bool },
+    Boundary {
+        not: bool,
+    },
     /// `\d`, `\s`, `\w`, `\h`, `\v`, or a POSIX name in a class; its complement where `not`.
-    Set { set: SetName, not: bool },
+    Set {
+        set: SetName,
+        not: bool,
+    },
     /// `\p`, or its complement: the property's name, without `^`, is between these places.
-    Property { from: usize, to: usize, not: bool },
+    Property {
+        from: usize,
+        to: usize,
+        not: bool,
+    },
     /// A backreference.
     Reference(Target),
     /// A call of a group as a subroutine; 0 is the whole pattern.
@@ -168,7 +184,9 @@ pub enum Token {
     /// `\E`
     QuoteOff,
     /// `[`, or `[^` where `negated`.
-    ClassStart { negated: bool },
+    ClassStart {
+        negated: bool,
+    },
     /// `]` inside a class. Of one that stands first the reader makes a character.
     ClassEnd,
     /// `-` inside a class.
@@ -189,13 +207,29 @@ pub enum Token {
     },
     /// The start of a conditional group, and the places of its test. A lookaround is a token of its own: the two places
     /// are then where it begins.
-    CondStart { cond: CondText, from: usize, to: usize },
+    CondStart {
+        cond: CondText,
+        from: usize,
+        to: usize,
+    },
     /// A callout, and the places of its string without the delimiters; both are 0 where there is none.
-    CalloutItem { number: u8, text_from: u32, text_to: u32 },
+    CalloutItem {
+        number: u8,
+        text_from: u32,
+        text_to: u32,
+    },
     /// A verb, and the places of its name, which are equal where it has none.
-    VerbItem { verb: VerbKind, from: usize, to: usize },
+    VerbItem {
+        verb: VerbKind,
+        from: usize,
+        to: usize,
+    },
     /// A quantifier.
-    Quantifier { min: u16, max: Option<u16>, mode: QuantMode },
+    Quantifier {
+        min: u16,
+        max: Option<u16>,
+        mode: QuantMode,
+    },
     /// One comment, or one white space character that is ignored.
     Passed,
 }

@@ -86,7 +86,11 @@ fn verb_word(word: &[u8]) -> Option<VerbKind>
 pub(crate) fn look(ahead: bool, positive: bool, atomic: bool) -> OpenKind
     ensures { result ≡ OpenKind.Look ahead positive atomic }
 {
-    OpenKind::Look { ahead, positive, atomic }
+    OpenKind::Look {
+        ahead,
+        positive,
+        atomic,
+    }
 }
 
 /// The group of a word before `:`.
@@ -145,11 +149,20 @@ fn named_verb(text: &[u8], at: usize, verb: VerbKind, from: usize) -> Result<(To
 {
     let to = run_end(text, Run::Until(b')'), from);
     if !stands(text, b')', to) {
-        Err(Fault { number: UNKNOWN_VERB, at })
+        Err(Fault {
+            number: UNKNOWN_VERB,
+            at,
+        })
     } else if to - from > LONGEST_NAME {
-        Err(Fault { number: VERB_NAME_TOO_LONG, at })
+        Err(Fault {
+            number: VERB_NAME_TOO_LONG,
+            at,
+        })
     } else if matches!(verb, VerbKind::Mark) && from == to {
-        Err(Fault { number: MARK_WITHOUT_NAME, at })
+        Err(Fault {
+            number: MARK_WITHOUT_NAME,
+            at,
+        })
     } else {
         Ok((Token::VerbItem { verb, from, to }, to + 1))
     }
@@ -169,7 +182,10 @@ fn closed_word(text: &[u8], at: usize, to: usize) -> Result<(Token, usize), Faul
     }
     match verb_word(word) {
         Some(verb) => named_verb(text, at, verb, to),
-        None => Err(Fault { number: UNKNOWN_VERB, at }),
+        None => Err(Fault {
+            number: UNKNOWN_VERB,
+            at,
+        }),
     }
 }
 
@@ -189,9 +205,15 @@ fn colon_word(text: &[u8], at: usize, to: usize) -> Result<(Token, usize), Fault
         return Ok((Token::Open(kind), to + 1));
     }
     if is_script_run(word) {
-        Err(Fault { number: LEFT_OUT, at })
+        Err(Fault {
+            number: LEFT_OUT,
+            at,
+        })
     } else {
-        Err(Fault { number: UNKNOWN_VERB, at })
+        Err(Fault {
+            number: UNKNOWN_VERB,
+            at,
+        })
     }
 }
 
@@ -209,7 +231,10 @@ fn limit(text: &[u8], at: usize, to: usize) -> Result<(Token, usize), Fault>
     if is_limit && (end > to + 1 && (number <= u64::from(u32::MAX) && stands(text, b')', end))) {
         Ok((Token::Start(StartItem::LimitMatch(number as u32)), end + 1))
     } else {
-        Err(Fault { number: UNKNOWN_VERB, at })
+        Err(Fault {
+            number: UNKNOWN_VERB,
+            at,
+        })
     }
 }
 
@@ -228,6 +253,9 @@ pub(crate) fn star_word(text: &[u8], at: usize) -> Result<(Token, usize), Fault>
     } else if stands(text, b'=', to) {
         limit(text, at, to)
     } else {
-        Err(Fault { number: UNKNOWN_VERB, at })
+        Err(Fault {
+            number: UNKNOWN_VERB,
+            at,
+        })
     }
 }
