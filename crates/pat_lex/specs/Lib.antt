@@ -1,0 +1,16 @@
+pub mod Bytes
+pub mod Runs
+pub mod Tell
+pub mod Names
+pub mod Targets
+pub mod Comments
+pub mod Quantifiers
+pub mod Escapes
+pub mod Classes
+pub mod Settings
+pub mod Conditions
+pub mod Callouts
+pub mod Verbs
+pub mod Groups
+pub mod Tokens
+pub mod Rows

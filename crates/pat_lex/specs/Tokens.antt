@@ -1,0 +1,48 @@
+-- The token that begins at a place of a pattern, and the place after it (pcre2pattern).
+use Rattle.std.specs.Prelude.{ℕ, ◌+◌, ◌&&◌, ◌||◌, ◌==◌, nat_lt, List, Option, Some, None, Ok, slice_get, if◌then◌else◌}
+use Rattle.pat_lex.specs.declared.token.LexFlags.{LexFlags}
+use Rattle.pat_lex.specs.declared.token.Token.TheVariants.{End, Literal, Dot, Caret, Dollar, Bar, Close, QuoteOff, Passed}
+use Rattle.pat_lex.specs.Bytes.{◌∈◌, is_at}
+use Rattle.pat_lex.specs.Tell.{Lexed}
+use Rattle.pat_lex.specs.Comments.{is_extended, blank_end}
+use Rattle.pat_lex.specs.Quantifiers.{is_counted, with_mode, counted}
+use Rattle.pat_lex.specs.Escapes.{escape}
+use Rattle.pat_lex.specs.Classes.{class_start, in_class}
+use Rattle.pat_lex.specs.Groups.{group}
+
+-- between `\Q` and `\E` ("Backslash")
+unfoldable pub quoted : List ℕ → ℕ → ℕ → Lexed
+quoted text c at = if c ∈ "\\" && is_at text "E" (at + 1) then Ok (QuoteOff, at + 2) else Ok (Literal c, at + 1)
+
+module _ (text : List ℕ) (flags : LexFlags) where
+  -- a quantifier, a blank or a character
+  unfoldable pub rest : ℕ → ℕ → Lexed
+  rest c at =
+      if c ∈ "*" then with_mode text flags 0 None (at + 1)
+      else if c ∈ "+" then with_mode text flags 1 None (at + 1)
+      else if c ∈ "?" then with_mode text flags 0 (Some 1) (at + 1)
+      else if c ∈ "{" && is_counted text at then counted text flags at
+      else if is_extended flags && nat_lt at (blank_end text flags at) then Ok (Passed, blank_end text flags at)
+      else Ok (Literal c, at + 1)
+
+  -- outside classes ("Characters and metacharacters")
+  unfoldable pub plain : ℕ → ℕ → Lexed
+  plain c at =
+      if c ∈ "\\" then escape text flags at
+      else if c ∈ "(" then group text at
+      else if c ∈ ")" then Ok (Close, at + 1)
+      else if c ∈ "|" then Ok (Bar, at + 1)
+      else if c ∈ "[" then class_start text at
+      else if c ∈ "." then Ok (Dot, at + 1)
+      else if c ∈ "^" then Ok (Caret, at + 1)
+      else if c ∈ "$" then Ok (Dollar, at + 1)
+      else rest c at
+
+  unfoldable pub token_at : ℕ → Lexed
+  token_at at = elim (slice_get text at) [
+    | None ↦ Ok (End, at)
+    | Some c ↦
+        if flags.quoting then quoted text c at
+        else if flags.in_class then in_class text flags c at
+        else plain c at
+  ]

@@ -1,0 +1,175 @@
+//! What an opening parenthesis begins (pcre2pattern, "Groups", "Assertions", "Conditional groups").
+ghost use Rattle.std.specs.Prelude.{◌≡◌, ◌+◌, ◌<◌, ◌≤◌, length};
+ghost use Rattle.pat_lex.specs.Tell.{IsSound};
+ghost use Rattle.pat_lex.specs.Groups.{opened_by, named_group, angle, python, whole_call, number_or_setting, special, group};
+
+use crate::bytes::{byte, is_letter, stands};
+use crate::callouts::callout;
+use crate::comments::comment;
+use crate::conditions::condition;
+use crate::fault::{Fault, UNCLOSED_GROUP, UNKNOWN_GROUP};
+use crate::names::name_end;
+use crate::settings::setting;
+use crate::targets::{begins_number, named_call, named_reference, numbered_call};
+use crate::token::{OpenKind, Target, Token};
+use crate::verbs::{look, star_word};
+
+/// The group that one character after `(?` opens.
+#[tactic(auto, unfolding(crate::specs::Groups::opened_by))]
+fn opened_by(c: u8) -> Option<OpenKind>
+    ensures { result ≡ opened_by c }
+{
+    match c {
+        b':' => Some(OpenKind::Plain),
+        b'|' => Some(OpenKind::BranchReset),
+        b'>' => Some(OpenKind::Atomic),
+        b'=' => Some(look(true, true, true)),
+        b'!' => Some(look(true, false, true)),
+        b'*' => Some(look(true, true, false)),
+        _ => None,
+    }
+}
+
+/// A named group, whose name begins at a place.
+#[tactic(auto, unfolding(crate::specs::Groups::named_group))]
+fn named_group(text: &[u8], at: usize, from: usize, close: u8) -> Result<(Token, usize), Fault>
+    requires order { at ≤ from }
+    requires within { from ≤ length text.now }
+    ensures value { result ≡ named_group text.now at from close }
+    ensures sound { IsSound text.now at result }
+{
+    let to = name_end(text, at, from, close)?;
+    Ok((Token::Open(OpenKind::Named { from, to }), to + 1))
+}
+
+/// `(?<`: a lookbehind, or a named group.
+#[tactic(auto, unfolding(crate::specs::Groups::angle))]
+fn angle(text: &[u8], at: usize) -> Result<(Token, usize), Fault>
+    requires { at + 3 ≤ length text.now }
+    ensures value { result ≡ angle text.now at }
+    ensures sound { IsSound text.now at result }
+{
+    if stands(text, b'=', at + 3) {
+        Ok((Token::Open(look(false, true, true)), at + 4))
+    } else if stands(text, b'!', at + 3) {
+        Ok((Token::Open(look(false, false, true)), at + 4))
+    } else if stands(text, b'*', at + 3) {
+        Ok((Token::Open(look(false, true, false)), at + 4))
+    } else {
+        named_group(text, at, at + 3, b'>')
+    }
+}
+
+/// `(?P`: a named group, or a reference or a call by a name.
+#[tactic(auto, unfolding(crate::specs::Groups::python))]
+fn python(text: &[u8], at: usize) -> Result<(Token, usize), Fault>
+    requires { at + 3 ≤ length text.now }
+    ensures value { result ≡ python text.now at }
+    ensures sound { IsSound text.now at result }
+{
+    if stands(text, b'<', at + 3) {
+        named_group(text, at, at + 4, b'>')
+    } else if stands(text, b'=', at + 3) {
+        named_reference(text, at, at + 4, b')')
+    } else if stands(text, b'>', at + 3) {
+        named_call(text, at, at + 4)
+    } else if at + 3 == text.len() {
+        Err(Fault {
+            number: UNCLOSED_GROUP,
+            at: text.len(),
+        })
+    } else {
+        Err(Fault {
+            number: UNKNOWN_GROUP,
+            at,
+        })
+    }
+}
+
+/// `(?R)`: a call of the whole pattern.
+#[tactic(auto, unfolding(crate::specs::Groups::whole_call))]
+fn whole_call(text: &[u8], at: usize) -> Result<(Token, usize), Fault>
+    requires { at + 3 ≤ length text.now }
+    ensures value { result ≡ whole_call text.now at }
+    ensures sound { IsSound text.now at result }
+{
+    if stands(text, b')', at + 3) {
+        Ok((Token::CallTo(Target::Number(0)), at + 4))
+    } else {
+        Err(Fault {
+            number: UNCLOSED_GROUP,
+            at: text.len(),
+        })
+    }
+}
+
+/// `(?` and the byte after it.
+#[tactic(auto, unfolding(crate::specs::Groups::special))]
+fn special(text: &[u8], c: u8, at: usize) -> Result<(Token, usize), Fault>
+    requires { at + 3 ≤ length text.now }
+    ensures value { result ≡ special text.now c at }
+    ensures sound { IsSound text.now at result }
+{
+    if let Some(kind) = opened_by(c) {
+        return Ok((Token::Open(kind), at + 3));
+    }
+    match c {
+        b'#' => comment(text, at),
+        b'<' => angle(text, at),
+        b'\'' => named_group(text, at, at + 3, b'\''),
+        b'P' => python(text, at),
+        b'&' => named_call(text, at, at + 3),
+        b'R' => whole_call(text, at),
+        b'C' => callout(text, at),
+        b'(' => condition(text, at),
+        _ => number_or_setting(text, c, at),
+    }
+}
+
+/// `(?` before a call by a number, or an option setting.
+#[tactic(auto, unfolding(crate::specs::Groups::number_or_setting))]
+fn number_or_setting(text: &[u8], c: u8, at: usize) -> Result<(Token, usize), Fault>
+    requires { at + 3 ≤ length text.now }
+    ensures value { result ≡ number_or_setting text.now c at }
+    ensures sound { IsSound text.now at result }
+{
+    if begins_number(text, at + 2) {
+        numbered_call(text, at)
+    } else if c != b'+' {
+        setting(text, at)
+    } else if at + 3 == text.len() {
+        Err(Fault {
+            number: UNCLOSED_GROUP,
+            at: text.len(),
+        })
+    } else {
+        Err(Fault {
+            number: UNKNOWN_GROUP,
+            at,
+        })
+    }
+}
+
+/// An opening parenthesis. An asterisk with neither a letter nor a colon after it is a quantifier after it.
+#[tactic(auto, unfolding(crate::specs::Groups::group))]
+pub(crate) fn group(text: &[u8], at: usize) -> Result<(Token, usize), Fault>
+    requires { at < length text.now }
+    ensures value { result ≡ group text.now at }
+    ensures sound { IsSound text.now at result }
+{
+    if stands(text, b'?', at + 1) {
+        match byte(text, at + 2) {
+            Some(c) => special(text, c, at),
+            None => Err(Fault {
+                number: UNCLOSED_GROUP,
+                at: text.len(),
+            }),
+        }
+    } else if stands(text, b'*', at + 1)
+        && (is_letter(text, at + 2) || stands(text, b':', at + 2))
+    {
+        star_word(text, at)
+    } else {
+        Ok((Token::Open(OpenKind::Capture), at + 1))
+    }
+}
