@@ -7,7 +7,7 @@ use Rattle.std.specs.Io.KnownBytes.{Appends}
 use Rattle.std.proofs.KnownBytes.{Appends-nil, Consumes-nil}
 use Rattle.pcre_io.specs.Told.{Told, Kept, AppendsPrefix}
 use Rattle.pcre_io.specs.Causes.{Rose}
-use Rattle.line_feed.specs.Rows.{Row, Rows, Input, Stop as Stopped, At, Long, End}
+use Rattle.line_feed.specs.Rows.{Row, Rows, Input, Finish, At, Long, End}
 use Rattle.line_feed.specs.Hears.{Hears}
 use Rattle.line_feed.proofs.Stops.{StopFell-nil}
 use Rattle.line_feed.proofs.Hearing.{hears-some}
@@ -30,12 +30,12 @@ status-end [] = refl
 status-end (row ∷ more) = refl
 
 -- the whole text, for rows that are those of the input
-pub runs-text : (word : List ℕ) (given : List Row) (stop : Stopped) (input : Input) (status : ℕ) (kept held old new : Kept) → lines input ≡ record { rows = given; stop = stop } → Appends kept.held held.held (text_of word given)
+pub runs-text : (word : List ℕ) (given : List Row) (stop : Finish) (input : Input) (status : ℕ) (kept held old new : Kept) → lines input ≡ record { rows = given; finish = stop } → Appends kept.held held.held (text_of word given)
     → Appends old.held new.held (message stop) → status ≡ status_of (picked word given) stop → RunsAll (grep_text word input) status kept held old new
 runs-text word given stop input status kept held old new is out err answer = record {
   out = subst (λ (r : Rows). Appends kept.held held.held (text_of word r.rows)) (sym is) out;
-  err = subst (λ (r : Rows). Appends old.held new.held (message r.stop)) (sym is) err;
-  answer = answer ∙ ap (λ (r : Rows). status_of (picked word r.rows) r.stop) (sym is);
+  err = subst (λ (r : Rows). Appends old.held new.held (message r.finish)) (sym is) err;
+  answer = answer ∙ ap (λ (r : Rows). status_of (picked word r.rows) r.finish) (sym is);
 }
 
 pub runs-end : (word : List ℕ) (before after : Told) (kept held err : Kept) (found : Bool) → Scans word before after kept held (Ok found)
@@ -67,7 +67,7 @@ runs-said text status result kept held old new out is says = by_test (nat_le 3 r
     }
     by_test false says = record { out = out; err = says.1; answer = says.0 ∙ is }
 
-pub runs-cut : (word : List ℕ) (before after : Told) (kept held old new : Kept) (stop : Stopped) (result : ℕ) → ((found : List Row) → status_of found stop ≡ 2) → ScansAll word before after kept held stop
+pub runs-cut : (word : List ℕ) (before after : Told) (kept held old new : Kept) (stop : Finish) (result : ℕ) → ((found : List Row) → status_of found stop ≡ 2) → ScansAll word before after kept held stop
     → Says (message stop) 2 result old new → (heard : Input) × Hears before after heard × Runs (grep_text word heard) result kept held old new
 runs-cut word before after kept held old new stop result two all says =
     let input = all.heard.input in
@@ -75,8 +75,8 @@ runs-cut word before after kept held old new stop result two all says =
       input,
       all.heard.hears,
       runs-said (grep_text word input) 2 result kept held old new (subst (λ (r : Rows). Appends kept.held held.held (text_of word r.rows)) (sym is) all.wrote.written)
-      (sym (ap (λ (r : Rows). status_of (picked word r.rows) r.stop) is ∙ two (picked word all.given)))
-      (subst (λ (r : Rows). Says (message r.stop) 2 result old new) (sym is) says),
+      (sym (ap (λ (r : Rows). status_of (picked word r.rows) r.finish) is ∙ two (picked word all.given)))
+      (subst (λ (r : Rows). Says (message r.finish) 2 result old new) (sym is) says),
     )
 
 pub text-append : (word : List ℕ) (given more : List Row) → text_of word (given ++ more) ≡ text_of word given ++ text_of word more

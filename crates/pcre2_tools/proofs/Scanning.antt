@@ -8,7 +8,7 @@ use Rattle.pcre_io.specs.Told.{Told, Kept, AppendsPrefix}
 use Rattle.line_feed.specs.declared.phase.FeedError.TheVariants.{ReadFault, TooLong, TooMuch, Memory}
 use Rattle.line_feed.specs.declared.phase.Phase.TheVariants.{Closed}
 use Rattle.byte_lanes.specs.declared.line_end.EndKind.TheVariants.{Lf}
-use Rattle.line_feed.specs.Rows.{Row, Stop as Stopped, At, Long, End, Fault, Limit}
+use Rattle.line_feed.specs.Rows.{Row, Finish, At, Long, End, Fault, Limit}
 use Rattle.line_feed.specs.View.{Feed}
 use Rattle.line_feed.specs.Answers.{Gives, Ends}
 use Rattle.line_feed.specs.Hears.{HasGiven, HasHeard, HasBegun}
@@ -58,7 +58,7 @@ pub record IsLined (f : Feed) : Type 0 where
   pub kind : f.kind ≡ Lf
   pub most : f.max ≡ line_max
 
-heard-lined : (f : Feed) (before after : Told) (given : List Row) (stop : Stopped) → IsLined f → HasHeard f.kind f.max before after given stop → HasHeard Lf line_max before after given stop
+heard-lined : (f : Feed) (before after : Told) (given : List Row) (stop : Finish) → IsLined f → HasHeard f.kind f.max before after given stop → HasHeard Lf line_max before after given stop
 heard-lined f before after given stop lined heard =
     subst (λ m. HasHeard Lf m before after given stop) lined.most (subst (λ k. HasHeard k f.max before after given stop) lined.kind heard)
 

@@ -7,7 +7,7 @@ use Rattle.pcre_io.specs.declared.traits.IoError.{IoError}
 use Rattle.pcre_io.specs.declared.traits.IoError.TheVariants.{Failed}
 use Rattle.line_feed.specs.declared.phase.FeedError.TheVariants.{ReadFault, TooLong, TooMuch, Memory}
 use Rattle.byte_lanes.specs.declared.line_end.EndKind.TheVariants.{Lf}
-use Rattle.line_feed.specs.Rows.{Row, Stop as Stopped, At, Long, End, Fault, Limit}
+use Rattle.line_feed.specs.Rows.{Row, Finish, At, Long, End, Fault, Limit}
 use Rattle.line_feed.specs.View.{Feed}
 use Rattle.line_feed.specs.Answers.{Gives, Ends, Refuses}
 use Rattle.line_feed.specs.Hears.{HasHeard, HasBegun}
@@ -55,7 +55,7 @@ pub record Wrote (word : List ℕ) (given : List Row) (kept held : Kept) : Type 
   pub later : kept.faults ≤ held.faults
 
 -- the whole input was scanned
-pub record ScansAll (word : List ℕ) (before after : Told) (kept held : Kept) (stop : Stopped) : Type 0 where
+pub record ScansAll (word : List ℕ) (before after : Told) (kept held : Kept) (stop : Finish) : Type 0 where
   pub given : List Row
   pub heard : HasHeard Lf line_max before after given stop
   pub wrote : Wrote word given kept held
