@@ -54,8 +54,10 @@ plain-last max n o (b ∷ bytes) End row more none is = by_length (nat_lt max (l
   where
     at_end : first_newline Lf (b ∷ bytes) ≡ length (b ∷ bytes)
     at_end = whole-length (b ∷ bytes) (ends_open Lf (b ∷ bytes) && (first_newline Lf (b ∷ bytes) + 1 == length (b ∷ bytes))) (first_newline Lf (b ∷ bytes)) none
+
     plain : All (λ b. b ≢ 10) (b ∷ bytes)
     plain = subst (All (λ b. b ≢ 10)) (take-length (b ∷ bytes)) (plain-before (b ∷ bytes) (length (b ∷ bytes)) (subst (IsFirst Lf (b ∷ bytes)) at_end (first-least Lf (b ∷ bytes))))
+
     by_length : (t : Bool) → (if t then none_for (Long n) else ahead (record { bytes = b ∷ bytes; newline = []; number = n; offset = o }) (none_for (At End))) ≡ ahead row more → All (λ b. b ≢ 10) row.bytes
     by_length true is = no_rows row more (none_for (Long n)) refl is
     by_length false is = subst (All (λ b. b ≢ 10)) (first_bytes row _ more _ is) plain
@@ -76,6 +78,7 @@ plain-first max n o bytes ending row more is = by_rest (has_no_row Lf bytes endi
   where
     k : ℕ
     k = first_newline Lf bytes
+
     by_rest : (t : Bool) → has_no_row Lf bytes ending k ≡ t → All (λ b. b ≢ 10) row.bytes
     by_rest true none = plain-last max n o bytes ending row more none (sym (rows-rest Lf max n o bytes ending none) ∙ is)
     by_rest false some = elim (cases_lt max k) [
@@ -89,12 +92,15 @@ plain-gives f g now after row lf gives = by_phase gives.mid.phase refl
   where
     mid : Feed
     mid = gives.mid
+
     lined : mid.kind ≡ Lf
     lined = gives.reads.moves.kind ∙ lf
+
     by_row : (more : List ℕ) (ending : Ending) → Follows mid.phase more ending → All (λ b. b ≢ 10) row.bytes
     by_row more ending follows =
         plain-first mid.max (mid.number + 1) mid.offset (mid.held ++ more) ending row (to_give g more ending)
         (subst (λ kind. rows_from kind mid.max (mid.number + 1) mid.offset (mid.held ++ more) ending ≡ ahead row (to_give g more ending)) lined (gives.cuts.rows more ending follows))
+
     by_phase : (p : Phase) → mid.phase ≡ p → All (λ b. b ≢ 10) row.bytes
     by_phase Open is = by_row [] End (subst (λ p. Follows p [] End) (sym is) tt)
     by_phase Ended is = by_row [] End (subst (λ p. Follows p [] End) (sym is) (refl, refl))

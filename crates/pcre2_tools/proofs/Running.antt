@@ -75,8 +75,8 @@ runs-cut word before after kept held old new stop result two all says =
       input,
       all.heard.hears,
       runs-said (grep_text word input) 2 result kept held old new (subst (λ (r : Rows). Appends kept.held held.held (text_of word r.rows)) (sym is) all.wrote.written)
-      (sym (ap (λ (r : Rows). status_of (picked word r.rows) r.finish) is ∙ two (picked word all.given)))
-      (subst (λ (r : Rows). Says (message r.finish) 2 result old new) (sym is) says),
+          (sym (ap (λ (r : Rows). status_of (picked word r.rows) r.finish) is ∙ two (picked word all.given)))
+          (subst (λ (r : Rows). Says (message r.finish) 2 result old new) (sym is) says),
     )
 
 pub text-append : (word : List ℕ) (given more : List Row) → text_of word (given ++ more) ≡ text_of word given ++ text_of word more

@@ -64,7 +64,12 @@ fn write_numbered<E: Sink>(
 pub fn say_too_long<E: Sink>(err: &mut E, line: u64) -> u8
     ensures { Says (message (Long line)) 2 result (E.tells err.old) (E.tells err.new) }
 {
-    match write_numbered(err, b"pcre2grep: (standard input): line ", line, b" is too long\n") {
+    match write_numbered(
+        err,
+        b"pcre2grep: (standard input): line ",
+        line,
+        b" is too long\n",
+    ) {
         Ok(()) => 2,
         Err(IoError::Memory) => 3,
         Err(IoError::Failed) => 4,
