@@ -1,8 +1,8 @@
 -- The first place that passes a test, a place at a time.
-use Rattle.std.proofs.Common.{◌≡◌, ℕ, suc, ◌+◌, ◌-◌, ◌<◌, ◌≤◌, Bool, true, false, ltb, eqb, eq-eqb, ne_eqb, ◌≢◌, List, length, sym, ap, ◌∙◌, arith}
+use Rattle.std.proofs.Common.{◌≡◌, ℕ, suc, ◌+◌, ◌-◌, ◌<◌, ◌≤◌, Bool, true, false, ltb, eq-eqb, ne_eqb, ◌≢◌, List, length, ap, arith}
 use Rattle.std.proofs.lemmas.Bool.{lt-ltb}
 use Rattle.pat_lex.specs.declared.token.LexFlags.{LexFlags}
-use Rattle.pat_lex.specs.Comments.{first_place, newline_at, first_newline, skip, blank_end, blanks_end}
+use Rattle.pat_lex.specs.Comments.{first_place, newline_at, first_newline, skip, blank_end}
 
 one_more : (n i : ℕ) → i < n → n - i ≡ suc (n - (i + 1))
 one_more n i more = omega arith

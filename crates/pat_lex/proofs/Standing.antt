@@ -1,7 +1,6 @@
 -- A byte that passes a test stands within the text.
-use Rattle.std.proofs.Common.{◌≡◌, ℕ, zero, suc, ◌+◌, ◌<◌, ◌≤◌, ◌==◌, Bool, true, false, List, [], ◌∷◌, length, get_or, refl, arith}
-use Rattle.pat_lex.specs.Bytes.{passes_at, stands, run_end, digits_end}
-use Rattle.pat_lex.specs.Quantifiers.{is_counted}
+use Rattle.std.proofs.Common.{◌≡◌, ℕ, zero, suc, ◌<◌, ◌≤◌, ◌==◌, Bool, true, false, List, [], ◌∷◌, length, get_or, refl, arith}
+use Rattle.pat_lex.specs.Bytes.{passes_at, stands}
 
 pub passes_within : (text : List ℕ) (test : ℕ → Bool) (i : ℕ) → passes_at text test i ≡ true → i < length text
 passes_within [] test i here = cc

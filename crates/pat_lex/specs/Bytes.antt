@@ -1,5 +1,5 @@
 -- How the bytes of a pattern are read. A place is a number of bytes from the pattern's begin.
-use Rattle.std.specs.Prelude.{ℕ, ◌+◌, ◌*◌, ◌^◌, min, Bool, false, ◌==◌, ◌||◌, List, [], ◌∷◌, drop, fold, Option, Some, None, slice_get, slice_range, nat_eq, codes}
+use Rattle.std.specs.Prelude.{ℕ, ◌+◌, ◌*◌, ◌^◌, min, Bool, false, ◌==◌, ◌||◌, List, [], ◌∷◌, drop, fold, Some, None, slice_get, slice_range, nat_eq, codes}
 use Rattle.std.specs.List.{prefix_len, starts_with}
 use Rattle.std.specs.Char.{digit_value, is_digit, is_ascii_alphanumeric}
 use Prim.Native.String.{String}

@@ -1,5 +1,5 @@
 -- Classes (pcre2pattern, "Square brackets and character classes", "POSIX character classes").
-use Rattle.std.specs.Prelude.{ℕ, ◌+◌, Bool, true, false, not, ◌&&◌, ◌||◌, ◌==◌, List, [], ◌∷◌, drop, Option, Some, None, Ok, slice_get, slice_range, if◌then◌else◌, codes}
+use Rattle.std.specs.Prelude.{ℕ, ◌+◌, true, false, not, ◌&&◌, ◌||◌, ◌==◌, List, [], ◌∷◌, drop, Option, Some, None, Ok, slice_get, slice_range, if◌then◌else◌, codes}
 use Rattle.std.specs.Str.{bytes_eq}
 use Rattle.std.specs.Char.{is_ascii_alphanumeric}
 use Rattle.pat_tree.specs.declared.nodes.SetName.{SetName}

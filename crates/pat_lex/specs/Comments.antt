@@ -1,6 +1,6 @@
 -- What is passed over: comments (pcre2pattern, "Comments"), and the white space that EXTENDED ignores (pcre2api,
 -- "PCRE2_EXTENDED").
-use Rattle.std.specs.Prelude.{ℕ, zero, suc, ◌+◌, ◌-◌, Bool, true, false, not, ◌&&◌, ◌||◌, ◌==◌, nat_lt, List, [], ◌∷◌, length, Ok, if◌then◌else◌}
+use Rattle.std.specs.Prelude.{ℕ, zero, suc, ◌+◌, ◌-◌, Bool, not, ◌&&◌, ◌||◌, ◌==◌, nat_lt, List, length, Ok, if◌then◌else◌}
 use Rattle.std.specs.Int.{is_in_range}
 use Rattle.byte_lanes.specs.Newlines.{newline_len}
 use Rattle.pat_tree.specs.Newlines.{end_kind}

@@ -1,7 +1,7 @@
 -- What follows a backslash (pcre2pattern, "Backslash").
-use Rattle.std.specs.Prelude.{ℕ, ◌+◌, ◌-◌, min, bit_xor, Bool, true, false, not, ◌&&◌, ◌||◌, ◌==◌, nat_lt, nat_le, List, Option, Some, None, Ok, slice_get, if◌then◌else◌}
+use Rattle.std.specs.Prelude.{ℕ, ◌+◌, min, bit_xor, Bool, true, false, not, ◌&&◌, ◌||◌, ◌==◌, nat_lt, nat_le, List, Option, Some, None, Ok, slice_get, if◌then◌else◌}
 use Rattle.std.specs.Int.{is_in_range}
-use Rattle.std.specs.Char.{is_ascii_digit, is_ascii_alphabetic, is_ascii_alphanumeric, to_ascii_uppercase}
+use Rattle.std.specs.Char.{is_ascii_digit, is_ascii_alphabetic, to_ascii_uppercase}
 use Rattle.pat_tree.specs.declared.nodes.SetName.TheVariants.{Digit, Space, Word, H, V}
 use Rattle.pat_lex.specs.declared.token.LexFlags.{LexFlags}
 use Rattle.pat_lex.specs.declared.token.Target.TheVariants.{Number}

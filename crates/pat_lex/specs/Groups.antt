@@ -1,7 +1,7 @@
 -- What an opening parenthesis begins (pcre2pattern, "Groups", "Assertions", "Conditional groups").
 use Rattle.std.specs.Prelude.{ℕ, ◌+◌, true, false, not, ◌&&◌, ◌||◌, ◌==◌, List, length, Option, Some, None, Ok, slice_get, if◌then◌else◌}
 use Rattle.std.specs.Str.{byte}
-use Rattle.std.specs.Char.{is_ascii_digit, is_ascii_alphabetic}
+use Rattle.std.specs.Char.{is_ascii_alphabetic}
 use Rattle.pat_lex.specs.declared.token.OpenKind.{OpenKind}
 use Rattle.pat_lex.specs.declared.token.OpenKind.TheVariants.{Capture, Plain, Atomic, BranchReset, Named, Look}
 use Rattle.pat_lex.specs.declared.token.Target.TheVariants.{Number}

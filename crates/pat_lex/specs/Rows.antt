@@ -1,5 +1,5 @@
 -- Worked rows: the token at a place of a pattern.
-use Rattle.std.specs.Prelude.{◌≡◌, ℕ, Bool, true, false, codes, Option, Some, None, Ok}
+use Rattle.std.specs.Prelude.{◌≡◌, ℕ, Bool, true, false, codes, None, Ok}
 use Prim.Native.String.{String}
 use Rattle.pat_tree.specs.declared.nodes.SetName.TheVariants.{Alpha}
 use Rattle.pat_tree.specs.declared.options.Newline.TheVariants.{Lf}
@@ -10,7 +10,7 @@ use Rattle.pat_lex.specs.declared.token.OpenKind.TheVariants as open_kind
 use Rattle.pat_lex.specs.declared.token.CondText.TheVariants.{InCallOf}
 use Rattle.pat_lex.specs.declared.token.VerbKind.TheVariants.{Mark}
 use Rattle.pat_lex.specs.declared.token.QuantMode.TheVariants.{Possessive}
-use Rattle.pat_lex.specs.declared.token.Token.TheVariants.{Literal, Set, Reference, Open, OptionSet, CondStart, CalloutItem, VerbItem, Quantifier, Passed}
+use Rattle.pat_lex.specs.declared.token.Token.TheVariants.{Literal, Set, Reference, Open, OptionSet, CondStart, CalloutItem, VerbItem, Quantifier}
 use Rattle.pat_lex.specs.Tell.{Lexed, fault}
 use Rattle.pat_lex.specs.Tokens.{token_at}
 

@@ -1,5 +1,5 @@
 -- The token that begins at a place of a pattern, and the place after it (pcre2pattern).
-use Rattle.std.specs.Prelude.{ℕ, ◌+◌, ◌&&◌, ◌||◌, ◌==◌, nat_lt, List, Option, Some, None, Ok, slice_get, if◌then◌else◌}
+use Rattle.std.specs.Prelude.{ℕ, ◌+◌, ◌&&◌, nat_lt, List, Some, None, Ok, slice_get, if◌then◌else◌}
 use Rattle.pat_lex.specs.declared.token.LexFlags.{LexFlags}
 use Rattle.pat_lex.specs.declared.token.Token.TheVariants.{End, Literal, Dot, Caret, Dollar, Bar, Close, QuoteOff, Passed}
 use Rattle.pat_lex.specs.Bytes.{◌∈◌, is_at}

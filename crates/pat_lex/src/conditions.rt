@@ -1,6 +1,6 @@
 //! The tests of conditional groups (pcre2pattern, "Conditional groups").
 ghost use Rattle.std.specs.Prelude.{◌≡◌, ◌+◌, ◌<◌, ◌≤◌, length};
-ghost use Rattle.pat_lex.specs.Tell.{IsSound};
+ghost use Rattle.pat_lex.specs.Tell.{IsSound, IsTest};
 ghost use Rattle.pat_lex.specs.Conditions.{named_test, test_closed, quoted_test, call_test, bare_test, numbered_test, test, condition};
 
 use crate::bytes::{Run, begins, byte, numeral, run_end, stands};
@@ -14,7 +14,9 @@ use crate::token::{CondText, Target, Token};
 fn named_test(text: &[u8], from: usize, to: usize) -> CondText
     requires order { from < to }
     requires within { to ≤ length text.now }
-    ensures { result ≡ named_test text.now from to }
+    requires short { to ≤ from + 32 }
+    ensures value { result ≡ named_test text.now from to }
+    ensures well { IsTest text.now result }
 {
     let word = &text[from..to];
     if word == b"DEFINE".as_slice() {
@@ -34,6 +36,7 @@ fn named_test(text: &[u8], from: usize, to: usize) -> CondText
 fn test_closed(text: &[u8], at: usize, cond: CondText, to: usize) -> Result<(Token, usize), Fault>
     requires order { at + 3 ≤ to }
     requires within { to ≤ length text.now }
+    requires well { IsTest text.now cond }
     ensures value { result ≡ test_closed text.now at cond to }
     ensures sound { IsSound text.now at result }
 {

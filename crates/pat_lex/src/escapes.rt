@@ -1,6 +1,6 @@
 //! What follows a backslash (pcre2pattern, "Backslash").
-ghost use Rattle.std.specs.Prelude.{◌≡◌, ◌+◌, ◌<◌, ◌≤◌, false, length, IfSome};
-ghost use Rattle.pat_lex.specs.Tell.{IsSound, is_end};
+ghost use Rattle.std.specs.Prelude.{◌≡◌, ◌+◌, ◌<◌, ◌≤◌, ℕ, List, false, length, IfSome};
+ghost use Rattle.pat_lex.specs.Tell.{IsSound, IsWell, is_end};
 ghost use Rattle.pat_lex.specs.Escapes.{everywhere, outside, control, property, property_named, not_newline, greatest, octal, braced, hexadecimal, coded, numbered_escape, longer, escape};
 
 use crate::bytes::{Run, byte, is_letter, numeral, run_end, stands};
@@ -18,6 +18,7 @@ use pat_tree::SetName;
 pub(crate) fn everywhere(c: u8) -> Option<Token>
     ensures value { result ≡ everywhere c }
     ensures inside { IfSome result (λ token. is_end token ≡ false) }
+    ensures well { IfSome result (λ token. (text : List ℕ) → IsWell text token) }
 {
     let token = match c {
         b'a' => Token::Literal(0x07),
@@ -78,6 +79,7 @@ pub(crate) fn everywhere(c: u8) -> Option<Token>
 fn outside(c: u8) -> Option<Token>
     ensures value { result ≡ outside c }
     ensures inside { IfSome result (λ token. is_end token ≡ false) }
+    ensures well { IfSome result (λ token. (text : List ℕ) → IsWell text token) }
 {
     let token = match c {
         b'b' => Token::Boundary { not: false },

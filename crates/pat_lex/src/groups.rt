@@ -1,6 +1,6 @@
 //! What an opening parenthesis begins (pcre2pattern, "Groups", "Assertions", "Conditional groups").
-ghost use Rattle.std.specs.Prelude.{◌≡◌, ◌+◌, ◌<◌, ◌≤◌, length};
-ghost use Rattle.pat_lex.specs.Tell.{IsSound};
+ghost use Rattle.std.specs.Prelude.{◌≡◌, ◌+◌, ◌<◌, ◌≤◌, ℕ, List, length, IfSome};
+ghost use Rattle.pat_lex.specs.Tell.{IsSound, IsKind};
 ghost use Rattle.pat_lex.specs.Groups.{opened_by, named_group, angle, python, whole_call, number_or_setting, special, group};
 
 use crate::bytes::{byte, is_letter, stands};
@@ -17,7 +17,8 @@ use crate::verbs::{look, star_word};
 /// The group that one character after `(?` opens.
 #[tactic(auto, unfolding(crate::specs::Groups::opened_by))]
 fn opened_by(c: u8) -> Option<OpenKind>
-    ensures { result ≡ opened_by c }
+    ensures value { result ≡ opened_by c }
+    ensures well { IfSome result (λ kind. (text : List ℕ) → IsKind text kind) }
 {
     match c {
         b':' => Some(OpenKind::Plain),

@@ -1,6 +1,6 @@
 //! The token that begins at a place of a pattern.
 ghost use Rattle.std.specs.Prelude.{◌≡◌, ◌+◌, ◌<◌, ◌≤◌, length, IfOk, IfErr, IsTrue};
-ghost use Rattle.pat_lex.specs.Tell.{IsSound, Moves, is_own};
+ghost use Rattle.pat_lex.specs.Tell.{IsSound, IsWell, Moves, is_own};
 ghost use Rattle.pat_lex.specs.Tokens.{quoted, rest, plain, token_at};
 
 use crate::bytes::{byte, stands};
@@ -81,6 +81,9 @@ pub fn next_token(text: &[u8], at: usize, flags: LexFlags) -> Result<(Token, usi
 
     // The end is a token exactly at the text's length. Every other token is followed by a later place within the text.
     ensures moves { IfOk result (λ r. Moves text.now at r.0 r.1) }
+
+    // A token's parts stand in the text, its numbers fit, and its minimum isn't past its maximum.
+    ensures well { IfOk result (λ r. IsWell text.now r.0) }
 
     // A fault has a number of the list of a token's own faults, and a place in the text or at its end.
     ensures number { IfErr result (λ f. IsTrue (is_own f.number)) }

@@ -1,5 +1,5 @@
 //! Names of groups (pcre2pattern, "Named capture groups").
-ghost use Rattle.std.specs.Prelude.{◌≡◌, ◌<◌, ◌≤◌, length, IfOk, IfErr};
+ghost use Rattle.std.specs.Prelude.{◌≡◌, ◌+◌, ◌<◌, ◌≤◌, length, IfOk, IfErr};
 ghost use Rattle.pat_lex.specs.Tell.{IsTold};
 ghost use Rattle.pat_lex.specs.Names.{name_end};
 
@@ -15,7 +15,7 @@ pub(crate) fn name_end(text: &[u8], at: usize, from: usize, close: u8) -> Result
     requires at { at ≤ length text.now }
     requires from { from ≤ length text.now }
     ensures value { result ≡ name_end text.now at from close }
-    ensures found { IfOk result (λ to. (from < to) × (to < length text.now)) }
+    ensures found { IfOk result (λ to. (from < to) × (to ≤ from + 32) × (to < length text.now)) }
     ensures told { IfErr result (IsTold text.now) }
 {
     let to = run_end(text, Run::Word, from);

@@ -1,5 +1,5 @@
 //! Quantifiers (pcre2pattern, "Repetition").
-ghost use Rattle.std.specs.Prelude.{◌≡◌, ◌+◌, ◌<◌, ◌≤◌, length, IsTrue, ℕ};
+ghost use Rattle.std.specs.Prelude.{◌≡◌, ◌+◌, ◌<◌, ◌≤◌, length, IsTrue, IfSome, ℕ};
 ghost use Rattle.pat_lex.specs.Tell.{IsSound};
 ghost use Rattle.pat_lex.specs.Quantifiers.{is_counted, with_mode, counted};
 
@@ -39,7 +39,8 @@ pub(crate) fn with_mode(
     max: Option<u16>,
     i: usize,
 ) -> Result<(Token, usize), Fault>
-    requires { i ≤ length text.now }
+    requires within { i ≤ length text.now }
+    requires order { IfSome max (λ most. min ≤ most) }
     ensures value { result ≡ with_mode text.now flags min max i }
     ensures sound { (at : ℕ) → at < i → IsSound text.now at result }
 {

@@ -1,6 +1,6 @@
 //! Which group a backreference or a call is of (pcre2pattern, "Backreferences", "Groups as subroutines").
 ghost use Rattle.std.specs.Prelude.{◌≡◌, ◌+◌, ◌<◌, ◌≤◌, length, IsTrue, IfOk, IfErr};
-ghost use Rattle.pat_lex.specs.Tell.{IsTold, IsSound};
+ghost use Rattle.pat_lex.specs.Tell.{IsTold, IsTarget, IsSound};
 ghost use Rattle.pat_lex.specs.Targets.{digits_start, begins_number, numbered, enclosed, named_reference, named_call, group_escape, name_escape, numbered_call};
 
 use crate::bytes::{Run, is_digit, numeral, run_end, stands};
@@ -43,7 +43,7 @@ pub(crate) fn numbered(text: &[u8], at: usize, from: usize) -> Result<(Target, u
     requires at { at ≤ length text.now }
     requires from { from ≤ length text.now }
     ensures value { result ≡ numbered text.now at from }
-    ensures found { IfOk result (λ r. (from ≤ r.1) × (r.1 ≤ length text.now)) }
+    ensures found { IfOk result (λ r. (from ≤ r.1) × (r.1 ≤ length text.now) × IsTarget text.now r.0) }
     ensures told { IfErr result (IsTold text.now) }
 {
     let digits = digits_start(text, from);
@@ -82,7 +82,7 @@ pub(crate) fn numbered(text: &[u8], at: usize, from: usize) -> Result<(Target, u
 fn enclosed(text: &[u8], at: usize, close: u8) -> Result<(Target, usize), Fault>
     requires { at + 3 ≤ length text.now }
     ensures value { result ≡ enclosed text.now at close }
-    ensures found { IfOk result (λ r. (at < r.1) × (r.1 ≤ length text.now)) }
+    ensures found { IfOk result (λ r. (at < r.1) × (r.1 ≤ length text.now) × IsTarget text.now r.0) }
     ensures told { IfErr result (IsTold text.now) }
 {
     if begins_number(text, at + 3) {

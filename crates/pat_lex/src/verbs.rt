@@ -1,7 +1,7 @@
 //! What begins with `(*` and a word: verbs (pcre2pattern, "Backtracking control"), groups by name ("Groups",
 //! "Assertions"), and items for the very start ("Special start-of-pattern items").
-ghost use Rattle.std.specs.Prelude.{◌≡◌, ◌+◌, ◌<◌, ◌≤◌, length};
-ghost use Rattle.pat_lex.specs.Tell.{IsSound};
+ghost use Rattle.std.specs.Prelude.{◌≡◌, ◌+◌, ◌<◌, ◌≤◌, ℕ, List, length, IfSome};
+ghost use Rattle.pat_lex.specs.Tell.{IsSound, IsKind};
 ghost use Rattle.pat_lex.specs.Verbs.{start_word, verb_word, group_word, is_script_run, named_verb, closed_word, colon_word, limit, star_word};
 
 use crate::bytes::{Run, numeral, run_end, stands};
@@ -96,7 +96,8 @@ pub(crate) fn look(ahead: bool, positive: bool, atomic: bool) -> OpenKind
 /// The group of a word before `:`.
 #[tactic(auto, unfolding(crate::specs::Verbs::group_word))]
 fn group_word(word: &[u8]) -> Option<OpenKind>
-    ensures { result ≡ group_word word.now }
+    ensures value { result ≡ group_word word.now }
+    ensures well { IfSome result (λ kind. (text : List ℕ) → IsKind text kind) }
 {
     if word == b"atomic".as_slice() {
         Some(OpenKind::Atomic)
