@@ -11,13 +11,13 @@ use Rattle.pat_lex.specs.Settings.{set_by, unset_by, setting_closed, setting}
 use Rattle.pat_lex.specs.Conditions.{named_test, bare_test, test, condition}
 use Rattle.pat_lex.specs.Callouts.{string_callout, callout}
 use Rattle.pat_lex.specs.Verbs.{verb_word, named_verb, colon_word, star_word}
-use Rattle.pat_lex.specs.Groups.{opened_by, named_group, angle, special, number_or_setting, group}
+use Rattle.pat_lex.specs.Groups.{opened_by, named_group, angle, special, group}
 use Rattle.pat_lex.specs.Tokens.{rest, plain, token_at}
 use Rattle.pat_lex.specs.Rows.{WorkedRows}
 use Rattle.byte_lanes.specs.Newlines.{stands}
 
 pub rows_hold : WorkedRows
-unfolding run_end numeral name_end newline_at first_newline line_end blank_end blanks_end is_counted with_mode counted everywhere outside octal braced hexadecimal coded numbered_escape longer escape digits_start begins_number posix_set posix_end posix bracket in_class set_by unset_by setting_closed setting named_test bare_test test condition string_callout callout verb_word named_verb colon_word star_word opened_by named_group angle special number_or_setting group rest plain token_at stands
+unfolding run_end numeral name_end newline_at first_newline line_end blank_end blanks_end is_counted with_mode counted everywhere outside octal braced hexadecimal coded numbered_escape longer escape digits_start begins_number posix_set posix_end posix bracket in_class set_by unset_by setting_closed setting named_test bare_test test condition string_callout callout verb_word named_verb colon_word star_word opened_by named_group angle special group rest plain token_at stands
 rows_hold = record {
   backwards = refl;
   no_minimum = refl;

@@ -1,5 +1,5 @@
 -- What an opening parenthesis begins (pcre2pattern, "Groups", "Assertions", "Conditional groups").
-use Rattle.std.specs.Prelude.{ℕ, ◌+◌, true, false, not, ◌&&◌, ◌||◌, ◌==◌, List, length, Option, Some, None, Ok, slice_get, if◌then◌else◌}
+use Rattle.std.specs.Prelude.{ℕ, ◌+◌, true, false, ◌&&◌, ◌||◌, ◌==◌, List, length, Option, Some, None, Ok, slice_get, if◌then◌else◌}
 use Rattle.std.specs.Str.{byte}
 use Rattle.std.specs.Char.{is_ascii_alphabetic}
 use Rattle.pat_lex.specs.declared.token.OpenKind.{OpenKind}
@@ -55,14 +55,6 @@ module _ (text : List ℕ) where
   unfoldable pub whole_call : ℕ → Lexed
   whole_call at = if is_at text ")" (at + 3) then Ok (CallTo (Number 0), at + 4) else fault 114 (length text)
 
-  -- a call by a number, or an option setting
-  unfoldable pub number_or_setting : ℕ → ℕ → Lexed
-  number_or_setting c at =
-      if begins_number text (at + 2) then numbered_call text at
-      else if not (c ∈ "+") then setting text at
-      else if at + 3 == length text then fault 114 (length text)
-      else fault 111 at
-
   -- `(?` and the byte after it
   unfoldable pub special : ℕ → ℕ → Lexed
   special c at = elim (opened_by c) [
@@ -76,7 +68,8 @@ module _ (text : List ℕ) where
         else if c ∈ "R" then whole_call at
         else if c ∈ "C" then callout text at
         else if c ∈ "(" then condition text at
-        else number_or_setting c at
+        else if begins_number text (at + 2) then numbered_call text at
+        else setting text at
   ]
 
   -- An asterisk with neither a letter nor a colon after it is a quantifier after `(`.

@@ -1,7 +1,7 @@
 //! What an opening parenthesis begins (pcre2pattern, "Groups", "Assertions", "Conditional groups").
 ghost use Rattle.std.specs.Prelude.{◌≡◌, ◌+◌, ◌<◌, ◌≤◌, ℕ, List, length, IfSome};
 ghost use Rattle.pat_lex.specs.Tell.{IsSound, IsKind};
-ghost use Rattle.pat_lex.specs.Groups.{opened_by, named_group, angle, python, whole_call, number_or_setting, special, group};
+ghost use Rattle.pat_lex.specs.Groups.{opened_by, named_group, angle, python, whole_call, special, group};
 
 use crate::bytes::{byte, is_letter, stands};
 use crate::callouts::callout;
@@ -123,31 +123,8 @@ fn special(text: &[u8], c: u8, at: usize) -> Result<(Token, usize), Fault>
         b'R' => whole_call(text, at),
         b'C' => callout(text, at),
         b'(' => condition(text, at),
-        _ => number_or_setting(text, c, at),
-    }
-}
-
-/// `(?` before a call by a number, or an option setting.
-#[tactic(auto, unfolding(crate::specs::Groups::number_or_setting))]
-fn number_or_setting(text: &[u8], c: u8, at: usize) -> Result<(Token, usize), Fault>
-    requires { at + 3 ≤ length text.now }
-    ensures value { result ≡ number_or_setting text.now c at }
-    ensures sound { IsSound text.now at result }
-{
-    if begins_number(text, at + 2) {
-        numbered_call(text, at)
-    } else if c != b'+' {
-        setting(text, at)
-    } else if at + 3 == text.len() {
-        Err(Fault {
-            number: UNCLOSED_GROUP,
-            at: text.len(),
-        })
-    } else {
-        Err(Fault {
-            number: UNKNOWN_GROUP,
-            at,
-        })
+        _ if begins_number(text, at + 2) => numbered_call(text, at),
+        _ => setting(text, at),
     }
 }
 
