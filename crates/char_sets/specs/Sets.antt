@@ -62,7 +62,7 @@ abbrev pub no_class : ClassSpec
 no_class = record { negated = false; caseless = false; parts = [] }
 
 -- the class of this number in the tree takes c; a number of no class takes nothing
-abbrev pub class_has : TreeParts → ℕ → ℕ → Bool
+unfoldable pub class_has : TreeParts → ℕ → ℕ → Bool
 class_has tree class c = takes (slice_index_or tree.classes class no_class) c
 
 -- a part that asks for no property of Unicode

@@ -46,7 +46,7 @@ abbrev pub no_chars : CharSet
 no_chars = record { bytes = []; edges = [] }
 
 -- whether the class of this number takes c, by the table
-abbrev pub table_has : List CharSet → ℕ → ℕ → Bool
+unfoldable pub table_has : List CharSet → ℕ → ℕ → Bool
 table_has table class c = char_in (slice_index_or table class no_chars) c
 
 -- a table of the tree's classes: each takes what its class takes

@@ -52,6 +52,7 @@ impl ClassTable {
 
     /// Whether the class takes the character of number `c`. It is one look-up where `c` is below 256. Counts one test.
     #[inline]
+    #[tactic(auto, unfolding(crate::specs::Table::table_has))]
     pub fn has<L: Ledger>(&self, class: u32, c: u32, steps: &mut Steps<L>) -> bool
         requires { class < length self.now }
         ensures value { result ≡ table_has self.now class c }
