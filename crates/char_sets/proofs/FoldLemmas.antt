@@ -1,11 +1,10 @@
 -- The two cases of a letter.
-use Rattle.std.proofs.Common.{◌≡◌, ℕ, ◌-◌, ◌+◌, Bool, true, false, cond, ◌||◌, ◌⊎◌, inl, inr, List, [], ◌∷◌, refl, sym, ap, ◌∙◌, arith, subst}
+use Rattle.std.proofs.Common.{◌≡◌, ℕ, ◌-◌, Bool, true, false, cond, ◌||◌, ◌⊎◌, inl, inr, List, [], ◌∷◌, refl, sym, ap, ◌∙◌, arith}
 use Rattle.std.proofs.lemmas.Bool.Decides.{nat_tests}
-use Rattle.std.proofs.lemmas.Bool.{cases_Bool}
 use Rattle.std.specs.Int.{IsInRange, is_in_range}
 use Rattle.std.specs.List.{list_any}
 use Rattle.uni_text.specs.Ascii.{ascii_fold, is_letter}
-use Rattle.char_sets.specs.Sets.{same_folding, range_has}
+use Rattle.char_sets.specs.Sets.{range_has}
 
 fold_small : (c : ℕ) → is_letter c ≡ true → ascii_fold (ascii_fold c) ≡ ascii_fold c
 fold_small c h = grind (arith, nat_tests)

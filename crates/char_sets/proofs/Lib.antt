@@ -2,3 +2,4 @@ pub mod BitLemmas
 pub mod EdgeLemmas
 pub mod FoldLemmas
 pub mod PlaceLemmas
+pub mod TableLemmas

@@ -1,5 +1,5 @@
 -- Classes as they are written, at single characters.
-use Rattle.std.specs.Prelude.{◌≡◌, ℕ, Bool, true, false, List, [], ◌∷◌}
+use Rattle.std.specs.Prelude.{◌≡◌, Bool, true, false, List, [], ◌∷◌}
 use Rattle.pat_tree.specs.declared.nodes.SetName.TheVariants.{Space, Word, Alpha, Upper, H}
 use Rattle.pat_tree.specs.declared.nodes.Part.{Part}
 use Rattle.pat_tree.specs.declared.nodes.Part.TheVariants.{Range, Set}

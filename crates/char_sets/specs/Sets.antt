@@ -1,5 +1,5 @@
 -- Which characters a class takes (pcre2pattern, "Square brackets and character classes", "Generic character types" and "POSIX character classes").
-use Rattle.std.specs.Prelude.{ℕ, ◌-◌, Bool, true, false, not, ◌&&◌, ◌||◌, ◌==◌, if◌then◌else◌, List, [], ◌∷◌}
+use Rattle.std.specs.Prelude.{ℕ, ◌-◌, Bool, true, false, not, ◌&&◌, ◌||◌, ◌==◌, if◌then◌else◌, List, [], ◌∷◌, slice_index_or, All, IsTrue}
 use Rattle.std.specs.Int.{is_in_range}
 use Rattle.std.specs.List.{list_any}
 use Rattle.pat_tree.specs.declared.nodes.SetName.{SetName}
@@ -7,6 +7,7 @@ use Rattle.pat_tree.specs.declared.nodes.SetName.TheVariants.{Digit, Space, Word
 use Rattle.pat_tree.specs.declared.nodes.Part.{Part}
 use Rattle.pat_tree.specs.declared.nodes.Part.TheVariants.{Range, Set}
 use Rattle.pat_tree.specs.declared.nodes.ClassSpec.{ClassSpec}
+use Rattle.pat_tree.specs.Parts.{TreeParts}
 use Rattle.uni_text.specs.Ascii.{is_digit, is_capital, is_small, is_letter, is_word_char, ascii_fold}
 
 -- a set without UCP. Space is HT, LF, VT, FF, CR and space; a number of no property holds of nothing
@@ -56,3 +57,19 @@ abbrev pub takes : ClassSpec → ℕ → Bool
 takes spec c =
     let inside = list_any (λ part. part_has spec.caseless part c) spec.parts in
     if spec.negated then not inside else inside
+
+abbrev pub no_class : ClassSpec
+no_class = record { negated = false; caseless = false; parts = [] }
+
+-- the class of this number in the tree takes c; a number of no class takes nothing
+unfoldable pub class_has : TreeParts → ℕ → ℕ → Bool
+class_has tree class c = takes (slice_index_or tree.classes class no_class) c
+
+-- a part that asks for no property of Unicode
+abbrev pub is_plain : Part → Bool
+is_plain (Range from to) = true
+is_plain (Set (Property n) reversed ucp) = false
+is_plain (Set set reversed ucp) = not ucp
+
+abbrev pub IsPlain : ClassSpec → Type 0
+IsPlain class = All (λ part. IsTrue (is_plain part)) class.parts

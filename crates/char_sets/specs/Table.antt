@@ -3,6 +3,8 @@ use Rattle.std.specs.Prelude.{◌≡◌, ℕ, ◌<◌, ◌/◌, ◌%◌, Bool, f
 use Rattle.std.specs.Int.{bit_at}
 use Rattle.std.specs.List.{range_with_len}
 use Rattle.std.specs.List.Sorted.{IsNonDecreasingBy}
+use Rattle.pat_tree.specs.Parts.{TreeParts}
+use Rattle.char_sets.specs.Sets.{class_has}
 use Rattle.char_sets.specs.declared.edges.Edge.{Edge}
 
 -- bit b % 64 of word b / 64 is set
@@ -44,5 +46,10 @@ abbrev pub no_chars : CharSet
 no_chars = record { bytes = []; edges = [] }
 
 -- whether the class of this number takes c, by the table
-abbrev pub table_has : List CharSet → ℕ → ℕ → Bool
+unfoldable pub table_has : List CharSet → ℕ → ℕ → Bool
 table_has table class c = char_in (slice_index_or table class no_chars) c
+
+-- a table of the tree's classes: each takes what its class takes
+pub record IsTableOf (tree : TreeParts) (table : List CharSet) : Type 0 where
+  pub count : length table ≡ length tree.classes
+  pub answers : (class c : ℕ) → table_has table class c ≡ class_has tree class c

@@ -3,10 +3,9 @@ ghost use Rattle.std.specs.Prelude.{◌≡◌, ℕ, ◌<◌, ◌||◌, ◌==◌,
 ghost use Rattle.char_sets.specs.Sets as spec;
 ghost use Rattle.char_sets.specs.Table.{has_byte};
 
+use crate::sets::takes;
 use pat_tree::ClassSpec;
 use std::marker::Model;
-
-use crate::sets::takes;
 
 /// A set of bytes. A contract sees it as a flag for each byte.
 // Byte b is bit b % 64 of word b / 64.

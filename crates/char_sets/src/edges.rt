@@ -7,7 +7,7 @@ use pat_tree::{Memory, Part, SetName};
 
 /// From this character on, up to the next edge, a class takes all characters or none.
 #[derive(Clone, Copy, Debug)]
-pub struct Edge {
+pub(crate) struct Edge {
     pub from: u64,
     pub takes: bool,
 }

@@ -4,13 +4,12 @@ ghost use Rattle.char_sets.specs.Sets as spec;
 ghost use Rattle.char_sets.specs.Table.{answer_at, char_in, edge_at, IsEdges};
 ghost use Rattle.char_sets.specs.Places.{AllSteady};
 
-use pat_tree::{ClassSpec, Memory, Part};
-use std::alloc::Global;
-use std::marker::Model;
-
 use crate::bytes::ByteBits;
 use crate::edges::{Edge, add_places};
 use crate::sets::takes;
+use pat_tree::{ClassSpec, Memory, Part};
+use std::alloc::Global;
+use std::marker::Model;
 
 /// The characters that one class takes.
 #[derive(Drop)]

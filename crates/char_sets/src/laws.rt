@@ -5,11 +5,9 @@ ghost use Rattle.char_sets.specs.Rows.{WorkedRows};
 /// In a class that takes any case, a range holds of a character where one of the same folding lies in it.
 pub fn ranges_fold()
     ensures { RangesFold }
-{
-}
+{}
 
 /// The definitions computed on small classes.
 pub fn worked_rows()
     ensures { WorkedRows }
-{
-}
+{}

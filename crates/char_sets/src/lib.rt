@@ -6,5 +6,9 @@ mod edges;
 mod entry;
 mod laws;
 mod sets;
+mod table;
+#[cfg(test)]
+mod tests;
 
 pub use laws::{ranges_fold, worked_rows};
+pub use table::ClassTable;

@@ -7,6 +7,7 @@ ghost use Rattle.uni_text.specs.Ascii as ascii;
 ghost use Rattle.char_sets.specs.Sets as spec;
 
 use pat_tree::{ClassSpec, Part, SetName};
+use uni_text::is_word;
 
 /// Whether the class takes `c`.
 pub(crate) fn takes(class: &ClassSpec, c: u64) -> bool
@@ -51,12 +52,6 @@ fn is_within(from: u32, to: u32, c: u64) -> bool
     from as u64 <= c && c <= to as u64
 }
 
-fn is_letter(c: u64) -> bool
-    ensures { result ≡ ascii.is_letter c }
-{
-    matches!(c, 0x41..=0x5A | 0x61..=0x7A)
-}
-
 /// The set that stands for one in a class that takes any case.
 fn any_case(set: SetName) -> SetName
     ensures { result ≡ spec.any_case set }
@@ -71,24 +66,36 @@ fn set_has(set: SetName, c: u64) -> bool
     ensures { result ≡ spec.set_has set c }
 {
     match set {
-        SetName::Digit => matches!(c, 0x30..=0x39),
+        SetName::Digit => is_digit(c),
         SetName::Space => matches!(c, 0x09..=0x0D | 0x20),
-        SetName::Word => matches!(c, 0x30..=0x39 | 0x41..=0x5A | 0x5F | 0x61..=0x7A),
-        SetName::Alpha => matches!(c, 0x41..=0x5A | 0x61..=0x7A),
-        SetName::Alnum => matches!(c, 0x30..=0x39 | 0x41..=0x5A | 0x61..=0x7A),
+        SetName::Word => c <= 0x7F && is_word(c as u32, false),
+        SetName::Alpha => is_letter(c),
+        SetName::Alnum => is_letter(c) || is_digit(c),
         SetName::Lower => matches!(c, 0x61..=0x7A),
         SetName::Upper => matches!(c, 0x41..=0x5A),
         SetName::Blank => matches!(c, 0x09 | 0x20),
         SetName::Cntrl => matches!(c, 0..=0x1F | 0x7F),
         SetName::Graph => matches!(c, 0x21..=0x7E),
         SetName::Print => matches!(c, 0x20..=0x7E),
-        SetName::Punct => matches!(c, 0x21..=0x2F | 0x3A..=0x40 | 0x5B..=0x60 | 0x7B..=0x7E),
+        SetName::Punct => matches!(c, 0x21..=0x7E) && !is_letter(c) && !is_digit(c),
         SetName::Ascii => c <= 0x7F,
         SetName::Xdigit => matches!(c, 0x30..=0x39 | 0x41..=0x46 | 0x61..=0x66),
         SetName::H => is_horizontal(c),
         SetName::V => matches!(c, 0x0A..=0x0D | 0x85 | 0x2028..=0x2029),
         SetName::Property(_) => false,
     }
+}
+
+fn is_digit(c: u64) -> bool
+    ensures { result ≡ ascii.is_digit c }
+{
+    matches!(c, 0x30..=0x39)
+}
+
+fn is_letter(c: u64) -> bool
+    ensures { result ≡ ascii.is_letter c }
+{
+    matches!(c, 0x41..=0x5A | 0x61..=0x7A)
 }
 
 /// The characters of `\h`.

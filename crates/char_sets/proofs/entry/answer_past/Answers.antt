@@ -1,4 +1,4 @@
-use Rattle.std.proofs.Common.{◌≡◌, ◌<◌, suc, false, length, get_or, sym, subst, arith}
+use Rattle.std.proofs.Common.{◌≡◌, ◌<◌, suc, false, get_or, sym, subst, arith}
 use Rattle.char_sets.specs.declared.edges.Edge.{Edge}
 use Rattle.char_sets.proofs.EdgeLemmas.{answer_at-last}
 use Rattle.char_sets.proofs.entry.answer_past.Goals as goal

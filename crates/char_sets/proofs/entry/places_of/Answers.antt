@@ -1,4 +1,4 @@
-use Rattle.std.proofs.Common.{Bool, ◌≡◌, ap, sym, subst, below_more, ◌<◌, arith}
+use Rattle.std.proofs.Common.{subst, below_more, arith}
 use Rattle.std.proofs.lemmas.List.{get_or_default}
 use Rattle.pat_tree.specs.declared.nodes.Part.{Part}
 use Rattle.char_sets.specs.Places.{IsSteady}

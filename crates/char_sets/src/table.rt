@@ -1,0 +1,65 @@
+//! The classes of a tree as tables.
+ghost use Rattle.std.specs.Prelude.{◌≡◌, ◌+◌, ◌<◌, false, All, IfOk, length};
+ghost use Rattle.pat_tree.specs.Parts.{TreeParts};
+ghost use Rattle.char_sets.specs.Sets.{class_has, IsPlain};
+ghost use Rattle.char_sets.specs.Table.{table_has, IsTableOf};
+
+use crate::entry::Entry;
+use pat_tree::{Memory, Steps, Tree};
+use std::alloc::Global;
+use std::marker::Model;
+use std::sync::ledger::Ledger;
+
+/// The classes of a tree, made for testing characters. A contract sees what each class keeps, and reads it by `table_has` alone.
+#[derive(Drop)]
+pub struct ClassTable {
+    entries: Vec<Entry>,
+}
+
+impl Model for ClassTable {
+    ghost use Rattle.std.specs.Prelude.{List, length, ◌<◌, ◌^◌};
+    ghost use Rattle.char_sets.specs.Table.{CharSet};
+
+    ghost Value = { List CharSet };
+
+    ghost view = { λ t. t.entries.items };
+
+    ghost invariant = { λ t. length t.entries.items < 2 ^ 32 };
+}
+
+impl ClassTable {
+    /// The table of a tree's classes (pcre2pattern, "Square brackets and character classes", "Generic character types" and "POSIX
+    /// character classes"). Needs a tree without UTF whose sets are those without UCP and name no property. Fails for want of memory alone.
+    pub fn build(alloc: Global, tree: &Tree) -> Result<ClassTable, Memory>
+        requires bytes { tree.now.options.utf ≡ false }
+        requires plain { All IsPlain tree.now.classes }
+        ensures { IfOk result (IsTableOf tree.now) }
+    {
+        let mut entries = Vec::new(alloc);
+        for id in 0..tree.classes() {
+            let entry = Entry::of(alloc, tree.class(id))?;
+            entries.push(entry)?;
+        }
+        Ok(ClassTable { entries })
+    }
+
+    /// How many classes there are. They are numbered from 0, as in the tree.
+    pub fn count(&self) -> u32
+        ensures { result ≡ length self.now }
+    {
+        self.entries.len() as u32
+    }
+
+    /// Whether the class takes the character of number `c`. It is one look-up where `c` is below 256. Counts one test.
+    #[inline]
+    #[tactic(auto, unfolding(crate::specs::Table::table_has))]
+    pub fn has<L: Ledger>(&self, class: u32, c: u32, steps: &mut Steps<L>) -> bool
+        requires { class < length self.now }
+        ensures value { result ≡ table_has self.now class c }
+        ensures holds { (tree : TreeParts) → IsTableOf tree self.now → result ≡ class_has tree class c }
+        ensures tick { steps.new ≡ steps.old + 1 }
+    {
+        steps.tick();
+        self.entries[class as usize].has(c)
+    }
+}
