@@ -1,1 +1,4 @@
+pub mod Newlines
+pub mod OneItem
+pub mod ItemRuns
 mod RowProofs

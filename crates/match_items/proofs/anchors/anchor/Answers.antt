@@ -9,11 +9,11 @@ pub returns-in-Dollar-true-default-clause-holds : goal.returns-in-Dollar-true-de
 returns-in-Dollar-true-default-clause-holds c =
     let a = c.in-Dollar-true-default in
     let P : AnchorKind → Type 0 = λ kind. c.line_end.result.holds ≡ holds (bare_scene c.args.view.now) kind c.args.at in
-    subst P (sym (a.is ∙ ap (λ (multi : Bool). Dollar multi a.end_only) a.multi-is)) (c.line_end.ensures.holds a.end_only)
+    subst P (sym (a.is ∙ ap (λ (multi : Bool). Dollar multi a.end_only) a.multi-test)) (c.line_end.ensures.holds a.end_only)
 
 pub returns-in-Dollar-true-default-clause-at_end :
     goal.returns-in-Dollar-true-default-clause-at_end
 returns-in-Dollar-true-default-clause-at_end c =
     let a = c.in-Dollar-true-default in
     let P : AnchorKind → Type 0 = λ kind. c.line_end.result.at_end ≡ anchor_reaches (bare_scene c.args.view.now) kind c.args.at in
-    subst P (sym (a.is ∙ ap (λ (multi : Bool). Dollar multi a.end_only) a.multi-is)) (c.line_end.ensures.at_end a.end_only)
+    subst P (sym (a.is ∙ ap (λ (multi : Bool). Dollar multi a.end_only) a.multi-test)) (c.line_end.ensures.at_end a.end_only)
