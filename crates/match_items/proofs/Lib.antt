@@ -1,4 +1,6 @@
+pub mod ItemRuns
+pub mod Longest
 pub mod Newlines
 pub mod OneItem
-pub mod ItemRuns
+pub mod Texts
 mod RowProofs

@@ -1,10 +1,11 @@
 -- Newlines at the end of the bytes, and in a part of them.
-use Rattle.std.proofs.Common.{Bool, true, false, ◌&&◌, ◌||◌, ◌==◌, ◌≡◌, ℕ, suc, ◌+◌, ◌-◌, ◌<◌, ◌≤◌, List, [], ◌∷◌, length, take, get_or, max, nat_lt, nat_le, refl, sym, ap, ◌∙◌, arith, if◌then◌else◌, length-take, inl, inr}
+use Rattle.std.proofs.Common.{Bool, true, false, ◌&&◌, ◌||◌, ◌==◌, ◌≡◌, ℕ, suc, ◌+◌, ◌-◌, ◌<◌, ◌≤◌, List, [], ◌∷◌, length, take, get_or, max, nat_lt, nat_le, refl, sym, ap, ◌∙◌, arith, if◌then◌else◌, length-take, inl, inr, min, subst, take_all}
 use Rattle.std.proofs.Math.Bool.{and-false}
 use Rattle.std.proofs.lemmas.Bool.Decides.{nat_tests}
-use Rattle.std.proofs.lemmas.Bool.{cases_Bool, and_parts, eqb-true}
+use Rattle.std.proofs.lemmas.Bool.{cases_Bool, cases_lt, and_parts, eqb-true}
 use Rattle.std.proofs.lemmas.List.{get_or-take}
 use Rattle.byte_lanes.specs.Newlines.{longest, newline_len, stands}
+use Rattle.byte_lanes.specs.Places.{IsLeast}
 use Rattle.byte_lanes.specs.declared.line_end.EndKind.{EndKind}
 use Rattle.byte_lanes.specs.declared.line_end.EndKind.TheVariants as kind
 use Rattle.pat_tree.specs.declared.options.Newline.{Newline}
@@ -104,3 +105,35 @@ newline_in n bytes m p h l = cases n (λ b. stands_one_in b bytes m p (omega ari
     cases newline.AnyCrLf one two = simp (one, two)
     cases newline.Any one two = simp (one, two)
     cases newline.Nul one two = simp one
+
+-- The first newline of the bytes up to one past a limit ends the characters before the limit at which none begins.
+
+newline_near : (n : Newline) (bytes : List ℕ) (near limit k : ℕ) → limit ≤ length bytes → near ≡ min (length bytes) (limit + 1) → k < limit → newline_len (end_kind n false) (take near bytes) k ≡ newline_len (end_kind n false) bytes k
+newline_near n bytes near limit k h e l = elim (cases_lt limit (length bytes)) [
+  | inl before ↦ newline_in n bytes near k (omega arith) (omega arith)
+  | inr at ↦ ap (λ (bs : List ℕ). newline_len (end_kind n false) bs k) (take_all near bytes (omega arith))
+]
+
+positive : (n : ℕ) → (n == 0) ≡ false → 0 < n
+positive n e = grind (arith, nat_tests)
+
+not_zero : (n : ℕ) → 0 < n → (n == 0) ≡ false
+not_zero n h = grind (arith, nat_tests)
+
+pub line_least : (n : Newline) (bytes : List ℕ) (near start limit at r : ℕ) → start ≤ limit → limit ≤ length bytes → near ≡ min (length bytes) (limit + 1)
+    → IsLeast (λ k. 0 < newline_len (end_kind n false) (take near bytes) k) start (length (take near bytes)) at → r ≡ min at limit
+    → IsLeast (λ k. (newline_len (end_kind n false) bytes k == 0) ≡ false) start limit r
+line_least n bytes near start limit at r ordered within e least er =
+    let size = length-take near bytes in
+    let low = least.low in
+    record {
+      low = omega arith;
+      high = omega arith;
+      before = λ k a l there.
+          least.before k a (omega arith) (let same = newline_near n bytes near limit k within e (omega arith) in let some_there = positive _ there in omega arith);
+      holds = λ l.
+          let same = newline_near n bytes near limit r within e l in
+          let here : r ≡ at = omega arith in
+          let found : 0 < newline_len (end_kind n false) (take near bytes) at = least.holds (omega arith) in
+          not_zero _ (subst (λ (m : ℕ). 0 < m) (ap (newline_len (end_kind n false) (take near bytes)) (sym here) ∙ same) found);
+    }
