@@ -1,3 +1,4 @@
 pub mod Scene
 pub mod Items
+pub mod Views
 pub mod Rows

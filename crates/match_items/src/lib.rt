@@ -2,6 +2,16 @@
 //! whether the test reaches the subject's end (pcre2pattern, pcre2partial).
 #![tactic(auto)]
 
+mod anchors;
+mod items;
 mod laws;
+mod references;
+mod runs;
+mod view;
 
+pub use anchors::{anchor, break_step};
+pub use items::step;
 pub use laws::worked_rows;
+pub use references::ref_step;
+pub use runs::run_len;
+pub use view::{Held, ItemRun, Taken, View};

@@ -1,0 +1,65 @@
+-- What a view shows, and how the answers of the tests are told.
+use Rattle.std.specs.Prelude.{ℕ, ◌+◌, ◌-◌, Bool, true, false, ◌==◌, nat_lt, if◌then◌else◌, List, [], ◌∷◌, Option, Some, None}
+use Rattle.pat_tree.specs.declared.nodes.Item.{Item}
+use Rattle.pat_tree.specs.declared.nodes.Item.TheVariants.{Class}
+use Rattle.pat_tree.specs.declared.nodes.AnchorKind.{AnchorKind}
+use Rattle.pat_tree.specs.declared.nodes.AnchorKind.TheVariants.{Word, NotWord}
+use Rattle.uni_text.specs.Ascii.{ascii_fold, is_word_char}
+use Rattle.char_sets.specs.Table.{CharSet, table_has}
+use Rattle.match_items.specs.declared.view.View.{View}
+use Rattle.match_items.specs.declared.view.Taken.{Taken}
+use Rattle.match_items.specs.declared.view.Taken.TheVariants.{Took, No, AtEnd}
+use Rattle.match_items.specs.Scene.{Scene}
+use Rattle.match_items.specs.Items.{is_end, is_none_left, one_less}
+
+-- what stands fixed while the view's subject is searched; a class holds of what its table takes
+abbrev pub scene_of : View → List CharSet → Scene
+scene_of view table = record {
+  options = view.options.now;
+  matching = view.matching.now;
+  subject = view.subject.now;
+  start = view.start;
+  class_has = table_has table;
+  fold = ascii_fold;
+  is_word = is_word_char;
+}
+
+-- the same for a test that asks no class
+abbrev pub bare_scene : View → Scene
+bare_scene view = scene_of view []
+
+-- the place after what is taken, else whether the end is reached
+abbrev pub told : Option ℕ → Bool → Taken
+told (Some q) reaches = Took q
+told None true = AtEnd
+told None false = No
+
+-- the greatest number of 32 bits stands for no maximum
+abbrev pub maximum : ℕ → Option ℕ
+maximum most = if most == 4294967295 then None else Some most
+
+-- the last of the places, or p
+abbrev pub end_of : ℕ → List ℕ → ℕ
+end_of p [] = p
+end_of p (q ∷ qs) = end_of q qs
+
+-- how many tests of classes the item makes at a place: one where it is a class and a character stands there
+abbrev pub step_tests : Scene → Item → ℕ → ℕ
+step_tests g (Class n) p = if is_end g p then 0 else 1
+step_tests g _ p = 0
+
+-- and over a run: at p and at each place after it, the last one only where the maximum is not reached
+unfoldable pub run_tests : Scene → Item → Option ℕ → ℕ → List ℕ → ℕ
+run_tests g item most p [] = if is_none_left most then 0 else step_tests g item p
+run_tests g item most p (q ∷ qs) = step_tests g item p + run_tests g item (one_less most) q qs
+
+-- the assertion asks for the word characters of Unicode
+abbrev pub asks_ucp : AnchorKind → Bool
+asks_ucp (Word ucp) = ucp
+asks_ucp (NotWord ucp) = ucp
+asks_ucp _ = false
+
+-- the tests of a class between two places, and at the second one where it is before the limit
+abbrev pub span_tests : Item → ℕ → ℕ → ℕ → ℕ
+span_tests (Class n) from to limit = (to - from) + (if nat_lt to limit then 1 else 0)
+span_tests _ from to limit = 0

@@ -1,0 +1,185 @@
+//! Simple assertions, and `\R`.
+ghost use Rattle.std.specs.Prelude.{◌≡◌, ◌<◌, ◌≤◌, ◌||◌, true, false, length};
+ghost use Rattle.match_items.specs.Items as items;
+ghost use Rattle.match_items.specs.Items.{after_break, break_reaches, holds, anchor_reaches, is_close, is_boundary};
+ghost use Rattle.match_items.specs.Views.{bare_scene, told, asks_ucp};
+
+use crate::view::{Held, Taken, View};
+use pat_tree::{AnchorKind, Bsr, Newline, newline_at, newline_before};
+use uni_text::is_word;
+
+/// Tests `\R` at a place (pcre2pattern, "Newline sequences"). It reaches the subject's end where it is tried there, and where it took
+/// a CR that is the last byte, which is told as taken (pcre2partial).
+///
+/// Needs a subject of fewer than 4,294,967,295 bytes without UTF, and a place in it.
+pub fn break_step(view: &View<'_>, at: usize) -> Taken
+    requires short { length view.now.subject.now < 4294967295 }
+    requires bytes { view.now.options.now.utf ≡ false }
+    requires place { at ≤ length view.now.subject.now }
+    ensures { let g = bare_scene view.now in result ≡ told (after_break g at) (break_reaches g at) }
+{
+    if at == view.subject.len() {
+        return Taken::AtEnd;
+    }
+    match break_len(view, at) {
+        0 => Taken::No,
+        len => Taken::Took(at + len),
+    }
+}
+
+/// The length of the newline sequence at a place, 0 where there is none.
+fn break_len(view: &View<'_>, at: usize) -> usize
+    requires bytes { view.now.options.now.utf ≡ false }
+    requires place { at ≤ length view.now.subject.now }
+    ensures { result ≡ items.break_len (bare_scene view.now) at }
+{
+    let newline = match view.options.bsr {
+        Bsr::Unicode => Newline::Any,
+        Bsr::AnyCrLf => Newline::AnyCrLf,
+    };
+    newline_at(view.subject, at, newline, false)
+}
+
+/// Tests a simple assertion at a place, and tells whether it reaches the subject's end (pcre2pattern, "Simple assertions",
+/// "Circumflex and dollar"; pcre2partial).
+///
+/// Needs a subject of fewer than 4,294,967,295 bytes without UTF, a place in it, and no word characters of Unicode.
+pub fn anchor(view: &View<'_>, kind: AnchorKind, at: usize) -> Held
+    requires short { length view.now.subject.now < 4294967295 }
+    requires bytes { view.now.options.now.utf ≡ false }
+    requires place { at ≤ length view.now.subject.now }
+    requires ascii { asks_ucp kind ≡ false }
+    ensures holds { result.holds ≡ holds (bare_scene view.now) kind at }
+    ensures at_end { result.at_end ≡ anchor_reaches (bare_scene view.now) kind at }
+{
+    let end = at == view.subject.len();
+    match kind {
+        AnchorKind::Caret { multi } => inside(caret(view, multi, at)),
+        AnchorKind::Dollar { multi: true, .. } => line_end(view, at),
+        AnchorKind::Dollar { end_only, .. } => dollar(view, end_only, at),
+        AnchorKind::SubjectStart => inside(at == 0),
+        AnchorKind::SubjectEnd => Held {
+            holds: end,
+            at_end: end,
+        },
+        AnchorKind::EndOrNewline => close(view, at),
+        AnchorKind::StartGiven => inside(at == view.start),
+        AnchorKind::Word { .. } => Held {
+            holds: is_boundary(view, at),
+            at_end: end,
+        },
+        AnchorKind::NotWord { .. } => Held {
+            holds: !is_boundary(view, at),
+            at_end: end,
+        },
+    }
+}
+
+/// An answer that does not reach the end.
+fn inside(holds: bool) -> Held
+    ensures holds { result.holds ≡ holds }
+    ensures at_end { result.at_end ≡ false }
+{
+    Held {
+        holds,
+        at_end: false,
+    }
+}
+
+/// `^`
+fn caret(view: &View<'_>, multi: bool, at: usize) -> bool
+    requires bytes { view.now.options.now.utf ≡ false }
+    requires place { at ≤ length view.now.subject.now }
+    ensures { result ≡ holds (bare_scene view.now) (AnchorKind.Caret multi) at }
+{
+    if at == 0 {
+        return !view.matching.notbol;
+    }
+    multi && at < view.subject.len() && newline_before(view.subject, at, view.options.newline, false) > 0
+}
+
+/// `$` under MULTILINE
+fn line_end(view: &View<'_>, at: usize) -> Held
+    requires bytes { view.now.options.now.utf ≡ false }
+    requires place { at ≤ length view.now.subject.now }
+    ensures holds { (end_only : _) → result.holds ≡ holds (bare_scene view.now) (AnchorKind.Dollar true end_only) at }
+    ensures at_end { (end_only : _) → result.at_end ≡ anchor_reaches (bare_scene view.now) (AnchorKind.Dollar true end_only) at }
+{
+    if at == view.subject.len() {
+        let holds = !view.matching.noteol;
+        return Held {
+            holds,
+            at_end: holds,
+        };
+    }
+    Held {
+        holds: newline_at(view.subject, at, view.options.newline, false) > 0,
+        at_end: is_half_newline(view, at),
+    }
+}
+
+/// `$` without MULTILINE
+fn dollar(view: &View<'_>, end_only: bool, at: usize) -> Held
+    requires bytes { view.now.options.now.utf ≡ false }
+    requires place { at ≤ length view.now.subject.now }
+    ensures holds { result.holds ≡ holds (bare_scene view.now) (AnchorKind.Dollar false end_only) at }
+    ensures at_end { result.at_end ≡ anchor_reaches (bare_scene view.now) (AnchorKind.Dollar false end_only) at }
+{
+    let here = if end_only {
+        at == view.subject.len()
+    } else {
+        is_close(view, at)
+    };
+    let holds = here && !view.matching.noteol;
+    Held {
+        holds,
+        at_end: holds || is_half_newline(view, at),
+    }
+}
+
+/// `\Z`
+fn close(view: &View<'_>, at: usize) -> Held
+    requires bytes { view.now.options.now.utf ≡ false }
+    requires place { at ≤ length view.now.subject.now }
+    ensures holds { result.holds ≡ is_close (bare_scene view.now) at }
+    ensures at_end { result.at_end ≡ (is_close (bare_scene view.now) at || items.is_half_newline (bare_scene view.now) at) }
+{
+    let holds = is_close(view, at);
+    Held {
+        holds,
+        at_end: holds || is_half_newline(view, at),
+    }
+}
+
+/// Whether the place is the end, or a newline stands there that ends at the end.
+fn is_close(view: &View<'_>, at: usize) -> bool
+    requires bytes { view.now.options.now.utf ≡ false }
+    requires place { at ≤ length view.now.subject.now }
+    ensures { result ≡ is_close (bare_scene view.now) at }
+{
+    if at == view.subject.len() {
+        return true;
+    }
+    let len = newline_at(view.subject, at, view.options.newline, false);
+    len > 0 && len == view.subject.len() - at
+}
+
+/// Whether the last byte stands there, and may be the first half of a newline CRLF.
+pub(crate) fn is_half_newline(view: &View<'_>, at: usize) -> bool
+    requires { at ≤ length view.now.subject.now }
+    ensures { result ≡ items.is_half_newline (bare_scene view.now) at }
+{
+    let is_last = view.subject.len() - at == 1;
+    is_last && view.subject[at] == b'\r' && matches!(view.options.newline, Newline::CrLf)
+}
+
+/// Whether a word character of ASCII stands on one side alone.
+fn is_boundary(view: &View<'_>, at: usize) -> bool
+    requires bytes { view.now.options.now.utf ≡ false }
+    requires place { at ≤ length view.now.subject.now }
+    ensures { result ≡ is_boundary (bare_scene view.now) false at }
+{
+    let before = at > 0 && is_word(view.subject[at - 1] as u32, false);
+    let after = at < view.subject.len() && is_word(view.subject[at] as u32, false);
+    before != after
+}
