@@ -1,5 +1,5 @@
 -- The longest run of an item over bytes, up to the first one that it does not take, the end, or the maximum.
-use Rattle.std.proofs.Common.{Bool, true, false, not, ◌&&◌, ◌||◌, ◌==◌, ◌≡◌, ℕ, zero, suc, ◌+◌, ◌-◌, ◌<◌, ◌≤◌, List, [], ◌∷◌, Option, Some, None, length, get_or, min, nat_lt, refl, sym, ap, subst, ◌∙◌, arith, if◌then◌else◌, inl, inr}
+use Rattle.std.proofs.Common.{Bool, true, false, not, ◌&&◌, ◌||◌, ◌==◌, ◌≡◌, ℕ, ◌+◌, ◌-◌, ◌<◌, ◌≤◌, Some, None, length, get_or, min, nat_lt, refl, sym, ap, subst, ◌∙◌, arith, if◌then◌else◌, inl, inr}
 use Rattle.std.proofs.Math.Bool.{and-false}
 use Rattle.std.proofs.lemmas.Bool.{cases_Bool, cases_lt}
 use Rattle.std.proofs.lemmas.Bool.Decides.{nat_tests}
@@ -10,7 +10,7 @@ use Rattle.match_items.specs.Scene.{Scene, is_crlf}
 use Rattle.match_items.specs.Items.{is_none_left, is_end, is_half_newline, takes, after_item, item_reaches, longest_run, run_reaches}
 use Rattle.match_items.specs.Views.{end_of, maximum, step_tests, run_tests, span_tests}
 use Rattle.match_items.proofs.OneItem.{is_end-before, is_end-at, after_item-before, after_item-end, item_reaches-no, if_taken}
-use Rattle.match_items.proofs.ItemRuns.{places_after, less, Allows, Stops, all_seen, maximum_reached, not_taken, places_are, reaches_last, reaches_some, no_tests, tests_of_run, length-places, end-places, or_true, or_false, either_zero}
+use Rattle.match_items.proofs.ItemRuns.{places_after, less, Allows, Stops, maximum_reached, not_taken, places_are, reaches_last, reaches_some, no_tests, tests_of_run, length-places, end-places, or_true, or_false, either_zero}
 
 -- a test that is not false
 holds_if : (b : Bool) → (b ≡ false → ⊥) → b ≡ true

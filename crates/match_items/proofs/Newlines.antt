@@ -1,10 +1,10 @@
 -- Newlines at the end of the bytes, and in a part of them.
-use Rattle.std.proofs.Common.{Bool, true, false, ◌&&◌, ◌||◌, ◌==◌, ◌≡◌, ℕ, suc, ◌+◌, ◌-◌, ◌<◌, ◌≤◌, List, [], ◌∷◌, length, take, get_or, max, nat_lt, nat_le, refl, sym, ap, ◌∙◌, arith, if◌then◌else◌, length-take, inl, inr, min, subst, take_all}
+use Rattle.std.proofs.Common.{Bool, true, false, ◌&&◌, ◌==◌, ◌≡◌, ℕ, ◌+◌, ◌<◌, ◌≤◌, List, [], ◌∷◌, length, take, get_or, nat_lt, refl, sym, ap, ◌∙◌, arith, length-take, inl, inr, min, subst, take_all}
 use Rattle.std.proofs.Math.Bool.{and-false}
 use Rattle.std.proofs.lemmas.Bool.Decides.{nat_tests}
 use Rattle.std.proofs.lemmas.Bool.{cases_Bool, cases_lt, and_parts, eqb-true}
 use Rattle.std.proofs.lemmas.List.{get_or-take}
-use Rattle.byte_lanes.specs.Newlines.{longest, newline_len, stands}
+use Rattle.byte_lanes.specs.Newlines.{newline_len, stands}
 use Rattle.byte_lanes.specs.Places.{IsLeast}
 use Rattle.byte_lanes.specs.declared.line_end.EndKind.{EndKind}
 use Rattle.byte_lanes.specs.declared.line_end.EndKind.TheVariants as kind

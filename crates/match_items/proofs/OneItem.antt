@@ -1,17 +1,15 @@
 -- One item at one place of bytes.
-use Rattle.std.proofs.Common.{Bool, true, false, ◌&&◌, ◌||◌, ◌==◌, ◌≡◌, ℕ, ◌+◌, ◌<◌, ◌≤◌, List, [], ◌∷◌, Option, Some, None, length, get_or, nat_lt, nat_le, refl, sym, ap, subst, ◌∙◌, arith, if◌then◌else◌, inl, inr}
-use Rattle.std.proofs.lemmas.Bool.{cases_Bool, and_parts, eqb-true}
+use Rattle.std.proofs.Common.{Bool, true, false, ◌==◌, ◌≡◌, ℕ, ◌+◌, ◌<◌, ◌≤◌, Option, Some, None, length, get_or, nat_lt, refl, sym, ap, ◌∙◌, arith, inl, inr}
+use Rattle.std.proofs.lemmas.Bool.{cases_Bool}
 use Rattle.std.proofs.lemmas.Bool.Decides.{nat_tests}
 use Rattle.pat_tree.specs.declared.nodes.Item.{Item}
 use Rattle.pat_tree.specs.declared.nodes.Item.TheVariants.{Char, AnyAll, NotNewline, Class}
 use Rattle.uni_text.specs.Characters.{char_at}
-use Rattle.match_items.specs.declared.view.Taken.{Taken}
 use Rattle.match_items.specs.declared.view.Taken.TheVariants as taken
 use Rattle.match_items.specs.Scene.{Scene}
 use Rattle.match_items.specs.Items.{is_end, next, takes, after_item, item_reaches, is_half_newline, newline_at, break_len, after_break, break_reaches}
 use Rattle.match_items.specs.Views.{told}
 use Rattle.match_items.proofs.Newlines.{newline_past, break_at_cr, no_newline_at_half}
-
 
 abbrev pub if_taken : Bool → ℕ → Option ℕ
 if_taken b q = elim b as (λ _. Option ℕ) [ true ↦ Some q | false ↦ None ]

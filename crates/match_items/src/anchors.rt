@@ -55,8 +55,7 @@ pub fn anchor(view: &View<'_>, kind: AnchorKind, at: usize) -> Held
     let end = at == view.subject.len();
     match kind {
         AnchorKind::Caret { multi } => inside(caret(view, multi, at)),
-        AnchorKind::Dollar { multi: true, .. } => line_end(view, at),
-        AnchorKind::Dollar { end_only, .. } => dollar(view, end_only, at),
+        AnchorKind::Dollar { multi, end_only } => dollar(view, multi, end_only, at),
         AnchorKind::SubjectStart => inside(at == 0),
         AnchorKind::SubjectEnd => Held {
             holds: end,
@@ -95,7 +94,9 @@ fn caret(view: &View<'_>, multi: bool, at: usize) -> bool
     if at == 0 {
         return !view.matching.notbol;
     }
-    multi && at < view.subject.len() && newline_before(view.subject, at, view.options.newline, false) > 0
+    multi
+        && at < view.subject.len()
+        && newline_before(view.subject, at, view.options.newline, false) > 0
 }
 
 /// `$` under MULTILINE
@@ -118,13 +119,16 @@ fn line_end(view: &View<'_>, at: usize) -> Held
     }
 }
 
-/// `$` without MULTILINE
-fn dollar(view: &View<'_>, end_only: bool, at: usize) -> Held
+/// `$`
+fn dollar(view: &View<'_>, multi: bool, end_only: bool, at: usize) -> Held
     requires bytes { view.now.options.now.utf ≡ false }
     requires place { at ≤ length view.now.subject.now }
-    ensures holds { result.holds ≡ holds (bare_scene view.now) (AnchorKind.Dollar false end_only) at }
-    ensures at_end { result.at_end ≡ anchor_reaches (bare_scene view.now) (AnchorKind.Dollar false end_only) at }
+    ensures holds { result.holds ≡ holds (bare_scene view.now) (AnchorKind.Dollar multi end_only) at }
+    ensures at_end { result.at_end ≡ anchor_reaches (bare_scene view.now) (AnchorKind.Dollar multi end_only) at }
 {
+    if multi {
+        return line_end(view, at);
+    }
     let here = if end_only {
         at == view.subject.len()
     } else {

@@ -7,6 +7,8 @@ mod items;
 mod laws;
 mod references;
 mod runs;
+#[cfg(test)]
+mod tests;
 mod view;
 
 pub use anchors::{anchor, break_step};

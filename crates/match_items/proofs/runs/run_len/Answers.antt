@@ -1,4 +1,4 @@
-use Rattle.std.proofs.Common.{◌∙◌, ap, ◌+◌, sym, arith}
+use Rattle.std.proofs.Common.{◌∙◌, ap, ◌+◌, arith}
 use Rattle.match_items.specs.Views.{scene_of}
 use Rattle.match_items.proofs.Longest.{Found, count_is, to_is, at_end_is, tests_are}
 use Rattle.match_items.proofs.runs.run_len.Given as given
