@@ -1,6 +1,7 @@
 pub mod Runs
 pub mod Strings
 pub mod RowProofs
+pub mod LawProofs
 pub mod Lines
 pub mod Moving
 pub mod Letters

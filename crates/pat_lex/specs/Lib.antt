@@ -14,3 +14,4 @@ pub mod Verbs
 pub mod Groups
 pub mod Tokens
 pub mod Rows
+pub mod Laws

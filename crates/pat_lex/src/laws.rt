@@ -1,7 +1,25 @@
-//! Worked rows of the definitions.
+//! Laws on the definitions, and worked rows.
+ghost use Rattle.pat_lex.specs.Laws.{QuotedBytes, PlainBytes, ClassBytes};
 ghost use Rattle.pat_lex.specs.Rows.{WorkedRows};
 
 /// Twelve tokens computed from the definition, each as pcre2pattern has it.
 pub fn worked_rows()
     ensures { WorkedRows }
+{}
+
+/// Between `\Q` and `\E` every byte but a backslash stands for itself (pcre2pattern, "Backslash").
+pub fn quoted_bytes_stand_for_themselves()
+    ensures { QuotedBytes }
+{}
+
+/// Outside classes a byte that is no metacharacter stands for itself, where nothing is ignored (pcre2pattern, "Characters
+/// and metacharacters").
+pub fn plain_bytes_stand_for_themselves()
+    ensures { PlainBytes }
+{}
+
+/// In a class a byte that is none of its metacharacters stands for itself, where nothing is ignored (pcre2pattern, "Square
+/// brackets and character classes").
+pub fn class_bytes_stand_for_themselves()
+    ensures { ClassBytes }
 {}

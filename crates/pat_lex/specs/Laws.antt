@@ -1,0 +1,38 @@
+-- What holds of all texts.
+use Rattle.std.specs.Prelude.{◌≡◌, ℕ, ◌+◌, true, false, List, Some, Ok, slice_get}
+use Rattle.pat_lex.specs.declared.token.LexFlags.{LexFlags}
+use Rattle.pat_lex.specs.declared.token.Token.TheVariants.{Literal}
+use Rattle.pat_lex.specs.Bytes.{◌∈◌}
+use Rattle.pat_lex.specs.Comments.{is_extended}
+use Rattle.pat_lex.specs.Tokens.{token_at}
+
+-- Between `\Q` and `\E` every byte but a backslash stands for itself, in a class too, whatever is ignored.
+abbrev pub QuotedBytes : Type 0
+QuotedBytes =
+    (text : List ℕ) (flags : LexFlags) (at c : ℕ)
+    → flags.quoting ≡ true
+    → slice_get text at ≡ Some c
+    → c ∈ "\\" ≡ false
+    → token_at text flags at ≡ Ok (Literal c, at + 1)
+
+-- Outside classes a byte that is no metacharacter stands for itself, where nothing is ignored.
+abbrev pub PlainBytes : Type 0
+PlainBytes =
+    (text : List ℕ) (flags : LexFlags) (at c : ℕ)
+    → flags.quoting ≡ false
+    → flags.in_class ≡ false
+    → is_extended flags ≡ false
+    → slice_get text at ≡ Some c
+    → c ∈ "\\()|[.^$*+?{" ≡ false
+    → token_at text flags at ≡ Ok (Literal c, at + 1)
+
+-- In a class a byte that is no metacharacter of a class stands for itself, where nothing is ignored.
+abbrev pub ClassBytes : Type 0
+ClassBytes =
+    (text : List ℕ) (flags : LexFlags) (at c : ℕ)
+    → flags.quoting ≡ false
+    → flags.in_class ≡ true
+    → flags.extended_more ≡ false
+    → slice_get text at ≡ Some c
+    → c ∈ "]-[\\" ≡ false
+    → token_at text flags at ≡ Ok (Literal c, at + 1)
