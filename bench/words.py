@@ -7,7 +7,6 @@ ratio (below 1 is faster than the C library), whether the outputs agree, and the
 """
 import os
 import random
-import resource
 import subprocess
 import sys
 import tempfile
@@ -33,19 +32,34 @@ def make_input(path, size):
 
 
 def run(command, path):
-    """The time, the greatest resident size in KiB and the output of a command over a file as standard input."""
+    """The time and the output of a command over a file as standard input."""
     with open(path, "rb") as source, tempfile.TemporaryFile() as out:
         start = time.perf_counter()
-        child = subprocess.Popen(command, stdin=source, stdout=out)
-        _, status, usage = os.wait4(child.pid, 0)
+        subprocess.run(command, stdin=source, stdout=out, check=False)
         taken = time.perf_counter() - start
         out.seek(0)
-        return taken, usage.ru_maxrss, out.read()
+        return taken, out.read()
 
 
 def best(command, path):
     runs = [run(command, path) for _ in range(5)]
-    return min(r[0] for r in runs), max(r[1] for r in runs), runs[0][2]
+    return min(r[0] for r in runs), runs[0][1]
+
+
+def resident(command, path):
+    """The greatest resident size of a command over a file, in KiB, as the kernel tells it while the command runs."""
+    greatest = 0
+    with open(path, "rb") as source:
+        child = subprocess.Popen(command, stdin=source, stdout=subprocess.DEVNULL)
+        while child.poll() is None:
+            try:
+                with open(f"/proc/{child.pid}/status", encoding="ascii") as status:
+                    lines = [line.split() for line in status if line.startswith("VmHWM")]
+            except OSError:
+                break
+            greatest = max([greatest] + [int(line[1]) for line in lines])
+        child.wait()
+    return greatest
 
 
 def main():
@@ -54,13 +68,12 @@ def main():
         make_input(small, MEGABYTE)
         make_input(large, 100 * MEGABYTE)
         for word in WORDS:
-            ours, resident, output = best([OURS, word], large)
-            theirs, _, expected = best([THEIRS, "--no-jit", word], large)
-            _, resident_small, _ = best([OURS, word], small)
+            ours, output = best([OURS, word], large)
+            theirs, expected = best([THEIRS, "--no-jit", word], large)
             agree = "same output" if output == expected else "OUTPUT DIFFERS"
             print(
                 f"{word:6} ours {ours:.3f} s, theirs {theirs:.3f} s, ratio {ours / theirs:.2f}, {agree}; "
-                f"resident {resident_small} KiB at 1 MB, {resident} KiB at 100 MB"
+                f"resident {resident([OURS, word], small)} KiB at 1 MB, {resident([OURS, word], large)} KiB at 100 MB"
             )
 
 
