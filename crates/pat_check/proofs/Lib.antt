@@ -1,2 +1,5 @@
 mod RowProofs
 mod LengthLaw
+pub mod LeadLemmas
+pub mod NodeLemmas
+pub mod BuiltLemmas

@@ -4,3 +4,6 @@ pub mod Lead
 pub mod Size
 pub mod Rows
 pub mod HasLength
+pub mod Built
+pub mod Known
+pub mod Starts

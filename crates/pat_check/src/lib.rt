@@ -2,6 +2,11 @@
 //! bytes that it can begin with, and its size (pcre2pattern, "Lookbehind assertions"; pcre2api, "Information about a compiled pattern").
 #![tactic(auto)]
 
+mod facts;
+mod item_bytes;
 mod laws;
+mod leads;
+mod starts;
 
+pub use facts::{CheckError, Facts, check};
 pub use laws::{lengths_are_bounds, worked_rows};

@@ -1,0 +1,122 @@
+-- First bytes as they are kept, joined as the definition joins them.
+use Rattle.std.proofs.Common.{◌≡◌, ◌∙◌, ℕ, suc, ◌+◌, ◌-◌, ◌<◌, ◌≤◌, ◌||◌, ◌&&◌, ◌==◌, Bool, true, false, nat_lt, List, [], ◌∷◌, Option, Some, None, All, length, drop, get_or, refl, sym, ap, arith, drop-cons}
+use Rattle.std.proofs.lemmas.Bool.{eqb-true, false≢true}
+use Rattle.std.proofs.lemmas.List.{get_or_default}
+use Rattle.std.proofs.lemmas.List.Elements.{All-get_or}
+use Rattle.byte_lanes.specs.Sets.{has_byte}
+use Rattle.pat_check.specs.Lead.{Lead, SomeLead, begins, then_lead, either_lead}
+use Rattle.pat_check.specs.Starts.{IsLead, IsSomeLead, AreKept, lead_of_parts, lead_of_branches}
+use Rattle.pat_check.specs.declared.starts.Start.{Start}
+
+or_turned : (p q : Bool) → (p || q) ≡ (q || p)
+or_turned true true = refl
+or_turned true false = refl
+or_turned false true = refl
+or_turned false false = refl
+
+or_swap : (p q p' q' : Bool) → q ≡ q' → p ≡ p' → (p || q) ≡ (q' || p')
+or_swap p q p' q' e f = rw (e, f) (or_turned p' q')
+
+pub then_unknown : (x y : SomeLead) → IsSomeLead None x → IsSomeLead None (then_lead x y)
+then_unknown None y h = tt
+then_unknown (Some a) y h = absurd h
+
+pub then_stops : (r : Option Start) (first : Start) (x y : SomeLead) → first.passing ≡ false →
+    ((has : ℕ → Bool) → ((b : ℕ) → b < 256 → has_byte first.bytes b ≡ has b) → IsSomeLead r (begins has)) → IsSomeLead (Some first) x → IsSomeLead r (then_lead x y)
+then_stops r first None y e made h = absurd h
+then_stops r first (Some a) y e made h = stops r (made a.has h.bytes)
+  where
+    stopped : a.passing ≡ false
+    stopped = sym h.passing ∙ e
+
+    stops : (r : Option Start) → IsSomeLead r (begins a.has) → IsSomeLead r (then_lead (Some a) y)
+    stops None k = absurd k
+    stops (Some s) k = rw stopped (record { bytes = k.bytes; passing = k.passing ∙ sym stopped })
+
+pub then_unknown_rest : (first : Start) (x y : SomeLead) → first.passing ≡ true → IsSomeLead (Some first) x → IsSomeLead None y → IsSomeLead None (then_lead x y)
+then_unknown_rest first None y e h k = absurd h
+then_unknown_rest first (Some a) None e h k = rw (sym h.passing ∙ e) tt
+then_unknown_rest first (Some a) (Some b) e h k = absurd k
+
+pub then_goes_on : (first rest : Start) (bytes : List Bool) (x y : SomeLead) → first.passing ≡ true →
+    ((b : ℕ) → b < 256 → has_byte bytes b ≡ (has_byte rest.bytes b || has_byte first.bytes b)) →
+    IsSomeLead (Some first) x → IsSomeLead (Some rest) y → IsSomeLead (Some (record rest { bytes = bytes })) (then_lead x y)
+then_goes_on first rest bytes None y e added h k = absurd h
+then_goes_on first rest bytes (Some a) None e added h k = absurd k
+then_goes_on first rest bytes (Some a) (Some b) e added h k = rw (sym h.passing ∙ e) (record {
+  bytes = λ c l. added c l ∙ or_swap _ _ _ _ (h.bytes c l) (k.bytes c l);
+  passing = k.passing;
+})
+
+pub either_unknown : (x y : SomeLead) → IsSomeLead None x → IsSomeLead None (either_lead x y)
+either_unknown None y h = tt
+either_unknown (Some a) y h = absurd h
+
+pub either_unknown_rest : (x y : SomeLead) → IsSomeLead None y → IsSomeLead None (either_lead x y)
+either_unknown_rest None y h = tt
+either_unknown_rest (Some a) None h = tt
+either_unknown_rest (Some a) (Some b) h = absurd h
+
+pub either_joins : (one other : Start) (bytes : List Bool) (passing : Bool) (x y : SomeLead) → passing ≡ (one.passing || other.passing) →
+    ((b : ℕ) → b < 256 → has_byte bytes b ≡ (has_byte other.bytes b || has_byte one.bytes b)) →
+    IsSomeLead (Some one) x → IsSomeLead (Some other) y → IsSomeLead (Some (record { bytes = bytes; passing = passing })) (either_lead x y)
+either_joins one other bytes passing None y e added h k = absurd h
+either_joins one other bytes passing (Some a) None e added h k = absurd k
+either_joins one other bytes passing (Some a) (Some b) e added h k = record {
+  bytes = λ c l. added c l ∙ or_swap _ _ _ _ (h.bytes c l) (k.bytes c l);
+  passing = e ∙ rw (h.passing, k.passing) refl;
+}
+
+-- A list taken from its end.
+
+pub back : (xs : List ℕ) (i : ℕ) → 0 < i → i ≤ length xs → drop (i - 1) xs ≡ get_or xs (i - 1) 0 ∷ drop i xs
+back xs i p l =
+    let within : i - 1 < length xs = omega (arith, p, l) in
+    let one : suc (i - 1) ≡ i = omega (arith, p) in
+    drop-cons xs (i - 1) 0 within ∙ ap (λ j. get_or xs (i - 1) 0 ∷ drop j xs) one
+
+pub parts_back : (starts : List (Option Start)) (of : ℕ → SomeLead) (xs : List ℕ) (i : ℕ) (first whole next : Option Start) →
+    0 < i → i ≤ length xs → first ≡ get_or starts (get_or xs (i - 1) 0) None →
+    (AreKept starts of (drop i xs) → IsSomeLead whole (lead_of_parts of (drop i xs))) →
+    ((x y : SomeLead) → IsSomeLead first x → IsSomeLead whole y → IsSomeLead next (then_lead x y)) →
+    AreKept starts of (drop (i - 1) xs) → IsSomeLead next (lead_of_parts of (drop (i - 1) xs))
+parts_back starts of xs i first whole next p l is rest join =
+    rw (back xs i p l) (λ kept. join _ _ (rw is (kept 0 0 (omega arith))) (rest (λ k d l. kept (suc k) d (omega (arith, l)))))
+
+pub branches_back : (starts : List (Option Start)) (of : ℕ → SomeLead) (xs : List ℕ) (i : ℕ) (first whole next : Option Start) →
+    0 < i → i ≤ length xs → first ≡ get_or starts (get_or xs (i - 1) 0) None →
+    (AreKept starts of (drop i xs) → IsSomeLead whole (lead_of_branches of (drop i xs))) →
+    ((x y : SomeLead) → IsSomeLead first x → IsSomeLead whole y → IsSomeLead next (either_lead x y)) →
+    AreKept starts of (drop (i - 1) xs) → IsSomeLead next (lead_of_branches of (drop (i - 1) xs))
+branches_back starts of xs i first whole next p l is rest join =
+    rw (back xs i p l) (λ kept. join _ _ (rw is (kept 0 0 (omega arith))) (rest (λ k d l. kept (suc k) d (omega (arith, l)))))
+
+-- what is read at a number of the list
+pub read_at : (starts : List (Option Start)) (xs : List ℕ) (i : ℕ) (first : Option Start) → i < length xs → All (λ k. k < length starts) xs →
+    first ≡ get_or starts (get_or xs i 0) first → first ≡ get_or starts (get_or xs i 0) None
+read_at starts xs i first l all is = is ∙ get_or_default starts (get_or xs i 0) first None (All-get_or (λ k. k < length starts) xs i 0 l all)
+
+-- One more byte is added, or left out.
+
+lt_step : (k b : ℕ) → nat_lt k (b + 1) ≡ (nat_lt k b || k == b)
+lt_step k b = grind arith
+
+or_step : (p l e m : Bool) → (e ≡ true → m ≡ true) → ((p || (l && m)) || e) ≡ (p || ((l || e) && m))
+or_step true l e m h = refl
+or_step false true e true h = refl
+or_step false true false false h = refl
+or_step false true true false h = absurd (false≢true (h refl))
+or_step false false false m h = refl
+or_step false false true m h = sym (h refl)
+
+or_skip : (p l e m : Bool) → (e ≡ true → m ≡ false) → (p || (l && m)) ≡ (p || ((l || e) && m))
+or_skip true l e m h = refl
+or_skip false true e m h = refl
+or_skip false false false m h = refl
+or_skip false false true m h = sym (h refl)
+
+pub byte_added : (more : ℕ → Bool) (k b : ℕ) (p : Bool) → more b ≡ true → ((p || (nat_lt k b && more k)) || k == b) ≡ (p || (nat_lt k (b + 1) && more k))
+byte_added more k b p h = rw (lt_step k b) (or_step p (nat_lt k b) (k == b) (more k) (λ e. ap more (eqb-true k b e) ∙ h))
+
+pub byte_left : (more : ℕ → Bool) (k b : ℕ) (p : Bool) → more b ≡ false → (p || (nat_lt k b && more k)) ≡ (p || (nat_lt k (b + 1) && more k))
+byte_left more k b p h = rw (lt_step k b) (or_skip p (nat_lt k b) (k == b) (more k) (λ e. ap more (eqb-true k b e) ∙ h))

@@ -1,0 +1,29 @@
+-- What is told of a pattern, beside the definitions that it goes by.
+use Rattle.std.specs.Prelude.{◌≡◌, ℕ, ◌<◌, Bool, true, false, List, Option, Some, None}
+use Rattle.byte_lanes.specs.declared.line_end.EndKind.{EndKind}
+use Rattle.byte_lanes.specs.declared.line_end.EndKind.TheVariants as kind
+use Rattle.byte_lanes.specs.Sets.{has_byte}
+use Rattle.pat_tree.specs.declared.options.Bsr.{Bsr}
+use Rattle.pat_tree.specs.declared.options.Bsr.TheVariants as bsr
+use Rattle.pat_tree.specs.Newlines.{end_kind}
+use Rattle.pat_tree.specs.Parts.{TreeParts, tree_of}
+use Rattle.char_sets.specs.Sets.{class_has}
+use Rattle.pat_check.specs.Lead.{lead_set}
+
+-- the texts of `\R` (pcre2pattern, "Newline sequences")
+abbrev pub break_kind : Bsr → Bool → EndKind
+break_kind bsr.Unicode true = kind.AnyUtf
+break_kind bsr.Unicode false = kind.Any
+break_kind bsr.AnyCrLf utf = kind.AnyCrLf
+
+-- the bytes that every match of a finished tree begins with, by the folding in UTF
+abbrev pub lead_set_of : TreeParts → (ℕ → ℕ) → Option (ℕ → Bool)
+lead_set_of tree fold =
+    lead_set tree.options.utf (end_kind tree.options.newline tree.options.utf)
+    (break_kind tree.options.bsr tree.options.utf) (class_has tree) fold (tree_of tree)
+
+-- the set holds the bytes that pass the test, and there is none where there is no test
+abbrev pub IsByteSet : Option (List Bool) → Option (ℕ → Bool) → Type 0
+IsByteSet None None = Unit {0}
+IsByteSet (Some set) (Some test) = (b : ℕ) → b < 256 → has_byte set b ≡ test b
+IsByteSet _ _ = ⊥

@@ -1,0 +1,75 @@
+//! What is known of a pattern.
+ghost use Rattle.std.specs.Prelude.{◌≡◌, ℕ, false, IfOk};
+ghost use Rattle.pat_tree.specs.Parts.{tree_of};
+ghost use Rattle.char_sets.specs.Table.{IsTableOf};
+ghost use Rattle.pat_check.specs.Built.{IsBuilt};
+ghost use Rattle.pat_check.specs.Known.{IsByteSet, lead_set_of};
+ghost use Rattle.pat_check.specs.Nodes as nodes;
+ghost use Rattle.pat_check.specs.Starts.{lead_set_in};
+
+use crate::leads::lead_set;
+use byte_lanes::ByteSet;
+use char_sets::ClassTable;
+use pat_tree::{Memory, Steps, Tree};
+use std::alloc::Global;
+use std::marker::Brand;
+use std::sync::ledger::{Blank, Ledger};
+
+/// What is known of a pattern before any search.
+#[derive(Drop)]
+pub struct Facts {
+    /// The bytes that every match begins with, where they are known and each match takes one (pcre2api, "Option bits for
+    /// pcre2_compile()", PCRE2_NO_START_OPTIMIZE).
+    pub lead: Option<ByteSet>,
+    /// The pattern holds a lookbehind.
+    pub has_lookbehind: bool,
+}
+
+/// Why nothing is told of a pattern.
+#[derive(Clone, Copy, Debug, PartialEq, Eq)]
+pub enum CheckError {
+    /// Want of memory.
+    Memory,
+}
+
+impl From<Memory> for CheckError {
+    ghost from_gives = { λ _ _. Unit {0} };
+
+    fn from(_e: Memory) -> CheckError {
+        CheckError::Memory
+    }
+}
+
+/// What is known of a pattern, by its tree and the table of its classes. Needs a tree without UTF, and without atomic
+/// groups, lookarounds, conditions, calls, verbs and callouts. Fails for want of memory alone.
+pub fn check(alloc: Global, tree: &Tree, classes: &ClassTable) -> Result<Facts, CheckError>
+    requires built { IsBuilt (tree_of tree.now) }
+    requires bytes { tree.now.options.utf ≡ false }
+    requires table { IsTableOf tree.now classes.now }
+    ensures lead { (fold : ℕ → ℕ) → IfOk result (λ facts. IsByteSet facts.lead (lead_set_of tree.now fold)) }
+    ensures lookbehind { IfOk result (λ facts. facts.has_lookbehind ≡ nodes.has_lookbehind (tree_of tree.now)) }
+{
+    let lead = lead_of_whole::<Brand>(alloc, tree, classes, Blank::new(1))?;
+    Ok(Facts {
+        lead,
+        has_lookbehind: false,
+    })
+}
+
+/// The bytes that every match begins with, by a counter of its own.
+fn lead_of_whole<L: Ledger>(
+    alloc: Global,
+    tree: &Tree,
+    classes: &ClassTable,
+    blank: Blank,
+) -> Result<Option<ByteSet>, Memory>
+    requires name { blank.name ≡ L.name }
+    requires parts { blank.parts ≡ L.parts }
+    requires one { blank.parts ≡ 1 }
+    requires built { IsBuilt (tree_of tree.now) }
+    requires table { IsTableOf tree.now classes.now }
+    ensures { (fold : ℕ → ℕ) → IfOk result (λ set. IsByteSet set (lead_set_in tree.now fold)) }
+{
+    let mut steps = Steps::<L>::new(blank);
+    lead_set(alloc, tree, classes, &mut steps)
+}

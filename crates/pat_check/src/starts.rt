@@ -1,0 +1,126 @@
+// The bytes that a part of a pattern may begin with, part by part.
+ghost use Rattle.std.specs.Prelude.{◌≡◌, ℕ, ◌<◌, ◌||◌, All, length};
+ghost use Rattle.byte_lanes.specs.Sets.{has_byte};
+ghost use Rattle.pat_check.specs.Lead.{SomeLead, passes, begins, then_lead, either_lead, repeated_lead};
+ghost use Rattle.pat_check.specs.Starts.{IsSomeLead, AreKept, lead_of_parts, lead_of_branches};
+
+use byte_lanes::ByteSet;
+use pat_tree::NodeId;
+
+/// The bytes that a part may begin with, and whether it may be passed without one.
+#[derive(Drop)]
+pub(crate) struct Start {
+    pub bytes: ByteSet,
+    pub passing: bool,
+}
+
+/// A part that takes nothing.
+pub(crate) fn passed() -> Option<Start>
+    ensures { IsSomeLead result passes }
+{
+    Some(Start {
+        bytes: ByteSet::empty(),
+        passing: true,
+    })
+}
+
+/// A part that begins with one of these bytes.
+pub(crate) fn begin(bytes: ByteSet) -> Option<Start>
+    ensures { (has : _) → ((b : ℕ) → b < 256 → has_byte bytes b ≡ has b) → IsSomeLead result (begins has) }
+{
+    Some(Start {
+        bytes,
+        passing: false,
+    })
+}
+
+/// Adds the bytes of another set.
+fn add_all(bytes: &mut ByteSet, more: &ByteSet)
+    ensures { (b : ℕ) → b < 256 → has_byte bytes.new b ≡ (has_byte bytes.old b || has_byte more.now b) }
+{
+    for b in 0..256u32 {
+        if more.has(b as u8) {
+            bytes.insert(b as u8);
+        }
+    }
+}
+
+pub(crate) fn copied(bytes: &ByteSet) -> ByteSet
+    ensures { (b : ℕ) → b < 256 → has_byte result b ≡ has_byte bytes.now b }
+{
+    let mut copy = ByteSet::empty();
+    add_all(&mut copy, bytes);
+    copy
+}
+
+/// A part, and what follows it.
+fn followed(first: &Option<Start>, rest: Option<Start>) -> Option<Start>
+    ensures { (x y : SomeLead) → IsSomeLead first.now x → IsSomeLead rest y → IsSomeLead result (then_lead x y) }
+{
+    let Some(first) = first else {
+        return None;
+    };
+    if !first.passing {
+        return begin(copied(&first.bytes));
+    }
+    let mut rest = rest?;
+    add_all(&mut rest.bytes, &first.bytes);
+    Some(rest)
+}
+
+/// A part or another.
+fn either(one: &Option<Start>, other: Option<Start>) -> Option<Start>
+    ensures { (x y : SomeLead) → IsSomeLead one.now x → IsSomeLead other y → IsSomeLead result (either_lead x y) }
+{
+    let Some(one) = one else {
+        return None;
+    };
+    let mut other = other?;
+    add_all(&mut other.bytes, &one.bytes);
+    other.passing = one.passing || other.passing;
+    Some(other)
+}
+
+/// Parts one after the other.
+pub(crate) fn in_turn(parts: &[NodeId], starts: &[Option<Start>]) -> Option<Start>
+    requires { All (λ k. k < length starts.now) parts.now }
+    ensures { (of : ℕ → SomeLead) → AreKept starts.now of parts.now → IsSomeLead result (lead_of_parts of parts.now) }
+{
+    let mut whole = passed();
+    let mut i = parts.len();
+    while i > 0 {
+        i -= 1;
+        whole = followed(&starts[parts[i] as usize], whole);
+    }
+    whole
+}
+
+/// One of these branches.
+pub(crate) fn one_of(branches: &[NodeId], starts: &[Option<Start>]) -> Option<Start>
+    requires { All (λ k. k < length starts.now) branches.now }
+    ensures { (of : ℕ → SomeLead) → AreKept starts.now of branches.now → IsSomeLead result (lead_of_branches of branches.now) }
+{
+    let mut whole = begin(ByteSet::empty());
+    let mut i = branches.len();
+    while i > 0 {
+        i -= 1;
+        whole = either(&starts[branches[i] as usize], whole);
+    }
+    whole
+}
+
+/// Turns of a part, between a minimum and a maximum.
+pub(crate) fn repeated(part: &Option<Start>, min: u16, max: Option<u16>) -> Option<Start>
+    ensures { (x : SomeLead) → IsSomeLead part.now x → IsSomeLead result (repeated_lead min max x) }
+{
+    if let Some(0) = max {
+        return passed();
+    }
+    match part {
+        Some(start) => Some(Start {
+            bytes: copied(&start.bytes),
+            passing: start.passing || min == 0,
+        }),
+        None => None,
+    }
+}
