@@ -49,7 +49,7 @@ fn show_offsets(plan: &mut GrepPlan, mode: OffsetMode) -> Result<(), UsageKind>
     }
 }
 
-/// Has an option without a value do what it does.
+/// Does what an option without a value asks for.
 pub fn take_plain(plan: &mut GrepPlan, option: PlainOption) -> Result<(), UsageKind>
     ensures ok { OnOk result (plain_effect option plan.old ≡ Ok plan.new) }
     ensures fault { IfErr result (λ kind. plain_effect option plan.old ≡ Err kind) }
@@ -76,7 +76,7 @@ fn ranged(text: &[u8], low: u32, high: u32) -> Result<u32, UsageKind>
     }
 }
 
-/// Has an option whose value is a number do what it does.
+/// Does what an option whose value is a number asks for.
 fn take_number(plan: &mut GrepPlan, option: NumberOption, text: &[u8]) -> Result<(), UsageKind>
     ensures ok { OnOk result (number_effect option text.now plan.old ≡ Ok plan.new) }
     ensures fault { IfErr result (λ kind. number_effect option text.now plan.old ≡ Err kind) }
@@ -161,7 +161,7 @@ pub fn take_group(plan: &mut GrepPlan, text: &[u8]) -> Result<(), Stop>
     show_group(plan, n)
 }
 
-/// Has an option do what it does with its value.
+/// Does what an option with its value asks for.
 pub fn take_value(
     alloc: Global,
     plan: &mut GrepPlan,

@@ -31,6 +31,7 @@ pub enum NameMode {
 /// Whether places of matches are shown in place of lines (pcre2grep, "OPTIONS", `--line-offsets` and `--file-offsets`).
 #[derive(Clone, Copy, Debug, PartialEq, Eq)]
 pub enum OffsetMode {
+    /// Lines are shown.
     NoOffsets,
     /// From the beginning of the line.
     Lines,
@@ -41,7 +42,9 @@ pub enum OffsetMode {
 /// A text that is asked for in place of a search.
 #[derive(Clone, Copy, Debug, PartialEq, Eq)]
 pub enum HelpKind {
+    /// How the tool is called.
     Help,
+    /// Which version it is.
     Version,
 }
 
@@ -58,7 +61,9 @@ pub struct GrepPlan {
     pub after_context: u32,
     /// How many lines are shown before a selected line.
     pub before_context: u32,
+    /// How binary files are treated.
     pub binary: BinaryMode,
+    /// Whether names of files are shown.
     pub names: NameMode,
     /// The name of standard input.
     pub label: Name,
@@ -66,17 +71,29 @@ pub struct GrepPlan {
     pub only_matching: NumberList,
     /// What stands between the groups of one match.
     pub om_separator: ByteList,
+    /// Whether places of matches are shown in place of lines.
     pub offsets: OffsetMode,
+    /// `-c`: the number of selected lines is shown for each file, in place of lines.
     pub count: bool,
+    /// `-t`: the number of selected lines in all files is shown at the end.
     pub total_count: bool,
+    /// `-F`: each line of a pattern is a fixed string.
     pub fixed_strings: bool,
+    /// `-i`: letters match in any case.
     pub ignore_case: bool,
+    /// `-u`: patterns and inputs are UTF-8.
     pub utf: bool,
+    /// `-n`: the numbers of lines are shown.
     pub line_number: bool,
+    /// `-q`: nothing is shown.
     pub quiet: bool,
+    /// `-s`: no message tells of files that can't be opened or read.
     pub no_messages: bool,
+    /// `-v`: the lines in which nothing matches are selected.
     pub invert_match: bool,
+    /// `-w`: patterns match whole words.
     pub word_regex: bool,
+    /// `-x`: patterns match whole lines.
     pub line_regex: bool,
     /// The greatest number of steps at one start place.
     pub match_limit: u32,

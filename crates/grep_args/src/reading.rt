@@ -73,9 +73,9 @@ fn complete(
     }
 }
 
-/// What the words of pcre2grep ask for, which stand after the tool's name (pcre2grep, "OPTIONS" and "OPTIONS WITH DATA").
+/// The plan of the words after the tool's name (pcre2grep, "OPTIONS" and "OPTIONS WITH DATA").
 ///
-/// Without a plan, the first word at fault is told, or memory was wanting.
+/// Where words are at fault, the first of them is told, with what is at fault in it. Memory may be wanting.
 #[tactic(auto, unfolding(crate::specs::Words::plan_of))]
 pub fn read(alloc: Global, words: &[String]) -> Result<GrepPlan, ArgError>
     ensures plan { IfOk result (λ plan. plan_of (map string_bytes words.now) ≡ Ok plan) }

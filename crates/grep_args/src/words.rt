@@ -28,7 +28,7 @@ pub enum Word<'a> {
 }
 
 /// What stands after a hyphen at the front, if there is one.
-fn after_hyphen(text: &str) -> Option<&str>
+fn without_hyphen(text: &str) -> Option<&str>
     ensures { MatchOption result ((rest : List ℕ) → text.now ≢ 45 ∷ rest) (λ rest. text.now ≡ 45 ∷ rest.now) }
 {
     text.strip_prefix('-')
@@ -37,13 +37,13 @@ fn after_hyphen(text: &str) -> Option<&str>
 fn word_of(text: &str) -> Word<'_>
     ensures { word_seen result ≡ word_of text.now }
 {
-    let Some(joined) = after_hyphen(text) else {
+    let Some(joined) = without_hyphen(text) else {
         return Word::Operand;
     };
     if joined.is_empty() {
         return Word::Operand;
     }
-    match after_hyphen(joined) {
+    match without_hyphen(joined) {
         Some(name) if name.is_empty() => Word::Terminator,
         Some(name) => Word::Name(name),
         None => Word::Joined(joined),

@@ -1,6 +1,6 @@
 use Rattle.std.proofs.Common.{lit<}
 use Rattle.std.proofs.lemmas.Str.Pattern.{strip_prefix_char}
-use Rattle.grep_args.proofs.words.after_hyphen.Goals as goal
+use Rattle.grep_args.proofs.words.without_hyphen.Goals as goal
 
 pub returns : goal.returns
 returns c = strip_prefix_char 45 c.args.text.now c.strip_prefix.result c.strip_prefix.ensures.cases (lit< tt)
