@@ -1,4 +1,5 @@
 pub mod Scene
 pub mod Items
 pub mod Views
+pub mod Laws
 pub mod Rows

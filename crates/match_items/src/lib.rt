@@ -13,7 +13,7 @@ mod view;
 
 pub use anchors::{anchor, break_step};
 pub use items::step;
-pub use laws::worked_rows;
+pub use laws::{tables_show_classes, worked_rows};
 pub use references::ref_step;
 pub use runs::run_len;
 pub use view::{Held, ItemRun, Taken, View};
