@@ -1,4 +1,6 @@
 //! Tables of tokens and faults, from pcre2pattern.
+mod faults;
+
 use super::*;
 use pat_tree::{Bsr, Newline, SetName};
 use std::process::Abort;
@@ -89,236 +91,92 @@ fn characters(rt: HostRuntime) {
 
 #[test]
 fn escapes_that_are_no_characters(rt: HostRuntime) {
-    let rows = [
-        (
-            "\\d",
-            Token::Set {
-                set: SetName::Digit,
-                not: false,
-            },
-            2,
-        ),
-        (
-            "\\D",
-            Token::Set {
-                set: SetName::Digit,
-                not: true,
-            },
-            2,
-        ),
-        (
-            "\\s",
-            Token::Set {
-                set: SetName::Space,
-                not: false,
-            },
-            2,
-        ),
-        (
-            "\\S",
-            Token::Set {
-                set: SetName::Space,
-                not: true,
-            },
-            2,
-        ),
-        (
-            "\\w",
-            Token::Set {
-                set: SetName::Word,
-                not: false,
-            },
-            2,
-        ),
-        (
-            "\\W",
-            Token::Set {
-                set: SetName::Word,
-                not: true,
-            },
-            2,
-        ),
-        (
-            "\\h",
-            Token::Set {
-                set: SetName::H,
-                not: false,
-            },
-            2,
-        ),
-        (
-            "\\H",
-            Token::Set {
-                set: SetName::H,
-                not: true,
-            },
-            2,
-        ),
-        (
-            "\\v",
-            Token::Set {
-                set: SetName::V,
-                not: false,
-            },
-            2,
-        ),
-        (
-            "\\V",
-            Token::Set {
-                set: SetName::V,
-                not: true,
-            },
-            2,
-        ),
-        ("\\N", Token::NotNewline, 2),
-        ("\\N{3}", Token::NotNewline, 2),
-        ("\\N{3,}", Token::NotNewline, 2),
-        ("\\R", Token::LineBreak, 2),
-        ("\\K", Token::KeepOut, 2),
-        ("\\b", Token::Boundary { not: false }, 2),
-        ("\\B", Token::Boundary { not: true }, 2),
-        ("\\A", Token::SubjectStart, 2),
-        ("\\Z", Token::EndOrNewline, 2),
-        ("\\z", Token::SubjectEnd, 2),
-        ("\\G", Token::StartGiven, 2),
-        ("\\Q", Token::QuoteOn, 2),
-        ("\\E", Token::QuoteOff, 2),
-        (
-            "\\pL",
-            Token::Property {
-                from: 2,
-                to: 3,
-                not: false,
-            },
-            3,
-        ),
-        (
-            "\\PL",
-            Token::Property {
-                from: 2,
-                to: 3,
-                not: true,
-            },
-            3,
-        ),
-        (
-            "\\p{Lu}",
-            Token::Property {
-                from: 3,
-                to: 5,
-                not: false,
-            },
-            6,
-        ),
-        (
-            "\\P{Lu}",
-            Token::Property {
-                from: 3,
-                to: 5,
-                not: true,
-            },
-            6,
-        ),
-        (
-            "\\p{^Lu}",
-            Token::Property {
-                from: 4,
-                to: 6,
-                not: true,
-            },
-            7,
-        ),
-        (
-            "\\P{^Lu}",
-            Token::Property {
-                from: 4,
-                to: 6,
-                not: false,
-            },
-            7,
-        ),
-        (
-            "\\p{}",
-            Token::Property {
-                from: 3,
-                to: 3,
-                not: false,
-            },
-            4,
-        ),
+    let sets = [
+        ("\\d", SetName::Digit, false),
+        ("\\D", SetName::Digit, true),
+        ("\\s", SetName::Space, false),
+        ("\\S", SetName::Space, true),
+        ("\\w", SetName::Word, false),
+        ("\\W", SetName::Word, true),
+        ("\\h", SetName::H, false),
+        ("\\H", SetName::H, true),
+        ("\\v", SetName::V, false),
+        ("\\V", SetName::V, true),
     ];
-    for (text, token, after) in rows {
-        begins(&rt, PLAIN, text, token, after);
+    for (text, set, not) in sets {
+        begins(&rt, PLAIN, text, Token::Set { set, not }, 2);
+        begins(&rt, IN_CLASS, text, Token::Set { set, not }, 2);
+    }
+    let rows = [
+        ("\\N", Token::NotNewline),
+        ("\\N{3}", Token::NotNewline),
+        ("\\N{3,}", Token::NotNewline),
+        ("\\R", Token::LineBreak),
+        ("\\K", Token::KeepOut),
+        ("\\b", Token::Boundary { not: false }),
+        ("\\B", Token::Boundary { not: true }),
+        ("\\A", Token::SubjectStart),
+        ("\\Z", Token::EndOrNewline),
+        ("\\z", Token::SubjectEnd),
+        ("\\G", Token::StartGiven),
+        ("\\Q", Token::QuoteOn),
+        ("\\E", Token::QuoteOff),
+    ];
+    for (text, token) in rows {
+        begins(&rt, PLAIN, text, token, 2);
+    }
+    let properties = [
+        ("\\pL", 2, 3, false, 3),
+        ("\\PL", 2, 3, true, 3),
+        ("\\p{Lu}", 3, 5, false, 6),
+        ("\\P{Lu}", 3, 5, true, 6),
+        ("\\p{^Lu}", 4, 6, true, 7),
+        ("\\P{^Lu}", 4, 6, false, 7),
+        ("\\p{}", 3, 3, false, 4),
+    ];
+    for (text, from, to, not, after) in properties {
+        begins(&rt, PLAIN, text, Token::Property { from, to, not }, after);
+        begins(
+            &rt,
+            IN_CLASS,
+            text,
+            Token::Property { from, to, not },
+            after,
+        );
     }
 }
 
 #[test]
 fn references_and_calls(rt: HostRuntime) {
-    let rows = [
-        ("\\1", Token::Reference(Target::Number(1)), 2),
-        ("\\9", Token::Reference(Target::Number(9)), 2),
-        ("\\8a", Token::Reference(Target::Number(8)), 2),
-        ("\\81", Token::Reference(Target::Number(81)), 3),
-        ("\\g1", Token::Reference(Target::Number(1)), 3),
-        ("\\g0", Token::Reference(Target::Number(0)), 3),
-        ("\\g-12", Token::Reference(Target::Minus(12)), 5),
-        ("\\g+2a", Token::Reference(Target::Plus(2)), 4),
-        ("\\g{65535}", Token::Reference(Target::Number(65_535)), 9),
-        ("\\g{-2}", Token::Reference(Target::Minus(2)), 6),
-        ("\\g{+2}", Token::Reference(Target::Plus(2)), 6),
-        (
-            "\\g{ab}",
-            Token::Reference(Target::Named { from: 3, to: 5 }),
-            6,
-        ),
-        (
-            "\\k{ab}",
-            Token::Reference(Target::Named { from: 3, to: 5 }),
-            6,
-        ),
-        (
-            "\\k<ab>",
-            Token::Reference(Target::Named { from: 3, to: 5 }),
-            6,
-        ),
-        (
-            "\\k'ab'",
-            Token::Reference(Target::Named { from: 3, to: 5 }),
-            6,
-        ),
-        (
-            "(?P=ab)",
-            Token::Reference(Target::Named { from: 4, to: 6 }),
-            7,
-        ),
-        ("\\g<3>", Token::CallTo(Target::Number(3)), 5),
-        ("\\g'3'", Token::CallTo(Target::Number(3)), 5),
-        ("\\g<+3>", Token::CallTo(Target::Plus(3)), 6),
-        ("\\g'-3'", Token::CallTo(Target::Minus(3)), 6),
-        (
-            "\\g<_a1>",
-            Token::CallTo(Target::Named { from: 3, to: 6 }),
-            7,
-        ),
-        (
-            "\\g'_a1'",
-            Token::CallTo(Target::Named { from: 3, to: 6 }),
-            7,
-        ),
-        ("(?R)", Token::CallTo(Target::Number(0)), 4),
-        ("(?0)", Token::CallTo(Target::Number(0)), 4),
-        ("(?12)", Token::CallTo(Target::Number(12)), 5),
-        ("(?+1)", Token::CallTo(Target::Plus(1)), 5),
-        ("(?-1)", Token::CallTo(Target::Minus(1)), 5),
-        ("(?&ab)", Token::CallTo(Target::Named { from: 3, to: 5 }), 6),
-        (
-            "(?P>ab)",
-            Token::CallTo(Target::Named { from: 4, to: 6 }),
-            7,
-        ),
+    let references = [
+        ("\\1", Target::Number(1), 2),
+        ("\\9", Target::Number(9), 2),
+        ("\\8a", Target::Number(8), 2),
+        ("\\81", Target::Number(81), 3),
+        ("\\g1", Target::Number(1), 3),
+        ("\\g0", Target::Number(0), 3),
+        ("\\g-12", Target::Minus(12), 5),
+        ("\\g+2a", Target::Plus(2), 4),
+        ("\\g{65535}", Target::Number(65_535), 9),
+        ("\\g{-2}", Target::Minus(2), 6),
+        ("\\g{+2}", Target::Plus(2), 6),
     ];
-    for (text, token, after) in rows {
-        begins(&rt, PLAIN, text, token, after);
+    for (text, target, after) in references {
+        begins(&rt, PLAIN, text, Token::Reference(target), after);
+    }
+    let calls = [
+        ("\\g<3>", Target::Number(3), 5),
+        ("\\g'3'", Target::Number(3), 5),
+        ("\\g<+3>", Target::Plus(3), 6),
+        ("\\g'-3'", Target::Minus(3), 6),
+        ("(?R)", Target::Number(0), 4),
+        ("(?0)", Target::Number(0), 4),
+        ("(?12)", Target::Number(12), 5),
+        ("(?+1)", Target::Plus(1), 5),
+        ("(?-1)", Target::Minus(1), 5),
+    ];
+    for (text, target, after) in calls {
+        begins(&rt, PLAIN, text, Token::CallTo(target), after);
     }
     let opened = LexFlags {
         groups: 10,
@@ -329,12 +187,30 @@ fn references_and_calls(rt: HostRuntime) {
 }
 
 #[test]
+fn references_and_calls_by_name(rt: HostRuntime) {
+    for (text, from) in [
+        ("\\g{_a1}", 3),
+        ("\\k{_a1}", 3),
+        ("\\k<_a1>", 3),
+        ("\\k'_a1'", 3),
+        ("(?P=_a1)", 4),
+    ] {
+        let named = Target::Named { from, to: from + 3 };
+        begins(&rt, PLAIN, text, Token::Reference(named), from + 4);
+    }
+    for (text, from) in [
+        ("\\g<_a1>", 3),
+        ("\\g'_a1'", 3),
+        ("(?&_a1)", 3),
+        ("(?P>_a1)", 4),
+    ] {
+        let named = Target::Named { from, to: from + 3 };
+        begins(&rt, PLAIN, text, Token::CallTo(named), from + 4);
+    }
+}
+
+#[test]
 fn groups(rt: HostRuntime) {
-    let look = |ahead: bool, positive: bool, atomic: bool| OpenKind::Look {
-        ahead,
-        positive,
-        atomic,
-    };
     let rows = [
         ("(a", OpenKind::Capture, 1),
         ("(", OpenKind::Capture, 1),
@@ -345,126 +221,136 @@ fn groups(rt: HostRuntime) {
         ("(?>", OpenKind::Atomic, 3),
         ("(*atomic:", OpenKind::Atomic, 9),
         ("(?|", OpenKind::BranchReset, 3),
-        ("(?<ab>", OpenKind::Named { from: 3, to: 5 }, 6),
-        ("(?'ab'", OpenKind::Named { from: 3, to: 5 }, 6),
-        ("(?P<ab>", OpenKind::Named { from: 4, to: 6 }, 7),
-        (
-            "(?<a2345678901234567890123456789012>",
-            OpenKind::Named { from: 3, to: 35 },
-            36,
-        ),
-        ("(?=", look(true, true, true), 3),
-        ("(*pla:", look(true, true, true), 6),
-        ("(*positive_lookahead:", look(true, true, true), 21),
-        ("(?!", look(true, false, true), 3),
-        ("(*nla:", look(true, false, true), 6),
-        ("(*negative_lookahead:", look(true, false, true), 21),
-        ("(?<=", look(false, true, true), 4),
-        ("(*plb:", look(false, true, true), 6),
-        ("(*positive_lookbehind:", look(false, true, true), 22),
-        ("(?<!", look(false, false, true), 4),
-        ("(*nlb:", look(false, false, true), 6),
-        ("(*negative_lookbehind:", look(false, false, true), 22),
-        ("(?*", look(true, true, false), 3),
-        ("(*napla:", look(true, true, false), 8),
-        (
-            "(*non_atomic_positive_lookahead:",
-            look(true, true, false),
-            32,
-        ),
-        ("(?<*", look(false, true, false), 4),
-        ("(*naplb:", look(false, true, false), 8),
-        (
-            "(*non_atomic_positive_lookbehind:",
-            look(false, true, false),
-            33,
-        ),
     ];
     for (text, kind, after) in rows {
+        begins(&rt, PLAIN, text, Token::Open(kind), after);
+    }
+    let names = [
+        ("(?<ab>", 3, 5),
+        ("(?'ab'", 3, 5),
+        ("(?P<ab>", 4, 6),
+        ("(?<a2345678901234567890123456789012>", 3, 35),
+    ];
+    for (text, from, to) in names {
+        begins(
+            &rt,
+            PLAIN,
+            text,
+            Token::Open(OpenKind::Named { from, to }),
+            to + 1,
+        );
+    }
+}
+
+#[test]
+fn lookarounds(rt: HostRuntime) {
+    let rows = [
+        ("(?=", true, true, true, 3),
+        ("(*pla:", true, true, true, 6),
+        ("(*positive_lookahead:", true, true, true, 21),
+        ("(?!", true, false, true, 3),
+        ("(*nla:", true, false, true, 6),
+        ("(*negative_lookahead:", true, false, true, 21),
+        ("(?<=", false, true, true, 4),
+        ("(*plb:", false, true, true, 6),
+        ("(*positive_lookbehind:", false, true, true, 22),
+        ("(?<!", false, false, true, 4),
+        ("(*nlb:", false, false, true, 6),
+        ("(*negative_lookbehind:", false, false, true, 22),
+        ("(?*", true, true, false, 3),
+        ("(*napla:", true, true, false, 8),
+        ("(*non_atomic_positive_lookahead:", true, true, false, 32),
+        ("(?<*", false, true, false, 4),
+        ("(*naplb:", false, true, false, 8),
+        ("(*non_atomic_positive_lookbehind:", false, true, false, 33),
+    ];
+    for (text, ahead, positive, atomic, after) in rows {
+        let kind = OpenKind::Look {
+            ahead,
+            positive,
+            atomic,
+        };
         begins(&rt, PLAIN, text, Token::Open(kind), after);
     }
 }
 
 #[test]
-fn conditions_and_callouts(rt: HostRuntime) {
+fn conditions(rt: HostRuntime) {
     let rows = [
-        ("(?(12)", CondText::Group(Target::Number(12)), 3, 5, 6),
-        ("(?(+1)", CondText::Group(Target::Plus(1)), 3, 5, 6),
-        ("(?(-1)", CondText::Group(Target::Minus(1)), 3, 5, 6),
-        (
-            "(?(<ab>)",
-            CondText::Group(Target::Named { from: 4, to: 6 }),
-            3,
-            7,
-            8,
-        ),
-        (
-            "(?('ab')",
-            CondText::Group(Target::Named { from: 4, to: 6 }),
-            3,
-            7,
-            8,
-        ),
-        (
-            "(?(ab)",
-            CondText::Group(Target::Named { from: 3, to: 5 }),
-            3,
-            5,
-            6,
-        ),
-        ("(?(R)", CondText::InCall, 3, 4, 5),
-        ("(?(R12)", CondText::InCallOf(Target::Number(12)), 3, 6, 7),
+        ("(?(12)", CondText::Group(Target::Number(12)), 5),
+        ("(?(+1)", CondText::Group(Target::Plus(1)), 5),
+        ("(?(-1)", CondText::Group(Target::Minus(1)), 5),
+        ("(?(R)", CondText::InCall, 4),
+        ("(?(R12)", CondText::InCallOf(Target::Number(12)), 6),
         (
             "(?(R9999999999)",
-            CondText::InCallOf(Target::Number(4_294_967_295)),
-            3,
+            CondText::InCallOf(Target::Number(u32::MAX)),
             14,
-            15,
         ),
-        (
-            "(?(R&ab)",
-            CondText::InCallOf(Target::Named { from: 5, to: 7 }),
-            3,
-            7,
-            8,
-        ),
-        (
-            "(?(Rx)",
-            CondText::Group(Target::Named { from: 3, to: 5 }),
-            3,
-            5,
-            6,
-        ),
-        (
-            "(?(R1x)",
-            CondText::Group(Target::Named { from: 3, to: 6 }),
-            3,
-            6,
-            7,
-        ),
-        ("(?(DEFINE)", CondText::Define, 3, 9, 10),
-        (
-            "(?(<DEFINE>)",
-            CondText::Group(Target::Named { from: 4, to: 10 }),
-            3,
-            11,
-            12,
-        ),
-        (
-            "(?(VERSION)",
-            CondText::Group(Target::Named { from: 3, to: 10 }),
-            3,
-            10,
-            11,
-        ),
-        ("(?(?=a)", CondText::Lookaround, 2, 2, 2),
-        ("(?(*pla:a)", CondText::Lookaround, 2, 2, 2),
-        ("(?(?C1)(?=a)", CondText::Lookaround, 2, 2, 2),
+        ("(?(DEFINE)", CondText::Define, 9),
     ];
-    for (text, cond, from, to, after) in rows {
-        begins(&rt, PLAIN, text, Token::CondStart { cond, from, to }, after);
+    for (text, cond, to) in rows {
+        begins(
+            &rt,
+            PLAIN,
+            text,
+            Token::CondStart { cond, from: 3, to },
+            to + 1,
+        );
     }
-    let callouts = [
+    let names = [
+        ("(?(<ab>)", 4, 6, 7),
+        ("(?('ab')", 4, 6, 7),
+        ("(?(ab)", 3, 5, 5),
+        ("(?(Rx)", 3, 5, 5),
+        ("(?(R1x)", 3, 6, 6),
+        ("(?(<DEFINE>)", 4, 10, 11),
+        ("(?(VERSION)", 3, 10, 10),
+    ];
+    for (text, name_from, name_to, to) in names {
+        let cond = CondText::Group(Target::Named {
+            from: name_from,
+            to: name_to,
+        });
+        begins(
+            &rt,
+            PLAIN,
+            text,
+            Token::CondStart { cond, from: 3, to },
+            to + 1,
+        );
+    }
+    let cond = CondText::InCallOf(Target::Named { from: 5, to: 7 });
+    begins(
+        &rt,
+        PLAIN,
+        "(?(R&ab)",
+        Token::CondStart {
+            cond,
+            from: 3,
+            to: 7,
+        },
+        8,
+    );
+    let cond = CondText::Lookaround;
+    for text in ["(?(?=a)", "(?(*pla:a)", "(?(?C1)(?=a)"] {
+        begins(
+            &rt,
+            PLAIN,
+            text,
+            Token::CondStart {
+                cond,
+                from: 2,
+                to: 2,
+            },
+            2,
+        );
+    }
+}
+
+#[test]
+fn callouts(rt: HostRuntime) {
+    let rows = [
         ("(?C)", 0, 0, 0, 4),
         ("(?C007)", 7, 0, 0, 7),
         ("(?C255)", 255, 0, 0, 7),
@@ -478,18 +364,13 @@ fn conditions_and_callouts(rt: HostRuntime) {
         ("(?C$a$)", 0, 4, 5, 7),
         ("(?C{a}}b{})", 0, 4, 9, 11),
     ];
-    for (text, number, text_from, text_to, after) in callouts {
-        begins(
-            &rt,
-            PLAIN,
-            text,
-            Token::CalloutItem {
-                number,
-                text_from,
-                text_to,
-            },
-            after,
-        );
+    for (text, number, text_from, text_to, after) in rows {
+        let token = Token::CalloutItem {
+            number,
+            text_from,
+            text_to,
+        };
+        begins(&rt, PLAIN, text, token, after);
     }
 }
 
@@ -540,122 +421,74 @@ fn verbs_and_start_items(rt: HostRuntime) {
     }
 }
 
+const NONE: OptionMask = OptionMask {
+    i: false,
+    m: false,
+    s: false,
+    x: false,
+    xx: false,
+    n: false,
+    j: false,
+    u: false,
+};
+
+const ALL: OptionMask = OptionMask {
+    i: true,
+    m: true,
+    s: true,
+    x: true,
+    xx: true,
+    n: true,
+    j: true,
+    u: true,
+};
+
+const I: OptionMask = OptionMask { i: true, ..NONE };
+
+const S: OptionMask = OptionMask { s: true, ..NONE };
+
+const X: OptionMask = OptionMask { x: true, ..NONE };
+
+const XX: OptionMask = OptionMask { xx: true, ..NONE };
+
+const BOTH: OptionMask = OptionMask { xx: true, ..X };
+
+const I_X: OptionMask = OptionMask { i: true, ..X };
+
+const I_M: OptionMask = OptionMask { m: true, ..I };
+
+const J: OptionMask = OptionMask { j: true, ..NONE };
+
+const U: OptionMask = OptionMask { u: true, ..NONE };
+
 #[test]
 fn option_settings(rt: HostRuntime) {
-    let none = OptionMask {
-        i: false,
-        m: false,
-        s: false,
-        x: false,
-        xx: false,
-        n: false,
-        j: false,
-        u: false,
-    };
-    let all = OptionMask {
-        i: true,
-        m: true,
-        s: true,
-        x: true,
-        xx: true,
-        n: true,
-        j: true,
-        u: true,
-    };
-    let no_xx = OptionMask { xx: true, ..none };
-    let both_x = OptionMask {
-        x: true,
-        xx: true,
-        ..none
-    };
     let rows = [
-        (
-            "(?i)",
-            false,
-            OptionMask { i: true, ..none },
-            none,
-            false,
-            4,
-        ),
-        ("(?)", false, none, none, false, 3),
-        ("(?-)", false, none, none, false, 4),
-        (
-            "(?i-s:",
-            false,
-            OptionMask { i: true, ..none },
-            OptionMask { s: true, ..none },
-            true,
-            6,
-        ),
-        (
-            "(?-J)",
-            false,
-            none,
-            OptionMask { j: true, ..none },
-            false,
-            5,
-        ),
-        (
-            "(?U)",
-            false,
-            OptionMask { u: true, ..none },
-            none,
-            false,
-            4,
-        ),
-        ("(?imsxxnJU)", false, all, none, false, 11),
-        ("(?-imsxnJU)", false, none, all, false, 11),
-        (
-            "(?x)",
-            false,
-            OptionMask { x: true, ..none },
-            no_xx,
-            false,
-            4,
-        ),
-        (
-            "(?xix)",
-            false,
-            OptionMask {
-                i: true,
-                x: true,
-                ..none
-            },
-            no_xx,
-            false,
-            6,
-        ),
-        ("(?xx)", false, both_x, none, false, 5),
-        ("(?-x)", false, none, both_x, false, 5),
-        ("(?-xx)", false, none, both_x, false, 6),
-        ("(?^)", true, none, none, false, 4),
-        ("(?^:", true, none, none, true, 4),
-        (
-            "(?^im:",
-            true,
-            OptionMask {
-                i: true,
-                m: true,
-                ..none
-            },
-            none,
-            true,
-            6,
-        ),
+        ("(?i)", false, I, NONE, false, 4),
+        ("(?)", false, NONE, NONE, false, 3),
+        ("(?-)", false, NONE, NONE, false, 4),
+        ("(?i-s:", false, I, S, true, 6),
+        ("(?-J)", false, NONE, J, false, 5),
+        ("(?U)", false, U, NONE, false, 4),
+        ("(?imsxxnJU)", false, ALL, NONE, false, 11),
+        ("(?-imsxnJU)", false, NONE, ALL, false, 11),
+        ("(?x)", false, X, XX, false, 4),
+        ("(?xix)", false, I_X, XX, false, 6),
+        ("(?xx)", false, BOTH, NONE, false, 5),
+        ("(?-x)", false, NONE, BOTH, false, 5),
+        ("(?-xx)", false, NONE, BOTH, false, 6),
+        ("(?^)", true, NONE, NONE, false, 4),
+        ("(?^:", true, NONE, NONE, true, 4),
+        ("(?^im:", true, I_M, NONE, true, 6),
     ];
     for (text, reset, on, off, opens, after) in rows {
-        begins(
-            &rt,
-            PLAIN,
-            text,
-            Token::OptionSet {
-                reset,
-                on,
-                off,
-                opens,
-            },
-            after,
-        );
+        let token = Token::OptionSet {
+            reset,
+            on,
+            off,
+            opens,
+        };
+        begins(&rt, PLAIN, text, token, after);
     }
 }
 
@@ -816,40 +649,6 @@ fn tokens_in_classes(rt: HostRuntime) {
         ("\\91", Token::Literal(57), 2),
         ("\\x{41}", Token::Literal(65), 6),
         ("\\]", Token::Literal(93), 2),
-        (
-            "\\d",
-            Token::Set {
-                set: SetName::Digit,
-                not: false,
-            },
-            2,
-        ),
-        (
-            "\\V",
-            Token::Set {
-                set: SetName::V,
-                not: true,
-            },
-            2,
-        ),
-        (
-            "\\p{L}",
-            Token::Property {
-                from: 3,
-                to: 4,
-                not: false,
-            },
-            5,
-        ),
-        (
-            "\\P{^L}",
-            Token::Property {
-                from: 4,
-                to: 5,
-                not: false,
-            },
-            6,
-        ),
         ("\\Q", Token::QuoteOn, 2),
         ("\\E", Token::QuoteOff, 2),
     ];
@@ -888,249 +687,4 @@ fn tokens_in_classes(rt: HostRuntime) {
     begins(&rt, more, "\t", Token::Passed, 1);
     begins(&rt, more, "\n", Token::Literal(10), 1);
     begins(&rt, more, "#", Token::Literal(35), 1);
-}
-
-#[test]
-fn faults(rt: HostRuntime) {
-    let rows = [
-        ("\\", 101),
-        ("\\c", 102),
-        ("\\c\n", 102),
-        ("\\c\x7f", 102),
-        ("\\y", 103),
-        ("\\F", 103),
-        ("{3,1}", 104),
-        ("{65536}", 105),
-        ("{1,65536}", 105),
-        ("{99999999999999999999,1}", 105),
-        ("(?a)", 111),
-        ("(?Px", 111),
-        ("(?P'n'", 111),
-        ("(?^-i)", 111),
-        ("(?i--s)", 111),
-        ("(?+-a)", 111),
-        ("(?+", 111),
-        ("[:alpha:]", 112),
-        ("[:^a:]", 112),
-        ("[:a\\]b:]", 112),
-        ("[.x.]", 113),
-        ("[=x=]", 113),
-        ("\\g{+0}", 126),
-        ("\\g-0", 126),
-        ("(?-0)", 126),
-        ("(?(+0)", 126),
-        ("(?(1", 128),
-        ("(?(1x)", 128),
-        ("(?(+)", 128),
-        ("(?(<ab>", 128),
-        ("\\x{100}", 134),
-        ("\\x{100g}", 134),
-        ("\\o{400}", 134),
-        ("\\400", 134),
-        ("\\o", 135),
-        ("\\o7", 135),
-        ("\\o{}", 135),
-        ("\\o{8}", 135),
-        ("\\x{}", 135),
-        ("\\x{g}", 135),
-        ("\\x{1", 135),
-        ("(?C256)", 138),
-        ("(?C256", 138),
-        ("(?C1", 139),
-        ("(?C1x)", 139),
-        ("(?Ca)", 139),
-        ("(?C'a)", 139),
-        ("(?C'a'b)", 139),
-        ("(?C'a''", 139),
-        ("(?<a-", 142),
-        ("(?<a", 142),
-        ("(?'a>", 142),
-        ("(?(ab", 142),
-        ("\\k{a", 142),
-        ("(?&a", 142),
-        ("(?<", 144),
-        ("(?<>", 144),
-        ("(?<1a>", 144),
-        ("(?&)", 144),
-        ("(?P=", 144),
-        ("\\k<>", 144),
-        ("\\g{}", 144),
-        ("\\g<", 144),
-        ("(?()", 144),
-        ("(?(R&)", 144),
-        ("\\p", 146),
-        ("\\p1", 146),
-        ("\\P{L", 146),
-        ("(?<a23456789012345678901234567890123>", 148),
-        ("(*FOO)", 160),
-        ("(*pla", 160),
-        ("(*pla)", 160),
-        ("(*foo:", 160),
-        ("(*accept)", 160),
-        ("(*ACCEPT", 160),
-        ("(*MARK:a", 160),
-        ("(*CR:", 160),
-        ("(*LIMIT_MATCH)", 160),
-        ("(*LIMIT_MATCH=)", 160),
-        ("(*LIMIT_MATCH=x)", 160),
-        ("(*LIMIT_MATCH=4294967296)", 160),
-        ("(*LIMIT_HEAP=1)", 160),
-        ("\\99999", 161),
-        ("\\g{65536}", 161),
-        ("(?-65536", 161),
-        ("(?(99999999999999999999)", 161),
-        ("(*MARK)", 166),
-        ("(*MARK:)", 166),
-        ("(*:)", 166),
-        ("\\g", 169),
-        ("\\ga", 169),
-        ("\\g{-}", 169),
-        ("\\g<+", 169),
-        ("\\g{1", 169),
-        ("\\k", 169),
-        ("\\ka", 169),
-        ("\\C", 195),
-        ("\\X", 195),
-        ("\\L", 195),
-        ("\\l", 195),
-        ("\\U", 195),
-        ("\\u", 195),
-        ("\\N{U+41}", 195),
-        ("\\N{,3}", 195),
-        ("(*sr:", 195),
-        ("(*script_run:", 195),
-        ("(*asr:", 195),
-        ("(*atomic_script_run:", 195),
-        ("(?(VERSION=1)", 195),
-        ("(?(VERSION>=1)", 195),
-    ];
-    for (text, number) in rows {
-        refused(&rt, PLAIN, text, number, 0);
-    }
-}
-
-#[test]
-fn faults_of_what_the_end_cuts_off(rt: HostRuntime) {
-    let rows = [
-        ("(?", 114),
-        ("(?P", 114),
-        ("(?i", 114),
-        ("(?i-", 114),
-        ("(?-", 114),
-        ("(?^", 114),
-        ("(?C", 114),
-        ("(?(", 114),
-        ("(?R", 114),
-        ("(?Rx)", 114),
-        ("(?1", 114),
-        ("(?1x)", 114),
-        ("(?#a", 118),
-    ];
-    for (text, number) in rows {
-        refused(&rt, PLAIN, text, number, text.len());
-    }
-}
-
-#[test]
-fn faults_in_classes(rt: HostRuntime) {
-    for text in [
-        "\\B", "\\R", "\\N", "\\N{3}", "\\X", "\\A", "\\Z", "\\z", "\\G", "\\K", "\\g", "\\g{1}",
-        "\\k",
-    ] {
-        refused(&rt, IN_CLASS, text, 107, 0);
-    }
-    let rows = [
-        ("\\", 101),
-        ("\\c", 102),
-        ("\\y", 103),
-        ("[.x.]", 113),
-        ("[=x=]", 113),
-        ("[:foo:]", 130),
-        ("[:<:]", 130),
-        ("[:>:]", 130),
-        ("[::]", 130),
-        ("\\400", 134),
-        ("\\o{8}", 135),
-        ("\\p", 146),
-        ("\\C", 195),
-        ("\\u", 195),
-    ];
-    for (text, number) in rows {
-        refused(&rt, IN_CLASS, text, number, 0);
-    }
-}
-
-#[test]
-fn codes_in_utf(rt: HostRuntime) {
-    let utf = LexFlags { utf: true, ..PLAIN };
-    begins(&rt, utf, "\\x{10ffff}", Token::Literal(0x10_FFFF), 10);
-    begins(&rt, utf, "\\777", Token::Literal(511), 4);
-    refused(&rt, utf, "\\x{110000}", 134, 0);
-    refused(&rt, utf, "\\x{d800}", 173, 0);
-    refused(&rt, utf, "\\o{157777}", 173, 0);
-    begins(&rt, utf, "\\x{e000}", Token::Literal(0xE000), 8);
-}
-
-/// At each place the text has a token that moves on within it, or a fault with a place in it.
-fn moves_everywhere(rt: &impl Abort, flags: LexFlags, text: &[u8]) {
-    for at in 0..=text.len() {
-        match next_token(text, at, flags) {
-            Ok((Token::End, after)) => assert!(rt; at == text.len() && after == at),
-            Ok((_, after)) => assert!(rt; at < after && after <= text.len()),
-            Err(fault) => assert!(rt; fault.at == at || fault.at == text.len()),
-        }
-    }
-}
-
-const MANY_FLAGS: [LexFlags; 5] = [
-    PLAIN,
-    EXTENDED,
-    QUOTING,
-    IN_CLASS,
-    LexFlags {
-        extended_more: true,
-        newline: Newline::Any,
-        groups: 99,
-        ..IN_CLASS
-    },
-];
-
-#[test]
-fn every_text_of_two_bytes_moves_on(rt: HostRuntime) {
-    for flags in MANY_FLAGS {
-        for first in 0..=255 {
-            for second in 0..=255 {
-                moves_everywhere(&rt, flags, &[first, second]);
-            }
-        }
-    }
-}
-
-#[test]
-fn texts_cut_off_anywhere_move_on(rt: HostRuntime) {
-    let texts = [
-        "\\x{10ffff}\\o{177}\\cA\\0123\\777\\89\\1234567890123456789012",
-        "\\p{^Greek}\\P{L&}\\pL\\N{3,}\\N{U+41}\\R\\K\\C\\X\\Q[(*\\E\\E",
-        "\\g{12}\\g{-1}\\g{+1}\\g{name}\\g1\\g-1\\g+1\\g<1>\\g'-1'\\g<+1>\\g'name'",
-        "\\k<name>\\k'name'\\k{name}(?P=name)(?P>name)(?&name)(?R)(?0)(?12)(?+1)(?-1)",
-        "a*+b+?c?d{2}e{3,}+f{4,5}?g{,6}h{}i{7,8,9}j{70000}k{9,8}",
-        "(?:a)(?>b)(?|c|d)(?<e>f)(?'g'h)(?P<i>j)(?=k)(?!l)(?<=m)(?<!n)(?*o)(?<*p)",
-        "(*pla:a)(*positive_lookahead:b)(*napla:c)(*non_atomic_positive_lookbehind:d)(*sr:e)",
-        "(?imsxnJU-imsxnJU)(?^i:a)(?xx-xx)(?^-i)(?i--s)(?)(?-)(?^)(?",
-        "(?(1)a|b)(?(+1)a)(?(-1)a)(?(<n>)a)(?('n')a)(?(n)a)(?(R)a)(?(R1)a)(?(R&n)a)",
-        "(?(DEFINE)a)(?(?=a)b)(?(?C1)(?!a)b)(?(VERSION>=10.4)a)(?(*pla:a)b)",
-        "(?#comment)(?C)(?C255)(?C'a''b')(?C{a}}b})(?C`a`)(?C#a##b#)(?C999)(?C$a",
-        "(*ACCEPT)(*F)(*FAIL:a)(*COMMIT)(*PRUNE:b)(*SKIP:c)(*THEN)(*MARK:d)(*:e)(*MARK)(*FOO)",
-        "(*UTF)(*UCP)(*CRLF)(*BSR_ANYCRLF)(*LIMIT_MATCH=4294967295)(*LIMIT_MATCH=4294967296)",
-        "[:alpha:][.a.][=b=][[:alpha:][:^digit:][.c.][=d=][:foo:][:<:]\\]-\\-a-z\\b\\8\\777]",
-        " \t\n\x0b\x0c\r#a\r\n#b\n* #c\n+?#",
-        "\\\\\\\\((((((((??++**{{{{}}}}[[[[]]]]^^$$||..",
-    ];
-    for flags in MANY_FLAGS {
-        for text in texts {
-            for end in 0..=text.len() {
-                moves_everywhere(&rt, flags, &text.as_bytes()[..end]);
-            }
-        }
-    }
 }
