@@ -1,9 +1,18 @@
-ghost use Rattle.std.specs.Prelude.{◌≡◌, false};
+ghost use Rattle.std.specs.Prelude.{◌≡◌, ◌<◌, false, All, length, IsTrue};
+ghost use Rattle.pat_tree.specs.Rules.{class_in};
 ghost use Rattle.match_items.specs.Views.{asks_ucp};
 
 use super::*;
-use pat_tree::{AnchorKind, Bsr, MatchOptions, Newline, Options};
+use char_sets::ClassTable;
+use pat_tree::{
+    AnchorKind, Bsr, ClassSpec, Draft, Item, ListOf, MatchOptions, Newline, Node, Options, Part,
+    Steps,
+};
+use std::alloc::Global;
+use std::marker::Brand;
 use std::process::Abort;
+use std::sync::ledger::{Blank, Ledger};
+use std::test::Fail;
 
 // What `\R` answers at each place of a subject: the length of its newline, `.` for none, `E` at the end.
 fn breaks(rt: &impl Abort, subject: &[u8], bsr: Bsr, answers: &[u8]) {
@@ -185,4 +194,114 @@ fn texts_stand_again(rt: HostRuntime) {
         assert!(rt; subject.len() < 100 && to <= subject.len() && at <= subject.len());
         assert_eq!(rt; ref_step(&view, 0, to, caseless, at), answer);
     }
+}
+
+// The table of one class, the digits 0 to 9.
+fn digits(alloc: Global) -> Result<ClassTable, Fail> {
+    let parts = ListOf::from_vec(Vec::from_slice(alloc, &[Part::Range { from: 48, to: 57 }])?);
+    let mut draft = Draft::new(alloc, Options::PLAIN);
+    let id = draft.add_class(ClassSpec {
+        negated: false,
+        caseless: false,
+        parts,
+    })?;
+    let root = draft.add(Node::One(Item::Class(id)), 0)?;
+    let tree = draft.finish(root)?;
+    let table = ClassTable::build(alloc, &tree)?;
+    Ok(table)
+}
+
+// Whether an item's class is one of the table.
+fn fits(table: &ClassTable, item: Item) -> bool
+    ensures { IsTrue result → All (λ n. n < length table.now) (class_in item) }
+{
+    match item {
+        Item::Class(class) => class < table.count(),
+        _ => true,
+    }
+}
+
+// At each place of CR LF `aA17` CR: what the item takes, `+` for a character, `.` for none, `E` at the end; how long its run is, of two
+// characters at most; and `*` where that reaches the end.
+fn items<L: Ledger>(
+    rt: &impl Abort,
+    table: &ClassTable,
+    steps: &mut Steps<L>,
+    newline: Newline,
+    item: Item,
+    taken: &[u8; 8],
+    counts: &[u8; 8],
+    reach: &[u8; 8],
+) {
+    let options = Options {
+        newline,
+        ..Options::PLAIN
+    };
+    let view = View {
+        subject: b"\r\naA17\r",
+        start: 0,
+        options: &options,
+        matching: &MatchOptions::PLAIN,
+    };
+    assert!(rt; fits(table, item));
+    for at in 0..8usize {
+        let answer = match step(&view, table, &item, at, steps) {
+            Taken::Took(to) if to == at + 1 => b'+',
+            Taken::Took(_) => b'?',
+            Taken::No => b'.',
+            Taken::AtEnd => b'E',
+        };
+        assert_eq!(rt; answer, taken[at], "at {at}");
+        let run = run_len(&view, table, &item, at, 2, steps);
+        let shown = b"012?"[run.count.min(3) as usize];
+        assert_eq!(rt; shown, counts[at], "from {at}");
+        assert_eq!(rt; run.at_end, reach[at] == b'*', "from {at}");
+    }
+}
+
+fn all_items<L: Ledger>(rt: &impl Abort, table: &ClassTable, blank: Blank)
+    requires name { blank.name ≡ L.name }
+    requires parts { blank.parts ≡ L.parts }
+    requires some { 0 < blank.parts }
+{
+    let mut steps: Steps<L> = Steps::new(blank);
+    let small = Item::Char {
+        c: 97,
+        caseless: false,
+    };
+    let any_case = Item::Char {
+        c: 65,
+        caseless: true,
+    };
+    let dot = Item::NotNewline;
+    for (newline, item, taken, counts, reach) in [
+        (
+            Newline::Lf,
+            Item::AnyAll,
+            b"+++++++E",
+            b"22222210",
+            b"......**",
+        ),
+        (Newline::Lf, dot, b"+.+++++E", b"10222210", b"......**"),
+        (Newline::CrLf, dot, b".++++++E", b"02222210", b".....***"),
+        (Newline::AnyCrLf, dot, b"..++++.E", b"00222100", b".......*"),
+        (Newline::Lf, small, b"..+....E", b"00100000", b".......*"),
+        (Newline::Lf, any_case, b"..++...E", b"00210000", b".......*"),
+        (
+            Newline::Lf,
+            Item::Class(0),
+            b"....++.E",
+            b"00002100",
+            b".......*",
+        ),
+    ] {
+        items(rt, table, &mut steps, newline, item, taken, counts, reach);
+    }
+}
+
+#[test]
+fn items_take_characters_and_run(rt: HostRuntime) -> Result<(), Fail> {
+    let table = digits(rt.alloc())?;
+    all_items::<Brand>(&rt, &table, Blank::new(1));
+    Ok(())
 }
