@@ -2,3 +2,4 @@ mod Late
 mod CutLaw
 mod WalkLaw
 mod RowProofs
+mod Before

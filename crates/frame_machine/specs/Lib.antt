@@ -7,3 +7,5 @@ pub mod PlaceAnswer
 pub mod Written
 pub mod Laws
 pub mod Rows
+pub mod Moves
+pub mod Paths
