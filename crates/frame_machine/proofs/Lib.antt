@@ -3,3 +3,5 @@ mod CutLaw
 mod WalkLaw
 mod RowProofs
 mod Before
+mod Free
+mod Enter

@@ -9,3 +9,6 @@ pub mod Laws
 pub mod Rows
 pub mod Moves
 pub mod Paths
+pub mod Ground
+pub mod Machine
+pub mod Built

@@ -2,5 +2,6 @@
 #![tactic(auto)]
 
 mod laws;
+mod machine;
 
 pub use laws::{cut_comes_late, no_place_is_cut, walk_is_told, worked_rows};
