@@ -4,4 +4,5 @@ mod WalkLaw
 mod RowProofs
 mod Before
 mod Free
-mod Enter
+mod PartPaths
+mod Frames

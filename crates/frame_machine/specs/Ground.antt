@@ -7,7 +7,7 @@ use Rattle.pat_tree.specs.declared.nodes.Node.{Node}
 use Rattle.pat_tree.specs.declared.nodes.Node.TheVariants as node
 use Rattle.pat_tree.specs.declared.options.PartialMode.TheVariants.{Off}
 use Rattle.pat_tree.specs.Nested.{Nested, nest, tree_at}
-use Rattle.pat_tree.specs.Rules.{kids_of, numbers_of}
+use Rattle.pat_tree.specs.Rules.{kids_of, numbers_of, classes_of}
 use Rattle.pat_tree.specs.Refs.{named_by}
 use Rattle.match_items.specs.Items.{after_item, after_break, after_ref, place_before}
 use Rattle.frame_machine.specs.Setting.{Setting}
@@ -22,6 +22,7 @@ pub record Ground : Type 0 where
   pub rest : ℕ → List ℕ
   -- a character begins at the place, or the subject ends there
   pub stands : ℕ → Bool
+  pub class_count : ℕ
 
 abbrev pub tree_of : Ground → ℕ → Nested
 tree_of c q = tree_at c.trees q
@@ -59,6 +60,7 @@ pub record IsNode (c : Ground) (q : ℕ) (n : Node) : Type 0 where
   pub is : nest c.trees n ≡ tree_of c q
   pub below : All (λ k. k < q) (kids_of n)
   pub linked : IsLinked c.rest (c.rest q) n
+  pub classes : All (λ k. k < c.class_count) (classes_of n)
   -- the groups that it names, and its own, have registers
   pub named : All (λ k. (0 < k) × (k ≤ c.setting.groups)) (named_by n)
   pub numbered : All (λ k. (0 < k) × (k ≤ c.setting.groups)) (numbers_of n)
@@ -75,10 +77,14 @@ pub record IsGround (c : Ground) : Type 0 where
   pub whole : tree_of c c.root ≡ c.setting.whole
   pub last : c.rest c.root ≡ []
   pub inside : (q : ℕ) → q ≤ c.root → All (λ p. p ≤ c.root) (c.rest q)
+  pub chained : (q p : ℕ) (ps : List ℕ) → q ≤ c.root → c.rest q ≡ p ∷ ps → c.rest p ≡ ps
   pub short : length c.setting.subject < 4294967295
   pub within : (p : ℕ) → c.stands p ≡ true → p ≤ length c.setting.subject
   -- an item goes forward, and the character before the place after it begins at its place
   pub forward : (item : Item) (p q : ℕ) → c.stands p ≡ true → after_item c.setting.scene item p ≡ Some q →
       (p < q) × (c.stands q ≡ true) × (place_before c.setting.scene q ≡ p)
+  pub breaks : (p : ℕ) → c.stands p ≡ true → StandsIf c (after_break c.setting.scene p)
+  pub refers : (from to p : ℕ) (caseless : Bool) → c.stands from ≡ true → c.stands to ≡ true → c.stands p ≡ true →
+      StandsIf c (after_ref c.setting.scene from to caseless p)
   pub backward : (p : ℕ) → c.stands p ≡ true → 0 < p → (place_before c.setting.scene p < p) × (c.stands (place_before c.setting.scene p) ≡ true)
   pub off : c.setting.matching.«partial» ≡ Off

@@ -12,3 +12,4 @@ pub mod Paths
 pub mod Ground
 pub mod Machine
 pub mod Built
+pub mod Stops

@@ -233,6 +233,10 @@ module _ (c : Ground) where
   IsRepeat (tree.repeat body low high lazily) = Unit {0}
   IsRepeat _ = ⊥
 
+  abbrev pub IsCapture : Nested → Type 0
+  IsCapture (tree.group (Some n) ts) = Unit {0}
+  IsCapture _ = ⊥
+
   abbrev pub IsMany : Nested → Type 0
   IsMany (tree.one_repeat item low high lazily) = Unit {0}
   IsMany _ = ⊥
@@ -256,11 +260,11 @@ module _ (c : Ground) where
   IsSound left slots below (LaterBranch at kept next) =
       (at.node ≤ c.root) × IsStanding left at.link kept (around c below at.link).depth below × HasBranch (tree_of c at.node) next
   IsSound left slots below (GroupOpen at kept) =
-      (at.node ≤ c.root) × (at.link ≤ length below) × (c.stands kept.place ≡ true)
+      (at.node ≤ c.root) × IsStanding left at.link kept (around c below at.link).depth below × IsCapture (tree_of c at.node)
   IsSound left slots below (TurnOpen at kept count) =
-      (at.node ≤ c.root) × IsStanding left at.link kept (around c below at.link).depth below
+      (at.node ≤ c.root) × IsStanding left at.link kept (around c below at.link).depth below × IsRepeat (tree_of c at.node)
   IsSound left slots below (TurnOrExit at kept count) =
-      (at.node ≤ c.root) × IsStanding left at.link kept (around c below at.link).depth below
+      (at.node ≤ c.root) × IsStanding left at.link kept (around c below at.link).depth below × IsRepeat (tree_of c at.node)
   IsSound left slots below (LaterTurn at kept count) =
       (at.node ≤ c.root) × IsStanding left at.link kept ((around c below at.link).depth - count) below × IsRepeat (tree_of c at.node)
   IsSound left slots below (FewerItems at kept least last) =
@@ -280,7 +284,8 @@ module _ (c : Ground) where
   IsRunning spot stack (Enter q) = (q ≤ c.root) × StandsAt spot stack (around c stack spot.frame).depth
   IsRunning spot stack (Branch q i) =
       (q ≤ c.root) × StandsAt spot stack (around c stack spot.frame).depth × HasBranch (tree_of c q) i
-  IsRunning spot stack (Offer q i) = (q ≤ c.root) × StandsAt spot stack ((around c stack spot.frame).depth - i)
+  IsRunning spot stack (Offer q i) =
+      (q ≤ c.root) × StandsAt spot stack ((around c stack spot.frame).depth - i) × IsRepeat (tree_of c q)
   IsRunning spot stack (Begin q i exits) =
       (q ≤ c.root) × StandsAt spot stack ((around c stack spot.frame).depth - i) × IsRepeat (tree_of c q)
   IsRunning spot stack (Fewer q least last) =
