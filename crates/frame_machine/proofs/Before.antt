@@ -123,7 +123,7 @@ strip_parts (p ∷ ps) (x ∷ xs) (i, is) = record {
 module _ (g : Setting) where
   strip_holding : (n : ℕ) (s : State) (x : State → Moves) (w : Search) (l : Follow) (f : Moves) (j : Handler) →
       ((t : State) → strip (x t) ≡ before (w t) l f j) → strip (holding g n s x) ≡ before (held g n s w) l f j
-  unfolding before held strip
+  unfolding before held holding strip
   strip_holding n s x w l f j same =
       let t : State = record s { units = s.units + n } in
       elim (nat_le (s.units + n) g.matching.frame_limit)

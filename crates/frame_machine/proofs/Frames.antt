@@ -23,7 +23,7 @@ use Rattle.frame_machine.proofs.Free.{follow_same}
 use Rattle.frame_machine.proofs.PartPaths.{after_nil, after_cons}
 
 module _ (c : Ground) where
-  around_here : (r : Entry) (below : List Entry) (l : ℕ) → l ≡ suc (length below) → around c (r ∷ below) l ≡ frame_around r (around c below (link_of r))
+  pub around_here : (r : Entry) (below : List Entry) (l : ℕ) → l ≡ suc (length below) → around c (r ∷ below) l ≡ frame_around r (around c below (link_of r))
   unfolding around
   around_here r below l e = cond-true _ _ _ (eq-eqb _ _ e)
 

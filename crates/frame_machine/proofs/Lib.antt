@@ -6,3 +6,5 @@ mod Before
 mod Free
 mod PartPaths
 mod Frames
+mod Advance
+mod Turns

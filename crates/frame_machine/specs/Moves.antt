@@ -56,7 +56,7 @@ going (Some p) s k f = k reached (move_to p s) f
 
 module _ (g : Setting) where
   -- n more units, where there is room for them
-  abbrev pub holding : ℕ → State → (State → Moves) → Moves
+  unfoldable pub holding : ℕ → State → (State → Moves) → Moves
   holding n s x =
       elim (nat_le (s.units + n) g.matching.frame_limit) [
         | true ↦ x (record s { units = s.units + n })
