@@ -8,3 +8,5 @@ mod PartPaths
 mod Frames
 mod Advance
 mod Turns
+mod RepeatTurns
+mod EndTurns

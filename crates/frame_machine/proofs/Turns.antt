@@ -34,7 +34,7 @@ module _ (c : Ground) (ok : IsGround c) where
   stands_item item p None h e = tt
   stands_item item p (Some r) h e = (ok.forward item p r h e).1
 
-  stands_capture : (xs : Captures) (k : ℕ) → AreSpans c xs → SpanStands c (get_or xs k None)
+  pub stands_capture : (xs : Captures) (k : ℕ) → AreSpans c xs → SpanStands c (get_or xs k None)
   stands_capture xs k a =
       elim (cases_lt k (length xs)) [
         | inl within ↦ All-get_or (SpanStands c) xs k None within a

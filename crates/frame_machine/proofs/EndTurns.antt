@@ -1,0 +1,137 @@
+-- The steps of the machine at the end of a frame, and back to the newest record.
+use Rattle.std.proofs.Common.{◌≡◌, ℕ, zero, suc, ◌+◌, ◌-◌, ◌<◌, ◌≤◌, ◌∙◌, Bool, true, false, if◌then◌else◌, List, [], ◌∷◌, Option, Some, None, length, reverse, set, slice_get, refl, sym, ap, subst, arith}
+use Rattle.pat_tree.specs.Nested as tree
+use Rattle.pat_tree.specs.Nested.{Nested, Row}
+use Rattle.match_items.specs.Items.{one_less, is_none_left}
+use Rattle.frame_store.specs.declared.records.Record.{Record}
+use Rattle.frame_store.specs.declared.registers.Span.{Span}
+use Rattle.frame_store.specs.Captures.{Captures, capture, with_capture}
+use Rattle.frame_store.specs.Entry.{Site, Kept, Entry, Undo, GroupOpen, LaterBranch, TurnOpen, TurnOrExit, LaterTurn, FewerItems, MoreItems, entry_of, entries}
+use Rattle.frame_machine.specs.Stream.{State, reached, by_halt, too_many_units, captured}
+use Rattle.frame_machine.specs.Parts.{is_over}
+use Rattle.frame_machine.specs.PlaceAnswer.{answers, MatchLimit, FrameLimit}
+use Rattle.frame_machine.specs.Moves.{Moves, stops, pause, stepped, found, Follow, at_verbs, going, holding, tread, size}
+use Rattle.frame_machine.specs.Paths.{paths, turned, close}
+use Rattle.frame_machine.specs.declared.machine.Next.{Next}
+use Rattle.frame_machine.specs.declared.machine.Next.TheVariants.{Enter, Branch, Offer, Begin, Fewer, More, Back, End}
+use Rattle.frame_machine.specs.declared.machine.Spot.{Spot}
+use Rattle.frame_machine.specs.Ground.{Ground, tree_of, next_of, StandsIf, IsGround}
+use Rattle.frame_machine.specs.Machine.{Around, less, state_at, kept_at, link_of, frame_around, after, past, enter, branch_rest, begin_from, offer_from, turned_from, close_from, around, frame_end, on_fail, cont, fail, focus, Conf, conf, spot_state, ahead, IsStanding, StandsAt, HasBranch, IsRepeat, IsCapture, SpanStands, AreSpans, IsSound, AreSound, IsRunning, IsValid, Advances, towards}
+use Rattle.frame_machine.proofs.Frames.{around_here, around_push, focus_kept, focus_framed, sound_less, focus_towards, running_towards, Framed, framed}
+use Rattle.frame_machine.proofs.Advance.{holding_room, holding_full, advance_pause, advance_step, advance_same, over_steps, over_units, over_units_step, goes_back, goes_on, goes_on_step}
+use Rattle.std.proofs.lemmas.List.{length-set, set-set, set-get_or}
+use Rattle.std.proofs.lemmas.List.Elements.{All-set}
+use Rattle.frame_store.specs.Undo.{taken_back}
+use Rattle.frame_store.proofs.UndoLemmas.{length-taken_back}
+use Rattle.frame_machine.specs.PlaceAnswer.{Failed, Exhausted, Matched, decision, outcome}
+use Rattle.frame_machine.specs.Stops.{spot_outcome}
+use Rattle.frame_machine.proofs.Frames.{cont_whole, spans_back}
+use Rattle.frame_machine.proofs.Turns.{stands_capture}
+
+-- the pattern's own end
+module _ (c : Ground) (spot : Spot) (stack : List Entry) (caps : Captures) (v : IsValid c (conf End spot stack caps)) (whole : spot.frame ≡ 0) where
+  at_whole : ahead c (conf End spot stack caps) ≡ found reached (spot_state c spot stack caps) (fail c stack caps)
+  at_whole =
+      ap (λ (k : Follow). k reached (spot_state c spot stack caps) (fail c stack caps)) (ap (cont c stack caps) whole ∙ cont_whole c stack caps)
+
+  pub stop_found : decision c.setting reached (spot_state c spot stack caps) ≡ Some (Matched (outcome (spot_state c spot stack caps))) →
+      tread c.setting spot.left (ahead c (conf End spot stack caps)) ≡ answers (Matched (spot_outcome spot caps))
+  unfolding tread
+  stop_found e =
+      ap (tread c.setting spot.left) at_whole
+      ∙ ap (λ o. elim o [ None ↦ tread c.setting spot.left (fail c stack caps) | Some a ↦ answers a ]) e
+
+  pub turn_refused : decision c.setting reached (spot_state c spot stack caps) ≡ None → Advances c (conf End spot stack caps) (conf Back spot stack caps)
+  unfolding tread size
+  turn_refused e = record {
+    answer =
+        ap (tread c.setting spot.left) at_whole
+        ∙ ap (λ o. elim o [ None ↦ tread c.setting spot.left (fail c stack caps) | Some a ↦ answers a ]) e;
+    shorter = omega (arith, ap size at_whole);
+    valid = record { running = tt; records = v.records; spans = v.spans; slots = v.slots };
+  }
+
+-- a frame has ended
+module _ (c : Ground) (ok : IsGround c) (spot : Spot) (records : List Record) (caps : Captures) (v : IsValid c (conf End spot (entries records) caps)) (h : ℕ) (height : spot.frame ≡ suc h)
+    (p : Record) (at : slice_get (reverse records) h ≡ Some p) where
+  -- a capturing group
+  module _ (site : Site) (kept : Kept) (is : entry_of p ≡ GroupOpen site kept) where
+    group_frame : Framed c spot.left (length caps) (entries records) caps (suc h) (GroupOpen site kept)
+    group_frame = framed c spot.left (length caps) records caps h p (GroupOpen site kept) is (λ below s. s.1.inside) (λ x. refl) v.records at
+
+    group_around : around c (entries records) spot.frame ≡ around c (entries records) site.link
+    group_around = ap (around c (entries records)) height ∙ group_frame.deep
+
+    module _ (m : ℕ) (ts : Row) (t : tree.group (Some m) ts ≡ tree_of c site.node) where
+      closing : ahead c (conf End spot (entries records) caps)
+          ≡ pause (holding c.setting 1 (captured m kept.place (state_at (around c (entries records) site.link) (kept_at spot) caps))
+            (λ u. past c (around c (entries records) site.link).depth (cont c (entries records) caps site.link) site.node reached u (pause (fail c (entries records) caps))))
+      closing =
+          ap (λ (a : Around). cont c (entries records) caps spot.frame reached (state_at a (kept_at spot) caps) (fail c (entries records) caps)) group_around
+          ∙ ap (λ (k : Follow). k reached (state_at (around c (entries records) site.link) (kept_at spot) caps) (fail c (entries records) caps)) (ap (cont c (entries records) caps) height ∙ group_frame.ends)
+          ∙ ap (λ x. close_from c x kept.place (past c (around c (entries records) site.link).depth (cont c (entries records) caps site.link) site.node) reached (state_at (around c (entries records) site.link) (kept_at spot) caps) (fail c (entries records) caps)) (sym t)
+
+      pub stop_close : c.setting.matching.frame_limit ≤ spot.units → tread c.setting spot.left (ahead c (conf End spot (entries records) caps)) ≡ answers FrameLimit
+      stop_close full = over_units c spot.left _ _ closing (holding_full c.setting _ _ full)
+
+      pub turn_close : 0 < m → m ≤ length caps → spot.units < c.setting.matching.frame_limit →
+          Advances c (conf End spot (entries records) caps)
+          (conf (towards (next_of c site.node)) (record spot { frame = site.link; units = spot.units + 1 })
+            (Undo (record { node = site.node; link = site.link }) m (capture caps m) ∷ entries records)
+            (with_capture caps m (Some (record { from = kept.place; to = spot.place }))))
+      unfolding fail
+      turn_close some few room =
+          let w = v.running in
+          let g = group_frame in
+          let stack : List Entry = entries records in
+          let to : Spot = record spot { frame = site.link; units = spot.units + 1 } in
+          let new : Captures = with_capture caps m (Some (record { from = kept.place; to = spot.place })) in
+          let r : Entry = Undo (record { node = site.node; link = site.link }) m (capture caps m) in
+          let len : length new ≡ length caps = length-set caps (m - 1) _ in
+          let back : taken_back r new ≡ caps = set-set caps (m - 1) _ (capture caps m) ∙ set-get_or caps (m - 1) None in
+          let inside : site.node ≤ c.root = g.sound.0 in
+          advance_pause c _ _ _
+          (closing ∙ ap pause (holding_room c.setting _ _ room))
+          (focus_kept c r stack new (towards (next_of c site.node)) site.link (kept_at to) new (fail c (r ∷ stack) new) g.link
+          ∙ focus_towards c ok site.node inside _ _ _ _
+          ∙ ap (λ (x : Captures). past c (around c stack site.link).depth (cont c stack x site.link) site.node reached (state_at (around c stack site.link) (kept_at to) new) (pause (fail c stack x))) back)
+          refl
+          (record {
+            running = running_towards c ok site.node inside to (r ∷ stack) (record {
+              inside = omega (arith, g.link);
+              deep = omega (arith, w.deep, ap (λ (a : Around). a.depth) group_around, ap (λ (a : Around). a.depth) (around_push c r stack site.link g.link));
+              counted = omega (arith, w.counted);
+              few = omega (arith, room);
+              here = w.here;
+            });
+            records = ((some, omega (arith, few, len), stands_capture c ok caps (m - 1) v.spans), subst (λ n. AreSound c spot.left n stack) (sym len) v.records);
+            spans = All-set (SpanStands c) caps (m - 1) _ (g.sound.1.here, w.here) v.spans;
+            slots = len ∙ v.slots;
+          })
+
+  -- a turn of a repeat
+  module _ (site : Site) (kept : Kept) (count : ℕ) (body low : ℕ) (high : Option ℕ) (lazily : Bool) (t : tree.repeat (tree_of c body) low high lazily ≡ tree_of c site.node)
+      (r : Entry) (is : entry_of p ≡ r) (link : link_of r ≡ site.link)
+      (ends : (a : Around) (k : Follow) (x : Captures) (out : Moves) → frame_end c r a k x out ≡ turned_from c (tree_of c site.node) count a.depth (state_at a kept x) (past c a.depth k site.node))
+      (inner : (a : Around) → frame_around r a ≡ record a { depth = a.depth - suc count })
+      (plain : (x : Captures) → x ≡ taken_back r x)
+      (sound : (below : List Entry) → IsSound c spot.left (length caps) below r → (site.node ≤ c.root) × (site.link ≤ length below) × IsRepeat c (tree_of c site.node)) where
+    turn_frame : Framed c spot.left (length caps) (entries records) caps (suc h) r
+    turn_frame = framed c spot.left (length caps) records caps h p r is (λ below s. subst (λ n. n ≤ length below) (sym link) (sound below s).1) plain v.records at
+
+    turn_around : around c (entries records) spot.frame ≡ record (around c (entries records) site.link) { depth = (around c (entries records) site.link).depth - suc count }
+    turn_around = ap (around c (entries records)) height ∙ turn_frame.deep ∙ inner _ ∙ ap (λ l. record (around c (entries records) l) { depth = (around c (entries records) l).depth - suc count }) link
+
+    ended : ahead c (conf End spot (entries records) caps)
+        ≡ pause (elim (is_over (low - count) (less count high) (state_at (around c (entries records) site.link) kept turn_frame.inner) (state_at (around c (entries records) site.link) (kept_at spot) caps)) [
+            | true ↦ past c (around c (entries records) site.link).depth (cont c (entries records) caps site.link) site.node reached (state_at (around c (entries records) site.link) (kept_at spot) caps) (fail c (entries records) caps)
+            | false ↦ paths c.setting ((around c (entries records) site.link).depth - suc count) (tree.repeat (tree_of c body) (low - count - 1) (one_less (less count high)) lazily)
+                (state_at (around c (entries records) site.link) (kept_at spot) caps) (past c (around c (entries records) site.link).depth (cont c (entries records) caps site.link) site.node) (fail c (entries records) caps) at_verbs
+          ])
+    unfolding turned
+    ended =
+        ap (λ (a : Around). cont c (entries records) caps spot.frame reached (state_at a (kept_at spot) caps) (fail c (entries records) caps)) turn_around
+        ∙ ap (λ (k : Follow). k reached (state_at (around c (entries records) site.link) (kept_at spot) caps) (fail c (entries records) caps))
+        (ap (cont c (entries records) caps) height ∙ turn_frame.ends ∙ ends _ _ _ _
+        ∙ ap (λ l. turned_from c (tree_of c site.node) count (around c (entries records) l).depth (state_at (around c (entries records) l) kept turn_frame.inner) (past c (around c (entries records) l).depth (cont c (entries records) caps l) site.node)) link)
+        ∙ ap (λ x. turned_from c x count (around c (entries records) site.link).depth (state_at (around c (entries records) site.link) kept turn_frame.inner) (past c (around c (entries records) site.link).depth (cont c (entries records) caps site.link) site.node) reached (state_at (around c (entries records) site.link) (kept_at spot) caps) (fail c (entries records) caps)) (sym t)
