@@ -1,12 +1,12 @@
 -- The steps of the machine at the end of a frame, and back to the newest record.
-use Rattle.std.proofs.Common.{◌≡◌, ℕ, zero, suc, ◌+◌, ◌-◌, ◌<◌, ◌≤◌, ◌∙◌, Bool, true, false, if◌then◌else◌, List, [], ◌∷◌, Option, Some, None, length, reverse, set, slice_get, refl, sym, ap, subst, arith}
+use Rattle.std.proofs.Common.{◌≡◌, ℕ, zero, suc, ◌+◌, ◌-◌, ◌<◌, ◌≤◌, ◌∙◌, Bool, true, false, if◌then◌else◌, List, [], ◌∷◌, Option, Some, None, length, reverse, set, slice_get, inl, inr, refl, sym, ap, subst, arith}
 use Rattle.pat_tree.specs.Nested as tree
 use Rattle.pat_tree.specs.Nested.{Nested, Row}
 use Rattle.match_items.specs.Items.{one_less, is_none_left}
 use Rattle.frame_store.specs.declared.records.Record.{Record}
 use Rattle.frame_store.specs.declared.registers.Span.{Span}
 use Rattle.frame_store.specs.Captures.{Captures, capture, with_capture}
-use Rattle.frame_store.specs.Entry.{Site, Kept, Entry, Undo, GroupOpen, LaterBranch, TurnOpen, TurnOrExit, LaterTurn, FewerItems, MoreItems, entry_of, entries}
+use Rattle.frame_store.specs.Entry.{Site, Kept, Entry, Undo, GroupOpen, LaterBranch, TurnOpen, TurnOrExit, LaterTurn, FewerItems, MoreItems, CallOpen, entry_of, entries}
 use Rattle.frame_machine.specs.Stream.{State, reached, by_halt, too_many_units, captured}
 use Rattle.frame_machine.specs.Parts.{is_over}
 use Rattle.frame_machine.specs.PlaceAnswer.{answers, MatchLimit, FrameLimit}
@@ -24,9 +24,41 @@ use Rattle.std.proofs.lemmas.List.Elements.{All-set}
 use Rattle.frame_store.specs.Undo.{taken_back}
 use Rattle.frame_store.proofs.UndoLemmas.{length-taken_back}
 use Rattle.frame_machine.specs.PlaceAnswer.{Failed, Exhausted, Matched, decision, outcome}
-use Rattle.frame_machine.specs.Stops.{spot_outcome}
-use Rattle.frame_machine.proofs.Frames.{cont_whole, spans_back}
+use Rattle.frame_machine.specs.Stops.{spot_outcome, took_nothing}
+use Rattle.std.proofs.lemmas.Bool.{cases_eq, false≢true}
+use Rattle.frame_machine.specs.Setting.{match_limit}
+use Rattle.frame_machine.proofs.Frames.{around_below, cont_whole, spans_back}
 use Rattle.frame_machine.proofs.Turns.{stands_capture}
+
+elim_true : (b : Bool) (x y : Moves) → b ≡ true → elim b [ true ↦ x | false ↦ y ] ≡ x
+elim_true true x y e = refl
+elim_true false x y e = absurd (false≢true e)
+
+elim_false : (b : Bool) (x y : Moves) → b ≡ false → elim b [ true ↦ x | false ↦ y ] ≡ y
+elim_false true x y e = absurd (false≢true (sym e))
+elim_false false x y e = refl
+
+pub less_more : (count j : ℕ) → j ≡ suc count → (high : Option ℕ) → one_less (less count high) ≡ less j high
+less_more count j e None = refl
+less_more count j e (Some n) = let same : n - count - 1 ≡ n - j = omega (arith, e) in ap Some same
+
+-- no depth is greater than that of the whole pattern
+frame_less : (r : Entry) (a : Around) → (frame_around r a).depth ≤ a.depth
+frame_less (TurnOpen at kept count) a = omega arith
+frame_less (TurnOrExit at kept count) a = omega arith
+frame_less (CallOpen at kept group) a = omega arith
+frame_less _ a = omega arith
+
+around_le : (c : Ground) (stack : List Entry) (l : ℕ) → (around c stack l).depth ≤ match_limit c.setting + 1
+unfolding around
+around_le c [] l = omega arith
+around_le c (r ∷ below) l =
+    elim (cases_eq l (suc (length below))) [
+      | inl here ↦
+          let h = around_le c below (link_of r) in
+          omega (arith, h, frame_less r (around c below (link_of r)), ap (λ (a : Around). a.depth) (around_here c r below l here))
+      | inr not ↦ let h = around_le c below l in omega (arith, h, ap (λ (a : Around). a.depth) (around_below c r below l not))
+    ]
 
 -- the pattern's own end
 module _ (c : Ground) (spot : Spot) (stack : List Entry) (caps : Captures) (v : IsValid c (conf End spot stack caps)) (whole : spot.frame ≡ 0) where
@@ -135,3 +167,52 @@ module _ (c : Ground) (ok : IsGround c) (spot : Spot) (records : List Record) (c
         (ap (cont c (entries records) caps) height ∙ turn_frame.ends ∙ ends _ _ _ _
         ∙ ap (λ l. turned_from c (tree_of c site.node) count (around c (entries records) l).depth (state_at (around c (entries records) l) kept turn_frame.inner) (past c (around c (entries records) l).depth (cont c (entries records) caps l) site.node)) link)
         ∙ ap (λ x. turned_from c x count (around c (entries records) site.link).depth (state_at (around c (entries records) site.link) kept turn_frame.inner) (past c (around c (entries records) site.link).depth (cont c (entries records) caps site.link) site.node) reached (state_at (around c (entries records) site.link) (kept_at spot) caps) (fail c (entries records) caps)) (sym t)
+
+    depth_left : spot.left < (around c (entries records) site.link).depth - suc count
+    depth_left = omega (arith, v.running.deep, ap (λ (a : Around). a.depth) turn_around)
+
+    link_inside : site.link ≤ length (entries records)
+    link_inside = subst (λ n. n ≤ length (entries records)) link turn_frame.link
+
+    node_inside : site.node ≤ c.root
+    node_inside = (sound turn_frame.below turn_frame.sound).0
+
+    over_is : (hi : Option ℕ) (a b : State) → is_over (low - count) (less count hi) a b ≡ took_nothing low hi count a.place b.place
+    over_is None a b = refl
+    over_is (Some n) a b = refl
+
+    pub turn_over : took_nothing low high count kept.place spot.place ≡ true →
+        Advances c (conf End spot (entries records) caps) (conf (towards (next_of c site.node)) (record spot { frame = site.link }) (entries records) caps)
+    turn_over e =
+        let w = v.running in
+        goes_on c _ (record spot { frame = site.link }) (entries records) caps v.records v.spans v.slots ok site.node node_inside
+        (record { inside = link_inside; deep = omega (arith, depth_left); counted = w.counted; few = w.few; here = w.here }) refl
+        (ended ∙ ap pause (elim_true _ _ _ (over_is high _ _ ∙ e)))
+
+    pub turn_again : (j : ℕ) → j ≡ suc count → took_nothing low high count kept.place spot.place ≡ false →
+        Advances c (conf End spot (entries records) caps) (conf (Offer site.node j) (record spot { frame = site.link }) (entries records) caps)
+    turn_again j same e =
+        let w = v.running in
+        let a : Around = around c (entries records) site.link in
+        let s : State = state_at a (kept_at spot) caps in
+        let K : Follow = past c a.depth (cont c (entries records) caps site.link) site.node in
+        let f : Moves = fail c (entries records) caps in
+        let lower : low - count - 1 ≡ low - j = omega (arith, same) in
+        let deeper : a.depth - suc count ≡ a.depth - j = omega (arith, same) in
+        advance_pause c _ _ _
+        (ended ∙ ap pause (elim_false _ _ _ (over_is high _ _ ∙ e)))
+        (sym
+        (ap (λ d. paths c.setting d (tree.repeat (tree_of c body) (low - count - 1) (one_less (less count high)) lazily) s K f at_verbs) deeper
+        ∙ ap (λ x. paths c.setting (a.depth - j) (tree.repeat (tree_of c body) x (one_less (less count high)) lazily) s K f at_verbs) lower
+        ∙ ap (λ x. paths c.setting (a.depth - j) (tree.repeat (tree_of c body) (low - j) x lazily) s K f at_verbs) (less_more count j same high)
+        ∙ ap (λ x. offer_from c x j a.depth s K f at_verbs) t))
+        refl
+        (record {
+          running = (node_inside, record { inside = link_inside; deep = omega (arith, depth_left, same); counted = w.counted; few = w.few; here = w.here }, (sound turn_frame.below turn_frame.sound).2);
+          records = v.records;
+          spans = v.spans;
+          slots = v.slots;
+        })
+
+    pub turns_few : suc count ≤ match_limit c.setting
+    turns_few = omega (arith, depth_left, around_le c (entries records) site.link)

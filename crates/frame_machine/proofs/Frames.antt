@@ -27,7 +27,7 @@ module _ (c : Ground) where
   unfolding around
   around_here r below l e = cond-true _ _ _ (eq-eqb _ _ e)
 
-  around_below : (r : Entry) (below : List Entry) (l : ℕ) → (l ≡ suc (length below) → ⊥) → around c (r ∷ below) l ≡ around c below l
+  pub around_below : (r : Entry) (below : List Entry) (l : ℕ) → (l ≡ suc (length below) → ⊥) → around c (r ∷ below) l ≡ around c below l
   unfolding around
   around_below r below l n = cond-false _ _ _ (ne_eqb _ _ n)
 

@@ -10,3 +10,4 @@ mod Advance
 mod Turns
 mod RepeatTurns
 mod EndTurns
+mod Runs

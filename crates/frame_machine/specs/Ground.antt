@@ -10,7 +10,7 @@ use Rattle.pat_tree.specs.Nested.{Nested, nest, tree_at}
 use Rattle.pat_tree.specs.Rules.{kids_of, numbers_of, classes_of}
 use Rattle.pat_tree.specs.Refs.{named_by}
 use Rattle.match_items.specs.Items.{after_item, after_break, after_ref, place_before}
-use Rattle.frame_machine.specs.Setting.{Setting}
+use Rattle.frame_machine.specs.Setting.{Setting, match_limit}
 use Rattle.frame_machine.specs.Built.{IsBuilt}
 
 pub record Ground : Type 0 where
@@ -78,6 +78,7 @@ pub record IsGround (c : Ground) : Type 0 where
   pub last : c.rest c.root ≡ []
   pub inside : (q : ℕ) → q ≤ c.root → All (λ p. p ≤ c.root) (c.rest q)
   pub chained : (q p : ℕ) (ps : List ℕ) → q ≤ c.root → c.rest q ≡ p ∷ ps → c.rest p ≡ ps
+  pub few : match_limit c.setting ≤ 4294967295
   pub short : length c.setting.subject < 4294967295
   pub within : (p : ℕ) → c.stands p ≡ true → p ≤ length c.setting.subject
   -- an item goes forward, and the character before the place after it begins at its place

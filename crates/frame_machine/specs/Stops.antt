@@ -1,7 +1,7 @@
 -- With what the machine stops, and where it goes.
-use Rattle.std.specs.Prelude.{◌≡◌, ℕ, Bool, true, false, List, [], ◌∷◌, Option, Some, None}
+use Rattle.std.specs.Prelude.{◌≡◌, ℕ, ◌-◌, Bool, true, false, ◌&&◌, ◌==◌, nat_le, List, [], ◌∷◌, Option, Some, None}
 use Rattle.frame_store.specs.Captures.{Captures}
-use Rattle.frame_store.specs.Entry.{Entry}
+use Rattle.frame_store.specs.Entry.{Site, Kept}
 use Rattle.frame_machine.specs.declared.machine.Next.{Next}
 use Rattle.frame_machine.specs.declared.machine.Next.TheVariants.{Back}
 use Rattle.frame_machine.specs.declared.machine.Spot.{Spot}
@@ -22,6 +22,24 @@ IsStop stop.NoMatch spot caps w = w ≡ answers (Failed Exhausted)
 IsStop stop.MatchLimit spot caps w = w ≡ answers MatchLimit
 IsStop stop.FrameLimit spot caps w = w ≡ answers FrameLimit
 IsStop stop.Memory spot caps w = Unit {0}
+
+-- a turn that began at one place after so many took nothing, and no further turn is owed or bounded
+abbrev pub took_nothing : ℕ → Option ℕ → ℕ → ℕ → ℕ → Bool
+took_nothing low None count from to = nat_le (low - count) 1 && (from == to)
+took_nothing low (Some n) count from to = false
+
+-- the path as a record kept it
+abbrev pub restored : Spot → Site → Kept → Spot
+restored spot site kept = record {
+  place = kept.place;
+  keep = kept.keep;
+  early = kept.early;
+  units = kept.units;
+  mark = kept.mark;
+  passed = kept.passed;
+  frame = site.link;
+  left = spot.left;
+}
 
 abbrev pub moved_next : Ground → ℕ → Option ℕ → Next
 moved_next c q None = Back
