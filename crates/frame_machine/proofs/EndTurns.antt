@@ -23,10 +23,14 @@ use Rattle.std.proofs.lemmas.List.{length-set, set-set, set-get_or}
 use Rattle.std.proofs.lemmas.List.Elements.{All-set}
 use Rattle.frame_store.specs.Undo.{taken_back}
 use Rattle.frame_store.proofs.UndoLemmas.{length-taken_back}
-use Rattle.frame_machine.specs.PlaceAnswer.{Failed, Exhausted, Matched, decision, outcome}
-use Rattle.frame_machine.specs.Stops.{spot_outcome, took_nothing}
+use Rattle.frame_machine.specs.PlaceAnswer.{PlaceAnswer, Matched, decision, outcome}
+use Rattle.std.proofs.Common.{◌≢◌, ◌⊎◌, ◌&&◌, not}
+use Rattle.frame_store.specs.declared.kinds.TheConstants.{KIND_GROUP_OPEN, KIND_TURN_OPEN, KIND_TURN_OR_EXIT}
+use Rattle.frame_store.specs.Entry.{site_of, kept_of, entry_kind}
+use Rattle.frame_store.proofs.EntryLemmas.{entry_of-group_open, entry_of-turn_open, entry_of-turn_or_exit, entry_kind-not}
+use Rattle.frame_machine.specs.Stops.{spot_outcome, took_nothing, IsNumber, admitted}
 use Rattle.std.proofs.lemmas.Bool.{cases_eq, false≢true}
-use Rattle.frame_machine.specs.Setting.{match_limit}
+use Rattle.frame_machine.specs.Setting.{Setting, match_limit}
 use Rattle.frame_machine.proofs.Frames.{around_below, cont_whole, spans_back}
 use Rattle.frame_machine.proofs.Turns.{stands_capture}
 
@@ -86,10 +90,25 @@ module _ (c : Ground) (spot : Spot) (stack : List Entry) (caps : Captures) (v : 
 -- a frame has ended
 module _ (c : Ground) (ok : IsGround c) (spot : Spot) (records : List Record) (caps : Captures) (v : IsValid c (conf End spot (entries records) caps)) (h : ℕ) (height : spot.frame ≡ suc h)
     (p : Record) (at : slice_get (reverse records) h ≡ Some p) where
+  -- a record that is no frame
+  stray_end : (r : Entry) → entry_kind r ≢ KIND_GROUP_OPEN → entry_kind r ≢ KIND_TURN_OPEN → entry_kind r ≢ KIND_TURN_OR_EXIT → (a : Around) (k : Follow) (x : Captures) (out : Moves) (s : State) (f : Moves) →
+      frame_end c r a k x out reached s f ≡ pause f
+  stray_end (GroupOpen at' kept) o t e a k x out s f = absurd (o refl)
+  stray_end (TurnOpen at' kept count) o t e a k x out s f = absurd (t refl)
+  stray_end (TurnOrExit at' kept count) o t e a k x out s f = absurd (e refl)
+  stray_end _ o t e a k x out s f = refl
+
+  pub turn_stray : p.kind ≢ KIND_GROUP_OPEN → p.kind ≢ KIND_TURN_OPEN → p.kind ≢ KIND_TURN_OR_EXIT → Advances c (conf End spot (entries records) caps) (conf Back spot (entries records) caps)
+  turn_stray o t e =
+      let g = framed c spot.left (length caps) records caps h p (entry_of p) refl v.records at in
+      goes_back c _ spot (entries records) caps v.records v.spans v.slots refl
+      (ap (λ (k : Follow). k reached (spot_state c spot (entries records) caps) (fail c (entries records) caps)) (ap (cont c (entries records) caps) height ∙ g.ends)
+      ∙ stray_end (entry_of p) (entry_kind-not p KIND_GROUP_OPEN (omega arith) o) (entry_kind-not p KIND_TURN_OPEN (omega arith) t) (entry_kind-not p KIND_TURN_OR_EXIT (omega arith) e) _ _ _ _ _ _)
+
   -- a capturing group
   module _ (site : Site) (kept : Kept) (is : entry_of p ≡ GroupOpen site kept) where
     group_frame : Framed c spot.left (length caps) (entries records) caps (suc h) (GroupOpen site kept)
-    group_frame = framed c spot.left (length caps) records caps h p (GroupOpen site kept) is (λ below s. s.1.inside) (λ x. refl) v.records at
+    group_frame = framed c spot.left (length caps) records caps h p (GroupOpen site kept) is v.records at
 
     group_around : around c (entries records) spot.frame ≡ around c (entries records) site.link
     group_around = ap (around c (entries records)) height ∙ group_frame.deep
@@ -136,7 +155,7 @@ module _ (c : Ground) (ok : IsGround c) (spot : Spot) (records : List Record) (c
               few = omega (arith, room);
               here = w.here;
             });
-            records = ((some, omega (arith, few, len), stands_capture c ok caps (m - 1) v.spans), subst (λ n. AreSound c spot.left n stack) (sym len) v.records);
+            records = ((some, omega (arith, few, len), stands_capture c ok caps (m - 1) v.spans, g.link), subst (λ n. AreSound c spot.left n stack) (sym len) v.records);
             spans = All-set (SpanStands c) caps (m - 1) _ (g.sound.1.here, w.here) v.spans;
             slots = len ∙ v.slots;
           })
@@ -146,10 +165,9 @@ module _ (c : Ground) (ok : IsGround c) (spot : Spot) (records : List Record) (c
       (r : Entry) (is : entry_of p ≡ r) (link : link_of r ≡ site.link)
       (ends : (a : Around) (k : Follow) (x : Captures) (out : Moves) → frame_end c r a k x out ≡ turned_from c (tree_of c site.node) count a.depth (state_at a kept x) (past c a.depth k site.node))
       (inner : (a : Around) → frame_around r a ≡ record a { depth = a.depth - suc count })
-      (plain : (x : Captures) → x ≡ taken_back r x)
       (sound : (below : List Entry) → IsSound c spot.left (length caps) below r → (site.node ≤ c.root) × (site.link ≤ length below) × IsRepeat c (tree_of c site.node)) where
     turn_frame : Framed c spot.left (length caps) (entries records) caps (suc h) r
-    turn_frame = framed c spot.left (length caps) records caps h p r is (λ below s. subst (λ n. n ≤ length below) (sym link) (sound below s).1) plain v.records at
+    turn_frame = framed c spot.left (length caps) records caps h p r is v.records at
 
     turn_around : around c (entries records) spot.frame ≡ record (around c (entries records) site.link) { depth = (around c (entries records) site.link).depth - suc count }
     turn_around = ap (around c (entries records)) height ∙ turn_frame.deep ∙ inner _ ∙ ap (λ l. record (around c (entries records) l) { depth = (around c (entries records) l).depth - suc count }) link
@@ -216,3 +234,85 @@ module _ (c : Ground) (ok : IsGround c) (spot : Spot) (records : List Record) (c
 
     pub turns_few : suc count ≤ match_limit c.setting
     turns_few = omega (arith, depth_left, around_le c (entries records) site.link)
+
+-- the same, of the record
+module _ (c : Ground) (ok : IsGround c) (spot : Spot) (records : List Record) (caps : Captures) (v : IsValid c (conf End spot (entries records) caps)) (h : ℕ) (height : spot.frame ≡ h + 1)
+    (p : Record) (at : slice_get (reverse records) h ≡ Some p) where
+  at_height : spot.frame ≡ suc h
+  at_height = omega (arith, height)
+
+  pub turn_no_frame : p.kind ≢ KIND_GROUP_OPEN → p.kind ≢ KIND_TURN_OPEN → p.kind ≢ KIND_TURN_OR_EXIT → Advances c (conf End spot (entries records) caps) (conf Back spot (entries records) caps)
+  turn_no_frame o t e = turn_stray c ok spot records caps v h at_height p at o t e
+
+  module _ (kind : p.kind ≡ KIND_GROUP_OPEN) where
+    is_open : entry_of p ≡ GroupOpen (site_of p) (kept_of p)
+    is_open = entry_of-group_open p kind
+
+    pub open_sound : (p.node ≤ c.root) × IsCapture c (tree_of c p.node)
+    open_sound = let g = group_frame c ok spot records caps v h at_height p at (site_of p) (kept_of p) is_open in (g.sound.0, g.sound.2)
+
+    module _ (m : ℕ) (t : IsNumber (tree_of c p.node) m) where
+      numbered : (x : Nested) → IsNumber x m → (ts : Row) × (tree.group (Some m) ts ≡ x)
+      numbered (tree.group (Some n) ts) e = (ts, ap (λ k. tree.group (Some k) ts) (sym e))
+      numbered _ e = absurd e
+
+      pub stop_open : c.setting.matching.frame_limit ≤ spot.units → tread c.setting spot.left (ahead c (conf End spot (entries records) caps)) ≡ answers FrameLimit
+      stop_open full = let z = numbered (tree_of c p.node) t in stop_close c ok spot records caps v h at_height p at (site_of p) (kept_of p) is_open m z.0 z.1 full
+
+      pub turn_open : 0 < m → m ≤ c.setting.groups → spot.units < c.setting.matching.frame_limit →
+          Advances c (conf End spot (entries records) caps)
+          (conf (towards (next_of c p.node)) (record spot { frame = p.link; units = spot.units + 1 })
+            (Undo (record { node = p.node; link = p.link }) m (capture caps m) ∷ entries records)
+            (with_capture caps m (Some (record { from = p.place; to = spot.place }))))
+      turn_open some few room =
+          let z = numbered (tree_of c p.node) t in
+          turn_close c ok spot records caps v h at_height p at (site_of p) (kept_of p) is_open m z.0 z.1 some (omega (arith, few, v.slots)) room
+
+  module _ (kind : (p.kind ≡ KIND_TURN_OPEN) ⊎ (p.kind ≡ KIND_TURN_OR_EXIT)) where
+    pub turn_sound : (p.node ≤ c.root) × IsRepeat c (tree_of c p.node)
+    turn_sound =
+        elim kind [
+          | inl k ↦ let g = framed c spot.left (length caps) records caps h p (TurnOpen (site_of p) (kept_of p) p.count) (entry_of-turn_open p k) v.records at in (g.sound.0, g.sound.2)
+          | inr k ↦ let g = framed c spot.left (length caps) records caps h p (TurnOrExit (site_of p) (kept_of p) p.count) (entry_of-turn_or_exit p k) v.records at in (g.sound.0, g.sound.2)
+        ]
+
+    module _ (body low : ℕ) (high : Option ℕ) (lazily : Bool) (t : tree.repeat (tree_of c body) low high lazily ≡ tree_of c p.node) where
+      pub turn_ended : took_nothing low high p.count p.place spot.place ≡ true →
+          Advances c (conf End spot (entries records) caps) (conf (towards (next_of c p.node)) (record spot { frame = p.link }) (entries records) caps)
+      turn_ended e =
+          elim kind [
+            | inl k ↦ turn_over c ok spot records caps v h at_height p at (site_of p) (kept_of p) p.count body low high lazily t (TurnOpen (site_of p) (kept_of p) p.count) (entry_of-turn_open p k) refl (λ a z x out. refl) (λ a. refl) (λ below s. (s.0, s.1.inside, s.2)) e
+            | inr k ↦ turn_over c ok spot records caps v h at_height p at (site_of p) (kept_of p) p.count body low high lazily t (TurnOrExit (site_of p) (kept_of p) p.count) (entry_of-turn_or_exit p k) refl (λ a z x out. refl) (λ a. refl) (λ below s. (s.0, s.1.inside, s.2)) e
+          ]
+
+      pub turn_goes_on : (j : ℕ) → j ≡ suc p.count → took_nothing low high p.count p.place spot.place ≡ false →
+          Advances c (conf End spot (entries records) caps) (conf (Offer p.node j) (record spot { frame = p.link }) (entries records) caps)
+      turn_goes_on j same e =
+          elim kind [
+            | inl k ↦ turn_again c ok spot records caps v h at_height p at (site_of p) (kept_of p) p.count body low high lazily t (TurnOpen (site_of p) (kept_of p) p.count) (entry_of-turn_open p k) refl (λ a z x out. refl) (λ a. refl) (λ below s. (s.0, s.1.inside, s.2)) j same e
+            | inr k ↦ turn_again c ok spot records caps v h at_height p at (site_of p) (kept_of p) p.count body low high lazily t (TurnOrExit (site_of p) (kept_of p) p.count) (entry_of-turn_or_exit p k) refl (λ a z x out. refl) (λ a. refl) (λ below s. (s.0, s.1.inside, s.2)) j same e
+          ]
+
+      pub count_few : suc p.count ≤ 4294967295
+      count_few =
+          elim kind [
+            | inl k ↦ let z = turns_few c ok spot records caps v h at_height p at (site_of p) (kept_of p) p.count body low high lazily t (TurnOpen (site_of p) (kept_of p) p.count) (entry_of-turn_open p k) refl (λ a z x out. refl) (λ a. refl) (λ below s. (s.0, s.1.inside, s.2)) in omega (arith, z, ok.few)
+            | inr k ↦ let z = turns_few c ok spot records caps v h at_height p at (site_of p) (kept_of p) p.count body low high lazily t (TurnOrExit (site_of p) (kept_of p) p.count) (entry_of-turn_or_exit p k) refl (λ a z x out. refl) (λ a. refl) (λ below s. (s.0, s.1.inside, s.2)) in omega (arith, z, ok.few)
+          ]
+
+-- what is admitted is an answer
+admitted_as : (a b : Bool) (x : PlaceAnswer) → not a && not b ≡ true → elim a [ true ↦ None | false ↦ elim b [ false ↦ Some x | true ↦ None ] ] ≡ Some x
+admitted_as true b x e = absurd (false≢true e)
+admitted_as false true x e = absurd (false≢true e)
+admitted_as false false x e = refl
+
+refused_as : (a b : Bool) (x : PlaceAnswer) → not a && not b ≡ false → ◌≡◌ {A = Option PlaceAnswer} (elim a [ true ↦ None | false ↦ elim b [ false ↦ Some x | true ↦ None ] ]) None
+refused_as true b x e = refl
+refused_as false true x e = refl
+refused_as false false x e = absurd (false≢true (sym e))
+
+pub admits : (g : Setting) (s : State) → admitted g s.keep s.place ≡ true → decision g reached s ≡ Some (Matched (outcome s))
+admits g s e = admitted_as _ _ (Matched (outcome s)) e
+
+pub refuses : (g : Setting) (s : State) → admitted g s.keep s.place ≡ false → decision g reached s ≡ None
+refuses g s e = refused_as _ _ (Matched (outcome s)) e

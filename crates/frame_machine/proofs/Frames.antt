@@ -2,7 +2,7 @@
 use Rattle.std.proofs.Common.{◌≡◌, ℕ, zero, suc, ◌+◌, ◌-◌, ◌<◌, ◌≤◌, ◌∙◌, Bool, true, false, if◌then◌else◌, List, [], ◌∷◌, ◌++◌, map, reverse, Option, Some, None, length, All, set, slice_get, refl, sym, ap, subst, inl, inr, arith, length-append}
 use Rattle.std.specs.Prelude.{nat_eq}
 use Rattle.std.proofs.lemmas.List.{length-set, length-map, length-reverse}
-use Rattle.std.proofs.lemmas.List.Elements.{All-head, All-set}
+use Rattle.std.proofs.lemmas.List.Elements.{All-head, All-cons, All-set}
 use Rattle.std.proofs.lemmas.Bool.{cases_eq, cond-true, cond-false, eq-eqb, ne_eqb}
 use Rattle.std.proofs.lemmas.Option.{slice_get_within}
 use Rattle.frame_store.specs.declared.records.Record.{Record}
@@ -156,10 +156,20 @@ module _ (c : Ground) where
     pub sound : IsSound c left slots below r
     pub outside : around c below (link_of r) ≡ around c stack (link_of r)
 
-  -- a record that gives no register back
-  framed_split : (left slots : ℕ) (above below : List Entry) (caps : Captures) (r : Entry) → link_of r ≤ length below → (all_back above caps ≡ taken_back r (all_back above caps)) →
+  link_sound : (left slots : ℕ) (below : List Entry) (r : Entry) → IsSound c left slots below r → link_of r ≤ length below
+  link_sound left slots below (Undo at slot old) s = s.3
+  link_sound left slots below (LaterBranch at kept next) s = s.1.inside
+  link_sound left slots below (GroupOpen at kept) s = s.1.inside
+  link_sound left slots below (TurnOpen at kept count) s = s.1.inside
+  link_sound left slots below (TurnOrExit at kept count) s = s.1.inside
+  link_sound left slots below (LaterTurn at kept count) s = s.1.inside
+  link_sound left slots below (FewerItems at kept least last) s = s.1.inside
+  link_sound left slots below (MoreItems at kept count last) s = s.1.inside
+  link_sound left slots below _ s = s
+
+  framed_split : (left slots : ℕ) (above below : List Entry) (caps : Captures) (r : Entry) → link_of r ≤ length below →
       AreSound c left slots (above ++ (r ∷ below)) → Framed left slots (above ++ (r ∷ below)) caps (suc (length below)) r
-  framed_split left slots above below caps r low plain s =
+  framed_split left slots above below caps r low s =
       let one : suc (length below) ≤ length (r ∷ below) = omega arith in
       let lowest : link_of r ≤ length (r ∷ below) = omega (arith, low) in
       let inner : Captures = all_back above caps in
@@ -182,16 +192,14 @@ module _ (c : Ground) where
       }
 
   pub framed : (left slots : ℕ) (records : List Record) (caps : Captures) (i : ℕ) (p : Record) (r : Entry) → entry_of p ≡ r →
-      ((below : List Entry) → IsSound c left slots below r → link_of r ≤ length below) →
-      ((x : Captures) → x ≡ taken_back r x) →
       AreSound c left slots (entries records) → slice_get (reverse records) i ≡ Some p → Framed left slots (entries records) caps (suc i) r
-  framed left slots records caps i p r same low plain s e =
+  framed left slots records caps i p r same s e =
       let z = split records i p e in
       let is : entries records ≡ z.above ++ (r ∷ z.below) = z.is ∙ ap (λ x. z.above ++ (x ∷ z.below)) same in
       let here : AreSound c left slots (z.above ++ (r ∷ z.below)) = subst (λ st. AreSound c left slots st) is s in
       subst (λ st. Framed left slots st caps (suc i) r) (sym is)
       (subst (λ h. Framed left slots (z.above ++ (r ∷ z.below)) caps h r) (sym z.height)
-      (framed_split left slots z.above z.below caps r (low z.below (sound_deep left slots z.above (r ∷ z.below) here).0) (plain (all_back z.above caps)) here))
+      (framed_split left slots z.above z.below caps r (link_sound left slots z.below r (sound_deep left slots z.above (r ∷ z.below) here).0) here))
 
   -- where the machine goes on after a part
   module _ (ok : IsGround c) (q : ℕ) (inside : q ≤ c.root) where
@@ -221,3 +229,7 @@ module _ (c : Ground) where
   pub spans_back : (left : ℕ) (caps : Captures) (below : List Entry) (r : Entry) → IsSound c left (length caps) below r → AreSpans c caps → AreSpans c (taken_back r caps)
   spans_back left caps below (Undo at slot old) s a = set_spans caps (slot - 1) old s.2 a
   spans_back left caps below _ s a = a
+
+  pub slots_sound : (left : ℕ) (caps : Captures) (stack : List Entry) → AreSound c left (length caps) stack → All (HasSlot caps) stack
+  slots_sound left caps [] s = λ k d h. absurd (omega (arith, h))
+  slots_sound left caps (r ∷ below) s = All-cons (HasSlot caps) r below (slot_sound left caps below r s.0) (slots_sound left caps below s.1)

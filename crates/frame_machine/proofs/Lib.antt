@@ -11,3 +11,9 @@ mod Turns
 mod RepeatTurns
 mod EndTurns
 mod Runs
+mod ItemTurns
+mod BackTurns
+mod HeldStops
+mod MostOf
+mod BranchTurns
+mod Start

@@ -113,7 +113,7 @@ module _ (c : Ground) where
         ∙ ap (λ (z : Follow). pause (paths c.setting d (tree_of c p) s z f at_verbs))
         (parts_after d K ps ∙ after_append d k ps (c.rest q) ∙ ap (after c d k) (sym l.0))
 
-  reaching_off : IsGround c → (b : Bool) (s : State) (x : Moves) → reaching c.setting b s x ≡ x
+  pub reaching_off : IsGround c → (b : Bool) (s : State) (x : Moves) → reaching c.setting b s x ≡ x
   unfolding reaching
   reaching_off ok false s x = refl
   reaching_off ok true s x =
@@ -177,7 +177,7 @@ module _ (c : Ground) where
   drop_here (x ∷ ks) zero p e = ap (λ y. y ∷ ks) (some_same x p e)
   drop_here (x ∷ ks) (suc i) p e = drop_here ks i p e
 
-  All-at : (P : ℕ → Type 0) (ks : List ℕ) (i p : ℕ) → All P ks → slice_get ks i ≡ Some p → P p
+  pub All-at : (P : ℕ → Type 0) (ks : List ℕ) (i p : ℕ) → All P ks → slice_get ks i ≡ Some p → P p
   All-at P [] i p a e = absurd (none_some p e)
   All-at P (x ∷ ks) zero p a e = subst P (some_same x p e) (All-head P x ks a)
   All-at P (x ∷ ks) (suc i) p a e = All-at P ks i p (All-tail P x ks a) e

@@ -18,6 +18,7 @@ use Rattle.frame_machine.specs.declared.machine.Next.TheVariants.{Enter, Branch,
 use Rattle.frame_machine.specs.declared.machine.Spot.{Spot}
 use Rattle.frame_machine.specs.Ground.{Ground, tree_of, next_of, StandsIf, IsGround}
 use Rattle.frame_machine.specs.Machine.{Around, less, state_at, kept_at, link_of, frame_around, after, past, enter, branch_rest, begin_from, offer_from, turned_from, close_from, around, frame_end, on_fail, cont, fail, focus, Conf, conf, spot_state, ahead, IsStanding, StandsAt, HasBranch, IsRepeat, IsCapture, SpanStands, AreSpans, IsSound, AreSound, IsRunning, IsValid, Advances, towards}
+use Rattle.frame_machine.specs.Stops.{turn_entry}
 use Rattle.frame_machine.proofs.PartPaths.{after_nil, offer_below, offer_full, offer_greedy, offer_lazy, begin_step}
 use Rattle.frame_machine.proofs.Frames.{around_here, around_push, focus_kept, focus_framed, sound_less, focus_towards, running_towards, Framed, framed}
 use Rattle.frame_machine.proofs.Advance.{holding_room, holding_full, advance_pause, advance_step, advance_same, over_steps, over_units, over_units_step, goes_back, goes_on, goes_on_step}
@@ -165,3 +166,13 @@ module _ (c : Ground) (ok : IsGround c) (q i : ℕ) (spot : Spot) (stack : List 
           spans = v.spans;
           slots = v.slots;
         })
+
+pub turn_begin : (c : Ground) (ok : IsGround c) (q i : ℕ) (spot : Spot) (stack : List Entry) (caps : Captures) (body : ℕ) (low : ℕ) (high : Option ℕ) (lazily : Bool)
+    (t : tree.repeat (tree_of c body) low high lazily ≡ tree_of c q) (b : Bool) (v : IsValid c (conf (Begin q i b) spot stack caps)) →
+    body ≤ c.root → c.rest body ≡ [] → 0 < spot.left → spot.units < c.setting.matching.frame_limit →
+    Advances c (conf (Begin q i b) spot stack caps)
+    (conf (Enter body) (record spot { left = spot.left - 1; units = spot.units + 1; frame = suc (length stack) }) (turn_entry spot q i b ∷ stack) caps)
+turn_begin c ok q i spot stack caps body low high lazily t true v inside alone left room =
+    turn_begin_exits c ok q i spot stack caps body low high lazily t true v refl inside alone left room
+turn_begin c ok q i spot stack caps body low high lazily t false v inside alone left room =
+    turn_begin_open c ok q i spot stack caps body low high lazily t false v refl inside alone left room

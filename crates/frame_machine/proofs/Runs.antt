@@ -4,16 +4,12 @@ use Rattle.std.proofs.lemmas.List.{reverse-append}
 use Rattle.std.proofs.Math.Seq.{drop-nil}
 use Rattle.std.proofs.lemmas.Bool.{ne_eqb, cond-true, cond-false, lt-ltb, le-ltb, cases_lt}
 use Rattle.pat_tree.specs.declared.nodes.Item.{Item}
+use Rattle.pat_tree.specs.Rules.{AtMost}
 use Rattle.match_items.specs.Items.{one_less, is_none_left, after_item, run_places, longest_run, place_before}
 use Rattle.frame_machine.specs.Stream.{State}
 use Rattle.frame_machine.specs.Moves.{Moves, Follow}
 use Rattle.frame_machine.specs.Ground.{Ground, IsGround}
 use Rattle.frame_machine.specs.Machine.{less, back_from, fewer_places, more_places, end_of}
-
--- a minimum is at most its maximum
-abbrev pub AtMost : ℕ → Option ℕ → Type 0
-AtMost low None = Unit {0}
-AtMost low (Some high) = low ≤ high
 
 module _ (c : Ground) (ok : IsGround c) (item : Item) where
   abbrev pub run_at : Option ℕ → ℕ → List ℕ
@@ -81,7 +77,7 @@ module _ (c : Ground) (ok : IsGround c) (item : Item) where
   longest_stop : (most : Option ℕ) (p : ℕ) → is_none_left most ≡ true → run_at most p ≡ []
   longest_stop most p e = run_stop (length c.setting.subject) most p e
 
-  longest_none : (most : Option ℕ) (p : ℕ) → after_at p ≡ None → run_at most p ≡ []
+  pub longest_none : (most : Option ℕ) (p : ℕ) → after_at p ≡ None → run_at most p ≡ []
   longest_none most p e = run_none (length c.setting.subject) most p e
 
   pub longest_some : (most : Option ℕ) (p q : ℕ) → c.stands p ≡ true → is_none_left most ≡ false → after_at p ≡ Some q → run_at most p ≡ q ∷ run_at (one_less most) q

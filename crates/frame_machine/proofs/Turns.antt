@@ -1,5 +1,5 @@
 -- The steps of the machine at a part.
-use Rattle.std.proofs.Common.{◌≡◌, ℕ, zero, suc, ◌+◌, ◌-◌, ◌<◌, ◌≤◌, ◌∙◌, Bool, true, false, if◌then◌else◌, List, [], ◌∷◌, map, Option, Some, None, length, All, slice_get, get_or, ◌⊎◌, inl, inr, refl, sym, ap, subst, arith}
+use Rattle.std.proofs.Common.{◌≡◌, ℕ, zero, suc, ◌+◌, ◌-◌, ◌<◌, ◌≤◌, ◌∙◌, Bool, true, false, if◌then◌else◌, List, [], ◌∷◌, map, Option, Some, None, length, All, slice_get, get_or, ◌⊎◌, inl, inr, refl, sym, ap, subst, arith, ◌≢◌}
 use Rattle.std.proofs.lemmas.List.Elements.{All-head, All-get_or}
 use Rattle.std.proofs.Math.ListN.{get_or-eq_default}
 use Rattle.std.proofs.lemmas.Bool.{cases_lt}
@@ -24,7 +24,7 @@ use Rattle.frame_machine.specs.declared.machine.Next.TheVariants.{Enter, Branch,
 use Rattle.frame_machine.specs.declared.machine.Spot.{Spot}
 use Rattle.frame_machine.specs.Ground.{Ground, tree_of, next_of, AllFollowed, IsLinked, IsNode, StandsIf, IsGround}
 use Rattle.frame_machine.specs.Machine.{Around, less, state_at, kept_at, after, past, enter, branch_rest, begin_from, turned_from, close_from, around, cont, fail, focus, Conf, conf, spot_state, ahead, IsStanding, StandsAt, HasBranch, IsRepeat, IsCapture, SpanStands, AreSpans, AreSound, IsRunning, IsValid, Advances, first_set, first_next, row_length, towards}
-use Rattle.frame_machine.specs.Stops.{moved_next, moved_spot}
+use Rattle.frame_machine.specs.Stops.{moved_next, moved_spot, held_next, held_early, part_next}
 use Rattle.frame_machine.proofs.PartPaths.{after_nil, enter_empty, enter_keep, enter_one, enter_break, enter_anchor, enter_ref, enter_seq_none, enter_seq, enter_group, enter_capture, enter_repeat, branch_last, branch_more, offer_below, offer_full, offer_greedy, offer_lazy, begin_step}
 use Rattle.frame_machine.proofs.Frames.{around_here, around_push, focus_kept, focus_framed, sound_less, focus_towards, running_towards}
 use Rattle.frame_machine.proofs.Advance.{holding_room, holding_full, advance_pause, advance_step, advance_same, over_steps, over_units, over_units_step, goes_back, goes_on, goes_on_step}
@@ -129,6 +129,11 @@ module _ (c : Ground) (ok : IsGround c) (q : ℕ) (spot : Spot) (stack : List En
         | false ↦ fail c stack caps
       ])) h)
 
+  pub turn_anchor : (kind : AnchorKind) → n ≡ node.Anchor kind → (b : Bool) → holds c.setting.scene kind spot.place ≡ b →
+      Advances c (conf (Enter q) spot stack caps) (conf (held_next c q b) (held_early c kind spot b) stack caps)
+  turn_anchor kind e true h = turn_holds kind e h
+  turn_anchor kind e false h = turn_holds_not kind e h
+
   pub turn_empty : n ≡ node.Empty → Advances c (conf (Enter q) spot stack caps) (conf (towards (next_of c q)) spot stack caps)
   turn_empty e = goes_on c _ spot stack caps v.records v.spans v.slots ok q v.running.0 v.running.1 refl (enter_empty c ok q n i _ _ _ _ _ deep e)
 
@@ -149,6 +154,10 @@ module _ (c : Ground) (ok : IsGround c) (q : ℕ) (spot : Spot) (stack : List En
   turn_seq p ps e =
       advance_pause c _ _ _ (enter_seq c q n i _ _ _ _ _ deep p ps e) refl refl
       (record { running = (kid_inside ps p (ap kids_of e), v.running.1); records = v.records; spans = v.spans; slots = v.slots })
+
+  pub turn_parts : (ks : List ℕ) → n ≡ node.Seq ks → Advances c (conf (Enter q) spot stack caps) (conf (part_next c q ks) spot stack caps)
+  turn_parts [] e = turn_seq_none e
+  turn_parts (p ∷ ps) e = turn_seq p ps e
 
   -- where a group begins
   first_running : (number : Option ℕ) (ks : List ℕ) → n ≡ node.Group number ks → (spot' : Spot) (stack' : List Entry) → StandsAt c spot' stack' (around c stack' spot'.frame).depth →
@@ -187,6 +196,19 @@ module _ (c : Ground) (ok : IsGround c) (q : ℕ) (spot : Spot) (stack : List En
       tread c.setting spot.left (ahead c (conf (Enter q) spot stack caps)) ≡ answers FrameLimit
   stop_capture m ks e full = over_units c spot.left _ _ (enter_capture c ok q n i _ _ _ _ _ deep m ks e) (holding_full c.setting _ _ full)
 
+  pub turn_capture_of : (number : Option ℕ) (ks : List ℕ) → n ≡ node.Group number ks → (m : ℕ) → number ≡ Some m → spot.units < c.setting.matching.frame_limit →
+      Advances c (conf (Enter q) spot stack caps)
+      (conf (first_next q ks) (record spot { frame = suc (length stack); units = spot.units + 1 }) (GroupOpen (record { node = q; link = spot.frame }) (kept_at spot) ∷ stack) caps)
+  turn_capture_of number ks e m is room = turn_capture m ks (e ∙ ap (λ x. node.Group x ks) is) room
+
+  pub stop_capture_of : (number : Option ℕ) (ks : List ℕ) → n ≡ node.Group number ks → (m : ℕ) → number ≡ Some m → c.setting.matching.frame_limit ≤ spot.units →
+      tread c.setting spot.left (ahead c (conf (Enter q) spot stack caps)) ≡ answers FrameLimit
+  stop_capture_of number ks e m is full = stop_capture m ks (e ∙ ap (λ x. node.Group x ks) is) full
+
+  pub turn_group_of : (number : Option ℕ) (ks : List ℕ) → n ≡ node.Group number ks → ((m : ℕ) → number ≡ Some m → ⊥) → Advances c (conf (Enter q) spot stack caps) (conf (first_next q ks) spot stack caps)
+  turn_group_of None ks e not = turn_group ks e
+  turn_group_of (Some m) ks e not = absurd (not m refl)
+
   pub ahead_repeat : (body low : ℕ) (high : Option ℕ) (lazily : Bool) → n ≡ node.Repeat body low high lazily →
       ahead c (conf (Enter q) spot stack caps) ≡ ahead c (conf (Offer q 0) spot stack caps)
   ahead_repeat body low high lazily e = enter_repeat c ok q n i _ _ _ _ _ deep body low high lazily e
@@ -201,6 +223,10 @@ module _ (c : Ground) (ok : IsGround c) (q : ℕ) (spot : Spot) (stack : List En
         spans = v.spans;
         slots = v.slots;
       }
+
+pub length_row : (c : Ground) (xs : List ℕ) → row_length (row (map (tree_at c.trees) xs)) ≡ length xs
+length_row c [] = refl
+length_row c (x ∷ xs) = ap suc (length_row c xs)
 
 -- a branch of a group is tried
 module _ (c : Ground) (ok : IsGround c) (q j : ℕ) (spot : Spot) (stack : List Entry) (caps : Captures) (v : IsValid c (conf (Branch q j) spot stack caps))
@@ -241,7 +267,7 @@ module _ (c : Ground) (ok : IsGround c) (q j : ℕ) (spot : Spot) (stack : List 
         let r : Entry = LaterBranch (record { node = q; link = spot.frame }) (kept_at spot) (suc j) in
         let w = v.running.1 in
         let to : Spot = record spot { left = spot.left - 1; units = spot.units + 1 } in
-        let counts : row_length (row (map (tree_at c.trees) ks)) ≡ length ks = length_row ks in
+        let counts : row_length (row (map (tree_at c.trees) ks)) ≡ length ks = length_row c ks in
         advance_step c _ _ _
         (choosing ∙ ap stepped (holding_room c.setting _ _ room))
         (focus_kept c r stack caps (Enter p) spot.frame (kept_at to) caps (fail c (r ∷ stack) caps) w.inside)
@@ -262,7 +288,25 @@ module _ (c : Ground) (ok : IsGround c) (q j : ℕ) (spot : Spot) (stack : List 
           spans = v.spans;
           slots = v.slots;
         })
-      where
-        length_row : (xs : List ℕ) → row_length (row (map (tree_at c.trees) xs)) ≡ length xs
-        length_row [] = refl
-        length_row (x ∷ xs) = ap suc (length_row xs)
+
+-- a node of no other form is not built
+pub stray_node : (ts : List Nested) (n : Node) → IsBuilt (nest ts n) → n ≢ node.Empty → n ≢ node.KeepOut → ((item : Item) → n ≢ node.One item) → n ≢ node.Break →
+    ((ns : List ℕ) (caseless : Bool) → n ≢ node.Ref ns caseless) → ((kind : AnchorKind) → n ≢ node.Anchor kind) → ((ks : List ℕ) → n ≢ node.Seq ks) →
+    ((number : Option ℕ) (ks : List ℕ) → n ≢ node.Group number ks) → ((body low : ℕ) (high : Option ℕ) (lazily : Bool) → n ≢ node.Repeat body low high lazily) →
+    ((item : Item) (low : ℕ) (high : Option ℕ) (lazily : Bool) → n ≢ node.OneRepeat item low high lazily) → ⊥
+stray_node ts node.Empty b n1 n2 n3 n4 n5 n6 n7 n8 n9 n10 = n1 refl
+stray_node ts node.KeepOut b n1 n2 n3 n4 n5 n6 n7 n8 n9 n10 = n2 refl
+stray_node ts (node.One item) b n1 n2 n3 n4 n5 n6 n7 n8 n9 n10 = n3 item refl
+stray_node ts node.Break b n1 n2 n3 n4 n5 n6 n7 n8 n9 n10 = n4 refl
+stray_node ts (node.Ref ns caseless) b n1 n2 n3 n4 n5 n6 n7 n8 n9 n10 = n5 ns caseless refl
+stray_node ts (node.Anchor kind) b n1 n2 n3 n4 n5 n6 n7 n8 n9 n10 = n6 kind refl
+stray_node ts (node.Seq ks) b n1 n2 n3 n4 n5 n6 n7 n8 n9 n10 = n7 ks refl
+stray_node ts (node.Group number ks) b n1 n2 n3 n4 n5 n6 n7 n8 n9 n10 = n8 number ks refl
+stray_node ts (node.Repeat body low high lazily) b n1 n2 n3 n4 n5 n6 n7 n8 n9 n10 = n9 body low high lazily refl
+stray_node ts (node.OneRepeat item low high lazily) b n1 n2 n3 n4 n5 n6 n7 n8 n9 n10 = n10 item low high lazily refl
+stray_node ts (node.Atomic ks) b n1 n2 n3 n4 n5 n6 n7 n8 n9 n10 = b
+stray_node ts (node.Look ahead positive once ks) b n1 n2 n3 n4 n5 n6 n7 n8 n9 n10 = b
+stray_node ts (node.Cond test first second) b n1 n2 n3 n4 n5 n6 n7 n8 n9 n10 = b
+stray_node ts (node.Call m) b n1 n2 n3 n4 n5 n6 n7 n8 n9 n10 = b
+stray_node ts (node.VerbNode v) b n1 n2 n3 n4 n5 n6 n7 n8 n9 n10 = b
+stray_node ts (node.Callout number from to at len) b n1 n2 n3 n4 n5 n6 n7 n8 n9 n10 = b

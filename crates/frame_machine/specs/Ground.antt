@@ -7,7 +7,7 @@ use Rattle.pat_tree.specs.declared.nodes.Node.{Node}
 use Rattle.pat_tree.specs.declared.nodes.Node.TheVariants as node
 use Rattle.pat_tree.specs.declared.options.PartialMode.TheVariants.{Off}
 use Rattle.pat_tree.specs.Nested.{Nested, nest, tree_at}
-use Rattle.pat_tree.specs.Rules.{kids_of, numbers_of, classes_of}
+use Rattle.pat_tree.specs.Rules.{kids_of, numbers_of, classes_of, IsOrdered}
 use Rattle.pat_tree.specs.Refs.{named_by}
 use Rattle.match_items.specs.Items.{after_item, after_break, after_ref, place_before}
 use Rattle.frame_machine.specs.Setting.{Setting, match_limit}
@@ -61,6 +61,8 @@ pub record IsNode (c : Ground) (q : ℕ) (n : Node) : Type 0 where
   pub below : All (λ k. k < q) (kids_of n)
   pub linked : IsLinked c.rest (c.rest q) n
   pub classes : All (λ k. k < c.class_count) (classes_of n)
+  pub ordered : IsOrdered n
+  pub few : length (kids_of n) ≤ 4294967295
   -- the groups that it names, and its own, have registers
   pub named : All (λ k. (0 < k) × (k ≤ c.setting.groups)) (named_by n)
   pub numbered : All (λ k. (0 < k) × (k ≤ c.setting.groups)) (numbers_of n)

@@ -256,7 +256,7 @@ module _ (c : Ground) where
 
   -- a record over those below it, with `left` Steps left and so many registers
   abbrev pub IsSound : ℕ → ℕ → List Entry → Entry → Type 0
-  IsSound left slots below (Undo at slot old) = (0 < slot) × (slot ≤ slots) × SpanStands old
+  IsSound left slots below (Undo at slot old) = (0 < slot) × (slot ≤ slots) × SpanStands old × (at.link ≤ length below)
   IsSound left slots below (LaterBranch at kept next) =
       (at.node ≤ c.root) × IsStanding left at.link kept (around c below at.link).depth below × HasBranch (tree_of c at.node) next
   IsSound left slots below (GroupOpen at kept) =

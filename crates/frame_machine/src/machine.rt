@@ -1,4 +1,9 @@
 //! The machine's state.
+ghost use Rattle.std.specs.Prelude.{◌≡◌, ◌≤◌, ◌<◌, ◌∷◌, max, length, OnOk, OnErr, IfErr, Some};
+ghost use Rattle.frame_store.specs.Entry.{site_of, kept_of};
+ghost use Rattle.frame_machine.specs.Stops.{IsHeldStop, held_spot, record_at, restored};
+
+use frame_store::{Record, Store};
 
 /// What the machine does next.
 #[derive(Clone, Copy)]
@@ -44,4 +49,60 @@ pub(crate) enum Stop {
     MatchLimit,
     FrameLimit,
     Memory,
+}
+
+impl Spot {
+    /// The record of an event at a part, which keeps the path as it is.
+    pub(crate) fn record(&self, kind: u8, node: u32, count: u32, from: u64, to: u64) -> Record
+        ensures { result ≡ record_at self.now kind node count from to }
+    {
+        Record {
+            kind,
+            slot: 0,
+            node,
+            link: self.frame,
+            mark: self.mark,
+            passed: self.passed,
+            units: self.units,
+            count,
+            place: self.place,
+            keep: self.keep,
+            early: self.early,
+            from,
+            to,
+        }
+    }
+
+    /// Goes back to the path that a record kept.
+    pub(crate) fn restore(&mut self, kept: &Record)
+        ensures { self.new ≡ restored self.old (site_of kept.now) (kept_of kept.now) }
+    {
+        self.place = kept.place;
+        self.keep = kept.keep;
+        self.early = kept.early;
+        self.units = kept.units;
+        self.mark = kept.mark;
+        self.passed = kept.passed;
+        self.frame = kept.link;
+    }
+}
+
+/// Holds a unit more, and pushes a record of it.
+pub(crate) fn hold(limit: u32, event: Record, spot: &mut Spot, store: &mut Store) -> Result<(), Stop>
+    requires { length store.old.records ≤ spot.old.units }
+    ensures room { OnOk result (spot.old.units < limit) }
+    ensures spot { OnOk result (spot.new ≡ held_spot spot.old) }
+    ensures pushed { OnOk result (store.new.records ≡ event ∷ store.old.records) }
+    ensures stop { IfErr result (λ stop. IsHeldStop stop limit spot.old.units) }
+    ensures kept { OnErr result (spot.new ≡ spot.old) }
+    ensures peak { store.new.peak ≤ max store.old.peak limit }
+{
+    if spot.units >= limit {
+        return Err(Stop::FrameLimit);
+    }
+    if store.push(event).is_err() {
+        return Err(Stop::Memory);
+    }
+    spot.units += 1;
+    Ok(())
 }

@@ -18,72 +18,72 @@ pub(crate) struct Run {
 
 /// A pattern's numbered parts and the characters of a subject.
 pub(crate) trait Searchable {
-    ghost ground: { Self → Ground };
+    ghost searched: { Self → Ground };
 
     fn root(&self) -> u32
-        ensures { result ≡ (ground self.now).root };
+        ensures { result ≡ (searched self.now).root };
 
     fn groups(&self) -> u32
-        ensures { result ≡ (ground self.now).setting.groups };
+        ensures { result ≡ (searched self.now).setting.groups };
 
     fn node(&self, part: u32) -> &Node
-        requires { part ≤ (ground self.now).root }
-        ensures { IsNode (ground self.now) part result.now };
+        requires { part ≤ (searched self.now).root }
+        ensures { IsNode (searched self.now) part result.now };
 
     fn next(&self, part: u32) -> Option<u32>
-        requires { part ≤ (ground self.now).root }
-        ensures { result ≡ next_of (ground self.now) part };
+        requires { part ≤ (searched self.now).root }
+        ensures { result ≡ next_of (searched self.now) part };
 
     fn options(&self) -> &Options
-        ensures { result.now ≡ (ground self.now).setting.scene.options };
+        ensures { result.now ≡ (searched self.now).setting.scene.options };
 
     fn matching(&self) -> &MatchOptions
-        ensures { result.now ≡ (ground self.now).setting.scene.matching };
+        ensures { result.now ≡ (searched self.now).setting.scene.matching };
 
     fn start(&self) -> u64
-        ensures { result ≡ (ground self.now).setting.scene.start };
+        ensures { result ≡ (searched self.now).setting.scene.start };
 
     fn length(&self) -> u64
-        ensures { result ≡ length (ground self.now).setting.scene.subject };
+        ensures { result ≡ length (searched self.now).setting.scene.subject };
 
     fn take(&self, item: &Item, at: u64) -> Option<u64>
-        requires place { (ground self.now).stands at ≡ true }
-        requires class { All (λ n. n < (ground self.now).class_count) (class_in item.now) }
-        ensures { result ≡ after_item (ground self.now).setting.scene item.now at };
+        requires place { (searched self.now).stands at ≡ true }
+        requires class { All (λ n. n < (searched self.now).class_count) (class_in item.now) }
+        ensures { result ≡ after_item (searched self.now).setting.scene item.now at };
 
     fn run(&self, item: &Item, at: u64, most: Option<u32>) -> Run
-        requires place { (ground self.now).stands at ≡ true }
-        requires class { All (λ n. n < (ground self.now).class_count) (class_in item.now) }
-        ensures count { result.count ≡ length (longest_run (ground self.now).setting.scene item.now most at) }
-        ensures to { result.to ≡ end_of at (longest_run (ground self.now).setting.scene item.now most at) };
+        requires place { (searched self.now).stands at ≡ true }
+        requires class { All (λ n. n < (searched self.now).class_count) (class_in item.now) }
+        ensures count { result.count ≡ length (longest_run (searched self.now).setting.scene item.now most at) }
+        ensures to { result.to ≡ end_of at (longest_run (searched self.now).setting.scene item.now most at) };
 
     fn take_break(&self, at: u64) -> Option<u64>
-        requires { (ground self.now).stands at ≡ true }
-        ensures { result ≡ after_break (ground self.now).setting.scene at };
+        requires { (searched self.now).stands at ≡ true }
+        ensures { result ≡ after_break (searched self.now).setting.scene at };
 
     fn refer(&self, from: u64, to: u64, caseless: bool, at: u64) -> Option<u64>
-        requires from { (ground self.now).stands from ≡ true }
-        requires to { (ground self.now).stands to ≡ true }
-        requires place { (ground self.now).stands at ≡ true }
-        ensures { result ≡ after_ref (ground self.now).setting.scene from to caseless at };
+        requires from { (searched self.now).stands from ≡ true }
+        requires to { (searched self.now).stands to ≡ true }
+        requires place { (searched self.now).stands at ≡ true }
+        ensures { result ≡ after_ref (searched self.now).setting.scene from to caseless at };
 
     fn holds(&self, kind: AnchorKind, at: u64) -> bool
-        requires { (ground self.now).stands at ≡ true }
-        ensures { result ≡ holds (ground self.now).setting.scene kind at };
+        requires { (searched self.now).stands at ≡ true }
+        ensures { result ≡ holds (searched self.now).setting.scene kind at };
 
     fn earliest(&self, kind: AnchorKind, at: u64, early: u64) -> u64
-        requires { (ground self.now).stands at ≡ true }
-        ensures { result ≡ earliest (ground self.now).setting.scene kind at early };
+        requires { (searched self.now).stands at ≡ true }
+        ensures { result ≡ earliest (searched self.now).setting.scene kind at early };
 
     fn before(&self, at: u64) -> u64
-        requires { (ground self.now).stands at ≡ true }
-        ensures { result ≡ place_before (ground self.now).setting.scene at };
+        requires { (searched self.now).stands at ≡ true }
+        ensures { result ≡ place_before (searched self.now).setting.scene at };
 
     fn step_limit(&self) -> u32
-        ensures { result ≡ match_limit (ground self.now).setting };
+        ensures { result ≡ match_limit (searched self.now).setting };
 
     fn unit_limit(&self) -> u32
-        ensures { result ≡ (ground self.now).setting.scene.matching.frame_limit };
+        ensures { result ≡ (searched self.now).setting.scene.matching.frame_limit };
 
-    ghost sound: { (x : Self) → IsGround (ground x) };
+    ghost sound: { (x : Self) → IsGround (searched x) };
 }
