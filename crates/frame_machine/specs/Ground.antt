@@ -81,6 +81,7 @@ pub record IsGround (c : Ground) : Type 0 where
   pub inside : (q : ℕ) → q ≤ c.root → All (λ p. p ≤ c.root) (c.rest q)
   pub chained : (q p : ℕ) (ps : List ℕ) → q ≤ c.root → c.rest q ≡ p ∷ ps → c.rest p ≡ ps
   pub few : match_limit c.setting ≤ 4294967295
+  pub registers : c.setting.groups ≤ 65535
   pub short : length c.setting.subject < 4294967295
   pub within : (p : ℕ) → c.stands p ≡ true → p ≤ length c.setting.subject
   -- an item goes forward, and the character before the place after it begins at its place

@@ -13,3 +13,5 @@ pub mod Ground
 pub mod Machine
 pub mod Built
 pub mod Stops
+pub mod Scratch
+pub mod Answer

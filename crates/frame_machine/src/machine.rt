@@ -52,6 +52,20 @@ pub(crate) enum Stop {
 }
 
 impl Spot {
+    /// At a place, with nothing held.
+    pub(crate) fn at(place: u64) -> Spot {
+        Spot {
+            place,
+            keep: place,
+            early: place,
+            units: 0,
+            mark: 0,
+            passed: 0,
+            frame: 0,
+            left: 0,
+        }
+    }
+
     /// The record of an event at a part, which keeps the path as it is.
     pub(crate) fn record(&self, kind: u8, node: u32, count: u32, from: u64, to: u64) -> Record
         ensures { result ≡ record_at self.now kind node count from to }

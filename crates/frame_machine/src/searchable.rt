@@ -10,14 +10,14 @@ use pat_tree::{AnchorKind, Item, MatchOptions, Node, Options};
 
 /// A run of one item.
 #[derive(Clone, Copy)]
-pub(crate) struct Run {
+pub struct Run {
     pub count: u32,
     /// The place after it.
     pub to: u64,
 }
 
 /// A pattern's numbered parts and the characters of a subject.
-pub(crate) trait Searchable {
+pub trait Searchable {
     ghost searched: { Self → Ground };
 
     fn root(&self) -> u32
