@@ -21,7 +21,6 @@ use Rattle.frame_machine.specs.Machine.{Around, less, state_at, kept_at, link_of
 use Rattle.frame_machine.proofs.PartPaths.{reaching_off, enter_many}
 use Rattle.frame_machine.proofs.Frames.{around_here, around_push, focus_kept, focus_framed, sound_less, focus_towards, running_towards, Framed, framed}
 use Rattle.frame_machine.proofs.Advance.{holding_room, holding_full, advance_pause, advance_step, advance_same, over_steps, over_units, over_units_step, goes_back, goes_on, goes_on_step}
-
 use Rattle.std.proofs.Common.{◌≢◌}
 use Rattle.pat_tree.specs.declared.nodes.Item.{Item}
 use Rattle.frame_store.specs.declared.kinds.TheConstants.{KIND_UNDO, KIND_LATER_BRANCH, KIND_TURN_OR_EXIT, KIND_LATER_TURN, KIND_FEWER_ITEMS, KIND_MORE_ITEMS}
@@ -69,7 +68,7 @@ module _ (c : Ground) (ok : IsGround c) (spot : Spot) (stack : List Entry) (caps
       (item : Item) (low : ℕ) (high : Option ℕ) (lazily : Bool) (t : tree.one_repeat item low high lazily ≡ tree_of c site.node) where
     further_is : ahead c (conf Back spot (MoreItems site kept count to ∷ stack) caps)
         ≡ pause (lazy_paths c.setting item (one_less (less count high)) (run_at c ok item (less count high) to) (state_at (around c stack site.link) kept caps)
-          (past c (around c stack site.link).depth (cont c stack caps site.link) site.node) (fail c stack caps))
+        (past c (around c stack site.link).depth (cont c stack caps site.link) site.node) (fail c stack caps))
     unfolding fail
     further_is =
         ap (λ x. pause (further_from c x count to (state_at (around c stack site.link) kept caps) (past c (around c stack site.link).depth (cont c stack caps site.link) site.node) (fail c stack caps))) (sym t)

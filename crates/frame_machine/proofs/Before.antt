@@ -128,7 +128,7 @@ module _ (g : Setting) where
       let t : State = record s { units = s.units + n } in
       elim (nat_le (s.units + n) g.matching.frame_limit)
       as (λ b. strip (elim b [ true ↦ x t | false ↦ stops (by_halt too_many_units) ])
-          ≡ before (elim b [ true ↦ w t | false ↦ ends (by_halt too_many_units) ]) l f j) [
+      ≡ before (elim b [ true ↦ w t | false ↦ ends (by_halt too_many_units) ]) l f j) [
         | true ↦ same t
         | false ↦ refl
       ]
@@ -145,15 +145,15 @@ module _ (g : Setting) where
   strip_reaching true s y x l f j e =
       elim g.matching.«partial»
       as (λ m. strip (elim m [
-            | Off ↦ y
-            | Soft ↦ elim (counts g s) [ true ↦ noted hit_end y | false ↦ y ]
-            | Hard ↦ elim (counts g s) [ true ↦ stops (by_halt is_partial) | false ↦ y ]
-          ])
-          ≡ before (elim m [
-            | Off ↦ x
-            | Soft ↦ elim (counts g s) [ true ↦ note hit_end ▸ x | false ↦ x ]
-            | Hard ↦ elim (counts g s) [ true ↦ ends (by_halt is_partial) | false ↦ x ]
-          ]) l f j) [
+        | Off ↦ y
+        | Soft ↦ elim (counts g s) [ true ↦ noted hit_end y | false ↦ y ]
+        | Hard ↦ elim (counts g s) [ true ↦ stops (by_halt is_partial) | false ↦ y ]
+      ])
+      ≡ before (elim m [
+        | Off ↦ x
+        | Soft ↦ elim (counts g s) [ true ↦ note hit_end ▸ x | false ↦ x ]
+        | Hard ↦ elim (counts g s) [ true ↦ ends (by_halt is_partial) | false ↦ x ]
+      ]) l f j) [
         | Off ↦ e
         | Soft ↦
             elim (counts g s)
@@ -182,17 +182,17 @@ module _ (g : Setting) where
   strip_ref (n ∷ ns) caseless s k l f j e =
       elim (capture s.caps n)
       as (λ o. strip (elim o [
-            | None ↦ ref_path g ns caseless s k f
-            | Some span ↦
-                reaching g (ref_reaches g.scene span.from span.to caseless s.place) s
-                (going (after_ref g.scene span.from span.to caseless s.place) s k f)
-          ])
-          ≡ before (elim o [
-            | None ↦ run_ref g ns caseless s
-            | Some span ↦
-                reach_if g (ref_reaches g.scene span.from span.to caseless s.place) s
-                (goes_to (after_ref g.scene span.from span.to caseless s.place) s)
-          ]) l (strip f) j) [
+        | None ↦ ref_path g ns caseless s k f
+        | Some span ↦
+            reaching g (ref_reaches g.scene span.from span.to caseless s.place) s
+            (going (after_ref g.scene span.from span.to caseless s.place) s k f)
+      ])
+      ≡ before (elim o [
+        | None ↦ run_ref g ns caseless s
+        | Some span ↦
+            reach_if g (ref_reaches g.scene span.from span.to caseless s.place) s
+            (goes_to (after_ref g.scene span.from span.to caseless s.place) s)
+      ]) l (strip f) j) [
         | None ↦ strip_ref ns caseless s k l f j e
         | Some span ↦ strip_reaching _ s _ _ l (strip f) j (strip_going _ s k l f j e)
       ]
@@ -368,6 +368,7 @@ module _ (g : Setting) where
 
     mutual
       unfolding before strip level path run_one run_break run_group
+
       strip_path : (t : Nested) (s : State) (k l : Follow) (f : Moves) (h j : Handler) → IsStripped k l → AreStripped h j →
           strip (path g d (paths g d) t s k f h) ≡ before (level g (run g d) t s) l (strip f) j
       strip_path tree.empty s k l f h j e r = e.same reached s f

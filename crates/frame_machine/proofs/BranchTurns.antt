@@ -28,7 +28,6 @@ use Rattle.frame_machine.specs.Stops.{moved_next, moved_spot}
 use Rattle.frame_machine.proofs.PartPaths.{after_nil, enter_empty, enter_keep, enter_one, enter_break, enter_anchor, enter_ref, enter_seq_none, enter_seq, enter_group, enter_capture, enter_repeat, branch_last, branch_more, offer_below, offer_full, offer_greedy, offer_lazy, begin_step}
 use Rattle.frame_machine.proofs.Frames.{around_here, around_push, focus_kept, focus_framed, sound_less, focus_towards, running_towards}
 use Rattle.frame_machine.proofs.Advance.{holding_room, holding_full, advance_pause, advance_step, advance_same, over_steps, over_units, over_units_step, goes_back, goes_on, goes_on_step}
-
 use Rattle.std.proofs.Common.{suc}
 use Rattle.std.proofs.lemmas.Option.{slice_get-get_or}
 use Rattle.frame_machine.proofs.PartPaths.{All-at}

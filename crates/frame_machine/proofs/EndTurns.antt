@@ -116,7 +116,7 @@ module _ (c : Ground) (ok : IsGround c) (spot : Spot) (records : List Record) (c
     module _ (m : ℕ) (ts : Row) (t : tree.group (Some m) ts ≡ tree_of c site.node) where
       closing : ahead c (conf End spot (entries records) caps)
           ≡ pause (holding c.setting 1 (captured m kept.place (state_at (around c (entries records) site.link) (kept_at spot) caps))
-            (λ u. past c (around c (entries records) site.link).depth (cont c (entries records) caps site.link) site.node reached u (pause (fail c (entries records) caps))))
+          (λ u. past c (around c (entries records) site.link).depth (cont c (entries records) caps site.link) site.node reached u (pause (fail c (entries records) caps))))
       closing =
           ap (λ (a : Around). cont c (entries records) caps spot.frame reached (state_at a (kept_at spot) caps) (fail c (entries records) caps)) group_around
           ∙ ap (λ (k : Follow). k reached (state_at (around c (entries records) site.link) (kept_at spot) caps) (fail c (entries records) caps)) (ap (cont c (entries records) caps) height ∙ group_frame.ends)
@@ -128,8 +128,8 @@ module _ (c : Ground) (ok : IsGround c) (spot : Spot) (records : List Record) (c
       pub turn_close : 0 < m → m ≤ length caps → spot.units < c.setting.matching.frame_limit →
           Advances c (conf End spot (entries records) caps)
           (conf (towards (next_of c site.node)) (record spot { frame = site.link; units = spot.units + 1 })
-            (Undo (record { node = site.node; link = site.link }) m (capture caps m) ∷ entries records)
-            (with_capture caps m (Some (record { from = kept.place; to = spot.place }))))
+          (Undo (record { node = site.node; link = site.link }) m (capture caps m) ∷ entries records)
+          (with_capture caps m (Some (record { from = kept.place; to = spot.place }))))
       unfolding fail
       turn_close some few room =
           let w = v.running in
@@ -174,10 +174,10 @@ module _ (c : Ground) (ok : IsGround c) (spot : Spot) (records : List Record) (c
 
     ended : ahead c (conf End spot (entries records) caps)
         ≡ pause (elim (is_over (low - count) (less count high) (state_at (around c (entries records) site.link) kept turn_frame.inner) (state_at (around c (entries records) site.link) (kept_at spot) caps)) [
-            | true ↦ past c (around c (entries records) site.link).depth (cont c (entries records) caps site.link) site.node reached (state_at (around c (entries records) site.link) (kept_at spot) caps) (fail c (entries records) caps)
-            | false ↦ paths c.setting ((around c (entries records) site.link).depth - suc count) (tree.repeat (tree_of c body) (low - count - 1) (one_less (less count high)) lazily)
-                (state_at (around c (entries records) site.link) (kept_at spot) caps) (past c (around c (entries records) site.link).depth (cont c (entries records) caps site.link) site.node) (fail c (entries records) caps) at_verbs
-          ])
+          | true ↦ past c (around c (entries records) site.link).depth (cont c (entries records) caps site.link) site.node reached (state_at (around c (entries records) site.link) (kept_at spot) caps) (fail c (entries records) caps)
+          | false ↦ paths c.setting ((around c (entries records) site.link).depth - suc count) (tree.repeat (tree_of c body) (low - count - 1) (one_less (less count high)) lazily)
+              (state_at (around c (entries records) site.link) (kept_at spot) caps) (past c (around c (entries records) site.link).depth (cont c (entries records) caps site.link) site.node) (fail c (entries records) caps) at_verbs
+        ])
     unfolding turned
     ended =
         ap (λ (a : Around). cont c (entries records) caps spot.frame reached (state_at a (kept_at spot) caps) (fail c (entries records) caps)) turn_around
@@ -262,8 +262,8 @@ module _ (c : Ground) (ok : IsGround c) (spot : Spot) (records : List Record) (c
       pub turn_open : 0 < m → m ≤ c.setting.groups → spot.units < c.setting.matching.frame_limit →
           Advances c (conf End spot (entries records) caps)
           (conf (towards (next_of c p.node)) (record spot { frame = p.link; units = spot.units + 1 })
-            (Undo (record { node = p.node; link = p.link }) m (capture caps m) ∷ entries records)
-            (with_capture caps m (Some (record { from = p.place; to = spot.place }))))
+          (Undo (record { node = p.node; link = p.link }) m (capture caps m) ∷ entries records)
+          (with_capture caps m (Some (record { from = p.place; to = spot.place }))))
       turn_open some few room =
           let z = numbered (tree_of c p.node) t in
           turn_close c ok spot records caps v h at_height p at (site_of p) (kept_of p) is_open m z.0 z.1 some (omega (arith, few, v.slots)) room

@@ -87,8 +87,8 @@ module _ (c : Ground) where
     pub focus_framed : (next : Next) (kept : Kept) (now : Captures) (f : Moves) →
         focus c next (around c (r ∷ stack) (suc (length stack))).depth (cont c (r ∷ stack) caps (suc (length stack))) (state_at (around c (r ∷ stack) (suc (length stack))) kept now) f
         ≡ focus c next (frame_around r (around c stack (link_of r))).depth
-          (frame_end c r (around c stack (link_of r)) (cont c stack (taken_back r caps) (link_of r)) (taken_back r caps) (fail c stack (taken_back r caps)))
-          (state_at (frame_around r (around c stack (link_of r))) kept now) f
+        (frame_end c r (around c stack (link_of r)) (cont c stack (taken_back r caps) (link_of r)) (taken_back r caps) (fail c stack (taken_back r caps)))
+        (state_at (frame_around r (around c stack (link_of r))) kept now) f
     focus_framed next kept now f =
         ap (λ (a : Around). focus c next a.depth (cont c (r ∷ stack) caps (suc (length stack))) (state_at a kept now) f) (around_here r stack _ refl)
         ∙ ap (λ (k : Follow). focus c next (frame_around r (around c stack (link_of r))).depth k (state_at (frame_around r (around c stack (link_of r))) kept now) f) (cont_here r stack caps _ refl)

@@ -66,7 +66,7 @@ module _ (g : Setting) where
           | reached ↦ λ u e.
               elim (is_over low high s u)
               as (λ b. pause (elim b [ true ↦ k reached u e | false ↦ below (tree.repeat body (low - 1) (one_less high) lazily) u k e h ])
-                  ≡ pause (elim b [ true ↦ k reached u e | false ↦ below (tree.repeat body (low - 1) (one_less high) lazily) u k e j ])) [
+              ≡ pause (elim b [ true ↦ k reached u e | false ↦ below (tree.repeat body (low - 1) (one_less high) lazily) u k e j ])) [
                 | true ↦ refl
                 | false ↦ ap pause ((again (low - 1) (one_less high) lazily).same u k e h j)
               ]
@@ -103,6 +103,7 @@ module _ (g : Setting) where
   module _ (d : ℕ) (under : (t : Nested) → IsBuilt t → IsFree (paths g d t)) where
     mutual
       unfolding path
+
       free_path : (t : Nested) → IsBuilt t → IsFree (path g d (paths g d) t)
       free_path tree.empty b = record { same = λ s k f h j. refl }
       free_path (tree.one item) b = record { same = λ s k f h j. refl }

@@ -21,7 +21,6 @@ use Rattle.frame_machine.specs.Machine.{Around, less, state_at, kept_at, link_of
 use Rattle.frame_machine.proofs.PartPaths.{reaching_off, enter_many}
 use Rattle.frame_machine.proofs.Frames.{around_here, around_push, focus_kept, focus_framed, sound_less, focus_towards, running_towards, Framed, framed}
 use Rattle.frame_machine.proofs.Advance.{holding_room, holding_full, advance_pause, advance_step, advance_same, over_steps, over_units, over_units_step, goes_back, goes_on, goes_on_step}
-
 use Rattle.std.proofs.Common.{drop, take, inl, inr}
 use Rattle.std.proofs.lemmas.Bool.{cases_lt, cond-true, cond-false, lt-ltb, le-ltb}
 use Rattle.frame_machine.specs.Stops.{many_next}
@@ -46,7 +45,7 @@ module _ (c : Ground) (ok : IsGround c) (q : ℕ) (spot : Spot) (stack : List En
 
   entered : ahead c (conf (Enter q) spot stack caps)
       ≡ pause (many_paths c.setting item low high lazily (longest_run c.setting.scene item high spot.place) (spot_state c spot stack caps)
-        (past c (around c stack spot.frame).depth (cont c stack caps spot.frame) q) (fail c stack caps))
+      (past c (around c stack spot.frame).depth (cont c stack caps spot.frame) q) (fail c stack caps))
   entered =
       let deep : (around c stack spot.frame).depth ≡ suc ((around c stack spot.frame).depth - 1) = omega (arith, v.running.1.deep) in
       enter_many c ok q n i _ _ _ _ _ deep item low high lazily e
@@ -65,9 +64,9 @@ module _ (c : Ground) (ok : IsGround c) (q : ℕ) (spot : Spot) (stack : List En
       (entered ∙ ap pause (many_is lazily _ [] _ _ _ (run_short c ok item low high spot.place v.running.1.here at_most lt) ∙ none lazily))
     where
       none : (b : Bool) → elim b [
-            | true ↦ lazy_paths c.setting item (less low high) [] (spot_state c spot stack caps) (past c (around c stack spot.frame).depth (cont c stack caps spot.frame) q) (fail c stack caps)
-            | false ↦ offer_paths c.setting (reverse []) (spot_state c spot stack caps) (past c (around c stack spot.frame).depth (cont c stack caps spot.frame) q) (fail c stack caps)
-          ] ≡ fail c stack caps
+        | true ↦ lazy_paths c.setting item (less low high) [] (spot_state c spot stack caps) (past c (around c stack spot.frame).depth (cont c stack caps spot.frame) q) (fail c stack caps)
+        | false ↦ offer_paths c.setting (reverse []) (spot_state c spot stack caps) (past c (around c stack spot.frame).depth (cont c stack caps spot.frame) q) (fail c stack caps)
+      ] ≡ fail c stack caps
       none true = refl
       none false = refl
 
@@ -117,7 +116,7 @@ module _ (c : Ground) (ok : IsGround c) (q : ℕ) (spot : Spot) (stack : List En
   many_reached : (b : Bool) → lazily ≡ b → length (run_at c ok item (Some low) spot.place) ≡ low →
       Advances c (conf (Enter q) spot stack caps)
       (conf (if b then More q low (end_of spot.place (run_at c ok item (Some low) spot.place))
-        else Fewer q (end_of spot.place (run_at c ok item (Some low) spot.place)) (end_of (end_of spot.place (run_at c ok item (Some low) spot.place)) (run_at c ok item (less low high) (end_of spot.place (run_at c ok item (Some low) spot.place))))) spot stack caps)
+      else Fewer q (end_of spot.place (run_at c ok item (Some low) spot.place)) (end_of (end_of spot.place (run_at c ok item (Some low) spot.place)) (run_at c ok item (less low high) (end_of spot.place (run_at c ok item (Some low) spot.place))))) spot stack caps)
   many_reached true is e = turn_more e is _ refl
   many_reached false is e = turn_fewer e is _ _ refl refl
 
@@ -143,7 +142,7 @@ module _ (c : Ground) (ok : IsGround c) (q from to : ℕ) (spot : Spot) (stack :
 
   fewer_more : from < to → ahead c (conf (Fewer q from to) spot stack caps)
       ≡ stepped (holding c.setting 1 (record (spot_state c spot stack caps) { place = to }) (λ t. past c (around c stack spot.frame).depth (cont c stack caps spot.frame) q reached t
-        (pause (offer_paths c.setting (fewer_places c from to) (spot_state c spot stack caps) (past c (around c stack spot.frame).depth (cont c stack caps spot.frame) q) (fail c stack caps)))))
+      (pause (offer_paths c.setting (fewer_places c from to) (spot_state c spot stack caps) (past c (around c stack spot.frame).depth (cont c stack caps spot.frame) q) (fail c stack caps)))))
   unfolding offer_paths
   fewer_more lt =
       let s : State = spot_state c spot stack caps in
@@ -202,7 +201,7 @@ module _ (c : Ground) (ok : IsGround c) (q count to : ℕ) (spot : Spot) (stack 
     (item : Item) (low : ℕ) (high : Option ℕ) (lazily : Bool) (t : tree.one_repeat item low high lazily ≡ tree_of c q) where
   more_is : ahead c (conf (More q count to) spot stack caps)
       ≡ offer_path c.setting (is_none_left (less count high)) (record (spot_state c spot stack caps) { place = to }) (past c (around c stack spot.frame).depth (cont c stack caps spot.frame) q)
-        (further_from c (tree_of c q) count to (spot_state c spot stack caps) (past c (around c stack spot.frame).depth (cont c stack caps spot.frame) q) (fail c stack caps)) (fail c stack caps)
+      (further_from c (tree_of c q) count to (spot_state c spot stack caps) (past c (around c stack spot.frame).depth (cont c stack caps spot.frame) q) (fail c stack caps)) (fail c stack caps)
   unfolding lazy_paths
   more_is =
       let s : State = spot_state c spot stack caps in
@@ -219,7 +218,7 @@ module _ (c : Ground) (ok : IsGround c) (q count to : ℕ) (spot : Spot) (stack 
 
   more_more : is_none_left (less count high) ≡ false → ahead c (conf (More q count to) spot stack caps)
       ≡ stepped (holding c.setting 1 (record (spot_state c spot stack caps) { place = to }) (λ u. past c (around c stack spot.frame).depth (cont c stack caps spot.frame) q reached u
-        (pause (further_from c (tree_of c q) count to (spot_state c spot stack caps) (past c (around c stack spot.frame).depth (cont c stack caps spot.frame) q) (fail c stack caps)))))
+      (pause (further_from c (tree_of c q) count to (spot_state c spot stack caps) (past c (around c stack spot.frame).depth (cont c stack caps spot.frame) q) (fail c stack caps)))))
   more_more e =
       more_is ∙ ap (λ b. offer_path c.setting b (record (spot_state c spot stack caps) { place = to }) (past c (around c stack spot.frame).depth (cont c stack caps spot.frame) q)
       (further_from c (tree_of c q) count to (spot_state c spot stack caps) (past c (around c stack spot.frame).depth (cont c stack caps spot.frame) q) (fail c stack caps)) (fail c stack caps)) e
@@ -259,8 +258,13 @@ module _ (c : Ground) (ok : IsGround c) (q count to : ℕ) (spot : Spot) (stack 
           here = v.running.3;
         });
         records = (
-          (v.running.0, record { inside = w.inside; deep = omega (arith, w.deep); counted = w.counted; few = w.few; here = w.here }, v.running.2, v.running.3,
-            subst (λ x. HasFurther c x count) t e),
+          (
+            v.running.0,
+            record { inside = w.inside; deep = omega (arith, w.deep); counted = w.counted; few = w.few; here = w.here },
+            v.running.2,
+            v.running.3,
+            subst (λ x. HasFurther c x count) t e,
+          ),
           sound_less c spot.left (spot.left - 1) (length caps) stack (omega arith) v.records,
         );
         spans = v.spans;

@@ -132,15 +132,15 @@ module _ (c : Ground) where
   ref_first ok (n ∷ ns) caseless s k f =
       elim (capture s.caps n)
       as (λ o. elim o [
-            | None ↦ ref_path c.setting ns caseless s k f
-            | Some span ↦
-                reaching c.setting (ref_reaches c.setting.scene span.from span.to caseless s.place) s
-                (going (after_ref c.setting.scene span.from span.to caseless s.place) s k f)
-          ]
-          ≡ elim (let z : Option Span = elim o [ None ↦ first_set s.caps ns | Some span ↦ Some span ] in z) [
-            | None ↦ elim c.setting.options.match_unset_backref [ true ↦ k reached s f | false ↦ f ]
-            | Some span ↦ going (after_ref c.setting.scene span.from span.to caseless s.place) s k f
-          ]) [
+        | None ↦ ref_path c.setting ns caseless s k f
+        | Some span ↦
+            reaching c.setting (ref_reaches c.setting.scene span.from span.to caseless s.place) s
+            (going (after_ref c.setting.scene span.from span.to caseless s.place) s k f)
+      ]
+      ≡ elim (let z : Option Span = elim o [ None ↦ first_set s.caps ns | Some span ↦ Some span ] in z) [
+        | None ↦ elim c.setting.options.match_unset_backref [ true ↦ k reached s f | false ↦ f ]
+        | Some span ↦ going (after_ref c.setting.scene span.from span.to caseless s.place) s k f
+      ]) [
         | None ↦ ref_first ok ns caseless s k f
         | Some span ↦ reaching_off ok _ s _
       ]
@@ -254,17 +254,17 @@ module _ (c : Ground) where
 
     pub enter_anchor : (kind : AnchorKind) → n ≡ node.Anchor kind → enter c d k q s f
         ≡ pause (elim (holds c.setting.scene kind s.place) [
-            | true ↦ past c d k q reached (record s { early = earliest c.setting.scene kind s.place s.early }) f
-            | false ↦ f
-          ])
+          | true ↦ past c d k q reached (record s { early = earliest c.setting.scene kind s.place s.early }) f
+          | false ↦ f
+        ])
     unfolding path
     enter_anchor kind e = by_node (node.Anchor kind) e ∙ ap pause (reaching_off ok _ _ _)
 
     pub enter_ref : (ns : List ℕ) (caseless : Bool) → n ≡ node.Ref ns caseless → enter c d k q s f
         ≡ pause (elim (first_set s.caps ns) [
-            | None ↦ elim c.setting.options.match_unset_backref [ true ↦ past c d k q reached s f | false ↦ f ]
-            | Some span ↦ going (after_ref c.setting.scene span.from span.to caseless s.place) s (past c d k q) f
-          ])
+          | None ↦ elim c.setting.options.match_unset_backref [ true ↦ past c d k q reached s f | false ↦ f ]
+          | Some span ↦ going (after_ref c.setting.scene span.from span.to caseless s.place) s (past c d k q) f
+        ])
     unfolding path
     enter_ref ns caseless e = by_node (node.Ref ns caseless) e ∙ ap pause (ref_first ok ns caseless s (past c d k q) f)
 

@@ -104,14 +104,16 @@ module _ (c : Ground) (ok : IsGround c) (q i : ℕ) (spot : Spot) (stack : List 
       running : (r : Entry) → around c (r ∷ stack) (suc (length stack)) ≡ record (around c stack spot.frame) { depth = (around c stack spot.frame).depth - suc i } →
           IsRunning c to (r ∷ stack) (Enter body)
       running r same =
-          let w = v.running.1 in
-          (inside, record {
-            inside = omega arith;
-            deep = omega (arith, w.deep, ap (λ (a : Around). a.depth) same);
-            counted = omega (arith, w.counted);
-            few = omega (arith, room);
-            here = w.here;
-          })
+          let w = v.running.1 in (
+            inside,
+            record {
+              inside = omega arith;
+              deep = omega (arith, w.deep, ap (λ (a : Around). a.depth) same);
+              counted = omega (arith, w.counted);
+              few = omega (arith, room);
+              here = w.here;
+            },
+          )
 
       under : AreSound c (spot.left - 1) (length caps) stack
       under = sound_less c spot.left (spot.left - 1) (length caps) stack (omega arith) v.records
@@ -125,13 +127,13 @@ module _ (c : Ground) (ok : IsGround c) (q i : ℕ) (spot : Spot) (stack : List 
         spot.units < c.setting.matching.frame_limit →
         ahead c (conf (Begin q i b) spot stack caps)
         ≡ stepped (paths c.setting ((around c stack spot.frame).depth - suc i) (tree_of c body) (record (spot_state c spot stack caps) { units = spot.units + 1 })
-          (turned_from c (tree_of c q) i (around c stack spot.frame).depth (spot_state c spot stack caps) (past c (around c stack spot.frame).depth (cont c stack caps spot.frame) q))
-          (pause m) at_verbs)
+        (turned_from c (tree_of c q) i (around c stack spot.frame).depth (spot_state c spot stack caps) (past c (around c stack spot.frame).depth (cont c stack caps spot.frame) q))
+        (pause m) at_verbs)
     begins_with m e room =
         begin_step c q i _ (tree_of c body) low high lazily t _ _ _ deep_begin b ∙ ap stepped (holding_room c.setting _ _ room)
         ∙ ap (λ x. stepped (paths c.setting ((around c stack spot.frame).depth - suc i) (tree_of c body) (record (spot_state c spot stack caps) { units = spot.units + 1 })
-          (turned_from c (tree_of c q) i (around c stack spot.frame).depth (spot_state c spot stack caps) (past c (around c stack spot.frame).depth (cont c stack caps spot.frame) q))
-          (pause x) at_verbs)) e
+        (turned_from c (tree_of c q) i (around c stack spot.frame).depth (spot_state c spot stack caps) (past c (around c stack spot.frame).depth (cont c stack caps spot.frame) q))
+        (pause x) at_verbs)) e
 
     pub turn_begin_exits : b ≡ true → body ≤ c.root → c.rest body ≡ [] → 0 < spot.left → spot.units < c.setting.matching.frame_limit →
         Advances c (conf (Begin q i b) spot stack caps)

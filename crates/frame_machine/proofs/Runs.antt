@@ -39,9 +39,9 @@ module _ (c : Ground) (ok : IsGround c) (item : Item) where
   run_none zero most p e = refl
   run_none (suc n) most p e =
       elim (is_none_left most) as (λ b. elim b [
-            | true ↦ []
-            | false ↦ elim (after_at p) [ None ↦ [] | Some q ↦ q ∷ places n (one_less most) q ]
-          ] ≡ []) [
+        | true ↦ []
+        | false ↦ elim (after_at p) [ None ↦ [] | Some q ↦ q ∷ places n (one_less most) q ]
+      ] ≡ []) [
         | true ↦ refl
         | false ↦ ap (λ o. elim o [ None ↦ [] | Some q ↦ q ∷ places n (one_less most) q ]) e
       ]

@@ -217,8 +217,11 @@ module _ (c : Ground) (ok : IsGround c) (q : ℕ) (spot : Spot) (stack : List En
   valid_repeat body low high lazily e =
       let w = v.running.1 in
       record {
-        running = (v.running.0, record { inside = w.inside; deep = omega (arith, w.deep); counted = w.counted; few = w.few; here = w.here },
-            subst (IsRepeat c) (subst (λ z. nest c.trees z ≡ tree_of c q) e i.is) tt);
+        running = (
+          v.running.0,
+          record { inside = w.inside; deep = omega (arith, w.deep); counted = w.counted; few = w.few; here = w.here },
+          subst (IsRepeat c) (subst (λ z. nest c.trees z ≡ tree_of c q) e i.is) tt,
+        );
         records = v.records;
         spans = v.spans;
         slots = v.slots;
@@ -252,8 +255,8 @@ module _ (c : Ground) (ok : IsGround c) (q j : ℕ) (spot : Spot) (stack : List 
   module _ (p' : ℕ) (at' : slice_get ks (suc j) ≡ Some p') (left : 0 < spot.left) where
     choosing : ahead c (conf (Branch q j) spot stack caps)
         ≡ stepped (holding c.setting 1 (spot_state c spot stack caps) (λ u.
-          enter c (around c stack spot.frame).depth (cont c stack caps spot.frame) p u
-          (pause (focus c (Branch q (suc j)) (around c stack spot.frame).depth (cont c stack caps spot.frame) (spot_state c spot stack caps) (fail c stack caps)))))
+        enter c (around c stack spot.frame).depth (cont c stack caps spot.frame) p u
+        (pause (focus c (Branch q (suc j)) (around c stack spot.frame).depth (cont c stack caps spot.frame) (spot_state c spot stack caps) (fail c stack caps)))))
     choosing = branch_more c q j _ number ks t l p at (ok.built p inside) _ _ _ p' at'
 
     pub stop_branch_units : c.setting.matching.frame_limit ≤ spot.units → tread c.setting spot.left (ahead c (conf (Branch q j) spot stack caps)) ≡ answers FrameLimit
@@ -273,16 +276,22 @@ module _ (c : Ground) (ok : IsGround c) (q j : ℕ) (spot : Spot) (stack : List 
         (focus_kept c r stack caps (Enter p) spot.frame (kept_at to) caps (fail c (r ∷ stack) caps) w.inside)
         (omega arith)
         (record {
-          running = (inside, record {
-            inside = omega (arith, w.inside);
-            deep = omega (arith, w.deep, ap (λ (a : Around). a.depth) (around_push c r stack spot.frame w.inside));
-            counted = omega (arith, w.counted);
-            few = omega (arith, room);
-            here = w.here;
-          });
+          running = (
+            inside,
+            record {
+              inside = omega (arith, w.inside);
+              deep = omega (arith, w.deep, ap (λ (a : Around). a.depth) (around_push c r stack spot.frame w.inside));
+              counted = omega (arith, w.counted);
+              few = omega (arith, room);
+              here = w.here;
+            },
+          );
           records = (
-            (v.running.0, record { inside = w.inside; deep = omega (arith, w.deep); counted = w.counted; few = w.few; here = w.here },
-              subst (λ z. HasBranch c z (suc j)) t (omega (arith, lt, counts))),
+            (
+              v.running.0,
+              record { inside = w.inside; deep = omega (arith, w.deep); counted = w.counted; few = w.few; here = w.here },
+              subst (λ z. HasBranch c z (suc j)) t (omega (arith, lt, counts)),
+            ),
             sound_less c spot.left (spot.left - 1) (length caps) stack (omega arith) v.records,
           );
           spans = v.spans;

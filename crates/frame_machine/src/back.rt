@@ -10,7 +10,9 @@ ghost use Rattle.frame_machine.specs.Stops.{IsStop, IsFurther, more_next};
 use crate::enter::go_on;
 use crate::machine::{Next, Spot, Stop};
 use crate::searchable::Searchable;
-use frame_store::kinds::{KIND_FEWER_ITEMS, KIND_LATER_BRANCH, KIND_LATER_TURN, KIND_MORE_ITEMS, KIND_TURN_OR_EXIT};
+use frame_store::kinds::{
+    KIND_FEWER_ITEMS, KIND_LATER_BRANCH, KIND_LATER_TURN, KIND_MORE_ITEMS, KIND_TURN_OR_EXIT,
+};
 use frame_store::{Record, Registers, Store};
 use pat_tree::Node;
 
@@ -55,7 +57,12 @@ fn more_or_back(kept: &Record, further: Option<u64>) -> Next
 }
 
 /// Goes back to the newest record.
-pub(crate) fn back<S: Searchable>(on: &S, spot: &mut Spot, store: &mut Store, registers: &mut Registers) -> Result<Next, Stop>
+pub(crate) fn back<S: Searchable>(
+    on: &S,
+    spot: &mut Spot,
+    store: &mut Store,
+    registers: &mut Registers,
+) -> Result<Next, Stop>
     requires valid { IsValid (S.searched on.now) (conf Next.Back spot.old (entries store.old.records) registers.old) }
     ensures on { IfOk result (λ next. Advances (S.searched on.now) (conf Next.Back spot.old (entries store.old.records) registers.old) (conf next spot.new (entries store.new.records) registers.new)) }
     ensures stop { IfErr result (λ stop. IsStop stop spot.new registers.new (tread (S.searched on.now).setting spot.old.left (ahead (S.searched on.now) (conf Next.Back spot.old (entries store.old.records) registers.old)))) }

@@ -10,9 +10,7 @@ use crate::enter::go_on;
 use crate::machine::{Next, Spot, Stop, hold};
 use crate::repeats::turns_of;
 use crate::searchable::Searchable;
-use frame_store::kinds::{
-    KIND_GROUP_OPEN, KIND_TURN_OPEN, KIND_TURN_OR_EXIT, KIND_UNDO,
-};
+use frame_store::kinds::{KIND_GROUP_OPEN, KIND_TURN_OPEN, KIND_TURN_OR_EXIT, KIND_UNDO};
 use frame_store::{Record, Registers, Span, Store};
 use pat_tree::Node;
 
@@ -75,7 +73,14 @@ fn undo_record(spot: &Spot, link: u32, node: u32, slot: u16, old: Option<Span>) 
 }
 
 /// Writes a capture where its group has ended.
-fn close<S: Searchable>(on: &S, frame: &Record, height: usize, spot: &mut Spot, store: &mut Store, registers: &mut Registers) -> Result<Next, Stop>
+fn close<S: Searchable>(
+    on: &S,
+    frame: &Record,
+    height: usize,
+    spot: &mut Spot,
+    store: &mut Store,
+    registers: &mut Registers,
+) -> Result<Next, Stop>
     requires valid { IsValid (S.searched on.now) (conf Next.End spot.old (entries store.old.records) registers.old) }
     requires frame { spot.old.frame ≡ height + 1 }
     requires at { slice_get (reverse store.old.records) height ≡ Some frame.now }
@@ -102,7 +107,14 @@ fn close<S: Searchable>(on: &S, frame: &Record, height: usize, spot: &mut Spot, 
 }
 
 /// Goes on where a turn of a repeat has ended.
-fn turned<S: Searchable>(on: &S, frame: &Record, height: usize, spot: &mut Spot, store: &mut Store, registers: &Registers) -> Result<Next, Stop>
+fn turned<S: Searchable>(
+    on: &S,
+    frame: &Record,
+    height: usize,
+    spot: &mut Spot,
+    store: &mut Store,
+    registers: &Registers,
+) -> Result<Next, Stop>
     requires valid { IsValid (S.searched on.now) (conf Next.End spot.old (entries store.old.records) registers.now) }
     requires frame { spot.old.frame ≡ height + 1 }
     requires at { slice_get (reverse store.old.records) height ≡ Some frame.now }
@@ -120,7 +132,12 @@ fn turned<S: Searchable>(on: &S, frame: &Record, height: usize, spot: &mut Spot,
 }
 
 /// Goes on where the innermost frame, or the pattern, has ended.
-pub(crate) fn finish<S: Searchable>(on: &S, spot: &mut Spot, store: &mut Store, registers: &mut Registers) -> Result<Next, Stop>
+pub(crate) fn finish<S: Searchable>(
+    on: &S,
+    spot: &mut Spot,
+    store: &mut Store,
+    registers: &mut Registers,
+) -> Result<Next, Stop>
     requires valid { IsValid (S.searched on.now) (conf Next.End spot.old (entries store.old.records) registers.old) }
     ensures on { IfOk result (λ next. Advances (S.searched on.now) (conf Next.End spot.old (entries store.old.records) registers.old) (conf next spot.new (entries store.new.records) registers.new)) }
     ensures stop { IfErr result (λ stop. IsStop stop spot.new registers.new (tread (S.searched on.now).setting spot.old.left (ahead (S.searched on.now) (conf Next.End spot.old (entries store.old.records) registers.old)))) }

@@ -8,8 +8,8 @@ ghost use Rattle.frame_machine.specs.Moves.{tread};
 ghost use Rattle.match_items.specs.Items.{holds};
 ghost use Rattle.frame_machine.specs.Stops.{IsStop, referred, moved_next, moved_spot, held_next, held_early, part_next};
 
-use crate::machine::{Next, Spot, Stop, hold};
 use crate::items::many;
+use crate::machine::{Next, Spot, Stop, hold};
 use crate::repeats::{offer, widen};
 use crate::searchable::Searchable;
 use frame_store::kinds::KIND_GROUP_OPEN;
@@ -69,7 +69,13 @@ fn first_set(groups: &[u16], registers: &Registers) -> Option<Span>
 }
 
 /// Where a reference to one of these groups leads.
-fn refer<S: Searchable>(on: &S, groups: &[u16], caseless: bool, place: u64, registers: &Registers) -> Option<u64>
+fn refer<S: Searchable>(
+    on: &S,
+    groups: &[u16],
+    caseless: bool,
+    place: u64,
+    registers: &Registers,
+) -> Option<u64>
     requires groups { All (HasGroup registers.now) groups.now }
     requires spans { AreSpans (S.searched on.now) registers.now }
     requires place { (S.searched on.now).stands place ≡ true }
@@ -109,7 +115,13 @@ fn first_part<S: Searchable>(on: &S, part: u32, kids: &Kids) -> Next
 }
 
 /// Runs a part.
-pub(crate) fn enter<S: Searchable>(on: &S, at: u32, spot: &mut Spot, store: &mut Store, registers: &Registers) -> Result<Next, Stop>
+pub(crate) fn enter<S: Searchable>(
+    on: &S,
+    at: u32,
+    spot: &mut Spot,
+    store: &mut Store,
+    registers: &Registers,
+) -> Result<Next, Stop>
     requires valid { IsValid (S.searched on.now) (conf (Next.Enter at) spot.old (entries store.old.records) registers.now) }
     ensures on { IfOk result (λ next. Advances (S.searched on.now) (conf (Next.Enter at) spot.old (entries store.old.records) registers.now) (conf next spot.new (entries store.new.records) registers.now)) }
     ensures stop { IfErr result (λ stop. IsStop stop spot.new registers.now (tread (S.searched on.now).setting spot.old.left (ahead (S.searched on.now) (conf (Next.Enter at) spot.old (entries store.old.records) registers.now)))) }
@@ -146,7 +158,15 @@ pub(crate) fn enter<S: Searchable>(on: &S, at: u32, spot: &mut Spot, store: &mut
             min,
             max,
             lazy,
-        } => Ok(many(on, at, item, u32::from(*min), widen(*max), *lazy, spot.place)),
+        } => Ok(many(
+            on,
+            at,
+            item,
+            u32::from(*min),
+            widen(*max),
+            *lazy,
+            spot.place,
+        )),
         _ => unreachable!(),
     }
 }

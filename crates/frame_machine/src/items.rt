@@ -28,7 +28,15 @@ fn less(max: Option<u32>, count: u32) -> Option<u32>
 }
 
 /// Where a repeat of one item leads: to its longest run, or where it is lazy to its shortest.
-pub(crate) fn many<S: Searchable>(on: &S, at: u32, item: &Item, min: u32, max: Option<u32>, lazy: bool, place: u64) -> Next
+pub(crate) fn many<S: Searchable>(
+    on: &S,
+    at: u32,
+    item: &Item,
+    min: u32,
+    max: Option<u32>,
+    lazy: bool,
+    place: u64,
+) -> Next
     requires place { (S.searched on.now).stands place ≡ true }
     requires class { All (λ n. n < (S.searched on.now).class_count) (class_in item.now) }
     ensures { result ≡ many_next (S.searched on.now) at item.now min max lazy place }
@@ -57,7 +65,15 @@ fn most_of<S: Searchable>(on: &S, part: u32) -> Option<u32>
 }
 
 /// Goes on after the run of a greedy repeat that ends at a place, and leaves the shorter ones.
-pub(crate) fn fewer<S: Searchable>(on: &S, at: u32, least: u64, last: u64, spot: &mut Spot, store: &mut Store, registers: &Registers) -> Result<Next, Stop>
+pub(crate) fn fewer<S: Searchable>(
+    on: &S,
+    at: u32,
+    least: u64,
+    last: u64,
+    spot: &mut Spot,
+    store: &mut Store,
+    registers: &Registers,
+) -> Result<Next, Stop>
     requires valid { IsValid (S.searched on.now) (conf (Next.Fewer at least last) spot.old (entries store.old.records) registers.now) }
     ensures on { IfOk result (λ next. Advances (S.searched on.now) (conf (Next.Fewer at least last) spot.old (entries store.old.records) registers.now) (conf next spot.new (entries store.new.records) registers.now)) }
     ensures stop { IfErr result (λ stop. IsStop stop spot.new registers.now (tread (S.searched on.now).setting spot.old.left (ahead (S.searched on.now) (conf (Next.Fewer at least last) spot.old (entries store.old.records) registers.now)))) }
@@ -81,7 +97,15 @@ pub(crate) fn fewer<S: Searchable>(on: &S, at: u32, least: u64, last: u64, spot:
 }
 
 /// Goes on after so many items of a lazy repeat, and leaves the longer runs.
-pub(crate) fn more<S: Searchable>(on: &S, at: u32, count: u32, last: u64, spot: &mut Spot, store: &mut Store, registers: &Registers) -> Result<Next, Stop>
+pub(crate) fn more<S: Searchable>(
+    on: &S,
+    at: u32,
+    count: u32,
+    last: u64,
+    spot: &mut Spot,
+    store: &mut Store,
+    registers: &Registers,
+) -> Result<Next, Stop>
     requires valid { IsValid (S.searched on.now) (conf (Next.More at count last) spot.old (entries store.old.records) registers.now) }
     ensures on { IfOk result (λ next. Advances (S.searched on.now) (conf (Next.More at count last) spot.old (entries store.old.records) registers.now) (conf next spot.new (entries store.new.records) registers.now)) }
     ensures stop { IfErr result (λ stop. IsStop stop spot.new registers.now (tread (S.searched on.now).setting spot.old.left (ahead (S.searched on.now) (conf (Next.More at count last) spot.old (entries store.old.records) registers.now)))) }

@@ -13,7 +13,7 @@ mod run;
 mod scratch;
 mod searchable;
 
-pub use laws::{cut_comes_late, no_place_is_cut, walk_is_told, worked_rows};
 pub use answer::{PlaceAnswer, Signal};
+pub use laws::{cut_comes_late, no_place_is_cut, walk_is_told, worked_rows};
 pub use scratch::{Scratch, search_at};
 pub use searchable::{Run, Searchable};

@@ -102,7 +102,12 @@ impl Spot {
 }
 
 /// Holds a unit more, and pushes a record of it.
-pub(crate) fn hold(limit: u32, event: Record, spot: &mut Spot, store: &mut Store) -> Result<(), Stop>
+pub(crate) fn hold(
+    limit: u32,
+    event: Record,
+    spot: &mut Spot,
+    store: &mut Store,
+) -> Result<(), Stop>
     requires { length store.old.records ≤ spot.old.units }
     ensures room { OnOk result (spot.old.units < limit) }
     ensures spot { OnOk result (spot.new ≡ held_spot spot.old) }

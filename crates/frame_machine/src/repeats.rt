@@ -70,7 +70,14 @@ pub(crate) fn turns_of<S: Searchable>(on: &S, part: u32) -> Turns
 }
 
 /// Tries a branch of a group, and leaves those after it.
-pub(crate) fn branch<S: Searchable>(on: &S, at: u32, index: u32, spot: &mut Spot, store: &mut Store, registers: &Registers) -> Result<Next, Stop>
+pub(crate) fn branch<S: Searchable>(
+    on: &S,
+    at: u32,
+    index: u32,
+    spot: &mut Spot,
+    store: &mut Store,
+    registers: &Registers,
+) -> Result<Next, Stop>
     requires valid { IsValid (S.searched on.now) (conf (Next.Branch at index) spot.old (entries store.old.records) registers.now) }
     ensures on { IfOk result (λ next. Advances (S.searched on.now) (conf (Next.Branch at index) spot.old (entries store.old.records) registers.now) (conf next spot.new (entries store.new.records) registers.now)) }
     ensures stop { IfErr result (λ stop. IsStop stop spot.new registers.now (tread (S.searched on.now).setting spot.old.left (ahead (S.searched on.now) (conf (Next.Branch at index) spot.old (entries store.old.records) registers.now)))) }
@@ -96,7 +103,14 @@ pub(crate) fn branch<S: Searchable>(on: &S, at: u32, index: u32, spot: &mut Spot
 }
 
 /// Offers a further turn of a repeat after so many turns, and its exit.
-pub(crate) fn offer<S: Searchable>(on: &S, at: u32, count: u32, spot: &mut Spot, store: &mut Store, registers: &Registers) -> Result<Next, Stop>
+pub(crate) fn offer<S: Searchable>(
+    on: &S,
+    at: u32,
+    count: u32,
+    spot: &mut Spot,
+    store: &mut Store,
+    registers: &Registers,
+) -> Result<Next, Stop>
     requires valid { IsValid (S.searched on.now) (conf (Next.Offer at count) spot.old (entries store.old.records) registers.now) }
     ensures on { IfOk result (λ next. Advances (S.searched on.now) (conf (Next.Offer at count) spot.old (entries store.old.records) registers.now) (conf next spot.new (entries store.new.records) registers.now)) }
     ensures stop { IfErr result (λ stop. IsStop stop spot.new registers.now (tread (S.searched on.now).setting spot.old.left (ahead (S.searched on.now) (conf (Next.Offer at count) spot.old (entries store.old.records) registers.now)))) }
@@ -131,7 +145,15 @@ fn turn_record(spot: &Spot, at: u32, count: u32, exits: bool) -> Record
 }
 
 /// Begins a further turn of a repeat after so many turns.
-pub(crate) fn begin<S: Searchable>(on: &S, at: u32, count: u32, exits: bool, spot: &mut Spot, store: &mut Store, registers: &Registers) -> Result<Next, Stop>
+pub(crate) fn begin<S: Searchable>(
+    on: &S,
+    at: u32,
+    count: u32,
+    exits: bool,
+    spot: &mut Spot,
+    store: &mut Store,
+    registers: &Registers,
+) -> Result<Next, Stop>
     requires valid { IsValid (S.searched on.now) (conf (Next.Begin at count exits) spot.old (entries store.old.records) registers.now) }
     ensures on { IfOk result (λ next. Advances (S.searched on.now) (conf (Next.Begin at count exits) spot.old (entries store.old.records) registers.now) (conf next spot.new (entries store.new.records) registers.now)) }
     ensures stop { IfErr result (λ stop. IsStop stop spot.new registers.now (tread (S.searched on.now).setting spot.old.left (ahead (S.searched on.now) (conf (Next.Begin at count exits) spot.old (entries store.old.records) registers.now)))) }

@@ -17,7 +17,13 @@ use crate::searchable::Searchable;
 use frame_store::{Registers, Store};
 
 /// One turn of the machine's loop.
-fn turn<S: Searchable>(on: &S, next: Next, spot: &mut Spot, store: &mut Store, registers: &mut Registers) -> Result<Next, Stop>
+fn turn<S: Searchable>(
+    on: &S,
+    next: Next,
+    spot: &mut Spot,
+    store: &mut Store,
+    registers: &mut Registers,
+) -> Result<Next, Stop>
     requires valid { IsValid (S.searched on.now) (conf next spot.old (entries store.old.records) registers.old) }
     ensures on { IfOk result (λ to. Advances (S.searched on.now) (conf next spot.old (entries store.old.records) registers.old) (conf to spot.new (entries store.new.records) registers.new)) }
     ensures stop { IfErr result (λ stop. IsStop stop spot.new registers.new (tread (S.searched on.now).setting spot.old.left (ahead (S.searched on.now) (conf next spot.old (entries store.old.records) registers.old)))) }
@@ -36,7 +42,13 @@ fn turn<S: Searchable>(on: &S, next: Next, spot: &mut Spot, store: &mut Store, r
 }
 
 /// Searches at a place, from no records and no captures, and says with what the machine stops.
-pub(crate) fn run<S: Searchable>(on: &S, place: u64, spot: &mut Spot, store: &mut Store, registers: &mut Registers) -> Stop
+pub(crate) fn run<S: Searchable>(
+    on: &S,
+    place: u64,
+    spot: &mut Spot,
+    store: &mut Store,
+    registers: &mut Registers,
+) -> Stop
     requires place { (S.searched on.now).stands place ≡ true }
     requires empty { store.old.records ≡ [] }
     requires unset { registers.old ≡ replicate (S.searched on.now).setting.groups None }

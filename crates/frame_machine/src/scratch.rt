@@ -101,7 +101,12 @@ impl Scratch {
 }
 
 /// Makes a workspace ready for a search: no records, and so many unset registers. Want of memory alone refuses it.
-fn prepare(alloc: Global, groups: u32, store: &mut Store, registers: &mut Registers) -> Result<(), Memory>
+fn prepare(
+    alloc: Global,
+    groups: u32,
+    store: &mut Store,
+    registers: &mut Registers,
+) -> Result<(), Memory>
     requires { groups ≤ 65535 }
     ensures empty { store.new.records ≡ [] }
     ensures unset { OnOk result (registers.new ≡ replicate groups None) }
@@ -123,10 +128,23 @@ pub fn search_at<S: Searchable>(on: &S, place: u64, scratch: &mut Scratch) -> Pl
     ensures frames { scratch.new.frames ≡ scratch.old.frames }
 {
     let groups = on.groups();
-    if prepare(scratch.alloc, groups, &mut scratch.store, &mut scratch.registers).is_err() {
+    if prepare(
+        scratch.alloc,
+        groups,
+        &mut scratch.store,
+        &mut scratch.registers,
+    )
+    .is_err()
+    {
         return PlaceAnswer::Memory;
     }
     let mut spot = Spot::at(place);
-    let stop = run(on, place, &mut spot, &mut scratch.store, &mut scratch.registers);
+    let stop = run(
+        on,
+        place,
+        &mut spot,
+        &mut scratch.store,
+        &mut scratch.registers,
+    );
     answer_of(stop, &spot)
 }
