@@ -7,3 +7,11 @@ pub mod PlaceAnswer
 pub mod Written
 pub mod Laws
 pub mod Rows
+pub mod Moves
+pub mod Paths
+pub mod Ground
+pub mod Machine
+pub mod Built
+pub mod Stops
+pub mod Scratch
+pub mod Answer

@@ -1,6 +1,19 @@
 //! The ordered search of a pattern at one start place, on one stack of records (pcre2matching, "The standard matching algorithm").
 #![tactic(auto)]
 
+mod answer;
+mod back;
+mod ends;
+mod enter;
+mod items;
 mod laws;
+mod machine;
+mod repeats;
+mod run;
+mod scratch;
+mod searchable;
 
+pub use answer::{PlaceAnswer, Signal};
 pub use laws::{cut_comes_late, no_place_is_cut, walk_is_told, worked_rows};
+pub use scratch::{Scratch, search_at};
+pub use searchable::{Run, Searchable};

@@ -1,0 +1,235 @@
+-- Frames and records of a stack.
+use Rattle.std.proofs.Common.{◌≡◌, ℕ, zero, suc, ◌+◌, ◌-◌, ◌<◌, ◌≤◌, ◌∙◌, Bool, true, false, if◌then◌else◌, List, [], ◌∷◌, ◌++◌, map, reverse, Option, Some, None, length, All, set, slice_get, refl, sym, ap, subst, inl, inr, arith, length-append}
+use Rattle.std.specs.Prelude.{nat_eq}
+use Rattle.std.proofs.lemmas.List.{length-set, length-map, length-reverse}
+use Rattle.std.proofs.lemmas.List.Elements.{All-head, All-cons, All-set}
+use Rattle.std.proofs.lemmas.Bool.{cases_eq, cond-true, cond-false, eq-eqb, ne_eqb}
+use Rattle.std.proofs.lemmas.Option.{slice_get_within}
+use Rattle.frame_store.specs.declared.records.Record.{Record}
+use Rattle.frame_store.specs.declared.registers.Span.{Span}
+use Rattle.frame_store.specs.Captures.{Captures, HasGroup, with_capture}
+use Rattle.frame_store.specs.Entry.{Kept, Entry, Undo, LaterBranch, GroupOpen, TurnOpen, TurnOrExit, LaterTurn, FewerItems, MoreItems, entry_of, entries}
+use Rattle.frame_store.specs.Undo.{taken_back, HasSlot}
+use Rattle.frame_store.proofs.StackLemmas.{slice_get-reverse-here, slice_get-reverse-below}
+use Rattle.frame_store.proofs.UndoLemmas.{length-taken_back}
+use Rattle.frame_machine.specs.Stream.{State, How, reached}
+use Rattle.frame_machine.specs.Moves.{Moves, pause, Follow, at_end}
+use Rattle.frame_machine.specs.declared.machine.Next.{Next}
+use Rattle.frame_machine.specs.declared.machine.Next.TheVariants.{Enter, End}
+use Rattle.frame_machine.specs.declared.machine.Spot.{Spot}
+use Rattle.frame_machine.specs.Ground.{Ground, tree_of, next_of, first_of, IsGround}
+use Rattle.frame_machine.specs.Machine.{Around, state_at, kept_at, link_of, frame_around, after, past, around, frame_end, on_fail, cont, fail, focus, spot_state, ahead, conf, IsStanding, StandsAt, SpanStands, AreSpans, IsSound, AreSound, IsRunning, IsValid, towards}
+use Rattle.frame_machine.proofs.Free.{follow_same}
+use Rattle.frame_machine.proofs.PartPaths.{after_nil, after_cons}
+
+module _ (c : Ground) where
+  pub around_here : (r : Entry) (below : List Entry) (l : ℕ) → l ≡ suc (length below) → around c (r ∷ below) l ≡ frame_around r (around c below (link_of r))
+  unfolding around
+  around_here r below l e = cond-true _ _ _ (eq-eqb _ _ e)
+
+  pub around_below : (r : Entry) (below : List Entry) (l : ℕ) → (l ≡ suc (length below) → ⊥) → around c (r ∷ below) l ≡ around c below l
+  unfolding around
+  around_below r below l n = cond-false _ _ _ (ne_eqb _ _ n)
+
+  pub around_push : (r : Entry) (below : List Entry) (l : ℕ) → l ≤ length below → around c (r ∷ below) l ≡ around c below l
+  around_push r below l h = around_below r below l (λ e. omega (arith, e, h))
+
+  cont_here : (r : Entry) (below : List Entry) (caps : Captures) (l : ℕ) → l ≡ suc (length below) →
+      cont c (r ∷ below) caps l ≡ frame_end c r (around c below (link_of r)) (cont c below (taken_back r caps) (link_of r)) (taken_back r caps) (fail c below (taken_back r caps))
+  unfolding cont
+  cont_here r below caps l e =
+      follow_same _ (frame_end c r (around c below (link_of r)) (cont c below (taken_back r caps) (link_of r)) (taken_back r caps) (fail c below (taken_back r caps)))
+      (λ how s f. cond-true _ _ _ (eq-eqb _ _ e))
+
+  cont_below : (r : Entry) (below : List Entry) (caps : Captures) (l : ℕ) → (l ≡ suc (length below) → ⊥) → cont c (r ∷ below) caps l ≡ cont c below (taken_back r caps) l
+  unfolding cont
+  cont_below r below caps l n = follow_same _ (cont c below (taken_back r caps) l) (λ how s f. cond-false _ _ _ (ne_eqb _ _ n))
+
+  cont_push : (r : Entry) (below : List Entry) (caps : Captures) (l : ℕ) → l ≤ length below → cont c (r ∷ below) caps l ≡ cont c below (taken_back r caps) l
+  cont_push r below caps l h = cont_below r below caps l (λ e. omega (arith, e, h))
+
+  -- the pattern's own end
+  pub cont_whole : (stack : List Entry) (caps : Captures) → cont c stack caps 0 ≡ at_end
+  unfolding cont
+  cont_whole [] caps = follow_same _ at_end (λ how s f. refl)
+  cont_whole (r ∷ below) caps = cont_below r below caps 0 (λ e. omega (arith, e)) ∙ cont_whole below (taken_back r caps)
+
+  -- fewer Steps left
+  standing_less : (left less frame d : ℕ) (kept : Kept) (stack : List Entry) → less ≤ left → IsStanding c left frame kept d stack → IsStanding c less frame kept d stack
+  standing_less left less frame d kept stack h s =
+      record { inside = s.inside; deep = omega (arith, s.deep, h); counted = s.counted; few = s.few; here = s.here }
+
+  sound_one : (left less slots : ℕ) (below : List Entry) (r : Entry) → less ≤ left → IsSound c left slots below r → IsSound c less slots below r
+  sound_one left less slots below (Undo at slot old) h s = s
+  sound_one left less slots below (LaterBranch at kept next) h s = (s.0, standing_less left less at.link _ kept below h s.1, s.2)
+  sound_one left less slots below (GroupOpen at kept) h s = (s.0, standing_less left less at.link _ kept below h s.1, s.2)
+  sound_one left less slots below (TurnOpen at kept count) h s = (s.0, standing_less left less at.link _ kept below h s.1, s.2)
+  sound_one left less slots below (TurnOrExit at kept count) h s = (s.0, standing_less left less at.link _ kept below h s.1, s.2)
+  sound_one left less slots below (LaterTurn at kept count) h s = (s.0, standing_less left less at.link _ kept below h s.1, s.2)
+  sound_one left less slots below (FewerItems at kept least last) h s = (s.0, standing_less left less at.link _ kept below h s.1, s.2, s.3)
+  sound_one left less slots below (MoreItems at kept count last) h s = (s.0, standing_less left less at.link _ kept below h s.1, s.2, s.3, s.4)
+  sound_one left less slots below _ h s = s
+
+  pub sound_less : (left less slots : ℕ) (stack : List Entry) → less ≤ left → AreSound c left slots stack → AreSound c less slots stack
+  sound_less left less slots [] h s = tt
+  sound_less left less slots (r ∷ below) h s = (sound_one left less slots below r h s.0, sound_less left less slots below h s.1)
+
+  -- a record that is pushed leaves the frames below as they were
+  module _ (r : Entry) (stack : List Entry) (caps : Captures) where
+    pub focus_kept : (next : Next) (l : ℕ) (kept : Kept) (now : Captures) (f : Moves) → l ≤ length stack →
+        focus c next (around c (r ∷ stack) l).depth (cont c (r ∷ stack) caps l) (state_at (around c (r ∷ stack) l) kept now) f
+        ≡ focus c next (around c stack l).depth (cont c stack (taken_back r caps) l) (state_at (around c stack l) kept now) f
+    focus_kept next l kept now f h =
+        ap (λ (a : Around). focus c next a.depth (cont c (r ∷ stack) caps l) (state_at a kept now) f) (around_push r stack l h)
+        ∙ ap (λ (k : Follow). focus c next (around c stack l).depth k (state_at (around c stack l) kept now) f) (cont_push r stack caps l h)
+
+    -- a frame that is pushed
+    pub focus_framed : (next : Next) (kept : Kept) (now : Captures) (f : Moves) →
+        focus c next (around c (r ∷ stack) (suc (length stack))).depth (cont c (r ∷ stack) caps (suc (length stack))) (state_at (around c (r ∷ stack) (suc (length stack))) kept now) f
+        ≡ focus c next (frame_around r (around c stack (link_of r))).depth
+        (frame_end c r (around c stack (link_of r)) (cont c stack (taken_back r caps) (link_of r)) (taken_back r caps) (fail c stack (taken_back r caps)))
+        (state_at (frame_around r (around c stack (link_of r))) kept now) f
+    focus_framed next kept now f =
+        ap (λ (a : Around). focus c next a.depth (cont c (r ∷ stack) caps (suc (length stack))) (state_at a kept now) f) (around_here r stack _ refl)
+        ∙ ap (λ (k : Follow). focus c next (frame_around r (around c stack (link_of r))).depth k (state_at (frame_around r (around c stack (link_of r))) kept now) f) (cont_here r stack caps _ refl)
+
+-- the list around the entry at a height
+pub record Split (stack : List Entry) (h : ℕ) (r : Entry) : Type 0 where
+  pub above : List Entry
+  pub below : List Entry
+  pub is : stack ≡ above ++ (r ∷ below)
+  pub height : h ≡ suc (length below)
+
+none_some : {A : Type 0} (a : A) → None ≡ Some a → ⊥
+none_some a e = cc
+
+some_same : {A : Type 0} (a b : A) → Some a ≡ Some b → a ≡ b
+some_same a b e = cc
+
+split : (records : List Record) (i : ℕ) (r : Record) → slice_get (reverse records) i ≡ Some r → Split (entries records) (suc i) (entry_of r)
+split [] i r e = absurd (none_some r e)
+split (p ∷ older) i r e =
+    elim (cases_eq i (length older)) [
+      | inl here ↦
+          let same : p ≡ r = some_same p r (sym (slice_get-reverse-here p older) ∙ ap (slice_get (reverse (p ∷ older))) (sym here) ∙ e) in
+          record {
+            above = [];
+            below = entries older;
+            is = ap (λ x. entry_of x ∷ entries older) same;
+            height = let len : length (entries older) ≡ length older = length-map older entry_of in ap suc (here ∙ sym len);
+          }
+      | inr not ↦
+          let within : i < length (reverse (p ∷ older)) = slice_get_within (reverse (p ∷ older)) i r e in
+          let len : length (reverse (p ∷ older)) ≡ suc (length older) = length-reverse (p ∷ older) in
+          let lt : i < length older = omega (arith, within, len, not) in
+          let s = split older i r (sym (slice_get-reverse-below p older i lt) ∙ e) in
+          record { above = entry_of p ∷ s.above; below = s.below; is = ap (λ l. entry_of p ∷ l) s.is; height = s.height }
+    ]
+
+-- the registers below some entries
+unfoldable all_back : List Entry → Captures → Captures
+all_back [] caps = caps
+all_back (p ∷ above) caps = all_back above (taken_back p caps)
+
+module _ (c : Ground) where
+  around_deep : (above base : List Entry) (l : ℕ) → l ≤ length base → around c (above ++ base) l ≡ around c base l
+  around_deep [] base l h = refl
+  around_deep (p ∷ above) base l h = around_push c p (above ++ base) l (omega (arith, h, length-append above base)) ∙ around_deep above base l h
+
+  cont_deep : (above base : List Entry) (caps : Captures) (l : ℕ) → l ≤ length base → cont c (above ++ base) caps l ≡ cont c base (all_back above caps) l
+  unfolding all_back
+  cont_deep [] base caps l h = refl
+  cont_deep (p ∷ above) base caps l h =
+      cont_push c p (above ++ base) caps l (omega (arith, h, length-append above base)) ∙ cont_deep above base (taken_back p caps) l h
+
+  sound_deep : (left slots : ℕ) (above base : List Entry) → AreSound c left slots (above ++ base) → AreSound c left slots base
+  sound_deep left slots [] base s = s
+  sound_deep left slots (p ∷ above) base s = sound_deep left slots above base s.1
+
+  -- the entry at a height is a frame, where the registers at the top are `caps`
+  pub record Framed (left slots : ℕ) (stack : List Entry) (caps : Captures) (l : ℕ) (r : Entry) : Type 0 where
+    pub below : List Entry
+    pub inner : Captures
+    pub ends : cont c stack caps l ≡ frame_end c r (around c stack (link_of r)) (cont c stack caps (link_of r)) inner (fail c below inner)
+    pub deep : around c stack l ≡ frame_around r (around c stack (link_of r))
+    pub link : link_of r ≤ length stack
+    pub sound : IsSound c left slots below r
+    pub outside : around c below (link_of r) ≡ around c stack (link_of r)
+
+  link_sound : (left slots : ℕ) (below : List Entry) (r : Entry) → IsSound c left slots below r → link_of r ≤ length below
+  link_sound left slots below (Undo at slot old) s = s.3
+  link_sound left slots below (LaterBranch at kept next) s = s.1.inside
+  link_sound left slots below (GroupOpen at kept) s = s.1.inside
+  link_sound left slots below (TurnOpen at kept count) s = s.1.inside
+  link_sound left slots below (TurnOrExit at kept count) s = s.1.inside
+  link_sound left slots below (LaterTurn at kept count) s = s.1.inside
+  link_sound left slots below (FewerItems at kept least last) s = s.1.inside
+  link_sound left slots below (MoreItems at kept count last) s = s.1.inside
+  link_sound left slots below _ s = s
+
+  framed_split : (left slots : ℕ) (above below : List Entry) (caps : Captures) (r : Entry) → link_of r ≤ length below →
+      AreSound c left slots (above ++ (r ∷ below)) → Framed left slots (above ++ (r ∷ below)) caps (suc (length below)) r
+  framed_split left slots above below caps r low s =
+      let one : suc (length below) ≤ length (r ∷ below) = omega arith in
+      let lowest : link_of r ≤ length (r ∷ below) = omega (arith, low) in
+      let inner : Captures = all_back above caps in
+      let k2 : cont c (above ++ (r ∷ below)) caps (link_of r) ≡ cont c below (taken_back r inner) (link_of r) =
+      cont_deep above (r ∷ below) caps (link_of r) lowest ∙ cont_push c r below inner (link_of r) low in
+      let d2 : around c (above ++ (r ∷ below)) (link_of r) ≡ around c below (link_of r) =
+      around_deep above (r ∷ below) (link_of r) lowest ∙ around_push c r below (link_of r) low in
+      record {
+        below = below;
+        inner = taken_back r inner;
+        ends =
+            cont_deep above (r ∷ below) caps (suc (length below)) one
+            ∙ cont_here c r below inner _ refl
+            ∙ ap (λ (a : Around). frame_end c r a (cont c below (taken_back r inner) (link_of r)) (taken_back r inner) (fail c below (taken_back r inner))) (sym d2)
+            ∙ ap (λ (k : Follow). frame_end c r (around c (above ++ (r ∷ below)) (link_of r)) k (taken_back r inner) (fail c below (taken_back r inner))) (sym k2);
+        deep = around_deep above (r ∷ below) _ one ∙ around_here c r below _ refl ∙ ap (frame_around r) (sym d2);
+        link = omega (arith, low, length-append above (r ∷ below));
+        sound = (sound_deep left slots above (r ∷ below) s).0;
+        outside = sym d2;
+      }
+
+  pub framed : (left slots : ℕ) (records : List Record) (caps : Captures) (i : ℕ) (p : Record) (r : Entry) → entry_of p ≡ r →
+      AreSound c left slots (entries records) → slice_get (reverse records) i ≡ Some p → Framed left slots (entries records) caps (suc i) r
+  framed left slots records caps i p r same s e =
+      let z = split records i p e in
+      let is : entries records ≡ z.above ++ (r ∷ z.below) = z.is ∙ ap (λ x. z.above ++ (x ∷ z.below)) same in
+      let here : AreSound c left slots (z.above ++ (r ∷ z.below)) = subst (λ st. AreSound c left slots st) is s in
+      subst (λ st. Framed left slots st caps (suc i) r) (sym is)
+      (subst (λ h. Framed left slots (z.above ++ (r ∷ z.below)) caps h r) (sym z.height)
+      (framed_split left slots z.above z.below caps r (link_sound left slots z.below r (sound_deep left slots z.above (r ∷ z.below) here).0) here))
+
+  -- where the machine goes on after a part
+  module _ (ok : IsGround c) (q : ℕ) (inside : q ≤ c.root) where
+    focus_first : (d : ℕ) (k : Follow) (qs : List ℕ) (s : State) (f : Moves) → c.rest q ≡ qs → focus c (towards (first_of qs)) d k s f ≡ after c d k qs reached s f
+    focus_first d k [] s f e = ap (λ (z : Follow). z reached s f) (sym (after_nil c d k))
+    focus_first d k (p ∷ ps) s f e =
+        sym (after_cons c d k p (c.rest p) s f) ∙ ap (λ (r : List ℕ). after c d k (p ∷ r) reached s f) (ok.chained q p ps inside e)
+
+    pub focus_towards : (d : ℕ) (k : Follow) (s : State) (f : Moves) → focus c (towards (next_of c q)) d k s f ≡ past c d k q reached s f
+    focus_towards d k s f = focus_first d k (c.rest q) s f refl
+
+    running_first : (spot : Spot) (stack : List Entry) (o : List ℕ) → All (λ p. p ≤ c.root) o → IsRunning c spot stack End → IsRunning c spot stack (towards (first_of o))
+    running_first spot stack [] a r = r
+    running_first spot stack (p ∷ ps) a r = (All-head (λ x. x ≤ c.root) p ps a, r)
+
+    pub running_towards : (spot : Spot) (stack : List Entry) → IsRunning c spot stack End → IsRunning c spot stack (towards (next_of c q))
+    running_towards spot stack r = running_first spot stack (c.rest q) (ok.inside q inside) r
+
+  -- what a sound record gives back
+  pub slot_sound : (left : ℕ) (caps : Captures) (below : List Entry) (r : Entry) → IsSound c left (length caps) below r → HasSlot caps r
+  slot_sound left caps below (Undo at slot old) s = (s.0, s.1)
+  slot_sound left caps below _ s = tt
+
+  set_spans : (caps : Captures) (i : ℕ) (v : Option Span) → SpanStands c v → AreSpans c caps → AreSpans c (set caps i v)
+  set_spans caps i v s a = All-set (SpanStands c) caps i v s a
+
+  pub spans_back : (left : ℕ) (caps : Captures) (below : List Entry) (r : Entry) → IsSound c left (length caps) below r → AreSpans c caps → AreSpans c (taken_back r caps)
+  spans_back left caps below (Undo at slot old) s a = set_spans caps (slot - 1) old s.2 a
+  spans_back left caps below _ s a = a
+
+  pub slots_sound : (left : ℕ) (caps : Captures) (stack : List Entry) → AreSound c left (length caps) stack → All (HasSlot caps) stack
+  slots_sound left caps [] s = λ k d h. absurd (omega (arith, h))
+  slots_sound left caps (r ∷ below) s = All-cons (HasSlot caps) r below (slot_sound left caps below r s.0) (slots_sound left caps below s.1)

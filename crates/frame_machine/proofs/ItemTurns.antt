@@ -1,0 +1,272 @@
+-- The steps of the machine at a repeat of one item.
+use Rattle.std.proofs.Common.{◌≡◌, ℕ, zero, suc, ◌+◌, ◌-◌, ◌<◌, ◌≤◌, ◌∙◌, Bool, true, false, if◌then◌else◌, List, [], ◌∷◌, Option, Some, None, length, reverse, set, slice_get, refl, sym, ap, subst, arith}
+use Rattle.std.proofs.lemmas.Bool.{cond-true, cond-false}
+use Rattle.pat_tree.specs.Nested as tree
+use Rattle.pat_tree.specs.Nested.{Nested, Row}
+use Rattle.match_items.specs.Items.{one_less, is_none_left, after_item, item_reaches, run_reaches, longest_run, place_before}
+use Rattle.frame_store.specs.declared.records.Record.{Record}
+use Rattle.frame_store.specs.declared.registers.Span.{Span}
+use Rattle.frame_store.specs.Captures.{Captures, capture, with_capture}
+use Rattle.frame_store.specs.Entry.{Site, Kept, Entry, Undo, GroupOpen, LaterBranch, TurnOpen, TurnOrExit, LaterTurn, FewerItems, MoreItems, entry_of, entries}
+use Rattle.frame_machine.specs.Stream.{State, reached, by_halt, too_many_units, captured}
+use Rattle.frame_machine.specs.Parts.{is_over}
+use Rattle.frame_machine.specs.PlaceAnswer.{answers, MatchLimit, FrameLimit}
+use Rattle.frame_machine.specs.Moves.{Moves, stops, pause, stepped, Follow, at_verbs, going, holding, reaching, tread}
+use Rattle.frame_machine.specs.Paths.{offer_paths, offer_path, lazy_paths, many_paths, paths}
+use Rattle.frame_machine.specs.declared.machine.Next.{Next}
+use Rattle.frame_machine.specs.declared.machine.Next.TheVariants.{Enter, Branch, Offer, Begin, Fewer, More, Back, End}
+use Rattle.frame_machine.specs.declared.machine.Spot.{Spot}
+use Rattle.frame_machine.specs.Ground.{Ground, tree_of, next_of, StandsIf, IsGround}
+use Rattle.frame_machine.specs.Machine.{Around, less, state_at, kept_at, link_of, frame_around, after, past, enter, branch_rest, begin_from, offer_from, turned_from, close_from, around, frame_end, more_from, further_from, fewer_places, more_places, on_fail, cont, fail, focus, Conf, conf, spot_state, ahead, IsStanding, StandsAt, HasBranch, IsRepeat, IsCapture, IsMany, HasFurther, end_of, SpanStands, AreSpans, IsSound, AreSound, IsRunning, IsValid, Advances, towards}
+use Rattle.frame_machine.proofs.PartPaths.{reaching_off, enter_many}
+use Rattle.frame_machine.proofs.Frames.{around_here, around_push, focus_kept, focus_framed, sound_less, focus_towards, running_towards, Framed, framed}
+use Rattle.frame_machine.proofs.Advance.{holding_room, holding_full, advance_pause, advance_step, advance_same, over_steps, over_units, over_units_step, goes_back, goes_on, goes_on_step}
+use Rattle.std.proofs.Common.{drop, take, inl, inr}
+use Rattle.std.proofs.lemmas.Bool.{cases_lt, cond-true, cond-false, lt-ltb, le-ltb}
+use Rattle.frame_machine.specs.Stops.{many_next}
+use Rattle.std.specs.Prelude.{option_map}
+use Rattle.pat_tree.specs.declared.nodes.Item.{Item}
+use Rattle.pat_tree.specs.declared.nodes.Node.{Node}
+use Rattle.pat_tree.specs.declared.nodes.Node.TheVariants as node
+use Rattle.pat_tree.specs.Nested.{nest}
+use Rattle.pat_tree.specs.Rules.{AtMost, IsOrdered}
+use Rattle.frame_machine.specs.Tests.{move_to}
+use Rattle.frame_machine.specs.Ground.{IsNode}
+use Rattle.frame_machine.proofs.Runs.{run_at, Reached, run_reached, run_short, run_count, run_end, run_back, fewer_step, fewer_none}
+
+-- a repeat of one item is entered
+module _ (c : Ground) (ok : IsGround c) (q : ℕ) (spot : Spot) (stack : List Entry) (caps : Captures) (v : IsValid c (conf (Enter q) spot stack caps)) (n : Node) (i : IsNode c q n)
+    (item : Item) (low : ℕ) (high : Option ℕ) (lazily : Bool) (e : n ≡ node.OneRepeat item low high lazily) where
+  at_most : AtMost low high
+  at_most = subst IsOrdered e i.ordered
+
+  is_many : IsMany c (tree_of c q)
+  is_many = subst (IsMany c) (subst (λ m. nest c.trees m ≡ tree_of c q) e i.is) tt
+
+  entered : ahead c (conf (Enter q) spot stack caps)
+      ≡ pause (many_paths c.setting item low high lazily (longest_run c.setting.scene item high spot.place) (spot_state c spot stack caps)
+      (past c (around c stack spot.frame).depth (cont c stack caps spot.frame) q) (fail c stack caps))
+  entered =
+      let deep : (around c stack spot.frame).depth ≡ suc ((around c stack spot.frame).depth - 1) = omega (arith, v.running.1.deep) in
+      enter_many c ok q n i _ _ _ _ _ deep item low high lazily e
+
+  -- what a repeat does with the places that are left from its minimum on
+  many_is : (b : Bool) (ps rest : List ℕ) (s : State) (k : Follow) (f : Moves) → drop low (s.place ∷ ps) ≡ rest →
+      many_paths c.setting item low high b ps s k f ≡ elim b [ true ↦ lazy_paths c.setting item (less low high) rest s k f | false ↦ offer_paths c.setting (reverse rest) s k f ]
+  unfolding many_paths
+  many_is true ps rest s k f same = reaching_off c ok _ s _ ∙ ap (λ l. lazy_paths c.setting item (less low high) l s k f) same
+  many_is false ps rest s k f same = reaching_off c ok _ s _ ∙ ap (λ (l : List ℕ). offer_paths c.setting (reverse l) s k f) same
+
+  pub turn_short : length (run_at c ok item (Some low) spot.place) < low → Advances c (conf (Enter q) spot stack caps) (conf Back spot stack caps)
+  unfolding offer_paths lazy_paths
+  turn_short lt =
+      goes_back c _ spot stack caps v.records v.spans v.slots refl
+      (entered ∙ ap pause (many_is lazily _ [] _ _ _ (run_short c ok item low high spot.place v.running.1.here at_most lt) ∙ none lazily))
+    where
+      none : (b : Bool) → elim b [
+        | true ↦ lazy_paths c.setting item (less low high) [] (spot_state c spot stack caps) (past c (around c stack spot.frame).depth (cont c stack caps spot.frame) q) (fail c stack caps)
+        | false ↦ offer_paths c.setting (reverse []) (spot_state c spot stack caps) (past c (around c stack spot.frame).depth (cont c stack caps spot.frame) q) (fail c stack caps)
+      ] ≡ fail c stack caps
+      none true = refl
+      none false = refl
+
+  module _ (reached_low : length (run_at c ok item (Some low) spot.place) ≡ low) where
+    least : Reached c ok item low high spot.place (run_at c ok item (Some low) spot.place)
+    least = run_reached c ok item low high spot.place v.running.1.here at_most reached_low
+
+    pub turn_fewer : lazily ≡ false → (from to : ℕ) → from ≡ end_of spot.place (run_at c ok item (Some low) spot.place) → to ≡ end_of from (run_at c ok item (less low high) from) →
+        Advances c (conf (Enter q) spot stack caps) (conf (Fewer q from to) spot stack caps)
+    turn_fewer is from to first last =
+        let here : c.stands from ≡ true = subst (λ x. c.stands x ≡ true) (sym first) least.here in
+        let rest : drop low (spot.place ∷ run_at c ok item high spot.place) ≡ from ∷ run_at c ok item (less low high) from = subst (λ x. drop low (spot.place ∷ run_at c ok item high spot.place) ≡ x ∷ run_at c ok item (less low high) x) (sym first) least.rest in
+        let places : reverse (from ∷ run_at c ok item (less low high) from) ≡ to ∷ fewer_places c from to =
+        run_back c ok item (less low high) from here ∙ ap (λ x. x ∷ fewer_places c from x) (sym last) in
+        let w = v.running.1 in
+        let K : Follow = past c (around c stack spot.frame).depth (cont c stack caps spot.frame) q in
+        advance_pause c _ _ _
+        (entered ∙ ap (λ b. pause (many_paths c.setting item low high b (longest_run c.setting.scene item high spot.place) (spot_state c spot stack caps) K (fail c stack caps))) is
+        ∙ ap pause (many_is false _ _ _ _ _ rest ∙ ap (λ l. offer_paths c.setting l (spot_state c spot stack caps) K (fail c stack caps)) places))
+        refl refl
+        (record {
+          running = (v.running.0, w, subst (λ x. c.stands x ≡ true) (sym last) (run_end c ok item (less low high) from here).0);
+          records = v.records;
+          spans = v.spans;
+          slots = v.slots;
+        })
+
+    pub turn_more : lazily ≡ true → (from : ℕ) → from ≡ end_of spot.place (run_at c ok item (Some low) spot.place) →
+        Advances c (conf (Enter q) spot stack caps) (conf (More q low from) spot stack caps)
+    turn_more is from first =
+        let here : c.stands from ≡ true = subst (λ x. c.stands x ≡ true) (sym first) least.here in
+        let rest : drop low (spot.place ∷ run_at c ok item high spot.place) ≡ from ∷ run_at c ok item (less low high) from = subst (λ x. drop low (spot.place ∷ run_at c ok item high spot.place) ≡ x ∷ run_at c ok item (less low high) x) (sym first) least.rest in
+        let w = v.running.1 in
+        let K : Follow = past c (around c stack spot.frame).depth (cont c stack caps spot.frame) q in
+        let t : tree.one_repeat item low high lazily ≡ tree_of c q = subst (λ m. nest c.trees m ≡ tree_of c q) e i.is in
+        advance_pause c _ _ _
+        (entered ∙ ap (λ b. pause (many_paths c.setting item low high b (longest_run c.setting.scene item high spot.place) (spot_state c spot stack caps) K (fail c stack caps))) is
+        ∙ ap pause (many_is true _ _ _ _ _ rest ∙ ap (λ x. more_from c x low from (spot_state c spot stack caps) K (fail c stack caps)) t))
+        refl refl
+        (record {
+          running = (v.running.0, w, omega (arith, least.further, first), here, is_many);
+          records = v.records;
+          spans = v.spans;
+          slots = v.slots;
+        })
+
+  many_reached : (b : Bool) → lazily ≡ b → length (run_at c ok item (Some low) spot.place) ≡ low →
+      Advances c (conf (Enter q) spot stack caps)
+      (conf (if b then More q low (end_of spot.place (run_at c ok item (Some low) spot.place))
+      else Fewer q (end_of spot.place (run_at c ok item (Some low) spot.place)) (end_of (end_of spot.place (run_at c ok item (Some low) spot.place)) (run_at c ok item (less low high) (end_of spot.place (run_at c ok item (Some low) spot.place))))) spot stack caps)
+  many_reached true is e = turn_more e is _ refl
+  many_reached false is e = turn_fewer e is _ _ refl refl
+
+  pub turn_many : Advances c (conf (Enter q) spot stack caps) (conf (many_next c q item low high lazily spot.place) spot stack caps)
+  turn_many =
+      elim (cases_lt (length (run_at c ok item (Some low) spot.place)) low) [
+        | inl lt ↦ subst (λ x. Advances c (conf (Enter q) spot stack caps) (conf x spot stack caps)) (sym (cond-true _ _ _ (lt-ltb _ _ lt))) (turn_short lt)
+        | inr ge ↦
+            subst (λ x. Advances c (conf (Enter q) spot stack caps) (conf x spot stack caps)) (sym (cond-false _ _ _ (le-ltb _ _ ge)))
+            (many_reached lazily refl (omega (arith, ge, run_count c ok item low spot.place v.running.1.here)))
+      ]
+
+-- a place of a greedy repeat is handed on
+module _ (c : Ground) (ok : IsGround c) (q from to : ℕ) (spot : Spot) (stack : List Entry) (caps : Captures) (v : IsValid c (conf (Fewer q from to) spot stack caps)) where
+  moved_standing : (units left : ℕ) → left ≤ spot.left → units ≤ c.setting.matching.frame_limit → spot.units ≤ units → IsStanding c left spot.frame (record (kept_at spot) { place = to; units = units }) (around c stack spot.frame).depth stack
+  moved_standing units left le few more = let w = v.running.1 in record { inside = w.inside; deep = omega (arith, w.deep, le); counted = omega (arith, w.counted, more); few = few; here = v.running.2 }
+
+  fewer_last : to ≤ from → ahead c (conf (Fewer q from to) spot stack caps)
+      ≡ stepped (past c (around c stack spot.frame).depth (cont c stack caps spot.frame) q reached (record (spot_state c spot stack caps) { place = to }) (fail c stack caps))
+  unfolding offer_paths
+  fewer_last le =
+      ap (λ l. offer_paths c.setting (to ∷ l) (spot_state c spot stack caps) (past c (around c stack spot.frame).depth (cont c stack caps spot.frame) q) (fail c stack caps)) (fewer_none c ok from to le)
+
+  fewer_more : from < to → ahead c (conf (Fewer q from to) spot stack caps)
+      ≡ stepped (holding c.setting 1 (record (spot_state c spot stack caps) { place = to }) (λ t. past c (around c stack spot.frame).depth (cont c stack caps spot.frame) q reached t
+      (pause (offer_paths c.setting (fewer_places c from to) (spot_state c spot stack caps) (past c (around c stack spot.frame).depth (cont c stack caps spot.frame) q) (fail c stack caps)))))
+  unfolding offer_paths
+  fewer_more lt =
+      let s : State = spot_state c spot stack caps in
+      let K : Follow = past c (around c stack spot.frame).depth (cont c stack caps spot.frame) q in
+      let f : Moves = fail c stack caps in
+      let step : fewer_places c from to ≡ place_before c.setting.scene to ∷ fewer_places c from (place_before c.setting.scene to) = fewer_step c ok from to v.running.2 lt in
+      ap (λ l. offer_paths c.setting (to ∷ l) s K f) step
+      ∙ ap (λ l. stepped (holding c.setting 1 (record s { place = to }) (λ t. K reached t (pause (offer_paths c.setting l s K f))))) (sym step)
+
+  pub stop_fewer : spot.left ≡ 0 → tread c.setting spot.left (ahead c (conf (Fewer q from to) spot stack caps)) ≡ answers MatchLimit
+  stop_fewer out =
+      elim (cases_lt from to) [
+        | inl lt ↦ over_steps c spot.left _ _ (fewer_more lt) out
+        | inr le ↦ over_steps c spot.left _ _ (fewer_last le) out
+      ]
+
+  pub stop_fewer_units : from < to → 0 < spot.left → c.setting.matching.frame_limit ≤ spot.units → tread c.setting spot.left (ahead c (conf (Fewer q from to) spot stack caps)) ≡ answers FrameLimit
+  stop_fewer_units lt left full = over_units_step c spot.left _ _ (fewer_more lt) (holding_full c.setting _ _ full) left
+
+  pub turn_fewer_last : to ≤ from → 0 < spot.left → Advances c (conf (Fewer q from to) spot stack caps) (conf (towards (next_of c q)) (record spot { place = to; left = spot.left - 1 }) stack caps)
+  turn_fewer_last le left =
+      goes_on_step c _ (record spot { place = to; left = spot.left - 1 }) stack caps (sound_less c spot.left (spot.left - 1) (length caps) stack (omega arith) v.records) v.spans v.slots ok q v.running.0
+      (moved_standing spot.units (spot.left - 1) (omega arith) v.running.1.few (omega arith)) (omega arith) (fewer_last le)
+
+  pub turn_fewer_more : from < to → 0 < spot.left → spot.units < c.setting.matching.frame_limit →
+      Advances c (conf (Fewer q from to) spot stack caps)
+      (conf (towards (next_of c q)) (record spot { place = to; left = spot.left - 1; units = spot.units + 1 }) (FewerItems (record { node = q; link = spot.frame }) (kept_at spot) from to ∷ stack) caps)
+  unfolding fail
+  turn_fewer_more lt left room =
+      let r : Entry = FewerItems (record { node = q; link = spot.frame }) (kept_at spot) from to in
+      let to' : Spot = record spot { place = to; left = spot.left - 1; units = spot.units + 1 } in
+      let w = v.running.1 in
+      advance_step c _ _ _
+      (fewer_more lt ∙ ap stepped (holding_room c.setting _ _ room))
+      (focus_kept c r stack caps (towards (next_of c q)) spot.frame (kept_at to') caps (fail c (r ∷ stack) caps) w.inside
+      ∙ focus_towards c ok q v.running.0 _ _ _ _)
+      (omega arith)
+      (record {
+        running = running_towards c ok q v.running.0 to' (r ∷ stack) (record {
+          inside = omega (arith, w.inside);
+          deep = omega (arith, w.deep, ap (λ (a : Around). a.depth) (around_push c r stack spot.frame w.inside));
+          counted = omega (arith, w.counted);
+          few = omega (arith, room);
+          here = v.running.2;
+        });
+        records = (
+          (v.running.0, record { inside = w.inside; deep = omega (arith, w.deep); counted = w.counted; few = w.few; here = w.here }, lt, v.running.2),
+          sound_less c spot.left (spot.left - 1) (length caps) stack (omega arith) v.records,
+        );
+        spans = v.spans;
+        slots = v.slots;
+      })
+
+-- a place of a lazy repeat is handed on
+module _ (c : Ground) (ok : IsGround c) (q count to : ℕ) (spot : Spot) (stack : List Entry) (caps : Captures) (v : IsValid c (conf (More q count to) spot stack caps))
+    (item : Item) (low : ℕ) (high : Option ℕ) (lazily : Bool) (t : tree.one_repeat item low high lazily ≡ tree_of c q) where
+  more_is : ahead c (conf (More q count to) spot stack caps)
+      ≡ offer_path c.setting (is_none_left (less count high)) (record (spot_state c spot stack caps) { place = to }) (past c (around c stack spot.frame).depth (cont c stack caps spot.frame) q)
+      (further_from c (tree_of c q) count to (spot_state c spot stack caps) (past c (around c stack spot.frame).depth (cont c stack caps spot.frame) q) (fail c stack caps)) (fail c stack caps)
+  unfolding lazy_paths
+  more_is =
+      let s : State = spot_state c spot stack caps in
+      let K : Follow = past c (around c stack spot.frame).depth (cont c stack caps spot.frame) q in
+      let f : Moves = fail c stack caps in
+      ap (λ x. more_from c x count to s K f) (sym t)
+      ∙ ap (λ x. offer_path c.setting (is_none_left (less count high)) (record s { place = to }) K (further_from c x count to s K f) f) t
+
+  more_last : is_none_left (less count high) ≡ true → ahead c (conf (More q count to) spot stack caps)
+      ≡ stepped (past c (around c stack spot.frame).depth (cont c stack caps spot.frame) q reached (record (spot_state c spot stack caps) { place = to }) (fail c stack caps))
+  more_last e =
+      more_is ∙ ap (λ b. offer_path c.setting b (record (spot_state c spot stack caps) { place = to }) (past c (around c stack spot.frame).depth (cont c stack caps spot.frame) q)
+      (further_from c (tree_of c q) count to (spot_state c spot stack caps) (past c (around c stack spot.frame).depth (cont c stack caps spot.frame) q) (fail c stack caps)) (fail c stack caps)) e
+
+  more_more : is_none_left (less count high) ≡ false → ahead c (conf (More q count to) spot stack caps)
+      ≡ stepped (holding c.setting 1 (record (spot_state c spot stack caps) { place = to }) (λ u. past c (around c stack spot.frame).depth (cont c stack caps spot.frame) q reached u
+      (pause (further_from c (tree_of c q) count to (spot_state c spot stack caps) (past c (around c stack spot.frame).depth (cont c stack caps spot.frame) q) (fail c stack caps)))))
+  more_more e =
+      more_is ∙ ap (λ b. offer_path c.setting b (record (spot_state c spot stack caps) { place = to }) (past c (around c stack spot.frame).depth (cont c stack caps spot.frame) q)
+      (further_from c (tree_of c q) count to (spot_state c spot stack caps) (past c (around c stack spot.frame).depth (cont c stack caps spot.frame) q) (fail c stack caps)) (fail c stack caps)) e
+
+  pub stop_more : spot.left ≡ 0 → (b : Bool) → is_none_left (less count high) ≡ b → tread c.setting spot.left (ahead c (conf (More q count to) spot stack caps)) ≡ answers MatchLimit
+  stop_more out true e = over_steps c spot.left _ _ (more_last e) out
+  stop_more out false e = over_steps c spot.left _ _ (more_more e) out
+
+  pub stop_more_units : is_none_left (less count high) ≡ false → 0 < spot.left → c.setting.matching.frame_limit ≤ spot.units → tread c.setting spot.left (ahead c (conf (More q count to) spot stack caps)) ≡ answers FrameLimit
+  stop_more_units e left full = over_units_step c spot.left _ _ (more_more e) (holding_full c.setting _ _ full) left
+
+  pub turn_more_last : is_none_left (less count high) ≡ true → 0 < spot.left → Advances c (conf (More q count to) spot stack caps) (conf (towards (next_of c q)) (record spot { place = to; left = spot.left - 1 }) stack caps)
+  turn_more_last e left =
+      let w = v.running.1 in
+      goes_on_step c _ (record spot { place = to; left = spot.left - 1 }) stack caps (sound_less c spot.left (spot.left - 1) (length caps) stack (omega arith) v.records) v.spans v.slots ok q v.running.0
+      (record { inside = w.inside; deep = omega (arith, w.deep); counted = w.counted; few = w.few; here = v.running.3 }) (omega arith) (more_last e)
+
+  pub turn_more_more : is_none_left (less count high) ≡ false → 0 < spot.left → spot.units < c.setting.matching.frame_limit →
+      Advances c (conf (More q count to) spot stack caps)
+      (conf (towards (next_of c q)) (record spot { place = to; left = spot.left - 1; units = spot.units + 1 }) (MoreItems (record { node = q; link = spot.frame }) (kept_at spot) count to ∷ stack) caps)
+  unfolding fail
+  turn_more_more e left room =
+      let r : Entry = MoreItems (record { node = q; link = spot.frame }) (kept_at spot) count to in
+      let to' : Spot = record spot { place = to; left = spot.left - 1; units = spot.units + 1 } in
+      let w = v.running.1 in
+      advance_step c _ _ _
+      (more_more e ∙ ap stepped (holding_room c.setting _ _ room))
+      (focus_kept c r stack caps (towards (next_of c q)) spot.frame (kept_at to') caps (fail c (r ∷ stack) caps) w.inside
+      ∙ focus_towards c ok q v.running.0 _ _ _ _)
+      (omega arith)
+      (record {
+        running = running_towards c ok q v.running.0 to' (r ∷ stack) (record {
+          inside = omega (arith, w.inside);
+          deep = omega (arith, w.deep, ap (λ (a : Around). a.depth) (around_push c r stack spot.frame w.inside));
+          counted = omega (arith, w.counted);
+          few = omega (arith, room);
+          here = v.running.3;
+        });
+        records = (
+          (
+            v.running.0,
+            record { inside = w.inside; deep = omega (arith, w.deep); counted = w.counted; few = w.few; here = w.here },
+            v.running.2,
+            v.running.3,
+            subst (λ x. HasFurther c x count) t e,
+          ),
+          sound_less c spot.left (spot.left - 1) (length caps) stack (omega arith) v.records,
+        );
+        spans = v.spans;
+        slots = v.slots;
+      })

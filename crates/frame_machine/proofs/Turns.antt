@@ -1,0 +1,321 @@
+-- The steps of the machine at a part.
+use Rattle.std.proofs.Common.{◌≡◌, ℕ, zero, suc, ◌+◌, ◌-◌, ◌<◌, ◌≤◌, ◌∙◌, Bool, true, false, if◌then◌else◌, List, [], ◌∷◌, map, Option, Some, None, length, All, slice_get, get_or, ◌⊎◌, inl, inr, refl, sym, ap, subst, arith, ◌≢◌}
+use Rattle.std.proofs.lemmas.List.Elements.{All-head, All-get_or}
+use Rattle.std.proofs.Math.ListN.{get_or-eq_default}
+use Rattle.std.proofs.lemmas.Bool.{cases_lt}
+use Rattle.pat_tree.specs.declared.nodes.Item.{Item}
+use Rattle.pat_tree.specs.declared.nodes.AnchorKind.{AnchorKind}
+use Rattle.pat_tree.specs.declared.nodes.Node.{Node}
+use Rattle.pat_tree.specs.declared.nodes.Node.TheVariants as node
+use Rattle.pat_tree.specs.Nested as tree
+use Rattle.pat_tree.specs.Nested.{Nested, Row, row, nest, tree_at}
+use Rattle.pat_tree.specs.Rules.{kids_of}
+use Rattle.match_items.specs.Items.{is_none_left, after_item, after_break, after_ref, holds, earliest}
+use Rattle.frame_store.specs.declared.registers.Span.{Span}
+use Rattle.frame_store.specs.Captures.{Captures, capture}
+use Rattle.frame_store.specs.Entry.{Kept, Entry, GroupOpen, LaterBranch, TurnOpen, TurnOrExit, LaterTurn}
+use Rattle.frame_machine.specs.Stream.{State, reached, by_halt, too_many_units}
+use Rattle.frame_machine.specs.PlaceAnswer.{answers, MatchLimit, FrameLimit}
+use Rattle.frame_machine.specs.Moves.{Moves, stops, pause, stepped, Follow, at_verbs, going, holding, tread}
+use Rattle.frame_machine.specs.Paths.{paths}
+use Rattle.frame_machine.specs.Built.{IsBuilt}
+use Rattle.frame_machine.specs.declared.machine.Next.{Next}
+use Rattle.frame_machine.specs.declared.machine.Next.TheVariants.{Enter, Branch, Offer, Begin, Back, End}
+use Rattle.frame_machine.specs.declared.machine.Spot.{Spot}
+use Rattle.frame_machine.specs.Ground.{Ground, tree_of, next_of, AllFollowed, IsLinked, IsNode, StandsIf, IsGround}
+use Rattle.frame_machine.specs.Machine.{Around, less, state_at, kept_at, after, past, enter, branch_rest, begin_from, turned_from, close_from, around, cont, fail, focus, Conf, conf, spot_state, ahead, IsStanding, StandsAt, HasBranch, IsRepeat, IsCapture, SpanStands, AreSpans, AreSound, IsRunning, IsValid, Advances, first_set, first_next, row_length, towards}
+use Rattle.frame_machine.specs.Stops.{moved_next, moved_spot, held_next, held_early, part_next}
+use Rattle.frame_machine.proofs.PartPaths.{after_nil, enter_empty, enter_keep, enter_one, enter_break, enter_anchor, enter_ref, enter_seq_none, enter_seq, enter_group, enter_capture, enter_repeat, branch_last, branch_more, offer_below, offer_full, offer_greedy, offer_lazy, begin_step}
+use Rattle.frame_machine.proofs.Frames.{around_here, around_push, focus_kept, focus_framed, sound_less, focus_towards, running_towards}
+use Rattle.frame_machine.proofs.Advance.{holding_room, holding_full, advance_pause, advance_step, advance_same, over_steps, over_units, over_units_step, goes_back, goes_on, goes_on_step}
+
+module _ (c : Ground) (ok : IsGround c) where
+  stands_item : (item : Item) (p : ℕ) (o : Option ℕ) → c.stands p ≡ true → after_item c.setting.scene item p ≡ o → StandsIf c o
+  stands_item item p None h e = tt
+  stands_item item p (Some r) h e = (ok.forward item p r h e).1
+
+  pub stands_capture : (xs : Captures) (k : ℕ) → AreSpans c xs → SpanStands c (get_or xs k None)
+  stands_capture xs k a =
+      elim (cases_lt k (length xs)) [
+        | inl within ↦ All-get_or (SpanStands c) xs k None within a
+        | inr past_end ↦ subst (SpanStands c) (sym (get_or-eq_default xs None past_end)) tt
+      ]
+
+  pub stands_set : (caps : Captures) (ns : List ℕ) → AreSpans c caps → SpanStands c (first_set caps ns)
+  stands_set caps [] a = tt
+  stands_set caps (n ∷ ns) a =
+      (elim (capture caps n) as (λ o. SpanStands c o → SpanStands c (let z : Option Span = elim o [ None ↦ first_set caps ns | Some span ↦ Some span ] in z)) [
+        | None ↦ λ h. stands_set caps ns a
+        | Some span ↦ λ h. h
+      ]) (stands_capture caps (n - 1) a)
+
+  stands_refer : (o : Option Span) (b caseless : Bool) (p : ℕ) → c.stands p ≡ true → SpanStands c o → (r : Option ℕ) →
+      r ≡ elim o [ None ↦ if b then Some p else None | Some span ↦ after_ref c.setting.scene span.from span.to caseless p ] → StandsIf c r
+  stands_refer None true caseless p h a r e = subst (StandsIf c) (sym e) h
+  stands_refer None false caseless p h a r e = subst (StandsIf c) (sym e) tt
+  stands_refer (Some span) b caseless p h a r e = subst (StandsIf c) (sym e) (ok.refers span.from span.to p caseless a.0 a.1 h)
+
+-- a part is run
+module _ (c : Ground) (ok : IsGround c) (q : ℕ) (spot : Spot) (stack : List Entry) (caps : Captures) (v : IsValid c (conf (Enter q) spot stack caps)) (n : Node) (i : IsNode c q n) where
+  deep : (around c stack spot.frame).depth ≡ suc ((around c stack spot.frame).depth - 1)
+  deep = omega (arith, v.running.1.deep)
+
+  -- at another place
+  moved_standing : (p : ℕ) → c.stands p ≡ true → IsRunning c (record spot { place = p }) stack End
+  moved_standing p h = let w = v.running.1 in record { inside = w.inside; deep = w.deep; counted = w.counted; few = w.few; here = h }
+
+  turn_going : (o : Option ℕ) → StandsIf c o →
+      ahead c (conf (Enter q) spot stack caps)
+      ≡ pause (going o (spot_state c spot stack caps) (past c (around c stack spot.frame).depth (cont c stack caps spot.frame) q) (fail c stack caps)) →
+      Advances c (conf (Enter q) spot stack caps) (conf (moved_next c q o) (moved_spot spot o) stack caps)
+  turn_going None h e = goes_back c _ spot stack caps v.records v.spans v.slots refl e
+  turn_going (Some p) h e = goes_on c _ (record spot { place = p }) stack caps v.records v.spans v.slots ok q v.running.0 (moved_standing p h) refl e
+
+  pub turn_one : (item : Item) → n ≡ node.One item →
+      Advances c (conf (Enter q) spot stack caps) (conf (moved_next c q (after_item c.setting.scene item spot.place)) (moved_spot spot (after_item c.setting.scene item spot.place)) stack caps)
+  turn_one item e = turn_going _ (stands_item c ok item spot.place _ v.running.1.here refl) (enter_one c ok q n i _ _ _ _ _ deep item e)
+
+  pub turn_break : n ≡ node.Break →
+      Advances c (conf (Enter q) spot stack caps) (conf (moved_next c q (after_break c.setting.scene spot.place)) (moved_spot spot (after_break c.setting.scene spot.place)) stack caps)
+  turn_break e = turn_going _ (ok.breaks spot.place v.running.1.here) (enter_break c ok q n i _ _ _ _ _ deep e)
+
+  -- where a reference leads to
+  abbrev pub referred : Option Span → Bool → Option ℕ
+  referred None caseless = if c.setting.options.match_unset_backref then Some spot.place else None
+  referred (Some span) caseless = after_ref c.setting.scene span.from span.to caseless spot.place
+
+  ref_going : (o : Option Span) (caseless b : Bool) (s : State) (k : Follow) (f : Moves) → c.setting.options.match_unset_backref ≡ b → s.place ≡ spot.place → record s { place = spot.place } ≡ s →
+      elim o [
+        | None ↦ elim b [ true ↦ k reached s f | false ↦ f ]
+        | Some span ↦ going (after_ref c.setting.scene span.from span.to caseless s.place) s k f
+      ] ≡ going (referred o caseless) s k f
+  ref_going None caseless true s k f e here same = ap (λ t. k reached t f) (sym same) ∙ ap (λ (x : Bool). going (if x then Some spot.place else None) s k f) (sym e)
+  ref_going None caseless false s k f e here same = ap (λ (x : Bool). going (if x then Some spot.place else None) s k f) (sym e)
+  ref_going (Some span) caseless b s k f e here same = ap (λ p. going (after_ref c.setting.scene span.from span.to caseless p) s k f) here
+
+  referred_stands : (o : Option Span) (caseless b : Bool) → c.setting.options.match_unset_backref ≡ b → SpanStands c o → StandsIf c (referred o caseless)
+  referred_stands None caseless true e a = subst (λ (x : Bool). StandsIf c (if x then Some spot.place else None)) (sym e) v.running.1.here
+  referred_stands None caseless false e a = subst (λ (x : Bool). StandsIf c (if x then Some spot.place else None)) (sym e) tt
+  referred_stands (Some span) caseless b e a = ok.refers span.from span.to spot.place caseless a.0 a.1 v.running.1.here
+
+  pub turn_ref : (ns : List ℕ) (caseless : Bool) → n ≡ node.Ref ns caseless →
+      Advances c (conf (Enter q) spot stack caps) (conf (moved_next c q (referred (first_set caps ns) caseless)) (moved_spot spot (referred (first_set caps ns) caseless)) stack caps)
+  turn_ref ns caseless e =
+      turn_going _ (referred_stands (first_set caps ns) caseless _ refl (stands_set c ok caps ns v.spans))
+      (enter_ref c ok q n i _ _ _ _ _ deep ns caseless e
+      ∙ ap pause (ref_going (first_set caps ns) caseless c.setting.options.match_unset_backref _ _ _ refl refl refl))
+
+  pub turn_holds : (kind : AnchorKind) → n ≡ node.Anchor kind → holds c.setting.scene kind spot.place ≡ true →
+      Advances c (conf (Enter q) spot stack caps) (conf (towards (next_of c q)) (record spot { early = earliest c.setting.scene kind spot.place spot.early }) stack caps)
+  turn_holds kind e h =
+      let w = v.running.1 in
+      goes_on c _ (record spot { early = earliest c.setting.scene kind spot.place spot.early }) stack caps v.records v.spans v.slots ok q v.running.0
+      (record { inside = w.inside; deep = w.deep; counted = w.counted; few = w.few; here = w.here }) refl
+      (enter_anchor c ok q n i _ _ _ _ _ deep kind e
+      ∙ ap (λ b. pause (elim b [
+        | true ↦ past c (around c stack spot.frame).depth (cont c stack caps spot.frame) q reached
+            (record (spot_state c spot stack caps) { early = earliest c.setting.scene kind spot.place spot.early }) (fail c stack caps)
+        | false ↦ fail c stack caps
+      ])) h)
+
+  pub turn_holds_not : (kind : AnchorKind) → n ≡ node.Anchor kind → holds c.setting.scene kind spot.place ≡ false →
+      Advances c (conf (Enter q) spot stack caps) (conf Back spot stack caps)
+  turn_holds_not kind e h =
+      goes_back c _ spot stack caps v.records v.spans v.slots refl
+      (enter_anchor c ok q n i _ _ _ _ _ deep kind e
+      ∙ ap (λ b. pause (elim b [
+        | true ↦ past c (around c stack spot.frame).depth (cont c stack caps spot.frame) q reached
+            (record (spot_state c spot stack caps) { early = earliest c.setting.scene kind spot.place spot.early }) (fail c stack caps)
+        | false ↦ fail c stack caps
+      ])) h)
+
+  pub turn_anchor : (kind : AnchorKind) → n ≡ node.Anchor kind → (b : Bool) → holds c.setting.scene kind spot.place ≡ b →
+      Advances c (conf (Enter q) spot stack caps) (conf (held_next c q b) (held_early c kind spot b) stack caps)
+  turn_anchor kind e true h = turn_holds kind e h
+  turn_anchor kind e false h = turn_holds_not kind e h
+
+  pub turn_empty : n ≡ node.Empty → Advances c (conf (Enter q) spot stack caps) (conf (towards (next_of c q)) spot stack caps)
+  turn_empty e = goes_on c _ spot stack caps v.records v.spans v.slots ok q v.running.0 v.running.1 refl (enter_empty c ok q n i _ _ _ _ _ deep e)
+
+  pub turn_keep : n ≡ node.KeepOut → Advances c (conf (Enter q) spot stack caps) (conf (towards (next_of c q)) (record spot { keep = spot.place }) stack caps)
+  turn_keep e =
+      let w = v.running.1 in
+      goes_on c _ (record spot { keep = spot.place }) stack caps v.records v.spans v.slots ok q v.running.0
+      (record { inside = w.inside; deep = w.deep; counted = w.counted; few = w.few; here = w.here }) refl (enter_keep c ok q n i _ _ _ _ _ deep e)
+
+  kid_inside : (ks : List ℕ) (p : ℕ) → kids_of n ≡ p ∷ ks → p ≤ c.root
+  kid_inside ks p e =
+      let lt : p < q = All-head (λ x. x < q) p ks (subst (All (λ x. x < q)) e i.below) in omega (arith, lt, v.running.0)
+
+  pub turn_seq_none : n ≡ node.Seq [] → Advances c (conf (Enter q) spot stack caps) (conf (towards (next_of c q)) spot stack caps)
+  turn_seq_none e = goes_on c _ spot stack caps v.records v.spans v.slots ok q v.running.0 v.running.1 refl (enter_seq_none c q n i _ _ _ _ _ deep e)
+
+  pub turn_seq : (p : ℕ) (ps : List ℕ) → n ≡ node.Seq (p ∷ ps) → Advances c (conf (Enter q) spot stack caps) (conf (Enter p) spot stack caps)
+  turn_seq p ps e =
+      advance_pause c _ _ _ (enter_seq c q n i _ _ _ _ _ deep p ps e) refl refl
+      (record { running = (kid_inside ps p (ap kids_of e), v.running.1); records = v.records; spans = v.spans; slots = v.slots })
+
+  pub turn_parts : (ks : List ℕ) → n ≡ node.Seq ks → Advances c (conf (Enter q) spot stack caps) (conf (part_next c q ks) spot stack caps)
+  turn_parts [] e = turn_seq_none e
+  turn_parts (p ∷ ps) e = turn_seq p ps e
+
+  -- where a group begins
+  first_running : (number : Option ℕ) (ks : List ℕ) → n ≡ node.Group number ks → (spot' : Spot) (stack' : List Entry) → StandsAt c spot' stack' (around c stack' spot'.frame).depth →
+      IsRunning c spot' stack' (first_next q ks)
+  first_running number [] e spot' stack' w = tt
+  first_running number (p ∷ []) e spot' stack' w = (kid_inside [] p (ap kids_of e), w)
+  first_running number (p ∷ p' ∷ ps) e spot' stack' w =
+      (v.running.0, w, subst (λ z. HasBranch c z 0) (subst (λ m. nest c.trees m ≡ tree_of c q) e i.is) (omega arith))
+
+  pub turn_group : (ks : List ℕ) → n ≡ node.Group None ks → Advances c (conf (Enter q) spot stack caps) (conf (first_next q ks) spot stack caps)
+  turn_group ks e =
+      advance_pause c _ _ _ (enter_group c ok q n i _ _ _ _ _ deep ks e) refl refl
+      (record { running = first_running None ks e spot stack v.running.1; records = v.records; spans = v.spans; slots = v.slots })
+
+  pub turn_capture : (m : ℕ) (ks : List ℕ) → n ≡ node.Group (Some m) ks → spot.units < c.setting.matching.frame_limit →
+      Advances c (conf (Enter q) spot stack caps)
+      (conf (first_next q ks) (record spot { frame = suc (length stack); units = spot.units + 1 }) (GroupOpen (record { node = q; link = spot.frame }) (kept_at spot) ∷ stack) caps)
+  unfolding fail
+  turn_capture m ks e room =
+      let r : Entry = GroupOpen (record { node = q; link = spot.frame }) (kept_at spot) in
+      let w = v.running.1 in
+      let to : Spot = record spot { frame = suc (length stack); units = spot.units + 1 } in
+      let same : around c (r ∷ stack) (suc (length stack)) ≡ around c stack spot.frame = around_here c r stack _ refl in
+      advance_pause c _ _ _
+      (enter_capture c ok q n i _ _ _ _ _ deep m ks e ∙ ap pause (holding_room c.setting _ _ room))
+      (focus_framed c r stack caps (first_next q ks) (kept_at to) caps (pause (fail c stack caps))) refl
+      (record {
+        running = first_running (Some m) ks e to (r ∷ stack)
+            (record { inside = omega arith; deep = omega (arith, w.deep, ap (λ (a : Around). a.depth) same); counted = omega (arith, w.counted); few = omega (arith, room); here = w.here });
+        records = ((v.running.0, w, subst (IsCapture c) (subst (λ z. nest c.trees z ≡ tree_of c q) e i.is) tt), v.records);
+        spans = v.spans;
+        slots = v.slots;
+      })
+
+  pub stop_capture : (m : ℕ) (ks : List ℕ) → n ≡ node.Group (Some m) ks → c.setting.matching.frame_limit ≤ spot.units →
+      tread c.setting spot.left (ahead c (conf (Enter q) spot stack caps)) ≡ answers FrameLimit
+  stop_capture m ks e full = over_units c spot.left _ _ (enter_capture c ok q n i _ _ _ _ _ deep m ks e) (holding_full c.setting _ _ full)
+
+  pub turn_capture_of : (number : Option ℕ) (ks : List ℕ) → n ≡ node.Group number ks → (m : ℕ) → number ≡ Some m → spot.units < c.setting.matching.frame_limit →
+      Advances c (conf (Enter q) spot stack caps)
+      (conf (first_next q ks) (record spot { frame = suc (length stack); units = spot.units + 1 }) (GroupOpen (record { node = q; link = spot.frame }) (kept_at spot) ∷ stack) caps)
+  turn_capture_of number ks e m is room = turn_capture m ks (e ∙ ap (λ x. node.Group x ks) is) room
+
+  pub stop_capture_of : (number : Option ℕ) (ks : List ℕ) → n ≡ node.Group number ks → (m : ℕ) → number ≡ Some m → c.setting.matching.frame_limit ≤ spot.units →
+      tread c.setting spot.left (ahead c (conf (Enter q) spot stack caps)) ≡ answers FrameLimit
+  stop_capture_of number ks e m is full = stop_capture m ks (e ∙ ap (λ x. node.Group x ks) is) full
+
+  pub turn_group_of : (number : Option ℕ) (ks : List ℕ) → n ≡ node.Group number ks → ((m : ℕ) → number ≡ Some m → ⊥) → Advances c (conf (Enter q) spot stack caps) (conf (first_next q ks) spot stack caps)
+  turn_group_of None ks e not = turn_group ks e
+  turn_group_of (Some m) ks e not = absurd (not m refl)
+
+  pub ahead_repeat : (body low : ℕ) (high : Option ℕ) (lazily : Bool) → n ≡ node.Repeat body low high lazily →
+      ahead c (conf (Enter q) spot stack caps) ≡ ahead c (conf (Offer q 0) spot stack caps)
+  ahead_repeat body low high lazily e = enter_repeat c ok q n i _ _ _ _ _ deep body low high lazily e
+
+  pub valid_repeat : (body low : ℕ) (high : Option ℕ) (lazily : Bool) → n ≡ node.Repeat body low high lazily → IsValid c (conf (Offer q 0) spot stack caps)
+  valid_repeat body low high lazily e =
+      let w = v.running.1 in
+      record {
+        running = (
+          v.running.0,
+          record { inside = w.inside; deep = omega (arith, w.deep); counted = w.counted; few = w.few; here = w.here },
+          subst (IsRepeat c) (subst (λ z. nest c.trees z ≡ tree_of c q) e i.is) tt,
+        );
+        records = v.records;
+        spans = v.spans;
+        slots = v.slots;
+      }
+
+pub length_row : (c : Ground) (xs : List ℕ) → row_length (row (map (tree_at c.trees) xs)) ≡ length xs
+length_row c [] = refl
+length_row c (x ∷ xs) = ap suc (length_row c xs)
+
+-- a branch of a group is tried
+module _ (c : Ground) (ok : IsGround c) (q j : ℕ) (spot : Spot) (stack : List Entry) (caps : Captures) (v : IsValid c (conf (Branch q j) spot stack caps))
+    (number : Option ℕ) (ks : List ℕ) (t : tree.group number (row (map (tree_at c.trees) ks)) ≡ tree_of c q)
+    (l : AllFollowed c.rest (branch_rest c (tree_of c q) (c.rest q)) ks) (p : ℕ) (at : slice_get ks j ≡ Some p) (inside : p ≤ c.root) where
+  pub stop_branch : spot.left ≡ 0 → (p' : Option ℕ) → slice_get ks (suc j) ≡ p' → length ks ≤ suc j ⊎ ((x : ℕ) × (slice_get ks (suc j) ≡ Some x)) →
+      tread c.setting spot.left (ahead c (conf (Branch q j) spot stack caps)) ≡ answers MatchLimit
+  stop_branch out p' e (inl last) = over_steps c spot.left _ _ (branch_last c q j _ number ks t l p at (ok.built p inside) _ _ _ last) out
+  stop_branch out p' e (inr more) = over_steps c spot.left _ _ (branch_more c q j _ number ks t l p at (ok.built p inside) _ _ _ more.0 more.1) out
+
+  pub turn_branch_last : length ks ≤ suc j → 0 < spot.left →
+      Advances c (conf (Branch q j) spot stack caps) (conf (Enter p) (record spot { left = spot.left - 1 }) stack caps)
+  turn_branch_last last left =
+      let w = v.running.1 in
+      advance_step c _ _ _ (branch_last c q j _ number ks t l p at (ok.built p inside) _ _ _ last) refl (omega arith)
+      (record {
+        running = (inside, record { inside = w.inside; deep = omega (arith, w.deep); counted = w.counted; few = w.few; here = w.here });
+        records = sound_less c spot.left (spot.left - 1) (length caps) stack (omega arith) v.records;
+        spans = v.spans;
+        slots = v.slots;
+      })
+
+  module _ (p' : ℕ) (at' : slice_get ks (suc j) ≡ Some p') (left : 0 < spot.left) where
+    choosing : ahead c (conf (Branch q j) spot stack caps)
+        ≡ stepped (holding c.setting 1 (spot_state c spot stack caps) (λ u.
+        enter c (around c stack spot.frame).depth (cont c stack caps spot.frame) p u
+        (pause (focus c (Branch q (suc j)) (around c stack spot.frame).depth (cont c stack caps spot.frame) (spot_state c spot stack caps) (fail c stack caps)))))
+    choosing = branch_more c q j _ number ks t l p at (ok.built p inside) _ _ _ p' at'
+
+    pub stop_branch_units : c.setting.matching.frame_limit ≤ spot.units → tread c.setting spot.left (ahead c (conf (Branch q j) spot stack caps)) ≡ answers FrameLimit
+    stop_branch_units full = over_units_step c spot.left _ _ choosing (holding_full c.setting _ _ full) left
+
+    pub turn_branch_more : suc j < length ks → spot.units < c.setting.matching.frame_limit →
+        Advances c (conf (Branch q j) spot stack caps)
+        (conf (Enter p) (record spot { left = spot.left - 1; units = spot.units + 1 }) (LaterBranch (record { node = q; link = spot.frame }) (kept_at spot) (suc j) ∷ stack) caps)
+    unfolding fail
+    turn_branch_more lt room =
+        let r : Entry = LaterBranch (record { node = q; link = spot.frame }) (kept_at spot) (suc j) in
+        let w = v.running.1 in
+        let to : Spot = record spot { left = spot.left - 1; units = spot.units + 1 } in
+        let counts : row_length (row (map (tree_at c.trees) ks)) ≡ length ks = length_row c ks in
+        advance_step c _ _ _
+        (choosing ∙ ap stepped (holding_room c.setting _ _ room))
+        (focus_kept c r stack caps (Enter p) spot.frame (kept_at to) caps (fail c (r ∷ stack) caps) w.inside)
+        (omega arith)
+        (record {
+          running = (
+            inside,
+            record {
+              inside = omega (arith, w.inside);
+              deep = omega (arith, w.deep, ap (λ (a : Around). a.depth) (around_push c r stack spot.frame w.inside));
+              counted = omega (arith, w.counted);
+              few = omega (arith, room);
+              here = w.here;
+            },
+          );
+          records = (
+            (
+              v.running.0,
+              record { inside = w.inside; deep = omega (arith, w.deep); counted = w.counted; few = w.few; here = w.here },
+              subst (λ z. HasBranch c z (suc j)) t (omega (arith, lt, counts)),
+            ),
+            sound_less c spot.left (spot.left - 1) (length caps) stack (omega arith) v.records,
+          );
+          spans = v.spans;
+          slots = v.slots;
+        })
+
+-- a node of no other form is not built
+pub stray_node : (ts : List Nested) (n : Node) → IsBuilt (nest ts n) → n ≢ node.Empty → n ≢ node.KeepOut → ((item : Item) → n ≢ node.One item) → n ≢ node.Break →
+    ((ns : List ℕ) (caseless : Bool) → n ≢ node.Ref ns caseless) → ((kind : AnchorKind) → n ≢ node.Anchor kind) → ((ks : List ℕ) → n ≢ node.Seq ks) →
+    ((number : Option ℕ) (ks : List ℕ) → n ≢ node.Group number ks) → ((body low : ℕ) (high : Option ℕ) (lazily : Bool) → n ≢ node.Repeat body low high lazily) →
+    ((item : Item) (low : ℕ) (high : Option ℕ) (lazily : Bool) → n ≢ node.OneRepeat item low high lazily) → ⊥
+stray_node ts node.Empty b n1 n2 n3 n4 n5 n6 n7 n8 n9 n10 = n1 refl
+stray_node ts node.KeepOut b n1 n2 n3 n4 n5 n6 n7 n8 n9 n10 = n2 refl
+stray_node ts (node.One item) b n1 n2 n3 n4 n5 n6 n7 n8 n9 n10 = n3 item refl
+stray_node ts node.Break b n1 n2 n3 n4 n5 n6 n7 n8 n9 n10 = n4 refl
+stray_node ts (node.Ref ns caseless) b n1 n2 n3 n4 n5 n6 n7 n8 n9 n10 = n5 ns caseless refl
+stray_node ts (node.Anchor kind) b n1 n2 n3 n4 n5 n6 n7 n8 n9 n10 = n6 kind refl
+stray_node ts (node.Seq ks) b n1 n2 n3 n4 n5 n6 n7 n8 n9 n10 = n7 ks refl
+stray_node ts (node.Group number ks) b n1 n2 n3 n4 n5 n6 n7 n8 n9 n10 = n8 number ks refl
+stray_node ts (node.Repeat body low high lazily) b n1 n2 n3 n4 n5 n6 n7 n8 n9 n10 = n9 body low high lazily refl
+stray_node ts (node.OneRepeat item low high lazily) b n1 n2 n3 n4 n5 n6 n7 n8 n9 n10 = n10 item low high lazily refl
+stray_node ts (node.Atomic ks) b n1 n2 n3 n4 n5 n6 n7 n8 n9 n10 = b
+stray_node ts (node.Look ahead positive once ks) b n1 n2 n3 n4 n5 n6 n7 n8 n9 n10 = b
+stray_node ts (node.Cond test first second) b n1 n2 n3 n4 n5 n6 n7 n8 n9 n10 = b
+stray_node ts (node.Call m) b n1 n2 n3 n4 n5 n6 n7 n8 n9 n10 = b
+stray_node ts (node.VerbNode v) b n1 n2 n3 n4 n5 n6 n7 n8 n9 n10 = b
+stray_node ts (node.Callout number from to at len) b n1 n2 n3 n4 n5 n6 n7 n8 n9 n10 = b

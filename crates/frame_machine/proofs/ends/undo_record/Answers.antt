@@ -1,0 +1,11 @@
+use Rattle.std.proofs.Common.{refl}
+use Rattle.frame_store.specs.Entry.{entry_in, entry_of}
+use Rattle.frame_machine.proofs.ends.undo_record.Goals as goal
+
+pub returns-in-None : goal.returns-in-None
+unfolding entry_in
+returns-in-None c = rw (c.in-None.is, c.record-undo.ensures) refl
+
+pub returns-in-Some : goal.returns-in-Some
+unfolding entry_in
+returns-in-Some c = rw (c.in-Some.is, c.record-undo.ensures) refl

@@ -1,0 +1,17 @@
+use Rattle.std.proofs.Common.{◌≡◌, ◌≤◌, max}
+use Rattle.frame_store.specs.Entry.{entries}
+use Rattle.frame_machine.specs.PlaceAnswer.{place_answer}
+use Rattle.frame_machine.specs.Moves.{tread, size}
+use Rattle.frame_machine.specs.Machine.{ahead, IsValid, conf}
+use Rattle.frame_machine.proofs.run.run.Given as goal
+
+abbrev pub invariant-turns : goal.invariant-turns
+invariant-turns g l = record {
+  answer : tread (g.S.Searchable.searched l.on).setting l.spot.left (ahead (g.S.Searchable.searched l.on) (conf l.next l.spot (entries l.store.records) l.registers))
+      ≡ place_answer (g.S.Searchable.searched l.on).setting l.place;
+  valid : IsValid (g.S.Searchable.searched l.on) (conf l.next l.spot (entries l.store.records) l.registers);
+  peak : l.store.peak ≤ max l.fn.store.peak (g.S.Searchable.searched l.on).setting.matching.frame_limit;
+}
+
+abbrev pub decreases-turns : goal.decreases-turns
+decreases-turns g l = size (ahead (g.S.Searchable.searched l.on) (conf l.next l.spot (entries l.store.records) l.registers))

@@ -1,0 +1,40 @@
+-- What an answer says.
+use Rattle.std.specs.Prelude.{◌≡◌, ℕ, Option}
+use Rattle.std.specs.Option.{option_or}
+use Rattle.frame_store.specs.Captures.{Captures}
+use Rattle.frame_machine.specs.declared.answer.PlaceAnswer.{PlaceAnswer}
+use Rattle.frame_machine.specs.declared.answer.PlaceAnswer.TheVariants as told
+use Rattle.frame_machine.specs.declared.answer.Signal.{Signal}
+use Rattle.frame_machine.specs.declared.answer.Signal.TheVariants as signal
+use Rattle.frame_machine.specs.declared.machine.Spot.{Spot}
+use Rattle.frame_machine.specs.declared.machine.Stop.{Stop}
+use Rattle.frame_machine.specs.PlaceAnswer as meant
+use Rattle.frame_machine.specs.PlaceAnswer.{Walked, has_hit, last_name}
+use Rattle.frame_machine.specs.Stops.{IsStop}
+
+abbrev pub signal_of : Signal → meant.Signal
+signal_of signal.Exhausted = meant.Exhausted
+signal_of signal.Prune = meant.Prune
+signal_of (signal.Skip p) = meant.Skip p
+signal_of signal.Commit = meant.Commit
+
+-- the answer, and the captures of a match, are those of the search; want of memory may come at any time
+abbrev pub IsAnswer : PlaceAnswer → Captures → Walked → Type 0
+IsAnswer (told.Matched keep to mark) caps w = w.answer ≡ meant.Matched (record { keep = keep; to = to; mark = mark; caps = caps })
+IsAnswer (told.Failed signal hit) caps w = (w.answer ≡ meant.Failed (signal_of signal)) × (hit ≡ has_hit w.notes)
+IsAnswer told.Partial caps w = w.answer ≡ meant.Partial
+IsAnswer told.MatchLimit caps w = w.answer ≡ meant.MatchLimit
+IsAnswer told.FrameLimit caps w = w.answer ≡ meant.FrameLimit
+IsAnswer told.Loop caps w = w.answer ≡ meant.Loop
+IsAnswer (told.Abort n) caps w = w.answer ≡ meant.Abort n
+IsAnswer told.Memory caps w = Unit {0}
+
+-- the last name is the last that was met, or the earlier one
+abbrev pub IsMark : PlaceAnswer → Option ℕ → Option ℕ → Walked → Type 0
+IsMark told.Memory old new w = Unit {0}
+IsMark _ old new w = new ≡ option_or (last_name w.notes) old
+
+-- the answer says with what the machine stops
+abbrev pub TellsStop : Stop → Spot → PlaceAnswer → Type 0
+TellsStop stop spot answer =
+    (caps : Captures) (w : Walked) (old : Option ℕ) → IsStop stop spot caps w → IsAnswer answer caps w × IsMark answer old old w

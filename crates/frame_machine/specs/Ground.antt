@@ -1,0 +1,94 @@
+-- What a search goes over: a pattern's numbered parts and the characters of a subject.
+use Rattle.std.specs.Prelude.{◌≡◌, ℕ, ◌+◌, ◌<◌, ◌≤◌, Bool, true, List, [], ◌∷◌, ◌++◌, All, length, Option, Some, None}
+use Rattle.pat_tree.specs.declared.nodes.Item.{Item}
+use Rattle.pat_tree.specs.declared.nodes.Cond.{Cond}
+use Rattle.pat_tree.specs.declared.nodes.Cond.TheVariants.{Assert}
+use Rattle.pat_tree.specs.declared.nodes.Node.{Node}
+use Rattle.pat_tree.specs.declared.nodes.Node.TheVariants as node
+use Rattle.pat_tree.specs.declared.options.PartialMode.TheVariants.{Off}
+use Rattle.pat_tree.specs.Nested.{Nested, nest, tree_at}
+use Rattle.pat_tree.specs.Rules.{kids_of, numbers_of, classes_of, IsOrdered}
+use Rattle.pat_tree.specs.Refs.{named_by}
+use Rattle.match_items.specs.Items.{after_item, after_break, after_ref, place_before}
+use Rattle.frame_machine.specs.Setting.{Setting, match_limit}
+use Rattle.frame_machine.specs.Built.{IsBuilt}
+
+pub record Ground : Type 0 where
+  pub setting : Setting
+  -- the tree of each part, by its number
+  pub trees : List Nested
+  pub root : ℕ
+  -- the parts that still follow a part, up to the end of the innermost frame around it
+  pub rest : ℕ → List ℕ
+  -- a character begins at the place, or the subject ends there
+  pub stands : ℕ → Bool
+  pub class_count : ℕ
+
+abbrev pub tree_of : Ground → ℕ → Nested
+tree_of c q = tree_at c.trees q
+
+abbrev pub first_of : List ℕ → Option ℕ
+first_of [] = None
+first_of (q ∷ qs) = Some q
+
+-- the part that follows next
+abbrev pub next_of : Ground → ℕ → Option ℕ
+next_of c q = first_of (c.rest q)
+
+-- each of these parts is followed by the later ones, and then by others
+abbrev pub AreChained : (ℕ → List ℕ) → List ℕ → List ℕ → Type 0
+AreChained rest [] after = Unit {0}
+AreChained rest (k ∷ ks) after = (rest k ≡ ks ++ after) × AreChained rest ks after
+
+-- each of these parts is followed by the others
+abbrev pub AllFollowed : (ℕ → List ℕ) → List ℕ → List ℕ → Type 0
+AllFollowed rest after ks = All (λ k. rest k ≡ after) ks
+
+-- What follows the children of a part, where these parts follow the part itself. A capturing group, a turn, an atomic
+-- group and a lookaround are frames, at whose end none follows.
+abbrev pub IsLinked : (ℕ → List ℕ) → List ℕ → Node → Type 0
+IsLinked rest after (node.Seq kids) = AreChained rest kids after
+IsLinked rest after (node.Group None branches) = AllFollowed rest after branches
+IsLinked rest after (node.Group (Some n) branches) = AllFollowed rest [] branches
+IsLinked rest after (node.Repeat body min max lazy) = rest body ≡ []
+IsLinked rest after (node.Atomic branches) = AllFollowed rest [] branches
+IsLinked rest after (node.Look ahead positive once branches) = AllFollowed rest [] branches
+IsLinked rest after _ = Unit {0}
+
+-- the node of a part
+pub record IsNode (c : Ground) (q : ℕ) (n : Node) : Type 0 where
+  pub is : nest c.trees n ≡ tree_of c q
+  pub below : All (λ k. k < q) (kids_of n)
+  pub linked : IsLinked c.rest (c.rest q) n
+  pub classes : All (λ k. k < c.class_count) (classes_of n)
+  pub ordered : IsOrdered n
+  pub few : length (kids_of n) ≤ 4294967295
+  -- the groups that it names, and its own, have registers
+  pub named : All (λ k. (0 < k) × (k ≤ c.setting.groups)) (named_by n)
+  pub numbered : All (λ k. (0 < k) × (k ≤ c.setting.groups)) (numbers_of n)
+
+-- there is no place, or one that stands
+abbrev pub StandsIf : Ground → Option ℕ → Type 0
+StandsIf c None = Unit {0}
+StandsIf c (Some p) = c.stands p ≡ true
+
+-- What holds of all places and parts.
+pub record IsGround (c : Ground) : Type 0 where
+  -- all forms are built
+  pub built : (q : ℕ) → q ≤ c.root → IsBuilt (tree_of c q)
+  pub whole : tree_of c c.root ≡ c.setting.whole
+  pub last : c.rest c.root ≡ []
+  pub inside : (q : ℕ) → q ≤ c.root → All (λ p. p ≤ c.root) (c.rest q)
+  pub chained : (q p : ℕ) (ps : List ℕ) → q ≤ c.root → c.rest q ≡ p ∷ ps → c.rest p ≡ ps
+  pub few : match_limit c.setting ≤ 4294967295
+  pub registers : c.setting.groups ≤ 65535
+  pub short : length c.setting.subject < 4294967295
+  pub within : (p : ℕ) → c.stands p ≡ true → p ≤ length c.setting.subject
+  -- an item goes forward, and the character before the place after it begins at its place
+  pub forward : (item : Item) (p q : ℕ) → c.stands p ≡ true → after_item c.setting.scene item p ≡ Some q →
+      (p < q) × (c.stands q ≡ true) × (place_before c.setting.scene q ≡ p)
+  pub breaks : (p : ℕ) → c.stands p ≡ true → StandsIf c (after_break c.setting.scene p)
+  pub refers : (from to p : ℕ) (caseless : Bool) → c.stands from ≡ true → c.stands to ≡ true → c.stands p ≡ true →
+      StandsIf c (after_ref c.setting.scene from to caseless p)
+  pub backward : (p : ℕ) → c.stands p ≡ true → 0 < p → (place_before c.setting.scene p < p) × (c.stands (place_before c.setting.scene p) ≡ true)
+  pub off : c.setting.matching.«partial» ≡ Off

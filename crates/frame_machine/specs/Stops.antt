@@ -1,0 +1,143 @@
+-- With what the machine stops, and where it goes.
+use Rattle.std.specs.Prelude.{◌≡◌, ◌≤◌, ℕ, ◌+◌, ◌-◌, if◌then◌else◌, Bool, true, false, not, ◌&&◌, ◌||◌, ◌==◌, nat_le, nat_lt, length, List, [], ◌∷◌, Option, Some, None}
+use Rattle.pat_tree.specs.declared.nodes.Item.{Item}
+use Rattle.pat_tree.specs.declared.nodes.AnchorKind.{AnchorKind}
+use Rattle.pat_tree.specs.Nested as tree
+use Rattle.pat_tree.specs.Nested.{Nested}
+use Rattle.match_items.specs.Items.{after_item, after_ref, longest_run, earliest}
+use Rattle.frame_store.specs.declared.records.Record.{Record}
+use Rattle.frame_store.specs.declared.registers.Span.{Span}
+use Rattle.frame_store.specs.Captures.{Captures}
+use Rattle.frame_store.specs.Entry.{Site, Kept, Entry, TurnOpen, TurnOrExit}
+use Rattle.frame_machine.specs.declared.machine.Next.{Next}
+use Rattle.frame_machine.specs.declared.machine.Next.TheVariants.{Enter, Fewer, More, Back}
+use Rattle.frame_machine.specs.declared.machine.Spot.{Spot}
+use Rattle.frame_machine.specs.declared.machine.Stop.{Stop}
+use Rattle.frame_machine.specs.declared.machine.Stop.TheVariants as stop
+use Rattle.frame_machine.specs.Setting.{Setting, notempty, notempty_atstart, endanchored}
+use Rattle.frame_machine.specs.PlaceAnswer.{Walked, Failed, Exhausted, Matched, MatchLimit, FrameLimit, answers, Outcome}
+use Rattle.frame_machine.specs.Ground.{Ground, next_of}
+use Rattle.frame_machine.specs.Machine.{mark_of, kept_at, less, end_of, towards}
+
+-- what a match gives
+abbrev pub spot_outcome : Spot → Captures → Outcome
+spot_outcome spot caps = record { keep = spot.keep; to = spot.place; mark = mark_of spot.mark; caps = caps }
+
+-- what the search answers where the machine stops so; want of memory may come at any time
+abbrev pub IsStop : Stop → Spot → Captures → Walked → Type 0
+IsStop stop.Match spot caps w = w ≡ answers (Matched (spot_outcome spot caps))
+IsStop stop.NoMatch spot caps w = w ≡ answers (Failed Exhausted)
+IsStop stop.MatchLimit spot caps w = w ≡ answers MatchLimit
+IsStop stop.FrameLimit spot caps w = w ≡ answers FrameLimit
+IsStop stop.Memory spot caps w = Unit {0}
+
+-- a turn that began at one place after so many took nothing, and no further turn is owed or bounded
+abbrev pub took_nothing : ℕ → Option ℕ → ℕ → ℕ → ℕ → Bool
+took_nothing low None count from to = nat_le (low - count) 1 && (from == to)
+took_nothing low (Some n) count from to = false
+
+-- the path as a record kept it
+abbrev pub restored : Spot → Site → Kept → Spot
+restored spot site kept = record {
+  place = kept.place;
+  keep = kept.keep;
+  early = kept.early;
+  units = kept.units;
+  mark = kept.mark;
+  passed = kept.passed;
+  frame = site.link;
+  left = spot.left;
+}
+
+-- with one more unit
+abbrev pub held_spot : Spot → Spot
+held_spot spot = record spot { units = spot.units + 1 }
+
+-- why no unit more is held
+abbrev pub IsHeldStop : Stop → ℕ → ℕ → Type 0
+IsHeldStop stop.FrameLimit limit units = limit ≤ units
+IsHeldStop stop.Memory limit units = Unit {0}
+IsHeldStop _ limit units = ⊥
+
+-- a record of an event at a part
+abbrev pub record_at : Spot → ℕ → ℕ → ℕ → ℕ → ℕ → Record
+record_at spot kind node count from to = record {
+  kind = kind;
+  slot = 0;
+  node = node;
+  link = spot.frame;
+  mark = spot.mark;
+  passed = spot.passed;
+  units = spot.units;
+  count = count;
+  place = spot.place;
+  keep = spot.keep;
+  early = spot.early;
+  from = from;
+  to = to;
+}
+
+-- where a reference leads, whose first set group has captured this
+abbrev pub referred : Ground → ℕ → Option Span → Bool → Option ℕ
+referred c place None caseless = if c.setting.options.match_unset_backref then Some place else None
+referred c place (Some span) caseless = after_ref c.setting.scene span.from span.to caseless place
+
+-- where a simple assertion leads that holds or not
+abbrev pub held_next : Ground → ℕ → Bool → Next
+held_next c q true = towards (next_of c q)
+held_next c q false = Back
+
+abbrev pub held_early : Ground → AnchorKind → Spot → Bool → Spot
+held_early c kind spot true = record spot { early = earliest c.setting.scene kind spot.place spot.early }
+held_early c kind spot false = spot
+
+-- where a sequence begins
+abbrev pub part_next : Ground → ℕ → List ℕ → Next
+part_next c q [] = towards (next_of c q)
+part_next c q (p ∷ ps) = Enter p
+
+-- where a repeat of one item leads
+abbrev pub many_next : Ground → ℕ → Item → ℕ → Option ℕ → Bool → ℕ → Next
+many_next c q item low high lazily place =
+    let least : ℕ = end_of place (longest_run c.setting.scene item (Some low) place) in
+    if nat_lt (length (longest_run c.setting.scene item (Some low) place)) low then Back
+    else if lazily then More q low least
+    else Fewer q least (end_of least (longest_run c.setting.scene item (less low high) least))
+
+-- the maximum of a repeat of one item
+abbrev pub IsMost : Nested → Option ℕ → Type 0
+IsMost (tree.one_repeat item low high lazily) most = high ≡ most
+IsMost _ most = ⊥
+
+-- what a repeat of one item takes at a place
+abbrev pub IsFurther : Ground → Nested → ℕ → Option ℕ → Type 0
+IsFurther c (tree.one_repeat item low high lazily) at to = to ≡ after_item c.setting.scene item at
+IsFurther c _ at to = ⊥
+
+-- where a lazy repeat of one item leads that takes a further item, if it does
+abbrev pub more_next : Record → Option ℕ → Next
+more_next r None = Back
+more_next r (Some p) = More r.node (r.count + 1) p
+
+-- the number of a capturing group
+abbrev pub IsNumber : Nested → ℕ → Type 0
+IsNumber (tree.group (Some n) ts) number = n ≡ number
+IsNumber _ number = ⊥
+
+-- an outcome from one place to another is admitted (pcre2api, "Option bits for pcre2_match()")
+abbrev pub admitted : Setting → ℕ → ℕ → Bool
+admitted g keep place =
+    not ((keep == place) && (notempty g || notempty_atstart g && (keep == g.start))) && not (endanchored g && not (place == length g.subject))
+
+-- what a turn leaves
+abbrev pub turn_entry : Spot → ℕ → ℕ → Bool → Entry
+turn_entry spot q count true = TurnOrExit (record { node = q; link = spot.frame }) (kept_at spot) count
+turn_entry spot q count false = TurnOpen (record { node = q; link = spot.frame }) (kept_at spot) count
+
+abbrev pub moved_next : Ground → ℕ → Option ℕ → Next
+moved_next c q None = Back
+moved_next c q (Some p) = towards (next_of c q)
+
+abbrev pub moved_spot : Spot → Option ℕ → Spot
+moved_spot spot None = spot
+moved_spot spot (Some p) = record spot { place = p }

@@ -1,0 +1,97 @@
+//! Back to the newest record.
+ghost use Rattle.std.specs.Prelude.{◌≡◌, ◌≤◌, ◌<◌, ◌+◌, max, All, IfOk, IfErr, MatchOption, Some, true, [], ◌∷◌};
+ghost use Rattle.frame_store.specs.Entry.{entries, entry_of};
+ghost use Rattle.frame_store.specs.Undo.{taken_back, HasSlot};
+ghost use Rattle.frame_machine.specs.Ground.{tree_of};
+ghost use Rattle.frame_machine.specs.Machine.{IsValid, Advances, IsMany, conf, ahead};
+ghost use Rattle.frame_machine.specs.Moves.{tread};
+ghost use Rattle.frame_machine.specs.Stops.{IsStop, IsFurther, more_next};
+
+use crate::enter::go_on;
+use crate::machine::{Next, Spot, Stop};
+use crate::searchable::Searchable;
+use frame_store::kinds::{
+    KIND_FEWER_ITEMS, KIND_LATER_BRANCH, KIND_LATER_TURN, KIND_MORE_ITEMS, KIND_TURN_OR_EXIT,
+};
+use frame_store::{Record, Registers, Store};
+use pat_tree::Node;
+
+/// Takes the newest record off, and takes back what it wrote.
+fn pop(store: &mut Store, registers: &mut Registers) -> Option<Record>
+    requires { All (HasSlot registers.old) (entries store.old.records) }
+    ensures popped { MatchOption result (store.old.records ≡ []) (λ r. store.old.records ≡ r ∷ store.new.records) }
+    ensures back { MatchOption result (registers.new ≡ registers.old) (λ r. registers.new ≡ taken_back (entry_of r) registers.old) }
+    ensures peak { store.new.peak ≡ store.old.peak }
+{
+    let newest = match store.top() {
+        None => return None,
+        Some(newest) => *newest,
+    };
+    let height = store.len() - 1;
+    store.undo_to(height, registers);
+    Some(newest)
+}
+
+/// What a repeat of one item takes at a place.
+fn take_further<S: Searchable>(on: &S, part: u32, at: u64) -> Option<u64>
+    requires inside { part ≤ (S.searched on.now).root }
+    requires many { IsMany (S.searched on.now) (tree_of (S.searched on.now) part) }
+    requires place { (S.searched on.now).stands at ≡ true }
+    ensures { IsFurther (S.searched on.now) (tree_of (S.searched on.now) part) at result }
+{
+    match on.node(part) {
+        Node::OneRepeat { item, .. } => on.take(item, at),
+        _ => unreachable!(),
+    }
+}
+
+/// Where a lazy repeat of one item leads that takes a further item, if it does.
+fn more_or_back(kept: &Record, further: Option<u64>) -> Next
+    requires { kept.now.count < 4294967295 }
+    ensures { result ≡ more_next kept.now further }
+{
+    match further {
+        None => Next::Back,
+        Some(to) => Next::More(kept.node, kept.count + 1, to),
+    }
+}
+
+/// Goes back to the newest record.
+pub(crate) fn back<S: Searchable>(
+    on: &S,
+    spot: &mut Spot,
+    store: &mut Store,
+    registers: &mut Registers,
+) -> Result<Next, Stop>
+    requires valid { IsValid (S.searched on.now) (conf Next.Back spot.old (entries store.old.records) registers.old) }
+    ensures on { IfOk result (λ next. Advances (S.searched on.now) (conf Next.Back spot.old (entries store.old.records) registers.old) (conf next spot.new (entries store.new.records) registers.new)) }
+    ensures stop { IfErr result (λ stop. IsStop stop spot.new registers.new (tread (S.searched on.now).setting spot.old.left (ahead (S.searched on.now) (conf Next.Back spot.old (entries store.old.records) registers.old)))) }
+    ensures peak { store.new.peak ≤ max store.old.peak (S.searched on.now).setting.matching.frame_limit }
+{
+    let Some(newest) = pop(store, registers) else {
+        return Err(Stop::NoMatch);
+    };
+    if newest.kind == KIND_LATER_BRANCH {
+        spot.restore(&newest);
+        return Ok(Next::Branch(newest.node, newest.count));
+    }
+    if newest.kind == KIND_TURN_OR_EXIT {
+        spot.restore(&newest);
+        return Ok(go_on(on, newest.node));
+    }
+    if newest.kind == KIND_LATER_TURN {
+        spot.restore(&newest);
+        return Ok(Next::Begin(newest.node, newest.count, false));
+    }
+    if newest.kind == KIND_FEWER_ITEMS {
+        spot.restore(&newest);
+        let last = on.before(newest.to);
+        return Ok(Next::Fewer(newest.node, newest.from, last));
+    }
+    if newest.kind == KIND_MORE_ITEMS {
+        spot.restore(&newest);
+        let further = take_further(on, newest.node, newest.to);
+        return Ok(more_or_back(&newest, further));
+    }
+    Ok(Next::Back)
+}

@@ -1,0 +1,164 @@
+//! Where a frame or the pattern ends.
+ghost use Rattle.std.specs.Prelude.{◌≡◌, ◌≤◌, ◌<◌, ◌+◌, max, length, All, IfOk, IfErr, MatchOption, Some, [], ◌∷◌, reverse, slice_get, ◌⊎◌};
+ghost use Rattle.frame_store.specs.Entry.{Undo, entries, entry_of};
+ghost use Rattle.frame_machine.specs.Ground.{tree_of};
+ghost use Rattle.frame_machine.specs.Machine.{IsValid, Advances, IsCapture, conf, ahead};
+ghost use Rattle.frame_machine.specs.Moves.{tread};
+ghost use Rattle.frame_machine.specs.Stops.{IsStop, IsNumber, took_nothing, admitted};
+
+use crate::enter::go_on;
+use crate::machine::{Next, Spot, Stop, hold};
+use crate::repeats::turns_of;
+use crate::searchable::Searchable;
+use frame_store::kinds::{KIND_GROUP_OPEN, KIND_TURN_OPEN, KIND_TURN_OR_EXIT, KIND_UNDO};
+use frame_store::{Record, Registers, Span, Store};
+use pat_tree::Node;
+
+/// Whether an outcome is admitted that reaches from one place to another.
+fn is_admitted<S: Searchable>(on: &S, keep: u64, place: u64) -> bool
+    ensures { result ≡ admitted (S.searched on.now).setting keep place }
+{
+    let options = on.options();
+    let matching = on.matching();
+    let never_empty = options.notempty || matching.notempty;
+    let not_at_start = options.notempty_atstart || matching.notempty_atstart;
+    let is_empty = keep == place && (never_empty || not_at_start && keep == on.start());
+    let is_cut = (options.endanchored || matching.endanchored) && place != on.length();
+    !is_empty && !is_cut
+}
+
+/// Whether a turn took nothing after which only the exit follows.
+fn is_over(min: u32, max: Option<u32>, count: u32, from: u64, to: u64) -> bool
+    ensures { result ≡ took_nothing min max count from to }
+{
+    match max {
+        None => min.saturating_sub(count) <= 1 && from == to,
+        Some(_) => false,
+    }
+}
+
+/// The number of the capturing group that a part is.
+fn number_of<S: Searchable>(on: &S, part: u32) -> u16
+    requires inside { part ≤ (S.searched on.now).root }
+    requires capture { IsCapture (S.searched on.now) (tree_of (S.searched on.now) part) }
+    ensures is { IsNumber (tree_of (S.searched on.now) part) result }
+    ensures some { 0 < result }
+    ensures few { result ≤ (S.searched on.now).setting.groups }
+{
+    match on.node(part) {
+        Node::Group {
+            number: Some(number),
+            ..
+        } => *number,
+        _ => unreachable!(),
+    }
+}
+
+/// The record that keeps what a register holds before it is written.
+fn undo_record(spot: &Spot, link: u32, node: u32, slot: u16, old: Option<Span>) -> Record
+    ensures { entry_of result ≡ Undo (record { node = node; link = link }) slot old }
+{
+    let mut undo = spot.record(KIND_UNDO, node, 0, 0, 0);
+    undo.slot = slot;
+    undo.link = link;
+    match old {
+        None => undo,
+        Some(span) => {
+            undo.count = 1;
+            undo.from = span.from;
+            undo.to = span.to;
+            undo
+        }
+    }
+}
+
+/// Writes a capture where its group has ended.
+fn close<S: Searchable>(
+    on: &S,
+    frame: &Record,
+    height: usize,
+    spot: &mut Spot,
+    store: &mut Store,
+    registers: &mut Registers,
+) -> Result<Next, Stop>
+    requires valid { IsValid (S.searched on.now) (conf Next.End spot.old (entries store.old.records) registers.old) }
+    requires frame { spot.old.frame ≡ height + 1 }
+    requires at { slice_get (reverse store.old.records) height ≡ Some frame.now }
+    requires kind { frame.now.kind ≡ KIND_GROUP_OPEN }
+    ensures on { IfOk result (λ next. Advances (S.searched on.now) (conf Next.End spot.old (entries store.old.records) registers.old) (conf next spot.new (entries store.new.records) registers.new)) }
+    ensures stop { IfErr result (λ stop. IsStop stop spot.new registers.new (tread (S.searched on.now).setting spot.old.left (ahead (S.searched on.now) (conf Next.End spot.old (entries store.old.records) registers.old)))) }
+    ensures peak { store.new.peak ≤ max store.old.peak (S.searched on.now).setting.matching.frame_limit }
+{
+    let number = number_of(on, frame.node);
+    let old = registers.get(u32::from(number));
+    let undo = undo_record(spot, frame.link, frame.node, number, old);
+    if let Err(stop) = hold(on.unit_limit(), undo, spot, store) {
+        return Err(stop);
+    }
+    registers.set(
+        u32::from(number),
+        Some(Span {
+            from: frame.place,
+            to: spot.place,
+        }),
+    );
+    spot.frame = frame.link;
+    Ok(go_on(on, frame.node))
+}
+
+/// Goes on where a turn of a repeat has ended.
+fn turned<S: Searchable>(
+    on: &S,
+    frame: &Record,
+    height: usize,
+    spot: &mut Spot,
+    store: &mut Store,
+    registers: &Registers,
+) -> Result<Next, Stop>
+    requires valid { IsValid (S.searched on.now) (conf Next.End spot.old (entries store.old.records) registers.now) }
+    requires frame { spot.old.frame ≡ height + 1 }
+    requires at { slice_get (reverse store.old.records) height ≡ Some frame.now }
+    requires kind { (frame.now.kind ≡ KIND_TURN_OPEN) ⊎ (frame.now.kind ≡ KIND_TURN_OR_EXIT) }
+    ensures on { IfOk result (λ next. Advances (S.searched on.now) (conf Next.End spot.old (entries store.old.records) registers.now) (conf next spot.new (entries store.new.records) registers.now)) }
+    ensures stop { IfErr result (λ stop. IsStop stop spot.new registers.now (tread (S.searched on.now).setting spot.old.left (ahead (S.searched on.now) (conf Next.End spot.old (entries store.old.records) registers.now)))) }
+    ensures peak { store.new.peak ≤ max store.old.peak (S.searched on.now).setting.matching.frame_limit }
+{
+    let turns = turns_of(on, frame.node);
+    spot.frame = frame.link;
+    if is_over(turns.min, turns.max, frame.count, frame.place, spot.place) {
+        return Ok(go_on(on, frame.node));
+    }
+    Ok(Next::Offer(frame.node, frame.count + 1))
+}
+
+/// Goes on where the innermost frame, or the pattern, has ended.
+pub(crate) fn finish<S: Searchable>(
+    on: &S,
+    spot: &mut Spot,
+    store: &mut Store,
+    registers: &mut Registers,
+) -> Result<Next, Stop>
+    requires valid { IsValid (S.searched on.now) (conf Next.End spot.old (entries store.old.records) registers.old) }
+    ensures on { IfOk result (λ next. Advances (S.searched on.now) (conf Next.End spot.old (entries store.old.records) registers.old) (conf next spot.new (entries store.new.records) registers.new)) }
+    ensures stop { IfErr result (λ stop. IsStop stop spot.new registers.new (tread (S.searched on.now).setting spot.old.left (ahead (S.searched on.now) (conf Next.End spot.old (entries store.old.records) registers.old)))) }
+    ensures peak { store.new.peak ≤ max store.old.peak (S.searched on.now).setting.matching.frame_limit }
+{
+    if spot.frame == 0 {
+        if is_admitted(on, spot.keep, spot.place) {
+            return Err(Stop::Match);
+        }
+        return Ok(Next::Back);
+    }
+    let height = spot.frame as usize - 1;
+    let frame = *store.get(height);
+    if frame.kind == KIND_GROUP_OPEN {
+        return close(on, &frame, height, spot, store, registers);
+    }
+    if frame.kind == KIND_TURN_OPEN {
+        return turned(on, &frame, height, spot, store, registers);
+    }
+    if frame.kind == KIND_TURN_OR_EXIT {
+        return turned(on, &frame, height, spot, store, registers);
+    }
+    Ok(Next::Back)
+}

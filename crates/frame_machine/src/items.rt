@@ -1,0 +1,130 @@
+//! Repeats of one item.
+ghost use Rattle.std.specs.Prelude.{◌≡◌, ◌≤◌, ◌<◌, ◌+◌, max, length, All, IfOk, IfErr, OnOk, Some, true, false, []};
+ghost use Rattle.frame_store.specs.Entry.{entries, entry_of};
+ghost use Rattle.pat_tree.specs.Nested as tree;
+ghost use Rattle.pat_tree.specs.Rules.{class_in, AtMost};
+ghost use Rattle.match_items.specs.Items.{is_none_left, longest_run};
+ghost use Rattle.frame_machine.specs.Ground.{tree_of};
+ghost use Rattle.frame_machine.specs.Machine.{IsValid, Advances, IsRepeat, IsMany, conf, ahead, less};
+ghost use Rattle.frame_machine.specs.Moves.{tread};
+ghost use Rattle.frame_machine.specs.Stops.{IsStop, IsMost, many_next};
+
+use crate::enter::go_on;
+use crate::machine::{Next, Spot, Stop, hold};
+use crate::repeats::{is_last, widen};
+use crate::searchable::Searchable;
+use frame_store::kinds::{KIND_FEWER_ITEMS, KIND_MORE_ITEMS};
+use frame_store::{Registers, Store};
+use pat_tree::{Item, Node};
+
+/// A maximum after so many.
+fn less(max: Option<u32>, count: u32) -> Option<u32>
+    ensures { result ≡ less count max }
+{
+    match max {
+        None => None,
+        Some(max) => Some(max.saturating_sub(count)),
+    }
+}
+
+/// Where a repeat of one item leads: to its longest run, or where it is lazy to its shortest.
+pub(crate) fn many<S: Searchable>(
+    on: &S,
+    at: u32,
+    item: &Item,
+    min: u32,
+    max: Option<u32>,
+    lazy: bool,
+    place: u64,
+) -> Next
+    requires place { (S.searched on.now).stands place ≡ true }
+    requires class { All (λ n. n < (S.searched on.now).class_count) (class_in item.now) }
+    ensures { result ≡ many_next (S.searched on.now) at item.now min max lazy place }
+{
+    let first = on.run(item, place, Some(min));
+    if first.count < min {
+        return Next::Back;
+    }
+    if lazy {
+        return Next::More(at, min, first.to);
+    }
+    let rest = on.run(item, first.to, less(max, min));
+    Next::Fewer(at, first.to, rest.to)
+}
+
+/// The most that a repeat of one item takes.
+fn most_of<S: Searchable>(on: &S, part: u32) -> Option<u32>
+    requires inside { part ≤ (S.searched on.now).root }
+    requires many { IsMany (S.searched on.now) (tree_of (S.searched on.now) part) }
+    ensures { IsMost (tree_of (S.searched on.now) part) result }
+{
+    match on.node(part) {
+        Node::OneRepeat { max, .. } => widen(*max),
+        _ => unreachable!(),
+    }
+}
+
+/// Goes on after the run of a greedy repeat that ends at a place, and leaves the shorter ones.
+pub(crate) fn fewer<S: Searchable>(
+    on: &S,
+    at: u32,
+    least: u64,
+    last: u64,
+    spot: &mut Spot,
+    store: &mut Store,
+    registers: &Registers,
+) -> Result<Next, Stop>
+    requires valid { IsValid (S.searched on.now) (conf (Next.Fewer at least last) spot.old (entries store.old.records) registers.now) }
+    ensures on { IfOk result (λ next. Advances (S.searched on.now) (conf (Next.Fewer at least last) spot.old (entries store.old.records) registers.now) (conf next spot.new (entries store.new.records) registers.now)) }
+    ensures stop { IfErr result (λ stop. IsStop stop spot.new registers.now (tread (S.searched on.now).setting spot.old.left (ahead (S.searched on.now) (conf (Next.Fewer at least last) spot.old (entries store.old.records) registers.now)))) }
+    ensures peak { store.new.peak ≤ max store.old.peak (S.searched on.now).setting.matching.frame_limit }
+{
+    if spot.left == 0 {
+        return Err(Stop::MatchLimit);
+    }
+    if last <= least {
+        spot.left -= 1;
+        spot.place = last;
+        return Ok(go_on(on, at));
+    }
+    let record = spot.record(KIND_FEWER_ITEMS, at, 0, least, last);
+    if let Err(stop) = hold(on.unit_limit(), record, spot, store) {
+        return Err(stop);
+    }
+    spot.left -= 1;
+    spot.place = last;
+    Ok(go_on(on, at))
+}
+
+/// Goes on after so many items of a lazy repeat, and leaves the longer runs.
+pub(crate) fn more<S: Searchable>(
+    on: &S,
+    at: u32,
+    count: u32,
+    last: u64,
+    spot: &mut Spot,
+    store: &mut Store,
+    registers: &Registers,
+) -> Result<Next, Stop>
+    requires valid { IsValid (S.searched on.now) (conf (Next.More at count last) spot.old (entries store.old.records) registers.now) }
+    ensures on { IfOk result (λ next. Advances (S.searched on.now) (conf (Next.More at count last) spot.old (entries store.old.records) registers.now) (conf next spot.new (entries store.new.records) registers.now)) }
+    ensures stop { IfErr result (λ stop. IsStop stop spot.new registers.now (tread (S.searched on.now).setting spot.old.left (ahead (S.searched on.now) (conf (Next.More at count last) spot.old (entries store.old.records) registers.now)))) }
+    ensures peak { store.new.peak ≤ max store.old.peak (S.searched on.now).setting.matching.frame_limit }
+{
+    let most = most_of(on, at);
+    if spot.left == 0 {
+        return Err(Stop::MatchLimit);
+    }
+    if is_last(most, count) {
+        spot.left -= 1;
+        spot.place = last;
+        return Ok(go_on(on, at));
+    }
+    let record = spot.record(KIND_MORE_ITEMS, at, count, 0, last);
+    if let Err(stop) = hold(on.unit_limit(), record, spot, store) {
+        return Err(stop);
+    }
+    spot.left -= 1;
+    spot.place = last;
+    Ok(go_on(on, at))
+}

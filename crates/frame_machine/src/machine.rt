@@ -1,0 +1,127 @@
+//! The machine's state.
+ghost use Rattle.std.specs.Prelude.{◌≡◌, ◌≤◌, ◌<◌, ◌∷◌, max, length, OnOk, OnErr, IfErr, Some};
+ghost use Rattle.frame_store.specs.Entry.{site_of, kept_of};
+ghost use Rattle.frame_machine.specs.Stops.{IsHeldStop, held_spot, record_at, restored};
+
+use frame_store::{Record, Store};
+
+/// What the machine does next.
+#[derive(Clone, Copy)]
+pub(crate) enum Next {
+    /// Run this part.
+    Enter(u32),
+    /// Try this branch of a group, counted from 0, and then those after it.
+    Branch(u32, u32),
+    /// Offer a further turn of this repeat, and its exit, after so many turns.
+    Offer(u32, u32),
+    /// Begin a further turn of this repeat after so many turns. The exit is left to try where it is set.
+    Begin(u32, u32, bool),
+    /// Go on after this repeat of one item at the last place. Then those before it are left, back to the least.
+    Fewer(u32, u64, u64),
+    /// Go on after this repeat of one item at the last place, after so many items. Then further items are left.
+    More(u32, u32, u64),
+    /// The innermost frame, or the pattern, has ended.
+    End,
+    /// Go back to the newest record.
+    Back,
+}
+
+/// Where the path stands, and how many Steps are left.
+#[derive(Clone, Copy)]
+pub(crate) struct Spot {
+    pub place: u64,
+    pub keep: u64,
+    pub early: u64,
+    pub units: u32,
+    /// The number of the last mark, and 1 more; 0 where there is none.
+    pub mark: u32,
+    pub passed: u32,
+    /// The height of the innermost frame, or 0.
+    pub frame: u32,
+    pub left: u32,
+}
+
+/// Why the machine stops.
+#[derive(Clone, Copy)]
+pub(crate) enum Stop {
+    Match,
+    NoMatch,
+    MatchLimit,
+    FrameLimit,
+    Memory,
+}
+
+impl Spot {
+    /// At a place, with nothing held.
+    pub(crate) fn at(place: u64) -> Spot {
+        Spot {
+            place,
+            keep: place,
+            early: place,
+            units: 0,
+            mark: 0,
+            passed: 0,
+            frame: 0,
+            left: 0,
+        }
+    }
+
+    /// The record of an event at a part, which keeps the path as it is.
+    pub(crate) fn record(&self, kind: u8, node: u32, count: u32, from: u64, to: u64) -> Record
+        ensures { result ≡ record_at self.now kind node count from to }
+    {
+        Record {
+            kind,
+            slot: 0,
+            node,
+            link: self.frame,
+            mark: self.mark,
+            passed: self.passed,
+            units: self.units,
+            count,
+            place: self.place,
+            keep: self.keep,
+            early: self.early,
+            from,
+            to,
+        }
+    }
+
+    /// Goes back to the path that a record kept.
+    pub(crate) fn restore(&mut self, kept: &Record)
+        ensures { self.new ≡ restored self.old (site_of kept.now) (kept_of kept.now) }
+    {
+        self.place = kept.place;
+        self.keep = kept.keep;
+        self.early = kept.early;
+        self.units = kept.units;
+        self.mark = kept.mark;
+        self.passed = kept.passed;
+        self.frame = kept.link;
+    }
+}
+
+/// Holds a unit more, and pushes a record of it.
+pub(crate) fn hold(
+    limit: u32,
+    event: Record,
+    spot: &mut Spot,
+    store: &mut Store,
+) -> Result<(), Stop>
+    requires { length store.old.records ≤ spot.old.units }
+    ensures room { OnOk result (spot.old.units < limit) }
+    ensures spot { OnOk result (spot.new ≡ held_spot spot.old) }
+    ensures pushed { OnOk result (store.new.records ≡ event ∷ store.old.records) }
+    ensures stop { IfErr result (λ stop. IsHeldStop stop limit spot.old.units) }
+    ensures kept { OnErr result (spot.new ≡ spot.old) }
+    ensures peak { store.new.peak ≤ max store.old.peak limit }
+{
+    if spot.units >= limit {
+        return Err(Stop::FrameLimit);
+    }
+    if store.push(event).is_err() {
+        return Err(Stop::Memory);
+    }
+    spot.units += 1;
+    Ok(())
+}

@@ -1,0 +1,75 @@
+//! The machine's loop, and the workspace that it runs in.
+ghost use Rattle.std.specs.Prelude.{◌≡◌, ◌≤◌, ◌<◌, true, max, length, replicate, None, [], IfOk, IfErr, OnOk, OnErr};
+ghost use Rattle.frame_store.specs.Captures.{capture};
+ghost use Rattle.frame_store.specs.Entry.{entries};
+ghost use Rattle.frame_machine.specs.Machine.{IsValid, Advances, conf, ahead, mark_of};
+ghost use Rattle.frame_machine.specs.Moves.{tread};
+ghost use Rattle.frame_machine.specs.PlaceAnswer.{place_answer};
+ghost use Rattle.frame_machine.specs.Stops.{IsStop};
+
+use crate::back::back;
+use crate::ends::finish;
+use crate::enter::enter;
+use crate::items::{fewer, more};
+use crate::machine::{Next, Spot, Stop};
+use crate::repeats::{begin, branch, offer};
+use crate::searchable::Searchable;
+use frame_store::{Registers, Store};
+
+/// One turn of the machine's loop.
+fn turn<S: Searchable>(
+    on: &S,
+    next: Next,
+    spot: &mut Spot,
+    store: &mut Store,
+    registers: &mut Registers,
+) -> Result<Next, Stop>
+    requires valid { IsValid (S.searched on.now) (conf next spot.old (entries store.old.records) registers.old) }
+    ensures on { IfOk result (λ to. Advances (S.searched on.now) (conf next spot.old (entries store.old.records) registers.old) (conf to spot.new (entries store.new.records) registers.new)) }
+    ensures stop { IfErr result (λ stop. IsStop stop spot.new registers.new (tread (S.searched on.now).setting spot.old.left (ahead (S.searched on.now) (conf next spot.old (entries store.old.records) registers.old)))) }
+    ensures peak { store.new.peak ≤ max store.old.peak (S.searched on.now).setting.matching.frame_limit }
+{
+    match next {
+        Next::Enter(at) => enter(on, at, spot, store, registers),
+        Next::Branch(at, index) => branch(on, at, index, spot, store, registers),
+        Next::Offer(at, count) => offer(on, at, count, spot, store, registers),
+        Next::Begin(at, count, exits) => begin(on, at, count, exits, spot, store, registers),
+        Next::Fewer(at, least, last) => fewer(on, at, least, last, spot, store, registers),
+        Next::More(at, count, last) => more(on, at, count, last, spot, store, registers),
+        Next::End => finish(on, spot, store, registers),
+        Next::Back => back(on, spot, store, registers),
+    }
+}
+
+/// Searches at a place, from no records and no captures, and says with what the machine stops.
+pub(crate) fn run<S: Searchable>(
+    on: &S,
+    place: u64,
+    spot: &mut Spot,
+    store: &mut Store,
+    registers: &mut Registers,
+) -> Stop
+    requires place { (S.searched on.now).stands place ≡ true }
+    requires empty { store.old.records ≡ [] }
+    requires unset { registers.old ≡ replicate (S.searched on.now).setting.groups None }
+    ensures stop { IsStop result spot.new registers.new (place_answer (S.searched on.now).setting place) }
+    ensures peak { store.new.peak ≤ max store.old.peak (S.searched on.now).setting.matching.frame_limit }
+{
+    *spot = Spot {
+        place,
+        keep: place,
+        early: place,
+        units: 0,
+        mark: 0,
+        passed: 0,
+        frame: 0,
+        left: on.step_limit(),
+    };
+    let mut next = Next::Enter(on.root());
+    'turns: loop {
+        match turn(on, next, spot, store, registers) {
+            Ok(to) => next = to,
+            Err(stop) => return stop,
+        }
+    }
+}

@@ -1,0 +1,89 @@
+//! What a search goes over.
+ghost use Rattle.std.specs.Prelude.{◌≡◌, ◌<◌, ◌≤◌, true, All, length};
+ghost use Rattle.pat_tree.specs.Rules.{class_in};
+ghost use Rattle.match_items.specs.Items.{after_item, after_break, after_ref, longest_run, place_before, holds, earliest};
+ghost use Rattle.frame_machine.specs.Setting.{match_limit};
+ghost use Rattle.frame_machine.specs.Ground.{Ground, IsNode, IsGround, next_of};
+ghost use Rattle.frame_machine.specs.Machine.{end_of};
+
+use pat_tree::{AnchorKind, Item, MatchOptions, Node, Options};
+
+/// A run of one item.
+#[derive(Clone, Copy)]
+pub struct Run {
+    pub count: u32,
+    /// The place after it.
+    pub to: u64,
+}
+
+/// A pattern's numbered parts and the characters of a subject.
+pub trait Searchable {
+    ghost searched: { Self → Ground };
+
+    fn root(&self) -> u32
+        ensures { result ≡ (searched self.now).root };
+
+    fn groups(&self) -> u32
+        ensures { result ≡ (searched self.now).setting.groups };
+
+    fn node(&self, part: u32) -> &Node
+        requires { part ≤ (searched self.now).root }
+        ensures { IsNode (searched self.now) part result.now };
+
+    fn next(&self, part: u32) -> Option<u32>
+        requires { part ≤ (searched self.now).root }
+        ensures { result ≡ next_of (searched self.now) part };
+
+    fn options(&self) -> &Options
+        ensures { result.now ≡ (searched self.now).setting.scene.options };
+
+    fn matching(&self) -> &MatchOptions
+        ensures { result.now ≡ (searched self.now).setting.scene.matching };
+
+    fn start(&self) -> u64
+        ensures { result ≡ (searched self.now).setting.scene.start };
+
+    fn length(&self) -> u64
+        ensures { result ≡ length (searched self.now).setting.scene.subject };
+
+    fn take(&self, item: &Item, at: u64) -> Option<u64>
+        requires place { (searched self.now).stands at ≡ true }
+        requires class { All (λ n. n < (searched self.now).class_count) (class_in item.now) }
+        ensures { result ≡ after_item (searched self.now).setting.scene item.now at };
+
+    fn run(&self, item: &Item, at: u64, most: Option<u32>) -> Run
+        requires place { (searched self.now).stands at ≡ true }
+        requires class { All (λ n. n < (searched self.now).class_count) (class_in item.now) }
+        ensures count { result.count ≡ length (longest_run (searched self.now).setting.scene item.now most at) }
+        ensures to { result.to ≡ end_of at (longest_run (searched self.now).setting.scene item.now most at) };
+
+    fn take_break(&self, at: u64) -> Option<u64>
+        requires { (searched self.now).stands at ≡ true }
+        ensures { result ≡ after_break (searched self.now).setting.scene at };
+
+    fn refer(&self, from: u64, to: u64, caseless: bool, at: u64) -> Option<u64>
+        requires from { (searched self.now).stands from ≡ true }
+        requires to { (searched self.now).stands to ≡ true }
+        requires place { (searched self.now).stands at ≡ true }
+        ensures { result ≡ after_ref (searched self.now).setting.scene from to caseless at };
+
+    fn holds(&self, kind: AnchorKind, at: u64) -> bool
+        requires { (searched self.now).stands at ≡ true }
+        ensures { result ≡ holds (searched self.now).setting.scene kind at };
+
+    fn earliest(&self, kind: AnchorKind, at: u64, early: u64) -> u64
+        requires { (searched self.now).stands at ≡ true }
+        ensures { result ≡ earliest (searched self.now).setting.scene kind at early };
+
+    fn before(&self, at: u64) -> u64
+        requires { (searched self.now).stands at ≡ true }
+        ensures { result ≡ place_before (searched self.now).setting.scene at };
+
+    fn step_limit(&self) -> u32
+        ensures { result ≡ match_limit (searched self.now).setting };
+
+    fn unit_limit(&self) -> u32
+        ensures { result ≡ (searched self.now).setting.scene.matching.frame_limit };
+
+    ghost sound: { (x : Self) → IsGround (searched x) };
+}
