@@ -3,3 +3,6 @@ mod LengthLaw
 pub mod LeadLemmas
 pub mod NodeLemmas
 pub mod BuiltLemmas
+pub mod OrderLemmas
+pub mod PassLemmas
+pub mod GroupLemmas

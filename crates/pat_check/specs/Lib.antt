@@ -7,3 +7,5 @@ pub mod HasLength
 pub mod Built
 pub mod Known
 pub mod Starts
+pub mod Order
+pub mod Passing

@@ -4,10 +4,14 @@ ghost use Rattle.pat_tree.specs.Parts.{tree_of};
 ghost use Rattle.char_sets.specs.Table.{IsTableOf};
 ghost use Rattle.pat_check.specs.Built.{IsBuilt};
 ghost use Rattle.pat_check.specs.Known.{IsByteSet, lead_set_of};
+ghost use Rattle.pat_check.specs.Lengths as lengths;
 ghost use Rattle.pat_check.specs.Nodes as nodes;
 ghost use Rattle.pat_check.specs.Starts.{lead_set_in};
 
 use crate::leads::lead_set;
+use crate::names::names_cr_or_lf;
+use crate::order::preorder;
+use crate::passing::can_be_empty;
 use byte_lanes::ByteSet;
 use char_sets::ClassTable;
 use pat_tree::{Memory, Steps, Tree};
@@ -21,6 +25,10 @@ pub struct Facts {
     /// The bytes that every match begins with, where they are known and each match takes one (pcre2api, "Option bits for
     /// pcre2_compile()", PCRE2_NO_START_OPTIMIZE).
     pub lead: Option<ByteSet>,
+    /// The pattern can match an empty text (pcre2api, "Information about a compiled pattern", PCRE2_INFO_MATCHEMPTY).
+    pub can_be_empty: bool,
+    /// CR or LF stands in the pattern, as a character or as an end of a range.
+    pub names_crlf: bool,
     /// The pattern holds a lookbehind.
     pub has_lookbehind: bool,
 }
@@ -47,11 +55,17 @@ pub fn check(alloc: Global, tree: &Tree, classes: &ClassTable) -> Result<Facts, 
     requires bytes { tree.now.options.utf ≡ false }
     requires table { IsTableOf tree.now classes.now }
     ensures lead { (fold : ℕ → ℕ) → IfOk result (λ facts. IsByteSet facts.lead (lead_set_of tree.now fold)) }
+    ensures empty { IfOk result (λ facts. facts.can_be_empty ≡ lengths.can_be_empty tree.now.options.match_unset_backref (tree_of tree.now)) }
+    ensures names { IfOk result (λ facts. facts.names_crlf ≡ nodes.names_cr_or_lf tree.now.classes (tree_of tree.now)) }
     ensures lookbehind { IfOk result (λ facts. facts.has_lookbehind ≡ nodes.has_lookbehind (tree_of tree.now)) }
 {
     let lead = lead_of_whole::<Brand>(alloc, tree, classes, Blank::new(1))?;
+    let order = preorder(alloc, tree)?;
+    let can_be_empty = can_be_empty(alloc, tree, &order)?;
     Ok(Facts {
         lead,
+        can_be_empty,
+        names_crlf: names_cr_or_lf(tree, &order),
         has_lookbehind: false,
     })
 }

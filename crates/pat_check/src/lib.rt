@@ -3,9 +3,13 @@
 #![tactic(auto)]
 
 mod facts;
+mod groups;
 mod item_bytes;
 mod laws;
 mod leads;
+mod names;
+mod order;
+mod passing;
 mod starts;
 
 pub use facts::{CheckError, Facts, check};

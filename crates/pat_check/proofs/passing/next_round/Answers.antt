@@ -1,0 +1,18 @@
+use Rattle.std.proofs.Common.{◌≡◌, ◌∙◌, ◌≤◌, None, map, take, length, ap, arith}
+use Rattle.std.proofs.Math.ListN.{get_or-map}
+use Rattle.std.proofs.lemmas.List.{take_all}
+use Rattle.pat_tree.specs.Nested.{trees}
+use Rattle.pat_tree.specs.Parts.{tree_of}
+use Rattle.pat_check.specs.Passing.{flagged, passes_at, place_of}
+use Rattle.pat_check.proofs.PassLemmas.{round_step}
+use Rattle.pat_check.proofs.passing.next_round.Goals as goal
+
+pub returns : goal.returns
+returns c d h n =
+    let t = c.args.tree.now in
+    let passing = c.in_ok-passing.passing.items in
+    let places = c.args.places.now in
+    let whole : length places ≤ c.loop-place.place-index = omega (arith, c.loop-place-test.false) in
+    let items : c.loop-place.next.items ≡ map (passes_at passing) places = c.loop-place.invariant ∙ ap (map (passes_at passing)) (take_all c.loop-place.place-index places whole) in
+    ap (λ xs. flagged xs n) items ∙ get_or-map (passes_at passing) places n None
+    ∙ round_step t.options.match_unset_backref c.args.any (tree_of t) (trees t.nodes) t.root d n c.args.can.now passing (place_of places n) c.requires.any c.in_ok-passing.ensures.count c.in_ok-passing.ensures.kept h (c.requires.places n)
