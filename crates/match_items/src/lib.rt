@@ -1,5 +1,5 @@
 //! One item, reference or simple assertion of a pattern at one place of a subject: what it takes, whether it holds, and
-//! whether the test reaches the subject's end (pcre2pattern, pcre2partial).
+//! whether the test reaches the subject's end (pcre2pattern, pcre2partial). No call takes memory.
 #![tactic(auto)]
 
 mod anchors;

@@ -18,9 +18,9 @@ use pat_tree::{Item, Newline, Steps};
 use std::sync::ledger::Ledger;
 
 /// The longest run of an item from a place on, of `max` characters at most; `u32::MAX` stands for no maximum (pcre2pattern,
-/// "Repetition"). It tells whether a test of the run reaches the subject's end: that of the first character that isn't taken where
-/// fewer than the maximum are, and at a last CR that may be the first half of a newline (pcre2partial). A class counts one test at each
-/// place where a character stands: at most one more than the run has.
+/// "Repetition"). It tells whether one of its tests reaches the subject's end: the one at the end, which is made where fewer than the
+/// maximum are taken, and that of a last CR that may be the first half of a newline (pcre2partial). A class counts one test at each
+/// place that is tried before the end: at most one more than the run has characters.
 ///
 /// Needs a subject of fewer than 4,294,967,295 bytes without UTF, a place in it, and a class of the table.
 pub fn run_len<L: Ledger>(
