@@ -4,4 +4,5 @@ pub mod Classes
 pub mod Groups
 pub mod Parts
 pub mod Reading
+pub mod Stack
 pub mod Rows
