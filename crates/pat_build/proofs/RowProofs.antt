@@ -1,0 +1,37 @@
+-- The worked rows compute.
+use Rattle.std.proofs.Common.{refl}
+use Rattle.byte_lanes.specs.Newlines.{stands}
+use Rattle.pat_lex.specs.Bytes.{run_end, numeral}
+use Rattle.pat_lex.specs.Names.{name_end}
+use Rattle.pat_lex.specs.Comments.{newline_at, first_newline, line_end, comment, blank_end, blanks_end}
+use Rattle.pat_lex.specs.Quantifiers.{is_counted, with_mode, counted}
+use Rattle.pat_lex.specs.Escapes.{everywhere, outside, octal, numbered_escape, longer, escape}
+use Rattle.pat_lex.specs.Targets.{named_reference, name_escape, digits_start, begins_number}
+use Rattle.pat_lex.specs.Classes.{posix_end, class_start, bracket, class_escape, in_class}
+use Rattle.pat_lex.specs.Settings.{set_by, unset_by, setting_closed, setting}
+use Rattle.pat_lex.specs.Verbs.{start_word, closed_word, limit, star_word}
+use Rattle.pat_lex.specs.Groups.{opened_by, named_group, angle, special, group}
+use Rattle.pat_lex.specs.Tokens.{quoted, rest, plain, token_at}
+use Rattle.pat_build.specs.State.{next}
+use Rattle.pat_build.specs.Options.{with_setting, with_item}
+use Rattle.pat_build.specs.Classes.{item, range_or_hyphen, from_character, from_set, class_parts, class_spec}
+use Rattle.pat_build.specs.Groups.{opened, captured, named, groups_of, named_by, places_named, missing}
+use Rattle.pat_build.specs.Reading.{quantified, closed, part_then, alternatives_from, sequence, alternatives, whole, started, reading, read_from, read}
+use Rattle.pat_build.specs.Rows.{WorkedRows}
+
+pub rows_hold : WorkedRows
+unfolding stands run_end numeral name_end newline_at first_newline line_end comment blank_end blanks_end is_counted with_mode counted everywhere outside octal numbered_escape longer escape named_reference name_escape digits_start begins_number posix_end class_start bracket class_escape in_class set_by unset_by setting_closed setting start_word closed_word limit star_word opened_by named_group angle special group quoted rest plain token_at next with_setting with_item item range_or_hyphen from_character from_set class_parts class_spec opened captured named groups_of named_by places_named missing quantified closed part_then alternatives_from sequence alternatives whole started reading read_from read
+rows_hold = record {
+  unclosed = refl;
+  backwards = refl;
+  range_backwards = refl;
+  two_names = refl;
+  two_quantifiers = refl;
+  no_group = refl;
+  left_out = refl;
+  no_minimum = refl;
+  class = refl;
+  cases = refl;
+  later_names = refl;
+  start_items = refl;
+}

@@ -1,0 +1,199 @@
+-- Each token takes the rest of a reading to one that stands for the same reading.
+use Rattle.std.proofs.Common.{◌≡◌, ℕ, suc, ◌+◌, ◌-◌, ◌*◌, true, false, List, [], ◌∷◌, ◌++◌, length, Option, Some, None, Result, Ok, Err, refl, sym, ap, ◌∙◌, append_assoc, append-nil, ◌⊎◌, inl, inr}
+use Rattle.pat_tree.specs.declared.names.NameEntry.{NameEntry}
+use Rattle.pat_tree.specs.Nested.{Nested, row, group}
+use Rattle.pat_lex.specs.declared.fault.Fault.{Fault}
+use Rattle.pat_lex.specs.declared.token.Token.{Token}
+use Rattle.pat_lex.specs.declared.token.Token.TheVariants.{End, Bar, Close, Quantifier, Passed, QuoteOn, QuoteOff}
+use Rattle.pat_lex.specs.declared.token.QuantMode.{QuantMode}
+use Rattle.pat_lex.specs.Tell.{fault, ◌>>=◌}
+use Rattle.pat_lex.specs.Tokens.{token_at}
+use Rattle.pat_build.specs.State.{State, Reads, flags_of, next, passed_over}
+use Rattle.pat_build.specs.Groups.{Opening}
+use Rattle.pat_build.specs.Parts.{atom, bare, inside, nothing, over, alternative, repeated, beginning}
+use Rattle.pat_build.specs.Reading.{quantified, closed, part_then, alternatives_from, sequence, alternatives, whole, reading}
+use Rattle.pat_build.specs.Stack.{Layer, Opened, with_part, resumed, ended, resume, IsPlain}
+
+-- one part more in front is one part more behind those before
+module _ (before : List Nested) (k : List Nested → State → Reads Nested) where
+  prepend : (part : Nested) (r : Reads (List Nested)) →
+      (r >>= λ (parts, end). let x : Reads (List Nested) = Ok (part ∷ parts, end) in x) >>= (λ (parts, end). k (before ++ parts) end)
+      ≡ (r >>= λ (parts, end). k ((before ++ part ∷ []) ++ parts) end)
+  prepend part (Ok (parts, end)) = ap (λ all. k all end) (sym (append_assoc before (part ∷ []) parts))
+  prepend part (Err f) = refl
+
+assoc : {A B C : Type 0} → (r : Result A Fault) (f : A → Result B Fault) (g : B → Result C Fault) → (r >>= f) >>= g ≡ (r >>= λ x. f x >>= g)
+assoc (Ok x) f g = refl
+assoc (Err e) f g = refl
+
+same : {A B : Type 0} → (r : Result A Fault) (f g : A → Result B Fault) → ((x : A) → f x ≡ g x) → (r >>= f) ≡ (r >>= g)
+same (Ok x) f g h = h x
+same (Err e) f g h = refl
+
+module _ (known : List NameEntry) (text : List ℕ) where
+  through : (before : List Nested) (k : List Nested → State → Reads Nested) (rest : State → Reads (List Nested)) (r : Reads Nested) →
+      (part_then text rest r >>= λ (parts, end). k (before ++ parts) end)
+      ≡ (r >>= λ (part, end). rest end >>= λ (parts, last). k ((before ++ part ∷ []) ++ parts) last)
+  unfolding part_then
+  through before k rest (Ok (part, end)) = prepend before k part (rest end)
+  through before k rest (Err f) = refl
+
+  module _ (st : State) (token : Token) (place : ℕ) (at : token_at text (flags_of false st) st.at ≡ Ok (token, place)) where
+    pub next_is : next text false st ≡ Ok (token, record st { at = place })
+    unfolding next
+    next_is = rw at
+
+    quantified_plain : IsPlain token → (n : ℕ) (t : Nested) → quantified text (suc n) t st ≡ Ok (t, st)
+    unfolding quantified
+    quantified_plain plain n t = rw next_is (elim token as (λ v. IsPlain v → ◌≡◌ {A = Reads Nested} (elim v [ Quantifier low high mode ↦ repeated low high mode t st >>= λ part. Ok (part, record st { at = place }) | other ↦ elim (passed_over other (record st { at = place })) [ Some beyond ↦ quantified text n t beyond | None ↦ Ok (t, st) ] ]) (Ok (t, st))) [
+      | Quantifier low high mode ↦ λ h. absurd h
+      | Passed ↦ λ h. absurd h
+      | QuoteOn ↦ λ h. absurd h
+      | QuoteOff ↦ λ h. absurd h
+      | _ ↦ λ h. refl
+    ] plain)
+
+    -- the atom before a token that is no quantifier is a part
+    pub step_flush : IsPlain token → (os : List Opened) (layer : Layer) (n : ℕ) (t : Nested) →
+        resume known text os layer (Some (suc n, t)) st ≡ resume known text os (with_part layer t) None st
+    unfolding resume
+    step_flush plain os layer n t = rw (quantified_plain plain n t)
+
+    pub step_atom : (os : List Opened) (layer : Layer) (n : ℕ) (t : Nested) (after : State) → layer.n ≡ suc n →
+        beginning known text n st token (record st { at = place }) ≡ Ok (atom t after) →
+        resume known text os layer None st ≡ resume known text os (record layer { n = n }) (Some (n, t)) after
+    unfolding resume resumed sequence
+    step_atom os layer n t after e begins =
+        rw (e, sequence, next_is, begins)
+        (through layer.parts (λ parts end. alternatives_from text (alternatives known text layer.k) parts end >>= λ (branches, last). ended known text os (layer.branches ++ branches) last) (sequence known text n) (quantified text n t after))
+
+    pub step_bare : (os : List Opened) (layer : Layer) (n : ℕ) (t : Nested) (after : State) → layer.n ≡ suc n →
+        beginning known text n st token (record st { at = place }) ≡ Ok (bare t after) →
+        resume known text os layer None st ≡ resume known text os (with_part (record layer { n = n }) t) None after
+    unfolding resume resumed sequence
+    step_bare os layer n t after e begins =
+        rw (e, sequence, next_is, begins)
+        (through layer.parts (λ parts end. alternatives_from text (alternatives known text layer.k) parts end >>= λ (branches, last). ended known text os (layer.branches ++ branches) last) (sequence known text n) (Ok (t, after)))
+
+    pub step_nothing : (os : List Opened) (layer : Layer) (n : ℕ) (after : State) → layer.n ≡ suc n →
+        beginning known text n st token (record st { at = place }) ≡ Ok (nothing after) →
+        resume known text os layer None st ≡ resume known text os (record layer { n = n }) None after
+    unfolding resume resumed sequence
+    step_nothing os layer n after e begins = rw (e, sequence, next_is, begins)
+
+    pub step_bad : (os : List Opened) (layer : Layer) (n : ℕ) (f : Fault) → layer.n ≡ suc n →
+        beginning known text n st token (record st { at = place }) ≡ Err f → resume known text os layer None st ≡ Err f
+    unfolding resume resumed sequence
+    step_bad os layer n f e begins = rw (e, sequence, next_is, begins)
+
+    pub step_open : (os : List Opened) (layer : Layer) (n : ℕ) (how : Opening) (after : State) → layer.n ≡ suc (suc n) →
+        beginning known text (suc n) st token (record st { at = place }) ≡ Ok (inside how after) →
+        resume known text os layer None st
+        ≡ resume known text (record { how = how; outer = record layer { n = suc n } } ∷ os) (record { n = n; k = n; branches = []; parts = [] }) None after
+    unfolding resume resumed sequence alternatives ended
+    step_open os layer n how after e begins =
+        let k : List Nested → State → Reads Nested = λ parts end. alternatives_from text (alternatives known text layer.k) parts end >>= λ (branches, last). ended known text os (layer.branches ++ branches) last in
+        let f : List Nested × State → Reads Nested = λ (branches, end). closed text how branches end >>= λ (found, last). quantified text (suc n) found last in
+        let g : Nested × State → Reads Nested = λ (part, end). sequence known text (suc n) end >>= λ (parts, last). k ((layer.parts ++ part ∷ []) ++ parts) last in
+        rw (e, sequence, next_is, begins)
+        (through layer.parts k (sequence known text (suc n)) (alternatives known text (suc n) after >>= f)
+        ∙ assoc (alternatives known text (suc n) after) f g
+        ∙ assoc (sequence known text n after) (λ (parts, end). alternatives_from text (alternatives known text n) parts end) (λ x. f x >>= g)
+        ∙ same (sequence known text n after) _ _ (λ (parts, end). same (alternatives_from text (alternatives known text n) parts end) _ _
+        (λ (branches, last). assoc (closed text how branches last) (λ (found, final). quantified text (suc n) found final) g)))
+
+    -- an alternative that ends here
+    ends_here : (os : List Opened) (layer : Layer) (n : ℕ) → layer.n ≡ suc n → beginning known text n st token (record st { at = place }) ≡ Ok over →
+        resume known text os layer None st
+        ≡ (alternatives_from text (alternatives known text layer.k) layer.parts st >>= λ (branches, last). ended known text os (layer.branches ++ branches) last)
+    unfolding resume resumed sequence
+    ends_here os layer n e begins =
+        rw (e, sequence, next_is, begins)
+        (ap (λ parts. alternatives_from text (alternatives known text layer.k) parts st >>= λ (branches, last). ended known text os (layer.branches ++ branches) last) (append-nil layer.parts))
+
+    pub step_bar : token ≡ Bar → (os : List Opened) (layer : Layer) (n k : ℕ) → layer.n ≡ suc n → layer.k ≡ suc k →
+        resume known text os layer None st
+        ≡ resume known text os (record { n = k; k = k; branches = layer.branches ++ alternative layer.parts ∷ []; parts = [] }) None (record st { at = place })
+    unfolding resume resumed alternatives alternatives_from
+    step_bar is os layer n k e e' =
+        let after : State = record st { at = place } in
+        ends_here os layer n e (rw is refl)
+        ∙ rw (alternatives_from, next_is, is, e')
+        (prepend layer.branches (ended known text os) (alternative layer.parts) (alternatives known text (suc k) after)
+        ∙ assoc (sequence known text k after) (λ (parts, end). alternatives_from text (alternatives known text k) parts end)
+        (λ (others, last). ended known text os ((layer.branches ++ alternative layer.parts ∷ []) ++ others) last))
+
+    -- the last alternative ends
+    pub step_over : (token ≡ Close) ⊎ (token ≡ End) → (os : List Opened) (layer : Layer) (n : ℕ) → layer.n ≡ suc n →
+        resume known text os layer None st ≡ ended known text os (layer.branches ++ alternative layer.parts ∷ []) st
+    unfolding alternatives_from
+    step_over (inl is) os layer n e = ends_here os layer n e (rw is refl) ∙ rw (alternatives_from, next_is, is)
+    step_over (inr is) os layer n e = ends_here os layer n e (rw is refl) ∙ rw (alternatives_from, next_is, is)
+
+    -- a group ends at its parenthesis, and a quantifier may follow
+    pub step_close : token ≡ Close → (o : Opened) (os : List Opened) (branches : List Nested) →
+        ended known text (o ∷ os) branches st
+        ≡ resume known text os o.outer (Some (o.outer.n, group o.how.number (row branches))) (record st { at = place; options = o.how.around; depth = st.depth - 1 })
+    unfolding resume ended closed
+    step_close is o os branches = rw (closed, next_is, is)
+
+    pub step_unclosed : token ≡ End → (o : Opened) (os : List Opened) (branches : List Nested) → ended known text (o ∷ os) branches st ≡ fault 114 (length text)
+    unfolding ended closed
+    step_unclosed is o os branches = rw (closed, next_is, is)
+
+    pub step_unopened : token ≡ Close → (branches : List Nested) → ended known text [] branches st ≡ fault 122 st.at
+    unfolding ended whole
+    step_unopened is branches = rw (whole, next_is, is)
+
+    pub step_whole : token ≡ End → (branches : List Nested) → ended known text [] branches st ≡ Ok (group None (row branches), st)
+    unfolding ended whole
+    step_whole is branches = rw (whole, next_is, is)
+
+    pub step_quantifier : (low : ℕ) (high : Option ℕ) (mode : QuantMode) → token ≡ Quantifier low high mode →
+        (os : List Opened) (layer : Layer) (n : ℕ) (t part : Nested) → repeated low high mode t st ≡ Ok part →
+        resume known text os layer (Some (suc n, t)) st ≡ resume known text os (with_part layer part) None (record st { at = place })
+    unfolding resume quantified
+    step_quantifier low high mode is os layer n t part found = rw (quantified, next_is, is, found)
+
+    pub step_no_quantifier : (low : ℕ) (high : Option ℕ) (mode : QuantMode) → token ≡ Quantifier low high mode →
+        (os : List Opened) (layer : Layer) (n : ℕ) (t : Nested) (f : Fault) → repeated low high mode t st ≡ Err f →
+        resume known text os layer (Some (suc n, t)) st ≡ Err f
+    unfolding resume quantified
+    step_no_quantifier low high mode is os layer n t f found = rw (quantified, next_is, is, found)
+
+    -- what is passed over leaves the atom waiting
+    pub step_passed : token ≡ Passed → (os : List Opened) (layer : Layer) (n : ℕ) (t : Nested) →
+        resume known text os layer (Some (suc n, t)) st ≡ resume known text os layer (Some (n, t)) (record st { at = place })
+    unfolding resume quantified
+    step_passed is os layer n t = rw (quantified, next_is, is)
+
+    pub step_quote_on : token ≡ QuoteOn → (os : List Opened) (layer : Layer) (n : ℕ) (t : Nested) →
+        resume known text os layer (Some (suc n, t)) st ≡ resume known text os layer (Some (n, t)) (record st { at = place; quoting = true })
+    unfolding resume quantified
+    step_quote_on is os layer n t = rw (quantified, next_is, is)
+
+    pub step_quote_off : token ≡ QuoteOff → (os : List Opened) (layer : Layer) (n : ℕ) (t : Nested) →
+        resume known text os layer (Some (suc n, t)) st ≡ resume known text os layer (Some (n, t)) (record st { at = place; quoting = false })
+    unfolding resume quantified
+    step_quote_off is os layer n t = rw (quantified, next_is, is)
+
+  -- a fault of the lexer is the fault of the whole
+  module _ (st : State) (f : Fault) (at : token_at text (flags_of false st) st.at ≡ Err f) where
+    next_is_err : next text false st ≡ Err f
+    unfolding next
+    next_is_err = rw at
+
+    pub step_fault : (os : List Opened) (layer : Layer) (n : ℕ) → layer.n ≡ suc n → resume known text os layer None st ≡ Err f
+    unfolding resume resumed sequence
+    step_fault os layer n e = rw (e, sequence, next_is_err)
+
+    pub step_fault_waiting : (os : List Opened) (layer : Layer) (n : ℕ) (t : Nested) → resume known text os layer (Some (suc n, t)) st ≡ Err f
+    unfolding resume quantified
+    step_fault_waiting os layer n t = rw (quantified, next_is_err)
+
+  -- where a reading begins
+  pub begins : (st : State) (n : ℕ) → 2 * length text + 2 ≡ suc n →
+      resume known text [] (record { n = n; k = n; branches = []; parts = [] }) None st ≡ reading known text st
+  unfolding resume resumed ended alternatives reading
+  begins st n e =
+      sym (rw e (assoc (sequence known text n st) (λ (parts, end). alternatives_from text (alternatives known text n) parts end) (λ (branches, end). whole text branches end)))

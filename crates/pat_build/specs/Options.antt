@@ -1,0 +1,42 @@
+-- What sets options inside a pattern.
+use Rattle.std.specs.Prelude.{ℕ, min, Bool, true, false, not, ◌&&◌, ◌||◌, Option, Some, None, Result, Ok}
+use Rattle.pat_tree.specs.declared.options.Options.{Options}
+use Rattle.pat_lex.specs.declared.fault.Fault.{Fault}
+use Rattle.pat_lex.specs.declared.token.OptionMask.{OptionMask}
+use Rattle.pat_lex.specs.declared.token.StartItem.{StartItem}
+use Rattle.pat_lex.specs.declared.token.StartItem.TheVariants.{NewlineIs, BsrIs, Utf, Ucp, NotEmpty, NotEmptyAtStart, NoStartOpt, NoEffect, LimitMatch}
+use Rattle.pat_lex.specs.Tell.{fault}
+
+-- an option that was on or off before: first it may be unset, then set, then unset
+abbrev pub turned : Bool → Bool → Bool → Bool → Bool
+turned reset on off before = not off && (on || (not reset && before))
+
+-- `(?^` unsets i, m, n, s, x and xx before it sets ("Internal option setting")
+unfoldable pub with_setting : Bool → OptionMask → OptionMask → Options → Options
+with_setting reset on off o = record o {
+  caseless = turned reset on.i off.i o.caseless;
+  multiline = turned reset on.m off.m o.multiline;
+  dotall = turned reset on.s off.s o.dotall;
+  extended = turned reset on.x off.x o.extended;
+  extended_more = turned reset on.xx off.xx o.extended_more;
+  no_auto_capture = turned reset on.n off.n o.no_auto_capture;
+  dupnames = turned false on.j off.j o.dupnames;
+  ungreedy = turned false on.u off.u o.ungreedy;
+}
+
+-- a limit can only be lowered
+abbrev pub lowered : Option ℕ → ℕ → ℕ
+lowered None limit = limit
+lowered (Some before) limit = min before limit
+
+-- The options under a start item that stands at a place ("Special start-of-pattern items"). UTF and UCP are left out.
+unfoldable pub with_item : StartItem → ℕ → Options → Result Options Fault
+with_item (NewlineIs newline) at o = Ok (record o { newline = newline })
+with_item (BsrIs bsr) at o = Ok (record o { bsr = bsr })
+with_item Utf at o = fault 195 at
+with_item Ucp at o = fault 195 at
+with_item NotEmpty at o = Ok (record o { notempty = true })
+with_item NotEmptyAtStart at o = Ok (record o { notempty_atstart = true })
+with_item NoStartOpt at o = Ok (record o { no_start_optimize = true })
+with_item NoEffect at o = Ok o
+with_item (LimitMatch limit) at o = Ok (record o { match_limit = Some (lowered o.match_limit limit) })

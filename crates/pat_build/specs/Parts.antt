@@ -1,0 +1,119 @@
+-- What each token begins, outside classes.
+use Rattle.std.specs.Prelude.{ℕ, Bool, true, false, not, List, [], ◌∷◌, ◌++◌, length, Option, None, Result, Ok, slice_range, if◌then◌else◌}
+use Rattle.pat_tree.specs.declared.nodes.Item.TheVariants as item
+use Rattle.pat_tree.specs.declared.nodes.AnchorKind.{AnchorKind}
+use Rattle.pat_tree.specs.declared.nodes.AnchorKind.TheVariants as kind
+use Rattle.pat_tree.specs.declared.nodes.Part.{Part}
+use Rattle.pat_tree.specs.declared.nodes.Part.TheVariants as part
+use Rattle.pat_tree.specs.declared.nodes.ClassSpec.{ClassSpec}
+use Rattle.pat_tree.specs.declared.names.NameEntry.{NameEntry}
+use Rattle.pat_tree.specs.Nested.{Nested, empty, one, line_break, seq, repeat, one_repeat, ref, anchor, keep_out, row}
+use Rattle.pat_lex.specs.declared.fault.Fault.{Fault}
+use Rattle.pat_lex.specs.declared.token.OpenKind.TheVariants as opening
+use Rattle.pat_lex.specs.declared.token.QuantMode.{QuantMode}
+use Rattle.pat_lex.specs.declared.token.QuantMode.TheVariants.{Greedy, Lazy, Possessive}
+use Rattle.pat_lex.specs.declared.token.Token.{Token}
+use Rattle.pat_lex.specs.declared.token.Token.TheVariants as token
+use Rattle.pat_lex.specs.Tell.{fault, ◌>>=◌}
+use Rattle.pat_build.specs.State.{State}
+use Rattle.pat_build.specs.Options.{with_setting}
+use Rattle.pat_build.specs.Classes.{class_spec}
+use Rattle.pat_build.specs.Groups.{Opening, Opens, opened, captured, named, named_by}
+
+-- An alternative without parts is empty, one with one part is that part.
+abbrev pub alternative : List Nested → Nested
+alternative [] = empty
+alternative (t ∷ []) = t
+alternative (t ∷ u ∷ ts) = seq (row (t ∷ u ∷ ts))
+
+-- what takes one character has a repeat of its own
+abbrev pub repeat_of : ℕ → Option ℕ → Bool → Nested → Nested
+repeat_of low high lazy (one item) = one_repeat item low high lazy
+repeat_of low high lazy t = repeat t low high lazy
+
+-- An atom under a quantifier at a place ("Repetition"): UNGREEDY swaps greedy and lazy. Possessive ones are left out.
+abbrev pub repeated : ℕ → Option ℕ → QuantMode → Nested → State → Result Nested Fault
+repeated low high Greedy t st = Ok (repeat_of low high st.options.ungreedy t)
+repeated low high Lazy t st = Ok (repeat_of low high (not st.options.ungreedy) t)
+repeated low high Possessive t st = fault 195 st.at
+
+-- what begins at a token
+pub data Beginning : Type 0 where
+  -- a part that a quantifier may follow, and one that none may follow, with the state after it
+  atom : Nested → State → Beginning
+  bare : Nested → State → Beginning
+  -- the inside of a group
+  inside : Opening → State → Beginning
+  -- nothing that is a part
+  nothing : State → Beginning
+  -- the alternative ends before the token
+  over : Beginning
+
+abbrev pub enters : Opens → Result Beginning Fault
+enters opens = opens >>= λ (opened, begun). Ok (inside opened begun)
+
+abbrev pub simple : AnchorKind → State → Result Beginning Fault
+simple kind next = Ok (bare (anchor kind) next)
+
+-- a class is a new entry of the table
+abbrev pub of_class : ClassSpec → State → Beginning
+of_class spec after = atom (one (item.Class (length after.classes))) (record after { classes = after.classes ++ spec ∷ [] })
+
+-- A type outside a class is a class of its own.
+abbrev pub type_class : State → Part → ClassSpec
+type_class st p = record { negated = false; caseless = st.options.caseless; parts = p ∷ [] }
+
+-- `.` ("Full stop (period, dot) and \N")
+abbrev pub any_or_line : Bool → Nested
+any_or_line true = one item.AnyAll
+any_or_line false = one item.NotNewline
+
+abbrev pub boundary : Bool → Bool → AnchorKind
+boundary true ucp = kind.NotWord ucp
+boundary false ucp = kind.Word ucp
+
+abbrev pub with_reference : State → State → List ℕ → Beginning
+with_reference st next groups =
+    atom (ref groups st.options.caseless) (record next { references = st.references ++ record { at = st.at; groups = groups } ∷ [] })
+
+module _ (known : List NameEntry) (text : List ℕ) where
+  -- By the names of the whole pattern, since a name may be given later than it is used: what begins at a token, from the
+  -- state before it and the state after it. The number bounds the items of a class.
+  abbrev pub beginning : ℕ → State → Token → State → Result Beginning Fault
+  -- the alternative ends
+  beginning n st token.End next = Ok over
+  beginning n st token.Bar next = Ok over
+  beginning n st token.Close next = Ok over
+  -- characters, sets and classes
+  beginning n st (token.Literal c) next = Ok (atom (one (item.Char c st.options.caseless)) next)
+  beginning n st token.Dot next = Ok (atom (any_or_line st.options.dotall) next)
+  beginning n st token.NotNewline next = Ok (atom (one item.NotNewline) next)
+  beginning n st token.LineBreak next = Ok (atom line_break next)
+  beginning n st (token.Set set outside) next = Ok (of_class (type_class st (part.Set set outside st.options.ucp)) next)
+  beginning n st (token.ClassStart negated) next = class_spec text n negated next >>= λ (spec, after). Ok (of_class spec after)
+  -- simple assertions and `\K`
+  beginning n st token.Caret next = simple (kind.Caret st.options.multiline) next
+  beginning n st token.Dollar next = simple (kind.Dollar st.options.multiline st.options.dollar_endonly) next
+  beginning n st token.SubjectStart next = simple kind.SubjectStart next
+  beginning n st token.SubjectEnd next = simple kind.SubjectEnd next
+  beginning n st token.EndOrNewline next = simple kind.EndOrNewline next
+  beginning n st token.StartGiven next = simple kind.StartGiven next
+  beginning n st (token.Boundary opposite) next = simple (boundary opposite st.options.ucp) next
+  beginning n st token.KeepOut next = Ok (bare keep_out next)
+  -- references
+  beginning n st (token.Reference target) next = named_by known text st target >>= λ groups. Ok (with_reference st next groups)
+  -- groups
+  beginning n st (token.Open opening.Capture) next = enters (if st.options.no_auto_capture then opened st None next else captured st next)
+  beginning n st (token.Open opening.Plain) next = enters (opened st None next)
+  beginning n st (token.Open (opening.Named from to)) next = enters (named st (slice_range text from to) next)
+  beginning n st (token.OptionSet reset on off true) next = enters (opened st None (record next { options = with_setting reset on off st.options }))
+  -- what is no part
+  beginning n st (token.OptionSet reset on off false) next = Ok (nothing (record next { options = with_setting reset on off st.options }))
+  beginning n st token.Passed next = Ok (nothing next)
+  beginning n st token.QuoteOn next = Ok (nothing (record next { quoting = true }))
+  beginning n st token.QuoteOff next = Ok (nothing (record next { quoting = false }))
+  -- a quantifier without an atom, and a start item that isn't at the start
+  beginning n st (token.Quantifier low high mode) next = fault 109 st.at
+  beginning n st (token.Start item) next = fault 160 st.at
+  -- Left out: properties; atomic groups, lookarounds, conditions and branch reset; calls and verbs; callouts.
+  beginning n st _ next = fault 195 st.at

@@ -1,0 +1,143 @@
+-- What a pattern is read as: a tree with its tables, or the first fault (pcre2pattern).
+--
+-- The grammar has alternatives, each a sequence of parts, a part being an atom under the quantifier that follows it. Where a
+-- number stands as a first argument it bounds how deep the calls go; twice the bytes that are left, and two, are enough.
+use Rattle.std.specs.Prelude.{ℕ, zero, suc, ◌+◌, ◌-◌, ◌*◌, false, ◌||◌, nat_lt, List, [], ◌∷◌, length, map, Option, Some, None, Result, Ok, if◌then◌else◌}
+use Rattle.pat_tree.specs.declared.nodes.Item.TheVariants.{Char}
+use Rattle.pat_tree.specs.declared.nodes.ClassSpec.{ClassSpec}
+use Rattle.pat_tree.specs.declared.names.NameEntry.{NameEntry}
+use Rattle.pat_tree.specs.declared.options.Options.{Options}
+use Rattle.pat_tree.specs.Nested.{Nested, one, group, row}
+use Rattle.pat_lex.specs.declared.fault.Fault.{Fault}
+use Rattle.pat_lex.specs.declared.token.Token.TheVariants.{End, Bar, Close, Quantifier, Start}
+use Rattle.pat_lex.specs.Tell.{fault, ◌>>=◌}
+use Rattle.pat_build.specs.State.{State, Reads, next, passed_over}
+use Rattle.pat_build.specs.Options.{with_item}
+use Rattle.pat_build.specs.Groups.{Opening, missing}
+use Rattle.pat_build.specs.Parts.{Beginning, atom, bare, inside, nothing, over, alternative, repeated, beginning}
+
+module _ (text : List ℕ) where
+  -- the atom under the quantifier that may follow it, also past comments, ignored white space, `\Q` and `\E`
+  unfoldable pub quantified : ℕ → Nested → State → Reads Nested
+  quantified zero t st = fault 0 0
+  quantified (suc n) t st = next text false st >>= λ (token, after). elim token [
+    | Quantifier low high mode ↦ repeated low high mode t st >>= λ part. Ok (part, after)
+    | other ↦ elim (passed_over other after) [ Some beyond ↦ quantified n t beyond | None ↦ Ok (t, st) ]
+  ]
+
+  -- A group of these branches, at its closing parenthesis. The options around it are in force again.
+  unfoldable pub closed : Opening → List Nested → State → Reads Nested
+  closed opening branches st = next text false st >>= λ (token, after). elim token [
+    | Close ↦ Ok (group opening.number (row branches), record after { options = opening.around; depth = st.depth - 1 })
+    | _ ↦ fault 114 (length text)
+  ]
+
+  -- a first part, and the parts after it
+  unfoldable pub part_then : (State → Reads (List Nested)) → Reads Nested → Reads (List Nested)
+  part_then rest first = do
+    (part, st) ← first
+    (parts, end) ← rest st
+    Ok (part ∷ parts, end)
+
+  -- The parts from what begins at the state `st`, where `inner` reads the alternatives of a group and `rest` a sequence.
+  abbrev pub parts_from : ℕ → (State → Reads (List Nested)) → (State → Reads (List Nested)) → State → Beginning → Reads (List Nested)
+  parts_from n inner rest st (atom t after) = part_then rest (quantified n t after)
+  parts_from n inner rest st (bare t after) = part_then rest (Ok (t, after))
+  parts_from n inner rest st (inside opening start) = part_then rest (do
+    (branches, end) ← inner start
+    (whole, after) ← closed opening branches end
+    quantified n whole after)
+  parts_from n inner rest st (nothing after) = rest after
+  parts_from n inner rest st over = Ok ([], st)
+
+  -- an alternative of these parts, and those after a bar
+  unfoldable pub alternatives_from : (State → Reads (List Nested)) → List Nested → State → Reads (List Nested)
+  alternatives_from again parts st = next text false st >>= λ (token, after). elim token [
+    | Bar ↦ again after >>= λ (others, end). Ok (alternative parts ∷ others, end)
+    | _ ↦ Ok (alternative parts ∷ [], st)
+  ]
+
+module _ (known : List NameEntry) (text : List ℕ) where
+  unfoldable mutual
+    -- the parts up to the end of the alternative
+    pub sequence : ℕ → State → Reads (List Nested)
+    sequence zero st = fault 0 0
+    sequence (suc n) st = do
+      (token, after) ← next text false st
+      what ← beginning known text n st token after
+      parts_from text n (alternatives n) (sequence n) st what
+
+    -- the alternatives up to the end of the group or of the pattern
+    pub alternatives : ℕ → State → Reads (List Nested)
+    alternatives zero st = fault 0 0
+    alternatives (suc n) st = do
+      (parts, end) ← sequence n st
+      alternatives_from text (alternatives n) parts end
+
+-- The top alternatives are a plain group, and end where the pattern ends.
+unfoldable pub whole : List ℕ → List Nested → State → Reads Nested
+whole text branches st = next text false st >>= λ (token, after). elim token [
+  | End ↦ Ok (group None (row branches), st)
+  | _ ↦ fault 122 st.at
+]
+
+-- the state after the start items
+unfoldable pub started : List ℕ → ℕ → State → Result State Fault
+started text zero st = fault 0 0
+started text (suc n) st = next text false st >>= λ (token, after). elim token [
+  | Start item ↦ with_item item st.at st.options >>= λ options. started text n (record after { options = options })
+  | _ ↦ Ok st
+]
+
+abbrev pub start : Options → State
+start options = record { at = 0; quoting = false; options = options; groups = 0; depth = 0; classes = []; names = []; references = [] }
+
+-- the tree from a state on and the last state, where these are the names of the whole pattern
+unfoldable pub reading : List NameEntry → List ℕ → State → Reads Nested
+reading known text st = do
+  (branches, end) ← alternatives known text (2 * length text + 2) st
+  whole text branches end
+
+-- what a pattern is read as
+pub record Parsed : Type 0 where
+  -- the options of the whole pattern, with those that the start items set
+  pub options : Options
+  pub tree : Nested
+  -- in the order of reading
+  pub classes : List ClassSpec
+  -- in the order of the table
+  pub names : List NameEntry
+  -- where the references stand, in the order of reading: so they stand in the tree from left to right
+  pub places : List ℕ
+
+-- under LITERAL each byte is a character
+unfoldable pub literally : Options → List ℕ → Parsed
+literally options text = record {
+  options = options;
+  tree = group None (row (alternative (map (λ c. one (Char c options.caseless)) text) ∷ []));
+  classes = [];
+  names = [];
+  places = [];
+}
+
+-- The references of what was read must name groups.
+abbrev pub checked : Options → Option ℕ → Nested → State → Result Parsed Fault
+checked options (Some at) tree last = fault 115 at
+checked options None tree last =
+    Ok (record { options = options; tree = tree; classes = last.classes; names = last.names; places = map (λ r. r.at) last.references })
+
+-- The names are read first, since a reference may stand before the group that has its name.
+unfoldable pub read_from : List ℕ → State → Result Parsed Fault
+read_from text st = do
+  (first, named) ← reading [] text st
+  (tree, last) ← reading named.names text st
+  checked st.options (missing last.groups last.references) tree last
+
+-- First the size is tested, then what is left out, then the start items; then the first fault from the left is told, and last
+-- the leftmost reference to no group. UTF, UCP and AUTO_CALLOUT are left out.
+unfoldable pub read : Options → List ℕ → Result Parsed Fault
+read options text =
+    if nat_lt 65536 (length text) then fault 120 0
+    else if options.utf || (options.ucp || options.auto_callout) then fault 195 0
+    else if options.literal then Ok (literally options text)
+    else (started text (length text + 1) (start options) >>= read_from text)

@@ -1,0 +1,87 @@
+-- Worked rows: what patterns are read as.
+use Rattle.std.specs.Prelude.{◌≡◌, ℕ, true, false, List, [], ◌∷◌, Some, None, Result, Ok, codes}
+use Rattle.std.specs.Str.{byte}
+use Prim.Native.String.{String}
+use Rattle.pat_tree.specs.declared.options.TheConstants.Options as plain
+use Rattle.pat_tree.specs.declared.options.Newline.TheVariants.{CrLf}
+use Rattle.pat_tree.specs.declared.nodes.Item.TheVariants.{Char, NotNewline, Class}
+use Rattle.pat_tree.specs.declared.nodes.Part.{Part}
+use Rattle.pat_tree.specs.declared.nodes.Part.TheVariants.{Range, Set}
+use Rattle.pat_tree.specs.declared.nodes.SetName.TheVariants.{Digit}
+use Rattle.pat_tree.specs.declared.nodes.ClassSpec.{ClassSpec}
+use Rattle.pat_tree.specs.declared.names.NameEntry.{NameEntry}
+use Rattle.pat_tree.specs.Nested.{Nested, empty, one, seq, group, one_repeat, ref, row}
+use Rattle.pat_lex.specs.declared.fault.Fault.{Fault}
+use Rattle.pat_lex.specs.Tell.{fault}
+use Rattle.pat_build.specs.Reading.{Parsed, read}
+
+abbrev pub reads : String → Result Parsed Fault
+reads pattern = read plain.PLAIN (codes pattern)
+
+-- a letter in its own case, and in any case
+abbrev pub letter : String → Nested
+letter c = one (Char (byte c) false)
+
+abbrev pub folded : String → Nested
+folded c = one (Char (byte c) true)
+
+-- a tree of these branches, without classes, names and references
+abbrev pub branches : List Nested → Parsed
+branches ts = record {
+  options = plain.PLAIN;
+  tree = group None (row ts);
+  classes = [];
+  names = [];
+  places = [];
+}
+
+abbrev pub group_of : ℕ → Nested → Nested
+group_of n t = group (Some n) (row (t ∷ []))
+
+abbrev pub entry : String → ℕ → NameEntry
+entry name n = record { name = codes name; group = n }
+
+abbrev pub single : ℕ → Part
+single c = Range c c
+
+-- `]` first, a quoted hyphen, a range and a last hyphen
+abbrev pub mixed_class : ClassSpec
+mixed_class = record {
+  negated = true;
+  caseless = false;
+  parts = single (byte "]") ∷ single (byte "-") ∷ Range (byte "a") (byte "c") ∷ Set Digit false false ∷ single (byte "-") ∷ [];
+}
+
+-- options hold to the end of their group, also for the alternatives that follow
+abbrev pub some_cases : Parsed
+some_cases = branches (
+    folded "a"
+    ∷ seq (row (group None (row (letter "b" ∷ letter "c" ∷ [])) ∷ one_repeat (Char (byte "d") true) 2 None true ∷ []))
+    ∷ empty
+    ∷ [])
+
+-- a reference before the groups of its name
+abbrev pub two_named : Parsed
+two_named = record (branches (seq (row (ref (1 ∷ 2 ∷ []) false ∷ group_of 1 (letter "a") ∷ group_of 2 (letter "b") ∷ [])) ∷ [])) {
+  names = entry "n" 1 ∷ entry "n" 2 ∷ [];
+  places = 4 ∷ [];
+}
+
+abbrev pub limited : Parsed
+limited = record (branches (one_repeat NotNewline 0 (Some 1) false ∷ [])) {
+  options = record plain.PLAIN { newline = CrLf; match_limit = Some 5 };
+}
+
+pub record WorkedRows : Type 0 where
+  pub unclosed : reads "a(" ≡ fault 114 2
+  pub backwards : reads "a{3,1}" ≡ fault 104 1
+  pub range_backwards : reads "[z-a]" ≡ fault 108 1
+  pub two_names : reads "(?<n>a)(?<n>b)" ≡ fault 143 7
+  pub two_quantifiers : reads "a**" ≡ fault 109 2
+  pub no_group : reads "(a)\\2" ≡ fault 115 3
+  pub left_out : reads "x(?>a)" ≡ fault 195 1
+  pub no_minimum : reads "a{,2}" ≡ Ok (branches (seq (row (letter "a" ∷ letter "{" ∷ letter "," ∷ letter "2" ∷ letter "}" ∷ [])) ∷ []))
+  pub class : reads "[^]\\Q-\\Ea-c\\d-]" ≡ Ok (record (branches (one (Class 0) ∷ [])) { classes = mixed_class ∷ [] })
+  pub cases : reads "(?i)a|(?-i:b|c)d{2,}?|" ≡ Ok some_cases
+  pub later_names : reads "(?J)\\k<n>(?<n>a)(?<n>b)" ≡ Ok two_named
+  pub start_items : reads "(*CRLF)(*LIMIT_MATCH=5).(?#x)?" ≡ Ok limited

@@ -1,0 +1,61 @@
+-- What is handed on in reading a pattern from left to right (pcre2pattern).
+use Rattle.std.specs.Prelude.{ℕ, Bool, true, false, List, Option, Some, None, Result, Ok}
+use Rattle.pat_tree.specs.declared.options.Options.{Options}
+use Rattle.pat_tree.specs.declared.nodes.ClassSpec.{ClassSpec}
+use Rattle.pat_tree.specs.declared.names.NameEntry.{NameEntry}
+use Rattle.pat_lex.specs.declared.fault.Fault.{Fault}
+use Rattle.pat_lex.specs.declared.token.LexFlags.{LexFlags}
+use Rattle.pat_lex.specs.declared.token.Token.{Token}
+use Rattle.pat_lex.specs.declared.token.Token.TheVariants.{Passed, QuoteOn, QuoteOff}
+use Rattle.pat_lex.specs.Tell.{◌>>=◌}
+use Rattle.pat_lex.specs.Tokens.{token_at}
+
+-- a reference: its place, and the groups that it names
+pub record Reference : Type 0 where
+  pub at : ℕ
+  pub groups : List ℕ
+
+pub record State : Type 0 where
+  -- how many bytes were read
+  pub at : ℕ
+  -- the place is between `\Q` and `\E`
+  pub quoting : Bool
+  -- the options in force
+  pub options : Options
+  -- how many groups were opened
+  pub groups : ℕ
+  -- how many parentheses are open
+  pub depth : ℕ
+  -- the classes that were read, in that order
+  pub classes : List ClassSpec
+  -- the names that were given, in the order of the table of names
+  pub names : List NameEntry
+  -- the references that were read, in that order
+  pub references : List Reference
+
+-- a value and the state after it, or the first fault
+abbrev pub Reads : Type 0 → Type 0
+Reads A = Result (A × State) Fault
+
+-- what the tokens depend on
+abbrev pub flags_of : Bool → State → LexFlags
+flags_of in_class st = record {
+  utf = st.options.utf;
+  extended = st.options.extended;
+  extended_more = st.options.extended_more;
+  quoting = st.quoting;
+  in_class = in_class;
+  newline = st.options.newline;
+  groups = st.groups;
+}
+
+-- the token at the place, in a class or outside, and the state after it
+unfoldable pub next : List ℕ → Bool → State → Reads Token
+next text in_class st = token_at text (flags_of in_class st) st.at >>= λ (token, after). Ok (token, record st { at = after })
+
+-- Comments, ignored white space, `\Q` and `\E` stand for nothing themselves; the state after the token is given.
+abbrev pub passed_over : Token → State → Option State
+passed_over Passed after = Some after
+passed_over QuoteOn after = Some (record after { quoting = true })
+passed_over QuoteOff after = Some (record after { quoting = false })
+passed_over _ after = None

@@ -1,0 +1,7 @@
+//! Worked rows of the definitions.
+ghost use Rattle.pat_build.specs.Rows.{WorkedRows};
+
+/// Twelve patterns computed from the definition, each as pcre2pattern has it.
+pub fn worked_rows()
+    ensures { WorkedRows }
+{}

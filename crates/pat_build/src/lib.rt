@@ -1,0 +1,6 @@
+//! What a pattern is read as: the grammar of patterns over their tokens.
+#![tactic(auto)]
+
+mod laws;
+
+pub use laws::worked_rows;
