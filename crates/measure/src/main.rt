@@ -4,8 +4,7 @@
 mod lines;
 
 use byte_lanes::EndKind;
-use std::env;
-use std::io;
+use std::{env, io};
 
 // What the words ask for.
 enum Asked {
