@@ -1,7 +1,8 @@
-//! Where bytes come from and go to: sources, sinks and sets of files, which count their faults and may tell what
-//! they hold.
+//! The outside of a search: sources, sinks and sets of files, which count their faults and may tell what
+//! they hold, and what is called at callouts.
 #![tactic(auto)]
 
+mod callouts;
 mod file_set;
 mod mem_files;
 mod mem_sink;
@@ -12,6 +13,7 @@ mod std_streams;
 mod traits;
 mod whole;
 
+pub use callouts::{Block, Callouts, NoCallouts};
 pub use file_set::FileSet;
 pub use mem_files::MemFiles;
 pub use mem_sink::MemSink;
