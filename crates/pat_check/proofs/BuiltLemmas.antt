@@ -1,11 +1,11 @@
 -- What a tree of the forms told about doesn't hold.
-use Rattle.std.proofs.Common.{◌≡◌, ◌∙◌, ℕ, Bool, true, false, ◌||◌, List, [], ◌∷◌, ◌++◌, Option, Some, None, refl, sym, ap}
+use Rattle.std.proofs.Common.{◌≡◌, ◌∙◌, true, false, refl}
 use Rattle.std.proofs.lemmas.List.Folds.{list_any-append}
 use Rattle.std.specs.List.{list_any}
 use Rattle.pat_tree.specs.Nested as tree
 use Rattle.pat_tree.specs.Nested.{Nested, Row}
 use Rattle.pat_check.specs.Built.{IsBuilt, AreBuilt}
-use Rattle.pat_check.specs.Nodes.{nodes, nodes_in, has_accept, has_lookbehind, is_accept, is_lookbehind}
+use Rattle.pat_check.specs.Nodes.{nodes, nodes_in, is_accept, is_lookbehind}
 
 mutual
   unfolding nodes

@@ -1,14 +1,14 @@
 -- The capturing groups of a tree.
-use Rattle.std.proofs.Common.{◌≡◌, ◌∙◌, ℕ, zero, suc, ◌+◌, ◌-◌, ◌<◌, ◌≤◌, ◌||◌, ◌==◌, Bool, true, false, if◌then◌else◌, is_some, List, [], ◌∷◌, ◌++◌, Option, Some, None, ◌⊎◌, inl, inr, length, filter, get_or, set, refl, sym, ap, subst, arith, length-append}
+use Rattle.std.proofs.Common.{◌≡◌, ◌∙◌, ℕ, zero, suc, ◌+◌, ◌-◌, ◌<◌, ◌≤◌, ◌||◌, ◌==◌, Bool, true, false, if◌then◌else◌, is_some, List, [], ◌∷◌, ◌++◌, Option, Some, None, inl, inr, length, filter, get_or, set, refl, sym, ap, subst, arith}
 use Rattle.std.specs.List.{list_any}
 use Rattle.std.specs.Option.{option_or}
 use Rattle.std.proofs.lemmas.Bool.{cases_lt, eqb-true, eqb-false}
-use Rattle.std.proofs.lemmas.List.{get_or_append_left, get_or-append_right, get_or-set_same, get_or-set_other, length-set}
+use Rattle.std.proofs.lemmas.List.{get_or_append_left, get_or-append_right, get_or-set_same, get_or-set_other}
 use Rattle.pat_tree.specs.Nested as tree
 use Rattle.pat_tree.specs.Nested.{Nested, Row, tree_at}
-use Rattle.pat_tree.specs.Groups.{find_group, find_in, group_of}
+use Rattle.pat_tree.specs.Groups.{find_group, find_in}
 use Rattle.pat_check.specs.Built.{IsBuilt, AreBuilt}
-use Rattle.pat_check.specs.Nodes.{nodes, nodes_in, all_nodes, is_capture, is_capture_of, number_twice}
+use Rattle.pat_check.specs.Nodes.{nodes, nodes_in, is_capture, is_capture_of, number_twice}
 use Rattle.pat_check.specs.Passing.{first_of, IsAt, place_of, AreGroups, capture_number}
 use Rattle.pat_check.specs.declared.groups.Groups.{Groups}
 

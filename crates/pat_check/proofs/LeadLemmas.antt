@@ -1,11 +1,11 @@
 -- First bytes as they are kept, joined as the definition joins them.
-use Rattle.std.proofs.Common.{◌≡◌, ◌∙◌, ℕ, suc, ◌+◌, ◌-◌, ◌<◌, ◌≤◌, ◌||◌, ◌&&◌, ◌==◌, Bool, true, false, nat_lt, List, [], ◌∷◌, Option, Some, None, All, length, drop, get_or, refl, sym, ap, arith, drop-cons}
+use Rattle.std.proofs.Common.{◌≡◌, ◌∙◌, ℕ, suc, ◌+◌, ◌-◌, ◌<◌, ◌≤◌, ◌||◌, ◌&&◌, ◌==◌, Bool, true, false, nat_lt, List, ◌∷◌, Option, Some, None, All, length, drop, get_or, refl, sym, ap, arith, drop-cons}
 use Rattle.std.proofs.lemmas.Bool.{eqb-true, false≢true}
 use Rattle.std.proofs.lemmas.List.{get_or_default}
 use Rattle.std.proofs.lemmas.List.Elements.{All-get_or}
 use Rattle.byte_lanes.specs.Sets.{has_byte}
-use Rattle.pat_check.specs.Lead.{Lead, SomeLead, begins, then_lead, either_lead}
-use Rattle.pat_check.specs.Starts.{IsLead, IsSomeLead, AreKept, lead_of_parts, lead_of_branches}
+use Rattle.pat_check.specs.Lead.{SomeLead, begins, then_lead, either_lead}
+use Rattle.pat_check.specs.Starts.{IsSomeLead, AreKept, lead_of_parts, lead_of_branches}
 use Rattle.pat_check.specs.declared.starts.Start.{Start}
 
 or_turned : (p q : Bool) → (p || q) ≡ (q || p)

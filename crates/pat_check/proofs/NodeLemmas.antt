@@ -1,11 +1,11 @@
 -- What holds of a node by what holds of its children.
-use Rattle.std.proofs.Common.{◌≡◌, ◌∙◌, ℕ, ◌<◌, Bool, true, false, List, [], ◌∷◌, map, Option, Some, None, All, length, get_or, refl, sym, ap, subst, arith, ◌++◌, ◌⊎◌, inl, inr, length-append}
+use Rattle.std.proofs.Common.{◌≡◌, ◌∙◌, ℕ, ◌<◌, Bool, false, List, [], ◌∷◌, map, Option, None, All, length, get_or, refl, sym, ap, arith, ◌++◌, inl, inr, length-append}
 use Rattle.std.proofs.lemmas.Bool.{cases_lt}
 use Rattle.pat_check.proofs.BuiltLemmas.{no_accept}
 use Rattle.std.proofs.lemmas.List.{get_or_default, get_or_append_left, get_or_push}
-use Rattle.std.proofs.lemmas.List.Elements.{All-cons, All-head, All-tail}
+use Rattle.std.proofs.lemmas.List.Elements.{All-cons, All-head}
 use Rattle.byte_lanes.specs.declared.line_end.EndKind.{EndKind}
-use Rattle.pat_tree.specs.Nested.{Nested, Row, tree_at, row, none, more, nest}
+use Rattle.pat_tree.specs.Nested.{Nested, tree_at, row, nest}
 use Rattle.pat_tree.specs.declared.nodes.Item.{Item}
 use Rattle.pat_tree.specs.declared.nodes.Node.{Node}
 use Rattle.pat_tree.specs.declared.nodes.Node.TheVariants as node
@@ -14,7 +14,7 @@ use Rattle.pat_tree.specs.Parts.{TreeParts, tree_of}
 use Rattle.char_sets.specs.Sets.{class_has}
 use Rattle.pat_check.specs.Known.{break_kind, lead_set_of}
 use Rattle.pat_check.specs.Built.{IsBuilt, AreBuilt}
-use Rattle.pat_check.specs.Lead.{SomeLead, lead, lead_in_turn, lead_of_one, lead_set, passes, then_lead, either_lead}
+use Rattle.pat_check.specs.Lead.{lead, lead_in_turn, lead_of_one, lead_set, passes, then_lead, either_lead}
 use Rattle.pat_check.specs.Starts.{IsSomeLead, AreKept, KeepLeads, known_set, lead_in, lead_set_in, lead_of_parts, lead_of_branches}
 use Rattle.pat_check.specs.declared.starts.Start.{Start}
 

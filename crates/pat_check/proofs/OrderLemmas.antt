@@ -1,14 +1,13 @@
 -- The order of a tree's nodes.
-use Rattle.std.proofs.Common.{◌≡◌, ◌∙◌, ℕ, suc, ◌+◌, ◌<◌, ◌≤◌, Bool, true, false, ◌||◌, List, [], ◌∷◌, ◌++◌, map, reverse, Option, Some, None, All, length, refl, sym, ap, subst, arith, length-append, append_assoc, append-nil}
+use Rattle.std.proofs.Common.{◌≡◌, ◌∙◌, ℕ, suc, ◌<◌, ◌≤◌, Bool, true, ◌||◌, List, [], ◌∷◌, ◌++◌, map, reverse, Option, All, length, refl, sym, ap, subst, arith, length-append, append_assoc, append-nil}
 use Rattle.std.specs.List.{list_any}
 use Rattle.std.proofs.lemmas.List.{reverse-append, reverse-reverse, map-append, get_or_append_left, get_or_push}
 use Rattle.std.proofs.lemmas.List.Elements.{All-append, All-cons, All-head, All-tail}
-use Rattle.pat_tree.specs.declared.nodes.Item.{Item}
 use Rattle.pat_tree.specs.declared.nodes.Node.{Node}
 use Rattle.pat_tree.specs.declared.nodes.Node.TheVariants as node
-use Rattle.pat_tree.specs.Nested.{Nested, Row, tree_at, row, none, more, nest}
+use Rattle.pat_tree.specs.Nested.{Nested, tree_at, row, nest}
 use Rattle.pat_tree.specs.Rules.{kids_of}
-use Rattle.pat_check.specs.Built.{IsBuilt, AreBuilt}
+use Rattle.pat_check.specs.Built.{IsBuilt}
 use Rattle.pat_check.specs.Nodes.{nodes, nodes_in, all_nodes}
 use Rattle.pat_check.specs.Order.{nodes_from}
 use Rattle.pat_check.proofs.NodeLemmas.{built_each}

@@ -19,7 +19,7 @@ use Rattle.pat_tree.specs.Nested as tree
 use Rattle.pat_tree.specs.Nested.{Nested, Row, Test, Other, tree_at, nest, row}
 use Rattle.pat_tree.specs.Groups.{group_of, find_group}
 use Rattle.pat_check.specs.Nodes.{has_shared_number, captures, all_nodes}
-use Rattle.pat_check.specs.Lengths.{Lengths, SomeLengths, between, only, both, in_turn, either, most_in_turns, in_some_turns, in_turns, of_ref, lengths, lengths_in_turn, lengths_of_one, lengths_of_other, of_test, lengths_of_group, by_calls, can_be_empty}
+use Rattle.pat_check.specs.Lengths.{SomeLengths, between, only, in_turn, either, in_some_turns, in_turns, of_ref, lengths, lengths_in_turn, lengths_of_one, lengths_of_other, of_test, lengths_of_group, by_calls, can_be_empty}
 use Rattle.pat_check.specs.Passing.{has_zero, is_at_most, ref_passes, passes, all_pass, some_passes, other_passes, test_passes, group_passes, flagged, KeepPassing, first_of, IsAt, place_of, passes_at}
 
 sum_zero : (a b : ℕ) → (a + b == 0) ≡ (a == 0 && b == 0)

@@ -1,5 +1,4 @@
-use Rattle.std.proofs.Common.{ℕ, ◌<◌, All, length, subst, false, sym}
-use Rattle.byte_lanes.specs.declared.line_end.EndKind.TheVariants as kind
+use Rattle.std.proofs.Common.{◌<◌, All, length, subst, false, sym}
 use Rattle.pat_tree.specs.Newlines.{end_kind}
 use Rattle.pat_tree.specs.Nested.{nest, tree_at}
 use Rattle.pat_tree.specs.Rules.{kids_of}

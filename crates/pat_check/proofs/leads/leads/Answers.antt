@@ -1,7 +1,6 @@
 use Rattle.std.proofs.Common.{◌≡◌, ◌∙◌, ◌+◌, ◌∷◌, ◌++◌, [], ap, sym, subst, length, length-append}
-use Rattle.pat_tree.specs.Nested.{trees, tree_at}
-use Rattle.pat_check.specs.Built.{IsBuilt}
-use Rattle.pat_check.specs.Starts.{IsSomeLead, KeepLeads, lead_in}
+use Rattle.pat_tree.specs.Nested.{trees}
+use Rattle.pat_check.specs.Starts.{KeepLeads}
 use Rattle.pat_check.proofs.NodeLemmas.{keeps_more}
 use Rattle.pat_check.proofs.leads.leads.Goals as goal
 

@@ -1,4 +1,4 @@
-use Rattle.std.proofs.Common.{ℕ, Bool, false, sym, get_or, arith, ◌≡◌, ◌<◌}
+use Rattle.std.proofs.Common.{ℕ, Bool, false, sym, arith, ◌≡◌}
 use Rattle.std.proofs.lemmas.List.Folds.{list_any_none}
 use Rattle.std.proofs.lemmas.List.Elements.{All-from_get_or}
 use Rattle.pat_tree.specs.Nested.{trees, tree_at}

@@ -1,8 +1,7 @@
-use Rattle.std.proofs.Common.{◌≡◌, ◌∙◌, ◌≤◌, ◌<◌, ◌++◌, ◌∷◌, [], All, length, map, reverse, refl, sym, ap, subst}
+use Rattle.std.proofs.Common.{◌≡◌, ◌∙◌, ◌≤◌, ◌++◌, ◌∷◌, [], All, refl, sym, subst}
 use Rattle.pat_tree.specs.Nested.{trees, tree_at, nest}
 use Rattle.pat_tree.specs.Rules.{kids_of}
 use Rattle.pat_check.specs.Built.{IsBuilt}
-use Rattle.pat_check.specs.Order.{nodes_from}
 use Rattle.pat_check.proofs.OrderLemmas.{taken, fewer, kids_built, all_front, all_last, all_waiting, all_done, lower}
 use Rattle.pat_check.proofs.order.preorder.Goals as goal
 

@@ -1,4 +1,4 @@
-use Rattle.std.proofs.Common.{◌≡◌, ◌∙◌, ℕ, suc, ◌+◌, ◌<◌, ◌||◌, false, Some, refl, ap, sym, subst, length, set, get_or, arith}
+use Rattle.std.proofs.Common.{◌≡◌, ◌∙◌, ℕ, suc, ◌<◌, ◌||◌, false, Some, refl, ap, sym, subst, length, set, get_or, arith}
 use Rattle.std.proofs.lemmas.List.{get_or_default}
 use Rattle.pat_tree.specs.Groups.{group_of}
 use Rattle.pat_tree.specs.Nested.{trees}

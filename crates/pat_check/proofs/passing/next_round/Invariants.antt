@@ -1,4 +1,4 @@
-use Rattle.std.proofs.Common.{◌≡◌, map, take, length}
+use Rattle.std.proofs.Common.{◌≡◌, map, take}
 use Rattle.pat_check.specs.Passing.{passes_at}
 use Rattle.pat_check.proofs.passing.next_round.Given as goal
 

@@ -1,8 +1,8 @@
-use Rattle.std.proofs.Common.{◌≡◌, ◌∙◌, ◌<◌, ◌∷◌, [], All, length, refl, sym, ap, subst, arith}
+use Rattle.std.proofs.Common.{◌∙◌, ◌<◌, ◌∷◌, [], All, length, refl, subst, arith}
 use Rattle.pat_tree.specs.Nested.{nest, tree_at}
 use Rattle.pat_tree.specs.Rules.{kids_of, IsOrdered, AtMost}
 use Rattle.pat_check.specs.Built.{IsBuilt}
-use Rattle.pat_check.specs.Passing.{flagged, passes, ref_passes}
+use Rattle.pat_check.specs.Passing.{flagged, passes}
 use Rattle.pat_check.proofs.PassLemmas.{repeat_zero, repeat_some, item_zero, each_passing, parts_pass, branches_pass, other_passes_too}
 use Rattle.pat_check.proofs.passing.node_passes.Goals as goal
 

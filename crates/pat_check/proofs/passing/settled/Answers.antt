@@ -1,4 +1,4 @@
-use Rattle.std.proofs.Common.{◌≡◌, ◌∙◌, ℕ, suc, ◌+◌, ◌≤◌, ap, sym, arith}
+use Rattle.std.proofs.Common.{◌≡◌, ◌∙◌, suc, ◌+◌, ◌≤◌, ap, sym, arith}
 use Rattle.pat_tree.specs.Parts.{tree_of}
 use Rattle.pat_check.specs.Lengths.{by_calls}
 use Rattle.pat_check.specs.Passing.{flagged, has_zero}

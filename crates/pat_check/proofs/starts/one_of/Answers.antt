@@ -1,4 +1,4 @@
-use Rattle.std.proofs.Common.{arith, ◌<◌, ◌≤◌, ◌-◌, length}
+use Rattle.std.proofs.Common.{arith, ◌<◌, ◌-◌, length}
 use Rattle.pat_check.proofs.LeadLemmas.{branches_back, read_at}
 use Rattle.pat_check.proofs.starts.one_of.Goals as goal
 

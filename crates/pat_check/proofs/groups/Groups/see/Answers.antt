@@ -1,6 +1,5 @@
 use Rattle.std.proofs.Common.{◌≡◌, ◌∙◌, ◌<◌, ◌≤◌, ◌∷◌, [], All, Some, length, sym, ap, subst, arith}
 use Rattle.pat_tree.specs.Nested.{trees, tree_at}
-use Rattle.pat_tree.specs.Rules.{numbers_of}
 use Rattle.pat_tree.specs.Sound.{greatest, group_numbers}
 use Rattle.pat_check.specs.Passing.{capture_number}
 use Rattle.pat_check.proofs.GroupLemmas.{put_group}
