@@ -11,6 +11,8 @@ mod names;
 mod order;
 mod passing;
 mod starts;
+#[cfg(test)]
+mod tests;
 
 pub use facts::{CheckError, Facts, check};
 pub use laws::{lengths_are_bounds, worked_rows};
