@@ -3,6 +3,8 @@
 
 mod flow;
 mod laws;
+#[cfg(test)]
+mod tests;
 
 pub use flow::Flow;
 pub use laws::{followers_hang_together, worked_rows};
