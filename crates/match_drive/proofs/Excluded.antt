@@ -6,7 +6,7 @@ use Rattle.byte_lanes.specs.Sets.{has_byte}
 use Rattle.pat_check.specs.Known.{IsByteSet}
 use Rattle.frame_machine.specs.Setting.{Setting, lead_set}
 use Rattle.match_drive.specs.Places.{is_off, is_outside, is_excluded}
-use Rattle.match_drive.specs.Rest.{IsByteOutside}
+use Rattle.match_drive.specs.Rest.{IsLeadUsed, IsByteOutside}
 
 module _ (g : Setting) where
   pub excluded_never : (p : ℕ) → g.options.no_start_optimize ≡ true → is_excluded g p ≡ false
@@ -47,3 +47,7 @@ module _ (g : Setting) where
   pub excluded_by_byte : (set : List Bool) (p : ℕ) → g.options.no_start_optimize ≡ false → IsByteSet (Some set) (lead_set g) → p < length g.subject
       → IsByteOutside set (slice_index g.subject p) → is_excluded g p ≡ true
   excluded_by_byte set p h is inside out = excluded_inside set p h is inside out.0 ∙ ap not out.1
+
+  pub lead_is_used : (o : Option (List Bool)) → g.options.no_start_optimize ≡ false → IsByteSet o (lead_set g) → IsLeadUsed g o
+  lead_is_used None h is = λ p. excluded_without p h is
+  lead_is_used (Some set) h is = (h, is)

@@ -2,7 +2,8 @@
 use Rattle.std.specs.Prelude.{◌≡◌, ◌≤◌, ◌<◌, ℕ, ◌+◌, ◌-◌, Bool, true, false, ◌&&◌, List, length, Option, Some, None, IsSomeAnd, nat_le, nat_lt}
 use Rattle.std.specs.Option.{option_or}
 use Rattle.byte_lanes.specs.Sets.{has_byte}
-use Rattle.frame_machine.specs.Setting.{Setting}
+use Rattle.pat_check.specs.Known.{IsByteSet}
+use Rattle.frame_machine.specs.Setting.{Setting, lead_set}
 use Rattle.frame_machine.specs.PlaceAnswer.{Signal, PlaceAnswer, Matched, Failed, Partial, Walked, last_name}
 use Rattle.match_drive.specs.Places.{passes_crlf, last_place, is_excluded}
 use Rattle.match_drive.specs.MatchAnswer.{MatchAnswer, Match, PartialFrom, Error, Found, none_found, decided, undecided, failed_at, from_place}
@@ -17,6 +18,11 @@ abbrev pub IsByteOutside : List Bool → ℕ → Type 0
 IsByteOutside set b = (b < 256) × (has_byte set b ≡ false)
 
 module _ (g : Setting) where
+  -- the search goes by this set of bytes, or excludes no place
+  abbrev pub IsLeadUsed : Option (List Bool) → Type 0
+  IsLeadUsed None = (p : ℕ) → is_excluded g p ≡ false
+  IsLeadUsed (Some set) = (g.options.no_start_optimize ≡ false) × IsByteSet (Some set) (lead_set g)
+
   -- the place behind those from one up to another: one further where the last of them is the CR of a CRLF that is passed whole
   abbrev pub behind : ℕ → ℕ → ℕ
   behind p q = elim (nat_lt p q && passes_crlf g (q - 1)) [ true ↦ q + 1 | false ↦ q ]

@@ -1,6 +1,6 @@
 //! What a search over all start places goes over.
 ghost use Rattle.std.specs.Prelude.{◌≡◌, ◌≤◌, ℕ, true, false, length};
-ghost use Rattle.std.specs.Option.{option_map};
+ghost use Rattle.std.specs.Option.{option_copied};
 ghost use Rattle.frame_machine.specs.Setting.{lead_set, names_cr_or_lf};
 ghost use Rattle.pat_check.specs.Known.{IsByteSet};
 
@@ -15,7 +15,7 @@ pub trait Driven: Searchable {
     /// The bytes that every match begins with, where they are known (pcre2api, "Option bits for pcre2_compile()",
     /// PCRE2_NO_START_OPTIMIZE).
     fn lead(&self) -> Option<&ByteSet>
-        ensures { IsByteSet (option_map (λ set. set.now) result) (lead_set (Self.searched self.now).setting) };
+        ensures { IsByteSet (option_copied result) (lead_set (Self.searched self.now).setting) };
 
     /// Whether CR or LF stands in the pattern, as a character or as an end of a range.
     fn names_crlf(&self) -> bool

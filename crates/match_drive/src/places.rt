@@ -1,11 +1,12 @@
 //! The start places of a search, in order (pcre2api, "Matching a pattern: the traditional function").
 ghost use Rattle.std.specs.Prelude.{◌≡◌, ◌≤◌, ◌<◌, ◌+◌, ◌&&◌, true, false, ℕ, nat_lt, length, slice_index, IfSome, None, Some};
+ghost use Rattle.std.specs.Option.{option_copied};
 ghost use Rattle.byte_lanes.specs.Newlines.{newline_len};
 ghost use Rattle.pat_tree.specs.Newlines as newlines;
 ghost use Rattle.frame_machine.specs.Answer.{signal_of};
 ghost use Rattle.match_drive.specs.Places as places;
 ghost use Rattle.match_drive.specs.Places.{has_crlf};
-ghost use Rattle.match_drive.specs.Rest.{IsByteOutside, IsPassed, IsNextTried, up_to, behind};
+ghost use Rattle.match_drive.specs.Rest.{IsLeadUsed, IsByteOutside, IsPassed, IsNextTried, up_to, behind};
 
 use crate::driven::Driven;
 use byte_lanes::{ByteSet, EndKind, find_in_set, find_line_end};
@@ -112,15 +113,24 @@ pub(crate) fn place_after<S: Driven>(
     }
 }
 
+/// The bytes that every match begins with, where the search goes by them (pcre2api, "Option bits for pcre2_compile()",
+/// PCRE2_NO_START_OPTIMIZE).
+fn lead_used<S: Driven>(on: &S) -> Option<&ByteSet>
+    ensures { IsLeadUsed (S.searched on.now).setting (option_copied result) }
+{
+    if on.options().no_start_optimize {
+        None
+    } else {
+        on.lead()
+    }
+}
+
 /// Whether a place is left out, as no match begins with the byte there.
 fn is_excluded<S: Driven>(on: &S, at: usize) -> bool
     requires { at ≤ length (S.searched on.now).setting.subject }
     ensures { result ≡ places.is_excluded (S.searched on.now).setting at }
 {
-    if on.options().no_start_optimize {
-        return false;
-    }
-    let Some(set) = on.lead() else {
+    let Some(set) = lead_used(on) else {
         return false;
     };
     match on.subject().get(at) {
@@ -170,10 +180,7 @@ fn pass<S: Driven>(on: &S, from: usize, last: usize) -> usize
     requires last { last ≡ places.last_place (S.searched on.now).setting }
     ensures { IsPassed (S.searched on.now).setting from result }
 {
-    if on.options().no_start_optimize {
-        return from;
-    }
-    let Some(set) = on.lead() else {
+    let Some(set) = lead_used(on) else {
         return from;
     };
     let subject = on.subject();

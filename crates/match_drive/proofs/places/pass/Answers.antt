@@ -1,6 +1,5 @@
-use Rattle.std.proofs.Common.{◌≡◌, ◌≤◌, ◌<◌, length, List, ℕ, false, sym, subst, ap, ◌∙◌, arith}
+use Rattle.std.proofs.Common.{◌≡◌, ◌≤◌, ◌<◌, length, List, ℕ, subst, ap, arith}
 use Rattle.std.specs.Prelude.{slice_index}
-use Rattle.pat_tree.specs.declared.options.Options.{Options}
 use Rattle.match_drive.specs.Places.{last_place}
 use Rattle.match_drive.specs.Rest.{IsByteOutside}
 use Rattle.match_drive.proofs.Steps.{last_within, passed_bytes}
@@ -17,10 +16,10 @@ pub returns : goal.returns
 returns g c =
     let x = c.args.on.now in
     let s = (g.S.Searchable.searched x).setting in
-    let used : s.options.no_start_optimize ≡ false = ap (λ (o : Options). o.no_start_optimize) (sym c.options.ensures) ∙ c.if-options.false in
+    let used = rw c.in-Some.is at c.lead_used.ensures in
     let same : length c.subject-subject.result.now ≡ length s.subject = ap (length {A = ℕ}) c.subject-subject.ensures in
     rw c.behind.ensures
-    (passed_bytes s (g.met.S.Driven.not_utf x) (g.met.S.Driven.begun x) c.in-Some.set.now c.args.from c.first_in.result used (rw c.in-Some.is at c.lead.ensures)
+    (passed_bytes s (g.met.S.Driven.not_utf x) (g.met.S.Driven.begun x) c.in-Some.set.now c.args.from c.first_in.result used.0 used.1
     (omega (arith, c.requires.last, c.requires.from)) c.first_in.ensures.low (omega (arith, c.first_in.ensures.high, c.bytes_end-end.ensures.within, same))
     (omega (arith, c.first_in.ensures.high, c.bytes_end-end.ensures.high, c.requires.last))
     (subst (λ (bs : List ℕ). (k : ℕ) → c.args.from ≤ k → k < c.first_in.result → IsByteOutside c.in-Some.set.now (slice_index bs k)) c.subject-subject.ensures c.first_in.ensures.before))
