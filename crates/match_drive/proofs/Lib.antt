@@ -1,2 +1,5 @@
 pub mod WordLemmas
 mod RowProofs
+mod Left
+mod Excluded
+mod Steps

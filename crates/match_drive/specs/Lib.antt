@@ -1,4 +1,6 @@
 pub mod Words
 pub mod Places
 pub mod MatchAnswer
+pub mod Rest
+pub mod Answer
 pub mod Rows

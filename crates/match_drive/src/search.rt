@@ -1,0 +1,81 @@
+//! The search over all start places.
+ghost use Rattle.std.specs.Prelude.{◌≡◌, ◌≤◌, max};
+ghost use Rattle.match_drive.specs.Answer.{IsMatchAnswer, IsDeciding, TellsPlace, TellsNone};
+ghost use Rattle.match_drive.specs.MatchAnswer.{match_answer};
+ghost use Rattle.match_drive.specs.Rest as rest;
+
+use crate::answer::MatchAnswer;
+use crate::driven::Driven;
+use crate::places::{last_place, next_tried, place_after};
+use frame_machine::{PlaceAnswer, Scratch, search_at};
+
+/// The first place that reached the subject's end, after one more place.
+fn first_hit(first: Option<usize>, hit_end: bool, at: usize) -> Option<usize>
+    ensures { result ≡ rest.first_hit first hit_end at }
+{
+    match first {
+        None if hit_end => Some(at),
+        _ => first,
+    }
+}
+
+/// The answer where a place decides, after a first one that reached the subject's end. `last_mark` is the last name that
+/// was met.
+fn decided(
+    answer: PlaceAnswer,
+    at: usize,
+    first: Option<usize>,
+    last_mark: Option<u32>,
+) -> MatchAnswer
+    requires { IsDeciding answer }
+    ensures { TellsPlace answer at first last_mark result }
+{
+    match answer {
+        PlaceAnswer::Matched { keep, to, mark } => MatchAnswer::Match { keep, to, mark },
+        PlaceAnswer::Failed { .. } => unreachable!(),
+        PlaceAnswer::Partial => MatchAnswer::Partial {
+            start: first.unwrap_or(at),
+            mark: last_mark,
+        },
+        PlaceAnswer::MatchLimit => MatchAnswer::MatchLimit,
+        PlaceAnswer::FrameLimit => MatchAnswer::FrameLimit,
+        PlaceAnswer::Loop => MatchAnswer::RecurseLoop,
+        PlaceAnswer::Abort(n) => MatchAnswer::Callout(n),
+        PlaceAnswer::Memory => MatchAnswer::Memory,
+    }
+}
+
+/// The answer where no place decides: a partial match from the first place that reached the subject's end, if one did
+/// (pcre2partial, "Partial matching using PCRE2_PARTIAL_SOFT").
+fn undecided(first: Option<usize>, mark: Option<u32>) -> MatchAnswer
+    ensures { TellsNone first mark result }
+{
+    match first {
+        Some(start) => MatchAnswer::Partial { start, mark },
+        None => MatchAnswer::NoMatch { mark },
+    }
+}
+
+/// Searches over all start places, in order, and answers what the definitions answer, with the captures of a match in the
+/// workspace (pcre2api, "Matching a pattern: the traditional function"). The workspace can be used again after every
+/// answer. Want of memory alone is told beside.
+pub fn search_on<S: Driven>(on: &S, scratch: &mut Scratch) -> MatchAnswer
+    ensures answer { IsMatchAnswer result scratch.new.spans (match_answer (S.searched on.now).setting) }
+    ensures peak { scratch.new.peak ≤ max scratch.old.peak (S.searched on.now).setting.matching.frame_limit }
+    ensures groups { scratch.new.groups ≡ scratch.old.groups }
+    ensures frames { scratch.new.frames ≡ scratch.old.frames }
+{
+    scratch.clear_mark();
+    let last = last_place(on);
+    let mut first = None;
+    let mut next = next_tried(on, Some(on.start() as usize), last);
+    'places: while let Some(place) = next {
+        let answer = search_at(on, place as u64, scratch);
+        let PlaceAnswer::Failed { signal, hit_end } = answer else {
+            return decided(answer, place, first, scratch.last_mark());
+        };
+        first = first_hit(first, hit_end, place);
+        next = next_tried(on, place_after(on, place, signal, last), last);
+    }
+    undecided(first, scratch.last_mark())
+}
