@@ -1,2 +1,4 @@
+pub mod Ranges
 pub mod RowProofs
+pub mod Spots
 pub mod Steps

@@ -1,6 +1,7 @@
 //! What a pattern is read as: the grammar of patterns over their tokens.
 #![tactic(auto)]
 
+mod brackets;
 mod cursor;
 mod error;
 mod laws;

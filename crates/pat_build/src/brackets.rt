@@ -1,0 +1,118 @@
+//! What stands between the brackets of a class (pcre2pattern, "Square brackets and character classes").
+ghost use Rattle.std.specs.Prelude.{◌≡◌, ℕ, ◌+◌, ◌<◌, ◌≤◌, List, [], length, Ok, Err, IfOk, IfErr, MatchOption};
+ghost use Rattle.pat_tree.specs.declared.nodes.Part.{Part};
+ghost use Rattle.pat_tree.specs.declared.nodes.ClassSpec.{ClassSpec};
+ghost use Rattle.pat_lex.specs.Tell.{Moves};
+ghost use Rattle.pat_build.specs.State.{State, Reads};
+ghost use Rattle.pat_build.specs.Classes.{character, is_hyphen, is_last, is_last_item, part_then, item, range_or_hyphen, from_character, from_set, from_item, class_parts, class_spec};
+ghost use Rattle.pat_build.specs.declared.cursor.Place.{Place};
+
+use crate::cursor::{Cursor, Place};
+use pat_lex::{Fault, Token};
+use pat_tree::Part;
+
+/// The class isn't closed.
+const UNCLOSED_CLASS: i32 = 106;
+
+/// A range ends before it begins.
+const RANGE_OUT_OF_ORDER: i32 = 108;
+
+/// A hyphen stands beside a set and isn't last.
+const NO_RANGE: i32 = 150;
+
+/// A property, which is left out.
+const LEFT_OUT: i32 = 195;
+
+/// A token of a class that isn't passed over, and the places before it and after it.
+#[derive(Clone, Copy, Debug)]
+struct ClassItem {
+    token: Token,
+    here: Place,
+    after: Place,
+}
+
+/// The character that a token stands for where a range may end.
+fn character(token: Token) -> Option<u32>
+    ensures { result ≡ character token }
+{
+    match token {
+        Token::Literal(c) => Some(c),
+        Token::Hyphen => Some(u32::from(b'-')),
+        _ => None,
+    }
+}
+
+fn is_hyphen(token: Token) -> bool
+    ensures { result ≡ is_hyphen token }
+{
+    matches!(token, Token::Hyphen)
+}
+
+/// Whether nothing of the class follows.
+fn is_last(token: Token) -> bool
+    ensures { result ≡ is_last token }
+{
+    matches!(token, Token::ClassEnd | Token::End)
+}
+
+impl<'a> Cursor<'a> {
+    /// The next token of a class that isn't passed over.
+    fn item(&self, place: Place) -> Result<ClassItem, Fault>
+        requires { place.at ≤ length self.now.text.now }
+        ensures found { let state = λ (st : State) (p : Place). record st { at = p.at; quoting = p.quoting; options = self.now.options; groups = self.now.groups } in IfOk result (λ i. (st : State) (n : ℕ) → length self.now.text.now < n + place.at → item self.now.text.now n (state st place) ≡ Ok (i.token, state st i.here, state st i.after)) }
+        ensures bad { let state = λ (st : State) (p : Place). record st { at = p.at; quoting = p.quoting; options = self.now.options; groups = self.now.groups } in IfErr result (λ f. (st : State) (n : ℕ) → length self.now.text.now < n + place.at → item self.now.text.now n (state st place) ≡ Err f) }
+        ensures past { IfOk result (λ i. place.at ≤ i.here.at) }
+        ensures onward { IfOk result (λ i. i.here.at ≤ i.after.at) }
+        ensures within { IfOk result (λ i. i.after.at ≤ length self.now.text.now) }
+        ensures moves { IfOk result (λ i. Moves self.now.text.now i.here.at i.token i.after.at) }
+    {
+        let mut here = place;
+        'passing: loop {
+            let (token, at) = self.next(here, true)?;
+            let after = Place { at, ..here };
+            match after.passed_over(token) {
+                Some(beyond) => here = beyond,
+                None => return Ok(ClassItem { token, here, after }),
+            }
+        }
+    }
+
+    /// What a character at `here` and a hyphen begin, the hyphen being between two places: with a character after it a range.
+    /// The hyphen is a character where it is last, and may not stand before a set.
+    fn range_or_hyphen(
+        &self,
+        c: u32,
+        here: Place,
+        before: Place,
+        after: Place,
+    ) -> Result<(Part, Place), Fault>
+        requires order { before.at ≤ after.at }
+        requires within { after.at ≤ length self.now.text.now }
+        ensures part { let state = λ (st : State) (p : Place). record st { at = p.at; quoting = p.quoting; options = self.now.options; groups = self.now.groups } in IfOk result (λ r. (st : State) (n : ℕ) (rest : State → Reads (List Part)) → length self.now.text.now < n + after.at → range_or_hyphen self.now.text.now n rest c (state st here) (state st before) (state st after) ≡ part_then r.0 (rest (state st r.1))) }
+        ensures bad { let state = λ (st : State) (p : Place). record st { at = p.at; quoting = p.quoting; options = self.now.options; groups = self.now.groups } in IfErr result (λ f. (st : State) (n : ℕ) (rest : State → Reads (List Part)) → length self.now.text.now < n + after.at → range_or_hyphen self.now.text.now n rest c (state st here) (state st before) (state st after) ≡ Err f) }
+        ensures past { IfOk result (λ r. before.at ≤ r.1.at) }
+        ensures within { IfOk result (λ r. r.1.at ≤ length self.now.text.now) }
+    {
+        let item = self.item(after)?;
+        match character(item.token) {
+            Some(d) => {
+                if d < c {
+                    return Err(Fault {
+                        number: RANGE_OUT_OF_ORDER,
+                        at: here.at,
+                    });
+                }
+                Ok((Part::Range { from: c, to: d }, item.after))
+            }
+            None => {
+                if is_last(item.token) {
+                    return Ok((Part::Range { from: c, to: c }, before));
+                }
+                Err(Fault {
+                    number: NO_RANGE,
+                    at: before.at,
+                })
+            }
+        }
+    }
+}
