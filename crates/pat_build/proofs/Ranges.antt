@@ -1,5 +1,5 @@
 -- What a character of a class begins, by the tokens after it.
-use Rattle.std.proofs.Common.{◌≡◌, ℕ, ◌<◌, ◌≤◌, Bool, true, false, cond, nat_lt, List, Option, Some, None, Result, Ok, Err, refl, ap, ◌∙◌, if◌then◌else◌, arith}
+use Rattle.std.proofs.Common.{◌≡◌, ℕ, ◌<◌, ◌≤◌, Bool, true, false, cond, ◌&&◌, nat_lt, List, Option, Some, None, Result, Ok, Err, refl, ap, ◌∙◌, if◌then◌else◌, arith}
 use Rattle.std.specs.Str.{byte}
 use Rattle.std.proofs.lemmas.Bool.Decides.{nat_tests}
 use Rattle.pat_tree.specs.declared.nodes.Part.{Part}
@@ -55,3 +55,21 @@ module _ (text : List ℕ) (n : ℕ) (rest : State → Reads (List Part)) (c : �
     pub character_bad : (f : Fault) → item text n after ≡ Err f → from_character text n rest c here after ≡ Err f
     unfolding from_character
     character_bad f bad = rw bad refl
+
+module _ (text : List ℕ) (n : ℕ) (rest : State → Reads (List Part)) (set : Part) (after : State) where
+  module _ (token : Token) (before beyond : State) (found : item text n after ≡ Ok (token, before, beyond)) where
+    pub set_alone : is_hyphen token ≡ false → from_set text n rest set after ≡ part_then set (rest after)
+    unfolding from_set
+    set_alone hyphen = rw (found, hyphen) refl
+
+    pub set_ends : is_last_item (item text n beyond) ≡ true → from_set text n rest set after ≡ part_then set (rest after)
+    unfolding from_set
+    set_ends last = rw (found, last) (elim (is_hyphen token) as (λ b. ◌≡◌ {A = Reads (List Part)} (if b && false then fault 150 before.at else part_then set (rest after)) (part_then set (rest after))) [ true ↦ refl | false ↦ refl ])
+
+    pub set_refused : is_hyphen token ≡ true → is_last_item (item text n beyond) ≡ false → from_set text n rest set after ≡ fault 150 before.at
+    unfolding from_set
+    set_refused hyphen last = rw (found, hyphen, last) refl
+
+  pub set_bad : (f : Fault) → item text n after ≡ Err f → from_set text n rest set after ≡ Err f
+  unfolding from_set
+  set_bad f bad = rw bad refl

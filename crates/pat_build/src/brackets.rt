@@ -115,4 +115,49 @@ impl<'a> Cursor<'a> {
             }
         }
     }
+
+    /// What a character at `here` begins, the place after it being given.
+    fn from_character(&self, c: u32, here: Place, after: Place) -> Result<(Part, Place), Fault>
+        requires { after.at ≤ length self.now.text.now }
+        ensures part { let state = λ (st : State) (p : Place). record st { at = p.at; quoting = p.quoting; options = self.now.options; groups = self.now.groups } in IfOk result (λ r. (st : State) (n : ℕ) (rest : State → Reads (List Part)) → length self.now.text.now < n + after.at → from_character self.now.text.now n rest c (state st here) (state st after) ≡ part_then r.0 (rest (state st r.1))) }
+        ensures bad { let state = λ (st : State) (p : Place). record st { at = p.at; quoting = p.quoting; options = self.now.options; groups = self.now.groups } in IfErr result (λ f. (st : State) (n : ℕ) (rest : State → Reads (List Part)) → length self.now.text.now < n + after.at → from_character self.now.text.now n rest c (state st here) (state st after) ≡ Err f) }
+        ensures past { IfOk result (λ r. after.at ≤ r.1.at) }
+        ensures within { IfOk result (λ r. r.1.at ≤ length self.now.text.now) }
+    {
+        let hyphen = self.item(after)?;
+        if is_hyphen(hyphen.token) {
+            let range = self.range_or_hyphen(c, here, hyphen.here, hyphen.after)?;
+            return Ok(range);
+        }
+        Ok((Part::Range { from: c, to: c }, after))
+    }
+
+    /// Whether nothing of the class follows a place. A faulty token is something.
+    fn is_last_at(&self, place: Place) -> bool
+        requires { place.at ≤ length self.now.text.now }
+        ensures { let state = λ (st : State) (p : Place). record st { at = p.at; quoting = p.quoting; options = self.now.options; groups = self.now.groups } in (st : State) (n : ℕ) → length self.now.text.now < n + place.at → is_last_item (item self.now.text.now n (state st place)) ≡ result }
+    {
+        match self.item(place) {
+            Ok(item) => is_last(item.token),
+            Err(_) => false,
+        }
+    }
+
+    /// A set, the place after it being given: a hyphen after it must be last.
+    fn from_set(&self, set: Part, after: Place) -> Result<(Part, Place), Fault>
+        requires { after.at ≤ length self.now.text.now }
+        ensures part { let state = λ (st : State) (p : Place). record st { at = p.at; quoting = p.quoting; options = self.now.options; groups = self.now.groups } in IfOk result (λ r. (st : State) (n : ℕ) (rest : State → Reads (List Part)) → length self.now.text.now < n + after.at → from_set self.now.text.now n rest set (state st after) ≡ part_then r.0 (rest (state st r.1))) }
+        ensures bad { let state = λ (st : State) (p : Place). record st { at = p.at; quoting = p.quoting; options = self.now.options; groups = self.now.groups } in IfErr result (λ f. (st : State) (n : ℕ) (rest : State → Reads (List Part)) → length self.now.text.now < n + after.at → from_set self.now.text.now n rest set (state st after) ≡ Err f) }
+        ensures past { IfOk result (λ r. after.at ≤ r.1.at) }
+        ensures within { IfOk result (λ r. r.1.at ≤ length self.now.text.now) }
+    {
+        let hyphen = self.item(after)?;
+        if is_hyphen(hyphen.token) && !self.is_last_at(hyphen.after) {
+            return Err(Fault {
+                number: NO_RANGE,
+                at: hyphen.here.at,
+            });
+        }
+        Ok((set, after))
+    }
 }
