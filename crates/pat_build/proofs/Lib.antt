@@ -1,3 +1,4 @@
+pub mod ClassParts
 pub mod Ranges
 pub mod RowProofs
 pub mod Spots

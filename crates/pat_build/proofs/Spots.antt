@@ -50,7 +50,7 @@ pub record Passes (cursor : Cursor) (from here : Place) : Type 0 where
   pub within : here.at ≤ length cursor.text.now
   pub same : (st : State) (n : ℕ) → length cursor.text.now < n + from.at → (m : ℕ) × (length cursor.text.now < suc m + here.at) × (item cursor.text.now n (spot cursor st from) ≡ item cursor.text.now (suc m) (spot cursor st here))
 
-one_less : (n size at : ℕ) → size < n + at → at ≤ size → (m : ℕ) × (n ≡ suc m)
+pub one_less : (n size at : ℕ) → size < n + at → at ≤ size → (m : ℕ) × (n ≡ suc m)
 one_less zero size at more within = absurd (omega arith)
 one_less (suc m) size at more within = (m, refl)
 

@@ -1,15 +1,20 @@
 //! What stands between the brackets of a class (pcre2pattern, "Square brackets and character classes").
-ghost use Rattle.std.specs.Prelude.{◌≡◌, ℕ, ◌+◌, ◌<◌, ◌≤◌, List, [], length, Ok, Err, IfOk, IfErr, MatchOption};
+ghost use Rattle.std.specs.Prelude.{◌≡◌, Bool, true, false, not, ◌&&◌, ℕ, ◌+◌, ◌<◌, ◌≤◌, List, [], length, suc, Ok, Err, IfOk, IfErr, IfSome};
+ghost use Rattle.std.specs.Option.{option_map_or};
 ghost use Rattle.pat_tree.specs.declared.nodes.Part.{Part};
 ghost use Rattle.pat_tree.specs.declared.nodes.ClassSpec.{ClassSpec};
+ghost use Rattle.pat_lex.specs.declared.token.Token.TheVariants.{ClassEnd};
 ghost use Rattle.pat_lex.specs.Tell.{Moves};
 ghost use Rattle.pat_build.specs.State.{State, Reads};
 ghost use Rattle.pat_build.specs.Classes.{character, is_hyphen, is_last, is_last_item, part_then, item, range_or_hyphen, from_character, from_set, from_item, class_parts, class_spec};
 ghost use Rattle.pat_build.specs.declared.cursor.Place.{Place};
+ghost use Rattle.pat_build.specs.declared.error.ReadError.TheVariants.{Bad, Memory};
 
 use crate::cursor::{Cursor, Place};
+use crate::error::ReadError;
 use pat_lex::{Fault, Token};
-use pat_tree::Part;
+use pat_tree::{ClassSpec, Part, PartList};
+use std::alloc::Global;
 
 /// The class isn't closed.
 const UNCLOSED_CLASS: i32 = 106;
@@ -160,4 +165,107 @@ impl<'a> Cursor<'a> {
         }
         Ok((set, after))
     }
+
+    /// Whether a token closes the class. A bracket that comes first is a character, unless a class may be empty.
+    fn closes(&self, first: bool, token: Token) -> bool
+        ensures { result ≡ (elim token [ ClassEnd ↦ not (first && not self.now.options.allow_empty_class) | _ ↦ false ]) }
+    {
+        matches!(token, Token::ClassEnd) && !(first && !self.options.allow_empty_class)
+    }
+
+    /// The part that begins at an item of a class that doesn't close it, and the place after it.
+    fn part(&self, item: ClassItem) -> Result<(Part, Place), Fault>
+        requires moves { Moves self.now.text.now item.here.at item.token item.after.at }
+        requires within { item.after.at ≤ length self.now.text.now }
+        ensures part { let state = λ (st : State) (p : Place). record st { at = p.at; quoting = p.quoting; options = self.now.options; groups = self.now.groups } in IfOk result (λ r. (first : Bool) → (elim (item.token) [ ClassEnd ↦ not (first && not self.now.options.allow_empty_class) | _ ↦ false ]) ≡ false → (st : State) (n : ℕ) (rest : State → Reads (List Part)) → length self.now.text.now < n + item.after.at → from_item self.now.text.now n rest first item.token (state st item.here) (state st item.after) ≡ part_then r.0 (rest (state st r.1))) }
+        ensures bad { let state = λ (st : State) (p : Place). record st { at = p.at; quoting = p.quoting; options = self.now.options; groups = self.now.groups } in IfErr result (λ f. (first : Bool) → (elim (item.token) [ ClassEnd ↦ not (first && not self.now.options.allow_empty_class) | _ ↦ false ]) ≡ false → (st : State) (n : ℕ) (rest : State → Reads (List Part)) → length self.now.text.now < n + item.after.at → from_item self.now.text.now n rest first item.token (state st item.here) (state st item.after) ≡ Err f) }
+        ensures past { IfOk result (λ r. item.here.at < r.1.at) }
+        ensures within { IfOk result (λ r. r.1.at ≤ length self.now.text.now) }
+    {
+        let ClassItem { token, here, after } = item;
+        match token {
+            Token::End => Err(Fault {
+                number: UNCLOSED_CLASS,
+                at: self.text.len(),
+            }),
+            Token::ClassEnd => self.from_character(u32::from(b']'), here, after),
+            Token::Hyphen => self.from_character(u32::from(b'-'), here, after),
+            Token::Literal(c) => self.from_character(c, here, after),
+            Token::Set { set, not } => {
+                let ucp = self.options.ucp;
+                self.from_set(Part::Set { set, not, ucp }, after)
+            }
+            _ => Err(Fault {
+                number: LEFT_OUT,
+                at: here.at,
+            }),
+        }
+    }
+
+    /// The part that begins at a place of a class, and the place after it; no part where the class is closed, and the place
+    /// after the bracket.
+    fn step(&self, first: bool, place: Place) -> Result<(Option<Part>, Place), Fault>
+        requires { place.at ≤ length self.now.text.now }
+        ensures step { let state = λ (st : State) (p : Place). record st { at = p.at; quoting = p.quoting; options = self.now.options; groups = self.now.groups } in IfOk result (λ r. (st : State) (n : ℕ) → length self.now.text.now < n + place.at → class_parts self.now.text.now (suc n) first (state st place) ≡ option_map_or (λ p. part_then p (class_parts self.now.text.now n false (state st r.1))) r.0 (Ok ([], state st r.1))) }
+        ensures bad { let state = λ (st : State) (p : Place). record st { at = p.at; quoting = p.quoting; options = self.now.options; groups = self.now.groups } in IfErr result (λ f. (st : State) (n : ℕ) → length self.now.text.now < n + place.at → class_parts self.now.text.now (suc n) first (state st place) ≡ Err f) }
+        ensures past { IfOk result (λ r. place.at ≤ r.1.at) }
+        ensures more { IfOk result (λ r. IfSome r.0 (λ p. place.at < r.1.at)) }
+        ensures within { IfOk result (λ r. r.1.at ≤ length self.now.text.now) }
+    {
+        let item = self.item(place)?;
+        if self.closes(first, item.token) {
+            return Ok((None, item.after));
+        }
+        let (part, next) = self.part(item)?;
+        Ok((Some(part), next))
+    }
+
+    /// The parts of a class from the place after its opening bracket on, and the place after the closing one.
+    fn parts(&self, alloc: Global) -> Result<(PartList, Place), ReadError>
+        requires { self.now.place.at ≤ length self.now.text.now }
+        ensures parts { let state = λ (st : State) (p : Place). record st { at = p.at; quoting = p.quoting; options = self.now.options; groups = self.now.groups } in IfOk result (λ r. (st : State) (n : ℕ) → length self.now.text.now + 1 < n + self.now.place.at → class_parts self.now.text.now n true (state st self.now.place) ≡ Ok (r.0, state st r.1)) }
+        ensures bad { let state = λ (st : State) (p : Place). record st { at = p.at; quoting = p.quoting; options = self.now.options; groups = self.now.groups } in IfErr result (λ e. (st : State) (n : ℕ) → length self.now.text.now + 1 < n + self.now.place.at → (elim e [ Bad number at ↦ class_parts self.now.text.now n true (state st self.now.place) ≡ Err (record { number = number; at = at }) | Memory ↦ Unit {0} ])) }
+        ensures past { IfOk result (λ r. self.now.place.at ≤ r.1.at) }
+        ensures within { IfOk result (λ r. r.1.at ≤ length self.now.text.now) }
+    {
+        let mut parts = PartList::new(alloc);
+        let mut place = self.place;
+        let mut first = true;
+        'items: loop {
+            let (part, next) = self.step(first, place)?;
+            match part {
+                Some(part) => parts.push(part)?,
+                None => return Ok((parts, next)),
+            }
+            place = next;
+            first = false;
+        }
+    }
+}
+
+/// A class from the place after its opening bracket on, which is the cursor's, and the place after the closing one. A
+/// closing bracket that comes first is a character, unless ALLOW_EMPTY_CLASS is set. Of faults the first from the left is
+/// told: 106 at the text's end where the class isn't closed, 108 at the first character of a range that is out of order,
+/// 150 at a hyphen beside a set, 195 at a property, which is left out, and the faults of the tokens.
+pub(crate) fn read_class(
+    alloc: Global,
+    cursor: &Cursor,
+    negated: bool,
+) -> Result<(ClassSpec, Place), ReadError>
+    requires { cursor.now.place.at ≤ length cursor.now.text.now }
+
+    // What the class is, in whatever state the reader is there, and for each bound that leaves two tokens more than bytes.
+    ensures class { let state = λ (st : State) (p : Place). record st { at = p.at; quoting = p.quoting; options = cursor.now.options; groups = cursor.now.groups } in IfOk result (λ r. (st : State) (n : ℕ) → length cursor.now.text.now + 1 < n + cursor.now.place.at → class_spec cursor.now.text.now n negated (state st cursor.now.place) ≡ Ok (r.0, state st r.1)) }
+    ensures bad { let state = λ (st : State) (p : Place). record st { at = p.at; quoting = p.quoting; options = cursor.now.options; groups = cursor.now.groups } in IfErr result (λ e. (st : State) (n : ℕ) → length cursor.now.text.now + 1 < n + cursor.now.place.at → (elim e [ Bad number at ↦ class_spec cursor.now.text.now n negated (state st cursor.now.place) ≡ Err (record { number = number; at = at }) | Memory ↦ Unit {0} ])) }
+    ensures past { IfOk result (λ r. cursor.now.place.at ≤ r.1.at) }
+    ensures within { IfOk result (λ r. r.1.at ≤ length cursor.now.text.now) }
+{
+    let (parts, end) = cursor.parts(alloc)?;
+    let caseless = cursor.options.caseless;
+    let spec = ClassSpec {
+        negated,
+        caseless,
+        parts,
+    };
+    Ok((spec, end))
 }

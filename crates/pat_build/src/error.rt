@@ -21,3 +21,17 @@ impl From<Memory> for ReadError {
         ReadError::Memory
     }
 }
+
+impl From<Fault> for ReadError {
+    ghost use Rattle.std.specs.Prelude.{◌≡◌};
+    ghost use Rattle.pat_build.specs.declared.error.ReadError.TheVariants.{Bad};
+
+    ghost from_gives = { λ fault e. e ≡ Bad fault.number fault.at };
+
+    fn from(fault: Fault) -> ReadError {
+        ReadError::Bad {
+            number: fault.number,
+            at: fault.at,
+        }
+    }
+}
