@@ -1,10 +1,10 @@
 //! What stands between the brackets of a class (pcre2pattern, "Square brackets and character classes").
-ghost use Rattle.std.specs.Prelude.{◌≡◌, Bool, true, false, not, ◌&&◌, ℕ, ◌+◌, ◌<◌, ◌≤◌, List, [], length, suc, Ok, Err, IfOk, IfErr, IfSome};
+ghost use Rattle.std.specs.Prelude.{◌≡◌, Bool, true, false, not, ◌&&◌, ℕ, ◌+◌, ◌<◌, ◌≤◌, List, [], length, suc, Ok, Err, IfOk, IfErr, IfSome, IsTrue, pos, ◌⊎◌};
 ghost use Rattle.std.specs.Option.{option_map_or};
 ghost use Rattle.pat_tree.specs.declared.nodes.Part.{Part};
 ghost use Rattle.pat_tree.specs.declared.nodes.ClassSpec.{ClassSpec};
 ghost use Rattle.pat_lex.specs.declared.token.Token.TheVariants.{ClassEnd};
-ghost use Rattle.pat_lex.specs.Tell.{Moves};
+ghost use Rattle.pat_lex.specs.Tell.{Moves, is_own};
 ghost use Rattle.pat_build.specs.State.{State, Reads};
 ghost use Rattle.pat_build.specs.Classes.{character, is_hyphen, is_last, is_last_item, part_then, item, range_or_hyphen, from_character, from_set, from_item, class_parts, class_spec};
 ghost use Rattle.pat_build.specs.declared.cursor.Place.{Place};
@@ -70,6 +70,8 @@ impl<'a> Cursor<'a> {
         ensures onward { IfOk result (λ i. i.here.at ≤ i.after.at) }
         ensures within { IfOk result (λ i. i.after.at ≤ length self.now.text.now) }
         ensures moves { IfOk result (λ i. Moves self.now.text.now i.here.at i.token i.after.at) }
+        ensures number { IfErr result (λ f. IsTrue (is_own f.number)) }
+        ensures place { IfErr result (λ f. f.at ≤ length self.now.text.now) }
     {
         let mut here = place;
         'passing: loop {
@@ -91,12 +93,15 @@ impl<'a> Cursor<'a> {
         before: Place,
         after: Place,
     ) -> Result<(Part, Place), Fault>
+        requires begins { here.at ≤ before.at }
         requires order { before.at ≤ after.at }
         requires within { after.at ≤ length self.now.text.now }
         ensures part { let state = λ (st : State) (p : Place). record st { at = p.at; quoting = p.quoting; options = self.now.options; groups = self.now.groups } in IfOk result (λ r. (st : State) (n : ℕ) (rest : State → Reads (List Part)) → length self.now.text.now < n + after.at → range_or_hyphen self.now.text.now n rest c (state st here) (state st before) (state st after) ≡ part_then r.0 (rest (state st r.1))) }
         ensures bad { let state = λ (st : State) (p : Place). record st { at = p.at; quoting = p.quoting; options = self.now.options; groups = self.now.groups } in IfErr result (λ f. (st : State) (n : ℕ) (rest : State → Reads (List Part)) → length self.now.text.now < n + after.at → range_or_hyphen self.now.text.now n rest c (state st here) (state st before) (state st after) ≡ Err f) }
         ensures past { IfOk result (λ r. before.at ≤ r.1.at) }
         ensures within { IfOk result (λ r. r.1.at ≤ length self.now.text.now) }
+        ensures number { IfErr result (λ f. IsTrue (is_own f.number) ⊎ (f.number ≡ pos 106) ⊎ (f.number ≡ pos 108) ⊎ (f.number ≡ pos 150)) }
+        ensures place { IfErr result (λ f. f.at ≤ length self.now.text.now) }
     {
         let item = self.item(after)?;
         match character(item.token) {
@@ -123,11 +128,14 @@ impl<'a> Cursor<'a> {
 
     /// What a character at `here` begins, the place after it being given.
     fn from_character(&self, c: u32, here: Place, after: Place) -> Result<(Part, Place), Fault>
-        requires { after.at ≤ length self.now.text.now }
+        requires begins { here.at ≤ after.at }
+        requires within { after.at ≤ length self.now.text.now }
         ensures part { let state = λ (st : State) (p : Place). record st { at = p.at; quoting = p.quoting; options = self.now.options; groups = self.now.groups } in IfOk result (λ r. (st : State) (n : ℕ) (rest : State → Reads (List Part)) → length self.now.text.now < n + after.at → from_character self.now.text.now n rest c (state st here) (state st after) ≡ part_then r.0 (rest (state st r.1))) }
         ensures bad { let state = λ (st : State) (p : Place). record st { at = p.at; quoting = p.quoting; options = self.now.options; groups = self.now.groups } in IfErr result (λ f. (st : State) (n : ℕ) (rest : State → Reads (List Part)) → length self.now.text.now < n + after.at → from_character self.now.text.now n rest c (state st here) (state st after) ≡ Err f) }
         ensures past { IfOk result (λ r. after.at ≤ r.1.at) }
         ensures within { IfOk result (λ r. r.1.at ≤ length self.now.text.now) }
+        ensures number { IfErr result (λ f. IsTrue (is_own f.number) ⊎ (f.number ≡ pos 106) ⊎ (f.number ≡ pos 108) ⊎ (f.number ≡ pos 150)) }
+        ensures place { IfErr result (λ f. f.at ≤ length self.now.text.now) }
     {
         let hyphen = self.item(after)?;
         if is_hyphen(hyphen.token) {
@@ -155,6 +163,8 @@ impl<'a> Cursor<'a> {
         ensures bad { let state = λ (st : State) (p : Place). record st { at = p.at; quoting = p.quoting; options = self.now.options; groups = self.now.groups } in IfErr result (λ f. (st : State) (n : ℕ) (rest : State → Reads (List Part)) → length self.now.text.now < n + after.at → from_set self.now.text.now n rest set (state st after) ≡ Err f) }
         ensures past { IfOk result (λ r. after.at ≤ r.1.at) }
         ensures within { IfOk result (λ r. r.1.at ≤ length self.now.text.now) }
+        ensures number { IfErr result (λ f. IsTrue (is_own f.number) ⊎ (f.number ≡ pos 106) ⊎ (f.number ≡ pos 108) ⊎ (f.number ≡ pos 150)) }
+        ensures place { IfErr result (λ f. f.at ≤ length self.now.text.now) }
     {
         let hyphen = self.item(after)?;
         if is_hyphen(hyphen.token) && !self.is_last_at(hyphen.after) {
@@ -175,12 +185,15 @@ impl<'a> Cursor<'a> {
 
     /// The part that begins at an item of a class that doesn't close it, and the place after it.
     fn part(&self, item: ClassItem) -> Result<(Part, Place), Fault>
+        requires begins { item.here.at ≤ item.after.at }
         requires moves { Moves self.now.text.now item.here.at item.token item.after.at }
         requires within { item.after.at ≤ length self.now.text.now }
         ensures part { let state = λ (st : State) (p : Place). record st { at = p.at; quoting = p.quoting; options = self.now.options; groups = self.now.groups } in IfOk result (λ r. (first : Bool) → (elim (item.token) [ ClassEnd ↦ not (first && not self.now.options.allow_empty_class) | _ ↦ false ]) ≡ false → (st : State) (n : ℕ) (rest : State → Reads (List Part)) → length self.now.text.now < n + item.after.at → from_item self.now.text.now n rest first item.token (state st item.here) (state st item.after) ≡ part_then r.0 (rest (state st r.1))) }
         ensures bad { let state = λ (st : State) (p : Place). record st { at = p.at; quoting = p.quoting; options = self.now.options; groups = self.now.groups } in IfErr result (λ f. (first : Bool) → (elim (item.token) [ ClassEnd ↦ not (first && not self.now.options.allow_empty_class) | _ ↦ false ]) ≡ false → (st : State) (n : ℕ) (rest : State → Reads (List Part)) → length self.now.text.now < n + item.after.at → from_item self.now.text.now n rest first item.token (state st item.here) (state st item.after) ≡ Err f) }
         ensures past { IfOk result (λ r. item.here.at < r.1.at) }
         ensures within { IfOk result (λ r. r.1.at ≤ length self.now.text.now) }
+        ensures number { IfErr result (λ f. IsTrue (is_own f.number) ⊎ (f.number ≡ pos 106) ⊎ (f.number ≡ pos 108) ⊎ (f.number ≡ pos 150)) }
+        ensures place { IfErr result (λ f. f.at ≤ length self.now.text.now) }
     {
         let ClassItem { token, here, after } = item;
         match token {
@@ -211,6 +224,8 @@ impl<'a> Cursor<'a> {
         ensures past { IfOk result (λ r. place.at ≤ r.1.at) }
         ensures more { IfOk result (λ r. IfSome r.0 (λ p. place.at < r.1.at)) }
         ensures within { IfOk result (λ r. r.1.at ≤ length self.now.text.now) }
+        ensures number { IfErr result (λ f. IsTrue (is_own f.number) ⊎ (f.number ≡ pos 106) ⊎ (f.number ≡ pos 108) ⊎ (f.number ≡ pos 150)) }
+        ensures place { IfErr result (λ f. f.at ≤ length self.now.text.now) }
     {
         let item = self.item(place)?;
         if self.closes(first, item.token) {
@@ -227,6 +242,8 @@ impl<'a> Cursor<'a> {
         ensures bad { let state = λ (st : State) (p : Place). record st { at = p.at; quoting = p.quoting; options = self.now.options; groups = self.now.groups } in IfErr result (λ e. (st : State) (n : ℕ) → length self.now.text.now + 1 < n + self.now.place.at → (elim e [ Bad number at ↦ class_parts self.now.text.now n true (state st self.now.place) ≡ Err (record { number = number; at = at }) | Memory ↦ Unit {0} ])) }
         ensures past { IfOk result (λ r. self.now.place.at ≤ r.1.at) }
         ensures within { IfOk result (λ r. r.1.at ≤ length self.now.text.now) }
+        ensures number { IfErr result (λ e. elim e [ Bad number at ↦ IsTrue (is_own number) ⊎ (number ≡ pos 106) ⊎ (number ≡ pos 108) ⊎ (number ≡ pos 150) | Memory ↦ Unit {0} ]) }
+        ensures place { IfErr result (λ e. elim e [ Bad number at ↦ at ≤ length self.now.text.now | Memory ↦ Unit {0} ]) }
     {
         let mut parts = PartList::new(alloc);
         let mut place = self.place;
@@ -259,6 +276,8 @@ pub(crate) fn read_class(
     ensures bad { let state = λ (st : State) (p : Place). record st { at = p.at; quoting = p.quoting; options = cursor.now.options; groups = cursor.now.groups } in IfErr result (λ e. (st : State) (n : ℕ) → length cursor.now.text.now + 1 < n + cursor.now.place.at → (elim e [ Bad number at ↦ class_spec cursor.now.text.now n negated (state st cursor.now.place) ≡ Err (record { number = number; at = at }) | Memory ↦ Unit {0} ])) }
     ensures past { IfOk result (λ r. cursor.now.place.at ≤ r.1.at) }
     ensures within { IfOk result (λ r. r.1.at ≤ length cursor.now.text.now) }
+    ensures number { IfErr result (λ e. elim e [ Bad number at ↦ IsTrue (is_own number) ⊎ (number ≡ pos 106) ⊎ (number ≡ pos 108) ⊎ (number ≡ pos 150) | Memory ↦ Unit {0} ]) }
+    ensures place { IfErr result (λ e. elim e [ Bad number at ↦ at ≤ length cursor.now.text.now | Memory ↦ Unit {0} ]) }
 {
     let (parts, end) = cursor.parts(alloc)?;
     let caseless = cursor.options.caseless;
