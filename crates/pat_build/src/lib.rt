@@ -8,3 +8,6 @@ mod laws;
 
 pub use error::ReadError;
 pub use laws::worked_rows;
+
+#[cfg(test)]
+mod tests;
