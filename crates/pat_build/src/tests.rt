@@ -61,14 +61,14 @@ fn holds(rt: &impl Abort, alloc: Global, options: Options, text: &str, parts: &[
 }
 
 /// The class is refused.
-fn refused(rt: &impl Abort, alloc: Global, options: Options, text: &str, number: i32, at: usize) {
+fn refused(rt: &impl Abort, alloc: Global, text: &str, number: i32, at: usize) {
     let cursor = Cursor {
         text: text.as_bytes(),
         place: Place {
             at: 0,
             quoting: false,
         },
-        options,
+        options: PLAIN,
         groups: 0,
     };
     match read_class(alloc, &cursor, false) {
@@ -79,141 +79,91 @@ fn refused(rt: &impl Abort, alloc: Global, options: Options, text: &str, number:
 
 #[test]
 fn characters_and_ranges(rt: HostRuntime) {
+    let rows: [(Options, &str, &[Part], usize); 12] = [
+        (PLAIN, "abc]", &[one('a'), one('b'), one('c')], 4),
+        (PLAIN, "a-c]", &[range('a', 'c')], 4),
+        (PLAIN, "a-a]", &[one('a')], 4),
+        (PLAIN, "a-c-e]", &[range('a', 'c'), one('-'), one('e')], 6),
+        (PLAIN, "+--]", &[range('+', '-')], 4),
+        (PLAIN, "--/]", &[range('-', '/')], 4),
+        (PLAIN, "\\x41-\\103]", &[range('A', 'C')], 10),
+        (PLAIN, "\\b\\8]", &[one('\x08'), one('8')], 5),
+        (PLAIN, "]a]", &[one(']'), one('a')], 3),
+        (PLAIN, "]-a]", &[range(']', 'a')], 4),
+        (EMPTY, "]a]", &[], 1),
+        (EMPTY, "a]]", &[one('a')], 2),
+    ];
     let alloc = rt.alloc();
-    holds(
-        &rt,
-        alloc,
-        PLAIN,
-        "abc]",
-        &[one('a'), one('b'), one('c')],
-        4,
-    );
-    holds(&rt, alloc, PLAIN, "a-c]", &[range('a', 'c')], 4);
-    holds(&rt, alloc, PLAIN, "a-a]", &[one('a')], 4);
-    holds(
-        &rt,
-        alloc,
-        PLAIN,
-        "a-c-e]",
-        &[range('a', 'c'), one('-'), one('e')],
-        6,
-    );
-    holds(&rt, alloc, PLAIN, "+--]", &[range('+', '-')], 4);
-    holds(&rt, alloc, PLAIN, "--/]", &[range('-', '/')], 4);
-    holds(&rt, alloc, PLAIN, "\\x41-\\103]", &[range('A', 'C')], 10);
-    holds(&rt, alloc, PLAIN, "\\b\\8]", &[one('\x08'), one('8')], 5);
-    refused(&rt, alloc, PLAIN, "xc-a]", 108, 1);
-    refused(&rt, alloc, PLAIN, "a--]", 108, 0);
-    refused(&rt, alloc, PLAIN, "\\x43-\\x41]", 108, 0);
+    for (options, text, parts, end) in rows {
+        holds(&rt, alloc, options, text, parts, end);
+    }
 }
 
 #[test]
-fn brackets_and_ends(rt: HostRuntime) {
+fn sets_and_hyphens(rt: HostRuntime) {
+    let digit = set(SetName::Digit, false);
+    let lower = set(SetName::Lower, true);
+    let rows: [(&str, &[Part], usize); 10] = [
+        ("-a]", &[one('-'), one('a')], 3),
+        ("a-]", &[one('a'), one('-')], 3),
+        ("\\d-]", &[digit, one('-')], 4),
+        ("-\\d]", &[one('-'), digit], 4),
+        ("a-c-\\d]", &[range('a', 'c'), one('-'), digit], 7),
+        ("\\W]", &[set(SetName::Word, true)], 3),
+        ("a[:^lower:]]", &[one('a'), lower], 12),
+        ("[:digit:]\\h]", &[digit, set(SetName::H, false)], 12),
+        ("[]", &[one('[')], 2),
+        ("[:]", &[one('['), one(':')], 3),
+    ];
     let alloc = rt.alloc();
-    holds(&rt, alloc, PLAIN, "]a]", &[one(']'), one('a')], 3);
-    holds(&rt, alloc, PLAIN, "]-a]", &[range(']', 'a')], 4);
-    holds(&rt, alloc, PLAIN, "[]]", &[one('[')], 2);
-    holds(&rt, alloc, EMPTY, "]a]", &[], 1);
-    holds(&rt, alloc, EMPTY, "a]]", &[one('a')], 2);
-    refused(&rt, alloc, PLAIN, "]", 106, 1);
-    refused(&rt, alloc, PLAIN, "", 106, 0);
-    refused(&rt, alloc, PLAIN, "abc", 106, 3);
-    refused(&rt, alloc, PLAIN, "a-", 106, 2);
-    refused(&rt, alloc, PLAIN, "\\d-", 106, 3);
-    refused(&rt, alloc, PLAIN, "\\Q]", 106, 3);
-}
-
-#[test]
-fn hyphens(rt: HostRuntime) {
-    let alloc = rt.alloc();
-    let digits = set(SetName::Digit, false);
-    holds(&rt, alloc, PLAIN, "-a]", &[one('-'), one('a')], 3);
-    holds(&rt, alloc, PLAIN, "a-]", &[one('a'), one('-')], 3);
-    holds(&rt, alloc, PLAIN, "\\d-]", &[digits, one('-')], 4);
-    holds(&rt, alloc, PLAIN, "-\\d]", &[one('-'), digits], 4);
-    holds(
-        &rt,
-        alloc,
-        PLAIN,
-        "a-c-\\d]",
-        &[range('a', 'c'), one('-'), digits],
-        7,
-    );
-    refused(&rt, alloc, PLAIN, "\\d-z]", 150, 2);
-    refused(&rt, alloc, PLAIN, "a-\\d]", 150, 1);
-    refused(&rt, alloc, PLAIN, "\\d-\\w]", 150, 2);
-    refused(&rt, alloc, PLAIN, "[:alpha:]-z]", 150, 9);
-    refused(&rt, alloc, PLAIN, "a-[:digit:]]", 150, 1);
-    refused(&rt, alloc, PLAIN, "\\d-\\", 150, 2);
-}
-
-#[test]
-fn sets(rt: HostRuntime) {
-    let alloc = rt.alloc();
-    let upper = set(SetName::Upper, false);
-    holds(&rt, alloc, PLAIN, "\\W]", &[set(SetName::Word, true)], 3);
-    holds(
-        &rt,
-        alloc,
-        PLAIN,
-        "a[:^lower:]]",
-        &[one('a'), set(SetName::Lower, true)],
-        12,
-    );
-    holds(
-        &rt,
-        alloc,
-        PLAIN,
-        "[:upper:]\\h]",
-        &[upper, set(SetName::H, false)],
-        12,
-    );
-    holds(
-        &rt,
-        alloc,
-        PLAIN,
-        "[:upper]",
-        &[
-            one('['),
-            one(':'),
-            one('u'),
-            one('p'),
-            one('p'),
-            one('e'),
-            one('r'),
-        ],
-        8,
-    );
-    refused(&rt, alloc, PLAIN, "a\\R]", 107, 1);
-    refused(&rt, alloc, PLAIN, "[.a.]]", 113, 0);
-    refused(&rt, alloc, PLAIN, "[:low:]]", 130, 0);
-    refused(&rt, alloc, PLAIN, "a\\", 101, 1);
+    for (text, parts, end) in rows {
+        holds(&rt, alloc, PLAIN, text, parts, end);
+    }
 }
 
 #[test]
 fn quotes_and_blanks(rt: HostRuntime) {
+    let rows: [(Options, &str, &[Part], usize); 8] = [
+        (PLAIN, "\\Q]\\E]", &[one(']')], 6),
+        (PLAIN, "\\Q\\E]a]", &[one(']'), one('a')], 7),
+        (PLAIN, "a\\Q-\\Ez]", &[one('a'), one('-'), one('z')], 8),
+        (PLAIN, "a-\\Qz]\\E]", &[range('a', 'z'), one(']')], 9),
+        (PLAIN, "a\\E-\\Ez]", &[range('a', 'z')], 8),
+        (PLAIN, "a ]", &[one('a'), one(' ')], 3),
+        (SPACED, " a - z\t]", &[range('a', 'z')], 8),
+        (SPACED, "\\Q \\E\\ ]", &[one(' '), one(' ')], 8),
+    ];
     let alloc = rt.alloc();
-    holds(&rt, alloc, PLAIN, "\\Q]\\E]", &[one(']')], 6);
-    holds(&rt, alloc, PLAIN, "\\Q\\E]a]", &[one(']'), one('a')], 7);
-    holds(
-        &rt,
-        alloc,
-        PLAIN,
-        "a\\Q-\\Ez]",
-        &[one('a'), one('-'), one('z')],
-        8,
-    );
-    holds(
-        &rt,
-        alloc,
-        PLAIN,
-        "a-\\Qz]\\E]",
-        &[range('a', 'z'), one(']')],
-        9,
-    );
-    holds(&rt, alloc, PLAIN, "a\\E-\\Ez]", &[range('a', 'z')], 8);
-    holds(&rt, alloc, PLAIN, "a ]", &[one('a'), one(' ')], 3);
-    holds(&rt, alloc, SPACED, " a - z\t]", &[range('a', 'z')], 8);
-    holds(&rt, alloc, SPACED, "\\Q \\E\\ ]", &[one(' '), one(' ')], 8);
-    refused(&rt, alloc, SPACED, "z - a]", 108, 0);
+    for (options, text, parts, end) in rows {
+        holds(&rt, alloc, options, text, parts, end);
+    }
+}
+
+#[test]
+fn faults(rt: HostRuntime) {
+    let rows = [
+        ("]", 106, 1),
+        ("", 106, 0),
+        ("abc", 106, 3),
+        ("a-", 106, 2),
+        ("\\d-", 106, 3),
+        ("\\Q]", 106, 3),
+        ("xc-a]", 108, 1),
+        ("a--]", 108, 0),
+        ("\\x43-\\x41]", 108, 0),
+        ("\\d-z]", 150, 2),
+        ("a-\\d]", 150, 1),
+        ("\\d-\\w]", 150, 2),
+        ("[:alpha:]-z]", 150, 9),
+        ("a-[:digit:]]", 150, 1),
+        ("\\d-\\", 150, 2),
+        ("a\\R]", 107, 1),
+        ("[.a.]]", 113, 0),
+        ("[:low:]]", 130, 0),
+        ("a\\", 101, 1),
+    ];
+    let alloc = rt.alloc();
+    for (text, number, at) in rows {
+        refused(&rt, alloc, text, number, at);
+    }
 }
