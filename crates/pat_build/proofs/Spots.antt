@@ -3,8 +3,8 @@ use Rattle.std.proofs.Common.{◌≡◌, ℕ, zero, suc, ◌+◌, ◌<◌, ◌�
 use Rattle.pat_lex.specs.declared.fault.Fault.{Fault}
 use Rattle.pat_lex.specs.declared.token.LexFlags.{LexFlags}
 use Rattle.pat_lex.specs.declared.token.Token.{Token}
-use Rattle.pat_lex.specs.declared.token.Token.TheVariants.{End, Passed, QuoteOn, QuoteOff}
-use Rattle.pat_lex.specs.Tell.{◌>>=◌, Moves}
+use Rattle.pat_lex.specs.declared.token.Token.TheVariants.{Passed, QuoteOn, QuoteOff}
+use Rattle.pat_lex.specs.Tell.{Moves}
 use Rattle.pat_lex.specs.Tokens.{token_at}
 use Rattle.pat_build.specs.State.{State, flags_of, next, passed_over}
 use Rattle.pat_build.specs.Classes.{Item, item}

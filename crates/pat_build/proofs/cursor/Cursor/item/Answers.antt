@@ -1,4 +1,4 @@
-use Rattle.std.proofs.Common.{refl, arith}
+use Rattle.std.proofs.Common.{arith}
 use Rattle.std.proofs.lemmas.Result.{err_from_is_err_and}
 use Rattle.pat_build.proofs.Spots.{spot, begins_there, passes_on, passes_to, passes_bad}
 use Rattle.pat_build.proofs.cursor.Cursor.item.Goals as goal
