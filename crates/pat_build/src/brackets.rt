@@ -271,7 +271,8 @@ pub(crate) fn read_class(
 ) -> Result<(ClassSpec, Place), ReadError>
     requires { cursor.now.place.at ≤ length cursor.now.text.now }
 
-    // What the class is, in whatever state the reader is there, and for each bound that leaves two tokens more than bytes.
+    // The class and the place after it, or the fault, are those of the definition: from every state of the reader at the
+    // cursor, and for every bound of at least two more than the bytes that are left. The rest of the state stays as it was.
     ensures class { let state = λ (st : State) (p : Place). record st { at = p.at; quoting = p.quoting; options = cursor.now.options; groups = cursor.now.groups } in IfOk result (λ r. (st : State) (n : ℕ) → length cursor.now.text.now + 1 < n + cursor.now.place.at → class_spec cursor.now.text.now n negated (state st cursor.now.place) ≡ Ok (r.0, state st r.1)) }
     ensures bad { let state = λ (st : State) (p : Place). record st { at = p.at; quoting = p.quoting; options = cursor.now.options; groups = cursor.now.groups } in IfErr result (λ e. (st : State) (n : ℕ) → length cursor.now.text.now + 1 < n + cursor.now.place.at → (elim e [ Bad number at ↦ class_spec cursor.now.text.now n negated (state st cursor.now.place) ≡ Err (record { number = number; at = at }) | Memory ↦ Unit {0} ])) }
     ensures past { IfOk result (λ r. cursor.now.place.at ≤ r.1.at) }
