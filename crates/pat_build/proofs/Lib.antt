@@ -1,2 +1,5 @@
+pub mod ClassParts
+pub mod Ranges
 pub mod RowProofs
+pub mod Spots
 pub mod Steps
