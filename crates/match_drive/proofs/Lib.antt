@@ -6,3 +6,4 @@ mod Hitless
 mod NoPartial
 mod Excluded
 mod Steps
+mod Walk
