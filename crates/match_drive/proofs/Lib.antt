@@ -1,5 +1,9 @@
 pub mod WordLemmas
 mod RowProofs
 mod Left
+mod HitlessStreams
+mod Hitless
+mod NoPartial
 mod Excluded
 mod Steps
+mod Walk

@@ -150,6 +150,9 @@ module _ (g : Setting) (not_utf : g.options.utf ≡ false) (begun : g.start ≤ 
       by_crlf true = omega arith
       by_crlf false = omega arith
 
+  pub step_is : (p last : ℕ) (found next : Option ℕ) → last ≡ last_place g → found ≡ next_place g p → next ≡ up_to last found → next ≡ up_to (last_place g) (next_place g p)
+  step_is p last found next e f h = h ∙ ap (λ l. up_to l found) e ∙ ap (up_to (last_place g)) f
+
   pub step_later : (at p : ℕ) → at ≤ p → IfSome (up_to (last_place g) (next_place g p)) (λ q. at < q)
   step_later at p h = IfSome_then (up_to (last_place g) (next_place g p)) (up_to_keeps (λ q. p < q) (last_place g) (next_place g p) (next_later p)) (λ q both. omega (arith, h, both.0))
 

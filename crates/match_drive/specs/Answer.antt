@@ -24,6 +24,11 @@ IsMatchAnswer told.RecurseLoop caps f = f.answer ≡ meant.Error place.Loop
 IsMatchAnswer (told.Callout n) caps f = f.answer ≡ meant.Error (place.Abort n)
 IsMatchAnswer told.Memory caps f = Unit {0}
 
+-- it isn't a partial match
+abbrev pub IsNotPartial : MatchAnswer → Type 0
+IsNotPartial (told.Partial start mark) = ⊥
+IsNotPartial _ = Unit {0}
+
 -- the place doesn't fail
 abbrev pub IsDeciding : PlaceAnswer → Type 0
 IsDeciding (Failed signal hit) = ⊥

@@ -1,6 +1,7 @@
 //! The search over all start places.
 ghost use Rattle.std.specs.Prelude.{◌≡◌, ◌≤◌, max};
-ghost use Rattle.match_drive.specs.Answer.{IsMatchAnswer, IsDeciding, TellsPlace, TellsNone};
+ghost use Rattle.pat_tree.specs.declared.options.PartialMode.TheVariants.{Off};
+ghost use Rattle.match_drive.specs.Answer.{IsMatchAnswer, IsNotPartial, IsDeciding, TellsPlace, TellsNone};
 ghost use Rattle.match_drive.specs.MatchAnswer.{match_answer};
 ghost use Rattle.match_drive.specs.Rest as rest;
 
@@ -57,10 +58,11 @@ fn undecided(first: Option<usize>, mark: Option<u32>) -> MatchAnswer
 }
 
 /// Searches over all start places, in order, and answers what the definitions answer, with the captures of a match in the
-/// workspace (pcre2api, "Matching a pattern: the traditional function"). The workspace can be used again after every
-/// answer. Want of memory alone is told beside.
+/// workspace (pcre2api, "Matching a pattern: the traditional function"). There is no partial match without partial matching.
+/// Want of memory may be answered at any time. The workspace can be used again after every answer.
 pub fn search_on<S: Driven>(on: &S, scratch: &mut Scratch) -> MatchAnswer
     ensures answer { IsMatchAnswer result scratch.new.spans (match_answer (S.searched on.now).setting) }
+    ensures whole { (S.searched on.now).setting.matching.partial ≡ Off → IsNotPartial result }
     ensures peak { scratch.new.peak ≤ max scratch.old.peak (S.searched on.now).setting.matching.frame_limit }
     ensures groups { scratch.new.groups ≡ scratch.old.groups }
     ensures frames { scratch.new.frames ≡ scratch.old.frames }

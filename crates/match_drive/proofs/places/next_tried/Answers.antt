@@ -2,7 +2,7 @@ use Rattle.std.proofs.Common.{◌≡◌, ◌≤◌, ◌<◌, ℕ, Option, length
 use Rattle.std.specs.Prelude.{IfSome}
 use Rattle.match_drive.specs.Places.{next_place, last_place}
 use Rattle.match_drive.specs.Rest.{found_from, up_to}
-use Rattle.match_drive.proofs.Steps.{last_within, left_less, none_earlier, step_later, tried_next, none_next, excluded_next}
+use Rattle.match_drive.proofs.Steps.{last_within, left_less, none_earlier, step_is, step_later, tried_next, none_next, excluded_next}
 use Rattle.match_drive.proofs.places.next_tried.Goals as goal
 
 pub pass-place-requires-clause-from : goal.pass-place-requires-clause-from
@@ -42,7 +42,7 @@ places-smaller g c =
     let x = c.args.on.now in
     let s = (g.S.Searchable.searched x).setting in
     let e : c.up_to-next.result ≡ up_to (last_place s) (next_place s c.pass-place.result) =
-    c.up_to-next.ensures.value ∙ ap (λ l. up_to l c.next_place.result) c.requires.last ∙ ap (up_to (last_place s)) c.next_place.ensures in
+    step_is s (g.met.S.Driven.not_utf x) (g.met.S.Driven.begun x) c.pass-place.result c.args.last c.next_place.result c.up_to-next.result c.requires.last c.next_place.ensures c.up_to-next.ensures.value in
     let high : last_place s ≤ length s.subject = last_within s (g.met.S.Driven.not_utf x) (g.met.S.Driven.begun x) in
     left_less (length s.subject) c.in-Some.at c.places.next c.up_to-next.result c.in-Some.is
     (omega (arith, high, c.requires.last, c.if-place-last.false, c.pass-place.ensures.later))
@@ -54,7 +54,7 @@ places-preserved g c =
     let x = c.args.on.now in
     let s = (g.S.Searchable.searched x).setting in
     let e : c.up_to-next.result ≡ up_to (last_place s) (next_place s c.pass-place.result) =
-    c.up_to-next.ensures.value ∙ ap (λ l. up_to l c.next_place.result) c.requires.last ∙ ap (up_to (last_place s)) c.next_place.ensures in
+    step_is s (g.met.S.Driven.not_utf x) (g.met.S.Driven.begun x) c.pass-place.result c.args.last c.next_place.result c.up_to-next.result c.requires.last c.next_place.ensures c.up_to-next.ensures.value in
     record {
       same =
           ap (found_from s) e
