@@ -1,6 +1,6 @@
 -- No part stands at two places of the order: two lists with a common part have a common way up from it.
 use Rattle.std.specs.List.{IsDistinct}
-use Rattle.std.proofs.Common.{◌≡◌, ◌≢◌, ℕ, zero, suc, ◌+◌, ◌<◌, ◌≤◌, Bool, true, false, ◌||◌, ◌==◌, nat_eq, List, [], ◌∷◌, ◌++◌, flat_map, take, length, get_or, inl, inr, ◌⊎◌, refl, sym, ap, ◌∙◌, subst, arith}
+use Rattle.std.proofs.Common.{◌≡◌, ◌≢◌, ℕ, zero, suc, ◌+◌, ◌<◌, ◌≤◌, Bool, true, false, ◌||◌, ◌==◌, nat_eq, List, [], ◌∷◌, ◌++◌, flat_map, take, length, get_or, inl, inr, ◌⊎◌, refl, sym, ap, ◌∙◌, subst, arith, All, append_assoc, append-nil}
 use Rattle.std.proofs.Math.Bool.{or-true}
 use Rattle.std.proofs.lemmas.Bool.Decides.{nat_tests}
 use Rattle.std.proofs.lemmas.List.{get_or_default}
@@ -8,11 +8,13 @@ use Rattle.pat_tree.specs.declared.nodes.Node.TheVariants.{Empty}
 use Rattle.pat_tree.specs.declared.nodes.Placed.{Placed}
 use Rattle.pat_tree.specs.Rules.{kids_of}
 use Rattle.pat_tree.specs.Refs.{is_in}
+use Rattle.pat_tree.specs.Growing.{AreBelow}
 use Rattle.pat_tree.specs.Sound.{children}
-use Rattle.node_flow.specs.Order.{list_of, orders_after, order}
+use Rattle.pat_tree.proofs.Reached.{reached_node}
+use Rattle.node_flow.specs.Order.{StandTogether, list_of, orders_after, order}
 use Rattle.node_flow.proofs.Members.{Once, once, same_or_other, in_or_not, true_false, in_append, once_back, apart}
 use Rattle.node_flow.proofs.Among.{member_later, once_at}
-use Rattle.node_flow.proofs.Orders.{listed, is_earlier, past}
+use Rattle.node_flow.proofs.Orders.{listed, is_earlier, past, first}
 use Rattle.node_flow.proofs.Places.{distinct as apart_all}
 
 one_of : (a b : Bool) → (a || b) ≡ true → (a ≡ true) ⊎ (b ≡ true)
@@ -43,6 +45,22 @@ module _ (f : ℕ → List ℕ) where
         | inl same ↦ (let here : is_in x (f k) ≡ true = subst (λ j. is_in x (f j) ≡ true) (sym same.0) m in rw here refl)
         | inr other ↦ (let later = in_all ks a x (rw other.1 at h) m in rw (later, or-true) refl)
       ]
+
+all_together : (f : ℕ → List ℕ) (ks : List ℕ) (a : ℕ) → is_in a ks ≡ true → StandTogether (flat_map f ks) (f a)
+all_together f [] a h = absurd (true_false false h refl)
+all_together f (k ∷ ks) a h =
+    elim (same_or_other k a) [
+      | inl same ↦ record { front = []; back = flat_map f ks; is = ap (λ j. f j ++ flat_map f ks) same.0 }
+      | inr other ↦ (let later = all_together f ks a (rw other.1 at h) in
+          record { front = f k ++ later.front; back = later.back; is = ap (λ xs. f k ++ xs) later.is ∙ simp append_assoc })
+    ]
+
+within_those : (whole middle part : List ℕ) (p : ℕ) → StandTogether whole (p ∷ middle) → StandTogether middle part → StandTogether whole part
+within_those whole middle part p a b = record {
+  front = a.front ++ p ∷ b.front;
+  back = b.back ++ a.back;
+  is = a.is ∙ ap (λ xs. (a.front ++ (p ∷ xs)) ++ a.back) b.is ∙ simp append_assoc;
+}
 
 once_append : (xs ys : List ℕ) → Once xs → Once ys → ((x : ℕ) → is_in x xs ≡ true → is_in x ys ≡ false) → Once (xs ++ ys)
 unfolding Once
@@ -195,6 +213,31 @@ module _ (ps : List Placed) (once : Once (children ps)) where
       ] in
       subst Once (sym (own k s)) (out, rest)
 
+  -- where each child has a smaller number than its node
+  module _ (below : (k : ℕ) → k < length ps → All (λ x. x < k) (kids_at k)) (root : ℕ) (s : root < length ps) where
+    by_parent : (q : ℕ) (up : Above root q) → StandTogether (order ps root) (order ps up.parent) → StandTogether (order ps root) (order ps q)
+    unfolding kids_at
+    by_parent q up there =
+        let l : up.parent < length ps = omega (arith, up.within, s) in
+        let p = get_or ps up.parent none in
+        let is : order ps up.parent ≡ up.parent ∷ flat_map (order ps) (kids_at up.parent) = first ps up.parent p l (get_or_default ps up.parent none p l) (below up.parent l) in
+        within_those (order ps root) (flat_map (order ps) (kids_at up.parent)) (order ps q) up.parent (subst (StandTogether (order ps root)) is there) (all_together (order ps) (kids_at up.parent) q up.child)
+
+    itself : (q : ℕ) → q ≡ root → StandTogether (order ps root) (order ps q)
+    itself q is = record { front = []; back = []; is = ap (order ps) (sym is) ∙ sym (append-nil (order ps q)) }
+
+    together : (n q : ℕ) → root ≤ q + n → is_in q (order ps root) ≡ true → StandTogether (order ps root) (order ps q)
+    together zero q far h =
+        elim (above (suc root) root q (omega arith) s h) [
+          | inl is ↦ itself q is
+          | inr up ↦ absurd (omega (arith, far, up.later, up.within))
+        ]
+    together (suc n) q far h =
+        elim (above (suc root) root q (omega arith) s h) [
+          | inl is ↦ itself q is
+          | inr up ↦ by_parent q up (together n up.parent (omega (arith, far, up.later)) up.under)
+        ]
+
 pub stands_once : (ps : List Placed) (k : ℕ) → IsDistinct nat_eq (children ps) → IsDistinct nat_eq (order ps k)
 unfolding IsDistinct
 stands_once ps k distinct =
@@ -203,3 +246,11 @@ stands_once ps k distinct =
       | inl less ↦ apart_all (order ps k) (once_order ps (once (children ps) distinct) (suc k) k (omega arith) less)
       | inr out ↦ subst (IsDistinct nat_eq) (sym (past ps k out)) tt
     ]
+
+pub stands_together : (ps : List Placed) (root q : ℕ) → IsDistinct nat_eq (children ps) → AreBelow 0 ps → root < length ps → is_in q (order ps root) ≡ true →
+    StandTogether (order ps root) (order ps q)
+unfolding kids_at
+stands_together ps root q distinct below s h =
+    let each : (k : ℕ) → k < length ps → All (λ x. x < k) (kids_of (get_or ps k none).node) =
+    λ k l. (let p = get_or ps k none in (reached_node ps k p below l (get_or_default ps k none p l)).1) in
+    together ps (once (children ps) distinct) each root s root q (omega arith) h

@@ -7,14 +7,14 @@ use Rattle.pat_tree.specs.Parts.{TreeParts}
 use Rattle.pat_tree.specs.Growing.{AreBelow}
 use Rattle.pat_tree.specs.Sound.{TreeRules, children}
 use Rattle.node_flow.specs.Followers.{after_child, rest_among, rest}
-use Rattle.node_flow.specs.Order.{PartsComeFirst, PartsStandOnce}
+use Rattle.node_flow.specs.Order.{PartsComeFirst, PartsStandOnce, PartsStandTogether}
 use Rattle.node_flow.specs.Linked.{NothingFollowsTheWhole, FollowersAreInside, FollowersAreChained, ChildrenAreLinked}
 use Rattle.node_flow.proofs.Members.{Once}
 use Rattle.node_flow.proofs.Children.{once_among, not_among}
 use Rattle.pat_tree.proofs.Reached.{reached_node}
 use Rattle.node_flow.proofs.Later.{linked}
 use Rattle.node_flow.proofs.Orders.{first}
-use Rattle.node_flow.proofs.Apart.{stands_once}
+use Rattle.node_flow.proofs.Apart.{stands_once, stands_together}
 use Rattle.node_flow.proofs.Among.{inside, chained, no_child, followed, once_at}
 
 below_take : (n m : ℕ) (ps : List Placed) → AreBelow n ps → AreBelow n (take m ps)
@@ -75,3 +75,6 @@ parts_come_first t h q l other =
 
 pub parts_stand_once : PartsStandOnce
 parts_stand_once t h = stands_once t.nodes t.root h.nodes.once
+
+pub parts_stand_together : PartsStandTogether
+parts_stand_together t h q inside = stands_together t.nodes t.root q h.nodes.once h.nodes.below h.root inside

@@ -1,9 +1,10 @@
 -- The order in which the parts of a tree stand in its pattern.
 use Rattle.std.specs.List.{IsDistinct}
-use Rattle.std.specs.Prelude.{◌≡◌, ◌<◌, ◌≤◌, ℕ, ◌+◌, nat_eq, List, [], ◌∷◌, ◌++◌, flat_map, length, slice_index, slice_index_or}
+use Rattle.std.specs.Prelude.{◌≡◌, ◌<◌, ◌≤◌, ℕ, ◌+◌, true, nat_eq, List, [], ◌∷◌, ◌++◌, flat_map, length, slice_index, slice_index_or}
 use Rattle.pat_tree.specs.declared.nodes.Placed.{Placed}
 use Rattle.pat_tree.specs.Parts.{TreeParts}
 use Rattle.pat_tree.specs.Rules.{kids_of}
+use Rattle.pat_tree.specs.Refs.{is_in}
 use Rattle.pat_tree.specs.Sound.{TreeRules}
 
 abbrev pub list_of : List (List ℕ) → ℕ → List ℕ
@@ -33,3 +34,13 @@ PartsComeFirst = (t : TreeParts) → TreeRules t → (q : ℕ) → q ≤ t.root 
 -- no part stands at two places
 abbrev pub PartsStandOnce : Type 0
 PartsStandOnce = (t : TreeParts) → TreeRules t → IsDistinct nat_eq (order t.nodes t.root)
+
+-- these stand side by side in the whole
+pub record StandTogether (whole part : List ℕ) : Type 0 where
+  pub front : List ℕ
+  pub back : List ℕ
+  pub is : whole ≡ front ++ part ++ back
+
+-- a part and those under it stand side by side
+abbrev pub PartsStandTogether : Type 0
+PartsStandTogether = (t : TreeParts) → TreeRules t → (q : ℕ) → is_in q (order t.nodes t.root) ≡ true → StandTogether (order t.nodes t.root) (order t.nodes q)

@@ -2,7 +2,7 @@
 ghost use Rattle.std.specs.Prelude.{◌≡◌, [], ◌∷◌, Some, None};
 ghost use Rattle.node_flow.specs.Followers.{rest};
 ghost use Rattle.node_flow.specs.Linked.{NothingFollowsTheWhole, FollowersAreInside, FollowersAreChained, ChildrenAreLinked};
-ghost use Rattle.node_flow.specs.Order.{PartsComeFirst, PartsStandOnce, order};
+ghost use Rattle.node_flow.specs.Order.{PartsComeFirst, PartsStandOnce, PartsStandTogether, order};
 ghost use Rattle.node_flow.specs.Rows.{group_before_d, condition_before_d, repeat_before_c};
 
 /// What follows parts of `(?:ab|c)d`, `(ab|c)d`, `(?(?=a)b|c)d` and `(?:ab){2}c`, and the order of the third.
@@ -30,8 +30,10 @@ pub fn followers_hang_together()
     ensures linked { ChildrenAreLinked }
 {}
 
-/// Of every finished tree: in its order a part comes before those under it, and none stands at two places.
+/// Of every finished tree: in its order a part comes before those under it, these stand behind it side by side, and none stands
+/// at two places.
 pub fn parts_stand_in_order()
     ensures first { PartsComeFirst }
     ensures once { PartsStandOnce }
+    ensures together { PartsStandTogether }
 {}
