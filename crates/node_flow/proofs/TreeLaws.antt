@@ -7,10 +7,14 @@ use Rattle.pat_tree.specs.Parts.{TreeParts}
 use Rattle.pat_tree.specs.Growing.{AreBelow}
 use Rattle.pat_tree.specs.Sound.{TreeRules, children}
 use Rattle.node_flow.specs.Followers.{after_child, rest_among, rest}
+use Rattle.node_flow.specs.Order.{PartsComeFirst, PartsStandOnce, PartsStandTogether}
 use Rattle.node_flow.specs.Linked.{NothingFollowsTheWhole, FollowersAreInside, FollowersAreChained, ChildrenAreLinked}
 use Rattle.node_flow.proofs.Members.{Once}
 use Rattle.node_flow.proofs.Children.{once_among, not_among}
+use Rattle.pat_tree.proofs.Reached.{reached_node}
 use Rattle.node_flow.proofs.Later.{linked}
+use Rattle.node_flow.proofs.Orders.{first}
+use Rattle.node_flow.proofs.Apart.{stands_once, stands_together}
 use Rattle.node_flow.proofs.Among.{inside, chained, no_child, followed, once_at}
 
 below_take : (n m : ℕ) (ps : List Placed) → AreBelow n ps → AreBelow n (take m ps)
@@ -61,3 +65,16 @@ children_are_linked t h q l other =
     let is : p ≡ get_or (up_to_root t) q p = get_or_default t.nodes q other p (omega (arith, l, h.root)) ∙ sym (get_or-take (t.root + 1) t.nodes q p (omega (arith, l))) in
     linked (rest t.nodes t.root) (rest t.nodes t.root q) p.node (once_at (up_to_root t) q p s.once short is)
     (λ k member. followed 0 (up_to_root t) q k p s.below s.once short is member ∙ ap (λ j. after_child p.node (rest_among 0 (up_to_root t) j) k) place)
+
+pub parts_come_first : PartsComeFirst
+parts_come_first t h q l other =
+    let p = get_or t.nodes q other in
+    let inside : q < length t.nodes = omega (arith, l, h.root) in
+    let is : p ≡ get_or t.nodes q p = get_or_default t.nodes q other p inside in
+    first t.nodes q p inside is (reached_node t.nodes q p h.nodes.below inside is).1
+
+pub parts_stand_once : PartsStandOnce
+parts_stand_once t h = stands_once t.nodes t.root h.nodes.once
+
+pub parts_stand_together : PartsStandTogether
+parts_stand_together t h q inside = stands_together t.nodes t.root q h.nodes.once h.nodes.below h.root inside

@@ -2,7 +2,7 @@ ghost use Rattle.std.specs.Prelude.{◌≡◌, ◌≤◌, ◌<◌, ◌+◌, ◌�
 ghost use Rattle.pat_tree.specs.Rules.{kids_of, asserted_by, classes_of, verb_names_of, numbers_of, IsNamed, IsOrdered, IsDefine};
 ghost use Rattle.pat_tree.specs.Growing.{loose};
 
-use crate::Flow;
+use crate::{Flow, Ranks};
 use pat_tree::{Cond, Draft, Item, Kids, Memory, Node, NodeId, Options, Tree};
 use std::alloc::Global;
 use std::test::Fail;
@@ -115,7 +115,10 @@ fn tree_of(alloc: Global, kind: Kind) -> Result<Tree, Fail>
 }
 
 #[test]
-fn parts_are_followed_to_the_end_of_their_frame(rt: HostRuntime) -> Result<(), Fail> {
+fn parts_are_followed_to_the_end_of_their_frame_and_stand_in_order(
+    rt: HostRuntime,
+) -> Result<(), Fail> {
+    let places = [4, 5, 3, 2, 7, 8, 6, 1, 9, 0];
     // of the branches only those of a plain group and of a condition are followed by `e`
     let past = [
         Some(1),
@@ -151,8 +154,10 @@ fn parts_are_followed_to_the_end_of_their_frame(rt: HostRuntime) -> Result<(), F
     for (kind, followers) in rows {
         let tree = tree_of(rt.alloc(), kind)?;
         let flow = Flow::build(rt.alloc(), &tree)?;
+        let ranks = Ranks::build(rt.alloc(), &tree)?;
         for (part, next) in followers.iter().enumerate() {
             assert_eq!(rt; flow.next(part as u32), *next);
+            assert_eq!(rt; ranks.of(part as u32), places[part]);
         }
     }
     Ok(())
