@@ -3,3 +3,6 @@ mod RowProofs
 mod Left
 mod Excluded
 mod Steps
+pub mod ForwardStreams
+pub mod ForwardSearch
+pub mod ForwardLaw

@@ -3,4 +3,5 @@ pub mod Places
 pub mod MatchAnswer
 pub mod Rest
 pub mod Answer
+pub mod Forward
 pub mod Rows

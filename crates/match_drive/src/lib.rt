@@ -11,6 +11,6 @@ mod words;
 
 pub use answer::MatchAnswer;
 pub use driven::Driven;
-pub use laws::worked_rows;
+pub use laws::{searches_go_forward, worked_rows};
 pub use search::search_on;
 pub use words::{Span, first_span};
