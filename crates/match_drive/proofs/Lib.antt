@@ -7,3 +7,6 @@ mod NoPartial
 mod Excluded
 mod Steps
 mod Walk
+pub mod ForwardStreams
+pub mod ForwardSearch
+pub mod ForwardLaw

@@ -4,4 +4,5 @@ pub mod MatchAnswer
 pub mod Rest
 pub mod Answer
 pub mod Laws
+pub mod Forward
 pub mod Rows

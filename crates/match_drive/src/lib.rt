@@ -11,6 +11,6 @@ mod words;
 
 pub use answer::MatchAnswer;
 pub use driven::Driven;
-pub use laws::{no_partial_match, worked_rows};
+pub use laws::{no_partial_match, searches_go_forward, worked_rows};
 pub use search::search_on;
 pub use words::{Span, first_span};
