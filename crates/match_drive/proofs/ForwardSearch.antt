@@ -203,6 +203,7 @@ module _ (g : Setting) (low : ℕ) (bytes : g.options.utf ≡ false) (off : g.ma
   module _ (below : Searches) (deeper : GoesBelow below) where
     mutual
       unfolding level
+
       forward_level : (t : Nested) → IsBuilt t → Goes (level g below t)
       forward_level tree.empty built s on = forward_gives g low s.place s (omega arith) on
       forward_level (tree.one item) built s on = forward_one item s on
