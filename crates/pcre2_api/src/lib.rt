@@ -1,0 +1,10 @@
+//! The library's calls (pcre2api): a pattern is compiled once, and then matched against subjects.
+#![tactic(auto)]
+
+mod code;
+mod error;
+mod found;
+
+pub use code::{Code, Info};
+pub use error::{CompileError, MatchError};
+pub use found::Found;
