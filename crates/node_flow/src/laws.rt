@@ -1,7 +1,7 @@
 //! Laws on the definitions, and worked rows.
 ghost use Rattle.std.specs.Prelude.{◌≡◌, [], ◌∷◌, Some, None};
 ghost use Rattle.node_flow.specs.Followers.{rest};
-ghost use Rattle.node_flow.specs.Linked.{NothingFollowsTheWhole, FollowersAreInside, FollowersAreChained, ChildrenAreLinked};
+ghost use Rattle.node_flow.specs.Linked.{FollowersHangTogether};
 ghost use Rattle.node_flow.specs.Order.{PartsComeFirst, PartsStandOnce, PartsStandTogether, order};
 ghost use Rattle.node_flow.specs.Rows.{group_before_d, condition_before_d, repeat_before_c};
 
@@ -24,10 +24,7 @@ pub fn worked_rows()
 /// Of every finished tree: nothing follows the whole, what follows a part is inside the tree, the first that follows is
 /// followed by the others, and the children of each node are followed as it says.
 pub fn followers_hang_together()
-    ensures whole { NothingFollowsTheWhole }
-    ensures inside { FollowersAreInside }
-    ensures chained { FollowersAreChained }
-    ensures linked { ChildrenAreLinked }
+    ensures { FollowersHangTogether }
 {}
 
 /// Of every finished tree: in its order a part comes before those under it, these stand behind it side by side, and none stands
