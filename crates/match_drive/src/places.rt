@@ -1,7 +1,8 @@
 //! The start places of a search, in order (pcre2api, "Matching a pattern: the traditional function").
-ghost use Rattle.std.specs.Prelude.{◌≡◌, ◌≤◌, ◌<◌, ◌+◌, ◌&&◌, true, false, ℕ, nat_lt, length, slice_index, IfSome, None, Some};
+ghost use Rattle.std.specs.Prelude.{◌≡◌, ◌≤◌, ◌<◌, ◌+◌, ◌&&◌, true, false, ℕ, min, nat_lt, length, slice_index, IfSome, None, Some};
 ghost use Rattle.std.specs.Option.{option_copied};
 ghost use Rattle.byte_lanes.specs.Newlines.{newline_len};
+ghost use Rattle.byte_lanes.specs.Sets.{has_byte};
 ghost use Rattle.pat_tree.specs.Newlines as newlines;
 ghost use Rattle.frame_machine.specs.Answer.{signal_of};
 ghost use Rattle.match_drive.specs.Places as places;
@@ -160,6 +161,7 @@ fn first_in(bytes: &[u8], from: usize, to: usize, set: &ByteSet) -> usize
     ensures low { from ≤ result }
     ensures high { result ≤ to }
     ensures before { (k : ℕ) → from ≤ k → k < result → IsByteOutside set.now (slice_index bytes.now k) }
+    ensures found { result < to → has_byte set.now (slice_index bytes.now result) ≡ true }
 {
     find_in_set(&bytes[..to], from, set)
 }
@@ -167,9 +169,7 @@ fn first_in(bytes: &[u8], from: usize, to: usize, set: &ByteSet) -> usize
 /// The end of the bytes at which a match may begin.
 fn bytes_end(last: usize, length: usize) -> usize
     requires { last ≤ length }
-    ensures low { last ≤ result }
-    ensures high { result ≤ last + 1 }
-    ensures within { result ≤ length }
+    ensures { result ≡ min (last + 1) length }
 {
     if last < length { last + 1 } else { length }
 }
