@@ -375,3 +375,7 @@ module _ (g : Setting) where
       → IsLeft whole first mark (found_at p (place_answer g p) (λ signal. found_from g (place_after g p signal)))
   left_at not_utf begun whole first mark next p is left low out =
       subst (IsLeft whole first mark) (ap (found_from g) is ∙ found_tried g not_utf begun p (rw is at low) (rw is at out)) left
+
+  pub tried_from : (p : ℕ) (next : Option ℕ) → IsNextTried g (Some p) next → IfSome next (λ q. p ≤ q)
+  tried_from p None h = tt
+  tried_from p (Some q) h = h.later

@@ -1,10 +1,12 @@
 -- What is left of a search from a start place on, and how the places before add to it.
-use Rattle.std.specs.Prelude.{◌≡◌, ◌≤◌, ◌<◌, ℕ, ◌+◌, ◌-◌, Bool, true, false, ◌&&◌, List, length, Option, Some, None, IsSomeAnd, nat_le, nat_lt}
+use Rattle.std.specs.Prelude.{◌≡◌, ◌≤◌, ◌<◌, ℕ, ℤ, ◌+◌, ◌-◌, Bool, true, false, ◌&&◌, List, length, Option, Some, None, IsSomeAnd, nat_le, nat_lt}
 use Rattle.std.specs.Option.{option_or}
 use Rattle.byte_lanes.specs.Sets.{has_byte}
 use Rattle.pat_check.specs.Known.{IsByteSet}
+use Rattle.frame_machine.specs.Stream.{Block}
 use Rattle.frame_machine.specs.Setting.{Setting, lead_set}
 use Rattle.frame_machine.specs.PlaceAnswer.{Signal, PlaceAnswer, Matched, Failed, Partial, Walked, last_name}
+use Rattle.match_drive.specs.Asked.{replied}
 use Rattle.match_drive.specs.Places.{passes_crlf, last_place, is_excluded}
 use Rattle.match_drive.specs.MatchAnswer.{MatchAnswer, Match, PartialFrom, Error, Found, none_found, decided, undecided, failed_at, from_place}
 
@@ -48,6 +50,14 @@ module _ (g : Setting) where
   abbrev pub IsNextTried : Option ℕ → Option ℕ → Type 0
   IsNextTried from None = found_from from ≡ none_found
   IsNextTried from (Some q) = IsTried from q
+
+-- The same whatever callouts answer.
+
+abbrev pub IsPassedAlways : Setting → ℕ → ℕ → Type 0
+IsPassedAlways g p q = (reply : Block → ℤ) → IsPassed (replied reply g) p q
+
+abbrev pub IsNextTriedAlways : Setting → Option ℕ → Option ℕ → Type 0
+IsNextTriedAlways g from next = (reply : Block → ℤ) → IsNextTried (replied reply g) from next
 
 -- The places before.
 

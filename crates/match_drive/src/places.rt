@@ -1,12 +1,14 @@
 //! The start places of a search, in order (pcre2api, "Matching a pattern: the traditional function").
-ghost use Rattle.std.specs.Prelude.{◌≡◌, ◌≤◌, ◌<◌, ◌+◌, ◌&&◌, true, false, ℕ, nat_lt, length, slice_index, IfSome, None, Some};
+ghost use Rattle.std.specs.Prelude.{◌≡◌, ◌≤◌, ◌<◌, ◌+◌, ◌&&◌, true, false, ℕ, min, nat_lt, length, slice_index, IfSome, None, Some};
 ghost use Rattle.std.specs.Option.{option_copied};
 ghost use Rattle.byte_lanes.specs.Newlines.{newline_len};
+ghost use Rattle.byte_lanes.specs.Sets.{has_byte};
 ghost use Rattle.pat_tree.specs.Newlines as newlines;
 ghost use Rattle.frame_machine.specs.Answer.{signal_of};
+ghost use Rattle.match_drive.specs.Asked.{passed_over};
 ghost use Rattle.match_drive.specs.Places as places;
 ghost use Rattle.match_drive.specs.Places.{has_crlf};
-ghost use Rattle.match_drive.specs.Rest.{IsLeadUsed, IsByteOutside, IsPassed, IsNextTried, up_to, behind};
+ghost use Rattle.match_drive.specs.Rest.{IsLeadUsed, IsByteOutside, IsPassedAlways, IsNextTriedAlways, up_to, behind};
 
 use crate::driven::Driven;
 use byte_lanes::{ByteSet, EndKind, find_in_set, find_line_end};
@@ -44,16 +46,16 @@ fn crlf_at(bytes: &[u8], at: usize) -> bool
 
 /// Whether a CRLF is passed whole at a place: where it is a newline, and the pattern names no half of it.
 fn passes_crlf<S: Driven>(on: &S, at: usize) -> bool
-    requires { at ≤ length (S.searched on.now).setting.subject }
-    ensures { result ≡ places.passes_crlf (S.searched on.now).setting at }
+    requires { at ≤ length (S.asked on.now passed_over).subject }
+    ensures { result ≡ places.passes_crlf (S.asked on.now passed_over) at }
 {
     has_crlf(on.options().newline) && crlf_at(on.subject(), at) && !on.names_crlf()
 }
 
 /// The place after another, if there is one.
 pub(crate) fn next_place<S: Driven>(on: &S, at: usize) -> Option<usize>
-    requires { at ≤ length (S.searched on.now).setting.subject }
-    ensures { result ≡ places.next_place (S.searched on.now).setting at }
+    requires { at ≤ length (S.asked on.now passed_over).subject }
+    ensures { result ≡ places.next_place (S.asked on.now passed_over) at }
 {
     if at == on.subject().len() {
         return None;
@@ -68,11 +70,11 @@ pub(crate) fn next_place<S: Driven>(on: &S, at: usize) -> Option<usize>
 /// The last place that may be tried: the start alone in an anchored search, or under FIRSTLINE where the first newline
 /// begins (pcre2api, "Option bits for pcre2_compile()", PCRE2_FIRSTLINE).
 pub(crate) fn last_place<S: Driven>(on: &S) -> usize
-    ensures value { result ≡ places.last_place (S.searched on.now).setting }
-    ensures low { (S.searched on.now).setting.start ≤ result }
-    ensures within { result ≤ length (S.searched on.now).setting.subject }
+    ensures value { result ≡ places.last_place (S.asked on.now passed_over) }
+    ensures low { (S.asked on.now passed_over).start ≤ result }
+    ensures within { result ≤ length (S.asked on.now passed_over).subject }
 {
-    let start = on.start() as usize;
+    let start = on.start();
     if on.options().anchored || on.matching().anchored {
         return start;
     }
@@ -100,9 +102,9 @@ pub(crate) fn place_after<S: Driven>(
     signal: Signal,
     last: usize,
 ) -> Option<usize>
-    requires at { at ≤ length (S.searched on.now).setting.subject }
-    requires last { last ≡ places.last_place (S.searched on.now).setting }
-    ensures value { result ≡ places.place_after (S.searched on.now).setting at (signal_of signal) }
+    requires at { at ≤ length (S.asked on.now passed_over).subject }
+    requires last { last ≡ places.last_place (S.asked on.now passed_over) }
+    ensures value { result ≡ places.place_after (S.asked on.now passed_over) at (signal_of signal) }
     ensures later { IfSome result (λ to. at < to) }
     ensures within { IfSome result (λ to. to ≤ last) }
 {
@@ -116,7 +118,7 @@ pub(crate) fn place_after<S: Driven>(
 /// The bytes that every match begins with, where the search goes by them (pcre2api, "Option bits for pcre2_compile()",
 /// PCRE2_NO_START_OPTIMIZE).
 fn lead_used<S: Driven>(on: &S) -> Option<&ByteSet>
-    ensures { IsLeadUsed (S.searched on.now).setting (option_copied result) }
+    ensures { IsLeadUsed (S.asked on.now passed_over) (option_copied result) }
 {
     if on.options().no_start_optimize {
         None
@@ -127,8 +129,8 @@ fn lead_used<S: Driven>(on: &S) -> Option<&ByteSet>
 
 /// Whether a place is left out, as no match begins with the byte there.
 fn is_excluded<S: Driven>(on: &S, at: usize) -> bool
-    requires { at ≤ length (S.searched on.now).setting.subject }
-    ensures { result ≡ places.is_excluded (S.searched on.now).setting at }
+    requires { at ≤ length (S.asked on.now passed_over).subject }
+    ensures { result ≡ places.is_excluded (S.asked on.now passed_over) at }
 {
     let Some(set) = lead_used(on) else {
         return false;
@@ -143,8 +145,8 @@ fn is_excluded<S: Driven>(on: &S, at: usize) -> bool
 /// CRLF that is passed whole.
 fn behind<S: Driven>(on: &S, from: usize, to: usize) -> usize
     requires ordered { from ≤ to }
-    requires within { to ≤ length (S.searched on.now).setting.subject }
-    ensures { result ≡ behind (S.searched on.now).setting from to }
+    requires within { to ≤ length (S.asked on.now passed_over).subject }
+    ensures { result ≡ behind (S.asked on.now passed_over) from to }
 {
     if from < to && passes_crlf(on, to - 1) {
         to + 1
@@ -160,6 +162,7 @@ fn first_in(bytes: &[u8], from: usize, to: usize, set: &ByteSet) -> usize
     ensures low { from ≤ result }
     ensures high { result ≤ to }
     ensures before { (k : ℕ) → from ≤ k → k < result → IsByteOutside set.now (slice_index bytes.now k) }
+    ensures found { result < to → has_byte set.now (slice_index bytes.now result) ≡ true }
 {
     find_in_set(&bytes[..to], from, set)
 }
@@ -167,9 +170,7 @@ fn first_in(bytes: &[u8], from: usize, to: usize, set: &ByteSet) -> usize
 /// The end of the bytes at which a match may begin.
 fn bytes_end(last: usize, length: usize) -> usize
     requires { last ≤ length }
-    ensures low { last ≤ result }
-    ensures high { result ≤ last + 1 }
-    ensures within { result ≤ length }
+    ensures { result ≡ min (last + 1) length }
 {
     if last < length { last + 1 } else { length }
 }
@@ -177,8 +178,8 @@ fn bytes_end(last: usize, length: usize) -> usize
 /// Goes past places that are excluded, by lanes.
 fn pass<S: Driven>(on: &S, from: usize, last: usize) -> usize
     requires from { from ≤ last }
-    requires last { last ≡ places.last_place (S.searched on.now).setting }
-    ensures { IsPassed (S.searched on.now).setting from result }
+    requires last { last ≡ places.last_place (S.asked on.now passed_over) }
+    ensures { IsPassedAlways (S.asked on.now passed_over) from result }
 {
     let Some(set) = lead_used(on) else {
         return from;
@@ -191,8 +192,8 @@ fn pass<S: Driven>(on: &S, from: usize, last: usize) -> usize
 /// The first place from one on that is tried.
 pub(crate) fn next_tried<S: Driven>(on: &S, from: Option<usize>, last: usize) -> Option<usize>
     requires from { IfSome from (λ p. p ≤ last) }
-    requires last { last ≡ places.last_place (S.searched on.now).setting }
-    ensures { IsNextTried (S.searched on.now).setting from result }
+    requires last { last ≡ places.last_place (S.asked on.now passed_over) }
+    ensures { IsNextTriedAlways (S.asked on.now passed_over) from result }
 {
     let mut next = from;
     'places: while let Some(at) = next {

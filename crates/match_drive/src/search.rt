@@ -1,6 +1,8 @@
 //! The search over all start places.
 ghost use Rattle.std.specs.Prelude.{◌≡◌, ◌≤◌, max};
 ghost use Rattle.pat_tree.specs.declared.options.PartialMode.TheVariants.{Off};
+ghost use Rattle.pcre_io.specs.declared.callouts.Block.{Block};
+ghost use Rattle.match_drive.specs.Asked.{passed_over};
 ghost use Rattle.match_drive.specs.Answer.{IsMatchAnswer, IsNotPartial, IsDeciding, TellsPlace, TellsNone};
 ghost use Rattle.match_drive.specs.MatchAnswer.{match_answer};
 ghost use Rattle.match_drive.specs.Rest as rest;
@@ -8,7 +10,8 @@ ghost use Rattle.match_drive.specs.Rest as rest;
 use crate::answer::MatchAnswer;
 use crate::driven::Driven;
 use crate::places::{last_place, next_tried, place_after};
-use frame_machine::{PlaceAnswer, Scratch, search_at};
+use frame_machine::{PlaceAnswer, Scratch};
+use pcre_io::Callouts;
 
 /// The first place that reached the subject's end, after one more place.
 fn first_hit(first: Option<usize>, hit_end: bool, at: usize) -> Option<usize>
@@ -60,19 +63,25 @@ fn undecided(first: Option<usize>, mark: Option<u32>) -> MatchAnswer
 /// Searches over all start places, in order, and answers what the definitions answer, with the captures of a match in the
 /// workspace (pcre2api, "Matching a pattern: the traditional function"). There is no partial match without partial matching.
 /// Want of memory may be answered at any time. The workspace can be used again after every answer.
-pub fn search_on<S: Driven>(on: &S, scratch: &mut Scratch) -> MatchAnswer
-    ensures answer { IsMatchAnswer result scratch.new.spans (match_answer (S.searched on.now).setting) }
-    ensures whole { (S.searched on.now).setting.matching.partial ≡ Off → IsNotPartial result }
-    ensures peak { scratch.new.peak ≤ max scratch.old.peak (S.searched on.now).setting.matching.frame_limit }
+pub fn search_on<S: Driven, C: Callouts>(
+    on: &S,
+    scratch: &mut Scratch,
+    calls: &mut C,
+) -> MatchAnswer
+    ensures answer { IsMatchAnswer result scratch.new.spans (match_answer (S.asked on.now (C.answers calls.old))) }
+    ensures whole { (S.asked on.now passed_over).matching.partial ≡ Off → IsNotPartial result }
+    ensures peak { scratch.new.peak ≤ max scratch.old.peak (S.asked on.now passed_over).matching.frame_limit }
     ensures groups { scratch.new.groups ≡ scratch.old.groups }
     ensures frames { scratch.new.frames ≡ scratch.old.frames }
+    ensures rule { (block : Block) → C.answers calls.new block ≡ C.answers calls.old block }
+    ensures seen { C.seen calls.new ≡ C.seen calls.old }
 {
     scratch.clear_mark();
     let last = last_place(on);
     let mut first = None;
-    let mut next = next_tried(on, Some(on.start() as usize), last);
+    let mut next = next_tried(on, Some(on.start()), last);
     'places: while let Some(place) = next {
-        let answer = search_at(on, place as u64, scratch);
+        let answer = on.try_at(place, scratch, calls);
         let PlaceAnswer::Failed { signal, hit_end } = answer else {
             return decided(answer, place, first, scratch.last_mark());
         };
