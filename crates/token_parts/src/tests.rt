@@ -261,8 +261,8 @@ fn faults(rt: HostRuntime) {
         (142, "\\k{a (?(ab"),
         (144, "\\k<> \\g{} \\g< (?() (?(R&)"),
         (161, "\\g{65536} (?-65536 (?(99999999999999999999)"),
-        (195, "(?(VERSION=1) (?(VERSION>=1)"),
         (169, "\\g \\ga \\g{-} \\g<+ \\g{1 \\k \\ka"),
+        (195, "(?(VERSION=1) (?(VERSION>=1)"),
     ];
     for (number, texts) in rows {
         refused(&rt, PLAIN, number, texts);
