@@ -1,5 +1,5 @@
 //! Tables of faults, and texts of any bytes.
-use super::{EXTENDED, IN_CLASS, PLAIN, QUOTING, begins, refused};
+use super::{EXTENDED, IN_CLASS, PLAIN, QUOTING, refused};
 use crate::{LexFlags, Token, next_token};
 use pat_tree::Newline;
 use std::process::Abort;
