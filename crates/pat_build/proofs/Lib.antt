@@ -3,3 +3,14 @@ pub mod Ranges
 pub mod RowProofs
 pub mod Spots
 pub mod Steps
+pub mod Standing
+pub mod States
+pub mod Waiting
+pub mod Extending
+pub mod Naming
+pub mod Taking
+pub mod Nesting
+pub mod Adding
+pub mod Beginning
+pub mod Starting
+pub mod Exits
