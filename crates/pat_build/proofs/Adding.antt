@@ -8,7 +8,7 @@ use Rattle.pat_tree.specs.Parts.{DraftParts, with_node, with_class}
 use Rattle.pat_tree.specs.Nested.{Nested, one}
 use Rattle.pat_tree.specs.Refs.{refs_of, has_group, is_group}
 use Rattle.pat_tree.specs.Growing.{Makes, Replaces}
-use Rattle.pat_lex.specs.declared.token.Token.{Token}
+use Rattle.token_parts.specs.declared.token.Token.{Token}
 use Rattle.pat_build.specs.declared.machine.Atom.TheVariants.{Single, Whole}
 use Rattle.pat_build.specs.declared.machine.Machine.{Machine}
 use Rattle.pat_build.specs.Groups.{places_named}

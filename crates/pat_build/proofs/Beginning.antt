@@ -2,12 +2,12 @@
 use Rattle.std.proofs.Common.{◌≡◌, ℕ, ◌+◌, ◌<◌, ◌≤◌, nat_le, true, false, not, ◌&&◌, List, Option, Some, None, Ok, refl, ap, ◌∙◌, arith, if◌then◌else◌}
 use Rattle.std.specs.List.{list_any}
 use Rattle.std.proofs.lemmas.Bool.Decides.{nat_tests}
-use Rattle.pat_lex.specs.Tell.{fault}
+use Rattle.token_parts.specs.Tell.{fault}
 use Rattle.pat_tree.specs.Names.{with_name}
 use Rattle.pat_tree.specs.declared.names.NameEntry.{NameEntry}
-use Rattle.pat_lex.specs.declared.token.Token.TheVariants.{Open}
-use Rattle.pat_lex.specs.declared.token.OpenKind.TheVariants.{Capture, Plain, Named, Atomic, BranchReset, Look}
-use Rattle.pat_lex.specs.declared.token.OpenKind.{OpenKind}
+use Rattle.token_parts.specs.declared.token.Token.TheVariants.{Open}
+use Rattle.token_parts.specs.declared.token.OpenKind.TheVariants.{Capture, Plain, Named, Atomic, BranchReset, Look}
+use Rattle.token_parts.specs.declared.token.OpenKind.{OpenKind}
 use Rattle.pat_build.specs.State.{State}
 use Rattle.pat_build.specs.Parts.{beginning, enters}
 use Rattle.pat_build.specs.Groups.{Opens, has_name, opened, captured, named}

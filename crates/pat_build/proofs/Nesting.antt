@@ -15,9 +15,9 @@ use Rattle.pat_tree.specs.Refs.{has_group}
 use Rattle.pat_tree.specs.Rules.{number_in}
 use Rattle.pat_tree.specs.Growing.{Replaces, Makes}
 use Rattle.pat_tree.proofs.Growing.{stand_made, stand_none, grows_not}
-use Rattle.pat_lex.specs.declared.token.Token.{Token}
-use Rattle.pat_lex.specs.declared.token.Token.TheVariants.{End, Bar, Close}
-use Rattle.pat_lex.specs.Tell.{fault}
+use Rattle.token_parts.specs.declared.token.Token.{Token}
+use Rattle.token_parts.specs.declared.token.Token.TheVariants.{End, Bar, Close}
+use Rattle.token_parts.specs.Tell.{fault}
 use Rattle.pat_lex.specs.Tokens.{token_at}
 use Rattle.pat_build.specs.declared.machine.Atom.TheVariants.{Whole}
 use Rattle.pat_build.specs.declared.machine.Frame.{Frame}

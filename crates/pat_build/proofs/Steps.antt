@@ -6,7 +6,7 @@ use Rattle.token_parts.specs.declared.fault.Fault.{Fault}
 use Rattle.token_parts.specs.declared.token.Token.{Token}
 use Rattle.token_parts.specs.declared.token.Token.TheVariants.{End, Bar, Close, Quantifier, Passed, QuoteOn, QuoteOff}
 use Rattle.token_parts.specs.declared.token.QuantMode.{QuantMode}
-use Rattle.pat_lex.specs.Tell.{fault, ◌>>=◌}
+use Rattle.token_parts.specs.Tell.{fault, ◌>>=◌}
 use Rattle.pat_lex.specs.Tokens.{token_at}
 use Rattle.pat_build.specs.State.{State, Reads, flags_of, next, passed_over}
 use Rattle.pat_build.specs.Groups.{Opening}

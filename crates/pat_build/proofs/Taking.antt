@@ -5,9 +5,9 @@ use Rattle.pat_tree.specs.Parts.{DraftParts}
 use Rattle.pat_tree.specs.Nested.{Nested}
 use Rattle.pat_tree.specs.Growing.{Replaces, Makes}
 use Rattle.pat_tree.proofs.Growing.{stand_made, grows_not}
-use Rattle.pat_lex.specs.declared.token.Token.{Token}
-use Rattle.pat_lex.specs.declared.token.Token.TheVariants.{Quantifier, Passed, QuoteOn, QuoteOff}
-use Rattle.pat_lex.specs.declared.token.QuantMode.{QuantMode}
+use Rattle.token_parts.specs.declared.token.Token.{Token}
+use Rattle.token_parts.specs.declared.token.Token.TheVariants.{Quantifier, Passed, QuoteOn, QuoteOff}
+use Rattle.token_parts.specs.declared.token.QuantMode.{QuantMode}
 use Rattle.pat_build.specs.declared.machine.Atom.{Atom}
 use Rattle.pat_build.specs.declared.machine.Machine.{Machine}
 use Rattle.pat_build.specs.State.{State, passed_over}

@@ -6,12 +6,12 @@ use Rattle.pat_tree.specs.Parts.{DraftParts}
 use Rattle.pat_tree.specs.Nested.{Nested}
 use Rattle.pat_tree.specs.Growing.{EndsIn, Replaces, Makes, loose}
 use Rattle.pat_tree.proofs.Growing.{stand_made}
-use Rattle.pat_lex.specs.declared.fault.Fault.{Fault}
-use Rattle.pat_lex.specs.declared.token.Token.{Token}
-use Rattle.pat_lex.specs.declared.token.Target.{Target}
-use Rattle.pat_lex.specs.declared.token.Token.TheVariants.{Quantifier, Reference, ClassStart}
-use Rattle.pat_lex.specs.declared.token.QuantMode.{QuantMode}
-use Rattle.pat_lex.specs.Tell.{fault}
+use Rattle.token_parts.specs.declared.fault.Fault.{Fault}
+use Rattle.token_parts.specs.declared.token.Token.{Token}
+use Rattle.token_parts.specs.declared.token.Target.{Target}
+use Rattle.token_parts.specs.declared.token.Token.TheVariants.{Quantifier, Reference, ClassStart}
+use Rattle.token_parts.specs.declared.token.QuantMode.{QuantMode}
+use Rattle.token_parts.specs.Tell.{fault}
 use Rattle.pat_lex.specs.Tokens.{token_at}
 use Rattle.pat_build.specs.declared.error.ReadError.{ReadError}
 use Rattle.pat_build.specs.declared.error.ReadError.TheVariants.{Bad, Memory}

@@ -10,11 +10,11 @@ use Rattle.pat_tree.specs.Parts.{DraftParts, TreeParts, tree_of}
 use Rattle.pat_tree.specs.Refs.{refs, has_group}
 use Rattle.pat_tree.specs.Rules.{class_in}
 use Rattle.pat_tree.specs.Growing.{Stand, loose}
-use Rattle.pat_lex.specs.declared.fault.Fault.{Fault}
-use Rattle.pat_lex.specs.declared.token.Token.{Token}
-use Rattle.pat_lex.specs.declared.token.Token.TheVariants.{End, Literal, Dot, NotNewline, LineBreak, KeepOut, Caret, Dollar, SubjectStart, SubjectEnd, EndOrNewline, StartGiven, Boundary}
-use Rattle.pat_lex.specs.declared.token.Token.TheVariants as token
-use Rattle.pat_lex.specs.Tell.{IsWell, ◌>>=◌}
+use Rattle.token_parts.specs.declared.fault.Fault.{Fault}
+use Rattle.token_parts.specs.declared.token.Token.{Token}
+use Rattle.token_parts.specs.declared.token.Token.TheVariants.{End, Literal, Dot, NotNewline, LineBreak, KeepOut, Caret, Dollar, SubjectStart, SubjectEnd, EndOrNewline, StartGiven, Boundary}
+use Rattle.token_parts.specs.declared.token.Token.TheVariants as token
+use Rattle.token_parts.specs.Tell.{IsWell, ◌>>=◌}
 use Rattle.pat_lex.specs.Tokens.{token_at}
 use Rattle.pat_build.specs.declared.error.ReadError.{ReadError}
 use Rattle.pat_build.specs.declared.error.ReadError.TheVariants.{Bad, Memory}

@@ -5,7 +5,7 @@ use Rattle.token_parts.specs.declared.fault.Fault.{Fault}
 use Rattle.token_parts.specs.declared.token.OptionMask.{OptionMask}
 use Rattle.token_parts.specs.declared.token.StartItem.{StartItem}
 use Rattle.token_parts.specs.declared.token.StartItem.TheVariants.{NewlineIs, BsrIs, Utf, Ucp, NotEmpty, NotEmptyAtStart, NoStartOpt, NoEffect, LimitMatch}
-use Rattle.pat_lex.specs.Tell.{fault}
+use Rattle.token_parts.specs.Tell.{fault}
 
 -- an option that was on or off before: first it may be unset, then set, then unset
 abbrev pub turned : Bool → Bool → Bool → Bool → Bool

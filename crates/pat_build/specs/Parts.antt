@@ -14,7 +14,7 @@ use Rattle.token_parts.specs.declared.token.QuantMode.{QuantMode}
 use Rattle.token_parts.specs.declared.token.QuantMode.TheVariants.{Greedy, Lazy, Possessive}
 use Rattle.token_parts.specs.declared.token.Token.{Token}
 use Rattle.token_parts.specs.declared.token.Token.TheVariants as token
-use Rattle.pat_lex.specs.Tell.{fault, ◌>>=◌}
+use Rattle.token_parts.specs.Tell.{fault, ◌>>=◌}
 use Rattle.pat_build.specs.State.{State}
 use Rattle.pat_build.specs.Options.{with_setting}
 use Rattle.pat_build.specs.Classes.{class_spec}

@@ -7,7 +7,7 @@ use Rattle.token_parts.specs.declared.fault.Fault.{Fault}
 use Rattle.token_parts.specs.declared.token.LexFlags.{LexFlags}
 use Rattle.token_parts.specs.declared.token.Token.{Token}
 use Rattle.token_parts.specs.declared.token.Token.TheVariants.{Passed, QuoteOn, QuoteOff}
-use Rattle.pat_lex.specs.Tell.{◌>>=◌}
+use Rattle.token_parts.specs.Tell.{◌>>=◌}
 use Rattle.pat_lex.specs.Tokens.{token_at}
 
 -- a reference: its place, and the groups that it names

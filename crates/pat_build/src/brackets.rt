@@ -3,8 +3,8 @@ ghost use Rattle.std.specs.Prelude.{◌≡◌, Bool, true, false, not, ◌&&◌,
 ghost use Rattle.std.specs.Option.{option_map_or};
 ghost use Rattle.pat_tree.specs.declared.nodes.Part.{Part};
 ghost use Rattle.pat_tree.specs.declared.nodes.ClassSpec.{ClassSpec};
-ghost use Rattle.pat_lex.specs.declared.token.Token.TheVariants.{ClassEnd};
-ghost use Rattle.pat_lex.specs.Tell.{Moves, is_own};
+ghost use Rattle.token_parts.specs.declared.token.Token.TheVariants.{ClassEnd};
+ghost use Rattle.token_parts.specs.Tell.{Moves, is_own};
 ghost use Rattle.pat_build.specs.State.{State, Reads};
 ghost use Rattle.pat_build.specs.Classes.{character, is_hyphen, is_last, is_last_item, part_then, item, range_or_hyphen, from_character, from_set, from_item, class_parts, class_spec};
 ghost use Rattle.pat_build.specs.declared.cursor.Place.{Place};

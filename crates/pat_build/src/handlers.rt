@@ -3,9 +3,9 @@ ghost use Rattle.std.specs.Prelude.{◌≡◌, ℕ, ◌+◌, ◌<◌, ◌≤◌,
 ghost use Rattle.pat_tree.specs.declared.nodes.Node.TheVariants as node;
 ghost use Rattle.pat_tree.specs.Nested.{Nested, one, line_break, ref, anchor, keep_out};
 ghost use Rattle.pat_tree.specs.Rules.{class_in};
-ghost use Rattle.pat_lex.specs.declared.token.Token.{Token};
-ghost use Rattle.pat_lex.specs.declared.token.Token.TheVariants.{Bar, Close, Quantifier};
-ghost use Rattle.pat_lex.specs.Tell.{fault};
+ghost use Rattle.token_parts.specs.declared.token.Token.{Token};
+ghost use Rattle.token_parts.specs.declared.token.Token.TheVariants.{Bar, Close, Quantifier};
+ghost use Rattle.token_parts.specs.Tell.{fault};
 ghost use Rattle.pat_lex.specs.Tokens.{token_at};
 ghost use Rattle.pat_build.specs.State.{State, passed_over, flags_of};
 ghost use Rattle.pat_build.specs.Names.{with_given, given_after};

@@ -1,9 +1,9 @@
 //! What begins a group, and what refers to one.
 ghost use Rattle.std.specs.Prelude.{◌≡◌, ℕ, ◌<◌, not, ◌&&◌, length, false, IfOk, OnOk, IfErr, None, Ok};
-ghost use Rattle.pat_lex.specs.declared.token.Token.{Token};
-ghost use Rattle.pat_lex.specs.declared.token.Token.TheVariants.{Open, Reference};
-ghost use Rattle.pat_lex.specs.declared.token.OpenKind.TheVariants as opening;
-ghost use Rattle.pat_lex.specs.Tell.{IsTarget};
+ghost use Rattle.token_parts.specs.declared.token.Token.{Token};
+ghost use Rattle.token_parts.specs.declared.token.Token.TheVariants.{Open, Reference};
+ghost use Rattle.token_parts.specs.declared.token.OpenKind.TheVariants as opening;
+ghost use Rattle.token_parts.specs.Tell.{IsTarget};
 ghost use Rattle.pat_build.specs.Names.{IsKnown};
 ghost use Rattle.std.specs.List.{list_any};
 ghost use Rattle.pat_build.specs.Groups.{has_name, opened, named_by};

@@ -1,8 +1,8 @@
 //! The reader of a pattern.
 ghost use Rattle.std.specs.Prelude.{◌≡◌, ◌||◌, ℕ, ◌<◌, ◌≤◌, false, [], length, Ok, OnOk, IfOk, IfErr};
 ghost use Rattle.pat_tree.specs.Nested.{Nested};
-ghost use Rattle.pat_lex.specs.declared.token.Token.TheVariants.{End};
-ghost use Rattle.pat_lex.specs.Tell.{IsWell, Moves};
+ghost use Rattle.token_parts.specs.declared.token.Token.TheVariants.{End};
+ghost use Rattle.token_parts.specs.Tell.{IsWell, Moves};
 ghost use Rattle.pat_lex.specs.Tokens.{token_at};
 ghost use Rattle.pat_build.specs.State.{State, flags_of};
 ghost use Rattle.pat_build.specs.Names.{IsKnown, table_of};

@@ -2,7 +2,7 @@
 ghost use Rattle.std.specs.Prelude.{◌≡◌, ℕ, ◌<◌, ◌≤◌, false, [], ◌∷◌, length, IfOk, OnOk, IfErr, None, Some};
 ghost use Rattle.pat_tree.specs.Nested.{one};
 ghost use Rattle.pat_tree.specs.Rules.{class_in};
-ghost use Rattle.pat_lex.specs.declared.token.Token.TheVariants as token;
+ghost use Rattle.token_parts.specs.declared.token.Token.TheVariants as token;
 ghost use Rattle.pat_build.specs.State.{passed_over};
 ghost use Rattle.pat_build.specs.Parts.{boundary, any_or_line};
 ghost use Rattle.pat_build.specs.Stack.{IsPlain};

@@ -1,6 +1,6 @@
 use Rattle.std.proofs.Common.{◌∙◌, ap, sym, subst, Ok, Result}
 use Rattle.std.proofs.lemmas.Result.{err_from_is_err_and}
-use Rattle.pat_lex.specs.declared.fault.Fault.{Fault}
+use Rattle.token_parts.specs.declared.fault.Fault.{Fault}
 use Rattle.pat_build.specs.Names.{table_of}
 use Rattle.pat_build.specs.Reading.{Parsed}
 use Rattle.pat_build.specs.Machine.{Refuses, state_from, tree_with}

@@ -1,6 +1,6 @@
 use Rattle.std.proofs.Common.{◌≤◌, ◌<◌, length, arith}
-use Rattle.pat_lex.specs.declared.token.Token.TheVariants.{Open}
-use Rattle.pat_lex.specs.declared.token.OpenKind.TheVariants.{Capture}
+use Rattle.token_parts.specs.declared.token.Token.TheVariants.{Open}
+use Rattle.token_parts.specs.declared.token.OpenKind.TheVariants.{Capture}
 use Rattle.pat_build.specs.Machine.{known_of, state_of}
 use Rattle.pat_build.proofs.Beginning.{captured_deep, captured_many, captured_fits, capture_is}
 use Rattle.pat_build.proofs.Waiting.{bad_means}

@@ -1,5 +1,5 @@
 use Rattle.std.proofs.lemmas.Result.{err_from_is_err_and}
-use Rattle.pat_lex.specs.declared.token.Token.TheVariants.{ClassStart}
+use Rattle.token_parts.specs.declared.token.Token.TheVariants.{ClassStart}
 use Rattle.pat_build.specs.Machine.{state_of}
 use Rattle.pat_build.proofs.Waiting.{class_refuses, class_begins}
 use Rattle.pat_build.proofs.machine.Machine.class_start.Goals as goal

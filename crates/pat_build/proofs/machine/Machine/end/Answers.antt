@@ -1,5 +1,5 @@
 use Rattle.std.proofs.Common.{◌≡◌, ◌∙◌, ◌<◌, length, arith, sym, false-eqb, true-eqb, vec_len}
-use Rattle.pat_lex.specs.declared.token.Token.TheVariants.{End}
+use Rattle.token_parts.specs.declared.token.Token.TheVariants.{End}
 use Rattle.pat_build.proofs.States.{nothing_in, last_in}
 use Rattle.pat_build.proofs.Waiting.{ends_level}
 use Rattle.pat_build.proofs.Nesting.{unclosed_means, whole_means}

@@ -1,6 +1,6 @@
 use Rattle.std.proofs.Common.{◌≤◌, ◌<◌, length, arith, refl, slice_range, sym}
-use Rattle.pat_lex.specs.declared.token.Token.TheVariants.{Open}
-use Rattle.pat_lex.specs.declared.token.OpenKind.TheVariants.{Named}
+use Rattle.token_parts.specs.declared.token.Token.TheVariants.{Open}
+use Rattle.token_parts.specs.declared.token.OpenKind.TheVariants.{Named}
 use Rattle.pat_build.specs.Machine.{state_of}
 use Rattle.pat_build.proofs.Beginning.{named_deep, named_many, named_twice, named_fits}
 use Rattle.pat_build.proofs.Waiting.{bad_means}

@@ -1,5 +1,5 @@
 use Rattle.std.proofs.Common.{inl, inr, sym, subst}
-use Rattle.pat_lex.specs.declared.token.Token.TheVariants.{Open}
+use Rattle.token_parts.specs.declared.token.Token.TheVariants.{Open}
 use Rattle.pat_build.specs.Machine.{known_of, state_of}
 use Rattle.pat_build.proofs.Beginning.{IsLeftOut, left_out}
 use Rattle.pat_build.proofs.Waiting.{bad_means}

@@ -1,7 +1,7 @@
 use Rattle.std.proofs.Common.{◌≡◌, ℕ, refl}
-use Rattle.pat_lex.specs.declared.token.Token.{Token}
-use Rattle.pat_lex.specs.declared.token.Token.TheVariants as token
-use Rattle.pat_lex.specs.Tell.{fault}
+use Rattle.token_parts.specs.declared.token.Token.{Token}
+use Rattle.token_parts.specs.declared.token.Token.TheVariants as token
+use Rattle.token_parts.specs.Tell.{fault}
 use Rattle.pat_build.specs.Parts.{beginning}
 use Rattle.pat_build.specs.Stack.{IsPlain}
 use Rattle.pat_build.specs.Machine.{known_of, state_of, IsMore}

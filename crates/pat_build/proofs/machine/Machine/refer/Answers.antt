@@ -1,6 +1,6 @@
 use Rattle.std.proofs.Common.{refl}
 use Rattle.std.proofs.lemmas.Result.{err_from_is_err_and}
-use Rattle.pat_lex.specs.declared.token.Token.TheVariants.{Reference}
+use Rattle.token_parts.specs.declared.token.Token.TheVariants.{Reference}
 use Rattle.pat_build.proofs.Waiting.{refers_refuse}
 use Rattle.pat_build.proofs.machine.Machine.refer.Goals as goal
 

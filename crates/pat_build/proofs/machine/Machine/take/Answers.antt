@@ -1,5 +1,5 @@
 use Rattle.std.proofs.Common.{◌≡◌, refl}
-use Rattle.pat_lex.specs.declared.token.Token.TheVariants.{Quantifier, Passed, QuoteOn, QuoteOff}
+use Rattle.token_parts.specs.declared.token.Token.TheVariants.{Quantifier, Passed, QuoteOn, QuoteOff}
 use Rattle.pat_build.specs.Stack.{IsPlain}
 use Rattle.pat_build.proofs.machine.Machine.take.Goals as goal
 
