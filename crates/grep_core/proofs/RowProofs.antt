@@ -1,6 +1,7 @@
 -- The worked rows compute.
 use Rattle.std.proofs.Common.{refl}
 use Rattle.std.specs.Str.{is_utf8}
+use Rattle.std.specs.Fmt.{digits}
 use Rattle.byte_lanes.specs.Newlines.{stands}
 use Rattle.byte_lanes.specs.Places.{least_of}
 use Rattle.line_feed.specs.Rows.{rows_within}
@@ -51,7 +52,7 @@ unfolding trees_after trees group_numbers least_of nodes lengths by_calls lead_t
 searching_computes = tt
 
 computing : Unit {0}
-unfolding reading_computes searching_computes is_utf8 rows_within plan_of later matches nth_place input_text reports text_of
+unfolding reading_computes searching_computes is_utf8 digits rows_within plan_of later matches nth_place input_text reports text_of
 computing = tt
 
 pub rows_hold : WorkedRows

@@ -19,11 +19,11 @@ pub record WorkedRows : Type 0 where
   pub pattern_file : over_files two_files ("-lif" ∷ "p" ∷ "a" ∷ "c" ∷ []) ≡ outcome "a\nc\n" "" 0
   pub empty_parts : over "abb\nc" ("-no" ∷ "b*" ∷ []) ≡ outcome "1:\n1:bb\n2:\n" "" 0
   pub context : over "a\nx\nb\nc\nd\nx\n" ("-n" ∷ "-C" ∷ "1" ∷ "x" ∷ []) ≡ outcome "1-a\n2:x\n3-b\n--\n5-d\n6:x\n" "" 0
-  pub untested : over "x\nx\ny\n" ("-nm1A1" ∷ "x" ∷ []) ≡ outcome "1:x\n2-x\n" "" 0
+  pub untested : over "x\nx\ny\n" ("-nm1" ∷ "-A1" ∷ "x" ∷ []) ≡ outcome "1:x\n2-x\n" "" 0
   pub newline : over "a\r\nb\r\n" ("-N" ∷ "CRLF" ∷ "a$" ∷ []) ≡ outcome "a\r\n" "" 0
   pub offsets : over "foo\nbar\n" ("--line-offsets" ∷ "o" ∷ []) ≡ outcome "1:1,1\n1:2,1\n" "" 0
   pub binary : over_files (binary_file ∷ []) ("x" ∷ "f" ∷ []) ≡ outcome "Binary file f matches\n" "" 0
-  pub fixed : over "a.b\nacb\nc\n" ("-cFe" ∷ "a.b\nc" ∷ []) ≡ outcome "2\n" "" 0
+  pub fixed : over "a.b\nadb\nc\n" ("-cFe" ∷ "a.b\nc" ∷ []) ≡ outcome "2\n" "" 0
   pub match_error : over "ab\ncb\n" ("-nv" ∷ "--match-limit=0" ∷ "a+b" ∷ []) ≡ outcome "2:cb\n" "pcre2grep: (standard input): line 1: error -47\n" 0
   pub refused : over "" ("a(" ∷ []) ≡ outcome "" "pcre2grep: pattern 1: error 114 at offset 2: missing closing parenthesis\n" 2
   pub too_long : over "ab\nabcde\nb\n" ("--max-buffer-size=4" ∷ "b" ∷ []) ≡ outcome "ab\n" "pcre2grep: (standard input): line 2 is too long\n" 2
