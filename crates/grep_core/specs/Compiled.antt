@@ -1,5 +1,5 @@
 -- Patterns as they are searched for, and the first one that is refused.
-use Rattle.std.specs.Prelude.{ℕ, ◌+◌, Bool, List, [], ◌∷◌, map, Option, Some, None, ℤ, pos, slice_get, Result, Ok, Err}
+use Rattle.std.specs.Prelude.{ℕ, ◌+◌, List, [], ◌∷◌, map, Some, pos, slice_get, Result, Ok, Err}
 use Rattle.uni_text.specs.Ascii.{ascii_fold, is_word_char}
 use Rattle.pat_tree.specs.declared.options.Options.{Options}
 use Rattle.pat_tree.specs.declared.options.MatchOptions.{MatchOptions}
@@ -15,7 +15,7 @@ use Rattle.frame_machine.specs.Setting.{Setting, class_holds}
 use Rattle.grep_args.specs.declared.plan.GrepPlan.{GrepPlan}
 use Rattle.grep_core.specs.Patterns.{pattern_texts, options_of}
 
--- what a search needs of a pattern
+-- what a search goes by in a pattern
 pub record Pattern : Type 0 where
   pub options : Options
   pub tree : Nested
@@ -60,7 +60,7 @@ setting p matching subject start = record {
   reply = λ block. pos 0;
 }
 
--- a pattern, or the fault for which it is refused
+-- A pattern, or the fault for which it is refused. No lookbehind is read yet whose length could be at fault.
 abbrev pub compiled : Options → List ℕ → Result Pattern Fault
 compiled options text = read options text >>= λ parsed. Ok (pattern_of parsed)
 

@@ -1,11 +1,11 @@
 -- What is written of one input after those before it.
-use Rattle.std.specs.Prelude.{ℕ, zero, suc, ◌+◌, Bool, true, false, ◌||◌, not, nat_lt, if◌then◌else◌, List, [], ◌∷◌, ◌++◌, length, take, flat_map, codes, decimal}
+use Rattle.std.specs.Prelude.{ℕ, ◌+◌, Bool, true, false, ◌||◌, not, nat_lt, if◌then◌else◌, List, [], ◌++◌, length, take, flat_map, codes, decimal}
 use Rattle.line_feed.specs.Rows.{Rows, Input, At, End}
 use Rattle.grep_args.specs.declared.plan.GrepPlan.{GrepPlan}
 use Rattle.grep_core.specs.Compiled.{Pattern}
 use Rattle.grep_core.specs.Lines.{Treatment, lines, treatment}
-use Rattle.grep_core.specs.Modes.{Mode, nothing, names_without, counts, names_with, total, parts, whole_lines, mode, is_with, is_matching, tells_binary}
-use Rattle.grep_core.specs.Scans.{Scan, Ended, at_finish, early, too_many_errors, scan, selected_in, errors_in, rows_of}
+use Rattle.grep_core.specs.Modes.{Mode, names_without, counts, names_with, parts, whole_lines, mode, is_with, is_matching, tells_binary}
+use Rattle.grep_core.specs.Scans.{Scan, Ended, too_many_errors, scan, selected_in, errors_in, rows_of}
 use Rattle.grep_core.specs.Context.{Shown, shown_lines}
 use Rattle.grep_core.specs.Texts.{line, text_if, lines_text, matches_text}
 use Rattle.grep_core.specs.Messages.{messages}

@@ -11,5 +11,5 @@ pub mod InputText
 pub mod FaultTexts
 pub mod Tool
 pub mod ToolText
-pub mod Written
+pub mod Runs
 pub mod Worked

@@ -1,5 +1,5 @@
 -- The matches of a line (pcre2grep, "DESCRIPTION" and "OPTIONS", -e, -o and -v).
-use Rattle.std.specs.Prelude.{ℕ, zero, suc, ◌+◌, Bool, true, false, ◌&&◌, not, nat_le, List, [], ◌∷◌, length, ℤ, negsuc, Result, Ok, Err, slice_index_or}
+use Rattle.std.specs.Prelude.{ℕ, zero, suc, ◌+◌, Bool, true, false, ◌&&◌, not, List, [], ◌∷◌, length, ℤ, negsuc, Result, Ok, Err, slice_index_or}
 use Rattle.std.specs.Str.{is_utf8}
 use Rattle.std.specs.Int.{is_in_range}
 use Rattle.pat_tree.specs.declared.options.MatchOptions.{MatchOptions}

@@ -1,5 +1,5 @@
 -- What is said of an input (pcre2grep, "DIAGNOSTICS" and "OPTIONS", -s).
-use Rattle.std.specs.Prelude.{ℕ, Bool, true, false, not, List, [], ◌++◌, flat_map, codes, decimal, ℤ, Ok, Err}
+use Rattle.std.specs.Prelude.{ℕ, Bool, not, List, [], ◌++◌, flat_map, codes, decimal, Ok, Err}
 use Rattle.std.specs.Fmt.{signed_decimal}
 use Rattle.line_feed.specs.Rows.{Finish, At, Long, End, Fault, Limit}
 use Rattle.grep_args.specs.declared.plan.GrepPlan.{GrepPlan}

@@ -1,5 +1,5 @@
 -- How far an input is scanned.
-use Rattle.std.specs.Prelude.{ℕ, zero, suc, ◌+◌, ◌-◌, ◌==◌, Bool, true, false, nat_lt, nat_le, if◌then◌else◌, List, [], ◌∷◌, map, take, filter, length, Option, Some, None, option_map}
+use Rattle.std.specs.Prelude.{ℕ, suc, ◌+◌, ◌-◌, ◌==◌, Bool, true, false, nat_lt, nat_le, if◌then◌else◌, List, [], ◌∷◌, map, take, filter, sum_by, length, Option, Some, None, option_map}
 use Rattle.line_feed.specs.Rows.{Row, Rows, Finish}
 use Rattle.grep_args.specs.declared.plan.GrepPlan.{GrepPlan}
 use Rattle.grep_core.specs.Compiled.{Pattern}
@@ -86,5 +86,14 @@ module _ (plan : GrepPlan) (patterns : List Pattern) (errors : ℕ) where
 abbrev pub selected_in : GrepPlan → Scan → List Tried
 selected_in plan s = filter (is_selected plan) s.tried
 
+-- those with a match error
 abbrev pub errors_in : Scan → List Tried
 errors_in s = filter has_error s.tried
+
+-- how many bytes of the input lines have, with their newlines
+abbrev pub bytes_in : List Row → ℕ
+bytes_in rows = sum_by (λ (row : Row). length row.bytes + length row.newline) rows
+
+-- the place at which a scan ends that ends early: behind the last line that may be shown
+abbrev pub end_of : Scan → ℕ
+end_of s = bytes_in s.within

@@ -6,7 +6,6 @@ use Rattle.pcre_io.specs.Files.{File, file_of}
 use Rattle.line_feed.specs.Rows.{Row, Rows, Input, End, Finish, At, input_with, rows}
 use Rattle.line_feed.specs.Hears.{heard}
 use Rattle.grep_args.specs.declared.plan.GrepPlan.{GrepPlan}
-use Rattle.grep_args.specs.Effects.{is_empty}
 use Rattle.grep_core.specs.Compiled.{Pattern}
 use Rattle.grep_core.specs.Scans.{at_finish, early, too_many_errors}
 use Rattle.grep_core.specs.Texts.{text_if}
@@ -61,27 +60,27 @@ abbrev pub patterns_in : List Row → List (List ℕ)
 patterns_in found = filter is_given (map (λ (row : Row). trimmed row.bytes) found)
 
 -- the patterns, or the message of the first file that can't be read to its end
-abbrev pub Texts : Type 0
-Texts = Result (List (List ℕ)) (List ℕ)
+abbrev pub FileTexts : Type 0
+FileTexts = Result (List (List ℕ)) (List ℕ)
 
-abbrev pub texts_or_message : List ℕ → List Row → Finish → Texts
+abbrev pub texts_or_message : List ℕ → List Row → Finish → FileTexts
 texts_or_message name found (At End) = Ok (patterns_in found)
 texts_or_message name found finish = Err (finish_message false name finish)
 
-abbrev pub texts_of_rows : List ℕ → Rows → Texts
+abbrev pub texts_of_rows : List ℕ → Rows → FileTexts
 texts_of_rows name found = texts_or_message name found.rows found.finish
 
 -- lines end at LF
-abbrev pub texts_of : GrepPlan → List ℕ → Option Input → Texts
+abbrev pub texts_of : GrepPlan → List ℕ → Option Input → FileTexts
 texts_of plan name None = Err (missing_message name)
 texts_of plan name (Some input) = texts_of_rows name (rows Lf plan.max_buffer_size input)
 
-abbrev pub texts_then : Texts → Texts → Texts
+abbrev pub texts_then : FileTexts → FileTexts → FileTexts
 texts_then (Ok first) (Ok more) = Ok (first ++ more)
 texts_then (Ok first) (Err text) = Err text
 texts_then (Err text) more = Err text
 
-abbrev pub texts_in_files : GrepPlan → List File → Input → List (List ℕ) → Texts
+abbrev pub texts_in_files : GrepPlan → List File → Input → List (List ℕ) → FileTexts
 texts_in_files plan files standard [] = Ok []
 texts_in_files plan files standard (word ∷ words) =
     texts_then (texts_of plan (shown_name plan word) (input_named files standard word))

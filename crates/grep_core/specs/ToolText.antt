@@ -1,9 +1,9 @@
 -- What pcre2grep writes, and its status (pcre2grep, "OPTIONS", -t, and "DIAGNOSTICS").
-use Rattle.std.specs.Prelude.{ℕ, ◌+◌, ◌==◌, Bool, true, false, ◌&&◌, ◌||◌, not, nat_lt, nat_le, if◌then◌else◌, List, [], ◌∷◌, ◌++◌, length, drop, flat_map, filter, sum_by, codes, decimal, Option, Some, None, Result, Ok, Err, slice_index_or}
+use Rattle.std.specs.Prelude.{ℕ, ◌==◌, Bool, true, false, ◌&&◌, ◌||◌, not, nat_lt, nat_le, if◌then◌else◌, List, [], ◌∷◌, ◌++◌, length, drop, flat_map, filter, sum_by, codes, decimal, Option, Some, None, Ok, Err, slice_index_or}
 use Rattle.std.specs.List.{list_any}
 use Rattle.std.specs.Fmt.{signed_decimal}
 use Rattle.pcre_io.specs.Files.{File}
-use Rattle.line_feed.specs.Rows.{Input, At, End, Finish}
+use Rattle.line_feed.specs.Rows.{Input, At, End}
 use Rattle.grep_args.specs.declared.plan.GrepPlan.{GrepPlan}
 use Rattle.grep_args.specs.declared.plan.NameMode.{NameMode}
 use Rattle.grep_args.specs.declared.plan.NameMode.TheVariants.{Auto, With}
@@ -12,14 +12,14 @@ use Rattle.grep_args.specs.declared.plan.HelpKind.TheVariants.{Help, Version}
 use Rattle.grep_args.specs.declared.usage.UsageKind.{UsageKind}
 use Rattle.grep_args.specs.declared.usage.UsageKind.TheVariants.{UnknownOption, MissingValue, BadNumber, BadValue, Exclude, NoPattern}
 use Rattle.grep_args.specs.Words.{Fault, plan_of}
-use Rattle.grep_core.specs.Compiled.{Pattern, BadPattern, Compiled, patterns_of}
+use Rattle.grep_core.specs.Compiled.{BadPattern, Compiled, patterns_of}
 use Rattle.grep_core.specs.Modes.{Mode, nothing, names_without, counts, mode, is_with, is_matching}
 use Rattle.grep_core.specs.Scans.{Ended, at_finish, early, too_many_errors}
 use Rattle.grep_core.specs.Texts.{line, text_if}
 use Rattle.grep_core.specs.Messages.{message}
 use Rattle.grep_core.specs.FaultTexts.{fault_text}
-use Rattle.grep_core.specs.InputText.{State, first_state, Written}
-use Rattle.grep_core.specs.Tool.{Report, scanned, missing, Texts, is_given, texts_in_files, standard_after_all, reports}
+use Rattle.grep_core.specs.InputText.{first_state}
+use Rattle.grep_core.specs.Tool.{Report, scanned, missing, FileTexts, is_given, texts_in_files, standard_after_all, reports}
 
 -- what a run writes to each sink, and its status
 pub record Outcome : Type 0 where
@@ -135,7 +135,7 @@ module _ (files : List File) where
   text_by_patterns plan file_words standard (Ok patterns) = outcome_of plan (reports plan patterns files (or_standard file_words) first_state standard)
 
   -- the patterns of the plan come first, then those of its files
-  abbrev pub text_by_texts : GrepPlan → List (List ℕ) → Input → Texts → Outcome
+  abbrev pub text_by_texts : GrepPlan → List (List ℕ) → Input → FileTexts → Outcome
   text_by_texts plan file_words standard (Err text) = refusal text
   text_by_texts plan file_words standard (Ok texts) =
       text_by_patterns (with_names (length file_words) plan) file_words (standard_after_all plan.pattern_files standard)

@@ -1,8 +1,8 @@
 -- How runs are written in the worked rows.
-use Rattle.std.specs.Prelude.{ℕ, List, [], ◌∷◌, ◌++◌, map, flat_map, replicate, codes, Option, None, Some}
+use Rattle.std.specs.Prelude.{ℕ, List, [], ◌∷◌, ◌++◌, map, flat_map, replicate, codes, None, Some}
 use Prim.Native.String.{String}
 use Rattle.pcre_io.specs.Files.{File}
-use Rattle.line_feed.specs.Rows.{Input, End, input_with}
+use Rattle.line_feed.specs.Rows.{End, input_with}
 use Rattle.grep_core.specs.ToolText.{Outcome, text_of}
 
 abbrev pub outcome : String → String → ℕ → Outcome
