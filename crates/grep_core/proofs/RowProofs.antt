@@ -77,4 +77,5 @@ rows_hold = record {
   too_many_errors = refl;
   refused = refl;
   too_long = refl;
+  finished_tree = λ t matching subject start. refl;
 }

@@ -9,6 +9,7 @@ pub mod Texts
 pub mod Messages
 pub mod InputText
 pub mod FaultTexts
+pub mod Refusals
 pub mod Tool
 pub mod ToolText
 pub mod Runs

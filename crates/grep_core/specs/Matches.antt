@@ -1,5 +1,5 @@
 -- The matches of a line (pcre2grep, "DESCRIPTION" and "OPTIONS", -e, -o and -v).
-use Rattle.std.specs.Prelude.{ℕ, zero, suc, ◌+◌, Bool, true, false, ◌&&◌, not, List, [], ◌∷◌, length, ℤ, negsuc, Result, Ok, Err, slice_index_or}
+use Rattle.std.specs.Prelude.{ℕ, zero, suc, ◌+◌, Bool, true, false, ◌&&◌, not, List, [], ◌∷◌, length, ℤ, pos, neg_ℤ, Result, Ok, Err, slice_index_or}
 use Rattle.std.specs.Str.{is_utf8}
 use Rattle.std.specs.Int.{is_in_range}
 use Rattle.pat_tree.specs.declared.options.MatchOptions.{MatchOptions}
@@ -18,13 +18,16 @@ pub data Answer : Type 0 where
   -- a match error, by its number
   error : ℤ → Answer
 
+abbrev pub minus : ℕ → ℤ
+minus n = neg_ℤ (pos n)
+
 -- The numbers of the match errors: of the limits, of a recursion at the same place, and of callouts, which are never met
 -- here since they are passed over.
 abbrev pub error_number : PlaceAnswer → ℤ
-error_number MatchLimit = negsuc 46
-error_number FrameLimit = negsuc 62
-error_number Loop = negsuc 51
-error_number _ = negsuc 36
+error_number MatchLimit = minus 47
+error_number FrameLimit = minus 63
+error_number Loop = minus 52
+error_number _ = minus 37
 
 -- no partial match is looked for
 abbrev pub answer_of : MatchAnswer → Answer
@@ -45,12 +48,12 @@ abbrev pub is_offset_fault : Pattern → List ℕ → ℕ → Bool
 is_offset_fault p line start = p.options.utf && not (is_place line start)
 
 -- one pattern from a place of the line on
-abbrev pub tried : MatchOptions → List ℕ → ℕ → Pattern → Answer
-tried matching line start p =
+abbrev pub pattern_answer : MatchOptions → List ℕ → ℕ → Pattern → Answer
+pattern_answer matching line start p =
     elim (is_utf_fault p line) [
-      | true ↦ error (negsuc 2)
+      | true ↦ error (minus 3)
       | false ↦ elim (is_offset_fault p line start) [
-        | true ↦ error (negsuc 35)
+        | true ↦ error (minus 36)
         | false ↦ answer_of (match_answer (setting p matching line start)).answer
       ]
     ]
@@ -58,7 +61,7 @@ tried matching line start p =
 -- the patterns are tried in order, and the first that doesn't answer that there is no match ends the trying
 abbrev pub first_answer : MatchOptions → List ℕ → ℕ → List Pattern → Answer
 first_answer matching line start [] = none
-first_answer matching line start (p ∷ ps) = elim (tried matching line start p) [
+first_answer matching line start (p ∷ ps) = elim (pattern_answer matching line start p) [
   | none ↦ first_answer matching line start ps
   | other ↦ other
 ]

@@ -3,7 +3,8 @@ use Rattle.std.specs.Prelude.{ℕ, List, [], ◌∷◌, ◌++◌, map, flat_map,
 use Prim.Native.String.{String}
 use Rattle.pcre_io.specs.Files.{File}
 use Rattle.line_feed.specs.Rows.{End, input_with}
-use Rattle.grep_core.specs.ToolText.{Outcome, text_of}
+use Rattle.grep_core.specs.ToolText.{text_of}
+use Rattle.grep_core.specs.Refusals.{Outcome}
 
 abbrev pub outcome : String → String → ℕ → Outcome
 outcome out err status = record { out = codes out; err = codes err; status = status }

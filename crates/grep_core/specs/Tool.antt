@@ -1,5 +1,5 @@
 -- What pcre2grep is run on: standard input, files, and files of patterns (pcre2grep, "DESCRIPTION" and "OPTIONS", -f).
-use Rattle.std.specs.Prelude.{ℕ, Bool, true, false, ◌||◌, not, if◌then◌else◌, List, [], ◌∷◌, ◌++◌, map, filter, codes, bytes_eq, option_map, Option, Some, None, Result, Ok, Err}
+use Rattle.std.specs.Prelude.{ℕ, ◌==◌, Bool, true, false, ◌||◌, not, if◌then◌else◌, List, [], ◌∷◌, ◌++◌, map, filter, codes, bytes_eq, option_map, Option, Some, None, Result, Ok, Err}
 use Rattle.std.specs.Int.{is_in_range}
 use Rattle.byte_lanes.specs.declared.line_end.EndKind.TheVariants.{Lf}
 use Rattle.pcre_io.specs.Files.{File, file_of}
@@ -40,7 +40,7 @@ missing_message name = message_on name (codes "cannot be opened")
 
 -- HT, LF, VT, FF, CR and space
 abbrev pub is_white : ℕ → Bool
-is_white b = is_in_range 9 13 b || is_in_range 32 32 b
+is_white b = is_in_range 9 13 b || b == 32
 
 abbrev pub with_byte : ℕ → List ℕ → List ℕ
 with_byte b [] = if is_white b then [] else b ∷ []

@@ -1,56 +1,20 @@
 -- What pcre2grep writes, and its status (pcre2grep, "OPTIONS", -t, and "DIAGNOSTICS").
-use Rattle.std.specs.Prelude.{ℕ, ◌==◌, Bool, true, false, ◌&&◌, ◌||◌, not, nat_lt, nat_le, if◌then◌else◌, List, [], ◌∷◌, ◌++◌, length, drop, flat_map, filter, sum_by, codes, decimal, Option, Some, None, Ok, Err, slice_index_or}
+use Rattle.std.specs.Prelude.{ℕ, ◌==◌, Bool, true, false, ◌&&◌, ◌||◌, not, nat_lt, nat_le, if◌then◌else◌, List, [], ◌∷◌, ◌++◌, length, drop, flat_map, filter, sum_by, codes, decimal, Option, Some, None, Ok, Err}
 use Rattle.std.specs.List.{list_any}
-use Rattle.std.specs.Fmt.{signed_decimal}
 use Rattle.pcre_io.specs.Files.{File}
 use Rattle.line_feed.specs.Rows.{Input, At, End}
 use Rattle.grep_args.specs.declared.plan.GrepPlan.{GrepPlan}
 use Rattle.grep_args.specs.declared.plan.NameMode.{NameMode}
 use Rattle.grep_args.specs.declared.plan.NameMode.TheVariants.{Auto, With}
 use Rattle.grep_args.specs.declared.plan.HelpKind.{HelpKind}
-use Rattle.grep_args.specs.declared.plan.HelpKind.TheVariants.{Help, Version}
-use Rattle.grep_args.specs.declared.usage.UsageKind.{UsageKind}
-use Rattle.grep_args.specs.declared.usage.UsageKind.TheVariants.{UnknownOption, MissingValue, BadNumber, BadValue, Exclude, NoPattern}
-use Rattle.grep_args.specs.Words.{Fault, plan_of}
-use Rattle.grep_core.specs.Compiled.{BadPattern, Compiled, patterns_of}
+use Rattle.grep_args.specs.Words.{plan_of}
+use Rattle.grep_core.specs.Compiled.{Compiled, patterns_of}
 use Rattle.grep_core.specs.Modes.{Mode, nothing, names_without, counts, mode, is_with, is_matching}
 use Rattle.grep_core.specs.Scans.{Ended, at_finish, early, too_many_errors}
 use Rattle.grep_core.specs.Texts.{line, text_if}
-use Rattle.grep_core.specs.Messages.{message}
-use Rattle.grep_core.specs.FaultTexts.{fault_text}
+use Rattle.grep_core.specs.Refusals.{Outcome, refusal, usage_message, pattern_message, help_text}
 use Rattle.grep_core.specs.InputText.{first_state}
 use Rattle.grep_core.specs.Tool.{Report, scanned, missing, FileTexts, is_given, texts_in_files, standard_after_all, reports}
-
--- what a run writes to each sink, and its status
-pub record Outcome : Type 0 where
-  pub out : List ℕ
-  pub err : List ℕ
-  pub status : ℕ
-
-abbrev pub refusal : List ℕ → Outcome
-refusal text = record { out = []; err = text; status = 2 }
-
--- Words and patterns that are refused.
-
-abbrev pub usage_text : UsageKind → List ℕ → List ℕ
-usage_text UnknownOption word = codes "unknown option " ++ word
-usage_text MissingValue word = codes "missing value for " ++ word
-usage_text BadNumber word = codes "bad number in " ++ word
-usage_text BadValue word = codes "bad value in " ++ word
-usage_text Exclude word = codes "options exclude each other"
-usage_text NoPattern word = codes "no pattern"
-
-abbrev pub usage_message : List (List ℕ) → Fault → List ℕ
-usage_message words fault = message (usage_text fault.kind (slice_index_or words fault.word []))
-
-abbrev pub pattern_message : BadPattern → List ℕ
-pattern_message bad =
-    message (codes "pattern " ++ decimal bad.number ++ codes ": error " ++ signed_decimal bad.fault.number
-    ++ codes " at offset " ++ decimal bad.fault.at ++ codes ": " ++ fault_text bad.fault.number)
-
-abbrev pub help_text : HelpKind → List ℕ
-help_text Help = line (codes "usage: pcre2grep [options] [pattern] [files]")
-help_text Version = line (codes "pcre2grep 8-bit profile")
 
 -- The status.
 

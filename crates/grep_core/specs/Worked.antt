@@ -1,5 +1,10 @@
 -- Worked rows: what pcre2grep writes.
-use Rattle.std.specs.Prelude.{◌≡◌, List, [], ◌∷◌, ◌++◌, codes, None}
+use Rattle.std.specs.Prelude.{◌≡◌, ℕ, List, [], ◌∷◌, ◌++◌, codes, None, pos}
+use Rattle.pat_tree.specs.declared.options.MatchOptions.{MatchOptions}
+use Rattle.pat_tree.specs.Parts.{TreeParts}
+use Rattle.uni_text.specs.Ascii.{ascii_fold, is_word_char}
+use Rattle.frame_machine.specs.Setting.{setting_of}
+use Rattle.grep_core.specs.Compiled.{pattern_in, setting}
 use Rattle.pcre_io.specs.Files.{File}
 use Rattle.grep_core.specs.Runs.{outcome, over, over_files, over_errors, file, failing}
 
@@ -35,3 +40,6 @@ pub record WorkedRows : Type 0 where
   pub too_many_errors : (over_errors 21 []).out ≡ codes "x\n"
   pub refused : over "" ("a(" ∷ []) ≡ outcome "" "pcre2grep: pattern 1: error 114 at offset 2: missing closing parenthesis\n" 2
   pub too_long : over "ab\nabcde\nb\n" ("--max-buffer-size=4" ∷ "b" ∷ []) ≡ outcome "ab\n" "pcre2grep: (standard input): line 2 is too long\n" 2
+  -- what a search of a finished tree is about
+  pub finished_tree : (t : TreeParts) (matching : MatchOptions) (subject : List ℕ) (start : ℕ)
+      → setting (pattern_in t) matching subject start ≡ setting_of t matching subject start ascii_fold is_word_char (λ block. pos 0)
