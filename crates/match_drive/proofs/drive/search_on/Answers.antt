@@ -13,7 +13,7 @@ use Rattle.match_drive.specs.Rest.{IsLeft, IsNextTried}
 use Rattle.match_drive.proofs.Steps.{last_within, left_less, next_within, next_not_excluded, tried_later, tried_from}
 use Rattle.match_drive.proofs.Walk.{walk_begins, walk_ends, walk_on, asked_alike}
 use Rattle.match_drive.proofs.NoPartial.{none_told}
-use Rattle.match_drive.proofs.search.search_on.Goals as goal
+use Rattle.match_drive.proofs.drive.search_on.Goals as goal
 
 pub places-init : goal.places-init
 places-init g c =
