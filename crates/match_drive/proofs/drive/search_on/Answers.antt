@@ -1,9 +1,8 @@
-use Rattle.std.proofs.Common.{◌≡◌, ◌≤◌, ℕ, Option, Some, length, refl, sym, subst, ap, ◌∙◌, arith}
+use Rattle.std.proofs.Common.{◌≡◌, ◌≤◌, ℕ, Option, Some, length, refl, sym, subst, ◌∙◌, arith}
 use Rattle.std.proofs.lemmas.Option.{IfSome_then}
 use Rattle.frame_machine.specs.declared.answer.PlaceAnswer.TheVariants.{Failed}
 use Rattle.frame_machine.specs.Answer.{IsAnswer, IsMark}
 use Rattle.frame_machine.specs.PlaceAnswer.{place_answer}
-use Rattle.frame_machine.specs.Scratch.{Workspace}
 use Rattle.frame_machine.specs.Setting.{Setting}
 use Rattle.match_drive.specs.Asked.{passed_over, replied}
 use Rattle.match_drive.specs.Places.{last_place}
@@ -11,7 +10,7 @@ use Rattle.match_drive.specs.MatchAnswer.{none_found, match_answer}
 use Rattle.match_drive.specs.Answer.{IsMatchAnswer}
 use Rattle.match_drive.specs.Rest.{IsLeft, IsNextTried}
 use Rattle.match_drive.proofs.Steps.{last_within, left_less, next_within, next_not_excluded, tried_later, tried_from}
-use Rattle.match_drive.proofs.Walk.{walk_begins, walk_ends, walk_on, asked_alike}
+use Rattle.match_drive.proofs.Walk.{walk_begins, walk_ends, walk_on, asked_alike, forgotten}
 use Rattle.match_drive.proofs.NoPartial.{none_told}
 use Rattle.match_drive.proofs.drive.search_on.Goals as goal
 
@@ -20,15 +19,15 @@ places-init g c =
     let x = c.args.on.now in
     let s = replied (g.S.Driven.asked x (g.C.Callouts.answers c.args.calls.now)).reply (g.S.Driven.asked x passed_over) in
     let next : IsNextTried s (Some s.start) c.next_tried-next.result = subst (λ p. IsNextTried s (Some p) c.next_tried-next.result) c.start.ensures (c.next_tried-next.ensures s.reply) in
+    let kept = forgotten c.args.scratch.now c.clear_mark.new.self c.clear_mark.ensures in
     record {
-      left = walk_begins s (g.met.S.Driven.not_utf x c.requires) (g.met.S.Driven.begun x c.requires) c.clear_mark.new.self.last_mark c.next_tried-next.result
-          (ap (λ (w : Workspace). w.last_mark) c.clear_mark.ensures) next;
+      left = walk_begins s (g.met.S.Driven.not_utf x c.requires) (g.met.S.Driven.begun x c.requires) c.clear_mark.new.self.last_mark c.next_tried-next.result kept.0 next;
       begun = tried_from s s.start c.next_tried-next.result next;
       within = next_within s (Some s.start) c.next_tried-next.result next;
       not_excluded = next_not_excluded s (Some s.start) c.next_tried-next.result next;
-      peak = omega (arith, ap (λ (w : Workspace). w.peak) c.clear_mark.ensures);
-      groups = ap (λ (w : Workspace). w.groups) c.clear_mark.ensures;
-      frames = ap (λ (w : Workspace). w.frames) c.clear_mark.ensures;
+      peak = omega (arith, kept.1);
+      groups = kept.2;
+      frames = kept.3;
       rule = λ block. refl;
       seen = refl;
     }
