@@ -1,6 +1,6 @@
 -- One place of the walk: it decides, or the walk goes on.
 use mathlib.Core.Path.{fun_ext}
-use Rattle.std.proofs.Common.{◌≡◌, ℕ, ℤ, ◌≤◌, Bool, false, length, Option, Some, None, refl, sym, subst, ap, ◌∙◌}
+use Rattle.std.proofs.Common.{◌≡◌, ℕ, ℤ, ◌≤◌, Bool, false, length, Option, Some, None, refl, sym, subst, ap, ◌∙◌, arith}
 use Rattle.std.specs.Option.{option_or}
 use Rattle.std.specs.Prelude.{IfSome}
 use Rattle.frame_store.specs.Captures.{Captures}
@@ -10,6 +10,7 @@ use Rattle.frame_machine.specs.declared.answer.Signal.{Signal}
 use Rattle.frame_machine.specs.Answer.{signal_of, IsAnswer, IsMark}
 use Rattle.frame_machine.specs.PlaceAnswer as place
 use Rattle.frame_machine.specs.PlaceAnswer.{last_name, place_answer}
+use Rattle.frame_machine.specs.Scratch.{Workspace}
 use Rattle.frame_machine.specs.Setting.{Setting}
 use Rattle.match_drive.specs.declared.answer.MatchAnswer.{MatchAnswer}
 use Rattle.match_drive.specs.Asked.{replied}
@@ -59,3 +60,7 @@ walk_begins g not_utf begun mark next none next_tried =
 pub asked_alike : {A : Type 0} (asked : (A → ℤ) → Setting) (plain : Setting) (old new : A → ℤ) → ((b : A) → new b ≡ old b) → asked old ≡ replied (asked old).reply plain
     → asked new ≡ replied (asked old).reply plain
 asked_alike asked plain old new same alike = ap asked (fun_ext same) ∙ alike
+
+-- a workspace whose last name is forgotten
+pub forgotten : (old new : Workspace) → new ≡ record old { last_mark = None } → (new.last_mark ≡ None) × (new.peak ≤ old.peak) × (new.groups ≡ old.groups) × (new.frames ≡ old.frames)
+forgotten old new e = (ap (λ (w : Workspace). w.last_mark) e, omega (arith, ap (λ (w : Workspace). w.peak) e), ap (λ (w : Workspace). w.groups) e, ap (λ (w : Workspace). w.frames) e)

@@ -18,29 +18,39 @@ pub trait Driven {
     /// What the search is about, by what its callouts answer.
     ghost asked: { Self → (Block → ℤ) → Setting };
 
+    /// What is needed of it.
+    ghost fits: { Self → Type 0 };
+
     fn subject(&self) -> &[u8]
+        requires { fits self.now }
         ensures { result.now ≡ (asked self.now passed_over).subject };
 
     fn start(&self) -> usize
+        requires { fits self.now }
         ensures { result ≡ (asked self.now passed_over).start };
 
     fn options(&self) -> &Options
+        requires { fits self.now }
         ensures { result.now ≡ (asked self.now passed_over).options };
 
     fn matching(&self) -> &MatchOptions
+        requires { fits self.now }
         ensures { result.now ≡ (asked self.now passed_over).matching };
 
     /// The bytes that every match begins with, where they are known (pcre2api, "Option bits for pcre2_compile()",
     /// PCRE2_NO_START_OPTIMIZE).
     fn lead(&self) -> Option<&ByteSet>
+        requires { fits self.now }
         ensures { IsByteSet (option_copied result) (lead_set (asked self.now passed_over)) };
 
     /// Whether CR or LF stands in the pattern, as a character or as an end of a range.
     fn names_crlf(&self) -> bool
+        requires { fits self.now }
         ensures { result ≡ names_cr_or_lf (asked self.now passed_over) };
 
     /// Searches at one place.
     fn try_at<C: Callouts>(&self, place: usize, scratch: &mut Scratch, calls: &mut C) -> PlaceAnswer
+        requires fits { fits self.now }
         requires start { (asked self.now passed_over).start ≤ place }
         requires place { place ≤ length (asked self.now passed_over).subject }
         ensures answer { IsAnswer result scratch.new.spans (place_answer (asked self.now (C.answers calls.old)) place) }
@@ -51,11 +61,11 @@ pub trait Driven {
         ensures rule { (block : Block) → C.answers calls.new block ≡ C.answers calls.old block }
         ensures seen { C.seen calls.new ≡ C.seen calls.old };
 
-    ghost not_utf: { (x : Self) → (asked x passed_over).options.utf ≡ false };
+    ghost not_utf: { (x : Self) → fits x → (asked x passed_over).options.utf ≡ false };
 
-    ghost short: { (x : Self) → length (asked x passed_over).subject < 4294967295 };
+    ghost short: { (x : Self) → fits x → length (asked x passed_over).subject < 4294967295 };
 
-    ghost begun: { (x : Self) → (asked x passed_over).start ≤ length (asked x passed_over).subject };
+    ghost begun: { (x : Self) → fits x → (asked x passed_over).start ≤ length (asked x passed_over).subject };
 
     ghost alike: { (x : Self) (answers : Block → ℤ) → asked x answers ≡ replied (asked x answers).reply (asked x passed_over) };
 }

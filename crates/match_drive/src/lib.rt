@@ -3,14 +3,14 @@
 #![tactic(auto)]
 
 mod answer;
+mod drive;
 mod driven;
 mod laws;
 mod places;
-mod search;
 mod words;
 
 pub use answer::MatchAnswer;
+pub use drive::search_on;
 pub use driven::Driven;
 pub use laws::{no_partial_match, searches_go_forward, worked_rows};
-pub use search::search_on;
 pub use words::{Span, first_span};

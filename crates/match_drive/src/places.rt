@@ -46,7 +46,8 @@ fn crlf_at(bytes: &[u8], at: usize) -> bool
 
 /// Whether a CRLF is passed whole at a place: where it is a newline, and the pattern names no half of it.
 fn passes_crlf<S: Driven>(on: &S, at: usize) -> bool
-    requires { at ≤ length (S.asked on.now passed_over).subject }
+    requires fits { S.fits on.now }
+    requires at { at ≤ length (S.asked on.now passed_over).subject }
     ensures { result ≡ places.passes_crlf (S.asked on.now passed_over) at }
 {
     has_crlf(on.options().newline) && crlf_at(on.subject(), at) && !on.names_crlf()
@@ -54,7 +55,8 @@ fn passes_crlf<S: Driven>(on: &S, at: usize) -> bool
 
 /// The place after another, if there is one.
 pub(crate) fn next_place<S: Driven>(on: &S, at: usize) -> Option<usize>
-    requires { at ≤ length (S.asked on.now passed_over).subject }
+    requires fits { S.fits on.now }
+    requires at { at ≤ length (S.asked on.now passed_over).subject }
     ensures { result ≡ places.next_place (S.asked on.now passed_over) at }
 {
     if at == on.subject().len() {
@@ -70,6 +72,7 @@ pub(crate) fn next_place<S: Driven>(on: &S, at: usize) -> Option<usize>
 /// The last place that may be tried: the start alone in an anchored search, or under FIRSTLINE where the first newline
 /// begins (pcre2api, "Option bits for pcre2_compile()", PCRE2_FIRSTLINE).
 pub(crate) fn last_place<S: Driven>(on: &S) -> usize
+    requires { S.fits on.now }
     ensures value { result ≡ places.last_place (S.asked on.now passed_over) }
     ensures low { (S.asked on.now passed_over).start ≤ result }
     ensures within { result ≤ length (S.asked on.now passed_over).subject }
@@ -102,6 +105,7 @@ pub(crate) fn place_after<S: Driven>(
     signal: Signal,
     last: usize,
 ) -> Option<usize>
+    requires fits { S.fits on.now }
     requires at { at ≤ length (S.asked on.now passed_over).subject }
     requires last { last ≡ places.last_place (S.asked on.now passed_over) }
     ensures value { result ≡ places.place_after (S.asked on.now passed_over) at (signal_of signal) }
@@ -118,6 +122,7 @@ pub(crate) fn place_after<S: Driven>(
 /// The bytes that every match begins with, where the search goes by them (pcre2api, "Option bits for pcre2_compile()",
 /// PCRE2_NO_START_OPTIMIZE).
 fn lead_used<S: Driven>(on: &S) -> Option<&ByteSet>
+    requires { S.fits on.now }
     ensures { IsLeadUsed (S.asked on.now passed_over) (option_copied result) }
 {
     if on.options().no_start_optimize {
@@ -129,7 +134,8 @@ fn lead_used<S: Driven>(on: &S) -> Option<&ByteSet>
 
 /// Whether a place is left out, as no match begins with the byte there.
 fn is_excluded<S: Driven>(on: &S, at: usize) -> bool
-    requires { at ≤ length (S.asked on.now passed_over).subject }
+    requires fits { S.fits on.now }
+    requires at { at ≤ length (S.asked on.now passed_over).subject }
     ensures { result ≡ places.is_excluded (S.asked on.now passed_over) at }
 {
     let Some(set) = lead_used(on) else {
@@ -144,6 +150,7 @@ fn is_excluded<S: Driven>(on: &S, at: usize) -> bool
 /// The place behind the places from one up to another, which all fail: one further where the last of them is the CR of a
 /// CRLF that is passed whole.
 fn behind<S: Driven>(on: &S, from: usize, to: usize) -> usize
+    requires fits { S.fits on.now }
     requires ordered { from ≤ to }
     requires within { to ≤ length (S.asked on.now passed_over).subject }
     ensures { result ≡ behind (S.asked on.now passed_over) from to }
@@ -177,6 +184,7 @@ fn bytes_end(last: usize, length: usize) -> usize
 
 /// Goes past places that are excluded, by lanes.
 fn pass<S: Driven>(on: &S, from: usize, last: usize) -> usize
+    requires fits { S.fits on.now }
     requires from { from ≤ last }
     requires last { last ≡ places.last_place (S.asked on.now passed_over) }
     ensures { IsPassedAlways (S.asked on.now passed_over) from result }
@@ -191,6 +199,7 @@ fn pass<S: Driven>(on: &S, from: usize, last: usize) -> usize
 
 /// The first place from one on that is tried.
 pub(crate) fn next_tried<S: Driven>(on: &S, from: Option<usize>, last: usize) -> Option<usize>
+    requires fits { S.fits on.now }
     requires from { IfSome from (λ p. p ≤ last) }
     requires last { last ≡ places.last_place (S.asked on.now passed_over) }
     ensures { IsNextTriedAlways (S.asked on.now passed_over) from result }

@@ -6,7 +6,7 @@ use Rattle.match_drive.specs.Places.{last_place, is_excluded}
 use Rattle.match_drive.specs.MatchAnswer.{match_answer}
 use Rattle.match_drive.specs.Rest.{IsLeft, found_from}
 use Rattle.match_drive.proofs.Steps.{places_left}
-use Rattle.match_drive.proofs.search.search_on.Given as goal
+use Rattle.match_drive.proofs.drive.search_on.Given as goal
 
 -- the place that is next is tried, and what is found from it on is left
 abbrev pub invariant-places : goal.invariant-places

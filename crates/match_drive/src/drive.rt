@@ -68,6 +68,7 @@ pub fn search_on<S: Driven, C: Callouts>(
     scratch: &mut Scratch,
     calls: &mut C,
 ) -> MatchAnswer
+    requires { S.fits on.now }
     ensures answer { IsMatchAnswer result scratch.new.spans (match_answer (S.asked on.now (C.answers calls.old))) }
     ensures whole { (S.asked on.now passed_over).matching.partial ≡ Off → IsNotPartial result }
     ensures peak { scratch.new.peak ≤ max scratch.old.peak (S.asked on.now passed_over).matching.frame_limit }

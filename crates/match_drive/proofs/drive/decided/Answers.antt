@@ -1,7 +1,7 @@
 use Rattle.std.proofs.Common.{rules, SFits, w32}
 use Rattle.std.proofs.lemmas.Int.{to_z-of_z}
 use Rattle.match_drive.proofs.Left.{tells_match, tells_partial, tells_match_limit, tells_frame_limit, tells_loop, tells_callout}
-use Rattle.match_drive.proofs.search.decided.Goals as goal
+use Rattle.match_drive.proofs.drive.decided.Goals as goal
 
 pub returns-in-Matched : goal.returns-in-Matched
 returns-in-Matched c = rw c.in-Matched.is (tells_match c.in-Matched.keep c.in-Matched.to c.in-Matched.mark c.args.at c.args.first c.args.last_mark)
