@@ -7,8 +7,8 @@ use Rattle.pat_tree.specs.declared.nodes.ClassSpec.{ClassSpec}
 use Rattle.pat_tree.specs.Nested.{Nested, group}
 use Rattle.pat_tree.specs.Parts.{TreeParts, tree_of}
 use Rattle.pat_tree.specs.Sound.{greatest, group_numbers}
-use Rattle.pat_lex.specs.declared.fault.Fault.{Fault}
-use Rattle.pat_lex.specs.Tell.{◌>>=◌}
+use Rattle.token_parts.specs.declared.fault.Fault.{Fault}
+use Rattle.token_parts.specs.Tell.{◌>>=◌}
 use Rattle.pat_build.specs.Reading.{Parsed, read}
 use Rattle.pat_check.specs.Nodes.{all_nodes}
 use Rattle.frame_machine.specs.Setting.{Setting, class_holds}
