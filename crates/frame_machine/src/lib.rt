@@ -3,11 +3,14 @@
 
 mod answer;
 mod back;
+mod board;
+mod counted;
 mod ends;
 mod enter;
 mod items;
 mod laws;
 mod machine;
+mod ready;
 mod repeats;
 mod run;
 mod scratch;
@@ -15,5 +18,6 @@ mod searchable;
 
 pub use answer::{PlaceAnswer, Signal};
 pub use laws::{cut_comes_late, no_place_is_cut, walk_is_told, worked_rows};
+pub use ready::Ready;
 pub use scratch::{Scratch, search_at};
 pub use searchable::{Run, Searchable};
