@@ -19,3 +19,4 @@ mod MostOf
 mod BranchTurns
 mod Start
 mod GroundLemmas
+mod MadeLemmas

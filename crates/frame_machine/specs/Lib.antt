@@ -18,3 +18,4 @@ pub mod Ready
 pub mod Told
 pub mod BoardProps
 pub mod GroundLaw
+pub mod Made

@@ -15,9 +15,11 @@ mod repeats;
 mod run;
 mod scratch;
 mod searchable;
+#[cfg(test)]
+mod tests;
 
 pub use answer::{PlaceAnswer, Signal};
 pub use laws::{cut_comes_late, no_place_is_cut, walk_is_told, worked_rows};
-pub use ready::Ready;
+pub use ready::{Ready, run_at};
 pub use scratch::{Scratch, search_at};
 pub use searchable::{Run, Searchable};
