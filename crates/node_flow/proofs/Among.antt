@@ -113,7 +113,7 @@ no_child n (q ∷ ps) k below l =
     let first = small_out n k (kids_of q.node) (omega (arith, l)) below.0 in
     in_append k (kids_of q.node) (children ps) ∙ rw (first, rest) refl
 
-member_later : (ps : List Placed) (j k : ℕ) (p : Placed) → j < length ps → p ≡ get_or ps j p → is_in k (kids_of p.node) ≡ true → is_in k (children ps) ≡ true
+pub member_later : (ps : List Placed) (j k : ℕ) (p : Placed) → j < length ps → p ≡ get_or ps j p → is_in k (kids_of p.node) ≡ true → is_in k (children ps) ≡ true
 unfolding children
 member_later [] j k p l e member = absurd (omega (arith, l))
 member_later (q ∷ ps) zero k p l e member = in_append k (kids_of q.node) (children ps) ∙ (let here : is_in k (kids_of q.node) ≡ true = subst (λ x. is_in k (kids_of x.node) ≡ true) e member in rw here refl)

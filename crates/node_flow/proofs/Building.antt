@@ -8,6 +8,7 @@ use Rattle.pat_tree.specs.declared.nodes.Node.TheVariants.{Empty, Break}
 use Rattle.pat_tree.specs.declared.nodes.Placed.{Placed}
 use Rattle.pat_tree.specs.Rules.{kids_of}
 use Rattle.pat_tree.specs.Refs.{is_in}
+use Rattle.pat_tree.specs.Growing.{AreBelow}
 use Rattle.pat_tree.specs.Sound.{children}
 use Rattle.node_flow.specs.Followers.{rest_among, first_of, next_by}
 use Rattle.node_flow.proofs.Members.{Once, apart, in_at, in_or_not}
@@ -53,6 +54,25 @@ unfolding rest_among
 start ps root told n k is filled =
     let short : length (take (root + 1) ps) ≤ n = simp length-take (omega (arith, is)) in
     rw (drop_all n (take (root + 1) ps) short) (ap (λ xs. get_or xs k None) filled ∙ none_in n k)
+
+pub start_below : (ps : List Placed) (root n : ℕ) → n ≡ root + 1 → AreBelow n (drop n (take (root + 1) ps))
+start_below ps root n is =
+    let short : length (take (root + 1) ps) ≤ n = simp length-take (omega (arith, is)) in
+    subst (AreBelow n) (sym (drop_all n (take (root + 1) ps) short)) tt
+
+-- its children have smaller numbers
+pub more_below : (ps : List Placed) (root id : ℕ) (n : Node) → id ≤ root → ((other : Placed) → n ≡ (get_or ps id other).node) → All (λ k. k < id) (kids_of n) →
+    AreBelow (id + 1) (drop (id + 1) (take (root + 1) ps)) → AreBelow id (drop id (take (root + 1) ps))
+more_below ps root id n small here kids later =
+    let at = node_before ps id root n small here in
+    subst (AreBelow id) (sym at.2) (subst (λ m. All (λ k. k < id) (kids_of m)) (sym at.1) kids, later)
+
+-- a node that is seen tells that the root stands, and that each child has one parent
+pub now_known : (ps : List Placed) (root id : ℕ) (n : Node) → ((other : Placed) → n ≡ (get_or ps id other).node) → IsDistinct nat_eq (children ps) →
+    ((id + 1 ≡ root + 1) ⊎ ((root < length ps) × IsDistinct nat_eq (children ps))) → (root < length ps) × IsDistinct nat_eq (children ps)
+now_known ps root id n here distinct before =
+    let w = within ps id n here in
+    elim before [ inl first ↦ (omega (arith, w, first), distinct) | inr both ↦ both ]
 
 -- Where a node is seen, and these are told of by the later ones.
 module _ (ps : List Placed) (root id : ℕ) (n : Node) (told : List (Option ℕ)) (below : id ≤ root) (here : (other : Placed) → n ≡ (get_or ps id other).node)

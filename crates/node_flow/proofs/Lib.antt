@@ -5,3 +5,7 @@ pub mod Building
 pub mod Later
 pub mod Among
 pub mod TreeLaws
+pub mod Orders
+pub mod Waiting
+pub mod Apart
+pub mod Places

@@ -1,6 +1,6 @@
 -- What runs when a part of a pattern is done, up to the end of the innermost frame around it. A capturing group, a turn of a
 -- repeat, an atomic group and a lookaround are frames: at their end nothing follows (pcre2pattern, "Repetition", "Atomic
--- grouping and possessive quantifiers", "Assertions").
+-- grouping and possessive quantifiers", "Assertions", "Conditional groups").
 use Rattle.std.specs.Prelude.{◌≡◌, ◌≤◌, ℕ, ◌+◌, ◌==◌, if◌then◌else◌, List, [], ◌∷◌, ◌++◌, take, length, slice_index_or, Option, Some, None}
 use Rattle.pat_tree.specs.declared.nodes.Node.{Node}
 use Rattle.pat_tree.specs.declared.nodes.Node.TheVariants as node
@@ -14,16 +14,16 @@ later_than k [] = []
 later_than k (x ∷ xs) = if x == k then xs else later_than k xs
 
 -- What follows the child k of a node, where `after` follows the node: the later children of a sequence, and then what follows
--- the sequence. What follows a plain group follows its branches too, and what follows a condition its two branches.
--- Every other child is a frame, or stands in one that ends with it.
+-- the sequence. What follows a plain group follows each of its branches, and what follows a condition its two branches.
+-- The end of any other child is the end of a frame: of its node, or for a repeat's body and a condition's lookaround its own.
 abbrev pub after_child : Node → List ℕ → ℕ → List ℕ
 after_child (node.Seq kids) after k = later_than k kids ++ after
 after_child (node.Group None branches) after k = after
 after_child (node.Cond test yes' no') after k = if is_in k (yes' ∷ number_in no') then after else []
 after_child _ after k = []
 
--- What follows the part k, told by its parent among these nodes, which are numbered from n on. It is told nothing where none
--- of them has it as a child.
+-- What follows the part k by its parent among these nodes, which are numbered from n on. Where none of them has it as a
+-- child, nothing follows.
 unfoldable pub rest_among : ℕ → List Placed → ℕ → List ℕ
 rest_among n [] k = []
 rest_among n (p ∷ ps) k = if is_in k (kids_of p.node) then after_child p.node (rest_among (n + 1) ps n) k else rest_among (n + 1) ps k

@@ -1,3 +1,4 @@
 pub mod Followers
 pub mod Linked
+pub mod Order
 pub mod Rows

@@ -29,21 +29,17 @@ IsLinked rest after (node.Look ahead positive once branches) = AllFollowed rest 
 IsLinked rest after (node.Cond test yes' no') = AllFollowed rest [] (tests_of test) × AllFollowed rest after (yes' ∷ number_in no')
 IsLinked rest after _ = Unit {0}
 
--- Of every finished tree.
+-- How the followers of a tree's parts hang together.
+pub record HangTogether (nodes : List Placed) (root : ℕ) : Type 0 where
+  -- nothing follows the whole
+  pub last : rest nodes root root ≡ []
+  -- followers are parts of the tree
+  pub inside : (q : ℕ) → All (λ p. p ≤ root) (rest nodes root q)
+  -- the first part that follows is followed by the others
+  pub chained : (q p : ℕ) (ps : List ℕ) → rest nodes root q ≡ p ∷ ps → rest nodes root p ≡ ps
+  -- the children of each part are followed as its node says
+  pub linked : (q : ℕ) → q ≤ root → (other : Placed) → IsLinked (rest nodes root) (rest nodes root q) (slice_index_or nodes q other).node
 
--- nothing follows the whole
-abbrev pub NothingFollowsTheWhole : Type 0
-NothingFollowsTheWhole = (t : TreeParts) → TreeRules t → rest t.nodes t.root t.root ≡ []
-
--- followers are parts of the tree
-abbrev pub FollowersAreInside : Type 0
-FollowersAreInside = (t : TreeParts) → TreeRules t → (q : ℕ) → All (λ p. p ≤ t.root) (rest t.nodes t.root q)
-
--- the first part that follows is followed by the others
-abbrev pub FollowersAreChained : Type 0
-FollowersAreChained = (t : TreeParts) → TreeRules t → (q p : ℕ) (ps : List ℕ) → rest t.nodes t.root q ≡ p ∷ ps → rest t.nodes t.root p ≡ ps
-
--- the children of each part are followed as its node says
-abbrev pub ChildrenAreLinked : Type 0
-ChildrenAreLinked = (t : TreeParts) → TreeRules t → (q : ℕ) → q ≤ t.root → (other : Placed) →
-    IsLinked (rest t.nodes t.root) (rest t.nodes t.root q) (slice_index_or t.nodes q other).node
+-- they do in every finished tree
+abbrev pub FollowersHangTogether : Type 0
+FollowersHangTogether = (t : TreeParts) → TreeRules t → HangTogether t.nodes t.root

@@ -1,9 +1,10 @@
 //! The table of followers.
-ghost use Rattle.std.specs.Prelude.{◌≡◌, ℕ, ◌+◌, ◌<◌, ◌≤◌, if◌then◌else◌, List, ◌∷◌, ◌++◌, All, IfOk, None, Some, length, replicate, slice_index_or};
+ghost use Rattle.std.specs.Prelude.{◌≡◌, ℕ, ◌+◌, ◌<◌, ◌≤◌, if◌then◌else◌, List, ◌∷◌, ◌++◌, All, IfOk, OnOk, None, Some, length, replicate, slice_index_or};
 ghost use Rattle.pat_tree.specs.declared.nodes.Placed.{Placed};
 ghost use Rattle.pat_tree.specs.Rules.{kids_of, number_in};
 ghost use Rattle.pat_tree.specs.Refs.{is_in};
 ghost use Rattle.node_flow.specs.Followers.{IsFlowOf, first_of, later_than, next_by, next_of};
+ghost use Rattle.node_flow.specs.Linked.{HangTogether};
 
 use pat_tree::{Memory, Node, NodeId, Tree};
 use std::alloc::Global;
@@ -27,7 +28,8 @@ impl Model for Flow {
 impl Flow {
     /// The followers of a tree's parts. Fails for want of memory alone.
     pub fn build(alloc: Global, tree: &Tree) -> Result<Flow, Memory>
-        ensures { IfOk result (λ flow. IsFlowOf tree.now.nodes tree.now.root flow) }
+        ensures flow { IfOk result (λ flow. IsFlowOf tree.now.nodes tree.now.root flow) }
+        ensures laws { OnOk result (HangTogether tree.now.nodes tree.now.root) }
     {
         let mut id = tree.root() as usize + 1;
         let mut next = nothing_told(alloc, id)?;

@@ -1,8 +1,12 @@
-use Rattle.std.proofs.Common.{◌≡◌, ℕ, ◌+◌, ◌≤◌, ◌-◌, List, ◌++◌, take, drop, length, get_or, None, arith, ap, ◌∙◌, sym}
+use Rattle.std.proofs.Common.{◌≡◌, ℕ, ◌+◌, ◌<◌, ◌≤◌, ◌-◌, ◌⊎◌, inl, inr, subst, nat_eq, List, ◌++◌, take, drop, length, get_or, None, arith, ap, ◌∙◌, sym}
 use Rattle.std.proofs.lemmas.List.{get_or_default, length-replicate}
 use Rattle.std.proofs.Math.Seq.{take-append_seam}
+use Rattle.std.specs.List.{IsDistinct}
+use Rattle.pat_tree.specs.Growing.{AreBelow}
+use Rattle.pat_tree.specs.Sound.{children}
 use Rattle.node_flow.specs.Followers.{first_of, rest, rest_among, next_by}
-use Rattle.node_flow.proofs.Building.{start, untold, seen}
+use Rattle.node_flow.proofs.Building.{start, start_below, more_below, now_known, untold, seen}
+use Rattle.node_flow.proofs.TreeLaws.{hang_together}
 use Rattle.node_flow.proofs.flow.Flow.build.Goals as goal
 
 pub loop-id-init : goal.loop-id-init
@@ -10,6 +14,8 @@ loop-id-init c = record {
   within = omega (arith, c.root.ensures);
   size = ap length c.in_ok-next.ensures ∙ length-replicate (c.root.result + 1) None ∙ ap (λ n. n + 1) c.root.ensures;
   told = λ k h. start c.args.tree.now.nodes c.args.tree.now.root c.in_ok-next.next.items (c.root.result + 1) k (ap (λ n. n + 1) c.root.ensures) c.in_ok-next.ensures;
+  below = start_below c.args.tree.now.nodes c.args.tree.now.root (c.root.result + 1) (ap (λ n. n + 1) c.root.ensures);
+  known = inl (ap (λ n. n + 1) c.root.ensures);
 }
 
 pub link-requires-clause-untold : goal.link-requires-clause-untold
@@ -42,11 +48,15 @@ loop-id-preserved c =
       within = omega (arith, c.loop-id.invariant.within);
       size = omega (arith, c.loop-id.invariant.size);
       told = seen nodes root id c.node.result.now told small c.node.ensures.here before new linked;
+      below = more_below nodes root id c.node.result.now small c.node.ensures.here c.node.ensures.below
+          (subst (λ i. AreBelow i (drop i (take (root + 1) nodes))) next c.loop-id.invariant.below);
+      known = inr (now_known nodes root id c.node.result.now c.node.ensures.here c.node.ensures.once
+          (subst (λ i. (i ≡ root + 1) ⊎ ((root < length nodes) × IsDistinct nat_eq (children nodes))) next c.loop-id.invariant.known));
     }
 
-pub returns : goal.returns
+pub returns-clause-flow : goal.returns-clause-flow
 unfolding rest
-returns c =
+returns-clause-flow c =
     let nodes = c.args.tree.now.nodes in
     let root = c.args.tree.now.root in
     let done : c.loop-id.id ≡ 0 = omega (arith, c.loop-id-test.false) in
@@ -54,3 +64,14 @@ returns c =
       count = c.loop-id.invariant.size;
       each = λ k l. c.loop-id.invariant.told k l ∙ ap (λ i. first_of (rest_among i (drop i (take (root + 1) nodes)) k)) done;
     }
+
+pub returns-clause-laws : goal.returns-clause-laws
+returns-clause-laws c =
+    let nodes = c.args.tree.now.nodes in
+    let root = c.args.tree.now.root in
+    let done : c.loop-id.id ≡ 0 = omega (arith, c.loop-id-test.false) in
+    let below : AreBelow 0 (take (root + 1) nodes) = subst (λ i. AreBelow i (drop i (take (root + 1) nodes))) done c.loop-id.invariant.below in
+    elim c.loop-id.invariant.known [
+      | inl none ↦ absurd (omega (arith, none, done))
+      | inr both ↦ hang_together nodes root (record { short = both.0; below = below; once = both.1 })
+    ]
