@@ -24,7 +24,7 @@ use Rattle.pat_tree.specs.declared.options.PartialMode.TheVariants.{Off}
 use Rattle.pat_tree.specs.Parts.{TreeParts, tree_of}
 use Rattle.node_flow.specs.Followers.{rest}
 use Rattle.node_flow.specs.Linked.{IsLinked}
-use Rattle.node_flow.proofs.TreeLaws.{nothing_follows_the_whole, followers_are_chained, children_are_linked}
+use Rattle.node_flow.proofs.TreeLaws.{followers_hang_together}
 use Rattle.pat_check.specs.Built.{IsBuilt}
 use Rattle.char_sets.specs.Sets.{takes, no_class, class_has}
 use Rattle.char_sets.specs.Table.{CharSet, table_has, IsTableOf}
@@ -201,8 +201,8 @@ byte_search t table matching subject rules built bytes shown off short groups fe
   short = short;
   groups = groups;
   few = few;
-  last = nothing_follows_the_whole t rules;
-  chained = followers_are_chained t rules;
-  linked = children_are_linked t rules;
+  last = (followers_hang_together t rules).last;
+  chained = (followers_hang_together t rules).chained;
+  linked = (followers_hang_together t rules).linked;
   numbered = numbered_from (length t.classes) (length t.verb_names) t.nodes t.nodes rules.nodes.each;
 }
