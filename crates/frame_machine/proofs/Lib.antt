@@ -1,6 +1,6 @@
 mod Late
 mod CutLaw
-mod WalkLaw
+pub mod WalkLaw
 mod RowProofs
 mod Before
 mod Free

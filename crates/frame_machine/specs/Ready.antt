@@ -17,7 +17,7 @@ use Rattle.pat_check.specs.declared.facts.Facts.{Facts}
 use Rattle.pat_check.specs.Built.{IsBuilt}
 use Rattle.pat_check.specs.Known.{IsByteSet, lead_set_of}
 use Rattle.pat_check.specs.Lengths.{can_be_empty}
-use Rattle.pat_check.specs.Nodes.{names_cr_or_lf, has_lookbehind}
+use Rattle.pat_check.specs.Nodes.{names_cr_or_lf, has_lookbehind, tests_before}
 use Rattle.frame_machine.specs.Stream as search
 use Rattle.frame_machine.specs.Setting.{Setting, setting_of}
 use Rattle.frame_machine.specs.Ground.{Ground}
@@ -28,6 +28,7 @@ pub record AreFactsOf (tree : TreeParts) (facts : Facts) : Type 0 where
   pub empty : facts.can_be_empty ≡ can_be_empty tree.options.match_unset_backref (tree_of tree)
   pub names : facts.names_crlf ≡ names_cr_or_lf tree.classes (tree_of tree)
   pub lookbehind : facts.has_lookbehind ≡ has_lookbehind (tree_of tree)
+  pub before : facts.tests_before ≡ tests_before (tree_of tree)
   pub flow : IsFlowOf tree.nodes tree.root facts.flow
 
 -- a callout's block as it is shown

@@ -3,12 +3,12 @@ use Rattle.std.specs.Prelude.{ℕ, ◌+◌, Bool, true, false, ◌||◌, List, [
 use Rattle.pat_tree.specs.declared.options.MatchOptions.{MatchOptions}
 use Rattle.pat_tree.specs.declared.options.PartialMode.TheVariants.{Off, Soft, Hard}
 use Rattle.pat_tree.specs.declared.nodes.ClassSpec.{ClassSpec}
-use Rattle.pat_tree.specs.Newlines.{end_kind}
+use Rattle.pat_tree.specs.Newlines.{end_kind, break_kind}
 use Rattle.pat_tree.specs.Nested.{Nested}
 use Rattle.pat_tree.specs.Parts.{TreeParts, tree_of}
 use Rattle.pat_tree.specs.Sound.{greatest, group_numbers}
 use Rattle.char_sets.specs.Sets.{takes}
-use Rattle.match_items.specs.Scene.{Scene, break_kind}
+use Rattle.match_items.specs.Scene.{Scene}
 use Rattle.pat_check.specs.Nodes as nodes
 use Rattle.pat_check.specs.Lengths as lengths
 use Rattle.pat_check.specs.Lengths.{SomeLengths}

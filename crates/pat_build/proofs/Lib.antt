@@ -1,2 +1,16 @@
+pub mod ClassParts
+pub mod Ranges
 pub mod RowProofs
+pub mod Spots
 pub mod Steps
+pub mod Standing
+pub mod States
+pub mod Waiting
+pub mod Extending
+pub mod Naming
+pub mod Taking
+pub mod Nesting
+pub mod Adding
+pub mod Beginning
+pub mod Starting
+pub mod Exits

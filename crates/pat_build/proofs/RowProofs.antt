@@ -5,8 +5,9 @@ use Rattle.pat_lex.specs.Bytes.{run_end, numeral}
 use Rattle.pat_lex.specs.Names.{name_end}
 use Rattle.pat_lex.specs.Comments.{newline_at, first_newline, line_end, comment, blank_end, blanks_end}
 use Rattle.pat_lex.specs.Quantifiers.{is_counted, with_mode, counted}
-use Rattle.pat_lex.specs.Escapes.{everywhere, outside, octal, numbered_escape, longer, escape}
-use Rattle.pat_lex.specs.Targets.{named_reference, name_escape, digits_start, begins_number}
+use Rattle.pat_lex.specs.Codes.{octal}
+use Rattle.pat_lex.specs.Escapes.{everywhere, outside, longer, escape}
+use Rattle.pat_lex.specs.Targets.{named_reference, name_escape, digits_start, begins_number, numbered_escape}
 use Rattle.pat_lex.specs.Classes.{posix_end, class_start, bracket, class_escape, in_class}
 use Rattle.pat_lex.specs.Settings.{set_by, unset_by, setting_closed, setting}
 use Rattle.pat_lex.specs.Verbs.{start_word, closed_word, limit, star_word}

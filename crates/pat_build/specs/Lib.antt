@@ -6,3 +6,5 @@ pub mod Parts
 pub mod Reading
 pub mod Stack
 pub mod Rows
+pub mod Names
+pub mod Machine

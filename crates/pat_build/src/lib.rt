@@ -1,6 +1,25 @@
 //! What a pattern is read as: the grammar of patterns over their tokens.
 #![tactic(auto)]
 
+mod brackets;
+mod cursor;
+mod error;
+mod handlers;
 mod laws;
+mod literal;
+mod machine;
+mod names;
+mod nodes;
+mod openings;
+mod options;
+#[cfg(test)]
+mod pattern_tests;
+mod reader;
+mod start;
+#[cfg(test)]
+mod tests;
+mod tokens;
 
+pub use error::ReadError;
 pub use laws::worked_rows;
+pub use reader::read;

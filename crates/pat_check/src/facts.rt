@@ -10,6 +10,7 @@ ghost use Rattle.pat_check.specs.Lengths as lengths;
 ghost use Rattle.pat_check.specs.Nodes as nodes;
 ghost use Rattle.pat_check.specs.Starts.{lead_set_in};
 
+use crate::before::tests_before;
 use crate::leads::lead_set;
 use crate::names::names_cr_or_lf;
 use crate::order::preorder;
@@ -34,6 +35,8 @@ pub struct Facts {
     pub names_crlf: bool,
     /// The pattern holds a lookbehind.
     pub has_lookbehind: bool,
+    /// The pattern holds `\b`, `\B` or `\A`, which look at the character before.
+    pub tests_before: bool,
     /// What runs when a part of the pattern is done.
     pub flow: Flow,
 }
@@ -73,6 +76,7 @@ pub fn check(alloc: Global, tree: &Tree, classes: &ClassTable) -> Result<Facts, 
     ensures empty { IfOk result (λ facts. facts.can_be_empty ≡ lengths.can_be_empty tree.now.options.match_unset_backref (tree_of tree.now)) }
     ensures names { IfOk result (λ facts. facts.names_crlf ≡ nodes.names_cr_or_lf tree.now.classes (tree_of tree.now)) }
     ensures lookbehind { IfOk result (λ facts. facts.has_lookbehind ≡ nodes.has_lookbehind (tree_of tree.now)) }
+    ensures before { IfOk result (λ facts. facts.tests_before ≡ nodes.tests_before (tree_of tree.now)) }
     ensures flow { IfOk result (λ facts. IsFlowOf tree.now.nodes tree.now.root facts.flow) }
 {
     let lead = lead_of_whole::<Brand>(alloc, tree, classes, Blank::new(1))?;
@@ -83,6 +87,7 @@ pub fn check(alloc: Global, tree: &Tree, classes: &ClassTable) -> Result<Facts, 
         can_be_empty,
         names_crlf: names_cr_or_lf(tree, &order),
         has_lookbehind: false,
+        tests_before: tests_before(tree, &order),
         flow: Flow::build(alloc, tree)?,
     })
 }
