@@ -5,6 +5,7 @@ mod RowProofs
 mod Before
 mod Free
 mod PartPaths
+mod KidParts
 mod Frames
 mod Advance
 mod Turns
@@ -17,3 +18,5 @@ mod HeldStops
 mod MostOf
 mod BranchTurns
 mod Start
+mod GroundLemmas
+mod MadeLemmas

@@ -27,6 +27,11 @@ pub record Setting : Type 0 where
   -- what a callout answers
   pub reply : Block → ℤ
 
+-- the lower of two limits, where there is a first one
+abbrev pub lower_of : Option ℕ → ℕ → ℕ
+lower_of None l = l
+lower_of (Some k) l = min k l
+
 module _ (g : Setting) where
   -- What is known of the pattern.
 
@@ -67,11 +72,7 @@ module _ (g : Setting) where
   notempty_atstart = g.options.notempty_atstart || g.matching.notempty_atstart
 
   abbrev pub match_limit : ℕ
-  match_limit = lower g.options.match_limit g.matching.match_limit
-    where
-      lower : Option ℕ → ℕ → ℕ
-      lower None l = l
-      lower (Some k) l = min k l
+  match_limit = lower_of g.options.match_limit g.matching.match_limit
 
   -- n more units, where there is room for them
   unfoldable pub held : ℕ → State → Search → Stream

@@ -1,5 +1,7 @@
 //! What is known of a pattern.
-ghost use Rattle.std.specs.Prelude.{◌≡◌, ℕ, false, IfOk};
+ghost use Rattle.std.specs.Prelude.{◌≡◌, ◌<◌, ℕ, List, false, IfOk, length};
+ghost use Rattle.pat_tree.specs.declared.nodes.Placed.{Placed};
+ghost use Rattle.node_flow.specs.Followers.{IsFlowOf, next_of};
 ghost use Rattle.pat_tree.specs.Parts.{tree_of};
 ghost use Rattle.char_sets.specs.Table.{IsTableOf};
 ghost use Rattle.pat_check.specs.Built.{IsBuilt};
@@ -15,7 +17,8 @@ use crate::order::preorder;
 use crate::passing::can_be_empty;
 use byte_lanes::ByteSet;
 use char_sets::ClassTable;
-use pat_tree::{Memory, Steps, Tree};
+use node_flow::Flow;
+use pat_tree::{Memory, NodeId, Steps, Tree};
 use std::alloc::Global;
 use std::marker::Brand;
 use std::sync::ledger::{Blank, Ledger};
@@ -34,6 +37,18 @@ pub struct Facts {
     pub has_lookbehind: bool,
     /// The pattern holds `\b`, `\B` or `\A`, which look at the character before.
     pub tests_before: bool,
+    /// What runs when a part of the pattern is done.
+    pub flow: Flow,
+}
+
+impl Facts {
+    /// The part that runs when this one is done, if there is one before the end of the innermost frame around it.
+    pub fn next(&self, id: NodeId) -> Option<NodeId>
+        requires { id < length self.now.flow }
+        ensures { (nodes : List Placed) (root : ℕ) → IsFlowOf nodes root self.now.flow → result ≡ next_of nodes root id }
+    {
+        self.flow.next(id)
+    }
 }
 
 /// Why nothing is told of a pattern.
@@ -62,6 +77,7 @@ pub fn check(alloc: Global, tree: &Tree, classes: &ClassTable) -> Result<Facts, 
     ensures names { IfOk result (λ facts. facts.names_crlf ≡ nodes.names_cr_or_lf tree.now.classes (tree_of tree.now)) }
     ensures lookbehind { IfOk result (λ facts. facts.has_lookbehind ≡ nodes.has_lookbehind (tree_of tree.now)) }
     ensures before { IfOk result (λ facts. facts.tests_before ≡ nodes.tests_before (tree_of tree.now)) }
+    ensures flow { IfOk result (λ facts. IsFlowOf tree.now.nodes tree.now.root facts.flow) }
 {
     let lead = lead_of_whole::<Brand>(alloc, tree, classes, Blank::new(1))?;
     let order = preorder(alloc, tree)?;
@@ -72,6 +88,7 @@ pub fn check(alloc: Global, tree: &Tree, classes: &ClassTable) -> Result<Facts, 
         names_crlf: names_cr_or_lf(tree, &order),
         has_lookbehind: false,
         tests_before: tests_before(tree, &order),
+        flow: Flow::build(alloc, tree)?,
     })
 }
 
