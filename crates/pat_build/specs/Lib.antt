@@ -6,3 +6,4 @@ pub mod Parts
 pub mod Reading
 pub mod Stack
 pub mod Rows
+pub mod Searchable

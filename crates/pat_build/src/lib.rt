@@ -7,7 +7,7 @@ mod error;
 mod laws;
 
 pub use error::ReadError;
-pub use laws::worked_rows;
+pub use laws::{what_is_read_can_be_searched, worked_rows};
 
 #[cfg(test)]
 mod tests;
