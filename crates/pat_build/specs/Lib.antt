@@ -7,3 +7,4 @@ pub mod Reading
 pub mod Stack
 pub mod Rows
 pub mod Searchable
+pub mod Places
