@@ -1,5 +1,5 @@
 -- The parts of a class, from item to item.
-use Rattle.std.proofs.Common.{◌≡◌, ℕ, suc, ◌+◌, ◌<◌, ◌≤◌, Bool, true, false, not, ◌&&◌, List, [], ◌∷◌, ◌++◌, length, Result, Ok, Err, refl, ap, ◌∙◌, append_assoc, append-nil, sym, arith}
+use Rattle.std.proofs.Common.{◌≡◌, ℕ, suc, ◌+◌, ◌<◌, ◌≤◌, Bool, true, false, not, ◌&&◌, List, [], ◌∷◌, ◌++◌, length, Ok, Err, refl, ap, ◌∙◌, append_assoc, append-nil, sym, arith}
 use Rattle.pat_tree.specs.declared.nodes.Part.{Part}
 use Rattle.token_parts.specs.declared.fault.Fault.{Fault}
 use Rattle.token_parts.specs.declared.token.Token.{Token}
@@ -7,15 +7,12 @@ use Rattle.token_parts.specs.declared.token.Token.TheVariants.{ClassEnd}
 use Rattle.token_parts.specs.Tell.{◌>>=◌}
 use Rattle.pat_build.specs.State.{State, Reads}
 use Rattle.pat_build.specs.Classes.{part_then, item, from_item, class_parts, class_spec}
+use Rattle.pat_build.specs.Places.{state_at, is_closing, Tells}
 use Rattle.pat_build.specs.declared.error.ReadError.{ReadError}
 use Rattle.pat_build.specs.declared.error.ReadError.TheVariants.{Bad, Memory}
 use Rattle.pat_build.specs.declared.cursor.Place.{Place}
 use Rattle.pat_build.specs.declared.cursor.Cursor.{Cursor}
-use Rattle.pat_build.proofs.Spots.{spot, one_less}
-
--- the token closes the class, which may be empty or has an item
-abbrev pub is_closing : Bool → Bool → Token → Bool
-is_closing first allow token = elim token [ ClassEnd ↦ not (first && not allow) | _ ↦ false ]
+use Rattle.pat_build.proofs.Spots.{one_less}
 
 module _ (text : List ℕ) (n : ℕ) where
   closed_by : (rest : State → Reads (List Part)) (first : Bool) (token : Token) (here after : State) → is_closing first here.options.allow_empty_class token ≡ true →
@@ -55,7 +52,7 @@ pub record Reaches (cursor : Cursor) (from here : Place) (first : Bool) (parts :
   pub past : from.at ≤ here.at
   pub within : here.at ≤ length cursor.text.now
   pub same : (st : State) (n : ℕ) → length cursor.text.now + 1 < n + from.at →
-      (m : ℕ) × (length cursor.text.now < m + here.at) × (class_parts cursor.text.now n true (spot cursor st from) ≡ onto parts (class_parts cursor.text.now (suc m) first (spot cursor st here)))
+      (m : ℕ) × (length cursor.text.now < m + here.at) × (class_parts cursor.text.now n true (state_at cursor st from) ≡ onto parts (class_parts cursor.text.now (suc m) first (state_at cursor st here)))
 
 pub begins_first : (cursor : Cursor) (from : Place) → from.at ≤ length cursor.text.now → Reaches cursor from from true []
 begins_first cursor from within = record {
@@ -63,13 +60,13 @@ begins_first cursor from within = record {
   within = within;
   same = λ st n more.
       let (m, is) = one_less n (length cursor.text.now) from.at (omega arith) within in
-      (m, omega arith, ap (λ k. class_parts cursor.text.now k true (spot cursor st from)) is ∙ sym (onto_none _));
+      (m, omega arith, ap (λ k. class_parts cursor.text.now k true (state_at cursor st from)) is ∙ sym (onto_none _));
 }
 
 module _ (cursor : Cursor) (from here : Place) (first : Bool) (parts : List Part) (reaches : Reaches cursor from here first parts) where
   pub reaches_on : (next : Place) (p : Part) → here.at < next.at → next.at ≤ length cursor.text.now →
       ((st : State) (n : ℕ) → length cursor.text.now < n + here.at →
-      class_parts cursor.text.now (suc n) first (spot cursor st here) ≡ part_then p (class_parts cursor.text.now n false (spot cursor st next))) →
+      class_parts cursor.text.now (suc n) first (state_at cursor st here) ≡ part_then p (class_parts cursor.text.now n false (state_at cursor st next))) →
       Reaches cursor from next false (parts ++ p ∷ [])
   reaches_on next p goes within step = record {
     past = omega (arith, reaches.past);
@@ -77,26 +74,22 @@ module _ (cursor : Cursor) (from here : Place) (first : Bool) (parts : List Part
     same = λ st n more.
         let (m, still, is_same) = reaches.same st n more in
         let (k, is_suc) = one_less m (length cursor.text.now) here.at still reaches.within in
-        (k, omega arith, is_same ∙ ap (onto parts) (step st m still) ∙ onto_one parts p _ ∙ ap (λ j. onto (parts ++ p ∷ []) (class_parts cursor.text.now j false (spot cursor st next))) is_suc);
+        (k, omega arith, is_same ∙ ap (onto parts) (step st m still) ∙ onto_one parts p _ ∙ ap (λ j. onto (parts ++ p ∷ []) (class_parts cursor.text.now j false (state_at cursor st next))) is_suc);
   }
 
   pub reaches_end : (end : Place) →
-      ((st : State) (n : ℕ) → length cursor.text.now < n + here.at → class_parts cursor.text.now (suc n) first (spot cursor st here) ≡ Ok ([], spot cursor st end)) →
-      (st : State) (n : ℕ) → length cursor.text.now + 1 < n + from.at → class_parts cursor.text.now n true (spot cursor st from) ≡ Ok (parts, spot cursor st end)
+      ((st : State) (n : ℕ) → length cursor.text.now < n + here.at → class_parts cursor.text.now (suc n) first (state_at cursor st here) ≡ Ok ([], state_at cursor st end)) →
+      (st : State) (n : ℕ) → length cursor.text.now + 1 < n + from.at → class_parts cursor.text.now n true (state_at cursor st from) ≡ Ok (parts, state_at cursor st end)
   reaches_end end step st n more =
       let (m, still, is_same) = reaches.same st n more in
-      is_same ∙ ap (onto parts) (step st m still) ∙ ap (λ all. let x : Reads (List Part) = Ok (all, spot cursor st end) in x) (append-nil parts)
+      is_same ∙ ap (onto parts) (step st m still) ∙ ap (λ all. let x : Reads (List Part) = Ok (all, state_at cursor st end) in x) (append-nil parts)
 
   pub reaches_bad : (f : Fault) →
-      ((st : State) (n : ℕ) → length cursor.text.now < n + here.at → class_parts cursor.text.now (suc n) first (spot cursor st here) ≡ Err f) →
-      (st : State) (n : ℕ) → length cursor.text.now + 1 < n + from.at → class_parts cursor.text.now n true (spot cursor st from) ≡ Err f
+      ((st : State) (n : ℕ) → length cursor.text.now < n + here.at → class_parts cursor.text.now (suc n) first (state_at cursor st here) ≡ Err f) →
+      (st : State) (n : ℕ) → length cursor.text.now + 1 < n + from.at → class_parts cursor.text.now n true (state_at cursor st from) ≡ Err f
   reaches_bad f step st n more =
       let (m, still, is_same) = reaches.same st n more in
       is_same ∙ ap (onto parts) (step st m still)
-
--- an error is the fault of a reading, or want of memory
-abbrev pub Tells : {A : Type 0} → Result A Fault → ReadError → Type 0
-Tells r e = elim e [ Bad number at ↦ r ≡ Err (record { number = number; at = at }) | Memory ↦ Unit {0} ]
 
 -- a class of these parts
 module _ (text : List ℕ) (n : ℕ) (negated : Bool) (st : State) where

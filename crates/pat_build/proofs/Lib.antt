@@ -14,3 +14,7 @@ pub mod Adding
 pub mod Beginning
 pub mod Starting
 pub mod Exits
+mod Holding
+mod PlainTokens
+mod PlainClasses
+mod PlainReading

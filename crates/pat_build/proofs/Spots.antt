@@ -1,23 +1,15 @@
 -- The next token of a class, from place to place.
 use Rattle.std.proofs.Common.{◌≡◌, ℕ, zero, suc, ◌+◌, ◌<◌, ◌≤◌, true, false, List, [], length, Option, Some, None, Result, Ok, Err, refl, sym, ap, ◌∙◌, arith}
 use Rattle.token_parts.specs.declared.fault.Fault.{Fault}
-use Rattle.token_parts.specs.declared.token.LexFlags.{LexFlags}
 use Rattle.token_parts.specs.declared.token.Token.{Token}
 use Rattle.token_parts.specs.declared.token.Token.TheVariants.{Passed, QuoteOn, QuoteOff}
 use Rattle.token_parts.specs.Tell.{Moves}
 use Rattle.pat_lex.specs.Tokens.{token_at}
 use Rattle.pat_build.specs.State.{State, flags_of, next, passed_over}
 use Rattle.pat_build.specs.Classes.{Item, item}
+use Rattle.pat_build.specs.Places.{state_at, flags_at}
 use Rattle.pat_build.specs.declared.cursor.Place.{Place}
 use Rattle.pat_build.specs.declared.cursor.Cursor.{Cursor}
-
--- the state at a place, with the options and the groups of a cursor
-abbrev pub spot : Cursor → State → Place → State
-spot cursor st place = record st { at = place.at; quoting = place.quoting; options = cursor.options; groups = cursor.groups }
-
--- what the tokens of a class depend on there
-abbrev pub flags_in : Cursor → Place → LexFlags
-flags_in cursor place = flags_of true (record { at = place.at; quoting = place.quoting; options = cursor.options; groups = cursor.groups; depth = 0; classes = []; names = []; references = [] })
 
 module _ (text : List ℕ) (st : State) where
   module _ (token : Token) (place : ℕ) (at : token_at text (flags_of true st) st.at ≡ Ok (token, place)) where
@@ -48,7 +40,7 @@ module _ (text : List ℕ) (st : State) where
 pub record Passes (cursor : Cursor) (from here : Place) : Type 0 where
   pub past : from.at ≤ here.at
   pub within : here.at ≤ length cursor.text.now
-  pub same : (st : State) (n : ℕ) → length cursor.text.now < n + from.at → (m : ℕ) × (length cursor.text.now < suc m + here.at) × (item cursor.text.now n (spot cursor st from) ≡ item cursor.text.now (suc m) (spot cursor st here))
+  pub same : (st : State) (n : ℕ) → length cursor.text.now < n + from.at → (m : ℕ) × (length cursor.text.now < suc m + here.at) × (item cursor.text.now n (state_at cursor st from) ≡ item cursor.text.now (suc m) (state_at cursor st here))
 
 pub one_less : (n size at : ℕ) → size < n + at → at ≤ size → (m : ℕ) × (n ≡ suc m)
 one_less zero size at more within = absurd (omega arith)
@@ -60,7 +52,7 @@ begins_there cursor from within = record {
   within = within;
   same = λ st n more.
       let (m, is) = one_less n (length cursor.text.now) from.at more within in
-      (m, omega arith, ap (λ k. item cursor.text.now k (spot cursor st from)) is);
+      (m, omega arith, ap (λ k. item cursor.text.now k (state_at cursor st from)) is);
 }
 
 -- a token that is passed over isn't the end
@@ -71,9 +63,9 @@ moves_over text at after QuoteOff before beyond moves over = moves
 moves_over text at after _ before beyond moves over = cc
 
 module _ (cursor : Cursor) (from here : Place) (token : Token) (at : ℕ) (passes : Passes cursor from here)
-    (read : Ok (token, at) ≡ token_at cursor.text.now (flags_in cursor here) here.at) where
+    (read : Ok (token, at) ≡ token_at cursor.text.now (flags_at cursor true here) here.at) where
   pub passes_on : Moves cursor.text.now here.at token at → (beyond : Place) →
-      ((st : State) → passed_over token (record (spot cursor st here) { at = at }) ≡ Some (spot cursor st beyond)) → beyond.at ≡ at →
+      ((st : State) → passed_over token (record (state_at cursor st here) { at = at }) ≡ Some (state_at cursor st beyond)) → beyond.at ≡ at →
       Passes cursor from beyond × (here.at < beyond.at)
   passes_on moves beyond over is =
       let none : State = record { at = 0; quoting = false; options = cursor.options; groups = 0; depth = 0; classes = []; names = []; references = [] } in
@@ -84,19 +76,19 @@ module _ (cursor : Cursor) (from here : Place) (token : Token) (at : ℕ) (passe
           same = λ st n more.
               let (m, still, is_same) = passes.same st n more in
               let (k, is_suc) = one_less m (length cursor.text.now) beyond.at (omega arith) (omega arith) in
-              (k, omega arith, is_same ∙ item_over cursor.text.now (spot cursor st here) token at (sym read) m (spot cursor st beyond) (over st) ∙ ap (λ j. item cursor.text.now j (spot cursor st beyond)) is_suc);
+              (k, omega arith, is_same ∙ item_over cursor.text.now (state_at cursor st here) token at (sym read) m (state_at cursor st beyond) (over st) ∙ ap (λ j. item cursor.text.now j (state_at cursor st beyond)) is_suc);
         },
         omega arith,
       )
 
-  pub passes_to : ((st : State) → passed_over token (record (spot cursor st here) { at = at }) ≡ None) → (st : State) (n : ℕ) → length cursor.text.now < n + from.at →
-      item cursor.text.now n (spot cursor st from) ≡ Ok (token, spot cursor st here, record (spot cursor st here) { at = at })
+  pub passes_to : ((st : State) → passed_over token (record (state_at cursor st here) { at = at }) ≡ None) → (st : State) (n : ℕ) → length cursor.text.now < n + from.at →
+      item cursor.text.now n (state_at cursor st from) ≡ Ok (token, state_at cursor st here, record (state_at cursor st here) { at = at })
   passes_to none st n more =
       let (m, still, is_same) = passes.same st n more in
-      is_same ∙ item_found cursor.text.now (spot cursor st here) token at (sym read) m (none st)
+      is_same ∙ item_found cursor.text.now (state_at cursor st here) token at (sym read) m (none st)
 
-pub passes_bad : (cursor : Cursor) (from here : Place) (f : Fault) → Passes cursor from here → Err f ≡ token_at cursor.text.now (flags_in cursor here) here.at →
-    (st : State) (n : ℕ) → length cursor.text.now < n + from.at → item cursor.text.now n (spot cursor st from) ≡ Err f
+pub passes_bad : (cursor : Cursor) (from here : Place) (f : Fault) → Passes cursor from here → Err f ≡ token_at cursor.text.now (flags_at cursor true here) here.at →
+    (st : State) (n : ℕ) → length cursor.text.now < n + from.at → item cursor.text.now n (state_at cursor st from) ≡ Err f
 passes_bad cursor from here f passes read st n more =
     let (m, still, is_same) = passes.same st n more in
-    is_same ∙ item_bad cursor.text.now (spot cursor st here) f (sym read) m
+    is_same ∙ item_bad cursor.text.now (state_at cursor st here) f (sym read) m

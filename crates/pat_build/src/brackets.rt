@@ -1,14 +1,9 @@
 //! What stands between the brackets of a class (pcre2pattern, "Square brackets and character classes").
-ghost use Rattle.std.specs.Prelude.{◌≡◌, Bool, true, false, not, ◌&&◌, ℕ, ◌+◌, ◌<◌, ◌≤◌, List, [], length, suc, Ok, Err, IfOk, IfErr, IfSome, IsTrue, pos, ◌⊎◌};
+ghost use Rattle.std.specs.Prelude.{◌≡◌, Bool, false, true, ◌<◌, ◌≤◌, [], length, suc, Ok, Err, IfOk, IfErr, IfSome, IsTrue};
 ghost use Rattle.std.specs.Option.{option_map_or};
-ghost use Rattle.pat_tree.specs.declared.nodes.Part.{Part};
-ghost use Rattle.pat_tree.specs.declared.nodes.ClassSpec.{ClassSpec};
-ghost use Rattle.token_parts.specs.declared.token.Token.TheVariants.{ClassEnd};
 ghost use Rattle.token_parts.specs.Tell.{Moves, is_own};
-ghost use Rattle.pat_build.specs.State.{State, Reads};
-ghost use Rattle.pat_build.specs.Classes.{character, is_hyphen, is_last, is_last_item, part_then, item, range_or_hyphen, from_character, from_set, from_item, class_parts, class_spec};
-ghost use Rattle.pat_build.specs.declared.cursor.Place.{Place};
-ghost use Rattle.pat_build.specs.declared.error.ReadError.TheVariants.{Bad, Memory};
+ghost use Rattle.pat_build.specs.Classes.{character, is_hyphen, is_last, is_last_item, part_then, item, class_parts, class_spec};
+ghost use Rattle.pat_build.specs.Places.{Always, AlwaysFromStart, GivesPart, GivesFault, range_between, character_between, set_before, item_between, is_closing, Tells, IfBad, IsClassFault};
 
 use crate::cursor::{Cursor, Place};
 use crate::error::ReadError;
@@ -64,8 +59,8 @@ impl<'a> Cursor<'a> {
     /// The next token of a class that isn't passed over.
     fn item(&self, place: Place) -> Result<ClassItem, Fault>
         requires { place.at ≤ length self.now.text.now }
-        ensures found { let state = λ (st : State) (p : Place). record st { at = p.at; quoting = p.quoting; options = self.now.options; groups = self.now.groups } in IfOk result (λ i. (st : State) (n : ℕ) → length self.now.text.now < n + place.at → item self.now.text.now n (state st place) ≡ Ok (i.token, state st i.here, state st i.after)) }
-        ensures bad { let state = λ (st : State) (p : Place). record st { at = p.at; quoting = p.quoting; options = self.now.options; groups = self.now.groups } in IfErr result (λ f. (st : State) (n : ℕ) → length self.now.text.now < n + place.at → item self.now.text.now n (state st place) ≡ Err f) }
+        ensures found { IfOk result (λ i. Always self.now place (λ text n state. item text n (state place) ≡ Ok (i.token, state i.here, state i.after))) }
+        ensures bad { IfErr result (λ f. Always self.now place (λ text n state. item text n (state place) ≡ Err f)) }
         ensures past { IfOk result (λ i. place.at ≤ i.here.at) }
         ensures onward { IfOk result (λ i. i.here.at ≤ i.after.at) }
         ensures within { IfOk result (λ i. i.after.at ≤ length self.now.text.now) }
@@ -96,11 +91,11 @@ impl<'a> Cursor<'a> {
         requires begins { here.at ≤ before.at }
         requires order { before.at ≤ after.at }
         requires within { after.at ≤ length self.now.text.now }
-        ensures part { let state = λ (st : State) (p : Place). record st { at = p.at; quoting = p.quoting; options = self.now.options; groups = self.now.groups } in IfOk result (λ r. (st : State) (n : ℕ) (rest : State → Reads (List Part)) → length self.now.text.now < n + after.at → range_or_hyphen self.now.text.now n rest c (state st here) (state st before) (state st after) ≡ part_then r.0 (rest (state st r.1))) }
-        ensures bad { let state = λ (st : State) (p : Place). record st { at = p.at; quoting = p.quoting; options = self.now.options; groups = self.now.groups } in IfErr result (λ f. (st : State) (n : ℕ) (rest : State → Reads (List Part)) → length self.now.text.now < n + after.at → range_or_hyphen self.now.text.now n rest c (state st here) (state st before) (state st after) ≡ Err f) }
+        ensures part { IfOk result (λ r. GivesPart self.now after (range_between c here before after) r.0 r.1) }
+        ensures bad { IfErr result (λ f. GivesFault self.now after (range_between c here before after) f) }
         ensures past { IfOk result (λ r. before.at ≤ r.1.at) }
         ensures within { IfOk result (λ r. r.1.at ≤ length self.now.text.now) }
-        ensures number { IfErr result (λ f. IsTrue (is_own f.number) ⊎ (f.number ≡ pos 106) ⊎ (f.number ≡ pos 108) ⊎ (f.number ≡ pos 150)) }
+        ensures number { IfErr result (λ f. IsClassFault f.number) }
         ensures place { IfErr result (λ f. f.at ≤ length self.now.text.now) }
     {
         let item = self.item(after)?;
@@ -130,11 +125,11 @@ impl<'a> Cursor<'a> {
     fn from_character(&self, c: u32, here: Place, after: Place) -> Result<(Part, Place), Fault>
         requires begins { here.at ≤ after.at }
         requires within { after.at ≤ length self.now.text.now }
-        ensures part { let state = λ (st : State) (p : Place). record st { at = p.at; quoting = p.quoting; options = self.now.options; groups = self.now.groups } in IfOk result (λ r. (st : State) (n : ℕ) (rest : State → Reads (List Part)) → length self.now.text.now < n + after.at → from_character self.now.text.now n rest c (state st here) (state st after) ≡ part_then r.0 (rest (state st r.1))) }
-        ensures bad { let state = λ (st : State) (p : Place). record st { at = p.at; quoting = p.quoting; options = self.now.options; groups = self.now.groups } in IfErr result (λ f. (st : State) (n : ℕ) (rest : State → Reads (List Part)) → length self.now.text.now < n + after.at → from_character self.now.text.now n rest c (state st here) (state st after) ≡ Err f) }
+        ensures part { IfOk result (λ r. GivesPart self.now after (character_between c here after) r.0 r.1) }
+        ensures bad { IfErr result (λ f. GivesFault self.now after (character_between c here after) f) }
         ensures past { IfOk result (λ r. after.at ≤ r.1.at) }
         ensures within { IfOk result (λ r. r.1.at ≤ length self.now.text.now) }
-        ensures number { IfErr result (λ f. IsTrue (is_own f.number) ⊎ (f.number ≡ pos 106) ⊎ (f.number ≡ pos 108) ⊎ (f.number ≡ pos 150)) }
+        ensures number { IfErr result (λ f. IsClassFault f.number) }
         ensures place { IfErr result (λ f. f.at ≤ length self.now.text.now) }
     {
         let hyphen = self.item(after)?;
@@ -148,7 +143,7 @@ impl<'a> Cursor<'a> {
     /// Whether nothing of the class follows a place. A faulty token is something.
     fn is_last_at(&self, place: Place) -> bool
         requires { place.at ≤ length self.now.text.now }
-        ensures { let state = λ (st : State) (p : Place). record st { at = p.at; quoting = p.quoting; options = self.now.options; groups = self.now.groups } in (st : State) (n : ℕ) → length self.now.text.now < n + place.at → is_last_item (item self.now.text.now n (state st place)) ≡ result }
+        ensures { Always self.now place (λ text n state. is_last_item (item text n (state place)) ≡ result) }
     {
         match self.item(place) {
             Ok(item) => is_last(item.token),
@@ -159,11 +154,11 @@ impl<'a> Cursor<'a> {
     /// A set, the place after it being given: a hyphen after it must be last.
     fn from_set(&self, set: Part, after: Place) -> Result<(Part, Place), Fault>
         requires { after.at ≤ length self.now.text.now }
-        ensures part { let state = λ (st : State) (p : Place). record st { at = p.at; quoting = p.quoting; options = self.now.options; groups = self.now.groups } in IfOk result (λ r. (st : State) (n : ℕ) (rest : State → Reads (List Part)) → length self.now.text.now < n + after.at → from_set self.now.text.now n rest set (state st after) ≡ part_then r.0 (rest (state st r.1))) }
-        ensures bad { let state = λ (st : State) (p : Place). record st { at = p.at; quoting = p.quoting; options = self.now.options; groups = self.now.groups } in IfErr result (λ f. (st : State) (n : ℕ) (rest : State → Reads (List Part)) → length self.now.text.now < n + after.at → from_set self.now.text.now n rest set (state st after) ≡ Err f) }
+        ensures part { IfOk result (λ r. GivesPart self.now after (set_before set after) r.0 r.1) }
+        ensures bad { IfErr result (λ f. GivesFault self.now after (set_before set after) f) }
         ensures past { IfOk result (λ r. after.at ≤ r.1.at) }
         ensures within { IfOk result (λ r. r.1.at ≤ length self.now.text.now) }
-        ensures number { IfErr result (λ f. IsTrue (is_own f.number) ⊎ (f.number ≡ pos 106) ⊎ (f.number ≡ pos 108) ⊎ (f.number ≡ pos 150)) }
+        ensures number { IfErr result (λ f. IsClassFault f.number) }
         ensures place { IfErr result (λ f. f.at ≤ length self.now.text.now) }
     {
         let hyphen = self.item(after)?;
@@ -178,7 +173,7 @@ impl<'a> Cursor<'a> {
 
     /// Whether a token closes the class. A bracket that comes first is a character, unless a class may be empty.
     fn closes(&self, first: bool, token: Token) -> bool
-        ensures { result ≡ (elim token [ ClassEnd ↦ not (first && not self.now.options.allow_empty_class) | _ ↦ false ]) }
+        ensures { result ≡ is_closing first self.now.options.allow_empty_class token }
     {
         matches!(token, Token::ClassEnd) && !(first && !self.options.allow_empty_class)
     }
@@ -188,11 +183,11 @@ impl<'a> Cursor<'a> {
         requires begins { item.here.at ≤ item.after.at }
         requires moves { Moves self.now.text.now item.here.at item.token item.after.at }
         requires within { item.after.at ≤ length self.now.text.now }
-        ensures part { let state = λ (st : State) (p : Place). record st { at = p.at; quoting = p.quoting; options = self.now.options; groups = self.now.groups } in IfOk result (λ r. (first : Bool) → (elim (item.token) [ ClassEnd ↦ not (first && not self.now.options.allow_empty_class) | _ ↦ false ]) ≡ false → (st : State) (n : ℕ) (rest : State → Reads (List Part)) → length self.now.text.now < n + item.after.at → from_item self.now.text.now n rest first item.token (state st item.here) (state st item.after) ≡ part_then r.0 (rest (state st r.1))) }
-        ensures bad { let state = λ (st : State) (p : Place). record st { at = p.at; quoting = p.quoting; options = self.now.options; groups = self.now.groups } in IfErr result (λ f. (first : Bool) → (elim (item.token) [ ClassEnd ↦ not (first && not self.now.options.allow_empty_class) | _ ↦ false ]) ≡ false → (st : State) (n : ℕ) (rest : State → Reads (List Part)) → length self.now.text.now < n + item.after.at → from_item self.now.text.now n rest first item.token (state st item.here) (state st item.after) ≡ Err f) }
+        ensures part { IfOk result (λ r. (first : Bool) → is_closing first self.now.options.allow_empty_class item.token ≡ false → GivesPart self.now item.after (item_between first item.token item.here item.after) r.0 r.1) }
+        ensures bad { IfErr result (λ f. (first : Bool) → is_closing first self.now.options.allow_empty_class item.token ≡ false → GivesFault self.now item.after (item_between first item.token item.here item.after) f) }
         ensures past { IfOk result (λ r. item.here.at < r.1.at) }
         ensures within { IfOk result (λ r. r.1.at ≤ length self.now.text.now) }
-        ensures number { IfErr result (λ f. IsTrue (is_own f.number) ⊎ (f.number ≡ pos 106) ⊎ (f.number ≡ pos 108) ⊎ (f.number ≡ pos 150)) }
+        ensures number { IfErr result (λ f. IsClassFault f.number) }
         ensures place { IfErr result (λ f. f.at ≤ length self.now.text.now) }
     {
         let ClassItem { token, here, after } = item;
@@ -219,12 +214,12 @@ impl<'a> Cursor<'a> {
     /// after the bracket.
     fn step(&self, first: bool, place: Place) -> Result<(Option<Part>, Place), Fault>
         requires { place.at ≤ length self.now.text.now }
-        ensures step { let state = λ (st : State) (p : Place). record st { at = p.at; quoting = p.quoting; options = self.now.options; groups = self.now.groups } in IfOk result (λ r. (st : State) (n : ℕ) → length self.now.text.now < n + place.at → class_parts self.now.text.now (suc n) first (state st place) ≡ option_map_or (λ p. part_then p (class_parts self.now.text.now n false (state st r.1))) r.0 (Ok ([], state st r.1))) }
-        ensures bad { let state = λ (st : State) (p : Place). record st { at = p.at; quoting = p.quoting; options = self.now.options; groups = self.now.groups } in IfErr result (λ f. (st : State) (n : ℕ) → length self.now.text.now < n + place.at → class_parts self.now.text.now (suc n) first (state st place) ≡ Err f) }
+        ensures step { IfOk result (λ r. Always self.now place (λ text n state. class_parts text (suc n) first (state place) ≡ option_map_or (λ p. part_then p (class_parts text n false (state r.1))) r.0 (Ok ([], state r.1)))) }
+        ensures bad { IfErr result (λ f. Always self.now place (λ text n state. class_parts text (suc n) first (state place) ≡ Err f)) }
         ensures past { IfOk result (λ r. place.at ≤ r.1.at) }
         ensures more { IfOk result (λ r. IfSome r.0 (λ p. place.at < r.1.at)) }
         ensures within { IfOk result (λ r. r.1.at ≤ length self.now.text.now) }
-        ensures number { IfErr result (λ f. IsTrue (is_own f.number) ⊎ (f.number ≡ pos 106) ⊎ (f.number ≡ pos 108) ⊎ (f.number ≡ pos 150)) }
+        ensures number { IfErr result (λ f. IsClassFault f.number) }
         ensures place { IfErr result (λ f. f.at ≤ length self.now.text.now) }
     {
         let item = self.item(place)?;
@@ -238,12 +233,12 @@ impl<'a> Cursor<'a> {
     /// The parts of a class from the place after its opening bracket on, and the place after the closing one.
     fn parts(&self, alloc: Global) -> Result<(PartList, Place), ReadError>
         requires { self.now.place.at ≤ length self.now.text.now }
-        ensures parts { let state = λ (st : State) (p : Place). record st { at = p.at; quoting = p.quoting; options = self.now.options; groups = self.now.groups } in IfOk result (λ r. (st : State) (n : ℕ) → length self.now.text.now + 1 < n + self.now.place.at → class_parts self.now.text.now n true (state st self.now.place) ≡ Ok (r.0, state st r.1)) }
-        ensures bad { let state = λ (st : State) (p : Place). record st { at = p.at; quoting = p.quoting; options = self.now.options; groups = self.now.groups } in IfErr result (λ e. (st : State) (n : ℕ) → length self.now.text.now + 1 < n + self.now.place.at → (elim e [ Bad number at ↦ class_parts self.now.text.now n true (state st self.now.place) ≡ Err (record { number = number; at = at }) | Memory ↦ Unit {0} ])) }
+        ensures parts { IfOk result (λ r. AlwaysFromStart self.now self.now.place (λ text n state. class_parts text n true (state self.now.place) ≡ Ok (r.0, state r.1))) }
+        ensures bad { IfErr result (λ e. AlwaysFromStart self.now self.now.place (λ text n state. Tells (class_parts text n true (state self.now.place)) e)) }
         ensures past { IfOk result (λ r. self.now.place.at ≤ r.1.at) }
         ensures within { IfOk result (λ r. r.1.at ≤ length self.now.text.now) }
-        ensures number { IfErr result (λ e. elim e [ Bad number at ↦ IsTrue (is_own number) ⊎ (number ≡ pos 106) ⊎ (number ≡ pos 108) ⊎ (number ≡ pos 150) | Memory ↦ Unit {0} ]) }
-        ensures place { IfErr result (λ e. elim e [ Bad number at ↦ at ≤ length self.now.text.now | Memory ↦ Unit {0} ]) }
+        ensures number { IfErr result (λ e. IfBad e (λ number at. IsClassFault number)) }
+        ensures place { IfErr result (λ e. IfBad e (λ number at. at ≤ length self.now.text.now)) }
     {
         let mut parts = PartList::new(alloc);
         let mut place = self.place;
@@ -273,12 +268,12 @@ pub(crate) fn read_class(
 
     // The class and the place after it, or the fault, are those of the definition: from every state of the reader at the
     // cursor, and for every bound of at least two more than the bytes that are left. The rest of the state stays as it was.
-    ensures class { let state = λ (st : State) (p : Place). record st { at = p.at; quoting = p.quoting; options = cursor.now.options; groups = cursor.now.groups } in IfOk result (λ r. (st : State) (n : ℕ) → length cursor.now.text.now + 1 < n + cursor.now.place.at → class_spec cursor.now.text.now n negated (state st cursor.now.place) ≡ Ok (r.0, state st r.1)) }
-    ensures bad { let state = λ (st : State) (p : Place). record st { at = p.at; quoting = p.quoting; options = cursor.now.options; groups = cursor.now.groups } in IfErr result (λ e. (st : State) (n : ℕ) → length cursor.now.text.now + 1 < n + cursor.now.place.at → (elim e [ Bad number at ↦ class_spec cursor.now.text.now n negated (state st cursor.now.place) ≡ Err (record { number = number; at = at }) | Memory ↦ Unit {0} ])) }
+    ensures class { IfOk result (λ r. AlwaysFromStart cursor.now cursor.now.place (λ text n state. class_spec text n negated (state cursor.now.place) ≡ Ok (r.0, state r.1))) }
+    ensures bad { IfErr result (λ e. AlwaysFromStart cursor.now cursor.now.place (λ text n state. Tells (class_spec text n negated (state cursor.now.place)) e)) }
     ensures past { IfOk result (λ r. cursor.now.place.at ≤ r.1.at) }
     ensures within { IfOk result (λ r. r.1.at ≤ length cursor.now.text.now) }
-    ensures number { IfErr result (λ e. elim e [ Bad number at ↦ IsTrue (is_own number) ⊎ (number ≡ pos 106) ⊎ (number ≡ pos 108) ⊎ (number ≡ pos 150) | Memory ↦ Unit {0} ]) }
-    ensures place { IfErr result (λ e. elim e [ Bad number at ↦ at ≤ length cursor.now.text.now | Memory ↦ Unit {0} ]) }
+    ensures number { IfErr result (λ e. IfBad e (λ number at. IsClassFault number)) }
+    ensures place { IfErr result (λ e. IfBad e (λ number at. at ≤ length cursor.now.text.now)) }
 {
     let (parts, end) = cursor.parts(alloc)?;
     let caseless = cursor.options.caseless;

@@ -1,10 +1,10 @@
 //! Where the reader stands in the text.
-ghost use Rattle.std.specs.Prelude.{◌≡◌, ◌≤◌, [], length, IfOk, IfErr, IfSome, IsTrue};
+ghost use Rattle.std.specs.Prelude.{◌≡◌, ◌≤◌, length, IfOk, IfErr, IfSome, IsTrue};
 ghost use Rattle.std.specs.Option.{option_map};
 ghost use Rattle.token_parts.specs.Tell.{IsWell, Moves, is_own};
 ghost use Rattle.pat_lex.specs.Tokens.{token_at};
-ghost use Rattle.pat_build.specs.State.{State, flags_of, passed_over};
-ghost use Rattle.pat_build.specs.declared.cursor.Place.{Place};
+ghost use Rattle.pat_build.specs.State.{State, passed_over};
+ghost use Rattle.pat_build.specs.Places.{moved_to, flags_at};
 
 use pat_lex::{Fault, LexFlags, Token, next_token};
 use pat_tree::Options;
@@ -32,7 +32,7 @@ impl Place {
     /// Where reading goes on after a token that stands for nothing itself, which ended here: a comment, ignored white space,
     /// `\Q` or `\E`.
     pub(crate) fn passed_over(self, token: Token) -> Option<Place>
-        ensures value { let state = λ (st : State) (p : Place). record st { at = p.at; quoting = p.quoting } in (st : State) → passed_over token (state st self) ≡ option_map (state st) result }
+        ensures value { (st : State) → passed_over token (moved_to st self) ≡ option_map (moved_to st) result }
         ensures stays { IfSome result (λ beyond. beyond.at ≡ self.at) }
     {
         let quoting = match token {
@@ -48,7 +48,7 @@ impl Place {
 impl<'a> Cursor<'a> {
     /// What the token at a place depends on, in a class or outside.
     fn flags(&self, place: Place, in_class: bool) -> LexFlags
-        ensures { result ≡ flags_of in_class (record { at = place.at; quoting = place.quoting; options = self.now.options; groups = self.now.groups; depth = 0; classes = []; names = []; references = [] }) }
+        ensures { result ≡ flags_at self.now in_class place }
     {
         LexFlags {
             utf: self.options.utf,
@@ -67,7 +67,7 @@ impl<'a> Cursor<'a> {
         requires { place.at ≤ length self.now.text.now }
 
         // The token depends on the place, the options in force and the groups that were opened.
-        ensures value { result ≡ token_at self.now.text.now (flags_of in_class (record { at = place.at; quoting = place.quoting; options = self.now.options; groups = self.now.groups; depth = 0; classes = []; names = []; references = [] })) place.at }
+        ensures value { result ≡ token_at self.now.text.now (flags_at self.now in_class place) place.at }
 
         // The end is a token exactly at the text's length. Every other token is followed by a later place within the text.
         ensures moves { IfOk result (λ r. Moves self.now.text.now place.at r.0 r.1) }

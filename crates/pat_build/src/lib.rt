@@ -21,5 +21,5 @@ mod tests;
 mod tokens;
 
 pub use error::ReadError;
-pub use laws::worked_rows;
+pub use laws::{what_is_read_can_be_searched, worked_rows};
 pub use reader::read;

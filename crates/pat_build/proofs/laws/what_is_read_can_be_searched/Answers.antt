@@ -1,0 +1,5 @@
+use Rattle.pat_build.proofs.PlainReading.{searchable_law}
+use Rattle.pat_build.proofs.laws.what_is_read_can_be_searched.Goals as goal
+
+pub returns : goal.returns
+returns c = searchable_law
