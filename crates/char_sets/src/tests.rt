@@ -1,11 +1,13 @@
-ghost use Rattle.std.specs.Prelude.{◌≡◌, ◌∷◌, [], false, IfOk};
+ghost use Rattle.std.specs.Prelude.{◌≡◌, ◌<◌, ◌∷◌, [], false, length, IfOk};
 ghost use Rattle.char_sets.specs.Sets.{IsPlain};
 
 use super::*;
 use crate::entry::Entry;
-use pat_tree::{ClassSpec, Draft, Item, ListOf, Node, Options, Part, SetName, Tree};
+use pat_tree::{ClassSpec, Draft, Item, ListOf, Node, Options, Part, SetName, Steps, Tree};
 use std::alloc::Global;
+use std::marker::Brand;
 use std::process::Abort;
+use std::sync::ledger::{Blank, Ledger};
 use std::test::Fail;
 
 type Ranges = &'static [(u32, u32)];
@@ -162,17 +164,48 @@ fn tree_of(alloc: Global, class: ClassSpec) -> Result<Tree, Fail>
 
 fn table_of(alloc: Global, class: ClassSpec) -> Result<ClassTable, Fail>
     requires { IsPlain class }
+    ensures { IfOk result (λ table. 0 < length table) }
 {
     let tree = tree_of(alloc, class)?;
     let table = ClassTable::build(alloc, &tree)?;
     Ok(table)
 }
 
+// Asks the first class of a table of each character, by a counter of its own.
+fn asks<L: Ledger>(
+    rt: &impl Abort,
+    table: &ClassTable,
+    ranges: Ranges,
+    others: bool,
+    blank: Blank,
+) -> Result<(), Fail>
+    requires name { blank.name ≡ L.name }
+    requires parts { blank.parts ≡ L.parts }
+    requires one { blank.parts ≡ 1 }
+    requires some { 0 < length table.now }
+{
+    let mut steps = Steps::<L>::new(blank);
+    for c in 0..0x3002u32 {
+        let listed = is_listed(ranges, c);
+        assert_eq!(rt; table.has(0, c, &mut steps), listed != others, "at {c}");
+    }
+    assert_eq!(rt; table.has(0, u32::MAX, &mut steps), others);
+    Ok(())
+}
+
 #[test]
 fn a_tree_gives_a_table_of_its_classes(rt: HostRuntime) -> Result<(), Fail> {
     let alloc = rt.alloc();
-    let digits = class(alloc, true, false, &[Part::Range { from: 48, to: 57 }])?;
-    let table = table_of(alloc, digits)?;
-    assert_eq!(rt; table.count(), 1);
+    let listed: Ranges = &[(48, 57), (300, 310)];
+    for others in [false, true] {
+        let parts = [
+            Part::Range { from: 48, to: 57 },
+            Part::Range { from: 300, to: 310 },
+        ];
+        let spec = class(alloc, others, false, &parts)?;
+        let table = table_of(alloc, spec)?;
+        assert_eq!(rt; table.count(), 1);
+        asks::<Brand>(&rt, &table, listed, others, Blank::new(1))?;
+    }
     Ok(())
 }

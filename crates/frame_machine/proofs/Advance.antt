@@ -1,18 +1,16 @@
 -- One turn of the machine's loop: what is ahead gives way to what follows.
-use Rattle.std.proofs.Common.{◌≡◌, ℕ, zero, suc, ◌+◌, ◌-◌, ◌<◌, ◌≤◌, ◌∙◌, Bool, true, false, List, [], ◌∷◌, Option, Some, None, length, refl, sym, ap, arith}
-use Rattle.std.specs.Prelude.{nat_le}
+use Rattle.std.proofs.Common.{◌≡◌, ℕ, suc, ◌+◌, ◌-◌, ◌<◌, ◌≤◌, ◌∙◌, true, false, List, length, refl, sym, ap, arith}
 use Rattle.std.proofs.lemmas.Bool.{le-leb, lt-leb}
 use Rattle.frame_store.specs.Captures.{Captures}
 use Rattle.frame_store.specs.Entry.{Entry}
 use Rattle.frame_machine.specs.Stream.{State, too_many_units, by_halt, reached}
 use Rattle.frame_machine.specs.Setting.{Setting}
 use Rattle.frame_machine.specs.PlaceAnswer.{answers, MatchLimit, FrameLimit}
-use Rattle.frame_machine.specs.Moves.{Moves, stops, pause, stepped, Follow, going, holding, tread, size}
-use Rattle.frame_machine.specs.declared.machine.Next.{Next}
+use Rattle.frame_machine.specs.Moves.{Moves, stops, pause, stepped, holding, tread, size}
 use Rattle.frame_machine.specs.declared.machine.Next.TheVariants.{Back, End}
 use Rattle.frame_machine.specs.declared.machine.Spot.{Spot}
-use Rattle.frame_machine.specs.Ground.{Ground, next_of, StandsIf, IsGround}
-use Rattle.frame_machine.specs.Machine.{past, around, cont, fail, Conf, conf, spot_state, ahead, StandsAt, AreSpans, AreSound, IsRunning, IsValid, Advances, towards}
+use Rattle.frame_machine.specs.Ground.{Ground, next_of, IsGround, IsPart}
+use Rattle.frame_machine.specs.Machine.{past, around, cont, fail, Conf, conf, spot_state, ahead, AreSpans, AreSound, IsRunning, IsValid, Advances, towards}
 use Rattle.frame_machine.proofs.Frames.{focus_towards, running_towards}
 
 -- room for a unit, or none
@@ -75,7 +73,7 @@ module _ (c : Ground) where
     goes_back same e = advance_pause m (conf Back spot stack caps) (fail c stack caps) e refl same (record { running = tt; records = records; spans = spans; slots = slots })
 
     -- the machine goes on after a part
-    module _ (ok : IsGround c) (q : ℕ) (inside : q ≤ c.root) (standing : IsRunning c spot stack End) where
+    module _ (ok : IsGround c) (q : ℕ) (inside : IsPart c q) (standing : IsRunning c spot stack End) where
       pub goes_on : spot.left ≡ m.spot.left →
           ahead c m ≡ pause (past c (around c stack spot.frame).depth (cont c stack caps spot.frame) q reached (spot_state c spot stack caps) (fail c stack caps)) →
           Advances c m (conf (towards (next_of c q)) spot stack caps)

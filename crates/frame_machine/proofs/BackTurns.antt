@@ -1,35 +1,30 @@
 -- The steps of the machine back to the newest record.
-use Rattle.std.proofs.Common.{◌≡◌, ℕ, zero, suc, ◌+◌, ◌-◌, ◌<◌, ◌≤◌, ◌∙◌, Bool, true, false, if◌then◌else◌, List, [], ◌∷◌, Option, Some, None, length, reverse, set, slice_get, refl, sym, ap, subst, arith}
-use Rattle.std.proofs.lemmas.Bool.{cond-true, cond-false}
+use Rattle.std.proofs.Common.{◌≡◌, ℕ, suc, ◌+◌, ◌-◌, ◌<◌, ◌∙◌, Bool, true, false, List, [], ◌∷◌, Option, Some, None, length, refl, sym, ap, subst, arith}
 use Rattle.pat_tree.specs.Nested as tree
 use Rattle.pat_tree.specs.Nested.{Nested, Row}
-use Rattle.match_items.specs.Items.{one_less, is_none_left, after_item, item_reaches, run_reaches, longest_run, place_before}
+use Rattle.match_items.specs.Items.{one_less, is_none_left, after_item, place_before}
 use Rattle.frame_store.specs.declared.records.Record.{Record}
-use Rattle.frame_store.specs.declared.registers.Span.{Span}
-use Rattle.frame_store.specs.Captures.{Captures, capture, with_capture}
-use Rattle.frame_store.specs.Entry.{Site, Kept, Entry, Undo, GroupOpen, LaterBranch, TurnOpen, TurnOrExit, LaterTurn, FewerItems, MoreItems, entry_of, entries}
-use Rattle.frame_machine.specs.Stream.{State, reached, by_halt, too_many_units, captured}
-use Rattle.frame_machine.specs.Parts.{is_over}
-use Rattle.frame_machine.specs.PlaceAnswer.{answers, MatchLimit, FrameLimit}
-use Rattle.frame_machine.specs.Moves.{Moves, stops, pause, stepped, Follow, at_verbs, going, holding, reaching, tread}
-use Rattle.frame_machine.specs.Paths.{offer_paths, offer_path, lazy_paths, many_paths, paths}
-use Rattle.frame_machine.specs.declared.machine.Next.{Next}
-use Rattle.frame_machine.specs.declared.machine.Next.TheVariants.{Enter, Branch, Offer, Begin, Fewer, More, Back, End}
+use Rattle.frame_store.specs.Captures.{Captures}
+use Rattle.frame_store.specs.Entry.{Site, Kept, Entry, LaterBranch, TurnOrExit, LaterTurn, FewerItems, MoreItems, entry_of, entries}
+use Rattle.frame_machine.specs.Stream.{State}
+use Rattle.frame_machine.specs.PlaceAnswer.{answers}
+use Rattle.frame_machine.specs.Moves.{Moves, pause, Follow, tread}
+use Rattle.frame_machine.specs.Paths.{offer_paths, lazy_paths}
+use Rattle.frame_machine.specs.declared.machine.Next.TheVariants.{Branch, Begin, Fewer, More, Back}
 use Rattle.frame_machine.specs.declared.machine.Spot.{Spot}
-use Rattle.frame_machine.specs.Ground.{Ground, tree_of, next_of, StandsIf, IsGround}
-use Rattle.frame_machine.specs.Machine.{Around, less, state_at, kept_at, link_of, frame_around, after, past, enter, branch_rest, begin_from, offer_from, turned_from, close_from, around, frame_end, more_from, further_from, fewer_places, more_places, on_fail, cont, fail, focus, Conf, conf, spot_state, ahead, IsStanding, StandsAt, HasBranch, IsRepeat, IsCapture, IsMany, HasFurther, end_of, SpanStands, AreSpans, IsSound, AreSound, IsRunning, IsValid, Advances, towards}
-use Rattle.frame_machine.proofs.PartPaths.{reaching_off, enter_many}
-use Rattle.frame_machine.proofs.Frames.{around_here, around_push, focus_kept, focus_framed, sound_less, focus_towards, running_towards, Framed, framed}
-use Rattle.frame_machine.proofs.Advance.{holding_room, holding_full, advance_pause, advance_step, advance_same, over_steps, over_units, over_units_step, goes_back, goes_on, goes_on_step}
+use Rattle.frame_machine.specs.Ground.{Ground, tree_of, next_of, IsGround, IsPart}
+use Rattle.frame_machine.specs.Machine.{Around, less, state_at, past, around, more_from, further_from, on_fail, cont, fail, Conf, conf, ahead, IsMany, HasFurther, IsSound, AreSound, IsValid, Advances, towards}
+use Rattle.frame_machine.proofs.PartPaths.{reaching_off}
+use Rattle.frame_machine.proofs.Advance.{advance_pause, goes_back, goes_on}
 use Rattle.std.proofs.Common.{◌≢◌}
 use Rattle.pat_tree.specs.declared.nodes.Item.{Item}
-use Rattle.frame_store.specs.declared.kinds.TheConstants.{KIND_UNDO, KIND_LATER_BRANCH, KIND_TURN_OR_EXIT, KIND_LATER_TURN, KIND_FEWER_ITEMS, KIND_MORE_ITEMS}
+use Rattle.frame_store.specs.declared.kinds.TheConstants.{KIND_LATER_BRANCH, KIND_TURN_OR_EXIT, KIND_LATER_TURN, KIND_FEWER_ITEMS, KIND_MORE_ITEMS}
 use Rattle.frame_store.specs.Entry.{site_of, kept_of, entry_kind}
 use Rattle.std.proofs.lemmas.List.{length-map}
 use Rattle.frame_store.specs.Stack as stack_of
 use Rattle.frame_store.specs.Undo.{taken_back, undone}
 use Rattle.frame_store.proofs.StackLemmas.{past-more, past-all}
-use Rattle.frame_store.proofs.EntryLemmas.{entry_of-later_branch, entry_of-turn_or_exit, entry_of-later_turn, entry_of-fewer_items, entry_of-more_items, entry_of-undo, entry_kind-not}
+use Rattle.frame_store.proofs.EntryLemmas.{entry_of-later_branch, entry_of-turn_or_exit, entry_of-later_turn, entry_of-fewer_items, entry_of-more_items, entry_kind-not}
 use Rattle.frame_store.proofs.UndoLemmas.{length-taken_back, undone-cons, undone-nil}
 use Rattle.frame_machine.specs.Stops.{restored, IsFurther, more_next}
 use Rattle.frame_machine.specs.PlaceAnswer.{Failed, Exhausted}
@@ -169,7 +164,7 @@ module _ (c : Ground) (ok : IsGround c) (spot : Spot) (old older : List Record) 
   sound_old = let stack : entries old ≡ entry_of r ∷ entries older = ap entries popped in (subst (λ st. AreSound c spot.left (length caps) st) stack v.records).0
 
   -- of each kind, what holds of the record
-  pub exit_inside : r.kind ≡ KIND_TURN_OR_EXIT → r.node ≤ c.root
+  pub exit_inside : r.kind ≡ KIND_TURN_OR_EXIT → IsPart c r.node
   exit_inside e = (subst (IsSound c spot.left (length caps) (entries older)) (entry_of-turn_or_exit r e) sound_old).0
 
   pub fewer_stands : r.kind ≡ KIND_FEWER_ITEMS → c.stands r.to ≡ true
@@ -183,7 +178,7 @@ module _ (c : Ground) (ok : IsGround c) (spot : Spot) (old older : List Record) 
     is_many (tree.one_repeat item low high lazily) h = tt
     is_many _ h = absurd h
 
-    pub more_inside : r.node ≤ c.root
+    pub more_inside : IsPart c r.node
     more_inside = more_sound.0
 
     pub more_stands : c.stands r.to ≡ true

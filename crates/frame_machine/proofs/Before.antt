@@ -1,7 +1,6 @@
 -- Without its pauses a path is the search of the definitions before what follows.
 use Rattle.std.proofs.Common.{◌≡◌, ℕ, zero, suc, ◌+◌, ◌-◌, ◌∙◌, Bool, true, false, List, [], ◌∷◌, take, drop, reverse, Option, Some, None, refl, sym, ap}
 use Rattle.std.specs.Prelude.{nat_le, option_map}
-use Rattle.pat_tree.specs.declared.options.PartialMode.{PartialMode}
 use Rattle.pat_tree.specs.declared.options.PartialMode.TheVariants.{Off, Soft, Hard}
 use Rattle.pat_tree.specs.declared.nodes.Item.{Item}
 use Rattle.pat_tree.specs.declared.nodes.AnchorKind.{AnchorKind}
@@ -9,12 +8,12 @@ use Rattle.pat_tree.specs.Nested as tree
 use Rattle.pat_tree.specs.Nested.{Nested, Row}
 use Rattle.match_items.specs.Items.{one_less, is_none_left, after_item, item_reaches, longest_run, run_reaches, after_break, break_reaches, after_ref, ref_reaches, holds, anchor_reaches, earliest}
 use Rattle.frame_store.specs.Captures.{capture}
-use Rattle.frame_machine.specs.Stream.{State, first_state, VerbEnding, next_branch, prune, skip, commit, Halt, is_partial, too_many_units, cut, Ending, exhausted, by_verb, by_halt, Note, hit_end, How, reached, accepted, note, state, step, Stream, Search, ends, ◌▸◌, nothing, gives, ◌or_else◌, each, go_on, and_then, catch, is_next_branch, captured}
+use Rattle.frame_machine.specs.Stream.{State, first_state, VerbEnding, next_branch, prune, skip, commit, is_partial, too_many_units, exhausted, by_verb, by_halt, hit_end, How, reached, accepted, note, state, step, Stream, Search, ends, ◌▸◌, nothing, gives, ◌or_else◌, each, go_on, and_then, catch, is_next_branch, captured}
 use Rattle.frame_machine.specs.Setting.{Setting, held, hold, counts, reach, reach_if, match_limit}
 use Rattle.frame_machine.specs.Tests.{move_to, goes_to, run_one, run_break, run_ref, run_anchor, offers, greedy, offer_and, reluctant, lazy_run, run_many}
 use Rattle.frame_machine.specs.Parts.{Searches, in_order, choices, branches, run_group, is_over, turn, run_repeat}
 use Rattle.frame_machine.specs.Run.{level, levels, run}
-use Rattle.frame_machine.specs.PlaceAnswer.{Walked, with_note, answers, decision, MatchLimit, walk, place_answer}
+use Rattle.frame_machine.specs.PlaceAnswer.{with_note, answers, decision, walk, place_answer}
 use Rattle.frame_machine.specs.Moves.{Moves, stops, pause, stepped, noted, found, exhaust, Follow, Handler, Path, before, catching, at_end, at_verbs, going, holding, reaching, tread}
 use Rattle.frame_machine.specs.Paths.{Paths, close, ref_path, anchor_path, offer_paths, offer_path, lazy_paths, many_paths, turned, turn_path, repeat_path, go_path, parts_path, choice_paths, branch_paths, path, row_paths, paths}
 

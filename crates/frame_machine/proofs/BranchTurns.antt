@@ -1,33 +1,21 @@
 -- A branch of a group, by its node.
-use Rattle.std.proofs.Common.{◌≡◌, ℕ, zero, suc, ◌+◌, ◌-◌, ◌<◌, ◌≤◌, ◌∙◌, Bool, true, false, if◌then◌else◌, List, [], ◌∷◌, map, Option, Some, None, length, All, slice_get, get_or, ◌⊎◌, inl, inr, refl, sym, ap, subst, arith}
-use Rattle.std.proofs.lemmas.List.Elements.{All-head, All-get_or}
-use Rattle.std.proofs.Math.ListN.{get_or-eq_default}
+use Rattle.std.proofs.Common.{◌≡◌, ℕ, suc, ◌+◌, ◌-◌, ◌<◌, ◌≤◌, ◌∙◌, List, [], ◌∷◌, map, Option, Some, None, length, All, slice_get, get_or, inl, inr, refl, sym, ap, subst, arith}
 use Rattle.std.proofs.lemmas.Bool.{cases_lt}
-use Rattle.pat_tree.specs.declared.nodes.Item.{Item}
-use Rattle.pat_tree.specs.declared.nodes.AnchorKind.{AnchorKind}
 use Rattle.pat_tree.specs.declared.nodes.Node.{Node}
 use Rattle.pat_tree.specs.declared.nodes.Node.TheVariants as node
 use Rattle.pat_tree.specs.Nested as tree
 use Rattle.pat_tree.specs.Nested.{Nested, Row, row, nest, tree_at}
 use Rattle.pat_tree.specs.Rules.{kids_of}
-use Rattle.match_items.specs.Items.{is_none_left, after_item, after_break, after_ref, holds, earliest}
-use Rattle.frame_store.specs.declared.registers.Span.{Span}
-use Rattle.frame_store.specs.Captures.{Captures, capture}
-use Rattle.frame_store.specs.Entry.{Kept, Entry, GroupOpen, LaterBranch, TurnOpen, TurnOrExit, LaterTurn}
-use Rattle.frame_machine.specs.Stream.{State, reached, by_halt, too_many_units}
+use Rattle.frame_store.specs.Captures.{Captures}
+use Rattle.frame_store.specs.Entry.{Entry, LaterBranch}
 use Rattle.frame_machine.specs.PlaceAnswer.{answers, MatchLimit, FrameLimit}
-use Rattle.frame_machine.specs.Moves.{Moves, stops, pause, stepped, Follow, at_verbs, going, holding, tread}
-use Rattle.frame_machine.specs.Paths.{paths}
-use Rattle.frame_machine.specs.Built.{IsBuilt}
-use Rattle.frame_machine.specs.declared.machine.Next.{Next}
-use Rattle.frame_machine.specs.declared.machine.Next.TheVariants.{Enter, Branch, Offer, Begin, Back, End}
+use Rattle.frame_machine.specs.Moves.{tread}
+use Rattle.frame_machine.specs.declared.machine.Next.TheVariants.{Enter, Branch}
 use Rattle.frame_machine.specs.declared.machine.Spot.{Spot}
-use Rattle.frame_machine.specs.Ground.{Ground, tree_of, next_of, AllFollowed, IsLinked, IsNode, StandsIf, IsGround}
-use Rattle.frame_machine.specs.Machine.{Around, less, state_at, kept_at, after, past, enter, branch_rest, begin_from, turned_from, close_from, around, cont, fail, focus, Conf, conf, spot_state, ahead, IsStanding, StandsAt, HasBranch, IsRepeat, IsCapture, SpanStands, AreSpans, AreSound, IsRunning, IsValid, Advances, first_set, first_next, row_length, towards}
-use Rattle.frame_machine.specs.Stops.{moved_next, moved_spot}
-use Rattle.frame_machine.proofs.PartPaths.{after_nil, enter_empty, enter_keep, enter_one, enter_break, enter_anchor, enter_ref, enter_seq_none, enter_seq, enter_group, enter_capture, enter_repeat, branch_last, branch_more, offer_below, offer_full, offer_greedy, offer_lazy, begin_step}
-use Rattle.frame_machine.proofs.Frames.{around_here, around_push, focus_kept, focus_framed, sound_less, focus_towards, running_towards}
-use Rattle.frame_machine.proofs.Advance.{holding_room, holding_full, advance_pause, advance_step, advance_same, over_steps, over_units, over_units_step, goes_back, goes_on, goes_on_step}
+use Rattle.node_flow.specs.Linked.{AllFollowed, IsLinked}
+use Rattle.frame_machine.specs.Ground.{Ground, tree_of, IsNode, IsGround, IsPart}
+use Rattle.frame_machine.specs.Machine.{kept_at, branch_rest, conf, ahead, HasBranch, IsValid, Advances, row_length}
+use Rattle.frame_machine.proofs.KidParts.{kid_parts}
 use Rattle.std.proofs.Common.{suc}
 use Rattle.std.proofs.lemmas.Option.{slice_get-get_or}
 use Rattle.frame_machine.proofs.PartPaths.{All-at}
@@ -60,8 +48,8 @@ module _ (c : Ground) (ok : IsGround c) (q j : ℕ) (spot : Spot) (stack : List 
   branch_few = subst (λ m. length (kids_of m) ≤ 4294967295) e i.few
 
   module _ (p : ℕ) (at : slice_get ks j ≡ Some p) where
-    kid_inside : p ≤ c.root
-    kid_inside = let lt : p < q = All-at c (λ x. x < q) ks j p (subst (λ m. All (λ x. x < q) (kids_of m)) e i.below) at in omega (arith, lt, v.running.0)
+    kid_inside : IsPart c p
+    kid_inside = All-at c (IsPart c) ks j p (subst (λ m. All (IsPart c) (kids_of m)) e (kid_parts c q n v.running.0 i)) at
 
     next_branch : suc j < length ks → (x : ℕ) × (slice_get ks (suc j) ≡ Some x)
     next_branch lt = (get_or ks (suc j) 0, slice_get-get_or ks (suc j) 0 lt)

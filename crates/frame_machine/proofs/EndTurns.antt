@@ -1,28 +1,25 @@
 -- The steps of the machine at the end of a frame, and back to the newest record.
-use Rattle.std.proofs.Common.{◌≡◌, ℕ, zero, suc, ◌+◌, ◌-◌, ◌<◌, ◌≤◌, ◌∙◌, Bool, true, false, if◌then◌else◌, List, [], ◌∷◌, Option, Some, None, length, reverse, set, slice_get, inl, inr, refl, sym, ap, subst, arith}
+use Rattle.std.proofs.Common.{◌≡◌, ℕ, suc, ◌+◌, ◌-◌, ◌<◌, ◌≤◌, ◌∙◌, Bool, true, false, List, [], ◌∷◌, Option, Some, None, length, reverse, slice_get, inl, inr, refl, sym, ap, subst, arith}
 use Rattle.pat_tree.specs.Nested as tree
 use Rattle.pat_tree.specs.Nested.{Nested, Row}
-use Rattle.match_items.specs.Items.{one_less, is_none_left}
+use Rattle.match_items.specs.Items.{one_less}
 use Rattle.frame_store.specs.declared.records.Record.{Record}
-use Rattle.frame_store.specs.declared.registers.Span.{Span}
 use Rattle.frame_store.specs.Captures.{Captures, capture, with_capture}
-use Rattle.frame_store.specs.Entry.{Site, Kept, Entry, Undo, GroupOpen, LaterBranch, TurnOpen, TurnOrExit, LaterTurn, FewerItems, MoreItems, CallOpen, entry_of, entries}
-use Rattle.frame_machine.specs.Stream.{State, reached, by_halt, too_many_units, captured}
+use Rattle.frame_store.specs.Entry.{Site, Kept, Entry, Undo, GroupOpen, TurnOpen, TurnOrExit, CallOpen, entry_of, entries}
+use Rattle.frame_machine.specs.Stream.{State, reached, captured}
 use Rattle.frame_machine.specs.Parts.{is_over}
-use Rattle.frame_machine.specs.PlaceAnswer.{answers, MatchLimit, FrameLimit}
-use Rattle.frame_machine.specs.Moves.{Moves, stops, pause, stepped, found, Follow, at_verbs, going, holding, tread, size}
-use Rattle.frame_machine.specs.Paths.{paths, turned, close}
-use Rattle.frame_machine.specs.declared.machine.Next.{Next}
-use Rattle.frame_machine.specs.declared.machine.Next.TheVariants.{Enter, Branch, Offer, Begin, Fewer, More, Back, End}
+use Rattle.frame_machine.specs.PlaceAnswer.{answers, FrameLimit}
+use Rattle.frame_machine.specs.Moves.{Moves, pause, found, Follow, at_verbs, holding, tread, size}
+use Rattle.frame_machine.specs.Paths.{paths, turned}
+use Rattle.frame_machine.specs.declared.machine.Next.TheVariants.{Offer, Back, End}
 use Rattle.frame_machine.specs.declared.machine.Spot.{Spot}
-use Rattle.frame_machine.specs.Ground.{Ground, tree_of, next_of, StandsIf, IsGround}
-use Rattle.frame_machine.specs.Machine.{Around, less, state_at, kept_at, link_of, frame_around, after, past, enter, branch_rest, begin_from, offer_from, turned_from, close_from, around, frame_end, on_fail, cont, fail, focus, Conf, conf, spot_state, ahead, IsStanding, StandsAt, HasBranch, IsRepeat, IsCapture, SpanStands, AreSpans, IsSound, AreSound, IsRunning, IsValid, Advances, towards}
-use Rattle.frame_machine.proofs.Frames.{around_here, around_push, focus_kept, focus_framed, sound_less, focus_towards, running_towards, Framed, framed}
-use Rattle.frame_machine.proofs.Advance.{holding_room, holding_full, advance_pause, advance_step, advance_same, over_steps, over_units, over_units_step, goes_back, goes_on, goes_on_step}
+use Rattle.frame_machine.specs.Ground.{Ground, tree_of, next_of, IsGround, IsPart}
+use Rattle.frame_machine.specs.Machine.{Around, less, state_at, kept_at, link_of, frame_around, past, offer_from, turned_from, close_from, around, frame_end, cont, fail, conf, spot_state, ahead, IsRepeat, IsCapture, SpanStands, IsSound, AreSound, IsValid, Advances, towards}
+use Rattle.frame_machine.proofs.Frames.{around_here, around_push, focus_kept, focus_towards, running_towards, Framed, framed}
+use Rattle.frame_machine.proofs.Advance.{holding_room, holding_full, advance_pause, over_units, goes_back, goes_on}
 use Rattle.std.proofs.lemmas.List.{length-set, set-set, set-get_or}
 use Rattle.std.proofs.lemmas.List.Elements.{All-set}
 use Rattle.frame_store.specs.Undo.{taken_back}
-use Rattle.frame_store.proofs.UndoLemmas.{length-taken_back}
 use Rattle.frame_machine.specs.PlaceAnswer.{PlaceAnswer, Matched, decision, outcome}
 use Rattle.std.proofs.Common.{◌≢◌, ◌⊎◌, ◌&&◌, not}
 use Rattle.frame_store.specs.declared.kinds.TheConstants.{KIND_GROUP_OPEN, KIND_TURN_OPEN, KIND_TURN_OR_EXIT}
@@ -31,7 +28,7 @@ use Rattle.frame_store.proofs.EntryLemmas.{entry_of-group_open, entry_of-turn_op
 use Rattle.frame_machine.specs.Stops.{spot_outcome, took_nothing, IsNumber, admitted}
 use Rattle.std.proofs.lemmas.Bool.{cases_eq, false≢true}
 use Rattle.frame_machine.specs.Setting.{Setting, match_limit}
-use Rattle.frame_machine.proofs.Frames.{around_below, cont_whole, spans_back}
+use Rattle.frame_machine.proofs.Frames.{around_below, cont_whole}
 use Rattle.frame_machine.proofs.Turns.{stands_capture}
 
 elim_true : (b : Bool) (x y : Moves) → b ≡ true → elim b [ true ↦ x | false ↦ y ] ≡ x
@@ -140,7 +137,7 @@ module _ (c : Ground) (ok : IsGround c) (spot : Spot) (records : List Record) (c
           let r : Entry = Undo (record { node = site.node; link = site.link }) m (capture caps m) in
           let len : length new ≡ length caps = length-set caps (m - 1) _ in
           let back : taken_back r new ≡ caps = set-set caps (m - 1) _ (capture caps m) ∙ set-get_or caps (m - 1) None in
-          let inside : site.node ≤ c.root = g.sound.0 in
+          let inside : IsPart c site.node = g.sound.0 in
           advance_pause c _ _ _
           (closing ∙ ap pause (holding_room c.setting _ _ room))
           (focus_kept c r stack new (towards (next_of c site.node)) site.link (kept_at to) new (fail c (r ∷ stack) new) g.link
@@ -165,7 +162,7 @@ module _ (c : Ground) (ok : IsGround c) (spot : Spot) (records : List Record) (c
       (r : Entry) (is : entry_of p ≡ r) (link : link_of r ≡ site.link)
       (ends : (a : Around) (k : Follow) (x : Captures) (out : Moves) → frame_end c r a k x out ≡ turned_from c (tree_of c site.node) count a.depth (state_at a kept x) (past c a.depth k site.node))
       (inner : (a : Around) → frame_around r a ≡ record a { depth = a.depth - suc count })
-      (sound : (below : List Entry) → IsSound c spot.left (length caps) below r → (site.node ≤ c.root) × (site.link ≤ length below) × IsRepeat c (tree_of c site.node)) where
+      (sound : (below : List Entry) → IsSound c spot.left (length caps) below r → IsPart c site.node × (site.link ≤ length below) × IsRepeat c (tree_of c site.node)) where
     turn_frame : Framed c spot.left (length caps) (entries records) caps (suc h) r
     turn_frame = framed c spot.left (length caps) records caps h p r is v.records at
 
@@ -192,7 +189,7 @@ module _ (c : Ground) (ok : IsGround c) (spot : Spot) (records : List Record) (c
     link_inside : site.link ≤ length (entries records)
     link_inside = subst (λ n. n ≤ length (entries records)) link turn_frame.link
 
-    node_inside : site.node ≤ c.root
+    node_inside : IsPart c site.node
     node_inside = (sound turn_frame.below turn_frame.sound).0
 
     over_is : (hi : Option ℕ) (a b : State) → is_over (low - count) (less count hi) a b ≡ took_nothing low hi count a.place b.place
@@ -248,7 +245,7 @@ module _ (c : Ground) (ok : IsGround c) (spot : Spot) (records : List Record) (c
     is_open : entry_of p ≡ GroupOpen (site_of p) (kept_of p)
     is_open = entry_of-group_open p kind
 
-    pub open_sound : (p.node ≤ c.root) × IsCapture c (tree_of c p.node)
+    pub open_sound : IsPart c p.node × IsCapture c (tree_of c p.node)
     open_sound = let g = group_frame c ok spot records caps v h at_height p at (site_of p) (kept_of p) is_open in (g.sound.0, g.sound.2)
 
     module _ (m : ℕ) (t : IsNumber (tree_of c p.node) m) where
@@ -269,7 +266,7 @@ module _ (c : Ground) (ok : IsGround c) (spot : Spot) (records : List Record) (c
           turn_close c ok spot records caps v h at_height p at (site_of p) (kept_of p) is_open m z.0 z.1 some (omega (arith, few, v.slots)) room
 
   module _ (kind : (p.kind ≡ KIND_TURN_OPEN) ⊎ (p.kind ≡ KIND_TURN_OR_EXIT)) where
-    pub turn_sound : (p.node ≤ c.root) × IsRepeat c (tree_of c p.node)
+    pub turn_sound : IsPart c p.node × IsRepeat c (tree_of c p.node)
     turn_sound =
         elim kind [
           | inl k ↦ let g = framed c spot.left (length caps) records caps h p (TurnOpen (site_of p) (kept_of p) p.count) (entry_of-turn_open p k) v.records at in (g.sound.0, g.sound.2)

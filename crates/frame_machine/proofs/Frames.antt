@@ -1,24 +1,24 @@
 -- Frames and records of a stack.
-use Rattle.std.proofs.Common.{◌≡◌, ℕ, zero, suc, ◌+◌, ◌-◌, ◌<◌, ◌≤◌, ◌∙◌, Bool, true, false, if◌then◌else◌, List, [], ◌∷◌, ◌++◌, map, reverse, Option, Some, None, length, All, set, slice_get, refl, sym, ap, subst, inl, inr, arith, length-append}
-use Rattle.std.specs.Prelude.{nat_eq}
-use Rattle.std.proofs.lemmas.List.{length-set, length-map, length-reverse}
-use Rattle.std.proofs.lemmas.List.Elements.{All-head, All-cons, All-set}
+use Rattle.std.proofs.Common.{◌≡◌, ℕ, suc, ◌-◌, ◌<◌, ◌≤◌, ◌∙◌, List, [], ◌∷◌, ◌++◌, reverse, Option, Some, None, length, All, set, slice_get, refl, sym, ap, subst, inl, inr, arith, length-append}
+use Rattle.std.proofs.lemmas.List.{length-map, length-reverse}
+use Rattle.std.proofs.lemmas.List.Elements.{All-cons, All-set}
 use Rattle.std.proofs.lemmas.Bool.{cases_eq, cond-true, cond-false, eq-eqb, ne_eqb}
 use Rattle.std.proofs.lemmas.Option.{slice_get_within}
 use Rattle.frame_store.specs.declared.records.Record.{Record}
 use Rattle.frame_store.specs.declared.registers.Span.{Span}
-use Rattle.frame_store.specs.Captures.{Captures, HasGroup, with_capture}
+use Rattle.frame_store.specs.Captures.{Captures}
 use Rattle.frame_store.specs.Entry.{Kept, Entry, Undo, LaterBranch, GroupOpen, TurnOpen, TurnOrExit, LaterTurn, FewerItems, MoreItems, entry_of, entries}
 use Rattle.frame_store.specs.Undo.{taken_back, HasSlot}
 use Rattle.frame_store.proofs.StackLemmas.{slice_get-reverse-here, slice_get-reverse-below}
-use Rattle.frame_store.proofs.UndoLemmas.{length-taken_back}
-use Rattle.frame_machine.specs.Stream.{State, How, reached}
-use Rattle.frame_machine.specs.Moves.{Moves, pause, Follow, at_end}
+use Rattle.frame_machine.specs.Stream.{State, reached}
+use Rattle.frame_machine.specs.Moves.{Moves, Follow, at_end}
 use Rattle.frame_machine.specs.declared.machine.Next.{Next}
-use Rattle.frame_machine.specs.declared.machine.Next.TheVariants.{Enter, End}
+use Rattle.frame_machine.specs.declared.machine.Next.TheVariants.{End}
 use Rattle.frame_machine.specs.declared.machine.Spot.{Spot}
-use Rattle.frame_machine.specs.Ground.{Ground, tree_of, next_of, first_of, IsGround}
-use Rattle.frame_machine.specs.Machine.{Around, state_at, kept_at, link_of, frame_around, after, past, around, frame_end, on_fail, cont, fail, focus, spot_state, ahead, conf, IsStanding, StandsAt, SpanStands, AreSpans, IsSound, AreSound, IsRunning, IsValid, towards}
+use Rattle.node_flow.specs.Followers.{first_of}
+use Rattle.frame_machine.specs.Ground.{Ground, next_of, IsGround, IsPart}
+use Rattle.frame_machine.specs.Machine.{Around, state_at, link_of, frame_around, after, past, around, frame_end, cont, fail, focus, IsStanding, SpanStands, AreSpans, IsSound, AreSound, IsRunning, towards}
+use Rattle.frame_machine.proofs.KidParts.{next_part}
 use Rattle.frame_machine.proofs.Free.{follow_same}
 use Rattle.frame_machine.proofs.PartPaths.{after_nil, after_cons}
 
@@ -202,21 +202,21 @@ module _ (c : Ground) where
       (framed_split left slots z.above z.below caps r (link_sound left slots z.below r (sound_deep left slots z.above (r ∷ z.below) here).0) here))
 
   -- where the machine goes on after a part
-  module _ (ok : IsGround c) (q : ℕ) (inside : q ≤ c.root) where
+  module _ (ok : IsGround c) (q : ℕ) (inside : IsPart c q) where
     focus_first : (d : ℕ) (k : Follow) (qs : List ℕ) (s : State) (f : Moves) → c.rest q ≡ qs → focus c (towards (first_of qs)) d k s f ≡ after c d k qs reached s f
     focus_first d k [] s f e = ap (λ (z : Follow). z reached s f) (sym (after_nil c d k))
     focus_first d k (p ∷ ps) s f e =
-        sym (after_cons c d k p (c.rest p) s f) ∙ ap (λ (r : List ℕ). after c d k (p ∷ r) reached s f) (ok.chained q p ps inside e)
+        sym (after_cons c d k p (c.rest p) s f) ∙ ap (λ (r : List ℕ). after c d k (p ∷ r) reached s f) (ok.chained q p ps inside.within e)
 
     pub focus_towards : (d : ℕ) (k : Follow) (s : State) (f : Moves) → focus c (towards (next_of c q)) d k s f ≡ past c d k q reached s f
     focus_towards d k s f = focus_first d k (c.rest q) s f refl
 
-    running_first : (spot : Spot) (stack : List Entry) (o : List ℕ) → All (λ p. p ≤ c.root) o → IsRunning c spot stack End → IsRunning c spot stack (towards (first_of o))
-    running_first spot stack [] a r = r
-    running_first spot stack (p ∷ ps) a r = (All-head (λ x. x ≤ c.root) p ps a, r)
+    running_first : (spot : Spot) (stack : List Entry) (o : List ℕ) → c.rest q ≡ o → IsRunning c spot stack End → IsRunning c spot stack (towards (first_of o))
+    running_first spot stack [] e r = r
+    running_first spot stack (p ∷ ps) e r = (next_part c ok q p ps inside e, r)
 
     pub running_towards : (spot : Spot) (stack : List Entry) → IsRunning c spot stack End → IsRunning c spot stack (towards (next_of c q))
-    running_towards spot stack r = running_first spot stack (c.rest q) (ok.inside q inside) r
+    running_towards spot stack r = running_first spot stack (c.rest q) refl r
 
   -- what a sound record gives back
   pub slot_sound : (left : ℕ) (caps : Captures) (below : List Entry) (r : Entry) → IsSound c left (length caps) below r → HasSlot caps r

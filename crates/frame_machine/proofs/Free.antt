@@ -1,16 +1,15 @@
 -- A tree without verbs is the same before any handler.
-use Rattle.std.proofs.Common.{◌≡◌, ℕ, zero, suc, ◌+◌, ◌-◌, ◌∙◌, Bool, true, false, List, [], ◌∷◌, Option, Some, None, refl, sym, ap}
-use Rattle.std.specs.Prelude.{nat_le}
+use Rattle.std.proofs.Common.{◌≡◌, ℕ, zero, suc, ◌-◌, ◌∙◌, Bool, true, false, List, [], ◌∷◌, Option, Some, None, refl, ap}
 use mathlib.Core.Path.{fun_ext}
 use Rattle.pat_tree.specs.Nested as tree
 use Rattle.pat_tree.specs.Nested.{Nested, Row}
 use Rattle.match_items.specs.Items.{one_less}
-use Rattle.frame_machine.specs.Stream.{State, too_many_units, by_halt, How, reached, accepted}
+use Rattle.frame_machine.specs.Stream.{State, How, reached, accepted}
 use Rattle.frame_machine.specs.Setting.{Setting}
 use Rattle.frame_machine.specs.Parts.{is_over}
-use Rattle.frame_machine.specs.Moves.{Moves, stops, pause, stepped, Follow, Handler, Path, catching, holding}
+use Rattle.frame_machine.specs.Moves.{Moves, pause, stepped, Follow, Handler, Path, catching, holding}
 use Rattle.frame_machine.specs.Paths.{Paths, close, turned, turn_path, repeat_path, go_path, parts_path, choice_paths, branch_paths, path, row_paths, paths}
-use Rattle.frame_machine.specs.Built.{IsBuilt, AreBuilt}
+use Rattle.pat_check.specs.Built.{IsBuilt, AreBuilt}
 
 pub record IsFree (p : Path) : Type 0 where
   pub same : (s : State) (k : Follow) (f : Moves) (h j : Handler) → p s k f h ≡ p s k f j

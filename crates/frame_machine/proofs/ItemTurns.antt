@@ -1,36 +1,31 @@
 -- The steps of the machine at a repeat of one item.
-use Rattle.std.proofs.Common.{◌≡◌, ℕ, zero, suc, ◌+◌, ◌-◌, ◌<◌, ◌≤◌, ◌∙◌, Bool, true, false, if◌then◌else◌, List, [], ◌∷◌, Option, Some, None, length, reverse, set, slice_get, refl, sym, ap, subst, arith}
+use Rattle.std.proofs.Common.{◌≡◌, ℕ, suc, ◌+◌, ◌-◌, ◌<◌, ◌≤◌, ◌∙◌, Bool, true, false, if◌then◌else◌, List, [], ◌∷◌, Option, Some, length, reverse, refl, sym, ap, subst, arith}
 use Rattle.std.proofs.lemmas.Bool.{cond-true, cond-false}
 use Rattle.pat_tree.specs.Nested as tree
 use Rattle.pat_tree.specs.Nested.{Nested, Row}
-use Rattle.match_items.specs.Items.{one_less, is_none_left, after_item, item_reaches, run_reaches, longest_run, place_before}
-use Rattle.frame_store.specs.declared.records.Record.{Record}
-use Rattle.frame_store.specs.declared.registers.Span.{Span}
-use Rattle.frame_store.specs.Captures.{Captures, capture, with_capture}
-use Rattle.frame_store.specs.Entry.{Site, Kept, Entry, Undo, GroupOpen, LaterBranch, TurnOpen, TurnOrExit, LaterTurn, FewerItems, MoreItems, entry_of, entries}
-use Rattle.frame_machine.specs.Stream.{State, reached, by_halt, too_many_units, captured}
-use Rattle.frame_machine.specs.Parts.{is_over}
+use Rattle.match_items.specs.Items.{is_none_left, longest_run, place_before}
+use Rattle.frame_store.specs.Captures.{Captures}
+use Rattle.frame_store.specs.Entry.{Entry, FewerItems, MoreItems}
+use Rattle.frame_machine.specs.Stream.{State, reached}
 use Rattle.frame_machine.specs.PlaceAnswer.{answers, MatchLimit, FrameLimit}
-use Rattle.frame_machine.specs.Moves.{Moves, stops, pause, stepped, Follow, at_verbs, going, holding, reaching, tread}
-use Rattle.frame_machine.specs.Paths.{offer_paths, offer_path, lazy_paths, many_paths, paths}
-use Rattle.frame_machine.specs.declared.machine.Next.{Next}
-use Rattle.frame_machine.specs.declared.machine.Next.TheVariants.{Enter, Branch, Offer, Begin, Fewer, More, Back, End}
+use Rattle.frame_machine.specs.Moves.{Moves, pause, stepped, Follow, holding, tread}
+use Rattle.frame_machine.specs.Paths.{offer_paths, offer_path, lazy_paths, many_paths}
+use Rattle.frame_machine.specs.declared.machine.Next.TheVariants.{Enter, Fewer, More, Back}
 use Rattle.frame_machine.specs.declared.machine.Spot.{Spot}
-use Rattle.frame_machine.specs.Ground.{Ground, tree_of, next_of, StandsIf, IsGround}
-use Rattle.frame_machine.specs.Machine.{Around, less, state_at, kept_at, link_of, frame_around, after, past, enter, branch_rest, begin_from, offer_from, turned_from, close_from, around, frame_end, more_from, further_from, fewer_places, more_places, on_fail, cont, fail, focus, Conf, conf, spot_state, ahead, IsStanding, StandsAt, HasBranch, IsRepeat, IsCapture, IsMany, HasFurther, end_of, SpanStands, AreSpans, IsSound, AreSound, IsRunning, IsValid, Advances, towards}
+use Rattle.frame_machine.specs.Ground.{Ground, tree_of, next_of, IsGround}
+use Rattle.match_items.specs.Views.{end_of}
+use Rattle.frame_machine.specs.Machine.{Around, less, kept_at, past, around, more_from, further_from, fewer_places, cont, fail, conf, spot_state, ahead, IsStanding, IsMany, HasFurther, IsValid, Advances, towards}
 use Rattle.frame_machine.proofs.PartPaths.{reaching_off, enter_many}
-use Rattle.frame_machine.proofs.Frames.{around_here, around_push, focus_kept, focus_framed, sound_less, focus_towards, running_towards, Framed, framed}
-use Rattle.frame_machine.proofs.Advance.{holding_room, holding_full, advance_pause, advance_step, advance_same, over_steps, over_units, over_units_step, goes_back, goes_on, goes_on_step}
-use Rattle.std.proofs.Common.{drop, take, inl, inr}
+use Rattle.frame_machine.proofs.Frames.{around_push, focus_kept, sound_less, focus_towards, running_towards}
+use Rattle.frame_machine.proofs.Advance.{holding_room, holding_full, advance_pause, advance_step, over_steps, over_units_step, goes_back, goes_on_step}
+use Rattle.std.proofs.Common.{drop, inl, inr}
 use Rattle.std.proofs.lemmas.Bool.{cases_lt, cond-true, cond-false, lt-ltb, le-ltb}
 use Rattle.frame_machine.specs.Stops.{many_next}
-use Rattle.std.specs.Prelude.{option_map}
 use Rattle.pat_tree.specs.declared.nodes.Item.{Item}
 use Rattle.pat_tree.specs.declared.nodes.Node.{Node}
 use Rattle.pat_tree.specs.declared.nodes.Node.TheVariants as node
 use Rattle.pat_tree.specs.Nested.{nest}
 use Rattle.pat_tree.specs.Rules.{AtMost, IsOrdered}
-use Rattle.frame_machine.specs.Tests.{move_to}
 use Rattle.frame_machine.specs.Ground.{IsNode}
 use Rattle.frame_machine.proofs.Runs.{run_at, Reached, run_reached, run_short, run_count, run_end, run_back, fewer_step, fewer_none}
 

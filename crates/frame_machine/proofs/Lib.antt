@@ -1,10 +1,11 @@
 mod Late
 mod CutLaw
-mod WalkLaw
+pub mod WalkLaw
 mod RowProofs
 mod Before
 mod Free
 mod PartPaths
+mod KidParts
 mod Frames
 mod Advance
 mod Turns
@@ -17,3 +18,5 @@ mod HeldStops
 mod MostOf
 mod BranchTurns
 mod Start
+mod GroundLemmas
+mod MadeLemmas

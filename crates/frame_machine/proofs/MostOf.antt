@@ -1,5 +1,5 @@
 -- What a repeat of one item is made of, and what a part is not.
-use Rattle.std.proofs.Common.{◌≡◌, ℕ, Bool, true, false, Option, List, length, not, Result, Ok, Err, IfOk, ap, sym, refl}
+use Rattle.std.proofs.Common.{◌≡◌, ℕ, Bool, true, false, Option, not, Result, Ok, Err, IfOk, ap, sym, refl}
 use Rattle.std.proofs.lemmas.Bool.{false≢true}
 use Rattle.pat_tree.specs.declared.nodes.Item.{Item}
 use Rattle.pat_tree.specs.Nested as tree

@@ -1,11 +1,9 @@
 -- A part, by its node: what it stands for with what follows.
-use Rattle.std.proofs.Common.{◌≡◌, ℕ, zero, suc, ◌+◌, ◌-◌, ◌<◌, ◌≤◌, ◌∙◌, Bool, true, false, List, [], ◌∷◌, ◌++◌, map, drop, length, All, Option, Some, None, slice_get, if◌then◌else◌, refl, sym, ap, subst, arith}
-use Rattle.std.specs.Prelude.{slice_index_or}
+use Rattle.std.proofs.Common.{◌≡◌, ℕ, zero, suc, ◌-◌, ◌<◌, ◌≤◌, ◌∙◌, Bool, true, false, List, [], ◌∷◌, ◌++◌, map, drop, length, All, Option, Some, None, slice_get, if◌then◌else◌, refl, sym, ap, subst, arith}
 use Rattle.std.proofs.lemmas.List.{drop-map}
 use Rattle.std.proofs.Math.ListN.{drop_of_length-le}
 use Rattle.std.proofs.lemmas.List.Elements.{All-head, All-tail}
 use Rattle.std.proofs.lemmas.Bool.{false≢true, ne_eqb}
-use mathlib.Core.Path.{fun_ext}
 use Rattle.pat_tree.specs.declared.options.PartialMode.{PartialMode}
 use Rattle.pat_tree.specs.declared.options.PartialMode.TheVariants.{Off, Soft, Hard}
 use Rattle.pat_tree.specs.declared.nodes.Item.{Item}
@@ -17,16 +15,16 @@ use Rattle.pat_tree.specs.Nested.{Nested, Row, row, nest, tree_at}
 use Rattle.match_items.specs.Items.{is_none_left, after_item, longest_run, after_break, after_ref, ref_reaches, holds, earliest}
 use Rattle.frame_store.specs.declared.registers.Span.{Span}
 use Rattle.frame_store.specs.Captures.{capture}
-use Rattle.frame_machine.specs.Stream.{State, How, reached, accepted, hit_end, by_halt, is_partial}
-use Rattle.frame_machine.specs.Setting.{Setting, counts}
+use Rattle.frame_machine.specs.Stream.{State, reached, accepted, hit_end, by_halt, is_partial}
+use Rattle.frame_machine.specs.Setting.{counts}
 use Rattle.frame_machine.specs.Moves.{Moves, stops, pause, stepped, noted, Follow, Handler, Path, at_verbs, catching, going, holding, reaching}
-use Rattle.frame_machine.specs.Paths.{close, ref_path, anchor_path, many_paths, turn_path, repeat_path, go_path, parts_path, choice_paths, branch_paths, path, row_paths, paths}
-use Rattle.frame_machine.specs.Built.{IsBuilt}
-use Rattle.frame_machine.specs.declared.machine.Next.{Next}
-use Rattle.frame_machine.specs.declared.machine.Next.TheVariants.{Enter, Branch, Offer, Begin, Back}
-use Rattle.frame_machine.specs.Ground.{Ground, tree_of, AreChained, AllFollowed, IsLinked, IsNode, IsGround}
+use Rattle.frame_machine.specs.Paths.{close, ref_path, many_paths, turn_path, repeat_path, go_path, parts_path, choice_paths, branch_paths, path, row_paths, paths}
+use Rattle.pat_check.specs.Built.{IsBuilt}
+use Rattle.frame_machine.specs.declared.machine.Next.TheVariants.{Branch, Offer, Begin}
+use Rattle.node_flow.specs.Linked.{AreChained, AllFollowed, IsLinked}
+use Rattle.frame_machine.specs.Ground.{Ground, tree_of, IsNode, IsGround}
 use Rattle.frame_machine.specs.Machine.{less, in_row, after, past, enter, branch_rest, branch_from, offer_from, begin_from, turned_from, close_from, focus, first_set, first_next}
-use Rattle.frame_machine.proofs.Free.{IsFree, follow_same, holding_same, free_paths}
+use Rattle.frame_machine.proofs.Free.{follow_same, holding_same, free_paths}
 
 less_none : (high : Option ℕ) → high ≡ less 0 high
 less_none None = refl

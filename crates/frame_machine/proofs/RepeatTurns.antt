@@ -1,27 +1,23 @@
 -- The steps of the machine at a repeat of a group.
-use Rattle.std.proofs.Common.{◌≡◌, ℕ, zero, suc, ◌+◌, ◌-◌, ◌<◌, ◌≤◌, ◌∙◌, Bool, true, false, if◌then◌else◌, List, [], ◌∷◌, Option, Some, None, length, reverse, set, slice_get, refl, sym, ap, subst, arith}
+use Rattle.std.proofs.Common.{◌≡◌, ℕ, suc, ◌+◌, ◌-◌, ◌<◌, ◌≤◌, ◌∙◌, Bool, true, false, if◌then◌else◌, List, [], ◌∷◌, Option, length, refl, sym, ap, arith}
 use Rattle.std.proofs.lemmas.Bool.{cond-true, cond-false}
 use Rattle.pat_tree.specs.Nested as tree
 use Rattle.pat_tree.specs.Nested.{Nested, Row}
-use Rattle.match_items.specs.Items.{one_less, is_none_left}
-use Rattle.frame_store.specs.declared.records.Record.{Record}
-use Rattle.frame_store.specs.declared.registers.Span.{Span}
-use Rattle.frame_store.specs.Captures.{Captures, capture, with_capture}
-use Rattle.frame_store.specs.Entry.{Site, Kept, Entry, Undo, GroupOpen, LaterBranch, TurnOpen, TurnOrExit, LaterTurn, FewerItems, MoreItems, entry_of, entries}
-use Rattle.frame_machine.specs.Stream.{State, reached, by_halt, too_many_units, captured}
-use Rattle.frame_machine.specs.Parts.{is_over}
+use Rattle.match_items.specs.Items.{is_none_left}
+use Rattle.frame_store.specs.Captures.{Captures}
+use Rattle.frame_store.specs.Entry.{Entry, TurnOpen, TurnOrExit, LaterTurn}
+use Rattle.frame_machine.specs.Stream.{State, reached}
 use Rattle.frame_machine.specs.PlaceAnswer.{answers, MatchLimit, FrameLimit}
-use Rattle.frame_machine.specs.Moves.{Moves, stops, pause, stepped, Follow, at_verbs, going, holding, tread}
-use Rattle.frame_machine.specs.Paths.{paths, turned, close}
-use Rattle.frame_machine.specs.declared.machine.Next.{Next}
-use Rattle.frame_machine.specs.declared.machine.Next.TheVariants.{Enter, Branch, Offer, Begin, Fewer, More, Back, End}
+use Rattle.frame_machine.specs.Moves.{Moves, pause, stepped, Follow, at_verbs, tread}
+use Rattle.frame_machine.specs.Paths.{paths}
+use Rattle.frame_machine.specs.declared.machine.Next.TheVariants.{Enter, Offer, Begin, End}
 use Rattle.frame_machine.specs.declared.machine.Spot.{Spot}
-use Rattle.frame_machine.specs.Ground.{Ground, tree_of, next_of, StandsIf, IsGround}
-use Rattle.frame_machine.specs.Machine.{Around, less, state_at, kept_at, link_of, frame_around, after, past, enter, branch_rest, begin_from, offer_from, turned_from, close_from, around, frame_end, on_fail, cont, fail, focus, Conf, conf, spot_state, ahead, IsStanding, StandsAt, HasBranch, IsRepeat, IsCapture, SpanStands, AreSpans, IsSound, AreSound, IsRunning, IsValid, Advances, towards}
+use Rattle.frame_machine.specs.Ground.{Ground, tree_of, next_of, IsGround, IsPart}
+use Rattle.frame_machine.specs.Machine.{Around, less, kept_at, after, past, enter, turned_from, around, cont, fail, conf, spot_state, ahead, IsStanding, AreSound, IsRunning, IsValid, Advances, towards}
 use Rattle.frame_machine.specs.Stops.{turn_entry}
 use Rattle.frame_machine.proofs.PartPaths.{after_nil, offer_below, offer_full, offer_greedy, offer_lazy, begin_step}
-use Rattle.frame_machine.proofs.Frames.{around_here, around_push, focus_kept, focus_framed, sound_less, focus_towards, running_towards, Framed, framed}
-use Rattle.frame_machine.proofs.Advance.{holding_room, holding_full, advance_pause, advance_step, advance_same, over_steps, over_units, over_units_step, goes_back, goes_on, goes_on_step}
+use Rattle.frame_machine.proofs.Frames.{around_here, around_push, focus_kept, focus_framed, sound_less, focus_towards, running_towards}
+use Rattle.frame_machine.proofs.Advance.{holding_room, holding_full, advance_pause, advance_step, over_steps, over_units, over_units_step, goes_on}
 
 module _ (c : Ground) (ok : IsGround c) (q i : ℕ) (spot : Spot) (stack : List Entry) (caps : Captures) (body : ℕ) (low : ℕ) (high : Option ℕ) (lazily : Bool)
     (t : tree.repeat (tree_of c body) low high lazily ≡ tree_of c q) where
@@ -91,7 +87,7 @@ module _ (c : Ground) (ok : IsGround c) (q i : ℕ) (spot : Spot) (stack : List 
     stop_begin_units left full =
         over_units_step c spot.left _ _ (begin_step c q i _ (tree_of c body) low high lazily t _ _ _ deep_begin b) (holding_full c.setting _ _ full) left
 
-    module _ (inside : body ≤ c.root) (alone : c.rest body ≡ []) (left : 0 < spot.left) (room : spot.units < c.setting.matching.frame_limit) where
+    module _ (inside : IsPart c body) (alone : c.rest body ≡ []) (left : 0 < spot.left) (room : spot.units < c.setting.matching.frame_limit) where
       entered : (K : Follow) (u : State) (f : Moves) →
           paths c.setting ((around c stack spot.frame).depth - suc i) (tree_of c body) u K f at_verbs ≡ enter c ((around c stack spot.frame).depth - suc i) K body u f
       entered K u f =
@@ -135,7 +131,7 @@ module _ (c : Ground) (ok : IsGround c) (q i : ℕ) (spot : Spot) (stack : List 
         (turned_from c (tree_of c q) i (around c stack spot.frame).depth (spot_state c spot stack caps) (past c (around c stack spot.frame).depth (cont c stack caps spot.frame) q))
         (pause x) at_verbs)) e
 
-    pub turn_begin_exits : b ≡ true → body ≤ c.root → c.rest body ≡ [] → 0 < spot.left → spot.units < c.setting.matching.frame_limit →
+    pub turn_begin_exits : b ≡ true → IsPart c body → c.rest body ≡ [] → 0 < spot.left → spot.units < c.setting.matching.frame_limit →
         Advances c (conf (Begin q i b) spot stack caps)
         (conf (Enter body) (record spot { left = spot.left - 1; units = spot.units + 1; frame = suc (length stack) }) (TurnOrExit (record { node = q; link = spot.frame }) (kept_at spot) i ∷ stack) caps)
     unfolding fail
@@ -152,7 +148,7 @@ module _ (c : Ground) (ok : IsGround c) (q i : ℕ) (spot : Spot) (stack : List 
           slots = v.slots;
         })
 
-    pub turn_begin_open : b ≡ false → body ≤ c.root → c.rest body ≡ [] → 0 < spot.left → spot.units < c.setting.matching.frame_limit →
+    pub turn_begin_open : b ≡ false → IsPart c body → c.rest body ≡ [] → 0 < spot.left → spot.units < c.setting.matching.frame_limit →
         Advances c (conf (Begin q i b) spot stack caps)
         (conf (Enter body) (record spot { left = spot.left - 1; units = spot.units + 1; frame = suc (length stack) }) (TurnOpen (record { node = q; link = spot.frame }) (kept_at spot) i ∷ stack) caps)
     unfolding fail
@@ -171,7 +167,7 @@ module _ (c : Ground) (ok : IsGround c) (q i : ℕ) (spot : Spot) (stack : List 
 
 pub turn_begin : (c : Ground) (ok : IsGround c) (q i : ℕ) (spot : Spot) (stack : List Entry) (caps : Captures) (body : ℕ) (low : ℕ) (high : Option ℕ) (lazily : Bool)
     (t : tree.repeat (tree_of c body) low high lazily ≡ tree_of c q) (b : Bool) (v : IsValid c (conf (Begin q i b) spot stack caps)) →
-    body ≤ c.root → c.rest body ≡ [] → 0 < spot.left → spot.units < c.setting.matching.frame_limit →
+    IsPart c body → c.rest body ≡ [] → 0 < spot.left → spot.units < c.setting.matching.frame_limit →
     Advances c (conf (Begin q i b) spot stack caps)
     (conf (Enter body) (record spot { left = spot.left - 1; units = spot.units + 1; frame = suc (length stack) }) (turn_entry spot q i b ∷ stack) caps)
 turn_begin c ok q i spot stack caps body low high lazily t true v inside alone left room =

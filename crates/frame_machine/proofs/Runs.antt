@@ -1,15 +1,14 @@
 -- Runs of one item, forward and back.
-use Rattle.std.proofs.Common.{◌≡◌, ℕ, zero, suc, ◌+◌, ◌-◌, ◌<◌, ◌≤◌, ◌∙◌, Bool, true, false, if◌then◌else◌, List, [], ◌∷◌, ◌++◌, drop, reverse, Option, Some, None, length, append_assoc, append-nil, inl, inr, refl, sym, ap, subst, arith}
+use Rattle.std.proofs.Common.{◌≡◌, ℕ, zero, suc, ◌+◌, ◌-◌, ◌<◌, ◌≤◌, ◌∙◌, Bool, true, false, List, [], ◌∷◌, ◌++◌, drop, reverse, Option, Some, None, length, append_assoc, append-nil, inl, inr, refl, sym, ap, subst, arith}
 use Rattle.std.proofs.lemmas.List.{reverse-append}
 use Rattle.std.proofs.Math.Seq.{drop-nil}
 use Rattle.std.proofs.lemmas.Bool.{ne_eqb, cond-true, cond-false, lt-ltb, le-ltb, cases_lt}
 use Rattle.pat_tree.specs.declared.nodes.Item.{Item}
 use Rattle.pat_tree.specs.Rules.{AtMost}
 use Rattle.match_items.specs.Items.{one_less, is_none_left, after_item, run_places, longest_run, place_before}
-use Rattle.frame_machine.specs.Stream.{State}
-use Rattle.frame_machine.specs.Moves.{Moves, Follow}
 use Rattle.frame_machine.specs.Ground.{Ground, IsGround}
-use Rattle.frame_machine.specs.Machine.{less, back_from, fewer_places, more_places, end_of}
+use Rattle.match_items.specs.Views.{end_of}
+use Rattle.frame_machine.specs.Machine.{less, back_from, fewer_places}
 
 module _ (c : Ground) (ok : IsGround c) (item : Item) where
   abbrev pub run_at : Option ℕ → ℕ → List ℕ

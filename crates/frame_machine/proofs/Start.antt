@@ -1,9 +1,8 @@
 -- Where the machine starts, what is ahead is the whole search.
-use Rattle.std.proofs.Common.{◌≡◌, ℕ, ◌+◌, ◌<◌, ◌≤◌, ◌∙◌, true, List, [], length, replicate, All, Option, None, refl, sym, ap, arith}
+use Rattle.std.proofs.Common.{◌≡◌, ℕ, ◌+◌, ◌∙◌, true, [], replicate, None, ap, arith}
 use Rattle.std.proofs.lemmas.List.{length-replicate}
 use Rattle.std.proofs.lemmas.List.Elements.{All-replicate}
 use Rattle.frame_store.specs.Captures.{Captures}
-use Rattle.frame_store.specs.Entry.{Entry}
 use Rattle.frame_machine.specs.Stream.{first_state}
 use Rattle.frame_machine.specs.Setting.{match_limit}
 use Rattle.frame_machine.specs.PlaceAnswer.{place_answer}
@@ -13,6 +12,7 @@ use Rattle.frame_machine.specs.declared.machine.Next.TheVariants.{Enter}
 use Rattle.frame_machine.specs.declared.machine.Spot.{Spot}
 use Rattle.frame_machine.specs.Ground.{Ground, tree_of, IsGround}
 use Rattle.frame_machine.specs.Machine.{after, around, cont, fail, conf, ahead, SpanStands, IsValid}
+use Rattle.frame_machine.proofs.KidParts.{root_part}
 use Rattle.frame_machine.proofs.PartPaths.{after_nil}
 use Rattle.frame_machine.proofs.Frames.{cont_whole}
 use Rattle.frame_machine.proofs.Before.{tread_whole}
@@ -37,7 +37,7 @@ module _ (c : Ground) (ok : IsGround c) (place : ℕ) where
   pub starts_valid : c.stands place ≡ true → IsValid c (conf (Enter c.root) start_spot [] start_caps)
   unfolding around
   starts_valid here = record {
-    running = (omega arith, record { inside = omega arith; deep = omega arith; counted = omega arith; few = omega arith; here = here });
+    running = (root_part c ok, record { inside = omega arith; deep = omega arith; counted = omega arith; few = omega arith; here = here });
     records = tt;
     spans = All-replicate (SpanStands c) c.setting.groups None tt;
     slots = length-replicate c.setting.groups None;

@@ -1,5 +1,5 @@
 -- The steps of the machine at a part.
-use Rattle.std.proofs.Common.{◌≡◌, ℕ, zero, suc, ◌+◌, ◌-◌, ◌<◌, ◌≤◌, ◌∙◌, Bool, true, false, if◌then◌else◌, List, [], ◌∷◌, map, Option, Some, None, length, All, slice_get, get_or, ◌⊎◌, inl, inr, refl, sym, ap, subst, arith, ◌≢◌}
+use Rattle.std.proofs.Common.{◌≡◌, ℕ, suc, ◌+◌, ◌-◌, ◌<◌, ◌≤◌, ◌∙◌, Bool, true, false, if◌then◌else◌, List, [], ◌∷◌, map, Option, Some, None, length, All, slice_get, get_or, ◌⊎◌, inl, inr, refl, sym, ap, subst, arith, ◌≢◌}
 use Rattle.std.proofs.lemmas.List.Elements.{All-head, All-get_or}
 use Rattle.std.proofs.Math.ListN.{get_or-eq_default}
 use Rattle.std.proofs.lemmas.Bool.{cases_lt}
@@ -10,24 +10,24 @@ use Rattle.pat_tree.specs.declared.nodes.Node.TheVariants as node
 use Rattle.pat_tree.specs.Nested as tree
 use Rattle.pat_tree.specs.Nested.{Nested, Row, row, nest, tree_at}
 use Rattle.pat_tree.specs.Rules.{kids_of}
-use Rattle.match_items.specs.Items.{is_none_left, after_item, after_break, after_ref, holds, earliest}
+use Rattle.match_items.specs.Items.{after_item, after_break, after_ref, holds, earliest}
 use Rattle.frame_store.specs.declared.registers.Span.{Span}
 use Rattle.frame_store.specs.Captures.{Captures, capture}
-use Rattle.frame_store.specs.Entry.{Kept, Entry, GroupOpen, LaterBranch, TurnOpen, TurnOrExit, LaterTurn}
-use Rattle.frame_machine.specs.Stream.{State, reached, by_halt, too_many_units}
+use Rattle.frame_store.specs.Entry.{Entry, GroupOpen, LaterBranch}
+use Rattle.frame_machine.specs.Stream.{State, reached}
 use Rattle.frame_machine.specs.PlaceAnswer.{answers, MatchLimit, FrameLimit}
-use Rattle.frame_machine.specs.Moves.{Moves, stops, pause, stepped, Follow, at_verbs, going, holding, tread}
-use Rattle.frame_machine.specs.Paths.{paths}
-use Rattle.frame_machine.specs.Built.{IsBuilt}
-use Rattle.frame_machine.specs.declared.machine.Next.{Next}
-use Rattle.frame_machine.specs.declared.machine.Next.TheVariants.{Enter, Branch, Offer, Begin, Back, End}
+use Rattle.frame_machine.specs.Moves.{Moves, pause, stepped, Follow, going, holding, tread}
+use Rattle.pat_check.specs.Built.{IsBuilt}
+use Rattle.frame_machine.specs.declared.machine.Next.TheVariants.{Enter, Branch, Offer, Back, End}
 use Rattle.frame_machine.specs.declared.machine.Spot.{Spot}
-use Rattle.frame_machine.specs.Ground.{Ground, tree_of, next_of, AllFollowed, IsLinked, IsNode, StandsIf, IsGround}
-use Rattle.frame_machine.specs.Machine.{Around, less, state_at, kept_at, after, past, enter, branch_rest, begin_from, turned_from, close_from, around, cont, fail, focus, Conf, conf, spot_state, ahead, IsStanding, StandsAt, HasBranch, IsRepeat, IsCapture, SpanStands, AreSpans, AreSound, IsRunning, IsValid, Advances, first_set, first_next, row_length, towards}
+use Rattle.node_flow.specs.Linked.{AllFollowed}
+use Rattle.frame_machine.specs.Ground.{Ground, tree_of, next_of, IsNode, StandsIf, IsGround, IsPart}
+use Rattle.frame_machine.specs.Machine.{Around, kept_at, past, enter, branch_rest, around, cont, fail, focus, conf, spot_state, ahead, StandsAt, HasBranch, IsRepeat, IsCapture, SpanStands, AreSpans, IsRunning, IsValid, Advances, first_set, first_next, row_length, towards}
 use Rattle.frame_machine.specs.Stops.{moved_next, moved_spot, held_next, held_early, part_next}
-use Rattle.frame_machine.proofs.PartPaths.{after_nil, enter_empty, enter_keep, enter_one, enter_break, enter_anchor, enter_ref, enter_seq_none, enter_seq, enter_group, enter_capture, enter_repeat, branch_last, branch_more, offer_below, offer_full, offer_greedy, offer_lazy, begin_step}
-use Rattle.frame_machine.proofs.Frames.{around_here, around_push, focus_kept, focus_framed, sound_less, focus_towards, running_towards}
-use Rattle.frame_machine.proofs.Advance.{holding_room, holding_full, advance_pause, advance_step, advance_same, over_steps, over_units, over_units_step, goes_back, goes_on, goes_on_step}
+use Rattle.frame_machine.proofs.KidParts.{kid_parts}
+use Rattle.frame_machine.proofs.PartPaths.{enter_empty, enter_keep, enter_one, enter_break, enter_anchor, enter_ref, enter_seq_none, enter_seq, enter_group, enter_capture, enter_repeat, branch_last, branch_more}
+use Rattle.frame_machine.proofs.Frames.{around_here, around_push, focus_kept, focus_framed, sound_less}
+use Rattle.frame_machine.proofs.Advance.{holding_room, holding_full, advance_pause, advance_step, over_steps, over_units, over_units_step, goes_back, goes_on}
 
 module _ (c : Ground) (ok : IsGround c) where
   stands_item : (item : Item) (p : ℕ) (o : Option ℕ) → c.stands p ≡ true → after_item c.setting.scene item p ≡ o → StandsIf c o
@@ -143,9 +143,8 @@ module _ (c : Ground) (ok : IsGround c) (q : ℕ) (spot : Spot) (stack : List En
       goes_on c _ (record spot { keep = spot.place }) stack caps v.records v.spans v.slots ok q v.running.0
       (record { inside = w.inside; deep = w.deep; counted = w.counted; few = w.few; here = w.here }) refl (enter_keep c ok q n i _ _ _ _ _ deep e)
 
-  kid_inside : (ks : List ℕ) (p : ℕ) → kids_of n ≡ p ∷ ks → p ≤ c.root
-  kid_inside ks p e =
-      let lt : p < q = All-head (λ x. x < q) p ks (subst (All (λ x. x < q)) e i.below) in omega (arith, lt, v.running.0)
+  kid_inside : (ks : List ℕ) (p : ℕ) → kids_of n ≡ p ∷ ks → IsPart c p
+  kid_inside ks p e = All-head (IsPart c) p ks (subst (All (IsPart c)) e (kid_parts c q n v.running.0 i))
 
   pub turn_seq_none : n ≡ node.Seq [] → Advances c (conf (Enter q) spot stack caps) (conf (towards (next_of c q)) spot stack caps)
   turn_seq_none e = goes_on c _ spot stack caps v.records v.spans v.slots ok q v.running.0 v.running.1 refl (enter_seq_none c q n i _ _ _ _ _ deep e)
@@ -234,17 +233,17 @@ length_row c (x ∷ xs) = ap suc (length_row c xs)
 -- a branch of a group is tried
 module _ (c : Ground) (ok : IsGround c) (q j : ℕ) (spot : Spot) (stack : List Entry) (caps : Captures) (v : IsValid c (conf (Branch q j) spot stack caps))
     (number : Option ℕ) (ks : List ℕ) (t : tree.group number (row (map (tree_at c.trees) ks)) ≡ tree_of c q)
-    (l : AllFollowed c.rest (branch_rest c (tree_of c q) (c.rest q)) ks) (p : ℕ) (at : slice_get ks j ≡ Some p) (inside : p ≤ c.root) where
+    (l : AllFollowed c.rest (branch_rest c (tree_of c q) (c.rest q)) ks) (p : ℕ) (at : slice_get ks j ≡ Some p) (inside : IsPart c p) where
   pub stop_branch : spot.left ≡ 0 → (p' : Option ℕ) → slice_get ks (suc j) ≡ p' → length ks ≤ suc j ⊎ ((x : ℕ) × (slice_get ks (suc j) ≡ Some x)) →
       tread c.setting spot.left (ahead c (conf (Branch q j) spot stack caps)) ≡ answers MatchLimit
-  stop_branch out p' e (inl last) = over_steps c spot.left _ _ (branch_last c q j _ number ks t l p at (ok.built p inside) _ _ _ last) out
-  stop_branch out p' e (inr more) = over_steps c spot.left _ _ (branch_more c q j _ number ks t l p at (ok.built p inside) _ _ _ more.0 more.1) out
+  stop_branch out p' e (inl last) = over_steps c spot.left _ _ (branch_last c q j _ number ks t l p at inside.built _ _ _ last) out
+  stop_branch out p' e (inr more) = over_steps c spot.left _ _ (branch_more c q j _ number ks t l p at inside.built _ _ _ more.0 more.1) out
 
   pub turn_branch_last : length ks ≤ suc j → 0 < spot.left →
       Advances c (conf (Branch q j) spot stack caps) (conf (Enter p) (record spot { left = spot.left - 1 }) stack caps)
   turn_branch_last last left =
       let w = v.running.1 in
-      advance_step c _ _ _ (branch_last c q j _ number ks t l p at (ok.built p inside) _ _ _ last) refl (omega arith)
+      advance_step c _ _ _ (branch_last c q j _ number ks t l p at inside.built _ _ _ last) refl (omega arith)
       (record {
         running = (inside, record { inside = w.inside; deep = omega (arith, w.deep); counted = w.counted; few = w.few; here = w.here });
         records = sound_less c spot.left (spot.left - 1) (length caps) stack (omega arith) v.records;
@@ -257,7 +256,7 @@ module _ (c : Ground) (ok : IsGround c) (q j : ℕ) (spot : Spot) (stack : List 
         ≡ stepped (holding c.setting 1 (spot_state c spot stack caps) (λ u.
         enter c (around c stack spot.frame).depth (cont c stack caps spot.frame) p u
         (pause (focus c (Branch q (suc j)) (around c stack spot.frame).depth (cont c stack caps spot.frame) (spot_state c spot stack caps) (fail c stack caps)))))
-    choosing = branch_more c q j _ number ks t l p at (ok.built p inside) _ _ _ p' at'
+    choosing = branch_more c q j _ number ks t l p at inside.built _ _ _ p' at'
 
     pub stop_branch_units : c.setting.matching.frame_limit ≤ spot.units → tread c.setting spot.left (ahead c (conf (Branch q j) spot stack caps)) ≡ answers FrameLimit
     stop_branch_units full = over_units_step c spot.left _ _ choosing (holding_full c.setting _ _ full) left

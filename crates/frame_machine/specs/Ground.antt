@@ -1,17 +1,16 @@
 -- What a search goes over: a pattern's numbered parts and the characters of a subject.
-use Rattle.std.specs.Prelude.{◌≡◌, ℕ, ◌+◌, ◌<◌, ◌≤◌, Bool, true, List, [], ◌∷◌, ◌++◌, All, length, Option, Some, None}
+use Rattle.std.specs.Prelude.{◌≡◌, ℕ, ◌<◌, ◌≤◌, Bool, true, List, [], ◌∷◌, All, length, Option, Some, None}
 use Rattle.pat_tree.specs.declared.nodes.Item.{Item}
-use Rattle.pat_tree.specs.declared.nodes.Cond.{Cond}
-use Rattle.pat_tree.specs.declared.nodes.Cond.TheVariants.{Assert}
 use Rattle.pat_tree.specs.declared.nodes.Node.{Node}
-use Rattle.pat_tree.specs.declared.nodes.Node.TheVariants as node
 use Rattle.pat_tree.specs.declared.options.PartialMode.TheVariants.{Off}
 use Rattle.pat_tree.specs.Nested.{Nested, nest, tree_at}
 use Rattle.pat_tree.specs.Rules.{kids_of, numbers_of, classes_of, IsOrdered}
 use Rattle.pat_tree.specs.Refs.{named_by}
+use Rattle.node_flow.specs.Followers.{first_of}
+use Rattle.node_flow.specs.Linked.{IsLinked}
 use Rattle.match_items.specs.Items.{after_item, after_break, after_ref, place_before}
 use Rattle.frame_machine.specs.Setting.{Setting, match_limit}
-use Rattle.frame_machine.specs.Built.{IsBuilt}
+use Rattle.pat_check.specs.Built.{IsBuilt}
 
 pub record Ground : Type 0 where
   pub setting : Setting
@@ -27,33 +26,9 @@ pub record Ground : Type 0 where
 abbrev pub tree_of : Ground → ℕ → Nested
 tree_of c q = tree_at c.trees q
 
-abbrev pub first_of : List ℕ → Option ℕ
-first_of [] = None
-first_of (q ∷ qs) = Some q
-
 -- the part that follows next
 abbrev pub next_of : Ground → ℕ → Option ℕ
 next_of c q = first_of (c.rest q)
-
--- each of these parts is followed by the later ones, and then by others
-abbrev pub AreChained : (ℕ → List ℕ) → List ℕ → List ℕ → Type 0
-AreChained rest [] after = Unit {0}
-AreChained rest (k ∷ ks) after = (rest k ≡ ks ++ after) × AreChained rest ks after
-
--- each of these parts is followed by the others
-abbrev pub AllFollowed : (ℕ → List ℕ) → List ℕ → List ℕ → Type 0
-AllFollowed rest after ks = All (λ k. rest k ≡ after) ks
-
--- What follows the children of a part, where these parts follow the part itself. A capturing group, a turn, an atomic
--- group and a lookaround are frames, at whose end none follows.
-abbrev pub IsLinked : (ℕ → List ℕ) → List ℕ → Node → Type 0
-IsLinked rest after (node.Seq kids) = AreChained rest kids after
-IsLinked rest after (node.Group None branches) = AllFollowed rest after branches
-IsLinked rest after (node.Group (Some n) branches) = AllFollowed rest [] branches
-IsLinked rest after (node.Repeat body min max lazy) = rest body ≡ []
-IsLinked rest after (node.Atomic branches) = AllFollowed rest [] branches
-IsLinked rest after (node.Look ahead positive once branches) = AllFollowed rest [] branches
-IsLinked rest after _ = Unit {0}
 
 -- the node of a part
 pub record IsNode (c : Ground) (q : ℕ) (n : Node) : Type 0 where
@@ -72,13 +47,23 @@ abbrev pub StandsIf : Ground → Option ℕ → Type 0
 StandsIf c None = Unit {0}
 StandsIf c (Some p) = c.stands p ≡ true
 
+-- a part of the pattern all of whose forms are built
+abbrev pub IsBuiltPart : Ground → ℕ → Type 0
+IsBuiltPart c q = (q ≤ c.root) × IsBuilt (tree_of c q)
+
+-- The search may come to the part: it is one of the pattern's, in forms that are built, and so are those that follow it. A
+-- tree may hold nodes beside the pattern's, of which nothing is asked.
+pub record IsPart (c : Ground) (q : ℕ) : Type 0 where
+  pub within : q ≤ c.root
+  pub built : IsBuilt (tree_of c q)
+  pub followed : All (IsBuiltPart c) (c.rest q)
+
 -- What holds of all places and parts.
 pub record IsGround (c : Ground) : Type 0 where
-  -- all forms are built
-  pub built : (q : ℕ) → q ≤ c.root → IsBuilt (tree_of c q)
+  -- all forms of the pattern are built
+  pub built : IsBuilt c.setting.whole
   pub whole : tree_of c c.root ≡ c.setting.whole
   pub last : c.rest c.root ≡ []
-  pub inside : (q : ℕ) → q ≤ c.root → All (λ p. p ≤ c.root) (c.rest q)
   pub chained : (q p : ℕ) (ps : List ℕ) → q ≤ c.root → c.rest q ≡ p ∷ ps → c.rest p ≡ ps
   pub few : match_limit c.setting ≤ 4294967295
   pub registers : c.setting.groups ≤ 65535

@@ -11,7 +11,11 @@ pub mod Moves
 pub mod Paths
 pub mod Ground
 pub mod Machine
-pub mod Built
 pub mod Stops
 pub mod Scratch
 pub mod Answer
+pub mod Ready
+pub mod Told
+pub mod BoardProps
+pub mod GroundLaw
+pub mod Made

@@ -1,21 +1,21 @@
 -- What a state of the machine stands for: the rest of the search.
-use Rattle.std.specs.Prelude.{◌≡◌, ℕ, zero, suc, ◌+◌, ◌-◌, ◌<◌, ◌≤◌, Bool, true, false, List, [], ◌∷◌, drop, length, All, Option, Some, None, option_map, nat_lt, nat_eq, if◌then◌else◌}
+use Rattle.std.specs.Prelude.{◌≡◌, ℕ, zero, suc, ◌+◌, ◌-◌, ◌<◌, ◌≤◌, true, false, List, [], ◌∷◌, drop, length, All, Option, Some, None, option_map, nat_lt, nat_eq, if◌then◌else◌}
 use Rattle.pat_tree.specs.declared.nodes.Item.{Item}
 use Rattle.pat_tree.specs.Nested as tree
 use Rattle.pat_tree.specs.Nested.{Nested, Row}
 use Rattle.match_items.specs.Items.{one_less, is_none_left, item_reaches, run_places, place_before}
 use Rattle.frame_store.specs.declared.registers.Span.{Span}
-use Rattle.frame_store.specs.Captures.{Captures, HasGroup, capture}
-use Rattle.frame_store.specs.Entry.{Site, Kept, Entry, Undo, LaterBranch, GroupOpen, CalledGroup, TurnOpen, TurnOrExit, LaterTurn, FewerItems, MoreItems, AtomicOpen, LookOpen, LookAllOpen, LookTest, DenialOpen, DenialTest, CallOpen, AtomicLeft, MarkPassed, CommitPassed, PrunePassed, SkipPassed, ThenPassed, Other, entry_site}
+use Rattle.frame_store.specs.Captures.{Captures, capture}
+use Rattle.frame_store.specs.Entry.{Kept, Entry, Undo, LaterBranch, GroupOpen, TurnOpen, TurnOrExit, LaterTurn, FewerItems, MoreItems, CallOpen, entry_site}
 use Rattle.frame_store.specs.Undo.{taken_back}
 use Rattle.frame_machine.specs.declared.machine.Next.{Next}
 use Rattle.frame_machine.specs.declared.machine.Next.TheVariants.{Enter, Branch, Offer, Begin, Fewer, More, End, Back}
 use Rattle.frame_machine.specs.declared.machine.Spot.{Spot}
-use Rattle.frame_machine.specs.Stream.{State, How, reached, accepted}
-use Rattle.frame_machine.specs.Setting.{Setting, match_limit}
-use Rattle.frame_machine.specs.Moves.{Moves, stops, pause, exhaust, Follow, Path, at_end, at_verbs, reaching, tread, size}
+use Rattle.frame_machine.specs.Stream.{State, reached, accepted}
+use Rattle.frame_machine.specs.Setting.{match_limit}
+use Rattle.frame_machine.specs.Moves.{Moves, pause, exhaust, Follow, Path, at_end, at_verbs, reaching, tread, size}
 use Rattle.frame_machine.specs.Paths.{close, offer_paths, lazy_paths, turned, turn_path, choice_paths, paths}
-use Rattle.frame_machine.specs.Ground.{Ground, tree_of, first_of, next_of}
+use Rattle.frame_machine.specs.Ground.{Ground, tree_of, IsPart}
 
 -- a maximum after so many more
 abbrev pub less : ℕ → Option ℕ → Option ℕ
@@ -258,19 +258,19 @@ module _ (c : Ground) where
   abbrev pub IsSound : ℕ → ℕ → List Entry → Entry → Type 0
   IsSound left slots below (Undo at slot old) = (0 < slot) × (slot ≤ slots) × SpanStands old × (at.link ≤ length below)
   IsSound left slots below (LaterBranch at kept next) =
-      (at.node ≤ c.root) × IsStanding left at.link kept (around c below at.link).depth below × HasBranch (tree_of c at.node) next
+      IsPart c at.node × IsStanding left at.link kept (around c below at.link).depth below × HasBranch (tree_of c at.node) next
   IsSound left slots below (GroupOpen at kept) =
-      (at.node ≤ c.root) × IsStanding left at.link kept (around c below at.link).depth below × IsCapture (tree_of c at.node)
+      IsPart c at.node × IsStanding left at.link kept (around c below at.link).depth below × IsCapture (tree_of c at.node)
   IsSound left slots below (TurnOpen at kept count) =
-      (at.node ≤ c.root) × IsStanding left at.link kept (around c below at.link).depth below × IsRepeat (tree_of c at.node)
+      IsPart c at.node × IsStanding left at.link kept (around c below at.link).depth below × IsRepeat (tree_of c at.node)
   IsSound left slots below (TurnOrExit at kept count) =
-      (at.node ≤ c.root) × IsStanding left at.link kept (around c below at.link).depth below × IsRepeat (tree_of c at.node)
+      IsPart c at.node × IsStanding left at.link kept (around c below at.link).depth below × IsRepeat (tree_of c at.node)
   IsSound left slots below (LaterTurn at kept count) =
-      (at.node ≤ c.root) × IsStanding left at.link kept ((around c below at.link).depth - count) below × IsRepeat (tree_of c at.node)
+      IsPart c at.node × IsStanding left at.link kept ((around c below at.link).depth - count) below × IsRepeat (tree_of c at.node)
   IsSound left slots below (FewerItems at kept least last) =
-      (at.node ≤ c.root) × IsStanding left at.link kept (around c below at.link).depth below × (least < last) × (c.stands last ≡ true)
+      IsPart c at.node × IsStanding left at.link kept (around c below at.link).depth below × (least < last) × (c.stands last ≡ true)
   IsSound left slots below (MoreItems at kept count last) =
-      (at.node ≤ c.root) × IsStanding left at.link kept (around c below at.link).depth below × (count ≤ last) × (c.stands last ≡ true) × HasFurther (tree_of c at.node) count
+      IsPart c at.node × IsStanding left at.link kept (around c below at.link).depth below × (count ≤ last) × (c.stands last ≡ true) × HasFurther (tree_of c at.node) count
   IsSound left slots below r = link_of r ≤ length below
 
   abbrev pub AreSound : ℕ → ℕ → List Entry → Type 0
@@ -281,17 +281,17 @@ module _ (c : Ground) where
   StandsAt spot stack d = IsStanding spot.left spot.frame (kept_at spot) d stack
 
   abbrev pub IsRunning : Spot → List Entry → Next → Type 0
-  IsRunning spot stack (Enter q) = (q ≤ c.root) × StandsAt spot stack (around c stack spot.frame).depth
+  IsRunning spot stack (Enter q) = IsPart c q × StandsAt spot stack (around c stack spot.frame).depth
   IsRunning spot stack (Branch q i) =
-      (q ≤ c.root) × StandsAt spot stack (around c stack spot.frame).depth × HasBranch (tree_of c q) i
+      IsPart c q × StandsAt spot stack (around c stack spot.frame).depth × HasBranch (tree_of c q) i
   IsRunning spot stack (Offer q i) =
-      (q ≤ c.root) × StandsAt spot stack ((around c stack spot.frame).depth - i) × IsRepeat (tree_of c q)
+      IsPart c q × StandsAt spot stack ((around c stack spot.frame).depth - i) × IsRepeat (tree_of c q)
   IsRunning spot stack (Begin q i exits) =
-      (q ≤ c.root) × StandsAt spot stack ((around c stack spot.frame).depth - i) × IsRepeat (tree_of c q)
+      IsPart c q × StandsAt spot stack ((around c stack spot.frame).depth - i) × IsRepeat (tree_of c q)
   IsRunning spot stack (Fewer q least last) =
-      (q ≤ c.root) × StandsAt spot stack (around c stack spot.frame).depth × (c.stands last ≡ true)
+      IsPart c q × StandsAt spot stack (around c stack spot.frame).depth × (c.stands last ≡ true)
   IsRunning spot stack (More q count last) =
-      (q ≤ c.root) × StandsAt spot stack (around c stack spot.frame).depth × (count ≤ last) × (c.stands last ≡ true) × IsMany (tree_of c q)
+      IsPart c q × StandsAt spot stack (around c stack spot.frame).depth × (count ≤ last) × (c.stands last ≡ true) × IsMany (tree_of c q)
   IsRunning spot stack End = StandsAt spot stack (around c stack spot.frame).depth
   IsRunning spot stack Back = Unit {0}
 
@@ -306,11 +306,6 @@ module _ (c : Ground) where
     pub answer : tread c.setting m.spot.left (ahead m) ≡ tread c.setting n.spot.left (ahead n)
     pub shorter : size (ahead n) < size (ahead m)
     pub valid : IsValid n
-
--- the place after a run
-abbrev pub end_of : ℕ → List ℕ → ℕ
-end_of p [] = p
-end_of p (q ∷ qs) = end_of q qs
 
 -- the first set group of the list
 abbrev pub first_set : Captures → List ℕ → Option Span

@@ -1,8 +1,8 @@
 -- The stream of a search as a machine goes through it: with a pause for each turn of its loop that meets nothing.
 use Rattle.std.specs.Prelude.{ℕ, zero, suc, ◌+◌, Bool, true, false, Option, Some, None, nat_le}
 use Rattle.pat_tree.specs.declared.options.PartialMode.TheVariants.{Off, Soft, Hard}
-use Rattle.frame_machine.specs.Stream.{State, VerbEnding, next_branch, Halt, is_partial, too_many_units, Ending, exhausted, by_verb, by_halt, Note, hit_end, How, reached, accepted, note, state, step, Stream, ends, ◌▸◌}
-use Rattle.frame_machine.specs.Setting.{Setting, match_limit, counts}
+use Rattle.frame_machine.specs.Stream.{State, VerbEnding, next_branch, is_partial, too_many_units, Ending, exhausted, by_verb, by_halt, Note, hit_end, How, reached, note, state, step, Stream, ends, ◌▸◌}
+use Rattle.frame_machine.specs.Setting.{Setting, counts}
 use Rattle.frame_machine.specs.Tests.{move_to}
 use Rattle.frame_machine.specs.PlaceAnswer.{Walked, MatchLimit, answers, with_note, at_ending, decision}
 

@@ -3,12 +3,12 @@ use Rattle.std.specs.Prelude.{ℕ, ◌+◌, Bool, true, false, ◌||◌, List, [
 use Rattle.pat_tree.specs.declared.options.MatchOptions.{MatchOptions}
 use Rattle.pat_tree.specs.declared.options.PartialMode.TheVariants.{Off, Soft, Hard}
 use Rattle.pat_tree.specs.declared.nodes.ClassSpec.{ClassSpec}
-use Rattle.pat_tree.specs.Newlines.{end_kind}
+use Rattle.pat_tree.specs.Newlines.{end_kind, break_kind}
 use Rattle.pat_tree.specs.Nested.{Nested}
 use Rattle.pat_tree.specs.Parts.{TreeParts, tree_of}
 use Rattle.pat_tree.specs.Sound.{greatest, group_numbers}
 use Rattle.char_sets.specs.Sets.{takes}
-use Rattle.match_items.specs.Scene.{Scene, break_kind}
+use Rattle.match_items.specs.Scene.{Scene}
 use Rattle.pat_check.specs.Nodes as nodes
 use Rattle.pat_check.specs.Lengths as lengths
 use Rattle.pat_check.specs.Lengths.{SomeLengths}
@@ -26,6 +26,11 @@ pub record Setting : Type 0 where
   pub verb_names : List (List ℕ)
   -- what a callout answers
   pub reply : Block → ℤ
+
+-- the lower of two limits, where there is a first one
+abbrev pub lower_of : Option ℕ → ℕ → ℕ
+lower_of None l = l
+lower_of (Some k) l = min k l
 
 module _ (g : Setting) where
   -- What is known of the pattern.
@@ -67,11 +72,7 @@ module _ (g : Setting) where
   notempty_atstart = g.options.notempty_atstart || g.matching.notempty_atstart
 
   abbrev pub match_limit : ℕ
-  match_limit = lower g.options.match_limit g.matching.match_limit
-    where
-      lower : Option ℕ → ℕ → ℕ
-      lower None l = l
-      lower (Some k) l = min k l
+  match_limit = lower_of g.options.match_limit g.matching.match_limit
 
   -- n more units, where there is room for them
   unfoldable pub held : ℕ → State → Search → Stream

@@ -17,7 +17,8 @@ use Rattle.frame_machine.specs.declared.machine.Stop.TheVariants as stop
 use Rattle.frame_machine.specs.Setting.{Setting, notempty, notempty_atstart, endanchored}
 use Rattle.frame_machine.specs.PlaceAnswer.{Walked, Failed, Exhausted, Matched, MatchLimit, FrameLimit, answers, Outcome}
 use Rattle.frame_machine.specs.Ground.{Ground, next_of}
-use Rattle.frame_machine.specs.Machine.{mark_of, kept_at, less, end_of, towards}
+use Rattle.match_items.specs.Views.{end_of}
+use Rattle.frame_machine.specs.Machine.{mark_of, kept_at, less, towards}
 
 -- what a match gives
 abbrev pub spot_outcome : Spot → Captures → Outcome

@@ -2,7 +2,7 @@
 ghost use Rattle.std.specs.Prelude.{◌≡◌, ◌≤◌, ◌<◌, ◌+◌, max, All, IfOk, IfErr, MatchOption, Some, true, [], ◌∷◌};
 ghost use Rattle.frame_store.specs.Entry.{entries, entry_of};
 ghost use Rattle.frame_store.specs.Undo.{taken_back, HasSlot};
-ghost use Rattle.frame_machine.specs.Ground.{tree_of};
+ghost use Rattle.frame_machine.specs.Ground.{tree_of, IsPart};
 ghost use Rattle.frame_machine.specs.Machine.{IsValid, Advances, IsMany, conf, ahead};
 ghost use Rattle.frame_machine.specs.Moves.{tread};
 ghost use Rattle.frame_machine.specs.Stops.{IsStop, IsFurther, more_next};
@@ -34,7 +34,7 @@ fn pop(store: &mut Store, registers: &mut Registers) -> Option<Record>
 
 /// What a repeat of one item takes at a place.
 fn take_further<S: Searchable>(on: &S, part: u32, at: u64) -> Option<u64>
-    requires inside { part ≤ (S.searched on.now).root }
+    requires inside { IsPart (S.searched on.now) part }
     requires many { IsMany (S.searched on.now) (tree_of (S.searched on.now) part) }
     requires place { (S.searched on.now).stands at ≡ true }
     ensures { IsFurther (S.searched on.now) (tree_of (S.searched on.now) part) at result }

@@ -1,7 +1,7 @@
 //! Where a frame or the pattern ends.
 ghost use Rattle.std.specs.Prelude.{◌≡◌, ◌≤◌, ◌<◌, ◌+◌, max, length, All, IfOk, IfErr, MatchOption, Some, [], ◌∷◌, reverse, slice_get, ◌⊎◌};
 ghost use Rattle.frame_store.specs.Entry.{Undo, entries, entry_of};
-ghost use Rattle.frame_machine.specs.Ground.{tree_of};
+ghost use Rattle.frame_machine.specs.Ground.{tree_of, IsPart};
 ghost use Rattle.frame_machine.specs.Machine.{IsValid, Advances, IsCapture, conf, ahead};
 ghost use Rattle.frame_machine.specs.Moves.{tread};
 ghost use Rattle.frame_machine.specs.Stops.{IsStop, IsNumber, took_nothing, admitted};
@@ -39,7 +39,7 @@ fn is_over(min: u32, max: Option<u32>, count: u32, from: u64, to: u64) -> bool
 
 /// The number of the capturing group that a part is.
 fn number_of<S: Searchable>(on: &S, part: u32) -> u16
-    requires inside { part ≤ (S.searched on.now).root }
+    requires inside { IsPart (S.searched on.now) part }
     requires capture { IsCapture (S.searched on.now) (tree_of (S.searched on.now) part) }
     ensures is { IsNumber (tree_of (S.searched on.now) part) result }
     ensures some { 0 < result }

@@ -2,7 +2,7 @@
 ghost use Rattle.std.specs.Prelude.{◌≡◌, ◌≤◌, true, max, All, IfOk, IfErr};
 ghost use Rattle.frame_store.specs.Captures.{HasGroup};
 ghost use Rattle.frame_store.specs.Entry.{entries};
-ghost use Rattle.frame_machine.specs.Ground.{next_of};
+ghost use Rattle.frame_machine.specs.Ground.{next_of, IsPart};
 ghost use Rattle.frame_machine.specs.Machine.{IsValid, Advances, AreSpans, SpanStands, conf, ahead, towards, first_next, first_set};
 ghost use Rattle.frame_machine.specs.Moves.{tread};
 ghost use Rattle.match_items.specs.Items.{holds};
@@ -18,7 +18,7 @@ use pat_tree::{AnchorKind, Kids, Node};
 
 /// Where the path goes on after a part.
 pub(crate) fn go_on<S: Searchable>(on: &S, part: u32) -> Next
-    requires { part ≤ (S.searched on.now).root }
+    requires { IsPart (S.searched on.now) part }
     ensures { result ≡ towards (next_of (S.searched on.now) part) }
 {
     match on.next(part) {
@@ -40,7 +40,7 @@ fn first_branch(part: u32, branches: &Kids) -> Next
 
 /// Goes on at a place, if there is one.
 fn move_to<S: Searchable>(on: &S, part: u32, to: Option<u64>, spot: &mut Spot) -> Next
-    requires { part ≤ (S.searched on.now).root }
+    requires { IsPart (S.searched on.now) part }
     ensures next { result ≡ moved_next (S.searched on.now) part to }
     ensures spot { spot.new ≡ moved_spot spot.old to }
 {
@@ -91,7 +91,7 @@ fn refer<S: Searchable>(
 
 /// Goes on where a simple assertion holds.
 fn anchor<S: Searchable>(on: &S, part: u32, kind: AnchorKind, spot: &mut Spot) -> Next
-    requires inside { part ≤ (S.searched on.now).root }
+    requires inside { IsPart (S.searched on.now) part }
     requires place { (S.searched on.now).stands spot.old.place ≡ true }
     ensures next { result ≡ held_next (S.searched on.now) part (holds (S.searched on.now).setting.scene kind spot.old.place) }
     ensures spot { spot.new ≡ held_early (S.searched on.now) kind spot.old (holds (S.searched on.now).setting.scene kind spot.old.place) }
@@ -105,7 +105,7 @@ fn anchor<S: Searchable>(on: &S, part: u32, kind: AnchorKind, spot: &mut Spot) -
 
 /// Where a sequence begins.
 fn first_part<S: Searchable>(on: &S, part: u32, kids: &Kids) -> Next
-    requires { part ≤ (S.searched on.now).root }
+    requires { IsPart (S.searched on.now) part }
     ensures { result ≡ part_next (S.searched on.now) part kids.now }
 {
     match kids.as_slice() {

@@ -4,7 +4,7 @@ ghost use Rattle.frame_store.specs.Entry.{entries, entry_of};
 ghost use Rattle.pat_tree.specs.Nested as tree;
 ghost use Rattle.pat_tree.specs.Rules.{class_in, AtMost};
 ghost use Rattle.match_items.specs.Items.{is_none_left, longest_run};
-ghost use Rattle.frame_machine.specs.Ground.{tree_of};
+ghost use Rattle.frame_machine.specs.Ground.{tree_of, IsPart};
 ghost use Rattle.frame_machine.specs.Machine.{IsValid, Advances, IsRepeat, IsMany, conf, ahead, less};
 ghost use Rattle.frame_machine.specs.Moves.{tread};
 ghost use Rattle.frame_machine.specs.Stops.{IsStop, IsMost, many_next};
@@ -54,7 +54,7 @@ pub(crate) fn many<S: Searchable>(
 
 /// The most that a repeat of one item takes.
 fn most_of<S: Searchable>(on: &S, part: u32) -> Option<u32>
-    requires inside { part ≤ (S.searched on.now).root }
+    requires inside { IsPart (S.searched on.now) part }
     requires many { IsMany (S.searched on.now) (tree_of (S.searched on.now) part) }
     ensures { IsMost (tree_of (S.searched on.now) part) result }
 {

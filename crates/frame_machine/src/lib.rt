@@ -3,17 +3,23 @@
 
 mod answer;
 mod back;
+mod board;
+mod counted;
 mod ends;
 mod enter;
 mod items;
 mod laws;
 mod machine;
+mod ready;
 mod repeats;
 mod run;
 mod scratch;
 mod searchable;
+#[cfg(test)]
+mod tests;
 
 pub use answer::{PlaceAnswer, Signal};
 pub use laws::{cut_comes_late, no_place_is_cut, walk_is_told, worked_rows};
+pub use ready::{Ready, run_at};
 pub use scratch::{Scratch, search_at};
 pub use searchable::{Run, Searchable};

@@ -4,7 +4,7 @@ ghost use Rattle.frame_store.specs.Entry.{entries, entry_of};
 ghost use Rattle.pat_tree.specs.Nested as tree;
 ghost use Rattle.pat_tree.specs.Rules.{class_in, AtMost};
 ghost use Rattle.match_items.specs.Items.{is_none_left, longest_run};
-ghost use Rattle.frame_machine.specs.Ground.{tree_of};
+ghost use Rattle.frame_machine.specs.Ground.{tree_of, IsPart};
 ghost use Rattle.frame_machine.specs.Machine.{IsValid, Advances, IsRepeat, IsMany, conf, ahead, less};
 ghost use Rattle.frame_machine.specs.Moves.{tread};
 ghost use Rattle.frame_machine.specs.Stops.{IsStop, many_next, turn_entry};
@@ -47,10 +47,10 @@ pub(crate) fn is_last(max: Option<u32>, count: u32) -> bool
 
 /// The repeat of a group that a part is.
 pub(crate) fn turns_of<S: Searchable>(on: &S, part: u32) -> Turns
-    requires inside { part ≤ (S.searched on.now).root }
+    requires inside { IsPart (S.searched on.now) part }
     requires repeat { IsRepeat (S.searched on.now) (tree_of (S.searched on.now) part) }
     ensures is { tree.repeat (tree_of (S.searched on.now) result.body) result.min result.max result.lazy ≡ tree_of (S.searched on.now) part }
-    ensures body { result.body ≤ (S.searched on.now).root }
+    ensures body { IsPart (S.searched on.now) result.body }
     ensures alone { (S.searched on.now).rest result.body ≡ [] }
 {
     match on.node(part) {

@@ -2,9 +2,9 @@
 ghost use Rattle.std.specs.Prelude.{◌≡◌, ◌<◌, ◌≤◌, true, All, length};
 ghost use Rattle.pat_tree.specs.Rules.{class_in};
 ghost use Rattle.match_items.specs.Items.{after_item, after_break, after_ref, longest_run, place_before, holds, earliest};
+ghost use Rattle.match_items.specs.Views.{end_of};
 ghost use Rattle.frame_machine.specs.Setting.{match_limit};
-ghost use Rattle.frame_machine.specs.Ground.{Ground, IsNode, IsGround, next_of};
-ghost use Rattle.frame_machine.specs.Machine.{end_of};
+ghost use Rattle.frame_machine.specs.Ground.{Ground, IsPart, IsNode, IsGround, next_of};
 
 use pat_tree::{AnchorKind, Item, MatchOptions, Node, Options};
 
@@ -27,11 +27,11 @@ pub trait Searchable {
         ensures { result ≡ (searched self.now).setting.groups };
 
     fn node(&self, part: u32) -> &Node
-        requires { part ≤ (searched self.now).root }
+        requires { IsPart (searched self.now) part }
         ensures { IsNode (searched self.now) part result.now };
 
     fn next(&self, part: u32) -> Option<u32>
-        requires { part ≤ (searched self.now).root }
+        requires { IsPart (searched self.now) part }
         ensures { result ≡ next_of (searched self.now) part };
 
     fn options(&self) -> &Options

@@ -1,2 +1,12 @@
 pub mod WordLemmas
 mod RowProofs
+mod Left
+mod HitlessStreams
+mod Hitless
+mod NoPartial
+mod Excluded
+mod Steps
+mod Walk
+pub mod ForwardStreams
+pub mod ForwardSearch
+pub mod ForwardLaw

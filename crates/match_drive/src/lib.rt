@@ -2,8 +2,15 @@
 //! function").
 #![tactic(auto)]
 
+mod answer;
+mod drive;
+mod driven;
 mod laws;
+mod places;
 mod words;
 
-pub use laws::worked_rows;
+pub use answer::MatchAnswer;
+pub use drive::search_on;
+pub use driven::Driven;
+pub use laws::{no_partial_match, searches_go_forward, worked_rows};
 pub use words::{Span, first_span};

@@ -3,4 +3,5 @@ pub mod Longest
 pub mod Newlines
 pub mod OneItem
 pub mod Texts
+pub mod Places
 mod RowProofs

@@ -12,8 +12,8 @@ use Rattle.pat_tree.specs.declared.options.Newline.{Newline}
 use Rattle.pat_tree.specs.declared.options.Newline.TheVariants as newline
 use Rattle.pat_tree.specs.declared.options.Bsr.{Bsr}
 use Rattle.pat_tree.specs.declared.options.Bsr.TheVariants as bsr
-use Rattle.pat_tree.specs.Newlines.{end_kind}
-use Rattle.match_items.specs.Scene.{break_kind, is_crlf}
+use Rattle.pat_tree.specs.Newlines.{end_kind, break_kind}
+use Rattle.match_items.specs.Scene.{is_crlf}
 
 -- no text stands past the end
 stands_past : (b : ℕ) (text bytes : List ℕ) (p : ℕ) → length bytes ≤ p → stands (b ∷ text) bytes p ≡ false

@@ -5,11 +5,11 @@ use Rattle.pat_tree.specs.declared.nodes.Item.{Item}
 use Rattle.pat_tree.specs.declared.nodes.Item.TheVariants.{Char, AnyAll, NotNewline, Class}
 use Rattle.pat_tree.specs.declared.nodes.AnchorKind.{AnchorKind}
 use Rattle.pat_tree.specs.declared.nodes.AnchorKind.TheVariants.{Caret, Dollar, SubjectStart, SubjectEnd, EndOrNewline, StartGiven, Word, NotWord}
-use Rattle.pat_tree.specs.Newlines.{end_kind}
+use Rattle.pat_tree.specs.Newlines.{end_kind, break_kind}
 use Rattle.byte_lanes.specs.Newlines.{newline_len, newline_before_len}
 use Rattle.uni_text.specs.Ascii.{ascii_fold, is_word_char}
 use Rattle.uni_text.specs.Characters.{char_at, char_before}
-use Rattle.match_items.specs.Scene.{Scene, break_kind, is_crlf}
+use Rattle.match_items.specs.Scene.{Scene, is_crlf}
 
 -- a maximum after one more
 abbrev pub one_less : Option ℕ → Option ℕ

@@ -4,10 +4,6 @@ use Rattle.pat_tree.specs.declared.options.Options.{Options}
 use Rattle.pat_tree.specs.declared.options.MatchOptions.{MatchOptions}
 use Rattle.pat_tree.specs.declared.options.Newline.{Newline}
 use Rattle.pat_tree.specs.declared.options.Newline.TheVariants as newline
-use Rattle.pat_tree.specs.declared.options.Bsr.{Bsr}
-use Rattle.pat_tree.specs.declared.options.Bsr.TheVariants as bsr
-use Rattle.byte_lanes.specs.declared.line_end.EndKind.{EndKind}
-use Rattle.byte_lanes.specs.declared.line_end.EndKind.TheVariants as kind
 
 pub record Scene : Type 0 where
   -- the pattern's options, and the match's
@@ -21,12 +17,6 @@ pub record Scene : Type 0 where
   -- a character's simple folding in UTF, and whether it is a word character under UCP
   pub fold : ℕ → ℕ
   pub is_word : ℕ → Bool
-
--- the texts of `\R` (pcre2pattern, "Newline sequences")
-abbrev pub break_kind : Bsr → Bool → EndKind
-break_kind bsr.Unicode true = kind.AnyUtf
-break_kind bsr.Unicode false = kind.Any
-break_kind bsr.AnyCrLf utf = kind.AnyCrLf
 
 abbrev pub is_crlf : Newline → Bool
 is_crlf newline.CrLf = true

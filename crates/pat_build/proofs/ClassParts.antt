@@ -1,10 +1,10 @@
 -- The parts of a class, from item to item.
 use Rattle.std.proofs.Common.{◌≡◌, ℕ, suc, ◌+◌, ◌<◌, ◌≤◌, Bool, true, false, not, ◌&&◌, List, [], ◌∷◌, ◌++◌, length, Ok, Err, refl, ap, ◌∙◌, append_assoc, append-nil, sym, arith}
 use Rattle.pat_tree.specs.declared.nodes.Part.{Part}
-use Rattle.pat_lex.specs.declared.fault.Fault.{Fault}
-use Rattle.pat_lex.specs.declared.token.Token.{Token}
-use Rattle.pat_lex.specs.declared.token.Token.TheVariants.{ClassEnd}
-use Rattle.pat_lex.specs.Tell.{◌>>=◌}
+use Rattle.token_parts.specs.declared.fault.Fault.{Fault}
+use Rattle.token_parts.specs.declared.token.Token.{Token}
+use Rattle.token_parts.specs.declared.token.Token.TheVariants.{ClassEnd}
+use Rattle.token_parts.specs.Tell.{◌>>=◌}
 use Rattle.pat_build.specs.State.{State, Reads}
 use Rattle.pat_build.specs.Classes.{part_then, item, from_item, class_parts, class_spec}
 use Rattle.pat_build.specs.Places.{state_at, is_closing, Tells}

@@ -1,7 +1,7 @@
 -- What holds of the value of a reading, where it has one.
 use Rattle.std.proofs.Common.{◌≡◌, Bool, true, false, Result, Ok, Err, refl, subst, if◌then◌else◌}
-use Rattle.pat_lex.specs.declared.fault.Fault.{Fault}
-use Rattle.pat_lex.specs.Tell.{◌>>=◌}
+use Rattle.token_parts.specs.declared.fault.Fault.{Fault}
+use Rattle.token_parts.specs.Tell.{◌>>=◌}
 
 unfoldable pub Holds : {A : Type 0} → (A → Type 0) → Result A Fault → Type 0
 Holds P (Ok a) = P a

@@ -7,3 +7,14 @@ mod Holding
 mod PlainTokens
 mod PlainClasses
 mod PlainReading
+pub mod Standing
+pub mod States
+pub mod Waiting
+pub mod Extending
+pub mod Naming
+pub mod Taking
+pub mod Nesting
+pub mod Adding
+pub mod Beginning
+pub mod Starting
+pub mod Exits

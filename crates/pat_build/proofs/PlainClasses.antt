@@ -7,9 +7,9 @@ use Rattle.pat_tree.specs.declared.nodes.SetName.TheVariants as sets
 use Rattle.pat_tree.specs.declared.nodes.Part.{Part}
 use Rattle.pat_tree.specs.declared.nodes.Part.TheVariants as part
 use Rattle.pat_tree.specs.declared.nodes.ClassSpec.{ClassSpec}
-use Rattle.pat_lex.specs.declared.token.Token.{Token}
-use Rattle.pat_lex.specs.declared.token.Token.TheVariants as token
-use Rattle.pat_lex.specs.Tell.{fault}
+use Rattle.token_parts.specs.declared.token.Token.{Token}
+use Rattle.token_parts.specs.declared.token.Token.TheVariants as token
+use Rattle.token_parts.specs.Tell.{fault}
 use Rattle.pat_lex.specs.Tokens.{token_at}
 use Rattle.char_sets.specs.Sets.{is_plain, IsPlain}
 use Rattle.pat_build.specs.State.{State, Reads, flags_of, next, passed_over}

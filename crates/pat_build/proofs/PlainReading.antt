@@ -8,15 +8,15 @@ use Rattle.pat_tree.specs.declared.nodes.Part.TheVariants as part
 use Rattle.pat_tree.specs.declared.names.NameEntry.{NameEntry}
 use Rattle.pat_tree.specs.Nested.{Nested, Row, empty, one, group, row}
 use Rattle.pat_tree.specs.Nested as tree
-use Rattle.pat_lex.specs.declared.token.OptionMask.{OptionMask}
-use Rattle.pat_lex.specs.declared.token.OpenKind.TheVariants as opening
-use Rattle.pat_lex.specs.declared.token.QuantMode.{QuantMode}
-use Rattle.pat_lex.specs.declared.token.QuantMode.TheVariants.{Greedy, Lazy, Possessive}
-use Rattle.pat_lex.specs.declared.token.StartItem.{StartItem}
-use Rattle.pat_lex.specs.declared.token.StartItem.TheVariants as start_item
-use Rattle.pat_lex.specs.declared.token.Token.{Token}
-use Rattle.pat_lex.specs.declared.token.Token.TheVariants as token
-use Rattle.pat_lex.specs.Tell.{fault, ◌>>=◌}
+use Rattle.token_parts.specs.declared.token.OptionMask.{OptionMask}
+use Rattle.token_parts.specs.declared.token.OpenKind.TheVariants as opening
+use Rattle.token_parts.specs.declared.token.QuantMode.{QuantMode}
+use Rattle.token_parts.specs.declared.token.QuantMode.TheVariants.{Greedy, Lazy, Possessive}
+use Rattle.token_parts.specs.declared.token.StartItem.{StartItem}
+use Rattle.token_parts.specs.declared.token.StartItem.TheVariants as start_item
+use Rattle.token_parts.specs.declared.token.Token.{Token}
+use Rattle.token_parts.specs.declared.token.Token.TheVariants as token
+use Rattle.token_parts.specs.Tell.{fault, ◌>>=◌}
 use Rattle.char_sets.specs.Sets.{IsPlain}
 use Rattle.pat_check.specs.Built.{IsBuilt, AreBuilt}
 use Rattle.pat_build.specs.State.{State, Reads, next, passed_over}

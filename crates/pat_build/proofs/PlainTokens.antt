@@ -2,23 +2,24 @@
 use Rattle.std.proofs.Common.{ℕ, ◌+◌, Bool, true, false, not, List, length, drop, Option, Some, None, Result, Ok, Err, slice_get, slice_range, if◌then◌else◌}
 use Rattle.pat_tree.specs.declared.nodes.SetName.{SetName}
 use Rattle.pat_tree.specs.declared.nodes.SetName.TheVariants as sets
-use Rattle.pat_lex.specs.declared.fault.Fault.{Fault}
-use Rattle.pat_lex.specs.declared.token.LexFlags.{LexFlags}
-use Rattle.pat_lex.specs.declared.token.CondText.{CondText}
-use Rattle.pat_lex.specs.declared.token.VerbKind.{VerbKind}
-use Rattle.pat_lex.specs.declared.token.Token.{Token}
-use Rattle.pat_lex.specs.declared.token.Token.TheVariants as token
-use Rattle.pat_lex.specs.Bytes.{is_at}
-use Rattle.pat_lex.specs.Tell.{fault, Lexed, ◌>>=◌}
-use Rattle.pat_lex.specs.Comments.{comment}
+use Rattle.token_parts.specs.declared.fault.Fault.{Fault}
+use Rattle.token_parts.specs.declared.token.LexFlags.{LexFlags}
+use Rattle.token_parts.specs.declared.token.CondText.{CondText}
+use Rattle.token_parts.specs.declared.token.VerbKind.{VerbKind}
+use Rattle.token_parts.specs.declared.token.Token.{Token}
+use Rattle.token_parts.specs.declared.token.Token.TheVariants as token
+use Rattle.token_parts.specs.Bytes.{is_at}
+use Rattle.token_parts.specs.Tell.{fault, Lexed, ◌>>=◌}
+use Rattle.token_parts.specs.Comments.{comment}
 use Rattle.pat_lex.specs.Quantifiers.{with_mode, counted}
-use Rattle.pat_lex.specs.Escapes.{everywhere, outside, listed, control, property_named, property, not_newline, octal, braced, hexadecimal, coded, numbered_escape, longer, escape}
-use Rattle.pat_lex.specs.Targets.{numbered, named_reference, named_call, group_escape, name_escape, numbered_call}
+use Rattle.token_parts.specs.Codes.{control, octal, braced, hexadecimal, coded}
+use Rattle.pat_lex.specs.Escapes.{everywhere, outside, listed, property_named, property, not_newline, longer, escape}
+use Rattle.token_parts.specs.Targets.{numbered, numbered_escape, named_reference, named_call, group_escape, name_escape, numbered_call}
 use Rattle.pat_lex.specs.Classes.{posix_end, posix_set, class_start, posix, bracket, longer_in_class, class_escape, in_class}
-use Rattle.pat_lex.specs.Settings.{setting_closed, setting}
+use Rattle.token_parts.specs.Settings.{setting_closed, setting}
 use Rattle.pat_lex.specs.Verbs.{start_word, verb_word, group_word, named_verb, closed_word, colon_word, limit, star_word}
-use Rattle.pat_lex.specs.Callouts.{string_end, closer, numbered_callout, string_callout, callout}
-use Rattle.pat_lex.specs.Conditions.{test_closed, quoted_test, call_test, bare_test, numbered_test, test, condition}
+use Rattle.token_parts.specs.Callouts.{string_end, closer, numbered_callout, string_callout, callout}
+use Rattle.token_parts.specs.Conditions.{test_closed, quoted_test, call_test, bare_test, numbered_test, test, condition}
 use Rattle.pat_lex.specs.Groups.{opened_by, named_group, angle, python, whole_call, special, group}
 use Rattle.pat_lex.specs.Tokens.{quoted, rest, plain, token_at}
 use Rattle.pat_build.proofs.Holding.{Holds, holds_ok, holds_err, holds_then, holds_any}

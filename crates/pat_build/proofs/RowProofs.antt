@@ -1,14 +1,15 @@
 -- The worked rows compute.
 use Rattle.std.proofs.Common.{refl}
 use Rattle.byte_lanes.specs.Newlines.{stands}
-use Rattle.pat_lex.specs.Bytes.{run_end, numeral}
-use Rattle.pat_lex.specs.Names.{name_end}
-use Rattle.pat_lex.specs.Comments.{newline_at, first_newline, line_end, comment, blank_end, blanks_end}
+use Rattle.token_parts.specs.Bytes.{run_end, numeral}
+use Rattle.token_parts.specs.Names.{name_end}
+use Rattle.token_parts.specs.Comments.{newline_at, first_newline, line_end, comment, blank_end, blanks_end}
 use Rattle.pat_lex.specs.Quantifiers.{is_counted, with_mode, counted}
-use Rattle.pat_lex.specs.Escapes.{everywhere, outside, octal, numbered_escape, longer, escape}
-use Rattle.pat_lex.specs.Targets.{named_reference, name_escape, digits_start, begins_number}
+use Rattle.token_parts.specs.Codes.{octal}
+use Rattle.pat_lex.specs.Escapes.{everywhere, outside, longer, escape}
+use Rattle.token_parts.specs.Targets.{named_reference, name_escape, digits_start, begins_number, numbered_escape}
 use Rattle.pat_lex.specs.Classes.{posix_end, class_start, bracket, class_escape, in_class}
-use Rattle.pat_lex.specs.Settings.{set_by, unset_by, setting_closed, setting}
+use Rattle.token_parts.specs.Settings.{set_by, unset_by, setting_closed, setting}
 use Rattle.pat_lex.specs.Verbs.{start_word, closed_word, limit, star_word}
 use Rattle.pat_lex.specs.Groups.{opened_by, named_group, angle, special, group}
 use Rattle.pat_lex.specs.Tokens.{quoted, rest, plain, token_at}

@@ -4,10 +4,10 @@ use Rattle.std.specs.Str.{byte}
 use Rattle.pat_tree.specs.declared.nodes.Part.{Part}
 use Rattle.pat_tree.specs.declared.nodes.Part.TheVariants as part
 use Rattle.pat_tree.specs.declared.nodes.ClassSpec.{ClassSpec}
-use Rattle.pat_lex.specs.declared.fault.Fault.{Fault}
-use Rattle.pat_lex.specs.declared.token.Token.{Token}
-use Rattle.pat_lex.specs.declared.token.Token.TheVariants.{End, Literal, Set, ClassEnd, Hyphen}
-use Rattle.pat_lex.specs.Tell.{fault, ◌>>=◌}
+use Rattle.token_parts.specs.declared.fault.Fault.{Fault}
+use Rattle.token_parts.specs.declared.token.Token.{Token}
+use Rattle.token_parts.specs.declared.token.Token.TheVariants.{End, Literal, Set, ClassEnd, Hyphen}
+use Rattle.token_parts.specs.Tell.{fault, ◌>>=◌}
 use Rattle.pat_build.specs.State.{State, Reads, next, passed_over}
 
 -- the character that a token stands for where a range may end

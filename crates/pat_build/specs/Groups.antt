@@ -6,10 +6,10 @@ use Rattle.pat_tree.specs.declared.options.Options.{Options}
 use Rattle.pat_tree.specs.declared.names.NameEntry.{NameEntry}
 use Rattle.pat_tree.specs.Names.{with_name}
 use Rattle.pat_tree.specs.Refs.{bad_ref}
-use Rattle.pat_lex.specs.declared.fault.Fault.{Fault}
-use Rattle.pat_lex.specs.declared.token.Target.{Target}
-use Rattle.pat_lex.specs.declared.token.Target.TheVariants.{Number, Plus, Minus, Named}
-use Rattle.pat_lex.specs.Tell.{fault, ◌>>=◌}
+use Rattle.token_parts.specs.declared.fault.Fault.{Fault}
+use Rattle.token_parts.specs.declared.token.Target.{Target}
+use Rattle.token_parts.specs.declared.token.Target.TheVariants.{Number, Plus, Minus, Named}
+use Rattle.token_parts.specs.Tell.{fault, ◌>>=◌}
 use Rattle.pat_build.specs.State.{State, Reference}
 
 -- a group whose inside is read: its number where it captures, and the options in force around it

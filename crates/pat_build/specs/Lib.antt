@@ -8,3 +8,5 @@ pub mod Stack
 pub mod Rows
 pub mod Searchable
 pub mod Places
+pub mod Names
+pub mod Machine

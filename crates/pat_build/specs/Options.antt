@@ -1,11 +1,11 @@
 -- What sets options inside a pattern.
 use Rattle.std.specs.Prelude.{ℕ, min, Bool, true, false, not, ◌&&◌, ◌||◌, Option, Some, None, Result, Ok}
 use Rattle.pat_tree.specs.declared.options.Options.{Options}
-use Rattle.pat_lex.specs.declared.fault.Fault.{Fault}
-use Rattle.pat_lex.specs.declared.token.OptionMask.{OptionMask}
-use Rattle.pat_lex.specs.declared.token.StartItem.{StartItem}
-use Rattle.pat_lex.specs.declared.token.StartItem.TheVariants.{NewlineIs, BsrIs, Utf, Ucp, NotEmpty, NotEmptyAtStart, NoStartOpt, NoEffect, LimitMatch}
-use Rattle.pat_lex.specs.Tell.{fault}
+use Rattle.token_parts.specs.declared.fault.Fault.{Fault}
+use Rattle.token_parts.specs.declared.token.OptionMask.{OptionMask}
+use Rattle.token_parts.specs.declared.token.StartItem.{StartItem}
+use Rattle.token_parts.specs.declared.token.StartItem.TheVariants.{NewlineIs, BsrIs, Utf, Ucp, NotEmpty, NotEmptyAtStart, NoStartOpt, NoEffect, LimitMatch}
+use Rattle.token_parts.specs.Tell.{fault}
 
 -- an option that was on or off before: first it may be unset, then set, then unset
 abbrev pub turned : Bool → Bool → Bool → Bool → Bool

@@ -1,11 +1,11 @@
 -- What the definitions give at the places of a cursor.
 use Rattle.std.specs.Prelude.{◌≡◌, ℕ, ◌+◌, ◌<◌, ℤ, pos, Bool, false, not, ◌&&◌, List, [], length, Result, Err, IsTrue, ◌⊎◌}
 use Rattle.pat_tree.specs.declared.nodes.Part.{Part}
-use Rattle.pat_lex.specs.declared.fault.Fault.{Fault}
-use Rattle.pat_lex.specs.declared.token.LexFlags.{LexFlags}
-use Rattle.pat_lex.specs.declared.token.Token.{Token}
-use Rattle.pat_lex.specs.declared.token.Token.TheVariants.{ClassEnd}
-use Rattle.pat_lex.specs.Tell.{is_own}
+use Rattle.token_parts.specs.declared.fault.Fault.{Fault}
+use Rattle.token_parts.specs.declared.token.LexFlags.{LexFlags}
+use Rattle.token_parts.specs.declared.token.Token.{Token}
+use Rattle.token_parts.specs.declared.token.Token.TheVariants.{ClassEnd}
+use Rattle.token_parts.specs.Tell.{is_own}
 use Rattle.pat_build.specs.State.{State, Reads, flags_of}
 use Rattle.pat_build.specs.Classes.{part_then, range_or_hyphen, from_character, from_set, from_item}
 use Rattle.pat_build.specs.declared.cursor.Place.{Place}

@@ -8,9 +8,9 @@ use Rattle.pat_tree.specs.declared.nodes.ClassSpec.{ClassSpec}
 use Rattle.pat_tree.specs.declared.names.NameEntry.{NameEntry}
 use Rattle.pat_tree.specs.declared.options.Options.{Options}
 use Rattle.pat_tree.specs.Nested.{Nested, one, group, row}
-use Rattle.pat_lex.specs.declared.fault.Fault.{Fault}
-use Rattle.pat_lex.specs.declared.token.Token.TheVariants.{End, Bar, Close, Quantifier, Start}
-use Rattle.pat_lex.specs.Tell.{fault, ◌>>=◌}
+use Rattle.token_parts.specs.declared.fault.Fault.{Fault}
+use Rattle.token_parts.specs.declared.token.Token.TheVariants.{End, Bar, Close, Quantifier, Start}
+use Rattle.token_parts.specs.Tell.{fault, ◌>>=◌}
 use Rattle.pat_build.specs.State.{State, Reads, next, passed_over}
 use Rattle.pat_build.specs.Options.{with_item}
 use Rattle.pat_build.specs.Groups.{Opening, missing}

@@ -11,8 +11,8 @@ use Rattle.pat_tree.specs.declared.nodes.SetName.TheVariants.{Digit}
 use Rattle.pat_tree.specs.declared.nodes.ClassSpec.{ClassSpec}
 use Rattle.pat_tree.specs.declared.names.NameEntry.{NameEntry}
 use Rattle.pat_tree.specs.Nested.{Nested, empty, one, seq, group, one_repeat, ref, row}
-use Rattle.pat_lex.specs.declared.fault.Fault.{Fault}
-use Rattle.pat_lex.specs.Tell.{fault}
+use Rattle.token_parts.specs.declared.fault.Fault.{Fault}
+use Rattle.token_parts.specs.Tell.{fault}
 use Rattle.pat_build.specs.Reading.{Parsed, read}
 
 abbrev pub reads : String → Result Parsed Fault

@@ -2,9 +2,9 @@
 use Rattle.std.specs.Prelude.{ℕ, List, [], ◌∷◌, ◌++◌, Option, Some, None}
 use Rattle.pat_tree.specs.declared.names.NameEntry.{NameEntry}
 use Rattle.pat_tree.specs.Nested.{Nested}
-use Rattle.pat_lex.specs.declared.token.Token.{Token}
-use Rattle.pat_lex.specs.declared.token.Token.TheVariants.{Quantifier, Passed, QuoteOn, QuoteOff}
-use Rattle.pat_lex.specs.Tell.{◌>>=◌}
+use Rattle.token_parts.specs.declared.token.Token.{Token}
+use Rattle.token_parts.specs.declared.token.Token.TheVariants.{Quantifier, Passed, QuoteOn, QuoteOff}
+use Rattle.token_parts.specs.Tell.{◌>>=◌}
 use Rattle.pat_build.specs.State.{State, Reads}
 use Rattle.pat_build.specs.Groups.{Opening}
 use Rattle.pat_build.specs.Reading.{quantified, closed, alternatives_from, sequence, alternatives, whole}

@@ -3,11 +3,11 @@ use Rattle.std.specs.Prelude.{ℕ, Bool, true, false, List, Option, Some, None, 
 use Rattle.pat_tree.specs.declared.options.Options.{Options}
 use Rattle.pat_tree.specs.declared.nodes.ClassSpec.{ClassSpec}
 use Rattle.pat_tree.specs.declared.names.NameEntry.{NameEntry}
-use Rattle.pat_lex.specs.declared.fault.Fault.{Fault}
-use Rattle.pat_lex.specs.declared.token.LexFlags.{LexFlags}
-use Rattle.pat_lex.specs.declared.token.Token.{Token}
-use Rattle.pat_lex.specs.declared.token.Token.TheVariants.{Passed, QuoteOn, QuoteOff}
-use Rattle.pat_lex.specs.Tell.{◌>>=◌}
+use Rattle.token_parts.specs.declared.fault.Fault.{Fault}
+use Rattle.token_parts.specs.declared.token.LexFlags.{LexFlags}
+use Rattle.token_parts.specs.declared.token.Token.{Token}
+use Rattle.token_parts.specs.declared.token.Token.TheVariants.{Passed, QuoteOn, QuoteOff}
+use Rattle.token_parts.specs.Tell.{◌>>=◌}
 use Rattle.pat_lex.specs.Tokens.{token_at}
 
 -- a reference: its place, and the groups that it names

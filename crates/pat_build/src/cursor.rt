@@ -1,7 +1,7 @@
 //! Where the reader stands in the text.
 ghost use Rattle.std.specs.Prelude.{◌≡◌, ◌≤◌, length, IfOk, IfErr, IfSome, IsTrue};
 ghost use Rattle.std.specs.Option.{option_map};
-ghost use Rattle.pat_lex.specs.Tell.{IsWell, Moves, is_own};
+ghost use Rattle.token_parts.specs.Tell.{IsWell, Moves, is_own};
 ghost use Rattle.pat_lex.specs.Tokens.{token_at};
 ghost use Rattle.pat_build.specs.State.{State, passed_over};
 ghost use Rattle.pat_build.specs.Places.{moved_to, flags_at};

@@ -4,10 +4,22 @@
 mod brackets;
 mod cursor;
 mod error;
+mod handlers;
 mod laws;
+mod literal;
+mod machine;
+mod names;
+mod nodes;
+mod openings;
+mod options;
+#[cfg(test)]
+mod pattern_tests;
+mod reader;
+mod start;
+#[cfg(test)]
+mod tests;
+mod tokens;
 
 pub use error::ReadError;
 pub use laws::{what_is_read_can_be_searched, worked_rows};
-
-#[cfg(test)]
-mod tests;
+pub use reader::read;

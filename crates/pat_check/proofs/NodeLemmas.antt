@@ -9,10 +9,10 @@ use Rattle.pat_tree.specs.Nested.{Nested, tree_at, row, nest}
 use Rattle.pat_tree.specs.declared.nodes.Item.{Item}
 use Rattle.pat_tree.specs.declared.nodes.Node.{Node}
 use Rattle.pat_tree.specs.declared.nodes.Node.TheVariants as node
-use Rattle.pat_tree.specs.Newlines.{end_kind}
+use Rattle.pat_tree.specs.Newlines.{end_kind, break_kind}
 use Rattle.pat_tree.specs.Parts.{TreeParts, tree_of}
 use Rattle.char_sets.specs.Sets.{class_has}
-use Rattle.pat_check.specs.Known.{break_kind, lead_set_of}
+use Rattle.pat_check.specs.Known.{lead_set_of}
 use Rattle.pat_check.specs.Built.{IsBuilt, AreBuilt}
 use Rattle.pat_check.specs.Lead.{lead, lead_in_turn, lead_of_one, lead_set, passes, then_lead, either_lead}
 use Rattle.pat_check.specs.Starts.{IsSomeLead, AreKept, KeepLeads, known_set, lead_in, lead_set_in, lead_of_parts, lead_of_branches}

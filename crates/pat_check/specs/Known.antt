@@ -1,20 +1,10 @@
 -- What is told of a pattern, beside the definitions that it goes by.
-use Rattle.std.specs.Prelude.{◌≡◌, ℕ, ◌<◌, Bool, true, false, List, Option, Some, None}
-use Rattle.byte_lanes.specs.declared.line_end.EndKind.{EndKind}
-use Rattle.byte_lanes.specs.declared.line_end.EndKind.TheVariants as kind
+use Rattle.std.specs.Prelude.{◌≡◌, ℕ, ◌<◌, Bool, List, Option, Some, None}
 use Rattle.byte_lanes.specs.Sets.{has_byte}
-use Rattle.pat_tree.specs.declared.options.Bsr.{Bsr}
-use Rattle.pat_tree.specs.declared.options.Bsr.TheVariants as bsr
-use Rattle.pat_tree.specs.Newlines.{end_kind}
+use Rattle.pat_tree.specs.Newlines.{end_kind, break_kind}
 use Rattle.pat_tree.specs.Parts.{TreeParts, tree_of}
 use Rattle.char_sets.specs.Sets.{class_has}
 use Rattle.pat_check.specs.Lead.{lead_set}
-
--- the texts of `\R` (pcre2pattern, "Newline sequences")
-abbrev pub break_kind : Bsr → Bool → EndKind
-break_kind bsr.Unicode true = kind.AnyUtf
-break_kind bsr.Unicode false = kind.Any
-break_kind bsr.AnyCrLf utf = kind.AnyCrLf
 
 -- the bytes that every match of a finished tree begins with, by the folding in UTF
 abbrev pub lead_set_of : TreeParts → (ℕ → ℕ) → Option (ℕ → Bool)

@@ -3,6 +3,7 @@ use Rattle.std.specs.Prelude.{ℕ, Bool, true, false, ◌||◌, not, ◌==◌, L
 use Rattle.std.specs.List.{list_any}
 use Rattle.pat_tree.specs.declared.nodes.Item.{Item}
 use Rattle.pat_tree.specs.declared.nodes.Item.TheVariants.{Char, Class}
+use Rattle.pat_tree.specs.declared.nodes.AnchorKind.TheVariants.{SubjectStart, Word, NotWord}
 use Rattle.pat_tree.specs.declared.nodes.Verb.TheVariants.{Accept}
 use Rattle.pat_tree.specs.declared.nodes.Part.{Part}
 use Rattle.pat_tree.specs.declared.nodes.Part.TheVariants.{Range, Set}
@@ -99,6 +100,16 @@ is_lookbehind _ = false
 
 abbrev pub has_lookbehind : Nested → Bool
 has_lookbehind t = list_any is_lookbehind (all_nodes t)
+
+-- `\b`, `\B` and `\A` look at the character before
+abbrev pub looks_before : Nested → Bool
+looks_before (anchor SubjectStart) = true
+looks_before (anchor (Word ucp)) = true
+looks_before (anchor (NotWord ucp)) = true
+looks_before _ = false
+
+abbrev pub tests_before : Nested → Bool
+tests_before t = list_any looks_before (all_nodes t)
 
 abbrev pub is_accept : Nested → Bool
 is_accept (verb (Accept name)) = true

@@ -5,11 +5,10 @@ use Rattle.byte_lanes.specs.declared.line_end.EndKind.TheVariants as kind
 use Rattle.pat_tree.specs.declared.nodes.Item.{Item}
 use Rattle.pat_tree.specs.declared.options.Bsr.{Bsr}
 use Rattle.pat_tree.specs.Nested.{Nested, tree_at}
-use Rattle.pat_tree.specs.Newlines.{end_kind}
+use Rattle.pat_tree.specs.Newlines.{end_kind, break_kind}
 use Rattle.pat_tree.specs.Parts.{TreeParts, tree_of}
 use Rattle.char_sets.specs.Sets.{class_has}
 use Rattle.pat_check.specs.Built.{IsBuilt}
-use Rattle.pat_check.specs.Known.{break_kind}
 use Rattle.pat_check.specs.Lead.{Lead, SomeLead, lead, passes, begins, no_byte, then_lead, either_lead, item_lead, break_lead, lead_set}
 use Rattle.pat_check.specs.declared.starts.Start.{Start}
 

@@ -1,5 +1,7 @@
 //! What is known of a pattern.
-ghost use Rattle.std.specs.Prelude.{◌≡◌, ℕ, false, IfOk};
+ghost use Rattle.std.specs.Prelude.{◌≡◌, ◌<◌, ℕ, List, false, IfOk, length};
+ghost use Rattle.pat_tree.specs.declared.nodes.Placed.{Placed};
+ghost use Rattle.node_flow.specs.Followers.{IsFlowOf, next_of};
 ghost use Rattle.pat_tree.specs.Parts.{tree_of};
 ghost use Rattle.char_sets.specs.Table.{IsTableOf};
 ghost use Rattle.pat_check.specs.Built.{IsBuilt};
@@ -8,13 +10,15 @@ ghost use Rattle.pat_check.specs.Lengths as lengths;
 ghost use Rattle.pat_check.specs.Nodes as nodes;
 ghost use Rattle.pat_check.specs.Starts.{lead_set_in};
 
+use crate::before::tests_before;
 use crate::leads::lead_set;
 use crate::names::names_cr_or_lf;
 use crate::order::preorder;
 use crate::passing::can_be_empty;
 use byte_lanes::ByteSet;
 use char_sets::ClassTable;
-use pat_tree::{Memory, Steps, Tree};
+use node_flow::Flow;
+use pat_tree::{Memory, NodeId, Steps, Tree};
 use std::alloc::Global;
 use std::marker::Brand;
 use std::sync::ledger::{Blank, Ledger};
@@ -31,6 +35,20 @@ pub struct Facts {
     pub names_crlf: bool,
     /// The pattern holds a lookbehind.
     pub has_lookbehind: bool,
+    /// The pattern holds `\b`, `\B` or `\A`, which look at the character before.
+    pub tests_before: bool,
+    /// What runs when a part of the pattern is done.
+    pub flow: Flow,
+}
+
+impl Facts {
+    /// The part that runs when this one is done, if there is one before the end of the innermost frame around it.
+    pub fn next(&self, id: NodeId) -> Option<NodeId>
+        requires { id < length self.now.flow }
+        ensures { (nodes : List Placed) (root : ℕ) → IsFlowOf nodes root self.now.flow → result ≡ next_of nodes root id }
+    {
+        self.flow.next(id)
+    }
 }
 
 /// Why nothing is told of a pattern.
@@ -58,6 +76,8 @@ pub fn check(alloc: Global, tree: &Tree, classes: &ClassTable) -> Result<Facts, 
     ensures empty { IfOk result (λ facts. facts.can_be_empty ≡ lengths.can_be_empty tree.now.options.match_unset_backref (tree_of tree.now)) }
     ensures names { IfOk result (λ facts. facts.names_crlf ≡ nodes.names_cr_or_lf tree.now.classes (tree_of tree.now)) }
     ensures lookbehind { IfOk result (λ facts. facts.has_lookbehind ≡ nodes.has_lookbehind (tree_of tree.now)) }
+    ensures before { IfOk result (λ facts. facts.tests_before ≡ nodes.tests_before (tree_of tree.now)) }
+    ensures flow { IfOk result (λ facts. IsFlowOf tree.now.nodes tree.now.root facts.flow) }
 {
     let lead = lead_of_whole::<Brand>(alloc, tree, classes, Blank::new(1))?;
     let order = preorder(alloc, tree)?;
@@ -67,6 +87,8 @@ pub fn check(alloc: Global, tree: &Tree, classes: &ClassTable) -> Result<Facts, 
         can_be_empty,
         names_crlf: names_cr_or_lf(tree, &order),
         has_lookbehind: false,
+        tests_before: tests_before(tree, &order),
+        flow: Flow::build(alloc, tree)?,
     })
 }
 

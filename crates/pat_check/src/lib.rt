@@ -2,6 +2,7 @@
 //! bytes that it can begin with, and its size (pcre2pattern, "Lookbehind assertions"; pcre2api, "Information about a compiled pattern").
 #![tactic(auto)]
 
+mod before;
 mod facts;
 mod groups;
 mod item_bytes;

@@ -1,11 +1,5 @@
-pub mod Runs
-pub mod Strings
 pub mod RowProofs
 pub mod LawProofs
-pub mod Lines
 pub mod Moving
-pub mod Letters
 pub mod Marks
 pub mod Standing
-pub mod Places
-pub mod Numerals

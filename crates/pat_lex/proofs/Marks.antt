@@ -2,14 +2,9 @@
 use Rattle.std.proofs.Common.{◌≡◌, ℕ, ◌+◌, ◌<◌, ◌≤◌, ◌&&◌, ◌||◌, ◌==◌, List, ◌∷◌, length, get_or, drop, None, Some, if◌then◌else◌, refl, inl, inr, ap, ◌∙◌, arith}
 use Rattle.std.proofs.lemmas.List.{drop_more, at_drop_all}
 use Rattle.std.proofs.lemmas.Bool.{cases_lt}
-use Rattle.pat_lex.specs.Bytes.{◌∈◌}
+use Rattle.token_parts.specs.Bytes.{◌∈◌}
+use Rattle.token_parts.proofs.Pairs.{two_more}
 use Rattle.pat_lex.specs.Classes.{mark_again}
-
-pub two_more : (text : List ℕ) (i : ℕ) → i + 1 < length text → drop i text ≡ get_or text i 0 ∷ get_or text (i + 1) 0 ∷ drop (i + 2) text
-two_more text i more =
-    let e : i + 1 + 1 ≡ i + 2 = omega arith in
-    let later = drop_more text (i + 1) 0 more ∙ ap (λ k. get_or text (i + 1) 0 ∷ drop k text) e in
-    drop_more text i 0 (omega arith) ∙ ap (λ rest. get_or text i 0 ∷ rest) later
 
 pub mark_more : (text : List ℕ) (mark i : ℕ) → i + 1 < length text → mark_again mark i (drop i text) ≡
     (if get_or text i 0 ∈ "\\" && get_or text (i + 1) 0 ∈ "]\\" then mark_again mark (i + 2) (drop (i + 2) text)

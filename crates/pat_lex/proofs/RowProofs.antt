@@ -1,15 +1,16 @@
 -- The worked rows compute.
 use Rattle.std.proofs.Common.{refl}
-use Rattle.pat_lex.specs.Bytes.{run_end, numeral}
-use Rattle.pat_lex.specs.Names.{name_end}
-use Rattle.pat_lex.specs.Comments.{newline_at, first_newline, line_end, blank_end, blanks_end}
+use Rattle.token_parts.specs.Bytes.{run_end, numeral}
+use Rattle.token_parts.specs.Names.{name_end}
+use Rattle.token_parts.specs.Comments.{newline_at, first_newline, line_end, blank_end, blanks_end}
 use Rattle.pat_lex.specs.Quantifiers.{is_counted, with_mode, counted}
-use Rattle.pat_lex.specs.Escapes.{everywhere, outside, octal, braced, hexadecimal, coded, numbered_escape, longer, escape}
-use Rattle.pat_lex.specs.Targets.{digits_start, begins_number}
+use Rattle.token_parts.specs.Codes.{octal, braced, hexadecimal, coded}
+use Rattle.pat_lex.specs.Escapes.{everywhere, outside, longer, escape}
+use Rattle.token_parts.specs.Targets.{digits_start, begins_number, numbered_escape}
 use Rattle.pat_lex.specs.Classes.{posix_set, posix_end, posix, bracket, in_class}
-use Rattle.pat_lex.specs.Settings.{set_by, unset_by, setting_closed, setting}
-use Rattle.pat_lex.specs.Conditions.{named_test, bare_test, test, condition}
-use Rattle.pat_lex.specs.Callouts.{string_callout, callout}
+use Rattle.token_parts.specs.Settings.{set_by, unset_by, setting_closed, setting}
+use Rattle.token_parts.specs.Conditions.{named_test, bare_test, test, condition}
+use Rattle.token_parts.specs.Callouts.{string_callout, callout}
 use Rattle.pat_lex.specs.Verbs.{verb_word, named_verb, colon_word, star_word}
 use Rattle.pat_lex.specs.Groups.{opened_by, named_group, angle, special, group}
 use Rattle.pat_lex.specs.Tokens.{rest, plain, token_at}

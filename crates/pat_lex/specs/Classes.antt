@@ -4,11 +4,12 @@ use Rattle.std.specs.Str.{bytes_eq}
 use Rattle.std.specs.Char.{is_ascii_alphanumeric}
 use Rattle.pat_tree.specs.declared.nodes.SetName.{SetName}
 use Rattle.pat_tree.specs.declared.nodes.SetName.TheVariants.{Digit, Space, Word, Alpha, Alnum, Lower, Upper, Blank, Cntrl, Graph, Print, Punct, Ascii, Xdigit}
-use Rattle.pat_lex.specs.declared.token.LexFlags.{LexFlags}
-use Rattle.pat_lex.specs.declared.token.Token.TheVariants.{Literal, Set, ClassStart, ClassEnd, Hyphen, Passed}
-use Rattle.pat_lex.specs.Bytes.{◌∈◌, is_at}
-use Rattle.pat_lex.specs.Tell.{Lexed, fault}
-use Rattle.pat_lex.specs.Escapes.{everywhere, listed, octal, coded, property}
+use Rattle.token_parts.specs.declared.token.LexFlags.{LexFlags}
+use Rattle.token_parts.specs.declared.token.Token.TheVariants.{Literal, Set, ClassStart, ClassEnd, Hyphen, Passed}
+use Rattle.token_parts.specs.Bytes.{◌∈◌, is_at}
+use Rattle.token_parts.specs.Tell.{Lexed, fault}
+use Rattle.token_parts.specs.Codes.{octal, coded}
+use Rattle.pat_lex.specs.Escapes.{everywhere, listed, property}
 
 -- the names between `[:` and `:]`
 unfoldable pub posix_set : List ℕ → Option SetName

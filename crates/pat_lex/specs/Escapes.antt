@@ -1,15 +1,14 @@
 -- What follows a backslash (pcre2pattern, "Backslash").
-use Rattle.std.specs.Prelude.{ℕ, ◌+◌, min, bit_xor, Bool, true, false, not, ◌&&◌, ◌||◌, ◌==◌, nat_lt, nat_le, List, Option, Some, None, Ok, slice_get, if◌then◌else◌}
-use Rattle.std.specs.Int.{is_in_range}
-use Rattle.std.specs.Char.{is_ascii_digit, is_ascii_alphabetic, to_ascii_uppercase}
+use Rattle.std.specs.Prelude.{ℕ, ◌+◌, Bool, true, false, not, ◌&&◌, List, Option, Some, None, Ok, slice_get, if◌then◌else◌}
+use Rattle.std.specs.Char.{is_ascii_digit, is_ascii_alphabetic}
 use Rattle.pat_tree.specs.declared.nodes.SetName.TheVariants.{Digit, Space, Word, H, V}
-use Rattle.pat_lex.specs.declared.token.LexFlags.{LexFlags}
-use Rattle.pat_lex.specs.declared.token.Target.TheVariants.{Number}
-use Rattle.pat_lex.specs.declared.token.Token.{Token}
-use Rattle.pat_lex.specs.declared.token.Token.TheVariants.{Literal, Set, QuoteOn, QuoteOff, Boundary, SubjectStart, SubjectEnd, EndOrNewline, StartGiven, KeepOut, LineBreak, NotNewline, Property, Reference}
-use Rattle.pat_lex.specs.Bytes.{◌∈◌, passes_at, is_at, run_end, digits_end, numeral}
-use Rattle.pat_lex.specs.Tell.{Lexed, fault}
-use Rattle.pat_lex.specs.Targets.{group_escape, name_escape}
+use Rattle.token_parts.specs.declared.token.LexFlags.{LexFlags}
+use Rattle.token_parts.specs.declared.token.Token.{Token}
+use Rattle.token_parts.specs.declared.token.Token.TheVariants.{Literal, Set, QuoteOn, QuoteOff, Boundary, SubjectStart, SubjectEnd, EndOrNewline, StartGiven, KeepOut, LineBreak, NotNewline, Property}
+use Rattle.token_parts.specs.Bytes.{◌∈◌, passes_at, is_at, run_end}
+use Rattle.token_parts.specs.Tell.{Lexed, fault}
+use Rattle.token_parts.specs.Targets.{group_escape, name_escape, numbered_escape}
+use Rattle.token_parts.specs.Codes.{octal, coded}
 use Rattle.pat_lex.specs.Quantifiers.{is_counted}
 
 -- the escapes of one letter that mean the same in a class
@@ -59,18 +58,7 @@ abbrev pub listed : Option Token → ℕ → Lexed → Lexed
 listed (Some token) after rest = Ok (token, after)
 listed None after rest = rest
 
--- the greatest code of a character
-abbrev pub greatest : LexFlags → ℕ
-greatest flags = if flags.utf then 0x10_FFFF else 255
-
 module _ (text : List ℕ) where
-  -- `\cx`: a small letter is made capital, and bit 6 of the code is inverted
-  unfoldable pub control : ℕ → Lexed
-  control at = elim (slice_get text (at + 2)) [
-    | None ↦ fault 102 at
-    | Some c ↦ if is_in_range 32 126 c then Ok (Literal (bit_xor (to_ascii_uppercase c) 64), at + 3) else fault 102 at
-  ]
-
   -- a property whose name begins at a place and goes to a brace
   unfoldable pub property_named : ℕ → ℕ → Bool → Lexed
   property_named at from is_outside =
@@ -92,53 +80,12 @@ module _ (text : List ℕ) where
       if is_at text "{" (at + 2) && not (is_counted text (at + 2)) then fault 195 at else Ok (NotNewline, at + 2)
 
   module _ (flags : LexFlags) where
-    -- up to three octal digits from the place on
-    unfoldable pub octal : ℕ → ℕ → Lexed
-    octal at from =
-        let to = min (digits_end text 8 from) (from + 3) in
-        let code = numeral text 8 from to in
-        if nat_lt (greatest flags) code then fault 134 at else Ok (Literal code, to)
-
-    -- digits between braces, from the place after the first
-    unfoldable pub braced : ℕ → ℕ → Lexed
-    braced radix at =
-        let to = digits_end text radix (at + 3) in
-        let code = numeral text radix (at + 3) to in
-        if nat_lt (greatest flags) code then fault 134 at
-        else if to == at + 3 || not (is_at text "}" to) then fault 135 at
-        else if flags.utf && is_in_range 0xD800 0xDFFF code then fault 173 at
-        else Ok (Literal code, to + 1)
-
-    -- `\x{digits}`, or `\x` and up to two digits
-    unfoldable pub hexadecimal : ℕ → Lexed
-    hexadecimal at =
-        let to = min (digits_end text 16 (at + 2)) (at + 4) in
-        if is_at text "{" (at + 2) then braced 16 at else Ok (Literal (numeral text 16 (at + 2) to), to)
-
-    -- `\c`, `\o` and `\x`
-    unfoldable pub coded : ℕ → ℕ → Lexed
-    coded c at =
-        if c ∈ "c" then control at
-        else if c ∈ "x" then hexadecimal at
-        else if is_at text "{" (at + 2) then braced 8 at
-        else fault 135 at
-
-    -- `\1` and further digits: a reference by a decimal number that is below 10, or begins with 8 or 9, or of which at
-    -- least so many groups were opened before; else up to three octal digits
-    unfoldable pub numbered_escape : ℕ → Lexed
-    numbered_escape at =
-        let to = digits_end text 10 (at + 1) in
-        let n = numeral text 10 (at + 1) to in
-        if not (nat_lt n 10 || (is_at text "89" (at + 1) || nat_le n flags.groups)) then octal at (at + 1)
-        else if nat_lt 65535 n then fault 161 at
-        else Ok (Reference (Number n), to)
-
     -- the escapes that go on after their letter
     unfoldable pub longer : ℕ → ℕ → Lexed
     longer c at =
-        if c ∈ "cox" then coded c at
-        else if c ∈ "0" then octal at (at + 1)
-        else if is_ascii_digit c then numbered_escape at
+        if c ∈ "cox" then coded text flags c at
+        else if c ∈ "0" then octal text flags at (at + 1)
+        else if is_ascii_digit c then numbered_escape text flags at
         else if c ∈ "p" then property false at
         else if c ∈ "P" then property true at
         else if c ∈ "g" then group_escape text at

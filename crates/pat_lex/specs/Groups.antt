@@ -2,18 +2,18 @@
 use Rattle.std.specs.Prelude.{ℕ, ◌+◌, true, false, ◌&&◌, ◌||◌, ◌==◌, List, length, Option, Some, None, Ok, slice_get, if◌then◌else◌}
 use Rattle.std.specs.Str.{byte}
 use Rattle.std.specs.Char.{is_ascii_alphabetic}
-use Rattle.pat_lex.specs.declared.token.OpenKind.{OpenKind}
-use Rattle.pat_lex.specs.declared.token.OpenKind.TheVariants.{Capture, Plain, Atomic, BranchReset, Named, Look}
-use Rattle.pat_lex.specs.declared.token.Target.TheVariants.{Number}
-use Rattle.pat_lex.specs.declared.token.Token.TheVariants.{Open, CallTo}
-use Rattle.pat_lex.specs.Bytes.{◌∈◌, passes_at, is_at}
-use Rattle.pat_lex.specs.Tell.{Lexed, fault, ◌>>=◌}
-use Rattle.pat_lex.specs.Names.{name_end}
-use Rattle.pat_lex.specs.Targets.{begins_number, named_reference, named_call, numbered_call}
-use Rattle.pat_lex.specs.Comments.{comment}
-use Rattle.pat_lex.specs.Settings.{setting}
-use Rattle.pat_lex.specs.Conditions.{condition}
-use Rattle.pat_lex.specs.Callouts.{callout}
+use Rattle.token_parts.specs.declared.token.OpenKind.{OpenKind}
+use Rattle.token_parts.specs.declared.token.OpenKind.TheVariants.{Capture, Plain, Atomic, BranchReset, Named, Look}
+use Rattle.token_parts.specs.declared.token.Target.TheVariants.{Number}
+use Rattle.token_parts.specs.declared.token.Token.TheVariants.{Open, CallTo}
+use Rattle.token_parts.specs.Bytes.{◌∈◌, passes_at, is_at}
+use Rattle.token_parts.specs.Tell.{Lexed, fault, ◌>>=◌}
+use Rattle.token_parts.specs.Names.{name_end}
+use Rattle.token_parts.specs.Targets.{begins_number, named_reference, named_call, numbered_call}
+use Rattle.token_parts.specs.Comments.{comment}
+use Rattle.token_parts.specs.Settings.{setting}
+use Rattle.token_parts.specs.Conditions.{condition}
+use Rattle.token_parts.specs.Callouts.{callout}
 use Rattle.pat_lex.specs.Verbs.{star_word}
 
 -- the groups that one character after `(?` opens

@@ -1,9 +1,9 @@
 -- What holds of all texts.
 use Rattle.std.specs.Prelude.{◌≡◌, ℕ, ◌+◌, true, false, List, Some, Ok, slice_get}
-use Rattle.pat_lex.specs.declared.token.LexFlags.{LexFlags}
-use Rattle.pat_lex.specs.declared.token.Token.TheVariants.{Literal}
-use Rattle.pat_lex.specs.Bytes.{◌∈◌}
-use Rattle.pat_lex.specs.Comments.{is_extended}
+use Rattle.token_parts.specs.declared.token.LexFlags.{LexFlags}
+use Rattle.token_parts.specs.declared.token.Token.TheVariants.{Literal}
+use Rattle.token_parts.specs.Bytes.{◌∈◌}
+use Rattle.token_parts.specs.Comments.{is_extended}
 use Rattle.pat_lex.specs.Tokens.{token_at}
 
 -- Between `\Q` and `\E` every byte but a backslash stands for itself, in a class too, whatever is ignored.

@@ -1,11 +1,11 @@
 -- Quantifiers (pcre2pattern, "Repetition").
 use Rattle.std.specs.Prelude.{ℕ, ◌+◌, Bool, ◌&&◌, ◌||◌, ◌==◌, nat_lt, List, Option, Some, None, Ok, if◌then◌else◌}
-use Rattle.pat_lex.specs.declared.token.LexFlags.{LexFlags}
-use Rattle.pat_lex.specs.declared.token.QuantMode.TheVariants.{Greedy, Lazy, Possessive}
-use Rattle.pat_lex.specs.declared.token.Token.TheVariants.{Quantifier}
-use Rattle.pat_lex.specs.Bytes.{is_at, digits_end, numeral}
-use Rattle.pat_lex.specs.Tell.{Lexed, fault}
-use Rattle.pat_lex.specs.Comments.{is_extended, blanks_end}
+use Rattle.token_parts.specs.declared.token.LexFlags.{LexFlags}
+use Rattle.token_parts.specs.declared.token.QuantMode.TheVariants.{Greedy, Lazy, Possessive}
+use Rattle.token_parts.specs.declared.token.Token.TheVariants.{Quantifier}
+use Rattle.token_parts.specs.Bytes.{is_at, digits_end, numeral}
+use Rattle.token_parts.specs.Tell.{Lexed, fault}
+use Rattle.token_parts.specs.Comments.{is_extended, blanks_end}
 
 module _ (text : List ℕ) where
   -- The brace begins `{n}`, `{n,}` or `{n,m}`. Any other brace is a character.

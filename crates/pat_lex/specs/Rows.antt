@@ -3,15 +3,15 @@ use Rattle.std.specs.Prelude.{◌≡◌, ℕ, Bool, true, false, codes, None, Ok
 use Prim.Native.String.{String}
 use Rattle.pat_tree.specs.declared.nodes.SetName.TheVariants.{Alpha}
 use Rattle.pat_tree.specs.declared.options.Newline.TheVariants.{Lf}
-use Rattle.pat_lex.specs.declared.token.LexFlags.{LexFlags}
-use Rattle.pat_lex.specs.declared.token.OptionMask.{OptionMask}
-use Rattle.pat_lex.specs.declared.token.Target.TheVariants.{Number}
-use Rattle.pat_lex.specs.declared.token.OpenKind.TheVariants as open_kind
-use Rattle.pat_lex.specs.declared.token.CondText.TheVariants.{InCallOf}
-use Rattle.pat_lex.specs.declared.token.VerbKind.TheVariants.{Mark}
-use Rattle.pat_lex.specs.declared.token.QuantMode.TheVariants.{Possessive}
-use Rattle.pat_lex.specs.declared.token.Token.TheVariants.{Literal, Set, Reference, Open, OptionSet, CondStart, CalloutItem, VerbItem, Quantifier}
-use Rattle.pat_lex.specs.Tell.{Lexed, fault}
+use Rattle.token_parts.specs.declared.token.LexFlags.{LexFlags}
+use Rattle.token_parts.specs.declared.token.OptionMask.{OptionMask}
+use Rattle.token_parts.specs.declared.token.Target.TheVariants.{Number}
+use Rattle.token_parts.specs.declared.token.OpenKind.TheVariants as open_kind
+use Rattle.token_parts.specs.declared.token.CondText.TheVariants.{InCallOf}
+use Rattle.token_parts.specs.declared.token.VerbKind.TheVariants.{Mark}
+use Rattle.token_parts.specs.declared.token.QuantMode.TheVariants.{Possessive}
+use Rattle.token_parts.specs.declared.token.Token.TheVariants.{Literal, Set, Reference, Open, OptionSet, CondStart, CalloutItem, VerbItem, Quantifier}
+use Rattle.token_parts.specs.Tell.{Lexed, fault}
 use Rattle.pat_lex.specs.Tokens.{token_at}
 
 -- after so many groups, outside a class, nothing ignored

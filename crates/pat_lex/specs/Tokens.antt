@@ -1,10 +1,10 @@
 -- The token that begins at a place of a pattern, and the place after it (pcre2pattern).
 use Rattle.std.specs.Prelude.{ℕ, ◌+◌, ◌&&◌, nat_lt, List, Some, None, Ok, slice_get, if◌then◌else◌}
-use Rattle.pat_lex.specs.declared.token.LexFlags.{LexFlags}
-use Rattle.pat_lex.specs.declared.token.Token.TheVariants.{End, Literal, Dot, Caret, Dollar, Bar, Close, QuoteOff, Passed}
-use Rattle.pat_lex.specs.Bytes.{◌∈◌, is_at}
-use Rattle.pat_lex.specs.Tell.{Lexed}
-use Rattle.pat_lex.specs.Comments.{is_extended, blank_end}
+use Rattle.token_parts.specs.declared.token.LexFlags.{LexFlags}
+use Rattle.token_parts.specs.declared.token.Token.TheVariants.{End, Literal, Dot, Caret, Dollar, Bar, Close, QuoteOff, Passed}
+use Rattle.token_parts.specs.Bytes.{◌∈◌, is_at}
+use Rattle.token_parts.specs.Tell.{Lexed}
+use Rattle.token_parts.specs.Comments.{is_extended, blank_end}
 use Rattle.pat_lex.specs.Quantifiers.{is_counted, with_mode, counted}
 use Rattle.pat_lex.specs.Escapes.{escape}
 use Rattle.pat_lex.specs.Classes.{class_start, in_class}

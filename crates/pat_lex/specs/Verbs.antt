@@ -4,15 +4,15 @@ use Rattle.std.specs.Prelude.{ℕ, ◌+◌, ◌-◌, ◌^◌, Bool, true, false,
 use Rattle.std.specs.Str.{bytes_eq}
 use Rattle.pat_tree.specs.declared.options.Newline.TheVariants.{Cr, Lf, CrLf, AnyCrLf, Any, Nul}
 use Rattle.pat_tree.specs.declared.options.Bsr.TheVariants as bsr
-use Rattle.pat_lex.specs.declared.token.StartItem.{StartItem}
-use Rattle.pat_lex.specs.declared.token.StartItem.TheVariants.{NewlineIs, BsrIs, Utf, Ucp, NotEmpty, NotEmptyAtStart, NoStartOpt, NoEffect, LimitMatch}
-use Rattle.pat_lex.specs.declared.token.OpenKind.{OpenKind}
-use Rattle.pat_lex.specs.declared.token.OpenKind.TheVariants.{Atomic, Look}
-use Rattle.pat_lex.specs.declared.token.VerbKind.{VerbKind}
-use Rattle.pat_lex.specs.declared.token.VerbKind.TheVariants.{Accept, Fail, Commit, Prune, Skip, Then, Mark}
-use Rattle.pat_lex.specs.declared.token.Token.TheVariants.{Start, Open, VerbItem}
-use Rattle.pat_lex.specs.Bytes.{◌∈◌, is_word_byte, is_at, run_end, digits_end, numeral}
-use Rattle.pat_lex.specs.Tell.{Lexed, fault}
+use Rattle.token_parts.specs.declared.token.StartItem.{StartItem}
+use Rattle.token_parts.specs.declared.token.StartItem.TheVariants.{NewlineIs, BsrIs, Utf, Ucp, NotEmpty, NotEmptyAtStart, NoStartOpt, NoEffect, LimitMatch}
+use Rattle.token_parts.specs.declared.token.OpenKind.{OpenKind}
+use Rattle.token_parts.specs.declared.token.OpenKind.TheVariants.{Atomic, Look}
+use Rattle.token_parts.specs.declared.token.VerbKind.{VerbKind}
+use Rattle.token_parts.specs.declared.token.VerbKind.TheVariants.{Accept, Fail, Commit, Prune, Skip, Then, Mark}
+use Rattle.token_parts.specs.declared.token.Token.TheVariants.{Start, Open, VerbItem}
+use Rattle.token_parts.specs.Bytes.{◌∈◌, is_word_byte, is_at, run_end, digits_end, numeral}
+use Rattle.token_parts.specs.Tell.{Lexed, fault}
 
 -- before `)`, at the very start
 unfoldable pub start_word : List ℕ → Option StartItem

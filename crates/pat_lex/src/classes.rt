@@ -1,16 +1,15 @@
 //! Classes (pcre2pattern, "Square brackets and character classes", "POSIX character classes").
 ghost use Rattle.std.specs.Prelude.{◌≡◌, ◌+◌, ◌<◌, ◌≤◌, length, drop, IfSome};
-ghost use Rattle.pat_lex.specs.Tell.{IsSound};
+ghost use Rattle.token_parts.specs.Tell.{IsSound};
 ghost use Rattle.pat_lex.specs.Classes.{posix_set, mark_again, posix_end, class_start, posix, bracket, longer_in_class, class_escape, in_class};
 
-use crate::bytes::{byte, stands};
-use crate::escapes::{coded, everywhere, octal, property};
-use crate::fault::{
-    BACKSLASH_AT_END, COLLATING_ELEMENT, Fault, LEFT_OUT, NOT_IN_CLASS, POSIX_OUTSIDE,
-    UNKNOWN_ESCAPE, UNKNOWN_POSIX_NAME,
+use crate::escapes::{everywhere, property};
+use crate::faults::{
+    BACKSLASH_AT_END, COLLATING_ELEMENT, NOT_IN_CLASS, POSIX_OUTSIDE, UNKNOWN_ESCAPE,
+    UNKNOWN_POSIX_NAME,
 };
-use crate::token::{LexFlags, Token};
 use pat_tree::SetName;
+use token_parts::{Fault, LEFT_OUT, LexFlags, Lexed, Token, byte, coded, octal, stands};
 
 /// The set of a name between `[:` and `:]`.
 #[tactic(auto, unfolding(crate::specs::Classes::posix_set))]
@@ -84,61 +83,36 @@ fn posix_end(text: &[u8], bracket: usize) -> Option<usize>
     ensures within { IfSome result (λ to. to + 2 ≤ length text.now) }
 {
     match byte(text, bracket + 1) {
-        None => None,
-        Some(mark) => {
-            if mark == b':' || mark == b'.' || mark == b'=' {
-                mark_again(text, mark, bracket + 2)
-            } else {
-                None
-            }
-        }
+        Some(mark @ (b':' | b'.' | b'=')) => mark_again(text, mark, bracket + 2),
+        _ => None,
     }
 }
 
 /// `[` outside a class. A POSIX item that stands as a whole class is refused.
 #[tactic(auto, unfolding(crate::specs::Classes::class_start))]
-pub(crate) fn class_start(text: &[u8], at: usize) -> Result<(Token, usize), Fault>
+pub(crate) fn class_start(text: &[u8], at: usize) -> Lexed
     requires { at < length text.now }
     ensures value { result ≡ class_start text.now at }
     ensures sound { IsSound text.now at result }
 {
     match posix_end(text, at) {
-        Some(_) => {
-            if stands(text, b':', at + 1) {
-                Err(Fault {
-                    number: POSIX_OUTSIDE,
-                    at,
-                })
-            } else {
-                Err(Fault {
-                    number: COLLATING_ELEMENT,
-                    at,
-                })
-            }
-        }
-        None => {
-            if stands(text, b'^', at + 1) {
-                Ok((Token::ClassStart { negated: true }, at + 2))
-            } else {
-                Ok((Token::ClassStart { negated: false }, at + 1))
-            }
-        }
+        Some(_) if stands(text, b':', at + 1) => Err(Fault::new(POSIX_OUTSIDE, at)),
+        Some(_) => Err(Fault::new(COLLATING_ELEMENT, at)),
+        None if stands(text, b'^', at + 1) => Ok((Token::ClassStart { negated: true }, at + 2)),
+        None => Ok((Token::ClassStart { negated: false }, at + 1)),
     }
 }
 
 /// A POSIX item in a class, whose second mark is given.
 #[tactic(auto, unfolding(crate::specs::Classes::posix))]
-fn posix(text: &[u8], at: usize, to: usize) -> Result<(Token, usize), Fault>
+fn posix(text: &[u8], at: usize, to: usize) -> Lexed
     requires order { at + 2 ≤ to }
     requires within { to + 2 ≤ length text.now }
     ensures value { result ≡ posix text.now at to }
     ensures sound { IsSound text.now at result }
 {
     if !stands(text, b':', at + 1) {
-        return Err(Fault {
-            number: COLLATING_ELEMENT,
-            at,
-        });
+        return Err(Fault::new(COLLATING_ELEMENT, at));
     }
     let name = &text[at + 2..to];
     let not = stands(name, b'^', 0);
@@ -149,16 +123,13 @@ fn posix(text: &[u8], at: usize, to: usize) -> Result<(Token, usize), Fault>
     };
     match set {
         Some(set) => Ok((Token::Set { set, not }, to + 2)),
-        None => Err(Fault {
-            number: UNKNOWN_POSIX_NAME,
-            at,
-        }),
+        None => Err(Fault::new(UNKNOWN_POSIX_NAME, at)),
     }
 }
 
 /// `[` in a class: a POSIX item, or a character.
 #[tactic(auto, unfolding(crate::specs::Classes::bracket))]
-fn bracket(text: &[u8], at: usize) -> Result<(Token, usize), Fault>
+fn bracket(text: &[u8], at: usize) -> Lexed
     requires { at < length text.now }
     ensures value { result ≡ bracket text.now at }
     ensures sound { IsSound text.now at result }
@@ -171,7 +142,7 @@ fn bracket(text: &[u8], at: usize) -> Result<(Token, usize), Fault>
 
 /// An escape in a class that goes on after its letter, or that is refused, or a character that stands for itself.
 #[tactic(auto, unfolding(crate::specs::Classes::longer_in_class))]
-fn longer_in_class(text: &[u8], flags: LexFlags, c: u8, at: usize) -> Result<(Token, usize), Fault>
+fn longer_in_class(text: &[u8], flags: LexFlags, c: u8, at: usize) -> Lexed
     requires { at + 2 ≤ length text.now }
     ensures value { result ≡ longer_in_class text.now flags c at }
     ensures sound { IsSound text.now at result }
@@ -184,35 +155,23 @@ fn longer_in_class(text: &[u8], flags: LexFlags, c: u8, at: usize) -> Result<(To
         b'p' => property(text, false, at),
         b'P' => property(text, true, at),
         b'B' | b'R' | b'N' | b'X' | b'A' | b'Z' | b'z' | b'G' | b'K' | b'g' | b'k' => {
-            Err(Fault {
-                number: NOT_IN_CLASS,
-                at,
-            })
+            Err(Fault::new(NOT_IN_CLASS, at))
         }
-        b'C' | b'L' | b'l' | b'U' | b'u' => Err(Fault {
-            number: LEFT_OUT,
-            at,
-        }),
-        b'A'..=b'Z' | b'a'..=b'z' => Err(Fault {
-            number: UNKNOWN_ESCAPE,
-            at,
-        }),
+        b'C' | b'L' | b'l' | b'U' | b'u' => Err(Fault::new(LEFT_OUT, at)),
+        b'A'..=b'Z' | b'a'..=b'z' => Err(Fault::new(UNKNOWN_ESCAPE, at)),
         _ => Ok((Token::Literal(u32::from(c)), at + 2)),
     }
 }
 
 /// The token of a backslash in a class.
 #[tactic(auto, unfolding(crate::specs::Classes::class_escape))]
-fn class_escape(text: &[u8], flags: LexFlags, at: usize) -> Result<(Token, usize), Fault>
+fn class_escape(text: &[u8], flags: LexFlags, at: usize) -> Lexed
     requires { at < length text.now }
     ensures value { result ≡ class_escape text.now flags at }
     ensures sound { IsSound text.now at result }
 {
     let Some(c) = byte(text, at + 1) else {
-        return Err(Fault {
-            number: BACKSLASH_AT_END,
-            at,
-        });
+        return Err(Fault::new(BACKSLASH_AT_END, at));
     };
     if let Some(token) = everywhere(c) {
         return Ok((token, at + 2));
@@ -222,12 +181,7 @@ fn class_escape(text: &[u8], flags: LexFlags, at: usize) -> Result<(Token, usize
 
 /// The token in a class that begins with this byte.
 #[tactic(auto, unfolding(crate::specs::Classes::in_class))]
-pub(crate) fn in_class(
-    text: &[u8],
-    flags: LexFlags,
-    c: u8,
-    at: usize,
-) -> Result<(Token, usize), Fault>
+pub(crate) fn in_class(text: &[u8], flags: LexFlags, c: u8, at: usize) -> Lexed
     requires { at < length text.now }
     ensures value { result ≡ in_class text.now flags c at }
     ensures sound { IsSound text.now at result }

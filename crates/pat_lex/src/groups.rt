@@ -1,18 +1,14 @@
 //! What an opening parenthesis begins (pcre2pattern, "Groups", "Assertions", "Conditional groups").
 ghost use Rattle.std.specs.Prelude.{◌≡◌, ◌+◌, ◌<◌, ◌≤◌, ℕ, List, length, IfSome};
-ghost use Rattle.pat_lex.specs.Tell.{IsSound, IsKind};
+ghost use Rattle.token_parts.specs.Tell.{IsSound, IsKind};
 ghost use Rattle.pat_lex.specs.Groups.{opened_by, named_group, angle, python, whole_call, special, group};
 
-use crate::bytes::{byte, is_letter, stands};
-use crate::callouts::callout;
-use crate::comments::comment;
-use crate::conditions::condition;
-use crate::fault::{Fault, UNCLOSED_GROUP, UNKNOWN_GROUP};
-use crate::names::name_end;
-use crate::settings::setting;
-use crate::targets::{begins_number, named_call, named_reference, numbered_call};
-use crate::token::{OpenKind, Target, Token};
 use crate::verbs::{look, star_word};
+use token_parts::{
+    Fault, Lexed, OpenKind, Target, Token, UNCLOSED_GROUP, UNKNOWN_GROUP, begins_number, byte,
+    callout, comment, condition, is_letter, name_end, named_call, named_reference, numbered_call,
+    setting, stands,
+};
 
 /// The group that one character after `(?` opens.
 #[tactic(auto, unfolding(crate::specs::Groups::opened_by))]
@@ -33,7 +29,7 @@ fn opened_by(c: u8) -> Option<OpenKind>
 
 /// A named group, whose name begins at a place.
 #[tactic(auto, unfolding(crate::specs::Groups::named_group))]
-fn named_group(text: &[u8], at: usize, from: usize, close: u8) -> Result<(Token, usize), Fault>
+fn named_group(text: &[u8], at: usize, from: usize, close: u8) -> Lexed
     requires order { at ≤ from }
     requires within { from ≤ length text.now }
     ensures value { result ≡ named_group text.now at from close }
@@ -45,7 +41,7 @@ fn named_group(text: &[u8], at: usize, from: usize, close: u8) -> Result<(Token,
 
 /// `(?<`: a lookbehind, or a named group.
 #[tactic(auto, unfolding(crate::specs::Groups::angle))]
-fn angle(text: &[u8], at: usize) -> Result<(Token, usize), Fault>
+fn angle(text: &[u8], at: usize) -> Lexed
     requires { at + 3 ≤ length text.now }
     ensures value { result ≡ angle text.now at }
     ensures sound { IsSound text.now at result }
@@ -63,7 +59,7 @@ fn angle(text: &[u8], at: usize) -> Result<(Token, usize), Fault>
 
 /// `(?P`: a named group, or a reference or a call by a name.
 #[tactic(auto, unfolding(crate::specs::Groups::python))]
-fn python(text: &[u8], at: usize) -> Result<(Token, usize), Fault>
+fn python(text: &[u8], at: usize) -> Lexed
     requires { at + 3 ≤ length text.now }
     ensures value { result ≡ python text.now at }
     ensures sound { IsSound text.now at result }
@@ -75,21 +71,15 @@ fn python(text: &[u8], at: usize) -> Result<(Token, usize), Fault>
     } else if stands(text, b'>', at + 3) {
         named_call(text, at, at + 4)
     } else if at + 3 == text.len() {
-        Err(Fault {
-            number: UNCLOSED_GROUP,
-            at: text.len(),
-        })
+        Err(Fault::new(UNCLOSED_GROUP, text.len()))
     } else {
-        Err(Fault {
-            number: UNKNOWN_GROUP,
-            at,
-        })
+        Err(Fault::new(UNKNOWN_GROUP, at))
     }
 }
 
 /// `(?R)`: a call of the whole pattern.
 #[tactic(auto, unfolding(crate::specs::Groups::whole_call))]
-fn whole_call(text: &[u8], at: usize) -> Result<(Token, usize), Fault>
+fn whole_call(text: &[u8], at: usize) -> Lexed
     requires { at + 3 ≤ length text.now }
     ensures value { result ≡ whole_call text.now at }
     ensures sound { IsSound text.now at result }
@@ -97,16 +87,13 @@ fn whole_call(text: &[u8], at: usize) -> Result<(Token, usize), Fault>
     if stands(text, b')', at + 3) {
         Ok((Token::CallTo(Target::Number(0)), at + 4))
     } else {
-        Err(Fault {
-            number: UNCLOSED_GROUP,
-            at: text.len(),
-        })
+        Err(Fault::new(UNCLOSED_GROUP, text.len()))
     }
 }
 
 /// `(?` and the byte after it.
 #[tactic(auto, unfolding(crate::specs::Groups::special))]
-fn special(text: &[u8], c: u8, at: usize) -> Result<(Token, usize), Fault>
+fn special(text: &[u8], c: u8, at: usize) -> Lexed
     requires { at + 3 ≤ length text.now }
     ensures value { result ≡ special text.now c at }
     ensures sound { IsSound text.now at result }
@@ -130,7 +117,7 @@ fn special(text: &[u8], c: u8, at: usize) -> Result<(Token, usize), Fault>
 
 /// An opening parenthesis. An asterisk with neither a letter nor a colon after it is a quantifier after it.
 #[tactic(auto, unfolding(crate::specs::Groups::group))]
-pub(crate) fn group(text: &[u8], at: usize) -> Result<(Token, usize), Fault>
+pub(crate) fn group(text: &[u8], at: usize) -> Lexed
     requires { at < length text.now }
     ensures value { result ≡ group text.now at }
     ensures sound { IsSound text.now at result }
@@ -138,10 +125,7 @@ pub(crate) fn group(text: &[u8], at: usize) -> Result<(Token, usize), Fault>
     if stands(text, b'?', at + 1) {
         match byte(text, at + 2) {
             Some(c) => special(text, c, at),
-            None => Err(Fault {
-                number: UNCLOSED_GROUP,
-                at: text.len(),
-            }),
+            None => Err(Fault::new(UNCLOSED_GROUP, text.len())),
         }
     } else if stands(text, b'*', at + 1)
         && (is_letter(text, at + 2) || stands(text, b':', at + 2))

@@ -1,20 +1,17 @@
 //! The token that begins at a place of a pattern.
 ghost use Rattle.std.specs.Prelude.{◌≡◌, ◌+◌, ◌<◌, ◌≤◌, length, IfOk, IfErr, IsTrue};
-ghost use Rattle.pat_lex.specs.Tell.{IsSound, IsWell, Moves, is_own};
+ghost use Rattle.token_parts.specs.Tell.{IsSound, IsWell, Moves, is_own};
 ghost use Rattle.pat_lex.specs.Tokens.{quoted, rest, plain, token_at};
 
-use crate::bytes::{byte, stands};
 use crate::classes::{class_start, in_class};
-use crate::comments::{blank_end, is_extended};
 use crate::escapes::escape;
-use crate::fault::Fault;
 use crate::groups::group;
 use crate::quantifiers::{counted, is_counted, with_mode};
-use crate::token::{LexFlags, Token};
+use token_parts::{Fault, LexFlags, Lexed, Token, blank_end, byte, is_extended, stands};
 
 /// The token between `\Q` and `\E` that begins with this byte.
 #[tactic(auto, unfolding(crate::specs::Tokens::quoted))]
-fn quoted(text: &[u8], c: u8, at: usize) -> Result<(Token, usize), Fault>
+fn quoted(text: &[u8], c: u8, at: usize) -> Lexed
     requires { at < length text.now }
     ensures value { result ≡ quoted text.now c at }
     ensures sound { IsSound text.now at result }
@@ -28,7 +25,7 @@ fn quoted(text: &[u8], c: u8, at: usize) -> Result<(Token, usize), Fault>
 
 /// A quantifier, what is passed over, or a character.
 #[tactic(auto, unfolding(crate::specs::Tokens::rest))]
-fn rest(text: &[u8], flags: LexFlags, c: u8, at: usize) -> Result<(Token, usize), Fault>
+fn rest(text: &[u8], flags: LexFlags, c: u8, at: usize) -> Lexed
     requires { at < length text.now }
     ensures value { result ≡ rest text.now flags c at }
     ensures sound { IsSound text.now at result }
@@ -51,7 +48,7 @@ fn rest(text: &[u8], flags: LexFlags, c: u8, at: usize) -> Result<(Token, usize)
 
 /// The token outside classes that begins with this byte.
 #[tactic(auto, unfolding(crate::specs::Tokens::plain))]
-fn plain(text: &[u8], flags: LexFlags, c: u8, at: usize) -> Result<(Token, usize), Fault>
+fn plain(text: &[u8], flags: LexFlags, c: u8, at: usize) -> Lexed
     requires { at < length text.now }
     ensures value { result ≡ plain text.now flags c at }
     ensures sound { IsSound text.now at result }

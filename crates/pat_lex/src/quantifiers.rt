@@ -1,12 +1,13 @@
 //! Quantifiers (pcre2pattern, "Repetition").
 ghost use Rattle.std.specs.Prelude.{◌≡◌, ◌+◌, ◌<◌, ◌≤◌, length, IsTrue, IfSome, ℕ};
-ghost use Rattle.pat_lex.specs.Tell.{IsSound};
+ghost use Rattle.token_parts.specs.Tell.{IsSound};
 ghost use Rattle.pat_lex.specs.Quantifiers.{is_counted, with_mode, counted};
 
-use crate::bytes::{Run, numeral, run_end, stands};
-use crate::comments::{blanks_end, is_extended};
-use crate::fault::{COUNT_TOO_BIG, COUNTS_OUT_OF_ORDER, Fault};
-use crate::token::{LexFlags, QuantMode, Token};
+use crate::faults::{COUNT_TOO_BIG, COUNTS_OUT_OF_ORDER};
+use token_parts::{
+    Fault, LexFlags, Lexed, QuantMode, Run, Token, blanks_end, is_extended, numeral, run_end,
+    stands,
+};
 
 /// The greatest number of turns that can be written.
 const GREATEST_COUNT: u64 = 65_535;
@@ -32,13 +33,7 @@ pub(crate) fn is_counted(text: &[u8], brace: usize) -> bool
 /// A quantifier whose counts end at the place, with the `?` or `+` after it. EXTENDED ignores white space and `#` comments
 /// before the `+`, not before the `?`.
 #[tactic(auto, unfolding(crate::specs::Quantifiers::with_mode))]
-pub(crate) fn with_mode(
-    text: &[u8],
-    flags: LexFlags,
-    min: u16,
-    max: Option<u16>,
-    i: usize,
-) -> Result<(Token, usize), Fault>
+pub(crate) fn with_mode(text: &[u8], flags: LexFlags, min: u16, max: Option<u16>, i: usize) -> Lexed
     requires within { i ≤ length text.now }
     requires order { IfSome max (λ most. min ≤ most) }
     ensures value { result ≡ with_mode text.now flags min max i }
@@ -49,39 +44,19 @@ pub(crate) fn with_mode(
     } else {
         i
     };
-    if stands(text, b'?', i) {
-        Ok((
-            Token::Quantifier {
-                min,
-                max,
-                mode: QuantMode::Lazy,
-            },
-            i + 1,
-        ))
+    let (mode, after) = if stands(text, b'?', i) {
+        (QuantMode::Lazy, i + 1)
     } else if stands(text, b'+', plus) {
-        Ok((
-            Token::Quantifier {
-                min,
-                max,
-                mode: QuantMode::Possessive,
-            },
-            plus + 1,
-        ))
+        (QuantMode::Possessive, plus + 1)
     } else {
-        Ok((
-            Token::Quantifier {
-                min,
-                max,
-                mode: QuantMode::Greedy,
-            },
-            i,
-        ))
-    }
+        (QuantMode::Greedy, i)
+    };
+    Ok((Token::Quantifier { min, max, mode }, after))
 }
 
 /// A quantifier in braces.
 #[tactic(auto, using(crate::proofs::Standing::stands_within), unfolding(crate::specs::Quantifiers::counted, crate::specs::Quantifiers::is_counted))]
-pub(crate) fn counted(text: &[u8], flags: LexFlags, at: usize) -> Result<(Token, usize), Fault>
+pub(crate) fn counted(text: &[u8], flags: LexFlags, at: usize) -> Lexed
     requires within { at < length text.now }
     requires counted { IsTrue (is_counted text.now at) }
     ensures value { result ≡ counted text.now flags at }
@@ -90,10 +65,7 @@ pub(crate) fn counted(text: &[u8], flags: LexFlags, at: usize) -> Result<(Token,
     let low_end = run_end(text, Run::Digits(10), at + 1);
     let low = numeral(text, 10, at + 1, low_end);
     if low > GREATEST_COUNT {
-        return Err(Fault {
-            number: COUNT_TOO_BIG,
-            at,
-        });
+        return Err(Fault::new(COUNT_TOO_BIG, at));
     }
     let min = low as u16;
     if stands(text, b'}', low_end) {
@@ -105,15 +77,9 @@ pub(crate) fn counted(text: &[u8], flags: LexFlags, at: usize) -> Result<(Token,
     }
     let high = numeral(text, 10, low_end + 1, high_end);
     if high > GREATEST_COUNT {
-        Err(Fault {
-            number: COUNT_TOO_BIG,
-            at,
-        })
+        Err(Fault::new(COUNT_TOO_BIG, at))
     } else if high < low {
-        Err(Fault {
-            number: COUNTS_OUT_OF_ORDER,
-            at,
-        })
+        Err(Fault::new(COUNTS_OUT_OF_ORDER, at))
     } else {
         with_mode(text, flags, min, Some(high as u16), high_end + 1)
     }

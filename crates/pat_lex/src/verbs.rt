@@ -1,13 +1,14 @@
 //! What begins with `(*` and a word: verbs (pcre2pattern, "Backtracking control"), groups by name ("Groups",
 //! "Assertions"), and items for the very start ("Special start-of-pattern items").
 ghost use Rattle.std.specs.Prelude.{◌≡◌, ◌+◌, ◌<◌, ◌≤◌, ℕ, List, length, IfSome};
-ghost use Rattle.pat_lex.specs.Tell.{IsSound, IsKind};
+ghost use Rattle.token_parts.specs.Tell.{IsSound, IsKind};
 ghost use Rattle.pat_lex.specs.Verbs.{start_word, verb_word, group_word, is_script_run, named_verb, closed_word, colon_word, limit, star_word};
 
-use crate::bytes::{Run, numeral, run_end, stands};
-use crate::fault::{Fault, LEFT_OUT, MARK_WITHOUT_NAME, UNKNOWN_VERB, VERB_NAME_TOO_LONG};
-use crate::token::{OpenKind, StartItem, Token, VerbKind};
+use crate::faults::{MARK_WITHOUT_NAME, UNKNOWN_VERB, VERB_NAME_TOO_LONG};
 use pat_tree::{Bsr, Newline};
+use token_parts::{
+    Fault, LEFT_OUT, Lexed, OpenKind, Run, StartItem, Token, VerbKind, numeral, run_end, stands,
+};
 
 /// The greatest length of a verb's name in bytes.
 const LONGEST_NAME: usize = 255;
@@ -142,7 +143,7 @@ fn is_script_run(word: &[u8]) -> bool
 
 /// A verb with its name, which goes from a place to the next `)`.
 #[tactic(auto, unfolding(crate::specs::Verbs::named_verb))]
-fn named_verb(text: &[u8], at: usize, verb: VerbKind, from: usize) -> Result<(Token, usize), Fault>
+fn named_verb(text: &[u8], at: usize, verb: VerbKind, from: usize) -> Lexed
     requires order { at ≤ from }
     requires within { from ≤ length text.now }
     ensures value { result ≡ named_verb text.now at verb from }
@@ -150,20 +151,11 @@ fn named_verb(text: &[u8], at: usize, verb: VerbKind, from: usize) -> Result<(To
 {
     let to = run_end(text, Run::Until(b')'), from);
     if !stands(text, b')', to) {
-        Err(Fault {
-            number: UNKNOWN_VERB,
-            at,
-        })
+        Err(Fault::new(UNKNOWN_VERB, at))
     } else if to - from > LONGEST_NAME {
-        Err(Fault {
-            number: VERB_NAME_TOO_LONG,
-            at,
-        })
+        Err(Fault::new(VERB_NAME_TOO_LONG, at))
     } else if matches!(verb, VerbKind::Mark) && from == to {
-        Err(Fault {
-            number: MARK_WITHOUT_NAME,
-            at,
-        })
+        Err(Fault::new(MARK_WITHOUT_NAME, at))
     } else {
         Ok((Token::VerbItem { verb, from, to }, to + 1))
     }
@@ -171,7 +163,7 @@ fn named_verb(text: &[u8], at: usize, verb: VerbKind, from: usize) -> Result<(To
 
 /// A word up to a place with `)` after it.
 #[tactic(auto, unfolding(crate::specs::Verbs::closed_word))]
-fn closed_word(text: &[u8], at: usize, to: usize) -> Result<(Token, usize), Fault>
+fn closed_word(text: &[u8], at: usize, to: usize) -> Lexed
     requires order { at + 2 ≤ to }
     requires within { to < length text.now }
     ensures value { result ≡ closed_word text.now at to }
@@ -183,16 +175,13 @@ fn closed_word(text: &[u8], at: usize, to: usize) -> Result<(Token, usize), Faul
     }
     match verb_word(word) {
         Some(verb) => named_verb(text, at, verb, to),
-        None => Err(Fault {
-            number: UNKNOWN_VERB,
-            at,
-        }),
+        None => Err(Fault::new(UNKNOWN_VERB, at)),
     }
 }
 
 /// A word up to a place with `:` after it.
 #[tactic(auto, unfolding(crate::specs::Verbs::colon_word))]
-fn colon_word(text: &[u8], at: usize, to: usize) -> Result<(Token, usize), Fault>
+fn colon_word(text: &[u8], at: usize, to: usize) -> Lexed
     requires order { at + 2 ≤ to }
     requires within { to < length text.now }
     ensures value { result ≡ colon_word text.now at to }
@@ -206,21 +195,15 @@ fn colon_word(text: &[u8], at: usize, to: usize) -> Result<(Token, usize), Fault
         return Ok((Token::Open(kind), to + 1));
     }
     if is_script_run(word) {
-        Err(Fault {
-            number: LEFT_OUT,
-            at,
-        })
+        Err(Fault::new(LEFT_OUT, at))
     } else {
-        Err(Fault {
-            number: UNKNOWN_VERB,
-            at,
-        })
+        Err(Fault::new(UNKNOWN_VERB, at))
     }
 }
 
 /// `(*LIMIT_MATCH=d)`, the word up to a place with `=` after it.
 #[tactic(auto, unfolding(crate::specs::Verbs::limit))]
-fn limit(text: &[u8], at: usize, to: usize) -> Result<(Token, usize), Fault>
+fn limit(text: &[u8], at: usize, to: usize) -> Lexed
     requires order { at + 2 ≤ to }
     requires within { to < length text.now }
     ensures value { result ≡ limit text.now at to }
@@ -232,16 +215,13 @@ fn limit(text: &[u8], at: usize, to: usize) -> Result<(Token, usize), Fault>
     if is_limit && (end > to + 1 && (number <= u64::from(u32::MAX) && stands(text, b')', end))) {
         Ok((Token::Start(StartItem::LimitMatch(number as u32)), end + 1))
     } else {
-        Err(Fault {
-            number: UNKNOWN_VERB,
-            at,
-        })
+        Err(Fault::new(UNKNOWN_VERB, at))
     }
 }
 
 /// `(*` with a letter or a colon after it.
 #[tactic(auto, unfolding(crate::specs::Verbs::star_word))]
-pub(crate) fn star_word(text: &[u8], at: usize) -> Result<(Token, usize), Fault>
+pub(crate) fn star_word(text: &[u8], at: usize) -> Lexed
     requires { at + 2 ≤ length text.now }
     ensures value { result ≡ star_word text.now at }
     ensures sound { IsSound text.now at result }
@@ -254,9 +234,6 @@ pub(crate) fn star_word(text: &[u8], at: usize) -> Result<(Token, usize), Fault>
     } else if stands(text, b'=', to) {
         limit(text, at, to)
     } else {
-        Err(Fault {
-            number: UNKNOWN_VERB,
-            at,
-        })
+        Err(Fault::new(UNKNOWN_VERB, at))
     }
 }

@@ -85,6 +85,13 @@ impl Tree {
         self.nodes[id as usize].at
     }
 
+    /// Each finished tree keeps the rules of its nodes, its names and the groups that they name.
+    pub fn is_sound(&self)
+        ensures { TreeRules self.now }
+    {
+        let _root = &self.root;
+    }
+
     /// The number of the whole tree's node.
     pub fn root(&self) -> NodeId
         ensures { result ≡ self.now.root }

@@ -1,6 +1,6 @@
 //! The tool on the program's words, the real files and the standard streams.
 use crate::top::run;
-use pcre_io::{MemFiles, StdSink, StdSource};
+use pcre_io::{StdFiles, StdSink, StdSource};
 use std::env;
 use std::io::{self, BufWriter, Write};
 use std::process::ExitCode;
@@ -51,7 +51,7 @@ fn run_words(rt: &HostRuntime, words: &[String]) -> u8 {
     let Ok(mut writer) = BufWriter::with_capacity(rt.alloc(), BUFFER, rt.stdout()) else {
         return NO_MEMORY;
     };
-    let mut files = MemFiles::new(rt.alloc());
+    let mut files = StdFiles::new(rt);
     let mut input = StdSource::new(rt.stdin());
     let mut out = StdSink::new(&mut writer);
     let mut err = StdSink::new(rt.stderr());

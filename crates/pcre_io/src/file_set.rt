@@ -8,8 +8,8 @@ use std::alloc::Global;
 
 /// Files by their names.
 pub trait FileSet {
-    /// What an opened file is read by.
-    type Src: Source;
+    /// What an opened file is read by. It can be let go of before its end.
+    type Src: Source + Drop;
 
     /// Its files, where it tells them, and how many faults it has counted.
     ghost tells: { Self → Filed };

@@ -9,7 +9,10 @@ mod mem_sink;
 mod mem_source;
 mod memory;
 mod names;
+mod std_files;
 mod std_streams;
+#[cfg(test)]
+mod tests;
 mod traits;
 mod whole;
 
@@ -20,6 +23,7 @@ pub use mem_sink::MemSink;
 pub use mem_source::MemSource;
 pub use memory::Memory;
 pub use names::{Name, NameList};
+pub use std_files::StdFiles;
 pub use std_streams::{StdSink, StdSource};
 pub use traits::{Failed, IoError, Sink, Source};
 pub use whole::write_all;

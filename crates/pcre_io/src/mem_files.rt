@@ -1,6 +1,6 @@
 //! Files in memory.
 ghost use Rattle.std.specs.Prelude.{◌≡◌, [], map, MatchOption, None, Some, OnErr, OnOk, IfOk, Err, string_bytes};
-ghost use Rattle.pcre_io.specs.Files.{file_of, file_view};
+ghost use Rattle.pcre_io.specs.Files.{Adds, file_of, file_view, place_of};
 
 use crate::file_set::FileSet;
 use crate::mem_source::MemSource;
@@ -32,6 +32,44 @@ impl MemFiles {
             files: Vec::new(alloc),
             faults: 0,
         }
+    }
+
+    /// Adds a file, in the place of the one that has its name, if there is one. After `fail_at` of its bytes, where it is
+    /// given, every read of it fails. The set is unchanged after a refusal, which is for want of memory alone.
+    pub fn add(&mut self, name: String, bytes: Vec<u8>, fail_at: Option<u64>) -> Result<(), Memory>
+        ensures ok { OnOk result (Adds (record { name = string_bytes name; bytes = bytes.items; fault = fail_at }) (⟦<MemFiles as FileSet>⟧.tells self.old) (⟦<MemFiles as FileSet>⟧.tells self.new)) }
+        ensures refused { OnErr result (⟦<MemFiles as FileSet>⟧.tells self.new ≡ ⟦<MemFiles as FileSet>⟧.tells self.old) }
+    {
+        let file = MemFile {
+            name,
+            bytes,
+            fail_at,
+        };
+        let at = place_of(self.files.as_slice(), file.name.as_str());
+        if at < self.files.len() {
+            self.files[at] = file;
+        } else {
+            self.files.push(file)?;
+        }
+        Ok(())
+    }
+}
+
+// How many files stand before the first of this name.
+fn place_of(files: &[MemFile], name: &str) -> usize
+    ensures { result ≡ place_of name.now (map file_view files.now) }
+{
+    let mut rest = files;
+    let mut at = 0;
+    'file: loop {
+        let [file, more @ ..] = rest else {
+            return at;
+        };
+        if file.name.as_str() == name {
+            return at;
+        }
+        rest = more;
+        at += 1;
     }
 }
 

@@ -1,188 +1,80 @@
 //! Tables of faults, and texts of any bytes.
-use super::{EXTENDED, IN_CLASS, PLAIN, QUOTING, begins, refused};
+use super::{EXTENDED, IN_CLASS, PLAIN, QUOTING, refused};
 use crate::{LexFlags, Token, next_token};
 use pat_tree::Newline;
 use std::process::Abort;
 
+/// The first token of each of the texts, which stand between blanks, is refused at its begin.
+fn all_refused(rt: &impl Abort, flags: LexFlags, number: i32, texts: &str) {
+    for text in texts.split(' ') {
+        refused(rt, flags, text, number, 0);
+    }
+}
+
 #[test]
 fn faults(rt: HostRuntime) {
     let rows = [
-        ("\\", 101),
-        ("\\c", 102),
-        ("\\c\n", 102),
-        ("\\c\x7f", 102),
-        ("\\y", 103),
-        ("\\F", 103),
-        ("{3,1}", 104),
-        ("{65536}", 105),
-        ("{1,65536}", 105),
-        ("{99999999999999999999,1}", 105),
-        ("(?a)", 111),
-        ("(?Px", 111),
-        ("(?P'n'", 111),
-        ("(?^-i)", 111),
-        ("(?i--s)", 111),
-        ("(?+-a)", 111),
-        ("(?+", 111),
-        ("[:alpha:]", 112),
-        ("[:^a:]", 112),
-        ("[:a\\]b:]", 112),
-        ("[.x.]", 113),
-        ("[=x=]", 113),
-        ("\\g{+0}", 126),
-        ("\\g-0", 126),
-        ("(?-0)", 126),
-        ("(?(+0)", 126),
-        ("(?(1", 128),
-        ("(?(1x)", 128),
-        ("(?(+)", 128),
-        ("(?(<ab>", 128),
-        ("\\x{100}", 134),
-        ("\\x{100g}", 134),
-        ("\\o{400}", 134),
-        ("\\400", 134),
-        ("\\o", 135),
-        ("\\o7", 135),
-        ("\\o{}", 135),
-        ("\\o{8}", 135),
-        ("\\x{}", 135),
-        ("\\x{g}", 135),
-        ("\\x{1", 135),
-        ("(?C256)", 138),
-        ("(?C256", 138),
-        ("(?C1", 139),
-        ("(?C1x)", 139),
-        ("(?Ca)", 139),
-        ("(?C'a)", 139),
-        ("(?C'a'b)", 139),
-        ("(?C'a''", 139),
-        ("(?<a-", 142),
-        ("(?<a", 142),
-        ("(?'a>", 142),
-        ("(?(ab", 142),
-        ("\\k{a", 142),
-        ("(?&a", 142),
-        ("(?<", 144),
-        ("(?<>", 144),
-        ("(?<1a>", 144),
-        ("(?&)", 144),
-        ("(?P=", 144),
-        ("\\k<>", 144),
-        ("\\g{}", 144),
-        ("\\g<", 144),
-        ("(?()", 144),
-        ("(?(R&)", 144),
-        ("\\p", 146),
-        ("\\p1", 146),
-        ("\\P{L", 146),
-        ("(?<a23456789012345678901234567890123>", 148),
-        ("(*FOO)", 160),
-        ("(*pla", 160),
-        ("(*pla)", 160),
-        ("(*foo:", 160),
-        ("(*accept)", 160),
-        ("(*ACCEPT", 160),
-        ("(*MARK:a", 160),
-        ("(*CR:", 160),
-        ("(*LIMIT_MATCH)", 160),
-        ("(*LIMIT_MATCH=)", 160),
-        ("(*LIMIT_MATCH=x)", 160),
-        ("(*LIMIT_MATCH=4294967296)", 160),
-        ("(*LIMIT_HEAP=1)", 160),
-        ("\\99999", 161),
-        ("\\g{65536}", 161),
-        ("(?-65536", 161),
-        ("(?(99999999999999999999)", 161),
-        ("(*MARK)", 166),
-        ("(*MARK:)", 166),
-        ("(*:)", 166),
-        ("\\g", 169),
-        ("\\ga", 169),
-        ("\\g{-}", 169),
-        ("\\g<+", 169),
-        ("\\g{1", 169),
-        ("\\k", 169),
-        ("\\ka", 169),
-        ("\\C", 195),
-        ("\\X", 195),
-        ("\\L", 195),
-        ("\\l", 195),
-        ("\\U", 195),
-        ("\\u", 195),
-        ("\\N{U+41}", 195),
-        ("\\N{,3}", 195),
-        ("(*sr:", 195),
-        ("(*script_run:", 195),
-        ("(*asr:", 195),
-        ("(*atomic_script_run:", 195),
-        ("(?(VERSION=1)", 195),
-        ("(?(VERSION>=1)", 195),
+        (101, "\\"),
+        (102, "\\c \\c\n \\c\x7f"),
+        (103, "\\y \\F"),
+        (104, "{3,1}"),
+        (105, "{65536} {1,65536} {99999999999999999999,1}"),
+        (111, "(?a) (?Px (?P'n' (?^-i) (?i--s) (?+-a) (?+"),
+        (112, "[:alpha:] [:^a:] [:a\\]b:]"),
+        (113, "[.x.] [=x=]"),
+        (126, "\\g{+0} \\g-0 (?-0) (?(+0)"),
+        (128, "(?(1 (?(1x) (?(+) (?(<ab>"),
+        (134, "\\x{100} \\x{100g} \\o{400} \\400"),
+        (135, "\\o \\o7 \\o{} \\o{8} \\x{} \\x{g} \\x{1"),
+        (138, "(?C256) (?C256"),
+        (139, "(?C1 (?C1x) (?Ca) (?C'a) (?C'a'b) (?C'a''"),
+        (142, "(?<a- (?<a (?'a> (?(ab \\k{a (?&a"),
+        (144, "(?< (?<> (?<1a> (?&) (?P= (?() (?(R&)"),
+        (144, "\\k<> \\g{} \\g<"),
+        (146, "\\p \\p1 \\P{L"),
+        (148, "(?<a23456789012345678901234567890123>"),
+        (160, "(*FOO) (*pla (*pla) (*foo: (*accept) (*ACCEPT"),
+        (160, "(*MARK:a (*CR: (*LIMIT_MATCH) (*LIMIT_MATCH=)"),
+        (160, "(*LIMIT_MATCH=x) (*LIMIT_MATCH=4294967296)"),
+        (160, "(*LIMIT_HEAP=1)"),
+        (161, "\\99999 \\g{65536} (?-65536 (?(99999999999999999999)"),
+        (166, "(*MARK) (*MARK:) (*:)"),
+        (169, "\\g \\ga \\g{-} \\g<+ \\g{1 \\k \\ka"),
+        (195, "\\C \\X \\L \\l \\U \\u \\N{U+41} \\N{,3}"),
+        (195, "(*sr: (*asr: (*script_run: (*atomic_script_run:"),
+        (195, "(?(VERSION=1) (?(VERSION>=1)"),
     ];
-    for (text, number) in rows {
-        refused(&rt, PLAIN, text, number, 0);
+    for (number, texts) in rows {
+        all_refused(&rt, PLAIN, number, texts);
     }
 }
 
 #[test]
 fn faults_of_what_the_end_cuts_off(rt: HostRuntime) {
-    let rows = [
-        ("(?", 114),
-        ("(?P", 114),
-        ("(?i", 114),
-        ("(?i-", 114),
-        ("(?-", 114),
-        ("(?^", 114),
-        ("(?C", 114),
-        ("(?(", 114),
-        ("(?R", 114),
-        ("(?Rx)", 114),
-        ("(?1", 114),
-        ("(?1x)", 114),
-        ("(?#a", 118),
-    ];
-    for (text, number) in rows {
-        refused(&rt, PLAIN, text, number, text.len());
+    for text in "(? (?P (?i (?i- (?- (?^ (?C (?( (?R (?Rx) (?1 (?1x)".split(' ') {
+        refused(&rt, PLAIN, text, 114, text.len());
     }
+    refused(&rt, PLAIN, "(?#a", 118, 4);
 }
 
 #[test]
 fn faults_in_classes(rt: HostRuntime) {
-    for text in [
-        "\\B", "\\R", "\\N", "\\N{3}", "\\X", "\\A", "\\Z", "\\z", "\\G", "\\K", "\\g", "\\g{1}",
-        "\\k",
-    ] {
-        refused(&rt, IN_CLASS, text, 107, 0);
-    }
     let rows = [
-        ("\\", 101),
-        ("\\c", 102),
-        ("\\y", 103),
-        ("[.x.]", 113),
-        ("[=x=]", 113),
-        ("[:foo:]", 130),
-        ("[:<:]", 130),
-        ("[:>:]", 130),
-        ("[::]", 130),
-        ("\\400", 134),
-        ("\\o{8}", 135),
-        ("\\p", 146),
-        ("\\C", 195),
-        ("\\u", 195),
+        (101, "\\"),
+        (102, "\\c"),
+        (103, "\\y"),
+        (107, "\\B \\R \\N \\N{3} \\X \\A \\Z \\z"),
+        (107, "\\G \\K \\g \\g{1} \\k"),
+        (113, "[.x.] [=x=]"),
+        (130, "[:foo:] [:<:] [:>:] [::]"),
+        (134, "\\400"),
+        (135, "\\o{8}"),
+        (146, "\\p"),
+        (195, "\\C \\u"),
     ];
-    for (text, number) in rows {
-        refused(&rt, IN_CLASS, text, number, 0);
+    for (number, texts) in rows {
+        all_refused(&rt, IN_CLASS, number, texts);
     }
-}
-
-#[test]
-fn codes_in_utf(rt: HostRuntime) {
-    let utf = LexFlags { utf: true, ..PLAIN };
-    begins(&rt, utf, "\\x{10ffff}", Token::Literal(0x10_FFFF), 10);
-    begins(&rt, utf, "\\777", Token::Literal(511), 4);
-    refused(&rt, utf, "\\x{110000}", 134, 0);
-    refused(&rt, utf, "\\x{d800}", 173, 0);
-    refused(&rt, utf, "\\o{157777}", 173, 0);
-    begins(&rt, utf, "\\x{e000}", Token::Literal(0xE000), 8);
 }
 
 /// At each place the text has a token that moves on within it, or a fault with a place in it.

@@ -1,6 +1,4 @@
-use Rattle.std.proofs.Common.{arith, sym, refl, ◌∙◌, ap, subst}
-use Rattle.frame_store.specs.Entry.{entry_in, entries}
-use Rattle.frame_machine.proofs.HeldStops.{held_stop}
+use Rattle.frame_store.specs.Entry.{entries}
 use Rattle.frame_machine.proofs.Frames.{slots_sound}
 use Rattle.frame_machine.proofs.BackTurns.{stop_none, pop_branch, pop_exit, pop_later, pop_fewer, pop_more, pop_plain, exit_inside, fewer_stands, more_inside, more_many, more_stands, more_few}
 use Rattle.frame_machine.proofs.back.back.Goals as goal

@@ -1,4 +1,4 @@
-use Rattle.std.proofs.Common.{refl, sym, ap, ◌∙◌, ◌-◌}
+use Rattle.std.proofs.Common.{ap, ◌∙◌, ◌-◌}
 use Rattle.frame_machine.proofs.BackTurns.{pop_back}
 use Rattle.frame_machine.proofs.back.pop.Goals as goal
 

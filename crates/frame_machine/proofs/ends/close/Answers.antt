@@ -1,5 +1,4 @@
-use Rattle.std.proofs.Common.{arith, sym, refl, ◌∙◌, ap, subst}
-use Rattle.frame_store.specs.Entry.{entry_in, entries}
+use Rattle.std.proofs.Common.{arith}
 use Rattle.frame_machine.proofs.HeldStops.{held_stop}
 use Rattle.frame_machine.proofs.EndTurns.{open_sound, stop_open, turn_open}
 use Rattle.frame_machine.proofs.ends.close.Goals as goal

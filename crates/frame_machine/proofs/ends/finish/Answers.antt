@@ -1,8 +1,5 @@
-use Rattle.std.proofs.Common.{arith, sym, refl, ◌∙◌, ap, subst}
-use Rattle.frame_store.specs.Entry.{entry_in, entries}
-use Rattle.frame_machine.proofs.HeldStops.{held_stop}
-use Rattle.std.proofs.lemmas.List.{length-map}
-use Rattle.frame_store.specs.Entry.{entry_of}
+use Rattle.std.proofs.Common.{arith, sym}
+use Rattle.frame_store.specs.Entry.{entries}
 use Rattle.frame_machine.specs.Machine.{spot_state}
 use Rattle.frame_machine.proofs.EndTurns.{stop_found, turn_refused, turn_no_frame, admits, refuses}
 use Rattle.frame_machine.proofs.ends.finish.Goals as goal

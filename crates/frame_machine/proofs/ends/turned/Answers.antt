@@ -1,6 +1,4 @@
-use Rattle.std.proofs.Common.{arith, sym, refl, ◌∙◌, ap, subst}
-use Rattle.frame_store.specs.Entry.{entry_in, entries}
-use Rattle.frame_machine.proofs.HeldStops.{held_stop}
+use Rattle.std.proofs.Common.{arith, sym}
 use Rattle.frame_machine.proofs.EndTurns.{turn_sound, turn_ended, turn_goes_on, count_few}
 use Rattle.frame_machine.proofs.ends.turned.Goals as goal
 

@@ -1,5 +1,5 @@
 use Rattle.std.proofs.Common.{refl}
-use Rattle.frame_store.specs.Entry.{entry_in, entry_of}
+use Rattle.frame_store.specs.Entry.{entry_in}
 use Rattle.frame_machine.proofs.ends.undo_record.Goals as goal
 
 pub returns-in-None : goal.returns-in-None

@@ -1,15 +1,12 @@
-use Rattle.std.proofs.Common.{arith, sym, refl, ◌∙◌, ap, subst}
+use Rattle.std.proofs.Common.{arith, sym, refl, subst}
 use Rattle.frame_store.specs.Entry.{entry_in, entries}
 use Rattle.frame_machine.proofs.HeldStops.{held_stop}
-use Rattle.match_items.specs.Items.{holds}
-use Rattle.frame_machine.specs.Machine.{conf}
-use Rattle.frame_machine.specs.declared.machine.Next.TheVariants as next
 use Rattle.frame_machine.proofs.Advance.{advance_same}
 use Rattle.frame_machine.proofs.MostOf.{ok_more}
 use Rattle.frame_machine.proofs.Turns.{turn_empty, turn_keep, turn_one, turn_break, turn_ref, turn_anchor, turn_parts, turn_group_of, turn_capture_of, stop_capture_of, ahead_repeat, stray_node}
 use Rattle.std.proofs.lemmas.List.{length-map}
 use Rattle.frame_store.specs.Entry.{entry_of}
-use Rattle.frame_machine.specs.Built.{IsBuilt}
+use Rattle.pat_check.specs.Built.{IsBuilt}
 use Rattle.frame_machine.proofs.ItemTurns.{turn_many}
 use Rattle.frame_machine.proofs.enter.enter.Goals as goal
 
@@ -58,5 +55,5 @@ returns-in-Err-clause-stop g c =
 
 pub unreachable-requires : goal.unreachable-requires
 unreachable-requires g c =
-    stray_node (g.S.Searchable.searched c.args.on.now).trees _ (subst IsBuilt (sym c.node.ensures.is) ((g.met.S.Searchable.sound c.args.on.now).built c.args.at c.requires.valid.running.0)) c.in_default.not-Empty c.in_default.not-KeepOut c.in_default.not-One c.in_default.not-Break
+    stray_node (g.S.Searchable.searched c.args.on.now).trees _ (subst IsBuilt (sym c.node.ensures.is) c.requires.valid.running.0.built) c.in_default.not-Empty c.in_default.not-KeepOut c.in_default.not-One c.in_default.not-Break
     c.in_default.not-Ref c.in_default.not-Anchor c.in_default.not-Seq c.in_default.not-Group c.in_default.not-Repeat c.in_default.not-OneRepeat

@@ -1,4 +1,4 @@
-use Rattle.std.proofs.Common.{arith, sym, subst, ◌≡◌, true}
+use Rattle.std.proofs.Common.{sym, subst, ◌≡◌, true}
 use Rattle.frame_machine.proofs.Runs.{run_end}
 use Rattle.frame_machine.proofs.items.many.Goals as goal
 

@@ -1,14 +1,8 @@
-use Rattle.std.proofs.Common.{arith, sym, refl, ◌∙◌, ap, subst}
+use Rattle.std.proofs.Common.{arith, sym, refl}
 use Rattle.frame_store.specs.Entry.{entry_in, entries}
 use Rattle.frame_machine.proofs.HeldStops.{held_stop}
-use Rattle.std.proofs.Common.{◌≡◌, ℕ, Bool, true, false, Option, length}
-use Rattle.pat_tree.specs.declared.nodes.Item.{Item}
-use Rattle.pat_tree.specs.Nested as tree
-use Rattle.pat_tree.specs.Nested.{Nested}
-use Rattle.match_items.specs.Items.{is_none_left}
 use Rattle.frame_machine.specs.Ground.{tree_of}
-use Rattle.frame_machine.specs.Stops.{IsMost}
-use Rattle.frame_machine.proofs.MostOf.{Most, most}
+use Rattle.frame_machine.proofs.MostOf.{most}
 use Rattle.frame_machine.proofs.ItemTurns.{stop_more, stop_more_units, turn_more_last, turn_more_more}
 use Rattle.frame_machine.proofs.items.more.Goals as goal
 

@@ -1,5 +1,5 @@
-use Rattle.std.proofs.Common.{arith, sym, refl, ◌∙◌, ap, subst}
-use Rattle.frame_store.specs.Entry.{entry_in, entries}
+use Rattle.std.proofs.Common.{arith, sym}
+use Rattle.frame_store.specs.Entry.{entries}
 use Rattle.frame_machine.proofs.HeldStops.{held_stop}
 use Rattle.std.proofs.lemmas.List.{length-map}
 use Rattle.frame_store.specs.Entry.{entry_of}

@@ -1,4 +1,4 @@
-use Rattle.std.proofs.Common.{arith, sym, refl, ◌∙◌, ap, subst}
+use Rattle.std.proofs.Common.{arith, sym}
 use Rattle.frame_store.specs.Entry.{entry_in, entries}
 use Rattle.frame_machine.proofs.HeldStops.{held_stop}
 use Rattle.frame_machine.proofs.MostOf.{not_true, not_false}

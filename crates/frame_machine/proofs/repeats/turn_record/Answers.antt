@@ -1,6 +1,5 @@
 use Rattle.std.proofs.Common.{refl}
-use Rattle.frame_store.specs.Entry.{entry_in, entry_of}
-use Rattle.frame_machine.specs.Stops.{turn_entry}
+use Rattle.frame_store.specs.Entry.{entry_in}
 use Rattle.frame_machine.proofs.repeats.turn_record.Goals as goal
 
 pub returns-then-exits : goal.returns-then-exits

@@ -1,4 +1,4 @@
-use Rattle.std.proofs.Common.{refl, arith}
+use Rattle.std.proofs.Common.{arith}
 use Rattle.frame_machine.proofs.Start.{starts, starts_valid}
 use Rattle.frame_machine.proofs.run.run.Goals as goal
 

@@ -1,4 +1,4 @@
-use Rattle.std.proofs.Common.{◌≡◌, ℕ, Option, subst, sym, ap}
+use Rattle.std.proofs.Common.{ℕ, Option, subst, ap}
 use Rattle.frame_machine.specs.PlaceAnswer.{place_answer}
 use Rattle.frame_machine.specs.Answer.{IsMark}
 use Rattle.frame_machine.specs.Scratch.{Workspace}

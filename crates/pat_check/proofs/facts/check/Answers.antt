@@ -1,7 +1,7 @@
 use Rattle.std.proofs.Common.{◌∙◌, ap, sym, subst}
 use Rattle.std.specs.List.{list_any}
 use Rattle.pat_tree.specs.Nested.{trees}
-use Rattle.pat_check.specs.Nodes.{node_names}
+use Rattle.pat_check.specs.Nodes.{node_names, looks_before}
 use Rattle.pat_check.proofs.OrderLemmas.{any_tree}
 use Rattle.pat_tree.specs.Parts.{tree_of}
 use Rattle.pat_check.specs.Known.{IsByteSet}
@@ -19,3 +19,8 @@ pub returns-clause-names : goal.returns-clause-names
 returns-clause-names c =
     let t = c.args.tree.now in
     rw c.deref-2.ensures.value at c.names_cr_or_lf.ensures ∙ any_tree (node_names t.classes) (trees t.nodes) c.in_ok-order.order.items ∙ ap (list_any (node_names t.classes)) c.in_ok-order.ensures.nodes
+
+pub returns-clause-before : goal.returns-clause-before
+returns-clause-before c =
+    let t = c.args.tree.now in
+    rw c.deref-3.ensures.value at c.tests_before.ensures ∙ any_tree looks_before (trees t.nodes) c.in_ok-order.order.items ∙ ap (list_any looks_before) c.in_ok-order.ensures.nodes

@@ -1,10 +1,9 @@
 use Rattle.std.proofs.Common.{◌<◌, All, length, subst, false, sym}
-use Rattle.pat_tree.specs.Newlines.{end_kind}
+use Rattle.pat_tree.specs.Newlines.{end_kind, break_kind}
 use Rattle.pat_tree.specs.Nested.{nest, tree_at}
 use Rattle.pat_tree.specs.Rules.{kids_of}
 use Rattle.char_sets.specs.Sets.{class_has}
 use Rattle.pat_check.specs.Built.{IsBuilt}
-use Rattle.pat_check.specs.Known.{break_kind}
 use Rattle.pat_check.specs.Lead.{lead}
 use Rattle.pat_check.specs.Starts.{IsSomeLead, lead_in, item_lead_in, break_lead_in}
 use Rattle.pat_check.proofs.NodeLemmas.{parts_lead, branches_lead, kept_each, kept_one, other_lead}

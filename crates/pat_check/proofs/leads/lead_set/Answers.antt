@@ -1,9 +1,9 @@
 use Rattle.std.proofs.Common.{◌≡◌, ◌<◌, false, subst, length, get_or, arith}
-use Rattle.pat_tree.specs.Newlines.{end_kind}
+use Rattle.pat_tree.specs.Newlines.{end_kind, break_kind}
 use Rattle.pat_tree.specs.Nested.{trees}
 use Rattle.pat_tree.specs.Parts.{tree_of}
 use Rattle.char_sets.specs.Sets.{class_has}
-use Rattle.pat_check.specs.Known.{break_kind, IsByteSet}
+use Rattle.pat_check.specs.Known.{IsByteSet}
 use Rattle.pat_check.specs.Starts.{lead_in}
 use Rattle.pat_check.proofs.NodeLemmas.{lead_set_is, kept_at}
 use Rattle.pat_check.proofs.leads.lead_set.Goals as goal

@@ -1,0 +1,208 @@
+-- What a finished tree and a subject of bytes owe to the machine.
+use Rattle.std.proofs.Common.{◌≡◌, ◌∙◌, ℕ, zero, suc, ◌-◌, ◌<◌, ◌≤◌, ℤ, Bool, true, false, ◌==◌, if◌then◌else◌, List, [], ◌∷◌, ◌++◌, Option, Some, None, All, length, get_or, refl, sym, ap, subst, arith, inl, inr}
+use Rattle.std.specs.Prelude.{slice_get, slice_index_or, nat_eq}
+use Rattle.std.specs.List.{IsDistinct, list_any, AllByRecursion}
+use Rattle.std.specs.Option.{unwrap_or}
+use Rattle.std.proofs.Math.Path.{fun_ext}
+use Rattle.std.proofs.lemmas.Bool.{cases_Bool, cases_lt, eqb-true, false≢true}
+use Rattle.std.proofs.lemmas.List.{get_or_past}
+use Rattle.std.proofs.lemmas.List.Elements.{All-head, All-tail}
+use Rattle.std.proofs.lemmas.Map.Steps.{length-le_from_distinct_below}
+use Rattle.std.proofs.lemmas.Bool.Decides.{nat_tests}
+use Rattle.pat_tree.specs.declared.nodes.Item.{Item}
+use Rattle.pat_tree.specs.declared.nodes.ClassSpec.{ClassSpec}
+use Rattle.pat_tree.specs.declared.options.Options.{Options}
+use Rattle.pat_tree.specs.declared.options.MatchOptions.{MatchOptions}
+use Rattle.pat_tree.specs.declared.nodes.Node.{Node}
+use Rattle.pat_tree.specs.declared.nodes.Node.TheVariants as node
+use Rattle.pat_tree.specs.declared.nodes.Placed.{Placed}
+use Rattle.pat_tree.specs.Nested.{trees, tree_at, nest}
+use Rattle.pat_tree.specs.Rules.{kids_of, numbers_of}
+use Rattle.pat_tree.specs.Refs.{named_by, is_in, is_group, has_group}
+use Rattle.pat_tree.specs.Sound.{NodeRules, TreeRules, children, group_numbers, greatest}
+use Rattle.pat_tree.specs.declared.options.PartialMode.TheVariants.{Off}
+use Rattle.pat_tree.specs.Parts.{TreeParts, tree_of}
+use Rattle.node_flow.specs.Followers.{rest}
+use Rattle.node_flow.specs.Linked.{IsLinked}
+use Rattle.node_flow.proofs.TreeLaws.{followers_hang_together}
+use Rattle.pat_check.specs.Built.{IsBuilt}
+use Rattle.char_sets.specs.Sets.{takes, no_class, class_has}
+use Rattle.char_sets.specs.Table.{CharSet, table_has, IsTableOf}
+use Rattle.pcre_io.specs.declared.callouts.Block.{Block}
+use Rattle.match_items.specs.declared.view.View.{View}
+use Rattle.match_items.specs.Scene.{Scene}
+use Rattle.match_items.specs.Items.{after_item, run_places, longest_run}
+use Rattle.match_items.specs.Views.{scene_of, told, maximum}
+use Rattle.frame_machine.specs.Told.{place_in}
+use Rattle.frame_machine.specs.Setting.{class_holds}
+use Rattle.frame_machine.specs.Ground.{IsNode}
+use Rattle.frame_machine.specs.Ready.{setting_in, IsByteSearch, ground_in}
+
+-- a node of no tree
+abbrev nowhere : Placed
+nowhere = record { node = node.Empty; at = 0 }
+
+-- what is told, read again
+pub place_told : (o : Option ℕ) (reaches : Bool) → place_in (told o reaches) ≡ o
+place_told (Some q) reaches = refl
+place_told None true = refl
+place_told None false = refl
+
+-- A maximum that no run reaches is none.
+
+-- the place after one item, and those that follow
+abbrev places_on : Option ℕ → (ℕ → List ℕ) → List ℕ
+places_on o more = elim o as (λ _. List ℕ) [ None ↦ [] | Some q ↦ q ∷ more q ]
+
+run_unbounded : (g : Scene) (item : Item) (n m p : ℕ) → n ≤ m → run_places g item n (Some m) p ≡ run_places g item n None p
+unfolding run_places
+run_unbounded g item zero m p le = refl
+run_unbounded g item (suc n) zero p le = absurd (omega (arith, le))
+run_unbounded g item (suc n) (suc m) p le =
+    let less : suc m - 1 ≡ m = omega arith in
+    let some_left : (suc m == 0) ≡ false = grind (arith, nat_tests) in
+    ap (λ (b : Bool). elim b as (λ _. List ℕ) [ true ↦ [] | false ↦ places_on (after_item g item p) (run_places g item n (Some (suc m - 1))) ]) some_left
+    ∙ ap (λ x. places_on (after_item g item p) (run_places g item n (Some x))) less
+    ∙ ap (places_on (after_item g item p)) (fun_ext (λ q. run_unbounded g item n m q (omega (arith, le))))
+
+module _ (g : Scene) (item : Item) (p : ℕ) (short : length g.subject < 4294967295) where
+  all_of : (m : ℕ) → m ≡ 4294967295 → longest_run g item None p ≡ longest_run g item (Some m) p
+  all_of m e = sym (run_unbounded g item (length g.subject) m p (omega (arith, short, e)))
+
+  some_of : (m : ℕ) (b : Bool) → (m == 4294967295) ≡ b → longest_run g item (if b then None else Some m) p ≡ longest_run g item (Some m) p
+  some_of m true e = all_of m (eqb-true m 4294967295 e)
+  some_of m false e = refl
+
+  -- the greatest number of 32 bits in the place of no maximum
+  pub run_as : (most : Option ℕ) (m : ℕ) → m ≡ unwrap_or most 4294967295 → longest_run g item (maximum m) p ≡ longest_run g item most p
+  run_as None m e = ap (λ x. longest_run g item (maximum x) p) e
+  run_as (Some k) m e = ap (λ x. longest_run g item (maximum x) p) e ∙ some_of k (k == 4294967295) refl
+
+-- Scenes.
+
+class_same : (cs : List ClassSpec) (n c : ℕ) → takes (slice_index_or cs n no_class) c ≡ class_holds (slice_get cs n) c
+class_same [] n c = refl
+class_same (x ∷ cs) zero c = refl
+class_same (x ∷ cs) (suc n) c = class_same cs n c
+
+class_is : (tree : TreeParts) (n c : ℕ) → class_has tree n c ≡ class_holds (slice_get tree.classes n) c
+unfolding class_has
+class_is tree n c = class_same tree.classes n c
+
+classes_same : (tree : TreeParts) (table : List CharSet) → IsTableOf tree table → table_has table ≡ (λ n c. class_holds (slice_get tree.classes n) c)
+classes_same tree table h = fun_ext (λ n. fun_ext (λ c. h.answers n c ∙ class_is tree n c))
+
+-- a view of the tree's options shows what the search is about
+pub scene_same : (tree : TreeParts) (table : List CharSet) (view : View) (answers : Block → ℤ) → IsTableOf tree table → view.options.now ≡ tree.options →
+    scene_of view table ≡ (setting_in tree view.matching.now view.subject.now view.start answers).scene
+scene_same tree table view answers h e =
+    ap (λ (has : ℕ → ℕ → Bool). record (scene_of view table) { class_has = has }) (classes_same tree table h)
+    ∙ ap (λ (o : Options). record (setting_in tree view.matching.now view.subject.now view.start answers).scene { options = o }) e
+
+-- The children of a node are fewer than its number.
+
+all_left : (P : ℕ → Type 0) (xs ys : List ℕ) → AllByRecursion P (xs ++ ys) → AllByRecursion P xs
+all_left P [] ys h = tt
+all_left P (x ∷ xs) ys h = (h.0, all_left P xs ys h.1)
+
+distinct_left : (xs ys : List ℕ) → IsDistinct nat_eq (xs ++ ys) → IsDistinct nat_eq xs
+unfolding IsDistinct
+distinct_left [] ys h = tt
+distinct_left (x ∷ xs) ys h = (all_left (λ y. nat_eq x y ≡ false) xs ys h.0, distinct_left xs ys h.1)
+
+distinct_right : (xs ys : List ℕ) → IsDistinct nat_eq (xs ++ ys) → IsDistinct nat_eq ys
+unfolding IsDistinct
+distinct_right [] ys h = h
+distinct_right (x ∷ xs) ys h = distinct_right xs ys h.1
+
+member_below : (q : ℕ) (ks : List ℕ) (k : ℕ) → All (λ x. x < q) ks → list_any (nat_eq k) ks ≡ true → k < q
+member_below q [] k a e = absurd (false≢true e)
+member_below q (x ∷ ks) k a e = elim (cases_Bool (nat_eq k x)) [
+  | inl h ↦ let same = eqb-true k x h in let first = All-head (λ x. x < q) x ks a in omega (arith, same, first)
+  | inr h ↦ member_below q ks k (All-tail (λ x. x < q) x ks a) (rw h at e)
+]
+
+kids_distinct : (ps : List Placed) (i : ℕ) (d : Placed) → IsDistinct nat_eq (children ps) → i < length ps → IsDistinct nat_eq (kids_of (slice_index_or ps i d).node)
+unfolding children
+kids_distinct [] i d h l = absurd (omega (arith, l))
+kids_distinct (p ∷ ps) zero d h l = distinct_left (kids_of p.node) (children ps) h
+kids_distinct (p ∷ ps) (suc i) d h l = kids_distinct ps i d (distinct_right (kids_of p.node) (children ps) h) (omega (arith, l))
+
+few_kids : (ps : List Placed) (q : ℕ) (n : Node) → ((other : Placed) → n ≡ (slice_index_or ps q other).node) → q ≤ 4294967295 → All (λ k. k < q) (kids_of n) →
+    IsDistinct nat_eq (children ps) → length (kids_of n) ≤ 4294967295
+few_kids ps q n here few below once = elim (cases_lt q (length ps)) [
+  | inl l ↦
+      let distinct : IsDistinct nat_eq (kids_of n) = subst (λ m. IsDistinct nat_eq (kids_of m)) (sym (here nowhere)) (kids_distinct ps q nowhere once l) in
+      let count : length (kids_of n) ≤ q = length-le_from_distinct_below (kids_of n) q distinct (λ k e. member_below q (kids_of n) k below e) in
+      omega arith
+  | inr ge ↦
+      let none : n ≡ node.Empty = here nowhere ∙ ap (λ (p : Placed). p.node) (get_or_past ps q nowhere ge) in
+      let empty : length (kids_of n) ≡ 0 = ap (λ m. length (kids_of m)) none in
+      omega (arith, empty)
+]
+
+-- The node of a part.
+
+module _ (t : TreeParts) (table : List CharSet) (matching : MatchOptions) (subject : List ℕ) (start : ℕ) (answers : Block → ℤ)
+    (h : IsByteSearch t table matching subject) where
+  module _ (q : ℕ) (n : Node) (here : (other : Placed) → n ≡ (slice_index_or t.nodes q other).node) (le : q ≤ t.root) (few : q ≤ 4294967295)
+      (is : nest (trees t.nodes) n ≡ tree_at (trees t.nodes) q) (below : All (λ k. k < q) (kids_of n)) (rules : NodeRules (length t.classes) (length t.verb_names) t.nodes n)
+      (once : IsDistinct nat_eq (children t.nodes)) (grouped : All (λ k. k ≤ greatest (group_numbers t.nodes)) (numbers_of n))
+      (stand : All (λ k. has_group t.nodes k ≡ true) (named_by n)) where
+    pub node_is : IsNode (ground_in t matching subject start answers) q n
+    node_is = record {
+      is = is;
+      below = below;
+      linked = subst (IsLinked (rest t.nodes t.root) (rest t.nodes t.root q)) (sym (here nowhere)) (h.linked q le nowhere);
+      classes = rules.classes;
+      ordered = rules.ordered;
+      few = few_kids t.nodes q n here few below once;
+      named = λ i d l. h.numbered (get_or (named_by n) i d) (stand i d l);
+      numbered = λ i d l. (rules.numbered i d l, grouped i d l);
+    }
+
+-- A group that stands is numbered from 1 on.
+
+member_above : (n : ℕ) (ks rest : List ℕ) → All (λ k. 1 ≤ k) ks → is_in n ks ≡ true → (0 < n) × (n ≤ greatest (ks ++ rest))
+member_above n [] rest a e = absurd (false≢true e)
+member_above n (k ∷ ks) rest a e = elim (cases_Bool (k == n)) [
+  | inl h ↦
+      let same = eqb-true k n h in
+      let some = All-head (λ k. 1 ≤ k) k ks a in
+      (omega (arith, same, some), omega (arith, same))
+  | inr h ↦ let later = member_above n ks rest (All-tail (λ k. 1 ≤ k) k ks a) (rw h at e) in (later.0, omega (arith, later.1))
+]
+
+greatest_behind : (ks rest : List ℕ) → greatest rest ≤ greatest (ks ++ rest)
+greatest_behind [] rest = omega arith
+greatest_behind (k ∷ ks) rest = let later = greatest_behind ks rest in omega (arith, later)
+
+numbered_from : (class_count name_count : ℕ) (all ps : List Placed) → All (λ p. NodeRules class_count name_count all p.node) ps →
+    (n : ℕ) → has_group ps n ≡ true → (0 < n) × (n ≤ greatest (group_numbers ps))
+unfolding group_numbers
+numbered_from class_count name_count all [] a n e = absurd (false≢true e)
+numbered_from class_count name_count all (p ∷ ps) a n e = elim (cases_Bool (is_group n p.node)) [
+  | inl h ↦ member_above n (numbers_of p.node) (group_numbers ps) (All-head (λ p. NodeRules class_count name_count all p.node) p ps a).numbered h
+  | inr h ↦
+      let later = numbered_from class_count name_count all ps (All-tail (λ p. NodeRules class_count name_count all p.node) p ps a) n (rw h at e) in
+      let behind = greatest_behind (numbers_of p.node) (group_numbers ps) in
+      (later.0, omega (arith, later.1, behind))
+]
+
+-- what is known of a finished tree, and what is asked of a search of it
+pub byte_search : (t : TreeParts) (table : List CharSet) (matching : MatchOptions) (subject : List ℕ) → TreeRules t → IsBuilt (tree_of t) → t.options.utf ≡ false →
+    IsTableOf t table → matching.«partial» ≡ Off → length subject < 4294967295 → greatest (group_numbers t.nodes) ≤ 65535 → matching.match_limit ≤ 4294967295 →
+    IsByteSearch t table matching subject
+byte_search t table matching subject rules built bytes shown off short groups few = record {
+  built = built;
+  bytes = bytes;
+  shown = shown;
+  off = off;
+  short = short;
+  groups = groups;
+  few = few;
+  last = (followers_hang_together t rules).last;
+  chained = (followers_hang_together t rules).chained;
+  linked = (followers_hang_together t rules).linked;
+  numbered = numbered_from (length t.classes) (length t.verb_names) t.nodes t.nodes rules.nodes.each;
+}

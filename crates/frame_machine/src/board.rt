@@ -1,0 +1,149 @@
+//! A finished tree over a subject, as the machine goes over it.
+ghost use Rattle.std.specs.Prelude.{◌≡◌, ◌<◌, ◌≤◌, false, length};
+ghost use Rattle.match_items.specs.Views.{scene_of};
+ghost use Rattle.node_flow.specs.Followers.{IsFlowOf};
+ghost use Rattle.frame_machine.specs.Ready.{IsByteSearch, setting_in};
+ghost use Rattle.frame_machine.specs.Told.{in_ascii};
+ghost use Rattle.frame_machine.specs.BoardProps.{IsByteSearch-prop, IsFlowOf-prop};
+
+use crate::counted::{longest, place_of, taken};
+use crate::searchable::{Run, Searchable};
+use char_sets::ClassTable;
+use match_items::{View, anchor, break_step, ref_step};
+use pat_check::Facts;
+use pat_tree::{AnchorKind, Item, MatchOptions, Node, Options, Tree};
+use pcre_io::Callouts;
+
+/// A finished tree over a subject, both of bytes.
+#[derive(Drop)]
+pub(crate) struct Board<'a, C: Callouts> {
+    pub tree: &'a Tree,
+    pub classes: &'a ClassTable,
+    pub facts: &'a Facts,
+    pub subject: &'a [u8],
+    pub start: usize,
+    pub matching: &'a MatchOptions,
+    pub calls: &'a C,
+    ghost runs: { IsByteSearch tree.now classes.now matching.now subject.now } by { IsByteSearch-prop tree.now classes.now matching.now subject.now },
+    ghost flows: { IsFlowOf tree.now.nodes tree.now.root facts.now.flow } by { IsFlowOf-prop tree.now.nodes tree.now.root facts.now.flow },
+}
+
+impl<C: Callouts> Board<'_, C> {
+    /// The subject with the options of the tree and of the match.
+    fn view(&self) -> View<'_>
+        ensures scene { scene_of result self.now.classes.now ≡ (setting_in self.now.tree.now self.now.matching.now self.now.subject.now self.now.start (C.answers self.now.calls.now)).scene }
+        ensures short { length result.subject.now < 4294967295 }
+        ensures bytes { result.options.now.utf ≡ false }
+        ensures length { length result.subject.now ≡ length self.now.subject.now }
+    {
+        View {
+            subject: self.subject,
+            start: self.start,
+            options: self.tree.options(),
+            matching: self.matching,
+        }
+    }
+}
+
+/// The same assertion by the word characters of ASCII, which outside UTF are all that there are.
+fn in_ascii(kind: AnchorKind) -> AnchorKind
+    ensures { result ≡ in_ascii kind }
+{
+    match kind {
+        AnchorKind::Word { .. } => AnchorKind::Word { ucp: false },
+        AnchorKind::NotWord { .. } => AnchorKind::NotWord { ucp: false },
+        other => other,
+    }
+}
+
+impl<C: Callouts> Searchable for Board<'_, C> {
+    ghost use Rattle.frame_machine.specs.Ready.{ground_in};
+    ghost use Rattle.frame_machine.specs.GroundLaw.{ground_is};
+
+    ghost searched = { λ b. ground_in b.tree.now b.matching.now b.subject.now b.start (C.answers b.calls.now) };
+
+    ghost sound = { λ b. ground_is b.tree.now b.classes.now b.matching.now b.subject.now b.start (C.answers b.calls.now) b.runs };
+
+    fn root(&self) -> u32 {
+        self.tree.root()
+    }
+
+    fn groups(&self) -> u32 {
+        self.tree.groups()
+    }
+
+    fn node(&self, part: u32) -> &Node {
+        self.tree.node(part)
+    }
+
+    fn next(&self, part: u32) -> Option<u32> {
+        self.facts.next(part)
+    }
+
+    fn options(&self) -> &Options {
+        self.tree.options()
+    }
+
+    fn matching(&self) -> &MatchOptions {
+        self.matching
+    }
+
+    fn start(&self) -> u64 {
+        self.start as u64
+    }
+
+    fn length(&self) -> u64 {
+        self.subject.len() as u64
+    }
+
+    fn take(&self, item: &Item, at: u64) -> Option<u64> {
+        taken(&self.view(), self.classes, item, at as usize)
+    }
+
+    fn run(&self, item: &Item, at: u64, most: Option<u32>) -> Run {
+        let run = longest(&self.view(), self.classes, item, at as usize, most);
+        Run {
+            count: run.count,
+            to: run.to as u64,
+        }
+    }
+
+    fn take_break(&self, at: u64) -> Option<u64> {
+        place_of(break_step(&self.view(), at as usize))
+    }
+
+    fn refer(&self, from: u64, to: u64, caseless: bool, at: u64) -> Option<u64> {
+        // A text that ends before it begins is empty, and an empty text stands everywhere.
+        if to < from {
+            return Some(at);
+        }
+        let view = self.view();
+        place_of(ref_step(&view, from as usize, to as usize, caseless, at as usize))
+    }
+
+    fn holds(&self, kind: AnchorKind, at: u64) -> bool {
+        anchor(&self.view(), in_ascii(kind), at as usize).holds
+    }
+
+    fn earliest(&self, kind: AnchorKind, at: u64, early: u64) -> u64 {
+        match kind {
+            AnchorKind::Word { .. } | AnchorKind::NotWord { .. } => early.min(self.before(at)),
+            _ => early,
+        }
+    }
+
+    fn before(&self, at: u64) -> u64 {
+        at.saturating_sub(1)
+    }
+
+    fn step_limit(&self) -> u32 {
+        match self.tree.options().match_limit {
+            None => self.matching.match_limit,
+            Some(limit) => limit.min(self.matching.match_limit),
+        }
+    }
+
+    fn unit_limit(&self) -> u32 {
+        self.matching.frame_limit
+    }
+}

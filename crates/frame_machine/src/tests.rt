@@ -1,0 +1,422 @@
+ghost use Rattle.std.specs.Prelude.{◌+◌, ◌∷◌, ◌≡◌, ◌<◌, ◌≤◌, ◌++◌, [], All, IfOk, OnOk, true, false, length};
+ghost use Rattle.pat_tree.specs.declared.options.PartialMode.TheVariants.{Off};
+ghost use Rattle.pat_tree.specs.Nested.{nest, trees};
+ghost use Rattle.pat_tree.specs.Parts as parts;
+ghost use Rattle.pat_tree.specs.Rules.{kids_of, classes_of, verb_names_of, numbers_of, asserted_by, IsNamed, IsOrdered, IsDefine};
+ghost use Rattle.pat_check.specs.Built.{IsBuilt};
+ghost use Rattle.frame_machine.specs.Made.{IsMade};
+
+use crate::{PlaceAnswer, Ready, Scratch, Signal, run_at};
+use char_sets::ClassTable;
+use frame_store::Span;
+use match_items::View;
+use pat_check::check;
+use pat_tree::{Draft, Item, Kids, MatchOptions, Node, NodeId, Options, Tree};
+use pcre_io::NoCallouts;
+use std::alloc::Global;
+use std::process::Abort;
+use std::test::Fail;
+
+/// One step in the making of a pattern: a node that takes the last ones that are not taken yet.
+#[derive(Clone, Copy)]
+enum Step {
+    Letter(u8),
+    /// As many of a letter as there are, at least so many.
+    Letters(u8, u16),
+    Keep,
+    /// The last two, one after the other.
+    Join,
+    /// The last two as alternatives.
+    Either,
+    /// Group 1 of the last one.
+    Capture,
+    /// Any number of the last one.
+    Repeat,
+}
+
+fn item(letter: u8) -> Item
+    ensures { result ≡ Item.Char letter false }
+{
+    Item::Char {
+        c: u32::from(letter),
+        caseless: false,
+    }
+}
+
+/// Adds a node that takes the last ones.
+fn add(draft: &mut Draft, waiting: &mut Vec<NodeId>, node: Node) -> Result<(), Fail>
+    requires room { length draft.old.nodes < 1000 }
+    requires made { IsMade draft.old (waiting.old.items ++ kids_of node) }
+    requires built { IsBuilt (nest (trees draft.old.nodes) node) }
+    requires classes { classes_of node ≡ [] }
+    requires verb_names { verb_names_of node ≡ [] }
+    requires numbered { All (λ n. 1 ≤ n) (numbers_of node) }
+    requires named { IsNamed node }
+    requires ordered { IsOrdered node }
+    requires define { IsDefine node }
+    requires tests { asserted_by node ≡ [] }
+    ensures made { OnOk result (IsMade draft.new waiting.new.items) }
+    ensures count { OnOk result (length draft.new.nodes ≡ length draft.old.nodes + 1) }
+{
+    let id = draft.add(node, 0)?;
+    waiting.push(id)?;
+    Ok(())
+}
+
+/// A node over two others.
+fn pair(alloc: Global, first: NodeId, second: NodeId) -> Result<Kids, Fail>
+    ensures { IfOk result (λ kids. kids ≡ first ∷ second ∷ []) }
+{
+    Ok(Kids::from_vec(Vec::from_slice(alloc, &[first, second])?))
+}
+
+fn single(alloc: Global, only: NodeId) -> Result<Kids, Fail>
+    ensures { IfOk result (λ kids. kids ≡ only ∷ []) }
+{
+    Ok(Kids::from_vec(Vec::from_slice(alloc, &[only])?))
+}
+
+/// Adds what takes none of the last ones.
+fn add_leaf(draft: &mut Draft, waiting: &mut Vec<NodeId>, step: Step) -> Result<(), Fail>
+    requires room { length draft.old.nodes < 1000 }
+    requires made { IsMade draft.old waiting.old.items }
+    ensures made { OnOk result (IsMade draft.new waiting.new.items) }
+    ensures count { OnOk result (length draft.new.nodes ≤ length draft.old.nodes + 1) }
+{
+    match step {
+        Step::Letter(letter) => add(draft, waiting, Node::One(item(letter))),
+        Step::Letters(letter, min) => {
+            let node = Node::OneRepeat {
+                item: item(letter),
+                min,
+                max: None,
+                lazy: false,
+            };
+            add(draft, waiting, node)
+        }
+        Step::Keep => add(draft, waiting, Node::KeepOut),
+        _ => Ok(()),
+    }
+}
+
+/// Adds what takes the last one.
+fn add_over_one(
+    alloc: Global,
+    draft: &mut Draft,
+    waiting: &mut Vec<NodeId>,
+    step: Step,
+) -> Result<(), Fail>
+    requires room { length draft.old.nodes < 1000 }
+    requires made { IsMade draft.old waiting.old.items }
+    ensures made { OnOk result (IsMade draft.new waiting.new.items) }
+    ensures count { OnOk result (length draft.new.nodes ≤ length draft.old.nodes + 1) }
+{
+    let Some(only) = waiting.pop() else {
+        return Ok(());
+    };
+    let node = match step {
+        Step::Capture => Node::Group {
+            number: Some(1),
+            branches: single(alloc, only)?,
+        },
+        _ => Node::Repeat {
+            body: only,
+            min: 0,
+            max: None,
+            lazy: false,
+        },
+    };
+    add(draft, waiting, node)
+}
+
+/// Adds what takes the last two.
+fn add_over_two(
+    alloc: Global,
+    draft: &mut Draft,
+    waiting: &mut Vec<NodeId>,
+    step: Step,
+) -> Result<(), Fail>
+    requires room { length draft.old.nodes < 1000 }
+    requires made { IsMade draft.old waiting.old.items }
+    ensures made { OnOk result (IsMade draft.new waiting.new.items) }
+    ensures count { OnOk result (length draft.new.nodes ≤ length draft.old.nodes + 1) }
+{
+    if waiting.len() < 2 {
+        return Ok(());
+    }
+    let (Some(second), Some(first)) = (waiting.pop(), waiting.pop()) else {
+        unreachable!();
+    };
+    let kids = pair(alloc, first, second)?;
+    let node = match step {
+        Step::Either => Node::Group {
+            number: None,
+            branches: kids,
+        },
+        _ => Node::Seq(kids),
+    };
+    add(draft, waiting, node)
+}
+
+/// Takes one step.
+fn take_step(
+    alloc: Global,
+    draft: &mut Draft,
+    waiting: &mut Vec<NodeId>,
+    step: Step,
+) -> Result<(), Fail>
+    requires room { length draft.old.nodes < 1000 }
+    requires made { IsMade draft.old waiting.old.items }
+    ensures made { OnOk result (IsMade draft.new waiting.new.items) }
+    ensures count { OnOk result (length draft.new.nodes ≤ length draft.old.nodes + 1) }
+{
+    match step {
+        Step::Letter(_) | Step::Letters(..) | Step::Keep => add_leaf(draft, waiting, step),
+        Step::Capture | Step::Repeat => add_over_one(alloc, draft, waiting, step),
+        Step::Join | Step::Either => add_over_two(alloc, draft, waiting, step),
+    }
+}
+
+/// The tree that these steps make, whose root is the last node.
+fn tree_of(alloc: Global, steps: &[Step]) -> Result<Tree, Fail>
+    requires { length steps.now < 100 }
+    ensures built { IfOk result (λ tree. IsBuilt (parts.tree_of tree)) }
+    ensures bytes { IfOk result (λ tree. tree.options.utf ≡ false) }
+    ensures classes { IfOk result (λ tree. tree.classes ≡ []) }
+{
+    let mut draft = Draft::new(alloc, Options::PLAIN);
+    let mut waiting = Vec::new(alloc);
+    for step in steps {
+        take_step(alloc, &mut draft, &mut waiting, *step)?;
+    }
+    let root = match waiting.pop() {
+        Some(root) => root,
+        None => draft.add(Node::Empty, 0)?,
+    };
+    let tree = draft.finish(root)?;
+    Ok(tree)
+}
+
+/// What a search answers at the first place, and what group 1 captured.
+fn found(
+    alloc: Global,
+    tree: &Tree,
+    subject: &[u8],
+    matching: &MatchOptions,
+    scratch: &mut Scratch,
+) -> Result<(PlaceAnswer, Option<Span>), Fail>
+    requires built { IsBuilt (parts.tree_of tree.now) }
+    requires bytes { tree.now.options.utf ≡ false }
+    requires classes { tree.now.classes ≡ [] }
+    requires short { length subject.now < 4294967295 }
+    requires off { matching.now.«partial» ≡ Off }
+{
+    let classes = ClassTable::build(alloc, tree)?;
+    let facts = check(alloc, tree, &classes)?;
+    let ready = Ready {
+        tree,
+        classes: &classes,
+        facts: &facts,
+    };
+    let view = View {
+        subject,
+        start: 0,
+        options: tree.options(),
+        matching,
+    };
+    let answer = run_at(&ready, &view, 0, scratch, &mut NoCallouts);
+    Ok((answer, scratch.span(1)))
+}
+
+/// A match from `keep` to `to`.
+fn matched(keep: usize, to: usize) -> PlaceAnswer {
+    PlaceAnswer::Matched {
+        keep,
+        to,
+        mark: None,
+    }
+}
+
+/// A pattern at the first place of a subject under two limits, the answer there, and what group 1 captured in a match.
+#[derive(Clone, Copy)]
+struct Row {
+    steps: &'static [Step],
+    subject: &'static [u8],
+    match_limit: u32,
+    frame_limit: u32,
+    answer: PlaceAnswer,
+    group: Option<(u64, u64)>,
+}
+
+/// A row without captures under no limits.
+const PLAIN: Row = Row {
+    steps: &[],
+    subject: b"",
+    match_limit: 10_000_000,
+    frame_limit: 10_000_000,
+    answer: PlaceAnswer::MatchLimit,
+    group: None,
+};
+
+/// `(?:ab)*c`
+const LOOP: &[Step] = &[
+    Step::Letter(b'a'),
+    Step::Letter(b'b'),
+    Step::Join,
+    Step::Repeat,
+    Step::Letter(b'c'),
+    Step::Join,
+];
+
+/// `(a)`
+const GROUP: &[Step] = &[Step::Letter(b'a'), Step::Capture];
+
+/// `(a*)*`
+const EMPTY_TURN: &[Step] = &[Step::Letters(b'a', 0), Step::Capture, Step::Repeat];
+
+/// `foo\Kbar`
+const KEPT: &[Step] = &[
+    Step::Letter(b'f'),
+    Step::Letter(b'o'),
+    Step::Join,
+    Step::Letter(b'o'),
+    Step::Join,
+    Step::Keep,
+    Step::Join,
+    Step::Letter(b'b'),
+    Step::Join,
+    Step::Letter(b'a'),
+    Step::Join,
+    Step::Letter(b'r'),
+    Step::Join,
+];
+
+/// `(a+)*zz`
+const DEEP: &[Step] = &[
+    Step::Letters(b'a', 1),
+    Step::Capture,
+    Step::Repeat,
+    Step::Letter(b'z'),
+    Step::Join,
+    Step::Letter(b'z'),
+    Step::Join,
+];
+
+/// `(?:a|b)*c`
+const EITHER: &[Step] = &[
+    Step::Letter(b'a'),
+    Step::Letter(b'b'),
+    Step::Either,
+    Step::Repeat,
+    Step::Letter(b'c'),
+    Step::Join,
+];
+
+/// A row is answered by a workspace.
+fn case(rt: &impl Abort, alloc: Global, row: Row, scratch: &mut Scratch) -> Result<(), Fail> {
+    // All rows are short.
+    let steps = &row.steps[..row.steps.len().min(99)];
+    let subject = &row.subject[..row.subject.len().min(99)];
+    let tree = tree_of(alloc, steps)?;
+    let mut matching = MatchOptions::PLAIN;
+    matching.match_limit = row.match_limit;
+    matching.frame_limit = row.frame_limit;
+    let (answer, group) = found(alloc, &tree, subject, &matching, scratch)?;
+    assert_eq!(rt; answer, row.answer);
+    if matches!(answer, PlaceAnswer::Matched { .. }) {
+        assert_eq!(rt; group.map(|span| (span.from, span.to)), row.group);
+    }
+    Ok(())
+}
+
+/// A row is answered by a new workspace, and by one that served the rows before.
+fn both(rt: &impl Abort, alloc: Global, row: Row, used: &mut Scratch) -> Result<(), Fail> {
+    case(rt, alloc, row, &mut Scratch::new(alloc))?;
+    case(rt, alloc, row, used)
+}
+
+#[test]
+fn a_place_is_answered_by_any_workspace(rt: HostRuntime) -> Result<(), Fail> {
+    let alloc = rt.alloc();
+    let failed = PlaceAnswer::Failed {
+        signal: Signal::Exhausted,
+        hit_end: false,
+    };
+    let rows = [
+        Row {
+            steps: LOOP,
+            subject: b"ababc",
+            match_limit: 3,
+            answer: matched(0, 5),
+            ..PLAIN
+        },
+        Row {
+            steps: LOOP,
+            subject: b"ababc",
+            match_limit: 2,
+            ..PLAIN
+        },
+        Row {
+            steps: GROUP,
+            subject: b"a",
+            frame_limit: 2,
+            answer: matched(0, 1),
+            group: Some((0, 1)),
+            ..PLAIN
+        },
+        Row {
+            steps: GROUP,
+            subject: b"a",
+            frame_limit: 1,
+            answer: PlaceAnswer::FrameLimit,
+            ..PLAIN
+        },
+        Row {
+            steps: GROUP,
+            subject: b"b",
+            answer: failed,
+            ..PLAIN
+        },
+        Row {
+            steps: EMPTY_TURN,
+            subject: b"aab",
+            answer: matched(0, 2),
+            group: Some((2, 2)),
+            ..PLAIN
+        },
+        Row {
+            steps: KEPT,
+            subject: b"foobar",
+            answer: matched(3, 6),
+            ..PLAIN
+        },
+        Row {
+            steps: DEEP,
+            subject: b"aaaaaaaaaaaaaaaaaaaaaaaaaaaaaa",
+            match_limit: 1000,
+            ..PLAIN
+        },
+    ];
+    let mut used = Scratch::new(alloc);
+    for row in rows {
+        both(&rt, alloc, row, &mut used)?;
+    }
+    Ok(())
+}
+
+#[test]
+fn a_million_turns_take_two_steps_each(rt: HostRuntime) -> Result<(), Fail> {
+    let alloc = rt.alloc();
+    let mut subject = vec![in alloc; b'a'; 1_000_000]?;
+    subject.push(b'c')?;
+    let tree = tree_of(alloc, EITHER)?;
+    let mut scratch = Scratch::new(alloc);
+    let mut matching = MatchOptions::PLAIN;
+    matching.match_limit = 2_000_003;
+    let enough = found(alloc, &tree, &subject, &matching, &mut scratch)?;
+    assert_eq!(rt; enough.0, matched(0, 1_000_001));
+    matching.match_limit = 2_000_002;
+    let few = found(alloc, &tree, &subject, &matching, &mut scratch)?;
+    assert_eq!(rt; few.0, PlaceAnswer::MatchLimit);
+    Ok(())
+}

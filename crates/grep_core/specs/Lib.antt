@@ -1,0 +1,16 @@
+pub mod Patterns
+pub mod Compiled
+pub mod Lines
+pub mod Modes
+pub mod Matches
+pub mod Scans
+pub mod Context
+pub mod Texts
+pub mod Messages
+pub mod InputText
+pub mod FaultTexts
+pub mod Refusals
+pub mod Tool
+pub mod ToolText
+pub mod Runs
+pub mod Worked

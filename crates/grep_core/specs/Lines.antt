@@ -1,0 +1,37 @@
+-- The lines of an input, and whether it is binary (pcre2grep, "Newlines" and "OPTIONS", --binary-files).
+use Rattle.std.specs.Prelude.{Bool, true, false, ◌&&◌, not, take, nat_eq}
+use Rattle.std.specs.List.{list_any}
+use Rattle.pat_tree.specs.declared.options.Newline.{Newline}
+use Rattle.pat_tree.specs.declared.options.Newline.TheVariants.{Nul}
+use Rattle.line_feed.specs.Rows.{Rows, Input, rows}
+use Rattle.grep_args.specs.declared.plan.BinaryMode.{BinaryMode}
+use Rattle.grep_args.specs.declared.plan.BinaryMode.TheVariants.{Binary, Text, WithoutMatch}
+use Rattle.grep_args.specs.declared.plan.GrepPlan.{GrepPlan}
+use Rattle.grep_core.specs.Patterns.{line_end}
+
+-- the lines of an input, and how they end
+abbrev pub lines : GrepPlan → Input → Rows
+lines plan input = rows (line_end plan) plan.max_buffer_size input
+
+abbrev pub is_nul : Newline → Bool
+is_nul Nul = true
+is_nul _ = false
+
+-- a zero byte stands in the first 1,024 bytes, unless a zero byte ends a line
+abbrev pub is_binary : GrepPlan → Input → Bool
+is_binary plan input = not (is_nul plan.newline) && list_any (nat_eq 0) (take 1024 input.bytes)
+
+-- how an input is treated
+pub data Treatment : Type 0 where
+  as_text : Treatment
+  as_binary : Treatment
+  -- as without any selected line
+  skipped : Treatment
+
+abbrev pub of_binary : BinaryMode → Treatment
+of_binary Binary = as_binary
+of_binary Text = as_text
+of_binary WithoutMatch = skipped
+
+abbrev pub treatment : GrepPlan → Input → Treatment
+treatment plan input = elim (is_binary plan input) [ true ↦ of_binary plan.binary | false ↦ as_text ]

@@ -1,0 +1,381 @@
+-- How a search goes from place to place.
+use Rattle.std.proofs.Common.{inl, inr, ◌≡◌, ℕ, zero, suc, ◌+◌, ◌-◌, ◌<◌, ◌≤◌, ◌⊎◌, Bool, true, false, ◌&&◌, max, List, [], ◌∷◌, length, Option, Some, None, nat_le, nat_lt, if◌then◌else◌, refl, sym, ap, subst, ◌∙◌, arith}
+use Rattle.std.specs.Prelude.{IfSome, IsSomeAnd, slice_index}
+use Rattle.std.proofs.lemmas.Option.{IfSome_then}
+use Rattle.std.proofs.lemmas.Bool.{cases_lt, and_parts, and_left, and_right, eqb-true, leb-true, le-leb, lt-leb, ltb-true, lt-ltb, le-ltb}
+use Rattle.byte_lanes.specs.declared.line_end.EndKind.TheVariants.{CrLf}
+use Rattle.byte_lanes.specs.Newlines.{stands, newline_len}
+use Rattle.byte_lanes.specs.Places.{least_of}
+use Rattle.pat_check.specs.Known.{IsByteSet}
+use Rattle.uni_text.specs.Characters.{char_at}
+use Rattle.match_items.specs.Items.{newline_at}
+use Rattle.frame_machine.specs.PlaceAnswer as place
+use Rattle.frame_machine.specs.PlaceAnswer.{Signal, Exhausted, Prune, Skip, Commit, Walked, answers, place_answer}
+use Rattle.frame_machine.specs.Setting.{Setting, anchored, lead_set}
+use Rattle.match_drive.specs.Places.{passes_crlf, next_place, last_place, within, place_after, is_excluded}
+use Rattle.match_drive.specs.MatchAnswer.{Found, none_found, failed_at, tried, from_place, match_answer}
+use Rattle.match_drive.specs.Rest.{IsByteOutside, up_to, behind, found_from, IsLeft, IsPassed, IsTried, IsNextTried, found_by, found_at}
+use Rattle.match_drive.proofs.Excluded.{excluded_by_byte}
+
+-- Bytes.
+
+no_stand : (b : ℕ) (t bytes : List ℕ) (p : ℕ) → stands (b ∷ t) bytes p ≡ true → (p < length bytes) × (slice_index bytes p ≡ b) × (stands t bytes (p + 1) ≡ true)
+unfolding stands
+no_stand b t bytes p h =
+    let parts = and_parts _ _ h in
+    let both = and_parts _ _ parts.1 in
+    (ltb-true _ _ parts.0, eqb-true _ _ both.0, both.1)
+
+-- where a CRLF stands, a byte follows that isn't CR
+crlf_then : (bytes : List ℕ) (p : ℕ) → nat_lt 0 (newline_len CrLf bytes p) ≡ true → (p + 1 < length bytes) × (slice_index bytes (p + 1) ≡ 10)
+crlf_then bytes p h = by_stand (stands (13 ∷ (10 ∷ [])) bytes p) refl
+  where
+    by_stand : (b : Bool) → stands (13 ∷ (10 ∷ [])) bytes p ≡ b → (p + 1 < length bytes) × (slice_index bytes (p + 1) ≡ 10)
+    by_stand true e = let first = no_stand 13 (10 ∷ []) bytes p e in let second = no_stand 10 [] bytes (p + 1) first.2 in (second.0, second.1)
+    by_stand false e = absurd (cc (ap (λ b. nat_lt 0 (max (if b then 2 else 0) 0)) (sym e) ∙ h))
+
+no_crlf_after : (bytes : List ℕ) (p : ℕ) → nat_lt 0 (newline_len CrLf bytes p) ≡ true → nat_lt 0 (newline_len CrLf bytes (p + 1)) ≡ false
+no_crlf_after bytes p h = by_stand (stands (13 ∷ (10 ∷ [])) bytes (p + 1)) refl
+  where
+    by_stand : (b : Bool) → stands (13 ∷ (10 ∷ [])) bytes (p + 1) ≡ b → nat_lt 0 (newline_len CrLf bytes (p + 1)) ≡ false
+    by_stand true e = absurd (let lf = (crlf_then bytes p h).1 in let cr = (no_stand 13 (10 ∷ []) bytes (p + 1) e).1 in cc)
+    by_stand false e = ap (λ b. nat_lt 0 (max (if b then 2 else 0) 0)) e
+
+-- how many places are left
+abbrev pub places_left : ℕ → Option ℕ → ℕ
+places_left n None = 0
+places_left n (Some p) = suc n - p
+
+-- there is a place, and another is no earlier
+abbrev pub IsNoEarlier : Option ℕ → ℕ → Type 0
+IsNoEarlier from q = IsSomeAnd from (λ p. p ≤ q)
+
+-- A place that isn't past the last one.
+
+up_to_is : (last p : ℕ) → p ≤ last → up_to last (Some p) ≡ Some p
+up_to_is last p h = ap (λ b. elim b [ true ↦ Some p | false ↦ None ]) (le-leb p last h)
+
+pub up_to_past : (last p : ℕ) → last < p → up_to last (Some p) ≡ None
+up_to_past last p h = ap (λ b. elim b [ true ↦ Some p | false ↦ None ]) (lt-leb p last h)
+
+-- what holds of a place holds of it where it isn't past the last one
+up_to_keeps : (P : ℕ → Type 0) (last : ℕ) (o : Option ℕ) → IfSome o P → IfSome (up_to last o) (λ q. P q × (q ≤ last))
+up_to_keeps P last None h = tt
+up_to_keeps P last (Some q) h = by_test (nat_le q last) refl
+  where
+    by_test : (b : Bool) → nat_le q last ≡ b → IfSome (elim b [ true ↦ Some q | false ↦ None ]) (λ q. P q × (q ≤ last))
+    by_test true e = (h, leb-true q last e)
+    by_test false e = tt
+
+-- a later place leaves fewer
+pub left_less : (n p : ℕ) (next later : Option ℕ) → next ≡ Some p → p ≤ n → IfSome later (λ q. p < q) → places_left n later < places_left n next
+left_less n p next later is h low = subst (λ o. places_left n later < places_left n o) (sym is) (by_later later low)
+  where
+    by_later : (later : Option ℕ) → IfSome later (λ q. p < q) → places_left n later < suc n - p
+    by_later None low = omega (arith, h)
+    by_later (Some q) low = omega (arith, h, low)
+
+pub none_earlier : (from : Option ℕ) (p : ℕ) (later : Option ℕ) → IsNoEarlier from p → IfSome later (λ q. p < q) → IfSome later (IsNoEarlier from)
+none_earlier from p None h low = tt
+none_earlier None p (Some q) h low = absurd h
+none_earlier (Some n) p (Some q) h low = omega (arith, h, low)
+
+no_earlier : (from : Option ℕ) (p q : ℕ) → IsNoEarlier from p → p ≤ q → IsNoEarlier from q
+no_earlier None p q h k = absurd h
+no_earlier (Some n) p q h k = omega arith
+
+behind_later : (g : Setting) (p q : ℕ) → p ≤ q → p ≤ behind g p q
+behind_later g p q h = by_test (nat_lt p q && passes_crlf g (q - 1))
+  where
+    by_test : (b : Bool) → p ≤ (elim b [ true ↦ q + 1 | false ↦ q ])
+    by_test true = omega arith
+    by_test false = h
+
+least_within : (test : ℕ → Bool) (i n : ℕ) → least_of test i n ≤ i + n
+unfolding least_of
+least_within test i zero = omega arith
+least_within test i (suc n) = by_test (test i) (least_within test (i + 1) n)
+  where
+    by_test : (b : Bool) → least_of test (i + 1) n ≤ (i + 1) + n → (if b then i else least_of test (i + 1) n) ≤ i + suc n
+    by_test true h = omega arith
+    by_test false h = omega (arith, h)
+
+least_low : (test : ℕ → Bool) (i n : ℕ) → i ≤ least_of test i n
+unfolding least_of
+least_low test i zero = omega arith
+least_low test i (suc n) = by_test (test i) (least_low test (i + 1) n)
+  where
+    by_test : (b : Bool) → i + 1 ≤ least_of test (i + 1) n → i ≤ (if b then i else least_of test (i + 1) n)
+    by_test true h = omega arith
+    by_test false h = omega (arith, h)
+
+module _ (g : Setting) (not_utf : g.options.utf ≡ false) (begun : g.start ≤ length g.subject) where
+  pub last_within : last_place g ≤ length g.subject
+  last_within = by_anchored (anchored g) g.options.firstline
+    where
+      by_anchored : (a f : Bool) → (elim a [ true ↦ g.start | false ↦ elim f [ true ↦ least_of (λ p. nat_lt 0 (newline_at g.scene p)) g.start (length g.subject - g.start) | false ↦ length g.subject ] ]) ≤ length g.subject
+      by_anchored true f = begun
+      by_anchored false true = omega (arith, least_within (λ p. nat_lt 0 (newline_at g.scene p)) g.start (length g.subject - g.start))
+      by_anchored false false = omega arith
+
+  pub start_within : g.start ≤ last_place g
+  start_within = by_anchored (anchored g) g.options.firstline
+    where
+      by_anchored : (a f : Bool) → g.start ≤ (elim a [ true ↦ g.start | false ↦ elim f [ true ↦ least_of (λ p. nat_lt 0 (newline_at g.scene p)) g.start (length g.subject - g.start) | false ↦ length g.subject ] ])
+      by_anchored true f = omega arith
+      by_anchored false true = least_low (λ p. nat_lt 0 (newline_at g.scene p)) g.start (length g.subject - g.start)
+      by_anchored false false = begun
+
+  -- the next place
+  abbrev char_from : ℕ → Bool → Bool → Option (ℕ × ℕ)
+  char_from p ends utf = elim ends [ true ↦ None | false ↦ Some (char_at utf g.subject p) ]
+
+  abbrev place_from : ℕ → Option (ℕ × ℕ) → Option ℕ
+  place_from p None = None
+  place_from p (Some c) = elim (passes_crlf g p) [ true ↦ Some (p + 2) | false ↦ Some c.1 ]
+
+  pub next_inside : (p : ℕ) → p < length g.subject → next_place g p ≡ elim (passes_crlf g p) [ true ↦ Some (p + 2) | false ↦ Some (p + 1) ]
+  next_inside p h = ap (λ e. place_from p (char_from p e g.options.utf)) (lt-leb (length g.subject) p h) ∙ ap (λ u. place_from p (char_from p false u)) not_utf
+
+  pub next_past : (p : ℕ) → length g.subject ≤ p → next_place g p ≡ None
+  next_past p h = ap (λ e. place_from p (char_from p e g.options.utf)) (le-leb (length g.subject) p h)
+
+  next_later : (p : ℕ) → IfSome (next_place g p) (λ q. p < q)
+  next_later p = elim (cases_lt p (length g.subject)) [
+    | inl inside ↦ subst (λ (o : Option ℕ). IfSome o (λ q. p < q)) (sym (next_inside p inside)) (by_crlf (passes_crlf g p))
+    | inr past ↦ subst (λ (o : Option ℕ). IfSome o (λ q. p < q)) (sym (next_past p past)) tt
+  ]
+    where
+      by_crlf : (b : Bool) → IfSome (elim b [ true ↦ Some (p + 2) | false ↦ Some (p + 1) ]) (λ q. p < q)
+      by_crlf true = omega arith
+      by_crlf false = omega arith
+
+  pub step_is : (p last : ℕ) (found next : Option ℕ) → last ≡ last_place g → found ≡ next_place g p → next ≡ up_to last found → next ≡ up_to (last_place g) (next_place g p)
+  step_is p last found next e f h = h ∙ ap (λ l. up_to l found) e ∙ ap (up_to (last_place g)) f
+
+  pub step_later : (at p : ℕ) → at ≤ p → IfSome (up_to (last_place g) (next_place g p)) (λ q. at < q)
+  step_later at p h = IfSome_then (up_to (last_place g) (next_place g p)) (up_to_keeps (λ q. p < q) (last_place g) (next_place g p) (next_later p)) (λ q both. omega (arith, h, both.0))
+
+  -- the place after one that failed is later, and none is past the last one
+  pub after_later : (p : ℕ) (signal : Signal) → IfSome (place_after g p signal) (λ q. (p < q) × (q ≤ last_place g))
+  after_later p Exhausted = up_to_keeps (λ q. p < q) (last_place g) (next_place g p) (next_later p)
+  after_later p Prune = up_to_keeps (λ q. p < q) (last_place g) (next_place g p) (next_later p)
+  after_later p (Skip to) = by_test (nat_lt p to) refl
+    where
+      by_test : (b : Bool) → nat_lt p to ≡ b → IfSome (elim b [ true ↦ within g (Some to) | false ↦ within g (next_place g p) ]) (λ q. (p < q) × (q ≤ last_place g))
+      by_test true e = up_to_keeps (λ q. p < q) (last_place g) (Some to) (ltb-true p to e)
+      by_test false e = up_to_keeps (λ q. p < q) (last_place g) (next_place g p) (next_later p)
+  after_later p Commit = tt
+
+  -- Enough room for the places that are left.
+
+  Covers : ℕ → Option ℕ → Type 0
+  Covers n None = Unit {0}
+  Covers n (Some p) = (p ≤ last_place g) × (length g.subject < n + p)
+
+  after_covers : (n p : ℕ) (signal : Signal) → length g.subject < suc n + p → Covers n (place_after g p signal)
+  unfolding Covers
+  after_covers n p signal room = of_later (place_after g p signal) (after_later p signal)
+    where
+      of_later : (o : Option ℕ) → IfSome o (λ q. (p < q) × (q ≤ last_place g)) → Covers n o
+      of_later None h = tt
+      of_later (Some q) h = (h.1, omega (arith, h.0))
+
+  -- one place of a search, where the later places give the same
+  by_place : (p : ℕ) (w : Walked) (f h : Signal → Found) → ((signal : Signal) → f signal ≡ h signal) → (a : place.PlaceAnswer) → found_by p w f a ≡ found_by p w h a
+  by_place p w f h e (place.Failed signal) = ap (failed_at p w) (e signal)
+  by_place p w f h e (place.Matched o) = refl
+  by_place p w f h e place.Partial = refl
+  by_place p w f h e place.MatchLimit = refl
+  by_place p w f h e place.FrameLimit = refl
+  by_place p w f h e place.Loop = refl
+  by_place p w f h e (place.Abort n) = refl
+  by_place p w f h e place.NoDepth = refl
+
+  from_is : (n p : ℕ) → from_place g (suc n) (Some p) ≡ found_at p (tried g p) (λ signal. from_place g n (place_after g p signal))
+  unfolding from_place
+  from_is n p = refl
+
+  none_left : (n : ℕ) → from_place g n None ≡ none_found
+  unfolding from_place
+  none_left zero = refl
+  none_left (suc n) = refl
+
+  covered : (n m : ℕ) (o : Option ℕ) → Covers n o → Covers m o → from_place g n o ≡ from_place g m o
+  unfolding Covers
+  covered n m None h k = none_left n ∙ sym (none_left m)
+  covered zero m (Some p) h k = absurd (omega (arith, h.0, h.1, last_within))
+  covered (suc n) zero (Some p) h k = absurd (omega (arith, k.0, k.1, last_within))
+  covered (suc n) (suc m) (Some p) h k =
+      from_is n p
+      ∙ by_place p (tried g p) (λ signal. from_place g n (place_after g p signal)) (λ signal. from_place g m (place_after g p signal))
+      (λ signal. covered n m (place_after g p signal) (after_covers n p signal h.1) (after_covers m p signal k.1)) (tried g p).answer
+      ∙ sym (from_is m p)
+
+  from_covered : (n : ℕ) (o : Option ℕ) → Covers n o → from_place g n o ≡ found_from g o
+  unfolding Covers
+  from_covered n None h = none_left n
+  from_covered n (Some p) h = covered n (length g.subject + 1 - p) (Some p) h (h.0, omega (arith, h.0, last_within))
+
+  -- What is found from a place on: what is found there, and from the place after it on.
+
+  found_place : (p : ℕ) → p ≤ last_place g → found_from g (Some p) ≡ found_at p (tried g p) (λ signal. found_from g (place_after g p signal))
+  found_place p h =
+      let left : length g.subject + 1 - p ≡ suc (length g.subject - p) = omega (arith, h, last_within) in
+      let room : length g.subject < suc (length g.subject - p) + p = omega (arith, h, last_within) in
+      ap (λ n. from_place g n (Some p)) left
+      ∙ from_is (length g.subject - p) p
+      ∙ by_place p (tried g p) (λ signal. from_place g (length g.subject - p) (place_after g p signal)) (λ signal. found_from g (place_after g p signal))
+      (λ signal. from_covered (length g.subject - p) (place_after g p signal) (after_covers (length g.subject - p) p signal room)) (tried g p).answer
+
+  pub found_tried : (p : ℕ) → p ≤ last_place g → is_excluded g p ≡ false
+      → found_from g (Some p) ≡ found_at p (place_answer g p) (λ signal. found_from g (place_after g p signal))
+  found_tried p h e =
+      found_place p h ∙ ap (λ b. found_at p (elim b [ true ↦ answers (place.Failed Exhausted) | false ↦ place_answer g p ]) (λ signal. found_from g (place_after g p signal))) e
+
+  -- an excluded place tells nothing
+  failed_silently : (p : ℕ) (later : Found) → failed_at p (answers (place.Failed Exhausted)) later ≡ later
+  failed_silently p later = refl
+
+  pub found_excluded : (p : ℕ) → p ≤ last_place g → is_excluded g p ≡ true → found_from g (Some p) ≡ found_from g (within g (next_place g p))
+  found_excluded p h e =
+      found_place p h
+      ∙ ap (λ b. found_at p (elim b [ true ↦ answers (place.Failed Exhausted) | false ↦ place_answer g p ]) (λ signal. found_from g (place_after g p signal))) e
+      ∙ failed_silently p (found_from g (within g (next_place g p)))
+
+  pub match_found : match_answer g ≡ found_from g (Some g.start)
+  match_found = ap (from_place g (length g.subject + 1 - g.start)) (up_to_is (last_place g) g.start start_within)
+
+  -- Places that are excluded, one after the other.
+
+  behind_none : (p : ℕ) → behind g p p ≡ p
+  behind_none p = ap (λ b. elim (b && passes_crlf g (p - 1)) [ true ↦ p + 1 | false ↦ p ]) (le-ltb p p (omega arith))
+
+  behind_more : (p k : ℕ) → p ≤ k → Some (behind g p (k + 1)) ≡ elim (passes_crlf g k) [ true ↦ Some (k + 2) | false ↦ Some (k + 1) ]
+  behind_more p k h =
+      let e : (k + 1) - 1 ≡ k = omega arith in
+      ap (λ b. Some (elim (b && passes_crlf g ((k + 1) - 1)) [ true ↦ (k + 1) + 1 | false ↦ k + 1 ])) (lt-ltb p (k + 1) (omega (arith, h)))
+      ∙ ap (λ i. Some (elim (passes_crlf g i) [ true ↦ (k + 1) + 1 | false ↦ k + 1 ])) e
+      ∙ by_crlf (passes_crlf g k)
+    where
+      by_crlf : (b : Bool) → Some (elim b [ true ↦ (k + 1) + 1 | false ↦ k + 1 ]) ≡ elim b [ true ↦ Some (k + 2) | false ↦ Some (k + 1) ]
+      by_crlf true = ap Some (let e : (k + 1) + 1 ≡ k + 2 = omega arith in e)
+      by_crlf false = refl
+
+  -- after a CRLF that is passed whole none stands at its LF
+  passed_once : (k : ℕ) → passes_crlf g k ≡ true → passes_crlf g (k + 1) ≡ false
+  passed_once k h =
+      let parts = and_parts _ _ (and_parts _ _ h).0 in
+      and_left _ _ (and_right _ _ (no_crlf_after g.subject k parts.1))
+
+  -- the place behind is k, or that after an LF at k
+  behind_cases : (p k : ℕ) → (behind g p k ≡ k) ⊎ ((behind g p k ≡ k + 1) × (passes_crlf g k ≡ false))
+  behind_cases p k = by_test (nat_lt p k && passes_crlf g (k - 1)) refl
+    where
+      by_test : (b : Bool) → (nat_lt p k && passes_crlf g (k - 1)) ≡ b → (elim b [ true ↦ k + 1 | false ↦ k ] ≡ k) ⊎ ((elim b [ true ↦ k + 1 | false ↦ k ] ≡ k + 1) × (passes_crlf g k ≡ false))
+      by_test true e =
+          let parts = and_parts _ _ e in
+          let low = ltb-true p k parts.0 in
+          let before : (k - 1) + 1 ≡ k = omega (arith, low) in
+          inr (refl, subst (λ i. passes_crlf g i ≡ false) before (passed_once (k - 1) parts.1))
+      by_test false e = inl refl
+
+  passed_by : (p n : ℕ) → p ≤ last_place g → p + n ≤ length g.subject → p + n ≤ last_place g + 1
+      → ((k : ℕ) → p ≤ k → k < p + n → is_excluded g k ≡ true)
+      → found_from g (up_to (last_place g) (Some (behind g p (p + n)))) ≡ found_from g (Some p)
+  passed_by p zero low high most all =
+      let e : p + 0 ≡ p = omega arith in
+      ap (λ k. found_from g (up_to (last_place g) (Some (behind g p k)))) e
+      ∙ ap (λ k. found_from g (up_to (last_place g) (Some k))) (behind_none p)
+      ∙ ap (found_from g) (up_to_is (last_place g) p low)
+  passed_by p (suc n) low high most all =
+      let k = p + n in
+      let e : p + suc n ≡ k + 1 = omega arith in
+      let before = passed_by p n low (omega (arith, high)) (omega (arith, most)) (λ i a b. all i a (omega (arith, b))) in
+      ap (λ q. found_from g (up_to (last_place g) (Some (behind g p q)))) e
+      ∙ ap (λ o. found_from g (up_to (last_place g) o)) (behind_more p k (omega arith))
+      ∙ one_more k (behind_cases p k) before (omega (arith, high)) (omega (arith, most)) (all k (omega arith) (omega arith))
+    where
+      one_more : (k : ℕ) → (behind g p k ≡ k) ⊎ ((behind g p k ≡ k + 1) × (passes_crlf g k ≡ false))
+          → found_from g (up_to (last_place g) (Some (behind g p k))) ≡ found_from g (Some p) → k < length g.subject → k ≤ last_place g → is_excluded g k ≡ true
+          → found_from g (up_to (last_place g) (elim (passes_crlf g k) [ true ↦ Some (k + 2) | false ↦ Some (k + 1) ])) ≡ found_from g (Some p)
+      one_more k (inl is) before inside within_last out =
+          ap (λ o. found_from g (up_to (last_place g) o)) (sym (next_inside k inside))
+          ∙ sym (found_excluded k within_last out)
+          ∙ ap (found_from g) (sym (up_to_is (last_place g) k within_last))
+          ∙ ap (λ q. found_from g (up_to (last_place g) (Some q))) (sym is)
+          ∙ before
+      one_more k (inr both) before inside within_last out =
+          ap (λ b. found_from g (up_to (last_place g) (elim b [ true ↦ Some (k + 2) | false ↦ Some (k + 1) ]))) both.1
+          ∙ ap (λ q. found_from g (up_to (last_place g) (Some q))) (sym both.0)
+          ∙ before
+
+  -- all places from one up to another are excluded
+  pub passed : (p q : ℕ) → p ≤ last_place g → p ≤ q → q ≤ length g.subject → q ≤ last_place g + 1
+      → ((k : ℕ) → p ≤ k → k < q → is_excluded g k ≡ true)
+      → found_from g (up_to (last_place g) (Some (behind g p q))) ≡ found_from g (Some p)
+  passed p q low ordered high most all =
+      let e : p + (q - p) ≡ q = omega (arith, ordered) in
+      subst (λ k. found_from g (up_to (last_place g) (Some (behind g p k))) ≡ found_from g (Some p)) e
+      (passed_by p (q - p) low (omega (arith, e, high)) (omega (arith, e, most)) (λ k a b. all k a (omega (arith, e, b))))
+
+  -- The pieces of the walk.
+
+  pub not_passed : (p : ℕ) → p ≤ last_place g → IsPassed g p p
+  not_passed p h = record { same = ap (found_from g) (up_to_is (last_place g) p h); later = omega arith }
+
+  pub passed_bytes : (set : List Bool) (p q : ℕ) → g.options.no_start_optimize ≡ false → IsByteSet (Some set) (lead_set g) → p ≤ last_place g → p ≤ q
+      → q ≤ length g.subject → q ≤ last_place g + 1 → ((k : ℕ) → p ≤ k → k < q → IsByteOutside set (slice_index g.subject k)) → IsPassed g p (behind g p q)
+  passed_bytes set p q on lead low ordered high most all = record {
+    same = passed p q low ordered high most (λ k a b. excluded_by_byte g set k on lead (omega (arith, b, high)) (all k a b));
+    later = behind_later g p q ordered;
+  }
+
+  -- the place behind is tried
+  pub tried_next : (from : Option ℕ) (p q : ℕ) → found_from g (Some p) ≡ found_from g from → IsNoEarlier from p → IsPassed g p q → q ≤ last_place g → is_excluded g q ≡ false → IsTried g from q
+  tried_next from p q same low passed within_last out = record {
+    same = ap (found_from g) (sym (up_to_is (last_place g) q within_last)) ∙ passed.same ∙ same;
+    later = no_earlier from p q low passed.later;
+    within = within_last;
+    not_excluded = out;
+  }
+
+  -- the place behind is past the last one
+  pub none_next : (from : Option ℕ) (p q : ℕ) → found_from g (Some p) ≡ found_from g from → IsPassed g p q → last_place g < q → found_from g from ≡ none_found
+  none_next from p q same passed past = sym same ∙ sym passed.same ∙ ap (found_from g) (up_to_past (last_place g) q past)
+
+  -- the place behind is excluded
+  pub excluded_next : (from : Option ℕ) (p q : ℕ) → found_from g (Some p) ≡ found_from g from → IsPassed g p q → q ≤ last_place g → is_excluded g q ≡ true
+      → found_from g (up_to (last_place g) (next_place g q)) ≡ found_from g from
+  excluded_next from p q same passed within_last out =
+      sym (found_excluded q within_last out) ∙ ap (found_from g) (sym (up_to_is (last_place g) q within_last)) ∙ passed.same ∙ same
+
+-- The first place that is tried.
+module _ (g : Setting) where
+  pub next_same : (from next : Option ℕ) → IsNextTried g from next → found_from g next ≡ found_from g from
+  next_same from None h = sym h
+  next_same from (Some q) h = h.same
+
+  pub next_within : (from next : Option ℕ) → IsNextTried g from next → IfSome next (λ p. p ≤ last_place g)
+  next_within from None h = tt
+  next_within from (Some q) h = h.within
+
+  pub next_not_excluded : (from next : Option ℕ) → IsNextTried g from next → IfSome next (λ p. is_excluded g p ≡ false)
+  next_not_excluded from None h = tt
+  next_not_excluded from (Some q) h = h.not_excluded
+
+  pub tried_later : (from next : Option ℕ) (p : ℕ) → IsNextTried g from next → IfSome from (λ q. p < q) → IfSome next (λ q. p < q)
+  tried_later from None p h low = tt
+  tried_later None (Some q) p h low = absurd h.later
+  tried_later (Some n) (Some q) p h low = omega (arith, h.later, low)
+
+  -- what is left at a place that is tried
+  pub left_at : (not_utf : g.options.utf ≡ false) (begun : g.start ≤ length g.subject) (whole : Found) (first mark next : Option ℕ) (p : ℕ) → next ≡ Some p
+      → IsLeft whole first mark (found_from g next) → IfSome next (λ p. p ≤ last_place g) → IfSome next (λ p. is_excluded g p ≡ false)
+      → IsLeft whole first mark (found_at p (place_answer g p) (λ signal. found_from g (place_after g p signal)))
+  left_at not_utf begun whole first mark next p is left low out =
+      subst (IsLeft whole first mark) (ap (found_from g) is ∙ found_tried g not_utf begun p (rw is at low) (rw is at out)) left
+
+  pub tried_from : (p : ℕ) (next : Option ℕ) → IsNextTried g (Some p) next → IfSome next (λ q. p ≤ q)
+  tried_from p None h = tt
+  tried_from p (Some q) h = h.later

@@ -1,0 +1,66 @@
+-- One place of the walk: it decides, or the walk goes on.
+use mathlib.Core.Path.{fun_ext}
+use Rattle.std.proofs.Common.{◌≡◌, ℕ, ℤ, ◌≤◌, Bool, false, length, Option, Some, None, refl, sym, subst, ap, ◌∙◌, arith}
+use Rattle.std.specs.Option.{option_or}
+use Rattle.std.specs.Prelude.{IfSome}
+use Rattle.frame_store.specs.Captures.{Captures}
+use Rattle.frame_machine.specs.declared.answer.PlaceAnswer.{PlaceAnswer}
+use Rattle.frame_machine.specs.declared.answer.PlaceAnswer.TheVariants.{Failed}
+use Rattle.frame_machine.specs.declared.answer.Signal.{Signal}
+use Rattle.frame_machine.specs.Answer.{signal_of, IsAnswer, IsMark}
+use Rattle.frame_machine.specs.PlaceAnswer as place
+use Rattle.frame_machine.specs.PlaceAnswer.{last_name, place_answer}
+use Rattle.frame_machine.specs.Scratch.{Workspace}
+use Rattle.frame_machine.specs.Setting.{Setting}
+use Rattle.match_drive.specs.declared.answer.MatchAnswer.{MatchAnswer}
+use Rattle.match_drive.specs.Asked.{replied}
+use Rattle.match_drive.specs.Places.{last_place, place_after, is_excluded}
+use Rattle.match_drive.specs.MatchAnswer.{Found, match_answer}
+use Rattle.match_drive.specs.Answer.{IsMatchAnswer, TellsPlace}
+use Rattle.match_drive.specs.Rest.{found_from, first_hit, IsLeft, IsNextTried}
+use Rattle.match_drive.proofs.Steps.{left_at, next_same, match_found}
+use Rattle.match_drive.proofs.Left.{left_failed}
+
+module _ (g : Setting) (not_utf : g.options.utf ≡ false) (begun : g.start ≤ length g.subject) (whole : Found) (first old next : Option ℕ) (p : ℕ)
+    (is : next ≡ Some p) (left : IsLeft whole first old (found_from g next)) (low : IfSome next (λ q. q ≤ last_place g))
+    (tried : IfSome next (λ q. is_excluded g q ≡ false)) (caps : Captures) where
+  -- the place decides
+  pub walk_ends : (answer : PlaceAnswer) (last mark : Option ℕ) (result : MatchAnswer) → IsAnswer answer caps (place_answer g p) → IsMark answer old last (place_answer g p)
+      → mark ≡ last → TellsPlace answer p first mark result → IsMatchAnswer result caps whole
+  walk_ends answer last mark result answered marked same tells =
+      tells caps (place_answer g p) (λ (signal : place.Signal). found_from g (place_after g p signal)) old whole answered
+      (subst (λ (m : Option ℕ). IsMark answer old m (place_answer g p)) (sym same) marked)
+      (left_at g not_utf begun whole first old next p is left low tried)
+
+  -- the place failed
+  pub walk_on : (signal : Signal) (hit : Bool) (mark hits after later : Option ℕ) → IsAnswer (Failed signal hit) caps (place_answer g p)
+      → IsMark (Failed signal hit) old mark (place_answer g p) → hits ≡ first_hit first hit p → after ≡ place_after g p (signal_of signal) → IsNextTried g after later
+      → IsLeft whole hits mark (found_from g later)
+  walk_on signal hit mark hits after later answered marked same follows next_tried =
+      subst (λ (o : Option ℕ). IsLeft whole o mark (found_from g later)) (sym same)
+      (subst (IsLeft whole (first_hit first hit p) mark) (ap (found_from g) (sym follows) ∙ sym (next_same g after later next_tried))
+      (left_failed signal hit caps (place_answer g p) p (λ (signal : place.Signal). found_from g (place_after g p signal)) first old mark whole answered marked
+      (left_at g not_utf begun whole first old next p is left low tried)))
+
+or_none : (x : Option ℕ) → option_or x None ≡ x
+or_none None = refl
+or_none (Some n) = refl
+
+-- No place was tried yet.
+pub walk_begins : (g : Setting) (not_utf : g.options.utf ≡ false) (begun : g.start ≤ length g.subject) (mark next : Option ℕ) → mark ≡ None → IsNextTried g (Some g.start) next
+    → IsLeft (match_answer g) None mark (found_from g next)
+walk_begins g not_utf begun mark next none next_tried =
+    let e : match_answer g ≡ found_from g next = match_found g not_utf begun ∙ sym (next_same g (Some g.start) next next_tried) in
+    record {
+      answer = ap (λ (f : Found). f.answer) e;
+      last_mark = ap (λ (f : Found). last_name f.notes) e ∙ sym (or_none _) ∙ ap (option_or (last_name (found_from g next).notes)) (sym none);
+    }
+
+-- Callouts answer as they did before.
+pub asked_alike : {A : Type 0} (asked : (A → ℤ) → Setting) (plain : Setting) (old new : A → ℤ) → ((b : A) → new b ≡ old b) → asked old ≡ replied (asked old).reply plain
+    → asked new ≡ replied (asked old).reply plain
+asked_alike asked plain old new same alike = ap asked (fun_ext same) ∙ alike
+
+-- a workspace whose last name is forgotten
+pub forgotten : (old new : Workspace) → new ≡ record old { last_mark = None } → (new.last_mark ≡ None) × (new.peak ≤ old.peak) × (new.groups ≡ old.groups) × (new.frames ≡ old.frames)
+forgotten old new e = (ap (λ (w : Workspace). w.last_mark) e, omega (arith, ap (λ (w : Workspace). w.peak) e), ap (λ (w : Workspace). w.groups) e, ap (λ (w : Workspace). w.frames) e)

@@ -1,0 +1,110 @@
+use Rattle.std.proofs.Common.{◌≡◌, ◌≤◌, ℕ, Option, Some, length, refl, sym, subst, ◌∙◌, arith}
+use Rattle.std.proofs.lemmas.Option.{IfSome_then}
+use Rattle.frame_machine.specs.declared.answer.PlaceAnswer.TheVariants.{Failed}
+use Rattle.frame_machine.specs.Answer.{IsAnswer, IsMark}
+use Rattle.frame_machine.specs.PlaceAnswer.{place_answer}
+use Rattle.frame_machine.specs.Setting.{Setting}
+use Rattle.match_drive.specs.Asked.{passed_over, replied}
+use Rattle.match_drive.specs.Places.{last_place}
+use Rattle.match_drive.specs.MatchAnswer.{none_found, match_answer}
+use Rattle.match_drive.specs.Answer.{IsMatchAnswer}
+use Rattle.match_drive.specs.Rest.{IsLeft, IsNextTried}
+use Rattle.match_drive.proofs.Steps.{last_within, left_less, next_within, next_not_excluded, tried_later, tried_from}
+use Rattle.match_drive.proofs.Walk.{walk_begins, walk_ends, walk_on, asked_alike, forgotten}
+use Rattle.match_drive.proofs.NoPartial.{none_told}
+use Rattle.match_drive.proofs.drive.search_on.Goals as goal
+
+pub places-init : goal.places-init
+places-init g c =
+    let x = c.args.on.now in
+    let s = replied (g.S.Driven.asked x (g.C.Callouts.answers c.args.calls.now)).reply (g.S.Driven.asked x passed_over) in
+    let next : IsNextTried s (Some s.start) c.next_tried-next.result = subst (λ p. IsNextTried s (Some p) c.next_tried-next.result) c.start.ensures (c.next_tried-next.ensures s.reply) in
+    let kept = forgotten c.args.scratch.now c.clear_mark.new.self c.clear_mark.ensures in
+    record {
+      left = walk_begins s (g.met.S.Driven.not_utf x c.requires) (g.met.S.Driven.begun x c.requires) c.clear_mark.new.self.last_mark c.next_tried-next.result kept.0 next;
+      begun = tried_from s s.start c.next_tried-next.result next;
+      within = next_within s (Some s.start) c.next_tried-next.result next;
+      not_excluded = next_not_excluded s (Some s.start) c.next_tried-next.result next;
+      peak = omega (arith, kept.1);
+      groups = kept.2;
+      frames = kept.3;
+      rule = λ block. refl;
+      seen = refl;
+    }
+
+pub returns-in_default-answer-clause-answer : goal.returns-in_default-answer-clause-answer
+returns-in_default-answer-clause-answer g c =
+    let x = c.args.on.now in
+    let first = g.C.Callouts.answers c.args.calls.now in
+    let s = replied (g.S.Driven.asked x first).reply (g.S.Driven.asked x passed_over) in
+    let e : g.S.Driven.asked x (g.C.Callouts.answers c.places.calls) ≡ s =
+    asked_alike (g.S.Driven.asked x) (g.S.Driven.asked x passed_over) first (g.C.Callouts.answers c.places.calls) c.places.invariant.rule (g.met.S.Driven.alike x first) in
+    subst (λ (t : Setting). IsMatchAnswer c.decided.result c.try_at-answer.new.scratch.spans (match_answer t)) (sym (g.met.S.Driven.alike x first))
+    (walk_ends s (g.met.S.Driven.not_utf x c.requires) (g.met.S.Driven.begun x c.requires) (match_answer s) c.places.first c.places.scratch.last_mark c.places.next c.in-Some.place c.in-Some.is
+    c.places.invariant.left c.places.invariant.within c.places.invariant.not_excluded c.try_at-answer.new.scratch.spans c.try_at-answer.result
+    c.try_at-answer.new.scratch.last_mark c.last_mark.result c.decided.result
+    (subst (λ (t : Setting). IsAnswer c.try_at-answer.result c.try_at-answer.new.scratch.spans (place_answer t c.in-Some.place)) e c.try_at-answer.ensures.answer)
+    (subst (λ (t : Setting). IsMark c.try_at-answer.result c.places.scratch.last_mark c.try_at-answer.new.scratch.last_mark (place_answer t c.in-Some.place)) e c.try_at-answer.ensures.mark)
+    c.last_mark.ensures c.decided.ensures)
+
+pub returns-in_default-answer-clause-whole : goal.returns-in_default-answer-clause-whole
+returns-in_default-answer-clause-whole g c off =
+    let x = c.args.on.now in
+    let first = g.C.Callouts.answers c.args.calls.now in
+    let s = replied (g.S.Driven.asked x first).reply (g.S.Driven.asked x passed_over) in
+    none_told s off c.decided.result c.try_at-answer.new.scratch.spans
+    (subst (λ (t : Setting). IsMatchAnswer c.decided.result c.try_at-answer.new.scratch.spans (match_answer t)) (g.met.S.Driven.alike x first) (returns-in_default-answer-clause-answer g c))
+
+pub returns-clause-answer : goal.returns-clause-answer
+returns-clause-answer g c =
+    let x = c.args.on.now in
+    let first = g.C.Callouts.answers c.args.calls.now in
+    let s = replied (g.S.Driven.asked x first).reply (g.S.Driven.asked x passed_over) in
+    let left = subst (λ (m : Option ℕ). IsLeft (match_answer s) c.places.first m none_found) (sym c.last_mark-2.ensures) (rw c.in_default.is at c.places.invariant.left) in
+    subst (λ (t : Setting). IsMatchAnswer c.undecided.result c.places.scratch.spans (match_answer t)) (sym (g.met.S.Driven.alike x first))
+    (c.undecided.ensures c.places.scratch.spans (match_answer s) left)
+
+pub returns-clause-whole : goal.returns-clause-whole
+returns-clause-whole g c off =
+    let x = c.args.on.now in
+    let first = g.C.Callouts.answers c.args.calls.now in
+    let s = replied (g.S.Driven.asked x first).reply (g.S.Driven.asked x passed_over) in
+    none_told s off c.undecided.result c.places.scratch.spans
+    (subst (λ (t : Setting). IsMatchAnswer c.undecided.result c.places.scratch.spans (match_answer t)) (g.met.S.Driven.alike x first) (returns-clause-answer g c))
+
+pub places-smaller : goal.places-smaller
+places-smaller g c =
+    let x = c.args.on.now in
+    let s = g.S.Driven.asked x passed_over in
+    let high : last_place s ≤ length s.subject = last_within s (g.met.S.Driven.not_utf x c.requires) (g.met.S.Driven.begun x c.requires) in
+    let low : c.in-Some.place ≤ last_place s = rw c.in-Some.is at c.places.invariant.within in
+    left_less (length s.subject) c.in-Some.place c.places.next c.next_tried-next-in-Some.result c.in-Some.is (omega (arith, high, low))
+    (tried_later (replied s.reply s) c.place_after.result c.next_tried-next-in-Some.result c.in-Some.place (c.next_tried-next-in-Some.ensures s.reply) c.place_after.ensures.later)
+
+pub places-preserved : goal.places-preserved
+places-preserved g c =
+    let x = c.args.on.now in
+    let first = g.C.Callouts.answers c.args.calls.now in
+    let s = replied (g.S.Driven.asked x first).reply (g.S.Driven.asked x passed_over) in
+    let e : g.S.Driven.asked x (g.C.Callouts.answers c.places.calls) ≡ s =
+    asked_alike (g.S.Driven.asked x) (g.S.Driven.asked x passed_over) first (g.C.Callouts.answers c.places.calls) c.places.invariant.rule (g.met.S.Driven.alike x first) in
+    let next = c.next_tried-next-in-Some.ensures s.reply in
+    let begun : s.start ≤ c.in-Some.place = rw c.in-Some.is at c.places.invariant.begun in
+    record {
+      left =
+          walk_on s (g.met.S.Driven.not_utf x c.requires) (g.met.S.Driven.begun x c.requires) (match_answer s) c.places.first c.places.scratch.last_mark c.places.next c.in-Some.place c.in-Some.is
+          c.places.invariant.left c.places.invariant.within c.places.invariant.not_excluded c.try_at-answer.new.scratch.spans c.in-Failed.signal c.in-Failed.hit_end
+          c.try_at-answer.new.scratch.last_mark c.first_hit-first.result c.place_after.result c.next_tried-next-in-Some.result
+          (subst (λ (t : Setting). IsAnswer (Failed c.in-Failed.signal c.in-Failed.hit_end) c.try_at-answer.new.scratch.spans (place_answer t c.in-Some.place)) e c.in-Failed.ensures.answer)
+          (subst (λ (t : Setting). IsMark (Failed c.in-Failed.signal c.in-Failed.hit_end) c.places.scratch.last_mark c.try_at-answer.new.scratch.last_mark (place_answer t c.in-Some.place)) e c.in-Failed.ensures.mark)
+          c.first_hit-first.ensures c.place_after.ensures.value next;
+      begun = IfSome_then c.next_tried-next-in-Some.result (tried_later s c.place_after.result c.next_tried-next-in-Some.result c.in-Some.place next c.place_after.ensures.later)
+          (λ q later. omega (arith, begun, later));
+      within = next_within s c.place_after.result c.next_tried-next-in-Some.result next;
+      not_excluded = next_not_excluded s c.place_after.result c.next_tried-next-in-Some.result next;
+      peak = omega (arith, c.try_at-answer.ensures.peak, c.places.invariant.peak);
+      groups = c.try_at-answer.ensures.groups ∙ c.places.invariant.groups;
+      frames = c.try_at-answer.ensures.frames ∙ c.places.invariant.frames;
+      rule = λ block. c.try_at-answer.ensures.rule block ∙ c.places.invariant.rule block;
+      seen = c.try_at-answer.ensures.seen ∙ c.places.invariant.seen;
+    }

@@ -1,0 +1,45 @@
+-- What the answer of a search over all start places says.
+use Rattle.std.specs.Prelude.{◌≡◌, ℕ, Option}
+use Rattle.frame_store.specs.Captures.{Captures}
+use Rattle.frame_machine.specs.declared.answer.PlaceAnswer.{PlaceAnswer}
+use Rattle.frame_machine.specs.declared.answer.PlaceAnswer.TheVariants.{Failed}
+use Rattle.frame_machine.specs.Answer.{IsAnswer, IsMark}
+use Rattle.frame_machine.specs.PlaceAnswer.{Signal, Walked, last_name}
+use Rattle.frame_machine.specs.PlaceAnswer as place
+use Rattle.match_drive.specs.declared.answer.MatchAnswer.{MatchAnswer}
+use Rattle.match_drive.specs.declared.answer.MatchAnswer.TheVariants as told
+use Rattle.match_drive.specs.MatchAnswer as meant
+use Rattle.match_drive.specs.MatchAnswer.{Found, none_found}
+use Rattle.match_drive.specs.Rest.{IsLeft, found_at}
+
+-- The answer, and the captures of a match, are those of the search. Without a match the mark is the last name that was
+-- met. Want of memory may come at any time.
+abbrev pub IsMatchAnswer : MatchAnswer → Captures → Found → Type 0
+IsMatchAnswer (told.Match keep to mark) caps f = f.answer ≡ meant.Match (record { keep = keep; to = to; mark = mark; caps = caps })
+IsMatchAnswer (told.NoMatch mark) caps f = (f.answer ≡ meant.NoMatch) × (mark ≡ last_name f.notes)
+IsMatchAnswer (told.Partial start mark) caps f = (f.answer ≡ meant.PartialFrom start) × (mark ≡ last_name f.notes)
+IsMatchAnswer told.MatchLimit caps f = f.answer ≡ meant.Error place.MatchLimit
+IsMatchAnswer told.FrameLimit caps f = f.answer ≡ meant.Error place.FrameLimit
+IsMatchAnswer told.RecurseLoop caps f = f.answer ≡ meant.Error place.Loop
+IsMatchAnswer (told.Callout n) caps f = f.answer ≡ meant.Error (place.Abort n)
+IsMatchAnswer told.Memory caps f = Unit {0}
+
+-- it isn't a partial match
+abbrev pub IsNotPartial : MatchAnswer → Type 0
+IsNotPartial (told.Partial start mark) = ⊥
+IsNotPartial _ = Unit {0}
+
+-- the place doesn't fail
+abbrev pub IsDeciding : PlaceAnswer → Type 0
+IsDeciding (Failed signal hit) = ⊥
+IsDeciding _ = Unit {0}
+
+-- the search's answer is that of the place at which it is, where it has come so far
+abbrev pub TellsPlace : PlaceAnswer → ℕ → Option ℕ → Option ℕ → MatchAnswer → Type 0
+TellsPlace answer p first mark result =
+    (caps : Captures) (w : Walked) (later : Signal → Found) (old : Option ℕ) (whole : Found) → IsAnswer answer caps w → IsMark answer old mark w
+    → IsLeft whole first old (found_at p w later) → IsMatchAnswer result caps whole
+
+-- the search's answer where no place decides
+abbrev pub TellsNone : Option ℕ → Option ℕ → MatchAnswer → Type 0
+TellsNone first mark result = (caps : Captures) (whole : Found) → IsLeft whole first mark none_found → IsMatchAnswer result caps whole

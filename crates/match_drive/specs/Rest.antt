@@ -1,0 +1,88 @@
+-- What is left of a search from a start place on, and how the places before add to it.
+use Rattle.std.specs.Prelude.{◌≡◌, ◌≤◌, ◌<◌, ℕ, ℤ, ◌+◌, ◌-◌, Bool, true, false, ◌&&◌, List, length, Option, Some, None, IsSomeAnd, nat_le, nat_lt}
+use Rattle.std.specs.Option.{option_or}
+use Rattle.byte_lanes.specs.Sets.{has_byte}
+use Rattle.pat_check.specs.Known.{IsByteSet}
+use Rattle.frame_machine.specs.Stream.{Block}
+use Rattle.frame_machine.specs.Setting.{Setting, lead_set}
+use Rattle.frame_machine.specs.PlaceAnswer.{Signal, PlaceAnswer, Matched, Failed, Partial, Walked, last_name}
+use Rattle.match_drive.specs.Asked.{replied}
+use Rattle.match_drive.specs.Places.{passes_crlf, last_place, is_excluded}
+use Rattle.match_drive.specs.MatchAnswer.{MatchAnswer, Match, PartialFrom, Error, Found, none_found, decided, undecided, failed_at, from_place}
+
+-- a place that is not past the last one
+abbrev pub up_to : ℕ → Option ℕ → Option ℕ
+up_to last None = None
+up_to last (Some p) = elim (nat_le p last) [ true ↦ Some p | false ↦ None ]
+
+-- a byte that is not in the set
+abbrev pub IsByteOutside : List Bool → ℕ → Type 0
+IsByteOutside set b = (b < 256) × (has_byte set b ≡ false)
+
+module _ (g : Setting) where
+  -- the search goes by this set of bytes, or excludes no place
+  abbrev pub IsLeadUsed : Option (List Bool) → Type 0
+  IsLeadUsed None = (p : ℕ) → is_excluded g p ≡ false
+  IsLeadUsed (Some set) = (g.options.no_start_optimize ≡ false) × IsByteSet (Some set) (lead_set g)
+
+  -- the place behind those from one up to another: one further where the last of them is the CR of a CRLF that is passed whole
+  abbrev pub behind : ℕ → ℕ → ℕ
+  behind p q = elim (nat_lt p q && passes_crlf g (q - 1)) [ true ↦ q + 1 | false ↦ q ]
+
+  -- what is found from a place on
+  abbrev pub found_from : Option ℕ → Found
+  found_from None = none_found
+  found_from (Some p) = from_place g (length g.subject + 1 - p) (Some p)
+
+  -- all places from one up to another fail
+  pub record IsPassed (p q : ℕ) : Type 0 where
+    pub same : found_from (up_to (last_place g) (Some q)) ≡ found_from (Some p)
+    pub later : p ≤ q
+
+  -- all places up to one fail, and that one is tried
+  pub record IsTried (from : Option ℕ) (q : ℕ) : Type 0 where
+    pub same : found_from (Some q) ≡ found_from from
+    pub later : IsSomeAnd from (λ p. p ≤ q)
+    pub within : q ≤ last_place g
+    pub not_excluded : is_excluded g q ≡ false
+
+  -- the first place that is tried, from one on; where there is none, nothing is found
+  abbrev pub IsNextTried : Option ℕ → Option ℕ → Type 0
+  IsNextTried from None = found_from from ≡ none_found
+  IsNextTried from (Some q) = IsTried from q
+
+-- The same whatever callouts answer.
+
+abbrev pub IsPassedAlways : Setting → ℕ → ℕ → Type 0
+IsPassedAlways g p q = (reply : Block → ℤ) → IsPassed (replied reply g) p q
+
+abbrev pub IsNextTriedAlways : Setting → Option ℕ → Option ℕ → Type 0
+IsNextTriedAlways g from next = (reply : Block → ℤ) → IsNextTried (replied reply g) from next
+
+-- The places before.
+
+-- the first place that reached the subject's end, after one more place
+abbrev pub first_hit : Option ℕ → Bool → ℕ → Option ℕ
+first_hit None true p = Some p
+first_hit first hit p = first
+
+-- the answer of later places, after a first one that reached the subject's end
+abbrev pub after_hit : Option ℕ → MatchAnswer → MatchAnswer
+after_hit None a = a
+after_hit (Some p) a = undecided true p a
+
+-- A search finds what is found from some place on, after places that failed: the first of them that reached the
+-- subject's end, and the last name that was met there.
+pub record IsLeft (whole : Found) (first mark : Option ℕ) (rest : Found) : Type 0 where
+  pub answer : whole.answer ≡ after_hit first rest.answer
+  pub last_mark : last_name whole.notes ≡ option_or (last_name rest.notes) mark
+
+-- what is found where a place answers so, and the later places follow one that failed
+abbrev pub found_by : ℕ → Walked → (Signal → Found) → PlaceAnswer → Found
+found_by p w later (Matched o) = decided w (Match o)
+found_by p w later (Failed signal) = failed_at p w (later signal)
+found_by p w later Partial = decided w (PartialFrom p)
+found_by p w later a = decided w (Error a)
+
+abbrev pub found_at : ℕ → Walked → (Signal → Found) → Found
+found_at p w later = found_by p w later w.answer

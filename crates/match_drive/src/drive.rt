@@ -1,0 +1,93 @@
+//! The search over all start places.
+ghost use Rattle.std.specs.Prelude.{◌≡◌, ◌≤◌, max};
+ghost use Rattle.pat_tree.specs.declared.options.PartialMode.TheVariants.{Off};
+ghost use Rattle.pcre_io.specs.declared.callouts.Block.{Block};
+ghost use Rattle.match_drive.specs.Asked.{passed_over};
+ghost use Rattle.match_drive.specs.Answer.{IsMatchAnswer, IsNotPartial, IsDeciding, TellsPlace, TellsNone};
+ghost use Rattle.match_drive.specs.MatchAnswer.{match_answer};
+ghost use Rattle.match_drive.specs.Rest as rest;
+
+use crate::answer::MatchAnswer;
+use crate::driven::Driven;
+use crate::places::{last_place, next_tried, place_after};
+use frame_machine::{PlaceAnswer, Scratch};
+use pcre_io::Callouts;
+
+/// The first place that reached the subject's end, after one more place.
+fn first_hit(first: Option<usize>, hit_end: bool, at: usize) -> Option<usize>
+    ensures { result ≡ rest.first_hit first hit_end at }
+{
+    match first {
+        None if hit_end => Some(at),
+        _ => first,
+    }
+}
+
+/// The answer where a place decides, after a first one that reached the subject's end. `last_mark` is the last name that
+/// was met.
+fn decided(
+    answer: PlaceAnswer,
+    at: usize,
+    first: Option<usize>,
+    last_mark: Option<u32>,
+) -> MatchAnswer
+    requires { IsDeciding answer }
+    ensures { TellsPlace answer at first last_mark result }
+{
+    match answer {
+        PlaceAnswer::Matched { keep, to, mark } => MatchAnswer::Match { keep, to, mark },
+        PlaceAnswer::Failed { .. } => unreachable!(),
+        PlaceAnswer::Partial => MatchAnswer::Partial {
+            start: first.unwrap_or(at),
+            mark: last_mark,
+        },
+        PlaceAnswer::MatchLimit => MatchAnswer::MatchLimit,
+        PlaceAnswer::FrameLimit => MatchAnswer::FrameLimit,
+        PlaceAnswer::Loop => MatchAnswer::RecurseLoop,
+        PlaceAnswer::Abort(n) => MatchAnswer::Callout(n),
+        PlaceAnswer::Memory => MatchAnswer::Memory,
+    }
+}
+
+/// The answer where no place decides: a partial match from the first place that reached the subject's end, if one did
+/// (pcre2partial, "Partial matching using PCRE2_PARTIAL_SOFT").
+fn undecided(first: Option<usize>, mark: Option<u32>) -> MatchAnswer
+    ensures { TellsNone first mark result }
+{
+    match first {
+        Some(start) => MatchAnswer::Partial { start, mark },
+        None => MatchAnswer::NoMatch { mark },
+    }
+}
+
+/// Searches over all start places, in order, and answers what the definitions answer, with the captures of a match in the
+/// workspace (pcre2api, "Matching a pattern: the traditional function"). There is no partial match without partial matching.
+/// Want of memory may be answered at any time. The workspace can be used again after every answer.
+pub fn search_on<S: Driven, C: Callouts>(
+    on: &S,
+    scratch: &mut Scratch,
+    calls: &mut C,
+) -> MatchAnswer
+    requires { S.fits on.now }
+    ensures answer { IsMatchAnswer result scratch.new.spans (match_answer (S.asked on.now (C.answers calls.old))) }
+    ensures whole { (S.asked on.now passed_over).matching.partial ≡ Off → IsNotPartial result }
+    ensures peak { scratch.new.peak ≤ max scratch.old.peak (S.asked on.now passed_over).matching.frame_limit }
+    ensures groups { scratch.new.groups ≡ scratch.old.groups }
+    ensures frames { scratch.new.frames ≡ scratch.old.frames }
+    ensures rule { (block : Block) → C.answers calls.new block ≡ C.answers calls.old block }
+    ensures seen { C.seen calls.new ≡ C.seen calls.old }
+{
+    scratch.clear_mark();
+    let last = last_place(on);
+    let mut first = None;
+    let mut next = next_tried(on, Some(on.start()), last);
+    'places: while let Some(place) = next {
+        let answer = on.try_at(place, scratch, calls);
+        let PlaceAnswer::Failed { signal, hit_end } = answer else {
+            return decided(answer, place, first, scratch.last_mark());
+        };
+        first = first_hit(first, hit_end, place);
+        next = next_tried(on, place_after(on, place, signal, last), last);
+    }
+    undecided(first, scratch.last_mark())
+}

@@ -1,0 +1,71 @@
+//! What a search over all start places goes over.
+ghost use Rattle.std.specs.Prelude.{◌≡◌, ◌≤◌, ◌<◌, ℤ, max, false, length};
+ghost use Rattle.std.specs.Option.{option_copied};
+ghost use Rattle.pcre_io.specs.declared.callouts.Block.{Block};
+ghost use Rattle.pat_check.specs.Known.{IsByteSet};
+ghost use Rattle.frame_machine.specs.Answer.{IsAnswer, IsMark};
+ghost use Rattle.frame_machine.specs.PlaceAnswer.{place_answer};
+ghost use Rattle.frame_machine.specs.Setting.{Setting, lead_set, names_cr_or_lf};
+ghost use Rattle.match_drive.specs.Asked.{passed_over, replied};
+
+use byte_lanes::ByteSet;
+use frame_machine::{PlaceAnswer, Scratch};
+use pat_tree::{MatchOptions, Options};
+use pcre_io::Callouts;
+
+/// A pattern and a subject that are searched at one place after the other.
+pub trait Driven {
+    /// What the search is about, by what its callouts answer.
+    ghost asked: { Self → (Block → ℤ) → Setting };
+
+    /// What is needed of it.
+    ghost fits: { Self → Type 0 };
+
+    fn subject(&self) -> &[u8]
+        requires { fits self.now }
+        ensures { result.now ≡ (asked self.now passed_over).subject };
+
+    fn start(&self) -> usize
+        requires { fits self.now }
+        ensures { result ≡ (asked self.now passed_over).start };
+
+    fn options(&self) -> &Options
+        requires { fits self.now }
+        ensures { result.now ≡ (asked self.now passed_over).options };
+
+    fn matching(&self) -> &MatchOptions
+        requires { fits self.now }
+        ensures { result.now ≡ (asked self.now passed_over).matching };
+
+    /// The bytes that every match begins with, where they are known (pcre2api, "Option bits for pcre2_compile()",
+    /// PCRE2_NO_START_OPTIMIZE).
+    fn lead(&self) -> Option<&ByteSet>
+        requires { fits self.now }
+        ensures { IsByteSet (option_copied result) (lead_set (asked self.now passed_over)) };
+
+    /// Whether CR or LF stands in the pattern, as a character or as an end of a range.
+    fn names_crlf(&self) -> bool
+        requires { fits self.now }
+        ensures { result ≡ names_cr_or_lf (asked self.now passed_over) };
+
+    /// Searches at one place.
+    fn try_at<C: Callouts>(&self, place: usize, scratch: &mut Scratch, calls: &mut C) -> PlaceAnswer
+        requires fits { fits self.now }
+        requires start { (asked self.now passed_over).start ≤ place }
+        requires place { place ≤ length (asked self.now passed_over).subject }
+        ensures answer { IsAnswer result scratch.new.spans (place_answer (asked self.now (C.answers calls.old)) place) }
+        ensures mark { IsMark result scratch.old.last_mark scratch.new.last_mark (place_answer (asked self.now (C.answers calls.old)) place) }
+        ensures peak { scratch.new.peak ≤ max scratch.old.peak (asked self.now passed_over).matching.frame_limit }
+        ensures groups { scratch.new.groups ≡ scratch.old.groups }
+        ensures frames { scratch.new.frames ≡ scratch.old.frames }
+        ensures rule { (block : Block) → C.answers calls.new block ≡ C.answers calls.old block }
+        ensures seen { C.seen calls.new ≡ C.seen calls.old };
+
+    ghost not_utf: { (x : Self) → fits x → (asked x passed_over).options.utf ≡ false };
+
+    ghost short: { (x : Self) → fits x → length (asked x passed_over).subject < 4294967295 };
+
+    ghost begun: { (x : Self) → fits x → (asked x passed_over).start ≤ length (asked x passed_over).subject };
+
+    ghost alike: { (x : Self) (answers : Block → ℤ) → asked x answers ≡ replied (asked x answers).reply (asked x passed_over) };
+}

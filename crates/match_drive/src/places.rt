@@ -1,0 +1,219 @@
+//! The start places of a search, in order (pcre2api, "Matching a pattern: the traditional function").
+ghost use Rattle.std.specs.Prelude.{◌≡◌, ◌≤◌, ◌<◌, ◌+◌, ◌&&◌, true, false, ℕ, min, nat_lt, length, slice_index, IfSome, None, Some};
+ghost use Rattle.std.specs.Option.{option_copied};
+ghost use Rattle.byte_lanes.specs.Newlines.{newline_len};
+ghost use Rattle.byte_lanes.specs.Sets.{has_byte};
+ghost use Rattle.pat_tree.specs.Newlines as newlines;
+ghost use Rattle.frame_machine.specs.Answer.{signal_of};
+ghost use Rattle.match_drive.specs.Asked.{passed_over};
+ghost use Rattle.match_drive.specs.Places as places;
+ghost use Rattle.match_drive.specs.Places.{has_crlf};
+ghost use Rattle.match_drive.specs.Rest.{IsLeadUsed, IsByteOutside, IsPassedAlways, IsNextTriedAlways, up_to, behind};
+
+use crate::driven::Driven;
+use byte_lanes::{ByteSet, EndKind, find_in_set, find_line_end};
+use frame_machine::Signal;
+use pat_tree::{Newline, PartialMode, newline_at};
+
+/// The texts that end a line, outside UTF.
+fn end_kind(newline: Newline) -> EndKind
+    ensures { result ≡ newlines.end_kind newline false }
+{
+    match newline {
+        Newline::Cr => EndKind::Cr,
+        Newline::Lf => EndKind::Lf,
+        Newline::CrLf => EndKind::CrLf,
+        Newline::AnyCrLf => EndKind::AnyCrLf,
+        Newline::Any => EndKind::Any,
+        Newline::Nul => EndKind::Nul,
+    }
+}
+
+/// Whether CRLF is one of the convention's newlines.
+fn has_crlf(newline: Newline) -> bool
+    ensures { result ≡ has_crlf newline }
+{
+    matches!(newline, Newline::CrLf | Newline::AnyCrLf | Newline::Any)
+}
+
+/// Whether CR and LF stand there.
+fn crlf_at(bytes: &[u8], at: usize) -> bool
+    requires { at ≤ length bytes.now }
+    ensures { result ≡ nat_lt 0 (newline_len EndKind.CrLf bytes.now at) }
+{
+    newline_at(bytes, at, Newline::CrLf, false) > 0
+}
+
+/// Whether a CRLF is passed whole at a place: where it is a newline, and the pattern names no half of it.
+fn passes_crlf<S: Driven>(on: &S, at: usize) -> bool
+    requires fits { S.fits on.now }
+    requires at { at ≤ length (S.asked on.now passed_over).subject }
+    ensures { result ≡ places.passes_crlf (S.asked on.now passed_over) at }
+{
+    has_crlf(on.options().newline) && crlf_at(on.subject(), at) && !on.names_crlf()
+}
+
+/// The place after another, if there is one.
+pub(crate) fn next_place<S: Driven>(on: &S, at: usize) -> Option<usize>
+    requires fits { S.fits on.now }
+    requires at { at ≤ length (S.asked on.now passed_over).subject }
+    ensures { result ≡ places.next_place (S.asked on.now passed_over) at }
+{
+    if at == on.subject().len() {
+        return None;
+    }
+    if passes_crlf(on, at) {
+        Some(at + 2)
+    } else {
+        Some(at + 1)
+    }
+}
+
+/// The last place that may be tried: the start alone in an anchored search, or under FIRSTLINE where the first newline
+/// begins (pcre2api, "Option bits for pcre2_compile()", PCRE2_FIRSTLINE).
+pub(crate) fn last_place<S: Driven>(on: &S) -> usize
+    requires { S.fits on.now }
+    ensures value { result ≡ places.last_place (S.asked on.now passed_over) }
+    ensures low { (S.asked on.now passed_over).start ≤ result }
+    ensures within { result ≤ length (S.asked on.now passed_over).subject }
+{
+    let start = on.start();
+    if on.options().anchored || on.matching().anchored {
+        return start;
+    }
+    if !on.options().firstline {
+        return on.subject().len();
+    }
+    find_line_end(on.subject(), start, end_kind(on.options().newline)).at
+}
+
+/// A place that is not past the last one.
+fn up_to(last: usize, place: Option<usize>) -> Option<usize>
+    ensures value { result ≡ up_to last place }
+    ensures within { IfSome result (λ to. to ≤ last) }
+{
+    match place {
+        Some(at) if at <= last => Some(at),
+        _ => None,
+    }
+}
+
+/// The place that follows one that failed (pcre2pattern, "Backtracking control").
+pub(crate) fn place_after<S: Driven>(
+    on: &S,
+    at: usize,
+    signal: Signal,
+    last: usize,
+) -> Option<usize>
+    requires fits { S.fits on.now }
+    requires at { at ≤ length (S.asked on.now passed_over).subject }
+    requires last { last ≡ places.last_place (S.asked on.now passed_over) }
+    ensures value { result ≡ places.place_after (S.asked on.now passed_over) at (signal_of signal) }
+    ensures later { IfSome result (λ to. at < to) }
+    ensures within { IfSome result (λ to. to ≤ last) }
+{
+    match signal {
+        Signal::Commit => None,
+        Signal::Skip(to) if at < to => up_to(last, Some(to)),
+        _ => up_to(last, next_place(on, at)),
+    }
+}
+
+/// The bytes that every match begins with, where the search goes by them (pcre2api, "Option bits for pcre2_compile()",
+/// PCRE2_NO_START_OPTIMIZE).
+fn lead_used<S: Driven>(on: &S) -> Option<&ByteSet>
+    requires { S.fits on.now }
+    ensures { IsLeadUsed (S.asked on.now passed_over) (option_copied result) }
+{
+    if on.options().no_start_optimize {
+        None
+    } else {
+        on.lead()
+    }
+}
+
+/// Whether a place is left out, as no match begins with the byte there.
+fn is_excluded<S: Driven>(on: &S, at: usize) -> bool
+    requires fits { S.fits on.now }
+    requires at { at ≤ length (S.asked on.now passed_over).subject }
+    ensures { result ≡ places.is_excluded (S.asked on.now passed_over) at }
+{
+    let Some(set) = lead_used(on) else {
+        return false;
+    };
+    match on.subject().get(at) {
+        Some(byte) => !set.has(*byte),
+        None => matches!(on.matching().partial, PartialMode::Off),
+    }
+}
+
+/// The place behind the places from one up to another, which all fail: one further where the last of them is the CR of a
+/// CRLF that is passed whole.
+fn behind<S: Driven>(on: &S, from: usize, to: usize) -> usize
+    requires fits { S.fits on.now }
+    requires ordered { from ≤ to }
+    requires within { to ≤ length (S.asked on.now passed_over).subject }
+    ensures { result ≡ behind (S.asked on.now passed_over) from to }
+{
+    if from < to && passes_crlf(on, to - 1) {
+        to + 1
+    } else {
+        to
+    }
+}
+
+/// The first place from one on, and before another, whose byte is in the set, or else the other.
+fn first_in(bytes: &[u8], from: usize, to: usize, set: &ByteSet) -> usize
+    requires ordered { from ≤ to }
+    requires within { to ≤ length bytes.now }
+    ensures low { from ≤ result }
+    ensures high { result ≤ to }
+    ensures before { (k : ℕ) → from ≤ k → k < result → IsByteOutside set.now (slice_index bytes.now k) }
+    ensures found { result < to → has_byte set.now (slice_index bytes.now result) ≡ true }
+{
+    find_in_set(&bytes[..to], from, set)
+}
+
+/// The end of the bytes at which a match may begin.
+fn bytes_end(last: usize, length: usize) -> usize
+    requires { last ≤ length }
+    ensures { result ≡ min (last + 1) length }
+{
+    if last < length { last + 1 } else { length }
+}
+
+/// Goes past places that are excluded, by lanes.
+fn pass<S: Driven>(on: &S, from: usize, last: usize) -> usize
+    requires fits { S.fits on.now }
+    requires from { from ≤ last }
+    requires last { last ≡ places.last_place (S.asked on.now passed_over) }
+    ensures { IsPassedAlways (S.asked on.now passed_over) from result }
+{
+    let Some(set) = lead_used(on) else {
+        return from;
+    };
+    let subject = on.subject();
+    let end = bytes_end(last, subject.len());
+    behind(on, from, first_in(subject, from, end, set))
+}
+
+/// The first place from one on that is tried.
+pub(crate) fn next_tried<S: Driven>(on: &S, from: Option<usize>, last: usize) -> Option<usize>
+    requires fits { S.fits on.now }
+    requires from { IfSome from (λ p. p ≤ last) }
+    requires last { last ≡ places.last_place (S.asked on.now passed_over) }
+    ensures { IsNextTriedAlways (S.asked on.now passed_over) from result }
+{
+    let mut next = from;
+    'places: while let Some(at) = next {
+        let place = pass(on, at, last);
+        if place > last {
+            return None;
+        }
+        if !is_excluded(on, place) {
+            return Some(place);
+        }
+        next = up_to(last, next_place(on, place));
+    }
+    None
+}

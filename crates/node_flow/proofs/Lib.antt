@@ -1,0 +1,11 @@
+pub mod Members
+pub mod Told
+pub mod Children
+pub mod Building
+pub mod Later
+pub mod Among
+pub mod TreeLaws
+pub mod Orders
+pub mod Waiting
+pub mod Apart
+pub mod Places

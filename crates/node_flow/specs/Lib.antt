@@ -1,0 +1,4 @@
+pub mod Followers
+pub mod Linked
+pub mod Order
+pub mod Rows

@@ -1,0 +1,66 @@
+-- What a token that adds one node or one class does to a machine keeps what the machine means.
+use Rattle.std.proofs.Common.{◌≡◌, ℕ, ◌<◌, ◌≤◌, Bool, false, ◌||◌, List, [], ◌∷◌, ◌++◌, length, length-append, Some, Ok, sym, ap, ◌∙◌, arith}
+use Rattle.std.proofs.lemmas.List.Elements.{All-nil, All-push}
+use Rattle.pat_tree.specs.declared.nodes.Placed.{Placed}
+use Rattle.pat_tree.specs.declared.nodes.ClassSpec.{ClassSpec}
+use Rattle.pat_tree.specs.declared.nodes.Item.TheVariants.{Class}
+use Rattle.pat_tree.specs.Parts.{DraftParts, with_node, with_class}
+use Rattle.pat_tree.specs.Nested.{Nested, one}
+use Rattle.pat_tree.specs.Refs.{refs_of, has_group, is_group}
+use Rattle.pat_tree.specs.Growing.{Makes, Replaces}
+use Rattle.token_parts.specs.declared.token.Token.{Token}
+use Rattle.pat_build.specs.declared.machine.Atom.TheVariants.{Single, Whole}
+use Rattle.pat_build.specs.declared.machine.Machine.{Machine}
+use Rattle.pat_build.specs.Groups.{places_named}
+use Rattle.pat_build.specs.Parts.{atom, bare, of_class}
+use Rattle.pat_build.specs.Machine.{Means, Ready, Begins, Took, IsMany, state_of, references_of, reference_in}
+use Rattle.pat_build.proofs.States.{references_push}
+use Rattle.pat_build.proofs.Extending.{Extends, extends_node, extends_class}
+use Rattle.pat_build.proofs.Taking.{atom_means, bare_means}
+
+-- the node that a draft has more
+pub record OneMore (m : Machine) (draft : DraftParts) (p : Placed) (id : ℕ) (t : Nested) : Type 0 where
+  pub is : draft ≡ with_node m.draft p
+  pub makes : Makes m.draft.nodes draft.nodes id t
+  pub replaces : Replaces m.draft.nodes [] draft.nodes id
+  pub no_group : (n : ℕ) → is_group n p.node ≡ false
+  pub groups : (n : ℕ) → has_group draft.nodes n ≡ (has_group m.draft.nodes n || is_group n p.node)
+  pub named : refs_of p ≡ places_named (reference_in p)
+
+state_more : (m : Machine) (draft : DraftParts) (p : Placed) → draft ≡ with_node m.draft p →
+    state_of (record m { draft = draft }) ≡ record (state_of m) { references = references_of m.draft.nodes ++ reference_in p }
+state_more m draft p is =
+    ap (λ d. state_of (record m { draft = d })) is ∙ ap (λ rs. record (state_of m) { references = rs }) (references_push m.draft.nodes p)
+
+module _ (m : Machine) (means : Means m) where
+  -- the node waits for a quantifier
+  pub node_waits : (token : Token) (after at id : ℕ) (t : Nested) (draft : DraftParts) (p : Placed) → Ready token after m → OneMore m draft p id t → IsMany t →
+      Begins m token after (Ok (atom t (record (state_of m) { at = after; references = references_of m.draft.nodes ++ reference_in p }))) →
+      Took m (record m { draft = draft; waiting = Some (Whole id at); at = after })
+  node_waits token after at id t draft p ready more many begins =
+      let state = state_more m draft p more.is in
+      let extends = extends_node m.draft draft p id t means.refs_are more.is more.makes more.replaces more.no_group more.groups more.named in
+      atom_means m means token after after m.quoting (Whole id at) draft ready (omega arith) ready.there.within extends (more.makes.below, rw more.makes.is many)
+      (λ n h. begins n h ∙ ap (λ st. Ok (atom t (record st { at = after }))) (sym state) ∙ ap (λ u. Ok (atom u (record (state_of (record m { draft = draft })) { at = after }))) (sym more.makes.is))
+
+  -- no quantifier may follow the node
+  pub node_stands : (token : Token) (after id : ℕ) (t : Nested) (draft : DraftParts) (p : Placed) (parts : List ℕ) → Ready token after m → OneMore m draft p id t → parts ≡ m.level.parts ++ id ∷ [] →
+      Begins m token after (Ok (bare t (record (state_of m) { at = after; references = references_of m.draft.nodes ++ reference_in p }))) →
+      Took m (record m { draft = draft; level = record (m.level) { parts = parts }; at = after })
+  node_stands token after id t draft p parts ready more pushed begins =
+      let state = state_more m draft p more.is in
+      let extends = extends_node m.draft draft p id t means.refs_are more.is more.makes more.replaces more.no_group more.groups more.named in
+      bare_means m means token after id t draft parts ready extends more.makes pushed
+      (λ n h. begins n h ∙ ap (λ st. Ok (bare t (record st { at = after }))) (sym state))
+
+  -- a new class waits for a quantifier
+  pub class_waits : (token : Token) (after end at id : ℕ) (quoting : Bool) (spec : ClassSpec) (draft : DraftParts) → Ready token after m → after ≤ end → end ≤ length m.text.now →
+      draft ≡ with_class m.draft spec → id ≡ length m.draft.classes →
+      Begins m token after (Ok (of_class spec (record (state_of m) { at = end; quoting = quoting }))) →
+      Took m (record m { draft = draft; waiting = Some (Single (Class id) at); at = end; quoting = quoting })
+  class_waits token after end at id quoting spec draft ready later within is number begins =
+      let extends : Extends m.draft draft [] = rw is (extends_class m.draft spec means.refs_are) in
+      let below : id < length draft.classes = omega (arith, number, ap (λ d. length d.classes) is, length-append m.draft.classes (spec ∷ [])) in
+      atom_means m means token after end quoting (Single (Class id) at) draft ready later within extends (All-push (λ n. n < length draft.classes) [] id (All-nil (λ n. n < length draft.classes)) below)
+      (λ n h. begins n h ∙ ap (λ d. Ok (atom (one (Class (length m.draft.classes))) (state_of (record m { draft = d; at = end; quoting = quoting })))) (sym is)
+      ∙ ap (λ k. Ok (atom (one (Class k)) (state_of (record m { draft = draft; at = end; quoting = quoting })))) (sym number))

@@ -1,0 +1,94 @@
+-- A draft with one node more, which is no group and takes no other.
+use Rattle.std.proofs.Common.{◌≡◌, ℕ, ◌≤◌, ◌+◌, ◌||◌, false, List, [], ◌∷◌, ◌++◌, length, Option, None, refl, sym, ap, ◌∙◌, append-nil, arith, length-append}
+use Rattle.std.proofs.lemmas.Grind.{flat_map-append}
+use Rattle.pat_tree.specs.declared.nodes.Placed.{Placed}
+use Rattle.pat_tree.specs.declared.nodes.ClassSpec.{ClassSpec}
+use Rattle.pat_tree.specs.Parts.{DraftParts, with_node, with_class}
+use Rattle.pat_tree.specs.Nested.{Nested}
+use Rattle.pat_tree.specs.Refs.{refs, refs_of, has_group, is_group}
+use Rattle.pat_tree.specs.Growing.{Grows, Makes, Replaces, loose}
+use Rattle.pat_tree.proofs.Growing.{grows_not, refs_push}
+use Rattle.pat_build.specs.State.{Reference}
+use Rattle.pat_build.specs.Groups.{places_named}
+use Rattle.pat_build.specs.Machine.{Adds, references_of, reference_in, is_number}
+use Rattle.pat_build.proofs.States.{references_push, or_false}
+
+-- the draft has this loose node more, if any
+pub record Extends (old new : DraftParts) (tail : List ℕ) : Type 0 where
+  pub grows : Grows old.nodes new.nodes
+  pub options : new.options ≡ old.options
+  pub names : new.names ≡ old.names
+  pub classes : length new.classes ≤ length old.classes + 1
+  pub refs_are : refs new.nodes ≡ places_named (references_of new.nodes)
+  pub groups : (n : ℕ) → has_group new.nodes n ≡ has_group old.nodes n
+  pub loose_is : loose new.nodes ≡ loose old.nodes ++ tail
+  pub count : length new.nodes ≤ length old.nodes + 1
+
+pub places_append : (xs ys : List Reference) → places_named (xs ++ ys) ≡ places_named xs ++ places_named ys
+unfolding places_named
+places_append xs ys = flat_map-append _ xs ys
+
+pub extends_none : (d : DraftParts) → refs d.nodes ≡ places_named (references_of d.nodes) → Extends d d []
+extends_none d h = record {
+  grows = grows_not d.nodes;
+  options = refl;
+  names = refl;
+  classes = omega arith;
+  refs_are = h;
+  groups = λ n. refl;
+  loose_is = sym (append-nil (loose d.nodes));
+  count = omega arith;
+}
+
+pub extends_class : (d : DraftParts) (spec : ClassSpec) → refs d.nodes ≡ places_named (references_of d.nodes) → Extends d (with_class d spec) []
+extends_class d spec h = record {
+  grows = grows_not d.nodes;
+  options = refl;
+  names = refl;
+  classes = omega (arith, length-append d.classes (spec ∷ []));
+  refs_are = h;
+  groups = λ n. refl;
+  loose_is = sym (append-nil (loose d.nodes));
+  count = omega arith;
+}
+
+pub extends_node : (d new : DraftParts) (p : Placed) (id : ℕ) (t : Nested) → refs d.nodes ≡ places_named (references_of d.nodes) →
+    new ≡ with_node d p → Makes d.nodes new.nodes id t → Replaces d.nodes [] new.nodes id → ((n : ℕ) → is_group n p.node ≡ false) → ((n : ℕ) → has_group new.nodes n ≡ (has_group d.nodes n || is_group n p.node)) →
+    refs_of p ≡ places_named (reference_in p) → Extends d new (id ∷ [])
+extends_node d new p id t h is made replaces no_group groups named = record {
+  grows = made.grows;
+  options = ap (λ v. v.options) is;
+  names = ap (λ v. v.names) is;
+  classes = omega (arith, ap (λ v. length v.classes) is);
+  refs_are = ap (λ v. refs v.nodes) is ∙ refs_push d.nodes p ∙ ap (λ v. v ++ refs_of p) h ∙ ap (λ v. places_named (references_of d.nodes) ++ v) named
+      ∙ sym (places_append (references_of d.nodes) (reference_in p)) ∙ ap places_named (sym (references_push d.nodes p)) ∙ ap (λ v. places_named (references_of v.nodes)) (sym is);
+  groups = λ n. groups n ∙ ap (λ b. has_group d.nodes n || b) (no_group n) ∙ or_false (has_group d.nodes n);
+  loose_is = replaces (loose d.nodes) (sym (append-nil (loose d.nodes)));
+  count = omega (arith, ap (λ v. length v.nodes) is, length-append d.nodes (p ∷ []));
+}
+
+pub adds_none : (d : DraftParts) → Adds d d None
+adds_none d = record { options = refl; classes = refl; names = refl; references = refl; refs_are = refl; groups = λ n. sym (or_false (has_group d.nodes n)) }
+
+-- a node that is no reference is added
+pub adds_node : (d new : DraftParts) (p : Placed) (number : Option ℕ) → new ≡ with_node d p → refs new.nodes ≡ refs d.nodes ++ refs_of p → refs_of p ≡ [] → reference_in p ≡ [] →
+    ((n : ℕ) → has_group new.nodes n ≡ (has_group d.nodes n || is_group n p.node)) → ((n : ℕ) → is_group n p.node ≡ is_number number n) → Adds d new number
+adds_node d new p number is refs_are none no_reference groups numbered = record {
+  options = ap (λ v. v.options) is;
+  classes = ap (λ v. v.classes) is;
+  names = ap (λ v. v.names) is;
+  references = ap (λ v. references_of v.nodes) is ∙ references_push d.nodes p ∙ ap (λ v. references_of d.nodes ++ v) no_reference ∙ append-nil (references_of d.nodes);
+  refs_are = refs_are ∙ ap (λ v. refs d.nodes ++ v) none ∙ append-nil (refs d.nodes);
+  groups = λ n. groups n ∙ ap (λ b. has_group d.nodes n || b) (numbered n);
+}
+
+-- first nodes that are no group, then others
+pub adds_then : {a b c : DraftParts} {number : Option ℕ} → Adds a b None → Adds b c number → Adds a c number
+adds_then {a} {b} {c} {number} s t = record {
+  options = t.options ∙ s.options;
+  classes = t.classes ∙ s.classes;
+  names = t.names ∙ s.names;
+  references = t.references ∙ s.references;
+  refs_are = t.refs_are ∙ s.refs_are;
+  groups = λ n. t.groups n ∙ ap (λ x. x || is_number number n) (s.groups n ∙ or_false (has_group a.nodes n));
+}

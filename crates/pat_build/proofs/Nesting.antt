@@ -1,0 +1,309 @@
+-- What a bar, and the begin and the end of a group, do to a machine keeps what the machine means.
+use Rattle.std.proofs.Common.{◌≡◌, ◌⊎◌, inl, inr, ℕ, zero, suc, ◌+◌, ◌-◌, ◌*◌, ◌^◌, ◌<◌, ◌≤◌, Bool, true, false, ◌||◌, ◌==◌, List, [], ◌∷◌, ◌++◌, length, length-append, append_assoc, append-nil, map, reverse, Option, Some, None, Ok, refl, sym, ap, ◌∙◌, arith, All}
+use Rattle.std.specs.declared.vec.Vec.{Vec}
+use Rattle.std.specs.declared.alloc.Global.{Global}
+use Rattle.std.proofs.lemmas.List.{reverse-append}
+use Rattle.std.proofs.lemmas.List.Folds.{list_any-append}
+use Rattle.std.proofs.lemmas.List.Elements.{All-nil, All-push, All-weaker}
+use Rattle.std.proofs.lemmas.Bool.Decides.{nat_tests}
+use Rattle.pat_tree.specs.declared.options.Options.{Options}
+use Rattle.pat_tree.specs.declared.nodes.Placed.{Placed}
+use Rattle.pat_tree.specs.declared.names.NameEntry.{NameEntry}
+use Rattle.pat_tree.specs.Parts.{DraftParts}
+use Rattle.pat_tree.specs.Nested.{Nested, row, group, tree_at, trees}
+use Rattle.pat_tree.specs.Refs.{has_group}
+use Rattle.pat_tree.specs.Rules.{number_in}
+use Rattle.pat_tree.specs.Growing.{Replaces, Makes}
+use Rattle.pat_tree.proofs.Growing.{stand_made, stand_none, grows_not}
+use Rattle.token_parts.specs.declared.token.Token.{Token}
+use Rattle.token_parts.specs.declared.token.Token.TheVariants.{End, Bar, Close}
+use Rattle.token_parts.specs.Tell.{fault}
+use Rattle.pat_lex.specs.Tokens.{token_at}
+use Rattle.pat_build.specs.declared.machine.Atom.TheVariants.{Whole}
+use Rattle.pat_build.specs.declared.machine.Frame.{Frame}
+use Rattle.pat_build.specs.declared.machine.Level.{Level}
+use Rattle.pat_build.specs.declared.machine.Machine.{Machine}
+use Rattle.pat_build.specs.declared.names.Name.{Name}
+use Rattle.pat_build.specs.State.{State, Reads, flags_of}
+use Rattle.pat_build.specs.Groups.{is_opened}
+use Rattle.pat_build.specs.Names.{given_after, with_given}
+use Rattle.pat_build.specs.Parts.{inside, alternative}
+use Rattle.pat_build.specs.Stack.{Layer, Opened, resume, ended}
+use Rattle.pat_build.specs.Machine.{Adds, Named, state_of, known_of, whole_of, left, Means, Ready, Begins, Took, Numbered, Gives, Ends, opening_of, ids_waiting, ids_in, ids_held, is_open, is_number}
+use Rattle.pat_build.proofs.Naming.{named_push, length_table}
+use Rattle.pat_build.proofs.Steps.{step_open, step_bar, step_over, step_close, step_unclosed, step_unopened, step_whole}
+use Rattle.pat_build.proofs.Standing.{positive, level_on, stack_on, innermost, none_open}
+use Rattle.pat_build.proofs.States.{state_kept, whole_kept, refs_kept, named_kept, numbers_kept, held_push, or_false}
+use Rattle.pat_build.proofs.Waiting.{idle_value, loose_idle, to_parts}
+
+as_branch : (h b x : List ℕ) → (h ++ b) ++ x ≡ h ++ (((b ++ x) ++ []) ++ [])
+as_branch h b x = simp (append_assoc, append-nil)
+
+or_assoc : (a b c : Bool) → ((a || b) || c) ≡ (a || (b || c))
+or_assoc true b c = refl
+or_assoc false b c = refl
+
+or_swap : (b c : Bool) → (b || c) ≡ (c || b)
+or_swap true true = refl
+or_swap true false = refl
+or_swap false true = refl
+or_swap false false = refl
+
+open_push : (fs : List Frame) (f : Frame) (n : ℕ) → is_open (fs ++ f ∷ []) n ≡ (is_open fs n || is_number f.number n)
+open_push fs f n = list_any-append (λ g. is_number g.number n) fs (f ∷ []) ∙ ap (λ b. is_open fs n || b) (or_false (is_number f.number n))
+
+opened_more : (g n : ℕ) → (is_opened g n || ((g + 1) == n)) ≡ is_opened (g + 1) n
+opened_more g n = grind (arith, nat_tests)
+
+-- a group begins
+numbers_enter : (ps : List Placed) (fs : List Frame) (f : Frame) (groups after : ℕ) → Numbered groups f.number after →
+    ((n : ℕ) → (has_group ps n || is_open fs n) ≡ is_opened groups n) → (n : ℕ) → (has_group ps n || is_open (fs ++ f ∷ []) n) ≡ is_opened after n
+numbers_enter ps fs f groups after numbered h n =
+    ap (λ b. has_group ps n || b) (open_push fs f n) ∙ sym (or_assoc (has_group ps n) (is_open fs n) (is_number f.number n)) ∙ ap (λ b. b || is_number f.number n) (h n)
+    ∙ (elim (f.number) as (λ number. Numbered groups number after → (is_opened groups n || is_number number n) ≡ is_opened after n) [
+      | None ↦ λ e. or_false (is_opened groups n) ∙ ap (λ g. is_opened g n) (sym e)
+      | Some k ↦ λ e. ap (λ g. is_opened groups n || (g == n)) e.0 ∙ opened_more groups n ∙ ap (λ g. is_opened g n) (sym e.1)
+    ] numbered)
+
+-- a group ends
+numbers_close : (ps qs : List Placed) (fs front : List Frame) (f : Frame) (groups : ℕ) → fs ≡ front ++ f ∷ [] →
+    ((n : ℕ) → has_group qs n ≡ (has_group ps n || is_number f.number n)) →
+    ((n : ℕ) → (has_group ps n || is_open fs n) ≡ is_opened groups n) → (n : ℕ) → (has_group qs n || is_open front n) ≡ is_opened groups n
+numbers_close ps qs fs front f groups popped grown h n =
+    ap (λ b. b || is_open front n) (grown n) ∙ or_assoc (has_group ps n) (is_number f.number n) (is_open front n)
+    ∙ ap (λ b. has_group ps n || b) (or_swap (is_number f.number n) (is_open front n) ∙ sym (open_push front f n))
+    ∙ ap (λ l. has_group ps n || is_open l n) (sym popped) ∙ h n
+
+not_both : (b : Bool) → b ≡ true → b ≡ false → ⊥
+not_both true h k = cc
+not_both false h k = cc
+
+or_true : (b : Bool) → (b || true) ≡ true
+or_true true = refl
+or_true false = refl
+
+-- an open group that captures has a number from 1 on
+pub frame_numbered : (ps : List Placed) (fs front : List Frame) (f : Frame) (groups : ℕ) → fs ≡ front ++ f ∷ [] →
+    ((n : ℕ) → (has_group ps n || is_open fs n) ≡ is_opened groups n) → All (λ n. 1 ≤ n) (number_in f.number)
+frame_numbered ps fs front f groups popped h = elim (f.number) as (λ number. f.number ≡ number → All (λ n. 1 ≤ n) (number_in number)) [
+  | None ↦ λ e. All-nil (λ n. 1 ≤ n)
+  | Some k ↦ λ e. All-push (λ n. 1 ≤ n) [] k (All-nil (λ n. 1 ≤ n)) (elim k as (λ j. f.number ≡ Some j → 1 ≤ j) [
+    | zero ↦ λ z. absurd (let open_at : is_open fs 0 ≡ true = ap (λ l. is_open l 0) popped ∙ open_push front f 0 ∙ ap (λ v. is_open front 0 || is_number v 0) z ∙ or_true (is_open front 0) in
+        not_both (has_group ps 0 || is_open fs 0) (ap (λ b. has_group ps 0 || b) open_at ∙ or_true (has_group ps 0)) (h 0))
+    | suc j ↦ λ z. omega arith
+  ] e)
+] refl
+
+more_groups : (groups : ℕ) (number : Option ℕ) (after : ℕ) → Numbered groups number after → groups ≤ after
+more_groups groups None after h = omega (arith, h)
+more_groups groups (Some k) after h = omega (arith, h.1)
+
+-- the names with the one that a group gets
+pub named_given : (text : List ℕ) (names after_names : List Name) (table : List NameEntry) (groups after : ℕ) (number : Option ℕ) (given : Option Name) → Named text names table groups → Gives text groups given after → Numbered groups number after →
+    after_names ≡ given_after names given → Named text after_names (with_given text given table) after
+named_given text names after_names table groups after number None h gives numbered is =
+    let more : groups ≤ after = more_groups groups number after numbered in
+    rw is (record { known = h.known; is = h.is; few = All-weaker (λ n. n.group ≤ groups) (λ n. n.group ≤ after) (λ n below. omega arith) names h.few; count = omega (arith, h.count) })
+named_given text names after_names table groups after number (Some name) h gives numbered is =
+    rw (is, gives.2) (named_push text names table groups name h gives.0 gives.1)
+
+pub few_names : (text : List ℕ) (names : List Name) (table : List NameEntry) (groups after : ℕ) (number : Option ℕ) → Named text names table groups → Numbered groups number after → after < 2 ^ 16 → length table < 4294967295
+few_names text names table groups after number h numbered small =
+    let more : groups ≤ after = more_groups groups number after numbered in
+    omega (arith, ap length h.is, length_table text names, h.count)
+
+state_eq : (st : State) {o o' : Options} {d d' : ℕ} → o ≡ o' → d ≡ d' → record st { options = o; depth = d } ≡ record st { options = o'; depth = d' }
+state_eq st {o} {o'} {d} {d'} p q = ap (λ v. record st { options = v; depth = d }) p ∙ ap (λ v. record st { options = o'; depth = v }) q
+
+resume_eq : (known : List NameEntry) (text : List ℕ) (os : List Opened) (layer : Layer) (n : ℕ) {t u : Nested} {st st' : State} → t ≡ u → st ≡ st' → resume known text os layer (Some (n, t)) st ≡ resume known text os layer (Some (n, u)) st'
+resume_eq known text os layer n {t} {u} {st} {st'} p q = ap (λ v. resume known text os layer (Some (n, v)) st) p ∙ ap (λ v. resume known text os layer (Some (n, u)) v) q
+
+module _ (m : Machine) (means : Means m) where
+  -- the old level's numbers serve for the new one
+  pub bar_means : (id : ℕ) (draft : DraftParts) (branches : List ℕ) (after : ℕ) →
+      Ready Bar after m → Makes m.draft.nodes draft.nodes id (alternative (map (tree_at (trees m.draft.nodes)) m.level.parts)) → Adds m.draft draft None → Replaces m.draft.nodes m.level.parts draft.nodes id →
+      branches ≡ m.level.branches ++ id ∷ [] → length draft.nodes ≤ length m.draft.nodes + 1 →
+      Took m (record m { draft = draft; level = record { branches = branches; parts = [] }; at = after })
+  bar_means id draft branches after ready makes adds replaces more count =
+      let (n, n_is) = positive (left m) means.layer.n means.level.n in
+      let (k, k_is) = positive (left m) means.layer.k means.level.k in
+      let there = ready.there in
+      let u : ℕ = 2 * (length m.text.now - after) in
+      let falls : u < left m - 1 = omega (arith, there.goes, there.within) in
+      let less : u ≤ left m = omega arith in
+      let layer : Layer = record { n = k; k = k; branches = means.layer.branches ++ alternative means.layer.parts ∷ []; parts = [] } in
+      let step = step_bar (known_of m) m.text.now (state_of m) Bar after there.token_is refl means.opens means.layer n k n_is k_is in
+      let whole = whole_kept m draft adds in record {
+        means = record {
+          opens = means.opens;
+          layer = layer;
+          waiting = None;
+          stack = stack_on makes.grows (left m) u less (reverse m.stack.items) means.opens means.stack;
+          level = record {
+            branches = rw more (stand_made (rw means.level.parts.trees_are at makes) means.level.branches);
+            parts = stand_none draft.nodes;
+            n = omega (arith, k_is, means.level.k);
+            k = omega (arith, k_is, means.level.k);
+          };
+          pending = rw (ready.idle) refl;
+          value = ap (λ st. resume (known_of m) m.text.now means.opens layer None (record st { at = after })) (state_kept m draft adds) ∙ sym step ∙ idle_value m means ready.idle ∙ sym whole;
+          within = there.within;
+          short = means.short;
+          depth = means.depth;
+          classes = omega (arith, means.classes, there.goes, ap length adds.classes);
+          known = means.known;
+          named = named_kept m draft adds means.named;
+          refs_are = refs_kept m draft adds means.refs_are;
+          loose_is = replaces (ids_held m.stack.items ++ m.level.branches) (loose_idle m means ready.idle ∙ to_parts (ids_held m.stack.items) m.level.branches m.level.parts) ∙ as_branch (ids_held m.stack.items) m.level.branches (id ∷ []) ∙ ap (λ l. ids_held m.stack.items ++ ((l ++ []) ++ [])) (sym more) ∙ ap (λ w. ids_held m.stack.items ++ ((branches ++ []) ++ ids_waiting w)) (sym ready.idle);
+          numbers = numbers_kept m.draft draft m.stack.items m.groups adds means.numbers;
+        };
+        room = omega (arith, ready.room, there.goes, count);
+        goes = there.goes;
+        same = record { text = refl; options = adds.options; whole = whole };
+      }
+
+  -- a group begins, which may get a name
+  pub enter_means : (token : Token) (after : ℕ) (f : Frame) (stack : Vec Frame Global) (options : Options) (groups : ℕ) (names : Vec Name Global) (table : List NameEntry) →
+      Ready token after m → stack.items ≡ m.stack.items ++ f ∷ [] → f.outer ≡ m.level → length m.stack.items < 250 → Numbered m.groups f.number groups → Named m.text.now names.items table groups →
+      Begins m token after (Ok (inside (opening_of f) (record (state_of m) { at = after; options = options; groups = groups; depth = length m.stack.items + 1; names = table }))) →
+      Took m (record m { draft = record (m.draft) { names = table }; names = names; stack = stack; level = record { branches = []; parts = [] }; options = options; groups = groups; at = after })
+  enter_means token after f stack options groups names table ready pushed outer fits numbered named begins =
+      let (n, n_is) = positive (left m) means.layer.n means.level.n in
+      let there = ready.there in
+      let u : ℕ = 2 * (length m.text.now - after) in
+      let falls : u < left m - 1 = omega (arith, there.goes, there.within) in
+      let less : u ≤ left m = omega arith in
+      let (q, q_is) = positive (u + 1) n (omega (arith, n_is, means.level.n)) in
+      let above : u < q = omega (arith, q_is, n_is, means.level.n) in
+      let enough : u < suc q = omega (arith, above) in
+      let plenty : u + 1 < suc q = omega (arith, above) in
+      let level = level_on (grows_not m.draft.nodes) (left m) u less means.level in
+      let new : Machine = record m { draft = record (m.draft) { names = table }; names = names; stack = stack; level = record { branches = []; parts = [] }; options = options; groups = groups; at = after } in
+      let o : Opened = record { how = opening_of f; outer = record (means.layer) { n = suc q } } in
+      let inner : Layer = record { n = q; k = q; branches = []; parts = [] } in
+      let turned : reverse stack.items ≡ f ∷ reverse m.stack.items = ap reverse pushed ∙ reverse-append m.stack.items (f ∷ []) in
+      let deep : length stack.items ≡ length m.stack.items + 1 = omega (arith, ap length pushed, length-append m.stack.items (f ∷ [])) in
+      let step = step_open (known_of m) m.text.now (state_of m) token after there.token_is means.opens means.layer q (opening_of f)
+      (record (state_of m) { at = after; options = options; groups = groups; depth = length m.stack.items + 1; names = table }) (n_is ∙ ap suc q_is) (begins (suc q) plenty) in record {
+        means = record {
+          opens = o ∷ means.opens;
+          layer = inner;
+          waiting = None;
+          stack = rw turned (
+            record {
+              how = refl;
+              outer = rw outer (record { branches = level.branches; parts = level.parts; n = enough; k = level.k });
+            },
+            stack_on (grows_not m.draft.nodes) (left m) u less (reverse m.stack.items) means.opens means.stack,
+          );
+          level = record { branches = stand_none m.draft.nodes; parts = stand_none m.draft.nodes; n = above; k = above };
+          pending = rw (ready.idle) refl;
+          value = ap (λ d. resume (known_of m) m.text.now (o ∷ means.opens) inner None (record (state_of new) { depth = d })) deep ∙ sym step ∙ idle_value m means ready.idle;
+          within = there.within;
+          short = means.short;
+          depth = omega (arith, deep, fits);
+          classes = omega (arith, means.classes, there.goes);
+          known = means.known;
+          named = named;
+          refs_are = means.refs_are;
+          loose_is = loose_idle m means ready.idle ∙ ap (λ l. ids_held m.stack.items ++ l) (append-nil (ids_in m.level)) ∙ ap (λ l. ids_held m.stack.items ++ ids_in l) (sym outer) ∙ sym (held_push m.stack.items f) ∙ ap ids_held (sym pushed) ∙ sym (append-nil (ids_held stack.items)) ∙ ap (λ w. ids_held stack.items ++ ids_waiting w) (sym ready.idle);
+          numbers = rw pushed (numbers_enter m.draft.nodes m.stack.items f m.groups groups numbered means.numbers);
+        };
+        room = omega (arith, ready.room, there.goes);
+        goes = there.goes;
+        same = record { text = refl; options = refl; whole = refl };
+      }
+
+  over_value : (token : Token) (after : ℕ) → (token ≡ Close) ⊎ (token ≡ End) → m.waiting ≡ None → token_at m.text.now (flags_of false (state_of m)) m.at ≡ Ok (token, after) →
+      ended (known_of m) m.text.now means.opens (means.layer.branches ++ alternative means.layer.parts ∷ []) (state_of m) ≡ whole_of m
+  over_value token after ends idle token_is =
+      let n = positive (left m) means.layer.n means.level.n in
+      sym (step_over (known_of m) m.text.now (state_of m) token after token_is ends means.opens means.layer n.0 n.1) ∙ idle_value m means idle
+
+  pub unopened_means : (after : ℕ) → Ready Close after m → m.stack.items ≡ [] → whole_of m ≡ fault 122 m.at
+  unopened_means after ready none =
+      let opens : means.opens ≡ [] = none_open m.draft.nodes (left m) means.opens (rw none at means.stack) in
+      sym (over_value Close after (inl refl) ready.idle ready.there.token_is)
+      ∙ ap (λ os. ended (known_of m) m.text.now os (means.layer.branches ++ alternative means.layer.parts ∷ []) (state_of m)) opens
+      ∙ step_unopened (known_of m) m.text.now (state_of m) Close after ready.there.token_is refl (means.layer.branches ++ alternative means.layer.parts ∷ [])
+
+  pub unclosed_means : (after : ℕ) (f : Frame) (front : List Frame) → m.waiting ≡ None → token_at m.text.now (flags_of false (state_of m)) m.at ≡ Ok (End, after) → m.stack.items ≡ front ++ f ∷ [] →
+      whole_of m ≡ fault 114 (length m.text.now)
+  unclosed_means after f front idle token_is some =
+      let turned : reverse m.stack.items ≡ f ∷ reverse front = ap reverse some ∙ reverse-append front (f ∷ []) in
+      let i = innermost m.draft.nodes (left m) f (reverse front) means.opens (rw turned at means.stack) in
+      sym (over_value End after (inr refl) idle token_is)
+      ∙ ap (λ os. ended (known_of m) m.text.now os (means.layer.branches ++ alternative means.layer.parts ∷ []) (state_of m)) i.is
+      ∙ step_unclosed (known_of m) m.text.now (state_of m) End after token_is refl i.o i.os (means.layer.branches ++ alternative means.layer.parts ∷ [])
+
+  pub whole_means : (after id : ℕ) (draft : DraftParts) (level : Level) → m.waiting ≡ None → token_at m.text.now (flags_of false (state_of m)) m.at ≡ Ok (End, after) → m.stack.items ≡ [] →
+      Makes m.draft.nodes draft.nodes id (group None (row (map (tree_at (trees m.draft.nodes)) m.level.branches ++ alternative (map (tree_at (trees m.draft.nodes)) m.level.parts) ∷ []))) →
+      Adds m.draft draft None → Ends m (record m { draft = draft; level = level }) id
+  whole_means after id draft level idle token_is none makes adds =
+      let opens : means.opens ≡ [] = none_open m.draft.nodes (left m) means.opens (rw none at means.stack) in
+      let made = rw (means.level.branches.trees_are, means.level.parts.trees_are) at makes in
+      let branches : List Nested = means.layer.branches ++ alternative means.layer.parts ∷ [] in
+      let numbers = numbers_kept m.draft draft m.stack.items m.groups adds means.numbers in record {
+        is = sym (over_value End after (inr refl) idle token_is)
+            ∙ ap (λ os. ended (known_of m) m.text.now os branches (state_of m)) opens
+            ∙ step_whole (known_of m) m.text.now (state_of m) End after token_is refl branches
+            ∙ ap (λ t. let x : Reads Nested = Ok (t, state_of m) in x) (sym made.is)
+            ∙ ap (λ st. let x : Reads Nested = Ok (tree_at (trees draft.nodes) id, st) in x) (sym (state_kept m draft adds));
+        groups = λ n. sym (or_false (has_group draft.nodes n)) ∙ ap (λ l. has_group draft.nodes n || is_open l n) (sym none) ∙ numbers n;
+        refs_are = refs_kept m draft adds means.refs_are;
+        text = refl;
+        named = named_kept m draft adds means.named;
+        options = adds.options;
+      }
+
+  -- a group ends, and waits for a quantifier
+  pub close_means : (after id at : ℕ) (f : Frame) (stack : Vec Frame Global) (draft : DraftParts) → Ready Close after m → m.stack.items ≡ stack.items ++ f ∷ [] →
+      Makes m.draft.nodes draft.nodes id (group f.number (row (map (tree_at (trees m.draft.nodes)) m.level.branches ++ alternative (map (tree_at (trees m.draft.nodes)) m.level.parts) ∷ []))) →
+      Adds m.draft draft f.number → Replaces m.draft.nodes (m.level.branches ++ m.level.parts) draft.nodes id → length draft.nodes ≤ length m.draft.nodes + 2 →
+      Took m (record m { draft = draft; stack = stack; level = f.outer; waiting = Some (Whole id at); options = f.around; at = after })
+  close_means after id at f stack draft ready popped makes adds replaces count =
+      let there = ready.there in
+      let u : ℕ = 2 * (length m.text.now - after) in
+      let falls : u < left m - 1 = omega (arith, there.goes, there.within) in
+      let less : u ≤ left m = omega arith in
+      let turned : reverse m.stack.items ≡ f ∷ reverse stack.items = ap reverse popped ∙ reverse-append stack.items (f ∷ []) in
+      let deep : length m.stack.items ≡ length stack.items + 1 = omega (arith, ap length popped, length-append stack.items (f ∷ [])) in
+      let less_deep : length m.stack.items - 1 ≡ length stack.items = omega (arith, deep) in
+      let i = innermost m.draft.nodes (left m) f (reverse stack.items) means.opens (rw turned at means.stack) in
+      let made = rw (means.level.branches.trees_are, means.level.parts.trees_are) at makes in
+      let level = level_on makes.grows (left m) u less i.frame.outer in
+      let branches : List Nested = means.layer.branches ++ alternative means.layer.parts ∷ [] in
+      let t : Nested = group i.o.how.number (row branches) in
+      let tree : tree_at (trees draft.nodes) id ≡ t = rw i.frame.how made.is in
+      let step = step_close (known_of m) m.text.now (state_of m) Close after there.token_is refl i.o i.os branches in
+      let last : State = record (state_of m) { at = after; options = i.o.how.around; depth = length m.stack.items - 1 } in
+      let whole = whole_kept m draft adds in
+      let value : resume (known_of m) m.text.now i.os i.o.outer (Some (i.o.outer.n, t)) last ≡ whole_of m =
+      sym step ∙ ap (λ os. ended (known_of m) m.text.now os branches (state_of m)) (sym i.is)
+      ∙ over_value Close after (inl refl) ready.idle there.token_is in
+      let new : Machine = record m { draft = draft; stack = stack; level = f.outer; waiting = Some (Whole id at); options = f.around; at = after } in
+      let state : state_of new ≡ last =
+      ap (λ (st : State). let x : State = record st { at = after; options = f.around; depth = length stack.items } in x) (state_kept m draft adds)
+      ∙ state_eq (record (state_of m) { at = after }) (ap (λ h. h.around) (sym i.frame.how)) (sym less_deep) in record {
+        means = record {
+          opens = i.os;
+          layer = i.o.outer;
+          waiting = Some (i.o.outer.n, tree_at (trees draft.nodes) id);
+          stack = stack_on makes.grows (left m) u less (reverse stack.items) i.os i.stack;
+          level = level;
+          pending = ((makes.below, rw tree (record { many = λ low high lazy. refl })), (i.o.outer.n, level.n, refl));
+          value = resume_eq (known_of m) m.text.now i.os i.o.outer i.o.outer.n tree state ∙ value ∙ sym whole;
+          within = there.within;
+          short = means.short;
+          depth = omega (arith, deep, means.depth);
+          classes = omega (arith, means.classes, there.goes, ap length adds.classes);
+          known = means.known;
+          named = named_kept m draft adds means.named;
+          refs_are = refs_kept m draft adds means.refs_are;
+          loose_is = replaces (ids_held m.stack.items) (loose_idle m means ready.idle ∙ ap (λ l. ids_held m.stack.items ++ l) (append-nil (ids_in m.level))) ∙ ap (λ l. l ++ id ∷ []) (ap ids_held popped ∙ held_push stack.items f) ∙ append_assoc (ids_held stack.items) (ids_in f.outer) (id ∷ []);
+          numbers = numbers_close m.draft.nodes draft.nodes m.stack.items stack.items f m.groups popped adds.groups means.numbers;
+        };
+        room = omega (arith, ready.room, there.goes, count);
+        goes = there.goes;
+        same = record { text = refl; options = adds.options; whole = whole };
+      }

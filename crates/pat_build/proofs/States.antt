@@ -1,0 +1,64 @@
+-- A machine's state and its reading, as its draft grows.
+use Rattle.std.proofs.Common.{◌≡◌, ℕ, ◌<◌, Bool, true, false, ◌||◌, List, [], ◌∷◌, ◌++◌, length, Option, None, refl, sym, ap, ◌∙◌, append_assoc, append-nil, arith}
+use Rattle.pat_tree.specs.declared.nodes.Placed.{Placed}
+use Rattle.pat_tree.specs.Parts.{DraftParts}
+use Rattle.pat_tree.specs.Refs.{refs, has_group}
+use Rattle.pat_build.specs.declared.machine.Frame.{Frame}
+use Rattle.pat_build.specs.declared.machine.Machine.{Machine}
+use Rattle.pat_build.specs.Groups.{places_named, is_opened}
+use Rattle.pat_build.specs.Machine.{Adds, Named, references_of, reference_in, state_of, state_from, known_of, whole_of, ids_held, ids_in, is_open}
+use Rattle.pat_build.specs.Reading.{reading}
+
+pub or_false : (a : Bool) → (a || false) ≡ a
+or_false true = refl
+or_false false = refl
+
+or_assoc : (a b c : Bool) → ((a || b) || c) ≡ (a || (b || c))
+or_assoc true b c = refl
+or_assoc false b c = refl
+
+pub nothing_in : {A : Type 0} (xs : List A) → length xs ≡ 0 → xs ≡ []
+nothing_in [] h = refl
+nothing_in (x ∷ xs) h = absurd (omega (arith, h))
+
+-- a list that isn't empty has a last item
+pub record HasLast {A : Type 0} (xs : List A) : Type 0 where
+  pub front : List A
+  pub last : A
+  pub is : xs ≡ front ++ last ∷ []
+
+pub last_in : {A : Type 0} (xs : List A) → 0 < length xs → HasLast xs
+last_in [] h = absurd (omega (arith, h))
+last_in (x ∷ []) h = record { front = []; last = x; is = refl }
+last_in (x ∷ y ∷ xs) h = let l = last_in (y ∷ xs) (omega arith) in record { front = x ∷ l.front; last = l.last; is = ap (λ zs. x ∷ zs) l.is }
+
+pub references_push : (ps : List Placed) (p : Placed) → references_of (ps ++ p ∷ []) ≡ references_of ps ++ reference_in p
+unfolding references_of
+references_push [] p = append-nil (reference_in p)
+references_push (q ∷ ps) p = ap (λ rs. reference_in q ++ rs) (references_push ps p) ∙ sym (append_assoc (reference_in q) (references_of ps) (reference_in p))
+
+pub held_push : (fs : List Frame) (f : Frame) → ids_held (fs ++ f ∷ []) ≡ ids_held fs ++ ids_in f.outer
+held_push [] f = append-nil (ids_in f.outer)
+held_push (g ∷ fs) f = ap (λ l. ids_in g.outer ++ l) (held_push fs f) ∙ sym (append_assoc (ids_in g.outer) (ids_held fs) (ids_in f.outer))
+
+-- the state and the reading of a machine whose draft has more nodes
+module _ (m : Machine) (draft : DraftParts) {number : Option ℕ} (adds : Adds m.draft draft number) where
+  pub state_kept : state_of (record m { draft = draft }) ≡ state_of m
+  state_kept =
+      ap (λ v. record (state_of (record m { draft = draft })) { classes = v }) adds.classes
+      ∙ ap (λ v. record (state_of (record m { draft = draft })) { classes = m.draft.classes; names = v }) adds.names
+      ∙ ap (λ v. record (state_of m) { references = v }) adds.references
+
+  pub whole_kept : whole_of (record m { draft = draft }) ≡ whole_of m
+  whole_kept = ap (λ v. reading (known_of m) m.text.now (state_from m.start v)) adds.options
+
+  pub refs_kept : refs m.draft.nodes ≡ places_named (references_of m.draft.nodes) → refs draft.nodes ≡ places_named (references_of draft.nodes)
+  refs_kept h = adds.refs_are ∙ h ∙ ap places_named (sym adds.references)
+
+  pub named_kept : Named m.text.now m.names.items m.draft.names m.groups → Named m.text.now m.names.items draft.names m.groups
+  named_kept h = record { known = h.known; is = adds.names ∙ h.is; few = h.few; count = h.count }
+
+-- nodes that are no group leave the numbers as they are
+pub numbers_kept : (old new : DraftParts) (fs : List Frame) (groups : ℕ) → Adds old new None →
+    ((n : ℕ) → (has_group old.nodes n || is_open fs n) ≡ is_opened groups n) → (n : ℕ) → (has_group new.nodes n || is_open fs n) ≡ is_opened groups n
+numbers_kept old new fs groups adds h n = ap (λ b. b || is_open fs n) (adds.groups n ∙ or_false (has_group old.nodes n)) ∙ h n

@@ -1,0 +1,172 @@
+-- Where an atom waits for a quantifier, and where none does.
+use Rattle.std.proofs.Common.{◌≡◌, ℕ, suc, ◌+◌, ◌-◌, ◌*◌, ◌<◌, ◌≤◌, List, [], ◌∷◌, ◌++◌, length, append_assoc, append-nil, reverse, Option, Some, None, Ok, Err, refl, sym, ap, ◌∙◌, arith, Bool, false}
+use Rattle.pat_tree.specs.declared.options.Options.{Options}
+use Rattle.pat_tree.specs.declared.nodes.ClassSpec.{ClassSpec}
+use Rattle.pat_tree.specs.Parts.{DraftParts}
+use Rattle.pat_tree.specs.Nested.{Nested}
+use Rattle.pat_tree.specs.Growing.{EndsIn, Replaces, Makes, loose}
+use Rattle.pat_tree.proofs.Growing.{stand_made}
+use Rattle.token_parts.specs.declared.fault.Fault.{Fault}
+use Rattle.token_parts.specs.declared.token.Token.{Token}
+use Rattle.token_parts.specs.declared.token.Target.{Target}
+use Rattle.token_parts.specs.declared.token.Token.TheVariants.{Quantifier, Reference, ClassStart}
+use Rattle.token_parts.specs.declared.token.QuantMode.{QuantMode}
+use Rattle.token_parts.specs.Tell.{fault}
+use Rattle.pat_lex.specs.Tokens.{token_at}
+use Rattle.pat_build.specs.declared.error.ReadError.{ReadError}
+use Rattle.pat_build.specs.declared.error.ReadError.TheVariants.{Bad, Memory}
+use Rattle.pat_build.specs.declared.machine.Atom.{Atom}
+use Rattle.pat_build.specs.declared.machine.Machine.{Machine}
+use Rattle.pat_build.specs.declared.cursor.Place.{Place}
+use Rattle.pat_build.specs.State.{Reads, flags_of}
+use Rattle.pat_build.specs.Classes.{class_spec}
+use Rattle.pat_build.specs.Groups.{named_by}
+use Rattle.pat_build.specs.Parts.{repeated, of_class}
+use Rattle.pat_build.specs.Stack.{with_part, resume, IsPlain}
+use Rattle.pat_build.specs.Machine.{Adds, Refuses, IsAtom, atom_tree, state_of, known_of, whole_of, left, Means, IsNext, Ready, Begins, ids_of, ids_waiting, ids_in, ids_held}
+use Rattle.pat_build.proofs.Steps.{step_flush, step_bad, step_fault, step_fault_waiting, step_no_quantifier}
+use Rattle.pat_build.proofs.Standing.{positive, level_on, stack_on}
+use Rattle.pat_build.proofs.States.{state_kept, whole_kept, refs_kept, named_kept, numbers_kept}
+
+to_end : (h l x : List ℕ) → h ++ (l ++ x) ≡ (h ++ l) ++ x
+to_end h l x = sym (append_assoc h l x)
+
+pub as_part : (h b p x : List ℕ) → (h ++ (b ++ p)) ++ x ≡ h ++ ((b ++ (p ++ x)) ++ [])
+as_part h b p x = simp (append_assoc, append-nil)
+
+pub to_parts : (h b p : List ℕ) → h ++ ((b ++ p) ++ []) ≡ (h ++ b) ++ p
+to_parts h b p = simp (append_assoc, append-nil)
+
+module _ (m : Machine) (means : Means m) where
+  pub loose_waiting : (a : Atom) → m.waiting ≡ Some a → loose m.draft.nodes ≡ (ids_held m.stack.items ++ ids_in m.level) ++ ids_of a
+  loose_waiting a is =
+      means.loose_is ∙ ap (λ w. ids_held m.stack.items ++ (ids_in m.level ++ ids_waiting w)) is ∙ to_end (ids_held m.stack.items) (ids_in m.level) (ids_of a)
+
+  pub loose_idle : m.waiting ≡ None → loose m.draft.nodes ≡ ids_held m.stack.items ++ (ids_in m.level ++ [])
+  loose_idle is = means.loose_is ∙ ap (λ w. ids_held m.stack.items ++ (ids_in m.level ++ ids_waiting w)) is
+
+  pub ends_atom : (a : Atom) → m.waiting ≡ Some a → EndsIn m.draft.nodes (ids_of a)
+  ends_atom a is = record { front = ids_held m.stack.items ++ ids_in m.level; is = loose_waiting a is }
+
+  pub ends_parts : m.waiting ≡ None → EndsIn m.draft.nodes m.level.parts
+  ends_parts is = record { front = ids_held m.stack.items ++ m.level.branches; is = loose_idle is ∙ to_parts (ids_held m.stack.items) m.level.branches m.level.parts }
+
+  pub ends_level : m.waiting ≡ None → EndsIn m.draft.nodes (m.level.branches ++ m.level.parts)
+  ends_level is = record { front = ids_held m.stack.items; is = loose_idle is ∙ ap (λ l. ids_held m.stack.items ++ l) (append-nil (ids_in m.level)) }
+
+  -- where an atom waits
+  pub waits_for : (a : Atom) → m.waiting ≡ Some a →
+      (p : ℕ) × (left m ≤ p) × IsAtom m.draft a × (resume (known_of m) m.text.now means.opens means.layer (Some (suc p, atom_tree m.draft.nodes a)) (state_of m) ≡ whole_of m)
+  waits_for a is =
+      let waits = rw is at means.pending in
+      let n_is = positive (left m) waits.1.0 waits.1.1 in
+      let waiting : means.waiting ≡ Some (suc n_is.0, atom_tree m.draft.nodes a) = waits.1.2 ∙ ap (λ k. Some (k, atom_tree m.draft.nodes a)) n_is.1 in
+      (n_is.0, omega (arith, n_is.1, waits.1.1), waits.0, ap (λ w. resume (known_of m) m.text.now means.opens means.layer w (state_of m)) (sym waiting) ∙ means.value)
+
+  -- where nothing waits
+  pub idle_value : m.waiting ≡ None → resume (known_of m) m.text.now means.opens means.layer None (state_of m) ≡ whole_of m
+  idle_value idle = ap (λ w. resume (known_of m) m.text.now means.opens means.layer w (state_of m)) (sym (rw idle at means.pending)) ∙ means.value
+
+  pub flush_means : (a : Atom) (id : ℕ) (draft : DraftParts) (parts : List ℕ) (token : Token) (after : ℕ) →
+      m.waiting ≡ Some a → token_at m.text.now (flags_of false (state_of m)) m.at ≡ Ok (token, after) → IsPlain token →
+      Makes m.draft.nodes draft.nodes id (atom_tree m.draft.nodes a) → Adds m.draft draft None → Replaces m.draft.nodes (ids_of a) draft.nodes id → parts ≡ m.level.parts ++ id ∷ [] →
+      Means (record m { draft = draft; level = record (m.level) { parts = parts }; waiting = None })
+  flush_means a id draft parts token after is there plain makes adds replaces more =
+      let waits = waits_for a is in
+      let t = atom_tree m.draft.nodes a in
+      let level = level_on makes.grows (left m) (left m) (omega arith) means.level in record {
+        opens = means.opens;
+        layer = with_part means.layer t;
+        waiting = None;
+        stack = stack_on makes.grows (left m) (left m) (omega arith) (reverse m.stack.items) means.opens means.stack;
+        level = record {
+          branches = level.branches;
+          parts = rw more (stand_made makes means.level.parts);
+          n = level.n;
+          k = level.k;
+        };
+        pending = refl;
+        value = ap (λ st. resume (known_of m) m.text.now means.opens (with_part means.layer t) None st) (state_kept m draft adds)
+            ∙ sym (step_flush (known_of m) m.text.now (state_of m) token after there plain means.opens means.layer waits.0 t)
+            ∙ waits.3 ∙ sym (whole_kept m draft adds);
+        within = means.within;
+        short = means.short;
+        depth = means.depth;
+        classes = rw (adds.classes) means.classes;
+        known = means.known;
+        named = named_kept m draft adds means.named;
+        refs_are = refs_kept m draft adds means.refs_are;
+        loose_is = replaces (ids_held m.stack.items ++ ids_in m.level) (loose_waiting a is) ∙ as_part (ids_held m.stack.items) m.level.branches m.level.parts (id ∷ []) ∙ ap (λ l. ids_held m.stack.items ++ ((m.level.branches ++ l) ++ [])) (sym more);
+        numbers = numbers_kept m.draft draft m.stack.items m.groups adds means.numbers;
+      }
+
+  -- the place of a fault
+  pub bad_means : (token : Token) (after : ℕ) (f : Fault) → Ready token after m → Begins m token after (Err f) → whole_of m ≡ Err f
+  bad_means token after f ready begins =
+      let n = positive (left m) means.layer.n means.level.n in
+      let h : 2 * (length m.text.now - after) + 1 < n.0 = omega (arith, n.1, means.level.n, ready.there.goes, ready.there.within) in
+      sym (idle_value ready.idle) ∙ step_bad (known_of m) m.text.now (state_of m) token after ready.there.token_is means.opens means.layer n.0 f n.1 (begins n.0 h)
+
+  -- a fault of the lexer
+  pub fault_means : (f : Fault) → token_at m.text.now (flags_of false (state_of m)) m.at ≡ Err f → whole_of m ≡ Err f
+  fault_means f at = elim (m.waiting) as (λ p. m.waiting ≡ p → whole_of m ≡ Err f) [
+    | None ↦ λ idle. let n = positive (left m) means.layer.n means.level.n in
+        sym (idle_value idle) ∙ step_fault (known_of m) m.text.now (state_of m) f at means.opens means.layer n.0 n.1
+    | Some a ↦ λ is. let w = waits_for a is in sym w.3 ∙ step_fault_waiting (known_of m) m.text.now (state_of m) f at means.opens means.layer w.0 (atom_tree m.draft.nodes a)
+  ] refl
+
+  pub unrepeatable_means : (after low : ℕ) (high : Option ℕ) (mode : QuantMode) → m.waiting ≡ None → IsNext (Quantifier low high mode) after m → whole_of m ≡ fault 109 m.at
+  unrepeatable_means after low high mode idle there =
+      let n = positive (left m) means.layer.n means.level.n in
+      sym (idle_value idle)
+      ∙ step_bad (known_of m) m.text.now (state_of m) (Quantifier low high mode) after there.token_is means.opens means.layer n.0 _ n.1 refl
+
+  pub possessive_means : (after low : ℕ) (high : Option ℕ) (mode : QuantMode) (a : Atom) → m.waiting ≡ Some a → IsNext (Quantifier low high mode) after m →
+      ((t : Nested) → repeated low high mode t (state_of m) ≡ fault 195 m.at) → whole_of m ≡ fault 195 m.at
+  possessive_means after low high mode a is there found =
+      let waits = waits_for a is in
+      let t = atom_tree m.draft.nodes a in
+      sym waits.3 ∙ step_no_quantifier (known_of m) m.text.now (state_of m) (Quantifier low high mode) after there.token_is low high mode refl means.opens means.layer waits.0 t _ (found t)
+
+  -- the fault of the groups that a reference names
+  pub refers_refuse : (target : Target) (after : ℕ) (e : ReadError) → Ready (Reference target) after m → Refuses (named_by (known_of m) m.text.now (state_of m) target) e → Refuses (whole_of m) e
+  refers_refuse target after (Bad number at) ready h = bad_means (Reference target) after _ ready (λ n k. rw h refl)
+  refers_refuse target after Memory ready h = tt
+
+  -- where a class begins, by what a cursor at that place tells of it
+  module _ (negated : Bool) (after : ℕ) (text : List ℕ) (place : Place) (options : Options) (groups : ℕ)
+      (text_is : text ≡ m.text.now) (place_is : place ≡ record { at = after; quoting = m.quoting }) (options_is : options ≡ m.options) (groups_is : groups ≡ m.groups) where
+    spec_same : (n : ℕ) → class_spec m.text.now n negated (record (state_of m) { at = after }) ≡ class_spec text n negated (record (state_of m) { at = place.at; quoting = place.quoting; options = options; groups = groups })
+    spec_same n =
+        ap (λ t. class_spec t n negated (record (state_of m) { at = after })) (sym text_is)
+        ∙ ap (λ p. class_spec text n negated (record (state_of m) { at = p.at; quoting = p.quoting })) (sym place_is)
+        ∙ ap (λ o. class_spec text n negated (record (state_of m) { at = place.at; quoting = place.quoting; options = o })) (sym options_is)
+        ∙ ap (λ g. class_spec text n negated (record (state_of m) { at = place.at; quoting = place.quoting; options = options; groups = g })) (sym groups_is)
+
+    enough : (n : ℕ) → 2 * (length m.text.now - after) + 1 < n → length text + 1 < n + place.at
+    enough n h = omega (arith, h, ap length text_is, ap (λ p. p.at) place_is)
+
+    pub class_refuses : (e : ReadError) → Ready (ClassStart negated) after m →
+        ((n : ℕ) → length text + 1 < n + place.at → Refuses (class_spec text n negated (record (state_of m) { at = place.at; quoting = place.quoting; options = options; groups = groups })) e) → Refuses (whole_of m) e
+    class_refuses (Bad number at) ready h = bad_means (ClassStart negated) after _ ready (λ n k. rw (spec_same n ∙ h n (enough n k)) refl)
+    class_refuses Memory ready h = tt
+
+    pub class_begins : (spec : ClassSpec) (end : Place) →
+        ((n : ℕ) → length text + 1 < n + place.at →
+        class_spec text n negated (record (state_of m) { at = place.at; quoting = place.quoting; options = options; groups = groups }) ≡ Ok (spec, record (state_of m) { at = end.at; quoting = end.quoting; options = options; groups = groups })) →
+        Begins m (ClassStart negated) after (Ok (of_class spec (record (state_of m) { at = end.at; quoting = end.quoting })))
+    class_begins spec end h n k =
+        let found = spec_same n ∙ h n (enough n k)
+        ∙ ap (λ o. let x : Reads ClassSpec = Ok (spec, record (state_of m) { at = end.at; quoting = end.quoting; options = o; groups = groups }) in x) options_is
+        ∙ ap (λ g. let x : Reads ClassSpec = Ok (spec, record (state_of m) { at = end.at; quoting = end.quoting; groups = g }) in x) groups_is in
+        rw found refl
+
+-- a cursor at the machine's place has the machine's token
+pub token_same : (m : Machine) (text : List ℕ) (place : Place) (options : Options) (groups : ℕ) → text ≡ m.text.now → place ≡ record { at = m.at; quoting = m.quoting } → options ≡ m.options → groups ≡ m.groups →
+    token_at m.text.now (flags_of false (state_of m)) m.at
+    ≡ token_at text (flags_of false (record { at = place.at; quoting = place.quoting; options = options; groups = groups; depth = 0; classes = []; names = []; references = [] })) place.at
+token_same m text place options groups text_is place_is options_is groups_is =
+    ap (λ t. token_at t (flags_of false (state_of m)) m.at) (sym text_is)
+    ∙ ap (λ p. token_at text (flags_of false (record { at = p.at; quoting = p.quoting; options = m.options; groups = m.groups; depth = 0; classes = []; names = []; references = [] })) p.at) (sym place_is)
+    ∙ ap (λ o. token_at text (flags_of false (record { at = place.at; quoting = place.quoting; options = o; groups = m.groups; depth = 0; classes = []; names = []; references = [] })) place.at) (sym options_is)
+    ∙ ap (λ g. token_at text (flags_of false (record { at = place.at; quoting = place.quoting; options = options; groups = g; depth = 0; classes = []; names = []; references = [] })) place.at) (sym groups_is)

@@ -1,0 +1,45 @@
+use Rattle.std.proofs.Common.{◌≡◌, ◌∙◌, ap, ℕ, Bool, List, [], ◌∷◌, Some, map}
+use Rattle.pat_tree.specs.declared.options.Options.{Options}
+use Rattle.pat_tree.specs.declared.nodes.ClassSpec.{ClassSpec}
+use Rattle.pat_tree.specs.declared.names.NameEntry.{NameEntry}
+use Rattle.pat_tree.specs.Parts.{DraftParts, with_root}
+use Rattle.pat_tree.specs.Nested.{Nested, tree_at, trees}
+use Rattle.pat_tree.specs.Refs.{bad_ref, refs, has_group}
+use Rattle.pat_build.specs.State.{Reference}
+use Rattle.pat_build.specs.Reading.{Parsed, literally}
+use Rattle.pat_build.specs.Machine.{parsed_of, references_of}
+use Rattle.pat_build.proofs.literal.literally.Goals as goal
+
+no_bad : (f : ℕ → Bool) (rs : List (ℕ × ℕ)) (at : ℕ) → rs ≡ [] → bad_ref f rs ≡ Some at → ⊥
+no_bad f [] at e h = cc
+no_bad f (r ∷ rs) at e h = cc
+
+abbrev parsed : Options → Nested → List ClassSpec → List NameEntry → List Reference → Parsed
+parsed o t cs ns rs = record { options = o; tree = t; classes = cs; names = ns; places = map (λ r. r.at) rs }
+
+parsed_is : (d : DraftParts) (root : ℕ) (o : Options) (t : Nested) → d.options ≡ o → tree_at (trees d.nodes) root ≡ t → d.classes ≡ [] → d.names ≡ [] → references_of d.nodes ≡ [] →
+    parsed_of (with_root d root) ≡ parsed o t [] [] []
+parsed_is d root o t options tree classes names references =
+    ap (λ v. parsed v (tree_at (trees d.nodes) root) d.classes d.names (references_of d.nodes)) options
+    ∙ ap (λ v. parsed o v d.classes d.names (references_of d.nodes)) tree
+    ∙ ap (λ v. parsed o t v d.names (references_of d.nodes)) classes
+    ∙ ap (λ v. parsed o t [] v (references_of d.nodes)) names
+    ∙ ap (λ v. parsed o t [] [] v) references
+
+pub unreachable-requires : goal.unreachable-requires
+unfolding refs
+unreachable-requires c =
+    let none : refs c.group.new.draft.nodes ≡ [] = c.in_ok-root.ensures.adds.refs_are ∙ c.in_ok-parts.ensures.adds.refs_are ∙ ap (λ d. refs d.nodes) c.new-draft.ensures in
+    no_bad (has_group c.group.new.draft.nodes) (refs c.group.new.draft.nodes) c.in-Err.field-0.at none c.in-Err.ensures
+
+pub returns : goal.returns
+unfolding literally references_of
+returns c =
+    let d = c.group.new.draft in
+    let made = rw (c.new-branches.ensures, c.in_ok-parts.ensures.stand.trees_are) at c.in_ok-root.ensures.made in
+    let one = c.in_ok-parts.ensures.adds in
+    let two = c.in_ok-root.ensures.adds in
+    let start = c.new-draft.ensures in
+    ap parsed_of c.in-Ok.ensures.0
+    ∙ parsed_is d c.in_ok-root.root c.args.options _ (two.options ∙ one.options ∙ ap (λ v. v.options) start) made.is (two.classes ∙ one.classes ∙ ap (λ v. v.classes) start)
+    (two.names ∙ one.names ∙ ap (λ v. v.names) start) (two.references ∙ one.references ∙ ap (λ v. references_of v.nodes) start)

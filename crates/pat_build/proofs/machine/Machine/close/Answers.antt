@@ -1,0 +1,27 @@
+use Rattle.std.proofs.Common.{◌≡◌, length, arith}
+use Rattle.pat_build.proofs.States.{nothing_in}
+use Rattle.pat_build.proofs.Waiting.{ends_level}
+use Rattle.pat_build.proofs.Nesting.{close_means, unopened_means, frame_numbered}
+use Rattle.pat_build.proofs.machine.Machine.close.Goals as goal
+
+pub returns-in_default-clause-bad : goal.returns-in_default-clause-bad
+returns-in_default-clause-bad c =
+    let m = c.args.self.now in
+    let none : length m.stack.items ≡ 0 = omega (arith, c.in_default.ensures.cases.0, m.stack.ok.0) in
+    unopened_means m c.requires.means c.args.after c.requires (nothing_in m.stack.items none)
+
+pub group-requires-clause-numbered : goal.group-requires-clause-numbered
+group-requires-clause-numbered c =
+    let m = c.args.self.now in
+    frame_numbered m.draft.nodes m.stack.items c.pop.new.self.items c.in-Some.field-0 m.groups c.in-Some.ensures.items c.requires.means.numbers
+
+pub group-requires-clause-loose : goal.group-requires-clause-loose
+group-requires-clause-loose c = rw c.replace-level.ensures.value (ends_level c.args.self.now c.requires.means c.requires.idle)
+
+pub returns-clause-ok : goal.returns-clause-ok
+returns-clause-ok c =
+    let m = c.args.self.now in
+    let e = rw (c.replace-level.ensures.value) at c.in_ok-id.ensures in
+    rw c.replace-level.ensures.after
+    (close_means m c.requires.means c.args.after c.in_ok-id.id c.in-Some.field-0.at c.in-Some.field-0 c.pop.new.self c.group.new.draft
+    c.requires c.in-Some.ensures.items e.made e.adds (λ front h. e.loose front h) e.count)

@@ -1,0 +1,17 @@
+use Rattle.std.proofs.Common.{refl, sym, ap, ◌∙◌, append-nil, Ok}
+use Rattle.pat_tree.specs.Nested.{keep_out}
+use Rattle.pat_build.specs.Groups.{places_named}
+use Rattle.pat_build.specs.Parts.{bare}
+use Rattle.pat_build.specs.Machine.{state_of, references_of}
+use Rattle.pat_build.proofs.Adding.{node_stands}
+use Rattle.pat_build.proofs.machine.Machine.keep_out.Goals as goal
+
+pub returns : goal.returns
+unfolding places_named
+returns c =
+    let m = c.args.self.now in
+    let ready = c.requires.1 in
+    let e = c.in_ok-id.ensures in
+    node_stands m ready.means c.requires.0 c.args.after c.in_ok-id.id keep_out c.add.new.self _ c.push.new.self ready
+    (record { is = e.grows; makes = e.made; replaces = e.replaces; no_group = λ n. refl; groups = e.groups; named = refl }) c.in_ok-push.ensures.ok
+    (λ n h. c.requires.2 n h ∙ ap (λ rs. Ok (bare keep_out (record (state_of m) { at = c.args.after; references = rs }))) (sym (append-nil (references_of m.draft.nodes))))

@@ -1,0 +1,10 @@
+use Rattle.std.proofs.Common.{sym, ◌∙◌}
+use Rattle.pat_build.proofs.Waiting.{fault_means, token_same}
+use Rattle.pat_build.proofs.machine.Machine.token.Goals as goal
+
+pub returns-in-Err-clause-bad : goal.returns-in-Err-clause-bad
+returns-in-Err-clause-bad c =
+    let m = c.args.self.now in
+    let v = c.cursor-cursor.result in
+    let is = c.cursor-cursor.ensures in
+    rw c.from.ensures (fault_means m c.requires c.in-Err.fault (token_same m v.text.now v.place v.options v.groups is.text is.place is.options is.groups ∙ sym c.in-Err.ensures.value))

@@ -1,0 +1,61 @@
+use Rattle.std.proofs.Common.{append_assoc, ◌≡◌, ◌++◌, ◌∷◌, [], None, Some, Option, map, refl, List, ℕ, sym, ◌∙◌}
+use Rattle.pat_tree.specs.Nested.{tree_at, trees}
+use Rattle.pat_tree.specs.Growing.{loose, Stand}
+use Rattle.pat_tree.specs.Rules.{number_in}
+use Rattle.pat_tree.specs.Refs.{is_in}
+use Rattle.pat_tree.proofs.Growing.{stand_made, makes_then}
+use Rattle.pat_tree.proofs.Loose.{fresh_at_end}
+use Rattle.pat_build.specs.Parts.{alternative}
+use Rattle.pat_build.specs.Machine.{is_number}
+use Rattle.pat_build.proofs.States.{or_false}
+use Rattle.pat_build.proofs.Extending.{adds_node, adds_then}
+use Rattle.pat_build.proofs.nodes.group.Goals as goal
+use Rattle.pat_build.proofs.nodes.group.Goals.{In_ok-push}
+
+stands : (c : In_ok-push) → Stand c.alternative.new.draft.nodes c.push.new.self
+    (map (tree_at (trees c.args.draft.now.nodes)) c.args.level.branches ++ alternative (map (tree_at (trees c.args.draft.now.nodes)) c.args.level.parts) ∷ [])
+stands c =
+    let before : Stand c.args.draft.now.nodes c.args.level.branches (map (tree_at (trees c.args.draft.now.nodes)) c.args.level.branches) =
+    record { below = c.requires.branches; trees_are = refl } in
+    rw c.in_ok-push.ensures.ok (stand_made c.in_ok-last.ensures.made before)
+
+pub add-requires-clause-kids : goal.add-requires-clause-kids
+add-requires-clause-kids c = (stands (goal.at.add-requires-clause-kids c).In_ok-push).below
+
+pub returns-clause-made : goal.returns-clause-made
+returns-clause-made c =
+    let s = stands (goal.at.returns-clause-made c).In_ok-push in
+    makes_then c.in_ok-last.ensures.made.grows (rw (← s.trees_are) c.in_ok-id.ensures.made)
+
+pub alternative-requires-clause-loose : goal.alternative-requires-clause-loose
+alternative-requires-clause-loose c = record {
+  front = c.requires.loose.front ++ c.args.level.branches;
+  is = c.requires.loose.is ∙ sym (append_assoc c.requires.loose.front c.args.level.branches c.args.level.parts);
+}
+
+-- the last alternative is the last of the branches
+regroup : (front branches : List ℕ) (last : ℕ) → (front ++ branches) ++ last ∷ [] ≡ front ++ (branches ++ last ∷ [])
+regroup front branches last = append_assoc front branches (last ∷ [])
+
+after_last : (c : In_ok-push) (front : List ℕ) → loose c.args.draft.now.nodes ≡ front ++ (c.args.level.branches ++ c.args.level.parts) → loose c.alternative.new.draft.nodes ≡ front ++ c.push.new.self
+after_last c front e =
+    rw c.in_ok-push.ensures.ok
+    (c.in_ok-last.ensures.loose (front ++ c.args.level.branches) (e ∙ sym (append_assoc front c.args.level.branches c.args.level.parts))
+    ∙ regroup front c.args.level.branches c.in_ok-last.last)
+
+pub add-requires-clause-fresh : goal.add-requires-clause-fresh
+add-requires-clause-fresh c =
+    let front = c.requires.loose.front in
+    fresh_at_end (record { front = front; is = after_last (goal.at.add-requires-clause-fresh c).In_ok-push front c.requires.loose.is })
+
+pub returns-clause-loose : goal.returns-clause-loose
+returns-clause-loose c front e = c.in_ok-id.ensures.replaces front (after_last (goal.at.returns-clause-loose c).In_ok-push front e)
+
+one_number : (number : Option ℕ) (n : ℕ) → is_in n (number_in number) ≡ is_number number n
+one_number None n = refl
+one_number (Some m) n = or_false _
+
+pub returns-clause-adds : goal.returns-clause-adds
+returns-clause-adds c =
+    adds_then c.in_ok-last.ensures.adds
+    (adds_node c.alternative.new.draft c.add.new.self _ c.args.number c.in_ok-id.ensures.grows c.in_ok-id.ensures.refs refl refl c.in_ok-id.ensures.groups (λ n. one_number c.args.number n))

@@ -1,0 +1,9 @@
+use Rattle.std.proofs.Common.{refl, None}
+use Rattle.pat_build.proofs.Extending.{adds_node}
+use Rattle.pat_build.proofs.nodes.repeat.Goals as goal
+
+pub returns-in_ok-id-in-Single-clause-adds : goal.returns-in_ok-id-in-Single-clause-adds
+returns-in_ok-id-in-Single-clause-adds c = adds_node c.args.draft.now c.add.new.self _ None c.in_ok-id-in-Single.ensures.grows c.in_ok-id-in-Single.ensures.refs refl refl c.in_ok-id-in-Single.ensures.groups (λ n. refl)
+
+pub returns-in_ok-id-in-Whole-clause-adds : goal.returns-in_ok-id-in-Whole-clause-adds
+returns-in_ok-id-in-Whole-clause-adds c = adds_node c.args.draft.now c.add-in-Whole.new.self _ None c.in_ok-id-in-Whole.ensures.grows c.in_ok-id-in-Whole.ensures.refs refl refl c.in_ok-id-in-Whole.ensures.groups (λ n. refl)

@@ -1,0 +1,54 @@
+use Rattle.std.proofs.Common.{◌≡◌, ◌∙◌, ap, sym, subst, None, Some, Option, ℕ}
+use Rattle.std.proofs.lemmas.Result.{err_from_is_err_and}
+use Rattle.pat_tree.specs.declared.options.Options.{Options}
+use Rattle.pat_tree.specs.Nested.{tree_at, trees}
+use Rattle.pat_build.specs.Names.{table_of}
+use Rattle.pat_build.specs.Reading.{checked}
+use Rattle.pat_build.specs.Machine.{Refuses, state_of, state_from}
+use Rattle.pat_build.proofs.Exits.{tree_refuses, tree_is, missing_is, names_stand}
+use Rattle.pat_build.proofs.reader.tree_of.Goals as goal
+
+pub returns-in_err-run-clause-bad : goal.returns-in_err-run-clause-bad
+returns-in_err-run-clause-bad c =
+    let p = err_from_is_err_and c.from_residual.result c.from_residual.ensures.1 in
+    rw (p.1, p.2) (tree_refuses (table_of c.args.text.now c.args.known.now) c.args.text.now (state_from c.args.start c.args.options) c.in_err-run.field-0.0
+    (subst (λ r. Refuses r c.in_err-run.field-0.0) c.new-machine.ensures.whole c.in_err-run.ensures.bad))
+
+pub returns-in_err-root-clause-bad : goal.returns-in_err-root-clause-bad
+returns-in_err-root-clause-bad c =
+    let p = err_from_is_err_and c.from_residual-in_err-root.result c.from_residual-in_err-root.ensures.1 in
+    rw (p.1, p.2) (tree_refuses (table_of c.args.text.now c.args.known.now) c.args.text.now (state_from c.args.start c.args.options) c.in_err-root.field-0.0
+    (subst (λ r. Refuses r c.in_err-root.field-0.0) (c.in_ok-run.ensures.same.whole ∙ c.new-machine.ensures.whole) c.in_err-root.ensures.bad))
+
+pub finish-requires-clause-names : goal.finish-requires-clause-names
+finish-requires-clause-names c =
+    let m = c.end.new.self in
+    let ends = c.in_ok-root.ensures.ok in
+    rw c.replace-draft.ensures.value (names_stand m.text.now m.names.items m.draft.names m.draft.nodes m.groups ends.named ends.groups)
+
+pub returns-in-Ok-clause-ok : goal.returns-in-Ok-clause-ok
+returns-in-Ok-clause-ok c =
+    let m = c.end.new.self in
+    let ends = c.in_ok-root.ensures.ok in
+    let made = c.new-machine.ensures in
+    let same = c.in_ok-run.ensures.same in
+    let finished = rw c.replace-draft.ensures.value at c.in-Ok.ensures in
+    let tree = tree_at (trees m.draft.nodes) c.in_ok-root.root in
+    let st = state_from c.args.start c.args.options in
+    let options : m.draft.options ≡ c.args.options = ends.options ∙ same.options ∙ made.options in
+    rw finished.0
+    (tree_is (table_of c.args.text.now c.args.known.now) c.args.text.now st tree (state_of m) (sym made.whole ∙ sym same.whole ∙ ends.is)
+    ∙ ap (λ (o : Option ℕ). checked c.args.options o tree (state_of m)) (missing_is m.draft.nodes m.groups None ends.groups ends.refs_are finished.1)
+    ∙ ap (λ (o : Options). checked o None tree (state_of m)) (sym options))
+
+pub returns-clause-bad : goal.returns-clause-bad
+returns-clause-bad c =
+    let m = c.end.new.self in
+    let ends = c.in_ok-root.ensures.ok in
+    let made = c.new-machine.ensures in
+    let same = c.in_ok-run.ensures.same in
+    let finished = rw c.replace-draft.ensures.value at c.in-Err.ensures in
+    let tree = tree_at (trees m.draft.nodes) c.in_ok-root.root in
+    let st = state_from c.args.start c.args.options in
+    tree_is (table_of c.args.text.now c.args.known.now) c.args.text.now st tree (state_of m) (sym made.whole ∙ sym same.whole ∙ ends.is)
+    ∙ ap (λ (o : Option ℕ). checked c.args.options o tree (state_of m)) (missing_is m.draft.nodes m.groups (Some c.in-Err.bad.at) ends.groups ends.refs_are finished)

@@ -1,0 +1,261 @@
+-- What the reader's state stands for: the rest of the reading.
+use Rattle.std.specs.List.{list_any}
+use Rattle.std.specs.Prelude.{false, ◌||◌, ◌==◌, ◌≡◌, ℕ, ◌+◌, ◌-◌, ◌*◌, ◌<◌, ◌≤◌, Bool, List, [], ◌∷◌, ◌++◌, length, map, reverse, Option, Some, None, Result, Ok, Err, All}
+use Rattle.pat_tree.specs.declared.options.Options.{Options}
+use Rattle.pat_tree.specs.declared.nodes.Placed.{Placed}
+use Rattle.pat_tree.specs.declared.nodes.Node.TheVariants as node
+use Rattle.pat_tree.specs.declared.names.NameEntry.{NameEntry}
+use Rattle.pat_tree.specs.Nested.{Nested, one, repeat, tree_at, trees}
+use Rattle.pat_tree.specs.Parts.{DraftParts, TreeParts, tree_of}
+use Rattle.pat_tree.specs.Refs.{refs, has_group}
+use Rattle.pat_tree.specs.Rules.{class_in}
+use Rattle.pat_tree.specs.Growing.{Stand, loose}
+use Rattle.token_parts.specs.declared.fault.Fault.{Fault}
+use Rattle.token_parts.specs.declared.token.Token.{Token}
+use Rattle.token_parts.specs.declared.token.Token.TheVariants.{End, Literal, Dot, NotNewline, LineBreak, KeepOut, Caret, Dollar, SubjectStart, SubjectEnd, EndOrNewline, StartGiven, Boundary}
+use Rattle.token_parts.specs.declared.token.Token.TheVariants as token
+use Rattle.token_parts.specs.Tell.{IsWell, ◌>>=◌}
+use Rattle.pat_lex.specs.Tokens.{token_at}
+use Rattle.pat_build.specs.declared.error.ReadError.{ReadError}
+use Rattle.pat_build.specs.declared.error.ReadError.TheVariants.{Bad, Memory}
+use Rattle.pat_build.specs.declared.names.Name.{Name}
+use Rattle.pat_build.specs.declared.machine.Level.{Level}
+use Rattle.pat_build.specs.declared.machine.Frame.{Frame}
+use Rattle.pat_build.specs.declared.machine.Atom.{Atom}
+use Rattle.pat_build.specs.declared.machine.Atom.TheVariants.{Single, Whole}
+use Rattle.pat_build.specs.declared.machine.Machine.{Machine}
+use Rattle.pat_build.specs.State.{State, Reads, Reference, flags_of}
+use Rattle.pat_build.specs.Groups.{Opening, is_opened, places_named, missing}
+use Rattle.pat_build.specs.Names.{IsKnown, Stands, table_of}
+use Rattle.pat_build.specs.Parts.{Beginning, repeat_of, beginning}
+use Rattle.pat_build.specs.Reading.{Parsed, reading, checked}
+use Rattle.pat_build.specs.Stack.{Layer, Opened, Waiting, resume}
+
+-- the references among the nodes, in the order of adding
+abbrev pub reference_in : Placed → List Reference
+reference_in p = elim (p.node) [ node.Ref groups caseless ↦ record { at = p.at; groups = groups } ∷ [] | _ ↦ [] ]
+
+unfoldable pub references_of : List Placed → List Reference
+references_of [] = []
+references_of (p ∷ ps) = reference_in p ++ references_of ps
+
+-- what a tree says of its pattern
+abbrev pub parsed_of : TreeParts → Parsed
+parsed_of t = record { options = t.options; tree = tree_of t; classes = t.classes; names = t.names; places = map (λ r. r.at) (references_of t.nodes) }
+
+-- the fault is that of the reading
+abbrev pub Refuses : {A : Type 0} → Result A Fault → ReadError → Type 0
+Refuses read (Bad number at) = read ≡ Err (record { number = number; at = at })
+Refuses read Memory = Unit {0}
+
+abbrev pub is_number : Option ℕ → ℕ → Bool
+is_number None n = false
+is_number (Some m) n = m == n
+
+-- The draft has more nodes: a group of this number, if any, and no reference.
+pub record Adds (old new : DraftParts) (number : Option ℕ) : Type 0 where
+  pub options : new.options ≡ old.options
+  pub classes : new.classes ≡ old.classes
+  pub names : new.names ≡ old.names
+  pub references : references_of new.nodes ≡ references_of old.nodes
+  pub refs_are : refs new.nodes ≡ refs old.nodes
+  pub groups : (n : ℕ) → has_group new.nodes n ≡ (has_group old.nodes n || is_number number n)
+
+-- no one-item atom
+pub record IsMany (t : Nested) : Type 0 where
+  pub many : (low : ℕ) (high : Option ℕ) (lazy : Bool) → repeat_of low high lazy t ≡ repeat t low high lazy
+
+abbrev pub atom_tree : List Placed → Atom → Nested
+atom_tree ps (Single item at) = one item
+atom_tree ps (Whole id at) = tree_at (trees ps) id
+
+-- the node of the atom, where it has one
+abbrev pub ids_of : Atom → List ℕ
+ids_of (Single item at) = []
+ids_of (Whole id at) = id ∷ []
+
+abbrev pub ids_waiting : Option Atom → List ℕ
+ids_waiting None = []
+ids_waiting (Some a) = ids_of a
+
+abbrev pub ids_in : Level → List ℕ
+ids_in level = level.branches ++ level.parts
+
+-- the nodes in progress, from the outermost group on
+abbrev pub ids_held : List Frame → List ℕ
+ids_held [] = []
+ids_held (f ∷ fs) = ids_in f.outer ++ ids_held fs
+
+-- the atom has a node, or needs none
+abbrev pub IsAtom : DraftParts → Atom → Type 0
+IsAtom d (Single item at) = All (λ n. n < length d.classes) (class_in item)
+IsAtom d (Whole id at) = (id < length d.nodes) × IsMany (tree_at (trees d.nodes) id)
+
+abbrev pub opening_of : Frame → Opening
+opening_of f = record { number = f.number; around = f.around }
+
+-- the level stands for the layer, whose numbers are above this one
+pub record LevelStands (ps : List Placed) (left : ℕ) (level : Level) (layer : Layer) : Type 0 where
+  pub branches : Stand ps level.branches layer.branches
+  pub parts : Stand ps level.parts layer.parts
+  pub n : left < layer.n
+  pub k : left < layer.k
+
+pub record FrameStands (ps : List Placed) (left : ℕ) (f : Frame) (o : Opened) : Type 0 where
+  pub how : o.how ≡ opening_of f
+  pub outer : LevelStands ps left f.outer o.outer
+
+-- the frames, the innermost first
+abbrev pub StackStands : List Placed → ℕ → List Frame → List Opened → Type 0
+StackStands ps left [] [] = Unit {0}
+StackStands ps left [] (o ∷ os) = ⊥
+StackStands ps left (f ∷ fs) [] = ⊥
+StackStands ps left (f ∷ fs) (o ∷ os) = FrameStands ps left f o × StackStands ps left fs os
+
+abbrev pub AtomStands : DraftParts → ℕ → Option Atom → Waiting → Type 0
+AtomStands d left None waiting = waiting ≡ None
+AtomStands d left (Some atom) waiting = IsAtom d atom × ((n : ℕ) × (left < n) × (waiting ≡ Some (n, atom_tree d.nodes atom)))
+
+abbrev pub is_open : List Frame → ℕ → Bool
+is_open fs n = list_any (λ f. is_number f.number n) fs
+
+-- The names that were given are those of the draft, each to a group that was opened.
+pub record Named (text : List ℕ) (names : List Name) (table : List NameEntry) (groups : ℕ) : Type 0 where
+  pub known : IsKnown text names
+  pub is : table ≡ table_of text names
+  pub few : All (λ name. name.group ≤ groups) names
+  pub count : length names ≤ groups
+
+-- how a group that begins is numbered
+abbrev pub Numbered : ℕ → Option ℕ → ℕ → Type 0
+Numbered groups None after = after ≡ groups
+Numbered groups (Some m) after = (m ≡ groups + 1) × (after ≡ groups + 1)
+
+-- the name that a group gets
+abbrev pub Gives : List ℕ → ℕ → Option Name → ℕ → Type 0
+Gives text groups None after = Unit {0}
+Gives text groups (Some name) after = Stands text name × (name.group ≡ groups + 1) × (after ≡ groups + 1)
+
+abbrev pub state_of : Machine → State
+state_of m = record {
+  at = m.at;
+  quoting = m.quoting;
+  options = m.options;
+  groups = m.groups;
+  depth = length m.stack.items;
+  classes = m.draft.classes;
+  names = m.draft.names;
+  references = references_of m.draft.nodes;
+}
+
+-- the state in which the reading begins, after the start items
+abbrev pub state_from : ℕ → Options → State
+state_from at options = record { at = at; quoting = false; options = options; groups = 0; depth = 0; classes = []; names = []; references = [] }
+
+abbrev pub known_of : Machine → List NameEntry
+known_of m = table_of m.text.now m.known.now
+
+-- the reading of the whole pattern
+abbrev pub whole_of : Machine → Reads Nested
+whole_of m = reading (known_of m) m.text.now (state_from m.start m.draft.options)
+
+-- what a pattern is read as, by the names of the whole pattern, from the place after the start items on
+abbrev pub tree_with : List NameEntry → List ℕ → State → Result Parsed Fault
+tree_with known text st = reading known text st >>= λ (tree, last). checked st.options (missing last.groups last.references) tree last
+
+-- twice the bytes that are left
+abbrev pub left_at : List ℕ → ℕ → ℕ
+left_at text at = 2 * (length text - at)
+
+abbrev pub left : Machine → ℕ
+left m = left_at m.text.now m.at
+
+-- What the machine holds stands for the rest of the reading of the whole text.
+pub record Means (m : Machine) : Type 0 where
+  pub opens : List Opened
+  pub layer : Layer
+  pub waiting : Waiting
+  pub stack : StackStands m.draft.nodes (left m) (reverse m.stack.items) opens
+  pub level : LevelStands m.draft.nodes (left m) m.level layer
+  pub pending : AtomStands m.draft (left m) m.waiting waiting
+  pub value : resume (known_of m) m.text.now opens layer waiting (state_of m) ≡ whole_of m
+  pub within : m.at ≤ length m.text.now
+  pub short : length m.text.now ≤ 65536
+  pub depth : length m.stack.items ≤ 250
+  pub classes : length m.draft.classes ≤ m.at
+  pub known : IsKnown m.text.now m.known.now
+  pub named : Named m.text.now m.names.items m.draft.names m.groups
+  pub refs_are : refs m.draft.nodes ≡ places_named (references_of m.draft.nodes)
+  pub loose_is : loose m.draft.nodes ≡ ids_held m.stack.items ++ (ids_in m.level ++ ids_waiting m.waiting)
+  pub numbers : (n : ℕ) → (has_group m.draft.nodes n || is_open m.stack.items n) ≡ is_opened m.groups n
+
+-- the draft has room for the nodes of the tokens that are left
+abbrev pub HasRoom : ℕ → Machine → Type 0
+HasRoom more m = length m.draft.nodes ≤ 3 * m.at + more
+
+-- the token at the place
+pub record IsNext (token : Token) (after : ℕ) (m : Machine) : Type 0 where
+  pub token_is : token_at m.text.now (flags_of false (state_of m)) m.at ≡ Ok (token, after)
+  pub goes : m.at < after
+  pub within : after ≤ length m.text.now
+  pub well : IsWell m.text.now token
+
+-- The token has been read, and what waited is a part: the machine can take the token in.
+pub record Ready (token : Token) (after : ℕ) (m : Machine) : Type 0 where
+  pub means : Means m
+  pub idle : m.waiting ≡ None
+  pub there : IsNext token after m
+  pub room : HasRoom 1 m
+
+-- what begins at a token, where the number that bounds the items of a class is enough for the bytes that are left
+abbrev pub Begins : Machine → Token → ℕ → Result Beginning Fault → Type 0
+Begins m token after what =
+    (n : ℕ) → left_at m.text.now after + 1 < n → beginning (known_of m) m.text.now n (state_of m) token (record (state_of m) { at = after }) ≡ what
+
+-- the same reading is done
+pub record Same (old new : Machine) : Type 0 where
+  pub text : new.text.now ≡ old.text.now
+  pub options : new.draft.options ≡ old.draft.options
+  pub whole : whole_of new ≡ whole_of old
+
+-- The token has been taken in.
+pub record Took (old new : Machine) : Type 0 where
+  pub means : Means new
+  pub room : HasRoom 0 new
+  pub goes : old.at < new.at
+  pub same : Same old new
+
+-- a token that is no end
+abbrev pub IsMore : Token → Type 0
+IsMore End = ⊥
+IsMore _ = Unit {0}
+
+-- a simple assertion
+abbrev pub IsAssertion : Token → Type 0
+IsAssertion Caret = Unit {0}
+IsAssertion Dollar = Unit {0}
+IsAssertion SubjectStart = Unit {0}
+IsAssertion SubjectEnd = Unit {0}
+IsAssertion EndOrNewline = Unit {0}
+IsAssertion StartGiven = Unit {0}
+IsAssertion (Boundary opposite) = Unit {0}
+IsAssertion _ = ⊥
+
+-- a character, a type, `\R` or `\K`
+abbrev pub IsCharacter : Token → Type 0
+IsCharacter (Literal c) = Unit {0}
+IsCharacter Dot = Unit {0}
+IsCharacter NotNewline = Unit {0}
+IsCharacter LineBreak = Unit {0}
+IsCharacter (token.Set set outside) = Unit {0}
+IsCharacter KeepOut = Unit {0}
+IsCharacter _ = ⊥
+
+-- The text has been read: the tree has this number, and the last state is that of the machine.
+pub record Ends (old new : Machine) (id : ℕ) : Type 0 where
+  pub is : whole_of old ≡ Ok (tree_at (trees new.draft.nodes) id, state_of new)
+  pub groups : (n : ℕ) → has_group new.draft.nodes n ≡ is_opened new.groups n
+  pub refs_are : refs new.draft.nodes ≡ places_named (references_of new.draft.nodes)
+  pub text : new.text.now ≡ old.text.now
+  pub named : Named new.text.now new.names.items new.draft.names new.groups
+  pub options : new.draft.options ≡ old.draft.options

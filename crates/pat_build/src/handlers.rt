@@ -1,0 +1,282 @@
+//! What each token does.
+ghost use Rattle.std.specs.Prelude.{◌≡◌, ℕ, ◌+◌, ◌<◌, ◌≤◌, [], ◌∷◌, ◌++◌, length, map, IfOk, OnOk, IfErr, MatchOption, None, Some, Ok, Option, false};
+ghost use Rattle.pat_tree.specs.declared.nodes.Node.TheVariants as node;
+ghost use Rattle.pat_tree.specs.Nested.{Nested, one, line_break, ref, anchor, keep_out};
+ghost use Rattle.pat_tree.specs.Rules.{class_in};
+ghost use Rattle.token_parts.specs.declared.token.Token.{Token};
+ghost use Rattle.token_parts.specs.declared.token.Token.TheVariants.{Bar, Close, Quantifier};
+ghost use Rattle.token_parts.specs.Tell.{fault};
+ghost use Rattle.pat_lex.specs.Tokens.{token_at};
+ghost use Rattle.pat_build.specs.State.{State, passed_over, flags_of};
+ghost use Rattle.pat_build.specs.Names.{with_given, given_after};
+ghost use Rattle.pat_build.specs.Parts.{atom, bare, inside, nothing, of_class, with_reference, repeated, repeat_of};
+ghost use Rattle.pat_build.specs.Stack.{IsPlain};
+ghost use Rattle.pat_build.specs.Machine.{Means, Ready, IsNext, Begins, Took, Same, HasRoom, Refuses, Numbered, Gives, left_at, state_of, whole_of, references_of};
+
+use crate::error::ReadError;
+use crate::machine::{Atom, Frame, Level, Machine};
+use crate::names::Name;
+use crate::nodes::{alternative, group, place, repeat};
+use pat_lex::QuantMode;
+use pat_tree::{AnchorKind, ClassSpec, Draft, GroupList, Item, Kids, Memory, Node, Options};
+use std::mem;
+
+/// Whether an atom is repeated as few times as it can be; nothing for a possessive quantifier, which is left out.
+fn laziness(mode: QuantMode, ungreedy: bool) -> Option<bool>
+    ensures { MatchOption result ((low : ℕ) (high : Option ℕ) (t : Nested) (st : State) → repeated low high mode t st ≡ fault 195 st.at) (λ lazy. (low : ℕ) (high : Option ℕ) (t : Nested) (st : State) → st.options.ungreedy ≡ ungreedy → repeated low high mode t st ≡ Ok (repeat_of low high lazy t)) }
+{
+    match mode {
+        QuantMode::Greedy => Some(ungreedy),
+        QuantMode::Lazy => Some(!ungreedy),
+        QuantMode::Possessive => None,
+    }
+}
+
+fn push_frame(stack: &mut Vec<Frame>, frame: Frame) -> Result<(), Memory>
+    ensures { OnOk result (stack.new.items ≡ stack.old.items ++ frame ∷ []) }
+{
+    stack.push(frame)?;
+    Ok(())
+}
+
+/// Gives a group its name, if it gets one.
+fn give(
+    text: &[u8],
+    draft: &mut Draft,
+    names: &mut Vec<Name>,
+    given: Option<Name>,
+) -> Result<(), Memory>
+    requires room { length draft.old.names < 4294967295 }
+    requires stands { (name : Name) → given ≡ Some name → (name.from ≤ name.to) × (name.to ≤ length text.now) }
+    ensures draft { OnOk result (draft.new ≡ record draft.old { names = with_given text.now given draft.old.names }) }
+    ensures names { OnOk result (names.new.items ≡ given_after names.old.items given) }
+{
+    if let Some(name) = given {
+        draft.add_name(&text[name.from..name.to], name.group)?;
+        names.push(name)?;
+    }
+    Ok(())
+}
+
+impl<'a> Machine<'a> {
+    /// Makes what waits for a quantifier a part, before a token that is none.
+    pub(crate) fn flush(&mut self) -> Result<(), Memory>
+        requires means { Means self.old }
+        requires room { HasRoom 0 self.old }
+        requires plain { (token : Token) × (after : ℕ) × (token_at self.old.text.now (flags_of false (state_of self.old)) self.old.at ≡ Ok (token, after)) × IsPlain token }
+        ensures means { OnOk result (Means self.new) }
+        ensures room { OnOk result (HasRoom 1 self.new) }
+        ensures idle { OnOk result (self.new.waiting ≡ None) }
+        ensures same { OnOk result (Same self.old self.new) }
+        ensures next { OnOk result ((token : Token) (after : ℕ) → IsNext token after self.old → IsNext token after self.new) }
+        ensures there { OnOk result (token_at self.new.text.now (flags_of false (state_of self.new)) self.new.at ≡ token_at self.old.text.now (flags_of false (state_of self.old)) self.old.at) }
+        ensures at { OnOk result (self.new.at ≡ self.old.at) }
+    {
+        if let Some(atom) = self.waiting {
+            let id = place(&mut self.draft, atom)?;
+            self.level.parts.push(id)?;
+            self.waiting = None;
+        }
+        Ok(())
+    }
+
+    /// At a bar the next alternative begins.
+    pub(crate) fn bar(&mut self, after: usize) -> Result<(), Memory>
+        requires { Ready Bar after self.old }
+        ensures { OnOk result (Took self.old self.new) }
+    {
+        let parts = mem::replace(&mut self.level.parts, Kids::new(self.alloc));
+        let id = alternative(&mut self.draft, parts, self.at as u32)?;
+        self.level.branches.push(id)?;
+        self.at = after;
+        Ok(())
+    }
+
+    /// An atom that takes one character, which gets its node when it is known whether a quantifier follows.
+    pub(crate) fn single(&mut self, item: Item, after: usize)
+        requires ready { (token : Token) × Ready token after self.old × Begins self.old token after (Ok (atom (one item) (record (state_of self.old) { at = after }))) }
+        requires classless { class_in item ≡ [] }
+        ensures { Took self.old self.new }
+    {
+        let at = self.at as u32;
+        self.waiting = Some(Atom::Single { item, at });
+        self.at = after;
+    }
+
+    /// A class, which is a new entry of the table. It ends at a place, maybe between `\Q` and `\E`.
+    pub(crate) fn class(&mut self, spec: ClassSpec, end: usize, quoting: bool) -> Result<(), Memory>
+        requires ready { (token : Token) × (after : ℕ) × Ready token after self.old × (after ≤ end) × Begins self.old token after (Ok (of_class spec (record (state_of self.old) { at = end; quoting = quoting }))) }
+        requires within { end ≤ length self.old.text.now }
+        ensures { OnOk result (Took self.old self.new) }
+    {
+        let at = self.at as u32;
+        let class = self.draft.add_class(spec)?;
+        self.waiting = Some(Atom::Single {
+            item: Item::Class(class),
+            at,
+        });
+        self.at = end;
+        self.quoting = quoting;
+        Ok(())
+    }
+
+    /// `\R`
+    pub(crate) fn line_break(&mut self, after: usize) -> Result<(), Memory>
+        requires { (token : Token) × Ready token after self.old × Begins self.old token after (Ok (atom line_break (record (state_of self.old) { at = after }))) }
+        ensures { OnOk result (Took self.old self.new) }
+    {
+        let at = self.at as u32;
+        let id = self.draft.add(Node::Break, at)?;
+        self.waiting = Some(Atom::Whole { id, at });
+        self.at = after;
+        Ok(())
+    }
+
+    /// A reference to these groups.
+    pub(crate) fn reference(&mut self, groups: GroupList, after: usize) -> Result<(), Memory>
+        requires ready { (token : Token) × Ready token after self.old × Begins self.old token after (Ok (with_reference (state_of self.old) (record (state_of self.old) { at = after }) groups)) }
+        requires some { 0 < length groups }
+        ensures { OnOk result (Took self.old self.new) }
+    {
+        let at = self.at as u32;
+        let caseless = self.options.caseless;
+        let id = self.draft.add(Node::Ref { groups, caseless }, at)?;
+        self.waiting = Some(Atom::Whole { id, at });
+        self.at = after;
+        Ok(())
+    }
+
+    /// A simple assertion, which no quantifier may follow.
+    pub(crate) fn anchor(&mut self, kind: AnchorKind, after: usize) -> Result<(), Memory>
+        requires { (token : Token) × Ready token after self.old × Begins self.old token after (Ok (bare (anchor kind) (record (state_of self.old) { at = after }))) }
+        ensures { OnOk result (Took self.old self.new) }
+    {
+        let id = self.draft.add(Node::Anchor(kind), self.at as u32)?;
+        self.level.parts.push(id)?;
+        self.at = after;
+        Ok(())
+    }
+
+    /// `\K`
+    pub(crate) fn keep_out(&mut self, after: usize) -> Result<(), Memory>
+        requires { (token : Token) × Ready token after self.old × Begins self.old token after (Ok (bare keep_out (record (state_of self.old) { at = after }))) }
+        ensures { OnOk result (Took self.old self.new) }
+    {
+        let id = self.draft.add(Node::KeepOut, self.at as u32)?;
+        self.level.parts.push(id)?;
+        self.at = after;
+        Ok(())
+    }
+
+    /// What is no part: an option setting, or what is passed over where no atom waits.
+    pub(crate) fn nothing(&mut self, options: Options, quoting: bool, after: usize)
+        requires { (token : Token) × Ready token after self.old × Begins self.old token after (Ok (nothing (record (state_of self.old) { at = after; options = options; quoting = quoting }))) }
+        ensures { Took self.old self.new }
+    {
+        self.options = options;
+        self.quoting = quoting;
+        self.at = after;
+    }
+
+    /// What is passed over leaves the atom waiting.
+    pub(crate) fn pass(&mut self, quoting: bool, after: usize)
+        requires means { Means self.old }
+        requires room { HasRoom 0 self.old }
+        requires waits { (a : Atom) × (self.old.waiting ≡ Some a) }
+        requires next { (token : Token) × IsNext token after self.old × (passed_over token (record (state_of self.old) { at = after }) ≡ Some (record (state_of self.old) { at = after; quoting = quoting })) }
+        ensures { Took self.old self.new }
+    {
+        self.quoting = quoting;
+        self.at = after;
+    }
+
+    /// A group begins inside which these options are in force.
+    pub(crate) fn enter(
+        &mut self,
+        number: Option<u16>,
+        given: Option<Name>,
+        options: Options,
+        groups: u16,
+        after: usize,
+    ) -> Result<(), Memory>
+        requires shallow { length self.old.stack.items < 250 }
+        requires numbered { Numbered self.old.groups number groups }
+        requires gives { Gives self.old.text.now self.old.groups given groups }
+        requires ready { (token : Token) × Ready token after self.old × Begins self.old token after (Ok (inside (record { number = number; around = self.old.options }) (record (state_of self.old) { at = after; options = options; groups = groups; depth = length self.old.stack.items + 1; names = with_given self.old.text.now given self.old.draft.names }))) }
+        ensures { OnOk result (Took self.old self.new) }
+    {
+        let inner = Level {
+            branches: Kids::new(self.alloc),
+            parts: Kids::new(self.alloc),
+        };
+        let outer = mem::replace(&mut self.level, inner);
+        let frame = Frame {
+            number,
+            around: self.options,
+            at: self.at as u32,
+            outer,
+        };
+        give(self.text, &mut self.draft, &mut self.names, given)?;
+        push_frame(&mut self.stack, frame)?;
+        self.options = options;
+        self.groups = groups;
+        self.at = after;
+        Ok(())
+    }
+
+    /// A group ends.
+    pub(crate) fn close(&mut self, after: usize) -> Result<(), ReadError>
+        requires { Ready Close after self.old }
+        ensures ok { OnOk result (Took self.old self.new) }
+        ensures bad { IfErr result (Refuses (whole_of self.old)) }
+    {
+        let Some(
+            Frame {
+                number,
+                around,
+                at,
+                outer,
+            },
+        ) = self.stack.pop()
+        else {
+            return Err(ReadError::Bad {
+                number: 122,
+                at: self.at,
+            });
+        };
+        let level = mem::replace(&mut self.level, outer);
+        let id = group(&mut self.draft, number, level, at)?;
+        self.waiting = Some(Atom::Whole { id, at });
+        self.options = around;
+        self.at = after;
+        Ok(())
+    }
+
+    /// A quantifier is put on the atom before it.
+    pub(crate) fn quantifier(
+        &mut self,
+        min: u16,
+        max: Option<u16>,
+        mode: QuantMode,
+        after: usize,
+    ) -> Result<(), ReadError>
+        requires means { Means self.old }
+        requires room { HasRoom 0 self.old }
+        requires next { IsNext (Quantifier min max mode) after self.old }
+        ensures ok { OnOk result (Took self.old self.new) }
+        ensures bad { IfErr result (Refuses (whole_of self.old)) }
+    {
+        let at = self.at;
+        let Some(atom) = self.waiting else {
+            return Err(ReadError::Bad { number: 109, at });
+        };
+        let Some(lazy) = laziness(mode, self.options.ungreedy) else {
+            return Err(ReadError::Bad { number: 195, at });
+        };
+        let id = repeat(&mut self.draft, min, max, lazy, atom)?;
+        self.level.parts.push(id)?;
+        self.waiting = None;
+        self.at = after;
+        Ok(())
+    }
+}

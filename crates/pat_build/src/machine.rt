@@ -1,0 +1,87 @@
+//! What the reader holds.
+ghost use Rattle.std.specs.Prelude.{◌≡◌};
+
+use crate::cursor::{Cursor, Place};
+use crate::error::ReadError;
+use crate::names::Name;
+use pat_tree::{Draft, Item, Kids, NodeId, Options};
+use std::alloc::Global;
+
+/// The alternatives that were read of a group, and the parts of the one in progress.
+#[derive(Drop)]
+pub(crate) struct Level {
+    pub branches: Kids,
+    pub parts: Kids,
+}
+
+/// An open group: its number where it captures, the options around it, its place, and what encloses it.
+#[derive(Drop)]
+pub(crate) struct Frame {
+    pub number: Option<u16>,
+    pub around: Options,
+    pub at: u32,
+    pub outer: Level,
+}
+
+/// The atom before the place, which a quantifier may follow.
+#[derive(Clone, Copy)]
+pub(crate) enum Atom {
+    /// It takes one character, and has no node yet: under a quantifier it gets none of its own.
+    Single { item: Item, at: u32 },
+    /// It has a node.
+    Whole { id: NodeId, at: u32 },
+}
+
+/// A reading in progress.
+#[derive(Drop)]
+pub(crate) struct Machine<'a> {
+    pub alloc: Global,
+    pub text: &'a [u8],
+    /// The names of the whole pattern, or none while they are looked for.
+    pub known: &'a [Name],
+    /// The names that were given so far. The draft has the same.
+    pub names: Vec<Name>,
+    pub draft: Draft,
+    pub stack: Vec<Frame>,
+    pub level: Level,
+    pub waiting: Option<Atom>,
+    /// Where the reading began, after the start items: what it stands for is told from there.
+    pub start: usize,
+    pub at: usize,
+    /// The place is between `\Q` and `\E`.
+    pub quoting: bool,
+    /// The options in force.
+    pub options: Options,
+    /// How many capturing groups were opened.
+    pub groups: u16,
+}
+
+impl<'a> Machine<'a> {
+    /// Where the reader stands, at another place of the text.
+    pub(crate) fn cursor(&self, at: usize) -> Cursor<'a>
+        ensures text { result.text.now ≡ self.now.text.now }
+        ensures place { result.place ≡ record { at = at; quoting = self.now.quoting } }
+        ensures options { result.options ≡ self.now.options }
+        ensures groups { result.groups ≡ self.now.groups }
+    {
+        Cursor {
+            text: self.text,
+            place: Place {
+                at,
+                quoting: self.quoting,
+            },
+            options: self.options,
+            groups: self.groups,
+        }
+    }
+
+    /// A fault at the place.
+    pub(crate) fn fault(&self, number: i32) -> ReadError
+        ensures { result ≡ ReadError.Bad number self.now.at }
+    {
+        ReadError::Bad {
+            number,
+            at: self.at,
+        }
+    }
+}

@@ -1,0 +1,202 @@
+//! The reader of a pattern.
+ghost use Rattle.std.specs.Prelude.{◌≡◌, ◌||◌, ℕ, ◌<◌, ◌≤◌, false, [], length, Ok, OnOk, IfOk, IfErr};
+ghost use Rattle.pat_tree.specs.Nested.{Nested};
+ghost use Rattle.token_parts.specs.declared.token.Token.TheVariants.{End};
+ghost use Rattle.token_parts.specs.Tell.{IsWell, Moves};
+ghost use Rattle.pat_lex.specs.Tokens.{token_at};
+ghost use Rattle.pat_build.specs.State.{State, flags_of};
+ghost use Rattle.pat_build.specs.Names.{IsKnown, table_of};
+ghost use Rattle.pat_build.specs.Reading.{read, reading};
+ghost use Rattle.pat_build.specs.Machine.{Means, HasRoom, Refuses, Ends, Same, state_of, state_from, whole_of, parsed_of, tree_with};
+
+use crate::error::ReadError;
+use crate::literal::literally;
+use crate::machine::{Level, Machine};
+use crate::names::Name;
+use crate::nodes::group;
+use crate::start::started;
+use pat_lex::Token;
+use pat_tree::{Draft, Kids, NodeId, Options, Tree};
+use std::alloc::Global;
+use std::mem;
+
+impl<'a> Machine<'a> {
+    /// A reading that begins at a place with these options.
+    fn new(
+        alloc: Global,
+        known: &'a [Name],
+        text: &'a [u8],
+        start: usize,
+        options: Options,
+    ) -> Machine<'a>
+        requires within { start ≤ length text.now }
+        requires short { length text.now ≤ 65536 }
+        requires known { IsKnown text.now known.now }
+        ensures means { Means result }
+        ensures room { HasRoom 0 result }
+        ensures text { result.text.now ≡ text.now }
+        ensures whole { whole_of result ≡ reading (table_of text.now known.now) text.now (state_from start options) }
+        ensures options { result.draft.options ≡ options }
+    {
+        let level = Level {
+            branches: Kids::new(alloc),
+            parts: Kids::new(alloc),
+        };
+        Machine {
+            alloc,
+            text,
+            known,
+            names: Vec::new(alloc),
+            draft: Draft::new(alloc, options),
+            stack: Vec::new(alloc),
+            level,
+            waiting: None,
+            start,
+            at: start,
+            quoting: false,
+            options,
+            groups: 0,
+        }
+    }
+
+    /// The next token, outside classes.
+    fn token(&self) -> Result<(Token, usize), ReadError>
+        requires { Means self.now }
+        ensures token { IfOk result (λ r. token_at self.now.text.now (flags_of false (state_of self.now)) self.now.at ≡ Ok r) }
+        ensures moves { IfOk result (λ r. Moves self.now.text.now self.now.at r.0 r.1) }
+        ensures well { IfOk result (λ r. IsWell self.now.text.now r.0) }
+        ensures bad { IfErr result (Refuses (whole_of self.now)) }
+    {
+        let cursor = self.cursor(self.at);
+        match cursor.next(cursor.place, false) {
+            Ok(found) => Ok(found),
+            Err(fault) => Err(ReadError::from(fault)),
+        }
+    }
+
+    /// Takes in the tokens up to the end of the text.
+    fn run(&mut self) -> Result<(), ReadError>
+        requires means { Means self.old }
+        requires room { HasRoom 0 self.old }
+        ensures means { OnOk result (Means self.new) }
+        ensures room { OnOk result (HasRoom 0 self.new) }
+        ensures same { OnOk result (Same self.old self.new) }
+        ensures end { OnOk result (token_at self.new.text.now (flags_of false (state_of self.new)) self.new.at ≡ Ok (End, self.new.at)) }
+        ensures bad { IfErr result (Refuses (whole_of self.old)) }
+    {
+        loop {
+            let (token, after) = self.token()?;
+            if let Token::End = token {
+                return Ok(());
+            }
+            self.take(token, after)?;
+        }
+    }
+
+    /// At the end of the text: the number of the whole tree.
+    fn end(&mut self) -> Result<NodeId, ReadError>
+        requires means { Means self.old }
+        requires room { HasRoom 0 self.old }
+        requires token { token_at self.old.text.now (flags_of false (state_of self.old)) self.old.at ≡ Ok (End, self.old.at) }
+        ensures below { IfOk result (λ id. id < length self.new.draft.nodes) }
+        ensures ok { IfOk result (λ id. Ends self.old self.new id) }
+        ensures bad { IfErr result (Refuses (whole_of self.old)) }
+    {
+        self.flush()?;
+        if !self.stack.is_empty() {
+            return Err(ReadError::Bad {
+                number: 114,
+                at: self.text.len(),
+            });
+        }
+        let inner = Level {
+            branches: Kids::new(self.alloc),
+            parts: Kids::new(self.alloc),
+        };
+        let level = mem::replace(&mut self.level, inner);
+        let id = group(&mut self.draft, None, level, 0)?;
+        Ok(id)
+    }
+}
+
+/// The names of the pattern, in the order in which they are given.
+fn names_of(
+    alloc: Global,
+    text: &[u8],
+    start: usize,
+    options: Options,
+) -> Result<Vec<Name>, ReadError>
+    requires within { start ≤ length text.now }
+    requires short { length text.now ≤ 65536 }
+    ensures ok { IfOk result (λ names. (first : Nested × State) × (reading [] text.now (state_from start options) ≡ Ok first) × (first.1.names ≡ table_of text.now names.items)) }
+    ensures known { IfOk result (λ names. IsKnown text.now names.items) }
+    ensures bad { IfErr result (Refuses (reading [] text.now (state_from start options))) }
+{
+    let none: [Name; 0] = [];
+    let mut machine = Machine::new(alloc, &none, text, start, options);
+    machine.run()?;
+    let _root = machine.end()?;
+    let names = mem::replace(&mut machine.names, Vec::new(alloc));
+    Ok(names)
+}
+
+/// The tree of the pattern, whose names are known.
+fn tree_of(
+    alloc: Global,
+    known: &[Name],
+    text: &[u8],
+    start: usize,
+    options: Options,
+) -> Result<Tree, ReadError>
+    requires within { start ≤ length text.now }
+    requires short { length text.now ≤ 65536 }
+    requires known { IsKnown text.now known.now }
+    ensures ok { IfOk result (λ tree. tree_with (table_of text.now known.now) text.now (state_from start options) ≡ Ok (parsed_of tree)) }
+    ensures bad { IfErr result (Refuses (tree_with (table_of text.now known.now) text.now (state_from start options))) }
+{
+    let mut machine = Machine::new(alloc, known, text, start, options);
+    machine.run()?;
+    let root = machine.end()?;
+    let draft = mem::replace(&mut machine.draft, Draft::new(alloc, options));
+    match draft.finish(root) {
+        Ok(tree) => Ok(tree),
+        Err(bad) => Err(ReadError::Bad {
+            number: 115,
+            at: bad.at as usize,
+        }),
+    }
+}
+
+/// Whether an option is set that is left out.
+fn is_left_out(options: &Options) -> bool
+    ensures { result ≡ (options.now.utf || (options.now.ucp || options.now.auto_callout)) }
+{
+    options.utf || options.ucp || options.auto_callout
+}
+
+/// Reads a pattern of at most 65,536 bytes (pcre2pattern): the tree has its nested value, its classes in the order of
+/// reading, its names in the order of the table, and the options with those that the start items set. Under LITERAL each
+/// byte is a character. No call is nested deeper for a pattern that is: open groups stand in a vector, 250 at most.
+///
+/// `Bad` has the number and the place of the fault that the definition tells: first 120 for a pattern that is longer and
+/// 195 for UTF, UCP and AUTO_CALLOUT, at 0; then the first fault from the left; last 115 at the leftmost reference to no
+/// group. Want of memory may come at any pattern.
+pub fn read(alloc: Global, text: &[u8], options: Options) -> Result<Tree, ReadError>
+    ensures ok { IfOk result (λ tree. read options text.now ≡ Ok (parsed_of tree)) }
+    ensures bad { IfErr result (Refuses (read options text.now)) }
+{
+    if text.len() > 65536 {
+        return Err(ReadError::Bad { number: 120, at: 0 });
+    }
+    if is_left_out(&options) {
+        return Err(ReadError::Bad { number: 195, at: 0 });
+    }
+    if options.literal {
+        let tree = literally(alloc, text, options)?;
+        return Ok(tree);
+    }
+    let (start, begun) = started(text, options)?;
+    let names = names_of(alloc, text, start, begun)?;
+    let tree = tree_of(alloc, &names, text, start, begun)?;
+    Ok(tree)
+}

@@ -1,0 +1,228 @@
+//! Which token does what.
+ghost use Rattle.std.specs.Prelude.{◌≡◌, ℕ, ◌<◌, ◌≤◌, false, [], ◌∷◌, length, IfOk, OnOk, IfErr, None, Some};
+ghost use Rattle.pat_tree.specs.Nested.{one};
+ghost use Rattle.pat_tree.specs.Rules.{class_in};
+ghost use Rattle.token_parts.specs.declared.token.Token.TheVariants as token;
+ghost use Rattle.pat_build.specs.State.{passed_over};
+ghost use Rattle.pat_build.specs.Parts.{boundary, any_or_line};
+ghost use Rattle.pat_build.specs.Stack.{IsPlain};
+ghost use Rattle.pat_build.specs.Machine.{Means, Ready, IsNext, IsMore, IsAssertion, IsCharacter, Took, HasRoom, Refuses, state_of, whole_of};
+
+use crate::brackets::read_class;
+use crate::error::ReadError;
+use crate::machine::Machine;
+use crate::options::with_setting;
+use pat_lex::{OptionMask, Token};
+use pat_tree::{AnchorKind, ClassSpec, Item, Memory, Part, PartList, SetName};
+use std::alloc::Global;
+
+/// `\b` or `\B`
+fn boundary(opposite: bool, ucp: bool) -> AnchorKind
+    ensures { result ≡ boundary opposite ucp }
+{
+    if opposite {
+        AnchorKind::NotWord { ucp }
+    } else {
+        AnchorKind::Word { ucp }
+    }
+}
+
+/// `.` (pcre2pattern, "Full stop (period, dot) and \N")
+fn any_or_line(dotall: bool) -> Item
+    ensures item { one result ≡ any_or_line dotall }
+    ensures classless { class_in result ≡ [] }
+{
+    if dotall {
+        Item::AnyAll
+    } else {
+        Item::NotNewline
+    }
+}
+
+/// A class of one part.
+fn class_of(alloc: Global, part: Part, caseless: bool) -> Result<ClassSpec, Memory>
+    ensures { IfOk result (λ spec. spec ≡ record { negated = false; caseless = caseless; parts = part ∷ [] }) }
+{
+    let mut parts = PartList::new(alloc);
+    parts.push(part)?;
+    Ok(ClassSpec {
+        negated: false,
+        caseless,
+        parts,
+    })
+}
+
+impl<'a> Machine<'a> {
+    /// A type outside a class is a class of its own.
+    fn set(&mut self, set: SetName, not: bool, after: usize) -> Result<(), Memory>
+        requires { Ready (token.Set set not) after self.old }
+        ensures { OnOk result (Took self.old self.new) }
+    {
+        let ucp = self.options.ucp;
+        let part = Part::Set { set, not, ucp };
+        let spec = class_of(self.alloc, part, self.options.caseless)?;
+        self.class(spec, after, self.quoting)
+    }
+
+    /// A class from its opening bracket on.
+    fn class_start(&mut self, negated: bool, after: usize) -> Result<(), ReadError>
+        requires { Ready (token.ClassStart negated) after self.old }
+        ensures ok { OnOk result (Took self.old self.new) }
+        ensures bad { IfErr result (Refuses (whole_of self.old)) }
+    {
+        let cursor = self.cursor(after);
+        let (spec, end) = read_class(self.alloc, &cursor, negated)?;
+        self.class(spec, end.at, end.quoting)?;
+        Ok(())
+    }
+
+    /// Options are set, or a group begins in which they are.
+    fn option_set(
+        &mut self,
+        reset: bool,
+        on: OptionMask,
+        off: OptionMask,
+        opens: bool,
+        after: usize,
+    ) -> Result<(), ReadError>
+        requires { Ready (token.OptionSet reset on off opens) after self.old }
+        ensures ok { OnOk result (Took self.old self.new) }
+        ensures bad { IfErr result (Refuses (whole_of self.old)) }
+    {
+        let options = with_setting(reset, on, off, self.options);
+        if opens {
+            return self.plain_group(options, after);
+        }
+        self.nothing(options, self.quoting, after);
+        Ok(())
+    }
+
+    /// A simple assertion.
+    fn assertion(&mut self, token: Token, after: usize) -> Result<(), Memory>
+        requires ready { Ready token after self.old }
+        requires simple { IsAssertion token }
+        ensures { OnOk result (Took self.old self.new) }
+    {
+        let multi = self.options.multiline;
+        let end_only = self.options.dollar_endonly;
+        match token {
+            Token::Caret => self.anchor(AnchorKind::Caret { multi }, after),
+            Token::Dollar => self.anchor(AnchorKind::Dollar { multi, end_only }, after),
+            Token::SubjectStart => self.anchor(AnchorKind::SubjectStart, after),
+            Token::SubjectEnd => self.anchor(AnchorKind::SubjectEnd, after),
+            Token::EndOrNewline => self.anchor(AnchorKind::EndOrNewline, after),
+            Token::StartGiven => self.anchor(AnchorKind::StartGiven, after),
+            Token::Boundary { not } => self.anchor(boundary(not, self.options.ucp), after),
+            _ => unreachable!(),
+        }
+    }
+
+    /// A character, a type or `\K`.
+    fn character(&mut self, token: Token, after: usize) -> Result<(), Memory>
+        requires ready { Ready token after self.old }
+        requires character { IsCharacter token }
+        ensures { OnOk result (Took self.old self.new) }
+    {
+        let caseless = self.options.caseless;
+        match token {
+            Token::Literal(c) => {
+                self.single(Item::Char { c, caseless }, after);
+                Ok(())
+            }
+            Token::Dot => {
+                self.single(any_or_line(self.options.dotall), after);
+                Ok(())
+            }
+            Token::NotNewline => {
+                self.single(Item::NotNewline, after);
+                Ok(())
+            }
+            Token::LineBreak => self.line_break(after),
+            Token::Set { set, not } => self.set(set, not, after),
+            Token::KeepOut => self.keep_out(after),
+            _ => unreachable!(),
+        }
+    }
+
+    /// Takes in a token before which nothing waits.
+    fn plain(&mut self, token: Token, after: usize) -> Result<(), ReadError>
+        requires ready { Ready token after self.old }
+        requires plain { IsPlain token }
+        requires more { IsMore token }
+        ensures ok { OnOk result (Took self.old self.new) }
+        ensures bad { IfErr result (Refuses (whole_of self.old)) }
+    {
+        match token {
+            Token::Literal(_)
+            | Token::Dot
+            | Token::NotNewline
+            | Token::LineBreak
+            | Token::Set { .. }
+            | Token::KeepOut => Ok(self.character(token, after)?),
+            Token::Caret
+            | Token::Dollar
+            | Token::SubjectStart
+            | Token::SubjectEnd
+            | Token::EndOrNewline
+            | Token::StartGiven
+            | Token::Boundary { .. } => Ok(self.assertion(token, after)?),
+            Token::ClassStart { negated } => self.class_start(negated, after),
+            Token::Reference(target) => self.refer(target, after),
+            Token::Open(kind) => self.open(kind, after),
+            Token::OptionSet {
+                reset,
+                on,
+                off,
+                opens,
+            } => self.option_set(reset, on, off, opens, after),
+            Token::Bar => Ok(self.bar(after)?),
+            Token::Close => self.close(after),
+            Token::Start(_) => Err(self.fault(160)),
+            _ => Err(self.fault(195)),
+        }
+    }
+
+    /// Comments, ignored white space, `\Q` and `\E` stand for nothing themselves.
+    fn passed(&mut self, token: Token, quoting: bool, after: usize)
+        requires means { Means self.old }
+        requires room { HasRoom 0 self.old }
+        requires next { IsNext token after self.old }
+        requires passed { passed_over token (record (state_of self.old) { at = after }) ≡ Some (record (state_of self.old) { at = after; quoting = quoting }) }
+        ensures { Took self.old self.new }
+    {
+        match self.waiting {
+            Some(_) => self.pass(quoting, after),
+            None => self.nothing(self.options, quoting, after),
+        }
+    }
+
+    /// Takes in a token that isn't the end.
+    pub(crate) fn take(&mut self, token: Token, after: usize) -> Result<(), ReadError>
+        requires means { Means self.old }
+        requires room { HasRoom 0 self.old }
+        requires next { IsNext token after self.old }
+        requires more { IsMore token }
+        ensures ok { OnOk result (Took self.old self.new) }
+        ensures bad { IfErr result (Refuses (whole_of self.old)) }
+    {
+        match token {
+            Token::Quantifier { min, max, mode } => self.quantifier(min, max, mode, after),
+            Token::Passed => {
+                self.passed(token, self.quoting, after);
+                Ok(())
+            }
+            Token::QuoteOn => {
+                self.passed(token, true, after);
+                Ok(())
+            }
+            Token::QuoteOff => {
+                self.passed(token, false, after);
+                Ok(())
+            }
+            plain => {
+                self.flush()?;
+                self.plain(plain, after)
+            }
+        }
+    }
+}

@@ -1,7 +1,0 @@
-use Rattle.std.proofs.Common.{◌≡◌, ◌≤◌, ◌-◌, length}
-use Rattle.pat_lex.specs.Comments.{skip, blanks_end}
-use Rattle.pat_lex.proofs.comments.blanks_end.Given as goal
-
-abbrev pub invariant-loop-turn : goal.invariant-loop-turn
-invariant-loop-turn l =
-    (l.from ≤ l.i) × (l.i ≤ length l.text) × (skip l.text l.flags (length l.text - l._turn) l.i ≡ blanks_end l.text l.flags l.from)

@@ -1,6 +1,0 @@
-use Rattle.std.proofs.Common.{◌≡◌}
-use Rattle.pat_lex.specs.Comments.{first_newline}
-use Rattle.pat_lex.proofs.comments.first_newline.Given as goal
-
-abbrev pub invariant-loop-i : goal.invariant-loop-i
-invariant-loop-i l = first_newline l.text l.flags l.i ≡ first_newline l.text l.flags l.from

@@ -1,0 +1,58 @@
+-- What is passed over: comments (pcre2pattern, "Comments"), and the white space that EXTENDED ignores (pcre2api,
+-- "PCRE2_EXTENDED").
+use Rattle.std.specs.Prelude.{ℕ, zero, suc, ◌+◌, ◌-◌, Bool, not, ◌&&◌, ◌||◌, ◌==◌, nat_lt, List, length, Ok, if◌then◌else◌}
+use Rattle.std.specs.Int.{is_in_range}
+use Rattle.byte_lanes.specs.Newlines.{newline_len}
+use Rattle.pat_tree.specs.Newlines.{end_kind}
+use Rattle.token_parts.specs.declared.token.LexFlags.{LexFlags}
+use Rattle.token_parts.specs.declared.token.Token.TheVariants.{Passed}
+use Rattle.token_parts.specs.Bytes.{◌∈◌, passes_at, is_at, run_end}
+use Rattle.token_parts.specs.Tell.{Lexed, fault}
+
+-- the least place from i on that passes the test, or n places on
+abbrev pub first_place : ℕ → (ℕ → Bool) → ℕ → ℕ
+first_place zero test i = i
+first_place (suc n) test i = if test i then i else first_place n test (i + 1)
+
+abbrev pub is_extended : LexFlags → Bool
+is_extended flags = flags.extended || flags.extended_more
+
+-- HT, LF, VT, FF, CR, space, and without UTF the byte of U+0085
+abbrev pub is_white : LexFlags → ℕ → Bool
+is_white flags c = is_in_range 9 13 c || (c == 32 || (c == 0x85 && not flags.utf))
+
+module _ (text : List ℕ) where
+  -- how long the newline is that begins at the place; 0 where none does (pcre2pattern, "Newline conventions")
+  unfoldable pub newline_at : LexFlags → ℕ → ℕ
+  newline_at flags i = newline_len (end_kind flags.newline flags.utf) text i
+
+  -- where the first newline from the place on begins, or the end of the text
+  unfoldable pub first_newline : LexFlags → ℕ → ℕ
+  first_newline flags from = first_place (length text - from) (λ i. nat_lt 0 (newline_at flags i)) from
+
+  -- past that newline
+  unfoldable pub line_end : LexFlags → ℕ → ℕ
+  line_end flags from = first_newline flags from + newline_at flags (first_newline flags from)
+
+  -- `(?#` up to a closing parenthesis
+  unfoldable pub comment : ℕ → Lexed
+  comment at =
+      let to = run_end text (λ c. not (c ∈ ")")) (at + 3) in
+      if is_at text ")" to then Ok (Passed, to + 1) else fault 118 (length text)
+
+  module _ (flags : LexFlags) where
+    -- past one white space character, or one comment from `#` on; the place itself where neither stands there
+    unfoldable pub blank_end : ℕ → ℕ
+    blank_end i =
+        if passes_at text (is_white flags) i then i + 1
+        else if is_at text "#" i then line_end flags (i + 1)
+        else i
+
+    -- past up to n of them
+    abbrev pub skip : ℕ → ℕ → ℕ
+    skip zero i = i
+    skip (suc n) i = if blank_end i == i then i else skip n (blank_end i)
+
+    -- past all of them
+    unfoldable pub blanks_end : ℕ → ℕ
+    blanks_end i = skip (length text - i) i

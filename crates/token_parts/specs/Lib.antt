@@ -1,0 +1,10 @@
+pub mod Bytes
+pub mod Runs
+pub mod Tell
+pub mod Names
+pub mod Targets
+pub mod Comments
+pub mod Codes
+pub mod Settings
+pub mod Conditions
+pub mod Callouts

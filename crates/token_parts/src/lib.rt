@@ -1,0 +1,33 @@
+//! What tokens of a pattern are, and the texts of which they are made: numbers, names, codes, references, calls, conditions,
+//! option settings, callouts and comments.
+#![tactic(auto)]
+
+mod bytes;
+mod callouts;
+mod codes;
+mod comments;
+mod conditions;
+mod fault;
+mod names;
+mod settings;
+mod targets;
+mod token;
+
+pub use bytes::{Run, byte, is_letter, numeral, run_end, stands};
+pub use callouts::callout;
+pub use codes::{coded, octal};
+pub use comments::{blank_end, blanks_end, comment, is_extended};
+pub use conditions::condition;
+pub use fault::{Fault, LEFT_OUT, UNCLOSED_GROUP, UNKNOWN_GROUP};
+pub use names::name_end;
+pub use settings::setting;
+pub use targets::{
+    begins_number, group_escape, name_escape, named_call, named_reference, numbered_call,
+    numbered_escape,
+};
+pub use token::{
+    CondText, LexFlags, Lexed, OpenKind, OptionMask, QuantMode, StartItem, Target, Token, VerbKind,
+};
+
+#[cfg(test)]
+mod tests;
