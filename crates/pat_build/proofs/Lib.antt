@@ -3,6 +3,10 @@ pub mod Ranges
 pub mod RowProofs
 pub mod Spots
 pub mod Steps
+mod Holding
+mod PlainTokens
+mod PlainClasses
+mod PlainReading
 pub mod Standing
 pub mod States
 pub mod Waiting
@@ -14,7 +18,3 @@ pub mod Adding
 pub mod Beginning
 pub mod Starting
 pub mod Exits
-mod Holding
-mod PlainTokens
-mod PlainClasses
-mod PlainReading

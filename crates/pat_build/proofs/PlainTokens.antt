@@ -12,8 +12,9 @@ use Rattle.token_parts.specs.Bytes.{is_at}
 use Rattle.token_parts.specs.Tell.{fault, Lexed, ◌>>=◌}
 use Rattle.token_parts.specs.Comments.{comment}
 use Rattle.pat_lex.specs.Quantifiers.{with_mode, counted}
-use Rattle.pat_lex.specs.Escapes.{everywhere, outside, listed, control, property_named, property, not_newline, octal, braced, hexadecimal, coded, numbered_escape, longer, escape}
-use Rattle.token_parts.specs.Targets.{numbered, named_reference, named_call, group_escape, name_escape, numbered_call}
+use Rattle.token_parts.specs.Codes.{control, octal, braced, hexadecimal, coded}
+use Rattle.pat_lex.specs.Escapes.{everywhere, outside, listed, property_named, property, not_newline, longer, escape}
+use Rattle.token_parts.specs.Targets.{numbered, numbered_escape, named_reference, named_call, group_escape, name_escape, numbered_call}
 use Rattle.pat_lex.specs.Classes.{posix_end, posix_set, class_start, posix, bracket, longer_in_class, class_escape, in_class}
 use Rattle.token_parts.specs.Settings.{setting_closed, setting}
 use Rattle.pat_lex.specs.Verbs.{start_word, verb_word, group_word, named_verb, closed_word, colon_word, limit, star_word}

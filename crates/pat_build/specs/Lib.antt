@@ -6,7 +6,7 @@ pub mod Parts
 pub mod Reading
 pub mod Stack
 pub mod Rows
-pub mod Names
-pub mod Machine
 pub mod Searchable
 pub mod Places
+pub mod Names
+pub mod Machine
