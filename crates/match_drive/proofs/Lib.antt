@@ -7,6 +7,7 @@ mod NoPartial
 mod Excluded
 mod Steps
 mod Walk
+mod Leads
 pub mod ForwardStreams
 pub mod ForwardSearch
 pub mod ForwardLaw

@@ -7,3 +7,4 @@ pub mod Answer
 pub mod Laws
 pub mod Forward
 pub mod Rows
+pub mod Course

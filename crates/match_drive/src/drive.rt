@@ -1,5 +1,9 @@
 //! The search over all start places.
-ghost use Rattle.std.specs.Prelude.{◌≡◌, ◌≤◌, max};
+ghost use Rattle.std.specs.Prelude.{◌≡◌, ◌≤◌, ◌<◌, false, length, max};
+ghost use Rattle.pat_tree.specs.Parts.{tree_of};
+ghost use Rattle.char_sets.specs.Table.{IsTableOf};
+ghost use Rattle.pat_check.specs.Built.{IsBuilt};
+ghost use Rattle.frame_machine.specs.Ready.{AreFactsOf, setting_for};
 ghost use Rattle.pat_tree.specs.declared.options.PartialMode.TheVariants.{Off};
 ghost use Rattle.pcre_io.specs.declared.callouts.Block.{Block};
 ghost use Rattle.match_drive.specs.Asked.{passed_over};
@@ -8,9 +12,11 @@ ghost use Rattle.match_drive.specs.MatchAnswer.{match_answer};
 ghost use Rattle.match_drive.specs.Rest as rest;
 
 use crate::answer::MatchAnswer;
+use crate::course::Course;
 use crate::driven::Driven;
 use crate::places::{last_place, next_tried, place_after};
-use frame_machine::{PlaceAnswer, Scratch};
+use frame_machine::{PlaceAnswer, Ready, Scratch};
+use match_items::View;
 use pcre_io::Callouts;
 
 /// The first place that reached the subject's end, after one more place.
@@ -90,4 +96,36 @@ pub fn search_on<S: Driven, C: Callouts>(
         next = next_tried(on, place_after(on, place, signal, last), last);
     }
     undecided(first, scratch.last_mark())
+}
+
+/// Searches a finished tree over all start places, in order, and leaves the captures of a match in the workspace (pcre2api,
+/// "Matching a pattern: the traditional function"). Any workspace serves, new or used, and it can be used again after every
+/// answer. Want of memory may be answered at any time.
+///
+/// Needs the table and the facts of the tree, and a view with the tree's options; a start in the subject; a subject of fewer
+/// than 4,294,967,295 bytes without UTF; no partial matching; and a tree without atomic groups, lookarounds, conditions, calls,
+/// verbs and callouts. So it calls at no callout.
+pub fn search<C: Callouts>(
+    ready: &Ready<'_>,
+    view: &View<'_>,
+    scratch: &mut Scratch,
+    calls: &mut C,
+) -> MatchAnswer
+    requires table { IsTableOf ready.now.tree.now ready.now.classes.now }
+    requires facts { AreFactsOf ready.now.tree.now ready.now.facts.now }
+    requires options { view.now.options.now ≡ ready.now.tree.now.options }
+    requires start { view.now.start ≤ length view.now.subject.now }
+    requires short { length view.now.subject.now < 4294967295 }
+    requires bytes { ready.now.tree.now.options.utf ≡ false }
+    requires off { view.now.matching.now.«partial» ≡ Off }
+    requires built { IsBuilt (tree_of ready.now.tree.now) }
+    ensures answer { IsMatchAnswer result scratch.new.spans (match_answer (setting_for ready.now.tree.now view.now (C.answers calls.old))) }
+    ensures whole { IsNotPartial result }
+    ensures peak { scratch.new.peak ≤ max scratch.old.peak view.now.matching.now.frame_limit }
+    ensures groups { scratch.new.groups ≡ scratch.old.groups }
+    ensures frames { scratch.new.frames ≡ scratch.old.frames }
+    ensures rule { (block : Block) → C.answers calls.new block ≡ C.answers calls.old block }
+    ensures seen { C.seen calls.new ≡ C.seen calls.old }
+{
+    search_on(&Course { ready, view }, scratch, calls)
 }

@@ -3,6 +3,7 @@
 #![tactic(auto)]
 
 mod answer;
+mod course;
 mod drive;
 mod driven;
 mod laws;
@@ -10,7 +11,7 @@ mod places;
 mod words;
 
 pub use answer::MatchAnswer;
-pub use drive::search_on;
+pub use drive::{search, search_on};
 pub use driven::Driven;
 pub use laws::{no_partial_match, searches_go_forward, worked_rows};
 pub use words::{Span, first_span};

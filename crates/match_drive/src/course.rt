@@ -1,0 +1,66 @@
+//! A finished tree and a subject, as the walk over the start places goes over them.
+
+use crate::driven::Driven;
+use byte_lanes::ByteSet;
+use frame_machine::{PlaceAnswer, Ready, Scratch, run_at};
+use match_items::View;
+use pat_tree::{MatchOptions, Options};
+use pcre_io::Callouts;
+
+/// A finished tree, made ready, and a subject.
+#[derive(Clone, Copy)]
+pub(crate) struct Course<'a> {
+    pub ready: &'a Ready<'a>,
+    pub view: &'a View<'a>,
+}
+
+impl Driven for Course<'_> {
+    ghost use Rattle.std.specs.Prelude.{refl};
+    ghost use Rattle.frame_machine.specs.Ready.{setting_for};
+    ghost use Rattle.match_drive.specs.Course.{IsByteCourse};
+
+    ghost asked = { λ x. setting_for x.ready.now.tree.now x.view.now };
+
+    ghost fits = { λ x. IsByteCourse x.ready.now x.view.now };
+
+    fn subject(&self) -> &[u8] {
+        self.view.subject
+    }
+
+    fn start(&self) -> usize {
+        self.view.start
+    }
+
+    fn options(&self) -> &Options {
+        self.view.options
+    }
+
+    fn matching(&self) -> &MatchOptions {
+        self.view.matching
+    }
+
+    fn lead(&self) -> Option<&ByteSet> {
+        self.ready.facts.lead.as_ref()
+    }
+
+    fn names_crlf(&self) -> bool {
+        self.ready.facts.names_crlf
+    }
+
+    fn try_at<C: Callouts>(
+        &self,
+        place: usize,
+        scratch: &mut Scratch,
+        calls: &mut C,
+    ) -> PlaceAnswer {
+        run_at(self.ready, self.view, place, scratch, calls)
+    }
+
+    ghost not_utf = { λ x h. h.bytes };
+
+    ghost short = { λ x h. h.short };
+
+    ghost begun = { λ x h. h.start };
+
+    ghost alike = { λ x answers. refl };
+}
