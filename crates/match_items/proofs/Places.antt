@@ -92,7 +92,7 @@ ref_empty g from to p caseless bytes le =
     let ys : List ℕ = characters g (drop p g.subject) in
     let none : to - from ≡ 0 = omega arith in
     let empty : characters g (slice_range g.subject from to) ≡ [] =
-        characters_are g (slice_range g.subject from to) bytes ∙ ap (λ n. take n (drop from g.subject)) none in
+    characters_are g (slice_range g.subject from to) bytes ∙ ap (λ n. take n (drop from g.subject)) none in
     let fits : nat_le 0 (length ys) ≡ true = grind (arith, nat_tests) in
     let zero_wide : width g [] ≡ 0 = width_is g [] bytes in
     ap (λ (xs : List ℕ). after_text g caseless xs ys p) empty
