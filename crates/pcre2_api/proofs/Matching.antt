@@ -1,0 +1,16 @@
+-- What the answer of a search that goes forward says of a match.
+use Rattle.std.proofs.Common.{◌≡◌, ◌∙◌, ap, subst, Option, None}
+use Rattle.frame_machine.specs.Setting.{Setting}
+use Rattle.frame_machine.specs.PlaceAnswer.{Outcome, last_name}
+use Rattle.match_drive.specs.MatchAnswer.{MatchAnswer, Match, Found}
+use Rattle.match_drive.specs.Forward.{IsPlaced, IsPlain, IsPlainFound}
+
+module _ (g : Setting) (f : Found) (plain : IsPlainFound g f) where
+  pub is_placed : (o : Outcome) → f.answer ≡ Match o → IsPlaced g o
+  is_placed o e = subst (IsPlain g) e plain.answer
+
+  pub is_plain : (a : MatchAnswer) → f.answer ≡ a → IsPlain g a
+  is_plain a e = subst (IsPlain g) e plain.answer
+
+  pub no_name : (mark : Option _) → mark ≡ last_name f.notes → mark ≡ None
+  no_name mark e = e ∙ ap last_name plain.notes

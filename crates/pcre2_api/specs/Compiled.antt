@@ -1,0 +1,54 @@
+-- A compiled pattern, and what a pattern is compiled to (pcre2api, "Compiling a pattern").
+use Rattle.std.specs.Prelude.{◌≡◌, ℕ, false, if◌then◌else◌, List, Result, Ok, Err}
+use Rattle.pat_tree.specs.declared.options.Options.{Options}
+use Rattle.pat_tree.specs.Parts.{TreeParts, tree_of}
+use Rattle.pat_tree.specs.Sound.{greatest, group_numbers}
+use Rattle.token_parts.specs.declared.fault.Fault.{Fault}
+use Rattle.pat_build.specs.declared.error.ReadError.{ReadError}
+use Rattle.pat_build.specs.declared.error.ReadError.TheVariants as reading
+use Rattle.pat_build.specs.Reading.{Parsed, read}
+use Rattle.pat_build.specs.Machine.{parsed_of}
+use Rattle.char_sets.specs.Table.{CharSet, IsTableOf}
+use Rattle.pat_check.specs.declared.facts.Facts.{Facts}
+use Rattle.pat_check.specs.Built.{IsBuilt}
+use Rattle.pat_check.specs.Lengths.{can_be_empty}
+use Rattle.pat_check.specs.Nodes.{tests_before}
+use Rattle.frame_machine.specs.Ready.{AreFactsOf}
+use Rattle.pcre2_api.specs.declared.code.Info.{Info}
+use Rattle.pcre2_api.specs.declared.error.CompileError.{CompileError}
+use Rattle.pcre2_api.specs.declared.error.CompileError.TheVariants.{Bad, Memory}
+
+pub record CodeParts : Type 0 where
+  -- the pattern as it was given
+  pub text : List ℕ
+  pub tree : TreeParts
+  pub classes : List CharSet
+  pub facts : Facts
+
+-- The table and the facts are those of the tree, which has the forms that are searched, over bytes.
+pub record IsCode (code : CodeParts) : Type 0 where
+  pub table : IsTableOf code.tree code.classes
+  pub facts : AreFactsOf code.tree code.facts
+  pub bytes : code.tree.options.utf ≡ false
+  pub built : IsBuilt (tree_of code.tree)
+
+-- what the text is read as is the code's tree
+abbrev pub Compiles : Options → List ℕ → CodeParts → Type 0
+Compiles options text code = (code.text ≡ text) × (read options text ≡ Ok (parsed_of code.tree))
+
+-- the first fault of the text; want of memory may come at any time
+abbrev pub IsCompileError : Result Parsed Fault → CompileError → Type 0
+IsCompileError reads (Bad number at) = reads ≡ Err (record { number = number; at = at })
+IsCompileError reads Memory = Unit {0}
+
+abbrev pub compile_error_of : ReadError → CompileError
+compile_error_of (reading.Bad number at) = Bad number at
+compile_error_of reading.Memory = Memory
+
+-- A match looks at most so far before its start: at one character for `\b`, `\B` and `\A`.
+abbrev pub info_of : CodeParts → Info
+info_of code = record {
+  groups = greatest (group_numbers code.tree.nodes);
+  max_lookbehind = if tests_before (tree_of code.tree) then 1 else 0;
+  can_be_empty = can_be_empty code.tree.options.match_unset_backref (tree_of code.tree);
+}

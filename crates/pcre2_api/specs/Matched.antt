@@ -1,0 +1,54 @@
+-- What a match of a compiled pattern answers (pcre2api, "Matching a pattern: the traditional function").
+use Rattle.std.specs.Prelude.{◌≡◌, ℕ, ◌<◌, ◌≤◌, ℤ, List, All, length, None}
+use Rattle.pat_tree.specs.declared.options.MatchOptions.{MatchOptions}
+use Rattle.pat_tree.specs.Sound.{greatest, group_numbers}
+use Rattle.pcre_io.specs.declared.callouts.Block.{Block}
+use Rattle.frame_machine.specs.Setting.{Setting}
+use Rattle.frame_machine.specs.Ready.{setting_in}
+use Rattle.frame_machine.specs.PlaceAnswer as place
+use Rattle.frame_machine.specs.PlaceAnswer.{Outcome, last_name}
+use Rattle.match_drive.specs.MatchAnswer as meant
+use Rattle.match_drive.specs.MatchAnswer.{match_answer}
+use Rattle.match_drive.specs.Forward.{IsPlaced, IsWithin}
+use Rattle.pcre2_api.specs.Compiled.{CodeParts}
+use Rattle.pcre2_api.specs.declared.error.MatchError.{MatchError}
+use Rattle.pcre2_api.specs.declared.error.MatchError.TheVariants as told
+
+-- what the search of a match is about; the blocks of callouts are answered so
+abbrev pub search_of : CodeParts → MatchOptions → List ℕ → ℕ → (Block → ℤ) → Setting
+search_of code matching subject start answers = setting_in code.tree matching subject start answers
+
+-- a match of a compiled pattern in a subject
+pub record MatchParts : Type 0 where
+  pub code : CodeParts
+  pub subject : List ℕ
+  pub outcome : Outcome
+
+-- The text and the captures lie in the subject, there is a register for each group, and no mark.
+pub record AreParts (f : MatchParts) : Type 0 where
+  pub ordered : f.outcome.keep ≤ f.outcome.to
+  pub within : f.outcome.to ≤ length f.subject
+  pub caps : All (IsWithin (length f.subject)) f.outcome.caps
+  pub groups : length f.outcome.caps ≡ greatest (group_numbers f.code.tree.nodes)
+  pub no_mark : f.outcome.mark ≡ None
+
+-- it is what the search answers, and it lies in the subject
+pub record IsFound (g : Setting) (f : MatchParts) : Type 0 where
+  pub begun : g.start ≤ length g.subject
+  pub answer : (match_answer g).answer ≡ meant.Match f.outcome
+  pub placed : IsPlaced g f.outcome
+
+-- Why there is no match: each refusal has its cause. Of a subject of bytes, without partial matching, for the forms that are
+-- built there is no fault of UTF, no partial match, no loop of calls, no callout and no mark. Want of memory may come at
+-- any time.
+abbrev pub IsMatchError : Setting → MatchError → Type 0
+IsMatchError g told.BadOffset = length g.subject < g.start
+IsMatchError g (told.BadUtf at) = ⊥
+IsMatchError g told.BadUtfOffset = ⊥
+IsMatchError g (told.NoMatch mark) = (g.start ≤ length g.subject) × ((match_answer g).answer ≡ meant.NoMatch) × (mark ≡ None)
+IsMatchError g (told.Partial start end mark) = ⊥
+IsMatchError g told.MatchLimit = (g.start ≤ length g.subject) × ((match_answer g).answer ≡ meant.Error place.MatchLimit)
+IsMatchError g told.FrameLimit = (g.start ≤ length g.subject) × ((match_answer g).answer ≡ meant.Error place.FrameLimit)
+IsMatchError g told.RecurseLoop = ⊥
+IsMatchError g (told.Callout n) = ⊥
+IsMatchError g told.Memory = Unit {0}

@@ -1,0 +1,184 @@
+//! A compiled pattern.
+ghost use Rattle.std.specs.Prelude.{◌≡◌, ◌≤◌, ◌<◌, IfOk, IfErr, length, max, slice_get};
+ghost use Rattle.std.specs.Option.{option_copied};
+ghost use Rattle.pat_tree.specs.declared.options.PartialMode.TheVariants.{Off};
+ghost use Rattle.pat_build.specs.Reading.{read};
+ghost use Rattle.pcre_io.specs.declared.callouts.Block.{Block};
+ghost use Rattle.pcre2_api.specs.Compiled.{Compiles, IsCompileError, info_of};
+ghost use Rattle.match_drive.specs.Answer.{IsMatchAnswer};
+ghost use Rattle.match_drive.specs.Forward.{IsPlainFound};
+ghost use Rattle.match_drive.specs.MatchAnswer.{match_answer};
+ghost use Rattle.pcre2_api.specs.Matched.{search_of, IsFound, IsMatchError};
+
+use crate::error::{CompileError, MatchError};
+use crate::found::{Found, Text};
+use char_sets::ClassTable;
+use frame_machine::{Ready, Scratch};
+use match_drive::{MatchAnswer, search};
+use match_items::View;
+use pat_build::{read, what_is_read_can_be_searched};
+use pat_check::{Facts, check};
+use pat_tree::{MatchOptions, NameTable, Options, Tree};
+use pcre_io::Callouts;
+use std::alloc::Global;
+use std::marker::Model;
+
+/// A compiled pattern (pcre2api, "Compiling a pattern"). It serves any number of matches, and no match changes it.
+#[derive(Drop)]
+pub struct Code {
+    text: Vec<u8>,
+    tree: Tree,
+    classes: ClassTable,
+    facts: Facts,
+}
+
+/// What is told of a compiled pattern (pcre2api, "Information about a compiled pattern").
+#[derive(Clone, Copy, Debug, PartialEq, Eq)]
+pub struct Info {
+    /// The greatest number of a capturing group (PCRE2_INFO_CAPTURECOUNT).
+    pub groups: u32,
+    /// How many characters before a place a match may look at (PCRE2_INFO_MAXLOOKBEHIND).
+    pub max_lookbehind: u32,
+    /// Whether an empty text can match (PCRE2_INFO_MATCHEMPTY).
+    pub can_be_empty: bool,
+}
+
+impl Model for Code {
+    ghost use Rattle.pcre2_api.specs.Compiled.{CodeParts, IsCode};
+
+    ghost Value = { CodeParts };
+
+    ghost view = { λ code. record { text = code.text.items; tree = code.tree; classes = code.classes; facts = code.facts } };
+
+    ghost invariant = { λ code. IsCode (record { text = code.text.items; tree = code.tree; classes = code.classes; facts = code.facts }) };
+}
+
+impl Code {
+    /// Compiles a pattern (pcre2_compile). Refuses it with the first fault of pcre2pattern's rules, counted in bytes from
+    /// the pattern's start, or for want of memory.
+    pub fn compile(alloc: Global, pattern: &[u8], options: Options) -> Result<Code, CompileError>
+        ensures compiled { IfOk result (Compiles options pattern.now) }
+        ensures refused { IfErr result (IsCompileError (read options pattern.now)) }
+    {
+        let tree = read(alloc, pattern, options)?;
+        // so the tree has the forms of which a table and facts are made
+        what_is_read_can_be_searched();
+        let classes = ClassTable::build(alloc, &tree)?;
+        let facts = check(alloc, &tree, &classes)?;
+        let text = pattern.to_vec(alloc)?;
+        Ok(Code {
+            text,
+            tree,
+            classes,
+            facts,
+        })
+    }
+
+    /// Looks for a match from a start on (pcre2_match). Places are in bytes. Any workspace serves, new or used; the
+    /// captures of the match are read there as long as it is borrowed. Needs a subject of fewer than 4,294,967,295 bytes,
+    /// and no partial matching.
+    pub fn match_at<'a, C: Callouts>(
+        &'a self,
+        subject: &'a [u8],
+        start: usize,
+        options: &MatchOptions,
+        scratch: &'a mut Scratch,
+        calls: &mut C,
+    ) -> Result<Found<'a>, MatchError>
+        requires short { length subject.now < 4294967295 }
+        requires off { options.now.«partial» ≡ Off }
+        ensures found { IfOk result (IsFound (search_of self.now options.now subject.now start (C.answers calls.old))) }
+        ensures code { IfOk result (λ f. (f.code ≡ self.now) × (f.subject ≡ subject.now)) }
+        ensures refused { IfErr result (IsMatchError (search_of self.now options.now subject.now start (C.answers calls.old))) }
+        ensures rule { (block : Block) → C.answers calls.new block ≡ C.answers calls.old block }
+        ensures seen { C.seen calls.new ≡ C.seen calls.old }
+    {
+        if start > subject.len() {
+            return Err(MatchError::BadOffset);
+        }
+        match self.search(subject, start, options, scratch, calls) {
+            MatchAnswer::Match { keep, to, mark } => {
+                Ok(Found::of(self, subject, scratch, Text { keep, to, mark }))
+            }
+            MatchAnswer::NoMatch { mark } => Err(MatchError::NoMatch { mark }),
+            MatchAnswer::Partial { start, mark } => Err(MatchError::Partial {
+                start,
+                end: subject.len(),
+                mark,
+            }),
+            MatchAnswer::MatchLimit => Err(MatchError::MatchLimit),
+            MatchAnswer::FrameLimit => Err(MatchError::FrameLimit),
+            MatchAnswer::RecurseLoop => Err(MatchError::RecurseLoop),
+            MatchAnswer::Callout(n) => Err(MatchError::Callout(n)),
+            MatchAnswer::Memory => Err(MatchError::Memory),
+        }
+    }
+
+    /// The search of a match whose start lies in the subject.
+    fn search<C: Callouts>(
+        &self,
+        subject: &[u8],
+        start: usize,
+        options: &MatchOptions,
+        scratch: &mut Scratch,
+        calls: &mut C,
+    ) -> MatchAnswer
+        requires start { start ≤ length subject.now }
+        requires short { length subject.now < 4294967295 }
+        requires off { options.now.«partial» ≡ Off }
+        ensures answer { IsMatchAnswer result scratch.new.spans (match_answer (search_of self.now options.now subject.now start (C.answers calls.old))) }
+        ensures plain { IsPlainFound (search_of self.now options.now subject.now start (C.answers calls.old)) (match_answer (search_of self.now options.now subject.now start (C.answers calls.old))) }
+        ensures peak { scratch.new.peak ≤ max scratch.old.peak options.now.frame_limit }
+        ensures rule { (block : Block) → C.answers calls.new block ≡ C.answers calls.old block }
+        ensures seen { C.seen calls.new ≡ C.seen calls.old }
+    {
+        let ready = Ready {
+            tree: &self.tree,
+            classes: &self.classes,
+            facts: &self.facts,
+        };
+        let view = View {
+            subject,
+            start,
+            options: self.tree.options(),
+            matching: options,
+        };
+        search(&ready, &view, scratch, calls)
+    }
+
+    /// The names of groups.
+    pub(crate) fn names(&self) -> &NameTable
+        ensures { result.now ≡ self.now.tree.names }
+    {
+        self.tree.names()
+    }
+
+    /// What is told of the pattern (pcre2_pattern_info). Takes no memory.
+    pub fn info(&self) -> Info
+        ensures { result ≡ info_of self.now }
+    {
+        Info {
+            groups: self.tree.groups(),
+            max_lookbehind: u32::from(self.facts.tests_before),
+            can_be_empty: self.facts.can_be_empty,
+        }
+    }
+
+    /// The options of the pattern, those that it sets at its start included.
+    pub fn options(&self) -> &Options
+        ensures { result.now ≡ self.now.tree.options }
+    {
+        self.tree.options()
+    }
+
+    /// The name of this number that a mark was given, where there is one (pcre2_get_mark).
+    pub fn mark_name(&self, id: u32) -> Option<&[u8]>
+        ensures { option_copied result ≡ slice_get self.now.tree.verb_names id }
+    {
+        if id < self.tree.verb_names() {
+            Some(self.tree.verb_name(id))
+        } else {
+            None
+        }
+    }
+}

@@ -1,0 +1,143 @@
+//! A match.
+ghost use Rattle.std.specs.Prelude.{◌≡◌};
+ghost use Rattle.std.specs.Option.{option_copied};
+ghost use Rattle.pcre2_api.specs.Captured.{span_of, group_of, named_of, top_of, mark_of};
+ghost use Rattle.pcre2_api.specs.Matched.{AreParts};
+
+use crate::code::Code;
+use frame_machine::Scratch;
+use frame_store::Span;
+use std::marker::Model;
+
+/// A match, with its captures (pcre2api, "How pcre2_match() returns a string and captured substrings"). All places are in
+/// bytes of the subject.
+#[derive(Drop)]
+pub struct Found<'a> {
+    code: &'a Code,
+    subject: &'a [u8],
+    scratch: &'a Scratch,
+    text: Text,
+}
+
+/// The text of a match, and its mark.
+#[derive(Clone, Copy)]
+pub(crate) struct Text {
+    pub keep: usize,
+    pub to: usize,
+    pub mark: Option<u32>,
+}
+
+impl<'a> Model for Found<'a> {
+    ghost use Rattle.pcre2_api.specs.Matched.{MatchParts, AreParts};
+
+    ghost Value = { MatchParts };
+
+    ghost view = { λ f. record {
+      code = f.code.now;
+      subject = f.subject.now;
+      outcome = record { keep = f.text.keep; to = f.text.to; mark = f.text.mark; caps = f.scratch.now.spans };
+    } };
+
+    ghost invariant = { λ f. AreParts (record {
+      code = f.code.now;
+      subject = f.subject.now;
+      outcome = record { keep = f.text.keep; to = f.text.to; mark = f.text.mark; caps = f.scratch.now.spans };
+    }) };
+}
+
+impl<'a> Found<'a> {
+    /// A match with this text, whose captures are in the workspace.
+    pub(crate) fn of(
+        code: &'a Code,
+        subject: &'a [u8],
+        scratch: &'a Scratch,
+        text: Text,
+    ) -> Found<'a>
+        requires { AreParts (record { code = code.now; subject = subject.now; outcome = record { keep = text.keep; to = text.to; mark = text.mark; caps = scratch.now.spans } }) }
+        ensures { result ≡ record { code = code.now; subject = subject.now; outcome = record { keep = text.keep; to = text.to; mark = text.mark; caps = scratch.now.spans } } }
+    {
+        Found {
+            code,
+            subject,
+            scratch,
+            text,
+        }
+    }
+
+    /// Where the match begins: at its start place, or where `\K` was met last.
+    pub fn start(&self) -> usize
+        ensures { result ≡ self.now.outcome.keep }
+    {
+        self.text.keep
+    }
+
+    /// Where the match ends.
+    pub fn end(&self) -> usize
+        ensures { result ≡ self.now.outcome.to }
+    {
+        self.text.to
+    }
+
+    /// The place of a group's text. Group 0 is the whole match. None where there is no such group, or it is unset.
+    pub fn span(&self, n: u32) -> Option<Span>
+        ensures { result ≡ span_of self.now.outcome n }
+    {
+        if n == 0 {
+            return Some(Span {
+                from: self.text.keep as u64,
+                to: self.text.to as u64,
+            });
+        }
+        self.scratch.span(n)
+    }
+
+    /// A group's text. Group 0 is the whole match. None where there is no such group, or it is unset.
+    pub fn group(&self, n: u32) -> Option<&'a [u8]>
+        ensures { option_copied result ≡ group_of self.now n }
+    {
+        match self.span(n) {
+            Some(span) => Some(&self.subject[span.from as usize..span.to as usize]),
+            None => None,
+        }
+    }
+
+    /// The text of the first set group of this name (pcre2_substring_get_byname). None where there is no such group, or
+    /// none of them is set.
+    pub fn group_named(&self, name: &[u8]) -> Option<&'a [u8]>
+        ensures { option_copied result ≡ named_of self.now name.now }
+    {
+        let names = self.code.names();
+        for i in 0..names.len() {
+            if names.name(i) == name {
+                if let Some(text) = self.group(u32::from(names.group(i))) {
+                    return Some(text);
+                }
+            }
+        }
+        None
+    }
+
+    /// The greatest number of a set group, 0 where none is set.
+    pub fn top(&self) -> u32
+        ensures { result ≡ top_of self.now.outcome }
+    {
+        let mut n = self.code.info().groups;
+        while n > 0 {
+            if self.scratch.span(n).is_some() {
+                return n;
+            }
+            n -= 1;
+        }
+        0
+    }
+
+    /// The last name on the match's path (pcre2pattern, "Verbs that act immediately"; pcre2_get_mark).
+    pub fn mark(&self) -> Option<&'a [u8]>
+        ensures { option_copied result ≡ mark_of self.now }
+    {
+        match self.text.mark {
+            Some(id) => self.code.mark_name(id),
+            None => None,
+        }
+    }
+}
