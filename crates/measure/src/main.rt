@@ -3,19 +3,21 @@
 
 mod classes;
 mod lines;
+mod search;
 
 use byte_lanes::EndKind;
 use classes::{Class, Sample};
 use std::{env, io};
 
 // What the words ask for.
-enum Asked {
+enum Asked<'a> {
     Nothing,
+    Search(&'a str),
     Lines(EndKind),
     Classes(Sample),
 }
 
-fn make_asked(words: &[String]) -> Asked {
+fn make_asked(words: &[String]) -> Asked<'_> {
     match words {
         [_, what, kind] if what.as_str() == "lines" && kind.as_str() == "lf" => {
             Asked::Lines(EndKind::Lf)
@@ -23,6 +25,7 @@ fn make_asked(words: &[String]) -> Asked {
         [_, what, kind] if what.as_str() == "lines" && kind.as_str() == "anycrlf" => {
             Asked::Lines(EndKind::AnyCrLf)
         }
+        [_, what, pattern] if what.as_str() == "search" => Asked::Search(pattern.as_str()),
         [_, what, class, way] if what.as_str() == "classes" => {
             make_sample(class.as_str(), way.as_str())
         }
@@ -30,7 +33,7 @@ fn make_asked(words: &[String]) -> Asked {
     }
 }
 
-fn make_sample(class: &str, way: &str) -> Asked {
+fn make_sample<'a>(class: &str, way: &str) -> Asked<'a> {
     let by_array = way == "array";
     let class = match class {
         "word" => Class::Word,
@@ -48,6 +51,12 @@ fn main(rt: HostRuntime) -> io::Result<()> {
     }
     match make_asked(words.as_slice()) {
         Asked::Nothing => Ok(()),
+        Asked::Search(pattern) => {
+            match search::count_matches(rt.alloc(), pattern, rt.stdin()) {
+                Some(count) => println!(rt; "{count}"),
+                None => println!(rt; "the pattern is not compiled"),
+            }
+        }
         Asked::Lines(kind) => {
             let count = lines::count_lines(rt.alloc(), kind, rt.stdin());
             println!(rt; "{count}")
