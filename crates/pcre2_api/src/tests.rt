@@ -14,170 +14,6 @@ use std::test::Fail;
 /// and `~` for an unset one; none where there is no match.
 type Row = (&'static [u8], &'static [u8], Option<&'static [u8]>);
 
-// Each answer is that of the C library, 10.42.
-const ROWS: [Row; 144] = [
-    (b"colou?r", b"the color", Some(b"color")),
-    (b"colou?r", b"colour", Some(b"colour")),
-    (b"colou?r", b"colr", None),
-    (b"colou?r", b"ccolor", Some(b"color")),
-    (b"(a)(b)?c", b"ac", Some(b"ac|a")),
-    (b"(a)(b)?c", b"abc", Some(b"abc|a|b")),
-    (b"(a)(b)?c", b"xxabc", Some(b"abc|a|b")),
-    (b"(a)(b)?c", b"b", None),
-    (b"(?:ab)*c", b"ababc", Some(b"ababc")),
-    (b"(?:ab)*c", b"c", Some(b"c")),
-    (b"(?:ab)*c", b"abab", None),
-    (b"(a*)*", b"aab", Some(b"aa|")),
-    (b"(a*)*", b"b", Some(b"|")),
-    (b"(a*)+", b"aab", Some(b"aa|")),
-    (b"(a*)+", b"b", Some(b"|")),
-    (b"foo\\Kbar", b"foobar", Some(b"bar")),
-    (b"foo\\Kbar", b"foo", None),
-    (
-        b"(\\w+)@(\\w+)\\.com",
-        b"me@site.com",
-        Some(b"me@site.com|me|site"),
-    ),
-    (
-        b"(\\w+)@(\\w+)\\.com",
-        b"x me@site.org you@other.com",
-        Some(b"you@other.com|you|other"),
-    ),
-    (b"(\\w+)@(\\w+)\\.com", b"@.com", None),
-    (b"[a-f0-9]{5}[0-9]", b"abcdef12345", Some(b"bcdef1")),
-    (b"[a-f0-9]{5}[0-9]", b"abcde", None),
-    (b"[a-f0-9]{5}[0-9]", b"12a456", Some(b"12a456")),
-    (b"^\\s*fn\\s+(\\w+)", b"fn main", Some(b"fn main|main")),
-    (b"^\\s*fn\\s+(\\w+)", b"fn", None),
-    (b"^\\s*fn\\s+(\\w+)", b"let fn x", None),
-    (b"(a|ab)(c|bcd)(d*)", b"abcd", Some(b"abcd|a|bcd|")),
-    (b"(a|ab)(c|bcd)(d*)", b"acd", Some(b"acd|a|c|d")),
-    (b"(a|ab)(c|bcd)(d*)", b"abd", None),
-    (b"(a+|b)*?c", b"aabac", Some(b"aabac|a")),
-    (b"(a+|b)*?c", b"c", Some(b"c")),
-    (b"(a+|b)*?c", b"aab", None),
-    (b"(?:(a)|b)*", b"aba", Some(b"aba|a")),
-    (b"(?:(a)|b)*", b"bb", Some(b"bb")),
-    (b"(?:(a)|b)*", b"c", Some(b"")),
-    (b"(a)|(b)", b"a", Some(b"a|a")),
-    (b"(a)|(b)", b"b", Some(b"b|~|b")),
-    (b"(a)|(b)", b"c", None),
-    (b"^(.)(.)?$", b"a", Some(b"a|a")),
-    (b"^(.)(.)?$", b"ab", Some(b"ab|a|b")),
-    (b"^(.)(.)?$", b"abc", None),
-    (b"(.)\\1", b"abba", Some(b"bb|b")),
-    (b"(.)\\1", b"abc", None),
-    (b"(.)\\1", b"aa", Some(b"aa|a")),
-    (b"(a)(b)\\2\\1", b"abba", Some(b"abba|a|b")),
-    (b"(a)(b)\\2\\1", b"abab", None),
-    (b"(a)?\\1b", b"aab", Some(b"aab|a")),
-    (b"(a)?\\1b", b"b", None),
-    (b"(a)?\\1b", b"ab", None),
-    (b"a{2,3}", b"a", None),
-    (b"a{2,3}", b"aa", Some(b"aa")),
-    (b"a{2,3}", b"aaaa", Some(b"aaa")),
-    (b"a{2,3}?b", b"aaab", Some(b"aaab")),
-    (b"a{2,3}?b", b"ab", None),
-    (b"a{,2}", b"a{,2}", Some(b"a{,2}")),
-    (b"a{,2}", b"aa", None),
-    (b"x{0}y", b"xy", Some(b"y")),
-    (b"x{0}y", b"y", Some(b"y")),
-    (b"[^a-c]+", b"abcdef", Some(b"def")),
-    (b"[^a-c]+", b"abc", None),
-    (b"[^a-c]+", b"", None),
-    (b"[[:digit:]]+", b"ab123c", Some(b"123")),
-    (b"[[:digit:]]+", b"abc", None),
-    (b"[\\w-]+", b"-a_b-", Some(b"-a_b-")),
-    (b"[\\w-]+", b"!", None),
-    (b"[]a]+", b"a]]b", Some(b"a]]")),
-    (b"[]a]+", b"b", None),
-    (b"[a\\]]+", b"a]]b", Some(b"a]]")),
-    (b"[a\\]]+", b"b", None),
-    (b"\\bfoo\\b", b"foo", Some(b"foo")),
-    (b"\\bfoo\\b", b"a foo b", Some(b"foo")),
-    (b"\\bfoo\\b", b"food", None),
-    (b"\\Bo", b"foo", Some(b"o")),
-    (b"\\Bo", b"o", None),
-    (b"\\d+\\D+\\d+", b"12ab34", Some(b"12ab34")),
-    (b"\\d+\\D+\\d+", b"1234", None),
-    (b"\\Aab", b"ab", Some(b"ab")),
-    (b"\\Aab", b"xab", None),
-    (b"ab\\z", b"ab", Some(b"ab")),
-    (b"ab\\z", b"abx", None),
-    (b"ab\\Z", b"ab", Some(b"ab")),
-    (b"ab\\Z", b"xab", Some(b"ab")),
-    (b"(?i)AbC", b"xABC", Some(b"ABC")),
-    (b"(?i)AbC", b"abd", None),
-    (b"(?i:a)b", b"Ab", Some(b"Ab")),
-    (b"(?i:a)b", b"AB", None),
-    (b"a(?i)b|c", b"aB", Some(b"aB")),
-    (b"a(?i)b|c", b"C", Some(b"C")),
-    (b"a(?i)b|c", b"A", None),
-    (b"(?x) a b # c", b"ab", Some(b"ab")),
-    (b"(?x) a b # c", b"a b", None),
-    (b"(?s)a.b", b"axb", Some(b"axb")),
-    (b"(?U)a+", b"aaa", Some(b"a")),
-    (b"(?U)a+?", b"aaa", Some(b"aaa")),
-    (b"(?<n>a)(?<m>b)\\k<n>", b"aba", Some(b"aba|a|b")),
-    (b"(?<n>a)(?<m>b)\\k<n>", b"abb", None),
-    (
-        b"(?J)(?:(?<n>foo)|(?<n>bar))\\k<n>",
-        b"barbar",
-        Some(b"barbar|~|bar"),
-    ),
-    (
-        b"(?J)(?:(?<n>foo)|(?<n>bar))\\k<n>",
-        b"foofoo",
-        Some(b"foofoo|foo"),
-    ),
-    (b"(?J)(?:(?<n>foo)|(?<n>bar))\\k<n>", b"foobar", None),
-    (b"\\x41\\102\\o{103}", b"ABC", Some(b"ABC")),
-    (b"\\x41\\102\\o{103}", b"abc", None),
-    (b"\\Qa.b\\E+", b"a.bbb", Some(b"a.bbb")),
-    (b"\\Qa.b\\E+", b"axb", None),
-    (b"\\N+", b"abc", Some(b"abc")),
-    (b"a|b|", b"b", Some(b"b")),
-    (b"a|b|", b"c", Some(b"")),
-    (b"a|b|", b"", Some(b"")),
-    (b"(|a)+", b"aaa", Some(b"|")),
-    (b"(|a)+", b"b", Some(b"|")),
-    (b"(a|)+b", b"aab", Some(b"aab|")),
-    (b"(a|)+b", b"b", Some(b"b|")),
-    (b"((a)|(b))*", b"ab", Some(b"ab|b|a|b")),
-    (b"((a)|(b))*", b"ba", Some(b"ba|a|a|b")),
-    (b"((((a))))", b"a", Some(b"a|a|a|a|a")),
-    (b"(?:a(b)?)*", b"abaab", Some(b"abaab|b")),
-    (b"(?:a(b)?)*", b"a", Some(b"a")),
-    (b"(x)*?y", b"xxy", Some(b"xxy|x")),
-    (b"(x)*?y", b"y", Some(b"y")),
-    (b".*b", b"aabab", Some(b"aabab")),
-    (b".*b", b"aaa", None),
-    (b".*?b", b"aabab", Some(b"aab")),
-    (b".*?b", b"aaa", None),
-    (b"^", b"a", Some(b"")),
-    (b"^", b"", Some(b"")),
-    (b"$", b"a", Some(b"")),
-    (b"$", b"", Some(b"")),
-    (b"a$", b"ba", Some(b"a")),
-    (b"a$", b"ab", None),
-    (b"^.*$", b"abc", Some(b"abc")),
-    (b"^.*$", b"", Some(b"")),
-    (b"[a-z]+?[0-9]", b"abc1", Some(b"abc1")),
-    (b"[a-z]+?[0-9]", b"ABC1", None),
-    (b"(ab|cd){2}(e)?", b"abcde", Some(b"abcde|cd|e")),
-    (b"(ab|cd){2}(e)?", b"cdab", Some(b"cdab|ab")),
-    (b"(ab|cd){2}(e)?", b"ab", None),
-    (b"\\/", b"a/b", Some(b"/")),
-    (b"(\\d+)-(\\d+)", b"12-34", Some(b"12-34|12|34")),
-    (b"(\\d+)-(\\d+)", b"1-", None),
-    (b"([a-c]+)([b-d]+)", b"abcd", Some(b"abcd|abc|d")),
-    (b"([a-c]+)([b-d]+)", b"ad", Some(b"ad|a|d")),
-    (b"[\\x00-\\x20]", b"a b", Some(b" ")),
-    (b"[\\x00-\\x20]", b"ab", None),
-    (b"(?:)", b"a", Some(b"")),
-    (b"\\Ga", b"ba", None),
-];
-
 // The texts of the groups of the first match, joined as in a row.
 fn groups(
     rt: &impl Abort,
@@ -225,9 +61,223 @@ fn answers(
     Ok(())
 }
 
+// The answers of these tables are those of the C library, 10.42.
+
 #[test]
-fn first_matches_are_those_of_the_c_library(rt: HostRuntime) -> Result<(), Fail> {
-    for row in ROWS {
+fn common_patterns_match(rt: HostRuntime) -> Result<(), Fail> {
+    let rows: [Row; 24] = [
+        (b"colou?r", b"the color", Some(b"color")),
+        (b"colou?r", b"colour", Some(b"colour")),
+        (b"colou?r", b"colr", None),
+        (b"colou?r", b"ccolor", Some(b"color")),
+        (b"(a)(b)?c", b"ac", Some(b"ac|a")),
+        (b"(a)(b)?c", b"abc", Some(b"abc|a|b")),
+        (b"(a)(b)?c", b"xxabc", Some(b"abc|a|b")),
+        (b"(a)(b)?c", b"b", None),
+        (b"(?:ab)*c", b"ababc", Some(b"ababc")),
+        (b"(?:ab)*c", b"c", Some(b"c")),
+        (b"(?:ab)*c", b"abab", None),
+        (b"(a*)*", b"aab", Some(b"aa|")),
+        (b"(a*)*", b"b", Some(b"|")),
+        (b"(a*)+", b"aab", Some(b"aa|")),
+        (b"(a*)+", b"b", Some(b"|")),
+        (b"foo\\Kbar", b"foobar", Some(b"bar")),
+        (b"foo\\Kbar", b"foo", None),
+        (
+            b"(\\w+)@(\\w+)\\.com",
+            b"me@site.com",
+            Some(b"me@site.com|me|site"),
+        ),
+        (
+            b"(\\w+)@(\\w+)\\.com",
+            b"x me@site.org you@other.com",
+            Some(b"you@other.com|you|other"),
+        ),
+        (b"(\\w+)@(\\w+)\\.com", b"@.com", None),
+        (b"[a-f0-9]{5}[0-9]", b"abcdef12345", Some(b"bcdef1")),
+        (b"[a-f0-9]{5}[0-9]", b"abcde", None),
+        (b"[a-f0-9]{5}[0-9]", b"12a456", Some(b"12a456")),
+        (b"^\\s*fn\\s+(\\w+)", b"fn main", Some(b"fn main|main")),
+    ];
+    for row in rows {
+        answers(&rt, rt.alloc(), &row, 0, &MatchOptions::PLAIN)?;
+    }
+    Ok(())
+}
+
+#[test]
+fn captures_and_references_match(rt: HostRuntime) -> Result<(), Fail> {
+    let rows: [Row; 24] = [
+        (b"^\\s*fn\\s+(\\w+)", b"fn", None),
+        (b"^\\s*fn\\s+(\\w+)", b"let fn x", None),
+        (b"(a|ab)(c|bcd)(d*)", b"abcd", Some(b"abcd|a|bcd|")),
+        (b"(a|ab)(c|bcd)(d*)", b"acd", Some(b"acd|a|c|d")),
+        (b"(a|ab)(c|bcd)(d*)", b"abd", None),
+        (b"(a+|b)*?c", b"aabac", Some(b"aabac|a")),
+        (b"(a+|b)*?c", b"c", Some(b"c")),
+        (b"(a+|b)*?c", b"aab", None),
+        (b"(?:(a)|b)*", b"aba", Some(b"aba|a")),
+        (b"(?:(a)|b)*", b"bb", Some(b"bb")),
+        (b"(?:(a)|b)*", b"c", Some(b"")),
+        (b"(a)|(b)", b"a", Some(b"a|a")),
+        (b"(a)|(b)", b"b", Some(b"b|~|b")),
+        (b"(a)|(b)", b"c", None),
+        (b"^(.)(.)?$", b"a", Some(b"a|a")),
+        (b"^(.)(.)?$", b"ab", Some(b"ab|a|b")),
+        (b"^(.)(.)?$", b"abc", None),
+        (b"(.)\\1", b"abba", Some(b"bb|b")),
+        (b"(.)\\1", b"abc", None),
+        (b"(.)\\1", b"aa", Some(b"aa|a")),
+        (b"(a)(b)\\2\\1", b"abba", Some(b"abba|a|b")),
+        (b"(a)(b)\\2\\1", b"abab", None),
+        (b"(a)?\\1b", b"aab", Some(b"aab|a")),
+        (b"(a)?\\1b", b"b", None),
+    ];
+    for row in rows {
+        answers(&rt, rt.alloc(), &row, 0, &MatchOptions::PLAIN)?;
+    }
+    Ok(())
+}
+
+#[test]
+fn quantifiers_and_classes_match(rt: HostRuntime) -> Result<(), Fail> {
+    let rows: [Row; 24] = [
+        (b"(a)?\\1b", b"ab", None),
+        (b"a{2,3}", b"a", None),
+        (b"a{2,3}", b"aa", Some(b"aa")),
+        (b"a{2,3}", b"aaaa", Some(b"aaa")),
+        (b"a{2,3}?b", b"aaab", Some(b"aaab")),
+        (b"a{2,3}?b", b"ab", None),
+        (b"a{,2}", b"a{,2}", Some(b"a{,2}")),
+        (b"a{,2}", b"aa", None),
+        (b"x{0}y", b"xy", Some(b"y")),
+        (b"x{0}y", b"y", Some(b"y")),
+        (b"[^a-c]+", b"abcdef", Some(b"def")),
+        (b"[^a-c]+", b"abc", None),
+        (b"[^a-c]+", b"", None),
+        (b"[[:digit:]]+", b"ab123c", Some(b"123")),
+        (b"[[:digit:]]+", b"abc", None),
+        (b"[\\w-]+", b"-a_b-", Some(b"-a_b-")),
+        (b"[\\w-]+", b"!", None),
+        (b"[]a]+", b"a]]b", Some(b"a]]")),
+        (b"[]a]+", b"b", None),
+        (b"[a\\]]+", b"a]]b", Some(b"a]]")),
+        (b"[a\\]]+", b"b", None),
+        (b"\\bfoo\\b", b"foo", Some(b"foo")),
+        (b"\\bfoo\\b", b"a foo b", Some(b"foo")),
+        (b"\\bfoo\\b", b"food", None),
+    ];
+    for row in rows {
+        answers(&rt, rt.alloc(), &row, 0, &MatchOptions::PLAIN)?;
+    }
+    Ok(())
+}
+
+#[test]
+fn assertions_and_settings_match(rt: HostRuntime) -> Result<(), Fail> {
+    let rows: [Row; 24] = [
+        (b"\\Bo", b"foo", Some(b"o")),
+        (b"\\Bo", b"o", None),
+        (b"\\d+\\D+\\d+", b"12ab34", Some(b"12ab34")),
+        (b"\\d+\\D+\\d+", b"1234", None),
+        (b"\\Aab", b"ab", Some(b"ab")),
+        (b"\\Aab", b"xab", None),
+        (b"ab\\z", b"ab", Some(b"ab")),
+        (b"ab\\z", b"abx", None),
+        (b"ab\\Z", b"ab", Some(b"ab")),
+        (b"ab\\Z", b"xab", Some(b"ab")),
+        (b"(?i)AbC", b"xABC", Some(b"ABC")),
+        (b"(?i)AbC", b"abd", None),
+        (b"(?i:a)b", b"Ab", Some(b"Ab")),
+        (b"(?i:a)b", b"AB", None),
+        (b"a(?i)b|c", b"aB", Some(b"aB")),
+        (b"a(?i)b|c", b"C", Some(b"C")),
+        (b"a(?i)b|c", b"A", None),
+        (b"(?x) a b # c", b"ab", Some(b"ab")),
+        (b"(?x) a b # c", b"a b", None),
+        (b"(?s)a.b", b"axb", Some(b"axb")),
+        (b"(?U)a+", b"aaa", Some(b"a")),
+        (b"(?U)a+?", b"aaa", Some(b"aaa")),
+        (b"(?<n>a)(?<m>b)\\k<n>", b"aba", Some(b"aba|a|b")),
+        (b"(?<n>a)(?<m>b)\\k<n>", b"abb", None),
+    ];
+    for row in rows {
+        answers(&rt, rt.alloc(), &row, 0, &MatchOptions::PLAIN)?;
+    }
+    Ok(())
+}
+
+#[test]
+fn names_escapes_and_empty_branches_match(rt: HostRuntime) -> Result<(), Fail> {
+    let rows: [Row; 24] = [
+        (
+            b"(?J)(?:(?<n>foo)|(?<n>bar))\\k<n>",
+            b"barbar",
+            Some(b"barbar|~|bar"),
+        ),
+        (
+            b"(?J)(?:(?<n>foo)|(?<n>bar))\\k<n>",
+            b"foofoo",
+            Some(b"foofoo|foo"),
+        ),
+        (b"(?J)(?:(?<n>foo)|(?<n>bar))\\k<n>", b"foobar", None),
+        (b"\\x41\\102\\o{103}", b"ABC", Some(b"ABC")),
+        (b"\\x41\\102\\o{103}", b"abc", None),
+        (b"\\Qa.b\\E+", b"a.bbb", Some(b"a.bbb")),
+        (b"\\Qa.b\\E+", b"axb", None),
+        (b"\\N+", b"abc", Some(b"abc")),
+        (b"a|b|", b"b", Some(b"b")),
+        (b"a|b|", b"c", Some(b"")),
+        (b"a|b|", b"", Some(b"")),
+        (b"(|a)+", b"aaa", Some(b"|")),
+        (b"(|a)+", b"b", Some(b"|")),
+        (b"(a|)+b", b"aab", Some(b"aab|")),
+        (b"(a|)+b", b"b", Some(b"b|")),
+        (b"((a)|(b))*", b"ab", Some(b"ab|b|a|b")),
+        (b"((a)|(b))*", b"ba", Some(b"ba|a|a|b")),
+        (b"((((a))))", b"a", Some(b"a|a|a|a|a")),
+        (b"(?:a(b)?)*", b"abaab", Some(b"abaab|b")),
+        (b"(?:a(b)?)*", b"a", Some(b"a")),
+        (b"(x)*?y", b"xxy", Some(b"xxy|x")),
+        (b"(x)*?y", b"y", Some(b"y")),
+        (b".*b", b"aabab", Some(b"aabab")),
+        (b".*b", b"aaa", None),
+    ];
+    for row in rows {
+        answers(&rt, rt.alloc(), &row, 0, &MatchOptions::PLAIN)?;
+    }
+    Ok(())
+}
+
+#[test]
+fn repeats_and_ends_match(rt: HostRuntime) -> Result<(), Fail> {
+    let rows: [Row; 24] = [
+        (b".*?b", b"aabab", Some(b"aab")),
+        (b".*?b", b"aaa", None),
+        (b"^", b"a", Some(b"")),
+        (b"^", b"", Some(b"")),
+        (b"$", b"a", Some(b"")),
+        (b"$", b"", Some(b"")),
+        (b"a$", b"ba", Some(b"a")),
+        (b"a$", b"ab", None),
+        (b"^.*$", b"abc", Some(b"abc")),
+        (b"^.*$", b"", Some(b"")),
+        (b"[a-z]+?[0-9]", b"abc1", Some(b"abc1")),
+        (b"[a-z]+?[0-9]", b"ABC1", None),
+        (b"(ab|cd){2}(e)?", b"abcde", Some(b"abcde|cd|e")),
+        (b"(ab|cd){2}(e)?", b"cdab", Some(b"cdab|ab")),
+        (b"(ab|cd){2}(e)?", b"ab", None),
+        (b"\\/", b"a/b", Some(b"/")),
+        (b"(\\d+)-(\\d+)", b"12-34", Some(b"12-34|12|34")),
+        (b"(\\d+)-(\\d+)", b"1-", None),
+        (b"([a-c]+)([b-d]+)", b"abcd", Some(b"abcd|abc|d")),
+        (b"([a-c]+)([b-d]+)", b"ad", Some(b"ad|a|d")),
+        (b"[\\x00-\\x20]", b"a b", Some(b" ")),
+        (b"[\\x00-\\x20]", b"ab", None),
+        (b"(?:)", b"a", Some(b"")),
+        (b"\\Ga", b"ba", None),
+    ];
+    for row in rows {
         answers(&rt, rt.alloc(), &row, 0, &MatchOptions::PLAIN)?;
     }
     Ok(())
