@@ -1,0 +1,9 @@
+//! Tables of answers that cross crates: what patterns are read as, what searches find, and how a program uses the library.
+#![tactic(auto)]
+
+#[cfg(test)]
+mod library;
+#[cfg(test)]
+mod reading;
+#[cfg(test)]
+mod searching;

@@ -1,0 +1,1 @@
+//! The library as a program uses it.

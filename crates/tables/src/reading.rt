@@ -1,0 +1,1 @@
+//! What patterns are read as, and how they are refused.
