@@ -16,7 +16,6 @@ use std::marker::Model;
 /// of searches, one after the other, and keeps the room that it has.
 #[derive(Drop)]
 pub struct Scratch {
-    alloc: Global,
     store: Store,
     registers: Registers,
     groups: u32,
@@ -44,7 +43,6 @@ impl Scratch {
         ensures { result ≡ record { spans = []; groups = 0; frames = 0; peak = 0; last_mark = None } }
     {
         Scratch {
-            alloc,
             store: Store::new(alloc),
             registers: Registers::new(alloc),
             groups: 0,
@@ -101,19 +99,14 @@ impl Scratch {
 }
 
 /// Makes a workspace ready for a search: no records, and so many unset registers. Want of memory alone refuses it.
-fn prepare(
-    alloc: Global,
-    groups: u32,
-    store: &mut Store,
-    registers: &mut Registers,
-) -> Result<(), Memory>
+fn prepare(groups: u32, store: &mut Store, registers: &mut Registers) -> Result<(), Memory>
     requires { groups ≤ 65535 }
     ensures empty { store.new.records ≡ [] }
     ensures unset { OnOk result (registers.new ≡ replicate groups None) }
     ensures peak { store.new.peak ≡ store.old.peak }
 {
     store.cut(0);
-    *registers = Registers::new(alloc);
+    registers.clear();
     registers.grow(groups)
 }
 
@@ -128,14 +121,7 @@ pub fn search_at<S: Searchable>(on: &S, place: u64, scratch: &mut Scratch) -> Pl
     ensures frames { scratch.new.frames ≡ scratch.old.frames }
 {
     let groups = on.groups();
-    if prepare(
-        scratch.alloc,
-        groups,
-        &mut scratch.store,
-        &mut scratch.registers,
-    )
-    .is_err()
-    {
+    if prepare(groups, &mut scratch.store, &mut scratch.registers).is_err() {
         return PlaceAnswer::Memory;
     }
     let mut spot = Spot::at(place);

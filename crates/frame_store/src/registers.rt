@@ -54,6 +54,13 @@ impl Registers {
         Ok(())
     }
 
+    /// Leaves no registers. The room that they had stays for the next.
+    pub fn clear(&mut self)
+        ensures { self.new ≡ [] }
+    {
+        self.spans.clear();
+    }
+
     /// The number of registers.
     pub fn count(&self) -> u32
         ensures count { result ≡ length self.now }

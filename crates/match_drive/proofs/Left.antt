@@ -65,35 +65,44 @@ after_partial None p = refl
 after_partial (Some q) p = refl
 
 pub tells_match : (keep to : ℕ) (m : Option ℕ) (p : ℕ) (first mark : Option ℕ) → TellsPlace (told.Matched keep to m) p first mark (answer.Match keep to m)
-tells_match keep to m p first mark caps w later old whole is is_mark left =
-    left.answer ∙ ap (λ a. after_hit first (found_by p w later a).answer) is ∙ after_match first _
-
-pub tells_partial : (p : ℕ) (first mark : Option ℕ) → TellsPlace told.Partial p first mark (answer.Partial (unwrap_or first p) mark)
-tells_partial p first mark caps w later old whole is is_mark left = (
-  left.answer ∙ ap (λ a. after_hit first (found_by p w later a).answer) is ∙ after_partial first p,
+tells_match keep to m p first mark caps w later old whole is is_mark left = (
+  left.answer ∙ ap (λ a. after_hit first (found_by p w later a).answer) is ∙ after_match first _,
   is_mark ∙ sym (left.last_mark ∙ ap (λ a. option_or (last_name (found_by p w later a).notes) old) is),
 )
 
+pub tells_partial : (p : ℕ) (first mark : Option ℕ) → TellsPlace told.Partial p first mark (answer.Partial (unwrap_or first p) mark)
+tells_partial p first mark caps w later old whole is is_mark left =
+    let last = is_mark ∙ sym (left.last_mark ∙ ap (λ a. option_or (last_name (found_by p w later a).notes) old) is) in
+    ((left.answer ∙ ap (λ a. after_hit first (found_by p w later a).answer) is ∙ after_partial first p, last), last)
+
 pub tells_match_limit : (p : ℕ) (first mark : Option ℕ) → TellsPlace told.MatchLimit p first mark answer.MatchLimit
-tells_match_limit p first mark caps w later old whole is is_mark left =
-    left.answer ∙ ap (λ a. after_hit first (found_by p w later a).answer) is ∙ after_error first _
+tells_match_limit p first mark caps w later old whole is is_mark left = (
+  left.answer ∙ ap (λ a. after_hit first (found_by p w later a).answer) is ∙ after_error first _,
+  is_mark ∙ sym (left.last_mark ∙ ap (λ a. option_or (last_name (found_by p w later a).notes) old) is),
+)
 
 pub tells_frame_limit : (p : ℕ) (first mark : Option ℕ) → TellsPlace told.FrameLimit p first mark answer.FrameLimit
-tells_frame_limit p first mark caps w later old whole is is_mark left =
-    left.answer ∙ ap (λ a. after_hit first (found_by p w later a).answer) is ∙ after_error first _
+tells_frame_limit p first mark caps w later old whole is is_mark left = (
+  left.answer ∙ ap (λ a. after_hit first (found_by p w later a).answer) is ∙ after_error first _,
+  is_mark ∙ sym (left.last_mark ∙ ap (λ a. option_or (last_name (found_by p w later a).notes) old) is),
+)
 
 pub tells_loop : (p : ℕ) (first mark : Option ℕ) → TellsPlace told.Loop p first mark answer.RecurseLoop
-tells_loop p first mark caps w later old whole is is_mark left =
-    left.answer ∙ ap (λ a. after_hit first (found_by p w later a).answer) is ∙ after_error first _
+tells_loop p first mark caps w later old whole is is_mark left = (
+  left.answer ∙ ap (λ a. after_hit first (found_by p w later a).answer) is ∙ after_error first _,
+  is_mark ∙ sym (left.last_mark ∙ ap (λ a. option_or (last_name (found_by p w later a).notes) old) is),
+)
 
 pub tells_callout : (n m : ℤ) → m ≡ n → (p : ℕ) (first mark : Option ℕ) → TellsPlace (told.Abort n) p first mark (answer.Callout m)
-tells_callout n m same p first mark caps w later old whole is is_mark left =
-    left.answer ∙ ap (λ a. after_hit first (found_by p w later a).answer) is ∙ after_error first _ ∙ ap (λ k. Error (place.Abort k)) (sym same)
+tells_callout n m same p first mark caps w later old whole is is_mark left = (
+  left.answer ∙ ap (λ a. after_hit first (found_by p w later a).answer) is ∙ after_error first _ ∙ ap (λ k. Error (place.Abort k)) (sym same),
+  is_mark ∙ sym (left.last_mark ∙ ap (λ a. option_or (last_name (found_by p w later a).notes) old) is),
+)
 
 -- No place decides.
 
 pub tells_no_match : (mark : Option ℕ) → TellsNone None mark (answer.NoMatch mark)
-tells_no_match mark caps whole left = (left.answer, sym left.last_mark)
+tells_no_match mark caps whole left = ((left.answer, sym left.last_mark), sym left.last_mark)
 
 pub tells_soft_partial : (p : ℕ) (mark : Option ℕ) → TellsNone (Some p) mark (answer.Partial p mark)
-tells_soft_partial p mark caps whole left = (left.answer, sym left.last_mark)
+tells_soft_partial p mark caps whole left = ((left.answer, sym left.last_mark), sym left.last_mark)

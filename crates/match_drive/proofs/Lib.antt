@@ -8,6 +8,7 @@ mod Excluded
 mod Steps
 mod Walk
 mod Leads
+mod PastBegin
 pub mod ForwardStreams
 pub mod ForwardSearch
 pub mod ForwardLaw

@@ -192,11 +192,11 @@ module _ (g : Setting) (not_utf : g.options.utf ≡ false) (begun : g.start ≤ 
   by_place p w f h e (place.Abort n) = refl
   by_place p w f h e place.NoDepth = refl
 
-  from_is : (n p : ℕ) → from_place g (suc n) (Some p) ≡ found_at p (tried g p) (λ signal. from_place g n (place_after g p signal))
+  pub from_is : (n p : ℕ) → from_place g (suc n) (Some p) ≡ found_at p (tried g p) (λ signal. from_place g n (place_after g p signal))
   unfolding from_place
   from_is n p = refl
 
-  none_left : (n : ℕ) → from_place g n None ≡ none_found
+  pub none_left : (n : ℕ) → from_place g n None ≡ none_found
   unfolding from_place
   none_left zero = refl
   none_left (suc n) = refl

@@ -1,6 +1,6 @@
 -- One place of the walk: it decides, or the walk goes on.
 use mathlib.Core.Path.{fun_ext}
-use Rattle.std.proofs.Common.{◌≡◌, ℕ, ℤ, ◌≤◌, Bool, false, length, Option, Some, None, refl, sym, subst, ap, ◌∙◌, arith}
+use Rattle.std.proofs.Common.{◌≡◌, ℕ, ℤ, ◌≤◌, Bool, false, max, length, Option, Some, None, refl, sym, subst, ap, ◌∙◌, arith}
 use Rattle.std.specs.Option.{option_or}
 use Rattle.std.specs.Prelude.{IfSome}
 use Rattle.frame_store.specs.Captures.{Captures}
@@ -16,7 +16,7 @@ use Rattle.match_drive.specs.declared.answer.MatchAnswer.{MatchAnswer}
 use Rattle.match_drive.specs.Asked.{replied}
 use Rattle.match_drive.specs.Places.{last_place, place_after, is_excluded}
 use Rattle.match_drive.specs.MatchAnswer.{Found, match_answer}
-use Rattle.match_drive.specs.Answer.{IsMatchAnswer, TellsPlace}
+use Rattle.match_drive.specs.Answer.{IsMatchAnswer, IsLastMark, TellsPlace}
 use Rattle.match_drive.specs.Rest.{found_from, first_hit, IsLeft, IsNextTried}
 use Rattle.match_drive.proofs.Steps.{left_at, next_same, match_found}
 use Rattle.match_drive.proofs.Left.{left_failed}
@@ -26,11 +26,12 @@ module _ (g : Setting) (not_utf : g.options.utf ≡ false) (begun : g.start ≤ 
     (tried : IfSome next (λ q. is_excluded g q ≡ false)) (caps : Captures) where
   -- the place decides
   pub walk_ends : (answer : PlaceAnswer) (last mark : Option ℕ) (result : MatchAnswer) → IsAnswer answer caps (place_answer g p) → IsMark answer old last (place_answer g p)
-      → mark ≡ last → TellsPlace answer p first mark result → IsMatchAnswer result caps whole
+      → mark ≡ last → TellsPlace answer p first mark result → IsMatchAnswer result caps whole × IsLastMark result last whole
   walk_ends answer last mark result answered marked same tells =
-      tells caps (place_answer g p) (λ (signal : place.Signal). found_from g (place_after g p signal)) old whole answered
+      subst (λ (m : Option ℕ). IsMatchAnswer result caps whole × IsLastMark result m whole) same
+      (tells caps (place_answer g p) (λ (signal : place.Signal). found_from g (place_after g p signal)) old whole answered
       (subst (λ (m : Option ℕ). IsMark answer old m (place_answer g p)) (sym same) marked)
-      (left_at g not_utf begun whole first old next p is left low tried)
+      (left_at g not_utf begun whole first old next p is left low tried))
 
   -- the place failed
   pub walk_on : (signal : Signal) (hit : Bool) (mark hits after later : Option ℕ) → IsAnswer (Failed signal hit) caps (place_answer g p)
@@ -62,5 +63,5 @@ pub asked_alike : {A : Type 0} (asked : (A → ℤ) → Setting) (plain : Settin
 asked_alike asked plain old new same alike = ap asked (fun_ext same) ∙ alike
 
 -- a workspace whose last name is forgotten
-pub forgotten : (old new : Workspace) → new ≡ record old { last_mark = None } → (new.last_mark ≡ None) × (new.peak ≤ old.peak) × (new.groups ≡ old.groups) × (new.frames ≡ old.frames)
-forgotten old new e = (ap (λ (w : Workspace). w.last_mark) e, omega (arith, ap (λ (w : Workspace). w.peak) e), ap (λ (w : Workspace). w.groups) e, ap (λ (w : Workspace). w.frames) e)
+pub forgotten : (old new : Workspace) → new ≡ record old { last_mark = None } → (new.last_mark ≡ None) × ((limit : ℕ) → new.peak ≤ max old.peak limit) × (new.groups ≡ old.groups) × (new.frames ≡ old.frames)
+forgotten old new e = (ap (λ (w : Workspace). w.last_mark) e, λ limit. omega (arith, ap (λ (w : Workspace). w.peak) e), ap (λ (w : Workspace). w.groups) e, ap (λ (w : Workspace). w.frames) e)

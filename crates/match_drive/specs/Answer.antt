@@ -24,6 +24,11 @@ IsMatchAnswer told.RecurseLoop caps f = f.answer ≡ meant.Error place.Loop
 IsMatchAnswer (told.Callout n) caps f = f.answer ≡ meant.Error (place.Abort n)
 IsMatchAnswer told.Memory caps f = Unit {0}
 
+-- the last name that the workspace keeps is the last that was met, at the place that decided or before
+abbrev pub IsLastMark : MatchAnswer → Option ℕ → Found → Type 0
+IsLastMark told.Memory mark f = Unit {0}
+IsLastMark _ mark f = mark ≡ last_name f.notes
+
 -- it isn't a partial match
 abbrev pub IsNotPartial : MatchAnswer → Type 0
 IsNotPartial (told.Partial start mark) = ⊥
@@ -38,8 +43,8 @@ IsDeciding _ = Unit {0}
 abbrev pub TellsPlace : PlaceAnswer → ℕ → Option ℕ → Option ℕ → MatchAnswer → Type 0
 TellsPlace answer p first mark result =
     (caps : Captures) (w : Walked) (later : Signal → Found) (old : Option ℕ) (whole : Found) → IsAnswer answer caps w → IsMark answer old mark w
-    → IsLeft whole first old (found_at p w later) → IsMatchAnswer result caps whole
+    → IsLeft whole first old (found_at p w later) → IsMatchAnswer result caps whole × IsLastMark result mark whole
 
 -- the search's answer where no place decides
 abbrev pub TellsNone : Option ℕ → Option ℕ → MatchAnswer → Type 0
-TellsNone first mark result = (caps : Captures) (whole : Found) → IsLeft whole first mark none_found → IsMatchAnswer result caps whole
+TellsNone first mark result = (caps : Captures) (whole : Found) → IsLeft whole first mark none_found → IsMatchAnswer result caps whole × IsLastMark result mark whole

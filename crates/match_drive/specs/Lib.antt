@@ -7,4 +7,5 @@ pub mod Answer
 pub mod Laws
 pub mod Forward
 pub mod Rows
+pub mod Begin
 pub mod Course

@@ -12,6 +12,8 @@ use pcre_io::Callouts;
 pub(crate) struct Course<'a> {
     pub ready: &'a Ready<'a>,
     pub view: &'a View<'a>,
+    /// The pattern stands at the subject's begin alone.
+    pub at_begin: bool,
 }
 
 impl Driven for Course<'_> {
@@ -21,7 +23,7 @@ impl Driven for Course<'_> {
 
     ghost asked = { λ x. setting_for x.ready.now.tree.now x.view.now };
 
-    ghost fits = { λ x. IsByteCourse x.ready.now x.view.now };
+    ghost fits = { λ x. IsByteCourse x.ready.now x.view.now x.at_begin };
 
     fn subject(&self) -> &[u8] {
         self.view.subject
@@ -45,6 +47,10 @@ impl Driven for Course<'_> {
 
     fn names_crlf(&self) -> bool {
         self.ready.facts.names_crlf
+    }
+
+    fn stands_at_begin(&self) -> bool {
+        self.at_begin
     }
 
     fn try_at<C: Callouts>(

@@ -7,11 +7,12 @@ ghost use Rattle.frame_machine.specs.Ready.{AreFactsOf, setting_for};
 ghost use Rattle.pat_tree.specs.declared.options.PartialMode.TheVariants.{Off};
 ghost use Rattle.pcre_io.specs.declared.callouts.Block.{Block};
 ghost use Rattle.match_drive.specs.Asked.{passed_over};
-ghost use Rattle.match_drive.specs.Answer.{IsMatchAnswer, IsNotPartial, IsDeciding, TellsPlace, TellsNone};
+ghost use Rattle.match_drive.specs.Answer.{IsMatchAnswer, IsLastMark, IsNotPartial, IsDeciding, TellsPlace, TellsNone};
 ghost use Rattle.match_drive.specs.MatchAnswer.{match_answer};
 ghost use Rattle.match_drive.specs.Rest as rest;
 
 use crate::answer::MatchAnswer;
+use crate::begin::stands_at_begin;
 use crate::course::Course;
 use crate::driven::Driven;
 use crate::places::{last_place, next_tried, place_after};
@@ -76,6 +77,7 @@ pub fn search_on<S: Driven, C: Callouts>(
 ) -> MatchAnswer
     requires { S.fits on.now }
     ensures answer { IsMatchAnswer result scratch.new.spans (match_answer (S.asked on.now (C.answers calls.old))) }
+    ensures last_mark { IsLastMark result scratch.new.last_mark (match_answer (S.asked on.now (C.answers calls.old))) }
     ensures whole { (S.asked on.now passed_over).matching.partial ≡ Off → IsNotPartial result }
     ensures peak { scratch.new.peak ≤ max scratch.old.peak (S.asked on.now passed_over).matching.frame_limit }
     ensures groups { scratch.new.groups ≡ scratch.old.groups }
@@ -120,6 +122,7 @@ pub fn search<C: Callouts>(
     requires off { view.now.matching.now.«partial» ≡ Off }
     requires built { IsBuilt (tree_of ready.now.tree.now) }
     ensures answer { IsMatchAnswer result scratch.new.spans (match_answer (setting_for ready.now.tree.now view.now (C.answers calls.old))) }
+    ensures last_mark { IsLastMark result scratch.new.last_mark (match_answer (setting_for ready.now.tree.now view.now (C.answers calls.old))) }
     ensures whole { IsNotPartial result }
     ensures peak { scratch.new.peak ≤ max scratch.old.peak view.now.matching.now.frame_limit }
     ensures groups { scratch.new.groups ≡ scratch.old.groups }
@@ -127,5 +130,11 @@ pub fn search<C: Callouts>(
     ensures rule { (block : Block) → C.answers calls.new block ≡ C.answers calls.old block }
     ensures seen { C.seen calls.new ≡ C.seen calls.old }
 {
-    search_on(&Course { ready, view }, scratch, calls)
+    let at_begin = stands_at_begin(ready.tree);
+    let course = Course {
+        ready,
+        view,
+        at_begin,
+    };
+    search_on(&course, scratch, calls)
 }

@@ -1,5 +1,5 @@
 //! What a search over all start places goes over.
-ghost use Rattle.std.specs.Prelude.{◌≡◌, ◌≤◌, ◌<◌, ℤ, max, false, length};
+ghost use Rattle.std.specs.Prelude.{◌≡◌, ◌≤◌, ◌<◌, ℤ, max, false, length, IsTrue};
 ghost use Rattle.std.specs.Option.{option_copied};
 ghost use Rattle.pcre_io.specs.declared.callouts.Block.{Block};
 ghost use Rattle.pat_check.specs.Known.{IsByteSet};
@@ -7,6 +7,7 @@ ghost use Rattle.frame_machine.specs.Answer.{IsAnswer, IsMark};
 ghost use Rattle.frame_machine.specs.PlaceAnswer.{place_answer};
 ghost use Rattle.frame_machine.specs.Setting.{Setting, lead_set, names_cr_or_lf};
 ghost use Rattle.match_drive.specs.Asked.{passed_over, replied};
+ghost use Rattle.match_drive.specs.Begin.{StandsAtBegin};
 
 use byte_lanes::ByteSet;
 use frame_machine::{PlaceAnswer, Scratch};
@@ -47,6 +48,11 @@ pub trait Driven {
     fn names_crlf(&self) -> bool
         requires { fits self.now }
         ensures { result ≡ names_cr_or_lf (asked self.now passed_over) };
+
+    /// True only where every match begins at the subject's begin (pcre2pattern, "Circumflex and dollar").
+    fn stands_at_begin(&self) -> bool
+        requires { fits self.now }
+        ensures { IsTrue result → StandsAtBegin (asked self.now passed_over).whole };
 
     /// Searches at one place.
     fn try_at<C: Callouts>(&self, place: usize, scratch: &mut Scratch, calls: &mut C) -> PlaceAnswer

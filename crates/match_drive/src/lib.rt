@@ -3,6 +3,7 @@
 #![tactic(auto)]
 
 mod answer;
+mod begin;
 mod course;
 mod drive;
 mod driven;

@@ -171,6 +171,10 @@ fn first_in(bytes: &[u8], from: usize, to: usize, set: &ByteSet) -> usize
     ensures before { (k : ℕ) → from ≤ k → k < result → IsByteOutside set.now (slice_index bytes.now k) }
     ensures found { result < to → has_byte set.now (slice_index bytes.now result) ≡ true }
 {
+    // In a text with many of its bytes the first one is most often it.
+    if from < to && set.has(bytes[from]) {
+        return from;
+    }
     find_in_set(&bytes[..to], from, set)
 }
 
@@ -206,6 +210,9 @@ pub(crate) fn next_tried<S: Driven>(on: &S, from: Option<usize>, last: usize) ->
 {
     let mut next = from;
     'places: while let Some(at) = next {
+        if at > 0 && on.stands_at_begin() {
+            return None;
+        }
         let place = pass(on, at, last);
         if place > last {
             return None;

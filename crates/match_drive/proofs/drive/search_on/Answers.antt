@@ -1,4 +1,4 @@
-use Rattle.std.proofs.Common.{◌≡◌, ◌≤◌, ℕ, Option, Some, length, refl, sym, subst, ◌∙◌, arith}
+use Rattle.std.proofs.Common.{rules, ◌≡◌, ◌≤◌, ℕ, Option, Some, length, refl, sym, subst, ◌∙◌, arith}
 use Rattle.std.proofs.lemmas.Option.{IfSome_then}
 use Rattle.frame_machine.specs.declared.answer.PlaceAnswer.TheVariants.{Failed}
 use Rattle.frame_machine.specs.Answer.{IsAnswer, IsMark}
@@ -7,7 +7,7 @@ use Rattle.frame_machine.specs.Setting.{Setting}
 use Rattle.match_drive.specs.Asked.{passed_over, replied}
 use Rattle.match_drive.specs.Places.{last_place}
 use Rattle.match_drive.specs.MatchAnswer.{none_found, match_answer}
-use Rattle.match_drive.specs.Answer.{IsMatchAnswer}
+use Rattle.match_drive.specs.Answer.{IsMatchAnswer, IsLastMark}
 use Rattle.match_drive.specs.Rest.{IsLeft, IsNextTried}
 use Rattle.match_drive.proofs.Steps.{last_within, left_less, next_within, next_not_excluded, tried_later, tried_from}
 use Rattle.match_drive.proofs.Walk.{walk_begins, walk_ends, walk_on, asked_alike, forgotten}
@@ -19,15 +19,14 @@ places-init g c =
     let x = c.args.on.now in
     let s = replied (g.S.Driven.asked x (g.C.Callouts.answers c.args.calls.now)).reply (g.S.Driven.asked x passed_over) in
     let next : IsNextTried s (Some s.start) c.next_tried-next.result = subst (λ p. IsNextTried s (Some p) c.next_tried-next.result) c.start.ensures (c.next_tried-next.ensures s.reply) in
-    let kept = forgotten c.args.scratch.now c.clear_mark.new.self c.clear_mark.ensures in
     record {
-      left = walk_begins s (g.met.S.Driven.not_utf x c.requires) (g.met.S.Driven.begun x c.requires) c.clear_mark.new.self.last_mark c.next_tried-next.result kept.0 next;
+      left = walk_begins s (g.met.S.Driven.not_utf x c.requires) (g.met.S.Driven.begun x c.requires) _ c.next_tried-next.result (forgotten c.args.scratch.now _ (search rules)).0 next;
       begun = tried_from s s.start c.next_tried-next.result next;
       within = next_within s (Some s.start) c.next_tried-next.result next;
       not_excluded = next_not_excluded s (Some s.start) c.next_tried-next.result next;
-      peak = omega (arith, kept.1);
-      groups = kept.2;
-      frames = kept.3;
+      peak = (forgotten c.args.scratch.now _ (search rules)).1 _;
+      groups = (forgotten c.args.scratch.now _ (search rules)).2;
+      frames = (forgotten c.args.scratch.now _ (search rules)).3;
       rule = λ block. refl;
       seen = refl;
     }
@@ -45,7 +44,22 @@ returns-in_default-answer-clause-answer g c =
     c.try_at-answer.new.scratch.last_mark c.last_mark.result c.decided.result
     (subst (λ (t : Setting). IsAnswer c.try_at-answer.result c.try_at-answer.new.scratch.spans (place_answer t c.in-Some.place)) e c.try_at-answer.ensures.answer)
     (subst (λ (t : Setting). IsMark c.try_at-answer.result c.places.scratch.last_mark c.try_at-answer.new.scratch.last_mark (place_answer t c.in-Some.place)) e c.try_at-answer.ensures.mark)
-    c.last_mark.ensures c.decided.ensures)
+    c.last_mark.ensures c.decided.ensures).0
+
+pub returns-in_default-answer-clause-last_mark : goal.returns-in_default-answer-clause-last_mark
+returns-in_default-answer-clause-last_mark g c =
+    let x = c.args.on.now in
+    let first = g.C.Callouts.answers c.args.calls.now in
+    let s = replied (g.S.Driven.asked x first).reply (g.S.Driven.asked x passed_over) in
+    let e : g.S.Driven.asked x (g.C.Callouts.answers c.places.calls) ≡ s =
+    asked_alike (g.S.Driven.asked x) (g.S.Driven.asked x passed_over) first (g.C.Callouts.answers c.places.calls) c.places.invariant.rule (g.met.S.Driven.alike x first) in
+    subst (λ (t : Setting). IsLastMark c.decided.result c.try_at-answer.new.scratch.last_mark (match_answer t)) (sym (g.met.S.Driven.alike x first))
+    (walk_ends s (g.met.S.Driven.not_utf x c.requires) (g.met.S.Driven.begun x c.requires) (match_answer s) c.places.first c.places.scratch.last_mark c.places.next c.in-Some.place c.in-Some.is
+    c.places.invariant.left c.places.invariant.within c.places.invariant.not_excluded c.try_at-answer.new.scratch.spans c.try_at-answer.result
+    c.try_at-answer.new.scratch.last_mark c.last_mark.result c.decided.result
+    (subst (λ (t : Setting). IsAnswer c.try_at-answer.result c.try_at-answer.new.scratch.spans (place_answer t c.in-Some.place)) e c.try_at-answer.ensures.answer)
+    (subst (λ (t : Setting). IsMark c.try_at-answer.result c.places.scratch.last_mark c.try_at-answer.new.scratch.last_mark (place_answer t c.in-Some.place)) e c.try_at-answer.ensures.mark)
+    c.last_mark.ensures c.decided.ensures).1
 
 pub returns-in_default-answer-clause-whole : goal.returns-in_default-answer-clause-whole
 returns-in_default-answer-clause-whole g c off =
@@ -62,7 +76,16 @@ returns-clause-answer g c =
     let s = replied (g.S.Driven.asked x first).reply (g.S.Driven.asked x passed_over) in
     let left = subst (λ (m : Option ℕ). IsLeft (match_answer s) c.places.first m none_found) (sym c.last_mark-2.ensures) (rw c.in_default.is at c.places.invariant.left) in
     subst (λ (t : Setting). IsMatchAnswer c.undecided.result c.places.scratch.spans (match_answer t)) (sym (g.met.S.Driven.alike x first))
-    (c.undecided.ensures c.places.scratch.spans (match_answer s) left)
+    (c.undecided.ensures c.places.scratch.spans (match_answer s) left).0
+
+pub returns-clause-last_mark : goal.returns-clause-last_mark
+returns-clause-last_mark g c =
+    let x = c.args.on.now in
+    let first = g.C.Callouts.answers c.args.calls.now in
+    let s = replied (g.S.Driven.asked x first).reply (g.S.Driven.asked x passed_over) in
+    let left = subst (λ (m : Option ℕ). IsLeft (match_answer s) c.places.first m none_found) (sym c.last_mark-2.ensures) (rw c.in_default.is at c.places.invariant.left) in
+    subst (λ (t : Setting). IsLastMark c.undecided.result c.places.scratch.last_mark (match_answer t)) (sym (g.met.S.Driven.alike x first))
+    (subst (λ (m : Option ℕ). IsLastMark c.undecided.result m (match_answer s)) c.last_mark-2.ensures (c.undecided.ensures c.places.scratch.spans (match_answer s) left).1)
 
 pub returns-clause-whole : goal.returns-clause-whole
 returns-clause-whole g c off =

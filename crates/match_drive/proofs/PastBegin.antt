@@ -1,0 +1,69 @@
+-- A pattern that stands at the subject's begin alone fails at every later place.
+use Rattle.std.proofs.Common.{◌≡◌, ℕ, zero, suc, ◌+◌, ◌<◌, ◌≤◌, ◌==◌, Bool, true, false, not, ◌&&◌, length, Option, Some, None, refl, ap, subst, sym, ◌∙◌, arith}
+use Rattle.std.specs.Prelude.{IfSome}
+use Rattle.std.proofs.lemmas.Option.{IfSome_then}
+use Rattle.pat_tree.specs.declared.nodes.AnchorKind.{AnchorKind}
+use Rattle.pat_tree.specs.declared.nodes.AnchorKind.TheVariants.{Caret, Dollar, SubjectStart, SubjectEnd, EndOrNewline, StartGiven, Word, NotWord}
+use Rattle.pat_tree.specs.Nested.{Nested, Row, seq, group, anchor, none, more}
+use Rattle.frame_machine.specs.Stream.{State, first_state, reached, Stream, nothing, gives, each, and_then}
+use Rattle.frame_machine.specs.Setting.{Setting, match_limit, reach_if}
+use Rattle.frame_machine.specs.Tests.{run_anchor}
+use Rattle.frame_machine.specs.Parts.{in_order, branches, run_group}
+use Rattle.frame_machine.specs.Run.{level, levels, run}
+use Rattle.frame_machine.specs.PlaceAnswer.{Exhausted, Failed, Walked, answers, walk, place_answer}
+use Rattle.match_drive.specs.Begin.{is_begin, StandsAtBegin}
+use Rattle.match_drive.specs.Places.{place_after, is_excluded}
+use Rattle.match_drive.specs.MatchAnswer.{none_found, tried, from_place}
+use Rattle.match_drive.specs.Rest.{found_from, found_at}
+use Rattle.match_drive.proofs.Steps.{after_later, from_is, none_left}
+
+module _ (g : Setting) where
+  anchor_fails : (kind : AnchorKind) (s : State) → is_begin kind ≡ true → (s.place == 0) ≡ false → run_anchor g kind s ≡ nothing
+  unfolding run_anchor reach_if
+  anchor_fails (Caret true) s h past = absurd (cc h)
+  anchor_fails (Caret false) s h past = ap (λ b. elim (elim b [ true ↦ not g.matching.notbol | false ↦ false ]) [ true ↦ gives reached s | false ↦ nothing ]) past
+  anchor_fails SubjectStart s h past = ap (λ b. elim b [ true ↦ gives reached s | false ↦ nothing ]) past
+  anchor_fails (Dollar multi end_only) s h past = absurd (cc h)
+  anchor_fails SubjectEnd s h past = absurd (cc h)
+  anchor_fails EndOrNewline s h past = absurd (cc h)
+  anchor_fails StartGiven s h past = absurd (cc h)
+  anchor_fails (Word ucp) s h past = absurd (cc h)
+  anchor_fails (NotWord ucp) s h past = absurd (cc h)
+
+  whole_fails : (d : ℕ) (kind : AnchorKind) (parts : Row) (s : State) → is_begin kind ≡ true → (s.place == 0) ≡ false
+      → run g (suc d) (group None (more (seq (more (anchor kind) parts)) none)) s ≡ nothing
+  unfolding run level levels run_group branches in_order each
+  whole_fails d kind parts s h past = ap (λ x. and_then x (in_order (levels g (run g d) parts))) (anchor_fails kind s h past)
+
+  place_fails : StandsAtBegin g.whole → (p : ℕ) → (p == 0) ≡ false → place_answer g p ≡ answers (Failed Exhausted)
+  unfolding walk
+  place_fails h p past =
+      let e : match_limit g + 1 ≡ suc (match_limit g) = omega arith in
+      ap (λ d. walk g (match_limit g) (run g d g.whole (first_state g.groups p))) e
+      ∙ ap (λ t. walk g (match_limit g) (run g (suc (match_limit g)) t (first_state g.groups p))) h.is
+      ∙ ap (walk g (match_limit g)) (whole_fails (match_limit g) h.kind h.parts (first_state g.groups p) h.begin past)
+
+  tried_fails : StandsAtBegin g.whole → (p : ℕ) → (p == 0) ≡ false → tried g p ≡ answers (Failed Exhausted)
+  tried_fails h p past = by_test (is_excluded g p)
+    where
+      by_test : (b : Bool) → elim b [ true ↦ answers (Failed Exhausted) | false ↦ place_answer g p ] ≡ answers (Failed Exhausted)
+      by_test true = refl
+      by_test false = place_fails h p past
+
+  module _ (not_utf : g.options.utf ≡ false) (begun : g.start ≤ length g.subject) (only : StandsAtBegin g.whole) where
+    none_later : (n : ℕ) (o : Option ℕ) → IfSome o (λ p. 0 < p) → from_place g n o ≡ none_found
+    unfolding from_place
+    none_later n None low = none_left g not_utf begun n
+    none_later zero (Some p) low = refl
+    none_later (suc n) (Some p) low =
+        from_is g not_utf begun n p
+        ∙ ap (λ (w : Walked). found_at p w (λ signal. from_place g n (place_after g p signal))) (tried_fails only p (eqb_past p low))
+        ∙ none_later n (place_after g p Exhausted) (IfSome_then (place_after g p Exhausted) (after_later g not_utf begun p Exhausted) (λ q both. omega (arith, low, both.0)))
+      where
+        eqb_past : (p : ℕ) → 0 < p → (p == 0) ≡ false
+        eqb_past zero h = absurd (omega (arith, h))
+        eqb_past (suc n) h = refl
+
+    -- nothing is found past the subject's begin
+    pub none_past : (p : ℕ) → 0 < p → found_from g (Some p) ≡ none_found
+    none_past p low = none_later (length g.subject + 1 - p) (Some p) low
