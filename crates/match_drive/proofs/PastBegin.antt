@@ -1,6 +1,7 @@
 -- A pattern that stands at the subject's begin alone fails at every later place.
-use Rattle.std.proofs.Common.{◌≡◌, ℕ, zero, suc, ◌+◌, ◌<◌, ◌≤◌, ◌==◌, Bool, true, false, not, ◌&&◌, length, Option, Some, None, refl, ap, subst, sym, ◌∙◌, arith}
+use Rattle.std.proofs.Common.{◌≡◌, ℕ, zero, suc, ◌+◌, ◌-◌, ◌<◌, ◌≤◌, ◌==◌, Bool, true, false, not, ◌&&◌, length, Option, Some, None, refl, ap, subst, sym, ◌∙◌, arith}
 use Rattle.std.specs.Prelude.{IfSome}
+use Rattle.std.proofs.lemmas.Bool.{eqb-true}
 use Rattle.std.proofs.lemmas.Option.{IfSome_then}
 use Rattle.pat_tree.specs.declared.nodes.AnchorKind.{AnchorKind}
 use Rattle.pat_tree.specs.declared.nodes.AnchorKind.TheVariants.{Caret, Dollar, SubjectStart, SubjectEnd, EndOrNewline, StartGiven, Word, NotWord}
@@ -17,12 +18,32 @@ use Rattle.match_drive.specs.MatchAnswer.{none_found, tried, from_place}
 use Rattle.match_drive.specs.Rest.{found_from, found_at}
 use Rattle.match_drive.proofs.Steps.{after_later, from_is, none_left}
 
+-- what stands at the begin alone, where the place isn't the begin
+
+abbrev where_at : Bool → Bool → Bool
+where_at b c = elim b [ true ↦ c | false ↦ false ]
+
+fails_unless : (b c : Bool) (s : State) → b ≡ false → elim (where_at b c) [ true ↦ gives reached s | false ↦ nothing ] ≡ nothing
+fails_unless true c s h = absurd (cc h)
+fails_unless false c s h = refl
+
+holds_unless : (b : Bool) (s : State) → b ≡ false → elim b [ true ↦ gives reached s | false ↦ nothing ] ≡ nothing
+holds_unless true s h = absurd (cc h)
+holds_unless false s h = refl
+
+not_zero : (p : ℕ) → 0 < p → (p == 0) ≡ false
+not_zero p h = by_test (p == 0) refl
+  where
+    by_test : (b : Bool) → (p == 0) ≡ b → b ≡ false
+    by_test true e = let z : p ≡ 0 = eqb-true p 0 e in absurd (omega (arith, h, z))
+    by_test false e = refl
+
 module _ (g : Setting) where
   anchor_fails : (kind : AnchorKind) (s : State) → is_begin kind ≡ true → (s.place == 0) ≡ false → run_anchor g kind s ≡ nothing
   unfolding run_anchor reach_if
   anchor_fails (Caret true) s h past = absurd (cc h)
-  anchor_fails (Caret false) s h past = ap (λ b. elim (elim b [ true ↦ not g.matching.notbol | false ↦ false ]) [ true ↦ gives reached s | false ↦ nothing ]) past
-  anchor_fails SubjectStart s h past = ap (λ b. elim b [ true ↦ gives reached s | false ↦ nothing ]) past
+  anchor_fails (Caret false) s h past = fails_unless (s.place == 0) (not g.matching.notbol) s past
+  anchor_fails SubjectStart s h past = holds_unless (s.place == 0) s past
   anchor_fails (Dollar multi end_only) s h past = absurd (cc h)
   anchor_fails SubjectEnd s h past = absurd (cc h)
   anchor_fails EndOrNewline s h past = absurd (cc h)
@@ -57,12 +78,8 @@ module _ (g : Setting) where
     none_later zero (Some p) low = refl
     none_later (suc n) (Some p) low =
         from_is g not_utf begun n p
-        ∙ ap (λ (w : Walked). found_at p w (λ signal. from_place g n (place_after g p signal))) (tried_fails only p (eqb_past p low))
+        ∙ ap (λ (w : Walked). found_at p w (λ signal. from_place g n (place_after g p signal))) (tried_fails only p (not_zero p low))
         ∙ none_later n (place_after g p Exhausted) (IfSome_then (place_after g p Exhausted) (after_later g not_utf begun p Exhausted) (λ q both. omega (arith, low, both.0)))
-      where
-        eqb_past : (p : ℕ) → 0 < p → (p == 0) ≡ false
-        eqb_past zero h = absurd (omega (arith, h))
-        eqb_past (suc n) h = refl
 
     -- nothing is found past the subject's begin
     pub none_past : (p : ℕ) → 0 < p → found_from g (Some p) ≡ none_found

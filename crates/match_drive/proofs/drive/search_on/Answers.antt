@@ -20,13 +20,13 @@ places-init g c =
     let s = replied (g.S.Driven.asked x (g.C.Callouts.answers c.args.calls.now)).reply (g.S.Driven.asked x passed_over) in
     let next : IsNextTried s (Some s.start) c.next_tried-next.result = subst (λ p. IsNextTried s (Some p) c.next_tried-next.result) c.start.ensures (c.next_tried-next.ensures s.reply) in
     record {
-      left = walk_begins s (g.met.S.Driven.not_utf x c.requires) (g.met.S.Driven.begun x c.requires) _ c.next_tried-next.result (forgotten c.args.scratch.now _ (search rules)).0 next;
+      left = walk_begins s (g.met.S.Driven.not_utf x c.requires) (g.met.S.Driven.begun x c.requires) _ c.next_tried-next.result (search rules) next;
       begun = tried_from s s.start c.next_tried-next.result next;
       within = next_within s (Some s.start) c.next_tried-next.result next;
       not_excluded = next_not_excluded s (Some s.start) c.next_tried-next.result next;
-      peak = (forgotten c.args.scratch.now _ (search rules)).1 _;
-      groups = (forgotten c.args.scratch.now _ (search rules)).2;
-      frames = (forgotten c.args.scratch.now _ (search rules)).3;
+      peak = search rules;
+      groups = search rules;
+      frames = search rules;
       rule = λ block. refl;
       seen = refl;
     }

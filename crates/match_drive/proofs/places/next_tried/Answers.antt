@@ -1,13 +1,21 @@
-use Rattle.std.proofs.Common.{◌≡◌, ◌≤◌, ◌<◌, ℕ, Option, length, sym, subst, ap, ◌∙◌, arith}
+use Rattle.std.proofs.Common.{◌≡◌, ◌≤◌, ◌<◌, ℕ, Option, length, refl, sym, subst, ap, ◌∙◌, arith}
 use Rattle.std.specs.Prelude.{IfSome}
 use Rattle.match_drive.specs.Asked.{passed_over, replied}
 use Rattle.match_drive.specs.Places.{next_place, last_place}
 use Rattle.match_drive.specs.Rest.{found_from, up_to}
 use Rattle.match_drive.proofs.Steps.{last_within, left_less, none_earlier, step_is, step_later, tried_next, none_next, excluded_next}
+use Rattle.match_drive.proofs.PastBegin.{none_past}
 use Rattle.match_drive.proofs.places.next_tried.Goals as goal
 
 pub pass-place-requires-clause-from : goal.pass-place-requires-clause-from
 pass-place-requires-clause-from g c = rw c.in-Some.is at c.places.invariant.within
+
+pub returns-then-stands_at_begin : goal.returns-then-stands_at_begin
+returns-then-stands_at_begin g c reply =
+    let x = c.args.on.now in
+    let s = replied reply (g.S.Driven.asked x passed_over) in
+    sym (rw c.in-Some.is at (c.places.invariant.same reply))
+    ∙ none_past s (g.met.S.Driven.not_utf x c.requires.fits) (g.met.S.Driven.begun x c.requires.fits) (c.if-stands_at_begin.ensures refl) c.in-Some.at c.if-at-gt0.true
 
 pub returns-then-place-last : goal.returns-then-place-last
 returns-then-place-last g c reply =
