@@ -1,5 +1,9 @@
 //! What searches find.
-ghost use Rattle.std.specs.Prelude.{◌≡◌, ◌≤◌, ◌<◌, length};
+ghost use Rattle.std.specs.Prelude.{◌≡◌, ◌≤◌, ◌<◌, false, length};
+ghost use Rattle.pat_tree.specs.Parts.{tree_of};
+ghost use Rattle.char_sets.specs.Table.{IsTableOf};
+ghost use Rattle.pat_check.specs.Built.{IsBuilt};
+ghost use Rattle.frame_machine.specs.Ready.{AreFactsOf};
 ghost use Rattle.pat_tree.specs.declared.options.PartialMode.TheVariants.{Off};
 
 use char_sets::ClassTable;
@@ -8,7 +12,7 @@ use frame_store::Span;
 use match_drive::{MatchAnswer, search};
 use match_items::View;
 use pat_build::{read, what_is_read_can_be_searched};
-use pat_check::check;
+use pat_check::{Facts, check};
 use pat_tree::{MatchOptions, Newline, Options, PartialMode, Tree};
 use pcre_io::NoCallouts;
 use std::alloc::Global;
@@ -132,6 +136,38 @@ fn lines(newline: Newline, row: Row) -> Row {
     }
 }
 
+/// What a search of a finished tree answers.
+fn answer_of<'a>(
+    tree: &'a Tree,
+    classes: &'a ClassTable,
+    facts: &'a Facts,
+    subject: &[u8],
+    start: usize,
+    matching: &MatchOptions,
+    scratch: &mut Scratch,
+) -> MatchAnswer
+    requires table { IsTableOf tree.now classes.now }
+    requires facts { AreFactsOf tree.now facts.now }
+    requires start { start ≤ length subject.now }
+    requires short { length subject.now < 4294967295 }
+    requires bytes { tree.now.options.utf ≡ false }
+    requires off { matching.now.«partial» ≡ Off }
+    requires built { IsBuilt (tree_of tree.now) }
+{
+    let ready = Ready {
+        tree,
+        classes,
+        facts,
+    };
+    let view = View {
+        subject,
+        start,
+        options: tree.options(),
+        matching,
+    };
+    search(&ready, &view, scratch, &mut NoCallouts)
+}
+
 /// What a search answers, and what group 1 captured.
 fn searched(
     alloc: Global,
@@ -151,18 +187,7 @@ fn searched(
     what_is_read_can_be_searched();
     let classes = ClassTable::build(alloc, &tree)?;
     let facts = check(alloc, &tree, &classes)?;
-    let ready = Ready {
-        tree: &tree,
-        classes: &classes,
-        facts: &facts,
-    };
-    let view = View {
-        subject,
-        start,
-        options: tree.options(),
-        matching,
-    };
-    let answer = search(&ready, &view, scratch, &mut NoCallouts);
+    let answer = answer_of(&tree, &classes, &facts, subject, start, matching, scratch);
     Ok((answer, scratch.span(1)))
 }
 

@@ -1,0 +1,8 @@
+use Rattle.pat_build.specs.Machine.{parsed_of}
+use Rattle.tables.proofs.searching.searched.Goals as goal
+
+pub answer_of-answer-requires-clause-bytes : goal.answer_of-answer-requires-clause-bytes
+answer_of-answer-requires-clause-bytes c = (c.what_is_read_can_be_searched.ensures c.args.options c.args.pattern.now (parsed_of c.in_ok-tree.tree) c.in_ok-tree.ensures.ok).without_utf
+
+pub answer_of-answer-requires-clause-built : goal.answer_of-answer-requires-clause-built
+answer_of-answer-requires-clause-built c = (c.what_is_read_can_be_searched.ensures c.args.options c.args.pattern.now (parsed_of c.in_ok-tree.tree) c.in_ok-tree.ensures.ok).built
