@@ -1,18 +1,15 @@
 -- A search of bytes for a tree of the forms that are built gives a match in the subject, none, or a limit, and tells nothing else.
-use Rattle.std.proofs.Common.{◌≡◌, ◌∙◌, ℕ, zero, suc, ◌+◌, ◌-◌, ◌<◌, ◌≤◌, ◌≢◌, ◌&&◌, ◌||◌, not, Bool, true, false, List, [], ◌∷◌, ◌++◌, All, length, replicate, Option, Some, None, refl, sym, ap, subst, arith, ◌==◌}
+use Rattle.std.proofs.Common.{◌≡◌, ℕ, zero, suc, ◌+◌, ◌-◌, ◌<◌, ◌≤◌, ◌≢◌, Bool, true, false, List, [], ◌++◌, length, Option, Some, None, refl, sym, subst, arith}
 use Rattle.std.specs.Prelude.{nat_le, IfSome}
 use Rattle.std.proofs.lemmas.List.{length-replicate}
 use Rattle.std.proofs.lemmas.List.Elements.{All-replicate}
-use Rattle.pat_tree.specs.declared.options.PartialMode.TheVariants.{Off}
-use Rattle.pat_check.specs.Built.{IsBuilt}
-use Rattle.frame_machine.specs.Stream.{State, first_state, exhausted, by_verb, by_halt, is_partial, too_many_units, loop, abort, cut, Note, How, reached, accepted, note, state, step, Stream, ends, ◌▸◌}
+use Rattle.frame_machine.specs.Stream.{State, first_state, exhausted, by_verb, by_halt, is_partial, too_many_units, loop, abort, cut, Note, reached, accepted, note, state, step, Stream, ends, ◌▸◌}
 use Rattle.frame_machine.specs.Setting.{Setting, match_limit}
-use Rattle.frame_machine.specs.Run.{run}
-use Rattle.frame_machine.specs.PlaceAnswer.{Outcome, outcome, Signal, Exhausted, Prune, Skip, Commit, PlaceAnswer, Matched, Failed, Partial, MatchLimit, FrameLimit, Loop, Abort, NoDepth, Walked, answers, has_hit, is_refused_by_end, is_refused_as_empty, decision, walk, place_answer}
+use Rattle.frame_machine.specs.PlaceAnswer.{outcome, Signal, Exhausted, Prune, Skip, Commit, PlaceAnswer, Matched, Failed, Partial, MatchLimit, FrameLimit, Loop, Abort, NoDepth, Walked, answers, has_hit, is_refused_by_end, is_refused_as_empty, walk, place_answer}
 use Rattle.frame_machine.proofs.WalkLaw.{no_cut}
 use Rattle.match_drive.specs.Places.{last_place, within, place_after, is_excluded}
-use Rattle.match_drive.specs.MatchAnswer.{MatchAnswer, Match, NoMatch, PartialFrom, Error, Found, none_found, decided, undecided, failed_at, tried, from_place, match_answer}
-use Rattle.match_drive.specs.Forward.{IsWithin, IsPlaced, IsPlain, IsPlainFound, IsBuiltSearch, ForwardLaw}
+use Rattle.match_drive.specs.MatchAnswer.{Match, PartialFrom, Error, Found, none_found, decided, undecided, failed_at, tried, from_place}
+use Rattle.match_drive.specs.Forward.{IsWithin, IsPlaced, IsPlainFound, IsBuiltSearch, ForwardLaw}
 use Rattle.match_drive.proofs.Steps.{last_within, start_within, after_later}
 use Rattle.match_drive.proofs.ForwardStreams.{IsOnWay, Forward}
 use Rattle.match_drive.proofs.ForwardSearch.{forward_run}

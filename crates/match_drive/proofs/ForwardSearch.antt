@@ -1,5 +1,5 @@
 -- The search of a tree of the forms that are built goes forward, over bytes.
-use Rattle.std.proofs.Common.{◌≡◌, ◌∙◌, ℕ, zero, suc, ◌+◌, ◌-◌, ◌<◌, ◌≤◌, ◌&&◌, Bool, true, false, List, [], ◌∷◌, ◌++◌, length, drop, reverse, Option, Some, None, refl, sym, subst, arith}
+use Rattle.std.proofs.Common.{◌≡◌, ℕ, zero, suc, ◌+◌, ◌-◌, ◌<◌, ◌≤◌, Bool, true, false, List, [], ◌∷◌, ◌++◌, length, drop, reverse, Option, Some, None, refl, sym, subst, arith}
 use Rattle.std.specs.Prelude.{nat_lt}
 use Rattle.std.proofs.lemmas.List.{reverse-append}
 use Rattle.pat_tree.specs.declared.nodes.Item.{Item}
@@ -10,15 +10,14 @@ use Rattle.pat_tree.specs.Nested.{Nested, Row, repeat}
 use Rattle.pat_check.specs.Built.{IsBuilt, AreBuilt}
 use Rattle.frame_store.specs.declared.registers.Span.{Span}
 use Rattle.frame_store.specs.Captures.{capture}
-use Rattle.match_items.specs.Items.{one_less, is_none_left, after_item, item_reaches, run_places, longest_run, run_reaches, break_len, after_break, break_reaches, after_ref, ref_reaches, holds, anchor_reaches, earliest}
+use Rattle.match_items.specs.Items.{one_less, is_none_left, after_item, item_reaches, run_places, longest_run, break_len, after_ref, ref_reaches, holds, anchor_reaches}
 use Rattle.match_items.proofs.Places.{item_forward, break_within, ref_within}
-use Rattle.frame_machine.specs.Stream.{State, is_next_branch, reached, Stream, Search, step, ends, by_halt, cut, ◌▸◌, nothing, gives, ◌or_else◌, and_then, catch, captured}
-use Rattle.frame_machine.specs.Setting.{Setting, held, hold, reach, reach_if}
+use Rattle.frame_machine.specs.Stream.{State, Stream, Search, captured}
+use Rattle.frame_machine.specs.Setting.{Setting, reach_if}
 use Rattle.frame_machine.specs.Tests.{move_to, goes_to, run_one, run_break, run_ref, run_anchor, offers, greedy, offer_and, reluctant, lazy_run, run_many}
 use Rattle.frame_machine.specs.Parts.{Searches, in_order, choices, branches, run_group, is_over, turn, run_repeat}
 use Rattle.frame_machine.specs.Run.{level, levels, run}
-use Rattle.match_drive.proofs.ForwardStreams as streams
-use Rattle.match_drive.proofs.ForwardStreams.{IsOnWay, Forward, IsForward, forward_nothing, forward_gives, forward_step, forward_if, forward_less, forward_or_else, forward_each, forward_and_then, forward_catch, with_units, with_early, with_place, with_keep, with_capture, forward_held, forward_hold, forward_reach_if}
+use Rattle.match_drive.proofs.ForwardStreams.{IsOnWay, Forward, IsForward, forward_nothing, forward_gives, forward_step, forward_if, forward_or_else, forward_each, forward_and_then, forward_catch, with_units, with_early, with_place, with_keep, with_capture, forward_held, forward_hold, forward_reach_if}
 
 -- a place that is told is as far as what was taken
 told_far : (b : Bool) (p n q : ℕ) → elim b as (λ _. Option ℕ) [ true ↦ Some (p + n) | false ↦ None ] ≡ Some q → p ≤ q

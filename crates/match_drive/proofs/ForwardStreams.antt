@@ -1,13 +1,12 @@
 -- Streams that go forward: their states are reached at a place or past it, in the subject, and nothing is told beside them.
-use Rattle.std.proofs.Common.{◌≡◌, ◌∙◌, ℕ, ◌+◌, ◌≤◌, Bool, true, false, List, [], ◌∷◌, All, length, Option, Some, None, refl, sym, arith}
-use Rattle.std.specs.Prelude.{nat_le, slice_set}
+use Rattle.std.proofs.Common.{◌≡◌, ◌∙◌, ℕ, ◌+◌, ◌≤◌, Bool, true, false, All, length, Some, None, arith}
+use Rattle.std.specs.Prelude.{nat_le}
 use Rattle.std.proofs.lemmas.List.{length-set}
 use Rattle.std.proofs.lemmas.List.Elements.{All-set}
 use Rattle.pat_tree.specs.declared.options.PartialMode.{PartialMode}
 use Rattle.pat_tree.specs.declared.options.PartialMode.TheVariants.{Off, Soft, Hard}
-use Rattle.frame_store.specs.declared.registers.Span.{Span}
-use Rattle.frame_machine.specs.Stream.{State, Ending, exhausted, by_verb, by_halt, next_branch, is_partial, too_many_units, loop, abort, cut, Note, How, reached, accepted, note, state, step, Stream, Search, ends, ◌▸◌, nothing, gives, ◌or_else◌, each, and_then, go_on, catch, is_next_branch, captured}
-use Rattle.frame_machine.specs.Setting.{Setting, held, hold, counts, reach, reach_if}
+use Rattle.frame_machine.specs.Stream.{State, exhausted, by_verb, by_halt, is_partial, too_many_units, loop, abort, cut, How, reached, accepted, note, state, step, Stream, Search, ends, ◌▸◌, nothing, gives, ◌or_else◌, each, and_then, go_on, catch, is_next_branch, captured}
+use Rattle.frame_machine.specs.Setting.{Setting, held, hold, reach, reach_if}
 use Rattle.match_drive.specs.Forward.{IsWithin}
 
 module _ (g : Setting) (low : ℕ) where

@@ -1,6 +1,6 @@
 -- The bytes that every match of a finished tree begins with are told of the tree.
 use mathlib.Core.Path.{fun_ext}
-use Rattle.std.proofs.Common.{◌≡◌, ℕ, zero, suc, Bool, List, [], ◌∷◌, Option, refl, ap, subst, sym, ◌∙◌}
+use Rattle.std.proofs.Common.{◌≡◌, ℕ, zero, suc, Bool, List, [], ◌∷◌, Option, refl, ap, subst}
 use Rattle.std.specs.Prelude.{slice_get, slice_index_or}
 use Rattle.pat_tree.specs.declared.nodes.ClassSpec.{ClassSpec}
 use Rattle.pat_tree.specs.Newlines.{end_kind, break_kind}

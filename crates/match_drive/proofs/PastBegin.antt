@@ -1,12 +1,12 @@
 -- A pattern that stands at the subject's begin alone fails at every later place.
-use Rattle.std.proofs.Common.{◌≡◌, ℕ, zero, suc, ◌+◌, ◌-◌, ◌<◌, ◌≤◌, ◌==◌, Bool, true, false, not, ◌&&◌, length, Option, Some, None, refl, ap, subst, sym, ◌∙◌, arith}
+use Rattle.std.proofs.Common.{◌≡◌, ℕ, zero, suc, ◌+◌, ◌-◌, ◌<◌, ◌≤◌, ◌==◌, Bool, true, false, not, length, Option, Some, None, refl, ap, ◌∙◌, arith}
 use Rattle.std.specs.Prelude.{IfSome}
 use Rattle.std.proofs.lemmas.Bool.{eqb-true}
 use Rattle.std.proofs.lemmas.Option.{IfSome_then}
 use Rattle.pat_tree.specs.declared.nodes.AnchorKind.{AnchorKind}
 use Rattle.pat_tree.specs.declared.nodes.AnchorKind.TheVariants.{Caret, Dollar, SubjectStart, SubjectEnd, EndOrNewline, StartGiven, Word, NotWord}
-use Rattle.pat_tree.specs.Nested.{Nested, Row, seq, group, anchor, none, more}
-use Rattle.frame_machine.specs.Stream.{State, first_state, reached, Stream, nothing, gives, each, and_then}
+use Rattle.pat_tree.specs.Nested.{Row, seq, group, anchor, none, more}
+use Rattle.frame_machine.specs.Stream.{State, first_state, reached, nothing, gives, each, and_then}
 use Rattle.frame_machine.specs.Setting.{Setting, match_limit, reach_if}
 use Rattle.frame_machine.specs.Tests.{run_anchor}
 use Rattle.frame_machine.specs.Parts.{in_order, branches, run_group}

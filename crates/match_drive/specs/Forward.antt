@@ -1,10 +1,10 @@
 -- What a search of bytes gives for a tree of the forms that are built.
-use Rattle.std.specs.Prelude.{◌≡◌, ℕ, ◌≤◌, false, List, [], All, length, Option, Some, None}
+use Rattle.std.specs.Prelude.{◌≡◌, ℕ, ◌≤◌, false, [], All, length, Option, Some, None}
 use Rattle.pat_tree.specs.declared.options.PartialMode.TheVariants.{Off}
 use Rattle.pat_check.specs.Built.{IsBuilt}
 use Rattle.frame_store.specs.declared.registers.Span.{Span}
 use Rattle.frame_machine.specs.Setting.{Setting}
-use Rattle.frame_machine.specs.PlaceAnswer.{Outcome, PlaceAnswer, MatchLimit, FrameLimit}
+use Rattle.frame_machine.specs.PlaceAnswer.{Outcome, MatchLimit, FrameLimit}
 use Rattle.match_drive.specs.MatchAnswer.{MatchAnswer, Match, NoMatch, PartialFrom, Error, Found, match_answer}
 
 -- what a group captured, if anything, lies in the first n bytes

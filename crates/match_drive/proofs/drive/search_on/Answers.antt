@@ -10,7 +10,7 @@ use Rattle.match_drive.specs.MatchAnswer.{none_found, match_answer}
 use Rattle.match_drive.specs.Answer.{IsMatchAnswer, IsLastMark}
 use Rattle.match_drive.specs.Rest.{IsLeft, IsNextTried}
 use Rattle.match_drive.proofs.Steps.{last_within, left_less, next_within, next_not_excluded, tried_later, tried_from}
-use Rattle.match_drive.proofs.Walk.{walk_begins, walk_ends, walk_on, asked_alike, forgotten}
+use Rattle.match_drive.proofs.Walk.{walk_begins, walk_ends, walk_on, asked_alike}
 use Rattle.match_drive.proofs.NoPartial.{none_told}
 use Rattle.match_drive.proofs.drive.search_on.Goals as goal
 
