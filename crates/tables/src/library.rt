@@ -4,8 +4,8 @@ ghost use Rattle.pat_tree.specs.declared.options.PartialMode.TheVariants.{Off};
 
 use frame_machine::Scratch;
 use pat_tree::{MatchOptions, Options};
-use pcre2_api::{Code, CompileError, MatchError};
 use pcre_io::NoCallouts;
+use pcre2_api::{Code, CompileError, MatchError};
 use std::alloc::Global;
 use std::process::Abort;
 use std::test::Fail;
@@ -27,7 +27,13 @@ fn months(alloc: Global, text: &[u8]) -> Result<Vec<Month>, Fail>
     let mut months = Vec::new(alloc);
     let mut start = 0;
     while start <= text.len() {
-        match code.match_at(text, start, &MatchOptions::PLAIN, &mut scratch, &mut NoCallouts) {
+        match code.match_at(
+            text,
+            start,
+            &MatchOptions::PLAIN,
+            &mut scratch,
+            &mut NoCallouts,
+        ) {
             Ok(found) => {
                 if let Some(year) = found.group_named(b"year") {
                     if let Some(month) = found.group_named(b"month") {
@@ -39,7 +45,11 @@ fn months(alloc: Global, text: &[u8]) -> Result<Vec<Month>, Fail>
                 }
                 // an empty match would be found at the same place again
                 let is_empty = found.start() == found.end();
-                start = if is_empty { found.end() + 1 } else { found.end() };
+                start = if is_empty {
+                    found.end() + 1
+                } else {
+                    found.end()
+                };
             }
             Err(MatchError::NoMatch { .. }) => break,
             Err(e) => return Err(Fail::from(e)),
@@ -72,7 +82,13 @@ fn refusal(
 {
     let code = Code::compile(alloc, pattern, Options::PLAIN)?;
     let mut scratch = Scratch::new(alloc);
-    match code.match_at(b"aaaaaaaaaaaaaaaaaaaaaaaa", start, options, &mut scratch, &mut NoCallouts) {
+    match code.match_at(
+        b"aaaaaaaaaaaaaaaaaaaaaaaa",
+        start,
+        options,
+        &mut scratch,
+        &mut NoCallouts,
+    ) {
         Ok(_) => panic!(rt; "matched"),
         Err(e) => Ok(e),
     }
@@ -82,7 +98,13 @@ fn refusal(
 fn each_error_has_its_meaning(rt: HostRuntime) -> Result<(), Fail> {
     match Code::compile(rt.alloc(), b"(?<year>\\d{4}", Options::PLAIN) {
         Ok(_) => panic!(&rt; "accepted"),
-        Err(e) => assert_eq!(&rt; e, CompileError::Bad { number: 114, at: 13 }),
+        Err(e) => assert_eq!(&rt;
+            e,
+            CompileError::Bad {
+                number: 114,
+                at: 13
+            }
+        ),
     }
     let plain = MatchOptions::PLAIN;
     let none = refusal(&rt, rt.alloc(), b"b", 0, &plain)?;
