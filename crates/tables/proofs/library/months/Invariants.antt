@@ -1,4 +1,4 @@
-use Rattle.std.proofs.Common.{ℕ, ◌+◌, ◌-◌, length}
+use Rattle.std.proofs.Common.{◌+◌, ◌-◌, length}
 use Rattle.tables.proofs.library.months.Given as goal
 
 abbrev pub decreases-loop-start : goal.decreases-loop-start
