@@ -1,9 +1,9 @@
 -- What a match of a compiled pattern answers (pcre2api, "Matching a pattern: the traditional function").
-use Rattle.std.specs.Prelude.{◌≡◌, ℕ, ◌<◌, ◌≤◌, ℤ, List, All, length, None}
+use Rattle.std.specs.Prelude.{◌≡◌, ℕ, ◌<◌, ◌≤◌, ◌==◌, ◌&&◌, ◌||◌, not, false, ℤ, List, All, length, None}
 use Rattle.pat_tree.specs.declared.options.MatchOptions.{MatchOptions}
 use Rattle.pat_tree.specs.Sound.{greatest, group_numbers}
 use Rattle.pcre_io.specs.declared.callouts.Block.{Block}
-use Rattle.frame_machine.specs.Setting.{Setting}
+use Rattle.frame_machine.specs.Setting.{Setting, endanchored, notempty, notempty_atstart}
 use Rattle.frame_machine.specs.Ready.{setting_in}
 use Rattle.frame_machine.specs.PlaceAnswer as place
 use Rattle.frame_machine.specs.PlaceAnswer.{Outcome, last_name}
@@ -32,11 +32,18 @@ pub record AreParts (f : MatchParts) : Type 0 where
   pub groups : length f.outcome.caps ≡ greatest (group_numbers f.code.tree.nodes)
   pub no_mark : f.outcome.mark ≡ None
 
--- it is what the search answers, and it lies in the subject
+-- The options admit the text (pcre2api, "Option bits for pcre2_match()"): NOTEMPTY none that is empty, NOTEMPTY_ATSTART none
+-- that is empty at the start, and ENDANCHORED only one that ends where the subject does.
+pub record IsAdmitted (g : Setting) (o : Outcome) : Type 0 where
+  pub not_empty : ((o.keep == o.to) && (notempty g || notempty_atstart g && (o.keep == g.start))) ≡ false
+  pub at_end : (endanchored g && not (o.to == length g.subject)) ≡ false
+
+-- it is what the search answers, it lies in the subject, and the options admit it
 pub record IsFound (g : Setting) (f : MatchParts) : Type 0 where
   pub begun : g.start ≤ length g.subject
   pub answer : (match_answer g).answer ≡ meant.Match f.outcome
   pub placed : IsPlaced g f.outcome
+  pub admitted : IsAdmitted g f.outcome
 
 -- Why there is no match: each refusal has its cause. Of a subject of bytes, without partial matching, for the forms that are
 -- built there is no fault of UTF, no partial match, no loop of calls, no callout and no mark. Want of memory may come at

@@ -95,10 +95,8 @@ impl<'a> Found<'a> {
     pub fn group(&self, n: u32) -> Option<&'a [u8]>
         ensures { option_copied result ≡ group_of self.now n }
     {
-        match self.span(n) {
-            Some(span) => Some(&self.subject[span.from as usize..span.to as usize]),
-            None => None,
-        }
+        let span = self.span(n)?;
+        Some(&self.subject[span.from as usize..span.to as usize])
     }
 
     /// The text of the first set group of this name (pcre2_substring_get_byname). None where there is no such group, or

@@ -2,6 +2,7 @@ use Rattle.std.proofs.Common.{sym, subst}
 use Rattle.match_drive.specs.MatchAnswer.{match_answer, PartialFrom, Error}
 use Rattle.frame_machine.specs.PlaceAnswer.{Loop, Abort}
 use Rattle.pcre2_api.specs.Matched.{search_of, IsFound}
+use Rattle.pcre2_api.proofs.Admission.{is_admitted}
 use Rattle.pcre2_api.proofs.Matching.{is_placed, is_plain, no_name}
 use Rattle.pcre2_api.proofs.code.Code.match_at.Goals as goal
 
@@ -15,7 +16,12 @@ pub returns-in-Match-clause-found : goal.returns-in-Match-clause-found
 returns-in-Match-clause-found g c =
     let asked = search_of c.args.self.now c.args.options.now c.args.subject.now c.args.start (g.C.Callouts.answers c.args.calls.now) in
     subst (IsFound asked) (sym c.of.ensures)
-    (record { begun = c.if-start-subject.false; answer = c.in-Match.ensures.answer; placed = is_placed asked (match_answer asked) c.in-Match.ensures.plain _ c.in-Match.ensures.answer })
+    (record {
+      begun = c.if-start-subject.false;
+      answer = c.in-Match.ensures.answer;
+      placed = is_placed asked (match_answer asked) c.in-Match.ensures.plain _ c.in-Match.ensures.answer;
+      admitted = is_admitted asked _ c.in-Match.ensures.answer;
+    })
 
 pub returns-in-NoMatch-clause-refused : goal.returns-in-NoMatch-clause-refused
 returns-in-NoMatch-clause-refused g c =
