@@ -1,1 +1,7 @@
 //! What patterns are read as, and how they are refused.
+mod answers;
+mod classes;
+mod faults;
+mod options;
+mod shown;
+mod trees;

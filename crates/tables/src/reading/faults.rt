@@ -1,0 +1,398 @@
+//! Patterns that are refused, with the number of the fault and its place (pcre2api, "Compiling a pattern").
+use super::answers::{are_refused, fault_of};
+use pat_tree::Options;
+use std::test::Fail;
+
+const PLAIN: Options = Options::PLAIN;
+
+#[test]
+fn faults_of_escapes(rt: HostRuntime) {
+    let rows = [
+        (r"\", 101, 0),
+        (r"ab\", 101, 2),
+        (r"[a\", 101, 2),
+        (r"\c", 102, 0),
+        ("a\\c\n", 102, 1),
+        ("\\c\u{e9}", 102, 0),
+        (r"\y", 103, 0),
+        (r"a\M", 103, 1),
+        (r"[a\j]", 103, 2),
+        (r"\x{100}", 134, 0),
+        (r"a\o{400}", 134, 1),
+        (r"\400", 134, 0),
+        (r"[\x{100}]", 134, 1),
+        (r"\x{100g}", 134, 0),
+        (r"a\o", 135, 1),
+        (r"\o7", 135, 0),
+        (r"\x{}", 135, 0),
+        (r"\x{g}", 135, 0),
+        (r"\o{8}", 135, 0),
+        (r"[a\x{4", 135, 2),
+        (r"\p", 146, 0),
+        (r"a\P{L", 146, 1),
+        (r"\p1", 146, 0),
+    ];
+    are_refused(&rt, rt.alloc(), &rows);
+}
+
+#[test]
+fn faults_of_classes(rt: HostRuntime) {
+    let rows = [
+        ("[", 106, 1),
+        ("[]", 106, 2),
+        ("a[^]b", 106, 5),
+        ("[a-", 106, 3),
+        ("[[:alpha:]", 106, 10),
+        (r"[\Qa]", 106, 5),
+        (r"[\B]", 107, 1),
+        (r"[a\R]", 107, 2),
+        (r"[\N]", 107, 1),
+        (r"[\X]", 107, 1),
+        (r"[\A\Z\z\G]", 107, 1),
+        (r"[a-\K]", 107, 3),
+        (r"[\g1]", 107, 1),
+        (r"[\k<n>]", 107, 1),
+        ("[z-a]", 108, 1),
+        ("x[a-f9-0]", 108, 5),
+        (r"[\x42-\x41]", 108, 1),
+        ("[[.a.]]", 113, 1),
+        ("[a[=b=]]", 113, 2),
+        ("[[:foo:]]", 130, 1),
+        ("[a[:^bar:]]", 130, 2),
+        ("[[:<:]]", 130, 1),
+        ("[[:>:]]a", 130, 1),
+        ("[[:Alpha:]]", 130, 1),
+    ];
+    are_refused(&rt, rt.alloc(), &rows);
+}
+
+#[test]
+fn faults_of_sets(rt: HostRuntime) {
+    let rows = [
+        ("[:alpha:]", 112, 0),
+        ("a[:^x:]", 112, 1),
+        ("[:a[:b:]", 112, 4),
+        ("[.x.]", 113, 0),
+        ("a[=x=]", 113, 1),
+        (r"[\d-z]", 150, 3),
+        (r"[a-\d]", 150, 2),
+        (r"[\w-\s]", 150, 3),
+        ("[[:digit:]-z]", 150, 10),
+        ("[a-[:digit:]]", 150, 2),
+        (r"[\d-\y]", 150, 3),
+        (r"[a-\y]", 103, 3),
+        (r"[\d\E-z]", 150, 5),
+    ];
+    are_refused(&rt, rt.alloc(), &rows);
+}
+
+#[test]
+fn faults_of_quantifiers(rt: HostRuntime) {
+    let rows = [
+        ("a{3,1}", 104, 1),
+        ("(?:a){2,0}", 104, 5),
+        ("x{65535,65534}?", 104, 1),
+        ("a{65536}", 105, 1),
+        ("a{1,65536}", 105, 1),
+        ("ab{99999999999}", 105, 2),
+        ("{65536}", 105, 0),
+        ("a{65536,1}", 105, 1),
+        ("*", 109, 0),
+        ("+a", 109, 0),
+        ("{2}", 109, 0),
+        ("a**", 109, 2),
+        ("a{2}{3}", 109, 4),
+        ("a??*", 109, 3),
+        ("(?:*)", 109, 3),
+        ("(+a)", 109, 1),
+        ("(*)", 109, 1),
+        ("(**)a", 109, 1),
+        ("a|*", 109, 2),
+        ("^*", 109, 1),
+        ("$+", 109, 1),
+        (r"a\b?", 109, 3),
+        (r"\A{2}", 109, 2),
+        (r"\K*", 109, 2),
+    ];
+    are_refused(&rt, rt.alloc(), &rows);
+}
+
+#[test]
+fn faults_of_quantifiers_after_what_is_no_part(rt: HostRuntime) {
+    let rows = [
+        ("(?i)*", 109, 4),
+        (r"\Q\E*", 109, 4),
+        ("(?#a)+", 109, 5),
+        ("(*CR)*", 109, 5),
+        ("a*(?#x)+", 109, 7),
+        ("(?x)a+ ?", 109, 7),
+        (r"a*\E+", 109, 4),
+        ("*+", 109, 0),
+        ("a{2}?{3}", 109, 5),
+    ];
+    are_refused(&rt, rt.alloc(), &rows);
+}
+
+#[test]
+fn faults_of_groups(rt: HostRuntime) {
+    let rows = [
+        ("(?a)", 111, 0),
+        ("x(?y", 111, 1),
+        ("(?Pn)", 111, 0),
+        ("(?P'n'a)", 111, 0),
+        ("(?^-i)", 111, 0),
+        ("a(?i--s)", 111, 1),
+        ("(?+a)", 111, 0),
+        ("(?i;)", 111, 0),
+        ("(", 114, 1),
+        ("a(b", 114, 3),
+        ("((a)", 114, 4),
+        ("(?:a|b", 114, 6),
+        ("(?<n>a", 114, 6),
+        ("a(?", 114, 3),
+        ("(?P", 114, 3),
+        ("(?i", 114, 3),
+        ("(?C", 114, 3),
+        ("(?(", 114, 3),
+        ("(?R", 114, 3),
+        ("(?1", 114, 3),
+        (r"(\Q)", 114, 4),
+        ("([)]", 114, 4),
+        ("(?#", 118, 3),
+        ("a(?#b", 118, 5),
+    ];
+    are_refused(&rt, rt.alloc(), &rows);
+}
+
+#[test]
+fn faults_of_parentheses_and_names(rt: HostRuntime) {
+    let rows = [
+        (")", 122, 0),
+        ("a)", 122, 1),
+        ("(a))", 122, 3),
+        ("(?i)a|)", 122, 6),
+        ("(?<a", 142, 0),
+        ("x(?'ab>c)", 142, 1),
+        ("(?P<n!>a)", 142, 0),
+        (r"(a)\k{a", 142, 3),
+        ("(?<n>a)(?<n>b)", 143, 7),
+        ("(?<n>(?'n'a))", 143, 5),
+        ("(?<>a)", 144, 0),
+        ("(?<1a>b)", 144, 0),
+        ("a(?''b)", 144, 1),
+        (r"\k<>", 144, 0),
+        (r"\g{}", 144, 0),
+        ("(?P=)", 144, 0),
+        ("(?<a23456789012345678901234567890123>b)", 148, 0),
+        (r"a\k'a23456789012345678901234567890123'", 148, 1),
+        ("(?(1", 128, 0),
+        ("a(?(+)b)", 128, 1),
+        ("(?(1x)b)", 128, 0),
+        ("(?(<ab>", 128, 0),
+    ];
+    are_refused(&rt, rt.alloc(), &rows);
+}
+
+#[test]
+fn faults_of_references(rt: HostRuntime) {
+    let rows = [
+        (r"\1", 115, 0),
+        (r"(a)\2", 115, 3),
+        (r"(?:a)\1", 115, 5),
+        (r"\9", 115, 0),
+        (r"a\81", 115, 1),
+        (r"(a)\g{12}", 115, 3),
+        (r"(a)\g{-2}", 115, 3),
+        (r"\g{+1}", 115, 0),
+        (r"\k<n>", 115, 0),
+        (r"(?<n>a)\k<m>", 115, 7),
+        (r"(?<n>a)\k<N>", 115, 7),
+        ("(?P=x)", 115, 0),
+        (r"\3(a)\2", 115, 0),
+        (r"(a)\k<n>\5", 115, 3),
+        (r"\g{+0}", 126, 0),
+        (r"(a)\g-0", 126, 3),
+        ("a(?+0)", 126, 1),
+        ("(?-0)", 126, 0),
+        (r"\g{65536}", 161, 0),
+        (r"a\99999", 161, 1),
+        (r"(a)\g{+65535}", 161, 3),
+        (r"\g{-65536}", 161, 0),
+        ("(?65536)", 161, 0),
+    ];
+    are_refused(&rt, rt.alloc(), &rows);
+}
+
+#[test]
+fn faults_of_marks_and_callouts(rt: HostRuntime) {
+    let rows = [
+        ("(?C256)", 138, 0),
+        ("a(?C999)b", 138, 1),
+        ("(?C1", 139, 0),
+        ("a(?Cx)", 139, 1),
+        ("(?C'a)", 139, 0),
+        ("(*FOO)", 160, 0),
+        ("a(*CR)", 160, 1),
+        ("(*CR)a(*LF)", 160, 6),
+        ("(*CR", 160, 0),
+        ("(*cr)a", 160, 0),
+        ("(*LIMIT_MATCH=x)", 160, 0),
+        ("(*LIMIT_MATCH=4294967296)", 160, 0),
+        ("(*LIMIT_MATCH)", 160, 0),
+        ("a(*pla", 160, 1),
+        ("(*foo:a)", 160, 0),
+        ("(*ACCEPT", 160, 0),
+        ("(*MARK)", 166, 0),
+        ("a(*:)", 166, 1),
+        ("(*MARK:)", 166, 0),
+        (r"\g", 169, 0),
+        (r"a\k", 169, 1),
+        (r"\g{-}", 169, 0),
+        (r"\ga", 169, 0),
+        (r"(a)\g{1", 169, 3),
+    ];
+    are_refused(&rt, rt.alloc(), &rows);
+}
+
+#[test]
+fn a_name_of_a_verb_has_255_bytes(rt: HostRuntime) -> Result<(), Fail> {
+    let alloc = rt.alloc();
+    for (begin, place) in [("(*MARK:", 0), ("ab(*PRUNE:", 2), ("(*THEN:", 0)] {
+        for (bytes, number) in [(255, 195), (256, 176), (300, 176)] {
+            let mut pattern = String::new(alloc);
+            pattern.push_str(begin)?;
+            for _ in 0..bytes {
+                pattern.push('n')?;
+            }
+            pattern.push(')')?;
+            let fault = fault_of(alloc, pattern.as_bytes(), PLAIN);
+            assert_eq!(rt; fault, Some((number, place)), "{begin} {bytes}");
+        }
+    }
+    Ok(())
+}
+
+#[test]
+fn what_is_not_built(rt: HostRuntime) {
+    let rows = [
+        (r"\pL", 195, 0),
+        (r"a\P{Greek}", 195, 1),
+        (r"[a\p{Nd}]", 195, 2),
+        ("(*UTF)a", 195, 0),
+        ("(*CR)(*UCP)a", 195, 5),
+        ("x(?>a)", 195, 1),
+        ("(*atomic:a)", 195, 0),
+        ("a++", 195, 1),
+        ("ab?+c", 195, 2),
+        ("(a){2}+", 195, 3),
+        ("(?=a)", 195, 0),
+        ("a(?!b)", 195, 1),
+        ("(?<=a)", 195, 0),
+        ("(?<!a)b", 195, 0),
+        ("(*pla:a)", 195, 0),
+        ("(?*a)", 195, 0),
+        ("(?<*a)", 195, 0),
+        ("(a)(?(1)b)", 195, 3),
+        ("(?(DEFINE)a)", 195, 0),
+        ("a(?|b)", 195, 1),
+    ];
+    are_refused(&rt, rt.alloc(), &rows);
+}
+
+#[test]
+fn what_is_not_built_or_left_out(rt: HostRuntime) {
+    let rows = [
+        ("a(?R)", 195, 1),
+        ("(a)(?1)", 195, 3),
+        ("(?<n>a)(?&n)", 195, 7),
+        ("(?<n>a)(?P>n)", 195, 7),
+        (r"(a)\g<1>", 195, 3),
+        (r"\g'n'(?<n>a)", 195, 0),
+        ("a(*ACCEPT)", 195, 1),
+        ("(*F)", 195, 0),
+        ("(*:n)a", 195, 0),
+        ("a(*THEN:n)", 195, 1),
+        ("(?C)a", 195, 0),
+        ("a(?C255)", 195, 1),
+        ("(?C'it''s')", 195, 0),
+        (r"\C", 195, 0),
+        (r"a\X", 195, 1),
+        (r"\L\l\U\u", 195, 0),
+        (r"\N{U+41}", 195, 0),
+        (r"a\N{", 195, 1),
+        (r"[\u]", 195, 1),
+        ("(*sr:a)", 195, 0),
+        ("a(*script_run:b)", 195, 1),
+        ("(*asr:a)", 195, 0),
+        ("(?(VERSION>=10)a)", 195, 0),
+        ("(?(VERSION=10)a)", 195, 0),
+    ];
+    are_refused(&rt, rt.alloc(), &rows);
+}
+
+// The first fault from the left is told, and a missing group only where there is no other fault.
+#[test]
+fn the_first_fault(rt: HostRuntime) {
+    let rows = [
+        (r"\1[", 106, 3),
+        (r"(a)\2)", 122, 5),
+        (r"\k<n>(?<n>a", 114, 11),
+        ("[z-a](?a)", 108, 1),
+        ("(?a)[z-a]", 111, 0),
+        ("a**)", 109, 2),
+        (")**", 122, 0),
+        (r"(a\", 101, 2),
+        (r"\y(", 103, 0),
+        ("(*FOO)*", 160, 0),
+        ("(?<n>a)(?<n>", 143, 7),
+        ("(?#", 118, 3),
+        ("((?#a", 118, 5),
+        (r"a++\1", 195, 1),
+        (r"\2(a)++", 195, 5),
+        (r"\y[z-a]", 103, 0),
+    ];
+    are_refused(&rt, rt.alloc(), &rows);
+}
+
+#[test]
+fn faults_under_options(rt: HostRuntime) {
+    let utf = Options { utf: true, ..PLAIN };
+    let ucp = Options { ucp: true, ..PLAIN };
+    let auto_callout = Options {
+        auto_callout: true,
+        ..PLAIN
+    };
+    let literal_utf = Options {
+        literal: true,
+        ..utf
+    };
+    let extended = Options {
+        extended: true,
+        ..PLAIN
+    };
+    let empty_class = Options {
+        allow_empty_class: true,
+        ..PLAIN
+    };
+    let rows = [
+        ("a", utf, 195, 0),
+        ("a(", ucp, 195, 0),
+        ("", auto_callout, 195, 0),
+        ("(*FOO)", auto_callout, 195, 0),
+        ("a", literal_utf, 195, 0),
+        ("(?x: a # )", PLAIN, 114, 10),
+        ("(a # )", extended, 114, 6),
+        (" *", extended, 109, 1),
+        ("a + +", extended, 195, 2),
+        ("a + ?", extended, 109, 4),
+        ("( ?i)", extended, 109, 2),
+        ("[", empty_class, 106, 1),
+        ("[a", empty_class, 106, 2),
+        ("[^", empty_class, 106, 2),
+        ("[]a]*)", empty_class, 122, 5),
+    ];
+    for (pattern, options, number, at) in rows {
+        let fault = fault_of(rt.alloc(), pattern.as_bytes(), options);
+        assert_eq!(rt; fault, Some((number, at)), "{pattern}");
+    }
+}
