@@ -2,6 +2,8 @@
 mod answers;
 mod classes;
 mod faults;
+mod limits;
 mod options;
 mod shown;
+mod sweeps;
 mod trees;

@@ -1,0 +1,156 @@
+//! Many short patterns: each is read, or is refused at a place within it.
+use pat_build::{ReadError, read};
+use pat_tree::Options;
+use std::alloc::Global;
+use std::process::Abort;
+use std::test::Fail;
+
+// Whether the pattern is read. Where it isn't, the place of its fault lies within it or at its end.
+fn is_accepted(rt: &impl Abort, alloc: Global, pattern: &[u8]) -> bool {
+    match read(alloc, pattern, Options::PLAIN) {
+        Ok(_) => true,
+        Err(ReadError::Bad { number, at }) => {
+            assert!(rt; at <= pattern.len(), "{number} at {at} of {pattern:?}");
+            false
+        }
+        Err(ReadError::Memory) => panic!(rt; "no memory for {pattern:?}"),
+    }
+}
+
+#[test]
+fn every_pattern_of_one_byte(rt: HostRuntime) {
+    let mut refused = 0;
+    for byte in 0..=255 {
+        if !is_accepted(&rt, rt.alloc(), &[byte]) {
+            refused += 1;
+        }
+    }
+    // `(`, `)`, `*`, `+`, `?`, `[` and `\`
+    assert_eq!(rt; refused, 7);
+}
+
+#[test]
+fn every_pattern_of_two_bytes_with_a_special_one_first(rt: HostRuntime) {
+    let alloc = rt.alloc();
+    for first in *b"([\\{*" {
+        for second in 0..=255 {
+            if is_accepted(&rt, alloc, &[first, second]) {
+                let may_be = match first {
+                    b'\\' | b'{' => true,
+                    _ => first == b'(' && second == b')',
+                };
+                assert!(rt; may_be, "{first} {second}");
+            }
+        }
+    }
+}
+
+const COUNT: usize = 60;
+
+// What the patterns of the sequence are made of.
+const PIECES: [&str; COUNT] = [
+    "(",
+    "(",
+    ")",
+    ")",
+    ")",
+    "(?:",
+    "(?<n>",
+    "(?'m'",
+    "(?P<k>",
+    "(?i)",
+    "(?x)",
+    "(?n-s:",
+    "(?^",
+    "(?J)",
+    "(?#",
+    "(?",
+    "[a-",
+    "[^",
+    "[",
+    "]",
+    "]",
+    "]",
+    "[:alpha:]",
+    "[:no:]",
+    "-",
+    "z",
+    "b",
+    "a",
+    "a",
+    "\\d",
+    "\\W",
+    "\\R",
+    "\\N",
+    "\\K",
+    "\\b",
+    "\\A",
+    "\\1",
+    "\\2",
+    "\\g{-1}",
+    "\\k<n>",
+    "\\x41",
+    "\\x{",
+    "\\o{7}",
+    "\\Q",
+    "\\E",
+    "\\c",
+    "\\",
+    "{2,3}",
+    "{2}",
+    "{,",
+    "*",
+    "+?",
+    "?",
+    "|",
+    "|",
+    "^",
+    "$",
+    ".",
+    "#",
+    "\n",
+];
+
+/// A linear congruential sequence.
+#[derive(Drop)]
+struct Sequence {
+    state: u32,
+}
+
+impl Sequence {
+    fn next(&mut self) -> usize {
+        self.state = self
+            .state
+            .wrapping_mul(1_664_525)
+            .wrapping_add(1_013_904_223);
+        (self.state >> 16) as usize
+    }
+
+    // Puts the next pattern, of 1 to 10 pieces, in the place of the last one.
+    fn write_pattern(&mut self, pattern: &mut Vec<u8>) -> Result<(), Fail> {
+        pattern.clear();
+        let pieces = 1 + self.next() % 10;
+        for _ in 0..pieces {
+            if let Some(piece) = PIECES.get(self.next() % COUNT) {
+                pattern.extend_from_slice(piece.as_bytes())?;
+            }
+        }
+        Ok(())
+    }
+}
+
+#[test]
+fn patterns_of_many_pieces(rt: HostRuntime) -> Result<(), Fail> {
+    let alloc = rt.alloc();
+    let mut sequence = Sequence { state: 1 };
+    let mut pattern = Vec::new(alloc);
+    let mut accepted = 0;
+    for _ in 0..10_000 {
+        sequence.write_pattern(&mut pattern)?;
+        if is_accepted(&rt, alloc, &pattern) {
+            accepted += 1;
+        }
+    }
+    assert!(rt; accepted > 500, "{accepted}");
+    Ok(())
+}
