@@ -3,6 +3,7 @@
 
 mod classes;
 mod lines;
+mod reading;
 mod search;
 
 use byte_lanes::EndKind;
@@ -13,6 +14,7 @@ use std::{env, io};
 enum Asked<'a> {
     Nothing,
     Search(&'a str),
+    Reading(u32),
     Lines(EndKind),
     Classes(Sample),
 }
@@ -26,10 +28,18 @@ fn make_asked(words: &[String]) -> Asked<'_> {
             Asked::Lines(EndKind::AnyCrLf)
         }
         [_, what, pattern] if what.as_str() == "search" => Asked::Search(pattern.as_str()),
+        [_, what, times] if what.as_str() == "reading" => make_reading(times.as_str()),
         [_, what, class, way] if what.as_str() == "classes" => {
             make_sample(class.as_str(), way.as_str())
         }
         _ => Asked::Nothing,
+    }
+}
+
+fn make_reading<'a>(times: &str) -> Asked<'a> {
+    match times.parse() {
+        Ok(times) => Asked::Reading(times),
+        Err(_) => Asked::Nothing,
     }
 }
 
@@ -55,6 +65,12 @@ fn main(rt: HostRuntime) -> io::Result<()> {
             match search::count_matches(rt.alloc(), pattern, rt.stdin()) {
                 Some(count) => println!(rt; "{count}"),
                 None => println!(rt; "the pattern is not compiled"),
+            }
+        }
+        Asked::Reading(times) => {
+            match reading::count_nodes(rt.alloc(), times, rt.stdin()) {
+                Some(nodes) => println!(rt; "{nodes}"),
+                None => println!(rt; "the pattern is not read"),
             }
         }
         Asked::Lines(kind) => {

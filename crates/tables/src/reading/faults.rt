@@ -6,6 +6,8 @@
 //! `\d\E` and a character, and what stands between a quantifier and its `+` or `?`. Places were not compared.
 use super::answers::{are_refused, fault_of};
 use pat_tree::Options;
+use std::alloc::Global;
+use std::process::Abort;
 use std::test::Fail;
 
 const PLAIN: Options = Options::PLAIN;
@@ -134,6 +136,7 @@ fn faults_of_quantifiers_after_what_is_no_part(rt: HostRuntime) {
         (r"a*\E+", 109, 4),
         ("*+", 109, 0),
         ("a{2}?{3}", 109, 5),
+        ("(?x)a+ #\n?", 109, 9),
     ];
     are_refused(&rt, rt.alloc(), &rows);
 }
@@ -155,9 +158,9 @@ fn faults_of_groups(rt: HostRuntime) {
         ("(?:a|b", 114, 6),
         ("(?<n>a", 114, 6),
         ("a(?", 114, 3),
-        ("(?P", 114, 3),
         ("(?i", 114, 3),
         ("(?C", 114, 3),
+        ("(?x: a # )", 114, 10),
         ("(?(", 114, 3),
         ("(?R", 114, 3),
         ("(?1", 114, 3),
@@ -359,45 +362,58 @@ fn the_first_fault(rt: HostRuntime) {
     are_refused(&rt, rt.alloc(), &rows);
 }
 
+// The fault of a pattern under these options.
+fn is_refused(
+    rt: &impl Abort,
+    alloc: Global,
+    options: Options,
+    pattern: &str,
+    number: i32,
+    at: usize,
+) {
+    let fault = fault_of(alloc, pattern.as_bytes(), options);
+    assert_eq!(rt; fault, Some((number, at)), "{pattern}");
+}
+
+#[test]
+fn options_that_are_not_built(rt: HostRuntime) {
+    let mut utf = PLAIN;
+    utf.utf = true;
+    is_refused(&rt, rt.alloc(), utf, "a", 195, 0);
+    utf.literal = true;
+    is_refused(&rt, rt.alloc(), utf, "a", 195, 0);
+    let mut ucp = PLAIN;
+    ucp.ucp = true;
+    is_refused(&rt, rt.alloc(), ucp, "a(", 195, 0);
+    let mut auto_callout = PLAIN;
+    auto_callout.auto_callout = true;
+    is_refused(&rt, rt.alloc(), auto_callout, "(*FOO)", 195, 0);
+}
+
 #[test]
 fn faults_under_options(rt: HostRuntime) {
-    let utf = Options { utf: true, ..PLAIN };
-    let ucp = Options { ucp: true, ..PLAIN };
-    let auto_callout = Options {
-        auto_callout: true,
-        ..PLAIN
-    };
-    let literal_utf = Options {
-        literal: true,
-        ..utf
-    };
-    let extended = Options {
-        extended: true,
-        ..PLAIN
-    };
-    let empty_class = Options {
-        allow_empty_class: true,
-        ..PLAIN
-    };
+    let mut extended = PLAIN;
+    extended.extended = true;
     let rows = [
-        ("a", utf, 195, 0),
-        ("a(", ucp, 195, 0),
-        ("", auto_callout, 195, 0),
-        ("(*FOO)", auto_callout, 195, 0),
-        ("a", literal_utf, 195, 0),
-        ("(?x: a # )", PLAIN, 114, 10),
-        ("(a # )", extended, 114, 6),
-        (" *", extended, 109, 1),
-        ("a + +", extended, 195, 2),
-        ("a + ?", extended, 109, 4),
-        ("( ?i)", extended, 109, 2),
-        ("[", empty_class, 106, 1),
-        ("[a", empty_class, 106, 2),
-        ("[^", empty_class, 106, 2),
-        ("[]a]*)", empty_class, 122, 5),
+        ("(a # )", 114, 6),
+        (" *", 109, 1),
+        ("a + +", 195, 2),
+        ("a + ?", 109, 4),
+        ("( ?i)", 109, 2),
+        ("a{3,1} #", 104, 1),
     ];
-    for (pattern, options, number, at) in rows {
-        let fault = fault_of(rt.alloc(), pattern.as_bytes(), options);
-        assert_eq!(rt; fault, Some((number, at)), "{pattern}");
+    for (pattern, number, at) in rows {
+        is_refused(&rt, rt.alloc(), extended, pattern, number, at);
+    }
+    let mut empty_class = PLAIN;
+    empty_class.allow_empty_class = true;
+    let rows = [
+        ("[", 106, 1),
+        ("[a", 106, 2),
+        ("[^", 106, 2),
+        ("[]a]*)", 122, 5),
+    ];
+    for (pattern, number, at) in rows {
+        is_refused(&rt, rt.alloc(), empty_class, pattern, number, at);
     }
 }

@@ -7,97 +7,81 @@ use std::test::Fail;
 
 const PLAIN: Options = Options::PLAIN;
 
-const CASELESS: Options = Options {
-    caseless: true,
-    ..PLAIN
+// What is set beside the options that are off.
+#[derive(Clone, Copy)]
+enum Setting {
+    Caseless,
+    Multiline,
+    DotAll,
+    Extended,
+    ExtendedMore,
+    ExtendedCrLf,
+    DollarEndOnly,
+    DupNames,
+    NoAutoCapture,
+    Ungreedy,
+    AllowEmptyClass,
+    Literal,
+    LiteralCaseless,
+}
+
+use Setting::{
+    AllowEmptyClass, Caseless, DollarEndOnly, DotAll, DupNames, Extended, ExtendedCrLf,
+    ExtendedMore, Literal, LiteralCaseless, Multiline, NoAutoCapture, Ungreedy,
 };
 
-const MULTILINE: Options = Options {
-    multiline: true,
-    ..PLAIN
-};
-
-const DOTALL: Options = Options {
-    dotall: true,
-    ..PLAIN
-};
-
-const EXTENDED: Options = Options {
-    extended: true,
-    ..PLAIN
-};
-
-const EXTENDED_MORE: Options = Options {
-    extended_more: true,
-    ..PLAIN
-};
-
-const CRLF_EXTENDED: Options = Options {
-    newline: Newline::CrLf,
-    ..EXTENDED
-};
-
-const DOLLAR_ENDONLY: Options = Options {
-    dollar_endonly: true,
-    ..PLAIN
-};
-
-const DUPNAMES: Options = Options {
-    dupnames: true,
-    ..PLAIN
-};
-
-const NO_AUTO_CAPTURE: Options = Options {
-    no_auto_capture: true,
-    ..PLAIN
-};
-
-const UNGREEDY: Options = Options {
-    ungreedy: true,
-    ..PLAIN
-};
-
-const ALLOW_EMPTY_CLASS: Options = Options {
-    allow_empty_class: true,
-    ..PLAIN
-};
-
-const LITERAL: Options = Options {
-    literal: true,
-    ..PLAIN
-};
-
-const LITERAL_CASELESS: Options = Options {
-    caseless: true,
-    ..LITERAL
-};
+fn options_of(setting: Setting) -> Options {
+    let mut options = PLAIN;
+    match setting {
+        Caseless => options.caseless = true,
+        Multiline => options.multiline = true,
+        DotAll => options.dotall = true,
+        Extended => options.extended = true,
+        ExtendedMore => options.extended_more = true,
+        ExtendedCrLf => {
+            options.extended = true;
+            options.newline = Newline::CrLf;
+        }
+        DollarEndOnly => options.dollar_endonly = true,
+        DupNames => options.dupnames = true,
+        NoAutoCapture => options.no_auto_capture = true,
+        Ungreedy => options.ungreedy = true,
+        AllowEmptyClass => options.allow_empty_class = true,
+        Literal => options.literal = true,
+        LiteralCaseless => {
+            options.literal = true;
+            options.caseless = true;
+        }
+    }
+    options
+}
 
 #[test]
 fn options_of_patterns(rt: HostRuntime) -> Result<(), Fail> {
     let rows = [
-        ("aB1", CASELESS, "(<~a ~B ~1>)"),
-        ("(?-i)a", CASELESS, "(a)"),
-        (r"(a)\1[b]", CASELESS, "(<(1:~a) ~=1 ~[b]>)"),
-        ("^a$", MULTILINE, "(<^m a $m>)"),
-        ("(?-m:^)^", MULTILINE, "(<(^) ^m>)"),
-        (r".\N", DOTALL, "(<any .>)"),
-        ("(?-s).", DOTALL, "(.)"),
-        ("a$", DOLLAR_ENDONLY, "(<a $e>)"),
-        ("(?m)$", DOLLAR_ENDONLY, "($me)"),
-        (r"a\Z", DOLLAR_ENDONLY, r"(<a \Z>)"),
-        ("(?<n>a)(?<n>b)", DUPNAMES, "(<(1:a) (2:b)>) n=1 n=2"),
-        ("(a)(?<n>b)(?:c)", NO_AUTO_CAPTURE, "(<(a) (1:b) (c)>) n=1"),
-        ("(?-n)(a)", NO_AUTO_CAPTURE, "((1:a))"),
-        ("a+b+?", UNGREEDY, "(<a{1,}? b{1,}>)"),
-        ("(?-U)a+", UNGREEDY, "(a{1,})"),
-        ("(a){2}", UNGREEDY, "((1:a)*{2,2}?)"),
-        ("[]", ALLOW_EMPTY_CLASS, "([])"),
-        ("[^]", ALLOW_EMPTY_CLASS, "([^])"),
-        ("[]a]", ALLOW_EMPTY_CLASS, "(<[] a ']'>)"),
-        ("[a]]", ALLOW_EMPTY_CLASS, "(<[a] ']'>)"),
+        ("aB1", Caseless, "(<~a ~B ~1>)"),
+        ("(?-i)a", Caseless, "(a)"),
+        (r"(a)\1[b]", Caseless, "(<(1:~a) ~=1 ~[b]>)"),
+        ("^a$", Multiline, "(<^m a $m>)"),
+        ("(?-m:^)^", Multiline, "(<(^) ^m>)"),
+        (r".\N", DotAll, "(<any .>)"),
+        ("(?-s).", DotAll, "(.)"),
+        ("a$", DollarEndOnly, "(<a $e>)"),
+        ("(?m)$", DollarEndOnly, "($me)"),
+        (r"a\Z", DollarEndOnly, r"(<a \Z>)"),
+        ("(?<n>a)(?<n>b)", DupNames, "(<(1:a) (2:b)>) n=1 n=2"),
+        ("(a)(?<n>b)(?:c)", NoAutoCapture, "(<(a) (1:b) (c)>) n=1"),
+        ("(?-n)(a)", NoAutoCapture, "((1:a))"),
+        ("a+b+?", Ungreedy, "(<a{1,}? b{1,}>)"),
+        ("(?-U)a+", Ungreedy, "(a{1,})"),
+        ("(a){2}", Ungreedy, "((1:a)*{2,2}?)"),
+        ("[]", AllowEmptyClass, "([])"),
+        ("[^]", AllowEmptyClass, "([^])"),
+        ("[]a]", AllowEmptyClass, "(<[] a ']'>)"),
+        ("[a]]", AllowEmptyClass, "(<[a] ']'>)"),
     ];
-    for (pattern, options, expected) in rows {
-        is_read(&rt, rt.alloc(), pattern, options, expected)?;
+    for (pattern, setting, expected) in rows {
+        is_read(&rt, rt.alloc(), pattern, options_of(setting), expected)?;
     }
     Ok(())
 }
@@ -105,31 +89,31 @@ fn options_of_patterns(rt: HostRuntime) -> Result<(), Fail> {
 #[test]
 fn white_space_and_literal_text(rt: HostRuntime) -> Result<(), Fail> {
     let rows = [
-        (" a b ", EXTENDED, "(<a b>)"),
-        ("a\t\n\u{b}\u{c}\rb", EXTENDED, "(<a b>)"),
-        ("a#b\nc", EXTENDED, "(<a c>)"),
-        ("a#b\nc", CRLF_EXTENDED, "(a)"),
-        ("a#b\r\nc", CRLF_EXTENDED, "(<a c>)"),
-        ("a #b\n #c\n *", EXTENDED, "(a{0,})"),
-        (r"\#\ [ #]", EXTENDED, "(<'#' ' ' [' ' '#']>)"),
-        (r"\Q #\E", EXTENDED, "(<' ' '#'>)"),
-        ("( a | b )", EXTENDED, "((1:a|b))"),
-        ("(?-x) a", EXTENDED, "(<' ' a>)"),
-        ("a{2 }", EXTENDED, "(<a '{' 2 '}'>)"),
-        ("(?<n> a)", EXTENDED, "((1:a)) n=1"),
-        ("[ a\tb]", EXTENDED, "([' ' a '09' b])"),
-        ("[ a\tb]", EXTENDED_MORE, "([a b])"),
-        (" a [ - z]", EXTENDED_MORE, "(<a ['-' z]>)"),
-        (r"[\ a\Q \E]", EXTENDED_MORE, "([' ' a ' '])"),
-        ("[ ]a]", EXTENDED_MORE, "([']' a])"),
-        ("a(", LITERAL, "(<a '('>)"),
-        (r"(?i)\d*", LITERAL, r"(<'(' '?' i ')' '\' d '*'>)"),
-        ("(*CR)", LITERAL, "(<'(' '*' C R ')'>)"),
-        ("a|[B", LITERAL_CASELESS, "(<~a ~'|' ~'[' ~B>)"),
-        ("", LITERAL, "(-)"),
+        (" a b ", Extended, "(<a b>)"),
+        ("a\t\n\u{b}\u{c}\rb", Extended, "(<a b>)"),
+        ("a#b\nc", Extended, "(<a c>)"),
+        ("a#b\nc", ExtendedCrLf, "(a)"),
+        ("a#b\r\nc", ExtendedCrLf, "(<a c>)"),
+        ("a #b\n #c\n *", Extended, "(a{0,})"),
+        (r"\#\ [ #]", Extended, "(<'#' ' ' [' ' '#']>)"),
+        (r"\Q #\E", Extended, "(<' ' '#'>)"),
+        ("( a | b )", Extended, "((1:a|b))"),
+        ("(?-x) a", Extended, "(<' ' a>)"),
+        ("a{2 }", Extended, "(<a '{' 2 '}'>)"),
+        ("(?<n> a)", Extended, "((1:a)) n=1"),
+        ("[ a\tb]", Extended, "([' ' a '09' b])"),
+        ("[ a\tb]", ExtendedMore, "([a b])"),
+        (" a [ - z]", ExtendedMore, "(<a ['-' z]>)"),
+        (r"[\ a\Q \E]", ExtendedMore, "([' ' a ' '])"),
+        ("[ ]a]", ExtendedMore, "([']' a])"),
+        ("a(", Literal, "(<a '('>)"),
+        (r"(?i)\d*", Literal, r"(<'(' '?' i ')' '\' d '*'>)"),
+        ("(*CR)", Literal, "(<'(' '*' C R ')'>)"),
+        ("a|[B", LiteralCaseless, "(<~a ~'|' ~'[' ~B>)"),
+        ("", Literal, "(-)"),
     ];
-    for (pattern, options, expected) in rows {
-        is_read(&rt, rt.alloc(), pattern, options, expected)?;
+    for (pattern, setting, expected) in rows {
+        is_read(&rt, rt.alloc(), pattern, options_of(setting), expected)?;
     }
     Ok(())
 }
