@@ -1,6 +1,10 @@
 //! What the options of a pattern and its start items change (pcre2api, "Compiling a pattern"; pcre2pattern, "Special
 //! start-of-pattern items").
 use super::answers::is_read;
+use Setting::{
+    AllowEmptyClass, Caseless, DollarEndOnly, DotAll, DupNames, Extended, ExtendedCrLf,
+    ExtendedMore, Literal, LiteralCaseless, Multiline, NoAutoCapture, Ungreedy,
+};
 use pat_build::read;
 use pat_tree::{Bsr, Newline, Options};
 use std::test::Fail;
@@ -24,11 +28,6 @@ enum Setting {
     Literal,
     LiteralCaseless,
 }
-
-use Setting::{
-    AllowEmptyClass, Caseless, DollarEndOnly, DotAll, DupNames, Extended, ExtendedCrLf,
-    ExtendedMore, Literal, LiteralCaseless, Multiline, NoAutoCapture, Ungreedy,
-};
 
 fn options_of(setting: Setting) -> Options {
     let mut options = PLAIN;
