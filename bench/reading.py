@@ -3,15 +3,16 @@
 
 Makes the pattern itself. The crate `measure` reads it from its standard input, once and then 201 times more; the C library's
 pcre2test compiles it with `-t 200` and tells the time of one. pcre2_compile also writes the code for its matcher, which ours
-does later. Prints both times of one pattern (the best of five runs), and their ratio (below 1 is faster than the C library).
+does later. Prints both times of one pattern in processor time, as pcre2test tells it (the best of five runs), and their ratio
+(below 1 is faster than the C library).
 Run `rt run` in crates/measure first; the C library's pcre2test has to be on the PATH.
 """
 import os
 import random
 import re
+import resource
 import subprocess
 import sys
-import time
 
 HERE = os.path.dirname(os.path.abspath(__file__))
 OURS = os.path.join(HERE, "..", "crates", "measure", "out", "measure")
@@ -32,12 +33,17 @@ def make_pattern():
     return "|".join(make_alternative(choice) for _ in range(1000))
 
 
+def processor_time():
+    used = resource.getrusage(resource.RUSAGE_CHILDREN)
+    return used.ru_utime + used.ru_stime
+
+
 def time_ours(times, pattern):
-    start = time.perf_counter()
+    start = processor_time()
     told = subprocess.run([OURS, "reading", str(times)], input=pattern.encode(), stdout=subprocess.PIPE, check=True).stdout
     if not told.strip().isdigit():
         sys.exit(told.decode())
-    return time.perf_counter() - start
+    return processor_time() - start
 
 
 def time_theirs(pattern):
