@@ -18,6 +18,7 @@ pub record Extends (old new : DraftParts) (tail : List ℕ) : Type 0 where
   pub grows : Grows old.nodes new.nodes
   pub options : new.options ≡ old.options
   pub names : new.names ≡ old.names
+  pub verb_names : new.verb_names ≡ old.verb_names
   pub classes : length new.classes ≤ length old.classes + 1
   pub refs_are : refs new.nodes ≡ places_named (references_of new.nodes)
   pub groups : (n : ℕ) → has_group new.nodes n ≡ has_group old.nodes n
@@ -33,6 +34,7 @@ extends_none d h = record {
   grows = grows_not d.nodes;
   options = refl;
   names = refl;
+  verb_names = refl;
   classes = omega arith;
   refs_are = h;
   groups = λ n. refl;
@@ -45,6 +47,7 @@ extends_class d spec h = record {
   grows = grows_not d.nodes;
   options = refl;
   names = refl;
+  verb_names = refl;
   classes = omega (arith, length-append d.classes (spec ∷ []));
   refs_are = h;
   groups = λ n. refl;
@@ -59,6 +62,7 @@ extends_node d new p id t h is made replaces no_group groups named = record {
   grows = made.grows;
   options = ap (λ v. v.options) is;
   names = ap (λ v. v.names) is;
+  verb_names = ap (λ v. v.verb_names) is;
   classes = omega (arith, ap (λ v. length v.classes) is);
   refs_are = ap (λ v. refs v.nodes) is ∙ refs_push d.nodes p ∙ ap (λ v. v ++ refs_of p) h ∙ ap (λ v. places_named (references_of d.nodes) ++ v) named
       ∙ sym (places_append (references_of d.nodes) (reference_in p)) ∙ ap places_named (sym (references_push d.nodes p)) ∙ ap (λ v. places_named (references_of v.nodes)) (sym is);
@@ -68,7 +72,7 @@ extends_node d new p id t h is made replaces no_group groups named = record {
 }
 
 pub adds_none : (d : DraftParts) → Adds d d None
-adds_none d = record { options = refl; classes = refl; names = refl; references = refl; refs_are = refl; groups = λ n. sym (or_false (has_group d.nodes n)) }
+adds_none d = record { options = refl; classes = refl; names = refl; verb_names = refl; references = refl; refs_are = refl; groups = λ n. sym (or_false (has_group d.nodes n)) }
 
 -- a node that is no reference is added
 pub adds_node : (d new : DraftParts) (p : Placed) (number : Option ℕ) → new ≡ with_node d p → refs new.nodes ≡ refs d.nodes ++ refs_of p → refs_of p ≡ [] → reference_in p ≡ [] →
@@ -77,6 +81,7 @@ adds_node d new p number is refs_are none no_reference groups numbered = record 
   options = ap (λ v. v.options) is;
   classes = ap (λ v. v.classes) is;
   names = ap (λ v. v.names) is;
+  verb_names = ap (λ v. v.verb_names) is;
   references = ap (λ v. references_of v.nodes) is ∙ references_push d.nodes p ∙ ap (λ v. references_of d.nodes ++ v) no_reference ∙ append-nil (references_of d.nodes);
   refs_are = refs_are ∙ ap (λ v. refs d.nodes ++ v) none ∙ append-nil (refs d.nodes);
   groups = λ n. groups n ∙ ap (λ b. has_group d.nodes n || b) (numbered n);
@@ -88,6 +93,7 @@ adds_then {a} {b} {c} {number} s t = record {
   options = t.options ∙ s.options;
   classes = t.classes ∙ s.classes;
   names = t.names ∙ s.names;
+  verb_names = t.verb_names ∙ s.verb_names;
   references = t.references ∙ s.references;
   refs_are = t.refs_are ∙ s.refs_are;
   groups = λ n. t.groups n ∙ ap (λ x. x || is_number number n) (s.groups n ∙ or_false (has_group a.nodes n));

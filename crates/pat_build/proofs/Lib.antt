@@ -18,3 +18,4 @@ pub mod Adding
 pub mod Beginning
 pub mod Starting
 pub mod Exits
+pub mod Numbering

@@ -153,6 +153,7 @@ module _ (m : Machine) (means : Means m) where
           classes = omega (arith, means.classes, there.goes, ap length adds.classes);
           known = means.known;
           named = named_kept m draft adds means.named;
+          verb_names = adds.verb_names ∙ means.verb_names;
           refs_are = refs_kept m draft adds means.refs_are;
           loose_is = replaces (ids_held m.stack.items ++ m.level.branches) (loose_idle m means ready.idle ∙ to_parts (ids_held m.stack.items) m.level.branches m.level.parts) ∙ as_branch (ids_held m.stack.items) m.level.branches (id ∷ []) ∙ ap (λ l. ids_held m.stack.items ++ ((l ++ []) ++ [])) (sym more) ∙ ap (λ w. ids_held m.stack.items ++ ((branches ++ []) ++ ids_waiting w)) (sym ready.idle);
           numbers = numbers_kept m.draft draft m.stack.items m.groups adds means.numbers;
@@ -205,6 +206,7 @@ module _ (m : Machine) (means : Means m) where
           classes = omega (arith, means.classes, there.goes);
           known = means.known;
           named = named;
+          verb_names = means.verb_names;
           refs_are = means.refs_are;
           loose_is = loose_idle m means ready.idle ∙ ap (λ l. ids_held m.stack.items ++ l) (append-nil (ids_in m.level)) ∙ ap (λ l. ids_held m.stack.items ++ ids_in l) (sym outer) ∙ sym (held_push m.stack.items f) ∙ ap ids_held (sym pushed) ∙ sym (append-nil (ids_held stack.items)) ∙ ap (λ w. ids_held stack.items ++ ids_waiting w) (sym ready.idle);
           numbers = rw pushed (numbers_enter m.draft.nodes m.stack.items f m.groups groups numbered means.numbers);
@@ -253,6 +255,7 @@ module _ (m : Machine) (means : Means m) where
         refs_are = refs_kept m draft adds means.refs_are;
         text = refl;
         named = named_kept m draft adds means.named;
+        verb_names = adds.verb_names ∙ means.verb_names;
         options = adds.options;
       }
 
@@ -299,6 +302,7 @@ module _ (m : Machine) (means : Means m) where
           classes = omega (arith, means.classes, there.goes, ap length adds.classes);
           known = means.known;
           named = named_kept m draft adds means.named;
+          verb_names = adds.verb_names ∙ means.verb_names;
           refs_are = refs_kept m draft adds means.refs_are;
           loose_is = replaces (ids_held m.stack.items) (loose_idle m means ready.idle ∙ ap (λ l. ids_held m.stack.items ++ l) (append-nil (ids_in m.level))) ∙ ap (λ l. l ++ id ∷ []) (ap ids_held popped ∙ held_push stack.items f) ∙ append_assoc (ids_held stack.items) (ids_in f.outer) (id ∷ []);
           numbers = numbers_close m.draft.nodes draft.nodes m.stack.items stack.items f m.groups popped adds.groups means.numbers;

@@ -55,6 +55,7 @@ module _ (m : Machine) (means : Means m) where
           depth = means.depth;
           classes = omega (arith, means.classes, there.goes, later, extends.classes);
           known = means.known;
+          verb_names = extends.verb_names ∙ means.verb_names;
           named = record { known = means.named.known; is = extends.names ∙ means.named.is; few = means.named.few; count = means.named.count };
           refs_are = extends.refs_are;
           loose_is = extends.loose_is ∙ ap (λ l. l ++ ids_of a) (loose_idle m means ready.idle ∙ ap (λ l. ids_held m.stack.items ++ l) (append-nil (ids_in m.level))) ∙ append_assoc (ids_held m.stack.items) (ids_in m.level) (ids_of a);
@@ -94,6 +95,7 @@ module _ (m : Machine) (means : Means m) where
           depth = means.depth;
           classes = omega (arith, means.classes, there.goes, extends.classes);
           known = means.known;
+          verb_names = extends.verb_names ∙ means.verb_names;
           named = record { known = means.named.known; is = extends.names ∙ means.named.is; few = means.named.few; count = means.named.count };
           refs_are = extends.refs_are;
           loose_is = extends.loose_is ∙ ap (λ l. l ++ id ∷ []) (loose_idle m means ready.idle ∙ ap (λ l. ids_held m.stack.items ++ l) (append-nil (ids_in m.level)))
@@ -134,6 +136,7 @@ module _ (m : Machine) (means : Means m) where
           classes = omega (arith, means.classes, there.goes);
           known = means.known;
           named = means.named;
+          verb_names = means.verb_names;
           refs_are = means.refs_are;
           loose_is = means.loose_is;
           numbers = means.numbers;
@@ -188,6 +191,7 @@ module _ (m : Machine) (means : Means m) where
           classes = omega (arith, means.classes, there.goes);
           known = means.known;
           named = means.named;
+          verb_names = means.verb_names;
           refs_are = means.refs_are;
           loose_is = means.loose_is;
           numbers = means.numbers;
@@ -225,6 +229,7 @@ module _ (m : Machine) (means : Means m) where
           classes = omega (arith, means.classes, there.goes, ap length adds.classes);
           known = means.known;
           named = named_kept m draft adds means.named;
+          verb_names = adds.verb_names ∙ means.verb_names;
           refs_are = refs_kept m draft adds means.refs_are;
           loose_is = replaces (ids_held m.stack.items ++ ids_in m.level) (loose_waiting m means a is) ∙ as_part (ids_held m.stack.items) m.level.branches m.level.parts (id ∷ []) ∙ ap (λ l. ids_held m.stack.items ++ ((m.level.branches ++ l) ++ [])) (sym more);
           numbers = numbers_kept m.draft draft m.stack.items m.groups adds means.numbers;

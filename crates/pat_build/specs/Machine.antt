@@ -10,6 +10,7 @@ use Rattle.pat_tree.specs.Parts.{DraftParts, TreeParts, tree_of}
 use Rattle.pat_tree.specs.Refs.{refs, has_group}
 use Rattle.pat_tree.specs.Rules.{class_in}
 use Rattle.pat_tree.specs.Growing.{Stand, loose}
+use Rattle.pat_tree.specs.Sound.{greatest, group_numbers}
 use Rattle.token_parts.specs.declared.fault.Fault.{Fault}
 use Rattle.token_parts.specs.declared.token.Token.{Token}
 use Rattle.token_parts.specs.declared.token.Token.TheVariants.{End, Literal, Dot, NotNewline, LineBreak, KeepOut, Caret, Dollar, SubjectStart, SubjectEnd, EndOrNewline, StartGiven, Boundary}
@@ -41,7 +42,7 @@ references_of (p ∷ ps) = reference_in p ++ references_of ps
 
 -- what a tree says of its pattern
 abbrev pub parsed_of : TreeParts → Parsed
-parsed_of t = record { options = t.options; tree = tree_of t; classes = t.classes; names = t.names; places = map (λ r. r.at) (references_of t.nodes) }
+parsed_of t = record { options = t.options; tree = tree_of t; classes = t.classes; names = t.names; places = map (λ r. r.at) (references_of t.nodes); groups = greatest (group_numbers t.nodes); verb_names = t.verb_names }
 
 -- the fault is that of the reading
 abbrev pub Refuses : {A : Type 0} → Result A Fault → ReadError → Type 0
@@ -57,6 +58,7 @@ pub record Adds (old new : DraftParts) (number : Option ℕ) : Type 0 where
   pub options : new.options ≡ old.options
   pub classes : new.classes ≡ old.classes
   pub names : new.names ≡ old.names
+  pub verb_names : new.verb_names ≡ old.verb_names
   pub references : references_of new.nodes ≡ references_of old.nodes
   pub refs_are : refs new.nodes ≡ refs old.nodes
   pub groups : (n : ℕ) → has_group new.nodes n ≡ (has_group old.nodes n || is_number number n)
@@ -185,6 +187,7 @@ pub record Means (m : Machine) : Type 0 where
   pub classes : length m.draft.classes ≤ m.at
   pub known : IsKnown m.text.now m.known.now
   pub named : Named m.text.now m.names.items m.draft.names m.groups
+  pub verb_names : m.draft.verb_names ≡ []
   pub refs_are : refs m.draft.nodes ≡ places_named (references_of m.draft.nodes)
   pub loose_is : loose m.draft.nodes ≡ ids_held m.stack.items ++ (ids_in m.level ++ ids_waiting m.waiting)
   pub numbers : (n : ℕ) → (has_group m.draft.nodes n || is_open m.stack.items n) ≡ is_opened m.groups n
@@ -258,4 +261,5 @@ pub record Ends (old new : Machine) (id : ℕ) : Type 0 where
   pub refs_are : refs new.draft.nodes ≡ places_named (references_of new.draft.nodes)
   pub text : new.text.now ≡ old.text.now
   pub named : Named new.text.now new.names.items new.draft.names new.groups
+  pub verb_names : new.draft.verb_names ≡ []
   pub options : new.draft.options ≡ old.draft.options

@@ -109,6 +109,10 @@ pub record Parsed : Type 0 where
   pub names : List NameEntry
   -- where the references stand, in the order of reading: so they stand in the tree from left to right
   pub places : List ℕ
+  -- the greatest number of a capturing group
+  pub groups : ℕ
+  -- the names of verbs, of which none is read yet
+  pub verb_names : List (List ℕ)
 
 -- under LITERAL each byte is a character
 unfoldable pub literally : Options → List ℕ → Parsed
@@ -118,13 +122,15 @@ literally options text = record {
   classes = [];
   names = [];
   places = [];
+  groups = 0;
+  verb_names = [];
 }
 
 -- The references of what was read must name groups.
 abbrev pub checked : Options → Option ℕ → Nested → State → Result Parsed Fault
 checked options (Some at) tree last = fault 115 at
 checked options None tree last =
-    Ok (record { options = options; tree = tree; classes = last.classes; names = last.names; places = map (λ r. r.at) last.references })
+    Ok (record { options = options; tree = tree; classes = last.classes; names = last.names; places = map (λ r. r.at) last.references; groups = last.groups; verb_names = [] })
 
 -- The names are read first, since a reference may stand before the group that has its name.
 unfoldable pub read_from : List ℕ → State → Result Parsed Fault

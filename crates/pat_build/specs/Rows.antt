@@ -33,6 +33,8 @@ branches ts = record {
   classes = [];
   names = [];
   places = [];
+  groups = 0;
+  verb_names = [];
 }
 
 abbrev pub group_of : ℕ → Nested → Nested
@@ -65,6 +67,7 @@ abbrev pub two_named : Parsed
 two_named = record (branches (seq (row (ref (1 ∷ 2 ∷ []) false ∷ group_of 1 (letter "a") ∷ group_of 2 (letter "b") ∷ [])) ∷ [])) {
   names = entry "n" 1 ∷ entry "n" 2 ∷ [];
   places = 4 ∷ [];
+  groups = 2;
 }
 
 abbrev pub limited : Parsed

@@ -1,5 +1,5 @@
 //! A compiled pattern.
-ghost use Rattle.std.specs.Prelude.{◌≡◌, ◌≤◌, ◌<◌, IfOk, IfErr, length, max, slice_get};
+ghost use Rattle.std.specs.Prelude.{◌≡◌, ◌≤◌, ◌<◌, false, IfOk, IfErr, length, max, slice_get};
 ghost use Rattle.std.specs.Option.{option_copied};
 ghost use Rattle.pat_tree.specs.declared.options.PartialMode.TheVariants.{Off};
 ghost use Rattle.pat_build.specs.Reading.{read};
@@ -144,6 +144,13 @@ impl Code {
             matching: options,
         };
         search(&ready, &view, scratch, calls)
+    }
+
+    /// A law: a compiled pattern is one of bytes, since none in UTF is compiled yet.
+    pub fn is_of_bytes(&self)
+        ensures { self.now.tree.options.utf ≡ false }
+    {
+        let _tree = &self.tree;
     }
 
     /// The names of groups.

@@ -5,26 +5,32 @@ use Rattle.pat_tree.specs.declared.names.NameEntry.{NameEntry}
 use Rattle.pat_tree.specs.Parts.{DraftParts, with_root}
 use Rattle.pat_tree.specs.Nested.{Nested, tree_at, trees}
 use Rattle.pat_tree.specs.Refs.{bad_ref, refs, has_group}
+use Rattle.pat_tree.specs.Sound.{greatest, group_numbers}
 use Rattle.pat_build.specs.State.{Reference}
 use Rattle.pat_build.specs.Reading.{Parsed, literally}
 use Rattle.pat_build.specs.Machine.{parsed_of, references_of}
+use Rattle.pat_build.proofs.States.{or_false}
+use Rattle.pat_build.proofs.Numbering.{greatest_none}
 use Rattle.pat_build.proofs.literal.literally.Goals as goal
 
 no_bad : (f : ℕ → Bool) (rs : List (ℕ × ℕ)) (at : ℕ) → rs ≡ [] → bad_ref f rs ≡ Some at → ⊥
 no_bad f [] at e h = cc
 no_bad f (r ∷ rs) at e h = cc
 
-abbrev parsed : Options → Nested → List ClassSpec → List NameEntry → List Reference → Parsed
-parsed o t cs ns rs = record { options = o; tree = t; classes = cs; names = ns; places = map (λ r. r.at) rs }
+abbrev parsed : Options → Nested → List ClassSpec → List NameEntry → List Reference → ℕ → List (List ℕ) → Parsed
+parsed o t cs ns rs n vs = record { options = o; tree = t; classes = cs; names = ns; places = map (λ r. r.at) rs; groups = n; verb_names = vs }
 
-parsed_is : (d : DraftParts) (root : ℕ) (o : Options) (t : Nested) → d.options ≡ o → tree_at (trees d.nodes) root ≡ t → d.classes ≡ [] → d.names ≡ [] → references_of d.nodes ≡ [] →
-    parsed_of (with_root d root) ≡ parsed o t [] [] []
-parsed_is d root o t options tree classes names references =
-    ap (λ v. parsed v (tree_at (trees d.nodes) root) d.classes d.names (references_of d.nodes)) options
-    ∙ ap (λ v. parsed o v d.classes d.names (references_of d.nodes)) tree
-    ∙ ap (λ v. parsed o t v d.names (references_of d.nodes)) classes
-    ∙ ap (λ v. parsed o t [] v (references_of d.nodes)) names
-    ∙ ap (λ v. parsed o t [] [] v) references
+parsed_is : (d : DraftParts) (root : ℕ) (o : Options) (t : Nested) → d.options ≡ o → tree_at (trees d.nodes) root ≡ t → d.classes ≡ [] → d.names ≡ [] → references_of d.nodes ≡ [] → greatest (group_numbers d.nodes) ≡ 0 → d.verb_names ≡ [] →
+    parsed_of (with_root d root) ≡ parsed o t [] [] [] 0 []
+parsed_is d root o t options tree classes names references groups verb_names =
+    let n : ℕ = greatest (group_numbers d.nodes) in
+    ap (λ v. parsed v (tree_at (trees d.nodes) root) d.classes d.names (references_of d.nodes) n d.verb_names) options
+    ∙ ap (λ v. parsed o v d.classes d.names (references_of d.nodes) n d.verb_names) tree
+    ∙ ap (λ v. parsed o t v d.names (references_of d.nodes) n d.verb_names) classes
+    ∙ ap (λ v. parsed o t [] v (references_of d.nodes) n d.verb_names) names
+    ∙ ap (λ v. parsed o t [] [] v n d.verb_names) references
+    ∙ ap (λ v. parsed o t [] [] [] v d.verb_names) groups
+    ∙ ap (λ v. parsed o t [] [] [] 0 v) verb_names
 
 pub unreachable-requires : goal.unreachable-requires
 unfolding refs
@@ -43,3 +49,5 @@ returns c =
     ap parsed_of c.in-Ok.ensures.0
     ∙ parsed_is d c.in_ok-root.root c.args.options _ (two.options ∙ one.options ∙ ap (λ v. v.options) start) made.is (two.classes ∙ one.classes ∙ ap (λ v. v.classes) start)
     (two.names ∙ one.names ∙ ap (λ v. v.names) start) (two.references ∙ one.references ∙ ap (λ v. references_of v.nodes) start)
+    (greatest_none d.nodes (λ n. two.groups n ∙ or_false _ ∙ one.groups n ∙ or_false _ ∙ ap (λ v. has_group v.nodes n) start))
+    (two.verb_names ∙ one.verb_names ∙ ap (λ v. v.verb_names) start)

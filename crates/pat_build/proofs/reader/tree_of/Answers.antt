@@ -1,11 +1,14 @@
-use Rattle.std.proofs.Common.{◌≡◌, ◌∙◌, ap, sym, subst, None, Some, Option, ℕ}
+use Rattle.std.proofs.Common.{◌≡◌, ◌∙◌, ap, sym, subst, None, Some, Option, ℕ, List, [], Result, Ok}
 use Rattle.std.proofs.lemmas.Result.{err_from_is_err_and}
 use Rattle.pat_tree.specs.declared.options.Options.{Options}
 use Rattle.pat_tree.specs.Nested.{tree_at, trees}
+use Rattle.pat_tree.specs.Parts.{with_root}
+use Rattle.token_parts.specs.declared.fault.Fault.{Fault}
 use Rattle.pat_build.specs.Names.{table_of}
-use Rattle.pat_build.specs.Reading.{checked}
-use Rattle.pat_build.specs.Machine.{Refuses, state_of, state_from}
+use Rattle.pat_build.specs.Reading.{Parsed, checked}
+use Rattle.pat_build.specs.Machine.{Refuses, parsed_of, state_of, state_from}
 use Rattle.pat_build.proofs.Exits.{tree_refuses, tree_is, missing_is, names_stand}
+use Rattle.pat_build.proofs.Numbering.{greatest_is}
 use Rattle.pat_build.proofs.reader.tree_of.Goals as goal
 
 pub returns-in_err-run-clause-bad : goal.returns-in_err-run-clause-bad
@@ -36,10 +39,13 @@ returns-in-Ok-clause-ok c =
     let tree = tree_at (trees m.draft.nodes) c.in_ok-root.root in
     let st = state_from c.args.start c.args.options in
     let options : m.draft.options ≡ c.args.options = ends.options ∙ same.options ∙ made.options in
+    let parsed : Parsed = parsed_of (with_root m.draft c.in_ok-root.root) in
     rw finished.0
     (tree_is (table_of c.args.text.now c.args.known.now) c.args.text.now st tree (state_of m) (sym made.whole ∙ sym same.whole ∙ ends.is)
     ∙ ap (λ (o : Option ℕ). checked c.args.options o tree (state_of m)) (missing_is m.draft.nodes m.groups None ends.groups ends.refs_are finished.1)
-    ∙ ap (λ (o : Options). checked o None tree (state_of m)) (sym options))
+    ∙ ap (λ (o : Options). checked o None tree (state_of m)) (sym options)
+    ∙ ap (λ (n : ℕ). let x : Result Parsed Fault = Ok (record parsed { groups = n; verb_names = [] }) in x) (sym (greatest_is m.draft.nodes m.groups ends.groups))
+    ∙ ap (λ (v : List (List ℕ)). let x : Result Parsed Fault = Ok (record parsed { verb_names = v }) in x) (sym ends.verb_names))
 
 pub returns-clause-bad : goal.returns-clause-bad
 returns-clause-bad c =

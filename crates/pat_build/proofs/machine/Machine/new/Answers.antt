@@ -33,6 +33,7 @@ returns-clause-means c =
       classes = omega arith;
       known = c.requires.known;
       named = rw c.new-3.ensures.items (record { known = record { inside = All-nil (Stands c.args.text.now); rising = tt }; is = refl; few = All-nil (λ (name : Name). name.group ≤ 0); count = omega arith });
+      verb_names = refl;
       refs_are = refl;
       loose_is = rw c.new-5.ensures.items refl;
       numbers = rw c.new-5.ensures.items (λ n. none_opened n);
