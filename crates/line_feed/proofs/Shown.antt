@@ -4,11 +4,11 @@ use Rattle.std.proofs.lemmas.List.{take-append-le}
 use Rattle.pcre_io.specs.Told.{Told}
 use Rattle.line_feed.specs.declared.phase.Phase.{Phase}
 use Rattle.line_feed.specs.declared.phase.Phase.TheVariants.{Open, Ended, Missed, Full, Closed}
-use Rattle.line_feed.specs.Rows.{Row, Ending, Finish}
-use Rattle.line_feed.specs.View.{Feed, Follows, HasNoMore}
+use Rattle.line_feed.specs.Rows.{Row, Ending, Finish, rows_from}
+use Rattle.line_feed.specs.View.{Feed, Follows, HasNoMore, to_give}
 use Rattle.line_feed.specs.Steps.{Moves}
 use Rattle.line_feed.specs.Answers.{Cuts, Gives, Lacks, Shows}
-use Rattle.line_feed.specs.Hears.{HasGiven, HasHeard, HasShown}
+use Rattle.line_feed.specs.Hears.{HasGiven, HasHeard, HasBegun, HasShown}
 use Rattle.line_feed.proofs.Given.{HasGiven-moved, HasGiven-cut, input-for, heard-of, phase-open}
 
 nothing : (gone : List ℕ) → length gone ≡ 0 → gone ≡ []
@@ -87,4 +87,19 @@ HasShown-stops before now f given finish shown has none =
     let all = has.given_so.gone ++ f.held in (
       h.0,
       has.first ∙ sym (front-of f.phase all input.more input.input.ending input.follows has.many) ∙ ap (λ l. take 1024 l) (sym input.bytes) ∙ ap (λ i. take 1024 i.bytes) (sym h.1),
+    )
+
+-- the first rows of the input, and its first bytes
+pub HasShown-begun : (before now : Told) (f : Feed) (given : List Row) (shown : List ℕ) → HasShown before now f given shown
+    → (begun : HasBegun f.kind f.max before now given) × (shown ≡ take 1024 begun.input.bytes)
+HasShown-begun before now f given shown has =
+    let input = input-for before now f given has.given_so in
+    let all = has.given_so.gone ++ f.held in (
+      record {
+        input = input.input;
+        hears = input.hears;
+        more = (to_give f input.more input.input.ending).rows;
+        all = ap (λ l. (rows_from f.kind f.max 1 0 l input.input.ending).rows) input.bytes ∙ ap (λ r. r.rows) (has.given_so.rows input.more input.input.ending input.follows);
+      },
+      has.first ∙ sym (front-of f.phase all input.more input.input.ending input.follows has.many) ∙ ap (λ l. take 1024 l) (sym input.bytes),
     )
