@@ -1,18 +1,20 @@
 -- Patterns as they are searched for, and the first one that is refused.
-use Rattle.std.specs.Prelude.{ℕ, ◌+◌, List, [], ◌∷◌, map, Some, pos, slice_get, Result, Ok, Err}
+use Rattle.std.specs.Prelude.{◌≡◌, ℕ, ◌+◌, List, [], ◌∷◌, ◌++◌, length, map, pos, slice_get, Result, Ok, Err}
 use Rattle.uni_text.specs.Ascii.{ascii_fold, is_word_char}
 use Rattle.pat_tree.specs.declared.options.Options.{Options}
 use Rattle.pat_tree.specs.declared.options.MatchOptions.{MatchOptions}
 use Rattle.pat_tree.specs.declared.nodes.ClassSpec.{ClassSpec}
-use Rattle.pat_tree.specs.Nested.{Nested, group}
+use Rattle.pat_tree.specs.Nested.{Nested}
 use Rattle.pat_tree.specs.Parts.{TreeParts, tree_of}
 use Rattle.pat_tree.specs.Sound.{greatest, group_numbers}
 use Rattle.token_parts.specs.declared.fault.Fault.{Fault}
 use Rattle.token_parts.specs.Tell.{◌>>=◌}
 use Rattle.pat_build.specs.Reading.{Parsed, read}
-use Rattle.pat_check.specs.Nodes.{all_nodes}
 use Rattle.frame_machine.specs.Setting.{Setting, class_holds}
+use Rattle.pcre2_api.specs.Compiled.{CodeParts}
 use Rattle.grep_args.specs.declared.plan.GrepPlan.{GrepPlan}
+use Rattle.grep_core.specs.declared.patterns.PatternError.{PatternError}
+use Rattle.grep_core.specs.declared.patterns.PatternError.TheVariants as refused
 use Rattle.grep_core.specs.Patterns.{pattern_texts, options_of}
 
 -- what a search goes by in a pattern
@@ -24,22 +26,22 @@ pub record Pattern : Type 0 where
   pub classes : List ClassSpec
   pub verb_names : List (List ℕ)
 
-abbrev pub number_of : Nested → ℕ
-number_of (group (Some n) branches) = n
-number_of _ = 0
-
 abbrev pub pattern_of : Parsed → Pattern
 pattern_of parsed = record {
   options = parsed.options;
   tree = parsed.tree;
-  groups = greatest (map number_of (all_nodes parsed.tree));
+  groups = parsed.groups;
   classes = parsed.classes;
-  verb_names = [];
+  verb_names = parsed.verb_names;
 }
 
 -- the same of a finished tree
 abbrev pub pattern_in : TreeParts → Pattern
 pattern_in t = record { options = t.options; tree = tree_of t; groups = greatest (group_numbers t.nodes); classes = t.classes; verb_names = t.verb_names }
+
+-- the patterns of compiled ones
+abbrev pub patterns_in : List CodeParts → List Pattern
+patterns_in codes = map (λ c. pattern_in c.tree) codes
 
 -- What a search of a subject from a place on is about. Callouts are passed over.
 abbrev pub setting : Pattern → MatchOptions → List ℕ → ℕ → Setting
@@ -87,3 +89,13 @@ compiled_from options n (text ∷ texts) = elim (compiled options text) [
 -- The patterns of a plan, where the texts are the patterns that it has and then those of its pattern files.
 abbrev pub patterns_of : GrepPlan → List (List ℕ) → Compiled
 patterns_of plan texts = compiled_from (options_of plan) 1 (pattern_texts plan texts)
+
+-- what a refusal tells; want of memory may come at any time
+abbrev pub IsPatternError : Compiled → PatternError → Type 0
+IsPatternError found (refused.Bad pattern number at) = found ≡ Err (record { number = pattern; fault = record { number = number; at = at } })
+IsPatternError found refused.Memory = Unit {0}
+
+-- What compiling these texts adds to the patterns that there are: the patterns of all, or the first that is refused is told.
+abbrev pub Adds : {A : Type 0} → Options → List (List ℕ) → List CodeParts → List CodeParts → Result A PatternError → Type 0
+Adds options texts old new (Ok _) = (more : List CodeParts) × (new ≡ old ++ more) × (compiled_from options (length old + 1) texts ≡ Ok (patterns_in more))
+Adds options texts old new (Err e) = IsPatternError (compiled_from options (length old + 1) texts) e

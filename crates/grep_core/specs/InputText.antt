@@ -3,8 +3,14 @@ use Rattle.std.specs.Prelude.{ℕ, ◌+◌, Bool, true, false, ◌||◌, not, na
 use Rattle.line_feed.specs.Rows.{Rows, Input, At, End}
 use Rattle.grep_args.specs.declared.plan.GrepPlan.{GrepPlan}
 use Rattle.grep_core.specs.Compiled.{Pattern}
-use Rattle.grep_core.specs.Lines.{Treatment, lines, treatment}
-use Rattle.grep_core.specs.Modes.{Mode, names_without, counts, names_with, parts, whole_lines, mode, is_with, is_matching, tells_binary}
+use Rattle.grep_core.specs.declared.modes.Treatment.{Treatment}
+use Rattle.grep_core.specs.Lines.{lines, treatment}
+use Rattle.grep_core.specs.declared.modes.Mode.{Mode}
+use Rattle.grep_core.specs.declared.modes.Mode.TheVariants.{NamesWithout, Counts, NamesWith}
+use Rattle.grep_core.specs.declared.modes.Show.{Show}
+use Rattle.grep_core.specs.declared.modes.Show.TheVariants as show
+use Rattle.grep_core.specs.Modes.{mode, is_with, is_matching, is_told, show_in}
+use Rattle.grep_core.specs.declared.state.State.{State}
 use Rattle.grep_core.specs.Scans.{Scan, Ended, too_many_errors, scan, selected_in, errors_in, rows_of}
 use Rattle.grep_core.specs.Context.{Shown, shown_lines}
 use Rattle.grep_core.specs.Texts.{line, text_if, lines_text, matches_text}
@@ -13,12 +19,7 @@ use Rattle.grep_core.specs.Messages.{messages}
 abbrev pub first_rows : ℕ → Rows → Rows
 first_rows n found = record { rows = take n found.rows; finish = At End }
 
--- what the inputs before leave: the number of match errors, that of selected lines, and whether a group of lines was shown
-pub record State : Type 0 where
-  pub errors : ℕ
-  pub total : ℕ
-  pub has_shown : Bool
-
+-- nothing is left before the first input
 abbrev pub first_state : State
 first_state = record { errors = 0; total = 0; has_shown = false }
 
@@ -44,39 +45,40 @@ module _ (plan : GrepPlan) (name : List ℕ) where
   abbrev pub shown_of : Scan → List Shown
   shown_of s = shown_lines plan (rows_of (selected_in plan s)) s.within
 
-  -- in the modes that show lines or parts of them
-  abbrev pub lines_out : Bool → Scan → Mode → List ℕ
-  lines_out has_shown s whole_lines = lines_text plan name has_shown (shown_of s)
-  lines_out has_shown s parts = flat_map (matches_text plan name) (selected_in plan s)
-  lines_out has_shown s _ = []
+  -- where lines or parts of them are shown
+  abbrev pub shown_out : Show → Bool → Scan → List ℕ
+  shown_out show.Lines has_shown s = lines_text plan name has_shown (shown_of s)
+  shown_out show.Parts has_shown s = flat_map (matches_text plan name) (selected_in plan s)
+  shown_out show.Nothing has_shown s = []
 
   -- what is told of a whole input, once it was scanned
-  abbrev pub summary_out : ℕ → Mode → List ℕ
-  summary_out n names_without = text_if (not (nat_lt 0 n)) (line name)
-  summary_out n counts = count_text n
-  summary_out n names_with = text_if (nat_lt 0 n) (line name)
-  summary_out n _ = []
+  abbrev pub summary_out : Mode → ℕ → List ℕ
+  summary_out NamesWithout n = text_if (not (nat_lt 0 n)) (line name)
+  summary_out Counts n = count_text n
+  summary_out NamesWith n = text_if (nat_lt 0 n) (line name)
+  summary_out _ n = []
 
   -- a binary file only tells that it matches
-  abbrev pub told_out : Bool → Bool → Scan → List ℕ
-  told_out true has_shown s = text_if (nat_lt 0 (length (selected_in plan s))) binary_text
-  told_out false has_shown s = lines_out has_shown s (mode plan) ++ summary_out (length (selected_in plan s)) (mode plan)
+  abbrev pub end_out : Mode → Bool → ℕ → List ℕ
+  end_out mode true n = text_if (nat_lt 0 n) binary_text
+  end_out mode false n = summary_out mode n
 
   -- after too many match errors no count and no name follow
   abbrev pub out_text : Bool → Bool → Scan → Ended → List ℕ
-  out_text is_told has_shown s too_many_errors = if is_told then [] else lines_out has_shown s (mode plan)
-  out_text is_told has_shown s _ = told_out is_told has_shown s
+  out_text is_told has_shown s too_many_errors = shown_out (show_in is_told (mode plan)) has_shown s
+  out_text is_told has_shown s _ =
+      shown_out (show_in is_told (mode plan)) has_shown s ++ end_out (mode plan) is_told (length (selected_in plan s))
 
   -- a group of lines is shown where lines are
-  abbrev pub shows_group : Bool → Scan → Mode → Bool
-  shows_group false s whole_lines = nat_lt 0 (length (shown_of s))
-  shows_group _ s _ = false
+  abbrev pub shows_group : Show → Scan → Bool
+  shows_group show.Lines s = nat_lt 0 (length (shown_of s))
+  shows_group _ s = false
 
   abbrev pub state_after : Bool → State → Scan → State
   state_after is_told before s = record {
     errors = before.errors + length (errors_in s);
     total = before.total + length (selected_in plan s);
-    has_shown = before.has_shown || shows_group is_told s (mode plan);
+    has_shown = before.has_shown || shows_group (show_in is_told (mode plan)) s;
   }
 
   abbrev pub written_by : Bool → State → Scan → Written
@@ -91,7 +93,7 @@ module _ (plan : GrepPlan) (name : List ℕ) where
 module _ (plan : GrepPlan) (patterns : List Pattern) (name : List ℕ) (before : State) where
   abbrev pub text_of_rows : Treatment → Rows → Written
   text_of_rows treated found =
-      written_by plan name (tells_binary treated (mode plan)) before (scan plan patterns before.errors treated found)
+      written_by plan name (is_told plan treated) before (scan plan patterns before.errors treated found)
 
   -- What is written of an input of this name after what the inputs before it leave.
   unfoldable pub input_text : Input → Written

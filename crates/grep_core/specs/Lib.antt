@@ -14,3 +14,10 @@ pub mod Tool
 pub mod ToolText
 pub mod Runs
 pub mod Worked
+pub mod Writes
+pub mod Found
+pub mod Back
+pub mod Ends
+pub mod Course
+pub mod Turns
+pub mod OneInput

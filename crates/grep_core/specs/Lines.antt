@@ -7,6 +7,8 @@ use Rattle.line_feed.specs.Rows.{Rows, Input, rows}
 use Rattle.grep_args.specs.declared.plan.BinaryMode.{BinaryMode}
 use Rattle.grep_args.specs.declared.plan.BinaryMode.TheVariants.{Binary, Text, WithoutMatch}
 use Rattle.grep_args.specs.declared.plan.GrepPlan.{GrepPlan}
+use Rattle.grep_core.specs.declared.modes.Treatment.{Treatment}
+use Rattle.grep_core.specs.declared.modes.Treatment.TheVariants.{AsText, AsBinary, Skipped}
 use Rattle.grep_core.specs.Patterns.{line_end}
 
 -- the lines of an input, and how they end
@@ -22,16 +24,11 @@ abbrev pub is_binary : GrepPlan → Input → Bool
 is_binary plan input = not (is_nul plan.newline) && list_any (nat_eq 0) (take 1024 input.bytes)
 
 -- how an input is treated
-pub data Treatment : Type 0 where
-  as_text : Treatment
-  as_binary : Treatment
-  -- as without any selected line
-  skipped : Treatment
-
-abbrev pub of_binary : BinaryMode → Treatment
-of_binary Binary = as_binary
-of_binary Text = as_text
-of_binary WithoutMatch = skipped
+abbrev pub treatment_by : Bool → BinaryMode → Treatment
+treatment_by false mode = AsText
+treatment_by true Binary = AsBinary
+treatment_by true Text = AsText
+treatment_by true WithoutMatch = Skipped
 
 abbrev pub treatment : GrepPlan → Input → Treatment
-treatment plan input = elim (is_binary plan input) [ true ↦ of_binary plan.binary | false ↦ as_text ]
+treatment plan input = treatment_by (is_binary plan input) plan.binary

@@ -81,6 +81,10 @@ limits plan = record plain_match.PLAIN { match_limit = plan.match_limit; frame_l
 abbrev pub not_empty : MatchOptions → MatchOptions
 not_empty matching = record matching { notempty = true }
 
+-- `-o` and offsets show every match of a line, unless `-v` is given
+abbrev pub shows_each : GrepPlan → Bool
+shows_each plan = is_parts (mode plan) && not plan.invert_match
+
 module _ (plan : GrepPlan) (patterns : List Pattern) (line : List ℕ) where
   -- The later matches: each is tried from the end of the one before and isn't empty, so there are no more of them than
   -- bytes. The number bounds how often it is tried.
@@ -92,15 +96,11 @@ module _ (plan : GrepPlan) (patterns : List Pattern) (line : List ℕ) where
     | found o ↦ with_match o (later n o.to)
   ]
 
-  -- `-o` and offsets show every match of a line, unless `-v` is given
-  abbrev pub shows_each : Bool
-  shows_each = is_parts (mode plan) && not plan.invert_match
-
   unfoldable pub matches : Matches
   matches = elim (first_answer (limits plan) line 0 patterns) [
     | none ↦ Ok []
     | error e ↦ Err e
-    | found o ↦ elim shows_each [ true ↦ with_match o (later (length line + 1) o.to) | false ↦ Ok (o ∷ []) ]
+    | found o ↦ elim (shows_each plan) [ true ↦ with_match o (later (length line + 1) o.to) | false ↦ Ok (o ∷ []) ]
   ]
 
 -- a line with its matches

@@ -4,22 +4,12 @@ use Rattle.grep_args.specs.declared.plan.NameMode.{NameMode}
 use Rattle.grep_args.specs.declared.plan.NameMode.TheVariants.{With, Matching, NotMatching}
 use Rattle.grep_args.specs.declared.plan.GrepPlan.{GrepPlan}
 use Rattle.grep_args.specs.Effects.{is_empty, no_offsets}
-use Rattle.grep_core.specs.Lines.{Treatment, as_binary}
-
-pub data Mode : Type 0 where
-  -- `-q`
-  nothing : Mode
-  -- `-L`
-  names_without : Mode
-  -- `-c`
-  counts : Mode
-  -- `-l`
-  names_with : Mode
-  -- `-t` alone
-  total : Mode
-  -- `-o` or offsets
-  parts : Mode
-  whole_lines : Mode
+use Rattle.grep_core.specs.declared.modes.Mode.{Mode}
+use Rattle.grep_core.specs.declared.modes.Mode.TheVariants.{Nothing, NamesWithout, Counts, NamesWith, Total, Parts, WholeLines}
+use Rattle.grep_core.specs.declared.modes.Treatment.{Treatment}
+use Rattle.grep_core.specs.declared.modes.Treatment.TheVariants.{AsBinary}
+use Rattle.grep_core.specs.declared.modes.Show.{Show}
+use Rattle.grep_core.specs.declared.modes.Show.TheVariants as show
 
 abbrev pub is_with : NameMode → Bool
 is_with With = true
@@ -40,40 +30,49 @@ asks_parts plan = not (is_empty plan.only_matching) || not (no_offsets plan.offs
 -- the first of these that is set
 abbrev pub mode : GrepPlan → Mode
 mode plan =
-    if plan.quiet then nothing
-    else if is_not_matching plan.names then names_without
-    else if plan.count then counts
-    else if is_matching plan.names then names_with
-    else if plan.total_count then total
-    else if asks_parts plan then parts
-    else whole_lines
+    if plan.quiet then Nothing
+    else if is_not_matching plan.names then NamesWithout
+    else if plan.count then Counts
+    else if is_matching plan.names then NamesWith
+    else if plan.total_count then Total
+    else if asks_parts plan then Parts
+    else WholeLines
 
 abbrev pub is_parts : Mode → Bool
-is_parts parts = true
+is_parts Parts = true
 is_parts _ = false
 
 -- of a binary file these modes tell only that it matches, at its first selected line
 abbrev pub tells_binary : Treatment → Mode → Bool
-tells_binary as_binary names_with = true
-tells_binary as_binary parts = true
-tells_binary as_binary whole_lines = true
+tells_binary AsBinary NamesWith = true
+tells_binary AsBinary Parts = true
+tells_binary AsBinary WholeLines = true
 tells_binary _ _ = false
 
+abbrev pub is_told : GrepPlan → Treatment → Bool
+is_told plan treated = tells_binary treated (mode plan)
+
+-- what is written of a selected line, unless only a text tells that the file matches
+abbrev pub show_in : Bool → Mode → Show
+show_in false WholeLines = show.Lines
+show_in false Parts = show.Parts
+show_in _ _ = show.Nothing
+
 -- how many lines are selected at most: in some modes the first decides, else `-m` tells it
-abbrev pub most_selected : Mode → Option ℕ → Option ℕ
-most_selected nothing most = Some 1
-most_selected names_without most = Some 1
-most_selected names_with most = Some 1
-most_selected _ most = most
+abbrev pub most_selected : Bool → Mode → Option ℕ → Option ℕ
+most_selected true mode most = Some 1
+most_selected false Nothing most = Some 1
+most_selected false NamesWithout most = Some 1
+most_selected false NamesWith most = Some 1
+most_selected false _ most = most
 
 abbrev pub greatest_selected : GrepPlan → Treatment → Option ℕ
-greatest_selected plan treated =
-    if tells_binary treated (mode plan) then Some 1 else most_selected (mode plan) plan.max_count
+greatest_selected plan treated = most_selected (is_told plan treated) (mode plan) plan.max_count
 
 -- how many lines follow, as context, the last one that is selected: only where lines are shown
-abbrev pub lines_after : Mode → ℕ → ℕ
-lines_after whole_lines after = after
+abbrev pub lines_after : Show → ℕ → ℕ
+lines_after show.Lines after = after
 lines_after _ after = 0
 
 abbrev pub trailing : GrepPlan → Treatment → ℕ
-trailing plan treated = if tells_binary treated (mode plan) then 0 else lines_after (mode plan) plan.after_context
+trailing plan treated = lines_after (show_in (is_told plan treated) (mode plan)) plan.after_context

@@ -3,7 +3,8 @@ use Rattle.std.specs.Prelude.{ℕ, suc, ◌+◌, ◌-◌, ◌==◌, Bool, true, 
 use Rattle.line_feed.specs.Rows.{Row, Rows, Finish}
 use Rattle.grep_args.specs.declared.plan.GrepPlan.{GrepPlan}
 use Rattle.grep_core.specs.Compiled.{Pattern}
-use Rattle.grep_core.specs.Lines.{Treatment, as_text, as_binary, skipped}
+use Rattle.grep_core.specs.declared.modes.Treatment.{Treatment}
+use Rattle.grep_core.specs.declared.modes.Treatment.TheVariants.{AsText, AsBinary, Skipped}
 use Rattle.grep_core.specs.Modes.{greatest_selected, trailing}
 use Rattle.grep_core.specs.Matches.{Tried, tried_row, is_selected, has_error}
 
@@ -78,9 +79,9 @@ module _ (plan : GrepPlan) (patterns : List Pattern) (errors : ℕ) where
 
   -- The scan of the lines of an input that is treated so. One that counts as without any selected line isn't scanned.
   abbrev pub scan : Treatment → Rows → Scan
-  scan skipped found = record { tried = []; within = []; ended = early }
-  scan as_text found = scan_of_rows as_text found
-  scan as_binary found = scan_of_rows as_binary found
+  scan Skipped found = record { tried = []; within = []; ended = early }
+  scan AsText found = scan_of_rows AsText found
+  scan AsBinary found = scan_of_rows AsBinary found
 
 -- the lines that it selects, in order
 abbrev pub selected_in : GrepPlan → Scan → List Tried

@@ -19,6 +19,16 @@ line text = text ++ 10 ∷ []
 abbrev pub text_if : Bool → List ℕ → List ℕ
 text_if is_there text = if is_there then text else []
 
+-- Whole lines.
+
+-- a line keeps its newline, and a last one without a newline gets LF
+abbrev pub newline_of : Row → List ℕ
+newline_of row = if is_empty row.newline then 10 ∷ [] else row.newline
+
+-- a colon stands behind name and number of a selected line, a hyphen behind those of context
+abbrev pub mark_of : Bool → List ℕ
+mark_of is_selected = if is_selected then codes ":" else codes "-"
+
 module _ (plan : GrepPlan) (name : List ℕ) where
   -- the name of the input and a mark, where names are shown
   abbrev pub name_before : List ℕ → List ℕ
@@ -26,16 +36,6 @@ module _ (plan : GrepPlan) (name : List ℕ) where
 
   abbrev pub number_before : ℕ → List ℕ → List ℕ
   number_before number mark = text_if plan.line_number (decimal number ++ mark)
-
-  -- Whole lines.
-
-  -- a line keeps its newline, and a last one without a newline gets LF
-  abbrev pub newline_of : Row → List ℕ
-  newline_of row = if is_empty row.newline then 10 ∷ [] else row.newline
-
-  -- a colon stands behind name and number of a selected line, a hyphen behind those of context
-  abbrev pub mark_of : Bool → List ℕ
-  mark_of is_selected = if is_selected then codes ":" else codes "-"
 
   abbrev pub line_text : Shown → List ℕ
   line_text s =
@@ -48,44 +48,50 @@ module _ (plan : GrepPlan) (name : List ℕ) where
   lines_text is_later (s ∷ more) =
       text_if (is_later && (s.begins_group && parts_groups plan)) (line (codes "--")) ++ line_text s ++ lines_text true more
 
-  -- Matched parts.
+-- Matched parts.
 
-  abbrev pub span_text : List ℕ → Option Span → List ℕ
-  span_text bytes None = []
-  span_text bytes (Some span) = slice_range bytes span.from span.to
+abbrev pub span_text : List ℕ → Option Span → List ℕ
+span_text bytes None = []
+span_text bytes (Some span) = slice_range bytes span.from span.to
 
-  -- the text of a group, 0 being the whole match
-  abbrev pub group_text : List ℕ → Outcome → ℕ → List ℕ
-  group_text bytes o n = if n == 0 then slice_range bytes o.keep o.to else span_text bytes (capture o.caps n)
+-- the text of a group, 0 being the whole match
+abbrev pub group_text : List ℕ → Outcome → ℕ → List ℕ
+group_text bytes o n = if n == 0 then slice_range bytes o.keep o.to else span_text bytes (capture o.caps n)
 
-  -- those of the groups that are set and not empty
-  abbrev pub group_texts : List ℕ → Outcome → List (List ℕ)
-  group_texts bytes o = filter (λ text. not (is_empty text)) (map (group_text bytes o) plan.only_matching)
+-- those of texts that are not empty
+abbrev pub given_texts : List (List ℕ) → List (List ℕ)
+given_texts texts = filter (λ text. not (is_empty text)) texts
 
-  abbrev pub joined : List (List ℕ) → List ℕ
-  joined [] = []
-  joined (text ∷ texts) = text ++ flat_map (λ other. plan.om_separator ++ other) texts
+-- those of the groups that are set and not empty
+abbrev pub group_texts : GrepPlan → List ℕ → Outcome → List (List ℕ)
+group_texts plan bytes o = given_texts (map (group_text bytes o) plan.only_matching)
 
-  abbrev pub is_any : List (List ℕ) → Bool
-  is_any [] = false
-  is_any (text ∷ texts) = true
+abbrev pub joined : List ℕ → List (List ℕ) → List ℕ
+joined separator [] = []
+joined separator (text ∷ texts) = text ++ flat_map (λ other. separator ++ other) texts
 
+abbrev pub is_any : List (List ℕ) → Bool
+is_any [] = false
+is_any (text ∷ texts) = true
+
+-- Places of matches.
+
+-- where a match stands, from an offset on, and its length
+abbrev pub span_of : ℕ → Outcome → List ℕ
+span_of offset o = decimal (offset + o.keep) ++ codes "," ++ decimal (o.to - o.keep)
+
+module _ (plan : GrepPlan) (name : List ℕ) where
   -- where no group is left, only a name or a number makes a line
   abbrev pub part_text : Row → Outcome → List ℕ
   part_text row o =
-      let texts = group_texts row.bytes o in
+      let texts = group_texts plan row.bytes o in
       text_if (is_any texts || (is_with plan.names || plan.line_number))
-      (line (name_before (codes ":") ++ number_before row.number (codes ":") ++ joined texts))
-
-  -- Places of matches.
-
-  abbrev pub span_of : ℕ → Outcome → List ℕ
-  span_of offset o = decimal (offset + o.keep) ++ codes "," ++ decimal (o.to - o.keep)
+      (line (name_before plan name (codes ":") ++ number_before plan name row.number (codes ":") ++ joined plan.om_separator texts))
 
   abbrev pub match_text : OffsetMode → Row → Outcome → List ℕ
   match_text NoOffsets row o = part_text row o
-  match_text Lines row o = line (name_before (codes ":") ++ decimal row.number ++ codes ":" ++ span_of 0 o)
-  match_text File row o = line (name_before (codes ":") ++ span_of row.offset o)
+  match_text Lines row o = line (name_before plan name (codes ":") ++ decimal row.number ++ codes ":" ++ span_of 0 o)
+  match_text File row o = line (name_before plan name (codes ":") ++ span_of row.offset o)
 
   -- every match of a selected line; under `-v` it has none
   abbrev pub matches_text : Tried → List ℕ

@@ -10,7 +10,8 @@ use Rattle.grep_core.specs.Compiled.{Pattern}
 use Rattle.grep_core.specs.Scans.{at_finish, early, too_many_errors}
 use Rattle.grep_core.specs.Texts.{text_if}
 use Rattle.grep_core.specs.Messages.{message_on, finish_message}
-use Rattle.grep_core.specs.InputText.{State, Written, input_text}
+use Rattle.grep_core.specs.declared.state.State.{State}
+use Rattle.grep_core.specs.InputText.{Written, input_text}
 
 -- Inputs by name.
 

@@ -9,7 +9,9 @@ use Rattle.grep_args.specs.declared.plan.NameMode.TheVariants.{Auto, With}
 use Rattle.grep_args.specs.declared.plan.HelpKind.{HelpKind}
 use Rattle.grep_args.specs.Words.{plan_of}
 use Rattle.grep_core.specs.Compiled.{Compiled, patterns_of}
-use Rattle.grep_core.specs.Modes.{Mode, nothing, names_without, counts, mode, is_with, is_matching}
+use Rattle.grep_core.specs.declared.modes.Mode.{Mode}
+use Rattle.grep_core.specs.declared.modes.Mode.TheVariants.{Nothing, NamesWithout, Counts}
+use Rattle.grep_core.specs.Modes.{mode, is_with, is_matching}
 use Rattle.grep_core.specs.Scans.{Ended, at_finish, early, too_many_errors}
 use Rattle.grep_core.specs.Texts.{line, text_if}
 use Rattle.grep_core.specs.Refusals.{Outcome, refusal, usage_message, pattern_message, help_text}
@@ -65,9 +67,9 @@ total_text before rs = line (before ++ decimal (total_of rs))
 
 -- with `-q` and `-L` there is none, and none behind just one count
 abbrev pub total_after : GrepPlan → List Report → Mode → List ℕ
-total_after plan rs nothing = []
-total_after plan rs names_without = []
-total_after plan rs counts =
+total_after plan rs Nothing = []
+total_after plan rs NamesWithout = []
+total_after plan rs Counts =
     if count_lines rs == 1 then []
     else total_text (text_if ((is_with plan.names || is_matching plan.names) && nat_lt 0 (count_lines rs)) (codes "TOTAL:")) rs
 total_after plan rs _ = total_text [] rs

@@ -1,0 +1,296 @@
+-- How a scan ends among its lines, or where they end.
+use Rattle.std.proofs.Common.{◌≡◌, ◌≢◌, ℕ, ◌+◌, ◌<◌, ◌==◌, ◌||◌, ◌&&◌, Bool, true, false, cond, List, [], ◌∷◌, ◌++◌, length, Option, Result, Ok, Err, refl, sym, ap, subst, ◌∙◌, ⊎_elim, inl, inr, arith, append_assoc, append-nil}
+use Rattle.std.specs.Prelude.{filter, flat_map, nat_lt}
+use Rattle.std.proofs.lemmas.Bool.{cases_Bool, cond-true, cond-false, eqb-true, eqb-false, false≢true}
+use Rattle.pcre_io.specs.Told.{Told, Kept}
+use Rattle.line_feed.specs.Rows.{Row, Rows, Finish, At, Long, End, Fault, Limit}
+use Rattle.line_feed.specs.View.{Feed}
+use Rattle.line_feed.specs.Answers.{Gives, Refuses}
+use Rattle.line_feed.specs.declared.phase.FeedError.TheVariants as feed
+use Rattle.grep_args.specs.declared.plan.GrepPlan.{GrepPlan}
+use Rattle.grep_core.specs.Compiled.{Pattern}
+use Rattle.grep_core.specs.declared.modes.Show.{Show}
+use Rattle.grep_core.specs.declared.modes.Show.TheVariants as show
+use Rattle.grep_core.specs.declared.modes.Treatment.{Treatment}
+use Rattle.grep_core.specs.declared.ended.Ended.{Ended}
+use Rattle.grep_core.specs.declared.ended.Ended.TheVariants as told
+use Rattle.grep_core.specs.declared.ended.Stop.{Stop}
+use Rattle.grep_core.specs.declared.ended.Stop.TheVariants.{SinkFault, TooManyErrors, Memory}
+use Rattle.grep_core.specs.declared.scan.Course.{Course}
+use Rattle.grep_core.specs.declared.state.State.{State}
+use Rattle.grep_core.specs.Patterns.{line_end}
+use Rattle.grep_core.specs.Lines.{lines}
+use Rattle.grep_core.specs.Modes.{is_told, mode, show_in, greatest_selected, lines_after}
+use Rattle.grep_core.specs.Matches.{Tried, tried_row, is_selected, has_error}
+use Rattle.grep_core.specs.Scans.{Scan, rows_of, errors_left, nth_place, place_of_most, scan_to, whole_scan, broken_scan, errors_in, selected_in}
+use Rattle.grep_core.specs.Context.{shown_lines}
+use Rattle.grep_core.specs.Messages.{error_message}
+use Rattle.grep_core.specs.InputText.{shown_out, shows_group}
+use Rattle.grep_core.specs.Course.{AreNumbered, row_out, state_behind, is_lines, scan_so_far}
+use Rattle.grep_core.specs.Turns.{course_of, Wrote, Breaks, TakesLine, TakesLast, is_last, EndsSo, Idles, Turns, Stood, Scans, ScansTo, ScansInput, scan_of, left_by, IsJob, BeginsWith, EndsWith}
+use Rattle.grep_core.proofs.Reached.{out-broken}
+use Rattle.grep_core.proofs.ScanEnds.{count, count-more, count-one, count-none, early-tried, broken-within}
+use Rattle.grep_core.proofs.Extends.{Goes, LastError, full, whole-is, whole-out, broken-is, broken_out, row-broken, row-extends, extends, said-more, error-unselected}
+use Rattle.grep_core.proofs.ScansRows.{stood-moves, stood-begins, stood-stops, begins-numbered}
+use Rattle.grep_core.proofs.ScansTexts.{breaks-more, breaks-memory, breaks-ext, wrote-more}
+use Rattle.grep_core.proofs.ScansTaken.{tries, tries-more, rows-tried, errors-more, Standing, next-stood, next-kind, next-max}
+
+-- how the feed ends is how the rows end
+pub ends-so : (plan : GrepPlan) (treated : Treatment) (before now after : Told) (f g : Feed) (given : List Row) (ended : Ended) → Stood plan treated before now f given → f.kind ≡ line_end plan → f.max ≡ plan.max_buffer_size
+    → EndsSo f g now after ended → EndsWith plan treated before after given ended
+ends-so plan treated before now after f g given told.End stood kind max ends =
+    let moves = ends.reads.moves in
+    stood-stops plan treated before after g given (moves.kind ∙ kind) (moves.max ∙ max) (At End) told.End (stood-moves plan treated before now after f g given stood moves) ends.none refl
+ends-so plan treated before now after f g given told.Early stood kind max ends = absurd ends
+ends-so plan treated before now after f g given told.ReadFault stood kind max ends =
+    let moves = ends.reads.moves in
+    stood-stops plan treated before after ends.mid given (moves.kind ∙ kind) (moves.max ∙ max) (At Fault) told.ReadFault (stood-moves plan treated before now after f ends.mid given stood moves) ends.none refl
+ends-so plan treated before now after f g given (told.TooLong line) stood kind max ends =
+    let moves = ends.reads.moves in
+    stood-stops plan treated before after ends.mid given (moves.kind ∙ kind) (moves.max ∙ max) (Long line) (told.TooLong line) (stood-moves plan treated before now after f ends.mid given stood moves) ends.none refl
+ends-so plan treated before now after f g given told.TooMuch stood kind max ends =
+    let moves = ends.reads.moves in
+    stood-stops plan treated before after ends.mid given (moves.kind ∙ kind) (moves.max ∙ max) (At Limit) told.TooMuch (stood-moves plan treated before now after f ends.mid given stood moves) ends.none refl
+
+-- the feed lacks memory
+pub lacks-so : (plan : GrepPlan) (treated : Treatment) (before now after : Told) (f g : Feed) (given : List Row) → Stood plan treated before now f given → f.kind ≡ line_end plan → f.max ≡ plan.max_buffer_size
+    → Refuses f g now after feed.Memory → BeginsWith plan treated before after given
+lacks-so plan treated before now after f g given stood kind max lacks =
+    let moves = lacks.0.moves in
+    stood-begins plan treated before after g given (moves.kind ∙ kind) (moves.max ∙ max) (stood-moves plan treated before now after f g given stood moves)
+
+whole-group : (plan : GrepPlan) (name : List ℕ) (shows : Show) (us : List Tried) (finish : Finish) → shows_group plan name shows (whole_scan us finish) ≡ shows_group plan name shows (scan_so_far us)
+whole-group plan name show.Lines us finish = refl
+whole-group plan name show.Parts us finish = refl
+whole-group plan name show.Nothing us finish = refl
+
+broken-group : (plan : GrepPlan) (name : List ℕ) (shows : Show) (us : List Tried) (t : Tried) (vs : List Tried) → has_error t ≡ true
+    → shows_group plan name shows (broken_scan (us ++ t ∷ vs) (length us)) ≡ shows_group plan name shows (scan_so_far us)
+broken-group plan name show.Lines us t vs e =
+    (λ i. nat_lt 0 (length (shown_lines plan (rows_of (filter (is_selected plan) (early-tried us t vs i))) (broken-within us t vs i))))
+    ∙ ap (λ l. nat_lt 0 (length (shown_lines plan (rows_of l) (rows_of us)))) (out-broken plan us t e)
+broken-group plan name show.Parts us t vs e = refl
+broken-group plan name show.Nothing us t vs e = refl
+
+or_false : (a b : Bool) → b ≡ false → (a || b) ≡ a
+or_false true b e = refl
+or_false false b e = e
+
+and-first : (a b : Bool) → (a && b) ≡ true → a ≡ true
+and-first true b e = refl
+and-first false b e = e
+
+and-second : (a b : Bool) → (a && b) ≡ true → b ≡ true
+and-second true b e = e
+and-second false b e = absurd (false≢true e)
+
+module _ (plan : GrepPlan) (patterns : List Pattern) (name : List ℕ) (shows : Show) (most : Option ℕ) (treated : Treatment) (s0 : State) where
+  abbrev pub left : ℕ
+  left = errors_left s0.errors
+
+  abbrev pub full_of : Finish → List Tried → Scan
+  full_of finish ts = full plan name shows s0.has_shown left most finish ts
+
+  abbrev scan_in : Rows → Scan
+  scan_in found = scan_of plan patterns name shows treated s0 found
+
+  -- the scan by the job
+  pub scan-is : shows ≡ show_in (is_told plan treated) (mode plan) → most ≡ greatest_selected plan treated → (found : Rows) → scan_in found ≡ full_of found.finish (tries plan patterns found.rows)
+  scan-is show_is most_is found =
+      let ts = tries plan patterns found.rows in
+      λ i. scan_to ts found.finish (lines_after (sym show_is i) plan.after_context) (nth_place has_error left ts) (place_of_most (is_selected plan) (sym most_is i) ts)
+
+  module _ (f0 : Feed) (job : IsJob plan treated shows most f0) where
+    pub begins-scan : (before after : Told) (given : List Row) (begins : BeginsWith plan treated before after given)
+        → scan_in (lines plan begins.heard) ≡ full_of (lines plan begins.heard).finish (tries plan patterns given ++ tries plan patterns begins.more)
+    begins-scan before after given begins =
+        scan-is job.show_is job.most_is (lines plan begins.heard)
+        ∙ ap (λ l. full_of (lines plan begins.heard).finish (tries plan patterns l)) begins.all
+        ∙ ap (λ l. full_of (lines plan begins.heard).finish l) (tries-more plan patterns given begins.more)
+
+    pub begins-tried : (before after : Told) (given : List Row) (begins : BeginsWith plan treated before after given) → AreNumbered 1 (rows_of (tries plan patterns given ++ tries plan patterns begins.more))
+    begins-tried before after given begins =
+        subst (λ l. AreNumbered 1 l) (sym (rows-tried plan patterns (given ++ begins.more)) ∙ ap rows_of (tries-more plan patterns given begins.more)) (begins-numbered plan treated before after given begins)
+
+    pub ends-scan : (before after : Told) (given : List Row) (ended : Ended) (ends : EndsWith plan treated before after given ended) → scan_in (lines plan ends.heard) ≡ full_of ends.finish (tries plan patterns given)
+    ends-scan before after given ended ends = ap scan_in ends.all ∙ scan-is job.show_is job.most_is (record { rows = given; finish = ends.finish })
+
+    goes-of : (before now : Told) (f : Feed) (c : Course) (s : State) (out0 out err0 err : Kept) (standing : Standing plan patterns name shows most treated s0 before now f c s out0 out err0 err)
+        → Goes plan shows left most (tries plan patterns standing.given) (course_of c)
+    goes-of before now f c s out0 out err0 err standing = record { reached = standing.taken.reached; few = standing.few; below = standing.below }
+
+    module _ (before now after : Told) (f g : Feed) (c : Course) (s : State) (c1 : Course) (s1 : State) (out0 out out1 err0 err err1 : Kept)
+        (standing : Standing plan patterns name shows most treated s0 before now f c s out0 out err0 err) where
+      abbrev us : List Tried
+      us = tries plan patterns standing.given
+
+      abbrev goes : Goes plan shows left most us (course_of c)
+      goes = goes-of before now f c s out0 out err0 err standing
+
+      abbrev Input : Result Ended Stop → Type 0
+      Input result = ScansInput plan patterns name shows treated s0 before after c1.selected s1 out0 out1 err0 err1 result
+
+      whole-scans : (finish : Finish) → Idles plan patterns name shows most c s c1 s1 out out1 err err1 → Scans plan patterns name shows treated s0 (whole_scan us finish) c1.selected s1 out0 out1 err0 err1
+      whole-scans finish idles =
+          let wrote : Wrote (shown_out plan name shows s0.has_shown (scan_so_far us)) (flat_map (error_message name) us) out0 out1 err0 err1 =
+          subst (λ k. Wrote (shown_out plan name shows s0.has_shown (scan_so_far us)) (flat_map (error_message name) us) out0 k err0 err1) (sym idles.out)
+          (subst (λ k. Wrote (shown_out plan name shows s0.has_shown (scan_so_far us)) (flat_map (error_message name) us) out0 out err0 k) (sym idles.err) standing.taken.wrote) in record {
+            wrote = subst (λ l. Wrote l (flat_map (error_message name) us) out0 out1 err0 err1) (sym (whole-out plan name shows s0.has_shown us finish)) wrote;
+            count = ap (λ (d : Course). d.selected) idles.course ∙ standing.taken.reached.selected;
+            state = idles.state ∙ standing.taken.state ∙ ap (λ b. let x : State = record s0 { errors = s0.errors + count has_error us; has_shown = s0.has_shown || b } in x) (sym (whole-group plan name shows us finish));
+          }
+
+      -- the lines end
+      pub scans-ends : (ended : Ended) → EndsSo f g now after ended → Idles plan patterns name shows most c s c1 s1 out out1 err err1 → Input (Ok ended)
+      scans-ends ended so idles =
+          let ends = ends-so plan treated before now after f g standing.given ended standing.stood standing.kind standing.max so in
+          let is = ends-scan before after standing.given ended ends ∙ whole-is plan name shows s0.has_shown left most ends.finish us (course_of c) goes in record {
+            heard = ends.heard;
+            hears = ends.hears;
+            treats = ends.treats;
+            scans = subst (λ x. ScansTo plan patterns name shows treated s0 x c1.selected s1 out0 out1 err0 err1 (Ok ended)) (sym is) (whole-scans ends.finish idles, sym ends.ended_so);
+          }
+
+      -- the feed lacks memory
+      pub scans-lacks : Refuses f g now after feed.Memory → Idles plan patterns name shows most c s c1 s1 out out1 err err1 → Input (Err Memory)
+      scans-lacks lacks idles =
+          let begins = lacks-so plan treated before now after f g standing.given standing.stood standing.kind standing.max lacks in
+          let finish = (lines plan begins.heard).finish in
+          let vs = tries plan patterns begins.more in
+          let is = begins-scan before after standing.given begins in
+          let a = shown_out plan name shows s0.has_shown (scan_so_far us) in
+          let b = flat_map (error_message name) us in
+          let ext = extends plan name shows s0.has_shown left most finish vs us (course_of c) goes (begins-tried before after standing.given begins) in
+          let breaks : Breaks a b out0 out1 err0 err1 Memory =
+          subst (λ k. Breaks a b out0 k err0 err1 Memory) (sym idles.out) (subst (λ k. Breaks a b out0 out err0 k Memory) (sym idles.err) (breaks-memory a b out0 out err0 err standing.taken.wrote)) in record {
+            heard = begins.heard;
+            hears = begins.hears;
+            treats = begins.treats;
+            scans = subst (λ x. ScansTo plan patterns name shows treated s0 x c1.selected s1 out0 out1 err0 err1 (Err Memory)) (sym is)
+                (breaks-ext plan name shows s0.has_shown (full_of finish (us ++ vs)) a b out0 out1 err0 err1 Memory ext breaks);
+          }
+
+      module _ (row : Row) (gives : Gives f g now after row) where
+        abbrev t : Tried
+        t = tried_row plan patterns row
+
+        begins-row : BeginsWith plan treated before after (standing.given ++ row ∷ [])
+        begins-row =
+            stood-begins plan treated before after g (standing.given ++ row ∷ [])
+            (next-kind plan patterns name shows most treated s0 before now after f g row c s c1 s1 out0 out out1 err0 err err1 standing gives)
+            (next-max plan patterns name shows most treated s0 before now after f g row c s c1 s1 out0 out out1 err0 err err1 standing gives)
+            (next-stood plan patterns name shows most treated s0 before now after f g row c s c1 s1 out0 out out1 err0 err err1 standing gives)
+
+        abbrev vs : List Tried
+        vs = tries plan patterns begins-row.more
+
+        abbrev finish : Finish
+        finish = (lines plan begins-row.heard).finish
+
+        all-tries : tries plan patterns (standing.given ++ row ∷ []) ++ vs ≡ us ++ t ∷ vs
+        all-tries = ap (λ l. l ++ vs) (tries-more plan patterns standing.given (row ∷ [])) ∙ append_assoc us (t ∷ []) vs
+
+        scan-row : scan_in (lines plan begins-row.heard) ≡ full_of finish (us ++ t ∷ vs)
+        scan-row = begins-scan before after (standing.given ++ row ∷ []) begins-row ∙ ap (λ l. full_of finish l) all-tries
+
+        numbered-row : AreNumbered 1 (rows_of (us ++ t ∷ vs))
+        numbered-row = subst (λ l. AreNumbered 1 (rows_of l)) all-tries (begins-tried before after (standing.given ++ row ∷ []) begins-row)
+
+        input-row : (result : Result Ended Stop) → ScansTo plan patterns name shows treated s0 (full_of finish (us ++ t ∷ vs)) c1.selected s1 out0 out1 err0 err1 result → Input result
+        input-row result scans = record {
+          heard = begins-row.heard;
+          hears = begins-row.hears;
+          treats = begins-row.treats;
+          scans = subst (λ x. ScansTo plan patterns name shows treated s0 x c1.selected s1 out0 out1 err0 err1 result) (sym scan-row) scans;
+        }
+
+        had-errors : s.errors ≡ s0.errors + count has_error us
+        had-errors = ap (λ (x : State). x.errors) standing.taken.state
+
+        had-shown : s.has_shown ≡ (s0.has_shown || shows_group plan name shows (scan_so_far us))
+        had-shown = ap (λ (x : State). x.has_shown) standing.taken.state
+
+        -- its match error is the last one
+        pub scans-last : TakesLast plan name shows most t c c1 s s1 out out1 err err1 → Input (Err TooManyErrors)
+        scans-last last =
+            let few = standing.few in
+            let errors = last.errors in
+            let had = had-errors in
+            let is : count has_error us + 1 ≡ left = omega arith in
+            let last_error : LastError plan shows left most us t = record { error = last.error; left_is = is } in
+            let broken = broken_scan (us ++ t ∷ vs) (length us) in
+            let same = broken-is plan name shows s0.has_shown left most finish us t vs (course_of c) goes last_error in
+            let a = shown_out plan name shows s0.has_shown (scan_so_far us) in
+            let b = flat_map (error_message name) us in
+            let out_is : a ++ [] ≡ shown_out plan name shows s0.has_shown broken = append-nil a ∙ sym (broken_out plan name shows s0.has_shown us t vs last.error) in
+            let err_is : b ++ error_message name t ≡ flat_map (error_message name) broken.tried = sym (said-more name us t) ∙ ap (λ l. flat_map (error_message name) l) (sym (early-tried us t vs)) in
+            let wrote = wrote-more a b [] (error_message name t) out0 out out1 err0 err err1 standing.taken.wrote last.wrote in
+            let errors_are : cond (has_error t) (s.errors + 1) s.errors ≡ s0.errors + length (errors_in broken) =
+            ap (λ n. cond (has_error t) (n + 1) n) had ∙ sym (errors-more plan patterns name shows treated s0 us t) ∙ ap (λ l. s0.errors + count has_error l) (sym (early-tried us t vs)) in
+            let shown_is : (s.has_shown || (is_selected plan t && is_lines shows)) ≡ (s0.has_shown || shows_group plan name shows broken) =
+            or_false s.has_shown (is_selected plan t && is_lines shows) (ap (λ x. x && is_lines shows) (error-unselected plan t last.error))
+            ∙ had-shown ∙ ap (λ x. s0.has_shown || x) (sym (broken-group plan name shows us t vs last.error)) in
+            let total : s.total ≡ s0.total = ap (λ (x : State). x.total) standing.taken.state in
+            let state : state_behind plan shows s t ≡ left_by plan patterns name shows treated s0 broken = λ i. record { errors = errors_are i; total = total i; has_shown = shown_is i } in
+            let counted : c1.selected ≡ length (selected_in plan broken) =
+            ap (λ (d : Course). d.selected) last.course ∙ standing.taken.reached.selected ∙ sym (ap length (out-broken plan us t last.error)) ∙ ap (λ l. count (is_selected plan) l) (sym (early-tried us t vs)) in
+            let scans : Scans plan patterns name shows treated s0 broken c1.selected s1 out0 out1 err0 err1 = record {
+              wrote = subst (λ l. Wrote l (flat_map (error_message name) broken.tried) out0 out1 err0 err1) out_is (subst (λ l. Wrote (a ++ []) l out0 out1 err0 err1) err_is wrote);
+              count = counted;
+              state = last.state ∙ state;
+            } in
+            input-row (Err TooManyErrors)
+            (subst (λ x. ScansTo plan patterns name shows treated s0 x c1.selected s1 out0 out1 err0 err1 (Err TooManyErrors)) (sym same) (scans, refl))
+
+        few-next : is_last s t ≡ false → count has_error (us ++ t ∷ []) < left
+        few-next e =
+            let few = standing.few in
+            let had = had-errors in
+            let more = count-more has_error us t in
+            ⊎_elim
+            (λ (h : has_error t ≡ true).
+            let one = count-one has_error t h in
+            let other : s.errors ≢ 20 = eqb-false s.errors 20 (sym (ap (λ x. x && (s.errors == 20)) h) ∙ e) in
+            omega arith)
+            (λ (h : has_error t ≡ false).
+            let none = count-none has_error t h in
+            omega arith)
+            (cases_Bool (has_error t))
+
+        next-breaks : (stop : Stop) → Breaks (cond (is_last s t) [] (row_out plan name shows s.has_shown (course_of c) t)) (error_message name t) out out1 err err1 stop
+            → Breaks (shown_out plan name shows s0.has_shown (full_of finish (us ++ t ∷ vs))) (flat_map (error_message name) (full_of finish (us ++ t ∷ vs)).tried) out0 out1 err0 err1 stop
+        next-breaks stop breaks =
+            let a = shown_out plan name shows s0.has_shown (scan_so_far us) in
+            let b = flat_map (error_message name) us in
+            let all = full_of finish (us ++ t ∷ vs) in
+            let row_text = row_out plan name shows s.has_shown (course_of c) t in
+            let few = standing.few in
+            let had = had-errors in
+            let more = breaks-more a b (cond (is_last s t) [] row_text) (error_message name t) out0 out out1 err0 err err1 standing.taken.wrote stop breaks in
+            ⊎_elim
+            (λ (e : is_last s t ≡ true).
+            let error : has_error t ≡ true = and-first (has_error t) (s.errors == 20) e in
+            let twenty : s.errors ≡ 20 = eqb-true s.errors 20 (and-second (has_error t) (s.errors == 20) e) in
+            let is : count has_error us + 1 ≡ left = omega arith in
+            let ext = row-broken plan name shows s0.has_shown left most finish us (course_of c) t vs goes (record { error = error; left_is = is }) in
+            let none : a ++ cond (is_last s t) [] row_text ≡ a = ap (λ l. a ++ l) (cond-true (is_last s t) [] row_text e) ∙ append-nil a in
+            breaks-ext plan name shows s0.has_shown all a (b ++ error_message name t) out0 out1 err0 err1 stop ext (subst (λ l. Breaks l (b ++ error_message name t) out0 out1 err0 err1 stop) none more))
+            (λ (e : is_last s t ≡ false).
+            let within : count has_error (us ++ t ∷ []) < left = few-next e in
+            let ext = row-extends plan name shows s0.has_shown left most finish us (course_of c) t vs goes within numbered-row in
+            let whole : a ++ cond (is_last s t) [] row_text ≡ a ++ row_out plan name shows (s0.has_shown || shows_group plan name shows (scan_so_far us)) (course_of c) t =
+            ap (λ l. a ++ l) (cond-false (is_last s t) [] row_text e) ∙ ap (λ x. a ++ row_out plan name shows x (course_of c) t) had-shown in
+            breaks-ext plan name shows s0.has_shown all (a ++ row_out plan name shows (s0.has_shown || shows_group plan name shows (scan_so_far us)) (course_of c) t) (b ++ error_message name t)
+            out0 out1 err0 err1 stop ext (subst (λ l. Breaks l (b ++ error_message name t) out0 out1 err0 err1 stop) whole more))
+            (cases_Bool (is_last s t))
+
+        -- it couldn't be taken
+        pub scans-row : (stop : Stop) → TakesLine plan name shows most t c s c1 s1 out out1 err err1 (Err stop) → Input (Err stop)
+        scans-row SinkFault takes = input-row (Err SinkFault) (next-breaks SinkFault takes)
+        scans-row TooManyErrors takes = scans-last takes
+        scans-row Memory takes = input-row (Err Memory) (next-breaks Memory takes)
+
+      -- a turn that stops
+      pub scans-stops : (stop : Stop) → Turns plan patterns name shows most f g now after c s c1 s1 out out1 err err1 (Err stop) → Input (Err stop)
+      scans-stops stop (inl takes) = scans-row takes.row takes.gives stop takes.takes
+      scans-stops stop (inr lacks) = subst (λ x. Input (Err x)) (sym lacks.0) (scans-lacks lacks.1 lacks.2)

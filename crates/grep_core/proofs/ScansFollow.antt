@@ -1,0 +1,113 @@
+-- The rows behind the last line that is selected, shown as its context.
+use Rattle.std.proofs.Common.{◌≡◌, ◌≢◌, ℕ, ◌+◌, ◌<◌, false, List, [], ◌∷◌, ◌++◌, length, Ok, Err, refl, sym, ap, subst, ◌∙◌, inl, inr, arith, append_assoc, append-nil, length-append}
+use Rattle.std.specs.Prelude.{flat_map}
+use Rattle.std.proofs.lemmas.List.Concat.{flat_map-append}
+use Rattle.pcre_io.specs.Told.{Told, Kept}
+use Rattle.line_feed.specs.Rows.{Row}
+use Rattle.line_feed.specs.View.{Feed}
+use Rattle.line_feed.proofs.Given.{kind-gives, max-gives}
+use Rattle.grep_args.specs.declared.plan.GrepPlan.{GrepPlan}
+use Rattle.grep_core.specs.declared.modes.Show.{Show}
+use Rattle.grep_core.specs.declared.modes.Show.TheVariants as show
+use Rattle.grep_core.specs.declared.modes.Treatment.{Treatment}
+use Rattle.grep_core.specs.declared.ended.Ended.{Ended}
+use Rattle.grep_core.specs.declared.ended.Ended.TheVariants as told
+use Rattle.grep_core.specs.declared.ended.Stop.{Stop}
+use Rattle.grep_core.specs.declared.ended.Stop.TheVariants.{Memory}
+use Rattle.grep_core.specs.Patterns.{line_end}
+use Rattle.grep_core.specs.Modes.{lines_after}
+use Rattle.grep_core.specs.Course.{line_as}
+use Rattle.grep_core.specs.Turns.{Writes, Halts, Stood, EndsSo, ShowsRow, FollowsOne, FollowsAll, FollowsSome, FollowsPart, Follows}
+use Rattle.grep_core.proofs.ScansRows.{stood-gives, stood-begins}
+use Rattle.grep_core.proofs.ScansTexts.{writes-none, writes-more, halts-more, halts-memory}
+use Rattle.grep_core.proofs.ScansEnd.{ends-so, lacks-so}
+
+pub after-lines : (shows : Show) (n : ℕ) → shows ≡ show.Lines → lines_after shows n ≡ n
+after-lines shows n is = ap (λ (s : Show). lines_after s n) is
+
+pub after-others : (shows : Show) (n : ℕ) → shows ≢ show.Lines → lines_after shows n ≡ 0
+after-others show.Lines n other = absurd (other refl)
+after-others show.Parts n other = refl
+after-others show.Nothing n other = refl
+
+module _ (plan : GrepPlan) (name : List ℕ) (shows : Show) (treated : Treatment) (before : Told) (given : List Row) where
+  abbrev texts : List Row → List ℕ
+  texts rows = flat_map (line_as plan name false) rows
+
+  texts-more : (rows : List Row) (row : Row) → texts (rows ++ row ∷ []) ≡ texts rows ++ line_as plan name false row
+  texts-more rows row = flat_map-append (line_as plan name false) rows (row ∷ []) ∙ ap (λ l. texts rows ++ l) (append-nil (line_as plan name false row))
+
+  -- so many rows were shown
+  pub record Following (now : Told) (f : Feed) (out0 out : Kept) (n : ℕ) : Type 0 where
+    pub rows : List Row
+    pub stood : Stood plan treated before now f (given ++ rows)
+    pub kind : f.kind ≡ line_end plan
+    pub max : f.max ≡ plan.max_buffer_size
+    pub long : length rows ≡ n
+    pub wrote : Writes (texts rows) out0 out
+
+  pub following-none : (now : Told) (f : Feed) (out : Kept) → Stood plan treated before now f given → f.kind ≡ line_end plan → f.max ≡ plan.max_buffer_size → Following now f out out 0
+  following-none now f out stood kind max = record {
+    rows = [];
+    stood = subst (λ l. Stood plan treated before now f l) (sym (append-nil given)) stood;
+    kind = kind;
+    max = max;
+    long = refl;
+    wrote = writes-none out;
+  }
+
+  module _ (now after : Told) (f g : Feed) (out0 out out1 : Kept) (n : ℕ) (had : Following now f out0 out n) where
+    pub following-more : ShowsRow plan name f g now after out out1 → Following after g out0 out1 (n + 1)
+    following-more shows =
+        let long = length-append had.rows (shows.row ∷ []) in
+        let had_long = had.long in record {
+          rows = had.rows ++ shows.row ∷ [];
+          stood = subst (λ l. Stood plan treated before after g l) (append_assoc given had.rows (shows.row ∷ [])) (stood-gives plan treated before now after f g (given ++ had.rows) shows.row had.stood shows.gives);
+          kind = kind-gives f g now after shows.row shows.gives ∙ had.kind;
+          max = max-gives f g now after shows.row shows.gives ∙ had.max;
+          long = omega arith;
+          wrote = subst (λ l. Writes l out0 out1) (sym (texts-more had.rows shows.row)) (writes-more (texts had.rows) (line_as plan name false shows.row) out0 out out1 had.wrote shows.wrote);
+        }
+
+    follows-some : (ended : Ended) → n < lines_after shows plan.after_context → EndsSo f g now after ended × (out1 ≡ out) → FollowsSome plan name shows treated before after given out0 out1 ended
+    follows-some ended few ends =
+        let long = had.long in record {
+          rows = had.rows;
+          ends = ends-so plan treated before now after f g (given ++ had.rows) ended had.stood had.kind had.max ends.0;
+          long = omega arith;
+          wrote = subst (λ k. Writes (texts had.rows) out0 k) (sym ends.1) had.wrote;
+        }
+
+    pub follows-ends : (ended : Ended) → n < lines_after shows plan.after_context → EndsSo f g now after ended × (out1 ≡ out) → Follows plan name shows treated before after given out0 out1 (Ok ended)
+    follows-ends told.End few ends = follows-some told.End few ends
+    follows-ends told.Early few ends = absurd ends.0
+    follows-ends told.ReadFault few ends = follows-some told.ReadFault few ends
+    follows-ends (told.TooLong line) few ends = follows-some (told.TooLong line) few ends
+    follows-ends told.TooMuch few ends = follows-some told.TooMuch few ends
+
+    pub follows-stops : (stop : Stop) → n < lines_after shows plan.after_context → FollowsOne plan name f g now after out out1 (Err stop) → FollowsPart plan name shows treated before after given out0 out1 stop
+    follows-stops stop few (inl halts) =
+        let rows = had.rows ++ halts.row ∷ [] in
+        let stood : Stood plan treated before after g (given ++ rows) = subst (λ l. Stood plan treated before after g l) (append_assoc given had.rows (halts.row ∷ [])) (stood-gives plan treated before now after f g (given ++ had.rows) halts.row had.stood halts.gives) in
+        let more = length-append had.rows (halts.row ∷ []) in
+        let long = had.long in record {
+          rows = rows;
+          begins = stood-begins plan treated before after g (given ++ rows) (kind-gives f g now after halts.row halts.gives ∙ had.kind) (max-gives f g now after halts.row halts.gives ∙ had.max) stood;
+          long = omega arith;
+          wrote = subst (λ l. Halts l out0 out1 stop) (sym (texts-more had.rows halts.row)) (halts-more (texts had.rows) (line_as plan name false halts.row) out0 out out1 stop had.wrote halts.wrote);
+        }
+    follows-stops stop few (inr lacks) =
+        let long = had.long in record {
+          rows = had.rows;
+          begins = lacks-so plan treated before now after f g (given ++ had.rows) had.stood had.kind had.max lacks.1;
+          long = omega arith;
+          wrote = subst (λ s. Halts (texts had.rows) out0 out1 s) (sym lacks.0) (subst (λ k. Halts (texts had.rows) out0 k Memory) (sym lacks.2) (halts-memory (texts had.rows) out0 out had.wrote));
+        }
+
+  pub follows-all : (now : Told) (f : Feed) (out0 out : Kept) (n : ℕ) → Following now f out0 out n → n ≡ lines_after shows plan.after_context → FollowsAll plan name shows treated before now given out0 out
+  follows-all now f out0 out n had is = record {
+    rows = had.rows;
+    begins = stood-begins plan treated before now f (given ++ had.rows) had.kind had.max had.stood;
+    long = had.long ∙ is;
+    wrote = had.wrote;
+  }

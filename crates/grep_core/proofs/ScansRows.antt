@@ -1,0 +1,127 @@
+-- The rows of an input are numbered, and what a feed has given of the input that its source stands for.
+use Rattle.std.proofs.Common.{◌≡◌, ℕ, zero, suc, ◌+◌, true, false, ◌&&◌, not, List, [], ◌∷◌, ◌++◌, length, take, drop, cond, slice_range, refl, sym, ap, subst, ◌∙◌, inl, inr}
+use Rattle.std.specs.Prelude.{nat_lt, nat_eq}
+use Rattle.std.specs.List.{list_any}
+use Rattle.std.proofs.lemmas.Bool.{cond_both}
+use Rattle.pcre_io.specs.Told.{Told}
+use Rattle.byte_lanes.specs.declared.line_end.EndKind.{EndKind}
+use Rattle.byte_lanes.specs.Newlines.{newline_len}
+use Rattle.line_feed.specs.Rows.{Row, Rows, Input, Ending, End, Fault, Limit, Finish, Long, At, none_for, ahead, last_rows, first_newline, has_no_row, sure_len, rows, rows_within}
+use Rattle.line_feed.specs.View.{Feed, HasNoMore}
+use Rattle.line_feed.specs.Steps.{Moves}
+use Rattle.line_feed.specs.Answers.{Gives}
+use Rattle.line_feed.proofs.Given.{HasGiven-gives, HasGiven-moves, HasHeard-stops, HasBegun-given}
+use Rattle.line_feed.proofs.Shown.{HasShown-gives, HasShown-moves, HasShown-stops, HasShown-begun}
+use Rattle.grep_args.specs.declared.plan.GrepPlan.{GrepPlan}
+use Rattle.grep_core.specs.declared.modes.Treatment.{Treatment}
+use Rattle.grep_core.specs.declared.modes.Treatment.TheVariants.{AsText}
+use Rattle.grep_core.specs.declared.ended.Ended.{Ended}
+use Rattle.grep_core.specs.Ends.{ended_of}
+use Rattle.grep_core.specs.Scans.{at_finish}
+use Rattle.grep_core.specs.Patterns.{line_end}
+use Rattle.grep_core.specs.Lines.{is_nul, lines, treatment, treatment_by}
+use Rattle.grep_core.specs.Course.{AreNumbered}
+use Rattle.grep_core.specs.Turns.{Stood, BeginsWith, EndsWith}
+
+Numbers : ℕ → Rows → Type 0
+Numbers n r = AreNumbered n r.rows
+
+numbered-cut : (kind : EndKind) (max number : ℕ) (bytes : List ℕ) (ending : Ending) → AreNumbered number (cond (nat_lt max (sure_len kind bytes)) (none_for (Long number)) (none_for (At ending))).rows
+numbered-cut kind max number bytes ending = cond_both (nat_lt max (sure_len kind bytes)) (none_for (Long number)) (none_for (At ending)) (λ (r : Rows). AreNumbered number r.rows) (λ e. tt) (λ e. tt)
+
+numbered-last : (kind : EndKind) (max number offset : ℕ) (bytes : List ℕ) (ending : Ending) → AreNumbered number (last_rows kind max number offset bytes ending).rows
+numbered-last kind max number offset [] End = tt
+numbered-last kind max number offset (b ∷ bytes) End =
+    cond_both (nat_lt max (length (b ∷ bytes))) (none_for (Long number)) (ahead (record { bytes = b ∷ bytes; newline = []; number = number; offset = offset }) (none_for (At End)))
+    (λ (r : Rows). AreNumbered number r.rows) (λ e. tt) (λ e. (refl, tt))
+numbered-last kind max number offset bytes Fault = numbered-cut kind max number bytes Fault
+numbered-last kind max number offset bytes Limit = numbered-cut kind max number bytes Limit
+
+numbered-within : (most : ℕ) (kind : EndKind) (max number offset : ℕ) (bytes : List ℕ) (ending : Ending) → AreNumbered number (rows_within most kind max number offset bytes ending).rows
+unfolding rows_within
+numbered-within zero kind max number offset bytes ending = numbered-last kind max number offset bytes ending
+numbered-within (suc most) kind max number offset bytes ending =
+    let k = first_newline kind bytes in
+    let behind = k + newline_len kind bytes k in
+    let row : Row = record { bytes = take k bytes; newline = slice_range bytes k behind; number = number; offset = offset } in
+    let rest = rows_within most kind max (number + 1) (offset + behind) (drop behind bytes) ending in
+    cond_both (has_no_row kind bytes ending k) (last_rows kind max number offset bytes ending) (cond (nat_lt max k) (none_for (Long number)) (ahead row rest))
+    (λ (r : Rows). AreNumbered number r.rows)
+    (λ e. numbered-last kind max number offset bytes ending)
+    (λ e. cond_both (nat_lt max k) (none_for (Long number)) (ahead row rest) (λ (r : Rows). AreNumbered number r.rows) (λ e. tt)
+    (λ e. (refl, numbered-within most kind max (number + 1) (offset + behind) (drop behind bytes) ending)))
+
+-- the rows of an input are numbered from 1
+pub rows-numbered : (kind : EndKind) (max : ℕ) (input : Input) → AreNumbered 1 (rows kind max input).rows
+rows-numbered kind max input = numbered-within (length input.bytes) kind max 1 0 input.bytes input.ending
+
+-- What a feed has given.
+module _ (plan : GrepPlan) (treated : Treatment) (before : Told) where
+  pub stood-moves : (now after : Told) (f g : Feed) (given : List Row) → Stood plan treated before now f given → Moves f g now after → Stood plan treated before after g given
+  stood-moves now after f g given (inl h) moves = inl (h.0, h.1, HasGiven-moves before now after f g given h.2 moves)
+  stood-moves now after f g given (inr h) moves = inr (h.0, (h.1.0, HasShown-moves before now after f g given h.1.0 h.1.1 moves, h.1.2))
+
+  pub stood-gives : (now after : Told) (f g : Feed) (given : List Row) (row : Row) → Stood plan treated before now f given → Gives f g now after row → Stood plan treated before after g (given ++ row ∷ [])
+  stood-gives now after f g given row (inl h) gives = inl (h.0, h.1, HasGiven-gives before now after f g given row h.2 gives)
+  stood-gives now after f g given row (inr h) gives = inr (h.0, (h.1.0, HasShown-gives before now after f g given row h.1.0 h.1.1 gives, h.1.2))
+
+  treats-nul : (input : Input) → is_nul plan.newline ≡ true → treated ≡ AsText → treatment plan input ≡ treated
+  treats-nul input nul is = ap (λ b. treatment_by (not b && list_any (nat_eq 0) (take 1024 input.bytes)) plan.binary) nul ∙ sym is
+
+  treats-shown : (input : Input) (shown : List ℕ) → is_nul plan.newline ≡ false → treatment_by (list_any (nat_eq 0) shown) plan.binary ≡ treated → shown ≡ take 1024 input.bytes → treatment plan input ≡ treated
+  treats-shown input shown nul is first =
+      ap (λ b. treatment_by (not b && list_any (nat_eq 0) (take 1024 input.bytes)) plan.binary) nul
+      ∙ ap (λ l. treatment_by (list_any (nat_eq 0) l) plan.binary) (sym first) ∙ is
+
+  module _ (now : Told) (f : Feed) (given : List Row) (kind : f.kind ≡ line_end plan) (max : f.max ≡ plan.max_buffer_size) where
+    lines-are : (input : Input) → lines plan input ≡ rows f.kind f.max input
+    lines-are input = λ i. rows (sym kind i) (sym max i) input
+
+    -- the input begins so
+    pub stood-begins : Stood plan treated before now f given → BeginsWith plan treated before now given
+    stood-begins (inl h) =
+        let begun = HasBegun-given before now f given h.2 in record {
+          heard = begun.input;
+          hears = begun.hears;
+          treats = treats-nul begun.input h.0 h.1;
+          more = begun.more;
+          all = ap (λ r. r.rows) (lines-are begun.input) ∙ begun.all;
+        }
+    stood-begins (inr h) =
+        let both = HasShown-begun before now f given h.1.0 h.1.1 in
+        let begun = both.0 in record {
+          heard = begun.input;
+          hears = begun.hears;
+          treats = treats-shown begun.input h.1.0 h.0 h.1.2 both.1;
+          more = begun.more;
+          all = ap (λ r. r.rows) (lines-are begun.input) ∙ begun.all;
+        }
+
+    -- the input ends so
+    pub stood-stops : (finish : Finish) (ended : Ended) → Stood plan treated before now f given → HasNoMore f finish → ended_of ended ≡ at_finish finish → EndsWith plan treated before now given ended
+    stood-stops finish ended (inl h) none is =
+        let heard = HasHeard-stops before now f given finish h.2 none in record {
+          heard = heard.input;
+          hears = heard.hears;
+          treats = treats-nul heard.input h.0 h.1;
+          finish = finish;
+          all = lines-are heard.input ∙ heard.all;
+          ended_so = is;
+        }
+    stood-stops finish ended (inr h) none is =
+        let both = HasShown-stops before now f given finish h.1.0 h.1.1 none in
+        let heard = both.0 in record {
+          heard = heard.input;
+          hears = heard.hears;
+          treats = treats-shown heard.input h.1.0 h.0 h.1.2 both.1;
+          finish = finish;
+          all = lines-are heard.input ∙ heard.all;
+          ended_so = is;
+        }
+
+-- the rows of it that are known are numbered
+pub begins-numbered : (plan : GrepPlan) (treated : Treatment) (before after : Told) (given : List Row) (begins : BeginsWith plan treated before after given) → AreNumbered 1 (given ++ begins.more)
+begins-numbered plan treated before after given begins = subst (λ l. AreNumbered 1 l) begins.all (rows-numbered (line_end plan) plan.max_buffer_size begins.heard)
+
+pub ends-numbered : (plan : GrepPlan) (treated : Treatment) (before after : Told) (given : List Row) (ended : Ended) → EndsWith plan treated before after given ended → AreNumbered 1 given
+ends-numbered plan treated before after given ended ends = subst (λ (r : Rows). AreNumbered 1 r.rows) ends.all (rows-numbered (line_end plan) plan.max_buffer_size ends.heard)

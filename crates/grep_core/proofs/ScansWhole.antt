@@ -1,0 +1,275 @@
+-- A scan that ends early: its lines, and the rows that follow them as context.
+use Rattle.std.proofs.Common.{◌≡◌, ℕ, ◌+◌, ◌-◌, ◌<◌, ◌≤◌, ◌||◌, ◌&&◌, true, false, List, [], ◌∷◌, ◌++◌, length, take, Option, Result, Ok, Err, refl, sym, ap, subst, ◌∙◌, arith, append_assoc, append-nil, length-append}
+use Rattle.std.specs.Prelude.{filter, flat_map, nat_lt, nat_le}
+use Rattle.std.proofs.lemmas.Bool.{cond-true, cond-false, le-leb, lt-leb, lt-ltb, ltb-true, or_right}
+use Rattle.std.proofs.lemmas.List.{length-map, take_all}
+use Rattle.std.proofs.lemmas.List.Elements.{filter-append}
+use Rattle.std.proofs.lemmas.List.Concat.{flat_map-append}
+use Rattle.std.proofs.Math.Seq.{take-append_seam, take-append-add}
+use Rattle.pcre_io.specs.Told.{Told, Kept}
+use Rattle.line_feed.specs.Rows.{Row, Finish}
+use Rattle.line_feed.specs.View.{Feed}
+use Rattle.grep_args.specs.declared.plan.GrepPlan.{GrepPlan}
+use Rattle.grep_core.specs.Compiled.{Pattern}
+use Rattle.grep_core.specs.declared.modes.Show.{Show}
+use Rattle.grep_core.specs.declared.modes.Show.TheVariants as show
+use Rattle.grep_core.specs.declared.modes.Treatment.{Treatment}
+use Rattle.grep_core.specs.declared.ended.Ended.{Ended}
+use Rattle.grep_core.specs.declared.ended.Ended.TheVariants as told
+use Rattle.grep_core.specs.declared.ended.Stop.{Stop}
+use Rattle.grep_core.specs.declared.ended.Stop.TheVariants.{SinkFault, TooManyErrors, Memory}
+use Rattle.grep_core.specs.declared.state.State.{State}
+use Rattle.grep_core.specs.Lines.{lines}
+use Rattle.grep_core.specs.Modes.{lines_after}
+use Rattle.grep_core.specs.Matches.{Tried, tried_row, is_selected, has_error}
+use Rattle.grep_core.specs.Scans.{Scan, rows_of, errors_left, early_scan, early, at_finish, errors_in}
+use Rattle.grep_core.specs.Context.{is_shown, shown_row, shown_lines}
+use Rattle.grep_core.specs.Messages.{error_message}
+use Rattle.grep_core.specs.InputText.{shown_out, shows_group}
+use Rattle.grep_core.specs.Course as course
+use Rattle.grep_core.specs.Course.{AreNumbered, line_as, scan_so_far, begun, behind}
+use Rattle.grep_core.specs.Turns.{Wrote, Breaks, Writes, Halts, Scans, ScansTo, ScansInput, scan_of, IsJob, Pauses, FollowsAll, FollowsSome, FollowsPart, Follows}
+use Rattle.grep_core.proofs.Reached.{Reached, reached-begun, reached-more, group-more}
+use Rattle.grep_core.proofs.ScanEnds.{count, early-tried, early-within}
+use Rattle.grep_core.proofs.Extends.{LastSelected, follow_out, early-is, early_out, number-of, numbered-first, TextsBegin}
+use Rattle.grep_core.proofs.ScansRows.{ends-numbered}
+use Rattle.grep_core.proofs.ScansTexts.{wrote-out, breaks-out, breaks-ext}
+use Rattle.grep_core.proofs.ScansTaken.{tries, tries-more, rows-tried}
+use Rattle.grep_core.proofs.ScansEnd.{full_of, begins-scan, begins-tried, ends-scan}
+
+-- some course is reached by any lines
+reach-from : (plan : GrepPlan) (shows : Show) (vs us : List Tried) (c : course.Course) → Reached plan shows us c → AreNumbered 1 (rows_of (us ++ vs)) → (d : course.Course) × Reached plan shows (us ++ vs) d
+reach-from plan shows [] us c reached numbered = (c, subst (λ l. Reached plan shows l c) (sym (append-nil us)) reached)
+reach-from plan shows (v ∷ vs) us c reached numbered =
+    let same = append_assoc us (v ∷ []) vs in
+    let moved = subst (λ l. AreNumbered 1 (rows_of l)) (sym same) numbered in
+    let more = reach-from plan shows vs (us ++ v ∷ []) (behind plan shows c v) (reached-more plan shows us c v reached (numbered-first us (v ∷ vs) numbered) (number-of us v vs numbered)) moved in
+    (more.0, subst (λ l. Reached plan shows l more.0) same more.1)
+
+pub reach-all : (plan : GrepPlan) (shows : Show) (us : List Tried) → AreNumbered 1 (rows_of us) → (d : course.Course) × Reached plan shows us d
+reach-all plan shows us numbered = reach-from plan shows us [] begun (reached-begun plan shows) numbered
+
+-- what is written of rows that follow
+no-rows : (fs : List Row) → length fs ≤ 0 → fs ≡ []
+no-rows [] few = refl
+no-rows (f ∷ fs) few = absurd (omega arith)
+
+follow-texts : (plan : GrepPlan) (name : List ℕ) (shows : Show) (fs : List Row) → length fs ≤ lines_after shows plan.after_context → follow_out plan name shows fs ≡ flat_map (line_as plan name false) fs
+follow-texts plan name show.Lines fs few = refl
+follow-texts plan name show.Parts fs few = ap (λ l. flat_map (line_as plan name false) l) (sym (no-rows fs few))
+follow-texts plan name show.Nothing fs few = ap (λ l. flat_map (line_as plan name false) l) (sym (no-rows fs few))
+
+follow-begins : (plan : GrepPlan) (name : List ℕ) (shows : Show) (fs more : List Row) → length fs ≤ lines_after shows plan.after_context
+    → (rest : List ℕ) × (follow_out plan name shows (take (lines_after shows plan.after_context) (fs ++ more)) ≡ flat_map (line_as plan name false) fs ++ rest)
+follow-begins plan name show.Lines fs more few =
+    let n = plan.after_context in
+    let text = flat_map (line_as plan name false) in
+    let m = n - length fs in
+    let split : n ≡ length fs + m = omega arith in (
+      text (take m more),
+      ap (λ k. text (take k (fs ++ more))) split ∙ ap text (take-append-add fs more m) ∙ flat_map-append (line_as plan name false) fs (take m more),
+    )
+follow-begins plan name show.Parts fs more few = ([], ap (λ l. flat_map (line_as plan name false) l ++ []) (sym (no-rows fs few)))
+follow-begins plan name show.Nothing fs more few = ([], ap (λ l. flat_map (line_as plan name false) l ++ []) (sym (no-rows fs few)))
+
+-- whether a group is shown
+early-group : (plan : GrepPlan) (name : List ℕ) (shows : Show) (finish : Finish) (us : List Tried) (t : Tried) (vs : List Tried) (c : course.Course) → Reached plan shows us c → AreNumbered 1 (rows_of (us ++ t ∷ vs)) → is_selected plan t ≡ true
+    → shows_group plan name shows (early_scan (us ++ t ∷ vs) finish (length us) (lines_after shows plan.after_context)) ≡ shows_group plan name shows (scan_so_far (us ++ t ∷ []))
+early-group plan name show.Lines finish us t vs c reached numbered e =
+    let n = plan.after_context in
+    let sel = rows_of (filter (is_selected plan) (us ++ t ∷ [])) in
+    let rows = rows_of (us ++ t ∷ []) in
+    let fs = take n (rows_of vs) in
+    let p = is_shown plan sel in
+    let group : nat_lt 0 (length (shown_lines plan sel rows)) ≡ true =
+    group-more plan name show.Lines us c t reached (numbered-first us (t ∷ vs) numbered) (number-of us t vs numbered) ∙ or_right (shows_group plan name show.Lines (scan_so_far us)) (is_selected plan t && true) (ap (λ b. b && true) e) in
+    let some = ltb-true 0 (length (shown_lines plan sel rows)) group in
+    let size = length-map (filter p rows) (shown_row sel (filter p rows)) in
+    let more = length-map (filter p (rows ++ fs)) (shown_row sel (filter p (rows ++ fs))) in
+    let parts = ap length (filter-append p rows fs) in
+    let sum = length-append (filter p rows) (filter p fs) in
+    let some_more : 0 < length (shown_lines plan sel (rows ++ fs)) = omega arith in
+    (λ i. nat_lt 0 (length (shown_lines plan (rows_of (filter (is_selected plan) (early-tried us t vs i))) (early-within us t vs n i))))
+    ∙ lt-ltb 0 (length (shown_lines plan sel (rows ++ fs))) some_more ∙ sym group
+early-group plan name show.Parts finish us t vs c reached numbered e = refl
+early-group plan name show.Nothing finish us t vs c reached numbered e = refl
+
+module _ (plan : GrepPlan) (patterns : List Pattern) (name : List ℕ) (shows : Show) (most : Option ℕ) (treated : Treatment) (s0 : State) (f0 : Feed) (job : IsJob plan treated shows most f0)
+    (before mid : Told) (g : Feed) (selected : ℕ) (s1 : State) (out0 out err0 err : Kept) (pauses : Pauses plan patterns name shows most treated s0 before mid g selected s1 out0 out err0 err) where
+  abbrev us : List Tried
+  us = tries plan patterns pauses.rows
+
+  abbrev t : Tried
+  t = tried_row plan patterns pauses.row
+
+  abbrev given : List Row
+  given = pauses.rows ++ pauses.row ∷ []
+
+  abbrev after_n : ℕ
+  after_n = lines_after shows plan.after_context
+
+  given-tries : tries plan patterns given ≡ us ++ t ∷ []
+  given-tries = tries-more plan patterns pauses.rows (pauses.row ∷ [])
+
+  errors-are : s1.errors ≡ s0.errors + count has_error (us ++ t ∷ [])
+  errors-are = ap (λ (x : State). x.errors) pauses.scans.state ∙ ap (λ l. s0.errors + count has_error l) given-tries
+
+  last-selected : LastSelected plan shows (errors_left s0.errors) most us t
+  last-selected =
+      let few = pauses.few in
+      let are = errors-are in record {
+        few = omega arith;
+        most_is = pauses.last;
+        selected = pauses.selects;
+      }
+
+  wrote-so : Wrote (shown_out plan name shows s0.has_shown (scan_so_far (us ++ t ∷ []))) (flat_map (error_message name) (us ++ t ∷ [])) out0 out err0 err
+  wrote-so = subst (λ l. Wrote (shown_out plan name shows s0.has_shown (scan_so_far l)) (flat_map (error_message name) l) out0 out err0 err) given-tries pauses.scans.wrote
+
+  module _ (vs : List Tried) (finish : Finish) (numbered : AreNumbered 1 (rows_of (us ++ t ∷ vs))) (out1 : Kept) where
+    abbrev early_of : Scan
+    early_of = early_scan (us ++ t ∷ vs) finish (length us) after_n
+
+    is-early : full_of plan patterns name shows most treated s0 finish (us ++ t ∷ vs) ≡ early_of
+    is-early = early-is plan name shows s0.has_shown (errors_left s0.errors) most finish us t vs last-selected
+
+    reached-us : (c : course.Course) × Reached plan shows us c
+    reached-us = reach-all plan shows us (numbered-first us (t ∷ vs) numbered)
+
+    out-is : shown_out plan name shows s0.has_shown early_of ≡ shown_out plan name shows s0.has_shown (scan_so_far (us ++ t ∷ [])) ++ follow_out plan name shows (take after_n (rows_of vs))
+    out-is =
+        let c = reached-us.0 in
+        let reached = reached-more plan shows us c t reached-us.1 (numbered-first us (t ∷ vs) numbered) (number-of us t vs numbered) in
+        early_out plan name shows s0.has_shown finish us (behind plan shows c t) t vs reached pauses.selects numbered
+
+    said-is : flat_map (error_message name) early_of.tried ≡ flat_map (error_message name) (us ++ t ∷ [])
+    said-is = ap (λ l. flat_map (error_message name) l) (early-tried us t vs)
+
+    early-scans : (text : List ℕ) → follow_out plan name shows (take after_n (rows_of vs)) ≡ text → Writes text out out1 → Scans plan patterns name shows treated s0 early_of selected s1 out0 out1 err0 err
+    early-scans text is writes =
+        let a = shown_out plan name shows s0.has_shown (scan_so_far (us ++ t ∷ [])) in
+        let b = flat_map (error_message name) (us ++ t ∷ []) in
+        let all = wrote-out a b text out0 out out1 err0 err wrote-so writes in
+        let whole : a ++ text ≡ shown_out plan name shows s0.has_shown early_of = ap (λ l. a ++ l) (sym is) ∙ sym out-is in
+        let tried : tries plan patterns given ≡ early_of.tried = given-tries ∙ sym (early-tried us t vs) in
+        let errors : s0.errors + count has_error (tries plan patterns given) ≡ s0.errors + length (errors_in early_of) = ap (λ l. s0.errors + count has_error l) tried in
+        let group : shows_group plan name shows (scan_so_far (tries plan patterns given)) ≡ shows_group plan name shows early_of =
+        ap (λ l. shows_group plan name shows (scan_so_far l)) given-tries ∙ sym (early-group plan name shows finish us t vs reached-us.0 reached-us.1 numbered pauses.selects) in record {
+          wrote = subst (λ l. Wrote l (flat_map (error_message name) early_of.tried) out0 out1 err0 err) whole (subst (λ l. Wrote (a ++ text) l out0 out1 err0 err) (sym said-is) all);
+          count = pauses.scans.count ∙ ap (λ l. count (is_selected plan) l) tried;
+          state = pauses.scans.state ∙ (λ i. record s0 { errors = errors i; has_shown = s0.has_shown || group i });
+        }
+
+    early-breaks : (text rest : List ℕ) (stop : Stop) → follow_out plan name shows (take after_n (rows_of vs)) ≡ text ++ rest → Halts text out out1 stop
+        → Breaks (shown_out plan name shows s0.has_shown early_of) (flat_map (error_message name) early_of.tried) out0 out1 err0 err stop
+    early-breaks text rest stop is halts =
+        let a = shown_out plan name shows s0.has_shown (scan_so_far (us ++ t ∷ [])) in
+        let b = flat_map (error_message name) (us ++ t ∷ []) in
+        let ext : TextsBegin plan name shows s0.has_shown early_of (a ++ text) b = record {
+          rest_out = rest;
+          rest_err = [];
+          out_is = out-is ∙ ap (λ l. a ++ l) is ∙ sym (append_assoc a text rest);
+          err_is = said-is ∙ sym (append-nil b);
+        } in
+        breaks-ext plan name shows s0.has_shown early_of (a ++ text) b out0 out1 err0 err stop ext (breaks-out a b text out0 out out1 err0 err wrote-so stop halts)
+
+    long-tries : length (us ++ t ∷ vs) ≡ length us + 1 + length vs
+    long-tries =
+        let sum = length-append us (t ∷ vs) in
+        omega arith
+
+    ended-early : after_n ≤ length vs → early_of.ended ≡ early
+    ended-early enough =
+        let long = long-tries in
+        cond-true (nat_le (length us + 1 + after_n) (length (us ++ t ∷ vs))) early (at_finish finish) (le-leb (length us + 1 + after_n) (length (us ++ t ∷ vs)) (omega arith))
+
+    ended-late : length vs < after_n → early_of.ended ≡ at_finish finish
+    ended-late few =
+        let long = long-tries in
+        cond-false (nat_le (length us + 1 + after_n) (length (us ++ t ∷ vs))) early (at_finish finish) (lt-leb (length us + 1 + after_n) (length (us ++ t ∷ vs)) (omega arith))
+
+  abbrev Input : Told → Kept → Result Ended Stop → Type 0
+  Input after out1 result = ScansInput plan patterns name shows treated s0 before after selected s1 out0 out1 err0 err result
+
+  begins-all : (fs more : List Row) → tries plan patterns (given ++ fs) ++ tries plan patterns more ≡ us ++ t ∷ (tries plan patterns fs ++ tries plan patterns more)
+  begins-all fs more =
+      ap (λ l. l ++ tries plan patterns more) (tries-more plan patterns given fs ∙ ap (λ l. l ++ tries plan patterns fs) given-tries)
+      ∙ append_assoc (us ++ t ∷ []) (tries plan patterns fs) (tries plan patterns more)
+      ∙ append_assoc us (t ∷ []) (tries plan patterns fs ++ tries plan patterns more)
+
+  rows-all : (fs more : List Row) → rows_of (tries plan patterns fs ++ tries plan patterns more) ≡ fs ++ more
+  rows-all fs more = ap rows_of (sym (tries-more plan patterns fs more)) ∙ rows-tried plan patterns (fs ++ more)
+
+  long-rows : (fs : List Row) → length (tries plan patterns fs) ≡ length fs
+  long-rows fs = length-map fs (tried_row plan patterns)
+
+  -- all the rows that may follow were shown
+  pub scans-early : (after : Told) (out1 : Kept) → FollowsAll plan name shows treated before after given out out1 → Input after out1 (Ok told.Early)
+  scans-early after out1 follows =
+      let fs = follows.rows in
+      let begins = follows.begins in
+      let vs = tries plan patterns fs ++ tries plan patterns begins.more in
+      let finish = (lines plan begins.heard).finish in
+      let numbered = subst (λ l. AreNumbered 1 (rows_of l)) (begins-all fs begins.more) (begins-tried plan patterns name shows most treated s0 f0 job before after (given ++ fs) begins) in
+      let is = begins-scan plan patterns name shows most treated s0 f0 job before after (given ++ fs) begins ∙ ap (λ l. full_of plan patterns name shows most treated s0 finish l) (begins-all fs begins.more) ∙ is-early vs finish numbered out1 in
+      let long = follows.long in
+      let first : take after_n (rows_of vs) ≡ fs = (λ i. take (sym long i) (rows-all fs begins.more i)) ∙ take-append_seam fs begins.more in
+      let text = ap (λ l. follow_out plan name shows l) first ∙ follow-texts plan name shows fs (omega arith) in
+      let sum = length-append (tries plan patterns fs) (tries plan patterns begins.more) in
+      let long_rows = long-rows fs in
+      record {
+        heard = begins.heard;
+        hears = begins.hears;
+        treats = begins.treats;
+        scans = subst (λ x. ScansTo plan patterns name shows treated s0 x selected s1 out0 out1 err0 err (Ok told.Early)) (sym is)
+            (early-scans vs finish numbered out1 (flat_map (line_as plan name false) fs) text follows.wrote, ended-early vs finish numbered out1 (omega arith));
+      }
+
+  -- the rows ended before
+  scans-some : (after : Told) (out1 : Kept) (ended : Ended) → FollowsSome plan name shows treated before after given out out1 ended → Input after out1 (Ok ended)
+  scans-some after out1 ended follows =
+      let fs = follows.rows in
+      let ends = follows.ends in
+      let vs = tries plan patterns fs in
+      let all : tries plan patterns (given ++ fs) ≡ us ++ t ∷ vs = tries-more plan patterns given fs ∙ ap (λ l. l ++ vs) given-tries ∙ append_assoc us (t ∷ []) vs in
+      let numbered = subst (λ l. AreNumbered 1 l) (sym (rows-tried plan patterns (given ++ fs)) ∙ ap rows_of all) (ends-numbered plan treated before after (given ++ fs) ended ends) in
+      let is = ends-scan plan patterns name shows most treated s0 f0 job before after (given ++ fs) ended ends ∙ ap (λ l. full_of plan patterns name shows most treated s0 ends.finish l) all ∙ is-early vs ends.finish numbered out1 in
+      let long = follows.long in
+      let first : take after_n (rows_of vs) ≡ fs = ap (λ l. take after_n l) (rows-tried plan patterns fs) ∙ take_all after_n fs (omega arith) in
+      let text = ap (λ l. follow_out plan name shows l) first ∙ follow-texts plan name shows fs (omega arith) in
+      let long_rows = long-rows fs in
+      record {
+        heard = ends.heard;
+        hears = ends.hears;
+        treats = ends.treats;
+        scans = subst (λ x. ScansTo plan patterns name shows treated s0 x selected s1 out0 out1 err0 err (Ok ended)) (sym is)
+            (early-scans vs ends.finish numbered out1 (flat_map (line_as plan name false) fs) text follows.wrote, ended-late vs ends.finish numbered out1 (omega arith) ∙ sym ends.ended_so);
+      }
+
+  -- a part of what follows was written
+  part-breaks : (after : Told) (out1 : Kept) (stop : Stop) (follows : FollowsPart plan name shows treated before after given out out1 stop)
+      → Breaks (shown_out plan name shows s0.has_shown (scan_of plan patterns name shows treated s0 (lines plan follows.begins.heard))) (flat_map (error_message name) (scan_of plan patterns name shows treated s0 (lines plan follows.begins.heard)).tried) out0 out1 err0 err stop
+  part-breaks after out1 stop follows =
+      let fs = follows.rows in
+      let begins = follows.begins in
+      let vs = tries plan patterns fs ++ tries plan patterns begins.more in
+      let finish = (lines plan begins.heard).finish in
+      let numbered = subst (λ l. AreNumbered 1 (rows_of l)) (begins-all fs begins.more) (begins-tried plan patterns name shows most treated s0 f0 job before after (given ++ fs) begins) in
+      let is = begins-scan plan patterns name shows most treated s0 f0 job before after (given ++ fs) begins ∙ ap (λ l. full_of plan patterns name shows most treated s0 finish l) (begins-all fs begins.more) ∙ is-early vs finish numbered out1 in
+      let part = follow-begins plan name shows fs begins.more follows.long in
+      let text = ap (λ l. follow_out plan name shows (take after_n l)) (rows-all fs begins.more) ∙ part.1 in
+      subst (λ (x : Scan). Breaks (shown_out plan name shows s0.has_shown x) (flat_map (error_message name) x.tried) out0 out1 err0 err stop) (sym is)
+      (early-breaks vs finish numbered out1 (flat_map (line_as plan name false) fs) part.0 stop text follows.wrote)
+
+  scans-part : (after : Told) (out1 : Kept) (stop : Stop) → FollowsPart plan name shows treated before after given out out1 stop → Input after out1 (Err stop)
+  scans-part after out1 SinkFault follows = record { heard = follows.begins.heard; hears = follows.begins.hears; treats = follows.begins.treats; scans = part-breaks after out1 SinkFault follows }
+  scans-part after out1 Memory follows = record { heard = follows.begins.heard; hears = follows.begins.hears; treats = follows.begins.treats; scans = part-breaks after out1 Memory follows }
+  scans-part after out1 TooManyErrors follows = absurd follows.wrote
+
+  pub scans-follow : (after : Told) (out1 : Kept) (result : Result Ended Stop) → Follows plan name shows treated before after given out out1 result → Input after out1 result
+  scans-follow after out1 (Ok told.End) follows = scans-some after out1 told.End follows
+  scans-follow after out1 (Ok told.Early) follows = scans-early after out1 follows
+  scans-follow after out1 (Ok told.ReadFault) follows = scans-some after out1 told.ReadFault follows
+  scans-follow after out1 (Ok (told.TooLong line)) follows = scans-some after out1 (told.TooLong line) follows
+  scans-follow after out1 (Ok told.TooMuch) follows = scans-some after out1 told.TooMuch follows
+  scans-follow after out1 (Err stop) follows = scans-part after out1 stop follows

@@ -1,0 +1,137 @@
+-- A line without a match error: it is selected or passed.
+use Rattle.std.proofs.Common.{◌≡◌, ℕ, ◌+◌, ◌≤◌, ◌==◌, Bool, true, false, not, ◌||◌, ◌&&◌, List, [], ◌∷◌, Option, Some, None, Result, Ok, Err, ℤ, refl, sym, ap, subst, ◌∙◌, arith, inl, inr, if◌then◌else◌}
+use Rattle.std.proofs.lemmas.Bool.{cond-true, cond-false, false≢true}
+use Rattle.std.proofs.Math.Bool.{beq}
+use Rattle.std.proofs.KnownBytes.{Appends-nil}
+use Rattle.std.specs.Io.KnownBytes.{Appends}
+use Rattle.pcre_io.specs.Told.{Kept}
+use Rattle.frame_machine.specs.PlaceAnswer.{Outcome}
+use Rattle.grep_args.specs.declared.plan.GrepPlan.{GrepPlan}
+use Rattle.grep_core.specs.declared.modes.Show.{Show}
+use Rattle.grep_core.specs.declared.ended.Stop.{Stop}
+use Rattle.grep_core.specs.declared.ended.Stop.TheVariants.{SinkFault, TooManyErrors, Memory}
+use Rattle.grep_core.specs.declared.scan.Course.{Course}
+use Rattle.grep_core.specs.declared.scan.Next.{Next}
+use Rattle.grep_core.specs.declared.scan.Next.TheVariants.{Line, Context}
+use Rattle.grep_core.specs.declared.search.Verdict.TheVariants.{Match, NoMatch, Error}
+use Rattle.grep_core.specs.declared.state.State.{State}
+use Rattle.grep_core.specs.Matches.{Matches, Tried, is_selected, has_error, selects}
+use Rattle.grep_core.specs.Messages.{error_message}
+use Rattle.grep_core.specs.Course.{selected_out, passed_out, row_out, behind, behind_selected, behind_passed, state_behind, is_lines}
+use Rattle.grep_core.specs.Found.{Listed, Lists, ListsMatches, IsVerdict}
+use Rattle.grep_core.specs.Turns.{course_of, Halts, PassesOn, Takes, TakesLine, Breaks, Selects, is_last, is_full}
+use Rattle.grep_core.proofs.Halting.{prefix-nothing}
+
+-- What a verdict says of the matches.
+
+pub verdict-error : (wanted : List ℕ) (len : ℕ) (list : Listed) (n : ℤ) (ms : Matches) → IsVerdict wanted len list (Error n) ms → ms ≡ Err n
+verdict-error wanted len list n (Ok []) h = absurd h
+verdict-error wanted len list n (Ok (o ∷ os)) h = absurd h
+verdict-error wanted len list n (Err e) h = ap Err (sym h)
+
+-- the line has no match error, its matches are listed, and it is selected so
+pub record IsTried (wanted : List ℕ) (len : ℕ) (list : Listed) (is_match : Bool) (ms : Matches) : Type 0 where
+  pub found : List Outcome
+  pub is : ms ≡ Ok found
+  pub listed : Lists wanted len list found
+  pub selects_so : (invert : Bool) → selects invert ms ≡ (if is_match then not invert else invert)
+
+pub verdict-match : (wanted : List ℕ) (len : ℕ) (list : Listed) (ms : Matches) → IsVerdict wanted len list Match ms → IsTried wanted len list true ms
+verdict-match wanted len list (Ok []) h = absurd h
+verdict-match wanted len list (Ok (o ∷ os)) h = record { found = o ∷ os; is = refl; listed = h; selects_so = λ invert. refl }
+verdict-match wanted len list (Err e) h = absurd h
+
+pub verdict-none : (wanted : List ℕ) (len : ℕ) (list : Listed) (ms : Matches) → IsVerdict wanted len list NoMatch ms → IsTried wanted len list false ms
+verdict-none wanted len list (Ok []) h = record { found = []; is = refl; listed = h; selects_so = λ invert. refl }
+verdict-none wanted len list (Ok (o ∷ os)) h = absurd h
+verdict-none wanted len list (Err e) h = absurd h
+
+pub tried-listed : (wanted : List ℕ) (len : ℕ) (list : Listed) (is_match : Bool) (ms : Matches) → IsTried wanted len list is_match ms → ListsMatches wanted len list ms
+tried-listed wanted len list is_match ms tried = subst (ListsMatches wanted len list) (sym tried.is) tried.listed
+
+-- Such a line.
+module _ (plan : GrepPlan) (name : List ℕ) (shows : Show) (most : Option ℕ) (t : Tried) (found : List Outcome) (is : t.matches ≡ Ok found) where
+  no_error : has_error t ≡ false
+  no_error = ap (λ (m : Matches). elim m [ Ok os ↦ false | Err n ↦ true ]) is
+
+  unsaid : error_message name t ≡ []
+  unsaid = ap (λ (m : Matches). error_message name (record { row = t.row; matches = m })) is
+
+  shown : (s : State) (c : Course) → row_out plan name shows s.has_shown (course_of c) t ≡ (if is_last s t then [] else row_out plan name shows s.has_shown (course_of c) t)
+  shown s c = ap (λ b. if b && s.errors == 20 then [] else row_out plan name shows s.has_shown (course_of c) t) (sym no_error)
+
+  -- a part of it was written
+  pub line-refused : (c c_new : Course) (s s_new : State) (text : List ℕ) (out_old out_new err : Kept) (stop : Stop) → text ≡ row_out plan name shows s.has_shown (course_of c) t → Halts text out_old out_new stop
+      → TakesLine plan name shows most t c s c_new s_new out_old out_new err err (Err stop)
+  line-refused c c_new s s_new text out_old out_new err SinkFault same halts =
+      subst (λ l. Breaks l (error_message name t) out_old out_new err err SinkFault) (same ∙ shown s c)
+      (record { out = halts.0; err = prefix-nothing err.held (error_message name t); cause = λ _. inl halts.1 })
+  line-refused c c_new s s_new text out_old out_new err Memory same halts =
+      subst (λ l. Breaks l (error_message name t) out_old out_new err err Memory) (same ∙ shown s c)
+      (record { out = halts; err = prefix-nothing err.held (error_message name t); cause = λ is. absurd (cc) })
+  line-refused c c_new s s_new text out_old out_new err TooManyErrors same halts = absurd halts
+
+  and-or : (b l : Bool) → (b || (true && l)) ≡ (b || l)
+  and-or true l = refl
+  and-or false l = refl
+
+  or-none : (b l : Bool) → (b || (false && l)) ≡ b
+  or-none true l = refl
+  or-none false l = refl
+
+  state-so : (s : State) (b : Bool) → is_selected plan t ≡ b → record s { has_shown = s.has_shown || (b && is_lines shows) } ≡ state_behind plan shows s t
+  state-so s b selected = sym (λ i. let r : State = record { errors = if no_error i then s.errors + 1 else s.errors; total = s.total; has_shown = s.has_shown || (selected i && is_lines shows) } in r)
+
+  -- it is selected
+  pub selected-takes : (c c_new : Course) (s s_new : State) (out_old out_new err : Kept) (result : Result Next Stop) → is_selected plan t ≡ true → s.errors ≤ 20
+      → Selects plan name shows most t c s c_new s_new out_old out_new result → TakesLine plan name shows most t c s c_new s_new out_old out_new err err result
+  selected-takes c c_new s s_new out_old out_new err (Ok next) yes_selected few sel = record {
+    wrote = record {
+      out = subst (Appends out_old.held out_new.held) (sym (cond-true (is_selected plan t) _ _ yes_selected)) sel.wrote.all;
+      err = subst (Appends err.held err.held) (sym unsaid) (Appends-nil err.held);
+      out_later = sel.wrote.later;
+      err_later = omega arith;
+    };
+    stands = sel.stands ∙ sym (cond-true (is_selected plan t) _ _ yes_selected);
+    limit = sel.limit;
+    state = sel.state ∙ ap (λ b. let r : State = record s { has_shown = b } in r) (sym (and-or s.has_shown (is_lines shows))) ∙ state-so s true yes_selected;
+    answer = sel.answer ∙ sym (ap (λ b. if b && is_full most c_new.selected then Context else Line) yes_selected);
+    errors = let same = ap (λ (r : State). r.errors) sel.state in omega (arith, same, few);
+  }
+  selected-takes c c_new s s_new out_old out_new err (Err stop) yes_selected few sel =
+      line-refused c c_new s s_new (selected_out plan name shows s.has_shown (course_of c) t) out_old out_new err stop (sym (cond-true (is_selected plan t) _ _ yes_selected)) sel
+
+  -- it is passed
+  pub passed-takes : (c c_new : Course) (s : State) (out_old out_new err : Kept) → is_selected plan t ≡ false → s.errors ≤ 20 → PassesOn plan name shows t c c_new out_old out_new
+      → Takes plan name shows most t c s c_new s out_old out_new err err Line
+  passed-takes c c_new s out_old out_new err not_selected few passes = record {
+    wrote = record {
+      out = subst (Appends out_old.held out_new.held) (sym (cond-false (is_selected plan t) _ _ not_selected)) passes.wrote.all;
+      err = subst (Appends err.held err.held) (sym unsaid) (Appends-nil err.held);
+      out_later = passes.wrote.later;
+      err_later = omega arith;
+    };
+    stands = passes.stands ∙ sym (cond-false (is_selected plan t) _ _ not_selected);
+    limit = passes.limit;
+    state = ap (λ b. let r : State = record s { has_shown = b } in r) (sym (or-none s.has_shown (is_lines shows))) ∙ state-so s false not_selected;
+    answer = sym (ap (λ b. if b && is_full most c_new.selected then Context else Line) not_selected);
+    errors = few;
+  }
+
+  pub passed-refused : (c c_new : Course) (s s_new : State) (out_old out_new err : Kept) (stop : Stop) → is_selected plan t ≡ false → Halts (passed_out plan name shows (course_of c) t) out_old out_new stop
+      → TakesLine plan name shows most t c s c_new s_new out_old out_new err err (Err stop)
+  passed-refused c c_new s s_new out_old out_new err stop not_selected halts =
+      line-refused c c_new s s_new (passed_out plan name shows (course_of c) t) out_old out_new err stop (sym (cond-false (is_selected plan t) _ _ not_selected)) halts
+
+-- whether a line is selected
+pub chosen : (b i : Bool) → not (beq b i) ≡ true → (if b then not i else i) ≡ true
+chosen true true e = absurd (false≢true e)
+chosen true false e = refl
+chosen false true e = refl
+chosen false false e = absurd (false≢true e)
+
+pub unchosen : (b i : Bool) → not (beq b i) ≡ false → (if b then not i else i) ≡ false
+unchosen true true e = refl
+unchosen true false e = absurd (false≢true (sym e))
+unchosen false true e = absurd (false≢true (sym e))
+unchosen false false e = refl

@@ -1,0 +1,24 @@
+use Rattle.std.proofs.Common.{refl, subst, sym, ◌∙◌}
+use Rattle.line_feed.specs.Lines.{Fronts}
+use Rattle.grep_core.proofs.FileTexts.{treats-none, treats-shown, hears-lacks}
+use Rattle.grep_core.proofs.file.treatment_of.Goals as goal
+
+pub returns-then-is_nul : goal.returns-then-is_nul
+returns-then-is_nul g c = treats-none c.args.plan.now (g.S.Source.tells c.args.source.now) c.args.feed.now c.requires (sym c.is_nul.ensures ∙ c.if-is_nul.true)
+
+pub returns-in-Ok : goal.returns-in-Ok
+returns-in-Ok g c =
+    let f = c.args.feed.now in
+    let new = c.front.follows.lender-at-none in
+    let now = g.S.Source.tells c.args.source.now in
+    let after = g.S.Source.tells c.front.new.source in
+    treats-shown c.args.plan.now c.treatment_by.result c.has_zero.result now after f new c.in-Ok.first.now c.requires (sym c.is_nul.ensures ∙ c.if-is_nul.false)
+    (subst (Fronts f new now after) c.in-Ok.is c.front.follows.holds-at-none) c.has_zero.ensures c.treatment_by.ensures
+
+pub returns-in-Err : goal.returns-in-Err
+returns-in-Err g c =
+    let f = c.args.feed.now in
+    let new = c.front.follows.lender-at-none in
+    let now = g.S.Source.tells c.args.source.now in
+    let after = g.S.Source.tells c.front.new.source in
+    (refl, hears-lacks now after f new c.requires (subst (Fronts f new now after) c.in-Err.is c.front.follows.holds-at-none))

@@ -1,0 +1,66 @@
+use Rattle.std.proofs.Common.{rules, ◌≡◌, ◌≢◌, ◌<◌, Err, None, arith, sym, subst}
+use Rattle.grep_core.specs.declared.modes.Show.TheVariants.{Lines}
+use Rattle.grep_core.specs.Modes.{lines_after}
+use Rattle.grep_core.specs.Turns.{Follows}
+use Rattle.line_feed.proofs.Given.{live-gives}
+use Rattle.grep_core.proofs.ScansFollow.{after-lines, after-others, following-none, following-more, follows-ends, follows-stops, follows-all}
+use Rattle.grep_core.proofs.scan.follow.Goals as goal
+
+pub returns-then-ne : goal.returns-then-ne
+returns-then-ne g c = λ before treated given stood kind max.
+    let job = c.args.job.now in
+    let other : job.show ≢ Lines = λ is. (let e = rw is at c.if-ne.ensures in cc) in
+    follows-all job.plan.now job.name.now job.show treated before given _ _ _ _ _ (following-none job.plan.now job.name.now job.show treated before given _ _ _ stood kind max) (sym (after-others job.show job.plan.now.after_context other))
+
+pub line-init : goal.line-init
+line-init g c = record {
+  live = c.requires;
+  within = omega arith;
+  following = λ before treated given stood kind max. following-none c.args.job.now.plan.now c.args.job.now.name.now c.args.job.now.show treated before given _ _ _ stood kind max;
+}
+
+pub follow_one-requires : goal.follow_one-requires
+follow_one-requires g c = c.line.invariant.live
+
+pub returns-in_err-ended : goal.returns-in_err-ended
+returns-in_err-ended g c = λ before treated given stood kind max.
+    let job = c.args.job.now in
+    let stop = c.in_err-ended.field-0.0 in
+    let same : c.from_residual.result ≡ Err stop = search rules in
+    let lines : job.show ≡ Lines = search rules in
+    let after = after-lines job.show job.plan.now.after_context lines in
+    let less = c.line-test.true in
+    let few : c.line.counter < lines_after job.show job.plan.now.after_context = omega arith in
+    subst (Follows job.plan.now job.name.now job.show treated before (g.S.Source.tells c.follow_one.new.source) given (g.O.Sink.tells c.args.out.now) (g.O.Sink.tells c.follow_one.new.out)) (sym same)
+    (follows-stops job.plan.now job.name.now job.show treated before given _ _ _ _ _ _ _ _ (c.line.invariant.following before treated given stood kind max) stop few c.in_err-ended.ensures)
+
+pub returns-in-Some : goal.returns-in-Some
+returns-in-Some g c = λ before treated given stood kind max.
+    let job = c.args.job.now in
+    let lines : job.show ≡ Lines = search rules in
+    let after = after-lines job.show job.plan.now.after_context lines in
+    let less = c.line-test.true in
+    let few : c.line.counter < lines_after job.show job.plan.now.after_context = omega arith in
+    let ends = rw c.in-Some.is at c.in_ok-ended.ensures in
+    follows-ends job.plan.now job.name.now job.show treated before given _ _ _ _ _ _ _ _ (c.line.invariant.following before treated given stood kind max) c.in-Some.ended few ends
+
+pub line-preserved : goal.line-preserved
+line-preserved g c =
+    let job = c.args.job.now in
+    let none : c.in_ok-ended.field-0 ≡ None = search rules in
+    let shows = rw none at c.in_ok-ended.ensures in
+    record {
+      live = live-gives _ _ _ _ shows.row shows.gives;
+      within = let less = c.line-test.true in omega arith;
+      following = λ before treated given stood kind max. following-more job.plan.now job.name.now job.show treated before given _ _ _ _ _ _ _ _ (c.line.invariant.following before treated given stood kind max) shows;
+    }
+
+pub returns : goal.returns
+returns g c = λ before treated given stood kind max.
+    let job = c.args.job.now in
+    let lines : job.show ≡ Lines = search rules in
+    let after = after-lines job.show job.plan.now.after_context lines in
+    let most = c.line-test.false in
+    let within = c.line.invariant.within in
+    let all : c.line.counter ≡ lines_after job.show job.plan.now.after_context = omega arith in
+    follows-all job.plan.now job.name.now job.show treated before given _ _ _ _ _ (c.line.invariant.following before treated given stood kind max) all

@@ -1,0 +1,34 @@
+use Rattle.std.proofs.Common.{◌≡◌, ◌≤◌, false, Ok, Err, refl, sym, ap, subst, rules}
+use Rattle.line_feed.specs.Lines.{row_of}
+use Rattle.grep_core.specs.declared.modes.Show.TheVariants.{Lines}
+use Rattle.grep_core.specs.Ends.{stop_of}
+use Rattle.grep_core.specs.Turns.{Halts, Passes, Writes}
+use Rattle.grep_core.proofs.Halting.{halts-of, wrote-of, context-text, context-behind}
+use Rattle.grep_core.proofs.scan.pass.Goals as goal
+
+pub returns-in_err-write_line : goal.returns-in_err-write_line
+returns-in_err-write_line g c t same =
+    let job = c.args.job.now in
+    let row = row_of c.args.line.now in
+    let old = g.O.Sink.tells c.args.out.now in
+    let new = g.O.Sink.tells c.write_line.new.out in
+    let e = c.in_err-write_line.field-0.0 in
+    let is : c.from_residual.result ≡ Err (stop_of e) = search rules in
+    let lines : job.show ≡ Lines = search rules in
+    let text = context-text job.plan.now job.name.now job.show c.args.course.now t row lines same c.if-line-course.true in
+    subst (Passes job.plan.now job.name.now job.show t c.args.course.now c.args.course.now old new) (sym is)
+    (subst (λ l. Halts l old new (stop_of e)) text (halts-of _ old new e (c.in_err-write_line.ensures (record { row = row; is_selected = false; begins_group = false }) refl refl)))
+
+pub returns-in_ok-write_line : goal.returns-in_ok-write_line
+returns-in_ok-write_line g c t same =
+    let job = c.args.job.now in
+    let row = row_of c.args.line.now in
+    let old = g.O.Sink.tells c.args.out.now in
+    let new = g.O.Sink.tells c.write_line.new.out in
+    let lines : job.show ≡ Lines = search rules in
+    record {
+      wrote = subst (λ l. Writes l old new) (context-text job.plan.now job.name.now job.show c.args.course.now t row lines same c.if-line-course.true)
+          (wrote-of _ old new _ (c.in_ok-write_line.ensures (record { row = row; is_selected = false; begins_group = false }) refl refl));
+      stands = context-behind job.plan.now job.show c.args.course.now t row lines same c.if-line-course.true;
+      limit = refl;
+    }

@@ -1,0 +1,30 @@
+use Rattle.std.proofs.Common.{◌≡◌, ◌<◌, ◌+◌, Ok, Err, sym, ap, subst, ◌∙◌, arith, rules, SFits, w32, to_z, of_z}
+use Rattle.std.proofs.lemmas.Int.{to_z-of_z}
+use Rattle.grep_core.specs.Turns.{TakesLine}
+use Rattle.grep_core.proofs.Halting.{wrote-of, takes-last, error-refused, error-takes}
+use Rattle.grep_core.proofs.scan.take_error.Goals as goal
+
+pub returns-then-state-ge-MANY_ERRORS : goal.returns-then-state-ge-MANY_ERRORS
+returns-then-state-ge-MANY_ERRORS g c t same is =
+    let fits : SFits w32 c.args.error = search rules in
+    takes-last _ _ _ _ _ _ t c.args.error _ _ _ is c.requires.few c.if-state-ge-MANY_ERRORS.true (wrote-of _ _ _ _ (c.in_ok-write_error.ensures t (search rules) (is ∙ ap Err (sym (to_z-of_z w32 c.args.error fits)))))
+
+pub returns-in_err-pass : goal.returns-in_err-pass
+returns-in_err-pass g c t same is =
+    let fits : SFits w32 c.args.error = search rules in
+    let job = c.args.job.now in
+    let stop = c.in_err-pass.field-0.0 in
+    let refused : c.from_residual-in_err-pass.result ≡ Err stop = search rules in
+    subst
+    (TakesLine job.plan.now job.name.now job.show job.most t c.args.course.now c.args.state.now c.pass.new.course
+    (record { errors = c.args.state.now.errors + 1; total = c.args.state.now.total; has_shown = c.args.state.now.has_shown }) (g.O.Sink.tells c.args.out.now) (g.O.Sink.tells c.pass.new.out) (g.E.Sink.tells c.args.err.now)
+    (g.E.Sink.tells c.write_error.new.err))
+    (sym refused)
+    (error-refused job.plan.now job.name.now job.show job.most c.args.course.now c.pass.new.course c.args.state.now
+    (record { errors = c.args.state.now.errors + 1; total = c.args.state.now.total; has_shown = c.args.state.now.has_shown }) t c.args.error (g.O.Sink.tells c.args.out.now) (g.O.Sink.tells c.pass.new.out) (g.E.Sink.tells c.args.err.now)
+    (g.E.Sink.tells c.write_error.new.err) stop is (omega arith) (wrote-of _ _ _ _ (c.in_ok-write_error.ensures t (search rules) (is ∙ ap Err (sym (to_z-of_z w32 c.args.error fits))))) (c.in_err-pass.ensures t same))
+
+pub returns : goal.returns
+returns g c t same is =
+    let fits : SFits w32 c.args.error = search rules in
+    error-takes _ _ _ _ _ _ _ t c.args.error _ _ _ _ is (omega arith) (wrote-of _ _ _ _ (c.in_ok-write_error.ensures t (search rules) (is ∙ ap Err (sym (to_z-of_z w32 c.args.error fits))))) (c.in_ok-pass.ensures t same)

@@ -1,0 +1,78 @@
+use Rattle.std.proofs.Common.{◌≡◌, Bool, true, false, not, Ok, Err, refl, sym, ap, subst, ◌∙◌, arith, rules, length, SFits, w32, to_z, of_z}
+use Rattle.std.proofs.lemmas.Int.{to_z-of_z}
+use Rattle.line_feed.specs.Lines.{row_of}
+use Rattle.grep_core.specs.Compiled.{patterns_in}
+use Rattle.grep_core.specs.Matches.{Matches, matches, tried_row, is_selected, selects}
+use Rattle.grep_core.specs.Found.{IsVerdict}
+use Rattle.grep_core.specs.Turns.{TakesLine}
+use Rattle.grep_core.proofs.Taking.{IsTried, verdict-error, verdict-match, verdict-none, tried-listed, selected-takes, passed-takes, passed-refused, chosen, unchosen}
+use Rattle.grep_core.proofs.scan.take_line.Goals.{in-Match, in-NoMatch}
+use Rattle.grep_core.proofs.scan.take_line.Goals as goal
+
+pub returns-in-Error : goal.returns-in-Error
+returns-in-Error g c =
+    let job = c.args.job.now in
+    let row = row_of c.args.line.now in
+    let t = tried_row job.plan.now (patterns_in job.patterns.now) row in
+    let fits : SFits w32 c.in-Error.error = search rules in
+    c.take_error.ensures t refl
+    (verdict-error job.plan.now.only_matching (length c.args.line.now.bytes.now) c.search_line.new.work.found c.in-Error.error t.matches (rw c.in-Error.is at c.in_ok-search_line.ensures) ∙ ap Err (sym (to_z-of_z w32 c.in-Error.error fits)))
+
+pub returns-then-is_match-job : goal.returns-then-is_match-job
+returns-then-is_match-job g c =
+    let job = c.args.job.now in
+    let row = row_of c.args.line.now in
+    let t = tried_row job.plan.now (patterns_in job.patterns.now) row in
+    let wanted = job.plan.now.only_matching in
+    let len = length c.args.line.now.bytes.now in
+    let list = c.search_line.new.work.found in
+    let tried : IsTried wanted len list c.match-branch-2.is_match t.matches =
+    elim c.match-branch-2.branch [
+      | in-Match w ↦ subst (λ b. IsTried wanted len list b t.matches) (sym w.is_match-is) (verdict-match wanted len list t.matches (rw w.in-Match.is at c.in_ok-search_line.ensures))
+      | in-NoMatch w ↦ subst (λ b. IsTried wanted len list b t.matches) (sym w.is_match-is) (verdict-none wanted len list t.matches (rw w.in-NoMatch.is at c.in_ok-search_line.ensures))
+    ] in
+    selected-takes job.plan.now job.name.now job.show job.most t tried.found tried.is _ _ _ _ _ _ _ _
+    (tried.selects_so job.plan.now.invert_match ∙ chosen c.match-branch-2.is_match job.plan.now.invert_match c.if-is_match-job.true)
+    c.requires.errors
+    (c.select.ensures t refl (tried-listed wanted len list c.match-branch-2.is_match t.matches tried))
+
+pub returns-in_err-pass : goal.returns-in_err-pass
+returns-in_err-pass g c =
+    let job = c.args.job.now in
+    let row = row_of c.args.line.now in
+    let t = tried_row job.plan.now (patterns_in job.patterns.now) row in
+    let wanted = job.plan.now.only_matching in
+    let len = length c.args.line.now.bytes.now in
+    let list = c.search_line.new.work.found in
+    let tried : IsTried wanted len list c.match-branch-2.is_match t.matches =
+    elim c.match-branch-2.branch [
+      | in-Match w ↦ subst (λ b. IsTried wanted len list b t.matches) (sym w.is_match-is) (verdict-match wanted len list t.matches (rw w.in-Match.is at c.in_ok-search_line.ensures))
+      | in-NoMatch w ↦ subst (λ b. IsTried wanted len list b t.matches) (sym w.is_match-is) (verdict-none wanted len list t.matches (rw w.in-NoMatch.is at c.in_ok-search_line.ensures))
+    ] in
+    let stop = c.in_err-pass.field-0.0 in
+    let refused : c.from_residual-in_err-pass.result ≡ Err stop = search rules in
+    subst
+    (TakesLine job.plan.now job.name.now job.show job.most t c.args.course.now c.args.state.now c.pass.new.course c.args.state.now (g.O.Sink.tells c.args.out.now) (g.O.Sink.tells c.pass.new.out)
+    (g.E.Sink.tells c.args.err.now) (g.E.Sink.tells c.args.err.now))
+    (sym refused)
+    (passed-refused job.plan.now job.name.now job.show job.most t tried.found tried.is c.args.course.now c.pass.new.course c.args.state.now c.args.state.now _ _ _ stop
+    (tried.selects_so job.plan.now.invert_match ∙ unchosen c.match-branch-2.is_match job.plan.now.invert_match c.if-is_match-job.false)
+    (c.in_err-pass.ensures t refl))
+
+pub returns : goal.returns
+returns g c =
+    let job = c.args.job.now in
+    let row = row_of c.args.line.now in
+    let t = tried_row job.plan.now (patterns_in job.patterns.now) row in
+    let wanted = job.plan.now.only_matching in
+    let len = length c.args.line.now.bytes.now in
+    let list = c.search_line.new.work.found in
+    let tried : IsTried wanted len list c.match-branch-2.is_match t.matches =
+    elim c.match-branch-2.branch [
+      | in-Match w ↦ subst (λ b. IsTried wanted len list b t.matches) (sym w.is_match-is) (verdict-match wanted len list t.matches (rw w.in-Match.is at c.in_ok-search_line.ensures))
+      | in-NoMatch w ↦ subst (λ b. IsTried wanted len list b t.matches) (sym w.is_match-is) (verdict-none wanted len list t.matches (rw w.in-NoMatch.is at c.in_ok-search_line.ensures))
+    ] in
+    passed-takes job.plan.now job.name.now job.show job.most t tried.found tried.is _ _ _ _ _ _
+    (tried.selects_so job.plan.now.invert_match ∙ unchosen c.match-branch-2.is_match job.plan.now.invert_match c.if-is_match-job.false)
+    c.requires.errors
+    (c.in_ok-pass.ensures t refl)

@@ -1,0 +1,93 @@
+use Rattle.std.proofs.Common.{rules, ◌≡◌, subst, ◌<◌, ◌^◌, length, Err, arith, refl, sym, ap, ◌∙◌}
+use Rattle.grep_core.proofs.scan.take_lines.Goals as goal
+use Rattle.grep_core.specs.Compiled.{patterns_in}
+use Rattle.grep_core.specs.Turns.{TakesAll}
+use Rattle.line_feed.proofs.Given.{live-gives}
+use Rattle.grep_core.proofs.ScansTaken.{standing-line, standing-pauses}
+use Rattle.grep_core.proofs.ScansEnd.{scans-ends, scans-stops}
+use Rattle.grep_core.proofs.ScansLoop.{standing-begun, keeps-more, gave}
+
+pub line-init : goal.line-init
+line-init g c = record {
+  live = c.requires.live;
+  keeps =
+      let first = c.requires.first in
+      let selected = c.requires.selected in
+      let context = c.requires.context in
+      let back = ap length c.requires.back in record {
+        max = c.requires.max;
+        numbered = omega arith;
+        number = omega arith;
+        back = omega arith;
+        context = omega arith;
+        selected = omega arith;
+        errors = c.requires.errors;
+      };
+  limit = λ is. c.requires.limit;
+  standing = λ before treated job stood. standing-begun _ _ _ _ _ treated _ before _ _ _ _ _ job stood c.requires.selected c.requires.context c.requires.back c.requires.errors;
+}
+
+pub take_turn-requires-clause-live : goal.take_turn-requires-clause-live
+take_turn-requires-clause-live g c = c.line.invariant.live
+
+pub take_turn-requires-clause-max : goal.take_turn-requires-clause-max
+take_turn-requires-clause-max g c = c.line.invariant.keeps.max
+
+pub take_turn-requires-clause-numbered : goal.take_turn-requires-clause-numbered
+take_turn-requires-clause-numbered g c = c.line.invariant.keeps.numbered
+
+pub take_turn-requires-clause-back : goal.take_turn-requires-clause-back
+take_turn-requires-clause-back g c = c.line.invariant.keeps.back
+
+pub take_turn-requires-clause-context : goal.take_turn-requires-clause-context
+take_turn-requires-clause-context g c = c.line.invariant.keeps.context
+
+pub take_turn-requires-clause-selected : goal.take_turn-requires-clause-selected
+take_turn-requires-clause-selected g c = let few = c.line.invariant.keeps.selected in let number = c.line.invariant.keeps.number in omega arith
+
+pub take_turn-requires-clause-errors : goal.take_turn-requires-clause-errors
+take_turn-requires-clause-errors g c = c.line.invariant.keeps.errors
+
+pub take_turn-requires-clause-limit : goal.take_turn-requires-clause-limit
+take_turn-requires-clause-limit g c = c.line.invariant.limit
+
+pub returns-in_err-take_turn-clause-taken : goal.returns-in_err-take_turn-clause-taken
+returns-in_err-take_turn-clause-taken g c = λ before treated job stood.
+    let job_is = c.args.job.now in
+    let stop = c.in_err-take_turn.field-0.0 in
+    let same : c.from_residual.result ≡ Err stop = search rules in
+    subst
+    (TakesAll job_is.plan.now (patterns_in job_is.patterns.now) job_is.name.now job_is.show job_is.most treated c.args.state.now before (g.S.Source.tells c.take_turn.new.source) c.take_turn.new.feed
+    c.take_turn.new.course.selected c.take_turn.new.state (g.O.Sink.tells c.args.out.now) (g.O.Sink.tells c.take_turn.new.out) (g.E.Sink.tells c.args.err.now) (g.E.Sink.tells c.take_turn.new.err))
+    (sym same)
+    (scans-stops _ _ _ _ _ treated _ _ job before _ _ _ _ _ _ _ _ _ _ _ _ _ _ (c.line.invariant.standing before treated job stood) stop c.in_err-take_turn.ensures)
+
+pub line-smaller : goal.line-smaller
+line-smaller g c =
+    let row = rw c.in-Took-Line.field-0-is at (rw c.in-Took-Line.is at c.in_ok-take_turn.ensures) in
+    let grew = gave _ _ _ _ row.row row.gives in
+    let more = grew.offset in
+    let limit = grew.limit in
+    omega arith
+
+pub line-preserved : goal.line-preserved
+line-preserved g c =
+    let row = rw c.in-Took-Line.field-0-is at (rw c.in-Took-Line.is at c.in_ok-take_turn.ensures) in
+    let few : c.args.job.now.plan.now.after_context < 2 ^ 32 = let most = c.if-prove.false in omega arith in
+    let had = c.line.invariant in
+    record {
+      live = live-gives _ _ _ _ row.row row.gives;
+      keeps = keeps-more c.args.job.now.plan.now c.args.job.now.name.now c.args.job.now.show c.args.job.now.most _ _ _ _ row.row _ _ _ _ _ _ _ _ _ _ few refl had.keeps row.gives row.takes;
+      limit = λ is. row.takes.limit ∙ had.limit is;
+      standing = λ before treated job stood. standing-line _ _ _ _ _ treated _ before _ _ _ _ row.row _ _ _ _ _ _ _ _ _ _ (had.standing before treated job stood) row.gives row.takes;
+    }
+
+pub returns-in-Took-Context-clause-taken : goal.returns-in-Took-Context-clause-taken
+returns-in-Took-Context-clause-taken g c = λ before treated job stood.
+    let row = rw c.in-Took-Context.field-0-is at (rw c.in-Took-Context.is at c.in_ok-take_turn.ensures) in
+    standing-pauses _ _ _ _ _ treated _ before _ _ _ _ row.row _ _ _ _ _ _ _ _ _ _ (c.line.invariant.standing before treated job stood) row.gives row.takes
+
+pub returns-in-Finished-clause-taken : goal.returns-in-Finished-clause-taken
+returns-in-Finished-clause-taken g c = λ before treated job stood.
+    let ends = rw c.in-Finished.is at c.in_ok-take_turn.ensures in
+    scans-ends _ _ _ _ _ treated _ _ job before _ _ _ _ _ _ _ _ _ _ _ _ _ _ (c.line.invariant.standing before treated job stood) c.in-Finished.ended ends.0 ends.1

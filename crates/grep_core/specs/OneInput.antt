@@ -1,0 +1,86 @@
+-- What searching one input does.
+use Rattle.std.specs.Prelude.{◌≡◌, ◌≢◌, ℕ, Bool, true, false, List, [], flat_map, Result, Ok, Err}
+use Rattle.pcre_io.specs.Told.{Told, Kept}
+use Rattle.pcre_io.specs.declared.traits.IoError.{IoError}
+use Rattle.line_feed.specs.Rows.{Input}
+use Rattle.line_feed.specs.View.{Feed}
+use Rattle.line_feed.specs.Hears.{Hears}
+use Rattle.line_feed.specs.declared.phase.Phase.TheVariants.{Open, Closed}
+use Rattle.grep_args.specs.declared.plan.GrepPlan.{GrepPlan}
+use Rattle.grep_core.specs.declared.ended.FileEnd.{FileEnd}
+use Rattle.grep_core.specs.declared.ended.Stop.{Stop}
+use Rattle.grep_core.specs.declared.ended.Stop.TheVariants.{TooManyErrors, Memory}
+use Rattle.grep_core.specs.declared.modes.Treatment.{Treatment}
+use Rattle.grep_core.specs.declared.modes.Treatment.TheVariants.{Skipped}
+use Rattle.grep_core.specs.declared.state.State.{State}
+use Rattle.grep_core.specs.Compiled.{Pattern}
+use Rattle.grep_core.specs.Lines.{lines, treatment}
+use Rattle.grep_core.specs.Messages.{error_message}
+use Rattle.grep_core.specs.Scans.{Scan, too_many_errors, scan}
+use Rattle.grep_core.specs.InputText.{Written, input_text, shown_out}
+use Rattle.grep_core.specs.declared.modes.Show.{Show}
+use Rattle.grep_core.specs.Ends.{ended_of, stop_of}
+use Rattle.grep_core.specs.Turns.{Wrote, Breaks, Stood, Scans}
+
+abbrev pub is_skipped : Treatment → Bool
+is_skipped Skipped = true
+is_skipped _ = false
+
+-- the feed has taken nothing
+pub record IsNew (f : Feed) : Type 0 where
+  pub held : f.held ≡ []
+  pub number : f.number ≡ 0
+  pub offset : f.offset ≡ 0
+  pub phase : f.phase ≡ Open
+
+-- the feed looked at the first bytes at most, and by them the input is treated so
+pub record Treats (plan : GrepPlan) (f g : Feed) (before after : Told) (treated : Treatment) : Type 0 where
+  pub stood : Stood plan treated before after g []
+  pub live : g.phase ≢ Closed
+  pub number : g.number ≡ 0
+  pub kind : g.kind ≡ f.kind
+  pub max : g.max ≡ f.max
+
+abbrev pub TreatsTo : GrepPlan → Feed → Feed → Told → Told → Result Treatment Stop → Type 0
+TreatsTo plan f g before after (Ok treated) = Treats plan f g before after treated
+TreatsTo plan f g before after (Err stop) = (stop ≡ Memory) × ((heard : Input) × Hears before after heard)
+
+-- a text was written to each sink; or a part of each, where a write was refused
+abbrev pub WritesBoth : {T : Type 0} → List ℕ → List ℕ → Kept → Kept → Kept → Kept → Result T IoError → Type 0
+WritesBoth out_text err_text out_old out_new err_old err_new (Ok _) = Wrote out_text err_text out_old out_new err_old err_new
+WritesBoth out_text err_text out_old out_new err_old err_new (Err fault) = Breaks out_text err_text out_old out_new err_old err_new (stop_of fault)
+
+-- an input was scanned as it is treated
+module _ (plan : GrepPlan) (patterns : List Pattern) (name : List ℕ) (show : Show) (treated : Treatment) (s : State) where
+  abbrev pub ScansSo : Scan → State → Kept → Kept → Kept → Kept → Result FileEnd Stop → Type 0
+  ScansSo found s_new out_old out_new err_old err_new (Ok end) =
+      Scans plan patterns name show treated s found end.selected s_new out_old out_new err_old err_new × (found.ended ≡ ended_of end.ended)
+  ScansSo found s_new out_old out_new err_old err_new (Err TooManyErrors) =
+      Wrote (shown_out plan name show s.has_shown found) (flat_map (error_message name) found.tried) out_old out_new err_old err_new × (found.ended ≡ too_many_errors)
+  ScansSo found s_new out_old out_new err_old err_new (Err stop) =
+      Breaks (shown_out plan name show s.has_shown found) (flat_map (error_message name) found.tried) out_old out_new err_old err_new stop
+
+  pub record ScansAs (before after : Told) (s_new : State) (out_old out_new err_old err_new : Kept) (result : Result FileEnd Stop) : Type 0 where
+    pub heard : Input
+    pub hears : Hears before after heard
+    pub treats : treatment plan heard ≡ treated
+    pub scans : ScansSo (scan plan patterns s.errors treated (lines plan heard)) s_new out_old out_new err_old err_new result
+
+-- all was written, and this is told and left
+pub record GrepsAll (w : Written) (s_new : State) (out_old out_new err_old err_new : Kept) (end : FileEnd) : Type 0 where
+  pub wrote : Wrote w.out w.err out_old out_new err_old err_new
+  pub selected : end.selected ≡ w.selected
+  pub ended : w.ended ≡ ended_of end.ended
+  pub state : s_new ≡ w.state
+
+-- all was written up to the last match error that there may be; else, where the run can't go on, a part of it
+abbrev pub GrepsTo : Written → State → Kept → Kept → Kept → Kept → Result FileEnd Stop → Type 0
+GrepsTo w s_new out_old out_new err_old err_new (Ok end) = GrepsAll w s_new out_old out_new err_old err_new end
+GrepsTo w s_new out_old out_new err_old err_new (Err TooManyErrors) = Wrote w.out w.err out_old out_new err_old err_new × (w.ended ≡ too_many_errors)
+GrepsTo w s_new out_old out_new err_old err_new (Err stop) = Breaks w.out w.err out_old out_new err_old err_new stop
+
+-- what is written is the text of the input that the source stands for, after what the inputs before left
+pub record Greps (plan : GrepPlan) (patterns : List Pattern) (name : List ℕ) (before after : Told) (s s_new : State) (out_old out_new err_old err_new : Kept) (result : Result FileEnd Stop) : Type 0 where
+  pub heard : Input
+  pub hears : Hears before after heard
+  pub greps : GrepsTo (input_text plan patterns name s heard) s_new out_old out_new err_old err_new result

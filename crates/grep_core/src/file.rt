@@ -1,0 +1,192 @@
+//! One input.
+ghost use Rattle.std.specs.Prelude.{◌≡◌, ◌≢◌, ◌+◌, ◌≤◌, ◌<◌, ◌^◌, [], nat_eq};
+ghost use Rattle.std.specs.List.{list_any};
+ghost use Rattle.pcre_io.specs.Told.{Told};
+ghost use Rattle.line_feed.specs.declared.phase.Phase.TheVariants.{Closed};
+ghost use Rattle.grep_core.specs.declared.modes.Treatment.TheVariants.{Skipped};
+ghost use Rattle.grep_core.specs.Compiled.{patterns_in};
+ghost use Rattle.grep_core.specs.Ends.{ended_of};
+ghost use Rattle.grep_core.specs.InputText.{end_out};
+ghost use Rattle.grep_core.specs.Lines.{is_nul};
+ghost use Rattle.grep_core.specs.Messages.{ended_message};
+ghost use Rattle.grep_core.specs.Turns.{IsSome, IsJob, Stood};
+ghost use Rattle.grep_core.specs.OneInput.{Greps, IsNew, is_skipped, TreatsTo, WritesBoth, ScansAs};
+
+use crate::back::Back;
+use crate::ended::{Ended, FileEnd, Stop};
+use crate::lines::line_end;
+use crate::messages::{write_ended, write_too_many};
+use crate::modes::{Mode, Treatment, mode_of, most_selected, show_in, tells_binary, treatment_by};
+use crate::patterns::Patterns;
+use crate::scan::{Course, Job, scan};
+use crate::search::Workspace;
+use crate::state::{GrepState, State};
+use crate::summary::write_summary;
+use grep_args::GrepPlan;
+use line_feed::LineFeed;
+use pat_tree::Newline;
+use pcre_io::{IoError, Sink, Source};
+
+// Whether a zero byte ends a line.
+fn is_nul(newline: Newline) -> bool
+    ensures { result ≡ is_nul newline }
+{
+    newline == Newline::Nul
+}
+
+// Whether a zero byte is among these.
+fn has_zero(bytes: &[u8]) -> bool
+    ensures { result ≡ list_any (nat_eq 0) bytes.now }
+{
+    bytes.iter().any(|byte| *byte == 0)
+}
+
+// How an input is treated. It is binary where a zero byte stands in its first bytes, unless a zero byte ends a line.
+fn treatment_of<S: Source>(
+    plan: &GrepPlan,
+    feed: &mut LineFeed,
+    source: &mut S,
+) -> Result<Treatment, Stop>
+    requires { IsNew feed.old }
+    ensures { TreatsTo plan.now feed.old feed.new (S.tells source.old) (S.tells source.new) result }
+{
+    if is_nul(plan.newline) {
+        return Ok(Treatment::AsText);
+    }
+    match feed.front(source) {
+        Ok(first) => Ok(treatment_by(has_zero(first), plan.binary)),
+        Err(_) => Err(Stop::Memory),
+    }
+}
+
+// Whether it counts as without any selected line.
+fn is_skipped(treatment: Treatment) -> bool
+    ensures { result ≡ is_skipped treatment }
+{
+    treatment == Treatment::Skipped
+}
+
+// Scans an input. One that counts as without any selected line isn't scanned.
+fn scan_as<S: Source, O: Sink, E: Sink>(
+    job: &Job<'_>,
+    treatment: Treatment,
+    feed: &mut LineFeed,
+    source: &mut S,
+    out: &mut O,
+    err: &mut E,
+    work: &mut Workspace,
+    state: &mut State,
+) -> Result<FileEnd, Stop>
+    requires live { feed.old.phase ≢ Closed }
+    requires max { feed.old.max ≤ 2 ^ 30 }
+    requires first { feed.old.number ≡ 0 }
+    requires errors { state.old.errors ≤ 20 }
+    ensures { (before : Told) → (treatment ≢ Skipped → IsJob job.now.plan.now treatment job.now.show job.now.most feed.old)
+        → Stood job.now.plan.now treatment before (S.tells source.old) feed.old []
+        → ScansAs job.now.plan.now (patterns_in job.now.patterns.now) job.now.name.now job.now.show treatment state.old before (S.tells source.new)
+        state.new (O.tells out.old) (O.tells out.new) (E.tells err.old) (E.tells err.new) result }
+{
+    if is_skipped(treatment) {
+        return Ok(FileEnd {
+            selected: 0,
+            ended: Ended::Early,
+        });
+    }
+    let mut course = Course {
+        selected: 0,
+        context_to: 0,
+        back: Back::new(job.alloc, job.plan.before_context as usize)?,
+    };
+    let ended = scan(job, feed, source, out, err, work, state, &mut course)?;
+    Ok(FileEnd {
+        selected: course.selected,
+        ended,
+    })
+}
+
+// Writes what is told of an input that was scanned.
+fn write_end<O: Sink, E: Sink>(
+    job: &Job<'_>,
+    mode: Mode,
+    is_told: bool,
+    end: FileEnd,
+    out: &mut O,
+    err: &mut E,
+) -> Result<(), IoError>
+    ensures { WritesBoth (end_out job.now.plan.now job.now.name.now mode is_told end.selected) (ended_message job.now.plan.now.no_messages job.now.name.now (ended_of end.ended))
+        (O.tells out.old) (O.tells out.new) (E.tells err.old) (E.tells err.new) result }
+{
+    write_summary(out, job.plan, job.name, mode, is_told, end.selected)?;
+    write_ended(err, job.plan.no_messages, job.name, end.ended)?;
+    Ok(())
+}
+
+// The number of lines that were selected so far.
+fn counted(total: u128, selected: u64) -> u128
+    requires { total < 2 ^ 127 }
+    ensures { result ≡ total + selected }
+{
+    total + u128::from(selected)
+}
+
+/// Writes what pcre2grep writes of an input of this name: its selected lines, or what the plan shows in place of them, to
+/// `out`, and messages about it to `err`. Under `Auto` no name is shown. Needs a plan whose `max_buffer_size` is from 1 to
+/// 1,073,741,824 and whose `max_count`, where given, is at least 1, and a state with at most 20 match errors and a total
+/// below 2^127.
+///
+/// # Errors
+///
+/// TooManyErrors at the 21st match error of the state, after which nothing more is shown. SinkFault where a write was
+/// refused, and want of memory; then each sink holds a part of its text.
+pub fn grep_file<S: Source, O: Sink, E: Sink>(
+    patterns: &Patterns,
+    plan: &GrepPlan,
+    name: &str,
+    source: &mut S,
+    out: &mut O,
+    err: &mut E,
+    state: &mut GrepState,
+) -> Result<FileEnd, Stop>
+    requires max { (1 ≤ plan.now.max_buffer_size) × (plan.now.max_buffer_size ≤ 2 ^ 30) }
+    requires most { IsSome plan.now.max_count }
+    requires errors { state.old.errors ≤ 20 }
+    requires total { state.old.total < 2 ^ 127 }
+    ensures { Greps plan.now (patterns_in patterns.now) name.now (S.tells source.old) (S.tells source.new) state.old state.new
+        (O.tells out.old) (O.tells out.new) (E.tells err.old) (E.tells err.new) result }
+{
+    let kind = line_end(plan);
+    let mut feed = LineFeed::new(state.alloc, kind, plan.max_buffer_size as usize);
+    let treatment = treatment_of(plan, &mut feed, source)?;
+    let mode = mode_of(plan);
+    let is_told = tells_binary(treatment, mode);
+    let job = Job {
+        alloc: state.alloc,
+        plan,
+        patterns,
+        name,
+        show: show_in(is_told, mode),
+        most: most_selected(is_told, mode, plan.max_count),
+    };
+    match scan_as(
+        &job,
+        treatment,
+        &mut feed,
+        source,
+        out,
+        err,
+        &mut state.work,
+        &mut state.state,
+    ) {
+        Ok(end) => {
+            write_end(&job, mode, is_told, end, out, err)?;
+            state.state.total = counted(state.state.total, end.selected);
+            Ok(end)
+        }
+        Err(Stop::TooManyErrors) => {
+            write_too_many(err)?;
+            Err(Stop::TooManyErrors)
+        }
+        Err(Stop::SinkFault) => Err(Stop::SinkFault),
+        Err(Stop::Memory) => Err(Stop::Memory),
+    }
+}

@@ -1,0 +1,74 @@
+//! Lines that are shown.
+ghost use Rattle.std.specs.Prelude.{◌≡◌, codes};
+ghost use Rattle.line_feed.specs.Lines.{row_of};
+ghost use Rattle.grep_core.specs.Context.{Shown};
+ghost use Rattle.grep_core.specs.Texts.{line_text, newline_of};
+ghost use Rattle.grep_core.specs.Patterns.{line_end};
+ghost use Rattle.grep_core.specs.Writes.{Writes};
+
+use crate::modes::is_named;
+use crate::write::{text_if, write_texts};
+use byte_lanes::EndKind;
+use grep_args::GrepPlan;
+use itoa::Buffer;
+use line_feed::Line;
+use pat_tree::Newline;
+use pcre_io::{IoError, Sink};
+
+// The newline of a line as it is shown: a last line without one gets LF.
+fn newline_of<'a>(line: &Line<'a>) -> &'a [u8]
+    ensures { result.now ≡ newline_of (row_of line.now) }
+{
+    if line.end.is_empty() { b"\n" } else { line.end }
+}
+
+/// Writes a line, with the name of its input and its number before it where the plan asks for them. A colon stands behind
+/// them where the line is selected, else a hyphen.
+pub fn write_line<O: Sink>(
+    out: &mut O,
+    plan: &GrepPlan,
+    name: &str,
+    line: &Line<'_>,
+    is_selected: bool,
+) -> Result<(), IoError>
+    ensures { (s : Shown) → s.row ≡ row_of line.now → s.is_selected ≡ is_selected
+        → Writes (line_text plan.now name.now s) (O.tells out.old) (O.tells out.new) result }
+{
+    let mark: &[u8] = if is_selected { b":" } else { b"-" };
+    let is_named = is_named(plan.names);
+    let mut buffer = Buffer::new();
+    let number = buffer.format(line.number).as_bytes();
+    write_texts(
+        out,
+        &[
+            text_if(is_named, name.as_bytes()),
+            text_if(is_named, mark),
+            text_if(plan.line_number, number),
+            text_if(plan.line_number, mark),
+            line.bytes,
+            newline_of(line),
+        ],
+    )
+}
+
+/// Parts groups of lines that don't touch.
+pub fn write_separator<O: Sink>(out: &mut O) -> Result<(), IoError>
+    ensures { Writes (codes "--\n") (O.tells out.old) (O.tells out.new) result }
+{
+    write_texts(out, &[b"--\n"])
+}
+
+/// What ends a line, in an input and in a pattern under `-F`.
+pub fn line_end(plan: &GrepPlan) -> EndKind
+    ensures { result ≡ line_end plan.now }
+{
+    match plan.newline {
+        Newline::Cr => EndKind::Cr,
+        Newline::Lf => EndKind::Lf,
+        Newline::CrLf => EndKind::CrLf,
+        Newline::AnyCrLf => EndKind::AnyCrLf,
+        Newline::Any if plan.utf => EndKind::AnyUtf,
+        Newline::Any => EndKind::Any,
+        Newline::Nul => EndKind::Nul,
+    }
+}

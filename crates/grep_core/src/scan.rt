@@ -1,0 +1,427 @@
+//! The scan of an input, line by line.
+ghost use Rattle.std.specs.Prelude.{◌≡◌, ◌≢◌, List, ◌<◌, ◌≤◌, ◌+◌, ◌^◌, ◌||◌, ◌&&◌, true, false, [], length, flat_map, IfOk, OnOk, Ok, Err, None};
+ghost use Rattle.pcre_io.specs.Told.{Told};
+ghost use Rattle.line_feed.specs.Rows.{Row};
+ghost use Rattle.line_feed.specs.Lines.{row_of};
+ghost use Rattle.line_feed.specs.declared.phase.Phase.TheVariants.{Closed};
+ghost use Rattle.grep_core.specs.declared.modes.Show.TheVariants.{Lines, Parts, Nothing};
+ghost use Rattle.grep_core.specs.Compiled.{patterns_in};
+ghost use Rattle.grep_core.specs.Patterns.{line_end};
+ghost use Rattle.grep_core.specs.Matches.{Tried, tried_row, is_selected, matches};
+ghost use Rattle.grep_core.specs.Context.{parts_groups};
+ghost use Rattle.grep_core.specs.Course.{begins_group, line_as, selected_out, passed_out, behind_selected, behind_passed, is_lines};
+ghost use Rattle.frame_machine.specs.PlaceAnswer.{Outcome};
+ghost use Rattle.grep_core.specs.Found.{Lists, ListsMatches};
+ghost use Rattle.grep_core.specs.Writes.{Writes};
+ghost use Rattle.grep_core.specs.declared.modes.Treatment.{Treatment};
+ghost use Rattle.grep_core.specs.Turns.{course_of, is_full, TakesLine, Passes, Selects, Turns, FollowsOne, ended_by, Stood, IsJob, ScansInput, TakesAll, Follows};
+
+use crate::back::Back;
+use crate::ended::{Ended, Stop};
+use crate::found::MatchList;
+use crate::lines::write_line;
+use crate::messages::write_error;
+use crate::modes::Show;
+use crate::parts::write_matches;
+use crate::patterns::Patterns;
+use crate::search::{Verdict, Workspace, search_line};
+use crate::state::State;
+use crate::write::{text_if, write_texts};
+use grep_args::GrepPlan;
+use line_feed::{FeedError, Line, LineFeed};
+use pcre_io::{IoError, Sink, Source};
+use std::alloc::Global;
+
+/// What is done with the lines of an input.
+#[derive(Clone, Copy)]
+pub struct Job<'a> {
+    pub alloc: Global,
+    pub plan: &'a GrepPlan,
+    pub patterns: &'a Patterns,
+    pub name: &'a str,
+    pub show: Show,
+    /// How many lines are selected at most.
+    pub most: Option<u32>,
+}
+
+/// How a scan stands between two lines.
+#[derive(Drop)]
+pub struct Course {
+    /// How many lines were selected.
+    pub selected: u64,
+    /// The number of the last line that is shown as context of a selected one, 0 where none was selected.
+    pub context_to: u64,
+    /// The lines behind that which a selected line would show.
+    pub back: Back,
+}
+
+/// What follows a line.
+#[derive(Clone, Copy, Debug, PartialEq, Eq)]
+pub enum Next {
+    Line,
+    /// No further line is selected.
+    Context,
+}
+
+/// What a turn of a scan comes to.
+enum Turn {
+    Took(Next),
+    Finished(Ended),
+}
+
+// The match errors of a run that end it.
+const MANY_ERRORS: u32 = 21;
+
+// Only where context is asked for are groups of lines parted.
+fn parts_groups(plan: &GrepPlan) -> bool
+    ensures { result ≡ parts_groups plan.now }
+{
+    plan.after_context > 0 || plan.before_context > 0
+}
+
+// Whether the lines that a selected line of this number shows don't touch those that were shown before.
+fn begins_group(course: &Course, number: u64) -> bool
+    requires back { length course.now.back.rows < number }
+    requires context { course.now.context_to ≤ 2 ^ 62 }
+    ensures { result ≡ begins_group (course_of course.now) number }
+{
+    let first = number - course.back.len() as u64;
+    course.context_to == 0 || course.context_to + 1 < first
+}
+
+// Whether what a selected line of this number shows is parted from what was shown before.
+fn is_parted(plan: &GrepPlan, has_shown: bool, course: &Course, number: u64) -> bool
+    requires back { length course.now.back.rows < number }
+    requires context { course.now.context_to ≤ 2 ^ 62 }
+    ensures { result ≡ (parts_groups plan.now && (has_shown && begins_group (course_of course.now) number)) }
+{
+    parts_groups(plan) && has_shown && begins_group(course, number)
+}
+
+// Writes the lines before a selected one.
+fn write_back<O: Sink>(job: &Job<'_>, out: &mut O, back: &Back) -> Result<(), IoError>
+    ensures { Writes (flat_map (line_as job.now.plan.now job.now.name.now false) back.now.rows) (O.tells out.old) (O.tells out.new) result }
+{
+    for i in 0..back.len() {
+        if let Some(line) = back.line(i) {
+            write_line(out, job.plan, job.name, &line, false)?;
+        }
+    }
+    Ok(())
+}
+
+// Writes a selected line, with the lines before it, parted from those that were shown before.
+fn write_selected<O: Sink>(
+    job: &Job<'_>,
+    line: &Line<'_>,
+    out: &mut O,
+    has_shown: bool,
+    course: &Course,
+) -> Result<(), IoError>
+    requires back { length course.now.back.rows < line.now.number }
+    requires context { course.now.context_to ≤ 2 ^ 62 }
+    ensures { (t : Tried) → t.row ≡ row_of line.now
+        → Writes (selected_out job.now.plan.now job.now.name.now Lines has_shown (course_of course.now) t) (O.tells out.old) (O.tells out.new) result }
+{
+    let is_parted = is_parted(job.plan, has_shown, course, line.number);
+    write_texts(out, &[text_if(is_parted, b"--\n")])?;
+    write_back(job, out, &course.back)?;
+    write_line(out, job.plan, job.name, line, true)
+}
+
+// Shows a line that isn't selected where it is context, and keeps it where it may become context.
+fn pass<O: Sink>(
+    job: &Job<'_>,
+    line: &Line<'_>,
+    out: &mut O,
+    course: &mut Course,
+) -> Result<(), Stop>
+    requires limit { job.now.show ≡ Lines → course.old.back.limit ≡ job.now.plan.now.before_context }
+    ensures { (t : Tried) → t.row ≡ row_of line.now
+        → Passes job.now.plan.now job.now.name.now job.now.show t course.old course.new (O.tells out.old) (O.tells out.new) result }
+{
+    if job.show != Show::Lines {
+        return Ok(());
+    }
+    if line.number <= course.context_to {
+        write_line(out, job.plan, job.name, line, false)?;
+    } else {
+        course.back.push(job.alloc, line)?;
+    }
+    Ok(())
+}
+
+// Writes what is shown of a selected line: the line, or its matches where it has some.
+fn write_shown<O: Sink>(
+    job: &Job<'_>,
+    line: &Line<'_>,
+    out: &mut O,
+    found: &MatchList,
+    has_shown: bool,
+    course: &Course,
+) -> Result<(), IoError>
+    requires back { length course.now.back.rows < line.now.number }
+    requires context { course.now.context_to ≤ 2 ^ 62 }
+    requires offset { line.now.offset ≤ 2 ^ 40 }
+    requires found { (os : List Outcome) × Lists job.now.plan.now.only_matching (length line.now.bytes.now) found.now os }
+    ensures { (t : Tried) → t.row ≡ row_of line.now → ListsMatches job.now.plan.now.only_matching (length line.now.bytes.now) found.now t.matches
+        → Writes (selected_out job.now.plan.now job.now.name.now job.now.show has_shown (course_of course.now) t) (O.tells out.old) (O.tells out.new) result }
+{
+    match job.show {
+        Show::Lines => write_selected(job, line, out, has_shown, course),
+        Show::Parts => write_matches(out, job.plan, job.name, line, found),
+        Show::Nothing => Ok(()),
+    }
+}
+
+// Whether so many lines are selected at most.
+fn is_full(most: Option<u32>, selected: u64) -> bool
+    ensures { result ≡ is_full most selected }
+{
+    match most {
+        Some(most) => selected >= u64::from(most),
+        None => false,
+    }
+}
+
+// Takes a selected line, of which these are the matches.
+fn select<O: Sink>(
+    job: &Job<'_>,
+    line: &Line<'_>,
+    out: &mut O,
+    found: &MatchList,
+    state: &mut State,
+    course: &mut Course,
+) -> Result<Next, Stop>
+    requires back { length course.old.back.rows < line.now.number }
+    requires context { course.old.context_to ≤ 2 ^ 62 }
+    requires offset { line.now.offset ≤ 2 ^ 40 }
+    requires number { line.now.number ≤ 2 ^ 41 }
+    requires few { course.old.selected ≤ 2 ^ 62 }
+    requires found { (os : List Outcome) × Lists job.now.plan.now.only_matching (length line.now.bytes.now) found.now os }
+    ensures { (t : Tried) → t.row ≡ row_of line.now → ListsMatches job.now.plan.now.only_matching (length line.now.bytes.now) found.now t.matches
+        → Selects job.now.plan.now job.now.name.now job.now.show job.now.most t course.old state.old course.new state.new (O.tells out.old) (O.tells out.new) result }
+{
+    write_shown(job, line, out, found, state.has_shown, course)?;
+    course.selected += 1;
+    if job.show == Show::Lines {
+        course.back.clear();
+        course.context_to = line.number + u64::from(job.plan.after_context);
+        state.has_shown = true;
+    }
+    if is_full(job.most, course.selected) {
+        Ok(Next::Context)
+    } else {
+        Ok(Next::Line)
+    }
+}
+
+// Takes a line with a match error. After the last one that there may be nothing more is shown.
+fn take_error<O: Sink, E: Sink>(
+    job: &Job<'_>,
+    line: &Line<'_>,
+    error: i32,
+    out: &mut O,
+    err: &mut E,
+    state: &mut State,
+    course: &mut Course,
+) -> Result<Next, Stop>
+    requires few { state.old.errors ≤ 20 }
+    requires limit { job.now.show ≡ Lines → course.old.back.limit ≡ job.now.plan.now.before_context }
+    ensures { (t : Tried) → t.row ≡ row_of line.now → t.matches ≡ Err error
+        → TakesLine job.now.plan.now job.now.name.now job.now.show job.now.most t course.old state.old course.new state.new (O.tells out.old) (O.tells out.new) (E.tells err.old) (E.tells err.new) result }
+{
+    write_error(err, job.name, line.number, error)?;
+    state.errors += 1;
+    if state.errors >= MANY_ERRORS {
+        return Err(Stop::TooManyErrors);
+    }
+    pass(job, line, out, course)?;
+    Ok(Next::Line)
+}
+
+// Takes a line.
+fn take_line<O: Sink, E: Sink>(
+    job: &Job<'_>,
+    line: &Line<'_>,
+    out: &mut O,
+    err: &mut E,
+    work: &mut Workspace,
+    state: &mut State,
+    course: &mut Course,
+) -> Result<Next, Stop>
+    requires short { length line.now.bytes.now < 4294967295 }
+    requires back { length course.old.back.rows < line.now.number }
+    requires context { course.old.context_to ≤ 2 ^ 62 }
+    requires offset { line.now.offset ≤ 2 ^ 40 }
+    requires number { line.now.number ≤ 2 ^ 41 }
+    requires selected { course.old.selected ≤ 2 ^ 62 }
+    requires errors { state.old.errors ≤ 20 }
+    requires limit { job.now.show ≡ Lines → course.old.back.limit ≡ job.now.plan.now.before_context }
+    ensures { TakesLine job.now.plan.now job.now.name.now job.now.show job.now.most (tried_row job.now.plan.now (patterns_in job.now.patterns.now) (row_of line.now))
+        course.old state.old course.new state.new (O.tells out.old) (O.tells out.new) (E.tells err.old) (E.tells err.new) result }
+{
+    let is_match = match search_line(job.plan, job.patterns, line.bytes, work)? {
+        Verdict::Match => true,
+        Verdict::NoMatch => false,
+        Verdict::Error(error) => {
+            return take_error(job, line, error, out, err, state, course);
+        }
+    };
+    if is_match != job.plan.invert_match {
+        return select(job, line, out, &work.found, state, course);
+    }
+    pass(job, line, out, course)?;
+    Ok(Next::Line)
+}
+
+// How a scan ends where the feed gives no line.
+fn ended_by(e: FeedError) -> Result<Ended, Stop>
+    ensures { result ≡ ended_by e }
+{
+    match e {
+        FeedError::ReadFault => Ok(Ended::ReadFault),
+        FeedError::TooLong { line } => Ok(Ended::TooLong { line }),
+        FeedError::TooMuch => Ok(Ended::TooMuch),
+        FeedError::Memory => Err(Stop::Memory),
+    }
+}
+
+// Takes the next line, where there is one.
+fn take_turn<S: Source, O: Sink, E: Sink>(
+    job: &Job<'_>,
+    feed: &mut LineFeed,
+    source: &mut S,
+    out: &mut O,
+    err: &mut E,
+    work: &mut Workspace,
+    state: &mut State,
+    course: &mut Course,
+) -> Result<Turn, Stop>
+    requires live { feed.old.phase ≢ Closed }
+    requires max { feed.old.max ≤ 2 ^ 30 }
+    requires numbered { feed.old.number ≤ feed.old.offset }
+    requires back { length course.old.back.rows ≤ feed.old.number }
+    requires context { course.old.context_to ≤ 2 ^ 62 }
+    requires selected { course.old.selected ≤ 2 ^ 62 }
+    requires errors { state.old.errors ≤ 20 }
+    requires limit { job.now.show ≡ Lines → course.old.back.limit ≡ job.now.plan.now.before_context }
+    ensures { Turns job.now.plan.now (patterns_in job.now.patterns.now) job.now.name.now job.now.show job.now.most feed.old feed.new (S.tells source.old) (S.tells source.new)
+        course.old state.old course.new state.new (O.tells out.old) (O.tells out.new) (E.tells err.old) (E.tells err.new) result }
+{
+    match feed.next(source) {
+        Ok(Some(line)) => Ok(Turn::Took(take_line(job, &line, out, err, work, state, course)?)),
+        Ok(None) => Ok(Turn::Finished(Ended::End)),
+        Err(e) => Ok(Turn::Finished(ended_by(e)?)),
+    }
+}
+
+// Shows the next line as the context of a selected one, where there is one. Says how the scan ends where there is none.
+fn follow_one<S: Source, O: Sink>(
+    job: &Job<'_>,
+    feed: &mut LineFeed,
+    source: &mut S,
+    out: &mut O,
+) -> Result<Option<Ended>, Stop>
+    requires { feed.old.phase ≢ Closed }
+    ensures { FollowsOne job.now.plan.now job.now.name.now feed.old feed.new (S.tells source.old) (S.tells source.new) (O.tells out.old) (O.tells out.new) result }
+{
+    match feed.next(source) {
+        Ok(Some(line)) => {
+            write_line(out, job.plan, job.name, &line, false)?;
+            Ok(None)
+        }
+        Ok(None) => Ok(Some(Ended::End)),
+        Err(e) => Ok(Some(ended_by(e)?)),
+    }
+}
+
+// Shows the lines behind the last one that is selected, as its context.
+fn follow<S: Source, O: Sink>(
+    job: &Job<'_>,
+    feed: &mut LineFeed,
+    source: &mut S,
+    out: &mut O,
+) -> Result<Ended, Stop>
+    requires { feed.old.phase ≢ Closed }
+    ensures { (before : Told) (treated : Treatment) (given : List Row) → Stood job.now.plan.now treated before (S.tells source.old) feed.old given
+        → feed.old.kind ≡ line_end job.now.plan.now → feed.old.max ≡ job.now.plan.now.max_buffer_size
+        → Follows job.now.plan.now job.now.name.now job.now.show treated before (S.tells source.new) given (O.tells out.old) (O.tells out.new) result }
+{
+    if job.show != Show::Lines {
+        return Ok(Ended::Early);
+    }
+    'line: for _ in 0..job.plan.after_context {
+        if let Some(ended) = follow_one(job, feed, source, out)? {
+            return Ok(ended);
+        }
+    }
+    Ok(Ended::Early)
+}
+
+// Takes lines up to the last one that may be selected, or to the end. Says how the scan ends where it ends there.
+fn take_lines<S: Source, O: Sink, E: Sink>(
+    job: &Job<'_>,
+    feed: &mut LineFeed,
+    source: &mut S,
+    out: &mut O,
+    err: &mut E,
+    work: &mut Workspace,
+    state: &mut State,
+    course: &mut Course,
+) -> Result<Option<Ended>, Stop>
+    requires live { feed.old.phase ≢ Closed }
+    requires max { feed.old.max ≤ 2 ^ 30 }
+    requires first { feed.old.number ≡ 0 }
+    requires errors { state.old.errors ≤ 20 }
+    requires selected { course.old.selected ≡ 0 }
+    requires context { course.old.context_to ≡ 0 }
+    requires back { course.old.back.rows ≡ [] }
+    requires limit { course.old.back.limit ≡ job.now.plan.now.before_context }
+    ensures live { result ≡ Ok None → feed.new.phase ≢ Closed }
+    ensures taken { (before : Told) (treated : Treatment) → IsJob job.now.plan.now treated job.now.show job.now.most feed.old
+        → Stood job.now.plan.now treated before (S.tells source.old) feed.old []
+        → TakesAll job.now.plan.now (patterns_in job.now.patterns.now) job.now.name.now job.now.show job.now.most treated state.old before (S.tells source.new) feed.new
+        course.new.selected state.new (O.tells out.old) (O.tells out.new) (E.tells err.old) (E.tells err.new) result }
+{
+    prove!(job.plan.after_context <= u32::MAX);
+    'line: loop {
+        match take_turn(job, feed, source, out, err, work, state, course)? {
+            Turn::Took(Next::Line) => {}
+            Turn::Took(Next::Context) => return Ok(None),
+            Turn::Finished(ended) => return Ok(Some(ended)),
+        }
+    }
+}
+
+/// Scans the lines of an input, and writes what is shown of them.
+pub fn scan<S: Source, O: Sink, E: Sink>(
+    job: &Job<'_>,
+    feed: &mut LineFeed,
+    source: &mut S,
+    out: &mut O,
+    err: &mut E,
+    work: &mut Workspace,
+    state: &mut State,
+    course: &mut Course,
+) -> Result<Ended, Stop>
+    requires live { feed.old.phase ≢ Closed }
+    requires max { feed.old.max ≤ 2 ^ 30 }
+    requires first { feed.old.number ≡ 0 }
+    requires errors { state.old.errors ≤ 20 }
+    requires selected { course.old.selected ≡ 0 }
+    requires context { course.old.context_to ≡ 0 }
+    requires back { course.old.back.rows ≡ [] }
+    requires limit { course.old.back.limit ≡ job.now.plan.now.before_context }
+    // For each state of the source from which the feed came here without giving a line, and where the job is made for the
+    // input, this is the scan of the input that the source stands for.
+    ensures { (before : Told) (treated : Treatment) → IsJob job.now.plan.now treated job.now.show job.now.most feed.old
+        → Stood job.now.plan.now treated before (S.tells source.old) feed.old []
+        → ScansInput job.now.plan.now (patterns_in job.now.patterns.now) job.now.name.now job.now.show treated state.old before (S.tells source.new)
+        course.new.selected state.new (O.tells out.old) (O.tells out.new) (E.tells err.old) (E.tells err.new) result }
+{
+    match take_lines(job, feed, source, out, err, work, state, course)? {
+        Some(ended) => Ok(ended),
+        None => follow(job, feed, source, out),
+    }
+}

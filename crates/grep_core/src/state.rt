@@ -1,0 +1,65 @@
+//! What the inputs before leave.
+ghost use Rattle.std.specs.Prelude.{◌≡◌};
+ghost use Rattle.grep_core.specs.InputText.{first_state};
+
+use crate::search::Workspace;
+use std::alloc::Global;
+use std::marker::Model;
+
+/// What the inputs so far leave to the next one.
+#[derive(Clone, Copy, Debug, PartialEq, Eq)]
+pub struct State {
+    /// How many match errors there were.
+    pub errors: u32,
+    /// How many lines were selected.
+    pub total: u128,
+    /// Whether a group of lines was shown.
+    pub has_shown: bool,
+}
+
+/// What one input leaves to the next, and the workspace of the searches, which keeps its room.
+#[derive(Drop)]
+pub struct GrepState {
+    pub(crate) alloc: Global,
+    pub(crate) work: Workspace,
+    pub(crate) state: State,
+}
+
+impl Model for GrepState {
+    ghost use Rattle.grep_core.specs.declared.state.State.{State};
+
+    ghost Value = { State };
+
+    ghost view = { λ s. s.state };
+}
+
+impl GrepState {
+    /// The state before the first input. Takes no memory.
+    pub fn new(alloc: Global) -> GrepState
+        ensures { result ≡ first_state }
+    {
+        GrepState {
+            alloc,
+            work: Workspace::new(alloc),
+            state: State {
+                errors: 0,
+                total: 0,
+                has_shown: false,
+            },
+        }
+    }
+
+    /// How many match errors there were.
+    pub fn errors(&self) -> u32
+        ensures { result ≡ self.now.errors }
+    {
+        self.state.errors
+    }
+
+    /// How many lines were selected.
+    pub fn total(&self) -> u128
+        ensures { result ≡ self.now.total }
+    {
+        self.state.total
+    }
+}

@@ -1,0 +1,107 @@
+//! One input, and what is written of it.
+use crate::{Ended, GrepState, Patterns, Stop, grep_file};
+use grep_args::read;
+use pat_tree::{ByteList, TextList};
+use pcre_io::{MemSink, MemSource};
+use std::alloc::Global;
+use std::process::Abort;
+use std::test::Fail;
+
+/// Words with a space between them, an input, what is written to the output, and the messages.
+type Row = (&'static str, &'static [u8], &'static [u8], &'static [u8]);
+
+fn words_of(alloc: Global, line: &str) -> Result<Vec<String>, Fail> {
+    let mut words = Vec::new(alloc);
+    for word in line.split(' ') {
+        words.push(String::from_str(alloc, word)?)?;
+    }
+    Ok(words)
+}
+
+fn check(rt: &impl Abort, alloc: Global, row: &Row, piece: u32) -> Result<(), Fail> {
+    assert!(rt; piece > 0);
+    let words = words_of(alloc, row.0)?;
+    let Ok(plan) = read(alloc, words.as_slice()) else {
+        panic!(rt; "{}", row.0);
+    };
+    let mut texts = TextList::new(alloc);
+    for text in plan.patterns.as_slice() {
+        texts.push(ByteList::from_vec(text.bytes().to_vec(alloc)?))?;
+    }
+    let Ok(patterns) = Patterns::build(alloc, &plan, &texts) else {
+        panic!(rt; "{}", row.0);
+    };
+    let mut source = MemSource::new(row.1.to_vec(alloc)?, None, piece);
+    let mut out = MemSink::new(alloc, None, piece);
+    let mut err = MemSink::new(alloc, None, piece);
+    let mut state = GrepState::new(alloc);
+    let answer = grep_file(
+        &patterns,
+        &plan,
+        "f",
+        &mut source,
+        &mut out,
+        &mut err,
+        &mut state,
+    );
+    assert!(rt; answer.is_ok(), "{}", row.0);
+    assert_eq!(rt; out.bytes(), row.2, "{}", row.0);
+    assert_eq!(rt; err.bytes(), row.3, "{}", row.0);
+    Ok(())
+}
+
+fn check_all(rt: &impl Abort, alloc: Global, rows: &[Row]) -> Result<(), Fail> {
+    for row in rows {
+        for piece in [1, 3, 100] {
+            check(rt, alloc, row, piece)?;
+        }
+    }
+    Ok(())
+}
+
+#[test]
+fn lines_are_shown_with_context(rt: HostRuntime) -> Result<(), Fail> {
+    let text = b"a\nx\nb\nc\nd\nx\n";
+    let rows: [Row; 12] = [
+        ("-n -C 1 x", text, b"1-a\n2:x\n3-b\n--\n5-d\n6:x\n", b""),
+        ("-n -C 2 x", text, b"1-a\n2:x\n3-b\n4-c\n5-d\n6:x\n", b""),
+        ("-B 1 x", text, b"a\nx\n--\nd\nx\n", b""),
+        ("-A 1 x", text, b"x\nb\n--\nx\n", b""),
+        ("-m 1 -A 2 x", text, b"x\nb\nc\n", b""),
+        ("-v -n x", text, b"1:a\n3:b\n4:c\n5:d\n", b""),
+        ("-c x", text, b"2\n", b""),
+        ("-cH x", text, b"f:2\n", b""),
+        ("-l x", text, b"f\n", b""),
+        ("-L x", text, b"", b""),
+        ("-L y", text, b"f\n", b""),
+        ("-q x", text, b"", b""),
+    ];
+    check_all(&rt, rt.alloc(), &rows)
+}
+
+#[test]
+fn matches_are_shown(rt: HostRuntime) -> Result<(), Fail> {
+    let rows: [Row; 10] = [
+        ("-no b*", b"abb\nc", b"1:\n1:bb\n2:\n", b""),
+        ("-o o", b"foo\nbar\n", b"o\no\n", b""),
+        ("-o1 -o2 (a)(b)?", b"ab a\n", b"ab\na\n", b""),
+        (
+            "-o1 -o2 --om-separator=, (a)(b)?",
+            b"ab a\n",
+            b"a,b\na\n",
+            b"",
+        ),
+        ("-Ho1 x(y)?", b"x xy\n", b"f:\nf:y\n", b""),
+        ("--line-offsets o", b"foo\nbar\n", b"1:1,1\n1:2,1\n", b""),
+        ("--file-offsets r", b"foo\nbar\n", b"6,1\n", b""),
+        ("-F a.b", b"a.b\nadb\n", b"a.b\n", b""),
+        ("-w a", b"a b\nab\n", b"a b\n", b""),
+        (
+            "--match-limit=0 -v a+b",
+            b"ab\ncb\n",
+            b"cb\n",
+            b"pcre2grep: f: line 1: error -47\n",
+        ),
+    ];
+    check_all(&rt, rt.alloc(), &rows)
+}
