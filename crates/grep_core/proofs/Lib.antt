@@ -22,3 +22,4 @@ pub mod PatternLines
 pub mod Halting
 pub mod Taking
 pub mod FileTexts
+pub mod Errors

@@ -10,6 +10,7 @@ pub mod Messages
 pub mod InputText
 pub mod FaultTexts
 pub mod Refusals
+pub mod Asked
 pub mod Tool
 pub mod ToolText
 pub mod Runs

@@ -2,16 +2,21 @@
 use Rattle.std.specs.Prelude.{ℕ, List, [], ◌∷◌, ◌++◌, map, flat_map, replicate, codes, None, Some}
 use Prim.Native.String.{String}
 use Rattle.pcre_io.specs.Files.{File}
-use Rattle.line_feed.specs.Rows.{End, input_with}
-use Rattle.grep_core.specs.ToolText.{text_of}
+use Rattle.line_feed.specs.Rows.{Input, End, input_with}
+use Rattle.grep_core.specs.Asked.{all_asked}
+use Rattle.grep_core.specs.ToolText.{text_of, asked_words}
 use Rattle.grep_core.specs.Refusals.{Outcome}
 
 abbrev pub outcome : String → String → ℕ → Outcome
 outcome out err status = record { out = codes out; err = codes err; status = status }
 
+-- over these files and this input
+abbrev pub run_on : List File → Input → List (List ℕ) → Outcome
+run_on files standard words = text_of words (all_asked files standard (asked_words words))
+
 -- over standard input
 abbrev pub over : String → List String → Outcome
-over bytes words = text_of [] (map codes words) (input_with (codes bytes) End)
+over bytes words = run_on [] (input_with (codes bytes) End) (map codes words)
 
 abbrev pub file : String → String → File
 file name bytes = record { name = codes name; bytes = codes bytes; fault = None }
@@ -22,10 +27,10 @@ failing n f = record f { fault = Some n }
 
 -- over files
 abbrev pub over_files : List File → List String → Outcome
-over_files files words = text_of files (map codes words) (input_with [] End)
+over_files files words = run_on files (input_with [] End) (map codes words)
 
 -- over so many lines on which `a+b` meets a match limit of 0, with a line `x` before and behind
 abbrev pub over_errors : ℕ → List String → Outcome
 over_errors n words =
-    text_of [] (map codes ("--match-limit=0" ∷ "-ex" ∷ "-ea+b" ∷ words))
-    (input_with (codes "x\n" ++ flat_map codes (replicate n "ab\n") ++ codes "x\n") End)
+    run_on [] (input_with (codes "x\n" ++ flat_map codes (replicate n "ab\n") ++ codes "x\n") End)
+    (map codes ("--match-limit=0" ∷ "-ex" ∷ "-ea+b" ∷ words))

@@ -1,38 +1,16 @@
--- What pcre2grep is run on: standard input, files, and files of patterns (pcre2grep, "DESCRIPTION" and "OPTIONS", -f).
-use Rattle.std.specs.Prelude.{ℕ, ◌==◌, Bool, true, false, ◌||◌, not, if◌then◌else◌, List, [], ◌∷◌, ◌++◌, map, filter, codes, bytes_eq, option_map, Option, Some, None, Result, Ok, Err}
+-- What pcre2grep makes of its inputs, and of its files of patterns (pcre2grep, "OPTIONS", -f).
+use Rattle.std.specs.Prelude.{ℕ, ◌==◌, Bool, true, false, ◌||◌, not, if◌then◌else◌, List, [], ◌∷◌, ◌++◌, map, filter, codes, Option, Some, None, Result, Ok, Err}
 use Rattle.std.specs.Int.{is_in_range}
 use Rattle.byte_lanes.specs.declared.line_end.EndKind.TheVariants.{Lf}
-use Rattle.pcre_io.specs.Files.{File, file_of}
-use Rattle.line_feed.specs.Rows.{Row, Rows, Input, End, Finish, At, input_with, rows}
-use Rattle.line_feed.specs.Hears.{heard}
+use Rattle.line_feed.specs.Rows.{Row, Rows, Input, End, Finish, At, rows}
 use Rattle.grep_args.specs.declared.plan.GrepPlan.{GrepPlan}
+use Rattle.grep_core.specs.Asked.{Asked, shown_name}
 use Rattle.grep_core.specs.Compiled.{Pattern}
 use Rattle.grep_core.specs.Scans.{at_finish, early, too_many_errors}
 use Rattle.grep_core.specs.Texts.{text_if}
 use Rattle.grep_core.specs.Messages.{message_on, finish_message}
 use Rattle.grep_core.specs.declared.state.State.{State}
 use Rattle.grep_core.specs.InputText.{Written, input_text}
-
--- Inputs by name.
-
--- `-` is standard input
-abbrev pub is_standard : List ℕ → Bool
-is_standard word = bytes_eq word (codes "-")
-
--- standard input is shown under its label
-abbrev pub shown_name : GrepPlan → List ℕ → List ℕ
-shown_name plan word = if is_standard word then plan.label else word
-
-abbrev pub input_of : File → Input
-input_of file = heard file.bytes file.fault
-
--- what a word stands for, if it is there
-abbrev pub input_named : List File → Input → List ℕ → Option Input
-input_named files standard word = if is_standard word then Some standard else option_map input_of (file_of word files)
-
--- what is left of standard input: after its first use it is empty and has no fault
-abbrev pub standard_after : List ℕ → Input → Input
-standard_after word standard = if is_standard word then input_with [] End else standard
 
 abbrev pub missing_message : List ℕ → List ℕ
 missing_message name = message_on name (codes "cannot be opened")
@@ -81,16 +59,9 @@ texts_then (Ok first) (Ok more) = Ok (first ++ more)
 texts_then (Ok first) (Err text) = Err text
 texts_then (Err text) more = Err text
 
-abbrev pub texts_in_files : GrepPlan → List File → Input → List (List ℕ) → FileTexts
-texts_in_files plan files standard [] = Ok []
-texts_in_files plan files standard (word ∷ words) =
-    texts_then (texts_of plan (shown_name plan word) (input_named files standard word))
-    (texts_in_files plan files (standard_after word standard) words)
-
--- what is left of standard input after all these words
-abbrev pub standard_after_all : List (List ℕ) → Input → Input
-standard_after_all [] standard = standard
-standard_after_all (word ∷ words) standard = standard_after_all words (standard_after word standard)
+abbrev pub texts_in_files : GrepPlan → List Asked → FileTexts
+texts_in_files plan [] = Ok []
+texts_in_files plan (a ∷ given) = texts_then (texts_of plan (shown_name plan a.word) a.input) (texts_in_files plan given)
 
 -- All inputs.
 
@@ -99,18 +70,27 @@ pub data Report : Type 0 where
   scanned : Written → Report
   missing : List ℕ → Report
 
--- each input after those before it, up to a match error that ends the run
-module _ (plan : GrepPlan) (patterns : List Pattern) (files : List File) where
-  abbrev pub then_others : Written → (State → List Report) → List Report
-  then_others w others = elim w.ended [
-    | at_finish finish ↦ scanned w ∷ others w.state
-    | early ↦ scanned w ∷ others w.state
-    | too_many_errors ↦ scanned w ∷ []
-  ]
+-- its match errors were too many
+abbrev pub is_broken : Report → Bool
+is_broken (scanned w) = elim w.ended [ at_finish finish ↦ false | early ↦ false | too_many_errors ↦ true ]
+is_broken (missing text) = false
 
-  unfoldable pub reports : List (List ℕ) → State → Input → List Report
-  reports [] before standard = []
-  reports (word ∷ words) before standard = elim (input_named files standard word) [
-    | None ↦ missing (text_if (not plan.no_messages) (missing_message (shown_name plan word))) ∷ reports words before (standard_after word standard)
-    | Some input ↦ then_others (input_text plan patterns (shown_name plan word) before input) (λ after. reports words after (standard_after word standard))
-  ]
+abbrev pub state_behind : State → Report → State
+state_behind before (scanned w) = w.state
+state_behind before (missing text) = before
+
+module _ (plan : GrepPlan) (patterns : List Pattern) where
+  -- of an input of this name, after what the inputs before it leave
+  abbrev pub report_on : State → List ℕ → Option Input → Report
+  report_on before name None = missing (text_if (not plan.no_messages) (missing_message name))
+  report_on before name (Some input) = scanned (input_text plan patterns name before input)
+
+  abbrev pub report_of : State → Asked → Report
+  report_of before a = report_on before (shown_name plan a.word) a.input
+
+  -- each input after those before it, up to a match error that ends the run
+  unfoldable pub reports : List Asked → State → List Report
+  reports [] before = []
+  reports (a ∷ given) before =
+      let r = report_of before a in
+      if is_broken r then r ∷ [] else r ∷ reports given (state_behind before r)

@@ -1,8 +1,7 @@
 -- What pcre2grep writes, and its status (pcre2grep, "OPTIONS", -t, and "DIAGNOSTICS").
-use Rattle.std.specs.Prelude.{ℕ, ◌==◌, Bool, true, false, ◌&&◌, ◌||◌, not, nat_lt, nat_le, if◌then◌else◌, List, [], ◌∷◌, ◌++◌, length, drop, flat_map, filter, sum_by, codes, decimal, Option, Some, None, Ok, Err}
+use Rattle.std.specs.Prelude.{ℕ, ◌==◌, Bool, true, false, ◌&&◌, ◌||◌, not, nat_lt, nat_le, if◌then◌else◌, List, [], ◌∷◌, ◌++◌, length, take, drop, flat_map, filter, sum_by, codes, decimal, Option, Some, None, Ok, Err}
 use Rattle.std.specs.List.{list_any}
-use Rattle.pcre_io.specs.Files.{File}
-use Rattle.line_feed.specs.Rows.{Input, At, End}
+use Rattle.line_feed.specs.Rows.{At, End}
 use Rattle.grep_args.specs.declared.plan.GrepPlan.{GrepPlan}
 use Rattle.grep_args.specs.declared.plan.NameMode.{NameMode}
 use Rattle.grep_args.specs.declared.plan.NameMode.TheVariants.{Auto, With}
@@ -16,7 +15,8 @@ use Rattle.grep_core.specs.Scans.{Ended, at_finish, early, too_many_errors}
 use Rattle.grep_core.specs.Texts.{line, text_if}
 use Rattle.grep_core.specs.Refusals.{Outcome, refusal, usage_message, pattern_message, help_text}
 use Rattle.grep_core.specs.InputText.{first_state}
-use Rattle.grep_core.specs.Tool.{Report, scanned, missing, FileTexts, is_given, texts_in_files, standard_after_all, reports}
+use Rattle.grep_core.specs.Asked.{Asked}
+use Rattle.grep_core.specs.Tool.{Report, scanned, missing, FileTexts, is_given, is_broken, texts_in_files, reports}
 
 -- The status.
 
@@ -50,10 +50,6 @@ out_of (missing text) = []
 abbrev pub err_of : Report → List ℕ
 err_of (scanned w) = w.err
 err_of (missing text) = text
-
-abbrev pub is_broken : Report → Bool
-is_broken (scanned w) = elim w.ended [ at_finish finish ↦ false | early ↦ false | too_many_errors ↦ true ]
-is_broken (missing text) = false
 
 abbrev pub writes : Report → Bool
 writes r = is_given (out_of r)
@@ -95,26 +91,43 @@ abbrev pub or_standard : List (List ℕ) → List (List ℕ)
 or_standard [] = codes "-" ∷ []
 or_standard (word ∷ words) = word ∷ words
 
-module _ (files : List File) where
-  abbrev pub text_by_patterns : GrepPlan → List (List ℕ) → Input → Compiled → Outcome
-  text_by_patterns plan file_words standard (Err bad) = refusal (pattern_message bad)
-  text_by_patterns plan file_words standard (Ok patterns) = outcome_of plan (reports plan patterns files (or_standard file_words) first_state standard)
+-- the words that a search asks for: files of patterns, and then inputs
+abbrev pub asked_by_plan : GrepPlan → List (List ℕ) → List (List ℕ)
+asked_by_plan plan file_words = plan.pattern_files ++ or_standard file_words
 
-  -- the patterns of the plan come first, then those of its files
-  abbrev pub text_by_texts : GrepPlan → List (List ℕ) → Input → FileTexts → Outcome
-  text_by_texts plan file_words standard (Err text) = refusal text
-  text_by_texts plan file_words standard (Ok texts) =
-      text_by_patterns (with_names (length file_words) plan) file_words (standard_after_all plan.pattern_files standard)
-      (patterns_of plan (plan.patterns ++ texts))
+abbrev pub asked_unless : Option HelpKind → List (List ℕ) → List (List ℕ)
+asked_unless (Some kind) words = []
+asked_unless None words = words
 
-  abbrev pub text_by_help : GrepPlan → List (List ℕ) → Input → Option HelpKind → Outcome
-  text_by_help plan file_words standard (Some kind) = record { out = help_text kind; err = []; status = 0 }
-  text_by_help plan file_words standard None =
-      text_by_texts plan file_words standard (texts_in_files plan files standard plan.pattern_files)
+-- the words that a run asks for, by those behind its name
+abbrev pub asked_words : List (List ℕ) → List (List ℕ)
+asked_words words = elim (plan_of words) [
+  | Err fault ↦ []
+  | Ok plan ↦ asked_unless plan.help (asked_by_plan plan (drop plan.files_from words))
+]
 
-  -- What pcre2grep writes for the words behind its name.
-  unfoldable pub text_of : List (List ℕ) → Input → Outcome
-  text_of words standard = elim (plan_of words) [
-    | Err fault ↦ refusal (usage_message words fault)
-    | Ok plan ↦ text_by_help plan (drop plan.files_from words) standard plan.help
-  ]
+-- by the inputs
+abbrev pub text_by_patterns : GrepPlan → List Asked → Compiled → Outcome
+text_by_patterns plan given (Err bad) = refusal (pattern_message bad)
+text_by_patterns plan given (Ok patterns) = outcome_of plan (reports plan patterns given first_state)
+
+-- the patterns of the plan come first, then those of its files
+abbrev pub text_by_texts : GrepPlan → ℕ → List Asked → FileTexts → Outcome
+text_by_texts plan n given (Err text) = refusal text
+text_by_texts plan n given (Ok texts) = text_by_patterns (with_names n plan) given (patterns_of plan (plan.patterns ++ texts))
+
+-- by the files of patterns, and the inputs; n words name inputs
+abbrev pub text_by_plan : GrepPlan → ℕ → List Asked → List Asked → Outcome
+text_by_plan plan n pattern_files given = text_by_texts plan n given (texts_in_files plan pattern_files)
+
+abbrev pub text_by_help : GrepPlan → List (List ℕ) → List Asked → Option HelpKind → Outcome
+text_by_help plan file_words given (Some kind) = record { out = help_text kind; err = []; status = 0 }
+text_by_help plan file_words given None =
+    let n = length plan.pattern_files in text_by_plan plan (length file_words) (take n given) (drop n given)
+
+-- What pcre2grep writes for the words behind its name, where the words that it asks for stand for these inputs.
+unfoldable pub text_of : List (List ℕ) → List Asked → Outcome
+text_of words given = elim (plan_of words) [
+  | Err fault ↦ refusal (usage_message words fault)
+  | Ok plan ↦ text_by_help plan (drop plan.files_from words) given plan.help
+]

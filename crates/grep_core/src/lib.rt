@@ -22,5 +22,7 @@ mod write;
 pub use ended::{Ended, FileEnd, Stop};
 pub use file::grep_file;
 pub use laws::worked_rows;
+pub use messages::{write_ended, write_message};
 pub use patterns::{PatternError, Patterns};
 pub use state::GrepState;
+pub use write::write_texts;

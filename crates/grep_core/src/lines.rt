@@ -1,5 +1,5 @@
 //! Lines that are shown.
-ghost use Rattle.std.specs.Prelude.{◌≡◌, codes};
+ghost use Rattle.std.specs.Prelude.{◌≡◌};
 ghost use Rattle.line_feed.specs.Lines.{row_of};
 ghost use Rattle.grep_core.specs.Context.{Shown};
 ghost use Rattle.grep_core.specs.Texts.{line_text, newline_of};
@@ -49,13 +49,6 @@ pub fn write_line<O: Sink>(
             newline_of(line),
         ],
     )
-}
-
-/// Parts groups of lines that don't touch.
-pub fn write_separator<O: Sink>(out: &mut O) -> Result<(), IoError>
-    ensures { Writes (codes "--\n") (O.tells out.old) (O.tells out.new) result }
-{
-    write_texts(out, &[b"--\n"])
 }
 
 /// What ends a line, in an input and in a pattern under `-F`.

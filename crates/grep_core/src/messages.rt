@@ -30,8 +30,8 @@ pub fn write_error<E: Sink>(err: &mut E, name: &str, line: u64, error: i32) -> R
     )
 }
 
-// Writes a message about an input.
-fn write_message<E: Sink>(err: &mut E, name: &str, text: &[u8]) -> Result<(), IoError>
+/// Writes a message about an input or a file of patterns.
+pub fn write_message<E: Sink>(err: &mut E, name: &str, text: &[u8]) -> Result<(), IoError>
     ensures { Writes (message_on name.now text.now) (E.tells err.old) (E.tells err.new) result }
 {
     write_texts(err, &[b"pcre2grep: ", name.as_bytes(), b": ", text, b"\n"])

@@ -1,4 +1,3 @@
-pub mod WordLemmas
 mod RowProofs
 mod Left
 mod HitlessStreams

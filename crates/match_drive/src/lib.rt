@@ -9,10 +9,8 @@ mod drive;
 mod driven;
 mod laws;
 mod places;
-mod words;
 
 pub use answer::MatchAnswer;
 pub use drive::{search, search_on};
 pub use driven::Driven;
 pub use laws::{no_partial_match, searches_go_forward, worked_rows};
-pub use words::{Span, first_span};

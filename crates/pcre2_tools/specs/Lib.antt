@@ -1,5 +1,5 @@
-pub mod Text
-pub mod Scan
-pub mod Words
-pub mod Plans
+pub mod Takes
+pub mod Adds
+pub mod Reports
+pub mod Sums
 pub mod Runs

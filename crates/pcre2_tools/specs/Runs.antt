@@ -1,33 +1,46 @@
 -- What a run of the tool does.
-use Rattle.std.specs.Prelude.{true, false, ◌≡◌, ℕ, List, [], ◌∷◌, ◌++◌, nat_le, Bool, codes, ◌⊎◌, Option}
+use Rattle.std.specs.Prelude.{◌≡◌, ℕ, List, [], ◌∷◌, nat_le, Bool, true, false, if◌then◌else◌, codes, bytes_eq, ◌⊎◌, Result, Ok, Err}
 use Rattle.std.specs.Io.KnownBytes.{Appends}
 use Rattle.pcre_io.specs.Told.{Kept, AppendsPrefix}
 use Rattle.pcre_io.specs.Causes.{Rose}
-use Rattle.line_feed.specs.Rows.{Input}
-use Rattle.pcre_io.specs.Files.{File}
-use Rattle.pcre2_tools.specs.declared.plans.Plan.{Plan}
-use Rattle.pcre2_tools.specs.declared.plans.Plan.TheVariants.{Grep, GrepNotBuilt, TestNotBuilt, NoTool}
-use Rattle.pcre2_tools.specs.Plans.{plan_of, second}
-use Rattle.pcre2_tools.specs.Text.{Outcome, grep_text}
+use Rattle.grep_core.specs.declared.ended.Stop.{Stop}
+use Rattle.grep_core.specs.declared.ended.Stop.TheVariants.{TooManyErrors}
+use Rattle.grep_core.specs.Asked.{Asked}
+use Rattle.grep_core.specs.Refusals.{Outcome}
+use Rattle.grep_core.specs.Texts.{line}
+use Rattle.grep_core.specs.ToolText.{text_of, asked_words}
+use Rattle.grep_core.specs.Turns.{Wrote, Breaks}
 
--- a line of a message
-abbrev pub line : List ℕ → List ℕ
-line text = text ++ 10 ∷ []
+-- a line on the messages, and nothing else
+abbrev pub said : List ℕ → ℕ → Outcome
+said text status = record { out = []; err = line text; status = status }
 
--- words that are refused
-abbrev pub refusal : List ℕ → ℕ → Outcome
-refusal text status = record { out = []; err = line text; status = status }
+-- by the name of the tool
+abbrev pub is_grep : List ℕ → Bool
+is_grep tool = bytes_eq tool (codes "pcre2grep")
 
--- what is written by a plan
-abbrev pub text_by : Plan → List ℕ → Input → Outcome
-text_by Grep word input = grep_text word input
-text_by GrepNotBuilt word input = refusal (codes "pcre2grep: not built") 2
-text_by TestNotBuilt word input = refusal (codes "pcre2test: not built") 1
-text_by NoTool word input = refusal (codes "unknown tool") 2
+abbrev pub is_test : List ℕ → Bool
+is_test tool = bytes_eq tool (codes "pcre2test")
 
--- What the tool writes for these words, these files and this input, and its status. No file is opened yet.
-abbrev pub tool_text : List (List ℕ) → Option (List File) → Input → Outcome
-tool_text words files input = text_by (plan_of words) (second words) input
+-- the words that the tool asks for
+abbrev pub asked_by : List (List ℕ) → List (List ℕ)
+asked_by [] = []
+asked_by (tool ∷ words) = if is_grep tool then asked_words words else []
+
+-- What the tool writes for these words, and its status, where those that it asks for stand for these inputs.
+abbrev pub tool_text : List (List ℕ) → List Asked → Outcome
+tool_text [] given = said (codes "unknown tool") 2
+tool_text (tool ∷ words) given =
+    if is_grep tool then text_of words given
+    else if is_test tool then said (codes "pcre2test: not built") 1
+    else said (codes "unknown tool") 2
+
+-- The text was written; at the last match error that there may be the status is 2. Or a part of it was written, where the
+-- run can't go on.
+abbrev pub RunsBy : Outcome → Kept → Kept → Kept → Kept → Result ℕ Stop → Type 0
+RunsBy text out_old out_new err_old err_new (Ok status) = Wrote text.out text.err out_old out_new err_old err_new × (status ≡ text.status)
+RunsBy text out_old out_new err_old err_new (Err TooManyErrors) = Wrote text.out text.err out_old out_new err_old err_new × (text.status ≡ 2)
+RunsBy text out_old out_new err_old err_new (Err stop) = Breaks text.out text.err out_old out_new err_old err_new stop
 
 -- all was written
 pub record RunsAll (text : Outcome) (status : ℕ) (out_old out_new err_old err_new : Kept) : Type 0 where
@@ -48,11 +61,5 @@ Stops false some all = all
 
 -- a run that wrote this text, or a part of it
 abbrev pub Runs : Outcome → ℕ → Kept → Kept → Kept → Kept → Type 0
-Runs text status out_old out_new err_old err_new = Stops (nat_le 3 status) (RunsSome text status out_old out_new err_old err_new) (RunsAll text status out_old out_new err_old err_new)
-
--- a message was written, or not
-abbrev pub Says : List ℕ → ℕ → ℕ → Kept → Kept → Type 0
-Says text status result old new =
-    Stops (nat_le 3 result)
-    (AppendsPrefix old.held new.held text × ((result ≡ 3) ⊎ ((result ≡ 4) × Rose old.faults new.faults)))
-    ((result ≡ status) × Appends old.held new.held text)
+Runs text status out_old out_new err_old err_new =
+    Stops (nat_le 3 status) (RunsSome text status out_old out_new err_old err_new) (RunsAll text status out_old out_new err_old err_new)

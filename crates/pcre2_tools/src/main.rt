@@ -2,14 +2,16 @@
 //! it on the real ones.
 #![tactic(auto)]
 
-mod lines;
+mod fault_text;
+mod grep;
+mod inputs;
 mod messages;
-mod plans;
+mod pattern_files;
 mod real;
+mod sum;
 #[cfg(test)]
 mod tests;
 mod top;
-mod word;
 
 use std::process::ExitCode;
 pub use top::run;

@@ -1,77 +1,112 @@
-//! Messages, each with the status that it gives.
-ghost use Rattle.std.specs.Prelude.{◌≡◌, ◌<◌, ◌++◌, OnErr, OnOk, codes, decimal};
-ghost use Rattle.std.specs.Io.KnownBytes.{Appends};
-ghost use Rattle.pcre_io.specs.Told.{AppendsPrefix};
-ghost use Rattle.pcre_io.specs.Causes.{HasCause};
-ghost use Rattle.line_feed.specs.Rows.{Long};
-ghost use Rattle.pcre2_tools.specs.Text.{message};
-ghost use Rattle.pcre2_tools.specs.Runs.{Says};
+//! Messages of a run, and the texts that are asked for in place of a search.
+ghost use Rattle.std.specs.Prelude.{◌≡◌, [], ◌++◌, map, string_bytes, slice_index_or};
+ghost use Rattle.grep_args.specs.Words.{Fault};
+ghost use Rattle.grep_core.specs.Compiled.{BadPattern};
+ghost use Rattle.grep_core.specs.Messages.{message};
+ghost use Rattle.grep_core.specs.Refusals.{usage_text, usage_message, pattern_message, help_text};
+ghost use Rattle.grep_core.specs.Tool.{missing_message};
+ghost use Rattle.grep_core.specs.Writes.{Writes};
 
+use crate::fault_text::fault_text;
+use grep_args::{HelpKind, UsageKind};
+use grep_core::{write_message, write_texts};
 use itoa::Buffer;
-use pcre_io::{IoError, Sink, write_all};
+use pcre_io::{IoError, Sink};
 
-/// Writes a message, and answers this status; 3 or 4 where it is refused.
-pub fn say<E: Sink>(err: &mut E, text: &[u8], status: u8) -> u8
-    requires { status < 3 }
-    ensures { Says text.now status result (E.tells err.old) (E.tells err.new) }
+// What is at fault, before the word that is told.
+fn usage_start(kind: UsageKind) -> &'static [u8]
+    ensures { result.now ≡ usage_text kind [] }
 {
-    match write_all(err, text) {
-        Ok(()) => status,
-        Err(IoError::Memory) => 3,
-        Err(IoError::Failed) => 4,
+    match kind {
+        UsageKind::UnknownOption => b"unknown option ",
+        UsageKind::MissingValue => b"missing value for ",
+        UsageKind::BadNumber => b"bad number in ",
+        UsageKind::BadValue => b"bad value in ",
+        UsageKind::Exclude => b"options exclude each other",
+        UsageKind::NoPattern => b"no pattern",
     }
 }
 
-// Writes a number in decimal digits.
-fn write_number<E: Sink>(err: &mut E, number: u64) -> Result<(), IoError>
-    ensures all { OnOk result (Appends (E.tells err.old).held (E.tells err.new).held (decimal number)) }
-    ensures prefix { OnErr result (AppendsPrefix (E.tells err.old).held (E.tells err.new).held (decimal number)) }
-    ensures cause { HasCause (E.tells err.old).faults (E.tells err.new).faults result }
+// A word, or the empty one where there are fewer.
+fn word_at(words: &[String], word: usize) -> &[u8]
+    ensures { result.now ≡ slice_index_or (map string_bytes words.now) word [] }
 {
-    let mut buffer = Buffer::new();
-    match write_all(err, buffer.format(number).as_bytes()) {
-        Ok(()) => Ok(()),
-        Err(e) => Err(e),
+    match words.get(word) {
+        Some(word) => word.as_bytes(),
+        None => b"",
     }
 }
 
-// Writes a text, a number and a text.
-fn write_numbered<E: Sink>(
+// The word that is told of a fault: none where the words are at fault together.
+fn usage_word(words: &[String], kind: UsageKind, word: usize) -> &[u8]
+    ensures { usage_text kind (slice_index_or (map string_bytes words.now) word []) ≡ usage_text kind [] ++ result.now }
+{
+    match kind {
+        UsageKind::Exclude | UsageKind::NoPattern => b"",
+        _ => word_at(words, word),
+    }
+}
+
+// Writes a fault with the word that is told of it.
+fn write_fault<E: Sink>(err: &mut E, start: &[u8], word: &[u8]) -> Result<(), IoError>
+    ensures { Writes (message (start.now ++ word.now)) (E.tells err.old) (E.tells err.new) result }
+{
+    write_texts(err, &[b"pcre2grep: ", start, word, b"\n"])
+}
+
+/// Writes which word is at fault, and how.
+pub fn write_usage<E: Sink>(
     err: &mut E,
-    before: &[u8],
-    number: u64,
-    after: &[u8],
+    words: &[String],
+    kind: UsageKind,
+    word: usize,
 ) -> Result<(), IoError>
-    ensures all { OnOk result (Appends (E.tells err.old).held (E.tells err.new).held (before.now ++ decimal number ++ after.now)) }
-    ensures prefix { OnErr result (AppendsPrefix (E.tells err.old).held (E.tells err.new).held (before.now ++ decimal number ++ after.now)) }
-    ensures cause { HasCause (E.tells err.old).faults (E.tells err.new).faults result }
+    ensures { Writes (usage_message (map string_bytes words.now) (record { kind = kind; word = word })) (E.tells err.old) (E.tells err.new) result }
 {
-    match write_all(err, before) {
-        Ok(()) => {}
-        Err(e) => return Err(e),
-    }
-    match write_number(err, number) {
-        Ok(()) => {}
-        Err(e) => return Err(e),
-    }
-    match write_all(err, after) {
-        Ok(()) => Ok(()),
-        Err(e) => Err(e),
+    write_fault(err, usage_start(kind), usage_word(words, kind, word))
+}
+
+/// Writes which pattern is refused, and why.
+pub fn write_bad_pattern<E: Sink>(
+    err: &mut E,
+    pattern: u64,
+    number: i32,
+    at: usize,
+) -> Result<(), IoError>
+    ensures { Writes (pattern_message (record { number = pattern; fault = record { number = number; at = at } })) (E.tells err.old) (E.tells err.new) result }
+{
+    let mut place = Buffer::new();
+    let mut fault = Buffer::new();
+    let mut offset = Buffer::new();
+    write_texts(
+        err,
+        &[
+            b"pcre2grep: pattern ",
+            place.format(pattern).as_bytes(),
+            b": error ",
+            fault.format(number).as_bytes(),
+            b" at offset ",
+            offset.format(at).as_bytes(),
+            b": ",
+            fault_text(number),
+            b"\n",
+        ],
+    )
+}
+
+/// Writes a text that is asked for in place of a search.
+pub fn write_help<O: Sink>(out: &mut O, kind: HelpKind) -> Result<(), IoError>
+    ensures { Writes (help_text kind) (O.tells out.old) (O.tells out.new) result }
+{
+    match kind {
+        HelpKind::Help => write_texts(out, &[b"usage: pcre2grep [options] [pattern] [files]\n"]),
+        HelpKind::Version => write_texts(out, &[b"pcre2grep 8-bit profile\n"]),
     }
 }
 
-/// Says that a line of the standard input is too long, and answers the status.
-pub fn say_too_long<E: Sink>(err: &mut E, line: u64) -> u8
-    ensures { Says (message (Long line)) 2 result (E.tells err.old) (E.tells err.new) }
+/// Writes that a file can't be opened.
+pub fn write_missing<E: Sink>(err: &mut E, name: &str) -> Result<(), IoError>
+    ensures { Writes (missing_message name.now) (E.tells err.old) (E.tells err.new) result }
 {
-    match write_numbered(
-        err,
-        b"pcre2grep: (standard input): line ",
-        line,
-        b" is too long\n",
-    ) {
-        Ok(()) => 2,
-        Err(IoError::Memory) => 3,
-        Err(IoError::Failed) => 4,
-    }
+    write_message(err, name, b"cannot be opened")
 }

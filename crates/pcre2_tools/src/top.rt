@@ -1,61 +1,61 @@
 //! The tool over any source, sinks and files.
-ghost use Rattle.std.specs.Prelude.{◌≡◌, ◌<◌, ◌≤◌, length, map, string_bytes};
+ghost use Rattle.std.specs.Prelude.{◌≡◌, map, string_bytes, List};
 ghost use Rattle.line_feed.specs.Rows.{Input};
 ghost use Rattle.line_feed.specs.Hears.{Hears};
-ghost use Rattle.pcre2_tools.specs.Text.{grep_text};
-ghost use Rattle.pcre2_tools.specs.Runs.{Runs, tool_text};
+ghost use Rattle.pcre_io.specs.Told.{Kept};
+ghost use Rattle.grep_core.specs.Asked.{Asked, StandFor};
+ghost use Rattle.pcre2_tools.specs.Runs.{Runs, RunsBy, is_grep, is_test, tool_text, asked_by, said};
 
-use crate::lines::{Stop, scan};
-use crate::messages::{say, say_too_long};
-use crate::plans::{Plan, plan_for};
-use crate::word::Word;
-use line_feed::FeedError;
-use pcre_io::{FileSet, IoError, Sink, Source};
+use crate::grep::grep;
+use grep_core::{Stop, write_texts};
+use pcre_io::{FileSet, Sink, Source};
 use std::alloc::Global;
 
-// Scans the input for a word.
-fn grep_word<S: Source, O: Sink, E: Sink>(
-    alloc: Global,
-    word: &Word,
-    input: &mut S,
-    out: &mut O,
-    err: &mut E,
-) -> u8
-    ensures { (heard : Input) × Hears (S.tells input.old) (S.tells input.new) heard
-        × Runs (grep_text word.now heard) result (O.tells out.old) (O.tells out.new) (E.tells err.old) (E.tells err.new) }
+fn is_grep(tool: &str) -> bool
+    ensures { result ≡ is_grep tool.now }
 {
-    match scan(alloc, word, input, out) {
-        Ok(true) => 0,
-        Ok(false) => 1,
-        Err(Stop::NoRow(FeedError::ReadFault)) => {
-            say(err, b"pcre2grep: (standard input): read error\n", 2)
-        }
-        Err(Stop::NoRow(FeedError::TooMuch)) => {
-            say(err, b"pcre2grep: (standard input): input too large\n", 2)
-        }
-        Err(Stop::NoRow(FeedError::TooLong { line })) => say_too_long(err, line),
-        Err(Stop::NoRow(FeedError::Memory)) => 3,
-        Err(Stop::NoWrite(IoError::Memory)) => 3,
-        Err(Stop::NoWrite(IoError::Failed)) => 4,
-    }
+    tool == "pcre2grep"
 }
 
-// Scans the input for the word that is this text.
-fn grep<S: Source, O: Sink, E: Sink>(
+fn is_test(tool: &str) -> bool
+    ensures { result ≡ is_test tool.now }
+{
+    tool == "pcre2test"
+}
+
+// Writes a line, and answers this status.
+fn say<E: Sink>(err: &mut E, text: &[u8], status: u8) -> Result<u8, Stop>
+    ensures { (out : Kept) → RunsBy (said text.now status) out out (E.tells err.old) (E.tells err.new) result }
+{
+    write_texts(err, &[text, b"\n"])?;
+    Ok(status)
+}
+
+// Runs the tool that the first word names.
+fn run_named<F: FileSet, S: Source, O: Sink, E: Sink>(
     alloc: Global,
-    text: &[u8],
+    words: &[String],
+    files: &mut F,
     input: &mut S,
     out: &mut O,
     err: &mut E,
-) -> u8
-    requires { length text.now ≤ 65536 }
-    ensures { (heard : Input) × Hears (S.tells input.old) (S.tells input.new) heard
-        × Runs (grep_text text.now heard) result (O.tells out.old) (O.tells out.new) (E.tells err.old) (E.tells err.new) }
+) -> Result<u8, Stop>
+    ensures runs { (heard : Input) × Hears (S.tells input.old) (S.tells input.new) heard
+        × ((given : List Asked) × StandFor (F.tells files.old).contents heard (asked_by (map string_bytes words.now)) given
+        × RunsBy (tool_text (map string_bytes words.now) given)
+        (O.tells out.old) (O.tells out.new) (E.tells err.old) (E.tells err.new) result) }
+    ensures files { (F.tells files.new).contents ≡ (F.tells files.old).contents }
 {
-    match Word::new(alloc, text) {
-        Ok(word) => grep_word(alloc, &word, input, out, err),
-        Err(_) => 3,
+    let [tool, rest @ ..] = words else {
+        return say(err, b"unknown tool", 2);
+    };
+    if is_grep(tool.as_str()) {
+        return grep(alloc, rest, files, input, out, err);
     }
+    if is_test(tool.as_str()) {
+        return say(err, b"pcre2test: not built", 1);
+    }
+    say(err, b"unknown tool", 2)
 }
 
 /// Runs the tool that the first word names, `pcre2grep` or `pcre2test`, and answers its status.
@@ -71,16 +71,18 @@ pub fn run<F: FileSet, S: Source, O: Sink, E: Sink>(
     out: &mut O,
     err: &mut E,
 ) -> u8
-    // For an input that the source stands for, the sinks grew by the tool's text, and the answer is its status,
-    // or memory lacked or a write failed, and they grew by a part of it.
+    // The words that the tool asks for stand for the input that the source stands for, and for the files. For these the
+    // sinks grew by the tool's text, and the answer is its status; or memory lacked or a write failed, and they grew by a
+    // part of it.
     ensures text { (heard : Input) × Hears (S.tells input.old) (S.tells input.new) heard
-        × Runs (tool_text (map string_bytes words.now) (F.tells files.old).contents heard) result (O.tells out.old) (O.tells out.new) (E.tells err.old) (E.tells err.new) }
-    ensures files { F.tells files.new ≡ F.tells files.old }
+        × ((given : List Asked) × StandFor (F.tells files.old).contents heard (asked_by (map string_bytes words.now)) given
+        × Runs (tool_text (map string_bytes words.now) given) result (O.tells out.old) (O.tells out.new) (E.tells err.old) (E.tells err.new)) }
+    ensures files { (F.tells files.new).contents ≡ (F.tells files.old).contents }
 {
-    match plan_for(words) {
-        Plan::Grep => grep(alloc, words[1].as_bytes(), input, out, err),
-        Plan::GrepNotBuilt => say(err, b"pcre2grep: not built\n", 2),
-        Plan::TestNotBuilt => say(err, b"pcre2test: not built\n", 1),
-        Plan::NoTool => say(err, b"unknown tool\n", 2),
+    match run_named(alloc, words, files, input, out, err) {
+        Ok(status) => status,
+        Err(Stop::TooManyErrors) => 2,
+        Err(Stop::Memory) => 3,
+        Err(Stop::SinkFault) => 4,
     }
 }

@@ -1,13 +1,15 @@
-use Rattle.std.proofs.Common.{refl, codes, map, string_bytes}
-use Rattle.pcre2_tools.specs.declared.plans.Plan.TheVariants.{GrepNotBuilt, TestNotBuilt, NoTool}
-use Rattle.pcre2_tools.proofs.Running.{runs-refused}
+use Rattle.std.proofs.Common.{map, string_bytes}
+use Rattle.pcre2_tools.proofs.Saying.{runs-whole}
 use Rattle.pcre2_tools.proofs.top.run.Goals as goal
 
-pub returns-in-GrepNotBuilt-clause-text : goal.returns-in-GrepNotBuilt-clause-text
-returns-in-GrepNotBuilt-clause-text g c = runs-refused (g.S.Source.tells c.args.input.now) GrepNotBuilt (map string_bytes c.args.words.now) (g.F.FileSet.tells c.args.files.now).contents (codes "pcre2grep: not built") 2 c.say.result (g.O.Sink.tells c.args.out.now) (g.E.Sink.tells c.args.err.now) (g.E.Sink.tells c.say.new.err) c.in-GrepNotBuilt.ensures (λ _. refl) c.say.ensures
-
-pub returns-in-TestNotBuilt-clause-text : goal.returns-in-TestNotBuilt-clause-text
-returns-in-TestNotBuilt-clause-text g c = runs-refused (g.S.Source.tells c.args.input.now) TestNotBuilt (map string_bytes c.args.words.now) (g.F.FileSet.tells c.args.files.now).contents (codes "pcre2test: not built") 1 c.say-in-TestNotBuilt.result (g.O.Sink.tells c.args.out.now) (g.E.Sink.tells c.args.err.now) (g.E.Sink.tells c.say-in-TestNotBuilt.new.err) c.in-TestNotBuilt.ensures (λ _. refl) c.say-in-TestNotBuilt.ensures
-
-pub returns-in-NoTool-clause-text : goal.returns-in-NoTool-clause-text
-returns-in-NoTool-clause-text g c = runs-refused (g.S.Source.tells c.args.input.now) NoTool (map string_bytes c.args.words.now) (g.F.FileSet.tells c.args.files.now).contents (codes "unknown tool") 2 c.say-in-NoTool.result (g.O.Sink.tells c.args.out.now) (g.E.Sink.tells c.args.err.now) (g.E.Sink.tells c.say-in-NoTool.new.err) c.in-NoTool.ensures (λ _. refl) c.say-in-NoTool.ensures
+pub returns-in-Ok-clause-text : goal.returns-in-Ok-clause-text
+returns-in-Ok-clause-text g c =
+    let runs = c.in-Ok.ensures.runs in (
+      runs.0,
+      runs.1,
+      (
+        runs.2.0,
+        runs.2.1,
+        runs-whole (map string_bytes c.args.words.now) runs.2.0 c.in-Ok.status (g.O.Sink.tells c.args.out.now) (g.O.Sink.tells c.run_named.new.out) (g.E.Sink.tells c.args.err.now) (g.E.Sink.tells c.run_named.new.err) runs.2.2,
+      ),
+    )

@@ -1,0 +1,26 @@
+-- How a run takes standard input and files, by the words that name them.
+use Rattle.std.specs.Prelude.{◌≡◌, ℕ, Bool, true, false, List, Option}
+use Rattle.pcre_io.specs.Told.{Told}
+use Rattle.pcre_io.specs.Files.{File}
+use Rattle.line_feed.specs.Rows.{Input}
+use Rattle.line_feed.specs.Hears.{Hears}
+use Rattle.grep_core.specs.Asked.{Asked, StandFor, nothing, standard_after_all}
+
+-- Standard input was taken. This is what it stands for: once it was used, nothing is left.
+abbrev pub IsLeft : Bool → Bool → Told → Told → Input → Type 0
+IsLeft true is_used before after left = (is_used ≡ true) × (after ≡ before) × (left ≡ nothing)
+IsLeft false is_used before after left = (is_used ≡ true) × Hears before after left
+
+-- The words stand for these inputs, where standard input was or wasn't used before them, and is or isn't after them. As
+-- long as it isn't, they stand for them whatever it stands for.
+abbrev pub Takes : Bool → Bool → Told → Told → Option (List File) → List (List ℕ) → List Asked → Type 0
+Takes true is_used before after contents words given = (is_used ≡ true) × (after ≡ before) × StandFor contents nothing words given
+Takes false false before after contents words given =
+    (after ≡ before) × ((standard : Input) → StandFor contents standard words given × (standard_after_all words standard ≡ standard))
+Takes false true before after contents words given =
+    (heard : Input) × Hears before after heard × StandFor contents heard words given × (standard_after_all words heard ≡ nothing)
+
+-- the same of the last words of a run, or of words at which it stops
+abbrev pub TakesAll : Bool → Told → Told → Option (List File) → List (List ℕ) → List Asked → Type 0
+TakesAll true before after contents words given = (after ≡ before) × StandFor contents nothing words given
+TakesAll false before after contents words given = (heard : Input) × Hears before after heard × StandFor contents heard words given
