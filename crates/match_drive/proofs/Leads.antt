@@ -15,7 +15,7 @@ class_same [] n c = refl
 class_same (x ∷ cs) zero c = refl
 class_same (x ∷ cs) (suc n) c = class_same cs n c
 
-class_is : (tree : TreeParts) → class_has tree ≡ (λ n c. class_holds (slice_get tree.classes n) c)
+pub class_is : (tree : TreeParts) → class_has tree ≡ (λ n c. class_holds (slice_get tree.classes n) c)
 unfolding class_has
 class_is tree = fun_ext (λ n. fun_ext (λ c. class_same tree.classes n c))
 

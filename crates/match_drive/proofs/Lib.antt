@@ -8,6 +8,7 @@ mod Steps
 mod Walk
 mod Leads
 mod PastBegin
+mod PastPrefix
 pub mod ForwardStreams
 pub mod ForwardSearch
 pub mod ForwardLaw

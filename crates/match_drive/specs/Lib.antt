@@ -7,4 +7,5 @@ pub mod Laws
 pub mod Forward
 pub mod Rows
 pub mod Begin
+pub mod Prefix
 pub mod Course

@@ -1,10 +1,11 @@
 //! A finished tree and a subject, as the walk over the start places goes over them.
 
 use crate::driven::Driven;
+use crate::prefix::item_refuses;
 use byte_lanes::ByteSet;
-use frame_machine::{PlaceAnswer, Ready, Scratch, run_at};
+use frame_machine::{PlaceAnswer, Ready, Scratch, Signal, run_at};
 use match_items::View;
-use pat_tree::{MatchOptions, Options};
+use pat_tree::{MatchOptions, NodeId, Options};
 use pcre_io::Callouts;
 
 /// A finished tree, made ready, and a subject.
@@ -14,6 +15,8 @@ pub(crate) struct Course<'a> {
     pub view: &'a View<'a>,
     /// The pattern stands at the subject's begin alone.
     pub at_begin: bool,
+    /// The parts of the pattern's only alternative, where it has one and that begins with a single item, else none.
+    pub first: &'a [NodeId],
 }
 
 impl Driven for Course<'_> {
@@ -23,7 +26,7 @@ impl Driven for Course<'_> {
 
     ghost asked = { λ x. setting_for x.ready.now.tree.now x.view.now };
 
-    ghost fits = { λ x. IsByteCourse x.ready.now x.view.now x.at_begin };
+    ghost fits = { λ x. IsByteCourse x.ready.now x.view.now x.at_begin x.first.now };
 
     fn subject(&self) -> &[u8] {
         self.view.subject
@@ -59,6 +62,13 @@ impl Driven for Course<'_> {
         scratch: &mut Scratch,
         calls: &mut C,
     ) -> PlaceAnswer {
+        // At most places the pattern's first items already don't stand.
+        if item_refuses(self.ready, self.view, self.first, place) {
+            return PlaceAnswer::Failed {
+                signal: Signal::Exhausted,
+                hit_end: false,
+            };
+        }
         run_at(self.ready, self.view, place, scratch, calls)
     }
 

@@ -16,6 +16,7 @@ use crate::begin::stands_at_begin;
 use crate::course::Course;
 use crate::driven::Driven;
 use crate::places::{last_place, next_tried, place_after};
+use crate::prefix::first_parts;
 use frame_machine::{PlaceAnswer, Ready, Scratch};
 use match_items::View;
 use pcre_io::Callouts;
@@ -135,6 +136,7 @@ pub fn search<C: Callouts>(
         ready,
         view,
         at_begin,
+        first: first_parts(ready.tree),
     };
     search_on(&course, scratch, calls)
 }

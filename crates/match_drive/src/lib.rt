@@ -9,6 +9,7 @@ mod drive;
 mod driven;
 mod laws;
 mod places;
+mod prefix;
 
 pub use answer::MatchAnswer;
 pub use drive::{search, search_on};

@@ -1,27 +1,27 @@
 -- Files of patterns: what a line gives, what a source gives, and files one behind another (pcre2grep, "OPTIONS", -f).
-use Rattle.std.proofs.Common.{◌≡◌, ◌≢◌, ℕ, ◌+◌, ◌-◌, ◌≤◌, Bool, true, false, if◌then◌else◌, List, [], ◌∷◌, ◌++◌, length, take, drop, get_or, map, filter, Option, None, Some, option_map, Result, Ok, Err, refl, sym, ap, subst, ◌∙◌, arith, append-nil, append_assoc}
+use Rattle.std.proofs.Common.{◌≡◌, ◌≢◌, ℕ, ◌+◌, ◌-◌, ◌≤◌, Bool, true, false, if◌then◌else◌, List, [], ◌∷◌, ◌++◌, length, take, drop, get_or, map, filter, Option, Some, Result, Ok, Err, refl, sym, ap, subst, ◌∙◌, arith, append-nil, append_assoc}
 use Rattle.std.specs.Prelude.{slice_get}
 use Rattle.std.proofs.lemmas.List.{map-append, take_all, take_more, take-append-drop}
 use Rattle.std.proofs.lemmas.List.Elements.{filter-append}
 use Rattle.std.proofs.lemmas.Option.{slice_get_within, get_or_from_slice_get}
 use Rattle.pcre_io.specs.Told.{Told, Kept}
-use Rattle.pcre_io.specs.Files.{File, file_of, IsOf, Opens}
+use Rattle.pcre_io.specs.Files.{File}
 use Rattle.pcre_io.specs.declared.traits.IoError.{IoError}
 use Rattle.byte_lanes.specs.declared.line_end.EndKind.TheVariants.{Lf}
 use Rattle.line_feed.specs.declared.phase.FeedError.{FeedError}
 use Rattle.line_feed.specs.declared.phase.FeedError.TheVariants as feed
 use Rattle.line_feed.specs.declared.phase.Phase.TheVariants.{Open, Closed}
-use Rattle.line_feed.specs.Rows.{Row, Rows, Input, Finish, At, Long, End, Fault, Limit}
+use Rattle.line_feed.specs.Rows.{Row, Rows, Finish, At, Long, End, Fault, Limit}
 use Rattle.line_feed.specs.View.{Feed}
 use Rattle.line_feed.specs.Answers.{Gives, Ends, Refuses}
-use Rattle.line_feed.specs.Hears.{Hears, HearsBy, HasGiven, HasHeard}
+use Rattle.line_feed.specs.Hears.{HasGiven, HasHeard}
 use Rattle.line_feed.proofs.Given.{HasGiven-none, HasGiven-gives, HasGiven-lacks, HasHeard-ends, HasHeard-breaks, HasHeard-overflows, HasHeard-exceeds, HasBegun-given, live-gives, kind-gives, max-gives}
 use Rattle.grep_args.specs.declared.plan.GrepPlan.{GrepPlan}
 use Rattle.grep_core.specs.declared.ended.Ended.{Ended}
 use Rattle.grep_core.specs.declared.ended.Ended.TheVariants as told
 use Rattle.grep_core.specs.declared.ended.Stop.{Stop}
 use Rattle.grep_core.specs.declared.ended.Stop.TheVariants.{Memory}
-use Rattle.grep_core.specs.Asked.{Asked, asked, shown_name, input_of, Opened}
+use Rattle.grep_core.specs.Asked.{Asked, asked, shown_name}
 use Rattle.grep_core.specs.Ends.{ended_of, stop_of}
 use Rattle.grep_core.specs.Messages.{ended_message}
 use Rattle.grep_core.specs.Scans as meant
@@ -152,21 +152,6 @@ module _ (name : List ℕ) (found : Rows) (ended : Ended) (other : ended ≢ tol
   pub source-untold : (e : IoError) → one.Writes {T = Unit {0}} (ended_message false name (ended_of ended)) err_old err_new (Err e)
       → AddsTo (texts_of_rows name found) old new err_old err_new (Err (stop_of e))
   source-untold e writes = subst (λ t. AddsTo t old new err_old err_new (Err (stop_of e))) (cut-text name found ended other so) (halts-of _ err_old err_new e writes)
-
--- A file that is opened, and one that isn't looked at.
-
-pub opened-some : (contents : Option (List File)) (name : List ℕ) (before after : Told) (heard : Input) → Opens contents name before → Hears before after heard
-    → Opened contents name (Some heard)
-opened-some None name before after heard opens hears = tt
-opened-some (Some files) name before after heard opens hears = by_file (file_of name files) opens
-  where
-    by_file : (file : Option File) → IsOf file before → Some heard ≡ option_map input_of file
-    by_file None is = absurd is
-    by_file (Some file) is = ap Some (subst (λ s. HearsBy before after (Some file.bytes) s heard) is.1 (subst (λ l. HearsBy before after l before.stop heard) is.0 hears))
-
-pub opened-any : (contents : Option (List File)) (name : List ℕ) → (given : Option Input) × Opened contents name given
-opened-any None name = (None, tt)
-opened-any (Some files) name = (option_map input_of (file_of name files), refl)
 
 -- Files one behind another.
 

@@ -1,15 +1,14 @@
 -- What searching one input does, by the word that names it.
-use Rattle.std.proofs.Common.{◌≡◌, refl, sym, ap, subst, ℕ, Bool, true, if◌then◌else◌, List, [], Option, None, Some, option_map, Result, Ok, Err}
+use Rattle.std.proofs.Common.{◌≡◌, refl, sym, ap, subst, ℕ, Bool, true, if◌then◌else◌, List, [], Option, None, Some, Result, Ok, Err}
 use Rattle.pcre_io.specs.Told.{Told, Kept}
-use Rattle.pcre_io.specs.Files.{File, file_of, IsOf, Opens}
+use Rattle.pcre_io.specs.Files.{File}
 use Rattle.line_feed.specs.Rows.{Input}
-use Rattle.line_feed.specs.Hears.{Hears, HearsBy}
 use Rattle.grep_args.specs.declared.plan.GrepPlan.{GrepPlan}
 use Rattle.grep_core.specs.declared.ended.FileEnd.{FileEnd}
 use Rattle.grep_core.specs.declared.ended.Stop.{Stop}
 use Rattle.grep_core.specs.declared.ended.Stop.TheVariants.{Memory}
 use Rattle.grep_core.specs.declared.state.State.{State}
-use Rattle.grep_core.specs.Asked.{is_standard, input_of, Opened}
+use Rattle.grep_core.specs.Asked.{is_standard}
 use Rattle.grep_core.specs.Compiled.{Pattern}
 use Rattle.grep_core.specs.InputText.{input_text}
 use Rattle.grep_core.specs.OneInput.{GrepsTo}
@@ -18,21 +17,6 @@ use Rattle.grep_core.proofs.FileTexts.{breaks-none}
 use Rattle.pcre2_tools.specs.Takes.{IsLeft}
 use Rattle.pcre2_tools.specs.Reports.{ReportsTo, ReportsWord}
 use Rattle.pcre2_tools.proofs.Taking.{takes-standard}
-
--- A file that was opened, or that isn't looked at.
-
-pub opened-heard : (contents : Option (List File)) (name : List ℕ) (before after : Told) (input : Input) → Opens contents name before → Hears before after input → Opened contents name (Some input)
-opened-heard None name before after input opens hears = tt
-opened-heard (Some files) name before after input opens hears = by_file (file_of name files) opens
-  where
-    by_file : (file : Option File) → IsOf file before → Some input ≡ option_map input_of file
-    by_file None is = absurd is
-    by_file (Some file) is =
-        ap Some (subst (λ stop. HearsBy before after (Some file.bytes) stop input) is.1 (subst (λ bytes. HearsBy before after bytes before.stop input) is.0 hears))
-
-pub opened-any : (contents : Option (List File)) (name : List ℕ) → (given : Option Input) × Opened contents name given
-opened-any None name = (None, tt)
-opened-any (Some files) name = (option_map input_of (file_of name files), refl)
 
 -- memory lacked when it was opened
 pub reports-lacks : (plan : GrepPlan) (patterns : List Pattern) (s : State) (name : List ℕ) (given : Option Input) (out err : Kept) → ReportsTo (report_on plan patterns s name given) s s out out err err (Err Memory)

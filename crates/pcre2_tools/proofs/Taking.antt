@@ -2,9 +2,9 @@
 use Rattle.std.proofs.Common.{◌≡◌, refl, sym, ap, subst, ◌∙◌, arith, ℕ, Bool, true, false, if◌then◌else◌, List, [], ◌∷◌, ◌++◌, length, suc, Option, None, Some, option_map, append-nil}
 use Rattle.std.proofs.KnownBytes.{Consumes-nil}
 use Rattle.pcre_io.specs.Told.{Told}
-use Rattle.pcre_io.specs.Files.{File, file_of}
+use Rattle.pcre_io.specs.Files.{File, file_of, IsOf, Opens}
 use Rattle.line_feed.specs.Rows.{Input}
-use Rattle.line_feed.specs.Hears.{Hears}
+use Rattle.line_feed.specs.Hears.{Hears, HearsBy}
 use Rattle.line_feed.proofs.Stops.{StopFell-nil}
 use Rattle.line_feed.proofs.Hearing.{hears-some}
 use Rattle.grep_core.specs.Asked.{Asked, asked, is_standard, input_of, nothing, standard_after, standard_after_all, Opened, Stands, StandFor}
@@ -149,6 +149,21 @@ takes-rest true before after contents words others given h =
 takes-rest false before after contents words others given h =
     let left = standard_after_all words h.0 in
     (filled contents left others, (h.0, h.1, stand-more contents h.0 words others given (filled contents left others) h.2 (stand-filled contents left others)))
+
+-- A file that was opened, or that isn't looked at.
+
+pub opened-heard : (contents : Option (List File)) (name : List ℕ) (before after : Told) (input : Input) → Opens contents name before → Hears before after input → Opened contents name (Some input)
+opened-heard None name before after input opens hears = tt
+opened-heard (Some files) name before after input opens hears = by_file (file_of name files) opens
+  where
+    by_file : (file : Option File) → IsOf file before → Some input ≡ option_map input_of file
+    by_file None is = absurd is
+    by_file (Some file) is =
+        ap Some (subst (λ stop. HearsBy before after (Some file.bytes) stop input) is.1 (subst (λ bytes. HearsBy before after bytes before.stop input) is.0 hears))
+
+pub opened-any : (contents : Option (List File)) (name : List ℕ) → (given : Option Input) × Opened contents name given
+opened-any None name = (None, tt)
+opened-any (Some files) name = (option_map input_of (file_of name files), refl)
 
 -- One word.
 

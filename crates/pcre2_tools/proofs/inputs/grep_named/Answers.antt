@@ -2,7 +2,8 @@ use Rattle.std.proofs.Common.{rules, ◌≡◌, sym, subst, Some, Err}
 use Rattle.grep_core.specs.Compiled.{patterns_in}
 use Rattle.grep_core.specs.Tool.{report_on}
 use Rattle.pcre2_tools.specs.Reports.{ReportsTo}
-use Rattle.pcre2_tools.proofs.Reporting.{opened-heard, opened-any, reports-lacks, reports-scanned}
+use Rattle.pcre2_tools.proofs.Taking.{opened-heard, opened-any}
+use Rattle.pcre2_tools.proofs.Reporting.{reports-lacks, reports-scanned}
 use Rattle.pcre2_tools.proofs.inputs.grep_named.Goals as goal
 
 pub returns-in_err-end-in-Ok-clause-reports : goal.returns-in_err-end-in-Ok-clause-reports

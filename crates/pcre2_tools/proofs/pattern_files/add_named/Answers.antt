@@ -1,13 +1,14 @@
 use Rattle.std.proofs.Common.{Some, refl}
 use Rattle.grep_core.specs.declared.ended.Stop.TheVariants.{Memory}
 use Rattle.grep_core.specs.Tool.{texts_of}
-use Rattle.pcre2_tools.proofs.PatternFiles.{adds-lacks, opened-some, opened-any}
+use Rattle.pcre2_tools.proofs.Taking.{opened-heard, opened-any}
+use Rattle.pcre2_tools.proofs.PatternFiles.{adds-lacks}
 use Rattle.pcre2_tools.proofs.pattern_files.add_named.Goals as goal
 
 pub returns-in-Ok-clause-adds : goal.returns-in-Ok-clause-adds
 returns-in-Ok-clause-adds g c =
     let adds = c.add_source.ensures in
-    (Some adds.0, opened-some (g.F.FileSet.tells c.args.files.now).contents c.args.name.now (g.F.Src.Source.tells c.in-Ok.source) (g.F.Src.Source.tells c.add_source.new.source) adds.0 c.in-Ok.ensures.opened adds.1, adds.2)
+    (Some adds.0, opened-heard (g.F.FileSet.tells c.args.files.now).contents c.args.name.now (g.F.Src.Source.tells c.in-Ok.source) (g.F.Src.Source.tells c.add_source.new.source) adds.0 c.in-Ok.ensures.opened adds.1, adds.2)
 
 pub returns-in-Err-Memory-clause-adds : goal.returns-in-Err-Memory-clause-adds
 returns-in-Err-Memory-clause-adds g c =

@@ -1,0 +1,19 @@
+use Rattle.std.proofs.Common.{sym, ap, ◌∙◌}
+use Rattle.std.specs.Option.{option_or}
+use Rattle.frame_machine.specs.PlaceAnswer.{Walked, has_hit, last_name}
+use Rattle.match_drive.proofs.PastPrefix.{refused}
+use Rattle.match_drive.proofs.course.CourseDriven.try_at.Goals as goal
+
+pub returns-then-item_refuses-clause-answer : goal.returns-then-item_refuses-clause-answer
+returns-then-item_refuses-clause-answer g c =
+    let x = c.args.self.now in
+    let fits = c.requires.fits in
+    let e = refused x.ready.now.tree.now x.ready.now.classes.now x.view.now (g.C.Callouts.answers c.args.calls.now) x.first.now c.args.place fits.table fits.options fits.off fits.parts (sym c.item_refuses.ensures ∙ c.if-item_refuses.true) in
+    (ap (λ (w : Walked). w.answer) e, sym (ap (λ (w : Walked). has_hit w.notes) e))
+
+pub returns-then-item_refuses-clause-mark : goal.returns-then-item_refuses-clause-mark
+returns-then-item_refuses-clause-mark g c =
+    let x = c.args.self.now in
+    let fits = c.requires.fits in
+    let e = refused x.ready.now.tree.now x.ready.now.classes.now x.view.now (g.C.Callouts.answers c.args.calls.now) x.first.now c.args.place fits.table fits.options fits.off fits.parts (sym c.item_refuses.ensures ∙ c.if-item_refuses.true) in
+    sym (ap (λ (w : Walked). option_or (last_name w.notes) c.args.scratch.now.last_mark) e)
