@@ -3,3 +3,4 @@ pub mod Adds
 pub mod Reports
 pub mod Sums
 pub mod Runs
+pub mod Laws

@@ -5,6 +5,7 @@
 mod fault_text;
 mod grep;
 mod inputs;
+mod laws;
 mod messages;
 mod pattern_files;
 mod real;
@@ -13,6 +14,7 @@ mod sum;
 mod tests;
 mod top;
 
+pub use laws::{sound_runs_end_well, told_words_stand_for_one_list};
 use std::process::ExitCode;
 pub use top::run;
 
