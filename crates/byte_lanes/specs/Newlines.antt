@@ -1,6 +1,6 @@
 -- The texts that end a line, and the longest that begins at a place or ends there.
 -- pcre2pattern, "Newline conventions", has the conventions, and pcre2api, "Newlines", the Unicode newlines.
-use Rattle.std.specs.Prelude.{ℕ, ◌+◌, ◌-◌, ◌==◌, nat_lt, nat_le, Bool, true, ◌&&◌, List, [], ◌∷◌, length, slice_index, max, if◌then◌else◌}
+use Rattle.std.specs.Prelude.{ℕ, ◌+◌, ◌-◌, ◌==◌, nat_lt, nat_le, Bool, true, false, ◌&&◌, List, [], ◌∷◌, length, slice_index, max, if◌then◌else◌}
 use Rattle.byte_lanes.specs.declared.line_end.EndKind.{EndKind}
 use Rattle.byte_lanes.specs.declared.line_end.EndKind.TheVariants.{Cr, Lf, CrLf, AnyCrLf, Any, AnyUtf, Nul}
 
@@ -50,6 +50,16 @@ newline_texts AnyCrLf = any_crlf_texts
 newline_texts Any = any_texts
 newline_texts AnyUtf = any_utf_texts
 newline_texts Nul = (0 ∷ []) ∷ []
+
+-- CR LF is one of the newlines of the kind
+abbrev pub has_crlf : EndKind → Bool
+has_crlf Cr = false
+has_crlf Lf = false
+has_crlf CrLf = true
+has_crlf AnyCrLf = true
+has_crlf Any = true
+has_crlf AnyUtf = true
+has_crlf Nul = false
 
 -- the length of the newline that begins at the place, or 0
 abbrev pub newline_len : EndKind → List ℕ → ℕ → ℕ

@@ -1,7 +1,7 @@
 // Newlines of a kind, and the first at or past a place.
 ghost use Rattle.std.specs.Prelude.{◌≡◌, ℕ, ◌+◌, ◌<◌, ◌≤◌, ◌∷◌, [], nat_lt, IsTrue, length, slice_index};
 ghost use Rattle.byte_lanes.specs.Places.{IsLeast, least_from};
-ghost use Rattle.byte_lanes.specs.Newlines.{newline_len, longest, stands, crlf_texts, any_crlf_texts, any_texts, any_utf_texts};
+ghost use Rattle.byte_lanes.specs.Newlines.{newline_len, has_crlf, longest, stands, crlf_texts, any_crlf_texts, any_texts, any_utf_texts};
 
 use crate::lanes::{at_least, at_most, both, either, equal_to, load};
 use crate::scan;
@@ -27,6 +27,18 @@ pub enum EndKind {
     AnyUtf,
     /// A zero byte.
     Nul,
+}
+
+impl EndKind {
+    /// Whether CR and LF together are one of its newlines.
+    pub fn has_crlf(self) -> bool
+        ensures { result ≡ has_crlf self }
+    {
+        match self {
+            EndKind::CrLf | EndKind::AnyCrLf | EndKind::Any | EndKind::AnyUtf => true,
+            EndKind::Cr | EndKind::Lf | EndKind::Nul => false,
+        }
+    }
 }
 
 /// A newline of `len` bytes, 1 to 3, that begins at the place `at`. Where there is none, `at` is the length of
@@ -80,9 +92,9 @@ fn one_byte(bytes: &[u8], from: usize, byte: u8) -> usize
     }
 }
 
-// The length of the newline that begins at `at`, or 0.
+/// The length of the longest newline of the kind that begins at the place, or 0. None begins past the last byte.
 #[inline(always)]
-fn newline_at(bytes: &[u8], at: usize, kind: EndKind) -> usize
+pub fn newline_at(bytes: &[u8], at: usize, kind: EndKind) -> usize
     ensures { result ≡ newline_len kind bytes.now at }
 {
     match kind {

@@ -1,4 +1,7 @@
-use crate::{ByteSet, EndKind, LineEnd, count_byte, find_in_set, find_line_end};
+use crate::{
+    ByteSet, EndKind, LineEnd, count_byte, digit_value, find_in_set, find_line_end, newline_at,
+    number,
+};
 use std::test::Fail;
 
 // Lengths just below, at and above the ends of vectors of 32 and of 64 bytes.
@@ -77,6 +80,41 @@ fn line_ends_of_each_kind(rt: HostRuntime) {
     for (kind, from, at, len) in rows {
         assert!(rt; ends_line(text, from, kind, at, len));
     }
+}
+
+#[test]
+fn newlines_at_a_place(rt: HostRuntime) {
+    let rows = [
+        (EndKind::AnyCrLf, 1, 2, true),
+        (EndKind::AnyCrLf, 2, 1, true),
+        (EndKind::CrLf, 2, 0, true),
+        (EndKind::Any, 3, 1, true),
+        (EndKind::AnyUtf, 3, 0, true),
+        (EndKind::Lf, 2, 1, false),
+        (EndKind::Cr, 2, 0, false),
+        (EndKind::Nul, 4, 1, false),
+        (EndKind::Nul, 5, 0, false),
+    ];
+    for (kind, at, len, has_crlf) in rows {
+        assert_eq!(rt; newline_at(b"a\r\n\x85\0", at, kind), len);
+        assert_eq!(rt; kind.has_crlf(), has_crlf);
+    }
+}
+
+#[test]
+fn digits_write_a_number(rt: HostRuntime) {
+    assert_eq!(rt; number(b"", 10), Some(0));
+    assert_eq!(rt; number(b"0042", 10), Some(42));
+    assert_eq!(rt; number(b"4294967295", 10), Some(u32::MAX));
+    assert_eq!(rt; number(b"4294967296", 10), None);
+    assert_eq!(rt; number(b"99999999999999999999999", 10), None);
+    assert_eq!(rt; number(b"fF", 16), Some(255));
+    assert_eq!(rt; number(b"37777777777", 8), Some(u32::MAX));
+    assert_eq!(rt; number(b"40000000000", 8), None);
+    assert_eq!(rt;
+        (digit_value(b'9'), digit_value(b'Z'), digit_value(b' ')),
+        (9, 35, 36)
+    );
 }
 
 #[test]

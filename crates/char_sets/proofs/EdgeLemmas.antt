@@ -67,15 +67,15 @@ answer_at-edges test (p ∷ ps) low c le above rise steady = elim (cases_lt c p)
       past_it (test low) (edge_at test p) (map (edge_at test) ps) c reached ∙ answer_at-edges test ps p c reached (λ k d l. rise 0 (suc k) d (omega arith) (omega arith)) (tail-rises p ps rise) rest
 ]
 
-list_any_same : {X : Type 0} (f g : X → Bool) (xs : List X) → All (λ x. f x ≡ g x) xs → list_any f xs ≡ list_any g xs
+pub list_any_same : {X : Type 0} (f g : X → Bool) (xs : List X) → All (λ x. f x ≡ g x) xs → list_any f xs ≡ list_any g xs
 list_any_same f g [] h = refl
 list_any_same f g (x ∷ xs) h = ap₂ ◌||◌ (h 0 x (omega arith)) (list_any_same f g xs (All-tail (λ y. f y ≡ g y) x xs h))
 
 -- a class changes its answer only where a part does
-pub takes-steady : (class : ClassSpec) (places : List ℕ) → AllSteady class.parts places → IsSteady (takes class) places
-takes-steady class places steady a b past le apart =
+pub takes-steady : (utf : Bool) (class : ClassSpec) (places : List ℕ) → AllSteady utf class.caseless class.parts places → IsSteady (takes utf class) places
+takes-steady utf class places steady a b past le apart =
     ap (λ inside. cond class.negated (not inside) inside)
-    (list_any_same (λ part. part_has class.caseless part a) (λ part. part_has class.caseless part b) class.parts (λ k d l. steady k d l class.caseless a b past le apart))
+    (list_any_same (λ part. part_has utf class.caseless part a) (λ part. part_has utf class.caseless part b) class.parts (λ k d l. steady k d l a b past le apart))
 
 -- the order of the places is of no matter
 pub steady_sorted : (test : ℕ → Bool) (places sorted : List ℕ) → IsPermutation places sorted → IsSteady test places → IsSteady test sorted
@@ -100,19 +100,19 @@ edges-IsEdges test places past rise = record {
 }
 
 -- the edges of a class answer as the class does
-pub answer_at-class : (class : ClassSpec) (places : List ℕ) (c : ℕ) → 256 ≤ c → All (λ p. 256 < p) places → IsNonDecreasing places → AllSteady class.parts places →
-    answer_at false (edge_at (takes class) 256 ∷ map (edge_at (takes class)) places) c ≡ takes class c
-answer_at-class class places c past above rise steady =
-    past_it false (edge_at (takes class) 256) (map (edge_at (takes class)) places) c past
-    ∙ answer_at-edges (takes class) places 256 c past (λ k d l. omega (arith, above k d l)) rise (takes-steady class places steady)
+pub answer_at-class : (utf : Bool) (class : ClassSpec) (places : List ℕ) (c : ℕ) → 256 ≤ c → All (λ p. 256 < p) places → IsNonDecreasing places → AllSteady utf class.caseless class.parts places →
+    answer_at false (edge_at (takes utf class) 256 ∷ map (edge_at (takes utf class)) places) c ≡ takes utf class c
+answer_at-class utf class places c past above rise steady =
+    past_it false (edge_at (takes utf class) 256) (map (edge_at (takes utf class)) places) c past
+    ∙ answer_at-edges (takes utf class) places 256 c past (λ k d l. omega (arith, above k d l)) rise (takes-steady utf class places steady)
 
-pub all_steady_sorted : (parts : List Part) (places sorted : List ℕ) → IsPermutation places sorted → AllSteady parts places → AllSteady parts sorted
-all_steady_sorted parts places sorted moved steady k d l caseless = steady_sorted (part_has caseless (get_or parts k d)) places sorted moved (steady k d l caseless)
+pub all_steady_sorted : (utf caseless : Bool) (parts : List Part) (places sorted : List ℕ) → IsPermutation places sorted → AllSteady utf caseless parts places → AllSteady utf caseless parts sorted
+all_steady_sorted utf caseless parts places sorted moved steady k d l = steady_sorted (part_has utf caseless (get_or parts k d)) places sorted moved (steady k d l)
 
 -- a table whose flags and edges are those of the class takes what the class takes
-pub char_in-class : (class : ClassSpec) (bytes : List Bool) (edges : List Edge) → ((k : ℕ) → k < 256 → has_byte bytes k ≡ takes class k) → ((c : ℕ) → 256 ≤ c → answer_at false edges c ≡ takes class c) →
-    (c : ℕ) → char_in (record { bytes = bytes; edges = edges }) c ≡ takes class c
-char_in-class class bytes edges low high c = elim (cases_lt c 256) [
+pub char_in-class : (utf : Bool) (class : ClassSpec) (bytes : List Bool) (edges : List Edge) → ((k : ℕ) → k < 256 → has_byte bytes k ≡ takes utf class k) → ((c : ℕ) → 256 ≤ c → answer_at false edges c ≡ takes utf class c) →
+    (c : ℕ) → char_in (record { bytes = bytes; edges = edges }) c ≡ takes utf class c
+char_in-class utf class bytes edges low high c = elim (cases_lt c 256) [
   | inl byte ↦ ap (λ b. cond b (has_byte bytes c) (answer_at false edges c)) (lt-ltb c 256 byte) ∙ low c byte
   | inr past ↦ ap (λ b. cond b (has_byte bytes c) (answer_at false edges c)) (le-ltb c 256 past) ∙ high c past
 ]

@@ -1,5 +1,8 @@
+pub mod AlikeLemmas
 pub mod BitLemmas
 pub mod EdgeLemmas
 pub mod FoldLemmas
+pub mod PairLemmas
 pub mod PlaceLemmas
+pub mod RunLemmas
 pub mod TableLemmas

@@ -20,9 +20,9 @@ pub table_has-newest : (old : List CharSet) (e : CharSet) (id c : ℕ) → lengt
 unfolding table_has
 table_has-newest old e id c count = subst (λ k. char_in (get_or (old ++ e ∷ []) k no_chars) c ≡ char_in e c) count (ap (λ s. char_in s c) (get_or-append_seam old e [] no_chars))
 
-pub class_has-found : (tree : TreeParts) (id c : ℕ) (class : ClassSpec) → slice_get tree.classes id ≡ Some class → class_has tree id c ≡ takes class c
+pub class_has-found : (tree : TreeParts) (id c : ℕ) (class : ClassSpec) → slice_get tree.classes id ≡ Some class → class_has tree id c ≡ takes tree.options.utf class c
 unfolding class_has
-class_has-found tree id c class is = ap (λ s. takes s c) (get_or_from_slice_get tree.classes id class no_class is)
+class_has-found tree id c class is = ap (λ s. takes tree.options.utf s c) (get_or_from_slice_get tree.classes id class no_class is)
 
 no_chars-take : (c : ℕ) → char_in no_chars c ≡ false
 no_chars-take c = elim (nat_lt c 256) as (λ b. cond b (has_byte [] c) (answer_at false [] c) ≡ false) [ true ↦ refl | false ↦ refl ]
@@ -34,7 +34,7 @@ table_has-past table class c past = ap (λ s. char_in s c) (get_or_past table cl
 
 class_has-past : (tree : TreeParts) (class c : ℕ) → length tree.classes ≤ class → class_has tree class c ≡ false
 unfolding class_has
-class_has-past tree class c past = ap (λ s. takes s c) (get_or_past tree.classes class no_class past)
+class_has-past tree class c past = ap (λ s. takes tree.options.utf s c) (get_or_past tree.classes class no_class past)
 
 -- a table that answers for each class of the tree answers for every number
 pub IsTableOf-whole : (tree : TreeParts) (table : List CharSet) (n : ℕ) → length table ≡ n → n ≡ length tree.classes → ((class : ℕ) → class < n → (c : ℕ) → table_has table class c ≡ class_has tree class c) → IsTableOf tree table

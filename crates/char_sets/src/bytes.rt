@@ -25,12 +25,12 @@ impl Model for ByteBits {
 
 impl ByteBits {
     /// The bytes that a class takes.
-    pub(crate) fn of(class: &ClassSpec) -> ByteBits
-        ensures { (k : ℕ) → k < 256 → has_byte result k ≡ spec.takes class.now k }
+    pub(crate) fn of(class: &ClassSpec, utf: bool) -> ByteBits
+        ensures { (k : ℕ) → k < 256 → has_byte result k ≡ spec.takes utf class.now k }
     {
         let mut bits = ByteBits::empty();
         for c in 0..256u32 {
-            if takes(class, c as u64) {
+            if takes(class, utf, c as u64) {
                 bits.insert(c as u8);
             }
         }

@@ -7,6 +7,7 @@ ghost use Rattle.char_sets.specs.Places.{AllSteady};
 use crate::bytes::ByteBits;
 use crate::edges::{Edge, add_places};
 use crate::sets::takes;
+use crate::unicode::add_asked_places;
 use pat_tree::{ClassSpec, Memory, Part};
 use std::alloc::Global;
 use std::marker::Model;
@@ -29,14 +30,14 @@ impl Model for Entry {
 }
 
 impl Entry {
-    /// The table of a class.
-    pub(crate) fn of(alloc: Global, class: &ClassSpec) -> Result<Entry, Memory>
-        ensures { IfOk result (λ e. (c : ℕ) → char_in e c ≡ spec.takes class.now c) }
+    /// The table of a class, in UTF or outside it.
+    pub(crate) fn of(alloc: Global, class: &ClassSpec, utf: bool) -> Result<Entry, Memory>
+        ensures { IfOk result (λ e. (c : ℕ) → char_in e c ≡ spec.takes utf class.now c) }
     {
-        let mut places = places_of(alloc, class.parts.as_slice())?;
+        let mut places = places_of(alloc, class.parts.as_slice(), class.caseless, utf)?;
         places.sort_unstable();
-        let edges = edges_at(alloc, class, &places)?;
-        let bytes = ByteBits::of(class);
+        let edges = edges_at(alloc, class, utf, &places)?;
+        let bytes = ByteBits::of(class, utf);
         Ok(Entry { bytes, edges })
     }
 
@@ -53,30 +54,36 @@ impl Entry {
 }
 
 /// The places past 256 at which the answer of some part may change, in no order.
-fn places_of(alloc: Global, parts: &[Part]) -> Result<Vec<u64>, Memory>
+fn places_of(alloc: Global, parts: &[Part], caseless: bool, utf: bool) -> Result<Vec<u64>, Memory>
     ensures past { IfOk result (λ places. All (λ p. 256 < p) places.items) }
-    ensures steady { IfOk result (λ places. AllSteady parts.now places.items) }
+    ensures steady { IfOk result (λ places. AllSteady utf caseless parts.now places.items) }
 {
     let mut places = Vec::new(alloc);
     for part in parts {
-        add_places(&mut places, part)?;
+        add_places(&mut places, part, caseless, utf)?;
     }
+    add_asked_places(&mut places, parts)?;
     Ok(places)
 }
 
 /// The edges at 256 and at these places, which rise.
-fn edges_at(alloc: Global, class: &ClassSpec, places: &[u64]) -> Result<Vec<Edge>, Memory>
-    ensures { IfOk result (λ edges. edges.items ≡ edge_at (spec.takes class.now) 256 ∷ map (edge_at (spec.takes class.now)) places.now) }
+fn edges_at(
+    alloc: Global,
+    class: &ClassSpec,
+    utf: bool,
+    places: &[u64],
+) -> Result<Vec<Edge>, Memory>
+    ensures { IfOk result (λ edges. edges.items ≡ edge_at (spec.takes utf class.now) 256 ∷ map (edge_at (spec.takes utf class.now)) places.now) }
 {
     let mut edges = Vec::new(alloc);
     edges.push(Edge {
         from: 256,
-        takes: takes(class, 256),
+        takes: takes(class, utf, 256),
     })?;
     for &place in places {
         edges.push(Edge {
             from: place,
-            takes: takes(class, place),
+            takes: takes(class, utf, place),
         })?;
     }
     Ok(edges)

@@ -4,11 +4,13 @@
 mod bytes;
 mod edges;
 mod entry;
+mod folds;
 mod laws;
 mod sets;
 mod table;
 #[cfg(test)]
 mod tests;
+mod unicode;
 
-pub use laws::{ranges_fold, worked_rows};
+pub use laws::{ranges_fold, worked_rows, worked_unicode};
 pub use table::ClassTable;

@@ -1,52 +1,69 @@
 // Whether a class takes one character, from its parts. Characters are numbers of 64 bits here, so that the number after the
 // greatest end of a range is one too.
-ghost use Rattle.std.specs.Prelude.{◌≡◌, ◌-◌, if◌then◌else◌};
+ghost use Rattle.std.specs.Prelude.{◌≡◌, true, false};
 ghost use Rattle.std.specs.Int.{is_in_range};
 ghost use Rattle.std.specs.List.{list_any};
 ghost use Rattle.uni_text.specs.Ascii as ascii;
+ghost use Rattle.uni_text.specs.Properties as properties;
+ghost use Rattle.uni_text.specs.Sets as named;
 ghost use Rattle.char_sets.specs.Sets as spec;
 
+use crate::folds::other_has;
 use pat_tree::{ClassSpec, Part, SetName};
-use uni_text::is_word;
+use uni_text::{GeneralCategory, GeneralCategoryGroup, Prop};
 
-/// Whether the class takes `c`.
-pub(crate) fn takes(class: &ClassSpec, c: u64) -> bool
-    ensures { result ≡ spec.takes class.now c }
+/// Whether the class takes `c`, in UTF or outside it.
+pub(crate) fn takes(class: &ClassSpec, utf: bool, c: u64) -> bool
+    ensures { result ≡ spec.takes utf class.now c }
 {
-    let inside = some_part_has(class.parts.as_slice(), class.caseless, c);
+    let inside = some_part_has(class.parts.as_slice(), class.caseless, utf, c);
     inside != class.negated
 }
 
-fn some_part_has(parts: &[Part], caseless: bool, c: u64) -> bool
-    ensures { result ≡ list_any (λ part. spec.part_has caseless part c) parts.now }
+fn some_part_has(parts: &[Part], caseless: bool, utf: bool, c: u64) -> bool
+    ensures { result ≡ list_any (λ part. spec.part_has utf caseless part c) parts.now }
 {
-    parts.iter().any(|part| part_has(part, caseless, c))
+    parts.iter().any(|part| part_has(part, caseless, utf, c))
 }
 
 /// Whether a part of a class takes `c`.
-fn part_has(part: &Part, caseless: bool, c: u64) -> bool
-    ensures { result ≡ spec.part_has caseless part.now c }
+fn part_has(part: &Part, caseless: bool, utf: bool, c: u64) -> bool
+    ensures { result ≡ spec.part_has utf caseless part.now c }
 {
     match *part {
-        Part::Range { from, to } => range_has(from, to, caseless, c),
-        Part::Set { set, not, ucp: _ } => {
-            let inside = set_has(if caseless { any_case(set) } else { set }, c);
+        Part::Range { from, to } => range_has(from, to, caseless, utf, c),
+        Part::Set { set, not, ucp } => {
+            let inside = set_has(if caseless { any_case(set) } else { set }, ucp, c);
             inside != not
         }
     }
 }
 
-fn range_has(from: u32, to: u32, caseless: bool, c: u64) -> bool
-    ensures { result ≡ spec.range_has caseless from to c }
+fn range_has(from: u32, to: u32, caseless: bool, utf: bool, c: u64) -> bool
+    ensures { result ≡ spec.range_has utf caseless from to c }
 {
-    if caseless && is_letter(c) {
+    if caseless {
+        folded_has(from, to, utf, c)
+    } else {
+        is_within(from, to, c)
+    }
+}
+
+/// Whether some character with the folding of `c` lies in the range.
+fn folded_has(from: u32, to: u32, utf: bool, c: u64) -> bool
+    ensures { result ≡ spec.folded_has utf from to c }
+{
+    if utf {
+        return is_within(from, to, c) || other_has(from, to, c);
+    }
+    if is_letter(c) {
         let small = c % 32 + 96;
         return is_within(from, to, small) || is_within(from, to, small - 32);
     }
     is_within(from, to, c)
 }
 
-fn is_within(from: u32, to: u32, c: u64) -> bool
+pub(crate) fn is_within(from: u32, to: u32, c: u64) -> bool
     ensures { result ≡ is_in_range from to c }
 {
     from as u64 <= c && c <= to as u64
@@ -62,13 +79,24 @@ fn any_case(set: SetName) -> SetName
     }
 }
 
-fn set_has(set: SetName, c: u64) -> bool
-    ensures { result ≡ spec.set_has set c }
+fn set_has(set: SetName, ucp: bool, c: u64) -> bool
+    ensures { result ≡ spec.set_has ucp set c }
+{
+    if ucp {
+        set_of_unicode_has(set, c)
+    } else {
+        set_of_ascii_has(set, c)
+    }
+}
+
+/// A set without UCP, and those that are the same with it.
+fn set_of_ascii_has(set: SetName, c: u64) -> bool
+    ensures { result ≡ spec.set_has false set c }
 {
     match set {
         SetName::Digit => is_digit(c),
         SetName::Space => matches!(c, 0x09..=0x0D | 0x20),
-        SetName::Word => c <= 0x7F && is_word(c as u32, false),
+        SetName::Word => is_letter(c) || is_digit(c) || c == 0x5F,
         SetName::Alpha => is_letter(c),
         SetName::Alnum => is_letter(c) || is_digit(c),
         SetName::Lower => matches!(c, 0x61..=0x7A),
@@ -81,9 +109,63 @@ fn set_has(set: SetName, c: u64) -> bool
         SetName::Ascii => c <= 0x7F,
         SetName::Xdigit => matches!(c, 0x30..=0x39 | 0x41..=0x46 | 0x61..=0x66),
         SetName::H => is_horizontal(c),
-        SetName::V => matches!(c, 0x0A..=0x0D | 0x85 | 0x2028..=0x2029),
-        SetName::Property(_) => false,
+        SetName::V => is_vertical(c),
+        SetName::Property(number) => match Prop::by_number(number) {
+            Some(p) => has_property(p, c),
+            None => false,
+        },
     }
+}
+
+/// A set with UCP.
+fn set_of_unicode_has(set: SetName, c: u64) -> bool
+    ensures { result ≡ spec.set_has true set c }
+{
+    match set {
+        SetName::Digit => has_property(Prop::Category(GeneralCategory::DecimalNumber), c),
+        SetName::Space => has_property(Prop::Xsp, c),
+        SetName::Word => has_property(Prop::Xwd, c),
+        SetName::Alpha => has_property(Prop::Group(GeneralCategoryGroup::Letter), c),
+        SetName::Alnum => has_property(Prop::Xan, c),
+        SetName::Lower => has_property(Prop::Category(GeneralCategory::LowercaseLetter), c),
+        SetName::Upper => has_property(Prop::Category(GeneralCategory::UppercaseLetter), c),
+        SetName::Blank => is_horizontal(c),
+        SetName::Cntrl => has_property(Prop::Category(GeneralCategory::Control), c),
+        SetName::Graph => is_graph_of_unicode(c),
+        SetName::Print => {
+            is_graph_of_unicode(c)
+                || has_property(Prop::Category(GeneralCategory::SpaceSeparator), c)
+        }
+        SetName::Punct => {
+            has_property(Prop::Group(GeneralCategoryGroup::Punctuation), c)
+                || has_property(Prop::Group(GeneralCategoryGroup::Symbol), c) && c < 256
+        }
+        other => set_of_ascii_has(other, c),
+    }
+}
+
+/// The characters of `[:graph:]` with UCP.
+fn is_graph_of_unicode(c: u64) -> bool
+    ensures { result ≡ named.graph true c }
+{
+    has_property(Prop::Group(GeneralCategoryGroup::Letter), c)
+        || has_property(Prop::Group(GeneralCategoryGroup::Mark), c)
+        || has_property(Prop::Group(GeneralCategoryGroup::Number), c)
+        || has_property(Prop::Group(GeneralCategoryGroup::Punctuation), c)
+        || has_property(Prop::Group(GeneralCategoryGroup::Symbol), c)
+        || has_property(Prop::Category(GeneralCategory::Format), c) && !is_mark_of_direction(c)
+}
+
+fn is_mark_of_direction(c: u64) -> bool
+    ensures { result ≡ named.is_mark_of_direction c }
+{
+    matches!(c, 0x61C | 0x180E | 0x2066..=0x2069)
+}
+
+fn has_property(p: Prop, c: u64) -> bool
+    ensures { result ≡ properties.has_prop p c }
+{
+    c <= 0x10_FFFF && uni_text::has_prop(p, c as u32)
 }
 
 fn is_digit(c: u64) -> bool
@@ -100,10 +182,14 @@ fn is_letter(c: u64) -> bool
 
 /// The characters of `\h`.
 fn is_horizontal(c: u64) -> bool
-    ensures { result ≡ spec.set_has SetName.H c }
+    ensures { result ≡ properties.is_horizontal c }
 {
-    matches!(
-        c,
-        0x09 | 0x20 | 0xA0 | 0x1680 | 0x180E | 0x2000..=0x200A | 0x202F | 0x205F | 0x3000
-    )
+    c <= 0x3000 && uni_text::is_horizontal(c as u32)
+}
+
+/// The characters of `\v`.
+fn is_vertical(c: u64) -> bool
+    ensures { result ≡ properties.is_vertical c }
+{
+    c <= 0x2029 && uni_text::is_vertical(c as u32)
 }

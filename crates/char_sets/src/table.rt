@@ -1,7 +1,7 @@
 //! The classes of a tree as tables.
-ghost use Rattle.std.specs.Prelude.{◌≡◌, ◌+◌, ◌<◌, false, All, IfOk, length};
+ghost use Rattle.std.specs.Prelude.{◌≡◌, ◌+◌, ◌<◌, IfOk, length};
 ghost use Rattle.pat_tree.specs.Parts.{TreeParts};
-ghost use Rattle.char_sets.specs.Sets.{class_has, IsPlain};
+ghost use Rattle.char_sets.specs.Sets.{class_has};
 ghost use Rattle.char_sets.specs.Table.{table_has, IsTableOf};
 
 use crate::entry::Entry;
@@ -28,16 +28,15 @@ impl Model for ClassTable {
 }
 
 impl ClassTable {
-    /// The table of a tree's classes (pcre2pattern, "Square brackets and character classes", "Generic character types" and "POSIX
-    /// character classes"). Needs a tree without UTF whose sets are those without UCP and name no property. Fails for want of memory alone.
+    /// The table of a tree's classes (pcre2pattern, "Square brackets and character classes", "Generic character types", "POSIX character
+    /// classes" and "Unicode character properties"). Fails for want of memory alone.
     pub fn build(alloc: Global, tree: &Tree) -> Result<ClassTable, Memory>
-        requires bytes { tree.now.options.utf ≡ false }
-        requires plain { All IsPlain tree.now.classes }
         ensures { IfOk result (IsTableOf tree.now) }
     {
+        let utf = tree.options().utf;
         let mut entries = Vec::new(alloc);
         for id in 0..tree.classes() {
-            let entry = Entry::of(alloc, tree.class(id))?;
+            let entry = Entry::of(alloc, tree.class(id), utf)?;
             entries.push(entry)?;
         }
         Ok(ClassTable { entries })

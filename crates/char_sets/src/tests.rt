@@ -1,5 +1,4 @@
-ghost use Rattle.std.specs.Prelude.{◌≡◌, ◌<◌, ◌∷◌, [], false, length, IfOk};
-ghost use Rattle.char_sets.specs.Sets.{IsPlain};
+ghost use Rattle.std.specs.Prelude.{◌≡◌, ◌<◌, ◌∷◌, [], length, IfOk};
 
 use super::*;
 use crate::entry::Entry;
@@ -71,7 +70,7 @@ fn case(
     ranges: Ranges,
     others: bool,
 ) -> Result<(), Fail> {
-    let entry = Entry::of(alloc, class)?;
+    let entry = Entry::of(alloc, class, false)?;
     for c in 0..0x3002u32 {
         assert_eq!(rt; entry.has(c), is_listed(ranges, c) != others, "at {c}");
     }
@@ -152,8 +151,7 @@ fn ranges_go_up_to_the_greatest_number(rt: HostRuntime) -> Result<(), Fail> {
 
 // The tree of one class.
 fn tree_of(alloc: Global, class: ClassSpec) -> Result<Tree, Fail>
-    ensures classes { IfOk result (λ t. t.classes ≡ class ∷ []) }
-    ensures bytes { IfOk result (λ t. t.options.utf ≡ false) }
+    ensures { IfOk result (λ t. t.classes ≡ class ∷ []) }
 {
     let mut draft = Draft::new(alloc, Options::PLAIN);
     let id = draft.add_class(class)?;
@@ -163,7 +161,6 @@ fn tree_of(alloc: Global, class: ClassSpec) -> Result<Tree, Fail>
 }
 
 fn table_of(alloc: Global, class: ClassSpec) -> Result<ClassTable, Fail>
-    requires { IsPlain class }
     ensures { IfOk result (λ table. 0 < length table) }
 {
     let tree = tree_of(alloc, class)?;
@@ -206,6 +203,148 @@ fn a_tree_gives_a_table_of_its_classes(rt: HostRuntime) -> Result<(), Fail> {
         let table = table_of(alloc, spec)?;
         assert_eq!(rt; table.count(), 1);
         asks::<Brand>(&rt, &table, listed, others, Blank::new(1))?;
+    }
+    Ok(())
+}
+
+// A set, a character at an edge of it, and whether it has it without UCP and with it: the rows of the manual page pcre2pattern, with
+// the categories that Python's unicodedata knows.
+const UCP_EDGES: [(SetName, u32, bool, bool); 47] = [
+    (SetName::Digit, 0x39, true, true),
+    (SetName::Digit, 0x660, false, true),
+    (SetName::Digit, 0xB2, false, false),
+    (SetName::Space, 0xB, true, true),
+    (SetName::Space, 0x85, false, true),
+    (SetName::Space, 0xA0, false, true),
+    (SetName::Space, 0x180E, false, true),
+    (SetName::Space, 0x200B, false, false),
+    (SetName::Word, 0x5F, true, true),
+    (SetName::Word, 0xE9, false, true),
+    (SetName::Word, 0x2160, false, true),
+    (SetName::Word, 0x301, false, false),
+    (SetName::Alpha, 0xAA, false, true),
+    (SetName::Alpha, 0x660, false, false),
+    (SetName::Alnum, 0x660, false, true),
+    (SetName::Alnum, 0x5F, false, false),
+    (SetName::Lower, 0xDF, false, true),
+    (SetName::Lower, 0xAA, false, false),
+    (SetName::Upper, 0xC0, false, true),
+    (SetName::Upper, 0x1C5, false, false),
+    (SetName::Blank, 0x9, true, true),
+    (SetName::Blank, 0x3000, false, true),
+    (SetName::Blank, 0x85, false, false),
+    (SetName::Cntrl, 0x7F, true, true),
+    (SetName::Cntrl, 0x9F, false, true),
+    (SetName::Cntrl, 0xAD, false, false),
+    (SetName::Graph, 0x20, false, false),
+    (SetName::Graph, 0xAD, false, true),
+    (SetName::Graph, 0x61C, false, false),
+    (SetName::Graph, 0x180E, false, false),
+    (SetName::Graph, 0x2065, false, false),
+    (SetName::Graph, 0x2066, false, false),
+    (SetName::Graph, 0x2069, false, false),
+    (SetName::Graph, 0x206A, false, true),
+    (SetName::Print, 0x20, true, true),
+    (SetName::Print, 0xA0, false, true),
+    (SetName::Print, 0x2028, false, false),
+    (SetName::Punct, 0x24, true, true),
+    (SetName::Punct, 0xD7, false, true),
+    (SetName::Punct, 0x20AC, false, false),
+    (SetName::Punct, 0x2014, false, true),
+    (SetName::Ascii, 0x7F, true, true),
+    (SetName::Ascii, 0x80, false, false),
+    (SetName::Xdigit, 0x66, true, true),
+    (SetName::Xdigit, 0xFF21, false, false),
+    (SetName::H, 0x202F, true, true),
+    (SetName::V, 0x2029, true, true),
+];
+
+// Whether a class of one part takes `c`.
+fn takes_part(alloc: Global, part: Part, caseless: bool, utf: bool, c: u32) -> Result<bool, Fail> {
+    let spec = class(alloc, false, caseless, &[part])?;
+    let entry = Entry::of(alloc, &spec, utf)?;
+    Ok(entry.has(c))
+}
+
+#[test]
+fn sets_differ_with_ucp(rt: HostRuntime) -> Result<(), Fail> {
+    let alloc = rt.alloc();
+    for (set, c, ascii, unicode) in UCP_EDGES {
+        for (ucp, listed) in [(false, ascii), (true, unicode)] {
+            let not = false;
+            let took = takes_part(alloc, Part::Set { set, not, ucp }, false, true, c)?;
+            assert_eq!(rt; took, listed, "at {c}");
+            let not = true;
+            let took = takes_part(alloc, Part::Set { set, not, ucp }, false, true, c)?;
+            assert_eq!(rt; took, !listed, "at {c}, reversed");
+        }
+    }
+    Ok(())
+}
+
+// Characters that fold alike, by CaseFolding.txt.
+const FOLDS: [[u32; 3]; 5] = [
+    [0x4B, 0x6B, 0x212A],
+    [0x53, 0x73, 0x17F],
+    [0x3A3, 0x3C3, 0x3C2],
+    [0xC5, 0xE5, 0x212B],
+    [0x1C4, 0x1C5, 0x1C6],
+];
+
+#[test]
+fn each_of_three_folds_takes_the_others(rt: HostRuntime) -> Result<(), Fail> {
+    let alloc = rt.alloc();
+    for letters in FOLDS {
+        for one in letters {
+            let part = Part::Range { from: one, to: one };
+            for other in letters {
+                let took = takes_part(alloc, part, true, true, other)?;
+                assert!(rt; took, "{one} takes {other}");
+                let took = takes_part(alloc, part, false, true, other)?;
+                assert_eq!(rt; took, one == other, "{one} takes {other}");
+                let took = takes_part(alloc, part, true, false, other)?;
+                let is_ascii = one < 128 && other < 128;
+                assert_eq!(rt; took, one == other || is_ascii, "{one} takes {other}");
+            }
+        }
+    }
+    Ok(())
+}
+
+// \p{Lu}, [[:upper:]] and their complements, by perl's \p. 13 is the number of Lu.
+#[test]
+fn properties_stay_in_any_case(rt: HostRuntime) -> Result<(), Fail> {
+    let alloc = rt.alloc();
+    let property = SetName::Property(13);
+    let cases = [
+        (property, 0x41, true, true),
+        (property, 0x61, false, false),
+        (property, 0x391, true, true),
+        (property, 0x3B1, false, false),
+        (SetName::Upper, 0x391, true, true),
+        (SetName::Upper, 0x3B1, false, true),
+        (SetName::Upper, 0x660, false, false),
+        (property, 0xD800, false, false),
+        (SetName::Upper, u32::MAX, false, false),
+    ];
+    for (set, c, exact, any_case) in cases {
+        for not in [false, true] {
+            let part = Part::Set {
+                set,
+                not,
+                ucp: true,
+            };
+            assert_eq!(rt;
+                takes_part(alloc, part, false, true, c)?,
+                exact != not,
+                "at {c}"
+            );
+            assert_eq!(rt;
+                takes_part(alloc, part, true, true, c)?,
+                any_case != not,
+                "at {c}"
+            );
+        }
     }
     Ok(())
 }

@@ -3,14 +3,16 @@ use Rattle.std.proofs.Common.{◌≡◌, ℕ, suc, ◌+◌, ◌-◌, ◌<◌, �
 use Rattle.std.proofs.lemmas.Bool.{le-leb, lt-leb}
 use Rattle.frame_store.specs.Captures.{Captures}
 use Rattle.frame_store.specs.Entry.{Entry}
-use Rattle.frame_machine.specs.Stream.{State, too_many_units, by_halt, reached}
-use Rattle.frame_machine.specs.Setting.{Setting}
-use Rattle.frame_machine.specs.PlaceAnswer.{answers, MatchLimit, FrameLimit}
-use Rattle.frame_machine.specs.Moves.{Moves, stops, pause, stepped, holding, tread, size}
+use Rattle.ordered_search.specs.Stream.{State, too_many_units, by_halt, reached}
+use Rattle.ordered_search.specs.Setting.{Setting}
+use Rattle.ordered_search.specs.PlaceAnswer.{answers, MatchLimit, FrameLimit}
+use Rattle.ordered_search.specs.Moves.{Moves, stops, pause, stepped, holding, tread, size}
 use Rattle.frame_machine.specs.declared.machine.Next.TheVariants.{Back, End}
 use Rattle.frame_machine.specs.declared.machine.Spot.{Spot}
 use Rattle.frame_machine.specs.Ground.{Ground, next_of, IsGround, IsPart}
-use Rattle.frame_machine.specs.Machine.{past, around, cont, fail, Conf, conf, spot_state, ahead, AreSpans, AreSound, IsRunning, IsValid, Advances, towards}
+use Rattle.frame_machine.specs.Machine.{Conf, conf, towards}
+use Rattle.frame_machine.specs.Frames.{past, around, cont, outside, fail, spot_state, ahead}
+use Rattle.frame_machine.specs.Validity.{AreSpans, AreSound, IsRunning, IsValid, Advances}
 use Rattle.frame_machine.proofs.Frames.{focus_towards, running_towards}
 
 -- room for a unit, or none
@@ -75,14 +77,14 @@ module _ (c : Ground) where
     -- the machine goes on after a part
     module _ (ok : IsGround c) (q : ℕ) (inside : IsPart c q) (standing : IsRunning c spot stack End) where
       pub goes_on : spot.left ≡ m.spot.left →
-          ahead c m ≡ pause (past c (around c stack spot.frame).depth (cont c stack caps spot.frame) q reached (spot_state c spot stack caps) (fail c stack caps)) →
+          ahead c m ≡ pause (past c (around c stack spot.frame).depth (outside c stack caps spot.frame) q reached (spot_state c spot stack caps) (fail c stack caps)) →
           Advances c m (conf (towards (next_of c q)) spot stack caps)
       goes_on same e =
           advance_pause m (conf (towards (next_of c q)) spot stack caps) _ e (focus_towards c ok q inside _ _ _ _) same
           (record { running = running_towards c ok q inside spot stack standing; records = records; spans = spans; slots = slots })
 
       pub goes_on_step : suc spot.left ≡ m.spot.left →
-          ahead c m ≡ stepped (past c (around c stack spot.frame).depth (cont c stack caps spot.frame) q reached (spot_state c spot stack caps) (fail c stack caps)) →
+          ahead c m ≡ stepped (past c (around c stack spot.frame).depth (outside c stack caps spot.frame) q reached (spot_state c spot stack caps) (fail c stack caps)) →
           Advances c m (conf (towards (next_of c q)) spot stack caps)
       goes_on_step same e =
           advance_step m (conf (towards (next_of c q)) spot stack caps) _ e (focus_towards c ok q inside _ _ _ _) same

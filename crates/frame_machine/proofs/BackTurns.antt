@@ -5,32 +5,38 @@ use Rattle.pat_tree.specs.Nested.{Nested, Row}
 use Rattle.match_items.specs.Items.{one_less, is_none_left, after_item, place_before}
 use Rattle.frame_store.specs.declared.records.Record.{Record}
 use Rattle.frame_store.specs.Captures.{Captures}
-use Rattle.frame_store.specs.Entry.{Site, Kept, Entry, LaterBranch, TurnOrExit, LaterTurn, FewerItems, MoreItems, entry_of, entries}
-use Rattle.frame_machine.specs.Stream.{State}
-use Rattle.frame_machine.specs.PlaceAnswer.{answers}
-use Rattle.frame_machine.specs.Moves.{Moves, pause, Follow, tread}
-use Rattle.frame_machine.specs.Paths.{offer_paths, lazy_paths}
+use Rattle.frame_store.specs.Entry.{Site, Kept, Entry, LaterBranch, TurnOrExit, LaterTurn, FewerItems, MoreItems, AtomicLeft, DenialOpen, LookTest, DenialTest, entry_of, entries}
+use Rattle.ordered_search.specs.Stream.{State}
+use Rattle.ordered_search.specs.PlaceAnswer.{answers, Failed, Exhausted}
+use Rattle.ordered_search.specs.Moves.{Moves, pause, Follow, tread}
+use Rattle.ordered_search.specs.Paths.{offer_paths, lazy_paths}
 use Rattle.frame_machine.specs.declared.machine.Next.TheVariants.{Branch, Begin, Fewer, More, Back}
 use Rattle.frame_machine.specs.declared.machine.Spot.{Spot}
 use Rattle.frame_machine.specs.Ground.{Ground, tree_of, next_of, IsGround, IsPart}
-use Rattle.frame_machine.specs.Machine.{Around, less, state_at, past, around, more_from, further_from, on_fail, cont, fail, Conf, conf, ahead, IsMany, HasFurther, IsSound, AreSound, IsValid, Advances, towards}
+use Rattle.frame_machine.specs.Machine.{Around, Outside, less, state_at, Conf, conf, towards}
+use Rattle.frame_machine.specs.Frames.{past, around, more_from, further_from, on_fail, cont, outside, fail, ahead}
+use Rattle.frame_machine.specs.Validity.{IsMany, HasFurther, IsSound, AreSound, IsValid, Advances, IsCondition}
 use Rattle.frame_machine.proofs.PartPaths.{reaching_off}
 use Rattle.frame_machine.proofs.Advance.{advance_pause, goes_back, goes_on}
 use Rattle.std.proofs.Common.{◌≢◌}
 use Rattle.pat_tree.specs.declared.nodes.Item.{Item}
-use Rattle.frame_store.specs.declared.kinds.TheConstants.{KIND_LATER_BRANCH, KIND_TURN_OR_EXIT, KIND_LATER_TURN, KIND_FEWER_ITEMS, KIND_MORE_ITEMS}
+use Rattle.frame_store.specs.declared.kinds.TheConstants.{KIND_LATER_BRANCH, KIND_TURN_OR_EXIT, KIND_LATER_TURN, KIND_FEWER_ITEMS, KIND_MORE_ITEMS, KIND_ATOMIC_LEFT, KIND_DENIAL_OPEN, KIND_LOOK_TEST, KIND_DENIAL_TEST}
 use Rattle.frame_store.specs.Entry.{site_of, kept_of, entry_kind}
 use Rattle.std.proofs.lemmas.List.{length-map}
 use Rattle.frame_store.specs.Stack as stack_of
 use Rattle.frame_store.specs.Undo.{taken_back, undone}
-use Rattle.frame_store.proofs.StackLemmas.{past-more, past-all}
-use Rattle.frame_store.proofs.EntryLemmas.{entry_of-later_branch, entry_of-turn_or_exit, entry_of-later_turn, entry_of-fewer_items, entry_of-more_items, entry_kind-not}
+use Rattle.frame_store.proofs.StackLemmas.{past-more, past-all, up_to-map}
+use Rattle.frame_machine.proofs.Drops.{fail_to_is, dropped, past_slots}
+use Rattle.frame_store.specs.Undo.{HasSlot}
+use Rattle.std.proofs.Common.{All, ◌≤◌}
+use Rattle.frame_store.proofs.EntryLemmas.{entry_of-later_branch, entry_of-turn_or_exit, entry_of-later_turn, entry_of-fewer_items, entry_of-more_items, entry_of-atomic_left, entry_of-denial_open, entry_of-look_test, entry_of-denial_test, entry_kind-not}
 use Rattle.frame_store.proofs.UndoLemmas.{length-taken_back, undone-cons, undone-nil}
 use Rattle.frame_machine.specs.Stops.{restored, IsFurther, more_next}
-use Rattle.frame_machine.specs.PlaceAnswer.{Failed, Exhausted}
-use Rattle.frame_machine.proofs.Frames.{spans_back}
+use Rattle.frame_machine.proofs.Frames.{spans_back, hand_same}
 use Rattle.frame_machine.proofs.EndTurns.{less_more}
 use Rattle.frame_machine.proofs.Runs.{run_at, longest_some, longest_none, fewer_step}
+use Rattle.frame_machine.specs.Conditions.{IsChoice}
+use Rattle.frame_machine.specs.declared.machine.Next.{Next}
 
 module _ (c : Ground) (ok : IsGround c) (spot : Spot) (stack : List Entry) (caps : Captures) where
   back_branch : (site : Site) (kept : Kept) (next : ℕ) → IsValid c (conf Back spot (LaterBranch site kept next ∷ stack) caps) →
@@ -54,19 +60,19 @@ module _ (c : Ground) (ok : IsGround c) (spot : Spot) (stack : List Entry) (caps
   back_fewer site kept from to v =
       let s = v.records.0 in
       advance_pause c _ _ _
-      (ap (λ l. pause (offer_paths c.setting l (state_at (around c stack site.link) kept caps) (past c (around c stack site.link).depth (cont c stack caps site.link) site.node) (fail c stack caps))) (fewer_step c ok from to s.3 s.2))
+      (ap (λ l. pause (offer_paths c.setting l (state_at (around c stack site.link) kept caps) (past c (around c stack site.link).depth (outside c stack caps site.link) site.node) (fail c stack caps))) (fewer_step c ok from to s.2.1 s.2.0))
       refl refl
-      (record { running = (s.0, s.1, (ok.backward to s.3 (omega (arith, s.2))).1); records = v.records.1; spans = v.spans; slots = v.slots })
+      (record { running = (s.0, s.1, (ok.backward to s.2.1 (omega (arith, s.2.0))).1); records = v.records.1; spans = v.spans; slots = v.slots })
 
   -- a lazy repeat takes a further item
   module _ (site : Site) (kept : Kept) (count to : ℕ) (v : IsValid c (conf Back spot (MoreItems site kept count to ∷ stack) caps))
       (item : Item) (low : ℕ) (high : Option ℕ) (lazily : Bool) (t : tree.one_repeat item low high lazily ≡ tree_of c site.node) where
     further_is : ahead c (conf Back spot (MoreItems site kept count to ∷ stack) caps)
         ≡ pause (lazy_paths c.setting item (one_less (less count high)) (run_at c ok item (less count high) to) (state_at (around c stack site.link) kept caps)
-        (past c (around c stack site.link).depth (cont c stack caps site.link) site.node) (fail c stack caps))
+        (past c (around c stack site.link).depth (outside c stack caps site.link) site.node) (fail c stack caps))
     unfolding fail
     further_is =
-        ap (λ x. pause (further_from c x count to (state_at (around c stack site.link) kept caps) (past c (around c stack site.link).depth (cont c stack caps site.link) site.node) (fail c stack caps))) (sym t)
+        ap (λ x. pause (further_from c x count to (state_at (around c stack site.link) kept caps) (past c (around c stack site.link).depth (outside c stack caps site.link) site.node) (fail c stack caps))) (sym t)
         ∙ ap pause (reaching_off c ok _ _ _)
 
     back_further_none : after_item c.setting.scene item to ≡ None → Advances c (conf Back spot (MoreItems site kept count to ∷ stack) caps) (conf Back (restored spot site kept) stack caps)
@@ -74,37 +80,65 @@ module _ (c : Ground) (ok : IsGround c) (spot : Spot) (stack : List Entry) (caps
     back_further_none e =
         goes_back c _ (restored spot site kept) stack caps v.records.1 v.spans v.slots refl
         (further_is
-        ∙ ap (λ l. pause (lazy_paths c.setting item (one_less (less count high)) l (state_at (around c stack site.link) kept caps) (past c (around c stack site.link).depth (cont c stack caps site.link) site.node) (fail c stack caps))) (longest_none c ok item (less count high) to e))
+        ∙ ap (λ l. pause (lazy_paths c.setting item (one_less (less count high)) l (state_at (around c stack site.link) kept caps) (past c (around c stack site.link).depth (outside c stack caps site.link) site.node) (fail c stack caps))) (longest_none c ok item (less count high) to e))
 
     back_further_some : (p j : ℕ) → j ≡ suc count → after_item c.setting.scene item to ≡ Some p →
         Advances c (conf Back spot (MoreItems site kept count to ∷ stack) caps) (conf (More site.node j p) (restored spot site kept) stack caps)
     back_further_some p j same e =
         let s = v.records.0 in
-        let w = ok.forward item to p s.3 e in
-        let left : is_none_left (less count high) ≡ false = subst (λ x. HasFurther c x count) (sym t) s.4 in
+        let w = ok.forward item to p s.2.1 e in
+        let left : is_none_left (less count high) ≡ false = subst (λ x. HasFurther c x count) (sym t) s.2.2 in
         let S : State = state_at (around c stack site.link) kept caps in
-        let K : Follow = past c (around c stack site.link).depth (cont c stack caps site.link) site.node in
+        let K : Follow = past c (around c stack site.link).depth (outside c stack caps site.link) site.node in
         let f : Moves = fail c stack caps in
         advance_pause c _ _ _
         (further_is
-        ∙ ap (λ l. pause (lazy_paths c.setting item (one_less (less count high)) l S K f)) (longest_some c ok item (less count high) to p s.3 left e)
+        ∙ ap (λ l. pause (lazy_paths c.setting item (one_less (less count high)) l S K f)) (longest_some c ok item (less count high) to p s.2.1 left e)
         ∙ ap (λ (o : Option ℕ). pause (lazy_paths c.setting item o (p ∷ run_at c ok item o p) S K f)) (less_more count j same high)
         ∙ ap (λ x. pause (more_from c x j p S K f)) t)
         refl refl
         (record {
-          running = (s.0, s.1, omega (arith, s.2, w.0, same), w.1, subst (IsMany c) t tt);
+          running = (s.0, s.1, omega (arith, s.2.0, w.0, same), w.1, subst (IsMany c) t tt);
           records = v.records.1;
           spans = v.spans;
           slots = v.slots;
         })
 
+  -- a negative lookaround has failed
+  back_denial : (site : Site) (kept : Kept) → IsValid c (conf Back spot (DenialOpen site kept ∷ stack) caps) →
+      Advances c (conf Back spot (DenialOpen site kept ∷ stack) caps) (conf (towards (next_of c site.node)) (restored spot site kept) stack caps)
+  unfolding fail
+  back_denial site kept v = goes_on c _ (restored spot site kept) stack caps v.records.1 v.spans v.slots ok site.node v.records.0.0 v.records.0.1 refl refl
+
+  -- a lookaround that is a test has failed
+  back_look_test : (site : Site) (kept : Kept) (next : Next) → IsChoice c site.node false next → IsValid c (conf Back spot (LookTest site kept ∷ stack) caps) →
+      Advances c (conf Back spot (LookTest site kept ∷ stack) caps) (conf next (restored spot site kept) stack caps)
+  unfolding fail
+  back_look_test site kept next choice v =
+      advance_pause c _ _ _ refl (choice.goes _ (outside c stack caps site.link) _ _ (λ p. hand_same c stack stack caps caps site.link site.link p site.node)) refl
+      (record { running = choice.runs (restored spot site kept) stack v.records.0.1; records = v.records.1; spans = v.spans; slots = v.slots })
+
+  back_denial_test : (site : Site) (kept : Kept) (next : Next) → IsChoice c site.node true next → IsValid c (conf Back spot (DenialTest site kept ∷ stack) caps) →
+      Advances c (conf Back spot (DenialTest site kept ∷ stack) caps) (conf next (restored spot site kept) stack caps)
+  unfolding fail
+  back_denial_test site kept next choice v =
+      advance_pause c _ _ _ refl (choice.goes _ (outside c stack caps site.link) _ _ (λ p. hand_same c stack stack caps caps site.link site.link p site.node)) refl
+      (record { running = choice.runs (restored spot site kept) stack v.records.0.1; records = v.records.1; spans = v.spans; slots = v.slots })
+
+  -- an atomic part that was left is given up
+  back_left : (site : Site) (kept : Kept) (h : ℕ) → IsValid c (conf Back spot (AtomicLeft site kept h ∷ stack) caps) →
+      Advances c (conf Back spot (AtomicLeft site kept h ∷ stack) caps) (conf Back spot (stack_of.up_to h stack) (undone (stack_of.past h stack) caps))
+  unfolding fail
+  back_left site kept h v =
+      advance_pause c _ _ _ refl (sym (fail_to_is c stack caps h v.records.0.2)) refl (dropped c ok spot stack caps h v.records.1 v.spans v.slots)
+
   -- a record that leaves nothing
-  back_plain : (r : Entry) → ((a : Around) (k : Follow) (x : Captures) (out : Moves) → on_fail c r a k x out ≡ out) → IsValid c (conf Back spot (r ∷ stack) caps) →
+  back_plain : (r : Entry) → ((a : Around) (k : Outside) (x : Captures) (out : Moves) (to : ℕ → Moves) → on_fail c r a k x out to ≡ out) → IsValid c (conf Back spot (r ∷ stack) caps) →
       Advances c (conf Back spot (r ∷ stack) caps) (conf Back spot stack (taken_back r caps))
   unfolding fail
   back_plain r plain v =
       let len : length (taken_back r caps) ≡ length caps = length-taken_back r caps in
-      advance_pause c _ _ _ (ap pause (plain _ _ _ _)) refl refl
+      advance_pause c _ _ _ (ap pause (plain _ _ _ _ _)) refl refl
       (record {
         running = tt;
         records = subst (λ n. AreSound c spot.left n stack) (sym len) v.records.1;
@@ -112,14 +146,19 @@ module _ (c : Ground) (ok : IsGround c) (spot : Spot) (stack : List Entry) (caps
         slots = len ∙ v.slots;
       })
 
-leaves_nothing : (c : Ground) (r : Entry) → entry_kind r ≢ KIND_LATER_BRANCH → entry_kind r ≢ KIND_TURN_OR_EXIT → entry_kind r ≢ KIND_LATER_TURN → entry_kind r ≢ KIND_FEWER_ITEMS → entry_kind r ≢ KIND_MORE_ITEMS →
-    (a : Around) (k : Follow) (x : Captures) (out : Moves) → on_fail c r a k x out ≡ out
-leaves_nothing c (LaterBranch at kept next) b e l f m a k x out = absurd (b refl)
-leaves_nothing c (TurnOrExit at kept count) b e l f m a k x out = absurd (e refl)
-leaves_nothing c (LaterTurn at kept count) b e l f m a k x out = absurd (l refl)
-leaves_nothing c (FewerItems at kept least last) b e l f m a k x out = absurd (f refl)
-leaves_nothing c (MoreItems at kept count last) b e l f m a k x out = absurd (m refl)
-leaves_nothing c _ b e l f m a k x out = refl
+leaves_nothing : (c : Ground) (r : Entry) → entry_kind r ≢ KIND_LATER_BRANCH → entry_kind r ≢ KIND_TURN_OR_EXIT → entry_kind r ≢ KIND_LATER_TURN → entry_kind r ≢ KIND_FEWER_ITEMS → entry_kind r ≢ KIND_MORE_ITEMS → entry_kind r ≢ KIND_ATOMIC_LEFT → entry_kind r ≢ KIND_DENIAL_OPEN → entry_kind r ≢ KIND_LOOK_TEST →
+    entry_kind r ≢ KIND_DENIAL_TEST →
+    (a : Around) (k : Outside) (x : Captures) (out : Moves) (to : ℕ → Moves) → on_fail c r a k x out to ≡ out
+leaves_nothing c (LaterBranch at kept next) b e l f m g d t w a k x out to = absurd (b refl)
+leaves_nothing c (TurnOrExit at kept count) b e l f m g d t w a k x out to = absurd (e refl)
+leaves_nothing c (LaterTurn at kept count) b e l f m g d t w a k x out to = absurd (l refl)
+leaves_nothing c (FewerItems at kept least last) b e l f m g d t w a k x out to = absurd (f refl)
+leaves_nothing c (MoreItems at kept count last) b e l f m g d t w a k x out to = absurd (m refl)
+leaves_nothing c (AtomicLeft at kept height) b e l f m g d t w a k x out to = absurd (g refl)
+leaves_nothing c (DenialOpen at kept) b e l f m g d t w a k x out to = absurd (d refl)
+leaves_nothing c (LookTest at kept) b e l f m g d t w a k x out to = absurd (t refl)
+leaves_nothing c (DenialTest at kept) b e l f m g d t w a k x out to = absurd (w refl)
+leaves_nothing c _ b e l f m g d t w a k x out to = refl
 
 -- the same, of the records
 module _ (c : Ground) (ok : IsGround c) (spot : Spot) (old older : List Record) (r : Record) (caps now : Captures) (v : IsValid c (conf Back spot (entries old) caps))
@@ -147,6 +186,24 @@ module _ (c : Ground) (ok : IsGround c) (spot : Spot) (old older : List Record) 
       pop_as _ (entry_of-fewer_items r e) (λ x. conf (Fewer r.node r.from (place_before c.setting.scene r.to)) (restored spot (site_of r) (kept_of r)) (entries older) x)
       (back_fewer c ok spot (entries older) caps (site_of r) (kept_of r) r.from r.to)
 
+  pub pop_denial : r.kind ≡ KIND_DENIAL_OPEN → Advances c (conf Back spot (entries old) caps) (conf (towards (next_of c r.node)) (restored spot (site_of r) (kept_of r)) (entries older) now)
+  pop_denial e = pop_as _ (entry_of-denial_open r e) (λ x. conf (towards (next_of c r.node)) (restored spot (site_of r) (kept_of r)) (entries older) x) (back_denial c ok spot (entries older) caps (site_of r) (kept_of r))
+
+  pub pop_look_test : r.kind ≡ KIND_LOOK_TEST → (next : Next) → IsChoice c r.node false next → Advances c (conf Back spot (entries old) caps) (conf next (restored spot (site_of r) (kept_of r)) (entries older) now)
+  pop_look_test e next choice = pop_as _ (entry_of-look_test r e) (λ x. conf next (restored spot (site_of r) (kept_of r)) (entries older) x) (back_look_test c ok spot (entries older) caps (site_of r) (kept_of r) next choice)
+
+  pub pop_denial_test : r.kind ≡ KIND_DENIAL_TEST → (next : Next) → IsChoice c r.node true next → Advances c (conf Back spot (entries old) caps) (conf next (restored spot (site_of r) (kept_of r)) (entries older) now)
+  pop_denial_test e next choice = pop_as _ (entry_of-denial_test r e) (λ x. conf next (restored spot (site_of r) (kept_of r)) (entries older) x) (back_denial_test c ok spot (entries older) caps (site_of r) (kept_of r) next choice)
+
+  pub pop_left : r.kind ≡ KIND_ATOMIC_LEFT → (rest : List Record) → rest ≡ stack_of.up_to r.from older → (after : Captures) → after ≡ undone (stack_of.past r.from (entries older)) now →
+      Advances c (conf Back spot (entries old) caps) (conf Back spot (entries rest) after)
+  pop_left e rest cut after put =
+      let same : entries rest ≡ stack_of.up_to r.from (entries older) = ap entries cut ∙ sym (up_to-map entry_of r.from older) in
+      subst (λ x. Advances c (conf Back spot (entries old) caps) (conf Back spot (entries rest) x)) (sym put)
+      (subst (λ st. Advances c (conf Back spot (entries old) caps) (conf Back spot st (undone (stack_of.past r.from (entries older)) now))) (sym same)
+      (pop_as _ (entry_of-atomic_left r e) (λ x. conf Back spot (stack_of.up_to r.from (entries older)) (undone (stack_of.past r.from (entries older)) x))
+      (back_left c ok spot (entries older) caps (site_of r) (kept_of r) r.from)))
+
   module _ (e : r.kind ≡ KIND_MORE_ITEMS) (item : Item) (low : ℕ) (high : Option ℕ) (lazily : Bool) (t : tree.one_repeat item low high lazily ≡ tree_of c r.node) where
     pub pop_further_none : after_item c.setting.scene item r.to ≡ None → Advances c (conf Back spot (entries old) caps) (conf Back (restored spot (site_of r) (kept_of r)) (entries older) now)
     pop_further_none none =
@@ -167,8 +224,30 @@ module _ (c : Ground) (ok : IsGround c) (spot : Spot) (old older : List Record) 
   pub exit_inside : r.kind ≡ KIND_TURN_OR_EXIT → IsPart c r.node
   exit_inside e = (subst (IsSound c spot.left (length caps) (entries older)) (entry_of-turn_or_exit r e) sound_old).0
 
+  pub denial_inside : r.kind ≡ KIND_DENIAL_OPEN → IsPart c r.node
+  denial_inside e = (subst (IsSound c spot.left (length caps) (entries older)) (entry_of-denial_open r e) sound_old).0
+
+  pub look_test_sound : r.kind ≡ KIND_LOOK_TEST → IsPart c r.node × IsCondition c (tree_of c r.node)
+  look_test_sound e = let z = subst (IsSound c spot.left (length caps) (entries older)) (entry_of-look_test r e) sound_old in (z.0, z.2)
+
+  pub denial_test_sound : r.kind ≡ KIND_DENIAL_TEST → IsPart c r.node × IsCondition c (tree_of c r.node)
+  denial_test_sound e = let z = subst (IsSound c spot.left (length caps) (entries older)) (entry_of-denial_test r e) sound_old in (z.0, z.2)
+
+  -- of what was left below an atomic part
+  pub left_within : r.kind ≡ KIND_ATOMIC_LEFT → r.from ≤ length older
+  left_within e =
+      let h : r.from ≤ length (entries older) = (subst (IsSound c spot.left (length caps) (entries older)) (entry_of-atomic_left r e) sound_old).2 in
+      omega (arith, h, length-map older entry_of)
+
+  pub left_slots : All (HasSlot now) (stack_of.past r.from (entries older))
+  left_slots =
+      let len : length now ≡ length caps = ap length back ∙ length-taken_back (entry_of r) caps in
+      let stack : entries old ≡ entry_of r ∷ entries older = ap entries popped in
+      let sound : AreSound c spot.left (length caps) (entries older) = (subst (λ st. AreSound c spot.left (length caps) st) stack v.records).1 in
+      past_slots c ok spot.left now (entries older) r.from (subst (λ n. AreSound c spot.left n (entries older)) (sym len) sound)
+
   pub fewer_stands : r.kind ≡ KIND_FEWER_ITEMS → c.stands r.to ≡ true
-  fewer_stands e = (subst (IsSound c spot.left (length caps) (entries older)) (entry_of-fewer_items r e) sound_old).3
+  fewer_stands e = (subst (IsSound c spot.left (length caps) (entries older)) (entry_of-fewer_items r e) sound_old).2.1
 
   module _ (e : r.kind ≡ KIND_MORE_ITEMS) where
     more_sound : IsSound c spot.left (length caps) (entries older) (MoreItems (site_of r) (kept_of r) r.count r.to)
@@ -182,13 +261,13 @@ module _ (c : Ground) (ok : IsGround c) (spot : Spot) (old older : List Record) 
     more_inside = more_sound.0
 
     pub more_stands : c.stands r.to ≡ true
-    more_stands = more_sound.3
+    more_stands = more_sound.2.1
 
     pub more_many : IsMany c (tree_of c r.node)
-    more_many = is_many (tree_of c r.node) more_sound.4
+    more_many = is_many (tree_of c r.node) more_sound.2.2
 
     pub more_few : r.count < 4294967295
-    more_few = let within = ok.within r.to more_sound.3 in omega (arith, more_sound.2, within, ok.short)
+    more_few = let within = ok.within r.to more_sound.2.1 in omega (arith, more_sound.2.0, within, ok.short)
 
     further_one : (t : Nested) (o : Option ℕ) → IsFurther c t r.to o → (item : Item) × (low : ℕ) × (high : Option ℕ) × (lazily : Bool) × (tree.one_repeat item low high lazily ≡ t) × (o ≡ after_item c.setting.scene item r.to)
     further_one (tree.one_repeat item low high lazily) o h = (item, low, high, lazily, refl, h)
@@ -198,13 +277,14 @@ module _ (c : Ground) (ok : IsGround c) (spot : Spot) (old older : List Record) 
     pop_more None h = let z = further_one (tree_of c r.node) None h in pop_further_none e z.0 z.1 z.2 z.3 z.4 (sym z.5)
     pop_more (Some p) h = let z = further_one (tree_of c r.node) (Some p) h in pop_further_some e z.0 z.1 z.2 z.3 z.4 p (r.count + 1) (omega arith) (sym z.5)
 
-  pub pop_plain : r.kind ≢ KIND_LATER_BRANCH → r.kind ≢ KIND_TURN_OR_EXIT → r.kind ≢ KIND_LATER_TURN → r.kind ≢ KIND_FEWER_ITEMS → r.kind ≢ KIND_MORE_ITEMS →
-      Advances c (conf Back spot (entries old) caps) (conf Back spot (entries older) now)
-  pop_plain b x l f m =
+  pub pop_plain : r.kind ≢ KIND_LATER_BRANCH → r.kind ≢ KIND_TURN_OR_EXIT → r.kind ≢ KIND_LATER_TURN → r.kind ≢ KIND_FEWER_ITEMS → r.kind ≢ KIND_MORE_ITEMS → r.kind ≢ KIND_ATOMIC_LEFT → r.kind ≢ KIND_DENIAL_OPEN → r.kind ≢ KIND_LOOK_TEST →
+      r.kind ≢ KIND_DENIAL_TEST → Advances c (conf Back spot (entries old) caps) (conf Back spot (entries older) now)
+  pop_plain b x l f m g d t w =
       pop_as (entry_of r) refl (λ z. conf Back spot (entries older) z)
       (back_plain c ok spot (entries older) caps (entry_of r)
       (leaves_nothing c (entry_of r) (entry_kind-not r KIND_LATER_BRANCH (omega arith) b) (entry_kind-not r KIND_TURN_OR_EXIT (omega arith) x) (entry_kind-not r KIND_LATER_TURN (omega arith) l)
-      (entry_kind-not r KIND_FEWER_ITEMS (omega arith) f) (entry_kind-not r KIND_MORE_ITEMS (omega arith) m)))
+      (entry_kind-not r KIND_FEWER_ITEMS (omega arith) f) (entry_kind-not r KIND_MORE_ITEMS (omega arith) m) (entry_kind-not r KIND_ATOMIC_LEFT (omega arith) g) (entry_kind-not r KIND_DENIAL_OPEN (omega arith) d)
+      (entry_kind-not r KIND_LOOK_TEST (omega arith) t) (entry_kind-not r KIND_DENIAL_TEST (omega arith) w)))
 
 -- nothing is left
 pub stop_none : (c : Ground) (spot : Spot) (old : List Record) (caps : Captures) → old ≡ [] → tread c.setting spot.left (ahead c (conf Back spot (entries old) caps)) ≡ answers (Failed Exhausted)

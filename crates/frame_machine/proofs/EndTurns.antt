@@ -5,29 +5,30 @@ use Rattle.pat_tree.specs.Nested.{Nested, Row}
 use Rattle.match_items.specs.Items.{one_less}
 use Rattle.frame_store.specs.declared.records.Record.{Record}
 use Rattle.frame_store.specs.Captures.{Captures, capture, with_capture}
-use Rattle.frame_store.specs.Entry.{Site, Kept, Entry, Undo, GroupOpen, TurnOpen, TurnOrExit, CallOpen, entry_of, entries}
-use Rattle.frame_machine.specs.Stream.{State, reached, captured}
-use Rattle.frame_machine.specs.Parts.{is_over}
-use Rattle.frame_machine.specs.PlaceAnswer.{answers, FrameLimit}
-use Rattle.frame_machine.specs.Moves.{Moves, pause, found, Follow, at_verbs, holding, tread, size}
-use Rattle.frame_machine.specs.Paths.{paths, turned}
+use Rattle.frame_store.specs.Entry.{Site, Kept, Entry, Undo, GroupOpen, TurnOpen, TurnOrExit, AtomicOpen, LookOpen, LookAllOpen, LookTest, DenialOpen, DenialTest, CallOpen, entry_of, entries}
+use Rattle.ordered_search.specs.Stream.{State, reached, captured}
+use Rattle.ordered_search.specs.Parts.{is_over}
+use Rattle.ordered_search.specs.PlaceAnswer.{answers, FrameLimit, PlaceAnswer, Matched, decision, outcome}
+use Rattle.ordered_search.specs.Moves.{Moves, pause, found, Follow, holding, tread, size}
+use Rattle.ordered_search.specs.Paths.{paths, turned}
 use Rattle.frame_machine.specs.declared.machine.Next.TheVariants.{Offer, Back, End}
 use Rattle.frame_machine.specs.declared.machine.Spot.{Spot}
 use Rattle.frame_machine.specs.Ground.{Ground, tree_of, next_of, IsGround, IsPart}
-use Rattle.frame_machine.specs.Machine.{Around, less, state_at, kept_at, link_of, frame_around, past, offer_from, turned_from, close_from, around, frame_end, cont, fail, conf, spot_state, ahead, IsRepeat, IsCapture, SpanStands, IsSound, AreSound, IsValid, Advances, towards}
+use Rattle.frame_machine.specs.Machine.{Around, Outside, less, state_at, kept_at, link_of, conf, towards}
+use Rattle.frame_machine.specs.Frames.{frame_around, past, offer_from, turned_from, close_from, around, frame_end, cont, outside, fail, spot_state, ahead, hand}
+use Rattle.frame_machine.specs.Validity.{IsRepeat, IsCapture, SpanStands, IsSound, AreSound, IsValid, Advances}
 use Rattle.frame_machine.proofs.Frames.{around_here, around_push, focus_kept, focus_towards, running_towards, Framed, framed}
 use Rattle.frame_machine.proofs.Advance.{holding_room, holding_full, advance_pause, over_units, goes_back, goes_on}
 use Rattle.std.proofs.lemmas.List.{length-set, set-set, set-get_or}
 use Rattle.std.proofs.lemmas.List.Elements.{All-set}
 use Rattle.frame_store.specs.Undo.{taken_back}
-use Rattle.frame_machine.specs.PlaceAnswer.{PlaceAnswer, Matched, decision, outcome}
 use Rattle.std.proofs.Common.{◌≢◌, ◌⊎◌, ◌&&◌, not}
-use Rattle.frame_store.specs.declared.kinds.TheConstants.{KIND_GROUP_OPEN, KIND_TURN_OPEN, KIND_TURN_OR_EXIT}
+use Rattle.frame_store.specs.declared.kinds.TheConstants.{KIND_GROUP_OPEN, KIND_TURN_OPEN, KIND_TURN_OR_EXIT, KIND_ATOMIC_OPEN, KIND_LOOK_OPEN, KIND_LOOK_ALL_OPEN, KIND_DENIAL_OPEN, KIND_LOOK_TEST, KIND_DENIAL_TEST}
 use Rattle.frame_store.specs.Entry.{site_of, kept_of, entry_kind}
 use Rattle.frame_store.proofs.EntryLemmas.{entry_of-group_open, entry_of-turn_open, entry_of-turn_or_exit, entry_kind-not}
 use Rattle.frame_machine.specs.Stops.{spot_outcome, took_nothing, IsNumber, admitted}
 use Rattle.std.proofs.lemmas.Bool.{cases_eq, false≢true}
-use Rattle.frame_machine.specs.Setting.{Setting, match_limit}
+use Rattle.ordered_search.specs.Setting.{Setting, match_limit}
 use Rattle.frame_machine.proofs.Frames.{around_below, cont_whole}
 use Rattle.frame_machine.proofs.Turns.{stands_capture}
 
@@ -88,19 +89,30 @@ module _ (c : Ground) (spot : Spot) (stack : List Entry) (caps : Captures) (v : 
 module _ (c : Ground) (ok : IsGround c) (spot : Spot) (records : List Record) (caps : Captures) (v : IsValid c (conf End spot (entries records) caps)) (h : ℕ) (height : spot.frame ≡ suc h)
     (p : Record) (at : slice_get (reverse records) h ≡ Some p) where
   -- a record that is no frame
-  stray_end : (r : Entry) → entry_kind r ≢ KIND_GROUP_OPEN → entry_kind r ≢ KIND_TURN_OPEN → entry_kind r ≢ KIND_TURN_OR_EXIT → (a : Around) (k : Follow) (x : Captures) (out : Moves) (s : State) (f : Moves) →
+  stray_end : (r : Entry) → entry_kind r ≢ KIND_GROUP_OPEN → entry_kind r ≢ KIND_TURN_OPEN → entry_kind r ≢ KIND_TURN_OR_EXIT → entry_kind r ≢ KIND_ATOMIC_OPEN →
+      entry_kind r ≢ KIND_LOOK_OPEN → entry_kind r ≢ KIND_LOOK_ALL_OPEN → entry_kind r ≢ KIND_DENIAL_OPEN →
+      entry_kind r ≢ KIND_LOOK_TEST → entry_kind r ≢ KIND_DENIAL_TEST → (a : Around) (k : Outside) (x : Captures) (out : Moves) (s : State) (f : Moves) →
       frame_end c r a k x out reached s f ≡ pause f
-  stray_end (GroupOpen at' kept) o t e a k x out s f = absurd (o refl)
-  stray_end (TurnOpen at' kept count) o t e a k x out s f = absurd (t refl)
-  stray_end (TurnOrExit at' kept count) o t e a k x out s f = absurd (e refl)
-  stray_end _ o t e a k x out s f = refl
+  stray_end (GroupOpen at' kept) o t e y l m d u w a k x out s f = absurd (o refl)
+  stray_end (TurnOpen at' kept count) o t e y l m d u w a k x out s f = absurd (t refl)
+  stray_end (TurnOrExit at' kept count) o t e y l m d u w a k x out s f = absurd (e refl)
+  stray_end (AtomicOpen at' kept) o t e y l m d u w a k x out s f = absurd (y refl)
+  stray_end (LookOpen at' kept) o t e y l m d u w a k x out s f = absurd (l refl)
+  stray_end (LookAllOpen at' kept) o t e y l m d u w a k x out s f = absurd (m refl)
+  stray_end (DenialOpen at' kept) o t e y l m d u w a k x out s f = absurd (d refl)
+  stray_end (LookTest at' kept) o t e y l m d u w a k x out s f = absurd (u refl)
+  stray_end (DenialTest at' kept) o t e y l m d u w a k x out s f = absurd (w refl)
+  stray_end _ o t e y l m d u w a k x out s f = refl
 
-  pub turn_stray : p.kind ≢ KIND_GROUP_OPEN → p.kind ≢ KIND_TURN_OPEN → p.kind ≢ KIND_TURN_OR_EXIT → Advances c (conf End spot (entries records) caps) (conf Back spot (entries records) caps)
-  turn_stray o t e =
+  pub turn_stray : p.kind ≢ KIND_GROUP_OPEN → p.kind ≢ KIND_TURN_OPEN → p.kind ≢ KIND_TURN_OR_EXIT → p.kind ≢ KIND_ATOMIC_OPEN → p.kind ≢ KIND_LOOK_OPEN →
+      p.kind ≢ KIND_LOOK_ALL_OPEN → p.kind ≢ KIND_DENIAL_OPEN → p.kind ≢ KIND_LOOK_TEST → p.kind ≢ KIND_DENIAL_TEST → Advances c (conf End spot (entries records) caps) (conf Back spot (entries records) caps)
+  turn_stray o t e y l m d u w =
       let g = framed c spot.left (length caps) records caps h p (entry_of p) refl v.records at in
       goes_back c _ spot (entries records) caps v.records v.spans v.slots refl
       (ap (λ (k : Follow). k reached (spot_state c spot (entries records) caps) (fail c (entries records) caps)) (ap (cont c (entries records) caps) height ∙ g.ends)
-      ∙ stray_end (entry_of p) (entry_kind-not p KIND_GROUP_OPEN (omega arith) o) (entry_kind-not p KIND_TURN_OPEN (omega arith) t) (entry_kind-not p KIND_TURN_OR_EXIT (omega arith) e) _ _ _ _ _ _)
+      ∙ stray_end (entry_of p) (entry_kind-not p KIND_GROUP_OPEN (omega arith) o) (entry_kind-not p KIND_TURN_OPEN (omega arith) t) (entry_kind-not p KIND_TURN_OR_EXIT (omega arith) e)
+      (entry_kind-not p KIND_ATOMIC_OPEN (omega arith) y) (entry_kind-not p KIND_LOOK_OPEN (omega arith) l) (entry_kind-not p KIND_LOOK_ALL_OPEN (omega arith) m) (entry_kind-not p KIND_DENIAL_OPEN (omega arith) d)
+      (entry_kind-not p KIND_LOOK_TEST (omega arith) u) (entry_kind-not p KIND_DENIAL_TEST (omega arith) w) _ _ _ _ _ _)
 
   -- a capturing group
   module _ (site : Site) (kept : Kept) (is : entry_of p ≡ GroupOpen site kept) where
@@ -113,11 +125,11 @@ module _ (c : Ground) (ok : IsGround c) (spot : Spot) (records : List Record) (c
     module _ (m : ℕ) (ts : Row) (t : tree.group (Some m) ts ≡ tree_of c site.node) where
       closing : ahead c (conf End spot (entries records) caps)
           ≡ pause (holding c.setting 1 (captured m kept.place (state_at (around c (entries records) site.link) (kept_at spot) caps))
-          (λ u. past c (around c (entries records) site.link).depth (cont c (entries records) caps site.link) site.node reached u (pause (fail c (entries records) caps))))
+          (λ u. past c (around c (entries records) site.link).depth (outside c (entries records) caps site.link) site.node reached u (pause (fail c (entries records) caps))))
       closing =
           ap (λ (a : Around). cont c (entries records) caps spot.frame reached (state_at a (kept_at spot) caps) (fail c (entries records) caps)) group_around
           ∙ ap (λ (k : Follow). k reached (state_at (around c (entries records) site.link) (kept_at spot) caps) (fail c (entries records) caps)) (ap (cont c (entries records) caps) height ∙ group_frame.ends)
-          ∙ ap (λ x. close_from c x kept.place (past c (around c (entries records) site.link).depth (cont c (entries records) caps site.link) site.node) reached (state_at (around c (entries records) site.link) (kept_at spot) caps) (fail c (entries records) caps)) (sym t)
+          ∙ ap (λ x. close_from c x kept.place (past c (around c (entries records) site.link).depth (outside c (entries records) caps site.link) site.node) reached (state_at (around c (entries records) site.link) (kept_at spot) caps) (fail c (entries records) caps)) (sym t)
 
       pub stop_close : c.setting.matching.frame_limit ≤ spot.units → tread c.setting spot.left (ahead c (conf End spot (entries records) caps)) ≡ answers FrameLimit
       stop_close full = over_units c spot.left _ _ closing (holding_full c.setting _ _ full)
@@ -142,7 +154,7 @@ module _ (c : Ground) (ok : IsGround c) (spot : Spot) (records : List Record) (c
           (closing ∙ ap pause (holding_room c.setting _ _ room))
           (focus_kept c r stack new (towards (next_of c site.node)) site.link (kept_at to) new (fail c (r ∷ stack) new) g.link
           ∙ focus_towards c ok site.node inside _ _ _ _
-          ∙ ap (λ (x : Captures). past c (around c stack site.link).depth (cont c stack x site.link) site.node reached (state_at (around c stack site.link) (kept_at to) new) (pause (fail c stack x))) back)
+          ∙ ap (λ (x : Captures). past c (around c stack site.link).depth (outside c stack x site.link) site.node reached (state_at (around c stack site.link) (kept_at to) new) (pause (fail c stack x))) back)
           refl
           (record {
             running = running_towards c ok site.node inside to (r ∷ stack) (record {
@@ -160,7 +172,7 @@ module _ (c : Ground) (ok : IsGround c) (spot : Spot) (records : List Record) (c
   -- a turn of a repeat
   module _ (site : Site) (kept : Kept) (count : ℕ) (body low : ℕ) (high : Option ℕ) (lazily : Bool) (t : tree.repeat (tree_of c body) low high lazily ≡ tree_of c site.node)
       (r : Entry) (is : entry_of p ≡ r) (link : link_of r ≡ site.link)
-      (ends : (a : Around) (k : Follow) (x : Captures) (out : Moves) → frame_end c r a k x out ≡ turned_from c (tree_of c site.node) count a.depth (state_at a kept x) (past c a.depth k site.node))
+      (ends : (a : Around) (k : Outside) (x : Captures) (out : Moves) → frame_end c r a k x out ≡ turned_from c (tree_of c site.node) count a.depth (state_at a kept x) (past c a.depth k site.node) (k.hand site.node))
       (inner : (a : Around) → frame_around r a ≡ record a { depth = a.depth - suc count })
       (sound : (below : List Entry) → IsSound c spot.left (length caps) below r → IsPart c site.node × (site.link ≤ length below) × IsRepeat c (tree_of c site.node)) where
     turn_frame : Framed c spot.left (length caps) (entries records) caps (suc h) r
@@ -171,17 +183,17 @@ module _ (c : Ground) (ok : IsGround c) (spot : Spot) (records : List Record) (c
 
     ended : ahead c (conf End spot (entries records) caps)
         ≡ pause (elim (is_over (low - count) (less count high) (state_at (around c (entries records) site.link) kept turn_frame.inner) (state_at (around c (entries records) site.link) (kept_at spot) caps)) [
-          | true ↦ past c (around c (entries records) site.link).depth (cont c (entries records) caps site.link) site.node reached (state_at (around c (entries records) site.link) (kept_at spot) caps) (fail c (entries records) caps)
+          | true ↦ past c (around c (entries records) site.link).depth (outside c (entries records) caps site.link) site.node reached (state_at (around c (entries records) site.link) (kept_at spot) caps) (fail c (entries records) caps)
           | false ↦ paths c.setting ((around c (entries records) site.link).depth - suc count) (tree.repeat (tree_of c body) (low - count - 1) (one_less (less count high)) lazily)
-              (state_at (around c (entries records) site.link) (kept_at spot) caps) (past c (around c (entries records) site.link).depth (cont c (entries records) caps site.link) site.node) (fail c (entries records) caps) at_verbs
+              (state_at (around c (entries records) site.link) (kept_at spot) caps) (past c (around c (entries records) site.link).depth (outside c (entries records) caps site.link) site.node) (fail c (entries records) caps) (hand c (entries records) caps site.link site.node)
         ])
     unfolding turned
     ended =
         ap (λ (a : Around). cont c (entries records) caps spot.frame reached (state_at a (kept_at spot) caps) (fail c (entries records) caps)) turn_around
         ∙ ap (λ (k : Follow). k reached (state_at (around c (entries records) site.link) (kept_at spot) caps) (fail c (entries records) caps))
         (ap (cont c (entries records) caps) height ∙ turn_frame.ends ∙ ends _ _ _ _
-        ∙ ap (λ l. turned_from c (tree_of c site.node) count (around c (entries records) l).depth (state_at (around c (entries records) l) kept turn_frame.inner) (past c (around c (entries records) l).depth (cont c (entries records) caps l) site.node)) link)
-        ∙ ap (λ x. turned_from c x count (around c (entries records) site.link).depth (state_at (around c (entries records) site.link) kept turn_frame.inner) (past c (around c (entries records) site.link).depth (cont c (entries records) caps site.link) site.node) reached (state_at (around c (entries records) site.link) (kept_at spot) caps) (fail c (entries records) caps)) (sym t)
+        ∙ ap (λ l. turned_from c (tree_of c site.node) count (around c (entries records) l).depth (state_at (around c (entries records) l) kept turn_frame.inner) (past c (around c (entries records) l).depth (outside c (entries records) caps l) site.node) (hand c (entries records) caps l site.node)) link)
+        ∙ ap (λ x. turned_from c x count (around c (entries records) site.link).depth (state_at (around c (entries records) site.link) kept turn_frame.inner) (past c (around c (entries records) site.link).depth (outside c (entries records) caps site.link) site.node) (hand c (entries records) caps site.link site.node) reached (state_at (around c (entries records) site.link) (kept_at spot) caps) (fail c (entries records) caps)) (sym t)
 
     depth_left : spot.left < (around c (entries records) site.link).depth - suc count
     depth_left = omega (arith, v.running.deep, ap (λ (a : Around). a.depth) turn_around)
@@ -210,17 +222,17 @@ module _ (c : Ground) (ok : IsGround c) (spot : Spot) (records : List Record) (c
         let w = v.running in
         let a : Around = around c (entries records) site.link in
         let s : State = state_at a (kept_at spot) caps in
-        let K : Follow = past c a.depth (cont c (entries records) caps site.link) site.node in
+        let K : Follow = past c a.depth (outside c (entries records) caps site.link) site.node in
         let f : Moves = fail c (entries records) caps in
         let lower : low - count - 1 ≡ low - j = omega (arith, same) in
         let deeper : a.depth - suc count ≡ a.depth - j = omega (arith, same) in
         advance_pause c _ _ _
         (ended ∙ ap pause (elim_false _ _ _ (over_is high _ _ ∙ e)))
         (sym
-        (ap (λ d. paths c.setting d (tree.repeat (tree_of c body) (low - count - 1) (one_less (less count high)) lazily) s K f at_verbs) deeper
-        ∙ ap (λ x. paths c.setting (a.depth - j) (tree.repeat (tree_of c body) x (one_less (less count high)) lazily) s K f at_verbs) lower
-        ∙ ap (λ x. paths c.setting (a.depth - j) (tree.repeat (tree_of c body) (low - j) x lazily) s K f at_verbs) (less_more count j same high)
-        ∙ ap (λ x. offer_from c x j a.depth s K f at_verbs) t))
+        (ap (λ d. paths c.setting d (tree.repeat (tree_of c body) (low - count - 1) (one_less (less count high)) lazily) s K f (hand c (entries records) caps site.link site.node)) deeper
+        ∙ ap (λ x. paths c.setting (a.depth - j) (tree.repeat (tree_of c body) x (one_less (less count high)) lazily) s K f (hand c (entries records) caps site.link site.node)) lower
+        ∙ ap (λ x. paths c.setting (a.depth - j) (tree.repeat (tree_of c body) (low - j) x lazily) s K f (hand c (entries records) caps site.link site.node)) (less_more count j same high)
+        ∙ ap (λ x. offer_from c x j a.depth s K f (hand c (entries records) caps site.link site.node)) t))
         refl
         (record {
           running = (node_inside, record { inside = link_inside; deep = omega (arith, depth_left, same); counted = w.counted; few = w.few; here = w.here }, (sound turn_frame.below turn_frame.sound).2);
@@ -238,8 +250,9 @@ module _ (c : Ground) (ok : IsGround c) (spot : Spot) (records : List Record) (c
   at_height : spot.frame ≡ suc h
   at_height = omega (arith, height)
 
-  pub turn_no_frame : p.kind ≢ KIND_GROUP_OPEN → p.kind ≢ KIND_TURN_OPEN → p.kind ≢ KIND_TURN_OR_EXIT → Advances c (conf End spot (entries records) caps) (conf Back spot (entries records) caps)
-  turn_no_frame o t e = turn_stray c ok spot records caps v h at_height p at o t e
+  pub turn_no_frame : p.kind ≢ KIND_GROUP_OPEN → p.kind ≢ KIND_TURN_OPEN → p.kind ≢ KIND_TURN_OR_EXIT → p.kind ≢ KIND_ATOMIC_OPEN → p.kind ≢ KIND_LOOK_OPEN →
+      p.kind ≢ KIND_LOOK_ALL_OPEN → p.kind ≢ KIND_DENIAL_OPEN → p.kind ≢ KIND_LOOK_TEST → p.kind ≢ KIND_DENIAL_TEST → Advances c (conf End spot (entries records) caps) (conf Back spot (entries records) caps)
+  turn_no_frame o t e y l m d u w = turn_stray c ok spot records caps v h at_height p at o t e y l m d u w
 
   module _ (kind : p.kind ≡ KIND_GROUP_OPEN) where
     is_open : entry_of p ≡ GroupOpen (site_of p) (kept_of p)

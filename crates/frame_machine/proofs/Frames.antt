@@ -7,19 +7,23 @@ use Rattle.std.proofs.lemmas.Option.{slice_get_within}
 use Rattle.frame_store.specs.declared.records.Record.{Record}
 use Rattle.frame_store.specs.declared.registers.Span.{Span}
 use Rattle.frame_store.specs.Captures.{Captures}
-use Rattle.frame_store.specs.Entry.{Kept, Entry, Undo, LaterBranch, GroupOpen, TurnOpen, TurnOrExit, LaterTurn, FewerItems, MoreItems, entry_of, entries}
-use Rattle.frame_store.specs.Undo.{taken_back, HasSlot}
-use Rattle.frame_store.proofs.StackLemmas.{slice_get-reverse-here, slice_get-reverse-below}
-use Rattle.frame_machine.specs.Stream.{State, reached}
-use Rattle.frame_machine.specs.Moves.{Moves, Follow, at_end}
+use Rattle.frame_store.specs.Entry.{Kept, Entry, Undo, LaterBranch, GroupOpen, TurnOpen, TurnOrExit, LaterTurn, FewerItems, MoreItems, entry_of, entries, Other, CallOpen}
+use mathlib.Core.Path.{fun_ext}
+use Rattle.frame_store.specs.Stack as stack_of
+use Rattle.frame_store.specs.Undo.{taken_back, HasSlot, undone}
+use Rattle.frame_store.proofs.StackLemmas.{slice_get-reverse-here, slice_get-reverse-below, up_to-more, up_to-all, past-more, past-all}
+use Rattle.ordered_search.specs.Stream.{State, reached}
+use Rattle.ordered_search.specs.Moves.{Moves, Follow, at_end, Handler}
 use Rattle.frame_machine.specs.declared.machine.Next.{Next}
 use Rattle.frame_machine.specs.declared.machine.Next.TheVariants.{End}
 use Rattle.frame_machine.specs.declared.machine.Spot.{Spot}
 use Rattle.node_flow.specs.Followers.{first_of}
 use Rattle.frame_machine.specs.Ground.{Ground, next_of, IsGround, IsPart}
-use Rattle.frame_machine.specs.Machine.{Around, state_at, link_of, frame_around, after, past, around, frame_end, cont, fail, focus, IsStanding, SpanStands, AreSpans, IsSound, AreSound, IsRunning, towards}
+use Rattle.frame_machine.specs.Machine.{Around, state_at, link_of, towards, entry_kept, Outside}
+use Rattle.frame_machine.specs.Frames.{frame_around, after, past, around, frame_end, hand, cont, fail, outside, focus}
+use Rattle.frame_machine.specs.Validity.{IsStanding, SpanStands, AreSpans, IsSound, AreSound, IsRunning}
 use Rattle.frame_machine.proofs.KidParts.{next_part}
-use Rattle.frame_machine.proofs.Free.{follow_same}
+use Rattle.ordered_search.proofs.Free.{follow_same}
 use Rattle.frame_machine.proofs.PartPaths.{after_nil, after_cons}
 
 module _ (c : Ground) where
@@ -35,10 +39,10 @@ module _ (c : Ground) where
   around_push r below l h = around_below r below l (λ e. omega (arith, e, h))
 
   cont_here : (r : Entry) (below : List Entry) (caps : Captures) (l : ℕ) → l ≡ suc (length below) →
-      cont c (r ∷ below) caps l ≡ frame_end c r (around c below (link_of r)) (cont c below (taken_back r caps) (link_of r)) (taken_back r caps) (fail c below (taken_back r caps))
+      cont c (r ∷ below) caps l ≡ frame_end c r (around c below (link_of r)) (outside c below (taken_back r caps) (link_of r)) (taken_back r caps) (fail c below (taken_back r caps))
   unfolding cont
   cont_here r below caps l e =
-      follow_same _ (frame_end c r (around c below (link_of r)) (cont c below (taken_back r caps) (link_of r)) (taken_back r caps) (fail c below (taken_back r caps)))
+      follow_same _ (frame_end c r (around c below (link_of r)) (outside c below (taken_back r caps) (link_of r)) (taken_back r caps) (fail c below (taken_back r caps)))
       (λ how s f. cond-true _ _ _ (eq-eqb _ _ e))
 
   cont_below : (r : Entry) (below : List Entry) (caps : Captures) (l : ℕ) → (l ≡ suc (length below) → ⊥) → cont c (r ∷ below) caps l ≡ cont c below (taken_back r caps) l
@@ -54,6 +58,28 @@ module _ (c : Ground) where
   cont_whole [] caps = follow_same _ at_end (λ how s f. refl)
   cont_whole (r ∷ below) caps = cont_below r below caps 0 (λ e. omega (arith, e)) ∙ cont_whole below (taken_back r caps)
 
+  -- what verbs lead to is the same everywhere
+  pub hand_same : (stack now : List Entry) (caps then' : Captures) (l m q p : ℕ) → hand c stack caps l q ≡ hand c now then' m p
+  unfolding hand
+  hand_same stack now caps then' l m q p = refl
+
+  hands_same : (stack now : List Entry) (caps then' : Captures) (l m : ℕ) → hand c stack caps l ≡ hand c now then' m
+  hands_same stack now caps then' l m = fun_ext (λ q. hand_same stack now caps then' l m q q)
+
+  abbrev around_with : Follow → (ℕ → Handler) → Outside
+  around_with k h = record { follow = k; hand = h }
+
+  outside_push : (r : Entry) (below : List Entry) (caps : Captures) (l : ℕ) → l ≤ length below → outside c (r ∷ below) caps l ≡ outside c below (taken_back r caps) l
+  outside_push r below caps l h =
+      ap (λ (k : Follow). around_with k (hand c (r ∷ below) caps l)) (cont_push r below caps l h)
+      ∙ ap (λ (z : ℕ → Handler). around_with (cont c below (taken_back r caps) l) z) (hands_same (r ∷ below) below caps (taken_back r caps) l l)
+
+  -- what is around the parts in a frame that is pushed
+  abbrev pub inside_of : Entry → List Entry → Captures → Outside
+  inside_of r stack caps =
+      around_with (frame_end c r (around c stack (link_of r)) (outside c stack (taken_back r caps) (link_of r)) (taken_back r caps) (fail c stack (taken_back r caps)))
+      (hand c (r ∷ stack) caps (suc (length stack)))
+
   -- fewer Steps left
   standing_less : (left less frame d : ℕ) (kept : Kept) (stack : List Entry) → less ≤ left → IsStanding c left frame kept d stack → IsStanding c less frame kept d stack
   standing_less left less frame d kept stack h s =
@@ -61,14 +87,8 @@ module _ (c : Ground) where
 
   sound_one : (left less slots : ℕ) (below : List Entry) (r : Entry) → less ≤ left → IsSound c left slots below r → IsSound c less slots below r
   sound_one left less slots below (Undo at slot old) h s = s
-  sound_one left less slots below (LaterBranch at kept next) h s = (s.0, standing_less left less at.link _ kept below h s.1, s.2)
-  sound_one left less slots below (GroupOpen at kept) h s = (s.0, standing_less left less at.link _ kept below h s.1, s.2)
-  sound_one left less slots below (TurnOpen at kept count) h s = (s.0, standing_less left less at.link _ kept below h s.1, s.2)
-  sound_one left less slots below (TurnOrExit at kept count) h s = (s.0, standing_less left less at.link _ kept below h s.1, s.2)
-  sound_one left less slots below (LaterTurn at kept count) h s = (s.0, standing_less left less at.link _ kept below h s.1, s.2)
-  sound_one left less slots below (FewerItems at kept least last) h s = (s.0, standing_less left less at.link _ kept below h s.1, s.2, s.3)
-  sound_one left less slots below (MoreItems at kept count last) h s = (s.0, standing_less left less at.link _ kept below h s.1, s.2, s.3, s.4)
-  sound_one left less slots below _ h s = s
+  sound_one left less slots below (Other at) h s = s
+  sound_one left less slots below r h s = (s.0, standing_less left less (link_of r) _ (entry_kept r) below h s.1, s.2)
 
   pub sound_less : (left less slots : ℕ) (stack : List Entry) → less ≤ left → AreSound c left slots stack → AreSound c less slots stack
   sound_less left less slots [] h s = tt
@@ -77,21 +97,19 @@ module _ (c : Ground) where
   -- a record that is pushed leaves the frames below as they were
   module _ (r : Entry) (stack : List Entry) (caps : Captures) where
     pub focus_kept : (next : Next) (l : ℕ) (kept : Kept) (now : Captures) (f : Moves) → l ≤ length stack →
-        focus c next (around c (r ∷ stack) l).depth (cont c (r ∷ stack) caps l) (state_at (around c (r ∷ stack) l) kept now) f
-        ≡ focus c next (around c stack l).depth (cont c stack (taken_back r caps) l) (state_at (around c stack l) kept now) f
+        focus c next (around c (r ∷ stack) l).depth (outside c (r ∷ stack) caps l) (state_at (around c (r ∷ stack) l) kept now) f
+        ≡ focus c next (around c stack l).depth (outside c stack (taken_back r caps) l) (state_at (around c stack l) kept now) f
     focus_kept next l kept now f h =
-        ap (λ (a : Around). focus c next a.depth (cont c (r ∷ stack) caps l) (state_at a kept now) f) (around_push r stack l h)
-        ∙ ap (λ (k : Follow). focus c next (around c stack l).depth k (state_at (around c stack l) kept now) f) (cont_push r stack caps l h)
+        ap (λ (a : Around). focus c next a.depth (outside c (r ∷ stack) caps l) (state_at a kept now) f) (around_push r stack l h)
+        ∙ ap (λ (k : Outside). focus c next (around c stack l).depth k (state_at (around c stack l) kept now) f) (outside_push r stack caps l h)
 
     -- a frame that is pushed
     pub focus_framed : (next : Next) (kept : Kept) (now : Captures) (f : Moves) →
-        focus c next (around c (r ∷ stack) (suc (length stack))).depth (cont c (r ∷ stack) caps (suc (length stack))) (state_at (around c (r ∷ stack) (suc (length stack))) kept now) f
-        ≡ focus c next (frame_around r (around c stack (link_of r))).depth
-        (frame_end c r (around c stack (link_of r)) (cont c stack (taken_back r caps) (link_of r)) (taken_back r caps) (fail c stack (taken_back r caps)))
-        (state_at (frame_around r (around c stack (link_of r))) kept now) f
+        focus c next (around c (r ∷ stack) (suc (length stack))).depth (outside c (r ∷ stack) caps (suc (length stack))) (state_at (around c (r ∷ stack) (suc (length stack))) kept now) f
+        ≡ focus c next (frame_around r (around c stack (link_of r))).depth (inside_of r stack caps) (state_at (frame_around r (around c stack (link_of r))) kept now) f
     focus_framed next kept now f =
-        ap (λ (a : Around). focus c next a.depth (cont c (r ∷ stack) caps (suc (length stack))) (state_at a kept now) f) (around_here r stack _ refl)
-        ∙ ap (λ (k : Follow). focus c next (frame_around r (around c stack (link_of r))).depth k (state_at (frame_around r (around c stack (link_of r))) kept now) f) (cont_here r stack caps _ refl)
+        ap (λ (a : Around). focus c next a.depth (outside c (r ∷ stack) caps (suc (length stack))) (state_at a kept now) f) (around_here r stack _ refl)
+        ∙ ap (λ (k : Follow). focus c next (frame_around r (around c stack (link_of r))).depth (around_with k (hand c (r ∷ stack) caps (suc (length stack)))) (state_at (frame_around r (around c stack (link_of r))) kept now) f) (cont_here r stack caps _ refl)
 
 -- the list around the entry at a height
 pub record Split (stack : List Entry) (h : ℕ) (r : Entry) : Type 0 where
@@ -126,21 +144,35 @@ split (p ∷ older) i r e =
           record { above = entry_of p ∷ s.above; below = s.below; is = ap (λ l. entry_of p ∷ l) s.is; height = s.height }
     ]
 
--- the registers below some entries
-unfoldable all_back : List Entry → Captures → Captures
-all_back [] caps = caps
-all_back (p ∷ above) caps = all_back above (taken_back p caps)
+-- the entries below one and above it
+up_to_below : (above below : List Entry) (r : Entry) → stack_of.up_to (length below) (above ++ (r ∷ below)) ≡ below
+up_to_below [] below r = up_to-more (length below) r below (omega arith) ∙ up_to-all (length below) below (omega arith)
+up_to_below (p ∷ above) below r =
+    up_to-more (length below) p (above ++ (r ∷ below)) (omega (arith, length-append above (r ∷ below))) ∙ up_to_below above below r
+
+past_above : (above below : List Entry) (r : Entry) (caps : Captures) → undone (stack_of.past (length below) (above ++ (r ∷ below))) caps ≡ taken_back r (undone above caps)
+unfolding undone
+past_above [] below r caps =
+    ap (λ es. undone es caps) (past-more (length below) r below (omega arith) ∙ ap (λ es. r ∷ es) (past-all (length below) below (omega arith)))
+past_above (p ∷ above) below r caps =
+    ap (λ es. undone es caps) (past-more (length below) p (above ++ (r ∷ below)) (omega (arith, length-append above (r ∷ below))))
+    ∙ past_above above below r (taken_back p caps)
 
 module _ (c : Ground) where
   around_deep : (above base : List Entry) (l : ℕ) → l ≤ length base → around c (above ++ base) l ≡ around c base l
   around_deep [] base l h = refl
   around_deep (p ∷ above) base l h = around_push c p (above ++ base) l (omega (arith, h, length-append above base)) ∙ around_deep above base l h
 
-  cont_deep : (above base : List Entry) (caps : Captures) (l : ℕ) → l ≤ length base → cont c (above ++ base) caps l ≡ cont c base (all_back above caps) l
-  unfolding all_back
+  cont_deep : (above base : List Entry) (caps : Captures) (l : ℕ) → l ≤ length base → cont c (above ++ base) caps l ≡ cont c base (undone above caps) l
+  unfolding undone
   cont_deep [] base caps l h = refl
   cont_deep (p ∷ above) base caps l h =
       cont_push c p (above ++ base) caps l (omega (arith, h, length-append above base)) ∙ cont_deep above base (taken_back p caps) l h
+
+  outside_deep : (above base : List Entry) (caps : Captures) (l : ℕ) → l ≤ length base → outside c (above ++ base) caps l ≡ outside c base (undone above caps) l
+  outside_deep above base caps l h =
+      ap (λ (k : Follow). around_with c k (hand c (above ++ base) caps l)) (cont_deep above base caps l h)
+      ∙ ap (λ (z : ℕ → Handler). around_with c (cont c base (undone above caps) l) z) (hands_same c (above ++ base) base caps (undone above caps) l l)
 
   sound_deep : (left slots : ℕ) (above base : List Entry) → AreSound c left slots (above ++ base) → AreSound c left slots base
   sound_deep left slots [] base s = s
@@ -150,31 +182,27 @@ module _ (c : Ground) where
   pub record Framed (left slots : ℕ) (stack : List Entry) (caps : Captures) (l : ℕ) (r : Entry) : Type 0 where
     pub below : List Entry
     pub inner : Captures
-    pub ends : cont c stack caps l ≡ frame_end c r (around c stack (link_of r)) (cont c stack caps (link_of r)) inner (fail c below inner)
+    pub ends : cont c stack caps l ≡ frame_end c r (around c stack (link_of r)) (outside c stack caps (link_of r)) inner (fail c below inner)
     pub deep : around c stack l ≡ frame_around r (around c stack (link_of r))
     pub link : link_of r ≤ length stack
     pub sound : IsSound c left slots below r
-    pub outside : around c below (link_of r) ≡ around c stack (link_of r)
+    pub same_around : around c below (link_of r) ≡ around c stack (link_of r)
+    -- the frame's record is the oldest that is given up where the stack is cut just below it
+    pub given_up : (h : ℕ) → l ≡ suc h → (stack_of.up_to h stack ≡ below) × (undone (stack_of.past h stack) caps ≡ inner)
 
   link_sound : (left slots : ℕ) (below : List Entry) (r : Entry) → IsSound c left slots below r → link_of r ≤ length below
   link_sound left slots below (Undo at slot old) s = s.3
-  link_sound left slots below (LaterBranch at kept next) s = s.1.inside
-  link_sound left slots below (GroupOpen at kept) s = s.1.inside
-  link_sound left slots below (TurnOpen at kept count) s = s.1.inside
-  link_sound left slots below (TurnOrExit at kept count) s = s.1.inside
-  link_sound left slots below (LaterTurn at kept count) s = s.1.inside
-  link_sound left slots below (FewerItems at kept least last) s = s.1.inside
-  link_sound left slots below (MoreItems at kept count last) s = s.1.inside
-  link_sound left slots below _ s = s
+  link_sound left slots below (Other at) s = s
+  link_sound left slots below r s = s.1.inside
 
   framed_split : (left slots : ℕ) (above below : List Entry) (caps : Captures) (r : Entry) → link_of r ≤ length below →
       AreSound c left slots (above ++ (r ∷ below)) → Framed left slots (above ++ (r ∷ below)) caps (suc (length below)) r
   framed_split left slots above below caps r low s =
       let one : suc (length below) ≤ length (r ∷ below) = omega arith in
       let lowest : link_of r ≤ length (r ∷ below) = omega (arith, low) in
-      let inner : Captures = all_back above caps in
-      let k2 : cont c (above ++ (r ∷ below)) caps (link_of r) ≡ cont c below (taken_back r inner) (link_of r) =
-      cont_deep above (r ∷ below) caps (link_of r) lowest ∙ cont_push c r below inner (link_of r) low in
+      let inner : Captures = undone above caps in
+      let k2 : outside c (above ++ (r ∷ below)) caps (link_of r) ≡ outside c below (taken_back r inner) (link_of r) =
+      outside_deep above (r ∷ below) caps (link_of r) lowest ∙ outside_push c r below inner (link_of r) low in
       let d2 : around c (above ++ (r ∷ below)) (link_of r) ≡ around c below (link_of r) =
       around_deep above (r ∷ below) (link_of r) lowest ∙ around_push c r below (link_of r) low in
       record {
@@ -183,12 +211,17 @@ module _ (c : Ground) where
         ends =
             cont_deep above (r ∷ below) caps (suc (length below)) one
             ∙ cont_here c r below inner _ refl
-            ∙ ap (λ (a : Around). frame_end c r a (cont c below (taken_back r inner) (link_of r)) (taken_back r inner) (fail c below (taken_back r inner))) (sym d2)
-            ∙ ap (λ (k : Follow). frame_end c r (around c (above ++ (r ∷ below)) (link_of r)) k (taken_back r inner) (fail c below (taken_back r inner))) (sym k2);
+            ∙ ap (λ (a : Around). frame_end c r a (outside c below (taken_back r inner) (link_of r)) (taken_back r inner) (fail c below (taken_back r inner))) (sym d2)
+            ∙ ap (λ (k : Outside). frame_end c r (around c (above ++ (r ∷ below)) (link_of r)) k (taken_back r inner) (fail c below (taken_back r inner))) (sym k2);
         deep = around_deep above (r ∷ below) _ one ∙ around_here c r below _ refl ∙ ap (frame_around r) (sym d2);
         link = omega (arith, low, length-append above (r ∷ below));
         sound = (sound_deep left slots above (r ∷ below) s).0;
-        outside = sym d2;
+        same_around = sym d2;
+        given_up = λ h e.
+            let same : h ≡ length below = omega (arith, e) in (
+              ap (λ x. stack_of.up_to x (above ++ (r ∷ below))) same ∙ up_to_below above below r,
+              ap (λ x. undone (stack_of.past x (above ++ (r ∷ below))) caps) same ∙ past_above above below r caps,
+            );
       }
 
   pub framed : (left slots : ℕ) (records : List Record) (caps : Captures) (i : ℕ) (p : Record) (r : Entry) → entry_of p ≡ r →
@@ -201,14 +234,29 @@ module _ (c : Ground) where
       (subst (λ h. Framed left slots (z.above ++ (r ∷ z.below)) caps h r) (sym z.height)
       (framed_split left slots z.above z.below caps r (link_sound left slots z.below r (sound_deep left slots z.above (r ∷ z.below) here).0) here))
 
+  -- no call is open
+  frame_calls : (left slots : ℕ) (below : List Entry) (r : Entry) (a : Around) → IsSound c left slots below r → (frame_around r a).calls ≡ a.calls
+  frame_calls left slots below (CallOpen at kept group) a s = absurd s.2
+  frame_calls left slots below _ a s = refl
+
+  pub no_calls : (left slots : ℕ) (stack : List Entry) (l : ℕ) → AreSound c left slots stack → (around c stack l).calls ≡ []
+  unfolding around
+  no_calls left slots [] l s = refl
+  no_calls left slots (r ∷ below) l s =
+      elim (cases_eq l (suc (length below))) [
+        | inl here ↦
+            ap (λ (a : Around). a.calls) (around_here c r below l here) ∙ frame_calls left slots below r (around c below (link_of r)) s.0 ∙ no_calls left slots below (link_of r) s.1
+        | inr not' ↦ ap (λ (a : Around). a.calls) (around_below c r below l not') ∙ no_calls left slots below l s.1
+      ]
+
   -- where the machine goes on after a part
   module _ (ok : IsGround c) (q : ℕ) (inside : IsPart c q) where
-    focus_first : (d : ℕ) (k : Follow) (qs : List ℕ) (s : State) (f : Moves) → c.rest q ≡ qs → focus c (towards (first_of qs)) d k s f ≡ after c d k qs reached s f
+    focus_first : (d : ℕ) (k : Outside) (qs : List ℕ) (s : State) (f : Moves) → c.rest q ≡ qs → focus c (towards (first_of qs)) d k s f ≡ after c d k qs reached s f
     focus_first d k [] s f e = ap (λ (z : Follow). z reached s f) (sym (after_nil c d k))
     focus_first d k (p ∷ ps) s f e =
         sym (after_cons c d k p (c.rest p) s f) ∙ ap (λ (r : List ℕ). after c d k (p ∷ r) reached s f) (ok.chained q p ps inside.within e)
 
-    pub focus_towards : (d : ℕ) (k : Follow) (s : State) (f : Moves) → focus c (towards (next_of c q)) d k s f ≡ past c d k q reached s f
+    pub focus_towards : (d : ℕ) (k : Outside) (s : State) (f : Moves) → focus c (towards (next_of c q)) d k s f ≡ past c d k q reached s f
     focus_towards d k s f = focus_first d k (c.rest q) s f refl
 
     running_first : (spot : Spot) (stack : List Entry) (o : List ℕ) → c.rest q ≡ o → IsRunning c spot stack End → IsRunning c spot stack (towards (first_of o))

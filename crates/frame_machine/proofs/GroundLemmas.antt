@@ -10,7 +10,6 @@ use Rattle.std.proofs.lemmas.List.Elements.{All-head, All-tail}
 use Rattle.std.proofs.lemmas.Map.Steps.{length-le_from_distinct_below}
 use Rattle.std.proofs.lemmas.Bool.Decides.{nat_tests}
 use Rattle.pat_tree.specs.declared.nodes.Item.{Item}
-use Rattle.pat_tree.specs.declared.nodes.ClassSpec.{ClassSpec}
 use Rattle.pat_tree.specs.declared.options.Options.{Options}
 use Rattle.pat_tree.specs.declared.options.MatchOptions.{MatchOptions}
 use Rattle.pat_tree.specs.declared.nodes.Node.{Node}
@@ -25,16 +24,17 @@ use Rattle.pat_tree.specs.Parts.{TreeParts, tree_of}
 use Rattle.node_flow.specs.Followers.{rest}
 use Rattle.node_flow.specs.Linked.{IsLinked}
 use Rattle.node_flow.proofs.TreeLaws.{followers_hang_together}
-use Rattle.pat_check.specs.Built.{IsBuilt}
-use Rattle.char_sets.specs.Sets.{takes, no_class, class_has}
+use Rattle.frame_machine.specs.Forms.{IsRunnable}
 use Rattle.char_sets.specs.Table.{CharSet, table_has, IsTableOf}
 use Rattle.pcre_io.specs.declared.callouts.Block.{Block}
 use Rattle.match_items.specs.declared.view.View.{View}
+use Rattle.match_items.specs.Subjects.{IsSubject}
 use Rattle.match_items.specs.Scene.{Scene}
 use Rattle.match_items.specs.Items.{after_item, run_places, longest_run}
 use Rattle.match_items.specs.Views.{scene_of, told, maximum}
 use Rattle.frame_machine.specs.Told.{place_in}
-use Rattle.frame_machine.specs.Setting.{class_holds}
+use Rattle.ordered_search.specs.Setting.{class_holds}
+use Rattle.ordered_search.proofs.Classes.{class_is}
 use Rattle.frame_machine.specs.Ground.{IsNode}
 use Rattle.frame_machine.specs.Ready.{setting_in, IsByteSearch, ground_in}
 
@@ -80,16 +80,7 @@ module _ (g : Scene) (item : Item) (p : ℕ) (short : length g.subject < 4294967
 
 -- Scenes.
 
-class_same : (cs : List ClassSpec) (n c : ℕ) → takes (slice_index_or cs n no_class) c ≡ class_holds (slice_get cs n) c
-class_same [] n c = refl
-class_same (x ∷ cs) zero c = refl
-class_same (x ∷ cs) (suc n) c = class_same cs n c
-
-class_is : (tree : TreeParts) (n c : ℕ) → class_has tree n c ≡ class_holds (slice_get tree.classes n) c
-unfolding class_has
-class_is tree n c = class_same tree.classes n c
-
-classes_same : (tree : TreeParts) (table : List CharSet) → IsTableOf tree table → table_has table ≡ (λ n c. class_holds (slice_get tree.classes n) c)
+classes_same : (tree : TreeParts) (table : List CharSet) → IsTableOf tree table → table_has table ≡ (λ n c. class_holds tree.options.utf (slice_get tree.classes n) c)
 classes_same tree table h = fun_ext (λ n. fun_ext (λ c. h.answers n c ∙ class_is tree n c))
 
 -- a view of the tree's options shows what the search is about
@@ -156,6 +147,7 @@ module _ (t : TreeParts) (table : List CharSet) (matching : MatchOptions) (subje
       linked = subst (IsLinked (rest t.nodes t.root) (rest t.nodes t.root q)) (sym (here nowhere)) (h.linked q le nowhere);
       classes = rules.classes;
       ordered = rules.ordered;
+      tests = rules.test;
       few = few_kids t.nodes q n here few below once;
       named = λ i d l. h.numbered (get_or (named_by n) i d) (stand i d l);
       numbered = λ i d l. (rules.numbered i d l, grouped i d l);
@@ -190,15 +182,14 @@ numbered_from class_count name_count all (p ∷ ps) a n e = elim (cases_Bool (is
 ]
 
 -- what is known of a finished tree, and what is asked of a search of it
-pub byte_search : (t : TreeParts) (table : List CharSet) (matching : MatchOptions) (subject : List ℕ) → TreeRules t → IsBuilt (tree_of t) → t.options.utf ≡ false →
-    IsTableOf t table → matching.«partial» ≡ Off → length subject < 4294967295 → greatest (group_numbers t.nodes) ≤ 65535 → matching.match_limit ≤ 4294967295 →
+pub byte_search : (t : TreeParts) (table : List CharSet) (matching : MatchOptions) (subject : List ℕ) → TreeRules t → IsRunnable (tree_of t) →
+    IsTableOf t table → IsSubject t.options subject → matching.«partial» ≡ Off → greatest (group_numbers t.nodes) ≤ 65535 → matching.match_limit ≤ 4294967295 →
     IsByteSearch t table matching subject
-byte_search t table matching subject rules built bytes shown off short groups few = record {
-  built = built;
-  bytes = bytes;
+byte_search t table matching subject rules runs shown searched off groups few = record {
+  runs = runs;
   shown = shown;
+  searched = searched;
   off = off;
-  short = short;
   groups = groups;
   few = few;
   last = (followers_hang_together t rules).last;

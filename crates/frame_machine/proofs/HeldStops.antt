@@ -4,7 +4,7 @@ use Rattle.frame_store.specs.Captures.{Captures}
 use Rattle.frame_machine.specs.declared.machine.Spot.{Spot}
 use Rattle.frame_machine.specs.declared.machine.Stop.{Stop}
 use Rattle.frame_machine.specs.declared.machine.Stop.TheVariants as stop
-use Rattle.frame_machine.specs.PlaceAnswer.{Walked, answers, FrameLimit}
+use Rattle.ordered_search.specs.PlaceAnswer.{Walked, answers, FrameLimit}
 use Rattle.frame_machine.specs.Stops.{IsStop, IsHeldStop}
 
 pub held_stop : (s : Stop) (limit units : ℕ) (spot : Spot) (caps : Captures) (w : Walked) → IsHeldStop s limit units → (limit ≤ units → w ≡ answers FrameLimit) → IsStop s spot caps w

@@ -6,15 +6,17 @@ use Rattle.pat_tree.specs.Nested.{Nested, Row}
 use Rattle.match_items.specs.Items.{is_none_left, longest_run, place_before}
 use Rattle.frame_store.specs.Captures.{Captures}
 use Rattle.frame_store.specs.Entry.{Entry, FewerItems, MoreItems}
-use Rattle.frame_machine.specs.Stream.{State, reached}
-use Rattle.frame_machine.specs.PlaceAnswer.{answers, MatchLimit, FrameLimit}
-use Rattle.frame_machine.specs.Moves.{Moves, pause, stepped, Follow, holding, tread}
-use Rattle.frame_machine.specs.Paths.{offer_paths, offer_path, lazy_paths, many_paths}
+use Rattle.ordered_search.specs.Stream.{State, reached}
+use Rattle.ordered_search.specs.PlaceAnswer.{answers, MatchLimit, FrameLimit}
+use Rattle.ordered_search.specs.Moves.{Moves, pause, stepped, Follow, holding, tread}
+use Rattle.ordered_search.specs.Paths.{offer_paths, offer_path, lazy_paths, many_paths}
 use Rattle.frame_machine.specs.declared.machine.Next.TheVariants.{Enter, Fewer, More, Back}
 use Rattle.frame_machine.specs.declared.machine.Spot.{Spot}
 use Rattle.frame_machine.specs.Ground.{Ground, tree_of, next_of, IsGround}
 use Rattle.match_items.specs.Views.{end_of}
-use Rattle.frame_machine.specs.Machine.{Around, less, kept_at, past, around, more_from, further_from, fewer_places, cont, fail, conf, spot_state, ahead, IsStanding, IsMany, HasFurther, IsValid, Advances, towards}
+use Rattle.frame_machine.specs.Machine.{Around, less, kept_at, conf, towards}
+use Rattle.frame_machine.specs.Frames.{past, around, more_from, further_from, fewer_places, cont, outside, fail, spot_state, ahead}
+use Rattle.frame_machine.specs.Validity.{IsStanding, IsMany, HasFurther, IsValid, Advances}
 use Rattle.frame_machine.proofs.PartPaths.{reaching_off, enter_many}
 use Rattle.frame_machine.proofs.Frames.{around_push, focus_kept, sound_less, focus_towards, running_towards}
 use Rattle.frame_machine.proofs.Advance.{holding_room, holding_full, advance_pause, advance_step, over_steps, over_units_step, goes_back, goes_on_step}
@@ -40,7 +42,7 @@ module _ (c : Ground) (ok : IsGround c) (q : ℕ) (spot : Spot) (stack : List En
 
   entered : ahead c (conf (Enter q) spot stack caps)
       ≡ pause (many_paths c.setting item low high lazily (longest_run c.setting.scene item high spot.place) (spot_state c spot stack caps)
-      (past c (around c stack spot.frame).depth (cont c stack caps spot.frame) q) (fail c stack caps))
+      (past c (around c stack spot.frame).depth (outside c stack caps spot.frame) q) (fail c stack caps))
   entered =
       let deep : (around c stack spot.frame).depth ≡ suc ((around c stack spot.frame).depth - 1) = omega (arith, v.running.1.deep) in
       enter_many c ok q n i _ _ _ _ _ deep item low high lazily e
@@ -59,8 +61,8 @@ module _ (c : Ground) (ok : IsGround c) (q : ℕ) (spot : Spot) (stack : List En
       (entered ∙ ap pause (many_is lazily _ [] _ _ _ (run_short c ok item low high spot.place v.running.1.here at_most lt) ∙ none lazily))
     where
       none : (b : Bool) → elim b [
-        | true ↦ lazy_paths c.setting item (less low high) [] (spot_state c spot stack caps) (past c (around c stack spot.frame).depth (cont c stack caps spot.frame) q) (fail c stack caps)
-        | false ↦ offer_paths c.setting (reverse []) (spot_state c spot stack caps) (past c (around c stack spot.frame).depth (cont c stack caps spot.frame) q) (fail c stack caps)
+        | true ↦ lazy_paths c.setting item (less low high) [] (spot_state c spot stack caps) (past c (around c stack spot.frame).depth (outside c stack caps spot.frame) q) (fail c stack caps)
+        | false ↦ offer_paths c.setting (reverse []) (spot_state c spot stack caps) (past c (around c stack spot.frame).depth (outside c stack caps spot.frame) q) (fail c stack caps)
       ] ≡ fail c stack caps
       none true = refl
       none false = refl
@@ -77,7 +79,7 @@ module _ (c : Ground) (ok : IsGround c) (q : ℕ) (spot : Spot) (stack : List En
         let places : reverse (from ∷ run_at c ok item (less low high) from) ≡ to ∷ fewer_places c from to =
         run_back c ok item (less low high) from here ∙ ap (λ x. x ∷ fewer_places c from x) (sym last) in
         let w = v.running.1 in
-        let K : Follow = past c (around c stack spot.frame).depth (cont c stack caps spot.frame) q in
+        let K : Follow = past c (around c stack spot.frame).depth (outside c stack caps spot.frame) q in
         advance_pause c _ _ _
         (entered ∙ ap (λ b. pause (many_paths c.setting item low high b (longest_run c.setting.scene item high spot.place) (spot_state c spot stack caps) K (fail c stack caps))) is
         ∙ ap pause (many_is false _ _ _ _ _ rest ∙ ap (λ l. offer_paths c.setting l (spot_state c spot stack caps) K (fail c stack caps)) places))
@@ -95,7 +97,7 @@ module _ (c : Ground) (ok : IsGround c) (q : ℕ) (spot : Spot) (stack : List En
         let here : c.stands from ≡ true = subst (λ x. c.stands x ≡ true) (sym first) least.here in
         let rest : drop low (spot.place ∷ run_at c ok item high spot.place) ≡ from ∷ run_at c ok item (less low high) from = subst (λ x. drop low (spot.place ∷ run_at c ok item high spot.place) ≡ x ∷ run_at c ok item (less low high) x) (sym first) least.rest in
         let w = v.running.1 in
-        let K : Follow = past c (around c stack spot.frame).depth (cont c stack caps spot.frame) q in
+        let K : Follow = past c (around c stack spot.frame).depth (outside c stack caps spot.frame) q in
         let t : tree.one_repeat item low high lazily ≡ tree_of c q = subst (λ m. nest c.trees m ≡ tree_of c q) e i.is in
         advance_pause c _ _ _
         (entered ∙ ap (λ b. pause (many_paths c.setting item low high b (longest_run c.setting.scene item high spot.place) (spot_state c spot stack caps) K (fail c stack caps))) is
@@ -130,18 +132,18 @@ module _ (c : Ground) (ok : IsGround c) (q from to : ℕ) (spot : Spot) (stack :
   moved_standing units left le few more = let w = v.running.1 in record { inside = w.inside; deep = omega (arith, w.deep, le); counted = omega (arith, w.counted, more); few = few; here = v.running.2 }
 
   fewer_last : to ≤ from → ahead c (conf (Fewer q from to) spot stack caps)
-      ≡ stepped (past c (around c stack spot.frame).depth (cont c stack caps spot.frame) q reached (record (spot_state c spot stack caps) { place = to }) (fail c stack caps))
+      ≡ stepped (past c (around c stack spot.frame).depth (outside c stack caps spot.frame) q reached (record (spot_state c spot stack caps) { place = to }) (fail c stack caps))
   unfolding offer_paths
   fewer_last le =
-      ap (λ l. offer_paths c.setting (to ∷ l) (spot_state c spot stack caps) (past c (around c stack spot.frame).depth (cont c stack caps spot.frame) q) (fail c stack caps)) (fewer_none c ok from to le)
+      ap (λ l. offer_paths c.setting (to ∷ l) (spot_state c spot stack caps) (past c (around c stack spot.frame).depth (outside c stack caps spot.frame) q) (fail c stack caps)) (fewer_none c ok from to le)
 
   fewer_more : from < to → ahead c (conf (Fewer q from to) spot stack caps)
-      ≡ stepped (holding c.setting 1 (record (spot_state c spot stack caps) { place = to }) (λ t. past c (around c stack spot.frame).depth (cont c stack caps spot.frame) q reached t
-      (pause (offer_paths c.setting (fewer_places c from to) (spot_state c spot stack caps) (past c (around c stack spot.frame).depth (cont c stack caps spot.frame) q) (fail c stack caps)))))
+      ≡ stepped (holding c.setting 1 (record (spot_state c spot stack caps) { place = to }) (λ t. past c (around c stack spot.frame).depth (outside c stack caps spot.frame) q reached t
+      (pause (offer_paths c.setting (fewer_places c from to) (spot_state c spot stack caps) (past c (around c stack spot.frame).depth (outside c stack caps spot.frame) q) (fail c stack caps)))))
   unfolding offer_paths
   fewer_more lt =
       let s : State = spot_state c spot stack caps in
-      let K : Follow = past c (around c stack spot.frame).depth (cont c stack caps spot.frame) q in
+      let K : Follow = past c (around c stack spot.frame).depth (outside c stack caps spot.frame) q in
       let f : Moves = fail c stack caps in
       let step : fewer_places c from to ≡ place_before c.setting.scene to ∷ fewer_places c from (place_before c.setting.scene to) = fewer_step c ok from to v.running.2 lt in
       ap (λ l. offer_paths c.setting (to ∷ l) s K f) step
@@ -184,7 +186,7 @@ module _ (c : Ground) (ok : IsGround c) (q from to : ℕ) (spot : Spot) (stack :
           here = v.running.2;
         });
         records = (
-          (v.running.0, record { inside = w.inside; deep = omega (arith, w.deep); counted = w.counted; few = w.few; here = w.here }, lt, v.running.2),
+          (v.running.0, record { inside = w.inside; deep = omega (arith, w.deep); counted = w.counted; few = w.few; here = w.here }, (lt, v.running.2)),
           sound_less c spot.left (spot.left - 1) (length caps) stack (omega arith) v.records,
         );
         spans = v.spans;
@@ -195,28 +197,28 @@ module _ (c : Ground) (ok : IsGround c) (q from to : ℕ) (spot : Spot) (stack :
 module _ (c : Ground) (ok : IsGround c) (q count to : ℕ) (spot : Spot) (stack : List Entry) (caps : Captures) (v : IsValid c (conf (More q count to) spot stack caps))
     (item : Item) (low : ℕ) (high : Option ℕ) (lazily : Bool) (t : tree.one_repeat item low high lazily ≡ tree_of c q) where
   more_is : ahead c (conf (More q count to) spot stack caps)
-      ≡ offer_path c.setting (is_none_left (less count high)) (record (spot_state c spot stack caps) { place = to }) (past c (around c stack spot.frame).depth (cont c stack caps spot.frame) q)
-      (further_from c (tree_of c q) count to (spot_state c spot stack caps) (past c (around c stack spot.frame).depth (cont c stack caps spot.frame) q) (fail c stack caps)) (fail c stack caps)
+      ≡ offer_path c.setting (is_none_left (less count high)) (record (spot_state c spot stack caps) { place = to }) (past c (around c stack spot.frame).depth (outside c stack caps spot.frame) q)
+      (further_from c (tree_of c q) count to (spot_state c spot stack caps) (past c (around c stack spot.frame).depth (outside c stack caps spot.frame) q) (fail c stack caps)) (fail c stack caps)
   unfolding lazy_paths
   more_is =
       let s : State = spot_state c spot stack caps in
-      let K : Follow = past c (around c stack spot.frame).depth (cont c stack caps spot.frame) q in
+      let K : Follow = past c (around c stack spot.frame).depth (outside c stack caps spot.frame) q in
       let f : Moves = fail c stack caps in
       ap (λ x. more_from c x count to s K f) (sym t)
       ∙ ap (λ x. offer_path c.setting (is_none_left (less count high)) (record s { place = to }) K (further_from c x count to s K f) f) t
 
   more_last : is_none_left (less count high) ≡ true → ahead c (conf (More q count to) spot stack caps)
-      ≡ stepped (past c (around c stack spot.frame).depth (cont c stack caps spot.frame) q reached (record (spot_state c spot stack caps) { place = to }) (fail c stack caps))
+      ≡ stepped (past c (around c stack spot.frame).depth (outside c stack caps spot.frame) q reached (record (spot_state c spot stack caps) { place = to }) (fail c stack caps))
   more_last e =
-      more_is ∙ ap (λ b. offer_path c.setting b (record (spot_state c spot stack caps) { place = to }) (past c (around c stack spot.frame).depth (cont c stack caps spot.frame) q)
-      (further_from c (tree_of c q) count to (spot_state c spot stack caps) (past c (around c stack spot.frame).depth (cont c stack caps spot.frame) q) (fail c stack caps)) (fail c stack caps)) e
+      more_is ∙ ap (λ b. offer_path c.setting b (record (spot_state c spot stack caps) { place = to }) (past c (around c stack spot.frame).depth (outside c stack caps spot.frame) q)
+      (further_from c (tree_of c q) count to (spot_state c spot stack caps) (past c (around c stack spot.frame).depth (outside c stack caps spot.frame) q) (fail c stack caps)) (fail c stack caps)) e
 
   more_more : is_none_left (less count high) ≡ false → ahead c (conf (More q count to) spot stack caps)
-      ≡ stepped (holding c.setting 1 (record (spot_state c spot stack caps) { place = to }) (λ u. past c (around c stack spot.frame).depth (cont c stack caps spot.frame) q reached u
-      (pause (further_from c (tree_of c q) count to (spot_state c spot stack caps) (past c (around c stack spot.frame).depth (cont c stack caps spot.frame) q) (fail c stack caps)))))
+      ≡ stepped (holding c.setting 1 (record (spot_state c spot stack caps) { place = to }) (λ u. past c (around c stack spot.frame).depth (outside c stack caps spot.frame) q reached u
+      (pause (further_from c (tree_of c q) count to (spot_state c spot stack caps) (past c (around c stack spot.frame).depth (outside c stack caps spot.frame) q) (fail c stack caps)))))
   more_more e =
-      more_is ∙ ap (λ b. offer_path c.setting b (record (spot_state c spot stack caps) { place = to }) (past c (around c stack spot.frame).depth (cont c stack caps spot.frame) q)
-      (further_from c (tree_of c q) count to (spot_state c spot stack caps) (past c (around c stack spot.frame).depth (cont c stack caps spot.frame) q) (fail c stack caps)) (fail c stack caps)) e
+      more_is ∙ ap (λ b. offer_path c.setting b (record (spot_state c spot stack caps) { place = to }) (past c (around c stack spot.frame).depth (outside c stack caps spot.frame) q)
+      (further_from c (tree_of c q) count to (spot_state c spot stack caps) (past c (around c stack spot.frame).depth (outside c stack caps spot.frame) q) (fail c stack caps)) (fail c stack caps)) e
 
   pub stop_more : spot.left ≡ 0 → (b : Bool) → is_none_left (less count high) ≡ b → tread c.setting spot.left (ahead c (conf (More q count to) spot stack caps)) ≡ answers MatchLimit
   stop_more out true e = over_steps c spot.left _ _ (more_last e) out
@@ -256,9 +258,7 @@ module _ (c : Ground) (ok : IsGround c) (q count to : ℕ) (spot : Spot) (stack 
           (
             v.running.0,
             record { inside = w.inside; deep = omega (arith, w.deep); counted = w.counted; few = w.few; here = w.here },
-            v.running.2,
-            v.running.3,
-            subst (λ x. HasFurther c x count) t e,
+            (v.running.2, v.running.3, subst (λ x. HasFurther c x count) t e),
           ),
           sound_less c spot.left (spot.left - 1) (length caps) stack (omega arith) v.records,
         );

@@ -1,46 +1,58 @@
 -- The parts that the search comes to from a part.
-use Rattle.std.proofs.Common.{◌≡◌, ℕ, List, [], ◌∷◌, All, Some, None, sym, subst, arith}
+use Rattle.std.proofs.Common.{◌≡◌, ℕ, true, false, List, [], ◌∷◌, ◌++◌, All, Some, None, sym, subst, arith}
 use Rattle.std.proofs.lemmas.List.Elements.{All-nil, All-cons, All-head, All-tail, All-append}
 use Rattle.pat_tree.specs.declared.nodes.Node.{Node}
 use Rattle.pat_tree.specs.declared.nodes.Node.TheVariants as node
 use Rattle.pat_tree.specs.Nested.{nest}
-use Rattle.pat_tree.specs.Rules.{kids_of}
-use Rattle.pat_check.specs.Built.{IsBuilt}
-use Rattle.pat_check.proofs.OrderLemmas.{kids_built}
+use Rattle.pat_tree.specs.Rules.{kids_of, tests_of, number_in}
+use Rattle.frame_machine.specs.Forms.{IsRunnable}
+use Rattle.frame_machine.proofs.Forms.{kids_runnable}
 use Rattle.node_flow.specs.Linked.{AreChained, AllFollowed, IsLinked}
-use Rattle.frame_machine.specs.Ground.{Ground, tree_of, IsNode, IsGround, IsBuiltPart, IsPart}
+use Rattle.frame_machine.specs.Ground.{Ground, tree_of, IsNode, IsGround, IsRunnablePart, IsPart}
 
 module _ (c : Ground) where
   -- parts that follow one another, before others
-  chained_parts : (after ks : List ℕ) → AreChained c.rest ks after → All (IsBuiltPart c) ks → All (IsBuiltPart c) after → All (IsPart c) ks
+  chained_parts : (after ks : List ℕ) → AreChained c.rest ks after → All (IsRunnablePart c) ks → All (IsRunnablePart c) after → All (IsPart c) ks
   chained_parts after [] l a b = All-nil (IsPart c)
   chained_parts after (k ∷ ks) l a b =
-      let first = All-head (IsBuiltPart c) k ks a in
-      let later = All-tail (IsBuiltPart c) k ks a in
+      let first = All-head (IsRunnablePart c) k ks a in
+      let later = All-tail (IsRunnablePart c) k ks a in
       All-cons (IsPart c) k ks
-      (record { within = first.0; built = first.1; followed = subst (All (IsBuiltPart c)) (sym l.0) (All-append (IsBuiltPart c) ks after later b) })
+      (record { within = first.0; runs = first.1; followed = subst (All (IsRunnablePart c)) (sym l.0) (All-append (IsRunnablePart c) ks after later b) })
       (chained_parts after ks l.1 later b)
 
   -- parts each of which others follow
-  followed_parts : (after ks : List ℕ) → AllFollowed c.rest after ks → All (IsBuiltPart c) ks → All (IsBuiltPart c) after → All (IsPart c) ks
-  followed_parts after ks l a b = λ i d m. record { within = (a i d m).0; built = (a i d m).1; followed = subst (All (IsBuiltPart c)) (sym (l i d m)) b }
+  followed_parts : (after ks : List ℕ) → AllFollowed c.rest after ks → All (IsRunnablePart c) ks → All (IsRunnablePart c) after → All (IsPart c) ks
+  followed_parts after ks l a b = λ i d m. record { within = (a i d m).0; runs = (a i d m).1; followed = subst (All (IsRunnablePart c)) (sym (l i d m)) b }
 
-  parts_under : (after : List ℕ) (n : Node) → IsBuilt (nest c.trees n) → IsLinked c.rest after n → All (IsBuiltPart c) (kids_of n) → All (IsBuiltPart c) after → All (IsPart c) (kids_of n)
+  front_parts : (xs ys : List ℕ) → All (IsRunnablePart c) (xs ++ ys) → All (IsRunnablePart c) xs
+  front_parts [] ys a = All-nil (IsRunnablePart c)
+  front_parts (x ∷ xs) ys a = All-cons (IsRunnablePart c) x xs (All-head (IsRunnablePart c) x (xs ++ ys) a) (front_parts xs ys (All-tail (IsRunnablePart c) x (xs ++ ys) a))
+
+  back_parts : (xs ys : List ℕ) → All (IsRunnablePart c) (xs ++ ys) → All (IsRunnablePart c) ys
+  back_parts [] ys a = a
+  back_parts (x ∷ xs) ys a = back_parts xs ys (All-tail (IsRunnablePart c) x (xs ++ ys) a)
+
+  parts_under : (after : List ℕ) (n : Node) → IsRunnable (nest c.trees n) → IsLinked c.rest after n → All (IsRunnablePart c) (kids_of n) → All (IsRunnablePart c) after → All (IsPart c) (kids_of n)
   parts_under after node.Empty b l a r = All-nil (IsPart c)
   parts_under after (node.One item) b l a r = All-nil (IsPart c)
   parts_under after node.Break b l a r = All-nil (IsPart c)
   parts_under after (node.Seq ks) b l a r = chained_parts after ks l a r
   parts_under after (node.Group None ks) b l a r = followed_parts after ks l a r
-  parts_under after (node.Group (Some m) ks) b l a r = followed_parts [] ks l a (All-nil (IsBuiltPart c))
+  parts_under after (node.Group (Some m) ks) b l a r = followed_parts [] ks l a (All-nil (IsRunnablePart c))
   parts_under after (node.Repeat body low high lazily) b l a r =
-      let first = All-head (IsBuiltPart c) body [] a in
+      let first = All-head (IsRunnablePart c) body [] a in
       All-cons (IsPart c) body []
-      (record { within = first.0; built = first.1; followed = subst (All (IsBuiltPart c)) (sym l) (All-nil (IsBuiltPart c)) })
+      (record { within = first.0; runs = first.1; followed = subst (All (IsRunnablePart c)) (sym l) (All-nil (IsRunnablePart c)) })
       (All-nil (IsPart c))
   parts_under after (node.OneRepeat item low high lazily) b l a r = All-nil (IsPart c)
-  parts_under after (node.Atomic ks) b l a r = absurd b
-  parts_under after (node.Look ahead positive once ks) b l a r = absurd b
-  parts_under after (node.Cond test first second) b l a r = absurd b
+  parts_under after (node.Atomic ks) b l a r = followed_parts [] ks l a (All-nil (IsRunnablePart c))
+  parts_under after (node.Look true positive once ks) b l a r = followed_parts [] ks l a (All-nil (IsRunnablePart c))
+  parts_under after (node.Look false positive once ks) b l a r = absurd b
+  parts_under after (node.Cond test yes' no') b l a r =
+      All-append (IsPart c) (tests_of test) (yes' ∷ number_in no')
+      (followed_parts [] (tests_of test) l.0 (front_parts (tests_of test) (yes' ∷ number_in no') a) (All-nil (IsRunnablePart c)))
+      (followed_parts after (yes' ∷ number_in no') l.1 (back_parts (tests_of test) (yes' ∷ number_in no') a) r)
   parts_under after (node.Call m) b l a r = absurd b
   parts_under after (node.Ref ns caseless) b l a r = All-nil (IsPart c)
   parts_under after (node.Anchor kind) b l a r = All-nil (IsPart c)
@@ -51,17 +63,17 @@ module _ (c : Ground) where
   -- the children of a part
   pub kid_parts : (q : ℕ) (n : Node) → IsPart c q → IsNode c q n → All (IsPart c) (kids_of n)
   kid_parts q n p i =
-      let built : IsBuilt (nest c.trees n) = subst IsBuilt (sym i.is) p.built in
-      let kids : All (λ k. IsBuilt (tree_of c k)) (kids_of n) = kids_built c.trees n built in
-      parts_under (c.rest q) n built i.linked (λ j d m. let lt = i.below j d m in (omega (arith, lt, p.within), kids j d m)) p.followed
+      let runs : IsRunnable (nest c.trees n) = subst IsRunnable (sym i.is) p.runs in
+      let kids : All (λ k. IsRunnable (tree_of c k)) (kids_of n) = kids_runnable c.trees n i.tests runs in
+      parts_under (c.rest q) n runs i.linked (λ j d m. let lt = i.below j d m in (omega (arith, lt, p.within), kids j d m)) p.followed
 
   -- the part that follows
   pub next_part : IsGround c → (q p : ℕ) (ps : List ℕ) → IsPart c q → c.rest q ≡ p ∷ ps → IsPart c p
   next_part ok q p ps h e =
-      let all : All (IsBuiltPart c) (p ∷ ps) = subst (All (IsBuiltPart c)) e h.followed in
-      let first = All-head (IsBuiltPart c) p ps all in
-      record { within = first.0; built = first.1; followed = subst (All (IsBuiltPart c)) (sym (ok.chained q p ps h.within e)) (All-tail (IsBuiltPart c) p ps all) }
+      let all : All (IsRunnablePart c) (p ∷ ps) = subst (All (IsRunnablePart c)) e h.followed in
+      let first = All-head (IsRunnablePart c) p ps all in
+      record { within = first.0; runs = first.1; followed = subst (All (IsRunnablePart c)) (sym (ok.chained q p ps h.within e)) (All-tail (IsRunnablePart c) p ps all) }
 
   -- the whole pattern
   pub root_part : IsGround c → IsPart c c.root
-  root_part ok = record { within = omega arith; built = subst IsBuilt (sym ok.whole) ok.built; followed = subst (All (IsBuiltPart c)) (sym ok.last) (All-nil (IsBuiltPart c)) }
+  root_part ok = record { within = omega arith; runs = subst IsRunnable (sym ok.whole) ok.runs; followed = subst (All (IsRunnablePart c)) (sym ok.last) (All-nil (IsRunnablePart c)) }

@@ -1,12 +1,8 @@
-mod Late
-mod CutLaw
-pub mod WalkLaw
-mod RowProofs
-mod Before
-mod Free
+pub mod Forms
 mod PartPaths
 mod KidParts
 mod Frames
+mod Drops
 mod Advance
 mod Turns
 mod RepeatTurns
@@ -14,6 +10,10 @@ mod EndTurns
 mod Runs
 mod ItemTurns
 mod BackTurns
+mod LeaveTurns
+mod AtomicTurns
+mod LookTurns
+mod CondTurns
 mod HeldStops
 mod MostOf
 mod BranchTurns

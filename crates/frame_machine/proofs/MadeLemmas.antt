@@ -8,11 +8,11 @@ use Rattle.pat_tree.specs.Growing.{loose, loose_after, is_fresh}
 use Rattle.pat_tree.specs.Parts.{DraftParts, with_node}
 use Rattle.pat_tree.proofs.Growing.{trees_push}
 use Rattle.pat_tree.proofs.Loose.{replaces_push, last_fresh}
-use Rattle.pat_check.specs.Built.{IsBuilt}
-use Rattle.pat_check.proofs.OrderLemmas.{all_front}
+use Rattle.frame_machine.specs.Forms.{IsRunnable}
+use Rattle.node_flow.proofs.Waiting.{all_front}
 use Rattle.frame_machine.specs.Made.{IsMade}
 
-built_push : (ts : List Nested) (t : Nested) → ((k : ℕ) → IsBuilt (tree_at ts k)) → IsBuilt t → (k : ℕ) → IsBuilt (tree_at (ts ++ t ∷ []) k)
+built_push : (ts : List Nested) (t : Nested) → ((k : ℕ) → IsRunnable (tree_at ts k)) → IsRunnable t → (k : ℕ) → IsRunnable (tree_at (ts ++ t ∷ []) k)
 built_push [] t all here zero = here
 built_push [] t all here (suc k) = all k
 built_push (x ∷ ts) t all here zero = all 0
@@ -25,7 +25,7 @@ all_back P (x ∷ xs) ys a = all_back P xs ys (All-tail P x (xs ++ ys) a)
 pub made_last : (d : DraftParts) (front ks : List ℕ) → IsMade d (front ++ ks) → All (λ k. k < length d.nodes) ks
 made_last d front ks h = all_back (λ k. k < length d.nodes) front ks h.below
 
-pub made_more : (d : DraftParts) (front : List ℕ) (p : Placed) → IsMade d (front ++ kids_of p.node) → IsBuilt (nest (trees d.nodes) p.node) →
+pub made_more : (d : DraftParts) (front : List ℕ) (p : Placed) → IsMade d (front ++ kids_of p.node) → IsRunnable (nest (trees d.nodes) p.node) →
     IsMade (with_node d p) (front ++ length d.nodes ∷ [])
 made_more d front p h built = record {
   free = replaces_push d.nodes p front h.free;
@@ -33,7 +33,7 @@ made_more d front p h built = record {
       (All-append (λ k. k < length d.nodes + 1) front (length d.nodes ∷ [])
       (All-weaker (λ k. k < length d.nodes) (λ k. k < length d.nodes + 1) (λ k l. omega (arith, l)) front (all_front (λ k. k < length d.nodes) front (kids_of p.node) h.below))
       (All-cons (λ k. k < length d.nodes + 1) (length d.nodes) [] (omega arith) (All-nil (λ k. k < length d.nodes + 1))));
-  built = λ k. subst (λ ts. IsBuilt (tree_at ts k)) (sym (trees_push d.nodes p)) (built_push (trees d.nodes) (nest (trees d.nodes) p.node) h.built built k);
+  built = λ k. subst (λ ts. IsRunnable (tree_at ts k)) (sym (trees_push d.nodes p)) (built_push (trees d.nodes) (nest (trees d.nodes) p.node) h.built built k);
   bytes = h.bytes;
   classes = h.classes;
   names = h.names;
@@ -48,7 +48,7 @@ unfolding loose loose_after trees trees_after
 made_none d nodes bytes classes names = record {
   free = ap loose nodes;
   below = All-nil (λ k. k < length d.nodes);
-  built = λ k. subst (λ ps. IsBuilt (tree_at (trees ps) k)) (sym nodes) tt;
+  built = λ k. subst (λ ps. IsRunnable (tree_at (trees ps) k)) (sym nodes) tt;
   bytes = bytes;
   classes = classes;
   names = names;

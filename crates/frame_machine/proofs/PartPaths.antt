@@ -1,5 +1,5 @@
 -- A part, by its node: what it stands for with what follows.
-use Rattle.std.proofs.Common.{◌≡◌, ℕ, zero, suc, ◌-◌, ◌<◌, ◌≤◌, ◌∙◌, Bool, true, false, List, [], ◌∷◌, ◌++◌, map, drop, length, All, Option, Some, None, slice_get, if◌then◌else◌, refl, sym, ap, subst, arith}
+use Rattle.std.proofs.Common.{◌≡◌, ℕ, zero, suc, ◌-◌, ◌<◌, ◌≤◌, ◌∙◌, Bool, true, false, List, [], ◌∷◌, ◌++◌, map, drop, length, All, Option, Some, None, slice_get, if◌then◌else◌, refl, sym, ap, subst, arith, not}
 use Rattle.std.proofs.lemmas.List.{drop-map}
 use Rattle.std.proofs.Math.ListN.{drop_of_length-le}
 use Rattle.std.proofs.lemmas.List.Elements.{All-head, All-tail}
@@ -11,20 +11,29 @@ use Rattle.pat_tree.specs.declared.nodes.AnchorKind.{AnchorKind}
 use Rattle.pat_tree.specs.declared.nodes.Node.{Node}
 use Rattle.pat_tree.specs.declared.nodes.Node.TheVariants as node
 use Rattle.pat_tree.specs.Nested as tree
-use Rattle.pat_tree.specs.Nested.{Nested, Row, row, nest, tree_at}
+use Rattle.pat_tree.specs.Nested.{Nested, Row, row, nest, tree_at, other_of, test_of}
+use mathlib.Core.Path.{fun_ext}
+use Rattle.pat_tree.specs.declared.nodes.Cond.{Cond}
+use Rattle.pat_tree.specs.declared.nodes.Cond.TheVariants as cond
 use Rattle.match_items.specs.Items.{is_none_left, after_item, longest_run, after_break, after_ref, ref_reaches, holds, earliest}
 use Rattle.frame_store.specs.declared.registers.Span.{Span}
 use Rattle.frame_store.specs.Captures.{capture}
-use Rattle.frame_machine.specs.Stream.{State, reached, accepted, hit_end, by_halt, is_partial}
-use Rattle.frame_machine.specs.Setting.{counts}
-use Rattle.frame_machine.specs.Moves.{Moves, stops, pause, stepped, noted, Follow, Handler, Path, at_verbs, catching, going, holding, reaching}
-use Rattle.frame_machine.specs.Paths.{close, ref_path, many_paths, turn_path, repeat_path, go_path, parts_path, choice_paths, branch_paths, path, row_paths, paths}
-use Rattle.pat_check.specs.Built.{IsBuilt}
+use Rattle.ordered_search.specs.Stream.{State, reached, accepted, hit_end, by_halt, is_partial}
+use Rattle.ordered_search.specs.Setting.{counts}
+use Rattle.ordered_search.specs.Moves.{Moves, stops, pause, stepped, noted, Follow, Handler, Path, at_verbs, catching, going, holding, reaching}
+use Rattle.ordered_search.specs.Paths.{close, ref_path, many_paths, turn_path, repeat_path, go_path, parts_path, choice_paths, branch_paths, leave, look_path, path, row_paths, paths, choose_path, other_path, test_path, assert_path, tested_path}
 use Rattle.frame_machine.specs.declared.machine.Next.TheVariants.{Branch, Offer, Begin}
 use Rattle.node_flow.specs.Linked.{AreChained, AllFollowed, IsLinked}
+use Rattle.frame_machine.specs.Branches.{IsBranched}
 use Rattle.frame_machine.specs.Ground.{Ground, tree_of, IsNode, IsGround}
-use Rattle.frame_machine.specs.Machine.{less, in_row, after, past, enter, branch_rest, branch_from, offer_from, begin_from, turned_from, close_from, focus, first_set, first_next}
-use Rattle.frame_machine.proofs.Free.{follow_same, holding_same, free_paths}
+use Rattle.frame_machine.specs.Machine.{less, in_row, first_set, first_next, Outside}
+use Rattle.frame_machine.specs.Frames.{after, past, enter, branch_rest, branch_from, offer_from, begin_from, turned_from, close_from, focus, branch_row, branch_path, other_from, chosen_from}
+use Rattle.ordered_search.proofs.Free.{follow_same, holding_same, free_paths, AllFree, free_branches}
+use Rattle.ordered_search.specs.Verbless.{IsVerbless}
+use Rattle.ordered_search.specs.Parts.{some_set, is_called, is_called_of}
+
+path_same : (P Q : Path) → ((s : State) (k : Follow) (f : Moves) (h : Handler) → P s k f h ≡ Q s k f h) → P ≡ Q
+path_same P Q e = fun_ext (λ s. fun_ext (λ k. fun_ext (λ f. fun_ext (λ h. e s k f h))))
 
 less_none : (high : Option ℕ) → high ≡ less 0 high
 less_none None = refl
@@ -35,41 +44,38 @@ abbrev pub part_paths : Ground → ℕ → List ℕ → List Path
 part_paths c d ks = map (λ q. paths c.setting d (tree_of c q)) ks
 
 module _ (c : Ground) where
-  pub after_nil : (d : ℕ) (k : Follow) → after c d k [] ≡ k
+  pub after_nil : (d : ℕ) (k : Outside) → after c d k [] ≡ k.follow
   unfolding after
-  after_nil d k = follow_same (after c d k []) k (λ how s f. refl)
+  after_nil d k = follow_same (after c d k []) k.follow (λ how s f. refl)
 
-  pub after_cons : (d : ℕ) (k : Follow) (q : ℕ) (qs : List ℕ) (s : State) (f : Moves) →
-      after c d k (q ∷ qs) reached s f ≡ paths c.setting d (tree_of c q) s (after c d k qs) f at_verbs
+  pub after_cons : (d : ℕ) (k : Outside) (q : ℕ) (qs : List ℕ) (s : State) (f : Moves) →
+      after c d k (q ∷ qs) reached s f ≡ paths c.setting d (tree_of c q) s (after c d k qs) f (k.hand q)
   unfolding after
   after_cons d k q qs s f = refl
 
-  after_accepted : (d : ℕ) (k : Follow) (qs : List ℕ) (s : State) (f : Moves) → after c d k qs accepted s f ≡ k accepted s f
+  after_accepted : (d : ℕ) (k : Outside) (qs : List ℕ) (s : State) (f : Moves) → after c d k qs accepted s f ≡ k.follow accepted s f
   unfolding after
   after_accepted d k [] s f = refl
   after_accepted d k (q ∷ qs) s f = refl
 
-  after_append : (d : ℕ) (k : Follow) (ps qs : List ℕ) → after c d (after c d k qs) ps ≡ after c d k (ps ++ qs)
-  unfolding after
-  after_append d k [] qs = after_nil d (after c d k qs)
-  after_append d k (p ∷ ps) qs =
-      follow_same (after c d (after c d k qs) (p ∷ ps)) (after c d k (p ∷ ps ++ qs))
-      (elim [
-        | reached ↦ λ s f. ap (λ (z : Follow). paths c.setting d (tree_of c p) s z f at_verbs) (after_append d k ps qs)
-        | accepted ↦ λ s f. after_accepted d k qs s f
-      ])
+  -- what verbs lead to is the same at each of these parts as at q
+  abbrev pub Alike : Outside → ℕ → List ℕ → Type 0
+  Alike k q ps = All (λ p. k.hand p ≡ k.hand q) ps
 
   -- a sequence of parts
-  parts_after : (d : ℕ) (k : Follow) (ps : List ℕ) → go_path (parts_path (part_paths c d ps)) k at_verbs ≡ after c d k ps
+  parts_after : (d : ℕ) (k : Outside) (q : ℕ) (ps qs : List ℕ) → Alike k q ps →
+      go_path (parts_path (part_paths c d ps)) (after c d k qs) (k.hand q) ≡ after c d k (ps ++ qs)
   unfolding go_path parts_path after
-  parts_after d k [] =
-      follow_same (go_path (parts_path []) k at_verbs) (after c d k [])
+  parts_after d k q [] qs a =
+      follow_same (go_path (parts_path []) (after c d k qs) (k.hand q)) (after c d k qs)
       (elim [ reached ↦ λ s f. refl | accepted ↦ λ s f. refl ])
-  parts_after d k (p ∷ ps) =
-      follow_same (go_path (parts_path (part_paths c d (p ∷ ps))) k at_verbs) (after c d k (p ∷ ps))
+  parts_after d k q (p ∷ ps) qs a =
+      follow_same (go_path (parts_path (part_paths c d (p ∷ ps))) (after c d k qs) (k.hand q)) (after c d k (p ∷ ps ++ qs))
       (elim [
-        | reached ↦ λ s f. ap (λ (z : Follow). paths c.setting d (tree_of c p) s z f at_verbs) (parts_after d k ps)
-        | accepted ↦ λ s f. refl
+        | reached ↦ λ s f.
+            ap (λ (z : Follow). paths c.setting d (tree_of c p) s z f (k.hand q)) (parts_after d k q ps qs (All-tail (λ x. k.hand x ≡ k.hand q) p ps a))
+            ∙ ap (λ (z : Handler). paths c.setting d (tree_of c p) s (after c d k (ps ++ qs)) f z) (sym (All-head (λ x. k.hand x ≡ k.hand q) p ps a))
+        | accepted ↦ λ s f. after_accepted d k qs s f
       ])
 
   row_parts : (d : ℕ) (ks : List ℕ) → row_paths c.setting d (paths c.setting d) (row (map (tree_at c.trees) ks)) ≡ part_paths c (suc d) ks
@@ -90,26 +96,27 @@ module _ (c : Ground) where
   row_deep d e ks deep = row_parts e ks ∙ ap (λ x. part_paths c x ks) (sym deep)
 
   -- a part with what follows it
-  module _ (q : ℕ) (n : Node) (i : IsNode c q n) (d z : ℕ) (k : Follow) (s : State) (f : Moves) (deep : d ≡ suc z) where
-    pub enter_node : enter c d k q s f ≡ path c.setting z (paths c.setting z) (nest c.trees n) s (past c d k q) f at_verbs
+  module _ (q : ℕ) (n : Node) (i : IsNode c q n) (d z : ℕ) (k : Outside) (s : State) (f : Moves) (deep : d ≡ suc z) where
+    pub enter_node : enter c d k q s f ≡ path c.setting z (paths c.setting z) (nest c.trees n) s (past c d k q) f (k.hand q)
     enter_node =
-        paths_deep d z (tree_of c q) s (past c d k q) f at_verbs deep
-        ∙ ap (λ t. path c.setting z (paths c.setting z) t s (past c d k q) f at_verbs) (sym i.is)
+        paths_deep d z (tree_of c q) s (past c d k q) f (k.hand q) deep
+        ∙ ap (λ t. path c.setting z (paths c.setting z) t s (past c d k q) f (k.hand q)) (sym i.is)
 
     pub enter_seq_none : n ≡ node.Seq [] → enter c d k q s f ≡ pause (past c d k q reached s f)
     unfolding path parts_path
-    enter_seq_none e = enter_node ∙ ap (λ m. path c.setting z (paths c.setting z) (nest c.trees m) s (past c d k q) f at_verbs) e
+    enter_seq_none e = enter_node ∙ ap (λ m. path c.setting z (paths c.setting z) (nest c.trees m) s (past c d k q) f (k.hand q)) e
 
-    pub enter_seq : (p : ℕ) (ps : List ℕ) → n ≡ node.Seq (p ∷ ps) → enter c d k q s f ≡ pause (enter c d k p s f)
+    pub enter_seq : (p : ℕ) (ps : List ℕ) → Alike k q (p ∷ ps) → n ≡ node.Seq (p ∷ ps) → enter c d k q s f ≡ pause (enter c d k p s f)
     unfolding path parts_path
-    enter_seq p ps e =
+    enter_seq p ps a e =
         let l : AreChained c.rest (p ∷ ps) (c.rest q) = subst (IsLinked c.rest (c.rest q)) e i.linked in
         let K : Follow = past c d k q in
         enter_node
-        ∙ ap (λ m. path c.setting z (paths c.setting z) (nest c.trees m) s K f at_verbs) e
-        ∙ ap (λ (xs : List Path). pause (parts_path xs s K f at_verbs)) (row_deep d z (p ∷ ps) deep)
-        ∙ ap (λ (z : Follow). pause (paths c.setting d (tree_of c p) s z f at_verbs))
-        (parts_after d K ps ∙ after_append d k ps (c.rest q) ∙ ap (after c d k) (sym l.0))
+        ∙ ap (λ m. path c.setting z (paths c.setting z) (nest c.trees m) s K f (k.hand q)) e
+        ∙ ap (λ (xs : List Path). pause (parts_path xs s K f (k.hand q))) (row_deep d z (p ∷ ps) deep)
+        ∙ ap (λ (z : Follow). pause (paths c.setting d (tree_of c p) s z f (k.hand q)))
+        (parts_after d k q ps (c.rest q) (All-tail (λ x. k.hand x ≡ k.hand q) p ps a) ∙ ap (after c d k) (sym l.0))
+        ∙ ap (λ (z : Handler). pause (paths c.setting d (tree_of c p) s (past c d k p) f z)) (sym (All-head (λ x. k.hand x ≡ k.hand q) p ps a))
 
   pub reaching_off : IsGround c → (b : Bool) (s : State) (x : Moves) → reaching c.setting b s x ≡ x
   unfolding reaching
@@ -143,26 +150,27 @@ module _ (c : Ground) where
         | Some span ↦ reaching_off ok _ s _
       ]
 
-  -- the branches of a group, from one on
-  branch_is : (q i d : ℕ) (number : Option ℕ) (ks : List ℕ) → tree.group number (row (map (tree_at c.trees) ks)) ≡ tree_of c q →
-      (s : State) (k : Follow) (f : Moves) →
-      branch_from c (tree_of c q) i d s k f at_verbs ≡ choice_paths c.setting (drop i (part_paths c d ks)) s k f at_verbs
-  branch_is q i d number ks t s k f =
-      ap (λ u. branch_from c u i d s k f at_verbs) (sym t)
-      ∙ ap (λ (xs : List Path). choice_paths c.setting (drop i xs) s k f at_verbs) (in_row_parts d ks)
+  -- the branches of a part, from one on
+  branch_is : (q i d : ℕ) (ks : List ℕ) → IsBranched c q ks → (s : State) (k : Follow) (f : Moves) (h : Handler) →
+      branch_from c (tree_of c q) i d s k f h ≡ choice_paths c.setting (drop i (part_paths c d ks)) s k f h
+  branch_is q i d ks b s k f h =
+      ap (λ (w : ℕ → Nested → Path). choice_paths c.setting (drop i (in_row (w d) (branch_row c (tree_of c q)))) s k f h) b.plain
+      ∙ ap (λ r. choice_paths c.setting (drop i (in_row (paths c.setting d) r)) s k f h) b.rows
+      ∙ ap (λ (xs : List Path). choice_paths c.setting (drop i xs) s k f h) (in_row_parts d ks)
 
-  -- where a group begins
-  pub first_branch : (q d : ℕ) (number : Option ℕ) (ks : List ℕ) → tree.group number (row (map (tree_at c.trees) ks)) ≡ tree_of c q →
-      AllFollowed c.rest (branch_rest c (tree_of c q) (c.rest q)) ks → (s : State) (k : Follow) (f : Moves) →
+  -- where the branches begin
+  pub first_branch : (q d : ℕ) (ks : List ℕ) → IsBranched c q ks → (k : Outside) → Alike k q ks → (s : State) (f : Moves) →
       focus c (first_next q ks) d k s f
-      ≡ branch_paths c.setting (part_paths c d ks) s (after c d k (branch_rest c (tree_of c q) (c.rest q))) f at_verbs
+      ≡ branch_paths c.setting (part_paths c d ks) s (after c d k (branch_rest c (tree_of c q) (c.rest q))) f (k.hand q)
   unfolding branch_paths
-  first_branch q d number [] t l s k f = refl
-  first_branch q d number (p ∷ []) t l s k f =
-      ap (λ (r : List ℕ). paths c.setting d (tree_of c p) s (after c d k r) f at_verbs)
-      (All-head (λ x. c.rest x ≡ branch_rest c (tree_of c q) (c.rest q)) p [] l)
-  first_branch q d number (p ∷ p' ∷ ps) t l s k f =
-      branch_is q 0 d number (p ∷ p' ∷ ps) t s (after c d k (branch_rest c (tree_of c q) (c.rest q))) f
+  first_branch q d [] b k a s f = refl
+  first_branch q d (p ∷ []) b k a s f =
+      ap (λ (r : List ℕ). paths c.setting d (tree_of c p) s (after c d k r) f (k.hand p))
+      (All-head (λ x. c.rest x ≡ branch_rest c (tree_of c q) (c.rest q)) p [] b.linked)
+      ∙ ap (λ (z : Handler). paths c.setting d (tree_of c p) s (after c d k (branch_rest c (tree_of c q) (c.rest q))) f z)
+      (All-head (λ x. k.hand x ≡ k.hand q) p [] a)
+  first_branch q d (p ∷ p' ∷ ps) b k a s f =
+      branch_is q 0 d (p ∷ p' ∷ ps) b s (after c d k (branch_rest c (tree_of c q) (c.rest q))) f (k.hand q)
 
   none_some : (p : ℕ) → None ≡ Some p → ⊥
   none_some p e = cc
@@ -180,31 +188,40 @@ module _ (c : Ground) where
   All-at P (x ∷ ks) zero p a e = subst P (some_same x p e) (All-head P x ks a)
   All-at P (x ∷ ks) (suc i) p a e = All-at P ks i p (All-tail P x ks a) e
 
-  -- one branch of a group
-  module _ (q i d : ℕ) (number : Option ℕ) (ks : List ℕ) (t : tree.group number (row (map (tree_at c.trees) ks)) ≡ tree_of c q)
-      (l : AllFollowed c.rest (branch_rest c (tree_of c q) (c.rest q)) ks) (p : ℕ) (at : slice_get ks i ≡ Some p) (b : IsBuilt (tree_of c p))
-      (s : State) (k : Follow) (f : Moves) where
+  -- where nothing follows the branches, they end their frame; without verbs they are the same before any handler
+  pub branches_in : (q d : ℕ) (ks : List ℕ) → IsBranched c q ks → branch_rest c (tree_of c q) (c.rest q) ≡ [] → AllFree (part_paths c d ks) →
+      (k : Outside) → Alike k q ks → (s : State) (f : Moves) (h : Handler) →
+      branch_paths c.setting (part_paths c d ks) s k.follow f h ≡ focus c (first_next q ks) d k s f
+  branches_in q d ks b none free k a s f h =
+      (free_branches c.setting (part_paths c d ks) free).same s k.follow f h (k.hand q)
+      ∙ ap (λ (z : Follow). branch_paths c.setting (part_paths c d ks) s z f (k.hand q)) (sym (after_nil d k) ∙ ap (after c d k) (sym none))
+      ∙ sym (first_branch q d ks b k a s f)
+
+  -- one branch of a part
+  module _ (q i d : ℕ) (ks : List ℕ) (b : IsBranched c q ks) (p : ℕ) (at : slice_get ks i ≡ Some p) (verbless : IsVerbless (tree_of c p))
+      (s : State) (k : Outside) (f : Moves) where
     choice_at : focus c (Branch q i) d k s f
-        ≡ choice_paths c.setting (paths c.setting d (tree_of c p) ∷ part_paths c d (drop (suc i) ks)) s (after c d k (branch_rest c (tree_of c q) (c.rest q))) f at_verbs
+        ≡ choice_paths c.setting (paths c.setting d (tree_of c p) ∷ part_paths c d (drop (suc i) ks)) s (after c d k (branch_rest c (tree_of c q) (c.rest q))) f (k.hand q)
     choice_at =
-        branch_is q i d number ks t s (after c d k (branch_rest c (tree_of c q) (c.rest q))) f
-        ∙ ap (λ (xs : List Path). choice_paths c.setting xs s (after c d k (branch_rest c (tree_of c q) (c.rest q))) f at_verbs)
+        branch_is q i d ks b s (after c d k (branch_rest c (tree_of c q) (c.rest q))) f (k.hand q)
+        ∙ ap (λ (xs : List Path). choice_paths c.setting xs s (after c d k (branch_rest c (tree_of c q) (c.rest q))) f (k.hand q))
         (drop-map (λ x. paths c.setting d (tree_of c x)) i ks ∙ ap (part_paths c d) (drop_here ks i p at))
 
-    branch_followed : (u : State) (m : Moves) → paths c.setting d (tree_of c p) u (after c d k (branch_rest c (tree_of c q) (c.rest q))) m at_verbs ≡ enter c d k p u m
-    branch_followed u m =
-        ap (λ (r : List ℕ). paths c.setting d (tree_of c p) u (after c d k r) m at_verbs)
-        (sym (All-at (λ x. c.rest x ≡ branch_rest c (tree_of c q) (c.rest q)) ks i p l at))
+    -- without verbs it is the same before any handler
+    branch_followed : (u : State) (m : Moves) (h : Handler) →
+        paths c.setting d (tree_of c p) u (after c d k (branch_rest c (tree_of c q) (c.rest q))) m h ≡ enter c d k p u m
+    branch_followed u m h =
+        (free_paths c.setting d (tree_of c p) verbless).same u (after c d k (branch_rest c (tree_of c q) (c.rest q))) m h (k.hand p)
+        ∙ ap (λ (r : List ℕ). paths c.setting d (tree_of c p) u (after c d k r) m (k.hand p))
+        (sym (All-at (λ x. c.rest x ≡ branch_rest c (tree_of c q) (c.rest q)) ks i p b.linked at))
 
     pub branch_last : length ks ≤ suc i → focus c (Branch q i) d k s f ≡ stepped (enter c d k p s f)
     unfolding choice_paths
     branch_last e =
         choice_at
-        ∙ ap (λ (xs : List ℕ). choice_paths c.setting (paths c.setting d (tree_of c p) ∷ part_paths c d xs) s (after c d k (branch_rest c (tree_of c q) (c.rest q))) f at_verbs)
+        ∙ ap (λ (xs : List ℕ). choice_paths c.setting (paths c.setting d (tree_of c p) ∷ part_paths c d xs) s (after c d k (branch_rest c (tree_of c q) (c.rest q))) f (k.hand q))
         (drop_of_length-le ks e)
-        ∙ ap stepped
-        ((free_paths c.setting d (tree_of c p) b).same s (after c d k (branch_rest c (tree_of c q) (c.rest q))) f (catching f at_verbs) at_verbs
-        ∙ branch_followed s f)
+        ∙ ap stepped (branch_followed s f (catching f (k.hand q)))
 
     pub branch_more : (p' : ℕ) → slice_get ks (suc i) ≡ Some p' →
         focus c (Branch q i) d k s f ≡ stepped (holding c.setting 1 s (λ u. enter c d k p u (pause (focus c (Branch q (suc i)) d k s f))))
@@ -212,27 +229,51 @@ module _ (c : Ground) where
     branch_more p' at' =
         let K : Follow = after c d k (branch_rest c (tree_of c q) (c.rest q)) in
         let rest : drop (suc i) ks ≡ p' ∷ drop (suc (suc i)) ks = drop_here ks (suc i) p' at' in
-        let later : Moves = pause (choice_paths c.setting (part_paths c d (p' ∷ drop (suc (suc i)) ks)) s K f at_verbs) in
+        let later : Moves = pause (choice_paths c.setting (part_paths c d (p' ∷ drop (suc (suc i)) ks)) s K f (k.hand q)) in
         let same : later ≡ pause (focus c (Branch q (suc i)) d k s f) =
-        ap (λ (xs : List ℕ). pause (choice_paths c.setting (part_paths c d xs) s K f at_verbs)) (sym rest)
-        ∙ ap (λ (xs : List Path). pause (choice_paths c.setting xs s K f at_verbs)) (sym (drop-map (λ x. paths c.setting d (tree_of c x)) (suc i) ks))
-        ∙ ap pause (sym (branch_is q (suc i) d number ks t s K f)) in
+        ap (λ (xs : List ℕ). pause (choice_paths c.setting (part_paths c d xs) s K f (k.hand q))) (sym rest)
+        ∙ ap (λ (xs : List Path). pause (choice_paths c.setting xs s K f (k.hand q))) (sym (drop-map (λ x. paths c.setting d (tree_of c x)) (suc i) ks))
+        ∙ ap pause (sym (branch_is q (suc i) d ks b s K f (k.hand q))) in
         choice_at
-        ∙ ap (λ (xs : List ℕ). choice_paths c.setting (paths c.setting d (tree_of c p) ∷ part_paths c d xs) s K f at_verbs) rest
+        ∙ ap (λ (xs : List ℕ). choice_paths c.setting (paths c.setting d (tree_of c p) ∷ part_paths c d xs) s K f (k.hand q)) rest
         ∙ ap stepped
-        (holding_same c.setting 1 s _ _
-        (λ u.
-        (free_paths c.setting d (tree_of c p) b).same u K later (catching later at_verbs) at_verbs
-        ∙ branch_followed u later
-        ∙ ap (enter c d k p u) same))
+        (holding_same c.setting 1 s _ _ (λ u. branch_followed u later (catching later (k.hand q)) ∙ ap (enter c d k p u) same))
+
+  -- the branches of a part, by its node
+  module _ (q : ℕ) (n : Node) (i : IsNode c q n) where
+    pub tree_by : (m : Node) → n ≡ m → nest c.trees m ≡ tree_of c q
+    tree_by m e = subst (λ z. nest c.trees z ≡ tree_of c q) e i.is
+
+    branched : (ks r : List ℕ) (t : Nested) → t ≡ tree_of c q → branch_row c t ≡ row (map (tree_at c.trees) ks) → branch_rest c t (c.rest q) ≡ r →
+        branch_path c t ≡ paths c.setting → AllFollowed c.rest r ks → IsBranched c q ks
+    branched ks r t is rows rest plain l = record {
+      rows = ap (branch_row c) (sym is) ∙ rows;
+      linked = subst (λ x. AllFollowed c.rest x ks) (sym rest ∙ ap (λ x. branch_rest c x (c.rest q)) is) l;
+      plain = ap (branch_path c) (sym is) ∙ plain;
+    }
+
+    pub branched_group : (number : Option ℕ) (ks : List ℕ) → n ≡ node.Group number ks → IsBranched c q ks
+    branched_group None ks e =
+        branched ks (c.rest q) (tree.group None (row (map (tree_at c.trees) ks))) (tree_by (node.Group None ks) e) refl refl refl
+        (subst (IsLinked c.rest (c.rest q)) e i.linked)
+    branched_group (Some m) ks e =
+        branched ks [] (tree.group (Some m) (row (map (tree_at c.trees) ks))) (tree_by (node.Group (Some m) ks) e) refl refl refl
+        (subst (IsLinked c.rest (c.rest q)) e i.linked)
+
+    pub branched_atomic : (ks : List ℕ) → n ≡ node.Atomic ks → IsBranched c q ks
+    branched_atomic ks e =
+        branched ks [] (tree.atomic (row (map (tree_at c.trees) ks))) (tree_by (node.Atomic ks) e) refl refl refl
+        (subst (IsLinked c.rest (c.rest q)) e i.linked)
+
+    pub branched_look : (positive once : Bool) (ks : List ℕ) → n ≡ node.Look true positive once ks → IsBranched c q ks
+    branched_look positive once ks e =
+        branched ks [] (tree.look true positive once (row (map (tree_at c.trees) ks))) (tree_by (node.Look true positive once ks) e) refl refl refl
+        (subst (IsLinked c.rest (c.rest q)) e i.linked)
 
   -- a part with what follows it, continued
-  module _ (ok : IsGround c) (q : ℕ) (n : Node) (i : IsNode c q n) (d z : ℕ) (k : Follow) (s : State) (f : Moves) (deep : d ≡ suc z) where
-    by_node : (m : Node) → n ≡ m → enter c d k q s f ≡ path c.setting z (paths c.setting z) (nest c.trees m) s (past c d k q) f at_verbs
-    by_node m e = enter_node q n i d z k s f deep ∙ ap (λ x. path c.setting z (paths c.setting z) (nest c.trees x) s (past c d k q) f at_verbs) e
-
-    tree_by : (m : Node) → n ≡ m → nest c.trees m ≡ tree_of c q
-    tree_by m e = subst (λ z. nest c.trees z ≡ tree_of c q) e i.is
+  module _ (ok : IsGround c) (q : ℕ) (n : Node) (i : IsNode c q n) (d z : ℕ) (k : Outside) (s : State) (f : Moves) (deep : d ≡ suc z) where
+    by_node : (m : Node) → n ≡ m → enter c d k q s f ≡ path c.setting z (paths c.setting z) (nest c.trees m) s (past c d k q) f (k.hand q)
+    by_node m e = enter_node q n i d z k s f deep ∙ ap (λ x. path c.setting z (paths c.setting z) (nest c.trees x) s (past c d k q) f (k.hand q)) e
 
     pub enter_empty : n ≡ node.Empty → enter c d k q s f ≡ pause (past c d k q reached s f)
     unfolding path
@@ -266,47 +307,130 @@ module _ (c : Ground) where
     unfolding path
     enter_ref ns caseless e = by_node (node.Ref ns caseless) e ∙ ap pause (ref_first ok ns caseless s (past c d k q) f)
 
-    pub enter_group : (ks : List ℕ) → n ≡ node.Group None ks → enter c d k q s f ≡ pause (focus c (first_next q ks) d k s f)
+    pub enter_group : (ks : List ℕ) → Alike k q ks → n ≡ node.Group None ks → enter c d k q s f ≡ pause (focus c (first_next q ks) d k s f)
     unfolding path
-    enter_group ks e =
-        let t : tree.group None (row (map (tree_at c.trees) ks)) ≡ tree_of c q = tree_by (node.Group None ks) e in
-        let l : AllFollowed c.rest (c.rest q) ks = subst (IsLinked c.rest (c.rest q)) e i.linked in
+    enter_group ks a e =
+        let t : tree.group None (row (map (tree_at c.trees) ks)) ≡ tree_of c q = tree_by q n i (node.Group None ks) e in
         by_node (node.Group None ks) e
-        ∙ ap (λ (xs : List Path). pause (branch_paths c.setting xs s (past c d k q) f at_verbs)) (row_deep d z ks deep)
-        ∙ ap (λ (r : List ℕ). pause (branch_paths c.setting (part_paths c d ks) s (after c d k r) f at_verbs)) (ap (λ z. branch_rest c z (c.rest q)) t)
-        ∙ ap pause
-        (sym (first_branch q d None ks t (subst (λ r. AllFollowed c.rest r ks) (ap (λ z. branch_rest c z (c.rest q)) t) l) s k f))
+        ∙ ap (λ (xs : List Path). pause (branch_paths c.setting xs s (past c d k q) f (k.hand q))) (row_deep d z ks deep)
+        ∙ ap (λ (r : List ℕ). pause (branch_paths c.setting (part_paths c d ks) s (after c d k r) f (k.hand q))) (ap (λ z. branch_rest c z (c.rest q)) t)
+        ∙ ap pause (sym (first_branch q d ks (branched_group q n i None ks e) k a s f))
 
     pub enter_capture : (m : ℕ) (ks : List ℕ) → n ≡ node.Group (Some m) ks → enter c d k q s f
-        ≡ pause (holding c.setting 1 s (λ t. focus c (first_next q ks) d (close_from c (tree_of c q) s.place (past c d k q)) t (pause f)))
+        ≡ pause (holding c.setting 1 s (λ t. branch_paths c.setting (part_paths c d ks) t (close_from c (tree_of c q) s.place (past c d k q)) (pause f) (k.hand q)))
     unfolding path
     enter_capture m ks e =
-        let t : tree.group (Some m) (row (map (tree_at c.trees) ks)) ≡ tree_of c q = tree_by (node.Group (Some m) ks) e in
-        let l : AllFollowed c.rest [] ks = subst (IsLinked c.rest (c.rest q)) e i.linked in
-        let none : [] ≡ branch_rest c (tree_of c q) (c.rest q) = ap (λ z. branch_rest c z (c.rest q)) t in
+        let t : tree.group (Some m) (row (map (tree_at c.trees) ks)) ≡ tree_of c q = tree_by q n i (node.Group (Some m) ks) e in
         let K : Follow = close_from c (tree_of c q) s.place (past c d k q) in
         let closes : (λ how u x. close c.setting m s.place how u (past c d k q) x) ≡ K = ap (λ z. close_from c z s.place (past c d k q)) t in
         by_node (node.Group (Some m) ks) e
         ∙ ap pause
         (holding_same c.setting 1 s _ _
         (λ u.
-        ap (λ (xs : List Path). branch_paths c.setting xs u (λ how v x. close c.setting m s.place how v (past c d k q) x) (pause f) at_verbs) (row_deep d z ks deep)
-        ∙ ap (λ (z : Follow). branch_paths c.setting (part_paths c d ks) u z (pause f) at_verbs)
-        (closes ∙ sym (after_nil d K) ∙ ap (after c d K) none)
-        ∙ sym (first_branch q d (Some m) ks t (subst (λ r. AllFollowed c.rest r ks) none l) u K (pause f))))
+        ap (λ (xs : List Path). branch_paths c.setting xs u (λ how v x. close c.setting m s.place how v (past c d k q) x) (pause f) (k.hand q)) (row_deep d z ks deep)
+        ∙ ap (λ (z : Follow). branch_paths c.setting (part_paths c d ks) u z (pause f) (k.hand q)) closes))
+
+    pub enter_atomic : (ks : List ℕ) → n ≡ node.Atomic ks → enter c d k q s f
+        ≡ pause (holding c.setting 1 s (λ t. branch_paths c.setting (part_paths c d ks) t (λ how u e. leave c.setting s how u (past c d k q) f) (pause f) (k.hand q)))
+    unfolding path
+    enter_atomic ks e =
+        by_node (node.Atomic ks) e
+        ∙ ap (λ (xs : List Path). pause (holding c.setting 1 s (λ t. branch_paths c.setting xs t (λ how u e. leave c.setting s how u (past c d k q) f) (pause f) (k.hand q)))) (row_deep d z ks deep)
+
+    -- a lookahead
+    pub enter_look : (positive once : Bool) (ks : List ℕ) → n ≡ node.Look true positive once ks → enter c d k q s f
+        ≡ look_path c.setting positive once (branch_paths c.setting (part_paths c d ks)) s (past c d k q) f (k.hand q)
+    unfolding path
+    enter_look positive once ks e =
+        by_node (node.Look true positive once ks) e
+        ∙ ap (λ (xs : List Path). look_path c.setting positive once (branch_paths c.setting xs) s (past c d k q) f (k.hand q)) (row_deep d z ks deep)
+
+    -- A condition.
+
+    first_is : (p : ℕ) (u : State) (K : Follow) (m : Moves) (h : Handler) → path c.setting z (paths c.setting z) (tree_of c p) u K m h ≡ paths c.setting d (tree_of c p) u K m h
+    first_is p u K m h = sym (paths_deep d z (tree_of c p) u K m h deep)
+
+    other_is : (no' : Option ℕ) (u : State) (K : Follow) (m : Moves) (h : Handler) →
+        other_path c.setting z (paths c.setting z) (other_of c.trees no') u K m h ≡ other_from c (other_of c.trees no') d u K m h
+    unfolding path
+    other_is None u K m h = refl
+    other_is (Some p) u K m h = first_is p u K m h
+
+    -- where a test that is no lookaround holds, or not
+    enter_chosen : (test : Cond) (yes' : ℕ) (no' : Option ℕ) → n ≡ node.Cond test yes' no' → (holds : Bool) →
+        choose_path holds (path c.setting z (paths c.setting z) (tree_of c yes')) (other_path c.setting z (paths c.setting z) (other_of c.trees no')) s (past c d k q) f (k.hand q)
+        ≡ pause (chosen_from c (tree_of c q) holds d s (past c d k q) f (k.hand q))
+    enter_chosen test yes' no' e true =
+        ap pause (first_is yes' s (past c d k q) f (k.hand q))
+        ∙ ap (λ t. pause (chosen_from c t true d s (past c d k q) f (k.hand q))) (tree_by q n i (node.Cond test yes' no') e)
+    enter_chosen test yes' no' e false =
+        ap pause (other_is no' s (past c d k q) f (k.hand q))
+        ∙ ap (λ t. pause (chosen_from c t false d s (past c d k q) f (k.hand q))) (tree_by q n i (node.Cond test yes' no') e)
+
+    pub enter_any_set : (ns : List ℕ) (yes' : ℕ) (no' : Option ℕ) → n ≡ node.Cond (cond.AnySet ns) yes' no' →
+        enter c d k q s f ≡ pause (chosen_from c (tree_of c q) (some_set s.caps ns) d s (past c d k q) f (k.hand q))
+    unfolding path
+    enter_any_set ns yes' no' e = by_node (node.Cond (cond.AnySet ns) yes' no') e ∙ enter_chosen (cond.AnySet ns) yes' no' e (some_set s.caps ns)
+
+    pub enter_never : (yes' : ℕ) (no' : Option ℕ) → n ≡ node.Cond cond.Never yes' no' →
+        enter c d k q s f ≡ pause (chosen_from c (tree_of c q) false d s (past c d k q) f (k.hand q))
+    unfolding path
+    enter_never yes' no' e = by_node (node.Cond cond.Never yes' no') e ∙ enter_chosen cond.Never yes' no' e false
+
+    -- no call is active
+    pub enter_in_call : (yes' : ℕ) (no' : Option ℕ) → n ≡ node.Cond cond.InCall yes' no' → s.calls ≡ [] →
+        enter c d k q s f ≡ pause (chosen_from c (tree_of c q) false d s (past c d k q) f (k.hand q))
+    unfolding path
+    enter_in_call yes' no' e none =
+        by_node (node.Cond cond.InCall yes' no') e ∙ enter_chosen cond.InCall yes' no' e (is_called s.calls)
+        ∙ ap (λ (l : List (ℕ × ℕ)). pause (chosen_from c (tree_of c q) (is_called l) d s (past c d k q) f (k.hand q))) none
+
+    pub enter_in_call_of : (ns : List ℕ) (yes' : ℕ) (no' : Option ℕ) → n ≡ node.Cond (cond.InCallOf ns) yes' no' → s.calls ≡ [] →
+        enter c d k q s f ≡ pause (chosen_from c (tree_of c q) false d s (past c d k q) f (k.hand q))
+    unfolding path
+    enter_in_call_of ns yes' no' e none =
+        by_node (node.Cond (cond.InCallOf ns) yes' no') e ∙ enter_chosen (cond.InCallOf ns) yes' no' e (is_called_of s.calls ns)
+        ∙ ap (λ (l : List (ℕ × ℕ)). pause (chosen_from c (tree_of c q) (is_called_of l ns) d s (past c d k q) f (k.hand q))) none
+
+    -- a lookahead as a test
+    module _ (p : ℕ) (yes' : ℕ) (no' : Option ℕ) (e : n ≡ node.Cond (cond.Assert p) yes' no') where
+      first_path : path c.setting z (paths c.setting z) (tree_of c yes') ≡ chosen_from c (tree_of c q) true d
+      first_path = path_same _ _ (λ u K m h. first_is yes' u K m h ∙ ap (λ t. chosen_from c t true d u K m h) (tree_by q n i (node.Cond (cond.Assert p) yes' no') e))
+
+      second_path : other_path c.setting z (paths c.setting z) (other_of c.trees no') ≡ chosen_from c (tree_of c q) false d
+      second_path = path_same _ _ (λ u K m h. other_is no' u K m h ∙ ap (λ t. chosen_from c t false d u K m h) (tree_by q n i (node.Cond (cond.Assert p) yes' no') e))
+
+      asserted : (positive once : Bool) (ks : List ℕ) → tree_of c p ≡ tree.look true positive once (row (map (tree_at c.trees) ks)) →
+          enter c d k q s f ≡ assert_path c.setting positive (branch_paths c.setting (part_paths c d ks)) (chosen_from c (tree_of c q) true d) (chosen_from c (tree_of c q) false d) s (past c d k q) f (k.hand q)
+      unfolding path
+      asserted positive once ks t =
+          let P : Path = path c.setting z (paths c.setting z) (tree_of c yes') in
+          let P' : Path = other_path c.setting z (paths c.setting z) (other_of c.trees no') in
+          let K : Follow = past c d k q in
+          by_node (node.Cond (cond.Assert p) yes' no') e
+          ∙ ap (λ u. test_path c.setting z (paths c.setting z) (test_of u) P P' s K f (k.hand q)) t
+          ∙ ap (λ (xs : List Path). assert_path c.setting positive (branch_paths c.setting xs) P P' s K f (k.hand q)) (row_deep d z ks deep)
+          ∙ ap (λ (x : Path). assert_path c.setting positive (branch_paths c.setting (part_paths c d ks)) x P' s K f (k.hand q)) first_path
+          ∙ ap (λ (x : Path). assert_path c.setting positive (branch_paths c.setting (part_paths c d ks)) (chosen_from c (tree_of c q) true d) x s K f (k.hand q)) second_path
+
+      -- where it has an outcome, the first branch is run if it is positive, and else the second
+      pub enter_test : (positive once : Bool) (ks : List ℕ) → tree_of c p ≡ tree.look true positive once (row (map (tree_at c.trees) ks)) →
+          enter c d k q s f ≡ tested_path c.setting (branch_paths c.setting (part_paths c d ks)) (chosen_from c (tree_of c q) positive d) (chosen_from c (tree_of c q) (not positive) d) s (past c d k q) f (k.hand q)
+      enter_test true once ks t = asserted true once ks t
+      enter_test false once ks t = asserted false once ks t
 
     pub enter_repeat : (body low : ℕ) (high : Option ℕ) (lazily : Bool) → n ≡ node.Repeat body low high lazily →
         enter c d k q s f ≡ focus c (Offer q 0) d k s f
     enter_repeat body low high lazily e =
-        let t : tree.repeat (tree_of c body) low high lazily ≡ tree_of c q = tree_by (node.Repeat body low high lazily) e in
+        let t : tree.repeat (tree_of c body) low high lazily ≡ tree_of c q = tree_by q n i (node.Repeat body low high lazily) e in
         let none_less : high ≡ less 0 high = less_none high in
         let zero_less : d ≡ d - 0 = omega arith in
         let low_less : low ≡ low - 0 = omega arith in
-        ap (λ z. paths c.setting d z s (past c d k q) f at_verbs) (sym t)
-        ∙ ap (λ x. paths c.setting x (tree.repeat (tree_of c body) low high lazily) s (past c d k q) f at_verbs) zero_less
-        ∙ ap (λ x. paths c.setting (d - 0) (tree.repeat (tree_of c body) x high lazily) s (past c d k q) f at_verbs) low_less
-        ∙ ap (λ x. paths c.setting (d - 0) (tree.repeat (tree_of c body) (low - 0) x lazily) s (past c d k q) f at_verbs) none_less
-        ∙ ap (λ z. offer_from c z 0 d s (past c d k q) f at_verbs) t
+        ap (λ z. paths c.setting d z s (past c d k q) f (k.hand q)) (sym t)
+        ∙ ap (λ x. paths c.setting x (tree.repeat (tree_of c body) low high lazily) s (past c d k q) f (k.hand q)) zero_less
+        ∙ ap (λ x. paths c.setting (d - 0) (tree.repeat (tree_of c body) x high lazily) s (past c d k q) f (k.hand q)) low_less
+        ∙ ap (λ x. paths c.setting (d - 0) (tree.repeat (tree_of c body) (low - 0) x lazily) s (past c d k q) f (k.hand q)) none_less
+        ∙ ap (λ z. offer_from c z 0 d s (past c d k q) f (k.hand q)) t
 
     pub enter_many : (item : Item) (low : ℕ) (high : Option ℕ) (lazily : Bool) → n ≡ node.OneRepeat item low high lazily →
         enter c d k q s f ≡ pause (many_paths c.setting item low high lazily (longest_run c.setting.scene item high s.place) s (past c d k q) f)
@@ -315,86 +439,86 @@ module _ (c : Ground) where
 
   -- A repeat after some turns.
 
-  repeat_below : (d : ℕ) (body : Nested) (low : ℕ) (high : Option ℕ) (lazily : Bool) (s : State) (k : Follow) (f : Moves) → 0 < low →
-      paths c.setting (suc d) (tree.repeat body low high lazily) s k f at_verbs ≡ pause (turn_path c.setting (paths c.setting d) body low high lazily s k f at_verbs)
+  repeat_below : (d : ℕ) (body : Nested) (low : ℕ) (high : Option ℕ) (lazily : Bool) (s : State) (k : Follow) (f : Moves) (h : Handler) → 0 < low →
+      paths c.setting (suc d) (tree.repeat body low high lazily) s k f h ≡ pause (turn_path c.setting (paths c.setting d) body low high lazily s k f h)
   unfolding paths path repeat_path
-  repeat_below d body zero high lazily s k f lt = absurd (omega (arith, lt))
-  repeat_below d body (suc low) high lazily s k f lt = refl
+  repeat_below d body zero high lazily s k f h lt = absurd (omega (arith, lt))
+  repeat_below d body (suc low) high lazily s k f h lt = refl
 
   some_left : (n : ℕ) → is_none_left (Some (suc n)) ≡ true → ⊥
   some_left n e = false≢true (sym (ne_eqb (suc n) 0 (λ x. omega (arith, x))) ∙ e)
 
-  repeat_full : (d : ℕ) (body : Nested) (low : ℕ) (high : Option ℕ) (lazily : Bool) (s : State) (k : Follow) (f : Moves) → low ≡ 0 → is_none_left high ≡ true →
-      paths c.setting (suc d) (tree.repeat body low high lazily) s k f at_verbs ≡ pause (k reached s f)
+  repeat_full : (d : ℕ) (body : Nested) (low : ℕ) (high : Option ℕ) (lazily : Bool) (s : State) (k : Follow) (f : Moves) (h : Handler) → low ≡ 0 → is_none_left high ≡ true →
+      paths c.setting (suc d) (tree.repeat body low high lazily) s k f h ≡ pause (k reached s f)
   unfolding paths path repeat_path
-  repeat_full d body (suc low) high lazily s k f x e = absurd (omega (arith, x))
-  repeat_full d body zero None lazily s k f x e = absurd (false≢true e)
-  repeat_full d body zero (Some zero) lazily s k f x e = refl
-  repeat_full d body zero (Some (suc n)) lazily s k f x e = absurd (some_left n e)
+  repeat_full d body (suc low) high lazily s k f h x e = absurd (omega (arith, x))
+  repeat_full d body zero None lazily s k f h x e = absurd (false≢true e)
+  repeat_full d body zero (Some zero) lazily s k f h x e = refl
+  repeat_full d body zero (Some (suc n)) lazily s k f h x e = absurd (some_left n e)
 
-  repeat_greedy : (d : ℕ) (body : Nested) (low : ℕ) (high : Option ℕ) (s : State) (k : Follow) (f : Moves) → low ≡ 0 → is_none_left high ≡ false →
-      paths c.setting (suc d) (tree.repeat body low high false) s k f at_verbs ≡ pause (turn_path c.setting (paths c.setting d) body low high false s k (k reached s f) at_verbs)
+  repeat_greedy : (d : ℕ) (body : Nested) (low : ℕ) (high : Option ℕ) (s : State) (k : Follow) (f : Moves) (h : Handler) → low ≡ 0 → is_none_left high ≡ false →
+      paths c.setting (suc d) (tree.repeat body low high false) s k f h ≡ pause (turn_path c.setting (paths c.setting d) body low high false s k (k reached s f) h)
   unfolding paths path repeat_path
-  repeat_greedy d body (suc low) high s k f x e = absurd (omega (arith, x))
-  repeat_greedy d body zero None s k f x e = refl
-  repeat_greedy d body zero (Some zero) s k f x e = absurd (false≢true (sym e))
-  repeat_greedy d body zero (Some (suc n)) s k f x e = refl
+  repeat_greedy d body (suc low) high s k f h x e = absurd (omega (arith, x))
+  repeat_greedy d body zero None s k f h x e = refl
+  repeat_greedy d body zero (Some zero) s k f h x e = absurd (false≢true (sym e))
+  repeat_greedy d body zero (Some (suc n)) s k f h x e = refl
 
-  repeat_lazy : (d : ℕ) (body : Nested) (low : ℕ) (high : Option ℕ) (s : State) (k : Follow) (f : Moves) → low ≡ 0 → is_none_left high ≡ false →
-      paths c.setting (suc d) (tree.repeat body low high true) s k f at_verbs
-      ≡ pause (holding c.setting 1 s (λ t. k reached t (pause (turn_path c.setting (paths c.setting d) body low high true s k f at_verbs))))
+  repeat_lazy : (d : ℕ) (body : Nested) (low : ℕ) (high : Option ℕ) (s : State) (k : Follow) (f : Moves) (h : Handler) → low ≡ 0 → is_none_left high ≡ false →
+      paths c.setting (suc d) (tree.repeat body low high true) s k f h
+      ≡ pause (holding c.setting 1 s (λ t. k reached t (pause (turn_path c.setting (paths c.setting d) body low high true s k f h))))
   unfolding paths path repeat_path
-  repeat_lazy d body (suc low) high s k f x e = absurd (omega (arith, x))
-  repeat_lazy d body zero None s k f x e = refl
-  repeat_lazy d body zero (Some zero) s k f x e = absurd (false≢true (sym e))
-  repeat_lazy d body zero (Some (suc n)) s k f x e = refl
+  repeat_lazy d body (suc low) high s k f h x e = absurd (omega (arith, x))
+  repeat_lazy d body zero None s k f h x e = refl
+  repeat_lazy d body zero (Some zero) s k f h x e = absurd (false≢true (sym e))
+  repeat_lazy d body zero (Some (suc n)) s k f h x e = refl
 
   -- A repeat of the pattern after i turns, where d is one more than the depth after a further turn.
   module _ (q i d : ℕ) (body : Nested) (low : ℕ) (high : Option ℕ) (lazily : Bool) (t : tree.repeat body low high lazily ≡ tree_of c q)
-      (k : Follow) (s : State) (f : Moves) (deep : i < d) where
-    offer_is : focus c (Offer q i) d k s f ≡ paths c.setting (suc (d - suc i)) (tree.repeat body (low - i) (less i high) lazily) s (past c d k q) f at_verbs
+      (k : Outside) (s : State) (f : Moves) (deep : i < d) where
+    offer_is : focus c (Offer q i) d k s f ≡ paths c.setting (suc (d - suc i)) (tree.repeat body (low - i) (less i high) lazily) s (past c d k q) f (k.hand q)
     offer_is =
         let e : d - i ≡ suc (d - suc i) = omega (arith, deep) in
-        ap (λ x. offer_from c x i d s (past c d k q) f at_verbs) (sym t)
-        ∙ ap (λ x. paths c.setting x (tree.repeat body (low - i) (less i high) lazily) s (past c d k q) f at_verbs) e
+        ap (λ x. offer_from c x i d s (past c d k q) f (k.hand q)) (sym t)
+        ∙ ap (λ x. paths c.setting x (tree.repeat body (low - i) (less i high) lazily) s (past c d k q) f (k.hand q)) e
 
-    pub begin_is : (m : Moves) → turn_path c.setting (paths c.setting (d - suc i)) body (low - i) (less i high) lazily s (past c d k q) m at_verbs
-        ≡ begin_from c (tree_of c q) i d s (past c d k q) m at_verbs
-    begin_is m = ap (λ x. begin_from c x i d s (past c d k q) m at_verbs) t
+    pub begin_is : (m : Moves) → turn_path c.setting (paths c.setting (d - suc i)) body (low - i) (less i high) lazily s (past c d k q) m (k.hand q)
+        ≡ begin_from c (tree_of c q) i d s (past c d k q) m (k.hand q)
+    begin_is m = ap (λ x. begin_from c x i d s (past c d k q) m (k.hand q)) t
 
     pub offer_below : i < low → focus c (Offer q i) d k s f ≡ pause (focus c (Begin q i false) d k s f)
     offer_below lt =
-        offer_is ∙ repeat_below (d - suc i) body (low - i) (less i high) lazily s (past c d k q) f (omega (arith, lt)) ∙ ap pause (begin_is f)
+        offer_is ∙ repeat_below (d - suc i) body (low - i) (less i high) lazily s (past c d k q) f (k.hand q) (omega (arith, lt)) ∙ ap pause (begin_is f)
 
     pub offer_full : low ≤ i → is_none_left (less i high) ≡ true → focus c (Offer q i) d k s f ≡ pause (past c d k q reached s f)
-    offer_full ge e = offer_is ∙ repeat_full (d - suc i) body (low - i) (less i high) lazily s (past c d k q) f (omega (arith, ge)) e
+    offer_full ge e = offer_is ∙ repeat_full (d - suc i) body (low - i) (less i high) lazily s (past c d k q) f (k.hand q) (omega (arith, ge)) e
 
     pub offer_greedy : low ≤ i → is_none_left (less i high) ≡ false → lazily ≡ false → focus c (Offer q i) d k s f ≡ pause (focus c (Begin q i true) d k s f)
     offer_greedy ge e is =
         let K : Follow = past c d k q in
         offer_is
-        ∙ ap (λ b. paths c.setting (suc (d - suc i)) (tree.repeat body (low - i) (less i high) b) s K f at_verbs) is
-        ∙ repeat_greedy (d - suc i) body (low - i) (less i high) s K f (omega (arith, ge)) e
-        ∙ ap (λ b. pause (turn_path c.setting (paths c.setting (d - suc i)) body (low - i) (less i high) b s K (K reached s f) at_verbs)) (sym is)
+        ∙ ap (λ b. paths c.setting (suc (d - suc i)) (tree.repeat body (low - i) (less i high) b) s K f (k.hand q)) is
+        ∙ repeat_greedy (d - suc i) body (low - i) (less i high) s K f (k.hand q) (omega (arith, ge)) e
+        ∙ ap (λ b. pause (turn_path c.setting (paths c.setting (d - suc i)) body (low - i) (less i high) b s K (K reached s f) (k.hand q))) (sym is)
         ∙ ap pause (begin_is (K reached s f))
 
     pub offer_lazy : low ≤ i → is_none_left (less i high) ≡ false → lazily ≡ true → focus c (Offer q i) d k s f
-        ≡ pause (holding c.setting 1 s (λ u. past c d k q reached u (pause (begin_from c (tree_of c q) i d s (past c d k q) f at_verbs))))
+        ≡ pause (holding c.setting 1 s (λ u. past c d k q reached u (pause (begin_from c (tree_of c q) i d s (past c d k q) f (k.hand q)))))
     offer_lazy ge e is =
         let K : Follow = past c d k q in
         offer_is
-        ∙ ap (λ b. paths c.setting (suc (d - suc i)) (tree.repeat body (low - i) (less i high) b) s K f at_verbs) is
-        ∙ repeat_lazy (d - suc i) body (low - i) (less i high) s K f (omega (arith, ge)) e
-        ∙ ap (λ b. pause (holding c.setting 1 s (λ u. K reached u (pause (turn_path c.setting (paths c.setting (d - suc i)) body (low - i) (less i high) b s K f at_verbs))))) (sym is)
+        ∙ ap (λ b. paths c.setting (suc (d - suc i)) (tree.repeat body (low - i) (less i high) b) s K f (k.hand q)) is
+        ∙ repeat_lazy (d - suc i) body (low - i) (less i high) s K f (k.hand q) (omega (arith, ge)) e
+        ∙ ap (λ b. pause (holding c.setting 1 s (λ u. K reached u (pause (turn_path c.setting (paths c.setting (d - suc i)) body (low - i) (less i high) b s K f (k.hand q)))))) (sym is)
         ∙ ap (λ m. pause (holding c.setting 1 s (λ u. K reached u (pause m)))) (begin_is f)
 
     -- a further turn
     pub begin_step : (b : Bool) → focus c (Begin q i b) d k s f ≡ stepped (holding c.setting 1 s (λ u.
-        paths c.setting (d - suc i) body u (turned_from c (tree_of c q) i d s (past c d k q)) (pause (if b then past c d k q reached s f else f)) at_verbs))
+        paths c.setting (d - suc i) body u (turned_from c (tree_of c q) i d s (past c d k q) (k.hand q)) (pause (if b then past c d k q reached s f else f)) (k.hand q)))
     unfolding turn_path
     begin_step b =
         let K : Follow = past c d k q in
         let m : Moves = if b then K reached s f else f in
         sym (begin_is m)
-        ∙ ap (λ (l : Follow). stepped (holding c.setting 1 s (λ u. paths c.setting (d - suc i) body u l (pause m) at_verbs)))
-        (ap (λ x. turned_from c x i d s K) t)
+        ∙ ap (λ (l : Follow). stepped (holding c.setting 1 s (λ u. paths c.setting (d - suc i) body u l (pause m) (k.hand q))))
+        (ap (λ x. turned_from c x i d s K (k.hand q)) t)

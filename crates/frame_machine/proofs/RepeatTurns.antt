@@ -6,17 +6,19 @@ use Rattle.pat_tree.specs.Nested.{Nested, Row}
 use Rattle.match_items.specs.Items.{is_none_left}
 use Rattle.frame_store.specs.Captures.{Captures}
 use Rattle.frame_store.specs.Entry.{Entry, TurnOpen, TurnOrExit, LaterTurn}
-use Rattle.frame_machine.specs.Stream.{State, reached}
-use Rattle.frame_machine.specs.PlaceAnswer.{answers, MatchLimit, FrameLimit}
-use Rattle.frame_machine.specs.Moves.{Moves, pause, stepped, Follow, at_verbs, tread}
-use Rattle.frame_machine.specs.Paths.{paths}
+use Rattle.ordered_search.specs.Stream.{State, reached}
+use Rattle.ordered_search.specs.PlaceAnswer.{answers, MatchLimit, FrameLimit}
+use Rattle.ordered_search.specs.Moves.{Moves, pause, stepped, Follow, tread, Handler}
+use Rattle.ordered_search.specs.Paths.{paths}
 use Rattle.frame_machine.specs.declared.machine.Next.TheVariants.{Enter, Offer, Begin, End}
 use Rattle.frame_machine.specs.declared.machine.Spot.{Spot}
 use Rattle.frame_machine.specs.Ground.{Ground, tree_of, next_of, IsGround, IsPart}
-use Rattle.frame_machine.specs.Machine.{Around, less, kept_at, after, past, enter, turned_from, around, cont, fail, conf, spot_state, ahead, IsStanding, AreSound, IsRunning, IsValid, Advances, towards}
+use Rattle.frame_machine.specs.Machine.{Around, less, kept_at, conf, towards, Outside}
+use Rattle.frame_machine.specs.Frames.{after, past, enter, turned_from, around, cont, outside, fail, spot_state, ahead, hand}
+use Rattle.frame_machine.specs.Validity.{IsStanding, AreSound, IsRunning, IsValid, Advances}
 use Rattle.frame_machine.specs.Stops.{turn_entry}
 use Rattle.frame_machine.proofs.PartPaths.{after_nil, offer_below, offer_full, offer_greedy, offer_lazy, begin_step}
-use Rattle.frame_machine.proofs.Frames.{around_here, around_push, focus_kept, focus_framed, sound_less, focus_towards, running_towards}
+use Rattle.frame_machine.proofs.Frames.{around_here, around_push, focus_kept, focus_framed, sound_less, focus_towards, running_towards, hand_same, inside_of}
 use Rattle.frame_machine.proofs.Advance.{holding_room, holding_full, advance_pause, advance_step, over_steps, over_units, over_units_step, goes_on}
 
 module _ (c : Ground) (ok : IsGround c) (q i : ℕ) (spot : Spot) (stack : List Entry) (caps : Captures) (body : ℕ) (low : ℕ) (high : Option ℕ) (lazily : Bool)
@@ -88,10 +90,11 @@ module _ (c : Ground) (ok : IsGround c) (q i : ℕ) (spot : Spot) (stack : List 
         over_units_step c spot.left _ _ (begin_step c q i _ (tree_of c body) low high lazily t _ _ _ deep_begin b) (holding_full c.setting _ _ full) left
 
     module _ (inside : IsPart c body) (alone : c.rest body ≡ []) (left : 0 < spot.left) (room : spot.units < c.setting.matching.frame_limit) where
-      entered : (K : Follow) (u : State) (f : Moves) →
-          paths c.setting ((around c stack spot.frame).depth - suc i) (tree_of c body) u K f at_verbs ≡ enter c ((around c stack spot.frame).depth - suc i) K body u f
-      entered K u f =
-          ap (λ (z : Follow). paths c.setting ((around c stack spot.frame).depth - suc i) (tree_of c body) u z f at_verbs)
+      entered : (K : Outside) (u : State) (f : Moves) (h : Handler) → h ≡ K.hand body →
+          paths c.setting ((around c stack spot.frame).depth - suc i) (tree_of c body) u K.follow f h ≡ enter c ((around c stack spot.frame).depth - suc i) K body u f
+      entered K u f h e =
+          ap (λ (z : Handler). paths c.setting ((around c stack spot.frame).depth - suc i) (tree_of c body) u K.follow f z) e
+          ∙ ap (λ (z : Follow). paths c.setting ((around c stack spot.frame).depth - suc i) (tree_of c body) u z f (K.hand body))
           (sym (after_nil c _ K) ∙ ap (after c _ K) (sym alone))
 
       abbrev to : Spot
@@ -119,17 +122,17 @@ module _ (c : Ground) (ok : IsGround c) (q i : ℕ) (spot : Spot) (stack : List 
 
     -- where m is left for when the turn fails
     begins_with : (m : Moves) →
-        (if b then past c (around c stack spot.frame).depth (cont c stack caps spot.frame) q reached (spot_state c spot stack caps) (fail c stack caps) else fail c stack caps) ≡ m →
+        (if b then past c (around c stack spot.frame).depth (outside c stack caps spot.frame) q reached (spot_state c spot stack caps) (fail c stack caps) else fail c stack caps) ≡ m →
         spot.units < c.setting.matching.frame_limit →
         ahead c (conf (Begin q i b) spot stack caps)
         ≡ stepped (paths c.setting ((around c stack spot.frame).depth - suc i) (tree_of c body) (record (spot_state c spot stack caps) { units = spot.units + 1 })
-        (turned_from c (tree_of c q) i (around c stack spot.frame).depth (spot_state c spot stack caps) (past c (around c stack spot.frame).depth (cont c stack caps spot.frame) q))
-        (pause m) at_verbs)
+        (turned_from c (tree_of c q) i (around c stack spot.frame).depth (spot_state c spot stack caps) (past c (around c stack spot.frame).depth (outside c stack caps spot.frame) q) (hand c stack caps spot.frame q))
+        (pause m) (hand c stack caps spot.frame q))
     begins_with m e room =
         begin_step c q i _ (tree_of c body) low high lazily t _ _ _ deep_begin b ∙ ap stepped (holding_room c.setting _ _ room)
         ∙ ap (λ x. stepped (paths c.setting ((around c stack spot.frame).depth - suc i) (tree_of c body) (record (spot_state c spot stack caps) { units = spot.units + 1 })
-        (turned_from c (tree_of c q) i (around c stack spot.frame).depth (spot_state c spot stack caps) (past c (around c stack spot.frame).depth (cont c stack caps spot.frame) q))
-        (pause x) at_verbs)) e
+        (turned_from c (tree_of c q) i (around c stack spot.frame).depth (spot_state c spot stack caps) (past c (around c stack spot.frame).depth (outside c stack caps spot.frame) q) (hand c stack caps spot.frame q))
+        (pause x) (hand c stack caps spot.frame q))) e
 
     pub turn_begin_exits : b ≡ true → IsPart c body → c.rest body ≡ [] → 0 < spot.left → spot.units < c.setting.matching.frame_limit →
         Advances c (conf (Begin q i b) spot stack caps)
@@ -139,7 +142,7 @@ module _ (c : Ground) (ok : IsGround c) (q i : ℕ) (spot : Spot) (stack : List 
         let r : Entry = TurnOrExit (record { node = q; link = spot.frame }) (kept_at spot) i in
         advance_step c _ _ _
         (begins_with _ (cond-true b _ _ is) room)
-        (focus_framed c r stack caps (Enter body) (kept_at (to inside alone left room)) caps (fail c (r ∷ stack) caps) ∙ sym (entered inside alone left room _ _ _))
+        (focus_framed c r stack caps (Enter body) (kept_at (to inside alone left room)) caps (fail c (r ∷ stack) caps) ∙ sym (entered inside alone left room (inside_of c r stack caps) _ _ _ (hand_same c stack (r ∷ stack) caps caps spot.frame (suc (length stack)) q body)))
         (omega arith)
         (record {
           running = running inside alone left room r (around_here c r stack _ refl);
@@ -156,7 +159,7 @@ module _ (c : Ground) (ok : IsGround c) (q i : ℕ) (spot : Spot) (stack : List 
         let r : Entry = TurnOpen (record { node = q; link = spot.frame }) (kept_at spot) i in
         advance_step c _ _ _
         (begins_with _ (cond-false b _ _ is) room)
-        (focus_framed c r stack caps (Enter body) (kept_at (to inside alone left room)) caps (fail c (r ∷ stack) caps) ∙ sym (entered inside alone left room _ _ _))
+        (focus_framed c r stack caps (Enter body) (kept_at (to inside alone left room)) caps (fail c (r ∷ stack) caps) ∙ sym (entered inside alone left room (inside_of c r stack caps) _ _ _ (hand_same c stack (r ∷ stack) caps caps spot.frame (suc (length stack)) q body)))
         (omega arith)
         (record {
           running = running inside alone left room r (around_here c r stack _ refl);

@@ -8,7 +8,8 @@ use Rattle.pat_tree.specs.Rules.{AtMost}
 use Rattle.match_items.specs.Items.{one_less, is_none_left, after_item, run_places, longest_run, place_before}
 use Rattle.frame_machine.specs.Ground.{Ground, IsGround}
 use Rattle.match_items.specs.Views.{end_of}
-use Rattle.frame_machine.specs.Machine.{less, back_from, fewer_places}
+use Rattle.frame_machine.specs.Machine.{less}
+use Rattle.frame_machine.specs.Frames.{back_from, fewer_places}
 
 module _ (c : Ground) (ok : IsGround c) (item : Item) where
   abbrev pub run_at : Option ℕ → ℕ → List ℕ

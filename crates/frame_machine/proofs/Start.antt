@@ -3,19 +3,21 @@ use Rattle.std.proofs.Common.{◌≡◌, ℕ, ◌+◌, ◌∙◌, true, [], repl
 use Rattle.std.proofs.lemmas.List.{length-replicate}
 use Rattle.std.proofs.lemmas.List.Elements.{All-replicate}
 use Rattle.frame_store.specs.Captures.{Captures}
-use Rattle.frame_machine.specs.Stream.{first_state}
-use Rattle.frame_machine.specs.Setting.{match_limit}
-use Rattle.frame_machine.specs.PlaceAnswer.{place_answer}
-use Rattle.frame_machine.specs.Moves.{Follow, exhaust, at_end, at_verbs, tread}
-use Rattle.frame_machine.specs.Paths.{paths}
+use Rattle.ordered_search.specs.Stream.{first_state}
+use Rattle.ordered_search.specs.Setting.{match_limit}
+use Rattle.ordered_search.specs.PlaceAnswer.{place_answer}
+use Rattle.ordered_search.specs.Moves.{Follow, exhaust, at_end, tread}
+use Rattle.ordered_search.specs.Paths.{paths}
 use Rattle.frame_machine.specs.declared.machine.Next.TheVariants.{Enter}
 use Rattle.frame_machine.specs.declared.machine.Spot.{Spot}
 use Rattle.frame_machine.specs.Ground.{Ground, tree_of, IsGround}
-use Rattle.frame_machine.specs.Machine.{after, around, cont, fail, conf, ahead, SpanStands, IsValid}
+use Rattle.frame_machine.specs.Machine.{conf, Outside}
+use Rattle.frame_machine.specs.Frames.{after, around, cont, fail, ahead, hand, outside}
+use Rattle.frame_machine.specs.Validity.{SpanStands, IsValid}
 use Rattle.frame_machine.proofs.KidParts.{root_part}
 use Rattle.frame_machine.proofs.PartPaths.{after_nil}
 use Rattle.frame_machine.proofs.Frames.{cont_whole}
-use Rattle.frame_machine.proofs.Before.{tread_whole}
+use Rattle.ordered_search.proofs.Before.{tread_whole}
 
 module _ (c : Ground) (ok : IsGround c) (place : ℕ) where
   abbrev start_spot : Spot
@@ -25,13 +27,13 @@ module _ (c : Ground) (ok : IsGround c) (place : ℕ) where
   start_caps = replicate c.setting.groups None
 
   pub starts : tread c.setting (match_limit c.setting) (ahead c (conf (Enter c.root) start_spot [] start_caps)) ≡ place_answer c.setting place
-  unfolding around fail
+  unfolding around fail hand
   starts =
       let d : ℕ = match_limit c.setting + 1 in
-      let K : Follow = cont c [] start_caps 0 in
+      let K : Outside = outside c [] start_caps 0 in
       let follow : after c d K (c.rest c.root) ≡ at_end = ap (after c d K) ok.last ∙ after_nil c d K ∙ cont_whole c [] start_caps in
-      ap (λ (z : Follow). tread c.setting (match_limit c.setting) (paths c.setting d (tree_of c c.root) (first_state c.setting.groups place) z exhaust at_verbs)) follow
-      ∙ ap (λ t. tread c.setting (match_limit c.setting) (paths c.setting d t (first_state c.setting.groups place) at_end exhaust at_verbs)) ok.whole
+      ap (λ (z : Follow). tread c.setting (match_limit c.setting) (paths c.setting d (tree_of c c.root) (first_state c.setting.groups place) z exhaust (K.hand c.root))) follow
+      ∙ ap (λ t. tread c.setting (match_limit c.setting) (paths c.setting d t (first_state c.setting.groups place) at_end exhaust (K.hand c.root))) ok.whole
       ∙ tread_whole c.setting place
 
   pub starts_valid : c.stands place ≡ true → IsValid c (conf (Enter c.root) start_spot [] start_caps)

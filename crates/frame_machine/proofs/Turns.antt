@@ -1,6 +1,6 @@
 -- The steps of the machine at a part.
 use Rattle.std.proofs.Common.{◌≡◌, ℕ, suc, ◌+◌, ◌-◌, ◌<◌, ◌≤◌, ◌∙◌, Bool, true, false, if◌then◌else◌, List, [], ◌∷◌, map, Option, Some, None, length, All, slice_get, get_or, ◌⊎◌, inl, inr, refl, sym, ap, subst, arith, ◌≢◌}
-use Rattle.std.proofs.lemmas.List.Elements.{All-head, All-get_or}
+use Rattle.std.proofs.lemmas.List.Elements.{All-head, All-get_or, All-tail}
 use Rattle.std.proofs.Math.ListN.{get_or-eq_default}
 use Rattle.std.proofs.lemmas.Bool.{cases_lt}
 use Rattle.pat_tree.specs.declared.nodes.Item.{Item}
@@ -13,21 +13,30 @@ use Rattle.pat_tree.specs.Rules.{kids_of}
 use Rattle.match_items.specs.Items.{after_item, after_break, after_ref, holds, earliest}
 use Rattle.frame_store.specs.declared.registers.Span.{Span}
 use Rattle.frame_store.specs.Captures.{Captures, capture}
-use Rattle.frame_store.specs.Entry.{Entry, GroupOpen, LaterBranch}
-use Rattle.frame_machine.specs.Stream.{State, reached}
-use Rattle.frame_machine.specs.PlaceAnswer.{answers, MatchLimit, FrameLimit}
-use Rattle.frame_machine.specs.Moves.{Moves, pause, stepped, Follow, going, holding, tread}
-use Rattle.pat_check.specs.Built.{IsBuilt}
+use Rattle.frame_store.specs.Entry.{Entry, GroupOpen, LaterBranch, Site, entry_site}
+use Rattle.ordered_search.specs.Stream.{State, reached}
+use Rattle.ordered_search.specs.PlaceAnswer.{answers, MatchLimit, FrameLimit}
+use Rattle.ordered_search.specs.Moves.{Moves, pause, stepped, Follow, going, holding, tread, Handler}
+use Rattle.frame_machine.specs.Forms.{IsRunnable, AreRunnable}
+use Rattle.ordered_search.specs.Verbless.{IsVerbless}
+use Rattle.ordered_search.proofs.Free.{AllFree, holding_same, free_paths}
+use Rattle.frame_machine.proofs.Forms.{verbless}
 use Rattle.frame_machine.specs.declared.machine.Next.TheVariants.{Enter, Branch, Offer, Back, End}
 use Rattle.frame_machine.specs.declared.machine.Spot.{Spot}
 use Rattle.node_flow.specs.Linked.{AllFollowed}
+use Rattle.frame_machine.specs.Branches.{IsBranched}
 use Rattle.frame_machine.specs.Ground.{Ground, tree_of, next_of, IsNode, StandsIf, IsGround, IsPart}
-use Rattle.frame_machine.specs.Machine.{Around, kept_at, past, enter, branch_rest, around, cont, fail, focus, conf, spot_state, ahead, StandsAt, HasBranch, IsRepeat, IsCapture, SpanStands, AreSpans, IsRunning, IsValid, Advances, first_set, first_next, row_length, towards}
+use Rattle.frame_machine.specs.Machine.{Around, kept_at, conf, first_set, first_next, row_length, towards, Outside, entry_kept, state_at}
+use Rattle.frame_machine.specs.Frames.{past, enter, branch_rest, around, cont, outside, fail, focus, spot_state, ahead, frame_around, close_from, hand}
+use Rattle.frame_machine.specs.Validity.{StandsAt, HasBranch, IsRepeat, IsCapture, SpanStands, AreSpans, IsRunning, IsValid, Advances, IsSound}
 use Rattle.frame_machine.specs.Stops.{moved_next, moved_spot, held_next, held_early, part_next}
 use Rattle.frame_machine.proofs.KidParts.{kid_parts}
-use Rattle.frame_machine.proofs.PartPaths.{enter_empty, enter_keep, enter_one, enter_break, enter_anchor, enter_ref, enter_seq_none, enter_seq, enter_group, enter_capture, enter_repeat, branch_last, branch_more}
-use Rattle.frame_machine.proofs.Frames.{around_here, around_push, focus_kept, focus_framed, sound_less}
+use Rattle.frame_machine.proofs.PartPaths.{enter_empty, enter_keep, enter_one, enter_break, enter_anchor, enter_ref, enter_seq_none, enter_seq, enter_group, enter_capture, enter_repeat, branch_last, branch_more, Alike, part_paths, branched_group, branches_in}
+use Rattle.frame_machine.proofs.Frames.{around_here, around_push, focus_kept, focus_framed, sound_less, hand_same, inside_of}
 use Rattle.frame_machine.proofs.Advance.{holding_room, holding_full, advance_pause, advance_step, over_steps, over_units, over_units_step, goes_back, goes_on}
+use Rattle.frame_store.specs.Undo.{taken_back}
+use Rattle.ordered_search.specs.Paths.{branch_paths}
+use Rattle.pat_tree.specs.declared.nodes.Cond.{Cond}
 
 module _ (c : Ground) (ok : IsGround c) where
   stands_item : (item : Item) (p : ℕ) (o : Option ℕ) → c.stands p ≡ true → after_item c.setting.scene item p ≡ o → StandsIf c o
@@ -55,9 +64,19 @@ module _ (c : Ground) (ok : IsGround c) where
   stands_refer None false caseless p h a r e = subst (StandsIf c) (sym e) tt
   stands_refer (Some span) b caseless p h a r e = subst (StandsIf c) (sym e) (ok.refers span.from span.to p caseless a.0 a.1 h)
 
+-- what verbs lead to is the same in all parts
+pub alike : (c : Ground) (stack : List Entry) (caps : Captures) (l q : ℕ) (ks : List ℕ) → Alike c (outside c stack caps l) q ks
+alike c stack caps l q ks = λ i d h. hand_same c stack stack caps caps l l (get_or ks i d) q
+
+-- parts that run have no verbs
+pub free_kids : (c : Ground) (d : ℕ) (ks : List ℕ) → All (IsPart c) ks → AllFree (part_paths c d ks)
+free_kids c d [] a = tt
+free_kids c d (k ∷ ks) a =
+    (free_paths c.setting d (tree_of c k) (verbless (tree_of c k) (All-head (IsPart c) k ks a).runs), free_kids c d ks (All-tail (IsPart c) k ks a))
+
 -- a part is run
 module _ (c : Ground) (ok : IsGround c) (q : ℕ) (spot : Spot) (stack : List Entry) (caps : Captures) (v : IsValid c (conf (Enter q) spot stack caps)) (n : Node) (i : IsNode c q n) where
-  deep : (around c stack spot.frame).depth ≡ suc ((around c stack spot.frame).depth - 1)
+  pub deep : (around c stack spot.frame).depth ≡ suc ((around c stack spot.frame).depth - 1)
   deep = omega (arith, v.running.1.deep)
 
   -- at another place
@@ -66,7 +85,7 @@ module _ (c : Ground) (ok : IsGround c) (q : ℕ) (spot : Spot) (stack : List En
 
   turn_going : (o : Option ℕ) → StandsIf c o →
       ahead c (conf (Enter q) spot stack caps)
-      ≡ pause (going o (spot_state c spot stack caps) (past c (around c stack spot.frame).depth (cont c stack caps spot.frame) q) (fail c stack caps)) →
+      ≡ pause (going o (spot_state c spot stack caps) (past c (around c stack spot.frame).depth (outside c stack caps spot.frame) q) (fail c stack caps)) →
       Advances c (conf (Enter q) spot stack caps) (conf (moved_next c q o) (moved_spot spot o) stack caps)
   turn_going None h e = goes_back c _ spot stack caps v.records v.spans v.slots refl e
   turn_going (Some p) h e = goes_on c _ (record spot { place = p }) stack caps v.records v.spans v.slots ok q v.running.0 (moved_standing p h) refl e
@@ -113,7 +132,7 @@ module _ (c : Ground) (ok : IsGround c) (q : ℕ) (spot : Spot) (stack : List En
       (record { inside = w.inside; deep = w.deep; counted = w.counted; few = w.few; here = w.here }) refl
       (enter_anchor c ok q n i _ _ _ _ _ deep kind e
       ∙ ap (λ b. pause (elim b [
-        | true ↦ past c (around c stack spot.frame).depth (cont c stack caps spot.frame) q reached
+        | true ↦ past c (around c stack spot.frame).depth (outside c stack caps spot.frame) q reached
             (record (spot_state c spot stack caps) { early = earliest c.setting.scene kind spot.place spot.early }) (fail c stack caps)
         | false ↦ fail c stack caps
       ])) h)
@@ -124,7 +143,7 @@ module _ (c : Ground) (ok : IsGround c) (q : ℕ) (spot : Spot) (stack : List En
       goes_back c _ spot stack caps v.records v.spans v.slots refl
       (enter_anchor c ok q n i _ _ _ _ _ deep kind e
       ∙ ap (λ b. pause (elim b [
-        | true ↦ past c (around c stack spot.frame).depth (cont c stack caps spot.frame) q reached
+        | true ↦ past c (around c stack spot.frame).depth (outside c stack caps spot.frame) q reached
             (record (spot_state c spot stack caps) { early = earliest c.setting.scene kind spot.place spot.early }) (fail c stack caps)
         | false ↦ fail c stack caps
       ])) h)
@@ -143,6 +162,9 @@ module _ (c : Ground) (ok : IsGround c) (q : ℕ) (spot : Spot) (stack : List En
       goes_on c _ (record spot { keep = spot.place }) stack caps v.records v.spans v.slots ok q v.running.0
       (record { inside = w.inside; deep = w.deep; counted = w.counted; few = w.few; here = w.here }) refl (enter_keep c ok q n i _ _ _ _ _ deep e)
 
+  kids_are : (ks : List ℕ) → kids_of n ≡ ks → All (IsPart c) ks
+  kids_are ks e = subst (All (IsPart c)) e (kid_parts c q n v.running.0 i)
+
   kid_inside : (ks : List ℕ) (p : ℕ) → kids_of n ≡ p ∷ ks → IsPart c p
   kid_inside ks p e = All-head (IsPart c) p ks (subst (All (IsPart c)) e (kid_parts c q n v.running.0 i))
 
@@ -151,45 +173,74 @@ module _ (c : Ground) (ok : IsGround c) (q : ℕ) (spot : Spot) (stack : List En
 
   pub turn_seq : (p : ℕ) (ps : List ℕ) → n ≡ node.Seq (p ∷ ps) → Advances c (conf (Enter q) spot stack caps) (conf (Enter p) spot stack caps)
   turn_seq p ps e =
-      advance_pause c _ _ _ (enter_seq c q n i _ _ _ _ _ deep p ps e) refl refl
+      advance_pause c _ _ _ (enter_seq c q n i _ _ _ _ _ deep p ps (alike c stack caps spot.frame q (p ∷ ps)) e) refl refl
       (record { running = (kid_inside ps p (ap kids_of e), v.running.1); records = v.records; spans = v.spans; slots = v.slots })
 
   pub turn_parts : (ks : List ℕ) → n ≡ node.Seq ks → Advances c (conf (Enter q) spot stack caps) (conf (part_next c q ks) spot stack caps)
   turn_parts [] e = turn_seq_none e
   turn_parts (p ∷ ps) e = turn_seq p ps e
 
-  -- where a group begins
-  first_running : (number : Option ℕ) (ks : List ℕ) → n ≡ node.Group number ks → (spot' : Spot) (stack' : List Entry) → StandsAt c spot' stack' (around c stack' spot'.frame).depth →
-      IsRunning c spot' stack' (first_next q ks)
-  first_running number [] e spot' stack' w = tt
-  first_running number (p ∷ []) e spot' stack' w = (kid_inside [] p (ap kids_of e), w)
-  first_running number (p ∷ p' ∷ ps) e spot' stack' w =
-      (v.running.0, w, subst (λ z. HasBranch c z 0) (subst (λ m. nest c.trees m ≡ tree_of c q) e i.is) (omega arith))
+  -- where branches begin
+  first_running : (p : ℕ) (ks : List ℕ) → IsPart c p → All (IsPart c) ks → IsBranched c p ks → (spot' : Spot) (stack' : List Entry) → StandsAt c spot' stack' (around c stack' spot'.frame).depth →
+      IsRunning c spot' stack' (first_next p ks)
+  first_running p [] inside parts b spot' stack' w = tt
+  first_running p (x ∷ []) inside parts b spot' stack' w = (All-head (IsPart c) x [] parts, w)
+  first_running p (x ∷ y ∷ ps) inside parts b spot' stack' w = (inside, w, subst (λ r. 0 < row_length r) (sym b.rows) (omega arith))
 
   pub turn_group : (ks : List ℕ) → n ≡ node.Group None ks → Advances c (conf (Enter q) spot stack caps) (conf (first_next q ks) spot stack caps)
   turn_group ks e =
-      advance_pause c _ _ _ (enter_group c ok q n i _ _ _ _ _ deep ks e) refl refl
-      (record { running = first_running None ks e spot stack v.running.1; records = v.records; spans = v.spans; slots = v.slots })
+      advance_pause c _ _ _ (enter_group c ok q n i _ _ _ _ _ deep ks (alike c stack caps spot.frame q ks) e) refl refl
+      (record { running = first_running q ks v.running.0 (kids_are ks (ap kids_of e)) (branched_group c q n i None ks e) spot stack v.running.1; records = v.records; spans = v.spans; slots = v.slots })
+
+  -- A frame is opened around branches, those of the part or of its test: they run in it, and it ends as its record says.
+  module _ (r : Entry) (at : entry_site r ≡ record { node = q; link = spot.frame }) (kept : entry_kept r ≡ kept_at spot) (plain : taken_back r caps ≡ caps)
+      (same : (a : Around) → frame_around r a ≡ a) (room : spot.units < c.setting.matching.frame_limit) where
+    abbrev pub opened : Spot
+    opened = record spot { frame = suc (length stack); units = spot.units + 1 }
+
+    in_frame : around c (r ∷ stack) (suc (length stack)) ≡ around c stack spot.frame
+    in_frame = around_here c r stack _ refl ∙ same _ ∙ ap (around c stack) (ap (λ (x : Site). x.link) at)
+
+    opened_standing : StandsAt c opened (r ∷ stack) (around c (r ∷ stack) (suc (length stack))).depth
+    opened_standing =
+        let w = v.running.1 in
+        record { inside = omega arith; deep = omega (arith, w.deep, ap (λ (a : Around). a.depth) in_frame); counted = omega (arith, w.counted); few = omega (arith, room); here = w.here }
+
+    module _ (p : ℕ) (inside : IsPart c p) (ks : List ℕ) (parts : All (IsPart c) ks) (b : IsBranched c p ks) (none : branch_rest c (tree_of c p) (c.rest p) ≡ [])
+        (sound : IsSound c spot.left (length caps) stack r) (h : Handler) (z : Moves) where
+      pub opens : ahead c (conf (Enter q) spot stack caps)
+          ≡ pause (holding c.setting 1 (spot_state c spot stack caps) (λ u.
+          branch_paths c.setting (part_paths c (around c stack spot.frame).depth ks) u (inside_of c r stack caps).follow z h)) →
+          fail c (r ∷ stack) caps ≡ z →
+          Advances c (conf (Enter q) spot stack caps) (conf (first_next p ks) opened (r ∷ stack) caps)
+      opens e f =
+          advance_pause c _ _ _
+          (e ∙ ap pause (holding_room c.setting _ _ room))
+          (focus_framed c r stack caps (first_next p ks) (kept_at opened) caps (fail c (r ∷ stack) caps)
+          ∙ ap (λ (a : Around). focus c (first_next p ks) a.depth (inside_of c r stack caps) (state_at a (kept_at opened) caps) (fail c (r ∷ stack) caps))
+          (same _ ∙ ap (around c stack) (ap (λ (x : Site). x.link) at))
+          ∙ ap (focus c (first_next p ks) (around c stack spot.frame).depth (inside_of c r stack caps) (state_at (around c stack spot.frame) (kept_at opened) caps)) f
+          ∙ sym (branches_in c p _ ks b none (free_kids c _ ks parts) (inside_of c r stack caps) (alike c (r ∷ stack) caps (suc (length stack)) p ks) _ z h))
+          refl
+          (record {
+            running = first_running p ks inside parts b opened (r ∷ stack) opened_standing;
+            records = (sound, v.records);
+            spans = v.spans;
+            slots = v.slots;
+          })
 
   pub turn_capture : (m : ℕ) (ks : List ℕ) → n ≡ node.Group (Some m) ks → spot.units < c.setting.matching.frame_limit →
       Advances c (conf (Enter q) spot stack caps)
       (conf (first_next q ks) (record spot { frame = suc (length stack); units = spot.units + 1 }) (GroupOpen (record { node = q; link = spot.frame }) (kept_at spot) ∷ stack) caps)
   unfolding fail
   turn_capture m ks e room =
-      let r : Entry = GroupOpen (record { node = q; link = spot.frame }) (kept_at spot) in
-      let w = v.running.1 in
-      let to : Spot = record spot { frame = suc (length stack); units = spot.units + 1 } in
-      let same : around c (r ∷ stack) (suc (length stack)) ≡ around c stack spot.frame = around_here c r stack _ refl in
-      advance_pause c _ _ _
-      (enter_capture c ok q n i _ _ _ _ _ deep m ks e ∙ ap pause (holding_room c.setting _ _ room))
-      (focus_framed c r stack caps (first_next q ks) (kept_at to) caps (pause (fail c stack caps))) refl
-      (record {
-        running = first_running (Some m) ks e to (r ∷ stack)
-            (record { inside = omega arith; deep = omega (arith, w.deep, ap (λ (a : Around). a.depth) same); counted = omega (arith, w.counted); few = omega (arith, room); here = w.here });
-        records = ((v.running.0, w, subst (IsCapture c) (subst (λ z. nest c.trees z ≡ tree_of c q) e i.is) tt), v.records);
-        spans = v.spans;
-        slots = v.slots;
-      })
+      let t : nest c.trees (node.Group (Some m) ks) ≡ tree_of c q = subst (λ z. nest c.trees z ≡ tree_of c q) e i.is in
+      opens (GroupOpen (record { node = q; link = spot.frame }) (kept_at spot)) refl refl refl (λ a. refl) room
+      q v.running.0 ks (kids_are ks (ap kids_of e)) (branched_group c q n i (Some m) ks e)
+      (ap (λ x. branch_rest c x (c.rest q)) (sym t))
+      (v.running.0, v.running.1, subst (IsCapture c) t tt)
+      (hand c stack caps spot.frame q) (pause (fail c stack caps))
+      (enter_capture c ok q n i _ _ _ _ _ deep m ks e) refl
 
   pub stop_capture : (m : ℕ) (ks : List ℕ) → n ≡ node.Group (Some m) ks → c.setting.matching.frame_limit ≤ spot.units →
       tread c.setting spot.left (ahead c (conf (Enter q) spot stack caps)) ≡ answers FrameLimit
@@ -232,18 +283,17 @@ length_row c (x ∷ xs) = ap suc (length_row c xs)
 
 -- a branch of a group is tried
 module _ (c : Ground) (ok : IsGround c) (q j : ℕ) (spot : Spot) (stack : List Entry) (caps : Captures) (v : IsValid c (conf (Branch q j) spot stack caps))
-    (number : Option ℕ) (ks : List ℕ) (t : tree.group number (row (map (tree_at c.trees) ks)) ≡ tree_of c q)
-    (l : AllFollowed c.rest (branch_rest c (tree_of c q) (c.rest q)) ks) (p : ℕ) (at : slice_get ks j ≡ Some p) (inside : IsPart c p) where
+    (ks : List ℕ) (b : IsBranched c q ks) (p : ℕ) (at : slice_get ks j ≡ Some p) (inside : IsPart c p) where
   pub stop_branch : spot.left ≡ 0 → (p' : Option ℕ) → slice_get ks (suc j) ≡ p' → length ks ≤ suc j ⊎ ((x : ℕ) × (slice_get ks (suc j) ≡ Some x)) →
       tread c.setting spot.left (ahead c (conf (Branch q j) spot stack caps)) ≡ answers MatchLimit
-  stop_branch out p' e (inl last) = over_steps c spot.left _ _ (branch_last c q j _ number ks t l p at inside.built _ _ _ last) out
-  stop_branch out p' e (inr more) = over_steps c spot.left _ _ (branch_more c q j _ number ks t l p at inside.built _ _ _ more.0 more.1) out
+  stop_branch out p' e (inl last) = over_steps c spot.left _ _ (branch_last c q j _ ks b p at (verbless (tree_of c p) inside.runs) _ _ _ last) out
+  stop_branch out p' e (inr more) = over_steps c spot.left _ _ (branch_more c q j _ ks b p at (verbless (tree_of c p) inside.runs) _ _ _ more.0 more.1) out
 
   pub turn_branch_last : length ks ≤ suc j → 0 < spot.left →
       Advances c (conf (Branch q j) spot stack caps) (conf (Enter p) (record spot { left = spot.left - 1 }) stack caps)
   turn_branch_last last left =
       let w = v.running.1 in
-      advance_step c _ _ _ (branch_last c q j _ number ks t l p at inside.built _ _ _ last) refl (omega arith)
+      advance_step c _ _ _ (branch_last c q j _ ks b p at (verbless (tree_of c p) inside.runs) _ _ _ last) refl (omega arith)
       (record {
         running = (inside, record { inside = w.inside; deep = omega (arith, w.deep); counted = w.counted; few = w.few; here = w.here });
         records = sound_less c spot.left (spot.left - 1) (length caps) stack (omega arith) v.records;
@@ -254,9 +304,9 @@ module _ (c : Ground) (ok : IsGround c) (q j : ℕ) (spot : Spot) (stack : List 
   module _ (p' : ℕ) (at' : slice_get ks (suc j) ≡ Some p') (left : 0 < spot.left) where
     choosing : ahead c (conf (Branch q j) spot stack caps)
         ≡ stepped (holding c.setting 1 (spot_state c spot stack caps) (λ u.
-        enter c (around c stack spot.frame).depth (cont c stack caps spot.frame) p u
-        (pause (focus c (Branch q (suc j)) (around c stack spot.frame).depth (cont c stack caps spot.frame) (spot_state c spot stack caps) (fail c stack caps)))))
-    choosing = branch_more c q j _ number ks t l p at inside.built _ _ _ p' at'
+        enter c (around c stack spot.frame).depth (outside c stack caps spot.frame) p u
+        (pause (focus c (Branch q (suc j)) (around c stack spot.frame).depth (outside c stack caps spot.frame) (spot_state c spot stack caps) (fail c stack caps)))))
+    choosing = branch_more c q j _ ks b p at (verbless (tree_of c p) inside.runs) _ _ _ p' at'
 
     pub stop_branch_units : c.setting.matching.frame_limit ≤ spot.units → tread c.setting spot.left (ahead c (conf (Branch q j) spot stack caps)) ≡ answers FrameLimit
     stop_branch_units full = over_units_step c spot.left _ _ choosing (holding_full c.setting _ _ full) left
@@ -289,7 +339,7 @@ module _ (c : Ground) (ok : IsGround c) (q j : ℕ) (spot : Spot) (stack : List 
             (
               v.running.0,
               record { inside = w.inside; deep = omega (arith, w.deep); counted = w.counted; few = w.few; here = w.here },
-              subst (λ z. HasBranch c z (suc j)) t (omega (arith, lt, counts)),
+              subst (λ r. suc j < row_length r) (sym b.rows) (omega (arith, lt, counts)),
             ),
             sound_less c spot.left (spot.left - 1) (length caps) stack (omega arith) v.records,
           );
@@ -297,24 +347,26 @@ module _ (c : Ground) (ok : IsGround c) (q j : ℕ) (spot : Spot) (stack : List 
           slots = v.slots;
         })
 
--- a node of no other form is not built
-pub stray_node : (ts : List Nested) (n : Node) → IsBuilt (nest ts n) → n ≢ node.Empty → n ≢ node.KeepOut → ((item : Item) → n ≢ node.One item) → n ≢ node.Break →
+-- a node of no other form runs
+pub stray_node : (ts : List Nested) (n : Node) → IsRunnable (nest ts n) → n ≢ node.Empty → n ≢ node.KeepOut → ((item : Item) → n ≢ node.One item) → n ≢ node.Break →
     ((ns : List ℕ) (caseless : Bool) → n ≢ node.Ref ns caseless) → ((kind : AnchorKind) → n ≢ node.Anchor kind) → ((ks : List ℕ) → n ≢ node.Seq ks) →
     ((number : Option ℕ) (ks : List ℕ) → n ≢ node.Group number ks) → ((body low : ℕ) (high : Option ℕ) (lazily : Bool) → n ≢ node.Repeat body low high lazily) →
-    ((item : Item) (low : ℕ) (high : Option ℕ) (lazily : Bool) → n ≢ node.OneRepeat item low high lazily) → ⊥
-stray_node ts node.Empty b n1 n2 n3 n4 n5 n6 n7 n8 n9 n10 = n1 refl
-stray_node ts node.KeepOut b n1 n2 n3 n4 n5 n6 n7 n8 n9 n10 = n2 refl
-stray_node ts (node.One item) b n1 n2 n3 n4 n5 n6 n7 n8 n9 n10 = n3 item refl
-stray_node ts node.Break b n1 n2 n3 n4 n5 n6 n7 n8 n9 n10 = n4 refl
-stray_node ts (node.Ref ns caseless) b n1 n2 n3 n4 n5 n6 n7 n8 n9 n10 = n5 ns caseless refl
-stray_node ts (node.Anchor kind) b n1 n2 n3 n4 n5 n6 n7 n8 n9 n10 = n6 kind refl
-stray_node ts (node.Seq ks) b n1 n2 n3 n4 n5 n6 n7 n8 n9 n10 = n7 ks refl
-stray_node ts (node.Group number ks) b n1 n2 n3 n4 n5 n6 n7 n8 n9 n10 = n8 number ks refl
-stray_node ts (node.Repeat body low high lazily) b n1 n2 n3 n4 n5 n6 n7 n8 n9 n10 = n9 body low high lazily refl
-stray_node ts (node.OneRepeat item low high lazily) b n1 n2 n3 n4 n5 n6 n7 n8 n9 n10 = n10 item low high lazily refl
-stray_node ts (node.Atomic ks) b n1 n2 n3 n4 n5 n6 n7 n8 n9 n10 = b
-stray_node ts (node.Look ahead positive once ks) b n1 n2 n3 n4 n5 n6 n7 n8 n9 n10 = b
-stray_node ts (node.Cond test first second) b n1 n2 n3 n4 n5 n6 n7 n8 n9 n10 = b
-stray_node ts (node.Call m) b n1 n2 n3 n4 n5 n6 n7 n8 n9 n10 = b
-stray_node ts (node.VerbNode v) b n1 n2 n3 n4 n5 n6 n7 n8 n9 n10 = b
-stray_node ts (node.Callout number from to at len) b n1 n2 n3 n4 n5 n6 n7 n8 n9 n10 = b
+    ((item : Item) (low : ℕ) (high : Option ℕ) (lazily : Bool) → n ≢ node.OneRepeat item low high lazily) → ((ks : List ℕ) → n ≢ node.Atomic ks) →
+    ((ahead positive once : Bool) (ks : List ℕ) → n ≢ node.Look ahead positive once ks) →
+    ((test : Cond) (yes' : ℕ) (no' : Option ℕ) → n ≢ node.Cond test yes' no') → ⊥
+stray_node ts node.Empty b n1 n2 n3 n4 n5 n6 n7 n8 n9 n10 n11 n12 n13 = n1 refl
+stray_node ts node.KeepOut b n1 n2 n3 n4 n5 n6 n7 n8 n9 n10 n11 n12 n13 = n2 refl
+stray_node ts (node.One item) b n1 n2 n3 n4 n5 n6 n7 n8 n9 n10 n11 n12 n13 = n3 item refl
+stray_node ts node.Break b n1 n2 n3 n4 n5 n6 n7 n8 n9 n10 n11 n12 n13 = n4 refl
+stray_node ts (node.Ref ns caseless) b n1 n2 n3 n4 n5 n6 n7 n8 n9 n10 n11 n12 n13 = n5 ns caseless refl
+stray_node ts (node.Anchor kind) b n1 n2 n3 n4 n5 n6 n7 n8 n9 n10 n11 n12 n13 = n6 kind refl
+stray_node ts (node.Seq ks) b n1 n2 n3 n4 n5 n6 n7 n8 n9 n10 n11 n12 n13 = n7 ks refl
+stray_node ts (node.Group number ks) b n1 n2 n3 n4 n5 n6 n7 n8 n9 n10 n11 n12 n13 = n8 number ks refl
+stray_node ts (node.Repeat body low high lazily) b n1 n2 n3 n4 n5 n6 n7 n8 n9 n10 n11 n12 n13 = n9 body low high lazily refl
+stray_node ts (node.OneRepeat item low high lazily) b n1 n2 n3 n4 n5 n6 n7 n8 n9 n10 n11 n12 n13 = n10 item low high lazily refl
+stray_node ts (node.Atomic ks) b n1 n2 n3 n4 n5 n6 n7 n8 n9 n10 n11 n12 n13 = n11 ks refl
+stray_node ts (node.Look ahead positive once ks) b n1 n2 n3 n4 n5 n6 n7 n8 n9 n10 n11 n12 n13 = n12 ahead positive once ks refl
+stray_node ts (node.Cond test first second) b n1 n2 n3 n4 n5 n6 n7 n8 n9 n10 n11 n12 n13 = n13 test first second refl
+stray_node ts (node.Call m) b n1 n2 n3 n4 n5 n6 n7 n8 n9 n10 n11 n12 n13 = b
+stray_node ts (node.VerbNode v) b n1 n2 n3 n4 n5 n6 n7 n8 n9 n10 n11 n12 n13 = b
+stray_node ts (node.Callout number from to at len) b n1 n2 n3 n4 n5 n6 n7 n8 n9 n10 n11 n12 n13 = b

@@ -8,8 +8,8 @@ use Rattle.frame_machine.specs.declared.answer.Signal.{Signal}
 use Rattle.frame_machine.specs.declared.answer.Signal.TheVariants as signal
 use Rattle.frame_machine.specs.declared.machine.Spot.{Spot}
 use Rattle.frame_machine.specs.declared.machine.Stop.{Stop}
-use Rattle.frame_machine.specs.PlaceAnswer as meant
-use Rattle.frame_machine.specs.PlaceAnswer.{Walked, has_hit, last_name}
+use Rattle.ordered_search.specs.PlaceAnswer as meant
+use Rattle.ordered_search.specs.PlaceAnswer.{Walked, has_hit, last_name}
 use Rattle.frame_machine.specs.Stops.{IsStop}
 
 abbrev pub signal_of : Signal → meant.Signal

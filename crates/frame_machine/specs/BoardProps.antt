@@ -1,5 +1,5 @@
 -- Facts that a board keeps have one proof at most.
-use Rattle.std.proofs.Common.{ℕ, List, [], ◌∷◌, Option, Some, None}
+use Rattle.std.proofs.Common.{ℕ, true, false, List, [], ◌∷◌, Option, Some, None}
 use Rattle.std.specs.Coded.{×_prop}
 use Rattle.std.proofs.Props.{props}
 use Rattle.pat_tree.specs.declared.nodes.Node.{Node}
@@ -7,36 +7,53 @@ use Rattle.pat_tree.specs.declared.nodes.Node.TheVariants as node
 use Rattle.pat_tree.specs.declared.nodes.Placed.{Placed}
 use Rattle.pat_tree.specs.declared.options.MatchOptions.{MatchOptions}
 use Rattle.pat_tree.specs.Nested as tree
-use Rattle.pat_tree.specs.Nested.{Nested, Row}
+use Rattle.pat_tree.specs.Nested.{Nested, Row, Test, Other}
 use Rattle.pat_tree.specs.Parts.{TreeParts}
 use Rattle.char_sets.specs.Table.{CharSet}
 use Rattle.node_flow.specs.Followers.{IsFlowOf}
 use Rattle.node_flow.specs.Linked.{AreChained, IsLinked}
-use Rattle.pat_check.specs.Built.{IsBuilt, AreBuilt}
+use Rattle.frame_machine.specs.Forms.{IsRunnable, AreRunnable, IsRunnableTest, IsRunnableOther}
 use Rattle.frame_machine.specs.Ready.{IsByteSearch}
 
-mutual
-  IsBuilt-prop : (t : Nested) → IsProp (IsBuilt t)
-  IsBuilt-prop tree.empty = hlevel props
-  IsBuilt-prop (tree.one item) = hlevel props
-  IsBuilt-prop tree.line_break = hlevel props
-  IsBuilt-prop (tree.seq ts) = AreBuilt-prop ts
-  IsBuilt-prop (tree.group number ts) = AreBuilt-prop ts
-  IsBuilt-prop (tree.repeat body low high lazily) = IsBuilt-prop body
-  IsBuilt-prop (tree.one_repeat item low high lazily) = hlevel props
-  IsBuilt-prop (tree.atomic ts) = hlevel props
-  IsBuilt-prop (tree.look ahead positive once ts) = hlevel props
-  IsBuilt-prop (tree.condition test first second) = hlevel props
-  IsBuilt-prop (tree.call n) = hlevel props
-  IsBuilt-prop (tree.ref ns caseless) = hlevel props
-  IsBuilt-prop (tree.anchor kind) = hlevel props
-  IsBuilt-prop tree.keep_out = hlevel props
-  IsBuilt-prop (tree.verb v) = hlevel props
-  IsBuilt-prop (tree.callout c) = hlevel props
+×_prop3 : {A B C : Type 0} → IsProp A → IsProp B → IsProp C → IsProp (A × B × C)
+×_prop3 a b c = hlevel (a, b, c)
 
-  AreBuilt-prop : (ts : Row) → IsProp (AreBuilt ts)
-  AreBuilt-prop tree.none = hlevel props
-  AreBuilt-prop (tree.more t ts) = ×_prop (IsBuilt-prop t) (AreBuilt-prop ts)
+mutual
+  IsRunnable-prop : (t : Nested) → IsProp (IsRunnable t)
+  IsRunnable-prop tree.empty = hlevel props
+  IsRunnable-prop (tree.one item) = hlevel props
+  IsRunnable-prop tree.line_break = hlevel props
+  IsRunnable-prop (tree.seq ts) = AreRunnable-prop ts
+  IsRunnable-prop (tree.group number ts) = AreRunnable-prop ts
+  IsRunnable-prop (tree.repeat body low high lazily) = IsRunnable-prop body
+  IsRunnable-prop (tree.one_repeat item low high lazily) = hlevel props
+  IsRunnable-prop (tree.atomic ts) = AreRunnable-prop ts
+  IsRunnable-prop (tree.look true positive once ts) = AreRunnable-prop ts
+  IsRunnable-prop (tree.look false positive once ts) = hlevel props
+  IsRunnable-prop (tree.condition test first second) = ×_prop3 (IsRunnableTest-prop test) (IsRunnable-prop first) (IsRunnableOther-prop second)
+  IsRunnable-prop (tree.call n) = hlevel props
+  IsRunnable-prop (tree.ref ns caseless) = hlevel props
+  IsRunnable-prop (tree.anchor kind) = hlevel props
+  IsRunnable-prop tree.keep_out = hlevel props
+  IsRunnable-prop (tree.verb v) = hlevel props
+  IsRunnable-prop (tree.callout c) = hlevel props
+
+  AreRunnable-prop : (ts : Row) → IsProp (AreRunnable ts)
+  AreRunnable-prop tree.none = hlevel props
+  AreRunnable-prop (tree.more t ts) = ×_prop (IsRunnable-prop t) (AreRunnable-prop ts)
+
+  IsRunnableTest-prop : (test : Test) → IsProp (IsRunnableTest test)
+  IsRunnableTest-prop (tree.any_set ns) = hlevel props
+  IsRunnableTest-prop tree.in_call = hlevel props
+  IsRunnableTest-prop (tree.in_call_of ns) = hlevel props
+  IsRunnableTest-prop tree.never = hlevel props
+  IsRunnableTest-prop (tree.assert true positive once ts) = AreRunnable-prop ts
+  IsRunnableTest-prop (tree.assert false positive once ts) = hlevel props
+  IsRunnableTest-prop (tree.called c test) = hlevel props
+
+  IsRunnableOther-prop : (second : Other) → IsProp (IsRunnableOther second)
+  IsRunnableOther-prop tree.no_other = hlevel props
+  IsRunnableOther-prop (tree.other t) = IsRunnable-prop t
 
 module _ (rest : ℕ → List ℕ) where
   AreChained-prop : (ks after : List ℕ) → IsProp (AreChained rest ks after)
@@ -63,7 +80,7 @@ module _ (rest : ℕ → List ℕ) where
   IsLinked-prop after (node.Callout number from to at len) = hlevel props
 
 pub IsByteSearch-prop : (t : TreeParts) (table : List CharSet) (matching : MatchOptions) (subject : List ℕ) → IsProp (IsByteSearch t table matching subject)
-IsByteSearch-prop t table matching subject = hlevel (props, IsBuilt-prop, IsLinked-prop)
+IsByteSearch-prop t table matching subject = hlevel (props, IsRunnable-prop, IsLinked-prop)
 
 pub IsFlowOf-prop : (nodes : List Placed) (root : ℕ) (flow : List (Option ℕ)) → IsProp (IsFlowOf nodes root flow)
 IsFlowOf-prop nodes root flow = hlevel props

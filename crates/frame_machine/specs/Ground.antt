@@ -4,13 +4,13 @@ use Rattle.pat_tree.specs.declared.nodes.Item.{Item}
 use Rattle.pat_tree.specs.declared.nodes.Node.{Node}
 use Rattle.pat_tree.specs.declared.options.PartialMode.TheVariants.{Off}
 use Rattle.pat_tree.specs.Nested.{Nested, nest, tree_at}
-use Rattle.pat_tree.specs.Rules.{kids_of, numbers_of, classes_of, IsOrdered}
+use Rattle.pat_tree.specs.Rules.{asserted_by, is_test, kids_of, numbers_of, classes_of, IsOrdered}
 use Rattle.pat_tree.specs.Refs.{named_by}
 use Rattle.node_flow.specs.Followers.{first_of}
 use Rattle.node_flow.specs.Linked.{IsLinked}
 use Rattle.match_items.specs.Items.{after_item, after_break, after_ref, place_before}
-use Rattle.frame_machine.specs.Setting.{Setting, match_limit}
-use Rattle.pat_check.specs.Built.{IsBuilt}
+use Rattle.ordered_search.specs.Setting.{Setting, match_limit}
+use Rattle.frame_machine.specs.Forms.{IsRunnable}
 
 pub record Ground : Type 0 where
   pub setting : Setting
@@ -38,6 +38,8 @@ pub record IsNode (c : Ground) (q : ℕ) (n : Node) : Type 0 where
   pub classes : All (λ k. k < c.class_count) (classes_of n)
   pub ordered : IsOrdered n
   pub few : length (kids_of n) ≤ 4294967295
+  -- the node of an assertion is a lookaround, or a callout and a lookaround after it
+  pub tests : All (λ k. is_test (tree_of c k) ≡ true) (asserted_by n)
   -- the groups that it names, and its own, have registers
   pub named : All (λ k. (0 < k) × (k ≤ c.setting.groups)) (named_by n)
   pub numbered : All (λ k. (0 < k) × (k ≤ c.setting.groups)) (numbers_of n)
@@ -47,21 +49,21 @@ abbrev pub StandsIf : Ground → Option ℕ → Type 0
 StandsIf c None = Unit {0}
 StandsIf c (Some p) = c.stands p ≡ true
 
--- a part of the pattern all of whose forms are built
-abbrev pub IsBuiltPart : Ground → ℕ → Type 0
-IsBuiltPart c q = (q ≤ c.root) × IsBuilt (tree_of c q)
+-- a part of the pattern in forms that run
+abbrev pub IsRunnablePart : Ground → ℕ → Type 0
+IsRunnablePart c q = (q ≤ c.root) × IsRunnable (tree_of c q)
 
--- The search may come to the part: it is one of the pattern's, in forms that are built, and so are those that follow it. A
--- tree may hold nodes beside the pattern's, of which nothing is asked.
+-- The search may come to the part: it is one of the pattern's, in forms that run, and so are those that follow it. A tree
+-- may hold nodes beside the pattern's, of which nothing is asked.
 pub record IsPart (c : Ground) (q : ℕ) : Type 0 where
   pub within : q ≤ c.root
-  pub built : IsBuilt (tree_of c q)
-  pub followed : All (IsBuiltPart c) (c.rest q)
+  pub runs : IsRunnable (tree_of c q)
+  pub followed : All (IsRunnablePart c) (c.rest q)
 
 -- What holds of all places and parts.
 pub record IsGround (c : Ground) : Type 0 where
-  -- all forms of the pattern are built
-  pub built : IsBuilt c.setting.whole
+  -- all forms of the pattern run
+  pub runs : IsRunnable c.setting.whole
   pub whole : tree_of c c.root ≡ c.setting.whole
   pub last : c.rest c.root ≡ []
   pub chained : (q p : ℕ) (ps : List ℕ) → q ≤ c.root → c.rest q ≡ p ∷ ps → c.rest p ≡ ps

@@ -8,7 +8,7 @@ use Rattle.char_sets.specs.Table.{CharSet}
 use Rattle.pcre_io.specs.declared.callouts.Block.{Block}
 use Rattle.match_items.specs.Items.{after_item, after_break, after_ref, place_before}
 use Rattle.match_items.proofs.Places.{item_forward, place_before-less, break_within, ref_within}
-use Rattle.frame_machine.specs.Setting.{lower_of}
+use Rattle.ordered_search.specs.Setting.{lower_of}
 use Rattle.frame_machine.specs.Ground.{Ground, IsGround, StandsIf}
 use Rattle.frame_machine.specs.Ready.{IsByteSearch, ground_in}
 
@@ -35,28 +35,28 @@ module _ (t : TreeParts) (table : List CharSet) (matching : MatchOptions) (subje
 
   forward : (item : Item) (p q : ℕ) → board.stands p ≡ true → after_item board.setting.scene item p ≡ Some q →
       (p < q) × (board.stands q ≡ true) × (place_before board.setting.scene q ≡ p)
-  forward item p q here e = let f = item_forward board.setting.scene item p q h.bytes (within p here) e in (f.0, standing q f.1, f.2)
+  forward item p q here e = let f = item_forward board.setting.scene item p q h.searched.no_utf (within p here) e in (f.0, standing q f.1, f.2)
 
   backward : (p : ℕ) → board.stands p ≡ true → 0 < p → (place_before board.setting.scene p < p) × (board.stands (place_before board.setting.scene p) ≡ true)
   backward p here some =
       let le = within p here in
-      let e = place_before-less board.setting.scene p h.bytes in
+      let e = place_before-less board.setting.scene p h.searched.no_utf in
       (omega (arith, e, some), standing (place_before board.setting.scene p) (omega (arith, e, le)))
 
   pub ground_is : IsGround board
   ground_is = record {
-    built = h.built;
+    runs = h.runs;
     whole = refl;
     last = h.last;
     chained = λ q p ps le e. h.chained q p ps e;
     few = lower_few t.options.match_limit matching.match_limit h.few;
     registers = h.groups;
-    short = h.short;
+    short = h.searched.short;
     within = within;
     forward = forward;
     breaks = λ p here. stands_if board refl (after_break board.setting.scene p) (λ q e. break_within board.setting.scene p q (within p here) e);
     refers = λ from to p caseless a b here.
-        stands_if board refl (after_ref board.setting.scene from to caseless p) (λ q e. ref_within board.setting.scene from to p q caseless h.bytes (within p here) e);
+        stands_if board refl (after_ref board.setting.scene from to caseless p) (λ q e. ref_within board.setting.scene from to p q caseless h.searched.no_utf (within p here) e);
     backward = backward;
     off = h.off;
   }

@@ -3,13 +3,13 @@ use Rattle.std.specs.Prelude.{◌≡◌, ◌<◌, ℕ, false, List, [], All, len
 use Rattle.pat_tree.specs.Nested.{tree_at, trees}
 use Rattle.pat_tree.specs.Growing.{loose}
 use Rattle.pat_tree.specs.Parts.{DraftParts}
-use Rattle.pat_check.specs.Built.{IsBuilt}
+use Rattle.frame_machine.specs.Forms.{IsRunnable}
 
 -- a draft of built forms without UTF, classes and names, of which no node has taken these yet
 pub record IsMade (d : DraftParts) (ids : List ℕ) : Type 0 where
   pub free : loose d.nodes ≡ ids
   pub below : All (λ k. k < length d.nodes) ids
-  pub built : (k : ℕ) → IsBuilt (tree_at (trees d.nodes) k)
+  pub built : (k : ℕ) → IsRunnable (tree_at (trees d.nodes) k)
   pub bytes : d.options.utf ≡ false
   pub classes : d.classes ≡ []
   pub names : d.names ≡ []

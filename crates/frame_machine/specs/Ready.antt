@@ -1,10 +1,11 @@
 -- A finished tree made ready for searches, and what a search of it is about.
-use Rattle.std.specs.Prelude.{◌≡◌, ◌<◌, ◌≤◌, ℕ, ℤ, true, false, List, [], ◌∷◌, length, nat_le, slice_index_or}
+use Rattle.std.specs.Prelude.{◌≡◌, ◌<◌, ◌≤◌, ℕ, ℤ, true, false, List, [], ◌∷◌, None, length, nat_le, slice_index_or}
 use Rattle.uni_text.specs.Ascii.{ascii_fold, is_word_char}
 use Rattle.pat_tree.specs.declared.options.MatchOptions.{MatchOptions}
 use Rattle.pat_tree.specs.declared.options.PartialMode.TheVariants.{Off}
 use Rattle.pat_tree.specs.Nested.{trees}
 use Rattle.pat_tree.specs.Parts.{TreeParts, tree_of}
+use Rattle.pat_tree.specs.Pattern.{pattern_of}
 use Rattle.pat_tree.specs.Refs.{has_group}
 use Rattle.pat_tree.specs.Sound.{greatest, group_numbers}
 use Rattle.pat_tree.specs.declared.nodes.Placed.{Placed}
@@ -12,14 +13,19 @@ use Rattle.node_flow.specs.Followers.{rest, IsFlowOf}
 use Rattle.node_flow.specs.Linked.{IsLinked}
 use Rattle.char_sets.specs.Table.{CharSet, IsTableOf}
 use Rattle.match_items.specs.declared.view.View.{View}
+use Rattle.match_items.specs.Subjects.{IsSubject, IsPlace}
 use Rattle.pcre_io.specs.declared.callouts.Block.{Block}
 use Rattle.pat_check.specs.declared.facts.Facts.{Facts}
-use Rattle.pat_check.specs.Built.{IsBuilt}
+use Rattle.frame_machine.specs.Forms.{IsRunnable}
 use Rattle.pat_check.specs.Known.{IsByteSet, lead_set_of}
+use Rattle.pat_check.specs.Backs.{AreBacks, first_fault, greatest_back}
 use Rattle.pat_check.specs.Lengths.{can_be_empty}
+use Rattle.pat_check.specs.Size.{size}
+use Rattle.pat_check.specs.Support.{dfa_support}
 use Rattle.pat_check.specs.Nodes.{names_cr_or_lf, has_lookbehind, tests_before}
-use Rattle.frame_machine.specs.Stream as search
-use Rattle.frame_machine.specs.Setting.{Setting, setting_of}
+use Rattle.frame_machine.specs.declared.ready.Ready.{Ready}
+use Rattle.ordered_search.specs.Stream as search
+use Rattle.ordered_search.specs.Setting.{Setting, setting_of}
 use Rattle.frame_machine.specs.Ground.{Ground}
 
 -- what is known of a tree is known of this one
@@ -29,6 +35,12 @@ pub record AreFactsOf (tree : TreeParts) (facts : Facts) : Type 0 where
   pub names : facts.names_crlf ≡ names_cr_or_lf tree.classes (tree_of tree)
   pub lookbehind : facts.has_lookbehind ≡ has_lookbehind (tree_of tree)
   pub before : facts.tests_before ≡ tests_before (tree_of tree)
+  pub size : facts.size ≡ size (tree_of tree)
+  pub dfa : facts.dfa ≡ dfa_support (tree_of tree)
+  -- no lookbehind has a fault, and its branches begin so far before their place
+  pub fixed : first_fault tree ≡ None
+  pub backs : AreBacks tree facts.backs
+  pub greatest : facts.greatest_back ≡ greatest_back tree
   pub flow : IsFlowOf tree.nodes tree.root facts.flow
 
 -- a callout's block as it is shown
@@ -47,19 +59,18 @@ shown_as b = record {
 -- What a search of a finished tree is about, without UTF: folding and word characters are those of ASCII. The blocks of
 -- callouts are answered so.
 abbrev pub setting_in : TreeParts → MatchOptions → List ℕ → ℕ → (Block → ℤ) → Setting
-setting_in tree matching subject start answers = setting_of tree matching subject start ascii_fold is_word_char (λ b. answers (shown_as b))
+setting_in tree matching subject start answers = setting_of (pattern_of tree) matching subject start ascii_fold is_word_char (λ b. answers (shown_as b))
 
 -- the same of a view
 abbrev pub setting_for : TreeParts → View → (Block → ℤ) → Setting
 setting_for tree view answers = setting_in tree view.matching.now view.subject.now view.start answers
 
--- The search is one that runs here: all forms of the tree are built, and the subject is one of bytes.
+-- The search is one that runs here: all forms of the tree run, and the subject is one of bytes.
 pub record IsByteSearch (tree : TreeParts) (table : List CharSet) (matching : MatchOptions) (subject : List ℕ) : Type 0 where
-  pub built : IsBuilt (tree_of tree)
-  pub bytes : tree.options.utf ≡ false
+  pub runs : IsRunnable (tree_of tree)
   pub shown : IsTableOf tree table
+  pub searched : IsSubject tree.options subject
   pub off : matching.«partial» ≡ Off
-  pub short : length subject < 4294967295
   pub groups : greatest (group_numbers tree.nodes) ≤ 65535
   pub few : matching.match_limit ≤ 4294967295
   -- nothing follows the whole, a part that follows is followed by the others, and children are followed as their parent says
@@ -69,6 +80,17 @@ pub record IsByteSearch (tree : TreeParts) (table : List CharSet) (matching : Ma
       IsLinked (rest tree.nodes tree.root) (rest tree.nodes tree.root q) (slice_index_or tree.nodes q other).node
   -- a group that stands is numbered from 1 on
   pub numbered : (n : ℕ) → has_group tree.nodes n ≡ true → (0 < n) × (n ≤ greatest (group_numbers tree.nodes))
+
+-- What a search of a tree needs: its own table and facts, forms that run, and a view with its options, whose subject
+-- can be searched from the start on, without partial matching.
+pub record IsReadySearch (ready : Ready) (view : View) : Type 0 where
+  pub table : IsTableOf ready.tree.now ready.classes.now
+  pub facts : AreFactsOf ready.tree.now ready.facts.now
+  pub runs : IsRunnable (tree_of ready.tree.now)
+  pub options : view.options.now ≡ ready.tree.now.options
+  pub subject : IsSubject view.options.now view.subject.now
+  pub start : IsPlace view.options.now view.subject.now view.start
+  pub off : view.matching.now.«partial» ≡ Off
 
 -- what the machine goes over there; each byte is a character
 abbrev pub ground_in : TreeParts → MatchOptions → List ℕ → ℕ → (Block → ℤ) → Ground

@@ -14,8 +14,8 @@ use Rattle.frame_machine.specs.declared.machine.Next.TheVariants.{Enter, Fewer, 
 use Rattle.frame_machine.specs.declared.machine.Spot.{Spot}
 use Rattle.frame_machine.specs.declared.machine.Stop.{Stop}
 use Rattle.frame_machine.specs.declared.machine.Stop.TheVariants as stop
-use Rattle.frame_machine.specs.Setting.{Setting, notempty, notempty_atstart, endanchored}
-use Rattle.frame_machine.specs.PlaceAnswer.{Walked, Failed, Exhausted, Matched, MatchLimit, FrameLimit, answers, Outcome}
+use Rattle.ordered_search.specs.Setting.{Setting, notempty, notempty_atstart, endanchored}
+use Rattle.ordered_search.specs.PlaceAnswer.{Walked, Failed, Exhausted, Matched, MatchLimit, FrameLimit, answers, Outcome}
 use Rattle.frame_machine.specs.Ground.{Ground, next_of}
 use Rattle.match_items.specs.Views.{end_of}
 use Rattle.frame_machine.specs.Machine.{mark_of, kept_at, less, towards}

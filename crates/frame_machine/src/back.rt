@@ -3,15 +3,19 @@ ghost use Rattle.std.specs.Prelude.{◌≡◌, ◌≤◌, ◌<◌, ◌+◌, max,
 ghost use Rattle.frame_store.specs.Entry.{entries, entry_of};
 ghost use Rattle.frame_store.specs.Undo.{taken_back, HasSlot};
 ghost use Rattle.frame_machine.specs.Ground.{tree_of, IsPart};
-ghost use Rattle.frame_machine.specs.Machine.{IsValid, Advances, IsMany, conf, ahead};
-ghost use Rattle.frame_machine.specs.Moves.{tread};
+ghost use Rattle.frame_machine.specs.Machine.{conf};
+ghost use Rattle.frame_machine.specs.Frames.{ahead};
+ghost use Rattle.frame_machine.specs.Validity.{IsValid, Advances, IsMany};
+ghost use Rattle.ordered_search.specs.Moves.{tread};
 ghost use Rattle.frame_machine.specs.Stops.{IsStop, IsFurther, more_next};
 
+use crate::conds::choose;
 use crate::enter::go_on;
 use crate::machine::{Next, Spot, Stop};
 use crate::searchable::Searchable;
 use frame_store::kinds::{
-    KIND_FEWER_ITEMS, KIND_LATER_BRANCH, KIND_LATER_TURN, KIND_MORE_ITEMS, KIND_TURN_OR_EXIT,
+    KIND_ATOMIC_LEFT, KIND_DENIAL_OPEN, KIND_DENIAL_TEST, KIND_FEWER_ITEMS, KIND_LATER_BRANCH,
+    KIND_LATER_TURN, KIND_LOOK_TEST, KIND_MORE_ITEMS, KIND_TURN_OR_EXIT,
 };
 use frame_store::{Record, Registers, Store};
 use pat_tree::Node;
@@ -92,6 +96,22 @@ pub(crate) fn back<S: Searchable>(
         spot.restore(&newest);
         let further = take_further(on, newest.node, newest.to);
         return Ok(more_or_back(&newest, further));
+    }
+    if newest.kind == KIND_ATOMIC_LEFT {
+        store.undo_to(newest.from as usize, registers);
+        return Ok(Next::Back);
+    }
+    if newest.kind == KIND_DENIAL_OPEN {
+        spot.restore(&newest);
+        return Ok(go_on(on, newest.node));
+    }
+    if newest.kind == KIND_LOOK_TEST {
+        spot.restore(&newest);
+        return Ok(choose(on, newest.node, false));
+    }
+    if newest.kind == KIND_DENIAL_TEST {
+        spot.restore(&newest);
+        return Ok(choose(on, newest.node, true));
     }
     Ok(Next::Back)
 }

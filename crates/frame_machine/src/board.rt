@@ -1,5 +1,6 @@
 //! A finished tree over a subject, as the machine goes over it.
 ghost use Rattle.std.specs.Prelude.{◌≡◌, ◌<◌, ◌≤◌, false, length};
+ghost use Rattle.match_items.specs.Subjects.{IsSubject};
 ghost use Rattle.match_items.specs.Views.{scene_of};
 ghost use Rattle.node_flow.specs.Followers.{IsFlowOf};
 ghost use Rattle.frame_machine.specs.Ready.{IsByteSearch, setting_in};
@@ -32,8 +33,7 @@ impl<C: Callouts> Board<'_, C> {
     /// The subject with the options of the tree and of the match.
     fn view(&self) -> View<'_>
         ensures scene { scene_of result self.now.classes.now ≡ (setting_in self.now.tree.now self.now.matching.now self.now.subject.now self.now.start (C.answers self.now.calls.now)).scene }
-        ensures short { length result.subject.now < 4294967295 }
-        ensures bytes { result.options.now.utf ≡ false }
+        ensures subject { IsSubject result.options.now result.subject.now }
         ensures length { length result.subject.now ≡ length self.now.subject.now }
     {
         View {

@@ -2,15 +2,23 @@
 ghost use Rattle.std.specs.Prelude.{◌≡◌, ◌≤◌, ◌<◌, ◌+◌, max, length, All, IfOk, IfErr, MatchOption, Some, [], ◌∷◌, reverse, slice_get, ◌⊎◌};
 ghost use Rattle.frame_store.specs.Entry.{Undo, entries, entry_of};
 ghost use Rattle.frame_machine.specs.Ground.{tree_of, IsPart};
-ghost use Rattle.frame_machine.specs.Machine.{IsValid, Advances, IsCapture, conf, ahead};
-ghost use Rattle.frame_machine.specs.Moves.{tread};
+ghost use Rattle.frame_machine.specs.Machine.{conf};
+ghost use Rattle.frame_machine.specs.Frames.{ahead};
+ghost use Rattle.frame_machine.specs.Validity.{IsValid, Advances, IsCapture};
+ghost use Rattle.ordered_search.specs.Moves.{tread};
 ghost use Rattle.frame_machine.specs.Stops.{IsStop, IsNumber, took_nothing, admitted};
 
+use crate::atomic::leave_atomic;
+use crate::conds::leave_test;
 use crate::enter::go_on;
+use crate::looks::{deny, leave_look, pass_look};
 use crate::machine::{Next, Spot, Stop, hold};
 use crate::repeats::turns_of;
 use crate::searchable::Searchable;
-use frame_store::kinds::{KIND_GROUP_OPEN, KIND_TURN_OPEN, KIND_TURN_OR_EXIT, KIND_UNDO};
+use frame_store::kinds::{
+    KIND_ATOMIC_OPEN, KIND_DENIAL_OPEN, KIND_DENIAL_TEST, KIND_GROUP_OPEN, KIND_LOOK_ALL_OPEN,
+    KIND_LOOK_OPEN, KIND_LOOK_TEST, KIND_TURN_OPEN, KIND_TURN_OR_EXIT, KIND_UNDO,
+};
 use frame_store::{Record, Registers, Span, Store};
 use pat_tree::Node;
 
@@ -159,6 +167,24 @@ pub(crate) fn finish<S: Searchable>(
     }
     if frame.kind == KIND_TURN_OR_EXIT {
         return turned(on, &frame, height, spot, store, registers);
+    }
+    if frame.kind == KIND_ATOMIC_OPEN {
+        return leave_atomic(on, &frame, height, spot, store, registers);
+    }
+    if frame.kind == KIND_LOOK_OPEN {
+        return leave_look(on, &frame, height, spot, store, registers);
+    }
+    if frame.kind == KIND_LOOK_ALL_OPEN {
+        return pass_look(on, &frame, height, spot, store, registers);
+    }
+    if frame.kind == KIND_DENIAL_OPEN {
+        return deny(on, &frame, height, spot, store, registers);
+    }
+    if frame.kind == KIND_LOOK_TEST {
+        return leave_test(on, true, &frame, height, spot, store, registers);
+    }
+    if frame.kind == KIND_DENIAL_TEST {
+        return leave_test(on, false, &frame, height, spot, store, registers);
     }
     Ok(Next::Back)
 }

@@ -3,12 +3,17 @@ ghost use Rattle.std.specs.Prelude.{◌≡◌, ◌≤◌, true, max, All, IfOk, 
 ghost use Rattle.frame_store.specs.Captures.{HasGroup};
 ghost use Rattle.frame_store.specs.Entry.{entries};
 ghost use Rattle.frame_machine.specs.Ground.{next_of, IsPart};
-ghost use Rattle.frame_machine.specs.Machine.{IsValid, Advances, AreSpans, SpanStands, conf, ahead, towards, first_next, first_set};
-ghost use Rattle.frame_machine.specs.Moves.{tread};
+ghost use Rattle.frame_machine.specs.Machine.{conf, towards, first_next, first_set};
+ghost use Rattle.frame_machine.specs.Frames.{ahead};
+ghost use Rattle.frame_machine.specs.Validity.{IsValid, Advances, AreSpans, SpanStands};
+ghost use Rattle.ordered_search.specs.Moves.{tread};
 ghost use Rattle.match_items.specs.Items.{holds};
 ghost use Rattle.frame_machine.specs.Stops.{IsStop, referred, moved_next, moved_spot, held_next, held_early, part_next};
 
+use crate::atomic::enter_atomic;
+use crate::conds::enter_condition;
 use crate::items::many;
+use crate::looks::enter_look;
 use crate::machine::{Next, Spot, Stop, hold};
 use crate::repeats::{offer, widen};
 use crate::searchable::Searchable;
@@ -28,7 +33,7 @@ pub(crate) fn go_on<S: Searchable>(on: &S, part: u32) -> Next
 }
 
 /// Where a group begins.
-fn first_branch(part: u32, branches: &Kids) -> Next
+pub(crate) fn first_branch(part: u32, branches: &Kids) -> Next
     ensures { result ≡ first_next part branches.now }
 {
     match branches.as_slice() {
@@ -54,7 +59,7 @@ fn move_to<S: Searchable>(on: &S, part: u32, to: Option<u64>, spot: &mut Spot) -
 }
 
 /// The first set group of the list.
-fn first_set(groups: &[u16], registers: &Registers) -> Option<Span>
+pub(crate) fn first_set(groups: &[u16], registers: &Registers) -> Option<Span>
     requires { All (HasGroup registers.now) groups.now }
     ensures { result ≡ first_set registers.now groups.now }
 {
@@ -167,6 +172,18 @@ pub(crate) fn enter<S: Searchable>(
             *lazy,
             spot.place,
         )),
+        Node::Atomic(branches) => enter_atomic(on, at, branches, spot, store, registers),
+        Node::Look {
+            ahead,
+            positive,
+            atomic,
+            branches,
+        } => enter_look(
+            on, at, *ahead, *positive, *atomic, branches, spot, store, registers,
+        ),
+        Node::Cond { test, yes, no } => {
+            enter_condition(on, at, test, *yes, *no, spot, store, registers)
+        }
         _ => unreachable!(),
     }
 }

@@ -5,8 +5,10 @@ ghost use Rattle.pat_tree.specs.Nested as tree;
 ghost use Rattle.pat_tree.specs.Rules.{class_in, AtMost};
 ghost use Rattle.match_items.specs.Items.{is_none_left, longest_run};
 ghost use Rattle.frame_machine.specs.Ground.{tree_of, IsPart};
-ghost use Rattle.frame_machine.specs.Machine.{IsValid, Advances, IsRepeat, IsMany, conf, ahead, less};
-ghost use Rattle.frame_machine.specs.Moves.{tread};
+ghost use Rattle.frame_machine.specs.Machine.{conf, less};
+ghost use Rattle.frame_machine.specs.Frames.{ahead};
+ghost use Rattle.frame_machine.specs.Validity.{IsValid, Advances, IsRepeat, IsMany};
+ghost use Rattle.ordered_search.specs.Moves.{tread};
 ghost use Rattle.frame_machine.specs.Stops.{IsStop, IsMost, many_next};
 
 use crate::enter::go_on;

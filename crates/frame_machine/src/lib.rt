@@ -2,13 +2,16 @@
 #![tactic(auto)]
 
 mod answer;
+mod atomic;
 mod back;
 mod board;
+mod conds;
 mod counted;
 mod ends;
 mod enter;
+mod framing;
 mod items;
-mod laws;
+mod looks;
 mod machine;
 mod ready;
 mod repeats;
@@ -19,7 +22,6 @@ mod searchable;
 mod tests;
 
 pub use answer::{PlaceAnswer, Signal};
-pub use laws::{cut_comes_late, no_place_is_cut, walk_is_told, worked_rows};
 pub use ready::{Ready, run_at};
 pub use scratch::{Scratch, search_at};
 pub use searchable::{Run, Searchable};

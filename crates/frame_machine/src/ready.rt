@@ -1,13 +1,10 @@
 //! The search of a finished tree at one place.
-ghost use Rattle.std.specs.Prelude.{◌≡◌, ◌<◌, ◌≤◌, false, length, max};
-ghost use Rattle.pat_tree.specs.declared.options.PartialMode.TheVariants.{Off};
-ghost use Rattle.pat_tree.specs.Parts.{tree_of};
-ghost use Rattle.char_sets.specs.Table.{IsTableOf};
+ghost use Rattle.std.specs.Prelude.{◌≡◌, ◌≤◌, max};
+ghost use Rattle.match_items.specs.Subjects.{IsPlace};
 ghost use Rattle.pcre_io.specs.declared.callouts.Block.{Block};
-ghost use Rattle.pat_check.specs.Built.{IsBuilt};
 ghost use Rattle.frame_machine.specs.Answer.{IsAnswer, IsMark};
-ghost use Rattle.frame_machine.specs.PlaceAnswer.{place_answer};
-ghost use Rattle.frame_machine.specs.Ready.{AreFactsOf, setting_for};
+ghost use Rattle.ordered_search.specs.PlaceAnswer.{place_answer};
+ghost use Rattle.frame_machine.specs.Ready.{IsReadySearch, setting_for};
 
 use crate::answer::PlaceAnswer;
 use crate::board::Board;
@@ -31,7 +28,7 @@ pub struct Ready<'a> {
 ///
 /// Needs the table and the facts of the tree, and a view with the tree's options; a start that is at most the place, and a
 /// place in the subject; a subject of fewer than 4,294,967,295 bytes without UTF; no partial matching; and a tree without
-/// atomic groups, lookarounds, conditions, calls, verbs and callouts. So it calls at no callout.
+/// lookarounds, conditions, calls, verbs and callouts. So it calls at no callout.
 pub fn run_at<C: Callouts>(
     ready: &Ready<'_>,
     view: &View<'_>,
@@ -39,15 +36,9 @@ pub fn run_at<C: Callouts>(
     scratch: &mut Scratch,
     calls: &mut C,
 ) -> PlaceAnswer
-    requires table { IsTableOf ready.now.tree.now ready.now.classes.now }
-    requires facts { AreFactsOf ready.now.tree.now ready.now.facts.now }
-    requires options { view.now.options.now ≡ ready.now.tree.now.options }
+    requires search { IsReadySearch ready.now view.now }
     requires start { view.now.start ≤ place }
-    requires place { place ≤ length view.now.subject.now }
-    requires short { length view.now.subject.now < 4294967295 }
-    requires bytes { ready.now.tree.now.options.utf ≡ false }
-    requires off { view.now.matching.now.«partial» ≡ Off }
-    requires built { IsBuilt (tree_of ready.now.tree.now) }
+    requires place { IsPlace view.now.options.now view.now.subject.now place }
     ensures answer { IsAnswer result scratch.new.spans (place_answer (setting_for ready.now.tree.now view.now (C.answers calls.old)) place) }
     ensures mark { IsMark result scratch.old.last_mark scratch.new.last_mark (place_answer (setting_for ready.now.tree.now view.now (C.answers calls.old)) place) }
     ensures peak { scratch.new.peak ≤ max scratch.old.peak view.now.matching.now.frame_limit }

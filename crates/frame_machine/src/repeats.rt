@@ -5,8 +5,11 @@ ghost use Rattle.pat_tree.specs.Nested as tree;
 ghost use Rattle.pat_tree.specs.Rules.{class_in, AtMost};
 ghost use Rattle.match_items.specs.Items.{is_none_left, longest_run};
 ghost use Rattle.frame_machine.specs.Ground.{tree_of, IsPart};
-ghost use Rattle.frame_machine.specs.Machine.{IsValid, Advances, IsRepeat, IsMany, conf, ahead, less};
-ghost use Rattle.frame_machine.specs.Moves.{tread};
+ghost use Rattle.frame_machine.specs.Machine.{conf, less};
+ghost use Rattle.frame_machine.specs.Frames.{ahead};
+ghost use Rattle.frame_machine.specs.Branches.{AreBranches};
+ghost use Rattle.frame_machine.specs.Validity.{IsValid, Advances, HasBranch, IsRepeat, IsMany};
+ghost use Rattle.ordered_search.specs.Moves.{tread};
 ghost use Rattle.frame_machine.specs.Stops.{IsStop, many_next, turn_entry};
 
 use crate::enter::go_on;
@@ -14,7 +17,7 @@ use crate::machine::{Next, Spot, Stop, hold};
 use crate::searchable::Searchable;
 use frame_store::kinds::{KIND_LATER_BRANCH, KIND_LATER_TURN, KIND_TURN_OPEN, KIND_TURN_OR_EXIT};
 use frame_store::{Record, Registers, Store};
-use pat_tree::Node;
+use pat_tree::{Kids, Node};
 
 /// A repeat of a group.
 #[derive(Clone, Copy)]
@@ -69,7 +72,21 @@ pub(crate) fn turns_of<S: Searchable>(on: &S, part: u32) -> Turns
     }
 }
 
-/// Tries a branch of a group, and leaves those after it.
+/// The branches of a part that has one of this number.
+fn branches_of<S: Searchable>(on: &S, part: u32, index: u32) -> &Kids
+    requires inside { IsPart (S.searched on.now) part }
+    requires some { HasBranch (S.searched on.now) (tree_of (S.searched on.now) part) index }
+    ensures { AreBranches (S.searched on.now) part result.now }
+{
+    match on.node(part) {
+        Node::Group { branches, .. } => branches,
+        Node::Atomic(branches) => branches,
+        Node::Look { branches, .. } => branches,
+        _ => unreachable!(),
+    }
+}
+
+/// Tries a branch of a part, and leaves those after it.
 pub(crate) fn branch<S: Searchable>(
     on: &S,
     at: u32,
@@ -83,9 +100,7 @@ pub(crate) fn branch<S: Searchable>(
     ensures stop { IfErr result (λ stop. IsStop stop spot.new registers.now (tread (S.searched on.now).setting spot.old.left (ahead (S.searched on.now) (conf (Next.Branch at index) spot.old (entries store.old.records) registers.now)))) }
     ensures peak { store.new.peak ≤ max store.old.peak (S.searched on.now).setting.matching.frame_limit }
 {
-    let Node::Group { branches, .. } = on.node(at) else {
-        unreachable!();
-    };
+    let branches = branches_of(on, at, index);
     let first = *branches.get(index as usize);
     if spot.left == 0 {
         return Err(Stop::MatchLimit);

@@ -2,9 +2,11 @@
 ghost use Rattle.std.specs.Prelude.{◌≡◌, ◌≤◌, ◌<◌, true, max, length, replicate, None, [], IfOk, IfErr, OnOk, OnErr};
 ghost use Rattle.frame_store.specs.Captures.{capture};
 ghost use Rattle.frame_store.specs.Entry.{entries};
-ghost use Rattle.frame_machine.specs.Machine.{IsValid, Advances, conf, ahead, mark_of};
-ghost use Rattle.frame_machine.specs.Moves.{tread};
-ghost use Rattle.frame_machine.specs.PlaceAnswer.{place_answer};
+ghost use Rattle.frame_machine.specs.Machine.{conf, mark_of};
+ghost use Rattle.frame_machine.specs.Frames.{ahead};
+ghost use Rattle.frame_machine.specs.Validity.{IsValid, Advances};
+ghost use Rattle.ordered_search.specs.Moves.{tread};
+ghost use Rattle.ordered_search.specs.PlaceAnswer.{place_answer};
 ghost use Rattle.frame_machine.specs.Stops.{IsStop};
 
 use crate::back::back;

@@ -1,8 +1,8 @@
 //! The workspace of a search.
 ghost use Rattle.std.specs.Prelude.{◌≡◌, ◌≤◌, ◌<◌, true, max, replicate, None, [], OnOk};
-ghost use Rattle.frame_store.specs.Captures.{capture};
+ghost use Rattle.frame_store.specs.Captures.{capture_if_any};
 ghost use Rattle.frame_machine.specs.Answer.{IsAnswer, IsMark};
-ghost use Rattle.frame_machine.specs.PlaceAnswer.{place_answer};
+ghost use Rattle.ordered_search.specs.PlaceAnswer.{place_answer};
 
 use crate::answer::{PlaceAnswer, answer_of};
 use crate::machine::Spot;
@@ -72,12 +72,12 @@ impl Scratch {
         self.frames
     }
 
-    /// The text that a group captured in the match that the last search gave.
+    /// The text that a group captured in the match that the last search gave. None where there is no such group: groups are
+    /// numbered from 1.
     pub fn span(&self, group: u32) -> Option<Span>
-        requires { 0 < group }
-        ensures { result ≡ capture self.now.spans group }
+        ensures { result ≡ capture_if_any self.now.spans group }
     {
-        if group > self.registers.count() {
+        if group == 0 || group > self.registers.count() {
             return None;
         }
         self.registers.get(group)

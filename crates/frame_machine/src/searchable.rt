@@ -3,7 +3,7 @@ ghost use Rattle.std.specs.Prelude.{◌≡◌, ◌<◌, ◌≤◌, true, All, le
 ghost use Rattle.pat_tree.specs.Rules.{class_in};
 ghost use Rattle.match_items.specs.Items.{after_item, after_break, after_ref, longest_run, place_before, holds, earliest};
 ghost use Rattle.match_items.specs.Views.{end_of};
-ghost use Rattle.frame_machine.specs.Setting.{match_limit};
+ghost use Rattle.ordered_search.specs.Setting.{match_limit};
 ghost use Rattle.frame_machine.specs.Ground.{Ground, IsPart, IsNode, IsGround, next_of};
 
 use pat_tree::{AnchorKind, Item, MatchOptions, Node, Options};

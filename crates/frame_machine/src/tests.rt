@@ -3,7 +3,7 @@ ghost use Rattle.pat_tree.specs.declared.options.PartialMode.TheVariants.{Off};
 ghost use Rattle.pat_tree.specs.Nested.{nest, trees};
 ghost use Rattle.pat_tree.specs.Parts as parts;
 ghost use Rattle.pat_tree.specs.Rules.{kids_of, classes_of, verb_names_of, numbers_of, asserted_by, IsNamed, IsOrdered, IsDefine};
-ghost use Rattle.pat_check.specs.Built.{IsBuilt};
+ghost use Rattle.frame_machine.specs.Forms.{IsRunnable};
 ghost use Rattle.frame_machine.specs.Made.{IsMade};
 
 use crate::{PlaceAnswer, Ready, Scratch, Signal, run_at};
@@ -32,6 +32,12 @@ enum Step {
     Capture,
     /// Any number of the last one.
     Repeat,
+    /// The last one as an atomic group.
+    Once,
+    /// The last two as the alternatives of an atomic group.
+    OnceEither,
+    /// A lookahead of the last one, positive or negative, atomic or not.
+    Ahead(bool, bool),
 }
 
 fn item(letter: u8) -> Item
@@ -47,7 +53,7 @@ fn item(letter: u8) -> Item
 fn add(draft: &mut Draft, waiting: &mut Vec<NodeId>, node: Node) -> Result<(), Fail>
     requires room { length draft.old.nodes < 1000 }
     requires made { IsMade draft.old (waiting.old.items ++ kids_of node) }
-    requires built { IsBuilt (nest (trees draft.old.nodes) node) }
+    requires built { IsRunnable (nest (trees draft.old.nodes) node) }
     requires classes { classes_of node ≡ [] }
     requires verb_names { verb_names_of node ≡ [] }
     requires numbered { All (λ n. 1 ≤ n) (numbers_of node) }
@@ -114,19 +120,35 @@ fn add_over_one(
     let Some(only) = waiting.pop() else {
         return Ok(());
     };
-    let node = match step {
-        Step::Capture => Node::Group {
-            number: Some(1),
-            branches: single(alloc, only)?,
-        },
-        _ => Node::Repeat {
+    if let Step::Repeat = step {
+        let node = Node::Repeat {
             body: only,
             min: 0,
             max: None,
             lazy: false,
-        },
-    };
-    add(draft, waiting, node)
+        };
+        return add(draft, waiting, node);
+    }
+    let branches = single(alloc, only)?;
+    match step {
+        Step::Once => add(draft, waiting, Node::Atomic(branches)),
+        Step::Ahead(positive, atomic) => {
+            let node = Node::Look {
+                ahead: true,
+                positive,
+                atomic,
+                branches,
+            };
+            add(draft, waiting, node)
+        }
+        _ => {
+            let node = Node::Group {
+                number: Some(1),
+                branches,
+            };
+            add(draft, waiting, node)
+        }
+    }
 }
 
 /// Adds what takes the last two.
@@ -153,6 +175,7 @@ fn add_over_two(
             number: None,
             branches: kids,
         },
+        Step::OnceEither => Node::Atomic(kids),
         _ => Node::Seq(kids),
     };
     add(draft, waiting, node)
@@ -172,15 +195,17 @@ fn take_step(
 {
     match step {
         Step::Letter(_) | Step::Letters(..) | Step::Keep => add_leaf(draft, waiting, step),
-        Step::Capture | Step::Repeat => add_over_one(alloc, draft, waiting, step),
-        Step::Join | Step::Either => add_over_two(alloc, draft, waiting, step),
+        Step::Join | Step::Either | Step::OnceEither => {
+            add_over_two(alloc, draft, waiting, step)
+        }
+        _ => add_over_one(alloc, draft, waiting, step),
     }
 }
 
 /// The tree that these steps make, whose root is the last node.
 fn tree_of(alloc: Global, steps: &[Step]) -> Result<Tree, Fail>
     requires { length steps.now < 100 }
-    ensures built { IfOk result (λ tree. IsBuilt (parts.tree_of tree)) }
+    ensures built { IfOk result (λ tree. IsRunnable (parts.tree_of tree)) }
     ensures bytes { IfOk result (λ tree. tree.options.utf ≡ false) }
     ensures classes { IfOk result (λ tree. tree.classes ≡ []) }
 {
@@ -205,7 +230,7 @@ fn found(
     matching: &MatchOptions,
     scratch: &mut Scratch,
 ) -> Result<(PlaceAnswer, Option<Span>), Fail>
-    requires built { IsBuilt (parts.tree_of tree.now) }
+    requires built { IsRunnable (parts.tree_of tree.now) }
     requires bytes { tree.now.options.utf ≡ false }
     requires classes { tree.now.classes ≡ [] }
     requires short { length subject.now < 4294967295 }
@@ -394,6 +419,280 @@ fn a_place_is_answered_by_any_workspace(rt: HostRuntime) -> Result<(), Fail> {
             steps: DEEP,
             subject: b"aaaaaaaaaaaaaaaaaaaaaaaaaaaaaa",
             match_limit: 1000,
+            ..PLAIN
+        },
+    ];
+    let mut used = Scratch::new(alloc);
+    for row in rows {
+        both(&rt, alloc, row, &mut used)?;
+    }
+    Ok(())
+}
+
+/// `(?>a*)a`
+const ATOMIC_RUN: &[Step] = &[
+    Step::Letters(b'a', 0),
+    Step::Once,
+    Step::Letter(b'a'),
+    Step::Join,
+];
+
+/// `(?>a|ab)c`
+const FIRST_ALONE: &[Step] = &[
+    Step::Letter(b'a'),
+    Step::Letter(b'a'),
+    Step::Letter(b'b'),
+    Step::Join,
+    Step::OnceEither,
+    Step::Letter(b'c'),
+    Step::Join,
+];
+
+/// `(?:aa|a)(?>a)ab`
+const EARLIER_BRANCH: &[Step] = &[
+    Step::Letter(b'a'),
+    Step::Letter(b'a'),
+    Step::Join,
+    Step::Letter(b'a'),
+    Step::Either,
+    Step::Letter(b'a'),
+    Step::Once,
+    Step::Join,
+    Step::Letter(b'a'),
+    Step::Join,
+    Step::Letter(b'b'),
+    Step::Join,
+];
+
+/// `(?>(a)b)c|a`
+const CAPTURE_INSIDE: &[Step] = &[
+    Step::Letter(b'a'),
+    Step::Capture,
+    Step::Letter(b'b'),
+    Step::Join,
+    Step::Once,
+    Step::Letter(b'c'),
+    Step::Join,
+    Step::Letter(b'a'),
+    Step::Either,
+];
+
+/// `(?>a)`
+const ONCE: &[Step] = &[Step::Letter(b'a'), Step::Once];
+
+/// `(?>a|b)`
+const ONCE_EITHER: &[Step] = &[Step::Letter(b'a'), Step::Letter(b'b'), Step::OnceEither];
+
+#[test]
+fn an_atomic_group_keeps_its_first_outcome(rt: HostRuntime) -> Result<(), Fail> {
+    let alloc = rt.alloc();
+    let failed = PlaceAnswer::Failed {
+        signal: Signal::Exhausted,
+        hit_end: false,
+    };
+    let rows = [
+        Row {
+            steps: ATOMIC_RUN,
+            subject: b"aaa",
+            answer: failed,
+            ..PLAIN
+        },
+        Row {
+            steps: FIRST_ALONE,
+            subject: b"abc",
+            answer: failed,
+            ..PLAIN
+        },
+        Row {
+            steps: FIRST_ALONE,
+            subject: b"ac",
+            answer: matched(0, 2),
+            ..PLAIN
+        },
+        Row {
+            steps: EARLIER_BRANCH,
+            subject: b"aaab",
+            answer: matched(0, 4),
+            ..PLAIN
+        },
+        Row {
+            steps: CAPTURE_INSIDE,
+            subject: b"abd",
+            answer: matched(0, 1),
+            ..PLAIN
+        },
+        Row {
+            steps: CAPTURE_INSIDE,
+            subject: b"abc",
+            answer: matched(0, 3),
+            group: Some((0, 1)),
+            ..PLAIN
+        },
+        // A unit for entering it and one for leaving it.
+        Row {
+            steps: ONCE,
+            subject: b"a",
+            frame_limit: 2,
+            answer: matched(0, 1),
+            ..PLAIN
+        },
+        Row {
+            steps: ONCE,
+            subject: b"a",
+            frame_limit: 1,
+            answer: PlaceAnswer::FrameLimit,
+            ..PLAIN
+        },
+        // A Step for each of two branches.
+        Row {
+            steps: ONCE_EITHER,
+            subject: b"b",
+            match_limit: 2,
+            answer: matched(0, 1),
+            ..PLAIN
+        },
+        Row {
+            steps: ONCE_EITHER,
+            subject: b"b",
+            match_limit: 1,
+            ..PLAIN
+        },
+    ];
+    let mut used = Scratch::new(alloc);
+    for row in rows {
+        both(&rt, alloc, row, &mut used)?;
+    }
+    Ok(())
+}
+
+/// `(?=(a+))a`
+const CAPTURE_AHEAD: &[Step] = &[
+    Step::Letters(b'a', 1),
+    Step::Capture,
+    Step::Ahead(true, true),
+    Step::Letter(b'a'),
+    Step::Join,
+];
+
+/// `(?=a\K)a`
+const KEEP_AHEAD: &[Step] = &[
+    Step::Letter(b'a'),
+    Step::Keep,
+    Step::Join,
+    Step::Ahead(true, true),
+    Step::Letter(b'a'),
+    Step::Join,
+];
+
+/// `(?*a)a`
+const ANY_AHEAD: &[Step] = &[
+    Step::Letter(b'a'),
+    Step::Ahead(true, false),
+    Step::Letter(b'a'),
+    Step::Join,
+];
+
+/// `(?!a)(?!a)b`
+const DENIED: &[Step] = &[
+    Step::Letter(b'a'),
+    Step::Ahead(false, true),
+    Step::Letter(b'a'),
+    Step::Ahead(false, true),
+    Step::Join,
+    Step::Letter(b'b'),
+    Step::Join,
+];
+
+/// `(?!(a)b)ac`
+const DENIED_LATE: &[Step] = &[
+    Step::Letter(b'a'),
+    Step::Capture,
+    Step::Letter(b'b'),
+    Step::Join,
+    Step::Ahead(false, true),
+    Step::Letter(b'a'),
+    Step::Join,
+    Step::Letter(b'c'),
+    Step::Join,
+];
+
+#[test]
+fn a_lookahead_goes_back_to_its_place(rt: HostRuntime) -> Result<(), Fail> {
+    let alloc = rt.alloc();
+    let failed = PlaceAnswer::Failed {
+        signal: Signal::Exhausted,
+        hit_end: false,
+    };
+    let rows = [
+        Row {
+            steps: CAPTURE_AHEAD,
+            subject: b"aab",
+            answer: matched(0, 1),
+            group: Some((0, 2)),
+            ..PLAIN
+        },
+        // A unit for entering it, two for the group and one for leaving it.
+        Row {
+            steps: CAPTURE_AHEAD,
+            subject: b"ab",
+            frame_limit: 4,
+            answer: matched(0, 1),
+            group: Some((0, 1)),
+            ..PLAIN
+        },
+        Row {
+            steps: CAPTURE_AHEAD,
+            subject: b"ab",
+            frame_limit: 3,
+            answer: PlaceAnswer::FrameLimit,
+            ..PLAIN
+        },
+        Row {
+            steps: KEEP_AHEAD,
+            subject: b"a",
+            answer: matched(0, 1),
+            ..PLAIN
+        },
+        // Only entering one that keeps all its outcomes is a unit.
+        Row {
+            steps: ANY_AHEAD,
+            subject: b"a",
+            frame_limit: 1,
+            answer: matched(0, 1),
+            ..PLAIN
+        },
+        Row {
+            steps: ANY_AHEAD,
+            subject: b"a",
+            frame_limit: 0,
+            answer: PlaceAnswer::FrameLimit,
+            ..PLAIN
+        },
+        // A negative one leaves the units as they were.
+        Row {
+            steps: DENIED,
+            subject: b"b",
+            frame_limit: 1,
+            answer: matched(0, 1),
+            ..PLAIN
+        },
+        Row {
+            steps: DENIED,
+            subject: b"b",
+            frame_limit: 0,
+            answer: PlaceAnswer::FrameLimit,
+            ..PLAIN
+        },
+        Row {
+            steps: DENIED,
+            subject: b"a",
+            answer: failed,
+            ..PLAIN
+        },
+        Row {
+            steps: DENIED_LATE,
+            subject: b"ac",
+            answer: matched(0, 2),
             ..PLAIN
         },
     ];

@@ -2,6 +2,7 @@
 use Rattle.std.proofs.Common.{◌≡◌, ℕ, ◌+◌, ◌≤◌, Bool, true, false, cond, List, [], ◌∷◌, Option, Some, None, Result, Ok, Err, IfOk, bytes_eq, subst, ◌&&◌, ◌||◌, arith, lit≤, slice_get}
 use Rattle.std.specs.List.{before_first}
 use Rattle.std.proofs.lemmas.Bool.Decides.{nat_tests}
+use Rattle.pat_tree.specs.Newlines.{newline_in_any_case}
 use Rattle.grep_args.specs.declared.plan.GrepPlan.{GrepPlan}
 use Rattle.grep_args.specs.declared.plan.HelpKind.{HelpKind}
 use Rattle.grep_args.specs.declared.usage.UsageKind.{UsageKind}
@@ -17,7 +18,7 @@ use Rattle.grep_args.specs.declared.options.GrepOption.{GrepOption}
 use Rattle.grep_args.specs.declared.options.GrepOption.TheVariants.{Plain, OnlyMatching, Valued}
 use Rattle.grep_args.specs.Numbers.{number_of, greatest}
 use Rattle.grep_args.specs.Table.{by_letter, by_name}
-use Rattle.grep_args.specs.Effects.{◌>>=◌, Effect, unset, switched, is_empty, no_offsets, same_offsets, plain_effect, within, ranged, number_effect, listed, binary_of, newline_of, value_effect, group_shown, group_effect}
+use Rattle.grep_args.specs.Effects.{◌>>=◌, Effect, unset, switched, is_empty, no_offsets, same_offsets, plain_effect, within, ranged, number_effect, listed, binary_of, value_effect, group_shown, group_effect}
 use Rattle.grep_args.specs.Words.{Reads, Taken, Opted, told, complete, starts_with_digit, letter, letters, long, long_option, joined_value, is_equals, Word, operand, terminator, name, joined, word_of, option_in, options, has_patterns, pattern_word, plan_of}
 use Rattle.grep_args.specs.Limits.{IsWithinLimits}
 
@@ -82,7 +83,7 @@ valued_keeps valued.File text plan h = h
 valued_keeps valued.Label text plan h = h
 valued_keeps valued.OmSeparator text plan h = h
 valued_keeps valued.BinaryFiles text plan h = then_keeps _ _ (listed (binary_of text)) _ (always (listed (binary_of text))) (λ mode _. h)
-valued_keeps valued.Newline text plan h = then_keeps _ _ (listed (newline_of text)) _ (always (listed (newline_of text))) (λ newline _. h)
+valued_keeps valued.Newline text plan h = then_keeps _ _ (listed (newline_in_any_case text)) _ (always (listed (newline_in_any_case text))) (λ newline _. h)
 
 group_keeps : (text : List ℕ) → Keeps (group_effect text)
 group_keeps text plan h = then_keeps _ _ (ranged 0 greatest text) _ (within_range 0 greatest (number_of text)) (λ n bounds. shown_keeps n plan h)

@@ -1,5 +1,6 @@
 -- The last value of an option counts.
 use Rattle.std.proofs.Common.{◌≡◌, ℕ, List, Result, Ok, Err, Some, IsTrue, refl, ap, sym, ◌∙◌}
+use Rattle.pat_tree.specs.Newlines.{newline_in_any_case}
 use Rattle.grep_args.specs.declared.plan.GrepPlan.{GrepPlan}
 use Rattle.grep_args.specs.declared.usage.UsageKind.{UsageKind}
 use Rattle.grep_args.specs.declared.options.NumberOption.{NumberOption}
@@ -7,7 +8,7 @@ use Rattle.grep_args.specs.declared.options.NumberOption.TheVariants.{AfterConte
 use Rattle.grep_args.specs.declared.options.ValuedOption.{ValuedOption}
 use Rattle.grep_args.specs.declared.options.ValuedOption.TheVariants as valued
 use Rattle.grep_args.specs.Numbers.{greatest}
-use Rattle.grep_args.specs.Effects.{◌>>=◌, ranged, number_effect, listed, binary_of, newline_of, value_effect}
+use Rattle.grep_args.specs.Effects.{◌>>=◌, ranged, number_effect, listed, binary_of, value_effect}
 use Rattle.grep_args.specs.Kept.{keeps_one}
 
 abbrev given : GrepPlan → Result GrepPlan UsageKind
@@ -40,4 +41,4 @@ value_again valued.File first last plan after one h = cc
 value_again valued.Label first last plan after one h = set_again (λ text plan. record plan { label = text }) (λ a b plan. refl) (Ok first) (Ok last) plan after h
 value_again valued.OmSeparator first last plan after one h = set_again (λ text plan. record plan { om_separator = text }) (λ a b plan. refl) (Ok first) (Ok last) plan after h
 value_again valued.BinaryFiles first last plan after one h = set_again (λ mode plan. record plan { binary = mode }) (λ a b plan. refl) (listed (binary_of first)) (listed (binary_of last)) plan after h
-value_again valued.Newline first last plan after one h = set_again (λ newline plan. record plan { newline = newline }) (λ a b plan. refl) (listed (newline_of first)) (listed (newline_of last)) plan after h
+value_again valued.Newline first last plan after one h = set_again (λ newline plan. record plan { newline = newline }) (λ a b plan. refl) (listed (newline_in_any_case first)) (listed (newline_in_any_case last)) plan after h

@@ -2,3 +2,4 @@ pub mod Absent
 pub mod Stepping
 pub mod Keeping
 pub mod Lasting
+pub mod Scaled

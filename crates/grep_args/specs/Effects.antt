@@ -1,9 +1,8 @@
 -- What each option does to the plan (pcre2grep, "OPTIONS").
 use Rattle.std.specs.Prelude.{ℕ, List, [], ◌∷◌, ◌++◌, Bool, true, false, ◌&&◌, ◌||◌, Option, Some, None, Result, Ok, Err, codes, bytes_eq, nat_le, if◌then◌else◌}
 use Rattle.std.specs.Option.{option_or, ok_or}
-use Rattle.std.specs.Str.{str_eq_ignore_ascii_case}
-use Rattle.pat_tree.specs.declared.options.Newline.{Newline}
-use Rattle.pat_tree.specs.declared.options.Newline.TheVariants.{Cr, Lf, CrLf, AnyCrLf, Any, Nul}
+use Rattle.pat_tree.specs.declared.options.Newline.TheVariants.{Lf}
+use Rattle.pat_tree.specs.Newlines.{newline_in_any_case}
 use Rattle.grep_args.specs.declared.plan.BinaryMode.{BinaryMode}
 use Rattle.grep_args.specs.declared.plan.BinaryMode.TheVariants as binary
 use Rattle.grep_args.specs.declared.plan.NameMode.TheVariants.{Auto}
@@ -141,17 +140,6 @@ binary_of word =
     else if bytes_eq word (codes "without-match") then Some binary.WithoutMatch
     else None
 
--- the words are in any case
-abbrev pub newline_of : List ℕ → Option Newline
-newline_of word =
-    if str_eq_ignore_ascii_case word (codes "CR") then Some Cr
-    else if str_eq_ignore_ascii_case word (codes "LF") then Some Lf
-    else if str_eq_ignore_ascii_case word (codes "CRLF") then Some CrLf
-    else if str_eq_ignore_ascii_case word (codes "ANYCRLF") then Some AnyCrLf
-    else if str_eq_ignore_ascii_case word (codes "ANY") then Some Any
-    else if str_eq_ignore_ascii_case word (codes "NUL") then Some Nul
-    else None
-
 -- the last value counts; patterns and their files add up
 abbrev pub value_effect : ValuedOption → List ℕ → Effect
 value_effect (valued.Number option) text plan = number_effect option text plan
@@ -160,7 +148,7 @@ value_effect valued.File text plan = Ok (record plan { pattern_files = plan.patt
 value_effect valued.Label text plan = Ok (record plan { label = text })
 value_effect valued.OmSeparator text plan = Ok (record plan { om_separator = text })
 value_effect valued.BinaryFiles text plan = listed (binary_of text) >>= λ mode. Ok (record plan { binary = mode })
-value_effect valued.Newline text plan = listed (newline_of text) >>= λ newline. Ok (record plan { newline = newline })
+value_effect valued.Newline text plan = listed (newline_in_any_case text) >>= λ newline. Ok (record plan { newline = newline })
 
 -- the number of a group, joined to `-o`
 abbrev pub group_effect : List ℕ → Effect

@@ -1,11 +1,9 @@
 -- The numbers among the values (pcre2grep, "OPTIONS").
-use Rattle.std.specs.Prelude.{ℕ, ◌+◌, ◌-◌, ◌*◌, List, [], ◌∷◌, length, drop, take_while, fold, Option, Some, None, codes, bytes_eq, nat_le, if◌then◌else◌}
+use Rattle.std.specs.Prelude.{ℕ, ◌*◌, List, [], ◌∷◌, length, drop, take_while, Option, Some, None, codes, bytes_eq, if◌then◌else◌}
 use Rattle.std.specs.Option.{option_and_then}
 use Rattle.std.specs.Char.{is_ascii_digit}
-
--- the value of decimal digits
-abbrev pub decimal : List ℕ → ℕ
-decimal digits = fold (λ n digit. n * 10 + (digit - 48)) 0 digits
+use Rattle.std.specs.Str.Parse.{digits_value}
+use Rattle.byte_lanes.specs.Digits.{within_u32}
 
 -- what a `K` or an `M` after the digits stands for
 abbrev pub unit_of : List ℕ → Option ℕ
@@ -18,9 +16,6 @@ unit_of text =
 abbrev pub greatest : ℕ
 greatest = 4294967295
 
-abbrev pub within_greatest : ℕ → Option ℕ
-within_greatest n = if nat_le n greatest then Some n else None
-
 abbrev pub has_digits : List ℕ → Option (List ℕ)
 has_digits [] = None
 has_digits (digit ∷ digits) = Some (digit ∷ digits)
@@ -28,5 +23,5 @@ has_digits (digit ∷ digits) = Some (digit ∷ digits)
 -- a number: one or more decimal digits, then nothing, a `K` or an `M`; it is at most 4,294,967,295
 abbrev pub number_of : List ℕ → Option ℕ
 number_of text =
-    option_and_then (λ digits. option_and_then (λ unit. within_greatest (decimal digits * unit)) (unit_of (drop (length digits) text)))
+    option_and_then (λ digits. option_and_then (λ unit. within_u32 (digits_value 10 digits * unit)) (unit_of (drop (length digits) text)))
     (has_digits (take_while is_ascii_digit text))

@@ -1,7 +1,6 @@
 //! What each option does to the plan.
 ghost use Rattle.std.specs.Prelude.{◌≡◌, OnOk, IfOk, IfErr, Ok, Err};
-ghost use Rattle.std.specs.Str.{str_eq_ignore_ascii_case};
-ghost use Rattle.grep_args.specs.Effects.{switched, plain_effect, offsets_shown, group_shown, group_effect, ranged, binary_of, newline_of, number_effect, value_effect};
+ghost use Rattle.grep_args.specs.Effects.{switched, plain_effect, offsets_shown, group_shown, group_effect, ranged, binary_of, number_effect, value_effect};
 ghost use Rattle.grep_args.specs.Stopping.{Stops};
 
 use crate::numbers::number;
@@ -112,34 +111,6 @@ fn binary_mode(word: &str) -> Option<BinaryMode>
     }
 }
 
-/// Whether a word is this one, in any case.
-fn is_named(word: &str, name: &str) -> bool
-    ensures { result ≡ str_eq_ignore_ascii_case word.now name.now }
-{
-    word.eq_ignore_ascii_case(name)
-}
-
-/// What ends a line, by its word in any case.
-fn newline(word: &str) -> Option<Newline>
-    ensures { result ≡ newline_of word.now }
-{
-    if is_named(word, "CR") {
-        Some(Newline::Cr)
-    } else if is_named(word, "LF") {
-        Some(Newline::Lf)
-    } else if is_named(word, "CRLF") {
-        Some(Newline::CrLf)
-    } else if is_named(word, "ANYCRLF") {
-        Some(Newline::AnyCrLf)
-    } else if is_named(word, "ANY") {
-        Some(Newline::Any)
-    } else if is_named(word, "NUL") {
-        Some(Newline::Nul)
-    } else {
-        None
-    }
-}
-
 /// Shows a group of each match, where no places are shown.
 pub fn show_group(plan: &mut GrepPlan, n: u32) -> Result<(), Stop>
     ensures ok { OnOk result (group_shown n plan.old ≡ Ok plan.new) }
@@ -178,7 +149,10 @@ pub fn take_value(
         ValuedOption::Label => plan.label = name_of(alloc, text)?,
         ValuedOption::OmSeparator => plan.om_separator = bytes_of(alloc, text)?,
         ValuedOption::BinaryFiles => plan.binary = binary_mode(text).ok_or(UsageKind::BadValue)?,
-        ValuedOption::Newline => plan.newline = newline(text).ok_or(UsageKind::BadValue)?,
+        ValuedOption::Newline => {
+            let newline = Newline::by_name_in_any_case(text.as_bytes());
+            plan.newline = newline.ok_or(UsageKind::BadValue)?;
+        }
     }
     Ok(())
 }

@@ -1,10 +1,9 @@
 //! The numbers among the values.
-ghost use Rattle.std.specs.Prelude.{◌≡◌, ◌*◌, ◌≤◌, min, length, take_while, IfSome};
+ghost use Rattle.std.specs.Prelude.{◌≡◌, ◌*◌, ◌≤◌, length, take_while, IfSome};
 ghost use Rattle.std.specs.Char.{is_ascii_digit};
-ghost use Rattle.grep_args.specs.Numbers.{number_of, decimal, unit_of, within_greatest};
-
-/// One more than the greatest number.
-const TOO_MUCH: u64 = 1 << 32;
+ghost use Rattle.std.specs.Str.Parse.{digits_value};
+ghost use Rattle.byte_lanes.specs.Digits.{within_u32};
+ghost use Rattle.grep_args.specs.Numbers.{number_of, unit_of};
 
 /// The number that a text is: decimal digits with a `K` (1,024) or an `M` (1,048,576) after them or nothing, at most
 /// 4,294,967,295 (pcre2grep, "OPTIONS").
@@ -16,7 +15,7 @@ pub fn number(text: &[u8]) -> Option<u32>
         return None;
     }
     match unit(&text[count..]) {
-        Some(unit) => scaled(decimal(&text[..count]), unit),
+        Some(unit) => scaled(&text[..count], unit),
         None => None,
     }
 }
@@ -28,16 +27,15 @@ fn digits(text: &[u8]) -> usize
     text.iter().take_while(|b| b.is_ascii_digit()).count()
 }
 
-/// So many units, unless they are too many.
-fn scaled(value: u64, unit: u64) -> Option<u32>
-    requires value { value ≤ TOO_MUCH }
-    requires unit { unit ≤ 1048576 }
-    ensures { result ≡ within_greatest (value * unit) }
+/// So many units as decimal digits say, unless they are too many.
+#[tactic(auto, using(crate::proofs::Scaled::many_are_too_many, crate::proofs::Scaled::few_are_scaled))]
+fn scaled(digits: &[u8], unit: u64) -> Option<u32>
+    requires least { 1 ≤ unit }
+    requires greatest { unit ≤ 1048576 }
+    ensures { result ≡ within_u32 (digits_value 10 digits.now * unit) }
 {
-    match u32::try_from(value * unit) {
-        Ok(n) => Some(n),
-        Err(_) => None,
-    }
+    let value = byte_lanes::number(digits, 10)?;
+    u32::try_from(u64::from(value) * unit).ok()
 }
 
 /// What stands for a thousand or a million after the digits, or 1 where nothing does.
@@ -52,15 +50,4 @@ fn unit(text: &[u8]) -> Option<u64>
         b"M" => Some(1_048_576),
         _ => None,
     }
-}
-
-/// The value of decimal digits, or 2^32 where it is more.
-fn decimal(digits: &[u8]) -> u64
-    ensures { result ≡ min (decimal digits.now) TOO_MUCH }
-{
-    let mut value = 0;
-    for digit in digits {
-        value = (value * 10 + u64::from(digit.saturating_sub(b'0'))).min(TOO_MUCH);
-    }
-    value
 }

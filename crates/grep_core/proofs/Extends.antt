@@ -6,16 +6,16 @@ use Rattle.std.proofs.lemmas.List.{map-append, length-map}
 use Rattle.std.proofs.lemmas.List.Concat.{flat_map-append}
 use Rattle.line_feed.specs.Rows.{Row, Finish}
 use Rattle.grep_args.specs.declared.plan.GrepPlan.{GrepPlan}
-use Rattle.grep_core.specs.declared.modes.Show.{Show}
-use Rattle.grep_core.specs.declared.modes.Show.TheVariants as show
-use Rattle.grep_core.specs.Modes.{lines_after}
-use Rattle.grep_core.specs.Matches.{Matches, Tried, is_selected, has_error, selects}
+use Rattle.grep_core.specs.declared.shows.Show.{Show}
+use Rattle.grep_core.specs.declared.shows.Show.TheVariants as show
+use Rattle.grep_core.specs.Shows.{lines_after}
+use Rattle.grep_match.specs.Matches.{Matches, Tried, is_selected, has_error, selects}
 use Rattle.grep_core.specs.Scans.{Scan, whole_scan, early_scan, broken_scan, rows_of}
 use Rattle.grep_core.specs.Context.{shown_lines}
 use Rattle.grep_core.specs.Texts.{lines_text, matches_text}
 use Rattle.grep_core.specs.InputText.{shown_out, shows_group}
 use Rattle.grep_core.specs.Messages.{error_message}
-use Rattle.grep_core.specs.Course.{Course, row_out, behind, line_as, AreNumbered, scan_so_far}
+use Rattle.grep_core.specs.Course.{Course, row_out, course_after, line_as, AreNumbered, scan_so_far}
 use Rattle.grep_core.proofs.ReachRows.{numbered-left, numbered-right, numbered-take}
 use Rattle.grep_core.proofs.Reached.{Reached, reached-more, out-more, out-follow, out-broken}
 use Rattle.grep_core.proofs.ScanEnds.{count, count-more, count-one, count-none, scanned, scan-whole, scan-early, scan-broken, IsBelow, early-tried, early-within, broken-within}
@@ -79,7 +79,7 @@ module _ (plan : GrepPlan) (shows : Show) (left : ℕ) (most : Option ℕ) where
     pub few : count has_error (us ++ t ∷ []) < left
     pub below : IsBelow most (count (is_selected plan) (us ++ t ∷ []))
 
-  pub goes-on : (us : List Tried) (c : Course) (t : Tried) → Goes us c → AreNumbered 1 (rows_of (us ++ t ∷ [])) → GoesOn us t → Goes (us ++ t ∷ []) (behind plan shows c t)
+  pub goes-on : (us : List Tried) (c : Course) (t : Tried) → Goes us c → AreNumbered 1 (rows_of (us ++ t ∷ [])) → GoesOn us t → Goes (us ++ t ∷ []) (course_after plan shows c t)
   goes-on us c t goes numbered on = record {
     reached = reached-more plan shows us c t goes.reached (numbered-first us (t ∷ []) numbered) (number-of us t [] numbered);
     few = on.few;
@@ -233,7 +233,7 @@ module _ (plan : GrepPlan) (name : List ℕ) (shows : Show) (hs : Bool) (left : 
       let follow = follow_out plan name shows (take (lines_after shows plan.after_context) (rows_of vs)) in record {
         rest_out = follow;
         rest_err = [];
-        out_is = early-out us (behind plan shows c t) t vs reached last numbered ∙ ap (λ l. l ++ follow) (out-of-more us c t goes one);
+        out_is = early-out us (course_after plan shows c t) t vs reached last numbered ∙ ap (λ l. l ++ follow) (out-of-more us c t goes one);
         err_is = early-said us t vs last ∙ said-more name us t ∙ sym (append-nil (said_of us ++ error_message name t));
       }
 
@@ -286,7 +286,7 @@ module _ (plan : GrepPlan) (name : List ℕ) (shows : Show) (hs : Bool) (left : 
       (λ (last : LastSelected plan shows left most us t). shorter all (out_of us) next (said_of us) (error_message name t) (row-early us c t vs goes last numbered))
       (λ (on : GoesOn plan shows left most us t).
       shorter all (out_of us) next (said_of us) (error_message name t)
-      (row-goes us c t vs goes numbered (extends vs (us ++ t ∷ []) (behind plan shows c t) (goes-on plan shows left most us c t goes (numbered-more us t vs numbered) on) (numbered-moved us t vs numbered))))
+      (row-goes us c t vs goes numbered (extends vs (us ++ t ∷ []) (course_after plan shows c t) (goes-on plan shows left most us c t goes (numbered-more us t vs numbered) on) (numbered-moved us t vs numbered))))
       other)
       (next-step plan shows left most us c t goes)
 
@@ -302,6 +302,6 @@ module _ (plan : GrepPlan) (name : List ℕ) (shows : Show) (hs : Bool) (left : 
       ⊎_elim
       (λ (last : LastSelected plan shows left most us t). row-early us c t vs goes last numbered)
       (λ (on : GoesOn plan shows left most us t).
-      row-goes us c t vs goes numbered (extends vs (us ++ t ∷ []) (behind plan shows c t) (goes-on plan shows left most us c t goes (numbered-more us t vs numbered) on) (numbered-moved us t vs numbered)))
+      row-goes us c t vs goes numbered (extends vs (us ++ t ∷ []) (course_after plan shows c t) (goes-on plan shows left most us c t goes (numbered-more us t vs numbered) on) (numbered-moved us t vs numbered)))
       other)
       (next-step plan shows left most us c t goes)

@@ -1,4 +1,3 @@
-pub mod RowProofs
 pub mod ScanEnds
 pub mod ReachRows
 pub mod ReachTexts
@@ -12,14 +11,9 @@ pub mod ScansEnd
 pub mod ScansLoop
 pub mod ScansFollow
 pub mod ScansWhole
-pub mod Writing
 pub mod Said
 pub mod Parted
 pub mod Steps
-pub mod Searching
-pub mod PatternTrees
-pub mod PatternLines
 pub mod Halting
 pub mod Taking
 pub mod FileTexts
-pub mod Errors

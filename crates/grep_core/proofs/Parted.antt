@@ -3,16 +3,17 @@ use Rattle.std.proofs.Common.{◌≡◌, ℕ, zero, suc, ◌+◌, ◌-◌, ◌<�
 use Rattle.std.proofs.lemmas.Bool.Decides.{nat_tests}
 use Rattle.std.proofs.lemmas.List.{drop_at, take_at, drop_more, nil_from_length, length-map}
 use Rattle.frame_store.specs.declared.registers.Span.{Span}
-use Rattle.frame_machine.specs.PlaceAnswer.{Outcome}
-use Rattle.match_drive.specs.Forward.{IsWithin}
+use Rattle.ordered_search.specs.PlaceAnswer.{Outcome}
+use Rattle.ordered_search.specs.Forward.{IsWithin}
 use Rattle.line_feed.specs.Rows.{Row}
 use Rattle.pcre2_api.specs.Captured.{span_of}
 use Rattle.grep_args.specs.declared.plan.GrepPlan.{GrepPlan}
 use Rattle.grep_args.specs.declared.plan.OffsetMode.TheVariants.{Lines}
-use Rattle.grep_core.specs.declared.found.Place.{Place}
-use Rattle.grep_core.specs.Modes.{is_with}
-use Rattle.grep_core.specs.Found.{Listed, Lists, groups_of, place_of, IsInLine}
-use Rattle.grep_core.specs.Texts.{text_if, line, name_before, number_before, span_text, group_text, given_texts, group_texts, joined, is_any, part_text, match_text}
+use Rattle.grep_match.specs.declared.found.Place.{Place}
+use Rattle.grep_match.specs.Modes.{is_with}
+use Rattle.grep_match.specs.Found.{Listed, Lists, groups_of, place_of, IsInLine}
+use Rattle.tool_out.specs.Texts.{text_if, line}
+use Rattle.grep_core.specs.Texts.{name_before, number_before, span_text, group_text, given_texts, group_texts, joined, is_any, part_text, match_text}
 
 -- The groups at spans and the groups of a match.
 
@@ -60,7 +61,7 @@ step-filled bytes groups i t is_bare within e r f =
     ∙ set-given bytes (get_or groups i None) (drop (i + 1) groups) (filled t _ is_bare e r f)
     ∙ ap (λ l. l ∷ set_texts bytes (drop (i + 1) groups)) (sym e)
 
--- What is left to write of texts, behind earlier ones or as the first.
+-- What is left to write of texts, after earlier ones or as the first.
 
 abbrev pub joined_from : Bool → List ℕ → List (List ℕ) → List ℕ
 joined_from is_later separator [] = []

@@ -10,9 +10,9 @@ use Rattle.std.proofs.Math.ListN.{drop_of_length-le}
 use Rattle.circular_buffer.specs.Buffer.{keep_last}
 use Rattle.line_feed.specs.Rows.{Row}
 use Rattle.grep_args.specs.declared.plan.GrepPlan.{GrepPlan}
-use Rattle.grep_core.specs.declared.modes.Show.TheVariants as show
+use Rattle.grep_core.specs.declared.shows.Show.TheVariants as show
 use Rattle.grep_core.specs.Context.{is_near, is_shown}
-use Rattle.grep_core.specs.Course.{Course, AreNumbered, begun, begins_group, behind_selected, behind_passed}
+use Rattle.grep_core.specs.Course.{Course, AreNumbered, begun, begins_group, course_after_selected, course_after_passed}
 use Rattle.grep_core.proofs.ReachRows.{has, or_none, every-map, every-append, every-filter, filter_same, filter_none, has-none, has-here, has-append_right, has-append_none, numbered-range, numbered-at, numbered-append, numbered-take, numbered-drop, has-kept, last_none, last_last, last_near}
 
 -- These rows were read, these of them selected.
@@ -23,7 +23,7 @@ pub record Within (plan : GrepPlan) (sel rows : List Row) (c : Course) : Type 0 
   pub reach : c.context_to ≤ length rows + plan.after_context
   pub first : 0 < c.context_to → 0 < length rows
   pub known : AllByRecursion (λ (s : Row). (s.number ≤ length rows) × (s.number ≤ c.context_to)) sel
-  pub back : c.back ≡ keep_last plan.before_context (drop c.context_to rows)
+  pub earlier : c.earlier ≡ keep_last plan.before_context (drop c.context_to rows)
 
 pub within-begun : (plan : GrepPlan) → Within plan [] [] begun
 within-begun plan = record {
@@ -32,7 +32,7 @@ within-begun plan = record {
   reach = omega arith;
   first = λ some. absurd (omega arith);
   known = tt;
-  back = sym (last_none plan.before_context (drop 0 []) refl);
+  earlier = sym (last_none plan.before_context (drop 0 []) refl);
 }
 
 -- a row more is selected
@@ -56,11 +56,11 @@ module _ (plan : GrepPlan) (sel rows : List Row) (c : Course) (w : Within plan s
   known_more n to more further =
       every-map (λ (s : Row). (s.number ≤ length rows) × (s.number ≤ c.context_to)) (λ (s : Row). (s.number ≤ n) × (s.number ≤ to)) (λ s both. (omega arith, omega arith)) sel w.known
 
-  pub within-passed : Within plan sel (rows ++ r ∷ []) (behind_passed plan show.Lines c r)
+  pub within-passed : Within plan sel (rows ++ r ∷ []) (course_after_passed plan show.Lines c r)
   within-passed =
       let long = long_more in
       let reach = w.reach in
-      let kept : Course = record c { back = keep_last plan.before_context (c.back ++ r ∷ []) } in
+      let kept : Course = record c { earlier = keep_last plan.before_context (c.earlier ++ r ∷ []) } in
       cond_both (nat_le r.number c.context_to) c kept (λ d. Within plan sel (rows ++ r ∷ []) d)
       (λ e.
       let within : r.number ≤ c.context_to = leb-true r.number c.context_to e in
@@ -72,22 +72,22 @@ module _ (plan : GrepPlan) (sel rows : List Row) (c : Course) (w : Within plan s
         reach = omega arith;
         first = λ some. omega arith;
         known = known_more (length (rows ++ r ∷ [])) c.context_to (omega arith) (omega arith);
-        back = w.back ∙ last_none plan.before_context _ none ∙ sym (last_none plan.before_context _ none_more);
+        earlier = w.earlier ∙ last_none plan.before_context _ none ∙ sym (last_none plan.before_context _ none_more);
       })
       (λ e.
-      let behind : c.context_to < r.number = leb-false r.number c.context_to e in
+      let course_after : c.context_to < r.number = leb-false r.number c.context_to e in
       record {
         near = λ u one far. w.near u one (omega arith);
         beyond = w.beyond;
         reach = omega arith;
         first = λ some. omega arith;
         known = known_more (length (rows ++ r ∷ [])) c.context_to (omega arith) (omega arith);
-        back = ap (λ l. keep_last plan.before_context (l ++ r ∷ [])) w.back
+        earlier = ap (λ l. keep_last plan.before_context (l ++ r ∷ [])) w.earlier
             ∙ last_last plan.before_context (drop c.context_to rows) (r ∷ [])
             ∙ ap (λ l. keep_last plan.before_context l) (sym (drop-append-le c.context_to rows (r ∷ []) (omega arith)));
       })
 
-  pub within-selected : Within plan (sel ++ r ∷ []) (rows ++ r ∷ []) (behind_selected plan show.Lines c r)
+  pub within-selected : Within plan (sel ++ r ∷ []) (rows ++ r ∷ []) (course_after_selected plan show.Lines c r)
   within-selected =
       let long = long_more in
       let reach = w.reach in
@@ -104,21 +104,21 @@ module _ (plan : GrepPlan) (sel rows : List Row) (c : Course) (w : Within plan s
         first = λ some. omega arith;
         known = every-append (λ (s : Row). (s.number ≤ length (rows ++ r ∷ [])) × (s.number ≤ to)) sel (r ∷ [])
             (known_more (length (rows ++ r ∷ [])) to (omega arith) (omega arith)) ((omega arith, omega arith), tt);
-        back = sym (last_none plan.before_context _ (drop_of_length-le (rows ++ r ∷ []) (omega arith)));
+        earlier = sym (last_none plan.before_context _ (drop_of_length-le (rows ++ r ∷ []) (omega arith)));
       }
 
 -- Of the rows read so far.
 module _ (plan : GrepPlan) (sel rows : List Row) (c : Course) (w : Within plan sel rows c) (are : AreNumbered 1 rows) where
   -- the number of the last row before those that are kept
   abbrev pub before_back : ℕ
-  before_back = length rows - length c.back
+  before_back = length rows - length c.earlier
 
-  pub back_long : length c.back ≡ (length rows - c.context_to) - ((length rows - c.context_to) - plan.before_context)
+  pub back_long : length c.earlier ≡ (length rows - c.context_to) - ((length rows - c.context_to) - plan.before_context)
   back_long =
       let rest = drop c.context_to rows in
-      ap length w.back ∙ length-drop (length rest - plan.before_context) rest ∙ ap (λ n. n - (n - plan.before_context)) (length-drop c.context_to rows)
+      ap length w.earlier ∙ length-drop (length rest - plan.before_context) rest ∙ ap (λ n. n - (n - plan.before_context)) (length-drop c.context_to rows)
 
-  pub numbered-back : AreNumbered (before_back + 1) c.back
+  pub numbered-back : AreNumbered (before_back + 1) c.earlier
   numbered-back =
       let rest = drop c.context_to rows in
       let long = back_long in
@@ -126,19 +126,19 @@ module _ (plan : GrepPlan) (sel rows : List Row) (c : Course) (w : Within plan s
       ⊎_elim
       (λ (over : length rows < c.context_to).
       let none : rest ≡ [] = drop_of_length-le rows (omega arith) in
-      subst (λ l. AreNumbered (before_back + 1) l) (sym (w.back ∙ last_none plan.before_context rest none)) tt)
+      subst (λ l. AreNumbered (before_back + 1) l) (sym (w.earlier ∙ last_none plan.before_context rest none)) tt)
       (λ (under : c.context_to ≤ length rows).
-      subst (λ l. AreNumbered (before_back + 1) l) (sym w.back)
+      subst (λ l. AreNumbered (before_back + 1) l) (sym w.earlier)
       (numbered-at (1 + c.context_to + (length rest - plan.before_context)) (before_back + 1) _ (omega arith)
       (numbered-drop (length rest - plan.before_context) (1 + c.context_to) rest (omega arith) (numbered-drop c.context_to 1 rows under are))))
       (cases_lt (length rows) c.context_to)
 
   -- those that are kept are neither shown nor selected
-  pub back_range : AllByRecursion (λ (v : Row). (c.context_to < v.number) × (v.number ≤ length rows)) c.back
+  pub back_range : AllByRecursion (λ (v : Row). (c.context_to < v.number) × (v.number ≤ length rows)) c.earlier
   back_range =
       let long = back_long in
-      every-map (λ (v : Row). (before_back + 1 ≤ v.number) × (v.number < before_back + 1 + length c.back)) (λ (v : Row). (c.context_to < v.number) × (v.number ≤ length rows))
-      (λ v range. (omega arith, omega arith)) c.back (numbered-range (before_back + 1) c.back numbered-back)
+      every-map (λ (v : Row). (before_back + 1 ≤ v.number) × (v.number < before_back + 1 + length c.earlier)) (λ (v : Row). (c.context_to < v.number) × (v.number ≤ length rows))
+      (λ v range. (omega arith, omega arith)) c.earlier (numbered-range (before_back + 1) c.earlier numbered-back)
 
   abbrev pub so_far : List Row
   so_far = filter (is_shown plan sel) rows
@@ -180,16 +180,16 @@ module _ (plan : GrepPlan) (sel rows : List Row) (c : Course) (w : Within plan s
       not_from_false _ nothing ∙ sym (or_left (c.context_to == 0) _ (eq-eqb c.context_to 0 none)))
       (λ (some : c.context_to ≢ 0).
       ⊎_elim
-      (λ (apart : c.context_to + 1 < number - length c.back).
+      (λ (apart : c.context_to + 1 < number - length c.earlier).
       let nothing : has before_back so_far ≡ false =
       has-none before_back so_far
       (every-map (λ (u : Row). (1 ≤ u.number) × (u.number ≤ length rows) × (u.number ≤ c.context_to)) (λ (u : Row). u.number ≢ before_back) (λ u range e. omega arith) so_far so_far_range) in
-      not_from_false _ nothing ∙ sym (or_right (c.context_to == 0) _ (lt-ltb (c.context_to + 1) (number - length c.back) apart)))
-      (λ (touches : number - length c.back ≤ c.context_to + 1).
+      not_from_false _ nothing ∙ sym (or_right (c.context_to == 0) _ (lt-ltb (c.context_to + 1) (number - length c.earlier) apart)))
+      (λ (touches : number - length c.earlier ≤ c.context_to + 1).
       let read = w.first (omega arith) in
       not_from_true _ (has_shown before_back (omega arith) (omega arith) (omega arith) (omega arith))
-      ∙ sym (or_from (c.context_to == 0) _ (ne_eqb c.context_to 0 some) (le-ltb (c.context_to + 1) (number - length c.back) touches)))
-      (cases_lt (c.context_to + 1) (number - length c.back)))
+      ∙ sym (or_from (c.context_to == 0) _ (ne_eqb c.context_to 0 some) (le-ltb (c.context_to + 1) (number - length c.earlier) touches)))
+      (cases_lt (c.context_to + 1) (number - length c.earlier)))
       (cases_eq c.context_to 0)
 
   -- The next row.
@@ -224,13 +224,13 @@ module _ (plan : GrepPlan) (sel rows : List Row) (c : Course) (w : Within plan s
         (λ u range. w.beyond u (omega arith)) rest (numbered-range (1 + c.context_to) rest (numbered-drop c.context_to 1 rows under are))))
         (cases_lt (length rows) c.context_to)
 
-    rest_near : filter (is_shown plan more) (drop c.context_to rows) ≡ c.back
+    rest_near : filter (is_shown plan more) (drop c.context_to rows) ≡ c.earlier
     rest_near =
         let rest = drop c.context_to rows in
         ⊎_elim
         (λ (over : length rows < c.context_to).
         let none : rest ≡ [] = drop_of_length-le rows (omega arith) in
-        ap (λ l. filter (is_shown plan more) l) none ∙ sym (w.back ∙ last_none plan.before_context rest none))
+        ap (λ l. filter (is_shown plan more) l) none ∙ sym (w.earlier ∙ last_none plan.before_context rest none))
         (λ (under : c.context_to ≤ length rows).
         let long = length-drop c.context_to rows in
         let there = numbered-drop c.context_to 1 rows under are in
@@ -242,11 +242,11 @@ module _ (plan : GrepPlan) (sel rows : List Row) (c : Course) (w : Within plan s
         ∙ ap (λ b. b && nat_le r.number (u.number + plan.before_context)) (le-leb u.number (r.number + plan.after_context) (omega arith)))
         rest (numbered-range (1 + c.context_to) rest there))
         ∙ last_near plan.before_context r.number (1 + c.context_to) rest there (omega arith)
-        ∙ sym w.back)
+        ∙ sym w.earlier)
         (cases_lt (length rows) c.context_to)
 
     -- a selected row shows the rows kept, and itself
-    pub shown-selected : filter (is_shown plan more) (rows ++ r ∷ []) ≡ so_far ++ (c.back ++ r ∷ [])
+    pub shown-selected : filter (is_shown plan more) (rows ++ r ∷ []) ≡ so_far ++ (c.earlier ++ r ∷ [])
     shown-selected =
         let g = is_shown plan more in
         let f = is_shown plan sel in
@@ -259,7 +259,7 @@ module _ (plan : GrepPlan) (sel rows : List Row) (c : Course) (w : Within plan s
         filter-append g rows (r ∷ [])
         ∙ (λ i. filter g (sym whole i) ++ one i)
         ∙ ap (λ l. l ++ r ∷ []) (filter-append g front rest ∙ (λ i. same i ++ rest_near i))
-        ∙ append_assoc so_far c.back (r ∷ [])
+        ∙ append_assoc so_far c.earlier (r ∷ [])
 
     -- another row is shown as context, or not
     pub shown-passed : filter (is_shown plan sel) (rows ++ r ∷ []) ≡ so_far ++ cond (nat_le r.number c.context_to) (r ∷ []) []
@@ -271,18 +271,18 @@ module _ (plan : GrepPlan) (sel rows : List Row) (c : Course) (w : Within plan s
     pub selected_same : (k : ℕ) → k ≤ before_back → has k more ≡ has k sel
     selected_same k below = has-append_none k sel (r ∷ []) ((λ e. omega arith), tt)
 
-    pub new_numbered : AreNumbered (before_back + 1) (c.back ++ r ∷ [])
-    new_numbered = let long = back_long in numbered-append (before_back + 1) c.back (r ∷ []) numbered-back (omega arith, tt)
+    pub new_numbered : AreNumbered (before_back + 1) (c.earlier ++ r ∷ [])
+    new_numbered = let long = back_long in numbered-append (before_back + 1) c.earlier (r ∷ []) numbered-back (omega arith, tt)
 
     pub new_selected : has r.number more ≡ true
     new_selected = has-append_right r.number sel (r ∷ []) (has-here r.number r [] refl)
 
-    pub back_unselected : AllByRecursion (λ (v : Row). has v.number more ≡ false) c.back
+    pub back_unselected : AllByRecursion (λ (v : Row). has v.number more ≡ false) c.earlier
     back_unselected =
         every-map (λ (v : Row). (c.context_to < v.number) × (v.number ≤ length rows)) (λ (v : Row). has v.number more ≡ false)
         (λ v range. has-none v.number more (every-append (λ (s : Row). s.number ≢ v.number) sel (r ∷ [])
         (every-map (λ (s : Row). (s.number ≤ length rows) × (s.number ≤ c.context_to)) (λ (s : Row). s.number ≢ v.number) (λ s both e. omega arith) sel w.known)
-        ((λ e. omega arith), tt))) c.back back_range
+        ((λ e. omega arith), tt))) c.earlier back_range
 
   -- a later row isn't selected
   pub later_unselected : (k : ℕ) → length rows < k → has k sel ≡ false

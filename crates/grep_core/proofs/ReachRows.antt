@@ -131,8 +131,8 @@ last_none n xs none = ap (λ l. keep_last n l) none ∙ drop_of_length-le [] (om
 pub last_few : {X : Type 0} (n : ℕ) (xs : List X) → length xs ≤ n → keep_last n xs ≡ xs
 last_few n xs few = ap (λ k. drop k xs) {x = length xs - n} {y = 0} (omega arith)
 
-pub last_behind : {X : Type 0} (n : ℕ) (xs ys : List X) → n ≤ length ys → keep_last n (xs ++ ys) ≡ keep_last n ys
-last_behind n xs ys many =
+pub last_after : {X : Type 0} (n : ℕ) (xs ys : List X) → n ≤ length ys → keep_last n (xs ++ ys) ≡ keep_last n ys
+last_after n xs ys many =
     ap (λ k. drop k (xs ++ ys)) {x = length (xs ++ ys) - n} {y = length xs + (length ys - n)} (omega (arith, length-append xs ys))
     ∙ drop-append-add xs ys (length ys - n)
 
@@ -141,12 +141,12 @@ last_last n xs ys = ⊎_elim
     (λ (more : n < length xs).
     let k = length xs - n in
     let whole : take k xs ++ (drop k xs ++ ys) ≡ xs ++ ys = sym (append_assoc (take k xs) (drop k xs) ys) ∙ ap (λ l. l ++ ys) (take-append-drop k xs) in
-    sym (last_behind n (take k xs) (drop k xs ++ ys) (omega (arith, length-append (drop k xs) ys, ap length (take-append-drop k xs), length-append (take k xs) (drop k xs), length-take k xs)))
+    sym (last_after n (take k xs) (drop k xs ++ ys) (omega (arith, length-append (drop k xs) ys, ap length (take-append-drop k xs), length-append (take k xs) (drop k xs), length-take k xs)))
     ∙ ap (λ l. keep_last n l) whole)
     (λ (few : length xs ≤ n). ap (λ l. keep_last n (l ++ ys)) (last_few n xs few))
     (cases_lt n (length xs))
 
--- those of which a later row is at most so far behind
+-- those of which a later row is at most so far after
 pub last_near : (before n h : ℕ) (xs : List Row) → AreNumbered h xs → h + length xs ≡ n → filter (λ x. nat_le n (x.number + before)) xs ≡ keep_last before xs
 last_near before n h [] are long = sym (last_none before [] refl)
 last_near before n h (x ∷ xs) are long =

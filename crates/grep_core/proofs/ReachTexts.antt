@@ -7,7 +7,8 @@ use Rattle.std.proofs.lemmas.List.{map-append}
 use Rattle.line_feed.specs.Rows.{Row}
 use Rattle.grep_args.specs.declared.plan.GrepPlan.{GrepPlan}
 use Rattle.grep_core.specs.Context.{Shown, shown_row, all_shown, parts_groups}
-use Rattle.grep_core.specs.Texts.{line, text_if, line_text, lines_text}
+use Rattle.tool_out.specs.Texts.{line, text_if}
+use Rattle.grep_core.specs.Texts.{line_text, lines_text}
 use Rattle.grep_core.specs.Course.{AreNumbered, line_as}
 use Rattle.grep_core.proofs.ReachRows.{has, or_none, every-map, has-here, has-append_left, has-append_right, has-append_none, numbered-range}
 
@@ -16,8 +17,8 @@ pub continues : (h : ℕ) (pre xs : List Row) → has h pre ≡ true → AreNumb
 continues h pre [] there are = tt
 continues h pre (x ∷ xs) there are =
     let first = are.0 in
-    let back : x.number - 1 ≡ h = omega arith in (
-      ap (λ k. has k (pre ++ x ∷ xs)) back ∙ has-append_left h pre (x ∷ xs) there,
+    let earlier : x.number - 1 ≡ h = omega arith in (
+      ap (λ k. has k (pre ++ x ∷ xs)) earlier ∙ has-append_left h pre (x ∷ xs) there,
       subst (λ l. AllByRecursion (λ (v : Row). has (v.number - 1) l ≡ true) xs) (append_assoc pre (x ∷ []) xs)
           (continues (h + 1) (pre ++ x ∷ []) xs (has-append_right (h + 1) pre (x ∷ []) (has-here (h + 1) x [] first)) are.1),
     )
@@ -66,16 +67,16 @@ module _ (plan : GrepPlan) (name : List ℕ) where
       ap (λ l. (l ++ plain_line sel x) ++ lines_text plan name true (map (shown_row sel all) xs)) (no_parting later (has (x.number - 1) all) go_on.0)
       ∙ ap (λ l. plain_line sel x ++ l) (continuing true sel all xs go_on.1)
 
-  -- rows in order behind those that are shown: at most the first begins a group
+  -- rows in order after those that are shown: at most the first begins a group
   pub new_text : (later : Bool) (sel pre xs : List Row) (h : ℕ) → 0 < length xs → AreNumbered (h + 1) xs
       → lines_text plan name later (map (shown_row sel (pre ++ xs)) xs) ≡ parting later (not (has h pre)) ++ flat_map (plain_line sel) xs
   new_text later sel pre [] h some are = absurd (omega arith)
   new_text later sel pre (x ∷ xs) h some are =
       let first = are.0 in
-      let back : x.number - 1 ≡ h = omega arith in
+      let earlier : x.number - 1 ≡ h = omega arith in
       let all = pre ++ x ∷ xs in
       let before : has (x.number - 1) all ≡ has h pre =
-      ap (λ k. has k all) back
+      ap (λ k. has k all) earlier
       ∙ has-append_none h pre (x ∷ xs)
       (every-map (λ (v : Row). (h + 1 ≤ v.number) × (v.number < h + 1 + length (x ∷ xs))) (λ (v : Row). v.number ≢ h) (λ v range e. omega arith) (x ∷ xs) (numbered-range (h + 1) (x ∷ xs) are)) in
       let go_on : AllByRecursion (λ (v : Row). has (v.number - 1) all ≡ true) xs =
@@ -86,7 +87,7 @@ module _ (plan : GrepPlan) (name : List ℕ) where
       ∙ ap (λ l. (head ++ plain_line sel x) ++ l) (continuing true sel all xs go_on)
       ∙ append_assoc head (plain_line sel x) (flat_map (plain_line sel) xs)
 
-  -- all, where rows in order are shown behind those that were shown
+  -- all, where rows in order are shown after those that were shown
   pub extended : (later : Bool) (sel more shown xs : List Row) (h : ℕ) → 0 < length xs → AreNumbered (h + 1) xs → AllByRecursion (λ (u : Row). u.number ≤ h) shown
       → ((k : ℕ) → k ≤ h → has k more ≡ has k sel)
       → lines_text plan name later (all_shown more (shown ++ xs)) ≡ lines_text plan name later (all_shown sel shown)

@@ -8,14 +8,15 @@ use Rattle.std.proofs.lemmas.List.Concat.{flat_map-append}
 use Rattle.std.proofs.lemmas.List.Elements.{filter-append}
 use Rattle.line_feed.specs.Rows.{Row}
 use Rattle.grep_args.specs.declared.plan.GrepPlan.{GrepPlan}
-use Rattle.grep_core.specs.declared.modes.Show.{Show}
-use Rattle.grep_core.specs.declared.modes.Show.TheVariants as show
-use Rattle.grep_core.specs.Matches.{Matches, Tried, is_selected, has_error, selects}
+use Rattle.grep_core.specs.declared.shows.Show.{Show}
+use Rattle.grep_core.specs.declared.shows.Show.TheVariants as show
+use Rattle.grep_match.specs.Matches.{Matches, Tried, is_selected, has_error, selects}
 use Rattle.grep_core.specs.Scans.{rows_of}
 use Rattle.grep_core.specs.Context.{is_shown, shown_row, all_shown, shown_lines, parts_groups}
-use Rattle.grep_core.specs.Texts.{text_if, lines_text, matches_text}
+use Rattle.tool_out.specs.Texts.{text_if}
+use Rattle.grep_core.specs.Texts.{lines_text, matches_text}
 use Rattle.grep_core.specs.InputText.{shown_out, shows_group}
-use Rattle.grep_core.specs.Course.{Course, AreNumbered, begun, is_lines, begins_group, line_as, separator, selected_out, passed_out, row_out, behind_selected, behind_passed, behind, scan_so_far}
+use Rattle.grep_core.specs.Course.{Course, AreNumbered, begun, is_lines, begins_group, line_as, separator, selected_out, passed_out, row_out, course_after_selected, course_after_passed, course_after, scan_so_far}
 use Rattle.grep_core.proofs.ReachRows.{has, or_none, every-map, filter_whole, flat_map_same, has-some, numbered-range, numbered-at, numbered-left, numbered-right}
 use Rattle.grep_core.proofs.ReachTexts.{parting, no_parting, plain_line, extended}
 use Rattle.grep_core.proofs.ReachCourse.{Within, within-begun, within-passed, within-selected, before_back, so_far, so_far_range, so_far_below, begins-group, shown-selected, shown-passed, selected_same, new_numbered, new_selected, back_unselected, later_unselected, last_shown, shown-more, near-is}
@@ -112,29 +113,29 @@ module _ (plan : GrepPlan) (name : List ℕ) (sel rows : List Row) (c : Course) 
         ap (λ b. parting plan name later b) (begins-group plan sel rows c w are r.number next)
         ∙ ap (λ b. text_if b (codes "--\n")) (and-order later (begins_group c r.number) (parts_groups plan))
 
-    plainly : flat_map (plain_line plan name more) (c.back ++ r ∷ []) ≡ flat_map (line_as plan name false) c.back ++ line_as plan name true r
+    plainly : flat_map (plain_line plan name more) (c.earlier ++ r ∷ []) ≡ flat_map (line_as plan name false) c.earlier ++ line_as plan name true r
     plainly =
-        let back : flat_map (plain_line plan name more) c.back ≡ flat_map (line_as plan name false) c.back =
-        flat_map_same (plain_line plan name more) (line_as plan name false) c.back
+        let earlier : flat_map (plain_line plan name more) c.earlier ≡ flat_map (line_as plan name false) c.earlier =
+        flat_map_same (plain_line plan name more) (line_as plan name false) c.earlier
         (every-map (λ (v : Row). has v.number more ≡ false) (λ (v : Row). plain_line plan name more v ≡ line_as plan name false v)
-        (λ v e. ap (λ b. line_as plan name b v) e) c.back (back_unselected plan sel rows c w are r next)) in
+        (λ v e. ap (λ b. line_as plan name b v) e) c.earlier (back_unselected plan sel rows c w are r next)) in
         let one : flat_map (plain_line plan name more) (r ∷ []) ≡ line_as plan name true r =
         append-nil (plain_line plan name more r) ∙ ap (λ b. line_as plan name b r) (new_selected plan sel rows c w are r next) in
-        flat_map-append (plain_line plan name more) c.back (r ∷ []) ∙ (λ i. back i ++ one i)
+        flat_map-append (plain_line plan name more) c.earlier (r ∷ []) ∙ (λ i. earlier i ++ one i)
 
     selected-out : lines_text plan name has_shown (shown_lines plan more (rows ++ r ∷ []))
-        ≡ old ++ (separator plan name later c r.number ++ flat_map (line_as plan name false) c.back ++ line_as plan name true r)
+        ≡ old ++ (separator plan name later c r.number ++ flat_map (line_as plan name false) c.earlier ++ line_as plan name true r)
     selected-out =
         ap (λ l. lines_text plan name has_shown (all_shown more l)) (shown-selected plan sel rows c w are r next)
-        ∙ extended plan name has_shown sel more shown (c.back ++ r ∷ []) (before_back plan sel rows c w are) (omega (arith, length-append c.back (r ∷ [])))
+        ∙ extended plan name has_shown sel more shown (c.earlier ++ r ∷ []) (before_back plan sel rows c w are) (omega (arith, length-append c.earlier (r ∷ [])))
         (new_numbered plan sel rows c w are r next) (so_far_below plan sel rows c w are) (selected_same plan sel rows c w are r next)
         ∙ (λ i. old ++ (parted i ++ plainly i))
-        ∙ ap (λ l. old ++ l) (sym (append_assoc (separator plan name later c r.number) (flat_map (line_as plan name false) c.back) (line_as plan name true r)))
+        ∙ ap (λ l. old ++ l) (sym (append_assoc (separator plan name later c r.number) (flat_map (line_as plan name false) c.earlier) (line_as plan name true r)))
 
     selected-group : nat_lt 0 (length (shown_lines plan more (rows ++ r ∷ []))) ≡ true
     selected-group =
         ap (λ l. nat_lt 0 (length (all_shown more l))) (shown-selected plan sel rows c w are r next)
-        ∙ lt-ltb 0 _ (some-shown more (shown ++ (c.back ++ r ∷ [])) (omega (arith, length-append shown (c.back ++ r ∷ []), length-append c.back (r ∷ []))))
+        ∙ lt-ltb 0 _ (some-shown more (shown ++ (c.earlier ++ r ∷ [])) (omega (arith, length-append shown (c.earlier ++ r ∷ []), length-append c.earlier (r ∷ []))))
 
     -- another row that isn't context
     hidden : c.context_to < r.number → filter (is_shown plan sel) (rows ++ r ∷ []) ≡ shown
@@ -167,20 +168,20 @@ module _ (plan : GrepPlan) (ts : List Tried) (c : Course) (t : Tried) (numbered 
   here : t.row.number ≡ length (rows_of ts) + 1
   here = let long = rows_long ts in omega arith
 
-  within-more : Within plan (selected_of plan (ts ++ t ∷ [])) (rows_of (ts ++ t ∷ [])) (behind plan show.Lines c t)
+  within-more : Within plan (selected_of plan (ts ++ t ∷ [])) (rows_of (ts ++ t ∷ [])) (course_after plan show.Lines c t)
   within-more = ⊎_elim
       (λ (e : is_selected plan t ≡ true).
       let sel : selected_of plan (ts ++ t ∷ []) ≡ selected_of plan ts ++ t.row ∷ [] = ap rows_of (selected-true plan ts t e) ∙ rows-more (filter (is_selected plan) ts) t in
-      let to : behind plan show.Lines c t ≡ behind_selected plan show.Lines c t.row = cond-true (is_selected plan t) _ _ e in
-      subst (λ l. Within plan l (rows_of (ts ++ t ∷ [])) (behind plan show.Lines c t)) (sym sel)
-      (subst (λ l. Within plan (selected_of plan ts ++ t.row ∷ []) l (behind plan show.Lines c t)) (sym (rows-more ts t))
+      let to : course_after plan show.Lines c t ≡ course_after_selected plan show.Lines c t.row = cond-true (is_selected plan t) _ _ e in
+      subst (λ l. Within plan l (rows_of (ts ++ t ∷ [])) (course_after plan show.Lines c t)) (sym sel)
+      (subst (λ l. Within plan (selected_of plan ts ++ t.row ∷ []) l (course_after plan show.Lines c t)) (sym (rows-more ts t))
       (subst (λ d. Within plan (selected_of plan ts ++ t.row ∷ []) (rows_of ts ++ t.row ∷ []) d) (sym to)
       (within-selected plan (selected_of plan ts) (rows_of ts) c w numbered t.row here))))
       (λ (e : is_selected plan t ≡ false).
       let sel : selected_of plan (ts ++ t ∷ []) ≡ selected_of plan ts = ap rows_of (selected-false plan ts t e) in
-      let to : behind plan show.Lines c t ≡ behind_passed plan show.Lines c t.row = cond-false (is_selected plan t) _ _ e in
-      subst (λ l. Within plan l (rows_of (ts ++ t ∷ [])) (behind plan show.Lines c t)) (sym sel)
-      (subst (λ l. Within plan (selected_of plan ts) l (behind plan show.Lines c t)) (sym (rows-more ts t))
+      let to : course_after plan show.Lines c t ≡ course_after_passed plan show.Lines c t.row = cond-false (is_selected plan t) _ _ e in
+      subst (λ l. Within plan l (rows_of (ts ++ t ∷ [])) (course_after plan show.Lines c t)) (sym sel)
+      (subst (λ l. Within plan (selected_of plan ts) l (course_after plan show.Lines c t)) (sym (rows-more ts t))
       (subst (λ d. Within plan (selected_of plan ts) (rows_of ts ++ t.row ∷ []) d) (sym to)
       (within-passed plan (selected_of plan ts) (rows_of ts) c w numbered t.row here))))
       (cases_Bool (is_selected plan t))
@@ -227,33 +228,33 @@ module _ (plan : GrepPlan) (ts : List Tried) (c : Course) (t : Tried) (numbered 
 
 -- One more line.
 
-count_selected : (plan : GrepPlan) (s : Show) (c : Course) (r : Row) → (behind_selected plan s c r).selected ≡ c.selected + 1
+count_selected : (plan : GrepPlan) (s : Show) (c : Course) (r : Row) → (course_after_selected plan s c r).selected ≡ c.selected + 1
 count_selected plan show.Lines c r = refl
 count_selected plan show.Parts c r = refl
 count_selected plan show.Nothing c r = refl
 
-count_passed : (plan : GrepPlan) (s : Show) (c : Course) (r : Row) → (behind_passed plan s c r).selected ≡ c.selected
+count_passed : (plan : GrepPlan) (s : Show) (c : Course) (r : Row) → (course_after_passed plan s c r).selected ≡ c.selected
 count_passed plan show.Lines c r = cond_both (nat_le r.number c.context_to) c _ (λ (d : Course). d.selected ≡ c.selected) (λ e. refl) (λ e. refl)
 count_passed plan show.Parts c r = refl
 count_passed plan show.Nothing c r = refl
 
--- how the course stands behind it
+-- how the course stands after it
 pub reached-more : (plan : GrepPlan) (s : Show) (ts : List Tried) (c : Course) (t : Tried)
-    → Reached plan s ts c → AreNumbered 1 (rows_of ts) → t.row.number ≡ length ts + 1 → Reached plan s (ts ++ t ∷ []) (behind plan s c t)
+    → Reached plan s ts c → AreNumbered 1 (rows_of ts) → t.row.number ≡ length ts + 1 → Reached plan s (ts ++ t ∷ []) (course_after plan s c t)
 reached-more plan s ts c t h numbered next = record {
   selected = ⊎_elim
       (λ (e : is_selected plan t ≡ true).
-      ap (λ (d : Course). d.selected) (cond-true (is_selected plan t) (behind_selected plan s c t.row) (behind_passed plan s c t.row) e)
+      ap (λ (d : Course). d.selected) (cond-true (is_selected plan t) (course_after_selected plan s c t.row) (course_after_passed plan s c t.row) e)
       ∙ count_selected plan s c t.row
       ∙ ap (λ n. n + 1) h.selected
       ∙ sym (ap length (selected-true plan ts t e) ∙ length-append (filter (is_selected plan) ts) (t ∷ [])))
       (λ (e : is_selected plan t ≡ false).
-      ap (λ (d : Course). d.selected) (cond-false (is_selected plan t) (behind_selected plan s c t.row) (behind_passed plan s c t.row) e)
+      ap (λ (d : Course). d.selected) (cond-false (is_selected plan t) (course_after_selected plan s c t.row) (course_after_passed plan s c t.row) e)
       ∙ count_passed plan s c t.row
       ∙ h.selected
       ∙ sym (ap length (selected-false plan ts t e)))
       (cases_Bool (is_selected plan t));
-  lines = λ is. subst (λ d. Within plan (selected_of plan (ts ++ t ∷ [])) (rows_of (ts ++ t ∷ [])) (behind plan d c t)) (sym is) (within-more plan ts c t numbered next (h.lines is));
+  lines = λ is. subst (λ d. Within plan (selected_of plan (ts ++ t ∷ [])) (rows_of (ts ++ t ∷ [])) (course_after plan d c t)) (sym is) (within-more plan ts c t numbered next (h.lines is));
 }
 
 -- what is written of it
@@ -286,7 +287,7 @@ group-more plan name show.Lines ts c t h numbered next = lines-group plan ts c t
 group-more plan name show.Parts ts c t h numbered next = sym (and_right (is_selected plan t) false refl)
 group-more plan name show.Nothing ts c t h numbered next = sym (and_right (is_selected plan t) false refl)
 
--- Behind a selected line.
+-- After a selected line.
 
 pub context-selected : (plan : GrepPlan) (ts : List Tried) (c : Course) (t : Tried)
     → Reached plan show.Lines (ts ++ t ∷ []) c → AreNumbered 1 (rows_of (ts ++ t ∷ [])) → is_selected plan t ≡ true → c.context_to ≡ t.row.number + plan.after_context

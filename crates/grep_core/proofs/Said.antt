@@ -3,8 +3,8 @@ use Rattle.std.proofs.Common.{◌≡◌, ◌≢◌, ℕ, zero, suc, Bool, true, 
 use borrow.Author.Tests.{lt-ltb}
 use Rattle.std.specs.Fmt.{signed_decimal}
 use Rattle.grep_args.specs.declared.plan.GrepPlan.{GrepPlan}
-use Rattle.grep_core.specs.declared.modes.Mode.{Mode}
-use Rattle.grep_core.specs.Matches.{Tried}
+use Rattle.grep_match.specs.declared.modes.Mode.{Mode}
+use Rattle.grep_match.specs.Matches.{Tried}
 use Rattle.grep_core.specs.Messages.{message_on, line_said, error_message}
 use Rattle.grep_core.specs.InputText.{end_out}
 

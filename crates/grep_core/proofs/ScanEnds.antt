@@ -6,7 +6,7 @@ use Rattle.std.proofs.lemmas.List.{map-append, length-map}
 use Rattle.std.proofs.lemmas.List.Elements.{filter-append}
 use Rattle.std.proofs.Math.Seq.{take-append_seam, take-append-add}
 use Rattle.line_feed.specs.Rows.{Finish}
-use Rattle.grep_core.specs.Matches.{Tried}
+use Rattle.grep_match.specs.Matches.{Tried}
 use Rattle.grep_core.specs.Scans.{Scan, nth_place, place_of_most, scan_to, whole_scan, early_scan, broken_scan, rows_of}
 
 -- it is none of the first lines
@@ -88,12 +88,12 @@ module _ (holds : Tried → Bool) where
   later_place n None = refl
   later_place n (Some k) = ap Some (omega arith)
 
-  -- behind lines with fewer than n of them, the n-th is the one that is left
-  pub nth-behind : (n : ℕ) (us vs : List Tried) → count holds us < n → nth_place holds n (us ++ vs) ≡ option_map (λ k. length us + k) (nth_place holds (n - count holds us) vs)
-  nth-behind n [] vs less =
+  -- after lines with fewer than n of them, the n-th is the one that is left
+  pub nth-after : (n : ℕ) (us vs : List Tried) → count holds us < n → nth_place holds n (us ++ vs) ≡ option_map (λ k. length us + k) (nth_place holds (n - count holds us) vs)
+  nth-after n [] vs less =
       let none : n - 0 ≡ n = omega arith in
       same_place (nth_place holds n vs) ∙ ap (λ m. option_map (λ k. 0 + k) (nth_place holds m vs)) (sym none)
-  nth-behind n (u ∷ us) vs less = ⊎_elim
+  nth-after n (u ∷ us) vs less = ⊎_elim
       (λ (e : holds u ≡ true).
       let more : count holds us + 1 < n = subst (λ k. k < n) (count-true u us e) less in
       let is : n - 1 - count holds us ≡ n - count holds (u ∷ us) = (let h : n - 1 - count holds us ≡ n - (count holds us + 1) = omega arith in h) ∙ ap (λ k. n - k) (sym (count-true u us e)) in
@@ -101,13 +101,13 @@ module _ (holds : Tried → Bool) where
       (λ (f : (n == 1) ≡ true). absurd (let one = eqb-true n 1 f in omega arith))
       (λ (f : (n == 1) ≡ false).
       step-skip n u (us ++ vs) e f
-      ∙ ap (option_map suc) (nth-behind (n - 1) us vs (omega arith) ∙ ap (λ m. option_map (λ k. length us + k) (nth_place holds m vs)) is)
+      ∙ ap (option_map suc) (nth-after (n - 1) us vs (omega arith) ∙ ap (λ m. option_map (λ k. length us + k) (nth_place holds m vs)) is)
       ∙ later_place (length us) (nth_place holds (n - count holds (u ∷ us)) vs))
       (cases_Bool (n == 1)))
       (λ (e : holds u ≡ false).
       let more : count holds us < n = subst (λ k. k < n) (count-false u us e) less in
       step-pass n u (us ++ vs) e
-      ∙ ap (option_map suc) (nth-behind n us vs more ∙ ap (λ m. option_map (λ k. length us + k) (nth_place holds (n - m) vs)) (sym (count-false u us e)))
+      ∙ ap (option_map suc) (nth-after n us vs more ∙ ap (λ m. option_map (λ k. length us + k) (nth_place holds (n - m) vs)) (sym (count-false u us e)))
       ∙ later_place (length us) (nth_place holds (n - count holds (u ∷ us)) vs))
       (cases_Bool (holds u))
 
@@ -116,7 +116,7 @@ module _ (holds : Tried → Bool) where
   nth-here n us t vs is here =
       let one : n - count holds us ≡ 1 = omega arith in
       let end : length us + 0 ≡ length us = omega arith in
-      nth-behind n us (t ∷ vs) (omega arith)
+      nth-after n us (t ∷ vs) (omega arith)
       ∙ ap (λ m. option_map (λ k. length us + k) (nth_place holds m (t ∷ vs))) one
       ∙ ap (option_map (λ k. length us + k)) (step-one 1 t vs here refl)
       ∙ ap Some end
@@ -126,7 +126,7 @@ module _ (holds : Tried → Bool) where
   past n (Some k) = omega arith
 
   pub nth-past : (n : ℕ) (us vs : List Tried) → count holds us < n → IsPast (length us) (nth_place holds n (us ++ vs))
-  nth-past n us vs less = subst (λ o. IsPast (length us) o) (sym (nth-behind n us vs less)) (past (length us) (nth_place holds (n - count holds us) vs))
+  nth-past n us vs less = subst (λ o. IsPast (length us) o) (sym (nth-after n us vs less)) (past (length us) (nth_place holds (n - count holds us) vs))
 
 most-none : (sel : Tried → Bool) (most : Option ℕ) (ts : List Tried) → IsBelow most (count sel ts) → place_of_most sel most ts ≡ None
 most-none sel None ts below = refl

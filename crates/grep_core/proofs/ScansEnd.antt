@@ -8,32 +8,37 @@ use Rattle.line_feed.specs.View.{Feed}
 use Rattle.line_feed.specs.Answers.{Gives, Refuses}
 use Rattle.line_feed.specs.declared.phase.FeedError.TheVariants as feed
 use Rattle.grep_args.specs.declared.plan.GrepPlan.{GrepPlan}
-use Rattle.grep_core.specs.Compiled.{Pattern}
-use Rattle.grep_core.specs.declared.modes.Show.{Show}
-use Rattle.grep_core.specs.declared.modes.Show.TheVariants as show
-use Rattle.grep_core.specs.declared.modes.Treatment.{Treatment}
+use Rattle.pat_tree.specs.Pattern.{Pattern}
+use Rattle.grep_core.specs.declared.shows.Show.{Show}
+use Rattle.grep_core.specs.declared.shows.Show.TheVariants as show
+use Rattle.grep_core.specs.declared.shows.Treatment.{Treatment}
 use Rattle.grep_core.specs.declared.ended.Ended.{Ended}
 use Rattle.grep_core.specs.declared.ended.Ended.TheVariants as told
 use Rattle.grep_core.specs.declared.ended.Stop.{Stop}
 use Rattle.grep_core.specs.declared.ended.Stop.TheVariants.{SinkFault, TooManyErrors, Memory}
 use Rattle.grep_core.specs.declared.scan.Course.{Course}
 use Rattle.grep_core.specs.declared.state.State.{State}
-use Rattle.grep_core.specs.Patterns.{line_end}
+use Rattle.grep_match.specs.PatternTexts.{line_end}
 use Rattle.grep_core.specs.Lines.{lines}
-use Rattle.grep_core.specs.Modes.{is_told, mode, show_in, greatest_selected, lines_after}
-use Rattle.grep_core.specs.Matches.{Tried, tried_row, is_selected, has_error}
+use Rattle.grep_core.specs.Shows.{is_told, show_in, greatest_selected, lines_after}
+use Rattle.grep_match.specs.Modes.{mode}
+use Rattle.grep_match.specs.Matches.{Tried, tried_row, is_selected, has_error}
 use Rattle.grep_core.specs.Scans.{Scan, rows_of, errors_left, nth_place, place_of_most, scan_to, whole_scan, broken_scan, errors_in, selected_in}
 use Rattle.grep_core.specs.Context.{shown_lines}
 use Rattle.grep_core.specs.Messages.{error_message}
 use Rattle.grep_core.specs.InputText.{shown_out, shows_group}
-use Rattle.grep_core.specs.Course.{AreNumbered, row_out, state_behind, is_lines, scan_so_far}
-use Rattle.grep_core.specs.Turns.{course_of, Wrote, Breaks, TakesLine, TakesLast, is_last, EndsSo, Idles, Turns, Stood, Scans, ScansTo, ScansInput, scan_of, left_by, IsJob, BeginsWith, EndsWith}
+use Rattle.grep_core.specs.Course.{AreNumbered, row_out, state_after_line, is_lines, scan_so_far}
+use Rattle.grep_core.specs.Turns.{course_of, TakesLine, TakesLast, is_last, EndsSo, Idles, Turns}
+use Rattle.grep_core.specs.WholeScans.{Stood, Scans, ScansTo, ScansInput, scan_of, left_by, IsJob, BeginsWith, EndsWith}
+use Rattle.tool_out.specs.Prints.{Wrote, Breaks}
 use Rattle.grep_core.proofs.Reached.{out-broken}
 use Rattle.grep_core.proofs.ScanEnds.{count, count-more, count-one, count-none, early-tried, broken-within}
 use Rattle.grep_core.proofs.Extends.{Goes, LastError, full, whole-is, whole-out, broken-is, broken_out, row-broken, row-extends, extends, said-more, error-unselected}
 use Rattle.grep_core.proofs.ScansRows.{stood-moves, stood-begins, stood-stops, begins-numbered}
-use Rattle.grep_core.proofs.ScansTexts.{breaks-more, breaks-memory, breaks-ext, wrote-more}
+use Rattle.grep_core.proofs.ScansTexts.{breaks-more, breaks-memory, breaks-ext}
+use Rattle.tool_out.proofs.Printing.{wrote-more}
 use Rattle.grep_core.proofs.ScansTaken.{tries, tries-more, rows-tried, errors-more, Standing, next-stood, next-kind, next-max}
+use Rattle.tool_out.specs.Printed.{printed}
 
 -- how the feed ends is how the rows end
 pub ends-so : (plan : GrepPlan) (treated : Treatment) (before now after : Told) (f g : Feed) (given : List Row) (ended : Ended) → Stood plan treated before now f given → f.kind ≡ line_end plan → f.max ≡ plan.max_buffer_size
@@ -128,31 +133,31 @@ module _ (plan : GrepPlan) (patterns : List Pattern) (name : List ℕ) (shows : 
       goes = goes-of before now f c s out0 out err0 err standing
 
       abbrev Input : Result Ended Stop → Type 0
-      Input result = ScansInput plan patterns name shows treated s0 before after c1.selected s1 out0 out1 err0 err1 result
+      Input result = ScansInput plan patterns name shows treated s0 before after c1.selected s1 (printed out0 err0) (printed out1 err1) result
 
-      whole-scans : (finish : Finish) → Idles plan patterns name shows most c s c1 s1 out out1 err err1 → Scans plan patterns name shows treated s0 (whole_scan us finish) c1.selected s1 out0 out1 err0 err1
+      whole-scans : (finish : Finish) → Idles plan patterns name shows most c s c1 s1 (printed out err) (printed out1 err1) → Scans plan patterns name shows treated s0 (whole_scan us finish) c1.selected s1 (printed out0 err0) (printed out1 err1)
       whole-scans finish idles =
-          let wrote : Wrote (shown_out plan name shows s0.has_shown (scan_so_far us)) (flat_map (error_message name) us) out0 out1 err0 err1 =
-          subst (λ k. Wrote (shown_out plan name shows s0.has_shown (scan_so_far us)) (flat_map (error_message name) us) out0 k err0 err1) (sym idles.out)
-          (subst (λ k. Wrote (shown_out plan name shows s0.has_shown (scan_so_far us)) (flat_map (error_message name) us) out0 out err0 k) (sym idles.err) standing.taken.wrote) in record {
-            wrote = subst (λ l. Wrote l (flat_map (error_message name) us) out0 out1 err0 err1) (sym (whole-out plan name shows s0.has_shown us finish)) wrote;
+          let wrote : Wrote (shown_out plan name shows s0.has_shown (scan_so_far us)) (flat_map (error_message name) us) (printed out0 err0) (printed out1 err1) =
+          subst (λ k. Wrote (shown_out plan name shows s0.has_shown (scan_so_far us)) (flat_map (error_message name) us) (printed out0 err0) (printed k err1)) (sym idles.out)
+          (subst (λ k. Wrote (shown_out plan name shows s0.has_shown (scan_so_far us)) (flat_map (error_message name) us) (printed out0 err0) (printed out k)) (sym idles.err) standing.taken.wrote) in record {
+            wrote = subst (λ l. Wrote l (flat_map (error_message name) us) (printed out0 err0) (printed out1 err1)) (sym (whole-out plan name shows s0.has_shown us finish)) wrote;
             count = ap (λ (d : Course). d.selected) idles.course ∙ standing.taken.reached.selected;
             state = idles.state ∙ standing.taken.state ∙ ap (λ b. let x : State = record s0 { errors = s0.errors + count has_error us; has_shown = s0.has_shown || b } in x) (sym (whole-group plan name shows us finish));
           }
 
       -- the lines end
-      pub scans-ends : (ended : Ended) → EndsSo f g now after ended → Idles plan patterns name shows most c s c1 s1 out out1 err err1 → Input (Ok ended)
+      pub scans-ends : (ended : Ended) → EndsSo f g now after ended → Idles plan patterns name shows most c s c1 s1 (printed out err) (printed out1 err1) → Input (Ok ended)
       scans-ends ended so idles =
           let ends = ends-so plan treated before now after f g standing.given ended standing.stood standing.kind standing.max so in
           let is = ends-scan before after standing.given ended ends ∙ whole-is plan name shows s0.has_shown left most ends.finish us (course_of c) goes in record {
             heard = ends.heard;
             hears = ends.hears;
             treats = ends.treats;
-            scans = subst (λ x. ScansTo plan patterns name shows treated s0 x c1.selected s1 out0 out1 err0 err1 (Ok ended)) (sym is) (whole-scans ends.finish idles, sym ends.ended_so);
+            scans = subst (λ x. ScansTo plan patterns name shows treated s0 x c1.selected s1 (printed out0 err0) (printed out1 err1) (Ok ended)) (sym is) (whole-scans ends.finish idles, sym ends.ended_so);
           }
 
       -- the feed lacks memory
-      pub scans-lacks : Refuses f g now after feed.Memory → Idles plan patterns name shows most c s c1 s1 out out1 err err1 → Input (Err Memory)
+      pub scans-lacks : Refuses f g now after feed.Memory → Idles plan patterns name shows most c s c1 s1 (printed out err) (printed out1 err1) → Input (Err Memory)
       scans-lacks lacks idles =
           let begins = lacks-so plan treated before now after f g standing.given standing.stood standing.kind standing.max lacks in
           let finish = (lines plan begins.heard).finish in
@@ -161,12 +166,12 @@ module _ (plan : GrepPlan) (patterns : List Pattern) (name : List ℕ) (shows : 
           let a = shown_out plan name shows s0.has_shown (scan_so_far us) in
           let b = flat_map (error_message name) us in
           let ext = extends plan name shows s0.has_shown left most finish vs us (course_of c) goes (begins-tried before after standing.given begins) in
-          let breaks : Breaks a b out0 out1 err0 err1 Memory =
-          subst (λ k. Breaks a b out0 k err0 err1 Memory) (sym idles.out) (subst (λ k. Breaks a b out0 out err0 k Memory) (sym idles.err) (breaks-memory a b out0 out err0 err standing.taken.wrote)) in record {
+          let breaks : Breaks a b (printed out0 err0) (printed out1 err1) (Memory ≡ SinkFault) =
+          subst (λ k. Breaks a b (printed out0 err0) (printed k err1) (Memory ≡ SinkFault)) (sym idles.out) (subst (λ k. Breaks a b (printed out0 err0) (printed out k) (Memory ≡ SinkFault)) (sym idles.err) (breaks-memory a b out0 out err0 err standing.taken.wrote)) in record {
             heard = begins.heard;
             hears = begins.hears;
             treats = begins.treats;
-            scans = subst (λ x. ScansTo plan patterns name shows treated s0 x c1.selected s1 out0 out1 err0 err1 (Err Memory)) (sym is)
+            scans = subst (λ x. ScansTo plan patterns name shows treated s0 x c1.selected s1 (printed out0 err0) (printed out1 err1) (Err Memory)) (sym is)
                 (breaks-ext plan name shows s0.has_shown (full_of finish (us ++ vs)) a b out0 out1 err0 err1 Memory ext breaks);
           }
 
@@ -196,12 +201,12 @@ module _ (plan : GrepPlan) (patterns : List Pattern) (name : List ℕ) (shows : 
         numbered-row : AreNumbered 1 (rows_of (us ++ t ∷ vs))
         numbered-row = subst (λ l. AreNumbered 1 (rows_of l)) all-tries (begins-tried before after (standing.given ++ row ∷ []) begins-row)
 
-        input-row : (result : Result Ended Stop) → ScansTo plan patterns name shows treated s0 (full_of finish (us ++ t ∷ vs)) c1.selected s1 out0 out1 err0 err1 result → Input result
+        input-row : (result : Result Ended Stop) → ScansTo plan patterns name shows treated s0 (full_of finish (us ++ t ∷ vs)) c1.selected s1 (printed out0 err0) (printed out1 err1) result → Input result
         input-row result scans = record {
           heard = begins-row.heard;
           hears = begins-row.hears;
           treats = begins-row.treats;
-          scans = subst (λ x. ScansTo plan patterns name shows treated s0 x c1.selected s1 out0 out1 err0 err1 result) (sym scan-row) scans;
+          scans = subst (λ x. ScansTo plan patterns name shows treated s0 x c1.selected s1 (printed out0 err0) (printed out1 err1) result) (sym scan-row) scans;
         }
 
         had-errors : s.errors ≡ s0.errors + count has_error us
@@ -211,7 +216,7 @@ module _ (plan : GrepPlan) (patterns : List Pattern) (name : List ℕ) (shows : 
         had-shown = ap (λ (x : State). x.has_shown) standing.taken.state
 
         -- its match error is the last one
-        pub scans-last : TakesLast plan name shows most t c c1 s s1 out out1 err err1 → Input (Err TooManyErrors)
+        pub scans-last : TakesLast plan name shows most t c c1 s s1 (printed out err) (printed out1 err1) → Input (Err TooManyErrors)
         scans-last last =
             let few = standing.few in
             let errors = last.errors in
@@ -224,23 +229,23 @@ module _ (plan : GrepPlan) (patterns : List Pattern) (name : List ℕ) (shows : 
             let b = flat_map (error_message name) us in
             let out_is : a ++ [] ≡ shown_out plan name shows s0.has_shown broken = append-nil a ∙ sym (broken_out plan name shows s0.has_shown us t vs last.error) in
             let err_is : b ++ error_message name t ≡ flat_map (error_message name) broken.tried = sym (said-more name us t) ∙ ap (λ l. flat_map (error_message name) l) (sym (early-tried us t vs)) in
-            let wrote = wrote-more a b [] (error_message name t) out0 out out1 err0 err err1 standing.taken.wrote last.wrote in
+            let wrote = wrote-more a b [] (error_message name t) standing.taken.wrote last.wrote in
             let errors_are : cond (has_error t) (s.errors + 1) s.errors ≡ s0.errors + length (errors_in broken) =
             ap (λ n. cond (has_error t) (n + 1) n) had ∙ sym (errors-more plan patterns name shows treated s0 us t) ∙ ap (λ l. s0.errors + count has_error l) (sym (early-tried us t vs)) in
             let shown_is : (s.has_shown || (is_selected plan t && is_lines shows)) ≡ (s0.has_shown || shows_group plan name shows broken) =
             or_false s.has_shown (is_selected plan t && is_lines shows) (ap (λ x. x && is_lines shows) (error-unselected plan t last.error))
             ∙ had-shown ∙ ap (λ x. s0.has_shown || x) (sym (broken-group plan name shows us t vs last.error)) in
             let total : s.total ≡ s0.total = ap (λ (x : State). x.total) standing.taken.state in
-            let state : state_behind plan shows s t ≡ left_by plan patterns name shows treated s0 broken = λ i. record { errors = errors_are i; total = total i; has_shown = shown_is i } in
+            let state : state_after_line plan shows s t ≡ left_by plan patterns name shows treated s0 broken = λ i. record { errors = errors_are i; total = total i; has_shown = shown_is i } in
             let counted : c1.selected ≡ length (selected_in plan broken) =
             ap (λ (d : Course). d.selected) last.course ∙ standing.taken.reached.selected ∙ sym (ap length (out-broken plan us t last.error)) ∙ ap (λ l. count (is_selected plan) l) (sym (early-tried us t vs)) in
-            let scans : Scans plan patterns name shows treated s0 broken c1.selected s1 out0 out1 err0 err1 = record {
-              wrote = subst (λ l. Wrote l (flat_map (error_message name) broken.tried) out0 out1 err0 err1) out_is (subst (λ l. Wrote (a ++ []) l out0 out1 err0 err1) err_is wrote);
+            let scans : Scans plan patterns name shows treated s0 broken c1.selected s1 (printed out0 err0) (printed out1 err1) = record {
+              wrote = subst (λ l. Wrote l (flat_map (error_message name) broken.tried) (printed out0 err0) (printed out1 err1)) out_is (subst (λ l. Wrote (a ++ []) l (printed out0 err0) (printed out1 err1)) err_is wrote);
               count = counted;
               state = last.state ∙ state;
             } in
             input-row (Err TooManyErrors)
-            (subst (λ x. ScansTo plan patterns name shows treated s0 x c1.selected s1 out0 out1 err0 err1 (Err TooManyErrors)) (sym same) (scans, refl))
+            (subst (λ x. ScansTo plan patterns name shows treated s0 x c1.selected s1 (printed out0 err0) (printed out1 err1) (Err TooManyErrors)) (sym same) (scans, refl))
 
         few-next : is_last s t ≡ false → count has_error (us ++ t ∷ []) < left
         few-next e =
@@ -257,8 +262,8 @@ module _ (plan : GrepPlan) (patterns : List Pattern) (name : List ℕ) (shows : 
             omega arith)
             (cases_Bool (has_error t))
 
-        next-breaks : (stop : Stop) → Breaks (cond (is_last s t) [] (row_out plan name shows s.has_shown (course_of c) t)) (error_message name t) out out1 err err1 stop
-            → Breaks (shown_out plan name shows s0.has_shown (full_of finish (us ++ t ∷ vs))) (flat_map (error_message name) (full_of finish (us ++ t ∷ vs)).tried) out0 out1 err0 err1 stop
+        next-breaks : (stop : Stop) → Breaks (cond (is_last s t) [] (row_out plan name shows s.has_shown (course_of c) t)) (error_message name t) (printed out err) (printed out1 err1) (stop ≡ SinkFault)
+            → Breaks (shown_out plan name shows s0.has_shown (full_of finish (us ++ t ∷ vs))) (flat_map (error_message name) (full_of finish (us ++ t ∷ vs)).tried) (printed out0 err0) (printed out1 err1) (stop ≡ SinkFault)
         next-breaks stop breaks =
             let a = shown_out plan name shows s0.has_shown (scan_so_far us) in
             let b = flat_map (error_message name) us in
@@ -274,23 +279,23 @@ module _ (plan : GrepPlan) (patterns : List Pattern) (name : List ℕ) (shows : 
             let is : count has_error us + 1 ≡ left = omega arith in
             let ext = row-broken plan name shows s0.has_shown left most finish us (course_of c) t vs goes (record { error = error; left_is = is }) in
             let none : a ++ cond (is_last s t) [] row_text ≡ a = ap (λ l. a ++ l) (cond-true (is_last s t) [] row_text e) ∙ append-nil a in
-            breaks-ext plan name shows s0.has_shown all a (b ++ error_message name t) out0 out1 err0 err1 stop ext (subst (λ l. Breaks l (b ++ error_message name t) out0 out1 err0 err1 stop) none more))
+            breaks-ext plan name shows s0.has_shown all a (b ++ error_message name t) out0 out1 err0 err1 stop ext (subst (λ l. Breaks l (b ++ error_message name t) (printed out0 err0) (printed out1 err1) (stop ≡ SinkFault)) none more))
             (λ (e : is_last s t ≡ false).
             let within : count has_error (us ++ t ∷ []) < left = few-next e in
             let ext = row-extends plan name shows s0.has_shown left most finish us (course_of c) t vs goes within numbered-row in
             let whole : a ++ cond (is_last s t) [] row_text ≡ a ++ row_out plan name shows (s0.has_shown || shows_group plan name shows (scan_so_far us)) (course_of c) t =
             ap (λ l. a ++ l) (cond-false (is_last s t) [] row_text e) ∙ ap (λ x. a ++ row_out plan name shows x (course_of c) t) had-shown in
             breaks-ext plan name shows s0.has_shown all (a ++ row_out plan name shows (s0.has_shown || shows_group plan name shows (scan_so_far us)) (course_of c) t) (b ++ error_message name t)
-            out0 out1 err0 err1 stop ext (subst (λ l. Breaks l (b ++ error_message name t) out0 out1 err0 err1 stop) whole more))
+            out0 out1 err0 err1 stop ext (subst (λ l. Breaks l (b ++ error_message name t) (printed out0 err0) (printed out1 err1) (stop ≡ SinkFault)) whole more))
             (cases_Bool (is_last s t))
 
         -- it couldn't be taken
-        pub scans-row : (stop : Stop) → TakesLine plan name shows most t c s c1 s1 out out1 err err1 (Err stop) → Input (Err stop)
+        pub scans-row : (stop : Stop) → TakesLine plan name shows most t c s c1 s1 (printed out err) (printed out1 err1) (Err stop) → Input (Err stop)
         scans-row SinkFault takes = input-row (Err SinkFault) (next-breaks SinkFault takes)
         scans-row TooManyErrors takes = scans-last takes
         scans-row Memory takes = input-row (Err Memory) (next-breaks Memory takes)
 
       -- a turn that stops
-      pub scans-stops : (stop : Stop) → Turns plan patterns name shows most f g now after c s c1 s1 out out1 err err1 (Err stop) → Input (Err stop)
+      pub scans-stops : (stop : Stop) → Turns plan patterns name shows most f g now after c s c1 s1 (printed out err) (printed out1 err1) (Err stop) → Input (Err stop)
       scans-stops stop (inl takes) = scans-row takes.row takes.gives stop takes.takes
       scans-stops stop (inr lacks) = subst (λ x. Input (Err x)) (sym lacks.0) (scans-lacks lacks.1 lacks.2)

@@ -1,4 +1,4 @@
--- The rows behind the last line that is selected, shown as its context.
+-- The rows after the last line that is selected, shown as its context.
 use Rattle.std.proofs.Common.{◌≡◌, ◌≢◌, ℕ, ◌+◌, ◌<◌, false, List, [], ◌∷◌, ◌++◌, length, Ok, Err, refl, sym, ap, subst, ◌∙◌, inl, inr, arith, append_assoc, append-nil, length-append}
 use Rattle.std.specs.Prelude.{flat_map}
 use Rattle.std.proofs.lemmas.List.Concat.{flat_map-append}
@@ -7,17 +7,20 @@ use Rattle.line_feed.specs.Rows.{Row}
 use Rattle.line_feed.specs.View.{Feed}
 use Rattle.line_feed.proofs.Given.{kind-gives, max-gives}
 use Rattle.grep_args.specs.declared.plan.GrepPlan.{GrepPlan}
-use Rattle.grep_core.specs.declared.modes.Show.{Show}
-use Rattle.grep_core.specs.declared.modes.Show.TheVariants as show
-use Rattle.grep_core.specs.declared.modes.Treatment.{Treatment}
+use Rattle.grep_core.specs.declared.shows.Show.{Show}
+use Rattle.grep_core.specs.declared.shows.Show.TheVariants as show
+use Rattle.grep_core.specs.declared.shows.Treatment.{Treatment}
 use Rattle.grep_core.specs.declared.ended.Ended.{Ended}
 use Rattle.grep_core.specs.declared.ended.Ended.TheVariants as told
 use Rattle.grep_core.specs.declared.ended.Stop.{Stop}
 use Rattle.grep_core.specs.declared.ended.Stop.TheVariants.{Memory}
-use Rattle.grep_core.specs.Patterns.{line_end}
-use Rattle.grep_core.specs.Modes.{lines_after}
+use Rattle.grep_match.specs.PatternTexts.{line_end}
+use Rattle.grep_core.specs.Shows.{lines_after}
 use Rattle.grep_core.specs.Course.{line_as}
-use Rattle.grep_core.specs.Turns.{Writes, Halts, Stood, EndsSo, ShowsRow, FollowsOne, FollowsAll, FollowsSome, FollowsPart, Follows}
+use Rattle.tool_out.specs.Writes.{WritesAll}
+use Rattle.grep_core.specs.Turns.{Halts, EndsSo}
+use Rattle.grep_core.specs.WholeScans.{Stood}
+use Rattle.grep_core.specs.Follows.{ShowsRow, FollowsOne, FollowsAll, FollowsSome, FollowsPart, Follows}
 use Rattle.grep_core.proofs.ScansRows.{stood-gives, stood-begins}
 use Rattle.grep_core.proofs.ScansTexts.{writes-none, writes-more, halts-more, halts-memory}
 use Rattle.grep_core.proofs.ScansEnd.{ends-so, lacks-so}
@@ -44,7 +47,7 @@ module _ (plan : GrepPlan) (name : List ℕ) (shows : Show) (treated : Treatment
     pub kind : f.kind ≡ line_end plan
     pub max : f.max ≡ plan.max_buffer_size
     pub long : length rows ≡ n
-    pub wrote : Writes (texts rows) out0 out
+    pub wrote : WritesAll (texts rows) out0 out
 
   pub following-none : (now : Told) (f : Feed) (out : Kept) → Stood plan treated before now f given → f.kind ≡ line_end plan → f.max ≡ plan.max_buffer_size → Following now f out out 0
   following-none now f out stood kind max = record {
@@ -66,7 +69,7 @@ module _ (plan : GrepPlan) (name : List ℕ) (shows : Show) (treated : Treatment
           kind = kind-gives f g now after shows.row shows.gives ∙ had.kind;
           max = max-gives f g now after shows.row shows.gives ∙ had.max;
           long = omega arith;
-          wrote = subst (λ l. Writes l out0 out1) (sym (texts-more had.rows shows.row)) (writes-more (texts had.rows) (line_as plan name false shows.row) out0 out out1 had.wrote shows.wrote);
+          wrote = subst (λ l. WritesAll l out0 out1) (sym (texts-more had.rows shows.row)) (writes-more (texts had.rows) (line_as plan name false shows.row) out0 out out1 had.wrote shows.wrote);
         }
 
     follows-some : (ended : Ended) → n < lines_after shows plan.after_context → EndsSo f g now after ended × (out1 ≡ out) → FollowsSome plan name shows treated before after given out0 out1 ended
@@ -75,7 +78,7 @@ module _ (plan : GrepPlan) (name : List ℕ) (shows : Show) (treated : Treatment
           rows = had.rows;
           ends = ends-so plan treated before now after f g (given ++ had.rows) ended had.stood had.kind had.max ends.0;
           long = omega arith;
-          wrote = subst (λ k. Writes (texts had.rows) out0 k) (sym ends.1) had.wrote;
+          wrote = subst (λ k. WritesAll (texts had.rows) out0 k) (sym ends.1) had.wrote;
         }
 
     pub follows-ends : (ended : Ended) → n < lines_after shows plan.after_context → EndsSo f g now after ended × (out1 ≡ out) → Follows plan name shows treated before after given out0 out1 (Ok ended)

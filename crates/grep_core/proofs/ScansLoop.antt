@@ -8,22 +8,25 @@ use Rattle.line_feed.specs.View.{Feed}
 use Rattle.line_feed.specs.Answers.{Gives}
 use Rattle.circular_buffer.specs.Buffer.{keep_last}
 use Rattle.grep_args.specs.declared.plan.GrepPlan.{GrepPlan}
-use Rattle.grep_core.specs.Compiled.{Pattern}
-use Rattle.grep_core.specs.declared.modes.Show.{Show}
-use Rattle.grep_core.specs.declared.modes.Show.TheVariants as show
-use Rattle.grep_core.specs.declared.modes.Treatment.{Treatment}
+use Rattle.pat_tree.specs.Pattern.{Pattern}
+use Rattle.grep_core.specs.declared.shows.Show.{Show}
+use Rattle.grep_core.specs.declared.shows.Show.TheVariants as show
+use Rattle.grep_core.specs.declared.shows.Treatment.{Treatment}
 use Rattle.grep_core.specs.declared.scan.Course.{Course}
 use Rattle.grep_core.specs.declared.scan.Next.{Next}
 use Rattle.grep_core.specs.declared.state.State.{State}
-use Rattle.grep_core.specs.Matches.{Tried, is_selected}
+use Rattle.grep_match.specs.Matches.{Tried, is_selected}
 use Rattle.grep_core.specs.InputText.{shown_out, shows_group}
 use Rattle.grep_core.specs.Course as course
-use Rattle.grep_core.specs.Course.{begun, behind, behind_selected, behind_passed, scan_so_far}
-use Rattle.grep_core.specs.Turns.{course_of, Wrote, Takes, Stood, IsJob, IsSome}
+use Rattle.grep_core.specs.Course.{begun, course_after, course_after_selected, course_after_passed, scan_so_far}
+use Rattle.grep_core.specs.Turns.{course_of, Takes}
+use Rattle.grep_core.specs.WholeScans.{Stood, IsJob, AtLeastOne}
+use Rattle.tool_out.specs.Prints.{Wrote}
 use Rattle.grep_core.proofs.Reached.{Reached, reached-begun}
 use Rattle.grep_core.proofs.ScanEnds.{IsBelow}
-use Rattle.grep_core.proofs.ScansTexts.{wrote-none}
+use Rattle.tool_out.proofs.Printing.{wrote-none}
 use Rattle.grep_core.proofs.ScansTaken.{Standing}
+use Rattle.tool_out.specs.Printed.{printed}
 
 shown-none : (plan : GrepPlan) (name : List ℕ) (shows : Show) (hs : Bool) → shown_out plan name shows hs (scan_so_far []) ≡ []
 shown-none plan name show.Lines hs = refl
@@ -39,16 +42,16 @@ or_none : (a : Bool) → (a || false) ≡ a
 or_none true = refl
 or_none false = refl
 
-below-none : (most : Option ℕ) → IsSome most → IsBelow most 0
+below-none : (most : Option ℕ) → AtLeastOne most → IsBelow most 0
 below-none None some = tt
 below-none (Some m) some = omega arith
 
 -- before the first line
 pub standing-begun : (plan : GrepPlan) (patterns : List Pattern) (name : List ℕ) (shows : Show) (most : Option ℕ) (treated : Treatment) (s0 : State) (before now : Told) (f0 : Feed) (c : Course) (out err : Kept)
-    → IsJob plan treated shows most f0 → Stood plan treated before now f0 [] → c.selected ≡ 0 → c.context_to ≡ 0 → c.back.rows ≡ [] → s0.errors ≤ 20
+    → IsJob plan treated shows most f0 → Stood plan treated before now f0 [] → c.selected ≡ 0 → c.context_to ≡ 0 → c.earlier.rows ≡ [] → s0.errors ≤ 20
     → Standing plan patterns name shows most treated s0 before now f0 c s0 out out err err
-standing-begun plan patterns name shows most treated s0 before now f0 c out err job stood selected context back errors =
-    let is : course_of c ≡ begun = λ i. record { selected = selected i; context_to = context i; back = back i } in
+standing-begun plan patterns name shows most treated s0 before now f0 c out err job stood selected context earlier errors =
+    let is : course_of c ≡ begun = λ i. record { selected = selected i; context_to = context i; earlier = earlier i } in
     let none : s0.errors + 0 ≡ s0.errors = omega arith in
     let shown : (s0.has_shown || shows_group plan name shows (scan_so_far [])) ≡ s0.has_shown = ap (λ b. s0.has_shown || b) (group-none plan name shows) ∙ or_none s0.has_shown in record {
       given = [];
@@ -59,7 +62,7 @@ standing-begun plan patterns name shows most treated s0 before now f0 c out err 
       below = below-none most job.some;
       taken = record {
         reached = subst (λ (d : course.Course). Reached plan shows [] d) (sym is) (reached-begun plan shows);
-        wrote = subst (λ l. Wrote l [] out out err err) (sym (shown-none plan name shows s0.has_shown)) (wrote-none out err);
+        wrote = subst (λ l. Wrote l [] (printed out err) (printed out err)) (sym (shown-none plan name shows s0.has_shown)) (wrote-none (printed out err));
         state = λ i. record s0 { errors = sym none i; has_shown = sym shown i };
       };
     }
@@ -69,45 +72,45 @@ standing-begun plan patterns name shows most treated s0 before now f0 c out err 
 kept-few : (n : ℕ) (rows : List Row) → length (keep_last n rows) ≤ length rows
 kept-few n rows = let long = length-drop (length rows - n) rows in omega arith
 
-behind-back : (plan : GrepPlan) (shows : Show) (c : course.Course) (t : Tried) → length (behind plan shows c t).back ≤ length c.back + 1
-behind-back plan shows c t = cond_both (is_selected plan t) (behind_selected plan shows c t.row) (behind_passed plan shows c t.row) (λ (d : course.Course). length d.back ≤ length c.back + 1) (λ e. selected shows) (λ e. passed shows)
+after-earlier : (plan : GrepPlan) (shows : Show) (c : course.Course) (t : Tried) → length (course_after plan shows c t).earlier ≤ length c.earlier + 1
+after-earlier plan shows c t = cond_both (is_selected plan t) (course_after_selected plan shows c t.row) (course_after_passed plan shows c t.row) (λ (d : course.Course). length d.earlier ≤ length c.earlier + 1) (λ e. selected shows) (λ e. passed shows)
   where
-    selected : (s : Show) → length (behind_selected plan s c t.row).back ≤ length c.back + 1
+    selected : (s : Show) → length (course_after_selected plan s c t.row).earlier ≤ length c.earlier + 1
     selected show.Lines = omega arith
     selected show.Parts = omega arith
     selected show.Nothing = omega arith
 
-    passed : (s : Show) → length (behind_passed plan s c t.row).back ≤ length c.back + 1
+    passed : (s : Show) → length (course_after_passed plan s c t.row).earlier ≤ length c.earlier + 1
     passed show.Lines =
-        let few = kept-few plan.before_context (c.back ++ t.row ∷ []) in
-        let long = length-append c.back (t.row ∷ []) in
-        cond_both (nat_le t.row.number c.context_to) c (record c { back = keep_last plan.before_context (c.back ++ t.row ∷ []) }) (λ (d : course.Course). length d.back ≤ length c.back + 1) (λ e. omega arith) (λ e. omega arith)
+        let few = kept-few plan.before_context (c.earlier ++ t.row ∷ []) in
+        let long = length-append c.earlier (t.row ∷ []) in
+        cond_both (nat_le t.row.number c.context_to) c (record c { earlier = keep_last plan.before_context (c.earlier ++ t.row ∷ []) }) (λ (d : course.Course). length d.earlier ≤ length c.earlier + 1) (λ e. omega arith) (λ e. omega arith)
     passed show.Parts = omega arith
     passed show.Nothing = omega arith
 
-behind-context : (plan : GrepPlan) (shows : Show) (c : course.Course) (t : Tried) (n : ℕ) → c.context_to ≤ n → t.row.number + plan.after_context ≤ n → (behind plan shows c t).context_to ≤ n
-behind-context plan shows c t n old new = cond_both (is_selected plan t) (behind_selected plan shows c t.row) (behind_passed plan shows c t.row) (λ (d : course.Course). d.context_to ≤ n) (λ e. selected shows) (λ e. passed shows)
+after-context : (plan : GrepPlan) (shows : Show) (c : course.Course) (t : Tried) (n : ℕ) → c.context_to ≤ n → t.row.number + plan.after_context ≤ n → (course_after plan shows c t).context_to ≤ n
+after-context plan shows c t n old new = cond_both (is_selected plan t) (course_after_selected plan shows c t.row) (course_after_passed plan shows c t.row) (λ (d : course.Course). d.context_to ≤ n) (λ e. selected shows) (λ e. passed shows)
   where
-    selected : (s : Show) → (behind_selected plan s c t.row).context_to ≤ n
+    selected : (s : Show) → (course_after_selected plan s c t.row).context_to ≤ n
     selected show.Lines = new
     selected show.Parts = old
     selected show.Nothing = old
 
-    passed : (s : Show) → (behind_passed plan s c t.row).context_to ≤ n
-    passed show.Lines = cond_both (nat_le t.row.number c.context_to) c (record c { back = keep_last plan.before_context (c.back ++ t.row ∷ []) }) (λ (d : course.Course). d.context_to ≤ n) (λ e. old) (λ e. old)
+    passed : (s : Show) → (course_after_passed plan s c t.row).context_to ≤ n
+    passed show.Lines = cond_both (nat_le t.row.number c.context_to) c (record c { earlier = keep_last plan.before_context (c.earlier ++ t.row ∷ []) }) (λ (d : course.Course). d.context_to ≤ n) (λ e. old) (λ e. old)
     passed show.Parts = old
     passed show.Nothing = old
 
-behind-count : (plan : GrepPlan) (shows : Show) (c : course.Course) (t : Tried) → (behind plan shows c t).selected ≤ c.selected + 1
-behind-count plan shows c t = cond_both (is_selected plan t) (behind_selected plan shows c t.row) (behind_passed plan shows c t.row) (λ (d : course.Course). d.selected ≤ c.selected + 1) (λ e. selected shows) (λ e. passed shows)
+after-count : (plan : GrepPlan) (shows : Show) (c : course.Course) (t : Tried) → (course_after plan shows c t).selected ≤ c.selected + 1
+after-count plan shows c t = cond_both (is_selected plan t) (course_after_selected plan shows c t.row) (course_after_passed plan shows c t.row) (λ (d : course.Course). d.selected ≤ c.selected + 1) (λ e. selected shows) (λ e. passed shows)
   where
-    selected : (s : Show) → (behind_selected plan s c t.row).selected ≤ c.selected + 1
+    selected : (s : Show) → (course_after_selected plan s c t.row).selected ≤ c.selected + 1
     selected show.Lines = omega arith
     selected show.Parts = omega arith
     selected show.Nothing = omega arith
 
-    passed : (s : Show) → (behind_passed plan s c t.row).selected ≤ c.selected + 1
-    passed show.Lines = cond_both (nat_le t.row.number c.context_to) c (record c { back = keep_last plan.before_context (c.back ++ t.row ∷ []) }) (λ (d : course.Course). d.selected ≤ c.selected + 1) (λ e. omega arith) (λ e. omega arith)
+    passed : (s : Show) → (course_after_passed plan s c t.row).selected ≤ c.selected + 1
+    passed show.Lines = cond_both (nat_le t.row.number c.context_to) c (record c { earlier = keep_last plan.before_context (c.earlier ++ t.row ∷ []) }) (λ (d : course.Course). d.selected ≤ c.selected + 1) (λ e. omega arith) (λ e. omega arith)
     passed show.Parts = omega arith
     passed show.Nothing = omega arith
 
@@ -143,13 +146,13 @@ pub record Keeps (f : Feed) (c : Course) (s : State) : Type 0 where
   pub max : f.max ≤ 2 ^ 30
   pub numbered : f.number ≤ f.offset
   pub number : f.number ≤ 2 ^ 40
-  pub back : length c.back.rows ≤ f.number
+  pub earlier : length c.earlier.rows ≤ f.number
   pub context : c.context_to ≤ 2 ^ 62
   pub selected : c.selected ≤ f.number
   pub errors : s.errors ≤ 20
 
 pub keeps-more : (plan : GrepPlan) (name : List ℕ) (shows : Show) (most : Option ℕ) (f g : Feed) (now after : Told) (row : Row) (t : Tried) (c : Course) (s : State) (c1 : Course) (s1 : State) (out out1 err err1 : Kept) (next : Next)
-    → plan.after_context < 2 ^ 32 → t.row ≡ row → Keeps f c s → Gives f g now after row → Takes plan name shows most t c s c1 s1 out out1 err err1 next → Keeps g c1 s1
+    → plan.after_context < 2 ^ 32 → t.row ≡ row → Keeps f c s → Gives f g now after row → Takes plan name shows most t c s c1 s1 (printed out err) (printed out1 err1) next → Keeps g c1 s1
 keeps-more plan name shows most f g now after row t c s c1 s1 out out1 err err1 next few is keeps gives takes =
     let grew = gave f g now after row gives in
     let number = grew.number in
@@ -160,21 +163,21 @@ keeps-more plan name shows most f g now after row t c s c1 s1 out out1 err err1 
     let had_max = keeps.max in
     let had_numbered = keeps.numbered in
     let had_number = keeps.number in
-    let had_back = keeps.back in
+    let had_back = keeps.earlier in
     let had_context = keeps.context in
     let had_selected = keeps.selected in
     let same : t.row.number ≡ row.number = ap (λ (r : Row). r.number) is in
-    let back = behind-back plan shows (course_of c) t in
-    let count = behind-count plan shows (course_of c) t in
-    let context = behind-context plan shows (course_of c) t (2 ^ 62) had_context (omega arith) in
-    let back_is : length c1.back.rows ≡ length (behind plan shows (course_of c) t).back = ap (λ (d : course.Course). length d.back) takes.stands in
-    let context_is : c1.context_to ≡ (behind plan shows (course_of c) t).context_to = ap (λ (d : course.Course). d.context_to) takes.stands in
-    let count_is : c1.selected ≡ (behind plan shows (course_of c) t).selected = ap (λ (d : course.Course). d.selected) takes.stands in
+    let earlier = after-earlier plan shows (course_of c) t in
+    let count = after-count plan shows (course_of c) t in
+    let context = after-context plan shows (course_of c) t (2 ^ 62) had_context (omega arith) in
+    let back_is : length c1.earlier.rows ≡ length (course_after plan shows (course_of c) t).earlier = ap (λ (d : course.Course). length d.earlier) takes.stands in
+    let context_is : c1.context_to ≡ (course_after plan shows (course_of c) t).context_to = ap (λ (d : course.Course). d.context_to) takes.stands in
+    let count_is : c1.selected ≡ (course_after plan shows (course_of c) t).selected = ap (λ (d : course.Course). d.selected) takes.stands in
     record {
       max = omega arith;
       numbered = omega arith;
       number = omega arith;
-      back = omega arith;
+      earlier = omega arith;
       context = omega arith;
       selected = omega arith;
       errors = takes.errors;

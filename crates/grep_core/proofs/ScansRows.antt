@@ -13,15 +13,15 @@ use Rattle.line_feed.specs.Answers.{Gives}
 use Rattle.line_feed.proofs.Given.{HasGiven-gives, HasGiven-moves, HasHeard-stops, HasBegun-given}
 use Rattle.line_feed.proofs.Shown.{HasShown-gives, HasShown-moves, HasShown-stops, HasShown-begun}
 use Rattle.grep_args.specs.declared.plan.GrepPlan.{GrepPlan}
-use Rattle.grep_core.specs.declared.modes.Treatment.{Treatment}
-use Rattle.grep_core.specs.declared.modes.Treatment.TheVariants.{AsText}
+use Rattle.grep_core.specs.declared.shows.Treatment.{Treatment}
+use Rattle.grep_core.specs.declared.shows.Treatment.TheVariants.{AsText}
 use Rattle.grep_core.specs.declared.ended.Ended.{Ended}
 use Rattle.grep_core.specs.Ends.{ended_of}
 use Rattle.grep_core.specs.Scans.{at_finish}
-use Rattle.grep_core.specs.Patterns.{line_end}
+use Rattle.grep_match.specs.PatternTexts.{line_end}
 use Rattle.grep_core.specs.Lines.{is_nul, lines, treatment, treatment_by}
 use Rattle.grep_core.specs.Course.{AreNumbered}
-use Rattle.grep_core.specs.Turns.{Stood, BeginsWith, EndsWith}
+use Rattle.grep_core.specs.WholeScans.{Stood, BeginsWith, EndsWith}
 
 Numbers : ℕ → Rows → Type 0
 Numbers n r = AreNumbered n r.rows
@@ -42,14 +42,14 @@ unfolding rows_within
 numbered-within zero kind max number offset bytes ending = numbered-last kind max number offset bytes ending
 numbered-within (suc most) kind max number offset bytes ending =
     let k = first_newline kind bytes in
-    let behind = k + newline_len kind bytes k in
-    let row : Row = record { bytes = take k bytes; newline = slice_range bytes k behind; number = number; offset = offset } in
-    let rest = rows_within most kind max (number + 1) (offset + behind) (drop behind bytes) ending in
+    let course_after = k + newline_len kind bytes k in
+    let row : Row = record { bytes = take k bytes; newline = slice_range bytes k course_after; number = number; offset = offset } in
+    let rest = rows_within most kind max (number + 1) (offset + course_after) (drop course_after bytes) ending in
     cond_both (has_no_row kind bytes ending k) (last_rows kind max number offset bytes ending) (cond (nat_lt max k) (none_for (Long number)) (ahead row rest))
     (λ (r : Rows). AreNumbered number r.rows)
     (λ e. numbered-last kind max number offset bytes ending)
     (λ e. cond_both (nat_lt max k) (none_for (Long number)) (ahead row rest) (λ (r : Rows). AreNumbered number r.rows) (λ e. tt)
-    (λ e. (refl, numbered-within most kind max (number + 1) (offset + behind) (drop behind bytes) ending)))
+    (λ e. (refl, numbered-within most kind max (number + 1) (offset + course_after) (drop course_after bytes) ending)))
 
 -- the rows of an input are numbered from 1
 pub rows-numbered : (kind : EndKind) (max : ℕ) (input : Input) → AreNumbered 1 (rows kind max input).rows

@@ -9,27 +9,30 @@ use Rattle.line_feed.specs.View.{Feed}
 use Rattle.line_feed.specs.Answers.{Gives}
 use Rattle.line_feed.proofs.Given.{kind-gives, max-gives}
 use Rattle.grep_args.specs.declared.plan.GrepPlan.{GrepPlan}
-use Rattle.grep_core.specs.Compiled.{Pattern}
-use Rattle.grep_core.specs.declared.modes.Show.{Show}
-use Rattle.grep_core.specs.declared.modes.Treatment.{Treatment}
+use Rattle.pat_tree.specs.Pattern.{Pattern}
+use Rattle.grep_core.specs.declared.shows.Show.{Show}
+use Rattle.grep_core.specs.declared.shows.Treatment.{Treatment}
 use Rattle.grep_core.specs.declared.scan.Course.{Course}
 use Rattle.grep_core.specs.declared.scan.Next.{Next}
 use Rattle.grep_core.specs.declared.scan.Next.TheVariants.{Line, Context}
 use Rattle.grep_core.specs.declared.state.State.{State}
-use Rattle.grep_core.specs.Patterns.{line_end}
-use Rattle.grep_core.specs.Matches.{Tried, tried_row, is_selected, has_error}
+use Rattle.grep_match.specs.PatternTexts.{line_end}
+use Rattle.grep_match.specs.Matches.{Tried, tried_row, is_selected, has_error}
 use Rattle.grep_core.specs.Scans.{rows_of, errors_left}
 use Rattle.grep_core.specs.Messages.{error_message}
 use Rattle.grep_core.specs.InputText.{shown_out, shows_group}
 use Rattle.grep_core.specs.Course as course
-use Rattle.grep_core.specs.Course.{AreNumbered, row_out, behind, state_behind, is_lines, scan_so_far}
-use Rattle.grep_core.specs.Turns.{course_of, is_full, Wrote, Takes, Stood, left_by, Pauses}
+use Rattle.grep_core.specs.Course.{AreNumbered, row_out, course_after, state_after_line, is_lines, scan_so_far}
+use Rattle.grep_core.specs.Turns.{course_of, is_full, Takes}
+use Rattle.grep_core.specs.WholeScans.{Stood, left_by, Pauses}
+use Rattle.tool_out.specs.Prints.{Wrote}
 use Rattle.grep_core.proofs.ReachRows.{numbered-left}
 use Rattle.grep_core.proofs.Reached.{Reached, reached-more, out-more, group-more}
 use Rattle.grep_core.proofs.ScanEnds.{count, count-more, count-one, count-none, IsBelow}
 use Rattle.grep_core.proofs.Extends.{said-more, number-of, numbered-first, still-below}
 use Rattle.grep_core.proofs.ScansRows.{stood-gives, stood-begins, begins-numbered}
-use Rattle.grep_core.proofs.ScansTexts.{wrote-more}
+use Rattle.tool_out.proofs.Printing.{wrote-more}
+use Rattle.tool_out.specs.Printed.{printed}
 
 abbrev pub tries : GrepPlan → List Pattern → List Row → List Tried
 tries plan patterns given = map (tried_row plan patterns) given
@@ -65,7 +68,7 @@ module _ (plan : GrepPlan) (patterns : List Pattern) (name : List ℕ) (shows : 
       sum ∙ sym (cond-false (has_error t) (n + 1) n e))
       (cases_Bool (has_error t))
 
-  pub left-more : (ts : List Tried) (c : course.Course) (t : Tried) → Reached plan shows ts c → AreNumbered 1 (rows_of (ts ++ t ∷ [])) → left_so (ts ++ t ∷ []) ≡ state_behind plan shows (left_so ts) t
+  pub left-more : (ts : List Tried) (c : course.Course) (t : Tried) → Reached plan shows ts c → AreNumbered 1 (rows_of (ts ++ t ∷ [])) → left_so (ts ++ t ∷ []) ≡ state_after_line plan shows (left_so ts) t
   left-more ts c t reached numbered =
       let group = group-more plan name shows ts c t reached (numbered-first ts (t ∷ []) numbered) (number-of ts t [] numbered) in
       let shown = ap (λ b. s0.has_shown || b) group ∙ or_joined s0.has_shown (shows_group plan name shows (scan_so_far ts)) (is_selected plan t && is_lines shows) in
@@ -74,10 +77,10 @@ module _ (plan : GrepPlan) (patterns : List Pattern) (name : List ℕ) (shows : 
   -- the lines were taken
   pub record Taken (ts : List Tried) (c : Course) (s : State) (out0 out err0 err : Kept) : Type 0 where
     pub reached : Reached plan shows ts (course_of c)
-    pub wrote : Wrote (shown_out plan name shows s0.has_shown (scan_so_far ts)) (flat_map (error_message name) ts) out0 out err0 err
+    pub wrote : Wrote (shown_out plan name shows s0.has_shown (scan_so_far ts)) (flat_map (error_message name) ts) (printed out0 err0) (printed out err)
     pub state : s ≡ left_so ts
 
-  module _ (most : Option ℕ) (ts : List Tried) (t : Tried) (c : Course) (s : State) (c1 : Course) (s1 : State) (out0 out out1 err0 err err1 : Kept) (next : Next) (taken : Taken ts c s out0 out err0 err) (numbered : AreNumbered 1 (rows_of (ts ++ t ∷ []))) (takes : Takes plan name shows most t c s c1 s1 out out1 err err1 next) where
+  module _ (most : Option ℕ) (ts : List Tried) (t : Tried) (c : Course) (s : State) (c1 : Course) (s1 : State) (out0 out out1 err0 err err1 : Kept) (next : Next) (taken : Taken ts c s out0 out err0 err) (numbered : AreNumbered 1 (rows_of (ts ++ t ∷ []))) (takes : Takes plan name shows most t c s c1 s1 (printed out err) (printed out1 err1) next) where
     first : AreNumbered 1 (rows_of ts)
     first = numbered-first ts (t ∷ []) numbered
 
@@ -92,11 +95,11 @@ module _ (plan : GrepPlan) (patterns : List Pattern) (name : List ℕ) (shows : 
         ∙ ap (λ b. shown_out plan name shows s0.has_shown (scan_so_far ts) ++ row_out plan name shows b (course_of c) t) (sym had) in
         let err_is = said-more name ts t in
         let all = wrote-more (shown_out plan name shows s0.has_shown (scan_so_far ts)) (flat_map (error_message name) ts) (row_out plan name shows s.has_shown (course_of c) t) (error_message name t)
-        out0 out out1 err0 err err1 taken.wrote takes.wrote in record {
+        taken.wrote takes.wrote in record {
           reached = subst (λ (d : course.Course). Reached plan shows (ts ++ t ∷ []) d) (sym takes.stands) (reached-more plan shows ts (course_of c) t taken.reached first number);
-          wrote = subst (λ l. Wrote l (flat_map (error_message name) (ts ++ t ∷ [])) out0 out1 err0 err1) (sym out_is)
-              (subst (λ l. Wrote (shown_out plan name shows s0.has_shown (scan_so_far ts) ++ row_out plan name shows s.has_shown (course_of c) t) l out0 out1 err0 err1) (sym err_is) all);
-          state = takes.state ∙ ap (λ (x : State). state_behind plan shows x t) taken.state ∙ sym (left-more ts (course_of c) t taken.reached numbered);
+          wrote = subst (λ l. Wrote l (flat_map (error_message name) (ts ++ t ∷ [])) (printed out0 err0) (printed out1 err1)) (sym out_is)
+              (subst (λ l. Wrote (shown_out plan name shows s0.has_shown (scan_so_far ts) ++ row_out plan name shows s.has_shown (course_of c) t) l (printed out0 err0) (printed out1 err1)) (sym err_is) all);
+          state = takes.state ∙ ap (λ (x : State). state_after_line plan shows x t) taken.state ∙ sym (left-more ts (course_of c) t taken.reached numbered);
         }
 
     pub few-line : count has_error (ts ++ t ∷ []) < errors_left s0.errors
@@ -144,7 +147,7 @@ last-line plan most ts t below is =
     (λ (e : sel t ≡ false). let g : Context ≡ Line = is ∙ ap (λ b. cond (b && is_full most n) Context Line) e in absurd (cc))
     (cases_Bool (sel t))
 
--- How a scan stands behind the rows that were given.
+-- How a scan stands after the rows that were given.
 module _ (plan : GrepPlan) (patterns : List Pattern) (name : List ℕ) (shows : Show) (most : Option ℕ) (treated : Treatment) (s0 : State) where
   pub record Standing (before now : Told) (f : Feed) (c : Course) (s : State) (out0 out err0 err : Kept) : Type 0 where
     pub given : List Row
@@ -184,7 +187,7 @@ module _ (plan : GrepPlan) (patterns : List Pattern) (name : List ℕ) (shows : 
         let all = numbered-left 1 more begins.more (begins-numbered plan treated before after more begins) in
         subst (λ l. AreNumbered 1 l) (sym (rows-tried plan patterns more) ∙ ap rows_of same-tries) all
 
-    pub standing-line : Takes plan name shows most t c s c1 s1 out out1 err err1 Line → Standing before after g c1 s1 out0 out1 err0 err1
+    pub standing-line : Takes plan name shows most t c s c1 s1 (printed out err) (printed out1 err1) Line → Standing before after g c1 s1 out0 out1 err0 err1
     standing-line takes =
         let is = takes.answer ∙ ap (λ n. cond (is_selected plan t && is_full most n) Context Line) (selected-line plan patterns name shows treated s0 most ts t c s c1 s1 out0 out out1 err0 err err1 Line standing.taken next-numbered takes) in record {
           given = more;
@@ -196,7 +199,7 @@ module _ (plan : GrepPlan) (patterns : List Pattern) (name : List ℕ) (shows : 
           taken = subst (λ l. Taken plan patterns name shows treated s0 l c1 s1 out0 out1 err0 err1) (sym same-tries) (taken-line plan patterns name shows treated s0 most ts t c s c1 s1 out0 out out1 err0 err err1 Line standing.taken next-numbered takes);
         }
 
-    pub standing-pauses : Takes plan name shows most t c s c1 s1 out out1 err err1 Context → Pauses plan patterns name shows most treated s0 before after g c1.selected s1 out0 out1 err0 err1
+    pub standing-pauses : Takes plan name shows most t c s c1 s1 (printed out err) (printed out1 err1) Context → Pauses plan patterns name shows most treated s0 before after g c1.selected s1 (printed out0 err0) (printed out1 err1)
     standing-pauses takes =
         let is = takes.answer ∙ ap (λ n. cond (is_selected plan t && is_full most n) Context Line) (selected-line plan patterns name shows treated s0 most ts t c s c1 s1 out0 out out1 err0 err err1 Context standing.taken next-numbered takes) in
         let last = last-line plan most ts t standing.below is in

@@ -10,25 +10,29 @@ use Rattle.pcre_io.specs.Told.{Told, Kept}
 use Rattle.line_feed.specs.Rows.{Row, Finish}
 use Rattle.line_feed.specs.View.{Feed}
 use Rattle.grep_args.specs.declared.plan.GrepPlan.{GrepPlan}
-use Rattle.grep_core.specs.Compiled.{Pattern}
-use Rattle.grep_core.specs.declared.modes.Show.{Show}
-use Rattle.grep_core.specs.declared.modes.Show.TheVariants as show
-use Rattle.grep_core.specs.declared.modes.Treatment.{Treatment}
+use Rattle.pat_tree.specs.Pattern.{Pattern}
+use Rattle.grep_core.specs.declared.shows.Show.{Show}
+use Rattle.grep_core.specs.declared.shows.Show.TheVariants as show
+use Rattle.grep_core.specs.declared.shows.Treatment.{Treatment}
 use Rattle.grep_core.specs.declared.ended.Ended.{Ended}
 use Rattle.grep_core.specs.declared.ended.Ended.TheVariants as told
 use Rattle.grep_core.specs.declared.ended.Stop.{Stop}
 use Rattle.grep_core.specs.declared.ended.Stop.TheVariants.{SinkFault, TooManyErrors, Memory}
 use Rattle.grep_core.specs.declared.state.State.{State}
 use Rattle.grep_core.specs.Lines.{lines}
-use Rattle.grep_core.specs.Modes.{lines_after}
-use Rattle.grep_core.specs.Matches.{Tried, tried_row, is_selected, has_error}
+use Rattle.grep_core.specs.Shows.{lines_after}
+use Rattle.grep_match.specs.Matches.{Tried, tried_row, is_selected, has_error}
 use Rattle.grep_core.specs.Scans.{Scan, rows_of, errors_left, early_scan, early, at_finish, errors_in}
 use Rattle.grep_core.specs.Context.{is_shown, shown_row, shown_lines}
 use Rattle.grep_core.specs.Messages.{error_message}
 use Rattle.grep_core.specs.InputText.{shown_out, shows_group}
 use Rattle.grep_core.specs.Course as course
-use Rattle.grep_core.specs.Course.{AreNumbered, line_as, scan_so_far, begun, behind}
-use Rattle.grep_core.specs.Turns.{Wrote, Breaks, Writes, Halts, Scans, ScansTo, ScansInput, scan_of, IsJob, Pauses, FollowsAll, FollowsSome, FollowsPart, Follows}
+use Rattle.grep_core.specs.Course.{AreNumbered, line_as, scan_so_far, begun, course_after}
+use Rattle.tool_out.specs.Prints.{Wrote, Breaks}
+use Rattle.tool_out.specs.Writes.{WritesAll}
+use Rattle.grep_core.specs.Turns.{Halts}
+use Rattle.grep_core.specs.WholeScans.{Scans, ScansTo, ScansInput, scan_of, IsJob, Pauses}
+use Rattle.grep_core.specs.Follows.{FollowsAll, FollowsSome, FollowsPart, Follows}
 use Rattle.grep_core.proofs.Reached.{Reached, reached-begun, reached-more, group-more}
 use Rattle.grep_core.proofs.ScanEnds.{count, early-tried, early-within}
 use Rattle.grep_core.proofs.Extends.{LastSelected, follow_out, early-is, early_out, number-of, numbered-first, TextsBegin}
@@ -36,6 +40,7 @@ use Rattle.grep_core.proofs.ScansRows.{ends-numbered}
 use Rattle.grep_core.proofs.ScansTexts.{wrote-out, breaks-out, breaks-ext}
 use Rattle.grep_core.proofs.ScansTaken.{tries, tries-more, rows-tried}
 use Rattle.grep_core.proofs.ScansEnd.{full_of, begins-scan, begins-tried, ends-scan}
+use Rattle.tool_out.specs.Printed.{printed}
 
 -- some course is reached by any lines
 reach-from : (plan : GrepPlan) (shows : Show) (vs us : List Tried) (c : course.Course) → Reached plan shows us c → AreNumbered 1 (rows_of (us ++ vs)) → (d : course.Course) × Reached plan shows (us ++ vs) d
@@ -43,7 +48,7 @@ reach-from plan shows [] us c reached numbered = (c, subst (λ l. Reached plan s
 reach-from plan shows (v ∷ vs) us c reached numbered =
     let same = append_assoc us (v ∷ []) vs in
     let moved = subst (λ l. AreNumbered 1 (rows_of l)) (sym same) numbered in
-    let more = reach-from plan shows vs (us ++ v ∷ []) (behind plan shows c v) (reached-more plan shows us c v reached (numbered-first us (v ∷ vs) numbered) (number-of us v vs numbered)) moved in
+    let more = reach-from plan shows vs (us ++ v ∷ []) (course_after plan shows c v) (reached-more plan shows us c v reached (numbered-first us (v ∷ vs) numbered) (number-of us v vs numbered)) moved in
     (more.0, subst (λ l. Reached plan shows l more.0) same more.1)
 
 pub reach-all : (plan : GrepPlan) (shows : Show) (us : List Tried) → AreNumbered 1 (rows_of us) → (d : course.Course) × Reached plan shows us d
@@ -95,7 +100,7 @@ early-group plan name show.Parts finish us t vs c reached numbered e = refl
 early-group plan name show.Nothing finish us t vs c reached numbered e = refl
 
 module _ (plan : GrepPlan) (patterns : List Pattern) (name : List ℕ) (shows : Show) (most : Option ℕ) (treated : Treatment) (s0 : State) (f0 : Feed) (job : IsJob plan treated shows most f0)
-    (before mid : Told) (g : Feed) (selected : ℕ) (s1 : State) (out0 out err0 err : Kept) (pauses : Pauses plan patterns name shows most treated s0 before mid g selected s1 out0 out err0 err) where
+    (before mid : Told) (g : Feed) (selected : ℕ) (s1 : State) (out0 out err0 err : Kept) (pauses : Pauses plan patterns name shows most treated s0 before mid g selected s1 (printed out0 err0) (printed out err)) where
   abbrev us : List Tried
   us = tries plan patterns pauses.rows
 
@@ -123,8 +128,8 @@ module _ (plan : GrepPlan) (patterns : List Pattern) (name : List ℕ) (shows : 
         selected = pauses.selects;
       }
 
-  wrote-so : Wrote (shown_out plan name shows s0.has_shown (scan_so_far (us ++ t ∷ []))) (flat_map (error_message name) (us ++ t ∷ [])) out0 out err0 err
-  wrote-so = subst (λ l. Wrote (shown_out plan name shows s0.has_shown (scan_so_far l)) (flat_map (error_message name) l) out0 out err0 err) given-tries pauses.scans.wrote
+  wrote-so : Wrote (shown_out plan name shows s0.has_shown (scan_so_far (us ++ t ∷ []))) (flat_map (error_message name) (us ++ t ∷ [])) (printed out0 err0) (printed out err)
+  wrote-so = subst (λ l. Wrote (shown_out plan name shows s0.has_shown (scan_so_far l)) (flat_map (error_message name) l) (printed out0 err0) (printed out err)) given-tries pauses.scans.wrote
 
   module _ (vs : List Tried) (finish : Finish) (numbered : AreNumbered 1 (rows_of (us ++ t ∷ vs))) (out1 : Kept) where
     abbrev early_of : Scan
@@ -140,12 +145,12 @@ module _ (plan : GrepPlan) (patterns : List Pattern) (name : List ℕ) (shows : 
     out-is =
         let c = reached-us.0 in
         let reached = reached-more plan shows us c t reached-us.1 (numbered-first us (t ∷ vs) numbered) (number-of us t vs numbered) in
-        early_out plan name shows s0.has_shown finish us (behind plan shows c t) t vs reached pauses.selects numbered
+        early_out plan name shows s0.has_shown finish us (course_after plan shows c t) t vs reached pauses.selects numbered
 
     said-is : flat_map (error_message name) early_of.tried ≡ flat_map (error_message name) (us ++ t ∷ [])
     said-is = ap (λ l. flat_map (error_message name) l) (early-tried us t vs)
 
-    early-scans : (text : List ℕ) → follow_out plan name shows (take after_n (rows_of vs)) ≡ text → Writes text out out1 → Scans plan patterns name shows treated s0 early_of selected s1 out0 out1 err0 err
+    early-scans : (text : List ℕ) → follow_out plan name shows (take after_n (rows_of vs)) ≡ text → WritesAll text out out1 → Scans plan patterns name shows treated s0 early_of selected s1 (printed out0 err0) (printed out1 err)
     early-scans text is writes =
         let a = shown_out plan name shows s0.has_shown (scan_so_far (us ++ t ∷ [])) in
         let b = flat_map (error_message name) (us ++ t ∷ []) in
@@ -155,13 +160,13 @@ module _ (plan : GrepPlan) (patterns : List Pattern) (name : List ℕ) (shows : 
         let errors : s0.errors + count has_error (tries plan patterns given) ≡ s0.errors + length (errors_in early_of) = ap (λ l. s0.errors + count has_error l) tried in
         let group : shows_group plan name shows (scan_so_far (tries plan patterns given)) ≡ shows_group plan name shows early_of =
         ap (λ l. shows_group plan name shows (scan_so_far l)) given-tries ∙ sym (early-group plan name shows finish us t vs reached-us.0 reached-us.1 numbered pauses.selects) in record {
-          wrote = subst (λ l. Wrote l (flat_map (error_message name) early_of.tried) out0 out1 err0 err) whole (subst (λ l. Wrote (a ++ text) l out0 out1 err0 err) (sym said-is) all);
+          wrote = subst (λ l. Wrote l (flat_map (error_message name) early_of.tried) (printed out0 err0) (printed out1 err)) whole (subst (λ l. Wrote (a ++ text) l (printed out0 err0) (printed out1 err)) (sym said-is) all);
           count = pauses.scans.count ∙ ap (λ l. count (is_selected plan) l) tried;
           state = pauses.scans.state ∙ (λ i. record s0 { errors = errors i; has_shown = s0.has_shown || group i });
         }
 
     early-breaks : (text rest : List ℕ) (stop : Stop) → follow_out plan name shows (take after_n (rows_of vs)) ≡ text ++ rest → Halts text out out1 stop
-        → Breaks (shown_out plan name shows s0.has_shown early_of) (flat_map (error_message name) early_of.tried) out0 out1 err0 err stop
+        → Breaks (shown_out plan name shows s0.has_shown early_of) (flat_map (error_message name) early_of.tried) (printed out0 err0) (printed out1 err) (stop ≡ SinkFault)
     early-breaks text rest stop is halts =
         let a = shown_out plan name shows s0.has_shown (scan_so_far (us ++ t ∷ [])) in
         let b = flat_map (error_message name) (us ++ t ∷ []) in
@@ -189,7 +194,7 @@ module _ (plan : GrepPlan) (patterns : List Pattern) (name : List ℕ) (shows : 
         cond-false (nat_le (length us + 1 + after_n) (length (us ++ t ∷ vs))) early (at_finish finish) (lt-leb (length us + 1 + after_n) (length (us ++ t ∷ vs)) (omega arith))
 
   abbrev Input : Told → Kept → Result Ended Stop → Type 0
-  Input after out1 result = ScansInput plan patterns name shows treated s0 before after selected s1 out0 out1 err0 err result
+  Input after out1 result = ScansInput plan patterns name shows treated s0 before after selected s1 (printed out0 err0) (printed out1 err) result
 
   begins-all : (fs more : List Row) → tries plan patterns (given ++ fs) ++ tries plan patterns more ≡ us ++ t ∷ (tries plan patterns fs ++ tries plan patterns more)
   begins-all fs more =
@@ -221,7 +226,7 @@ module _ (plan : GrepPlan) (patterns : List Pattern) (name : List ℕ) (shows : 
         heard = begins.heard;
         hears = begins.hears;
         treats = begins.treats;
-        scans = subst (λ x. ScansTo plan patterns name shows treated s0 x selected s1 out0 out1 err0 err (Ok told.Early)) (sym is)
+        scans = subst (λ x. ScansTo plan patterns name shows treated s0 x selected s1 (printed out0 err0) (printed out1 err) (Ok told.Early)) (sym is)
             (early-scans vs finish numbered out1 (flat_map (line_as plan name false) fs) text follows.wrote, ended-early vs finish numbered out1 (omega arith));
       }
 
@@ -242,13 +247,13 @@ module _ (plan : GrepPlan) (patterns : List Pattern) (name : List ℕ) (shows : 
         heard = ends.heard;
         hears = ends.hears;
         treats = ends.treats;
-        scans = subst (λ x. ScansTo plan patterns name shows treated s0 x selected s1 out0 out1 err0 err (Ok ended)) (sym is)
+        scans = subst (λ x. ScansTo plan patterns name shows treated s0 x selected s1 (printed out0 err0) (printed out1 err) (Ok ended)) (sym is)
             (early-scans vs ends.finish numbered out1 (flat_map (line_as plan name false) fs) text follows.wrote, ended-late vs ends.finish numbered out1 (omega arith) ∙ sym ends.ended_so);
       }
 
   -- a part of what follows was written
   part-breaks : (after : Told) (out1 : Kept) (stop : Stop) (follows : FollowsPart plan name shows treated before after given out out1 stop)
-      → Breaks (shown_out plan name shows s0.has_shown (scan_of plan patterns name shows treated s0 (lines plan follows.begins.heard))) (flat_map (error_message name) (scan_of plan patterns name shows treated s0 (lines plan follows.begins.heard)).tried) out0 out1 err0 err stop
+      → Breaks (shown_out plan name shows s0.has_shown (scan_of plan patterns name shows treated s0 (lines plan follows.begins.heard))) (flat_map (error_message name) (scan_of plan patterns name shows treated s0 (lines plan follows.begins.heard)).tried) (printed out0 err0) (printed out1 err) (stop ≡ SinkFault)
   part-breaks after out1 stop follows =
       let fs = follows.rows in
       let begins = follows.begins in
@@ -258,7 +263,7 @@ module _ (plan : GrepPlan) (patterns : List Pattern) (name : List ℕ) (shows : 
       let is = begins-scan plan patterns name shows most treated s0 f0 job before after (given ++ fs) begins ∙ ap (λ l. full_of plan patterns name shows most treated s0 finish l) (begins-all fs begins.more) ∙ is-early vs finish numbered out1 in
       let part = follow-begins plan name shows fs begins.more follows.long in
       let text = ap (λ l. follow_out plan name shows (take after_n l)) (rows-all fs begins.more) ∙ part.1 in
-      subst (λ (x : Scan). Breaks (shown_out plan name shows s0.has_shown x) (flat_map (error_message name) x.tried) out0 out1 err0 err stop) (sym is)
+      subst (λ (x : Scan). Breaks (shown_out plan name shows s0.has_shown x) (flat_map (error_message name) x.tried) (printed out0 err0) (printed out1 err) (stop ≡ SinkFault)) (sym is)
       (early-breaks vs finish numbered out1 (flat_map (line_as plan name false) fs) part.0 stop text follows.wrote)
 
   scans-part : (after : Told) (out1 : Kept) (stop : Stop) → FollowsPart plan name shows treated before after given out out1 stop → Input after out1 (Err stop)

@@ -4,26 +4,26 @@ use Rattle.std.specs.Prelude.{slice_get}
 use Rattle.std.proofs.lemmas.List.{at_drop_more}
 use Rattle.std.proofs.lemmas.Option.{slice_get_within, get_or_from_slice_get}
 use Rattle.line_feed.specs.Rows.{Row}
-use Rattle.frame_machine.specs.PlaceAnswer.{Outcome}
+use Rattle.ordered_search.specs.PlaceAnswer.{Outcome}
 use Rattle.pcre_io.specs.Told.{Kept}
 use Rattle.pcre_io.specs.declared.traits.IoError.{IoError}
 use Rattle.grep_args.specs.declared.plan.GrepPlan.{GrepPlan}
-use Rattle.grep_core.specs.Matches.{Tried, Matches}
-use Rattle.grep_core.specs.Found.{Listed, Lists, ListsMatches}
-use Rattle.grep_core.specs.Writes.{Writes}
+use Rattle.grep_match.specs.Matches.{Tried, Matches}
+use Rattle.grep_match.specs.Found.{Listed, Lists, ListsMatches}
+use Rattle.tool_out.specs.Writes.{Writes, WritesAll}
 use denote.Enum.Bare.{sameb}
-use Rattle.grep_core.specs.contracts.modes.Show.{the_type}
-use Rattle.grep_core.specs.declared.modes.Show.{Show}
-use Rattle.grep_core.specs.declared.modes.Show.TheVariants as show
+use Rattle.grep_core.specs.contracts.shows.Show.{the_type}
+use Rattle.grep_core.specs.declared.shows.Show.{Show}
+use Rattle.grep_core.specs.declared.shows.Show.TheVariants as show
 use Rattle.grep_core.specs.declared.scan.Course.{Course}
 use Rattle.grep_core.specs.declared.scan.Next.{Next}
 use Rattle.grep_core.specs.declared.scan.Next.TheVariants.{Line, Context}
 use Rattle.grep_core.specs.declared.state.State.{State}
-use Rattle.grep_core.specs.Back.{BackLines}
+use Rattle.grep_core.specs.Earlier.{EarlierRows}
 use Rattle.grep_core.specs.Course.{is_lines, selected_out}
-use Rattle.grep_core.specs.Turns as wrote
 use Rattle.grep_core.specs.Turns.{course_of, is_full, SelectsIt}
-use Rattle.grep_core.specs.Texts.{text_if, match_text, matches_text}
+use Rattle.tool_out.specs.Texts.{text_if}
+use Rattle.grep_core.specs.Texts.{match_text, matches_text}
 
 -- the text of the next row is left in front of that of the later ones
 pub rest-more : (f : Row → List ℕ) (rows : List Row) (i : ℕ) (row : Row) → slice_get rows i ≡ Some row → flat_map f (drop i rows) ≡ f row ++ flat_map f (drop (i + 1) rows)
@@ -48,7 +48,7 @@ pub parts-written : (plan : GrepPlan) (name : List ℕ) (t : Tried) (row : Row) 
 parts-written plan name t row len list old new result (Ok os) is l e w = rw (is, e) (w os l)
 parts-written plan name t row len list old new result (Err n) is l e w = absurd l
 
--- Behind a selected line.
+-- After a selected line.
 
 -- whether lines are shown, as it is tested
 pub shows-lines : (asked : Show) → sameb the_type asked show.Lines ≡ is_lines asked
@@ -64,42 +64,42 @@ or-false : (b : Bool) → b ≡ (b || false)
 or-false true = refl
 or-false false = refl
 
-written-out : {text : List ℕ} {old new : Kept} (u : Unit {0}) → Writes text old new (Ok u) → wrote.Writes text old new
+written-out : {text : List ℕ} {old new : Kept} (u : Unit {0}) → Writes text old new (Ok u) → WritesAll text old new
 written-out u w = record { all = w.all; later = w.cause.later }
 
 module _ (plan : GrepPlan) (name : List ℕ) (most : Option ℕ) (t : Tried) (c : Course) (s : State) (c_new : Course) (s_new : State) (old new : Kept) (next : Next) (u : Unit {0}) where
   -- where lines are shown
-  pub selected-line : (show : Show) (number after : ℕ) (back : BackLines) → is_lines show ≡ true → Writes (selected_out plan name show s.has_shown (course_of c) t) old new (Ok u)
-      → t.row.number ≡ number → after ≡ plan.after_context → back ≡ record { limit = c.back.limit; rows = [] }
-      → c_new ≡ record { selected = c.selected + 1; context_to = number + after; back = back }
+  pub selected-line : (show : Show) (number after : ℕ) (earlier : EarlierRows) → is_lines show ≡ true → Writes (selected_out plan name show s.has_shown (course_of c) t) old new (Ok u)
+      → t.row.number ≡ number → after ≡ plan.after_context → earlier ≡ record { limit = c.earlier.limit; rows = [] }
+      → c_new ≡ record { selected = c.selected + 1; context_to = number + after; earlier = earlier }
       → s_new ≡ record { errors = s.errors; total = s.total; has_shown = true }
       → next ≡ (if is_full most c_new.selected then Context else Line) → SelectsIt plan name show most t c s c_new s_new old new next
-  selected-line show.Lines number after back is w n a b e es answer = record {
+  selected-line show.Lines number after earlier is w n a b e es answer = record {
     wrote = written-out u w;
     stands = ap course_of e ∙ rw (a, ← n, b) refl;
-    limit = ap (λ (d : Course). d.back.limit) e ∙ ap (λ (d : BackLines). d.limit) b;
+    limit = ap (λ (d : Course). d.earlier.limit) e ∙ ap (λ (d : EarlierRows). d.limit) b;
     state = es ∙ ap {A = Bool} {B = State} (λ h. record { errors = s.errors; total = s.total; has_shown = h }) (or-true s.has_shown);
     answer = answer;
   }
-  selected-line show.Parts number after back is w n a b e es answer = absurd cc
-  selected-line show.Nothing number after back is w n a b e es answer = absurd cc
+  selected-line show.Parts number after earlier is w n a b e es answer = absurd cc
+  selected-line show.Nothing number after earlier is w n a b e es answer = absurd cc
 
   -- where they aren't
   pub selected-only : (show : Show) → is_lines show ≡ false → Writes (selected_out plan name show s.has_shown (course_of c) t) old new (Ok u)
-      → c_new ≡ record { selected = c.selected + 1; context_to = c.context_to; back = c.back } → s_new ≡ s
+      → c_new ≡ record { selected = c.selected + 1; context_to = c.context_to; earlier = c.earlier } → s_new ≡ s
       → next ≡ (if is_full most c_new.selected then Context else Line) → SelectsIt plan name show most t c s c_new s_new old new next
   selected-only show.Lines is w e es answer = absurd cc
   selected-only show.Parts is w e es answer = record {
     wrote = written-out u w;
     stands = ap course_of e;
-    limit = ap (λ (d : Course). d.back.limit) e;
+    limit = ap (λ (d : Course). d.earlier.limit) e;
     state = es ∙ ap {A = Bool} {B = State} (λ h. record { errors = s.errors; total = s.total; has_shown = h }) (or-false s.has_shown);
     answer = answer;
   }
   selected-only show.Nothing is w e es answer = record {
     wrote = written-out u w;
     stands = ap course_of e;
-    limit = ap (λ (d : Course). d.back.limit) e;
+    limit = ap (λ (d : Course). d.earlier.limit) e;
     state = es ∙ ap {A = Bool} {B = State} (λ h. record { errors = s.errors; total = s.total; has_shown = h }) (or-false s.has_shown);
     answer = answer;
   }

@@ -1,26 +1,28 @@
 -- A line without a match error: it is selected or passed.
-use Rattle.std.proofs.Common.{◌≡◌, ℕ, ◌+◌, ◌≤◌, ◌==◌, Bool, true, false, not, ◌||◌, ◌&&◌, List, [], ◌∷◌, Option, Some, None, Result, Ok, Err, ℤ, refl, sym, ap, subst, ◌∙◌, arith, inl, inr, if◌then◌else◌}
+use Rattle.std.proofs.Common.{◌≡◌, ℕ, ◌+◌, ◌≤◌, ◌==◌, Bool, true, false, not, ◌||◌, ◌&&◌, List, [], ◌∷◌, Option, Result, Ok, Err, ℤ, refl, sym, ap, subst, ◌∙◌, arith, inl, if◌then◌else◌}
 use Rattle.std.proofs.lemmas.Bool.{cond-true, cond-false, false≢true}
 use Rattle.std.proofs.Math.Bool.{beq}
 use Rattle.std.proofs.KnownBytes.{Appends-nil}
 use Rattle.std.specs.Io.KnownBytes.{Appends}
 use Rattle.pcre_io.specs.Told.{Kept}
-use Rattle.frame_machine.specs.PlaceAnswer.{Outcome}
+use Rattle.ordered_search.specs.PlaceAnswer.{Outcome}
 use Rattle.grep_args.specs.declared.plan.GrepPlan.{GrepPlan}
-use Rattle.grep_core.specs.declared.modes.Show.{Show}
+use Rattle.grep_core.specs.declared.shows.Show.{Show}
 use Rattle.grep_core.specs.declared.ended.Stop.{Stop}
 use Rattle.grep_core.specs.declared.ended.Stop.TheVariants.{SinkFault, TooManyErrors, Memory}
 use Rattle.grep_core.specs.declared.scan.Course.{Course}
 use Rattle.grep_core.specs.declared.scan.Next.{Next}
 use Rattle.grep_core.specs.declared.scan.Next.TheVariants.{Line, Context}
-use Rattle.grep_core.specs.declared.search.Verdict.TheVariants.{Match, NoMatch, Error}
+use Rattle.grep_match.specs.declared.search.Verdict.TheVariants.{Match, NoMatch, Error}
 use Rattle.grep_core.specs.declared.state.State.{State}
-use Rattle.grep_core.specs.Matches.{Matches, Tried, is_selected, has_error, selects}
+use Rattle.grep_match.specs.Matches.{Matches, Tried, is_selected, has_error, selects}
 use Rattle.grep_core.specs.Messages.{error_message}
-use Rattle.grep_core.specs.Course.{selected_out, passed_out, row_out, behind, behind_selected, behind_passed, state_behind, is_lines}
-use Rattle.grep_core.specs.Found.{Listed, Lists, ListsMatches, IsVerdict}
-use Rattle.grep_core.specs.Turns.{course_of, Halts, PassesOn, Takes, TakesLine, Breaks, Selects, is_last, is_full}
-use Rattle.grep_core.proofs.Halting.{prefix-nothing}
+use Rattle.grep_core.specs.Course.{selected_out, passed_out, row_out, state_after_line, is_lines}
+use Rattle.grep_match.specs.Found.{Listed, Lists, ListsMatches, IsVerdict}
+use Rattle.grep_core.specs.Turns.{course_of, Halts, PassesOn, Takes, TakesLine, Selects, is_last, is_full}
+use Rattle.tool_out.specs.Prints.{Breaks}
+use Rattle.tool_out.proofs.Printing.{prefix-none}
+use Rattle.tool_out.specs.Printed.{printed}
 
 -- What a verdict says of the matches.
 
@@ -62,13 +64,13 @@ module _ (plan : GrepPlan) (name : List ℕ) (shows : Show) (most : Option ℕ) 
 
   -- a part of it was written
   pub line-refused : (c c_new : Course) (s s_new : State) (text : List ℕ) (out_old out_new err : Kept) (stop : Stop) → text ≡ row_out plan name shows s.has_shown (course_of c) t → Halts text out_old out_new stop
-      → TakesLine plan name shows most t c s c_new s_new out_old out_new err err (Err stop)
+      → TakesLine plan name shows most t c s c_new s_new (printed out_old err) (printed out_new err) (Err stop)
   line-refused c c_new s s_new text out_old out_new err SinkFault same halts =
-      subst (λ l. Breaks l (error_message name t) out_old out_new err err SinkFault) (same ∙ shown s c)
-      (record { out = halts.0; err = prefix-nothing err.held (error_message name t); cause = λ _. inl halts.1 })
+      subst (λ l. Breaks l (error_message name t) (printed out_old err) (printed out_new err) (SinkFault ≡ SinkFault)) (same ∙ shown s c)
+      (record { out = halts.0; err = prefix-none err.held (error_message name t); cause = λ _. inl halts.1 })
   line-refused c c_new s s_new text out_old out_new err Memory same halts =
-      subst (λ l. Breaks l (error_message name t) out_old out_new err err Memory) (same ∙ shown s c)
-      (record { out = halts; err = prefix-nothing err.held (error_message name t); cause = λ is. absurd (cc) })
+      subst (λ l. Breaks l (error_message name t) (printed out_old err) (printed out_new err) (Memory ≡ SinkFault)) (same ∙ shown s c)
+      (record { out = halts; err = prefix-none err.held (error_message name t); cause = λ is. absurd (cc) })
   line-refused c c_new s s_new text out_old out_new err TooManyErrors same halts = absurd halts
 
   and-or : (b l : Bool) → (b || (true && l)) ≡ (b || l)
@@ -79,12 +81,12 @@ module _ (plan : GrepPlan) (name : List ℕ) (shows : Show) (most : Option ℕ) 
   or-none true l = refl
   or-none false l = refl
 
-  state-so : (s : State) (b : Bool) → is_selected plan t ≡ b → record s { has_shown = s.has_shown || (b && is_lines shows) } ≡ state_behind plan shows s t
+  state-so : (s : State) (b : Bool) → is_selected plan t ≡ b → record s { has_shown = s.has_shown || (b && is_lines shows) } ≡ state_after_line plan shows s t
   state-so s b selected = sym (λ i. let r : State = record { errors = if no_error i then s.errors + 1 else s.errors; total = s.total; has_shown = s.has_shown || (selected i && is_lines shows) } in r)
 
   -- it is selected
   pub selected-takes : (c c_new : Course) (s s_new : State) (out_old out_new err : Kept) (result : Result Next Stop) → is_selected plan t ≡ true → s.errors ≤ 20
-      → Selects plan name shows most t c s c_new s_new out_old out_new result → TakesLine plan name shows most t c s c_new s_new out_old out_new err err result
+      → Selects plan name shows most t c s c_new s_new out_old out_new result → TakesLine plan name shows most t c s c_new s_new (printed out_old err) (printed out_new err) result
   selected-takes c c_new s s_new out_old out_new err (Ok next) yes_selected few sel = record {
     wrote = record {
       out = subst (Appends out_old.held out_new.held) (sym (cond-true (is_selected plan t) _ _ yes_selected)) sel.wrote.all;
@@ -103,7 +105,7 @@ module _ (plan : GrepPlan) (name : List ℕ) (shows : Show) (most : Option ℕ) 
 
   -- it is passed
   pub passed-takes : (c c_new : Course) (s : State) (out_old out_new err : Kept) → is_selected plan t ≡ false → s.errors ≤ 20 → PassesOn plan name shows t c c_new out_old out_new
-      → Takes plan name shows most t c s c_new s out_old out_new err err Line
+      → Takes plan name shows most t c s c_new s (printed out_old err) (printed out_new err) Line
   passed-takes c c_new s out_old out_new err not_selected few passes = record {
     wrote = record {
       out = subst (Appends out_old.held out_new.held) (sym (cond-false (is_selected plan t) _ _ not_selected)) passes.wrote.all;
@@ -119,7 +121,7 @@ module _ (plan : GrepPlan) (name : List ℕ) (shows : Show) (most : Option ℕ) 
   }
 
   pub passed-refused : (c c_new : Course) (s s_new : State) (out_old out_new err : Kept) (stop : Stop) → is_selected plan t ≡ false → Halts (passed_out plan name shows (course_of c) t) out_old out_new stop
-      → TakesLine plan name shows most t c s c_new s_new out_old out_new err err (Err stop)
+      → TakesLine plan name shows most t c s c_new s_new (printed out_old err) (printed out_new err) (Err stop)
   passed-refused c c_new s s_new out_old out_new err stop not_selected halts =
       line-refused c c_new s s_new (passed_out plan name shows (course_of c) t) out_old out_new err stop (sym (cond-false (is_selected plan t) _ _ not_selected)) halts
 

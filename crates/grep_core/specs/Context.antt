@@ -1,12 +1,14 @@
--- Which lines are shown, and where groups of them are parted (pcre2grep, "OPTIONS", -A, -B and -C).
+-- Which lines are shown, and where groups of them are parted (pcre2grep, "OPTIONS", -A, -B and -C): rows and the selected ones →
+-- shown lines.
 use Rattle.std.specs.Prelude.{ℕ, ◌+◌, ◌-◌, ◌==◌, Bool, ◌&&◌, ◌||◌, not, nat_le, nat_lt, List, map, filter}
 use Rattle.std.specs.List.{list_any}
 use Rattle.line_feed.specs.Rows.{Row}
 use Rattle.grep_args.specs.declared.plan.GrepPlan.{GrepPlan}
 
--- a line stands at most so far behind a selected line, or before it
+-- a line stands at most so far after a selected line, or before it
 abbrev pub is_near : ℕ → ℕ → Row → Row → Bool
-is_near after before row selected = nat_le row.number (selected.number + after) && nat_le selected.number (row.number + before)
+is_near after before row selected =
+    nat_le row.number (selected.number + after) && nat_le selected.number (row.number + before)
 
 -- a line is shown where it is selected, or by its distance to a selected line
 abbrev pub is_shown : GrepPlan → List Row → Row → Bool

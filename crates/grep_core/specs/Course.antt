@@ -1,27 +1,27 @@
 -- How a scan stands between two lines, and what one more line does: the definition's whole lists, one line at a time.
-use Rattle.std.specs.Prelude.{◌≡◌, ℕ, ◌+◌, ◌-◌, ◌==◌, Bool, true, false, ◌&&◌, ◌||◌, nat_lt, nat_le, if◌then◌else◌, List, [], ◌∷◌, ◌++◌, length, filter, flat_map, codes, ⊤}
+use Rattle.std.specs.Prelude.{◌≡◌, ℕ, ◌+◌, ◌-◌, ◌==◌, Bool, true, false, ◌&&◌, ◌||◌, nat_lt, nat_le, if◌then◌else◌, List, [], ◌∷◌, ◌++◌, length, flat_map, codes, ⊤}
 use Rattle.circular_buffer.specs.Buffer.{keep_last}
-use Rattle.line_feed.specs.Rows.{Row, Finish, At, End}
+use Rattle.line_feed.specs.Rows.{Row, At, End}
 use Rattle.grep_args.specs.declared.plan.GrepPlan.{GrepPlan}
-use Rattle.grep_core.specs.declared.modes.Show.{Show}
-use Rattle.grep_core.specs.declared.modes.Show.TheVariants as show
-use Rattle.grep_core.specs.Matches.{Tried, is_selected, has_error}
-use Rattle.grep_core.specs.Scans.{Scan, whole_scan, rows_of}
-use Rattle.grep_core.specs.Context.{Shown, parts_groups}
-use Rattle.grep_core.specs.Texts.{line_text, matches_text, text_if}
+use Rattle.grep_core.specs.declared.shows.Show.{Show}
+use Rattle.grep_core.specs.declared.shows.Show.TheVariants as show
+use Rattle.grep_match.specs.Matches.{Tried, is_selected, has_error}
+use Rattle.grep_core.specs.Scans.{Scan, whole_scan}
+use Rattle.grep_core.specs.Context.{parts_groups}
+use Rattle.grep_core.specs.Texts.{line_text, matches_text}
+use Rattle.tool_out.specs.Texts.{text_if}
 use Rattle.grep_core.specs.declared.state.State.{State}
-use Rattle.grep_core.specs.InputText.{shown_out, shows_group}
 
 -- how many lines were selected; the number of the last line that is shown as context of a selected one, 0 where none was
--- selected; and the last ones of the lines behind that, which a selected line would show
+-- selected; and the last ones of the lines after that, which a selected line would show
 pub record Course : Type 0 where
   pub selected : ℕ
   pub context_to : ℕ
-  pub back : List Row
+  pub earlier : List Row
 
 -- before the first line
 abbrev pub begun : Course
-begun = record { selected = 0; context_to = 0; back = [] }
+begun = record { selected = 0; context_to = 0; earlier = [] }
 
 abbrev pub is_lines : Show → Bool
 is_lines show.Lines = true
@@ -29,18 +29,20 @@ is_lines _ = false
 
 -- the lines that a selected line of this number shows don't touch those that were shown before
 abbrev pub begins_group : Course → ℕ → Bool
-begins_group c number = c.context_to == 0 || nat_lt (c.context_to + 1) (number - length c.back)
+begins_group c number = c.context_to == 0 || nat_lt (c.context_to + 1) (number - length c.earlier)
 
 module _ (plan : GrepPlan) (name : List ℕ) where
   abbrev pub line_as : Bool → Row → List ℕ
-  line_as is_selected row = line_text plan name (record { row = row; is_selected = is_selected; begins_group = false })
+  line_as is_selected row =
+      line_text plan name (record { row = row; is_selected = is_selected; begins_group = false })
 
   abbrev pub separator : Bool → Course → ℕ → List ℕ
   separator has_shown c number = text_if (parts_groups plan && (has_shown && begins_group c number)) (codes "--\n")
 
   -- what is written of a selected line: the separator, the lines before it, and the line; or its matches
   abbrev pub selected_out : Show → Bool → Course → Tried → List ℕ
-  selected_out show.Lines has_shown c t = separator has_shown c t.row.number ++ flat_map (line_as false) c.back ++ line_as true t.row
+  selected_out show.Lines has_shown c t =
+      separator has_shown c t.row.number ++ flat_map (line_as false) c.earlier ++ line_as true t.row
   selected_out show.Parts has_shown c t = matches_text plan name t
   selected_out show.Nothing has_shown c t = []
 
@@ -50,25 +52,35 @@ module _ (plan : GrepPlan) (name : List ℕ) where
   passed_out _ c t = []
 
   abbrev pub row_out : Show → Bool → Course → Tried → List ℕ
-  row_out show has_shown c t = if is_selected plan t then selected_out show has_shown c t else passed_out show c t
+  row_out show has_shown c t =
+      if is_selected plan t then selected_out show has_shown c t else passed_out show c t
 
 module _ (plan : GrepPlan) where
-  abbrev pub behind_selected : Show → Course → Row → Course
-  behind_selected show.Lines c row = record { selected = c.selected + 1; context_to = row.number + plan.after_context; back = [] }
-  behind_selected _ c row = record c { selected = c.selected + 1 }
+  abbrev pub course_after_selected : Show → Course → Row → Course
+  course_after_selected show.Lines c row =
+      record {
+        selected = c.selected + 1;
+        context_to = row.number + plan.after_context;
+        earlier =
+            [];
+      }
+  course_after_selected _ c row = record c { selected = c.selected + 1 }
 
-  abbrev pub behind_passed : Show → Course → Row → Course
-  behind_passed show.Lines c row =
-      if nat_le row.number c.context_to then c else record c { back = keep_last plan.before_context (c.back ++ row ∷ []) }
-  behind_passed _ c row = c
+  abbrev pub course_after_passed : Show → Course → Row → Course
+  course_after_passed show.Lines c row =
+      if nat_le row.number c.context_to then c else record c
+      { earlier = keep_last plan.before_context (c.earlier ++ row ∷ []) }
+  course_after_passed _ c row = c
 
-  -- how it stands behind a line
-  abbrev pub behind : Show → Course → Tried → Course
-  behind show c t = if is_selected plan t then behind_selected show c t.row else behind_passed show c t.row
+  -- how it stands after a line
+  abbrev pub course_after : Show → Course → Tried → Course
+  course_after show c t =
+      if is_selected plan t then course_after_selected show c t.row
+      else course_after_passed show c t.row
 
   -- what a line leaves: a match error counts, and a selected line that is shown makes a group
-  abbrev pub state_behind : Show → State → Tried → State
-  state_behind show s t = record s {
+  abbrev pub state_after_line : Show → State → Tried → State
+  state_after_line show s t = record s {
     errors = if has_error t then s.errors + 1 else s.errors;
     has_shown = s.has_shown || (is_selected plan t && is_lines show);
   }

@@ -1,23 +1,23 @@
--- What is written of one input after those before it.
+-- What is written of one input after those before it: input → rows → tried lines → scan → shown lines → text and messages, and
+-- what is left to the next input.
 use Rattle.std.specs.Prelude.{ℕ, ◌+◌, Bool, true, false, ◌||◌, not, nat_lt, if◌then◌else◌, List, [], ◌++◌, length, take, flat_map, codes, decimal}
 use Rattle.line_feed.specs.Rows.{Rows, Input, At, End}
 use Rattle.grep_args.specs.declared.plan.GrepPlan.{GrepPlan}
-use Rattle.grep_core.specs.Compiled.{Pattern}
-use Rattle.grep_core.specs.declared.modes.Treatment.{Treatment}
+use Rattle.pat_tree.specs.Pattern.{Pattern}
+use Rattle.grep_core.specs.declared.shows.Treatment.{Treatment}
 use Rattle.grep_core.specs.Lines.{lines, treatment}
-use Rattle.grep_core.specs.declared.modes.Mode.{Mode}
-use Rattle.grep_core.specs.declared.modes.Mode.TheVariants.{NamesWithout, Counts, NamesWith}
-use Rattle.grep_core.specs.declared.modes.Show.{Show}
-use Rattle.grep_core.specs.declared.modes.Show.TheVariants as show
-use Rattle.grep_core.specs.Modes.{mode, is_with, is_matching, is_told, show_in}
+use Rattle.grep_match.specs.declared.modes.Mode.{Mode}
+use Rattle.grep_match.specs.declared.modes.Mode.TheVariants.{NamesWithout, Counts, NamesWith}
+use Rattle.grep_core.specs.declared.shows.Show.{Show}
+use Rattle.grep_core.specs.declared.shows.Show.TheVariants as show
+use Rattle.grep_match.specs.Modes.{mode, is_with, is_matching}
+use Rattle.grep_core.specs.Shows.{is_told, show_in}
 use Rattle.grep_core.specs.declared.state.State.{State}
 use Rattle.grep_core.specs.Scans.{Scan, Ended, too_many_errors, scan, selected_in, errors_in, rows_of}
 use Rattle.grep_core.specs.Context.{Shown, shown_lines}
-use Rattle.grep_core.specs.Texts.{line, text_if, lines_text, matches_text}
+use Rattle.tool_out.specs.Texts.{line, text_if}
+use Rattle.grep_core.specs.Texts.{lines_text, matches_text}
 use Rattle.grep_core.specs.Messages.{messages}
-
-abbrev pub first_rows : ℕ → Rows → Rows
-first_rows n found = record { rows = take n found.rows; finish = At End }
 
 -- nothing is left before the first input
 abbrev pub first_state : State
@@ -36,7 +36,8 @@ module _ (plan : GrepPlan) (name : List ℕ) where
   abbrev pub count_text : ℕ → List ℕ
   count_text n =
       text_if (not (is_matching plan.names) || nat_lt 0 n)
-      (line (text_if (is_with plan.names || is_matching plan.names) (name ++ codes ":") ++ decimal n))
+      (line (text_if (is_with plan.names || is_matching plan.names) (name ++ codes ":")
+      ++ decimal n))
 
   abbrev pub binary_text : List ℕ
   binary_text = line (codes "Binary file " ++ name ++ codes " matches")
@@ -67,7 +68,8 @@ module _ (plan : GrepPlan) (name : List ℕ) where
   abbrev pub out_text : Bool → Bool → Scan → Ended → List ℕ
   out_text is_told has_shown s too_many_errors = shown_out (show_in is_told (mode plan)) has_shown s
   out_text is_told has_shown s _ =
-      shown_out (show_in is_told (mode plan)) has_shown s ++ end_out (mode plan) is_told (length (selected_in plan s))
+      shown_out (show_in is_told (mode plan)) has_shown s
+      ++ end_out (mode plan) is_told (length (selected_in plan s))
 
   -- a group of lines is shown where lines are
   abbrev pub shows_group : Show → Scan → Bool
@@ -93,12 +95,9 @@ module _ (plan : GrepPlan) (name : List ℕ) where
 module _ (plan : GrepPlan) (patterns : List Pattern) (name : List ℕ) (before : State) where
   abbrev pub text_of_rows : Treatment → Rows → Written
   text_of_rows treated found =
-      written_by plan name (is_told plan treated) before (scan plan patterns before.errors treated found)
+      written_by plan name (is_told plan treated) before
+      (scan plan patterns before.errors treated found)
 
   -- What is written of an input of this name after what the inputs before it leave.
   unfoldable pub input_text : Input → Written
   input_text input = text_of_rows (treatment plan input) (lines plan input)
-
-  -- what is written to the output of its first n lines, where they are all
-  abbrev pub first_text : ℕ → Input → List ℕ
-  first_text n input = (text_of_rows (treatment plan input) (first_rows n (lines plan input))).out

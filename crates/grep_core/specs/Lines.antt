@@ -1,4 +1,4 @@
--- The lines of an input, and whether it is binary (pcre2grep, "Newlines" and "OPTIONS", --binary-files).
+-- The lines of an input, and whether it is binary (pcre2grep, "Newlines" and "OPTIONS", --binary-files): input → rows, treatment.
 use Rattle.std.specs.Prelude.{Bool, true, false, ◌&&◌, not, take, nat_eq}
 use Rattle.std.specs.List.{list_any}
 use Rattle.pat_tree.specs.declared.options.Newline.{Newline}
@@ -7,9 +7,9 @@ use Rattle.line_feed.specs.Rows.{Rows, Input, rows}
 use Rattle.grep_args.specs.declared.plan.BinaryMode.{BinaryMode}
 use Rattle.grep_args.specs.declared.plan.BinaryMode.TheVariants.{Binary, Text, WithoutMatch}
 use Rattle.grep_args.specs.declared.plan.GrepPlan.{GrepPlan}
-use Rattle.grep_core.specs.declared.modes.Treatment.{Treatment}
-use Rattle.grep_core.specs.declared.modes.Treatment.TheVariants.{AsText, AsBinary, Skipped}
-use Rattle.grep_core.specs.Patterns.{line_end}
+use Rattle.grep_core.specs.declared.shows.Treatment.{Treatment}
+use Rattle.grep_core.specs.declared.shows.Treatment.TheVariants.{AsText, AsBinary, Skipped}
+use Rattle.grep_match.specs.PatternTexts.{line_end}
 
 -- the lines of an input, and how they end
 abbrev pub lines : GrepPlan → Input → Rows

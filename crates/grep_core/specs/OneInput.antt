@@ -1,4 +1,5 @@
--- What searching one input does.
+-- What searching one input does: what the source told → the input that it stands for → how it is treated → its scan, its summary
+-- and its messages → what was written, told and left.
 use Rattle.std.specs.Prelude.{◌≡◌, ◌≢◌, ℕ, Bool, true, false, List, [], flat_map, Result, Ok, Err}
 use Rattle.pcre_io.specs.Told.{Told, Kept}
 use Rattle.pcre_io.specs.declared.traits.IoError.{IoError}
@@ -9,18 +10,20 @@ use Rattle.line_feed.specs.declared.phase.Phase.TheVariants.{Open, Closed}
 use Rattle.grep_args.specs.declared.plan.GrepPlan.{GrepPlan}
 use Rattle.grep_core.specs.declared.ended.FileEnd.{FileEnd}
 use Rattle.grep_core.specs.declared.ended.Stop.{Stop}
-use Rattle.grep_core.specs.declared.ended.Stop.TheVariants.{TooManyErrors, Memory}
-use Rattle.grep_core.specs.declared.modes.Treatment.{Treatment}
-use Rattle.grep_core.specs.declared.modes.Treatment.TheVariants.{Skipped}
+use Rattle.grep_core.specs.declared.ended.Stop.TheVariants.{SinkFault, TooManyErrors, Memory}
+use Rattle.grep_core.specs.declared.shows.Treatment.{Treatment}
+use Rattle.grep_core.specs.declared.shows.Treatment.TheVariants.{Skipped}
 use Rattle.grep_core.specs.declared.state.State.{State}
-use Rattle.grep_core.specs.Compiled.{Pattern}
+use Rattle.pat_tree.specs.Pattern.{Pattern}
 use Rattle.grep_core.specs.Lines.{lines, treatment}
 use Rattle.grep_core.specs.Messages.{error_message}
 use Rattle.grep_core.specs.Scans.{Scan, too_many_errors, scan}
 use Rattle.grep_core.specs.InputText.{Written, input_text, shown_out}
-use Rattle.grep_core.specs.declared.modes.Show.{Show}
+use Rattle.grep_core.specs.declared.shows.Show.{Show}
 use Rattle.grep_core.specs.Ends.{ended_of, stop_of}
-use Rattle.grep_core.specs.Turns.{Wrote, Breaks, Stood, Scans}
+use Rattle.tool_out.specs.Prints.{Wrote, Breaks}
+use Rattle.grep_core.specs.WholeScans.{Stood, Scans}
+use Rattle.tool_out.specs.Printed.{Printed}
 
 abbrev pub is_skipped : Treatment → Bool
 is_skipped Skipped = true
@@ -34,7 +37,8 @@ pub record IsNew (f : Feed) : Type 0 where
   pub phase : f.phase ≡ Open
 
 -- the feed looked at the first bytes at most, and by them the input is treated so
-pub record Treats (plan : GrepPlan) (f g : Feed) (before after : Told) (treated : Treatment) : Type 0 where
+pub record Treats (plan : GrepPlan) (f g : Feed) (before after : Told) (treated : Treatment)
+    : Type 0 where
   pub stood : Stood plan treated before after g []
   pub live : g.phase ≢ Closed
   pub number : g.number ≡ 0
@@ -43,44 +47,71 @@ pub record Treats (plan : GrepPlan) (f g : Feed) (before after : Told) (treated 
 
 abbrev pub TreatsTo : GrepPlan → Feed → Feed → Told → Told → Result Treatment Stop → Type 0
 TreatsTo plan f g before after (Ok treated) = Treats plan f g before after treated
-TreatsTo plan f g before after (Err stop) = (stop ≡ Memory) × ((heard : Input) × Hears before after heard)
+TreatsTo plan f g before after (Err stop) =
+    (stop ≡ Memory) × ((heard : Input) × Hears before after heard)
 
 -- a text was written to each sink; or a part of each, where a write was refused
-abbrev pub WritesBoth : {T : Type 0} → List ℕ → List ℕ → Kept → Kept → Kept → Kept → Result T IoError → Type 0
-WritesBoth out_text err_text out_old out_new err_old err_new (Ok _) = Wrote out_text err_text out_old out_new err_old err_new
-WritesBoth out_text err_text out_old out_new err_old err_new (Err fault) = Breaks out_text err_text out_old out_new err_old err_new (stop_of fault)
+abbrev pub WritesBoth : {T : Type 0} → List ℕ → List ℕ → Printed → Printed → Result T IoError
+    → Type 0
+WritesBoth out_text err_text old new (Ok _) = Wrote out_text err_text old new
+WritesBoth out_text err_text old new (Err fault) =
+    Breaks out_text err_text old new (stop_of fault ≡ SinkFault)
 
 -- an input was scanned as it is treated
-module _ (plan : GrepPlan) (patterns : List Pattern) (name : List ℕ) (show : Show) (treated : Treatment) (s : State) where
-  abbrev pub ScansSo : Scan → State → Kept → Kept → Kept → Kept → Result FileEnd Stop → Type 0
-  ScansSo found s_new out_old out_new err_old err_new (Ok end) =
-      Scans plan patterns name show treated s found end.selected s_new out_old out_new err_old err_new × (found.ended ≡ ended_of end.ended)
-  ScansSo found s_new out_old out_new err_old err_new (Err TooManyErrors) =
-      Wrote (shown_out plan name show s.has_shown found) (flat_map (error_message name) found.tried) out_old out_new err_old err_new × (found.ended ≡ too_many_errors)
-  ScansSo found s_new out_old out_new err_old err_new (Err stop) =
-      Breaks (shown_out plan name show s.has_shown found) (flat_map (error_message name) found.tried) out_old out_new err_old err_new stop
+module _ (plan : GrepPlan) (patterns : List Pattern) (name : List ℕ) (show : Show)
+    (treated : Treatment) (s : State) where
+  abbrev pub ScansSo : Scan → State → Printed → Printed → Result FileEnd Stop → Type 0
+  ScansSo found s_new old new (Ok end) =
+      Scans plan patterns name show treated s found end.selected s_new old new
+      × (found.ended ≡ ended_of end.ended)
+  ScansSo found s_new old new (Err TooManyErrors) =
+      Wrote (shown_out plan name show s.has_shown found) (flat_map (error_message name) found.tried)
+      old new × (found.ended ≡ too_many_errors)
+  ScansSo found s_new old new (Err stop) =
+      Breaks (shown_out plan name show s.has_shown found)
+      (flat_map (error_message name) found.tried) old new (stop ≡ SinkFault)
 
-  pub record ScansAs (before after : Told) (s_new : State) (out_old out_new err_old err_new : Kept) (result : Result FileEnd Stop) : Type 0 where
+  pub record ScansAs (before after : Told) (s_new : State) (old new : Printed)
+      (result : Result FileEnd Stop) : Type 0 where
     pub heard : Input
     pub hears : Hears before after heard
     pub treats : treatment plan heard ≡ treated
-    pub scans : ScansSo (scan plan patterns s.errors treated (lines plan heard)) s_new out_old out_new err_old err_new result
+    pub scans : ScansSo (scan plan patterns s.errors treated (lines plan heard))
+        s_new old new result
 
 -- all was written, and this is told and left
-pub record GrepsAll (w : Written) (s_new : State) (out_old out_new err_old err_new : Kept) (end : FileEnd) : Type 0 where
-  pub wrote : Wrote w.out w.err out_old out_new err_old err_new
+pub record GrepsAll (w : Written) (s_new : State) (old new : Printed) (end : FileEnd) : Type 0 where
+  pub wrote : Wrote w.out w.err old new
   pub selected : end.selected ≡ w.selected
   pub ended : w.ended ≡ ended_of end.ended
   pub state : s_new ≡ w.state
 
 -- all was written up to the last match error that there may be; else, where the run can't go on, a part of it
-abbrev pub GrepsTo : Written → State → Kept → Kept → Kept → Kept → Result FileEnd Stop → Type 0
-GrepsTo w s_new out_old out_new err_old err_new (Ok end) = GrepsAll w s_new out_old out_new err_old err_new end
-GrepsTo w s_new out_old out_new err_old err_new (Err TooManyErrors) = Wrote w.out w.err out_old out_new err_old err_new × (w.ended ≡ too_many_errors)
-GrepsTo w s_new out_old out_new err_old err_new (Err stop) = Breaks w.out w.err out_old out_new err_old err_new stop
+abbrev pub GrepsTo : Written → State → Printed → Printed → Result FileEnd Stop → Type 0
+GrepsTo w s_new old new (Ok end) = GrepsAll w s_new old new end
+GrepsTo w s_new old new (Err TooManyErrors) =
+    Wrote w.out w.err old new × (w.ended ≡ too_many_errors)
+GrepsTo w s_new old new (Err stop) = Breaks w.out w.err old new (stop ≡ SinkFault)
 
 -- what is written is the text of the input that the source stands for, after what the inputs before left
-pub record Greps (plan : GrepPlan) (patterns : List Pattern) (name : List ℕ) (before after : Told) (s s_new : State) (out_old out_new err_old err_new : Kept) (result : Result FileEnd Stop) : Type 0 where
+pub record GrepsInput (plan : GrepPlan) (patterns : List Pattern) (name : List ℕ)
+    (before after : Told) (s s_new : State) (old new : Printed) (result : Result FileEnd Stop)
+    : Type 0 where
   pub heard : Input
   pub hears : Hears before after heard
-  pub greps : GrepsTo (input_text plan patterns name s heard) s_new out_old out_new err_old err_new result
+  pub greps : GrepsTo (input_text plan patterns name s heard) s_new old new result
+
+-- how a run stands between two inputs: what the source tells, what the inputs so far leave, and what was written
+pub record Standing : Type 0 where
+  pub source : Told
+  pub state : State
+  pub printed : Printed
+
+abbrev pub standing : Told → State → Printed → Standing
+standing source state printed = record { source = source; state = state; printed = printed }
+
+abbrev pub Greps : GrepPlan → List Pattern → List ℕ → Standing → Standing → Result FileEnd Stop
+    → Type 0
+Greps plan patterns name old new result =
+    GrepsInput plan patterns name old.source new.source old.state new.state old.printed new.printed
+    result

@@ -1,16 +1,16 @@
--- How far an input is scanned.
+-- How far an input is scanned: rows → tried lines → those up to where the scan ends.
 use Rattle.std.specs.Prelude.{ℕ, suc, ◌+◌, ◌-◌, ◌==◌, Bool, true, false, nat_lt, nat_le, if◌then◌else◌, List, [], ◌∷◌, map, take, filter, sum_by, length, Option, Some, None, option_map}
 use Rattle.line_feed.specs.Rows.{Row, Rows, Finish}
 use Rattle.grep_args.specs.declared.plan.GrepPlan.{GrepPlan}
-use Rattle.grep_core.specs.Compiled.{Pattern}
-use Rattle.grep_core.specs.declared.modes.Treatment.{Treatment}
-use Rattle.grep_core.specs.declared.modes.Treatment.TheVariants.{AsText, AsBinary, Skipped}
-use Rattle.grep_core.specs.Modes.{greatest_selected, trailing}
-use Rattle.grep_core.specs.Matches.{Tried, tried_row, is_selected, has_error}
+use Rattle.pat_tree.specs.Pattern.{Pattern}
+use Rattle.grep_core.specs.declared.shows.Treatment.{Treatment}
+use Rattle.grep_core.specs.declared.shows.Treatment.TheVariants.{AsText, AsBinary, Skipped}
+use Rattle.grep_core.specs.Shows.{greatest_selected, trailing}
+use Rattle.grep_match.specs.Matches.{Tried, tried_row, is_selected, has_error}
 
 -- how a scan ends
 pub data Ended : Type 0 where
-  -- behind the last line, as the lines end
+  -- after the last line, as the lines end
   at_finish : Finish → Ended
   -- at a line, or before the first one
   early : Ended
@@ -55,14 +55,21 @@ early_scan ts finish place following = record {
 
 -- A scan that ends at a match error at a place: that line and later ones aren't shown.
 abbrev pub broken_scan : List Tried → ℕ → Scan
-broken_scan ts place = record { tried = take (place + 1) ts; within = take place (rows_of ts); ended = too_many_errors }
+broken_scan ts place =
+    record {
+      tried = take (place + 1) ts;
+      within = take place (rows_of ts);
+      ended =
+          too_many_errors;
+    }
 
 -- by the places of the last match error and of the last selected line that there may be, where they are met
 abbrev pub scan_to : List Tried → Finish → ℕ → Option ℕ → Option ℕ → Scan
 scan_to ts finish following None None = whole_scan ts finish
 scan_to ts finish following (Some e) None = broken_scan ts e
 scan_to ts finish following None (Some s) = early_scan ts finish s following
-scan_to ts finish following (Some e) (Some s) = if nat_lt e s then broken_scan ts e else early_scan ts finish s following
+scan_to ts finish following (Some e) (Some s) =
+    if nat_lt e s then broken_scan ts e else early_scan ts finish s following
 
 -- the 21st match error of a run ends it
 abbrev pub errors_left : ℕ → ℕ
@@ -90,11 +97,3 @@ selected_in plan s = filter (is_selected plan) s.tried
 -- those with a match error
 abbrev pub errors_in : Scan → List Tried
 errors_in s = filter has_error s.tried
-
--- how many bytes of the input lines have, with their newlines
-abbrev pub bytes_in : List Row → ℕ
-bytes_in rows = sum_by (λ (row : Row). length row.bytes + length row.newline) rows
-
--- the place at which a scan ends that ends early: behind the last line that may be shown
-abbrev pub end_of : Scan → ℕ
-end_of s = bytes_in s.within

@@ -1,23 +1,17 @@
--- How lines, parts of them and places are written (pcre2grep, "OPTIONS").
+-- How lines, parts of them and places are written (pcre2grep, "OPTIONS"): shown lines, or the matches of selected ones → bytes.
 use Rattle.std.specs.Prelude.{ℕ, ◌-◌, ◌+◌, ◌==◌, Bool, true, false, ◌&&◌, ◌||◌, not, if◌then◌else◌, List, [], ◌∷◌, ◌++◌, map, filter, flat_map, codes, decimal, Option, Some, None, Ok, Err, slice_range}
 use Rattle.frame_store.specs.declared.registers.Span.{Span}
 use Rattle.frame_store.specs.Captures.{capture}
-use Rattle.frame_machine.specs.PlaceAnswer.{Outcome}
+use Rattle.ordered_search.specs.PlaceAnswer.{Outcome}
 use Rattle.line_feed.specs.Rows.{Row}
 use Rattle.grep_args.specs.declared.plan.OffsetMode.{OffsetMode}
 use Rattle.grep_args.specs.declared.plan.OffsetMode.TheVariants.{NoOffsets, Lines, File}
 use Rattle.grep_args.specs.declared.plan.GrepPlan.{GrepPlan}
 use Rattle.grep_args.specs.Effects.{is_empty}
-use Rattle.grep_core.specs.Matches.{Tried}
-use Rattle.grep_core.specs.Modes.{is_with}
+use Rattle.grep_match.specs.Matches.{Tried}
+use Rattle.grep_match.specs.Modes.{is_with}
 use Rattle.grep_core.specs.Context.{Shown, parts_groups}
-
--- a line of output ends with LF
-abbrev pub line : List ℕ → List ℕ
-line text = text ++ 10 ∷ []
-
-abbrev pub text_if : Bool → List ℕ → List ℕ
-text_if is_there text = if is_there then text else []
+use Rattle.tool_out.specs.Texts.{line, text_if}
 
 -- Whole lines.
 
@@ -25,7 +19,7 @@ text_if is_there text = if is_there then text else []
 abbrev pub newline_of : Row → List ℕ
 newline_of row = if is_empty row.newline then 10 ∷ [] else row.newline
 
--- a colon stands behind name and number of a selected line, a hyphen behind those of context
+-- a colon stands after name and number of a selected line, a hyphen after those of context
 abbrev pub mark_of : Bool → List ℕ
 mark_of is_selected = if is_selected then codes ":" else codes "-"
 
@@ -56,7 +50,8 @@ span_text bytes (Some span) = slice_range bytes span.from span.to
 
 -- the text of a group, 0 being the whole match
 abbrev pub group_text : List ℕ → Outcome → ℕ → List ℕ
-group_text bytes o n = if n == 0 then slice_range bytes o.keep o.to else span_text bytes (capture o.caps n)
+group_text bytes o n =
+    if n == 0 then slice_range bytes o.keep o.to else span_text bytes (capture o.caps n)
 
 -- those of texts that are not empty
 abbrev pub given_texts : List (List ℕ) → List (List ℕ)
@@ -86,13 +81,16 @@ module _ (plan : GrepPlan) (name : List ℕ) where
   part_text row o =
       let texts = group_texts plan row.bytes o in
       text_if (is_any texts || (is_with plan.names || plan.line_number))
-      (line (name_before plan name (codes ":") ++ number_before plan name row.number (codes ":") ++ joined plan.om_separator texts))
+      (line (name_before plan name (codes ":") ++ number_before plan name row.number (codes ":")
+      ++ joined plan.om_separator texts))
 
   abbrev pub match_text : OffsetMode → Row → Outcome → List ℕ
   match_text NoOffsets row o = part_text row o
-  match_text Lines row o = line (name_before plan name (codes ":") ++ decimal row.number ++ codes ":" ++ span_of 0 o)
+  match_text Lines row o =
+      line (name_before plan name (codes ":") ++ decimal row.number ++ codes ":" ++ span_of 0 o)
   match_text File row o = line (name_before plan name (codes ":") ++ span_of row.offset o)
 
   -- every match of a selected line; under `-v` it has none
   abbrev pub matches_text : Tried → List ℕ
-  matches_text t = elim t.matches [ Ok os ↦ flat_map (match_text plan.offsets t.row) os | Err e ↦ [] ]
+  matches_text t =
+      elim t.matches [ Ok os ↦ flat_map (match_text plan.offsets t.row) os | Err e ↦ [] ]

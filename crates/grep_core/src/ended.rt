@@ -7,7 +7,7 @@ use pcre_io::{IoError, Memory};
 pub enum Ended {
     /// At the input's end.
     End,
-    /// At a line, or before the first one: nothing behind it counts.
+    /// At a line, or before the first one: nothing after it counts.
     Early,
     /// At a read that failed.
     ReadFault,

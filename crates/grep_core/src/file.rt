@@ -3,26 +3,25 @@ ghost use Rattle.std.specs.Prelude.{◌≡◌, ◌≢◌, ◌+◌, ◌≤◌, �
 ghost use Rattle.std.specs.List.{list_any};
 ghost use Rattle.pcre_io.specs.Told.{Told};
 ghost use Rattle.line_feed.specs.declared.phase.Phase.TheVariants.{Closed};
-ghost use Rattle.grep_core.specs.declared.modes.Treatment.TheVariants.{Skipped};
-ghost use Rattle.grep_core.specs.Compiled.{patterns_in};
+ghost use Rattle.grep_core.specs.declared.shows.Treatment.TheVariants.{Skipped};
+ghost use Rattle.grep_match.specs.Compiled.{patterns_in};
 ghost use Rattle.grep_core.specs.Ends.{ended_of};
 ghost use Rattle.grep_core.specs.InputText.{end_out};
 ghost use Rattle.grep_core.specs.Lines.{is_nul};
 ghost use Rattle.grep_core.specs.Messages.{ended_message};
-ghost use Rattle.grep_core.specs.Turns.{IsSome, IsJob, Stood};
-ghost use Rattle.grep_core.specs.OneInput.{Greps, IsNew, is_skipped, TreatsTo, WritesBoth, ScansAs};
+ghost use Rattle.grep_core.specs.WholeScans.{AtLeastOne, IsJob, Stood};
+ghost use Rattle.grep_core.specs.OneInput.{Greps, standing, IsNew, is_skipped, TreatsTo, WritesBoth, ScansAs};
+ghost use Rattle.tool_out.specs.Printed.{printed};
 
-use crate::back::Back;
+use crate::earlier::EarlierLines;
 use crate::ended::{Ended, FileEnd, Stop};
-use crate::lines::line_end;
 use crate::messages::{write_ended, write_too_many};
-use crate::modes::{Mode, Treatment, mode_of, most_selected, show_in, tells_binary, treatment_by};
-use crate::patterns::Patterns;
 use crate::scan::{Course, Job, scan};
-use crate::search::Workspace;
+use crate::shows::{Treatment, most_selected, show_in, tells_binary, treatment_by};
 use crate::state::{GrepState, State};
 use crate::summary::write_summary;
 use grep_args::GrepPlan;
+use grep_match::{Mode, Patterns, Workspace, line_end, mode_of};
 use line_feed::LineFeed;
 use pat_tree::Newline;
 use pcre_io::{IoError, Sink, Source};
@@ -81,10 +80,13 @@ fn scan_as<S: Source, O: Sink, E: Sink>(
     requires max { feed.old.max ≤ 2 ^ 30 }
     requires first { feed.old.number ≡ 0 }
     requires errors { state.old.errors ≤ 20 }
-    ensures { (before : Told) → (treatment ≢ Skipped → IsJob job.now.plan.now treatment job.now.show job.now.most feed.old)
+    ensures { (before : Told) → (treatment ≢ Skipped
+        → IsJob job.now.plan.now treatment job.now.show job.now.most feed.old)
         → Stood job.now.plan.now treatment before (S.tells source.old) feed.old []
-        → ScansAs job.now.plan.now (patterns_in job.now.patterns.now) job.now.name.now job.now.show treatment state.old before (S.tells source.new)
-        state.new (O.tells out.old) (O.tells out.new) (E.tells err.old) (E.tells err.new) result }
+        → ScansAs job.now.plan.now (patterns_in job.now.patterns.now)
+        job.now.name.now job.now.show treatment state.old before (S.tells source.new)
+        state.new (printed (O.tells out.old) (E.tells err.old))
+        (printed (O.tells out.new) (E.tells err.new)) result }
 {
     if is_skipped(treatment) {
         return Ok(FileEnd {
@@ -95,7 +97,7 @@ fn scan_as<S: Source, O: Sink, E: Sink>(
     let mut course = Course {
         selected: 0,
         context_to: 0,
-        back: Back::new(job.alloc, job.plan.before_context as usize)?,
+        earlier: EarlierLines::new(job.alloc, job.plan.before_context as usize)?,
     };
     let ended = scan(job, feed, source, out, err, work, state, &mut course)?;
     Ok(FileEnd {
@@ -113,8 +115,10 @@ fn write_end<O: Sink, E: Sink>(
     out: &mut O,
     err: &mut E,
 ) -> Result<(), IoError>
-    ensures { WritesBoth (end_out job.now.plan.now job.now.name.now mode is_told end.selected) (ended_message job.now.plan.now.no_messages job.now.name.now (ended_of end.ended))
-        (O.tells out.old) (O.tells out.new) (E.tells err.old) (E.tells err.new) result }
+    ensures { WritesBoth (end_out job.now.plan.now job.now.name.now mode is_told end.selected)
+        (ended_message job.now.plan.now.no_messages job.now.name.now (ended_of end.ended))
+        (printed (O.tells out.old) (E.tells err.old))
+        (printed (O.tells out.new) (E.tells err.new)) result }
 {
     write_summary(out, job.plan, job.name, mode, is_told, end.selected)?;
     write_ended(err, job.plan.no_messages, job.name, end.ended)?;
@@ -148,11 +152,13 @@ pub fn grep_file<S: Source, O: Sink, E: Sink>(
     state: &mut GrepState,
 ) -> Result<FileEnd, Stop>
     requires max { (1 ≤ plan.now.max_buffer_size) × (plan.now.max_buffer_size ≤ 2 ^ 30) }
-    requires most { IsSome plan.now.max_count }
+    requires most { AtLeastOne plan.now.max_count }
     requires errors { state.old.errors ≤ 20 }
     requires total { state.old.total < 2 ^ 127 }
-    ensures { Greps plan.now (patterns_in patterns.now) name.now (S.tells source.old) (S.tells source.new) state.old state.new
-        (O.tells out.old) (O.tells out.new) (E.tells err.old) (E.tells err.new) result }
+    ensures { Greps plan.now (patterns_in patterns.now) name.now
+        (standing (S.tells source.old) state.old (printed (O.tells out.old) (E.tells err.old)))
+        (standing (S.tells source.new) state.new (printed (O.tells out.new) (E.tells err.new)))
+        result }
 {
     let kind = line_end(plan);
     let mut feed = LineFeed::new(state.alloc, kind, plan.max_buffer_size as usize);

@@ -3,17 +3,14 @@ ghost use Rattle.std.specs.Prelude.{◌≡◌};
 ghost use Rattle.line_feed.specs.Lines.{row_of};
 ghost use Rattle.grep_core.specs.Context.{Shown};
 ghost use Rattle.grep_core.specs.Texts.{line_text, newline_of};
-ghost use Rattle.grep_core.specs.Patterns.{line_end};
-ghost use Rattle.grep_core.specs.Writes.{Writes};
+ghost use Rattle.tool_out.specs.Writes.{Writes};
 
-use crate::modes::is_named;
-use crate::write::{text_if, write_texts};
-use byte_lanes::EndKind;
 use grep_args::GrepPlan;
+use grep_match::is_named;
 use itoa::Buffer;
 use line_feed::Line;
-use pat_tree::Newline;
 use pcre_io::{IoError, Sink};
+use tool_out::{text_if, write_texts};
 
 // The newline of a line as it is shown: a last line without one gets LF.
 fn newline_of<'a>(line: &Line<'a>) -> &'a [u8]
@@ -22,7 +19,7 @@ fn newline_of<'a>(line: &Line<'a>) -> &'a [u8]
     if line.end.is_empty() { b"\n" } else { line.end }
 }
 
-/// Writes a line, with the name of its input and its number before it where the plan asks for them. A colon stands behind
+/// Writes a line, with the name of its input and its number before it where the plan asks for them. A colon stands after
 /// them where the line is selected, else a hyphen.
 pub fn write_line<O: Sink>(
     out: &mut O,
@@ -49,19 +46,4 @@ pub fn write_line<O: Sink>(
             newline_of(line),
         ],
     )
-}
-
-/// What ends a line, in an input and in a pattern under `-F`.
-pub fn line_end(plan: &GrepPlan) -> EndKind
-    ensures { result ≡ line_end plan.now }
-{
-    match plan.newline {
-        Newline::Cr => EndKind::Cr,
-        Newline::Lf => EndKind::Lf,
-        Newline::CrLf => EndKind::CrLf,
-        Newline::AnyCrLf => EndKind::AnyCrLf,
-        Newline::Any if plan.utf => EndKind::AnyUtf,
-        Newline::Any => EndKind::Any,
-        Newline::Nul => EndKind::Nul,
-    }
 }

@@ -1,18 +1,19 @@
 //! Messages about an input.
 ghost use Rattle.std.specs.Prelude.{◌≡◌, codes, Err};
-ghost use Rattle.grep_core.specs.Matches.{Tried};
+ghost use Rattle.grep_match.specs.Matches.{Tried};
 ghost use Rattle.grep_core.specs.Messages.{error_message, ended_message, message, message_on, line_said};
 ghost use Rattle.grep_core.specs.Ends.{ended_of};
-ghost use Rattle.grep_core.specs.Writes.{Writes};
+ghost use Rattle.tool_out.specs.Writes.{Writes};
 
 use crate::ended::Ended;
-use crate::write::write_texts;
 use itoa::Buffer;
 use pcre_io::{IoError, Sink};
+use tool_out::write_texts;
 
 /// Writes that a line met a match error.
 pub fn write_error<E: Sink>(err: &mut E, name: &str, line: u64, error: i32) -> Result<(), IoError>
-    ensures { (t : Tried) → t.row.number ≡ line → t.matches ≡ Err error → Writes (error_message name.now t) (E.tells err.old) (E.tells err.new) result }
+    ensures { (t : Tried) → t.row.number ≡ line → t.matches ≡ Err error
+        → Writes (error_message name.now t) (E.tells err.old) (E.tells err.new) result }
 {
     let mut number = Buffer::new();
     let mut code = Buffer::new();
@@ -39,7 +40,8 @@ pub fn write_message<E: Sink>(err: &mut E, name: &str, text: &[u8]) -> Result<()
 
 // Writes that a line is too long.
 fn write_too_long<E: Sink>(err: &mut E, name: &str, line: u64) -> Result<(), IoError>
-    ensures { Writes (message_on name.now (line_said line (codes " is too long"))) (E.tells err.old) (E.tells err.new) result }
+    ensures { Writes (message_on name.now (line_said line (codes " is too long"))) (E.tells err.old)
+        (E.tells err.new) result }
 {
     let mut number = Buffer::new();
     write_texts(
@@ -61,7 +63,8 @@ pub fn write_ended<E: Sink>(
     name: &str,
     ended: Ended,
 ) -> Result<(), IoError>
-    ensures { Writes (ended_message is_silent name.now (ended_of ended)) (E.tells err.old) (E.tells err.new) result }
+    ensures { Writes (ended_message is_silent name.now (ended_of ended)) (E.tells err.old)
+        (E.tells err.new) result }
 {
     match ended {
         Ended::End | Ended::Early => Ok(()),
@@ -74,7 +77,8 @@ pub fn write_ended<E: Sink>(
 
 /// Writes that there were too many match errors.
 pub fn write_too_many<E: Sink>(err: &mut E) -> Result<(), IoError>
-    ensures { Writes (message (codes "too many match errors")) (E.tells err.old) (E.tells err.new) result }
+    ensures { Writes (message (codes "too many match errors")) (E.tells err.old) (E.tells err.new)
+        result }
 {
     write_texts(err, &[b"pcre2grep: too many match errors\n"])
 }

@@ -1,22 +1,21 @@
 //! Matches that are shown in place of their lines.
 ghost use Rattle.std.specs.Prelude.{◌≡◌, ℕ, ◌-◌, ◌^◌, ◌≤◌, ◌||◌, List, All, Option, flat_map, length, map};
 ghost use Rattle.line_feed.specs.Lines.{row_of};
-ghost use Rattle.match_drive.specs.Forward.{IsWithin};
-ghost use Rattle.frame_machine.specs.PlaceAnswer.{Outcome};
+ghost use Rattle.ordered_search.specs.Forward.{IsWithin};
+ghost use Rattle.ordered_search.specs.PlaceAnswer.{Outcome};
 ghost use Rattle.grep_args.specs.declared.plan.OffsetMode.TheVariants.{Lines, File};
-ghost use Rattle.grep_core.specs.Modes.{is_with};
+ghost use Rattle.grep_match.specs.Modes.{is_with};
 ghost use Rattle.grep_core.specs.Texts.{match_text, part_text, joined, given_texts, is_any, span_text};
-ghost use Rattle.grep_core.specs.Found.{Lists, groups_of, place_of};
-ghost use Rattle.grep_core.specs.Writes.{Writes};
+ghost use Rattle.grep_match.specs.Found.{Lists, groups_of, place_of};
+ghost use Rattle.tool_out.specs.Writes.{Writes};
 
-use crate::found::{MatchList, Place};
-use crate::modes::is_named;
-use crate::write::{text_if, write_texts};
-use frame_store::Span;
 use grep_args::{GrepPlan, OffsetMode};
+use grep_match::{MatchList, Place, is_named};
 use itoa::Buffer;
 use line_feed::Line;
 use pcre_io::{IoError, Sink};
+use pcre2_api::Span;
+use tool_out::{text_if, write_texts};
 
 // The text of a group, empty where it is unset.
 fn text_of<'a>(bytes: &'a [u8], group: Option<Span>) -> &'a [u8]
@@ -50,7 +49,8 @@ fn write_groups<O: Sink>(
     groups: &[Option<Span>],
 ) -> Result<(), IoError>
     requires { All (IsWithin (length bytes.now)) groups.now }
-    ensures { Writes (joined separator.now (given_texts (map (span_text bytes.now) groups.now))) (O.tells out.old) (O.tells out.new) result }
+    ensures { Writes (joined separator.now (given_texts (map (span_text bytes.now) groups.now)))
+        (O.tells out.old) (O.tells out.new) result }
 {
     let mut is_later = false;
     for group in groups {
@@ -66,7 +66,8 @@ fn write_groups<O: Sink>(
 // Whether a match makes a line: where none of its groups is left, only a name or a number does.
 fn makes_line(plan: &GrepPlan, bytes: &[u8], groups: &[Option<Span>]) -> bool
     requires { All (IsWithin (length bytes.now)) groups.now }
-    ensures { result ≡ (is_any (given_texts (map (span_text bytes.now) groups.now)) || (is_with plan.now.names || plan.now.line_number)) }
+    ensures { result ≡ (is_any (given_texts (map (span_text bytes.now) groups.now))
+        || (is_with plan.now.names || plan.now.line_number)) }
 {
     is_any(bytes, groups) || is_named(plan.names) || plan.line_number
 }
@@ -81,7 +82,8 @@ fn write_part<O: Sink>(
 ) -> Result<(), IoError>
     requires { All (IsWithin (length line.now.bytes.now)) groups.now }
     ensures { (o : Outcome) → groups.now ≡ groups_of plan.now.only_matching o
-        → Writes (part_text plan.now name.now (row_of line.now) o) (O.tells out.old) (O.tells out.new) result }
+        → Writes (part_text plan.now name.now (row_of line.now) o) (O.tells out.old)
+        (O.tells out.new) result }
 {
     if !makes_line(plan, line.bytes, groups) {
         return Ok(());
@@ -120,7 +122,8 @@ fn write_in_line<O: Sink>(
 ) -> Result<(), IoError>
     requires { place.keep ≤ place.to }
     ensures { (o : Outcome) → place ≡ place_of o
-        → Writes (match_text plan.now name.now Lines (row_of line.now) o) (O.tells out.old) (O.tells out.new) result }
+        → Writes (match_text plan.now name.now Lines (row_of line.now) o) (O.tells out.old)
+        (O.tells out.new) result }
 {
     let is_named = is_named(plan.names);
     let mut number = Buffer::new();
@@ -153,7 +156,8 @@ fn write_in_file<O: Sink>(
     requires ordered { place.keep ≤ place.to }
     requires within { place.to ≤ length line.now.bytes.now }
     ensures { (o : Outcome) → place ≡ place_of o
-        → Writes (match_text plan.now name.now File (row_of line.now) o) (O.tells out.old) (O.tells out.new) result }
+        → Writes (match_text plan.now name.now File (row_of line.now) o) (O.tells out.old)
+        (O.tells out.new) result }
 {
     let is_named = is_named(plan.names);
     let mut from = Buffer::new();
@@ -185,7 +189,8 @@ fn write_match<O: Sink>(
     requires within { place.to ≤ length line.now.bytes.now }
     requires groups { All (IsWithin (length line.now.bytes.now)) groups.now }
     ensures { (o : Outcome) → place ≡ place_of o → groups.now ≡ groups_of plan.now.only_matching o
-        → Writes (match_text plan.now name.now plan.now.offsets (row_of line.now) o) (O.tells out.old) (O.tells out.new) result }
+        → Writes (match_text plan.now name.now plan.now.offsets (row_of line.now) o)
+        (O.tells out.old) (O.tells out.new) result }
 {
     match plan.offsets {
         OffsetMode::NoOffsets => write_part(out, plan, name, line, groups),
@@ -204,9 +209,12 @@ pub fn write_matches<O: Sink>(
     found: &MatchList,
 ) -> Result<(), IoError>
     requires short { line.now.offset ≤ 2 ^ 40 }
-    requires listed { (os : List Outcome) × Lists plan.now.only_matching (length line.now.bytes.now) found.now os }
-    ensures { (os : List Outcome) → Lists plan.now.only_matching (length line.now.bytes.now) found.now os
-        → Writes (flat_map (match_text plan.now name.now plan.now.offsets (row_of line.now)) os) (O.tells out.old) (O.tells out.new) result }
+    requires listed { (os : List Outcome) × Lists plan.now.only_matching (length line.now.bytes.now)
+        found.now os }
+    ensures { (os : List Outcome) → Lists plan.now.only_matching (length line.now.bytes.now)
+        found.now os
+        → Writes (flat_map (match_text plan.now name.now plan.now.offsets (row_of line.now)) os)
+        (O.tells out.old) (O.tells out.new) result }
 {
     let width = plan.only_matching.len();
     let mut groups = found.groups();

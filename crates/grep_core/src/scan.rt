@@ -4,33 +4,34 @@ ghost use Rattle.pcre_io.specs.Told.{Told};
 ghost use Rattle.line_feed.specs.Rows.{Row};
 ghost use Rattle.line_feed.specs.Lines.{row_of};
 ghost use Rattle.line_feed.specs.declared.phase.Phase.TheVariants.{Closed};
-ghost use Rattle.grep_core.specs.declared.modes.Show.TheVariants.{Lines, Parts, Nothing};
-ghost use Rattle.grep_core.specs.Compiled.{patterns_in};
-ghost use Rattle.grep_core.specs.Patterns.{line_end};
-ghost use Rattle.grep_core.specs.Matches.{Tried, tried_row, is_selected, matches};
+ghost use Rattle.grep_core.specs.declared.shows.Show.TheVariants.{Lines, Parts, Nothing};
+ghost use Rattle.grep_match.specs.Compiled.{patterns_in};
+ghost use Rattle.grep_match.specs.PatternTexts.{line_end};
+ghost use Rattle.grep_match.specs.Matches.{Tried, tried_row, is_selected, matches};
 ghost use Rattle.grep_core.specs.Context.{parts_groups};
-ghost use Rattle.grep_core.specs.Course.{begins_group, line_as, selected_out, passed_out, behind_selected, behind_passed, is_lines};
-ghost use Rattle.frame_machine.specs.PlaceAnswer.{Outcome};
-ghost use Rattle.grep_core.specs.Found.{Lists, ListsMatches};
-ghost use Rattle.grep_core.specs.Writes.{Writes};
-ghost use Rattle.grep_core.specs.declared.modes.Treatment.{Treatment};
-ghost use Rattle.grep_core.specs.Turns.{course_of, is_full, TakesLine, Passes, Selects, Turns, FollowsOne, ended_by, Stood, IsJob, ScansInput, TakesAll, Follows};
+ghost use Rattle.grep_core.specs.Course.{begins_group, line_as, selected_out, passed_out, course_after_selected, course_after_passed, is_lines};
+ghost use Rattle.ordered_search.specs.PlaceAnswer.{Outcome};
+ghost use Rattle.grep_match.specs.Found.{Lists, ListsMatches};
+ghost use Rattle.tool_out.specs.Writes.{Writes};
+ghost use Rattle.grep_core.specs.declared.shows.Treatment.{Treatment};
+ghost use Rattle.grep_core.specs.Turns.{course_of, is_full, TakesLine, Passes, Selects, Turns, ended_by};
+ghost use Rattle.grep_core.specs.Follows.{FollowsOne, Follows};
+ghost use Rattle.grep_core.specs.WholeScans.{Stood, IsJob, ScansInput, TakesAll};
+ghost use Rattle.tool_out.specs.Printed.{printed};
 
-use crate::back::Back;
+use crate::earlier::EarlierLines;
 use crate::ended::{Ended, Stop};
-use crate::found::MatchList;
 use crate::lines::write_line;
 use crate::messages::write_error;
-use crate::modes::Show;
 use crate::parts::write_matches;
-use crate::patterns::Patterns;
-use crate::search::{Verdict, Workspace, search_line};
+use crate::shows::Show;
 use crate::state::State;
-use crate::write::{text_if, write_texts};
 use grep_args::GrepPlan;
+use grep_match::{MatchList, Patterns, Verdict, Workspace, search_line};
 use line_feed::{FeedError, Line, LineFeed};
 use pcre_io::{IoError, Sink, Source};
 use std::alloc::Global;
+use tool_out::{text_if, write_texts};
 
 /// What is done with the lines of an input.
 #[derive(Clone, Copy)]
@@ -51,8 +52,8 @@ pub struct Course {
     pub selected: u64,
     /// The number of the last line that is shown as context of a selected one, 0 where none was selected.
     pub context_to: u64,
-    /// The lines behind that which a selected line would show.
-    pub back: Back,
+    /// The lines after that which a selected line would show.
+    pub earlier: EarlierLines,
 }
 
 /// What follows a line.
@@ -81,29 +82,31 @@ fn parts_groups(plan: &GrepPlan) -> bool
 
 // Whether the lines that a selected line of this number shows don't touch those that were shown before.
 fn begins_group(course: &Course, number: u64) -> bool
-    requires back { length course.now.back.rows < number }
+    requires earlier { length course.now.earlier.rows < number }
     requires context { course.now.context_to ≤ 2 ^ 62 }
     ensures { result ≡ begins_group (course_of course.now) number }
 {
-    let first = number - course.back.len() as u64;
+    let first = number - course.earlier.len() as u64;
     course.context_to == 0 || course.context_to + 1 < first
 }
 
 // Whether what a selected line of this number shows is parted from what was shown before.
 fn is_parted(plan: &GrepPlan, has_shown: bool, course: &Course, number: u64) -> bool
-    requires back { length course.now.back.rows < number }
+    requires earlier { length course.now.earlier.rows < number }
     requires context { course.now.context_to ≤ 2 ^ 62 }
-    ensures { result ≡ (parts_groups plan.now && (has_shown && begins_group (course_of course.now) number)) }
+    ensures { result ≡ (parts_groups plan.now && (has_shown
+        && begins_group (course_of course.now) number)) }
 {
     parts_groups(plan) && has_shown && begins_group(course, number)
 }
 
 // Writes the lines before a selected one.
-fn write_back<O: Sink>(job: &Job<'_>, out: &mut O, back: &Back) -> Result<(), IoError>
-    ensures { Writes (flat_map (line_as job.now.plan.now job.now.name.now false) back.now.rows) (O.tells out.old) (O.tells out.new) result }
+fn write_earlier<O: Sink>(job: &Job<'_>, out: &mut O, earlier: &EarlierLines) -> Result<(), IoError>
+    ensures { Writes (flat_map (line_as job.now.plan.now job.now.name.now false) earlier.now.rows)
+        (O.tells out.old) (O.tells out.new) result }
 {
-    for i in 0..back.len() {
-        if let Some(line) = back.line(i) {
+    for i in 0..earlier.len() {
+        if let Some(line) = earlier.line(i) {
             write_line(out, job.plan, job.name, &line, false)?;
         }
     }
@@ -118,14 +121,15 @@ fn write_selected<O: Sink>(
     has_shown: bool,
     course: &Course,
 ) -> Result<(), IoError>
-    requires back { length course.now.back.rows < line.now.number }
+    requires earlier { length course.now.earlier.rows < line.now.number }
     requires context { course.now.context_to ≤ 2 ^ 62 }
     ensures { (t : Tried) → t.row ≡ row_of line.now
-        → Writes (selected_out job.now.plan.now job.now.name.now Lines has_shown (course_of course.now) t) (O.tells out.old) (O.tells out.new) result }
+        → Writes (selected_out job.now.plan.now job.now.name.now Lines has_shown
+        (course_of course.now) t) (O.tells out.old) (O.tells out.new) result }
 {
     let is_parted = is_parted(job.plan, has_shown, course, line.number);
     write_texts(out, &[text_if(is_parted, b"--\n")])?;
-    write_back(job, out, &course.back)?;
+    write_earlier(job, out, &course.earlier)?;
     write_line(out, job.plan, job.name, line, true)
 }
 
@@ -136,9 +140,11 @@ fn pass<O: Sink>(
     out: &mut O,
     course: &mut Course,
 ) -> Result<(), Stop>
-    requires limit { job.now.show ≡ Lines → course.old.back.limit ≡ job.now.plan.now.before_context }
+    requires limit { job.now.show ≡ Lines → course.old.earlier.limit ≡
+        job.now.plan.now.before_context }
     ensures { (t : Tried) → t.row ≡ row_of line.now
-        → Passes job.now.plan.now job.now.name.now job.now.show t course.old course.new (O.tells out.old) (O.tells out.new) result }
+        → Passes job.now.plan.now job.now.name.now job.now.show t course.old course.new
+        (O.tells out.old) (O.tells out.new) result }
 {
     if job.show != Show::Lines {
         return Ok(());
@@ -146,7 +152,7 @@ fn pass<O: Sink>(
     if line.number <= course.context_to {
         write_line(out, job.plan, job.name, line, false)?;
     } else {
-        course.back.push(job.alloc, line)?;
+        course.earlier.push(job.alloc, line)?;
     }
     Ok(())
 }
@@ -160,12 +166,16 @@ fn write_shown<O: Sink>(
     has_shown: bool,
     course: &Course,
 ) -> Result<(), IoError>
-    requires back { length course.now.back.rows < line.now.number }
+    requires earlier { length course.now.earlier.rows < line.now.number }
     requires context { course.now.context_to ≤ 2 ^ 62 }
     requires offset { line.now.offset ≤ 2 ^ 40 }
-    requires found { (os : List Outcome) × Lists job.now.plan.now.only_matching (length line.now.bytes.now) found.now os }
-    ensures { (t : Tried) → t.row ≡ row_of line.now → ListsMatches job.now.plan.now.only_matching (length line.now.bytes.now) found.now t.matches
-        → Writes (selected_out job.now.plan.now job.now.name.now job.now.show has_shown (course_of course.now) t) (O.tells out.old) (O.tells out.new) result }
+    requires found { (os : List Outcome) × Lists job.now.plan.now.only_matching
+        (length line.now.bytes.now) found.now os }
+    ensures { (t : Tried) → t.row ≡ row_of line.now
+        → ListsMatches job.now.plan.now.only_matching (length line.now.bytes.now)
+        found.now t.matches
+        → Writes (selected_out job.now.plan.now job.now.name.now job.now.show has_shown
+        (course_of course.now) t) (O.tells out.old) (O.tells out.new) result }
 {
     match job.show {
         Show::Lines => write_selected(job, line, out, has_shown, course),
@@ -193,19 +203,23 @@ fn select<O: Sink>(
     state: &mut State,
     course: &mut Course,
 ) -> Result<Next, Stop>
-    requires back { length course.old.back.rows < line.now.number }
+    requires earlier { length course.old.earlier.rows < line.now.number }
     requires context { course.old.context_to ≤ 2 ^ 62 }
     requires offset { line.now.offset ≤ 2 ^ 40 }
     requires number { line.now.number ≤ 2 ^ 41 }
     requires few { course.old.selected ≤ 2 ^ 62 }
-    requires found { (os : List Outcome) × Lists job.now.plan.now.only_matching (length line.now.bytes.now) found.now os }
-    ensures { (t : Tried) → t.row ≡ row_of line.now → ListsMatches job.now.plan.now.only_matching (length line.now.bytes.now) found.now t.matches
-        → Selects job.now.plan.now job.now.name.now job.now.show job.now.most t course.old state.old course.new state.new (O.tells out.old) (O.tells out.new) result }
+    requires found { (os : List Outcome) × Lists job.now.plan.now.only_matching
+        (length line.now.bytes.now) found.now os }
+    ensures { (t : Tried) → t.row ≡ row_of line.now
+        → ListsMatches job.now.plan.now.only_matching (length line.now.bytes.now)
+        found.now t.matches
+        → Selects job.now.plan.now job.now.name.now job.now.show job.now.most t course.old state.old
+        course.new state.new (O.tells out.old) (O.tells out.new) result }
 {
     write_shown(job, line, out, found, state.has_shown, course)?;
     course.selected += 1;
     if job.show == Show::Lines {
-        course.back.clear();
+        course.earlier.clear();
         course.context_to = line.number + u64::from(job.plan.after_context);
         state.has_shown = true;
     }
@@ -227,9 +241,12 @@ fn take_error<O: Sink, E: Sink>(
     course: &mut Course,
 ) -> Result<Next, Stop>
     requires few { state.old.errors ≤ 20 }
-    requires limit { job.now.show ≡ Lines → course.old.back.limit ≡ job.now.plan.now.before_context }
+    requires limit { job.now.show ≡ Lines → course.old.earlier.limit ≡
+        job.now.plan.now.before_context }
     ensures { (t : Tried) → t.row ≡ row_of line.now → t.matches ≡ Err error
-        → TakesLine job.now.plan.now job.now.name.now job.now.show job.now.most t course.old state.old course.new state.new (O.tells out.old) (O.tells out.new) (E.tells err.old) (E.tells err.new) result }
+        → TakesLine job.now.plan.now job.now.name.now job.now.show job.now.most t course.old
+        state.old course.new state.new (printed (O.tells out.old) (E.tells err.old))
+        (printed (O.tells out.new) (E.tells err.new)) result }
 {
     write_error(err, job.name, line.number, error)?;
     state.errors += 1;
@@ -251,15 +268,18 @@ fn take_line<O: Sink, E: Sink>(
     course: &mut Course,
 ) -> Result<Next, Stop>
     requires short { length line.now.bytes.now < 4294967295 }
-    requires back { length course.old.back.rows < line.now.number }
+    requires earlier { length course.old.earlier.rows < line.now.number }
     requires context { course.old.context_to ≤ 2 ^ 62 }
     requires offset { line.now.offset ≤ 2 ^ 40 }
     requires number { line.now.number ≤ 2 ^ 41 }
     requires selected { course.old.selected ≤ 2 ^ 62 }
     requires errors { state.old.errors ≤ 20 }
-    requires limit { job.now.show ≡ Lines → course.old.back.limit ≡ job.now.plan.now.before_context }
-    ensures { TakesLine job.now.plan.now job.now.name.now job.now.show job.now.most (tried_row job.now.plan.now (patterns_in job.now.patterns.now) (row_of line.now))
-        course.old state.old course.new state.new (O.tells out.old) (O.tells out.new) (E.tells err.old) (E.tells err.new) result }
+    requires limit { job.now.show ≡ Lines → course.old.earlier.limit ≡
+        job.now.plan.now.before_context }
+    ensures { TakesLine job.now.plan.now job.now.name.now job.now.show job.now.most
+        (tried_row job.now.plan.now (patterns_in job.now.patterns.now) (row_of line.now))
+        course.old state.old course.new state.new (printed (O.tells out.old) (E.tells err.old))
+        (printed (O.tells out.new) (E.tells err.new)) result }
 {
     let is_match = match search_line(job.plan, job.patterns, line.bytes, work)? {
         Verdict::Match => true,
@@ -301,13 +321,17 @@ fn take_turn<S: Source, O: Sink, E: Sink>(
     requires live { feed.old.phase ≢ Closed }
     requires max { feed.old.max ≤ 2 ^ 30 }
     requires numbered { feed.old.number ≤ feed.old.offset }
-    requires back { length course.old.back.rows ≤ feed.old.number }
+    requires earlier { length course.old.earlier.rows ≤ feed.old.number }
     requires context { course.old.context_to ≤ 2 ^ 62 }
     requires selected { course.old.selected ≤ 2 ^ 62 }
     requires errors { state.old.errors ≤ 20 }
-    requires limit { job.now.show ≡ Lines → course.old.back.limit ≡ job.now.plan.now.before_context }
-    ensures { Turns job.now.plan.now (patterns_in job.now.patterns.now) job.now.name.now job.now.show job.now.most feed.old feed.new (S.tells source.old) (S.tells source.new)
-        course.old state.old course.new state.new (O.tells out.old) (O.tells out.new) (E.tells err.old) (E.tells err.new) result }
+    requires limit { job.now.show ≡ Lines → course.old.earlier.limit ≡
+        job.now.plan.now.before_context }
+    ensures { Turns job.now.plan.now (patterns_in job.now.patterns.now)
+        job.now.name.now job.now.show job.now.most feed.old feed.new (S.tells source.old)
+        (S.tells source.new)
+        course.old state.old course.new state.new (printed (O.tells out.old) (E.tells err.old))
+        (printed (O.tells out.new) (E.tells err.new)) result }
 {
     match feed.next(source) {
         Ok(Some(line)) => Ok(Turn::Took(take_line(job, &line, out, err, work, state, course)?)),
@@ -324,7 +348,8 @@ fn follow_one<S: Source, O: Sink>(
     out: &mut O,
 ) -> Result<Option<Ended>, Stop>
     requires { feed.old.phase ≢ Closed }
-    ensures { FollowsOne job.now.plan.now job.now.name.now feed.old feed.new (S.tells source.old) (S.tells source.new) (O.tells out.old) (O.tells out.new) result }
+    ensures { FollowsOne job.now.plan.now job.now.name.now feed.old feed.new (S.tells source.old)
+        (S.tells source.new) (O.tells out.old) (O.tells out.new) result }
 {
     match feed.next(source) {
         Ok(Some(line)) => {
@@ -336,7 +361,7 @@ fn follow_one<S: Source, O: Sink>(
     }
 }
 
-// Shows the lines behind the last one that is selected, as its context.
+// Shows the lines after the last one that is selected, as its context.
 fn follow<S: Source, O: Sink>(
     job: &Job<'_>,
     feed: &mut LineFeed,
@@ -344,9 +369,12 @@ fn follow<S: Source, O: Sink>(
     out: &mut O,
 ) -> Result<Ended, Stop>
     requires { feed.old.phase ≢ Closed }
-    ensures { (before : Told) (treated : Treatment) (given : List Row) → Stood job.now.plan.now treated before (S.tells source.old) feed.old given
-        → feed.old.kind ≡ line_end job.now.plan.now → feed.old.max ≡ job.now.plan.now.max_buffer_size
-        → Follows job.now.plan.now job.now.name.now job.now.show treated before (S.tells source.new) given (O.tells out.old) (O.tells out.new) result }
+    ensures { (before : Told) (treated : Treatment) (given : List Row)
+        → Stood job.now.plan.now treated before (S.tells source.old) feed.old given
+        → feed.old.kind ≡ line_end job.now.plan.now
+        → feed.old.max ≡ job.now.plan.now.max_buffer_size
+        → Follows job.now.plan.now job.now.name.now job.now.show treated before (S.tells source.new)
+        given (O.tells out.old) (O.tells out.new) result }
 {
     if job.show != Show::Lines {
         return Ok(Ended::Early);
@@ -376,13 +404,17 @@ fn take_lines<S: Source, O: Sink, E: Sink>(
     requires errors { state.old.errors ≤ 20 }
     requires selected { course.old.selected ≡ 0 }
     requires context { course.old.context_to ≡ 0 }
-    requires back { course.old.back.rows ≡ [] }
-    requires limit { course.old.back.limit ≡ job.now.plan.now.before_context }
+    requires earlier { course.old.earlier.rows ≡ [] }
+    requires limit { course.old.earlier.limit ≡ job.now.plan.now.before_context }
     ensures live { result ≡ Ok None → feed.new.phase ≢ Closed }
-    ensures taken { (before : Told) (treated : Treatment) → IsJob job.now.plan.now treated job.now.show job.now.most feed.old
+    ensures taken { (before : Told) (treated : Treatment)
+        → IsJob job.now.plan.now treated job.now.show job.now.most feed.old
         → Stood job.now.plan.now treated before (S.tells source.old) feed.old []
-        → TakesAll job.now.plan.now (patterns_in job.now.patterns.now) job.now.name.now job.now.show job.now.most treated state.old before (S.tells source.new) feed.new
-        course.new.selected state.new (O.tells out.old) (O.tells out.new) (E.tells err.old) (E.tells err.new) result }
+        → TakesAll job.now.plan.now (patterns_in job.now.patterns.now)
+        job.now.name.now job.now.show job.now.most treated state.old before (S.tells source.new)
+        feed.new
+        course.new.selected state.new (printed (O.tells out.old) (E.tells err.old))
+        (printed (O.tells out.new) (E.tells err.new)) result }
 {
     prove!(job.plan.after_context <= u32::MAX);
     'line: loop {
@@ -411,14 +443,17 @@ pub fn scan<S: Source, O: Sink, E: Sink>(
     requires errors { state.old.errors ≤ 20 }
     requires selected { course.old.selected ≡ 0 }
     requires context { course.old.context_to ≡ 0 }
-    requires back { course.old.back.rows ≡ [] }
-    requires limit { course.old.back.limit ≡ job.now.plan.now.before_context }
+    requires earlier { course.old.earlier.rows ≡ [] }
+    requires limit { course.old.earlier.limit ≡ job.now.plan.now.before_context }
     // For each state of the source from which the feed came here without giving a line, and where the job is made for the
     // input, this is the scan of the input that the source stands for.
-    ensures { (before : Told) (treated : Treatment) → IsJob job.now.plan.now treated job.now.show job.now.most feed.old
+    ensures { (before : Told) (treated : Treatment)
+        → IsJob job.now.plan.now treated job.now.show job.now.most feed.old
         → Stood job.now.plan.now treated before (S.tells source.old) feed.old []
-        → ScansInput job.now.plan.now (patterns_in job.now.patterns.now) job.now.name.now job.now.show treated state.old before (S.tells source.new)
-        course.new.selected state.new (O.tells out.old) (O.tells out.new) (E.tells err.old) (E.tells err.new) result }
+        → ScansInput job.now.plan.now (patterns_in job.now.patterns.now)
+        job.now.name.now job.now.show treated state.old before (S.tells source.new)
+        course.new.selected state.new (printed (O.tells out.old) (E.tells err.old))
+        (printed (O.tells out.new) (E.tells err.new)) result }
 {
     match take_lines(job, feed, source, out, err, work, state, course)? {
         Some(ended) => Ok(ended),

@@ -2,7 +2,7 @@
 ghost use Rattle.std.specs.Prelude.{◌≡◌};
 ghost use Rattle.grep_core.specs.InputText.{first_state};
 
-use crate::search::Workspace;
+use grep_match::Workspace;
 use std::alloc::Global;
 use std::marker::Model;
 

@@ -1,14 +1,14 @@
 //! What is told of a whole input, once it was scanned.
 ghost use Rattle.std.specs.Prelude.{◌≡◌};
 ghost use Rattle.grep_core.specs.InputText.{count_text, end_out};
-ghost use Rattle.grep_core.specs.Texts.{line};
-ghost use Rattle.grep_core.specs.Writes.{Writes};
+ghost use Rattle.tool_out.specs.Texts.{line};
+ghost use Rattle.tool_out.specs.Writes.{Writes};
 
-use crate::modes::{Mode, is_matching, is_named};
-use crate::write::{text_if, write_texts};
 use grep_args::GrepPlan;
+use grep_match::{Mode, is_matching, is_named};
 use itoa::Buffer;
 use pcre_io::{IoError, Sink};
+use tool_out::{text_if, write_texts};
 
 // Writes the number of selected lines. With `-l` the name is always shown, and only a count above 0.
 fn write_count<O: Sink>(
@@ -17,7 +17,8 @@ fn write_count<O: Sink>(
     name: &str,
     selected: u64,
 ) -> Result<(), IoError>
-    ensures { Writes (count_text plan.now name.now selected) (O.tells out.old) (O.tells out.new) result }
+    ensures { Writes (count_text plan.now name.now selected) (O.tells out.old) (O.tells out.new)
+        result }
 {
     let is_matching = is_matching(plan.names);
     if is_matching && selected == 0 {
@@ -53,7 +54,8 @@ pub fn write_summary<O: Sink>(
     is_told: bool,
     selected: u64,
 ) -> Result<(), IoError>
-    ensures { Writes (end_out plan.now name.now mode is_told selected) (O.tells out.old) (O.tells out.new) result }
+    ensures { Writes (end_out plan.now name.now mode is_told selected) (O.tells out.old)
+        (O.tells out.new) result }
 {
     if is_told {
         if selected == 0 {

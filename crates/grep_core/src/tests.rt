@@ -61,8 +61,7 @@ fn check_all(rt: &impl Abort, alloc: Global, rows: &[Row]) -> Result<(), Fail> {
 
 #[test]
 fn lines_are_shown_with_context(rt: HostRuntime) -> Result<(), Fail> {
-    let text = b"a\nx\nb\nc\nd\nx\n";
-    let rows: [Row; 12] = [
+    static ROWS: [Row; 12] = [
         ("-n -C 1 x", text, b"1-a\n2:x\n3-b\n--\n5-d\n6:x\n", b""),
         ("-n -C 2 x", text, b"1-a\n2:x\n3-b\n4-c\n5-d\n6:x\n", b""),
         ("-B 1 x", text, b"a\nx\n--\nd\nx\n", b""),
@@ -76,12 +75,13 @@ fn lines_are_shown_with_context(rt: HostRuntime) -> Result<(), Fail> {
         ("-L y", text, b"f\n", b""),
         ("-q x", text, b"", b""),
     ];
-    check_all(&rt, rt.alloc(), &rows)
+    let text = b"a\nx\nb\nc\nd\nx\n";
+    check_all(&rt, rt.alloc(), &ROWS)
 }
 
 #[test]
 fn matches_are_shown(rt: HostRuntime) -> Result<(), Fail> {
-    let rows: [Row; 10] = [
+    static ROWS: [Row; 10] = [
         ("-no b*", b"abb\nc", b"1:\n1:bb\n2:\n", b""),
         ("-o o", b"foo\nbar\n", b"o\no\n", b""),
         ("-o1 -o2 (a)(b)?", b"ab a\n", b"ab\na\n", b""),
@@ -103,5 +103,5 @@ fn matches_are_shown(rt: HostRuntime) -> Result<(), Fail> {
             b"pcre2grep: f: line 1: error -47\n",
         ),
     ];
-    check_all(&rt, rt.alloc(), &rows)
+    check_all(&rt, rt.alloc(), &ROWS)
 }

@@ -4,10 +4,10 @@ use Rattle.std.proofs.lemmas.Bool.{cases_Bool, cases_lt, both_ways, eq-eqb}
 use Rattle.std.proofs.lemmas.List.{take-append-le, drop-append-le, take_all, drop_all, take-append-drop}
 use Rattle.std.proofs.Math.Seq.{take-add}
 use Rattle.byte_lanes.specs.declared.line_end.EndKind.{EndKind}
-use Rattle.byte_lanes.specs.Newlines.{newline_len}
+use Rattle.byte_lanes.specs.Newlines.{newline_len, has_crlf}
 use Rattle.line_feed.specs.declared.phase.Phase.{Phase}
 use Rattle.line_feed.specs.declared.phase.Phase.TheVariants.{Open, Ended, Missed, Full, Closed}
-use Rattle.line_feed.specs.Rows.{Ending, End, Fault, Limit, Finish, At, Long, none_for, ahead, first_newline, has_crlf, ends_open, is_cut, sure_len, has_no_row, last_rows, rows_from}
+use Rattle.line_feed.specs.Rows.{Ending, End, Fault, Limit, Finish, At, Long, none_for, ahead, first_newline, ends_open, is_cut, sure_len, has_no_row, last_rows, rows_from}
 use Rattle.line_feed.specs.View.{Feed, Follows, HasNoMore, HoldsRow, given, next_row}
 use Rattle.line_feed.specs.Inside.{IsNear, IsSearched}
 use Rattle.line_feed.specs.Steps.{FirstEnd, EndsRow, EndsNone, IsNext, IsLast}

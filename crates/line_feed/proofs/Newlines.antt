@@ -4,9 +4,8 @@ use Rattle.std.proofs.lemmas.Bool.{cases_Bool, cases_lt, cases_eq, both_ways, an
 use Rattle.std.proofs.lemmas.List.{get_or_append_left, get_or-drop}
 use Rattle.byte_lanes.specs.declared.line_end.EndKind.{EndKind}
 use Rattle.byte_lanes.specs.declared.line_end.EndKind.TheVariants.{Cr, Lf, CrLf, AnyCrLf, Any, AnyUtf, Nul}
-use Rattle.byte_lanes.specs.Newlines.{stands, longest, newline_texts, newline_len}
+use Rattle.byte_lanes.specs.Newlines.{stands, longest, newline_texts, newline_len, has_crlf}
 use Rattle.byte_lanes.proofs.lemmas.NewlineLemmas.{Heads, longest-head, stands_other, stands_past}
-use Rattle.line_feed.specs.Rows.{has_crlf}
 
 -- a text that stands lies within the bytes, and begins with the byte there
 stands-within : (t bytes : List ℕ) (k : ℕ) → k ≤ length bytes → stands t bytes k ≡ true → k + length t ≤ length bytes

@@ -4,8 +4,8 @@ use Rattle.std.specs.Prelude.{slice_index}
 use Rattle.std.proofs.lemmas.Bool.{le-leb, lt-leb}
 use Rattle.byte_lanes.specs.Sets.{has_byte}
 use Rattle.pat_check.specs.Known.{IsByteSet}
-use Rattle.frame_machine.specs.Setting.{Setting, lead_set}
-use Rattle.match_drive.specs.Places.{is_off, is_outside, is_excluded}
+use Rattle.ordered_search.specs.Setting.{Setting, lead_set}
+use Rattle.ordered_search.specs.Places.{is_off, is_outside, is_excluded}
 use Rattle.match_drive.specs.Rest.{IsLeadUsed, IsByteOutside}
 
 module _ (g : Setting) where

@@ -2,16 +2,16 @@
 use Rattle.std.proofs.Common.{◌≡◌, ℕ, ℤ, Bool, true, false, List, [], ◌∷◌, ◌++◌, Option, Some, None, refl, sym, ap, ◌∙◌}
 use Rattle.std.specs.Option.{option_or, unwrap_or}
 use Rattle.frame_store.specs.Captures.{Captures}
-use Rattle.frame_machine.specs.Stream.{Note}
+use Rattle.ordered_search.specs.Stream.{Note}
 use Rattle.frame_machine.specs.declared.answer.PlaceAnswer.TheVariants as told
 use Rattle.frame_machine.specs.declared.answer.Signal.{Signal}
 use Rattle.frame_machine.specs.Answer.{signal_of, IsAnswer, IsMark}
-use Rattle.frame_machine.specs.PlaceAnswer as place
-use Rattle.frame_machine.specs.PlaceAnswer.{Walked, name_in, last_name, has_hit}
+use Rattle.ordered_search.specs.PlaceAnswer as place
+use Rattle.ordered_search.specs.PlaceAnswer.{Walked, name_in, last_name, has_hit}
 use Rattle.match_drive.specs.declared.answer.MatchAnswer.TheVariants as answer
-use Rattle.match_drive.specs.MatchAnswer.{MatchAnswer, Match, NoMatch, PartialFrom, Error, Found, undecided}
+use Rattle.ordered_search.specs.MatchAnswer.{MatchAnswer, Match, NoMatch, PartialFrom, Error, Found, undecided, found_by, found_at}
 use Rattle.match_drive.specs.Answer.{TellsPlace, TellsNone}
-use Rattle.match_drive.specs.Rest.{first_hit, after_hit, IsLeft, found_by, found_at}
+use Rattle.match_drive.specs.Rest.{first_hit, after_hit, IsLeft}
 
 or_none : (x : Option ℕ) → option_or x None ≡ x
 or_none None = refl

@@ -1,14 +1,8 @@
-mod RowProofs
 mod Left
-mod HitlessStreams
-mod Hitless
-mod NoPartial
+mod NoneTold
 mod Excluded
 mod Steps
 mod Walk
 mod Leads
 mod PastBegin
 mod PastPrefix
-pub mod ForwardStreams
-pub mod ForwardSearch
-pub mod ForwardLaw

@@ -6,17 +6,18 @@ use Rattle.std.proofs.lemmas.Option.{IfSome_then}
 use Rattle.pat_tree.specs.declared.nodes.AnchorKind.{AnchorKind}
 use Rattle.pat_tree.specs.declared.nodes.AnchorKind.TheVariants.{Caret, Dollar, SubjectStart, SubjectEnd, EndOrNewline, StartGiven, Word, NotWord}
 use Rattle.pat_tree.specs.Nested.{Row, seq, group, anchor, none, more}
-use Rattle.frame_machine.specs.Stream.{State, first_state, reached, nothing, gives, each, and_then}
-use Rattle.frame_machine.specs.Setting.{Setting, match_limit, reach_if}
-use Rattle.frame_machine.specs.Tests.{run_anchor}
-use Rattle.frame_machine.specs.Parts.{in_order, branches, run_group}
-use Rattle.frame_machine.specs.Run.{level, levels, run}
-use Rattle.frame_machine.specs.PlaceAnswer.{Exhausted, Failed, Walked, answers, walk, place_answer}
+use Rattle.ordered_search.specs.Stream.{State, first_state, reached, nothing, gives, each, and_then}
+use Rattle.ordered_search.specs.Setting.{Setting, match_limit, reach_if}
+use Rattle.ordered_search.specs.Tests.{run_anchor}
+use Rattle.ordered_search.specs.Parts.{in_order, branches, run_group}
+use Rattle.ordered_search.specs.Run.{level, levels, run}
+use Rattle.ordered_search.specs.PlaceAnswer.{Exhausted, Failed, Walked, answers, walk, place_answer}
 use Rattle.match_drive.specs.Begin.{is_begin, StandsAtBegin}
-use Rattle.match_drive.specs.Places.{place_after, is_excluded}
-use Rattle.match_drive.specs.MatchAnswer.{none_found, tried, from_place}
-use Rattle.match_drive.specs.Rest.{found_from, found_at}
-use Rattle.match_drive.proofs.Steps.{after_later, from_is, none_left}
+use Rattle.ordered_search.specs.Places.{place_after, is_excluded}
+use Rattle.ordered_search.specs.MatchAnswer.{none_found, tried, from_place, found_at}
+use Rattle.match_drive.specs.Rest.{found_from}
+use Rattle.match_drive.proofs.Steps.{from_is, none_left}
+use Rattle.ordered_search.proofs.StartPlaces.{after_later}
 
 -- what stands at the begin alone, where the place isn't the begin
 

@@ -15,17 +15,17 @@ use Rattle.char_sets.specs.Table.{CharSet, IsTableOf}
 use Rattle.match_items.specs.declared.view.View.{View}
 use Rattle.match_items.specs.Items.{after_item, item_reaches}
 use Rattle.match_items.specs.Views.{scene_of}
-use Rattle.frame_machine.specs.Stream.{State, Stream, Search, first_state, nothing, each, and_then, ◌or_else◌}
-use Rattle.frame_machine.specs.Setting.{Setting, match_limit, reach, reach_if}
+use Rattle.ordered_search.specs.Stream.{State, Stream, Search, first_state, nothing, each, and_then, ◌or_else◌}
+use Rattle.ordered_search.specs.Setting.{Setting, match_limit, reach, reach_if}
 use Rattle.frame_machine.specs.Ready.{setting_for}
-use Rattle.frame_machine.specs.Tests.{goes_to, move_to, run_one}
-use Rattle.frame_machine.specs.Parts.{Searches, in_order, branches, run_group}
-use Rattle.frame_machine.specs.Run.{level, levels, run}
+use Rattle.ordered_search.specs.Tests.{goes_to, move_to, run_one}
+use Rattle.ordered_search.specs.Parts.{Searches, in_order, branches, run_group}
+use Rattle.ordered_search.specs.Run.{level, levels, run}
 use Rattle.match_items.specs.Scene.{Scene}
-use Rattle.frame_machine.specs.PlaceAnswer.{Exhausted, Failed, walk, place_answer}
-use Rattle.frame_machine.specs.PlaceAnswer as answer
+use Rattle.ordered_search.specs.PlaceAnswer.{Exhausted, Failed, walk, place_answer}
+use Rattle.ordered_search.specs.PlaceAnswer as answer
 use Rattle.match_drive.specs.Prefix.{AreFirstParts, item_refuses, row_of}
-use Rattle.match_drive.proofs.Leads.{class_is}
+use Rattle.match_drive.proofs.Leads.{class_told}
 
 refuses_one : (g : Scene) (ts : Row) (item : Item) (p : ℕ) (o : Option ℕ) → after_item g item p ≡ o →
     item_refuses g (more (one item) ts) p ≡ elim o [ None ↦ true | Some q ↦ item_refuses g ts q ]
@@ -101,7 +101,7 @@ module _ (g : Setting) (off : g.matching.«partial» ≡ Off) where
 scene_same : (tree : TreeParts) (table : List CharSet) (view : View) (answers : Block → ℤ) → IsTableOf tree table → view.options.now ≡ tree.options →
     scene_of view table ≡ (setting_for tree view answers).scene
 scene_same tree table view answers h e =
-    ap (λ (has : ℕ → ℕ → Bool). record (scene_of view table) { class_has = has }) (fun_ext (λ n. fun_ext (λ c. h.answers n c)) ∙ class_is tree)
+    ap (λ (has : ℕ → ℕ → Bool). record (scene_of view table) { class_has = has }) (fun_ext (λ n. fun_ext (λ c. h.answers n c)) ∙ class_told tree)
     ∙ ap (λ (o : Options). record (setting_for tree view answers).scene { options = o }) e
 
 -- a search fails at a place where a first item refuses what stands there

@@ -1,20 +1,18 @@
 -- How a search goes from place to place.
-use Rattle.std.proofs.Common.{inl, inr, ◌≡◌, ℕ, zero, suc, ◌+◌, ◌-◌, ◌<◌, ◌≤◌, ◌⊎◌, Bool, true, false, ◌&&◌, max, List, [], ◌∷◌, length, Option, Some, None, nat_le, nat_lt, if◌then◌else◌, refl, sym, ap, subst, ◌∙◌, arith}
+use Rattle.std.proofs.Common.{inl, inr, ◌≡◌, ℕ, zero, suc, ◌+◌, ◌-◌, ◌<◌, ◌≤◌, ◌⊎◌, Bool, true, false, ◌&&◌, max, List, [], ◌∷◌, length, Option, Some, None, nat_lt, if◌then◌else◌, refl, sym, ap, subst, ◌∙◌, arith}
 use Rattle.std.specs.Prelude.{IfSome, IsSomeAnd, slice_index}
 use Rattle.std.proofs.lemmas.Option.{IfSome_then}
-use Rattle.std.proofs.lemmas.Bool.{cases_lt, and_parts, and_left, and_right, eqb-true, leb-true, le-leb, lt-leb, ltb-true, lt-ltb, le-ltb}
+use Rattle.std.proofs.lemmas.Bool.{and_parts, and_left, and_right, eqb-true, ltb-true, lt-ltb, le-ltb}
 use Rattle.byte_lanes.specs.declared.line_end.EndKind.TheVariants.{CrLf}
 use Rattle.byte_lanes.specs.Newlines.{stands, newline_len}
-use Rattle.byte_lanes.specs.Places.{least_of}
 use Rattle.pat_check.specs.Known.{IsByteSet}
-use Rattle.uni_text.specs.Characters.{char_at}
-use Rattle.match_items.specs.Items.{newline_at}
-use Rattle.frame_machine.specs.PlaceAnswer as place
-use Rattle.frame_machine.specs.PlaceAnswer.{Signal, Exhausted, Prune, Skip, Commit, Walked, answers, place_answer}
-use Rattle.frame_machine.specs.Setting.{Setting, anchored, lead_set}
-use Rattle.match_drive.specs.Places.{passes_crlf, next_place, last_place, within, place_after, is_excluded}
-use Rattle.match_drive.specs.MatchAnswer.{Found, none_found, failed_at, tried, from_place, match_answer}
-use Rattle.match_drive.specs.Rest.{IsByteOutside, up_to, behind, found_from, IsLeft, IsPassed, IsTried, IsNextTried, found_by, found_at}
+use Rattle.ordered_search.specs.PlaceAnswer as place
+use Rattle.ordered_search.specs.PlaceAnswer.{Signal, Exhausted, Prune, Skip, Commit, Walked, answers, place_answer}
+use Rattle.ordered_search.specs.Setting.{Setting, lead_set}
+use Rattle.ordered_search.specs.Places.{passes_crlf, next_place, last_place, within, place_after, is_excluded, up_to}
+use Rattle.ordered_search.specs.MatchAnswer.{Found, none_found, failed_at, tried, from_place, match_answer, found_by, found_at}
+use Rattle.match_drive.specs.Rest.{IsByteOutside, behind, found_from, IsLeft, IsPassed, IsTried, IsNextTried}
+use Rattle.ordered_search.proofs.StartPlaces.{up_to_is, up_to_past, up_to_keeps, last_within, start_within, next_inside, next_later, after_later}
 use Rattle.match_drive.proofs.Excluded.{excluded_by_byte}
 
 -- Bytes.
@@ -50,23 +48,6 @@ places_left n (Some p) = suc n - p
 abbrev pub IsNoEarlier : Option ℕ → ℕ → Type 0
 IsNoEarlier from q = IsSomeAnd from (λ p. p ≤ q)
 
--- A place that isn't past the last one.
-
-up_to_is : (last p : ℕ) → p ≤ last → up_to last (Some p) ≡ Some p
-up_to_is last p h = ap (λ b. elim b [ true ↦ Some p | false ↦ None ]) (le-leb p last h)
-
-pub up_to_past : (last p : ℕ) → last < p → up_to last (Some p) ≡ None
-up_to_past last p h = ap (λ b. elim b [ true ↦ Some p | false ↦ None ]) (lt-leb p last h)
-
--- what holds of a place holds of it where it isn't past the last one
-up_to_keeps : (P : ℕ → Type 0) (last : ℕ) (o : Option ℕ) → IfSome o P → IfSome (up_to last o) (λ q. P q × (q ≤ last))
-up_to_keeps P last None h = tt
-up_to_keeps P last (Some q) h = by_test (nat_le q last) refl
-  where
-    by_test : (b : Bool) → nat_le q last ≡ b → IfSome (elim b [ true ↦ Some q | false ↦ None ]) (λ q. P q × (q ≤ last))
-    by_test true e = (h, leb-true q last e)
-    by_test false e = tt
-
 -- a later place leaves fewer
 pub left_less : (n p : ℕ) (next later : Option ℕ) → next ≡ Some p → p ≤ n → IfSome later (λ q. p < q) → places_left n later < places_left n next
 left_less n p next later is h low = subst (λ o. places_left n later < places_left n o) (sym is) (by_later later low)
@@ -91,81 +72,12 @@ behind_later g p q h = by_test (nat_lt p q && passes_crlf g (q - 1))
     by_test true = omega arith
     by_test false = h
 
-least_within : (test : ℕ → Bool) (i n : ℕ) → least_of test i n ≤ i + n
-unfolding least_of
-least_within test i zero = omega arith
-least_within test i (suc n) = by_test (test i) (least_within test (i + 1) n)
-  where
-    by_test : (b : Bool) → least_of test (i + 1) n ≤ (i + 1) + n → (if b then i else least_of test (i + 1) n) ≤ i + suc n
-    by_test true h = omega arith
-    by_test false h = omega (arith, h)
-
-least_low : (test : ℕ → Bool) (i n : ℕ) → i ≤ least_of test i n
-unfolding least_of
-least_low test i zero = omega arith
-least_low test i (suc n) = by_test (test i) (least_low test (i + 1) n)
-  where
-    by_test : (b : Bool) → i + 1 ≤ least_of test (i + 1) n → i ≤ (if b then i else least_of test (i + 1) n)
-    by_test true h = omega arith
-    by_test false h = omega (arith, h)
-
 module _ (g : Setting) (not_utf : g.options.utf ≡ false) (begun : g.start ≤ length g.subject) where
-  pub last_within : last_place g ≤ length g.subject
-  last_within = by_anchored (anchored g) g.options.firstline
-    where
-      by_anchored : (a f : Bool) → (elim a [ true ↦ g.start | false ↦ elim f [ true ↦ least_of (λ p. nat_lt 0 (newline_at g.scene p)) g.start (length g.subject - g.start) | false ↦ length g.subject ] ]) ≤ length g.subject
-      by_anchored true f = begun
-      by_anchored false true = omega (arith, least_within (λ p. nat_lt 0 (newline_at g.scene p)) g.start (length g.subject - g.start))
-      by_anchored false false = omega arith
-
-  pub start_within : g.start ≤ last_place g
-  start_within = by_anchored (anchored g) g.options.firstline
-    where
-      by_anchored : (a f : Bool) → g.start ≤ (elim a [ true ↦ g.start | false ↦ elim f [ true ↦ least_of (λ p. nat_lt 0 (newline_at g.scene p)) g.start (length g.subject - g.start) | false ↦ length g.subject ] ])
-      by_anchored true f = omega arith
-      by_anchored false true = least_low (λ p. nat_lt 0 (newline_at g.scene p)) g.start (length g.subject - g.start)
-      by_anchored false false = begun
-
-  -- the next place
-  abbrev char_from : ℕ → Bool → Bool → Option (ℕ × ℕ)
-  char_from p ends utf = elim ends [ true ↦ None | false ↦ Some (char_at utf g.subject p) ]
-
-  abbrev place_from : ℕ → Option (ℕ × ℕ) → Option ℕ
-  place_from p None = None
-  place_from p (Some c) = elim (passes_crlf g p) [ true ↦ Some (p + 2) | false ↦ Some c.1 ]
-
-  pub next_inside : (p : ℕ) → p < length g.subject → next_place g p ≡ elim (passes_crlf g p) [ true ↦ Some (p + 2) | false ↦ Some (p + 1) ]
-  next_inside p h = ap (λ e. place_from p (char_from p e g.options.utf)) (lt-leb (length g.subject) p h) ∙ ap (λ u. place_from p (char_from p false u)) not_utf
-
-  pub next_past : (p : ℕ) → length g.subject ≤ p → next_place g p ≡ None
-  next_past p h = ap (λ e. place_from p (char_from p e g.options.utf)) (le-leb (length g.subject) p h)
-
-  next_later : (p : ℕ) → IfSome (next_place g p) (λ q. p < q)
-  next_later p = elim (cases_lt p (length g.subject)) [
-    | inl inside ↦ subst (λ (o : Option ℕ). IfSome o (λ q. p < q)) (sym (next_inside p inside)) (by_crlf (passes_crlf g p))
-    | inr past ↦ subst (λ (o : Option ℕ). IfSome o (λ q. p < q)) (sym (next_past p past)) tt
-  ]
-    where
-      by_crlf : (b : Bool) → IfSome (elim b [ true ↦ Some (p + 2) | false ↦ Some (p + 1) ]) (λ q. p < q)
-      by_crlf true = omega arith
-      by_crlf false = omega arith
-
   pub step_is : (p last : ℕ) (found next : Option ℕ) → last ≡ last_place g → found ≡ next_place g p → next ≡ up_to last found → next ≡ up_to (last_place g) (next_place g p)
   step_is p last found next e f h = h ∙ ap (λ l. up_to l found) e ∙ ap (up_to (last_place g)) f
 
   pub step_later : (at p : ℕ) → at ≤ p → IfSome (up_to (last_place g) (next_place g p)) (λ q. at < q)
-  step_later at p h = IfSome_then (up_to (last_place g) (next_place g p)) (up_to_keeps (λ q. p < q) (last_place g) (next_place g p) (next_later p)) (λ q both. omega (arith, h, both.0))
-
-  -- the place after one that failed is later, and none is past the last one
-  pub after_later : (p : ℕ) (signal : Signal) → IfSome (place_after g p signal) (λ q. (p < q) × (q ≤ last_place g))
-  after_later p Exhausted = up_to_keeps (λ q. p < q) (last_place g) (next_place g p) (next_later p)
-  after_later p Prune = up_to_keeps (λ q. p < q) (last_place g) (next_place g p) (next_later p)
-  after_later p (Skip to) = by_test (nat_lt p to) refl
-    where
-      by_test : (b : Bool) → nat_lt p to ≡ b → IfSome (elim b [ true ↦ within g (Some to) | false ↦ within g (next_place g p) ]) (λ q. (p < q) × (q ≤ last_place g))
-      by_test true e = up_to_keeps (λ q. p < q) (last_place g) (Some to) (ltb-true p to e)
-      by_test false e = up_to_keeps (λ q. p < q) (last_place g) (next_place g p) (next_later p)
-  after_later p Commit = tt
+  step_later at p h = IfSome_then (up_to (last_place g) (next_place g p)) (up_to_keeps (λ q. p < q) (last_place g) (next_place g p) (next_later g not_utf begun p)) (λ q both. omega (arith, h, both.0))
 
   -- Enough room for the places that are left.
 
@@ -175,7 +87,7 @@ module _ (g : Setting) (not_utf : g.options.utf ≡ false) (begun : g.start ≤ 
 
   after_covers : (n p : ℕ) (signal : Signal) → length g.subject < suc n + p → Covers n (place_after g p signal)
   unfolding Covers
-  after_covers n p signal room = of_later (place_after g p signal) (after_later p signal)
+  after_covers n p signal room = of_later (place_after g p signal) (after_later g not_utf begun p signal)
     where
       of_later : (o : Option ℕ) → IfSome o (λ q. (p < q) × (q ≤ last_place g)) → Covers n o
       of_later None h = tt
@@ -204,8 +116,8 @@ module _ (g : Setting) (not_utf : g.options.utf ≡ false) (begun : g.start ≤ 
   covered : (n m : ℕ) (o : Option ℕ) → Covers n o → Covers m o → from_place g n o ≡ from_place g m o
   unfolding Covers
   covered n m None h k = none_left n ∙ sym (none_left m)
-  covered zero m (Some p) h k = absurd (omega (arith, h.0, h.1, last_within))
-  covered (suc n) zero (Some p) h k = absurd (omega (arith, k.0, k.1, last_within))
+  covered zero m (Some p) h k = absurd (omega (arith, h.0, h.1, last_within g not_utf begun))
+  covered (suc n) zero (Some p) h k = absurd (omega (arith, k.0, k.1, last_within g not_utf begun))
   covered (suc n) (suc m) (Some p) h k =
       from_is n p
       ∙ by_place p (tried g p) (λ signal. from_place g n (place_after g p signal)) (λ signal. from_place g m (place_after g p signal))
@@ -215,14 +127,14 @@ module _ (g : Setting) (not_utf : g.options.utf ≡ false) (begun : g.start ≤ 
   from_covered : (n : ℕ) (o : Option ℕ) → Covers n o → from_place g n o ≡ found_from g o
   unfolding Covers
   from_covered n None h = none_left n
-  from_covered n (Some p) h = covered n (length g.subject + 1 - p) (Some p) h (h.0, omega (arith, h.0, last_within))
+  from_covered n (Some p) h = covered n (length g.subject + 1 - p) (Some p) h (h.0, omega (arith, h.0, last_within g not_utf begun))
 
   -- What is found from a place on: what is found there, and from the place after it on.
 
   found_place : (p : ℕ) → p ≤ last_place g → found_from g (Some p) ≡ found_at p (tried g p) (λ signal. found_from g (place_after g p signal))
   found_place p h =
-      let left : length g.subject + 1 - p ≡ suc (length g.subject - p) = omega (arith, h, last_within) in
-      let room : length g.subject < suc (length g.subject - p) + p = omega (arith, h, last_within) in
+      let left : length g.subject + 1 - p ≡ suc (length g.subject - p) = omega (arith, h, last_within g not_utf begun) in
+      let room : length g.subject < suc (length g.subject - p) + p = omega (arith, h, last_within g not_utf begun) in
       ap (λ n. from_place g n (Some p)) left
       ∙ from_is (length g.subject - p) p
       ∙ by_place p (tried g p) (λ signal. from_place g (length g.subject - p) (place_after g p signal)) (λ signal. found_from g (place_after g p signal))
@@ -244,7 +156,7 @@ module _ (g : Setting) (not_utf : g.options.utf ≡ false) (begun : g.start ≤ 
       ∙ failed_silently p (found_from g (within g (next_place g p)))
 
   pub match_found : match_answer g ≡ found_from g (Some g.start)
-  match_found = ap (from_place g (length g.subject + 1 - g.start)) (up_to_is (last_place g) g.start start_within)
+  match_found = ap (from_place g (length g.subject + 1 - g.start)) (up_to_is (last_place g) g.start (start_within g not_utf begun))
 
   -- Places that are excluded, one after the other.
 
@@ -300,7 +212,7 @@ module _ (g : Setting) (not_utf : g.options.utf ≡ false) (begun : g.start ≤ 
           → found_from g (up_to (last_place g) (Some (behind g p k))) ≡ found_from g (Some p) → k < length g.subject → k ≤ last_place g → is_excluded g k ≡ true
           → found_from g (up_to (last_place g) (elim (passes_crlf g k) [ true ↦ Some (k + 2) | false ↦ Some (k + 1) ])) ≡ found_from g (Some p)
       one_more k (inl is) before inside within_last out =
-          ap (λ o. found_from g (up_to (last_place g) o)) (sym (next_inside k inside))
+          ap (λ o. found_from g (up_to (last_place g) o)) (sym (next_inside g not_utf begun k inside))
           ∙ sym (found_excluded k within_last out)
           ∙ ap (found_from g) (sym (up_to_is (last_place g) k within_last))
           ∙ ap (λ q. found_from g (up_to (last_place g) (Some q))) (sym is)

@@ -8,14 +8,14 @@ use Rattle.frame_machine.specs.declared.answer.PlaceAnswer.{PlaceAnswer}
 use Rattle.frame_machine.specs.declared.answer.PlaceAnswer.TheVariants.{Failed}
 use Rattle.frame_machine.specs.declared.answer.Signal.{Signal}
 use Rattle.frame_machine.specs.Answer.{signal_of, IsAnswer, IsMark}
-use Rattle.frame_machine.specs.PlaceAnswer as place
-use Rattle.frame_machine.specs.PlaceAnswer.{last_name, place_answer}
+use Rattle.ordered_search.specs.PlaceAnswer as place
+use Rattle.ordered_search.specs.PlaceAnswer.{last_name, place_answer}
 use Rattle.frame_machine.specs.Scratch.{Workspace}
-use Rattle.frame_machine.specs.Setting.{Setting}
+use Rattle.ordered_search.specs.Setting.{Setting}
 use Rattle.match_drive.specs.declared.answer.MatchAnswer.{MatchAnswer}
 use Rattle.match_drive.specs.Asked.{replied}
-use Rattle.match_drive.specs.Places.{last_place, place_after, is_excluded}
-use Rattle.match_drive.specs.MatchAnswer.{Found, match_answer}
+use Rattle.ordered_search.specs.Places.{last_place, place_after, is_excluded}
+use Rattle.ordered_search.specs.MatchAnswer.{Found, match_answer}
 use Rattle.match_drive.specs.Answer.{IsMatchAnswer, IsLastMark, TellsPlace}
 use Rattle.match_drive.specs.Rest.{found_from, first_hit, IsLeft, IsNextTried}
 use Rattle.match_drive.proofs.Steps.{left_at, next_same, match_found}

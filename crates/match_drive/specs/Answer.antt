@@ -4,13 +4,13 @@ use Rattle.frame_store.specs.Captures.{Captures}
 use Rattle.frame_machine.specs.declared.answer.PlaceAnswer.{PlaceAnswer}
 use Rattle.frame_machine.specs.declared.answer.PlaceAnswer.TheVariants.{Failed}
 use Rattle.frame_machine.specs.Answer.{IsAnswer, IsMark}
-use Rattle.frame_machine.specs.PlaceAnswer.{Signal, Walked, last_name}
-use Rattle.frame_machine.specs.PlaceAnswer as place
+use Rattle.ordered_search.specs.PlaceAnswer.{Signal, Walked, last_name}
+use Rattle.ordered_search.specs.PlaceAnswer as place
 use Rattle.match_drive.specs.declared.answer.MatchAnswer.{MatchAnswer}
 use Rattle.match_drive.specs.declared.answer.MatchAnswer.TheVariants as told
-use Rattle.match_drive.specs.MatchAnswer as meant
-use Rattle.match_drive.specs.MatchAnswer.{Found, none_found}
-use Rattle.match_drive.specs.Rest.{IsLeft, found_at}
+use Rattle.ordered_search.specs.MatchAnswer as meant
+use Rattle.ordered_search.specs.MatchAnswer.{Found, none_found, found_at}
+use Rattle.match_drive.specs.Rest.{IsLeft}
 
 -- The answer, and the captures of a match, are those of the search. Without a match the mark is the last name that was
 -- met. Want of memory may come at any time.

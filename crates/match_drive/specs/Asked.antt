@@ -1,8 +1,8 @@
 -- Searches that differ in what their callouts answer.
 use Rattle.std.specs.Prelude.{ℤ, pos}
 use Rattle.pcre_io.specs.declared.callouts.Block as told
-use Rattle.frame_machine.specs.Stream.{Block}
-use Rattle.frame_machine.specs.Setting.{Setting}
+use Rattle.ordered_search.specs.Stream.{Block}
+use Rattle.ordered_search.specs.Setting.{Setting}
 
 -- each callout is passed over
 abbrev pub passed_over : told.Block → ℤ

@@ -1,11 +1,6 @@
-pub mod Places
-pub mod MatchAnswer
 pub mod Asked
 pub mod Rest
 pub mod Answer
-pub mod Laws
-pub mod Forward
-pub mod Rows
 pub mod Begin
 pub mod Prefix
 pub mod Course

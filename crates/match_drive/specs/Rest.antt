@@ -1,19 +1,14 @@
 -- What is left of a search from a start place on, and how the places before add to it.
-use Rattle.std.specs.Prelude.{◌≡◌, ◌≤◌, ◌<◌, ℕ, ℤ, ◌+◌, ◌-◌, Bool, true, false, ◌&&◌, List, length, Option, Some, None, IsSomeAnd, nat_le, nat_lt}
+use Rattle.std.specs.Prelude.{◌≡◌, ◌≤◌, ◌<◌, ℕ, ℤ, ◌+◌, ◌-◌, Bool, true, false, ◌&&◌, List, length, Option, Some, None, IsSomeAnd, nat_lt}
 use Rattle.std.specs.Option.{option_or}
 use Rattle.byte_lanes.specs.Sets.{has_byte}
 use Rattle.pat_check.specs.Known.{IsByteSet}
-use Rattle.frame_machine.specs.Stream.{Block}
-use Rattle.frame_machine.specs.Setting.{Setting, lead_set}
-use Rattle.frame_machine.specs.PlaceAnswer.{Signal, PlaceAnswer, Matched, Failed, Partial, Walked, last_name}
+use Rattle.ordered_search.specs.Stream.{Block}
+use Rattle.ordered_search.specs.Setting.{Setting, lead_set}
+use Rattle.ordered_search.specs.PlaceAnswer.{last_name}
 use Rattle.match_drive.specs.Asked.{replied}
-use Rattle.match_drive.specs.Places.{passes_crlf, last_place, is_excluded}
-use Rattle.match_drive.specs.MatchAnswer.{MatchAnswer, Match, PartialFrom, Error, Found, none_found, decided, undecided, failed_at, from_place}
-
--- a place that is not past the last one
-abbrev pub up_to : ℕ → Option ℕ → Option ℕ
-up_to last None = None
-up_to last (Some p) = elim (nat_le p last) [ true ↦ Some p | false ↦ None ]
+use Rattle.ordered_search.specs.Places.{up_to, passes_crlf, last_place, is_excluded}
+use Rattle.ordered_search.specs.MatchAnswer.{MatchAnswer, Found, none_found, undecided, from_place}
 
 -- a byte that is not in the set
 abbrev pub IsByteOutside : List Bool → ℕ → Type 0
@@ -76,13 +71,3 @@ after_hit (Some p) a = undecided true p a
 pub record IsLeft (whole : Found) (first mark : Option ℕ) (rest : Found) : Type 0 where
   pub answer : whole.answer ≡ after_hit first rest.answer
   pub last_mark : last_name whole.notes ≡ option_or (last_name rest.notes) mark
-
--- what is found where a place answers so, and the later places follow one that failed
-abbrev pub found_by : ℕ → Walked → (Signal → Found) → PlaceAnswer → Found
-found_by p w later (Matched o) = decided w (Match o)
-found_by p w later (Failed signal) = failed_at p w (later signal)
-found_by p w later Partial = decided w (PartialFrom p)
-found_by p w later a = decided w (Error a)
-
-abbrev pub found_at : ℕ → Walked → (Signal → Found) → Found
-found_at p w later = found_by p w later w.answer

@@ -20,7 +20,8 @@ pub(crate) struct Course<'a> {
 }
 
 impl Driven for Course<'_> {
-    ghost use Rattle.std.specs.Prelude.{refl};
+    ghost use Rattle.std.proofs.Common.{refl, subst};
+    ghost use Rattle.match_items.specs.Subjects.{IsSubject, IsPlace};
     ghost use Rattle.frame_machine.specs.Ready.{setting_for};
     ghost use Rattle.match_drive.specs.Course.{IsByteCourse};
 
@@ -72,11 +73,9 @@ impl Driven for Course<'_> {
         run_at(self.ready, self.view, place, scratch, calls)
     }
 
-    ghost not_utf = { λ x h. h.bytes };
+    ghost subject_is = { λ x h. subst (λ o. IsSubject o x.view.now.subject.now) h.options h.subject };
 
-    ghost short = { λ x h. h.short };
-
-    ghost begun = { λ x h. h.start };
+    ghost start_is = { λ x h. subst (λ o. IsPlace o x.view.now.subject.now x.view.now.start) h.options h.start };
 
     ghost alike = { λ x answers. refl };
 }

@@ -1,14 +1,11 @@
 //! The search over all start places.
 ghost use Rattle.std.specs.Prelude.{◌≡◌, ◌≤◌, ◌<◌, false, length, max};
-ghost use Rattle.pat_tree.specs.Parts.{tree_of};
-ghost use Rattle.char_sets.specs.Table.{IsTableOf};
-ghost use Rattle.pat_check.specs.Built.{IsBuilt};
-ghost use Rattle.frame_machine.specs.Ready.{AreFactsOf, setting_for};
+ghost use Rattle.frame_machine.specs.Ready.{IsReadySearch, setting_for};
 ghost use Rattle.pat_tree.specs.declared.options.PartialMode.TheVariants.{Off};
 ghost use Rattle.pcre_io.specs.declared.callouts.Block.{Block};
 ghost use Rattle.match_drive.specs.Asked.{passed_over};
 ghost use Rattle.match_drive.specs.Answer.{IsMatchAnswer, IsLastMark, IsNotPartial, IsDeciding, TellsPlace, TellsNone};
-ghost use Rattle.match_drive.specs.MatchAnswer.{match_answer};
+ghost use Rattle.ordered_search.specs.MatchAnswer.{match_answer};
 ghost use Rattle.match_drive.specs.Rest as rest;
 
 use crate::answer::MatchAnswer;
@@ -114,14 +111,7 @@ pub fn search<C: Callouts>(
     scratch: &mut Scratch,
     calls: &mut C,
 ) -> MatchAnswer
-    requires table { IsTableOf ready.now.tree.now ready.now.classes.now }
-    requires facts { AreFactsOf ready.now.tree.now ready.now.facts.now }
-    requires options { view.now.options.now ≡ ready.now.tree.now.options }
-    requires start { view.now.start ≤ length view.now.subject.now }
-    requires short { length view.now.subject.now < 4294967295 }
-    requires bytes { ready.now.tree.now.options.utf ≡ false }
-    requires off { view.now.matching.now.«partial» ≡ Off }
-    requires built { IsBuilt (tree_of ready.now.tree.now) }
+    requires { IsReadySearch ready.now view.now }
     ensures answer { IsMatchAnswer result scratch.new.spans (match_answer (setting_for ready.now.tree.now view.now (C.answers calls.old))) }
     ensures last_mark { IsLastMark result scratch.new.last_mark (match_answer (setting_for ready.now.tree.now view.now (C.answers calls.old))) }
     ensures whole { IsNotPartial result }

@@ -2,10 +2,11 @@
 ghost use Rattle.std.specs.Prelude.{◌≡◌, ◌≤◌, ◌<◌, ℤ, max, false, length, IsTrue};
 ghost use Rattle.std.specs.Option.{option_copied};
 ghost use Rattle.pcre_io.specs.declared.callouts.Block.{Block};
+ghost use Rattle.match_items.specs.Subjects.{IsSubject, IsPlace};
 ghost use Rattle.pat_check.specs.Known.{IsByteSet};
 ghost use Rattle.frame_machine.specs.Answer.{IsAnswer, IsMark};
-ghost use Rattle.frame_machine.specs.PlaceAnswer.{place_answer};
-ghost use Rattle.frame_machine.specs.Setting.{Setting, lead_set, names_cr_or_lf};
+ghost use Rattle.ordered_search.specs.PlaceAnswer.{place_answer};
+ghost use Rattle.ordered_search.specs.Setting.{Setting, lead_set, names_cr_or_lf};
 ghost use Rattle.match_drive.specs.Asked.{passed_over, replied};
 ghost use Rattle.match_drive.specs.Begin.{StandsAtBegin};
 
@@ -58,7 +59,7 @@ pub trait Driven {
     fn try_at<C: Callouts>(&self, place: usize, scratch: &mut Scratch, calls: &mut C) -> PlaceAnswer
         requires fits { fits self.now }
         requires start { (asked self.now passed_over).start ≤ place }
-        requires place { place ≤ length (asked self.now passed_over).subject }
+        requires place { IsPlace (asked self.now passed_over).options (asked self.now passed_over).subject place }
         ensures answer { IsAnswer result scratch.new.spans (place_answer (asked self.now (C.answers calls.old)) place) }
         ensures mark { IsMark result scratch.old.last_mark scratch.new.last_mark (place_answer (asked self.now (C.answers calls.old)) place) }
         ensures peak { scratch.new.peak ≤ max scratch.old.peak (asked self.now passed_over).matching.frame_limit }
@@ -67,11 +68,9 @@ pub trait Driven {
         ensures rule { (block : Block) → C.answers calls.new block ≡ C.answers calls.old block }
         ensures seen { C.seen calls.new ≡ C.seen calls.old };
 
-    ghost not_utf: { (x : Self) → fits x → (asked x passed_over).options.utf ≡ false };
+    ghost subject_is: { (x : Self) → fits x → IsSubject (asked x passed_over).options (asked x passed_over).subject };
 
-    ghost short: { (x : Self) → fits x → length (asked x passed_over).subject < 4294967295 };
-
-    ghost begun: { (x : Self) → fits x → (asked x passed_over).start ≤ length (asked x passed_over).subject };
+    ghost start_is: { (x : Self) → fits x → IsPlace (asked x passed_over).options (asked x passed_over).subject (asked x passed_over).start };
 
     ghost alike: { (x : Self) (answers : Block → ℤ) → asked x answers ≡ replied (asked x answers).reply (asked x passed_over) };
 }

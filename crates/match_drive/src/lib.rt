@@ -7,11 +7,9 @@ mod begin;
 mod course;
 mod drive;
 mod driven;
-mod laws;
 mod places;
 mod prefix;
 
 pub use answer::MatchAnswer;
 pub use drive::{search, search_on};
 pub use driven::Driven;
-pub use laws::{no_partial_match, searches_go_forward, worked_rows};

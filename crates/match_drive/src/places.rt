@@ -3,60 +3,32 @@ ghost use Rattle.std.specs.Prelude.{◌≡◌, ◌≤◌, ◌<◌, ◌+◌, ◌&
 ghost use Rattle.std.specs.Option.{option_copied};
 ghost use Rattle.byte_lanes.specs.Newlines.{newline_len};
 ghost use Rattle.byte_lanes.specs.Sets.{has_byte};
-ghost use Rattle.pat_tree.specs.Newlines as newlines;
+ghost use Rattle.match_items.specs.Subjects.{IsPlace};
 ghost use Rattle.frame_machine.specs.Answer.{signal_of};
 ghost use Rattle.match_drive.specs.Asked.{passed_over};
-ghost use Rattle.match_drive.specs.Places as places;
-ghost use Rattle.match_drive.specs.Places.{has_crlf};
-ghost use Rattle.match_drive.specs.Rest.{IsLeadUsed, IsByteOutside, IsPassedAlways, IsNextTriedAlways, up_to, behind};
+ghost use Rattle.ordered_search.specs.Places as places;
+ghost use Rattle.ordered_search.specs.Places.{up_to};
+ghost use Rattle.match_drive.specs.Rest.{IsLeadUsed, IsByteOutside, IsPassedAlways, IsNextTriedAlways, behind};
 
 use crate::driven::Driven;
-use byte_lanes::{ByteSet, EndKind, find_in_set, find_line_end};
+use byte_lanes::{ByteSet, EndKind, find_in_set, find_line_end, newline_at};
 use frame_machine::Signal;
-use pat_tree::{Newline, PartialMode, newline_at};
-
-/// The texts that end a line, outside UTF.
-fn end_kind(newline: Newline) -> EndKind
-    ensures { result ≡ newlines.end_kind newline false }
-{
-    match newline {
-        Newline::Cr => EndKind::Cr,
-        Newline::Lf => EndKind::Lf,
-        Newline::CrLf => EndKind::CrLf,
-        Newline::AnyCrLf => EndKind::AnyCrLf,
-        Newline::Any => EndKind::Any,
-        Newline::Nul => EndKind::Nul,
-    }
-}
-
-/// Whether CRLF is one of the convention's newlines.
-fn has_crlf(newline: Newline) -> bool
-    ensures { result ≡ has_crlf newline }
-{
-    matches!(newline, Newline::CrLf | Newline::AnyCrLf | Newline::Any)
-}
-
-/// Whether CR and LF stand there.
-fn crlf_at(bytes: &[u8], at: usize) -> bool
-    requires { at ≤ length bytes.now }
-    ensures { result ≡ nat_lt 0 (newline_len EndKind.CrLf bytes.now at) }
-{
-    newline_at(bytes, at, Newline::CrLf, false) > 0
-}
+use pat_tree::PartialMode;
 
 /// Whether a CRLF is passed whole at a place: where it is a newline, and the pattern names no half of it.
 fn passes_crlf<S: Driven>(on: &S, at: usize) -> bool
     requires fits { S.fits on.now }
-    requires at { at ≤ length (S.asked on.now passed_over).subject }
+    requires at { IsPlace (S.asked on.now passed_over).options (S.asked on.now passed_over).subject at }
     ensures { result ≡ places.passes_crlf (S.asked on.now passed_over) at }
 {
-    has_crlf(on.options().newline) && crlf_at(on.subject(), at) && !on.names_crlf()
+    let kind = on.options().newline.end_kind(on.options().utf);
+    kind.has_crlf() && newline_at(on.subject(), at, EndKind::CrLf) > 0 && !on.names_crlf()
 }
 
 /// The place after another, if there is one.
 pub(crate) fn next_place<S: Driven>(on: &S, at: usize) -> Option<usize>
     requires fits { S.fits on.now }
-    requires at { at ≤ length (S.asked on.now passed_over).subject }
+    requires at { IsPlace (S.asked on.now passed_over).options (S.asked on.now passed_over).subject at }
     ensures { result ≡ places.next_place (S.asked on.now passed_over) at }
 {
     if at == on.subject().len() {
@@ -84,7 +56,7 @@ pub(crate) fn last_place<S: Driven>(on: &S) -> usize
     if !on.options().firstline {
         return on.subject().len();
     }
-    find_line_end(on.subject(), start, end_kind(on.options().newline)).at
+    find_line_end(on.subject(), start, on.options().newline.end_kind(false)).at
 }
 
 /// A place that is not past the last one.
@@ -106,7 +78,7 @@ pub(crate) fn place_after<S: Driven>(
     last: usize,
 ) -> Option<usize>
     requires fits { S.fits on.now }
-    requires at { at ≤ length (S.asked on.now passed_over).subject }
+    requires at { IsPlace (S.asked on.now passed_over).options (S.asked on.now passed_over).subject at }
     requires last { last ≡ places.last_place (S.asked on.now passed_over) }
     ensures value { result ≡ places.place_after (S.asked on.now passed_over) at (signal_of signal) }
     ensures later { IfSome result (λ to. at < to) }
@@ -135,7 +107,7 @@ fn lead_used<S: Driven>(on: &S) -> Option<&ByteSet>
 /// Whether a place is left out, as no match begins with the byte there.
 fn is_excluded<S: Driven>(on: &S, at: usize) -> bool
     requires fits { S.fits on.now }
-    requires at { at ≤ length (S.asked on.now passed_over).subject }
+    requires at { IsPlace (S.asked on.now passed_over).options (S.asked on.now passed_over).subject at }
     ensures { result ≡ places.is_excluded (S.asked on.now passed_over) at }
 {
     let Some(set) = lead_used(on) else {

@@ -1,15 +1,14 @@
 -- Places before and after what is taken, outside UTF.
-use Rattle.std.proofs.Common.{◌≡◌, ◌∙◌, ℕ, zero, suc, ◌+◌, ◌-◌, ◌<◌, ◌≤◌, Bool, true, false, ◌&&◌, List, [], ◌∷◌, Option, Some, None, length, take, drop, slice_range, nat_lt, nat_le, refl, sym, ap, subst, arith, inl, inr, length-drop, length-take, get_or, ◌==◌, chars, sum_by, add-zero}
+use Rattle.std.proofs.Common.{◌≡◌, ◌∙◌, ℕ, zero, suc, ◌+◌, ◌-◌, ◌<◌, ◌≤◌, Bool, true, false, List, [], ◌∷◌, Some, None, length, take, drop, slice_range, nat_lt, nat_le, refl, sym, ap, arith, inl, inr, length-drop, length-take, get_or, ◌==◌, chars, sum_by, add-zero}
 use Rattle.std.proofs.lemmas.Bool.{cases_Bool, cases_lt, and_parts, ltb-true}
 use Rattle.std.proofs.lemmas.Bool.Decides.{nat_tests}
-use Rattle.byte_lanes.specs.declared.line_end.EndKind.{EndKind}
-use Rattle.byte_lanes.specs.Newlines.{stands, longest, newline_texts, newline_len}
+use Rattle.byte_lanes.specs.Newlines.{stands, longest, newline_texts}
 use Rattle.pat_tree.specs.declared.nodes.Item.{Item}
 use Rattle.std.specs.Char.{len_utf8}
 use Rattle.uni_text.specs.Characters.{char_before}
 use Rattle.pat_tree.specs.Newlines.{break_kind}
 use Rattle.match_items.specs.Scene.{Scene}
-use Rattle.match_items.specs.Items.{takes, place_before, after_item, break_len, after_break, characters, width, after_text, after_ref}
+use Rattle.match_items.specs.Items.{place_before, after_item, break_len, after_break, characters, width, after_text, after_ref}
 use Rattle.match_items.proofs.OneItem.{if_taken, after_item-before, after_item-end, told_break}
 
 -- the character before a place that is not the first is the byte before

@@ -1,4 +1,5 @@
 pub mod Scene
+pub mod Subjects
 pub mod Items
 pub mod Views
 pub mod Laws

@@ -1,11 +1,12 @@
 //! Simple assertions, and `\R`.
 ghost use Rattle.std.specs.Prelude.{◌≡◌, ◌<◌, ◌≤◌, ◌||◌, true, false, length};
+ghost use Rattle.match_items.specs.Subjects.{IsSubject, IsPlace};
 ghost use Rattle.match_items.specs.Items as items;
 ghost use Rattle.match_items.specs.Items.{after_break, break_reaches, holds, anchor_reaches, is_close, is_boundary};
 ghost use Rattle.match_items.specs.Views.{bare_scene, told, asks_ucp};
 
 use crate::view::{Held, Taken, View};
-use pat_tree::{AnchorKind, Bsr, Newline, newline_at, newline_before};
+use pat_tree::{AnchorKind, Newline, newline_at, newline_before};
 use uni_text::is_word;
 
 /// Tests `\R` at a place (pcre2pattern, "Newline sequences"). It reaches the subject's end where it is tried there, and where it took
@@ -13,9 +14,8 @@ use uni_text::is_word;
 ///
 /// Needs a subject of fewer than 4,294,967,295 bytes without UTF, and a place in it.
 pub fn break_step(view: &View<'_>, at: usize) -> Taken
-    requires short { length view.now.subject.now < 4294967295 }
-    requires bytes { view.now.options.now.utf ≡ false }
-    requires place { at ≤ length view.now.subject.now }
+    requires subject { IsSubject view.now.options.now view.now.subject.now }
+    requires place { IsPlace view.now.options.now view.now.subject.now at }
     ensures { let g = bare_scene view.now in result ≡ told (after_break g at) (break_reaches g at) }
 {
     if at == view.subject.len() {
@@ -29,15 +29,11 @@ pub fn break_step(view: &View<'_>, at: usize) -> Taken
 
 /// The length of the newline sequence at a place, 0 where there is none.
 fn break_len(view: &View<'_>, at: usize) -> usize
-    requires bytes { view.now.options.now.utf ≡ false }
-    requires place { at ≤ length view.now.subject.now }
+    requires subject { IsSubject view.now.options.now view.now.subject.now }
+    requires place { IsPlace view.now.options.now view.now.subject.now at }
     ensures { result ≡ items.break_len (bare_scene view.now) at }
 {
-    let newline = match view.options.bsr {
-        Bsr::Unicode => Newline::Any,
-        Bsr::AnyCrLf => Newline::AnyCrLf,
-    };
-    newline_at(view.subject, at, newline, false)
+    byte_lanes::newline_at(view.subject, at, view.options.bsr.end_kind(false))
 }
 
 /// Tests a simple assertion at a place, and tells whether it reaches the subject's end (pcre2pattern, "Simple assertions",
@@ -45,9 +41,8 @@ fn break_len(view: &View<'_>, at: usize) -> usize
 ///
 /// Needs a subject of fewer than 4,294,967,295 bytes without UTF, a place in it, and no word characters of Unicode.
 pub fn anchor(view: &View<'_>, kind: AnchorKind, at: usize) -> Held
-    requires short { length view.now.subject.now < 4294967295 }
-    requires bytes { view.now.options.now.utf ≡ false }
-    requires place { at ≤ length view.now.subject.now }
+    requires subject { IsSubject view.now.options.now view.now.subject.now }
+    requires place { IsPlace view.now.options.now view.now.subject.now at }
     requires ascii { asks_ucp kind ≡ false }
     ensures holds { result.holds ≡ holds (bare_scene view.now) kind at }
     ensures at_end { result.at_end ≡ anchor_reaches (bare_scene view.now) kind at }
@@ -87,8 +82,8 @@ fn inside(holds: bool) -> Held
 
 /// `^`
 fn caret(view: &View<'_>, multi: bool, at: usize) -> bool
-    requires bytes { view.now.options.now.utf ≡ false }
-    requires place { at ≤ length view.now.subject.now }
+    requires subject { IsSubject view.now.options.now view.now.subject.now }
+    requires place { IsPlace view.now.options.now view.now.subject.now at }
     ensures { result ≡ holds (bare_scene view.now) (AnchorKind.Caret multi) at }
 {
     if at == 0 {
@@ -101,10 +96,12 @@ fn caret(view: &View<'_>, multi: bool, at: usize) -> bool
 
 /// `$` under MULTILINE
 fn line_end(view: &View<'_>, at: usize) -> Held
-    requires bytes { view.now.options.now.utf ≡ false }
-    requires place { at ≤ length view.now.subject.now }
-    ensures holds { (end_only : _) → result.holds ≡ holds (bare_scene view.now) (AnchorKind.Dollar true end_only) at }
-    ensures at_end { (end_only : _) → result.at_end ≡ anchor_reaches (bare_scene view.now) (AnchorKind.Dollar true end_only) at }
+    requires subject { IsSubject view.now.options.now view.now.subject.now }
+    requires place { IsPlace view.now.options.now view.now.subject.now at }
+    ensures holds { (end_only : _)
+        → result.holds ≡ holds (bare_scene view.now) (AnchorKind.Dollar true end_only) at }
+    ensures at_end { (end_only : _)
+        → result.at_end ≡ anchor_reaches (bare_scene view.now) (AnchorKind.Dollar true end_only) at }
 {
     if at == view.subject.len() {
         let holds = !view.matching.noteol;
@@ -121,10 +118,12 @@ fn line_end(view: &View<'_>, at: usize) -> Held
 
 /// `$`
 fn dollar(view: &View<'_>, multi: bool, end_only: bool, at: usize) -> Held
-    requires bytes { view.now.options.now.utf ≡ false }
-    requires place { at ≤ length view.now.subject.now }
-    ensures holds { result.holds ≡ holds (bare_scene view.now) (AnchorKind.Dollar multi end_only) at }
-    ensures at_end { result.at_end ≡ anchor_reaches (bare_scene view.now) (AnchorKind.Dollar multi end_only) at }
+    requires subject { IsSubject view.now.options.now view.now.subject.now }
+    requires place { IsPlace view.now.options.now view.now.subject.now at }
+    ensures holds { let kind = AnchorKind.Dollar multi end_only
+        in result.holds ≡ holds (bare_scene view.now) kind at }
+    ensures at_end { let kind = AnchorKind.Dollar multi end_only
+        in result.at_end ≡ anchor_reaches (bare_scene view.now) kind at }
 {
     if multi {
         return line_end(view, at);
@@ -143,10 +142,11 @@ fn dollar(view: &View<'_>, multi: bool, end_only: bool, at: usize) -> Held
 
 /// `\Z`
 fn close(view: &View<'_>, at: usize) -> Held
-    requires bytes { view.now.options.now.utf ≡ false }
-    requires place { at ≤ length view.now.subject.now }
+    requires subject { IsSubject view.now.options.now view.now.subject.now }
+    requires place { IsPlace view.now.options.now view.now.subject.now at }
     ensures holds { result.holds ≡ is_close (bare_scene view.now) at }
-    ensures at_end { result.at_end ≡ (is_close (bare_scene view.now) at || items.is_half_newline (bare_scene view.now) at) }
+    ensures at_end { let g = bare_scene view.now
+        in result.at_end ≡ (is_close g at || items.is_half_newline g at) }
 {
     let holds = is_close(view, at);
     Held {
@@ -157,8 +157,8 @@ fn close(view: &View<'_>, at: usize) -> Held
 
 /// Whether the place is the end, or a newline stands there that ends at the end.
 fn is_close(view: &View<'_>, at: usize) -> bool
-    requires bytes { view.now.options.now.utf ≡ false }
-    requires place { at ≤ length view.now.subject.now }
+    requires subject { IsSubject view.now.options.now view.now.subject.now }
+    requires place { IsPlace view.now.options.now view.now.subject.now at }
     ensures { result ≡ is_close (bare_scene view.now) at }
 {
     if at == view.subject.len() {
@@ -170,7 +170,7 @@ fn is_close(view: &View<'_>, at: usize) -> bool
 
 /// Whether the last byte stands there, and may be the first half of a newline CRLF.
 pub(crate) fn is_half_newline(view: &View<'_>, at: usize) -> bool
-    requires { at ≤ length view.now.subject.now }
+    requires { IsPlace view.now.options.now view.now.subject.now at }
     ensures { result ≡ items.is_half_newline (bare_scene view.now) at }
 {
     let is_last = view.subject.len() - at == 1;
@@ -179,8 +179,8 @@ pub(crate) fn is_half_newline(view: &View<'_>, at: usize) -> bool
 
 /// Whether a word character of ASCII stands on one side alone.
 fn is_boundary(view: &View<'_>, at: usize) -> bool
-    requires bytes { view.now.options.now.utf ≡ false }
-    requires place { at ≤ length view.now.subject.now }
+    requires subject { IsSubject view.now.options.now view.now.subject.now }
+    requires place { IsPlace view.now.options.now view.now.subject.now at }
     ensures { result ≡ is_boundary (bare_scene view.now) false at }
 {
     let before = at > 0 && is_word(view.subject[at - 1] as u32, false);

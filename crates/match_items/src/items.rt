@@ -2,6 +2,7 @@
 ghost use Rattle.std.specs.Prelude.{◌≡◌, ◌+◌, ◌<◌, ◌≤◌, ◌==◌, All, false, length, slice_index, if◌then◌else◌};
 ghost use Rattle.pat_tree.specs.Rules.{class_in};
 ghost use Rattle.uni_text.specs.Ascii.{ascii_fold};
+ghost use Rattle.match_items.specs.Subjects.{IsSubject, IsPlace};
 ghost use Rattle.match_items.specs.Items as items;
 ghost use Rattle.match_items.specs.Items.{after_item, item_reaches};
 ghost use Rattle.match_items.specs.Views.{scene_of, bare_scene, told, step_tests};
@@ -23,11 +24,11 @@ pub fn step<L: Ledger>(
     at: usize,
     steps: &mut Steps<L>,
 ) -> Taken
-    requires short { length view.now.subject.now < 4294967295 }
-    requires bytes { view.now.options.now.utf ≡ false }
-    requires place { at ≤ length view.now.subject.now }
+    requires subject { IsSubject view.now.options.now view.now.subject.now }
+    requires place { IsPlace view.now.options.now view.now.subject.now at }
     requires class { All (λ n. n < length classes.now) (class_in item.now) }
-    ensures takes { let g = scene_of view.now classes.now in result ≡ told (after_item g item.now at) (item_reaches g item.now at) }
+    ensures takes { let g = scene_of view.now classes.now
+        in result ≡ told (after_item g item.now at) (item_reaches g item.now at) }
     ensures tests { steps.new ≡ steps.old + step_tests (scene_of view.now classes.now) item.now at }
 {
     if at == view.subject.len() {
@@ -49,10 +50,11 @@ fn takes<L: Ledger>(
     at: usize,
     steps: &mut Steps<L>,
 ) -> bool
-    requires bytes { view.now.options.now.utf ≡ false }
+    requires subject { IsSubject view.now.options.now view.now.subject.now }
     requires place { at < length view.now.subject.now }
     requires class { All (λ n. n < length classes.now) (class_in item.now) }
-    ensures value { result ≡ items.takes (scene_of view.now classes.now) item.now at (slice_index view.now.subject.now at) }
+    ensures value { let g = scene_of view.now classes.now
+        in result ≡ items.takes g item.now at (slice_index view.now.subject.now at) }
     ensures tests { steps.new ≡ steps.old + step_tests (scene_of view.now classes.now) item.now at }
 {
     match *item {

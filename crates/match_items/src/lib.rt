@@ -9,6 +9,7 @@ mod references;
 mod runs;
 #[cfg(test)]
 mod tests;
+mod uncounted;
 mod view;
 
 pub use anchors::{anchor, break_step};
@@ -16,4 +17,5 @@ pub use items::step;
 pub use laws::{tables_show_classes, worked_rows};
 pub use references::ref_step;
 pub use runs::run_len;
+pub use uncounted::{item_run, item_step};
 pub use view::{Held, ItemRun, Taken, View};

@@ -1,5 +1,6 @@
 //! Texts that stand again.
 ghost use Rattle.std.specs.Prelude.{◌≡◌, ◌<◌, ◌≤◌, false, length};
+ghost use Rattle.match_items.specs.Subjects.{IsSubject, IsPlace};
 ghost use Rattle.match_items.specs.Items as items;
 ghost use Rattle.match_items.specs.Items.{after_ref, ref_reaches};
 ghost use Rattle.match_items.specs.Views.{bare_scene, told};
@@ -13,12 +14,13 @@ use crate::view::{Taken, View};
 ///
 /// Needs a subject of fewer than 4,294,967,295 bytes without UTF, and places in it of which `from` is at most `to`.
 pub fn ref_step(view: &View<'_>, from: usize, to: usize, caseless: bool, at: usize) -> Taken
-    requires short { length view.now.subject.now < 4294967295 }
-    requires bytes { view.now.options.now.utf ≡ false }
+    requires subject { IsSubject view.now.options.now view.now.subject.now }
+    requires from { IsPlace view.now.options.now view.now.subject.now from }
+    requires to { IsPlace view.now.options.now view.now.subject.now to }
     requires ordered { from ≤ to }
-    requires text { to ≤ length view.now.subject.now }
-    requires place { at ≤ length view.now.subject.now }
-    ensures { let g = bare_scene view.now in result ≡ told (after_ref g from to caseless at) (ref_reaches g from to caseless at) }
+    requires place { IsPlace view.now.options.now view.now.subject.now at }
+    ensures { let g = bare_scene view.now
+        in result ≡ told (after_ref g from to caseless at) (ref_reaches g from to caseless at) }
 {
     let text = &view.subject[from..to];
     let rest = &view.subject[at..];
@@ -34,7 +36,7 @@ pub fn ref_step(view: &View<'_>, from: usize, to: usize, caseless: bool, at: usi
 
 /// Whether two texts agree as far as both go.
 fn same_front(view: &View<'_>, caseless: bool, text: &[u8], rest: &[u8]) -> bool
-    requires { view.now.options.now.utf ≡ false }
+    requires { IsSubject view.now.options.now view.now.subject.now }
     ensures { result ≡ items.same_front (bare_scene view.now) caseless text.now rest.now }
 {
     let shorter = text.len().min(rest.len());

@@ -2,19 +2,20 @@
 ghost use Rattle.std.specs.Prelude.{◌≡◌, ◌+◌, ◌-◌, ◌<◌, ◌≤◌, ◌==◌, ◌&&◌, ◌||◌, All, false, nat_lt, length, slice_index, if◌then◌else◌};
 ghost use Rattle.byte_lanes.specs.Newlines.{newline_len};
 ghost use Rattle.byte_lanes.specs.Places.{IsLeast};
-ghost use Rattle.pat_tree.specs.Newlines as convention;
+ghost use Rattle.pat_tree.specs.Newlines.{end_kind};
 ghost use Rattle.pat_tree.specs.Rules.{class_in};
 ghost use Rattle.uni_text.specs.Ascii.{ascii_fold};
 ghost use Rattle.char_sets.specs.Table.{table_has};
+ghost use Rattle.match_items.specs.Subjects.{IsSubject, IsPlace};
 ghost use Rattle.match_items.specs.Items.{takes, is_end, item_reaches, longest_run, run_reaches};
 ghost use Rattle.match_items.specs.Views.{scene_of, bare_scene, maximum, end_of, run_tests, span_tests};
 
 use crate::anchors::is_half_newline;
 use crate::items::fold;
 use crate::view::{ItemRun, View};
-use byte_lanes::{EndKind, find_line_end};
+use byte_lanes::find_line_end;
 use char_sets::ClassTable;
-use pat_tree::{Item, Newline, Steps};
+use pat_tree::{Item, Steps};
 use std::sync::ledger::Ledger;
 
 /// The longest run of an item from a place on, of `max` characters at most; `u32::MAX` stands for no maximum (pcre2pattern,
@@ -31,14 +32,19 @@ pub fn run_len<L: Ledger>(
     max: u32,
     steps: &mut Steps<L>,
 ) -> ItemRun
-    requires short { length view.now.subject.now < 4294967295 }
-    requires bytes { view.now.options.now.utf ≡ false }
-    requires place { at ≤ length view.now.subject.now }
+    requires subject { IsSubject view.now.options.now view.now.subject.now }
+    requires place { IsPlace view.now.options.now view.now.subject.now at }
     requires class { All (λ n. n < length classes.now) (class_in item.now) }
-    ensures count { let g = scene_of view.now classes.now in result.count ≡ length (longest_run g item.now (maximum max) at) }
-    ensures to { let g = scene_of view.now classes.now in result.to ≡ end_of at (longest_run g item.now (maximum max) at) }
-    ensures at_end { let g = scene_of view.now classes.now in result.at_end ≡ run_reaches g item.now (maximum max) at (longest_run g item.now (maximum max) at) }
-    ensures tests { let g = scene_of view.now classes.now in steps.new ≡ steps.old + run_tests g item.now (maximum max) at (longest_run g item.now (maximum max) at) }
+    ensures count { let g = scene_of view.now classes.now
+        in result.count ≡ length (longest_run g item.now (maximum max) at) }
+    ensures to { let g = scene_of view.now classes.now
+        in result.to ≡ end_of at (longest_run g item.now (maximum max) at) }
+    ensures at_end { let g = scene_of view.now classes.now
+        in result.at_end ≡ run_reaches g item.now (maximum max) at
+        (longest_run g item.now (maximum max) at) }
+    ensures tests { let g = scene_of view.now classes.now
+        in steps.new ≡ steps.old + run_tests g item.now (maximum max) at
+        (longest_run g item.now (maximum max) at) }
     ensures few { steps.new ≤ steps.old + (result.count + 1) }
 {
     let limit = view.subject.len().min(at + max as usize);
@@ -60,12 +66,12 @@ fn run_end<L: Ledger>(
     limit: usize,
     steps: &mut Steps<L>,
 ) -> usize
-    requires short { length view.now.subject.now < 4294967295 }
-    requires bytes { view.now.options.now.utf ≡ false }
+    requires subject { IsSubject view.now.options.now view.now.subject.now }
     requires ordered { from ≤ limit }
     requires within { limit ≤ length view.now.subject.now }
     requires class { All (λ n. n < length classes.now) (class_in item.now) }
-    ensures end { IsLeast (λ k. takes (scene_of view.now classes.now) item.now k (slice_index view.now.subject.now k) ≡ false) from limit result }
+    ensures end { let g = scene_of view.now classes.now in IsLeast
+        (λ k. takes g item.now k (slice_index view.now.subject.now k) ≡ false) from limit result }
     ensures tests { steps.new ≡ steps.old + span_tests item.now from result limit }
 {
     match *item {
@@ -80,7 +86,9 @@ fn run_end<L: Ledger>(
 fn char_run(bytes: &[u8], c: u32, caseless: bool, from: usize, limit: usize) -> usize
     requires ordered { from ≤ limit }
     requires within { limit ≤ length bytes.now }
-    ensures { IsLeast (λ k. (if caseless then ascii_fold c == ascii_fold (slice_index bytes.now k) else c == slice_index bytes.now k) ≡ false) from limit result }
+    ensures { IsLeast (λ k.
+        (if caseless then ascii_fold c == ascii_fold (slice_index bytes.now k)
+        else c == slice_index bytes.now k) ≡ false) from limit result }
 {
     if caseless {
         folded_run(bytes, fold(c), from, limit)
@@ -105,7 +113,8 @@ fn byte_run(bytes: &[u8], c: u32, from: usize, limit: usize) -> usize
 fn folded_run(bytes: &[u8], folded: u32, from: usize, limit: usize) -> usize
     requires ordered { from ≤ limit }
     requires within { limit ≤ length bytes.now }
-    ensures { IsLeast (λ k. (folded == ascii_fold (slice_index bytes.now k)) ≡ false) from limit result }
+    ensures { IsLeast (λ k. (folded == ascii_fold (slice_index bytes.now k)) ≡ false)
+        from limit result }
 {
     for i in from..limit {
         if folded != fold(bytes[i] as u32) {
@@ -127,8 +136,10 @@ fn class_run<L: Ledger>(
     requires ordered { from ≤ limit }
     requires within { limit ≤ length bytes.now }
     requires class { class < length classes.now }
-    ensures end { IsLeast (λ k. table_has classes.now class (slice_index bytes.now k) ≡ false) from limit result }
-    ensures tests { steps.new ≡ steps.old + ((result - from) + (if nat_lt result limit then 1 else 0)) }
+    ensures end { IsLeast (λ k. table_has classes.now class (slice_index bytes.now k) ≡ false)
+        from limit result }
+    ensures tests { steps.new
+        ≡ steps.old + ((result - from) + (if nat_lt result limit then 1 else 0)) }
 {
     for i in from..limit {
         if !classes.has(class, bytes[i] as u32, steps) {
@@ -142,33 +153,25 @@ fn class_run<L: Ledger>(
 fn line_run(view: &View<'_>, from: usize, limit: usize) -> usize
     requires ordered { from ≤ limit }
     requires within { limit ≤ length view.now.subject.now }
-    requires short { length view.now.subject.now < 4294967295 }
-    ensures { IsLeast (λ k. (newline_len (convention.end_kind view.now.options.now.newline false) view.now.subject.now k == 0) ≡ false) from limit result }
+    requires subject { IsSubject view.now.options.now view.now.subject.now }
+    ensures { let kind = end_kind view.now.options.now.newline false in IsLeast
+        (λ k. (newline_len kind view.now.subject.now k == 0) ≡ false) from limit result }
 {
     // A newline that begins before the limit has one byte past it at most.
     let near = view.subject.len().min(limit + 1);
-    let end = find_line_end(&view.subject[..near], from, end_kind(view.options.newline));
+    let end = find_line_end(
+        &view.subject[..near],
+        from,
+        view.options.newline.end_kind(false),
+    );
     end.at.min(limit)
-}
-
-/// The texts that end a line in bytes.
-fn end_kind(newline: Newline) -> EndKind
-    ensures { result ≡ convention.end_kind newline false }
-{
-    match newline {
-        Newline::Cr => EndKind::Cr,
-        Newline::Lf => EndKind::Lf,
-        Newline::CrLf => EndKind::CrLf,
-        Newline::AnyCrLf => EndKind::AnyCrLf,
-        Newline::Any => EndKind::Any,
-        Newline::Nul => EndKind::Nul,
-    }
 }
 
 /// Whether a run between two places reaches the subject's end. `fewer` says that it has fewer characters than its maximum.
 fn reaches(view: &View<'_>, item: &Item, from: usize, to: usize, fewer: bool) -> bool
-    requires { to ≤ length view.now.subject.now }
-    ensures { result ≡ (is_end (bare_scene view.now) to && (fewer || nat_lt from to && item_reaches (bare_scene view.now) item.now (to - 1))) }
+    requires { IsPlace view.now.options.now view.now.subject.now to }
+    ensures { let g = bare_scene view.now
+        in result ≡ (is_end g to && (fewer || nat_lt from to && item_reaches g item.now (to - 1))) }
 {
     if to < view.subject.len() {
         return false;

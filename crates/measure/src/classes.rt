@@ -1,6 +1,6 @@
 //! How many bytes of a text a class has, by its table and by a plain array.
 ghost use Rattle.std.specs.Prelude.{◌≡◌, ◌<◌, ◌∷◌, [], false, All, IsTrue, length, IfOk};
-ghost use Rattle.char_sets.specs.Sets.{is_plain};
+ghost use Rattle.pat_tree.specs.Built.{is_plain};
 
 use char_sets::ClassTable;
 use pat_tree::{BadRef, ClassSpec, Draft, Item, ListOf, Memory, Node, Options, Part, Steps, Tree};

@@ -7,7 +7,7 @@ use Rattle.std.proofs.lemmas.Map.Steps.{length-le_from_distinct_below}
 use Rattle.pat_tree.specs.Refs.{is_in}
 use Rattle.node_flow.proofs.Members.{Once, of_member}
 
-flipped : (k : ℕ) (xs : List ℕ) → list_any (nat_eq k) xs ≡ is_in k xs
+pub flipped : (k : ℕ) (xs : List ℕ) → list_any (nat_eq k) xs ≡ is_in k xs
 flipped k [] = refl
 flipped k (x ∷ xs) = let one : nat_eq k x ≡ (x == k) = grind (arith, nat_tests) in rw (one, flipped k xs) refl
 

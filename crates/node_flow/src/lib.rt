@@ -9,4 +9,4 @@ mod tests;
 
 pub use flow::Flow;
 pub use laws::{followers_hang_together, parts_stand_in_order, worked_rows};
-pub use ranks::Ranks;
+pub use ranks::{Ranks, preorder};

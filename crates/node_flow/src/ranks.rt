@@ -58,8 +58,8 @@ fn places(alloc: Global, order: &[NodeId], count: usize) -> Result<Vec<u32>, Mem
     Ok(ranks)
 }
 
-/// The parts under the root, each before its children.
-fn preorder(alloc: Global, tree: &Tree) -> Result<Vec<NodeId>, Memory>
+/// The parts under the root, each before its children. Fails for want of memory alone.
+pub fn preorder(alloc: Global, tree: &Tree) -> Result<Vec<NodeId>, Memory>
     ensures parts { IfOk result (λ parts. parts.items ≡ order tree.now.nodes tree.now.root) }
     ensures below { IfOk result (λ parts. All (λ k. k ≤ tree.now.root) parts.items) }
     ensures once { IfOk result (λ parts. IsDistinct nat_eq parts.items) }

@@ -4,9 +4,7 @@ pub mod RowProofs
 pub mod Spots
 pub mod Steps
 mod Holding
-mod PlainTokens
-mod PlainClasses
-mod PlainReading
+mod Searchable
 pub mod Standing
 pub mod States
 pub mod Waiting

@@ -6,11 +6,11 @@ use Rattle.pat_tree.specs.declared.nodes.Placed.{Placed}
 use Rattle.pat_tree.specs.declared.nodes.Node.TheVariants as node
 use Rattle.pat_tree.specs.declared.names.NameEntry.{NameEntry}
 use Rattle.pat_tree.specs.Nested.{Nested, one, repeat, tree_at, trees}
-use Rattle.pat_tree.specs.Parts.{DraftParts, TreeParts, tree_of}
+use Rattle.pat_tree.specs.Parts.{DraftParts, TreeParts}
+use Rattle.pat_tree.specs.Pattern.{pattern_of}
 use Rattle.pat_tree.specs.Refs.{refs, has_group}
 use Rattle.pat_tree.specs.Rules.{class_in}
 use Rattle.pat_tree.specs.Growing.{Stand, loose}
-use Rattle.pat_tree.specs.Sound.{greatest, group_numbers}
 use Rattle.token_parts.specs.declared.fault.Fault.{Fault}
 use Rattle.token_parts.specs.declared.token.Token.{Token}
 use Rattle.token_parts.specs.declared.token.Token.TheVariants.{End, Literal, Dot, NotNewline, LineBreak, KeepOut, Caret, Dollar, SubjectStart, SubjectEnd, EndOrNewline, StartGiven, Boundary}
@@ -42,7 +42,7 @@ references_of (p ∷ ps) = reference_in p ++ references_of ps
 
 -- what a tree says of its pattern
 abbrev pub parsed_of : TreeParts → Parsed
-parsed_of t = record { options = t.options; tree = tree_of t; classes = t.classes; names = t.names; places = map (λ r. r.at) (references_of t.nodes); groups = greatest (group_numbers t.nodes); verb_names = t.verb_names }
+parsed_of t = record { pattern = pattern_of t; names = t.names; places = map (λ r. r.at) (references_of t.nodes) }
 
 -- the fault is that of the reading
 abbrev pub Refuses : {A : Type 0} → Result A Fault → ReadError → Type 0

@@ -4,10 +4,10 @@
 -- number stands as a first argument it bounds how deep the calls go; twice the bytes that are left, and two, are enough.
 use Rattle.std.specs.Prelude.{ℕ, zero, suc, ◌+◌, ◌-◌, ◌*◌, false, ◌||◌, nat_lt, List, [], ◌∷◌, length, map, Option, Some, None, Result, Ok, if◌then◌else◌}
 use Rattle.pat_tree.specs.declared.nodes.Item.TheVariants.{Char}
-use Rattle.pat_tree.specs.declared.nodes.ClassSpec.{ClassSpec}
 use Rattle.pat_tree.specs.declared.names.NameEntry.{NameEntry}
 use Rattle.pat_tree.specs.declared.options.Options.{Options}
 use Rattle.pat_tree.specs.Nested.{Nested, one, group, row}
+use Rattle.pat_tree.specs.Pattern.{Pattern}
 use Rattle.token_parts.specs.declared.fault.Fault.{Fault}
 use Rattle.token_parts.specs.declared.token.Token.TheVariants.{End, Bar, Close, Quantifier, Start}
 use Rattle.token_parts.specs.Tell.{fault, ◌>>=◌}
@@ -100,37 +100,36 @@ reading known text st = do
 
 -- what a pattern is read as
 pub record Parsed : Type 0 where
-  -- the options of the whole pattern, with those that the start items set
-  pub options : Options
-  pub tree : Nested
-  -- in the order of reading
-  pub classes : List ClassSpec
+  -- no names of verbs are read yet
+  pub pattern : Pattern
+  pub open pattern use *
   -- in the order of the table
   pub names : List NameEntry
   -- where the references stand, in the order of reading: so they stand in the tree from left to right
   pub places : List ℕ
-  -- the greatest number of a capturing group
-  pub groups : ℕ
-  -- the names of verbs, of which none is read yet
-  pub verb_names : List (List ℕ)
 
 -- under LITERAL each byte is a character
 unfoldable pub literally : Options → List ℕ → Parsed
 literally options text = record {
-  options = options;
-  tree = group None (row (alternative (map (λ c. one (Char c options.caseless)) text) ∷ []));
-  classes = [];
+  pattern = record {
+    options = options;
+    tree = group None (row (alternative (map (λ c. one (Char c options.caseless)) text) ∷ []));
+    groups = 0;
+    classes = [];
+    verb_names = [];
+  };
   names = [];
   places = [];
-  groups = 0;
-  verb_names = [];
 }
 
 -- The references of what was read must name groups.
 abbrev pub checked : Options → Option ℕ → Nested → State → Result Parsed Fault
 checked options (Some at) tree last = fault 115 at
-checked options None tree last =
-    Ok (record { options = options; tree = tree; classes = last.classes; names = last.names; places = map (λ r. r.at) last.references; groups = last.groups; verb_names = [] })
+checked options None tree last = Ok (record {
+  pattern = record { options = options; tree = tree; groups = last.groups; classes = last.classes; verb_names = [] };
+  names = last.names;
+  places = map (λ r. r.at) last.references;
+})
 
 -- The names are read first, since a reference may stand before the group that has its name.
 unfoldable pub read_from : List ℕ → State → Result Parsed Fault

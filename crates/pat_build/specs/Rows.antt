@@ -11,6 +11,7 @@ use Rattle.pat_tree.specs.declared.nodes.SetName.TheVariants.{Digit}
 use Rattle.pat_tree.specs.declared.nodes.ClassSpec.{ClassSpec}
 use Rattle.pat_tree.specs.declared.names.NameEntry.{NameEntry}
 use Rattle.pat_tree.specs.Nested.{Nested, empty, one, seq, group, one_repeat, ref, row}
+use Rattle.pat_tree.specs.Pattern.{Pattern}
 use Rattle.token_parts.specs.declared.fault.Fault.{Fault}
 use Rattle.token_parts.specs.Tell.{fault}
 use Rattle.pat_build.specs.Reading.{Parsed, read}
@@ -28,14 +29,14 @@ folded c = one (Char (byte c) true)
 -- a tree of these branches, without classes, names and references
 abbrev pub branches : List Nested → Parsed
 branches ts = record {
-  options = plain.PLAIN;
-  tree = group None (row ts);
-  classes = [];
+  pattern = record { options = plain.PLAIN; tree = group None (row ts); groups = 0; classes = []; verb_names = [] };
   names = [];
   places = [];
-  groups = 0;
-  verb_names = [];
 }
+
+-- the same where its pattern is changed
+abbrev pub with : (Pattern → Pattern) → Parsed → Parsed
+with f parsed = record parsed { pattern = f parsed.pattern }
 
 abbrev pub group_of : ℕ → Nested → Nested
 group_of n t = group (Some n) (row (t ∷ []))
@@ -64,16 +65,16 @@ some_cases = branches (
 
 -- a reference before the groups of its name
 abbrev pub two_named : Parsed
-two_named = record (branches (seq (row (ref (1 ∷ 2 ∷ []) false ∷ group_of 1 (letter "a") ∷ group_of 2 (letter "b") ∷ [])) ∷ [])) {
-  names = entry "n" 1 ∷ entry "n" 2 ∷ [];
-  places = 4 ∷ [];
-  groups = 2;
-}
+two_named = record (with (λ p. record p { groups = 2 })
+    (branches (seq (row (ref (1 ∷ 2 ∷ []) false ∷ group_of 1 (letter "a") ∷ group_of 2 (letter "b") ∷ [])) ∷ []))) {
+      names = entry "n" 1 ∷ entry "n" 2 ∷ [];
+      places = 4 ∷ [];
+    }
 
 abbrev pub limited : Parsed
-limited = record (branches (one_repeat NotNewline 0 (Some 1) false ∷ [])) {
-  options = record plain.PLAIN { newline = CrLf; match_limit = Some 5 };
-}
+limited =
+    with (λ p. record p { options = record plain.PLAIN { newline = CrLf; match_limit = Some 5 } })
+    (branches (one_repeat NotNewline 0 (Some 1) false ∷ []))
 
 pub record WorkedRows : Type 0 where
   pub unclosed : reads "a(" ≡ fault 114 2
@@ -84,7 +85,7 @@ pub record WorkedRows : Type 0 where
   pub no_group : reads "(a)\\2" ≡ fault 115 3
   pub left_out : reads "x(?>a)" ≡ fault 195 1
   pub no_minimum : reads "a{,2}" ≡ Ok (branches (seq (row (letter "a" ∷ letter "{" ∷ letter "," ∷ letter "2" ∷ letter "}" ∷ [])) ∷ []))
-  pub class : reads "[^]\\Q-\\Ea-c\\d-]" ≡ Ok (record (branches (one (Class 0) ∷ [])) { classes = mixed_class ∷ [] })
+  pub class : reads "[^]\\Q-\\Ea-c\\d-]" ≡ Ok (with (λ p. record p { classes = mixed_class ∷ [] }) (branches (one (Class 0) ∷ [])))
   pub cases : reads "(?i)a|(?-i:b|c)d{2,}?|" ≡ Ok some_cases
   pub later_names : reads "(?J)\\k<n>(?<n>a)(?<n>b)" ≡ Ok two_named
   pub start_items : reads "(*CRLF)(*LIMIT_MATCH=5).(?#x)?" ≡ Ok limited

@@ -1,8 +1,7 @@
 -- What is read can be searched (pcre2pattern): the reader refuses what a search doesn't have.
 use Rattle.std.specs.Prelude.{◌≡◌, ℕ, false, List, Ok, All}
 use Rattle.pat_tree.specs.declared.options.Options.{Options}
-use Rattle.char_sets.specs.Sets.{IsPlain}
-use Rattle.pat_check.specs.Built.{IsBuilt}
+use Rattle.pat_tree.specs.Built.{IsBuilt, IsPlain}
 use Rattle.pat_build.specs.Reading.{Parsed, read}
 
 -- The tree has no atomic group, lookaround, condition, call, verb and callout. Neither UTF nor UCP is set, and no set of a

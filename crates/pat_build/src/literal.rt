@@ -2,7 +2,7 @@
 ghost use Rattle.std.specs.Prelude.{◌≡◌, ◌+◌, ◌<◌, ◌≤◌, [], length, map, None, OnOk, IfOk};
 ghost use Rattle.pat_tree.specs.declared.nodes.Item.TheVariants.{Char};
 ghost use Rattle.pat_tree.specs.Nested.{one};
-ghost use Rattle.pat_tree.specs.Growing.{Makes, Replaces, Stand, loose};
+ghost use Rattle.pat_tree.specs.Growing.{AllUnder, Makes, Replaces, Stand, loose};
 ghost use Rattle.pat_build.specs.Reading.{literally};
 ghost use Rattle.pat_build.specs.Machine.{Adds, parsed_of};
 
@@ -47,7 +47,8 @@ fn characters(alloc: Global, draft: &mut Draft, text: &[u8], caseless: bool) -> 
 /// The tree of a pattern of which each byte is a character.
 pub(crate) fn literally(alloc: Global, text: &[u8], options: Options) -> Result<Tree, Memory>
     requires { length text.now ≤ 65536 }
-    ensures { IfOk result (λ tree. parsed_of tree ≡ literally options text.now) }
+    ensures parsed { IfOk result (λ tree. parsed_of tree ≡ literally options text.now) }
+    ensures under { IfOk result (λ tree. AllUnder tree.nodes tree.root) }
 {
     let mut draft = Draft::new(alloc, options);
     let parts = characters(alloc, &mut draft, text, options.caseless)?;

@@ -99,3 +99,31 @@ fn nodes(rt: HostRuntime) -> Result<(), Fail> {
     );
     Ok(())
 }
+
+/// The first class of a pattern: whether it is negated, and how many parts it has.
+fn first_class(alloc: Global, text: &str) -> Result<Option<(bool, usize)>, Fail> {
+    let tree = read(alloc, text.as_bytes(), Options::PLAIN)?;
+    if tree.classes() == 0 {
+        return Ok(None);
+    }
+    let class = tree.class(0);
+    Ok(Some((class.negated, class.parts.len())))
+}
+
+#[test]
+fn negated_classes(rt: HostRuntime) -> Result<(), Fail> {
+    let rows = [
+        ("[^a]", true, 1),
+        ("[\\E^a]", true, 1),
+        ("[\\Q\\E^\\E]a]", true, 2),
+        ("(?xx)[ ^ ]a]", true, 2),
+        ("(?x)[ ^a]", false, 3),
+        ("[\\Q^\\E]", false, 1),
+        ("[\\E]a]", false, 2),
+    ];
+    for (text, negated, parts) in rows {
+        let found = first_class(rt.alloc(), text)?;
+        assert_eq!(rt; found, Some((negated, parts)), "{text}");
+    }
+    Ok(())
+}

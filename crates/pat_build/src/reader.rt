@@ -1,6 +1,7 @@
 //! The reader of a pattern.
 ghost use Rattle.std.specs.Prelude.{◌≡◌, ◌||◌, ℕ, ◌<◌, ◌≤◌, false, [], length, Ok, OnOk, IfOk, IfErr};
 ghost use Rattle.pat_tree.specs.Nested.{Nested};
+ghost use Rattle.pat_tree.specs.Growing.{AllUnder};
 ghost use Rattle.token_parts.specs.declared.token.Token.TheVariants.{End};
 ghost use Rattle.token_parts.specs.Tell.{IsWell, Moves};
 ghost use Rattle.pat_lex.specs.Tokens.{token_at};
@@ -100,6 +101,7 @@ impl<'a> Machine<'a> {
         requires token { token_at self.old.text.now (flags_of false (state_of self.old)) self.old.at ≡ Ok (End, self.old.at) }
         ensures below { IfOk result (λ id. id < length self.new.draft.nodes) }
         ensures ok { IfOk result (λ id. Ends self.old self.new id) }
+        ensures under { IfOk result (λ id. AllUnder self.new.draft.nodes id) }
         ensures bad { IfErr result (Refuses (whole_of self.old)) }
     {
         self.flush()?;
@@ -152,6 +154,7 @@ fn tree_of(
     requires short { length text.now ≤ 65536 }
     requires known { IsKnown text.now known.now }
     ensures ok { IfOk result (λ tree. tree_with (table_of text.now known.now) text.now (state_from start options) ≡ Ok (parsed_of tree)) }
+    ensures under { IfOk result (λ tree. AllUnder tree.nodes tree.root) }
     ensures bad { IfErr result (Refuses (tree_with (table_of text.now known.now) text.now (state_from start options))) }
 {
     let mut machine = Machine::new(alloc, known, text, start, options);
@@ -176,13 +179,14 @@ fn is_left_out(options: &Options) -> bool
 
 /// Reads a pattern of at most 65,536 bytes (pcre2pattern): the tree has its nested value, its classes in the order of
 /// reading, its names in the order of the table, and the options with those that the start items set. Under LITERAL each
-/// byte is a character. No call is nested deeper for a pattern that is: open groups stand in a vector, 250 at most.
+/// byte is a character. Each node lies under the root. No call is nested deeper for a pattern that is: open groups stand in a vector, 250 at most.
 ///
 /// `Bad` has the number and the place of the fault that the definition tells: first 120 for a pattern that is longer and
 /// 195 for UTF, UCP and AUTO_CALLOUT, at 0; then the first fault from the left; last 115 at the leftmost reference to no
 /// group. Want of memory may come at any pattern.
 pub fn read(alloc: Global, text: &[u8], options: Options) -> Result<Tree, ReadError>
     ensures ok { IfOk result (λ tree. read options text.now ≡ Ok (parsed_of tree)) }
+    ensures under { IfOk result (λ tree. AllUnder tree.nodes tree.root) }
     ensures bad { IfErr result (Refuses (read options text.now)) }
 {
     if text.len() > 65536 {

@@ -5,7 +5,9 @@ use Rattle.std.proofs.lemmas.List.{get_or_default}
 use Rattle.std.proofs.lemmas.List.Elements.{All-get_or}
 use Rattle.byte_lanes.specs.Sets.{has_byte}
 use Rattle.pat_check.specs.Lead.{SomeLead, begins, then_lead, either_lead}
-use Rattle.pat_check.specs.Starts.{IsSomeLead, AreKept, lead_of_parts, lead_of_branches}
+use Rattle.pat_tree.specs.declared.nodes.Cond.{Cond}
+use Rattle.pat_tree.specs.declared.nodes.Cond.TheVariants.{AnySet, InCall, InCallOf, Never, Assert}
+use Rattle.pat_check.specs.Starts.{IsSomeLead, AreKept, lead_of_parts, lead_of_branches, lead_of_second, lead_of_condition}
 use Rattle.pat_check.specs.declared.starts.Start.{Start}
 
 or_turned : (p q : Bool) → (p || q) ≡ (q || p)
@@ -120,3 +122,10 @@ byte_added more k b p h = rw (lt_step k b) (or_step p (nat_lt k b) (k == b) (mor
 
 pub byte_left : (more : ℕ → Bool) (k b : ℕ) (p : Bool) → more b ≡ false → (p || (nat_lt k b && more k)) ≡ (p || (nat_lt k (b + 1) && more k))
 byte_left more k b p h = rw (lt_step k b) (or_skip p (nat_lt k b) (k == b) (more k) (λ e. ap more (eqb-true k b e) ∙ h))
+
+pub no_definition : (of : ℕ → SomeLead) (test : Cond) (first : ℕ) (second : Option ℕ) → (test ≡ Never → ⊥) → either_lead (of first) (lead_of_second of second) ≡ lead_of_condition of test first second
+no_definition of Never first second h = absurd (h refl)
+no_definition of (AnySet groups) first second h = refl
+no_definition of InCall first second h = refl
+no_definition of (InCallOf groups) first second h = refl
+no_definition of (Assert k) first second h = refl

@@ -8,8 +8,8 @@ use Rattle.pat_tree.specs.Nested as tree
 use Rattle.pat_tree.specs.Nested.{Nested, Row, Test, Other}
 use Rattle.pat_tree.specs.Groups.{group_of}
 use Rattle.pat_check.specs.Nodes.{captures, has_shared_number, nodes_outside_lookarounds, is_accept}
-use Rattle.pat_check.specs.Lengths.{Lengths, SomeLengths, between, only, any_length, both, in_turn, either, most_in_turns, in_some_turns, in_turns, of_ref, lengths, lengths_in_turn, lengths_of_one, lengths_of_other, of_test, lengths_of_group, by_calls, leads_back, behind}
-use Rattle.pat_check.specs.HasLength.{Within, Sum, Turns, AnyOr, RefHas, HasLength, InTurn, OneOf, OfOther, OfTest, IsMost, AreLengths, AreSomeLengths, OfFound, ByCalls, Behind, LengthLaws}
+use Rattle.pat_check.specs.Lengths.{Lengths, SomeLengths, between, only, any_length, both, in_turn, either, most_in_turns, in_some_turns, in_turns, of_ref, lengths, lengths_in_turn, lengths_of_one, lengths_of_other, of_test, lengths_of_group, by_calls, leads_back, behind, least_lengths, branch_lengths}
+use Rattle.pat_check.specs.HasLength.{Within, Sum, Turns, AnyOr, RefHas, HasLength, InTurn, OneOf, OfOther, OfTest, IsMost, AreLengths, AreSomeLengths, OfFound, ByCalls, Behind, BranchHas}
 
 just : (c : ℕ) → AreSomeLengths (λ k. k ≡ c) (only c)
 just c = record { least = refl; low = λ k e. omega (arith, e); most = (refl, λ k e. omega (arith, e)) }
@@ -264,7 +264,7 @@ found P f h None = λ k e. e
 found P f h (Some t) = h t
 
 module _ (unset_matches : Bool) (whole : Nested) where
-  by_calls_law : (d n : ℕ) → AreSomeLengths (ByCalls unset_matches whole d n) (by_calls unset_matches whole d n)
+  pub by_calls_law : (d n : ℕ) → AreSomeLengths (ByCalls unset_matches whole d n) (by_calls unset_matches whole d n)
   unfolding ByCalls by_calls
   by_calls_law zero n = λ k e. e
   by_calls_law (suc d) n = found _ _ (trees unset_matches whole _ _ (by_calls_law d)) (group_of whole n)
@@ -273,12 +273,13 @@ module _ (unset_matches : Bool) (whole : Nested) where
   unfolding Behind behind
   behind_law zero n = λ k e. e
   behind_law (suc d) n =
-      any_or (leads_back unset_matches whole n) _ _ (found _ _ (trees unset_matches whole _ _ (behind_law d)) (group_of whole n))
+      any_or (leads_back whole n) _ _ (found _ _ (trees unset_matches whole _ _ (behind_law d)) (group_of whole n))
 
-pub length_laws : LengthLaws
-length_laws = record {
-  by_calls = λ unset_matches whole t. trees unset_matches whole _ _ (by_calls_law unset_matches whole (suc (captures whole))) t;
-  of_branches = λ unset_matches whole t.
+module _ (unset_matches : Bool) (whole : Nested) where
+  pub calls_bounds : (t : Nested) → AreSomeLengths (HasLength unset_matches whole (ByCalls unset_matches whole (suc (captures whole))) t) (least_lengths unset_matches whole t)
+  calls_bounds t = trees unset_matches whole _ _ (by_calls_law unset_matches whole (suc (captures whole))) t
+
+  pub branch_bounds : (t : Nested) → AreSomeLengths (BranchHas unset_matches whole t) (branch_lengths unset_matches whole t)
+  branch_bounds t =
       any_or (list_any is_accept (nodes_outside_lookarounds t)) _ _
-      (trees unset_matches whole _ _ (behind_law unset_matches whole (suc (captures whole))) t);
-}
+      (trees unset_matches whole _ _ (behind_law unset_matches whole (suc (captures whole))) t)

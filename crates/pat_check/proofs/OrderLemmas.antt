@@ -1,130 +1,137 @@
--- The order of a tree's nodes.
-use Rattle.std.proofs.Common.{◌≡◌, ◌∙◌, ℕ, suc, ◌<◌, ◌≤◌, Bool, true, ◌||◌, List, [], ◌∷◌, ◌++◌, map, reverse, Option, All, length, refl, sym, ap, subst, arith, length-append, append_assoc, append-nil}
+-- The nodes of a tree in the order of its parts' numbers.
+use Rattle.std.proofs.Common.{◌≡◌, ◌∙◌, ℕ, zero, suc, ◌<◌, ◌≤◌, Bool, true, false, ◌||◌, List, [], ◌∷◌, ◌++◌, map, flat_map, Option, Some, None, All, length, get_or, refl, sym, ap, subst, arith, append_assoc, append-nil}
 use Rattle.std.specs.List.{list_any}
-use Rattle.std.proofs.lemmas.List.{reverse-append, reverse-reverse, map-append, get_or_append_left, get_or_push}
-use Rattle.std.proofs.lemmas.List.Elements.{All-append, All-cons, All-head, All-tail}
+use Rattle.std.proofs.lemmas.Grind.{flat_map-append}
+use Rattle.std.proofs.lemmas.List.{get_or_default, map-append}
+use Rattle.std.proofs.lemmas.List.Elements.{All-head, All-tail}
+use Rattle.std.proofs.lemmas.List.Folds.{list_any-append}
+use Rattle.pat_tree.specs.declared.nodes.Cond.{Cond}
+use Rattle.pat_tree.specs.declared.nodes.Cond.TheVariants.{AnySet, InCall, InCallOf, Never, Assert}
 use Rattle.pat_tree.specs.declared.nodes.Node.{Node}
 use Rattle.pat_tree.specs.declared.nodes.Node.TheVariants as node
-use Rattle.pat_tree.specs.Nested.{Nested, tree_at, row, nest}
-use Rattle.pat_tree.specs.Rules.{kids_of}
-use Rattle.pat_check.specs.Built.{IsBuilt}
-use Rattle.pat_check.specs.Nodes.{nodes, nodes_in, all_nodes}
-use Rattle.pat_check.specs.Order.{nodes_from}
-use Rattle.pat_check.proofs.NodeLemmas.{built_each}
+use Rattle.pat_tree.specs.declared.nodes.Placed.{Placed}
+use Rattle.pat_tree.specs.Nested as tree
+use Rattle.pat_tree.specs.Nested.{Nested, Row, Test, Other, Callout, tree_at, trees, row, nest, test_of, cond_of, other_of}
+use Rattle.pat_tree.specs.Parts.{TreeParts}
+use Rattle.pat_tree.specs.Rules.{kids_of, tests_of, number_in, asserted_by, is_test}
+use Rattle.pat_tree.specs.Sound.{TreeRules}
+use Rattle.pat_tree.proofs.Reached.{reached_node}
+use Rattle.node_flow.specs.Order.{order}
+use Rattle.node_flow.proofs.TreeLaws.{parts_come_first}
+use Rattle.pat_check.specs.Nodes.{kept, nodes, nodes_in, nodes_of_test, nodes_of_other, all_nodes}
 
-pub from_append : (trees : List Nested) (xs ys : List ℕ) → nodes_from trees (xs ++ ys) ≡ nodes_from trees xs ++ nodes_from trees ys
-from_append trees [] ys = refl
-from_append trees (x ∷ xs) ys = ap (λ zs. all_nodes (tree_at trees x) ++ zs) (from_append trees xs ys) ∙ sym (append_assoc (all_nodes (tree_at trees x)) (nodes_from trees xs) (nodes_from trees ys))
+-- What stands as a test is a lookaround, or a callout and a lookaround after it.
+pub by_test : (P : Nested → Type 0) → ((ahead positive once : Bool) (ts : Row) → P (tree.look ahead positive once ts)) →
+    ((c : Callout) (ahead positive once : Bool) (ts : Row) → P (tree.seq (tree.more (tree.callout c) (tree.more (tree.look ahead positive once ts) tree.none)))) →
+    (t : Nested) → is_test t ≡ true → P t
+by_test P f g (tree.look ahead positive once ts) h = f ahead positive once ts
+by_test P f g (tree.seq (tree.more (tree.callout c) (tree.more (tree.look ahead positive once ts) tree.none))) h = g c ahead positive once ts
+by_test P f g t h = absurd cc
 
-pub from_row : (trees : List Nested) (ks : List ℕ) → nodes_in true (row (map (tree_at trees) ks)) ≡ nodes_from trees ks
+-- the nodes of these trees, in turn
+abbrev pub nodes_at : Bool → List Nested → ℕ → List Nested
+nodes_at inside trees k = nodes inside (tree_at trees k)
+
+row_nodes : (inside : Bool) (trees : List Nested) (ks : List ℕ) → nodes_in inside (row (map (tree_at trees) ks)) ≡ flat_map (nodes_at inside trees) ks
 unfolding nodes
-from_row trees [] = refl
-from_row trees (k ∷ ks) = ap (λ zs. all_nodes (tree_at trees k) ++ zs) (from_row trees ks)
+row_nodes inside trees [] = refl
+row_nodes inside trees (k ∷ ks) = ap (λ zs. nodes_at inside trees k ++ zs) (row_nodes inside trees ks)
+
+tested_nodes : (inside : Bool) (t : Nested) → is_test t ≡ true → nodes_of_test inside (test_of t) ≡ nodes inside t
+unfolding nodes
+tested_nodes inside t h =
+    by_test (λ t. nodes_of_test inside (test_of t) ≡ nodes inside t) (λ ahead positive once ts. refl)
+    (λ c ahead positive once ts.
+    let look = tree.look ahead positive once ts in
+    ap (λ zs. tree.seq (tree.more (tree.callout c) (tree.more look tree.none)) ∷ tree.callout c ∷ look ∷ zs) (sym (append-nil (kept inside (nodes_in inside ts)))))
+    t h
+
+test_nodes : (inside : Bool) (trees : List Nested) (test : Cond) → All (λ k. is_test (tree_at trees k) ≡ true) (tests_of test) →
+    nodes_of_test inside (cond_of trees test) ≡ flat_map (nodes_at inside trees) (tests_of test)
+unfolding nodes
+test_nodes inside trees (AnySet groups) h = refl
+test_nodes inside trees InCall h = refl
+test_nodes inside trees (InCallOf groups) h = refl
+test_nodes inside trees Never h = refl
+test_nodes inside trees (Assert k) h = tested_nodes inside (tree_at trees k) (All-head (λ k. is_test (tree_at trees k) ≡ true) k [] h) ∙ sym (append-nil _)
+
+second_nodes : (inside : Bool) (trees : List Nested) (second : Option ℕ) → nodes_of_other inside (other_of trees second) ≡ flat_map (nodes_at inside trees) (number_in second)
+unfolding nodes
+second_nodes inside trees None = refl
+second_nodes inside trees (Some k) = sym (append-nil _)
+
+-- a lookaround is gone into where those inside are asked for
+abbrev pub IsOpen : Bool → Node → Type 0
+IsOpen false (node.Look ahead positive once branches) = ⊥
+IsOpen _ _ = Unit {0}
 
 -- a node, and then those under its children
-pub node_first : (trees : List Nested) (n : Node) → IsBuilt (nest trees n) → all_nodes (nest trees n) ≡ nest trees n ∷ nodes_from trees (kids_of n)
+pub node_first : (inside : Bool) (trees : List Nested) (n : Node) → IsOpen inside n → All (λ k. is_test (tree_at trees k) ≡ true) (asserted_by n) →
+    nodes inside (nest trees n) ≡ nest trees n ∷ flat_map (nodes_at inside trees) (kids_of n)
 unfolding nodes
-node_first trees node.Empty h = refl
-node_first trees (node.One item) h = refl
-node_first trees node.Break h = refl
-node_first trees (node.Seq kids) h = ap (λ zs. nest trees (node.Seq kids) ∷ zs) (from_row trees kids)
-node_first trees (node.Group number branches) h = ap (λ zs. nest trees (node.Group number branches) ∷ zs) (from_row trees branches)
-node_first trees (node.Repeat body min max lazy) h = ap (λ zs. nest trees (node.Repeat body min max lazy) ∷ zs) (sym (append-nil _))
-node_first trees (node.OneRepeat item min max lazy) h = refl
-node_first trees (node.Atomic branches) h = absurd h
-node_first trees (node.Look ahead positive once branches) h = absurd h
-node_first trees (node.Cond test yes' no') h = absurd h
-node_first trees (node.Call n) h = absurd h
-node_first trees (node.Ref groups caseless) h = refl
-node_first trees (node.Anchor kind) h = refl
-node_first trees node.KeepOut h = refl
-node_first trees (node.VerbNode v) h = absurd h
-node_first trees (node.Callout number from to at len) h = absurd h
+node_first inside trees node.Empty o h = refl
+node_first inside trees (node.One item) o h = refl
+node_first inside trees node.Break o h = refl
+node_first inside trees (node.Seq kids) o h = ap (λ zs. nest trees (node.Seq kids) ∷ zs) (row_nodes inside trees kids)
+node_first inside trees (node.Group number branches) o h = ap (λ zs. nest trees (node.Group number branches) ∷ zs) (row_nodes inside trees branches)
+node_first inside trees (node.Repeat body min max lazy) o h = ap (λ zs. nest trees (node.Repeat body min max lazy) ∷ zs) (sym (append-nil _))
+node_first inside trees (node.OneRepeat item min max lazy) o h = refl
+node_first inside trees (node.Atomic branches) o h = ap (λ zs. nest trees (node.Atomic branches) ∷ zs) (row_nodes inside trees branches)
+node_first true trees (node.Look ahead positive once branches) o h = ap (λ zs. nest trees (node.Look ahead positive once branches) ∷ zs) (row_nodes true trees branches)
+node_first false trees (node.Look ahead positive once branches) o h = absurd o
+node_first inside trees (node.Cond test first second) o h =
+    let f = nodes_at inside trees in
+    let a = nodes_of_test inside (cond_of trees test) in
+    let b = f first in
+    let c = nodes_of_other inside (other_of trees second) in
+    ap (λ zs. nest trees (node.Cond test first second) ∷ zs)
+    (append_assoc a b c
+    ∙ ap (λ zs. zs ++ (b ++ c)) (test_nodes inside trees test h)
+    ∙ ap (λ zs. flat_map f (tests_of test) ++ (b ++ zs)) (second_nodes inside trees second)
+    ∙ sym (flat_map-append f (tests_of test) (first ∷ number_in second)))
+node_first inside trees (node.Call n) o h = refl
+node_first inside trees (node.Ref groups caseless) o h = refl
+node_first inside trees (node.Anchor kind) o h = refl
+node_first inside trees node.KeepOut o h = refl
+node_first inside trees (node.VerbNode v) o h = refl
+node_first inside trees (node.Callout number from to at len) o h = refl
 
-pub kids_built : (trees : List Nested) (n : Node) → IsBuilt (nest trees n) → All (λ k. IsBuilt (tree_at trees k)) (kids_of n)
-kids_built trees node.Empty h = λ i d l. grind arith
-kids_built trees (node.One item) h = λ i d l. grind arith
-kids_built trees node.Break h = λ i d l. grind arith
-kids_built trees (node.Seq kids) h = built_each trees kids h
-kids_built trees (node.Group number branches) h = built_each trees branches h
-kids_built trees (node.Repeat body min max lazy) h = built_each trees (body ∷ []) (h, tt)
-kids_built trees (node.OneRepeat item min max lazy) h = λ i d l. grind arith
-kids_built trees (node.Atomic branches) h = absurd h
-kids_built trees (node.Look ahead positive once branches) h = absurd h
-kids_built trees (node.Cond test yes' no') h = absurd h
-kids_built trees (node.Call n) h = absurd h
-kids_built trees (node.Ref groups caseless) h = λ i d l. grind arith
-kids_built trees (node.Anchor kind) h = λ i d l. grind arith
-kids_built trees node.KeepOut h = λ i d l. grind arith
-kids_built trees (node.VerbNode v) h = absurd h
-kids_built trees (node.Callout number from to at len) h = absurd h
+-- The numbers in order stand for the nodes in order.
 
-pub no_kids : (trees : List Nested) (n : Node) → ((x : List ℕ) → n ≡ node.Seq x → ⊥) → ((x : Option ℕ) (y : List ℕ) → n ≡ node.Group x y → ⊥) →
-    ((w x : ℕ) (y : Option ℕ) (z : Bool) → n ≡ node.Repeat w x y z → ⊥) → IsBuilt (nest trees n) → kids_of n ≡ []
-no_kids trees node.Empty a b c h = refl
-no_kids trees (node.One item) a b c h = refl
-no_kids trees node.Break a b c h = refl
-no_kids trees (node.Seq kids) a b c h = absurd (a kids refl)
-no_kids trees (node.Group number branches) a b c h = absurd (b number branches refl)
-no_kids trees (node.Repeat body min max lazy) a b c h = absurd (c body min max lazy refl)
-no_kids trees (node.OneRepeat item min max lazy) a b c h = refl
-no_kids trees (node.Atomic branches) a b c h = absurd h
-no_kids trees (node.Look ahead positive once branches) a b c h = absurd h
-no_kids trees (node.Cond test yes' no') a b c h = absurd h
-no_kids trees (node.Call n) a b c h = absurd h
-no_kids trees (node.Ref groups caseless) a b c h = refl
-no_kids trees (node.Anchor kind) a b c h = refl
-no_kids trees node.KeepOut a b c h = refl
-no_kids trees (node.VerbNode v) a b c h = absurd h
-no_kids trees (node.Callout number from to at len) a b c h = absurd h
+map_flat : (f : ℕ → Nested) (g : ℕ → List ℕ) (h : ℕ → List Nested) (ks : List ℕ) → All (λ k. map f (g k) ≡ h k) ks → map f (flat_map g ks) ≡ flat_map h ks
+map_flat f g h [] e = refl
+map_flat f g h (k ∷ ks) e =
+    map-append f (g k) (flat_map g ks)
+    ∙ ap (λ zs. zs ++ map f (flat_map g ks)) (All-head (λ k. map f (g k) ≡ h k) k ks e)
+    ∙ ap (λ zs. h k ++ zs) (map_flat f g h ks (All-tail (λ k. map f (g k) ≡ h k) k ks e))
 
--- what follows where a node is taken, and its children wait
-pub taken : (trees : List Nested) (done waiting kids : List ℕ) (id : ℕ) (n : Node) → nest trees n ≡ tree_at trees id → IsBuilt (tree_at trees id) → kids ≡ kids_of n →
-    map (tree_at trees) (done ++ id ∷ []) ++ nodes_from trees (reverse (waiting ++ reverse kids)) ≡ map (tree_at trees) done ++ nodes_from trees (reverse (waiting ++ id ∷ []))
-taken trees done waiting kids id n is built kids_are =
-    let t = tree_at trees id in
-    let rest = nodes_from trees (reverse waiting) in
-    let order : reverse (waiting ++ reverse kids) ≡ kids ++ reverse waiting = reverse-append waiting (reverse kids) ∙ ap (λ ks. ks ++ reverse waiting) (reverse-reverse kids) in
-    let first : all_nodes t ≡ t ∷ nodes_from trees kids = rw (is, ← kids_are) at (node_first trees n (subst IsBuilt (sym is) built)) in
-    ap (λ xs. xs ++ nodes_from trees (reverse (waiting ++ reverse kids))) (map-append (tree_at trees) done (id ∷ []))
-    ∙ ap (λ ks. (map (tree_at trees) done ++ t ∷ []) ++ nodes_from trees ks) order
-    ∙ append_assoc (map (tree_at trees) done) (t ∷ []) (nodes_from trees (kids ++ reverse waiting))
-    ∙ ap (λ xs. map (tree_at trees) done ++ t ∷ xs) (from_append trees kids (reverse waiting))
-    ∙ ap (λ xs. map (tree_at trees) done ++ (xs ++ rest)) (sym first)
-    ∙ ap (λ ks. map (tree_at trees) done ++ nodes_from trees ks) (sym (reverse-append waiting (id ∷ [])))
+in_order : (t : TreeParts) → TreeRules t → (fuel q : ℕ) → q < fuel → q ≤ t.root → map (tree_at (trees t.nodes)) (order t.nodes q) ≡ all_nodes (tree_at (trees t.nodes) q)
+in_order t rules zero q l m = absurd (omega (arith, l))
+in_order t rules (suc fuel) q l m =
+    let ts = trees t.nodes in
+    let d : Placed = record { node = node.Empty; at = 0 } in
+    let p = get_or t.nodes q d in
+    let inside : q < length t.nodes = omega (arith, m, rules.root) in
+    let r = reached_node t.nodes q p rules.nodes.below inside (get_or_default t.nodes q d p inside) in
+    let kids : All (λ k. map (tree_at ts) (order t.nodes k) ≡ nodes_at true ts k) (kids_of p.node) = λ i e j.
+    let k = get_or (kids_of p.node) i e in
+    let below : k < q = r.1 i e j in
+    in_order t rules fuel k (omega (arith, below, l)) (omega (arith, below, m)) in
+    ap (map (tree_at ts)) (parts_come_first t rules q m d)
+    ∙ ap (λ zs. tree_at ts q ∷ zs) (map_flat (tree_at ts) (order t.nodes) (nodes_at true ts) (kids_of p.node) kids)
+    ∙ ap (λ u. u ∷ flat_map (nodes_at true ts) (kids_of p.node)) (sym r.0)
+    ∙ sym (node_first true ts p.node tt (rules.nodes.each q d inside).test)
+    ∙ ap all_nodes r.0
 
-pub fewer : (trees : List Nested) (waiting kids : List ℕ) (id : ℕ) (n : Node) → nest trees n ≡ tree_at trees id → IsBuilt (tree_at trees id) → kids ≡ kids_of n →
-    length (nodes_from trees (reverse (waiting ++ reverse kids))) < length (nodes_from trees (reverse (waiting ++ id ∷ [])))
-fewer trees waiting kids id n is built kids_are =
-    let e : suc (length (nodes_from trees (reverse (waiting ++ reverse kids)))) ≡ length (nodes_from trees (reverse (waiting ++ id ∷ []))) = ap length (taken trees [] waiting kids id n is built kids_are) in
-    omega (arith, e)
+pub whole_in_order : (t : TreeParts) → TreeRules t → map (tree_at (trees t.nodes)) (order t.nodes t.root) ≡ all_nodes (tree_at (trees t.nodes) t.root)
+whole_in_order t rules = in_order t rules (suc t.root) t.root (omega arith) (omega arith)
 
--- lists of numbers of which something holds
+-- What some node holds, by the children.
 
-pub all_front : (P : ℕ → Type 0) (xs ys : List ℕ) → All P (xs ++ ys) → All P xs
-all_front P xs ys h = λ i d l. subst P (get_or_append_left xs ys d i l) (h i d (omega (arith, l, length-append xs ys)))
+pub any_flat : {X Y : Type 0} (p : Y → Bool) (f : X → List Y) (ks : List X) → list_any p (flat_map f ks) ≡ list_any (λ k. list_any p (f k)) ks
+any_flat p f [] = refl
+any_flat p f (k ∷ ks) = list_any-append p (f k) (flat_map f ks) ∙ ap (λ b. list_any p (f k) || b) (any_flat p f ks)
 
-pub all_last : (P : ℕ → Type 0) (xs : List ℕ) (y : ℕ) → All P (xs ++ y ∷ []) → P y
-all_last P xs y h = subst P (get_or_push xs y y (length xs) refl) (h (length xs) y (omega (arith, length-append xs (y ∷ []))))
-
-all_none : (P : ℕ → Type 0) → All P []
-all_none P = λ i d l. grind arith
-
-all_reverse : (P : ℕ → Type 0) (xs : List ℕ) → All P xs → All P (reverse xs)
-all_reverse P [] h = h
-all_reverse P (x ∷ xs) h =
-    subst (All P) (sym (reverse-append (x ∷ []) xs))
-    (All-append P (reverse xs) (x ∷ []) (all_reverse P xs (All-tail P x xs h)) (All-cons P x [] (All-head P x xs h) (all_none P)))
-
-pub all_waiting : (P : ℕ → Type 0) (waiting kids : List ℕ) → All P waiting → All P kids → All P (waiting ++ reverse kids)
-all_waiting P waiting kids h k = All-append P waiting (reverse kids) h (all_reverse P kids k)
-
-pub all_done : (P : ℕ → Type 0) (done : List ℕ) (id : ℕ) → All P done → P id → All P (done ++ id ∷ [])
-all_done P done id h k = All-append P done (id ∷ []) h (All-cons P id [] k (all_none P))
-
-pub lower : (xs : List ℕ) (k n : ℕ) → k ≤ n → All (λ x. x < k) xs → All (λ x. x ≤ n) xs
-lower xs k n l h = λ i d m. omega (arith, l, h i d m)
-
-pub any_tree : (p : Nested → Bool) (trees : List Nested) (ks : List ℕ) → list_any (λ k. p (tree_at trees k)) ks ≡ list_any p (map (tree_at trees) ks)
-any_tree p trees [] = refl
-any_tree p trees (k ∷ ks) = ap (λ b. p (tree_at trees k) || b) (any_tree p trees ks)
+pub same_any : (p q : ℕ → Bool) (ks : List ℕ) → All (λ k. p k ≡ q k) ks → list_any p ks ≡ list_any q ks
+same_any p q [] h = refl
+same_any p q (k ∷ ks) h = rw (All-head (λ k. p k ≡ q k) k ks h, same_any p q ks (All-tail (λ k. p k ≡ q k) k ks h)) refl

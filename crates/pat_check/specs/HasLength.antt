@@ -100,12 +100,21 @@ module _ (unset_matches : Bool) (whole : Nested) where
   unfoldable pub Behind : ℕ → ℕ → ℕ → Type 0
   Behind zero n k = ⊥
   Behind (suc d) n k =
-      AnyOr (leads_back unset_matches whole n) (OfFound (HasLength unset_matches whole (Behind d)) (group_of whole n) k)
+      AnyOr (leads_back whole n) (OfFound (HasLength unset_matches whole (Behind d)) (group_of whole n) k)
 
   -- a branch of a lookbehind can match k characters
   abbrev pub BranchHas : Nested → ℕ → Type 0
   BranchHas t k =
       AnyOr (list_any is_accept (nodes_outside_lookarounds t)) (HasLength unset_matches whole (Behind (suc (captures whole))) t k)
+
+  -- the tree can match k characters, however many calls and references stand inside one another
+  abbrev pub CanMatch : Nested → ℕ → Type 0
+  CanMatch t k = (d : ℕ) × HasLength unset_matches whole (ByCalls d) t k
+
+-- the least length of these is the least of all that the test holds of, or it holds of none
+abbrev pub IsLeast : (ℕ → Type 0) → SomeLengths → Type 0
+IsLeast P None = (k : ℕ) → P k → ⊥
+IsLeast P (Some a) = P a.least × ((k : ℕ) → P k → a.least ≤ k)
 
 -- What `least_lengths` and `branch_lengths` give are the least and the greatest of these lengths.
 pub record LengthLaws : Type 0 where
@@ -115,3 +124,7 @@ pub record LengthLaws : Type 0 where
   pub of_branches :
       (unset_matches : Bool) (whole t : Nested)
       → AreSomeLengths (BranchHas unset_matches whole t) (branch_lengths unset_matches whole t)
+  -- one call more inside one another than there are groups is enough for the least length
+  pub least :
+      (unset_matches : Bool) (whole t : Nested)
+      → IsLeast (CanMatch unset_matches whole t) (least_lengths unset_matches whole t)

@@ -127,16 +127,19 @@ module _ (unset_matches : Bool) (whole : Nested) where
       is_zero None = false
       is_zero (Some a) = a.least == 0
 
-  -- Lookbehinds.
+-- Lookbehinds.
 
+-- the groups that calls and references in a group name
+abbrev pub named_in_group : Option Nested → List ℕ
+named_in_group None = []
+named_in_group (Some t) = named_in t
+
+module _ (whole : Nested) where
   -- the groups that a group leads to by calls and references
   abbrev pub names_of_group : ℕ → List ℕ
   names_of_group n = named_in_group (group_of whole n)
-    where
-      named_in_group : Option Nested → List ℕ
-      named_in_group None = []
-      named_in_group (Some t) = named_in t
 
+  -- one of these groups is the target, or leads to it by fewer than d calls and references
   unfoldable pub lead_to : ℕ → List ℕ → ℕ → Bool
   lead_to zero ns m = false
   lead_to (suc d) ns m = list_any (λ n. n == m) ns || lead_to d (flat_map names_of_group ns) m
@@ -144,11 +147,12 @@ module _ (unset_matches : Bool) (whole : Nested) where
   abbrev pub leads_back : ℕ → Bool
   leads_back n = lead_to (suc (captures whole)) (names_of_group n) n
 
+module _ (unset_matches : Bool) (whole : Nested) where
   -- a call of a group that leads back to itself has any length
   unfoldable pub behind : ℕ → ℕ → SomeLengths
   behind zero n = None
   behind (suc d) n =
-      elim (leads_back n) [
+      elim (leads_back whole n) [
         | true ↦ any_length
         | false ↦ lengths_of_group (lengths unset_matches whole (behind d)) (group_of whole n)
       ]
@@ -165,6 +169,10 @@ module _ (unset_matches : Bool) (whole : Nested) where
 abbrev pub counted : ℕ → ℕ
 counted k = min k 4294967295
 
+-- a branch of a lookbehind may be so long
+abbrev pub too_long : ℕ → Option ℕ
+too_long k = elim (nat_le k 65535) [ true ↦ None | false ↦ Some 187 ]
+
 -- why a branch of a lookbehind is refused: it is not of one length, or too long
 abbrev pub branch_fault : SomeLengths → Option ℕ
 branch_fault None = Some 125
@@ -172,8 +180,4 @@ branch_fault (Some a) = of_most a.most
   where
     of_most : Option ℕ → Option ℕ
     of_most None = Some 125
-    of_most (Some most) =
-        elim (counted a.least == counted most) [
-          | true ↦ elim (nat_le (counted most) 65535) [ true ↦ None | false ↦ Some 187 ]
-          | false ↦ Some 125
-        ]
+    of_most (Some most) = elim (counted a.least == counted most) [ true ↦ too_long (counted most) | false ↦ Some 125 ]

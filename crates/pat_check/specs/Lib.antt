@@ -4,8 +4,12 @@ pub mod Lead
 pub mod Size
 pub mod Rows
 pub mod HasLength
-pub mod Built
 pub mod Known
 pub mod Starts
-pub mod Order
 pub mod Passing
+pub mod Support
+pub mod Backs
+pub mod Spans
+pub mod Survey
+pub mod Rounds
+pub mod Drafts

@@ -14,6 +14,12 @@ abbrev pub kept : Bool → List Nested → List Nested
 kept true ts = ts
 kept false ts = []
 
+-- the tree that stands as a test: a lookaround, or a callout and a lookaround after it
+abbrev pub tree_of_test : Test → Nested
+tree_of_test (assert ahead positive once ts) = look ahead positive once ts
+tree_of_test (called c test) = seq (more (callout c) (more (tree_of_test test) none))
+tree_of_test _ = empty
+
 -- the nodes of a tree, each before its children, with those inside lookarounds or without them
 unfoldable mutual
   pub nodes : Bool → Nested → List Nested
@@ -39,14 +45,14 @@ unfoldable mutual
   nodes_in inside none = []
   nodes_in inside (more t ts) = nodes inside t ++ nodes_in inside ts
 
-  -- a lookaround that is a test is a node too, and so is a callout before it
+  -- a lookaround that is a test is a node too, and so are a callout before it and the sequence of both
   pub nodes_of_test : Bool → Test → List Nested
   nodes_of_test inside (any_set ns) = []
   nodes_of_test inside in_call = []
   nodes_of_test inside (in_call_of ns) = []
   nodes_of_test inside never = []
   nodes_of_test inside (assert ahead positive once ts) = look ahead positive once ts ∷ kept inside (nodes_in inside ts)
-  nodes_of_test inside (called c test) = callout c ∷ nodes_of_test inside test
+  nodes_of_test inside (called c test) = tree_of_test (called c test) ∷ callout c ∷ nodes_of_test inside test
 
   pub nodes_of_other : Bool → Other → List Nested
   nodes_of_other inside no_other = []

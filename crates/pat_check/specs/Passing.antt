@@ -1,9 +1,11 @@
 -- Which trees can match an empty text, by the groups that can.
 use Rattle.std.specs.Prelude.{◌≡◌, ℕ, ◌<◌, ◌≤◌, Bool, true, false, ◌||◌, ◌&&◌, ◌==◌, nat_le, List, [], ◌∷◌, Option, Some, None, length, filter, slice_index_or, if◌then◌else◌}
 use Rattle.pat_tree.specs.Nested.{Nested, Row, Test, Other, tree_at, empty, one, line_break, seq, group, repeat, one_repeat, atomic, look, condition, call, ref, anchor, keep_out, verb, callout, none, more, any_set, in_call, in_call_of, never, assert, called, no_other, other}
-use Rattle.pat_check.specs.Built.{IsBuilt}
-use Rattle.pat_check.specs.Lengths.{SomeLengths}
-use Rattle.pat_check.specs.Nodes.{is_capture, is_capture_of, number_twice}
+use Rattle.pat_check.specs.Lengths.{SomeLengths, least_lengths}
+use Rattle.pat_tree.specs.declared.nodes.Cond.{Cond}
+use Rattle.pat_tree.specs.declared.nodes.Cond.TheVariants.{Never}
+use Rattle.pat_tree.specs.Groups.{group_of}
+use Rattle.pat_check.specs.Nodes.{is_capture, is_capture_of, number_twice, captures, has_shared_number}
 use Rattle.pat_check.specs.declared.groups.Groups.{Groups}
 
 -- 0 is one of the lengths
@@ -62,19 +64,9 @@ module _ (any : Bool) (can : ℕ → Bool) where
     test_passes (assert ahead positive once ts) b = b
     test_passes (called c test) b = b
 
-  -- a group that is there can match an empty text
-  abbrev pub group_passes : Option Nested → Bool
-  group_passes None = false
-  group_passes (Some t) = passes t
-
 -- the number has a flag that is set
 abbrev pub flagged : List Bool → ℕ → Bool
 flagged flags n = slice_index_or flags n false
-
--- what is kept of the first nodes is what they are, where they have a form that is told about
-abbrev pub KeepPassing : Bool → List Bool → List Nested → List Bool → Type 0
-KeepPassing any can trees passing =
-    (k : ℕ) → k < length passing → IsBuilt (tree_at trees k) → flagged passing k ≡ passes any (flagged can) (tree_at trees k)
 
 -- Groups.
 
@@ -90,7 +82,7 @@ first_of n (t ∷ ts) = if is_capture_of n t then Some t else first_of n ts
 -- where a group stands, by the nodes' numbers
 abbrev pub IsAt : List Nested → ℕ → Option ℕ → Option Nested → Type 0
 IsAt trees root None found = found ≡ None
-IsAt trees root (Some k) found = (k ≤ root) × IsBuilt (tree_at trees k) × (found ≡ Some (tree_at trees k))
+IsAt trees root (Some k) found = (k ≤ root) × (found ≡ Some (tree_at trees k))
 
 abbrev pub place_of : List (Option ℕ) → ℕ → Option ℕ
 place_of places n = slice_index_or places n None
@@ -105,3 +97,22 @@ pub record AreGroups (trees : List Nested) (root : ℕ) (groups : Groups) (nodes
 abbrev pub passes_at : List Bool → Option ℕ → Bool
 passes_at passing None = false
 passes_at passing (Some k) = flagged passing k
+
+-- a condition's, by those of its branches; a definition is passed
+abbrev pub second_passes : (ℕ → Bool) → Option ℕ → Bool
+second_passes f None = true
+second_passes f (Some k) = f k
+
+abbrev pub condition_passes : (ℕ → Bool) → Cond → ℕ → Option ℕ → Bool
+condition_passes f Never first second = true
+condition_passes f _ first second = f first || second_passes f second
+
+-- the table of a pattern's groups, of which group 0 is the whole
+pub record IsGroupTable (trees : List Nested) (root : ℕ) (whole : Nested) (groups : Groups) : Type 0 where
+  pub places : (n : ℕ) → IsAt trees root (place_of groups.places.items n) (group_of whole n)
+  pub count : groups.count ≡ captures whole
+  pub shared : groups.shared ≡ has_shared_number whole
+
+-- the least lengths of the whole pattern
+abbrev pub whole_lengths : Bool → Nested → SomeLengths
+whole_lengths unset_matches whole = least_lengths unset_matches whole whole

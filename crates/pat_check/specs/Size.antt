@@ -1,6 +1,7 @@
 -- The size of a tree with its repeats written out.
-use Rattle.std.specs.Prelude.{ℕ, ◌+◌, ◌*◌, min, Option, Some, None}
-use Rattle.pat_tree.specs.Nested.{Nested, Row, Test, Other, empty, one, line_break, seq, group, repeat, one_repeat, atomic, look, condition, call, ref, anchor, keep_out, verb, callout, none, more, any_set, in_call, in_call_of, never, assert, called, no_other, other}
+use Rattle.std.specs.Prelude.{◌≡◌, ◌<◌, ℕ, ◌+◌, ◌*◌, List, [], ◌∷◌, length, Option, Some, None, slice_index_or}
+use Rattle.pat_check.specs.Lengths.{counted}
+use Rattle.pat_tree.specs.Nested.{Nested, tree_at, Row, Test, Other, empty, one, line_break, seq, group, repeat, one_repeat, atomic, look, condition, call, ref, anchor, keep_out, verb, callout, none, more, any_set, in_call, in_call_of, never, assert, called, no_other, other}
 
 -- how often the body of a repeat is written: without a maximum one more time than the minimum
 abbrev pub copies : ℕ → Option ℕ → ℕ
@@ -45,4 +46,18 @@ unfoldable mutual
 
 -- numbers past 32 bits stay at the greatest
 abbrev pub size : Nested → ℕ
-size t = min (whole_size t) 4294967295
+size t = counted (whole_size t)
+
+-- As it is kept.
+
+-- a sum that stays at the greatest number of 32 bits
+abbrev pub counted_sum : (ℕ → ℕ) → List ℕ → ℕ
+counted_sum of [] = 0
+counted_sum of (k ∷ ks) = counted (of k + counted_sum of ks)
+
+abbrev pub size_at : List ℕ → ℕ → ℕ
+size_at sizes k = slice_index_or sizes k 0
+
+-- what is kept of the first nodes is their sizes
+abbrev pub KeepSizes : List Nested → List ℕ → Type 0
+KeepSizes trees sizes = (k : ℕ) → k < length sizes → size_at sizes k ≡ size (tree_at trees k)

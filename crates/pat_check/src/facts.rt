@@ -1,23 +1,35 @@
 //! What is known of a pattern.
-ghost use Rattle.std.specs.Prelude.{◌≡◌, ◌<◌, ℕ, List, false, IfOk, length};
+ghost use Rattle.std.specs.Prelude.{◌≡◌, ◌<◌, ◌≤◌, ℕ, true, false, All, List, None, IfOk, IfErr, length, map};
 ghost use Rattle.pat_tree.specs.declared.nodes.Placed.{Placed};
+ghost use Rattle.pat_tree.specs.Nested.{trees, tree_at};
+ghost use Rattle.pat_tree.specs.Parts.{TreeParts, tree_of};
+ghost use Rattle.pat_tree.specs.Sound.{TreeRules};
+ghost use Rattle.uni_text.specs.Folding.{fold};
 ghost use Rattle.node_flow.specs.Followers.{IsFlowOf, next_of};
-ghost use Rattle.pat_tree.specs.Parts.{tree_of};
+ghost use Rattle.node_flow.specs.Order.{order};
 ghost use Rattle.char_sets.specs.Table.{IsTableOf};
-ghost use Rattle.pat_check.specs.Built.{IsBuilt};
+ghost use Rattle.pat_check.specs.Backs.{AreBacks, IsCheckError, first_fault, greatest_back, lengths_at};
 ghost use Rattle.pat_check.specs.Known.{IsByteSet, lead_set_of};
 ghost use Rattle.pat_check.specs.Lengths as lengths;
+ghost use Rattle.pat_check.specs.Lengths.{branch_fault, only};
 ghost use Rattle.pat_check.specs.Nodes as nodes;
-ghost use Rattle.pat_check.specs.Starts.{lead_set_in};
+ghost use Rattle.pat_check.specs.Nodes.{all_nodes};
+ghost use Rattle.pat_check.specs.Passing.{IsGroupTable};
+ghost use Rattle.pat_check.specs.Size as sizes;
+ghost use Rattle.pat_check.specs.Starts.{FoldsIn, known_set, lead_in};
+ghost use Rattle.pat_check.specs.Support as support;
 
-use crate::before::tests_before;
+use crate::backs::{Backs, fault_in, greatest_in};
+use crate::behind::branch_spans;
+use crate::groups::{Groups, group_table};
 use crate::leads::lead_set;
-use crate::names::names_cr_or_lf;
-use crate::order::preorder;
-use crate::passing::can_be_empty;
+use crate::passing::passes_whole;
+use crate::size::size_of;
+use crate::support::DfaSupport;
+use crate::survey::survey_of;
 use byte_lanes::ByteSet;
 use char_sets::ClassTable;
-use node_flow::Flow;
+use node_flow::{Flow, preorder};
 use pat_tree::{Memory, NodeId, Steps, Tree};
 use std::alloc::Global;
 use std::marker::Brand;
@@ -37,6 +49,15 @@ pub struct Facts {
     pub has_lookbehind: bool,
     /// The pattern holds `\b`, `\B` or `\A`, which look at the character before.
     pub tests_before: bool,
+    /// How many nodes the pattern has with its repeats written out, at most 4,294,967,295.
+    pub size: u32,
+    /// Whether the search for all ends at a place serves the pattern (pcre2matching, "The alternative matching algorithm").
+    pub dfa: DfaSupport,
+    /// How far each branch of a lookbehind begins before its place.
+    pub backs: Backs,
+    /// The greatest length of a branch of a lookbehind in the pattern, in characters; 0 where it has none (pcre2api,
+    /// "Information about a compiled pattern", PCRE2_INFO_MAXLOOKBEHIND).
+    pub greatest_back: u32,
     /// What runs when a part of the pattern is done.
     pub flow: Flow,
 }
@@ -49,50 +70,124 @@ impl Facts {
     {
         self.flow.next(id)
     }
+
+    /// The length of a branch of a lookbehind, in characters: so far before its place it begins. Needs such a branch of
+    /// the tree that these facts are of (pcre2pattern, "Lookbehind assertions").
+    pub fn back(&self, branch: NodeId) -> u32
+        requires { branch < length self.now.backs }
+        ensures { (tree : TreeParts) → AreBacks tree self.now.backs → branch_fault (lengths_at tree branch) ≡ None → lengths_at tree branch ≡ only result }
+    {
+        self.backs.of(branch)
+    }
 }
 
 /// Why nothing is told of a pattern.
 #[derive(Clone, Copy, Debug, PartialEq, Eq)]
 pub enum CheckError {
+    /// A lookbehind is refused: 125, a branch isn't of one length, or 187, it is too long. The place is that of the
+    /// lookbehind's parenthesis (pcre2pattern, "Lookbehind assertions").
+    Bad { number: i32, at: u32 },
     /// Want of memory.
     Memory,
 }
 
 impl From<Memory> for CheckError {
-    ghost from_gives = { λ _ _. Unit {0} };
+    ghost use Rattle.std.specs.Prelude.{◌≡◌};
+    ghost use Rattle.pat_check.specs.declared.facts.CheckError.TheVariants as told;
+
+    ghost from_gives = { λ _ e. e ≡ told.Memory };
 
     fn from(_e: Memory) -> CheckError {
         CheckError::Memory
     }
 }
 
-/// What is known of a pattern, by its tree and the table of its classes. Needs a tree without UTF, and without atomic
-/// groups, lookarounds, conditions, calls, verbs and callouts. Fails for want of memory alone.
+/// What is known of a pattern, by its tree and the table of its classes. Refuses the first branch of a lookbehind in the
+/// pattern's order that isn't of one length or is longer than 65,535 characters; a pattern without lookbehinds is refused
+/// for want of memory alone. Nodes that aren't under the root don't count.
 pub fn check(alloc: Global, tree: &Tree, classes: &ClassTable) -> Result<Facts, CheckError>
-    requires built { IsBuilt (tree_of tree.now) }
-    requires bytes { tree.now.options.utf ≡ false }
     requires table { IsTableOf tree.now classes.now }
-    ensures lead { (fold : ℕ → ℕ) → IfOk result (λ facts. IsByteSet facts.lead (lead_set_of tree.now fold)) }
+    ensures lead { tree.now.options.utf ≡ false → (folding : ℕ → ℕ) → IfOk result (λ facts. IsByteSet facts.lead (lead_set_of tree.now folding)) }
+    ensures lead_in_utf { tree.now.options.utf ≡ true → IfOk result (λ facts. IsByteSet facts.lead (lead_set_of tree.now fold)) }
     ensures empty { IfOk result (λ facts. facts.can_be_empty ≡ lengths.can_be_empty tree.now.options.match_unset_backref (tree_of tree.now)) }
     ensures names { IfOk result (λ facts. facts.names_crlf ≡ nodes.names_cr_or_lf tree.now.classes (tree_of tree.now)) }
     ensures lookbehind { IfOk result (λ facts. facts.has_lookbehind ≡ nodes.has_lookbehind (tree_of tree.now)) }
     ensures before { IfOk result (λ facts. facts.tests_before ≡ nodes.tests_before (tree_of tree.now)) }
+    ensures size { IfOk result (λ facts. facts.size ≡ sizes.size (tree_of tree.now)) }
+    ensures dfa { IfOk result (λ facts. facts.dfa ≡ support.dfa_support (tree_of tree.now)) }
+    ensures backs { IfOk result (λ facts. AreBacks tree.now facts.backs) }
+    ensures greatest { IfOk result (λ facts. facts.greatest_back ≡ greatest_back tree.now) }
     ensures flow { IfOk result (λ facts. IsFlowOf tree.now.nodes tree.now.root facts.flow) }
+    ensures fixed { IfOk result (λ facts. first_fault tree.now ≡ None) }
+    ensures refused { IfErr result (IsCheckError (first_fault tree.now)) }
+    ensures without { nodes.has_lookbehind (tree_of tree.now) ≡ false → IfErr result (λ e. e ≡ CheckError.Memory) }
 {
-    let lead = lead_of_whole::<Brand>(alloc, tree, classes, Blank::new(1))?;
-    let order = preorder(alloc, tree)?;
-    let can_be_empty = can_be_empty(alloc, tree, &order)?;
+    let order = nodes_in_order(alloc, tree)?;
+    let survey = survey_of(tree, &order);
+    let groups = group_table(alloc, tree, &order)?;
+    let spans = branch_spans(alloc, tree, &groups)?;
+    if let Some(fault) = fault_in(tree, &order, &spans) {
+        return Err(CheckError::Bad {
+            number: fault.number,
+            at: fault.at,
+        });
+    }
     Ok(Facts {
-        lead,
-        can_be_empty,
-        names_crlf: names_cr_or_lf(tree, &order),
-        has_lookbehind: false,
-        tests_before: tests_before(tree, &order),
+        lead: lead_unless(alloc, tree, classes, survey.has_accept)?,
+        can_be_empty: empty_or(alloc, tree, &groups, survey.has_accept)?,
+        names_crlf: survey.names_crlf,
+        has_lookbehind: survey.has_lookbehind,
+        tests_before: survey.tests_before,
+        size: size_of(alloc, tree)?,
+        dfa: survey.dfa,
+        backs: Backs::of_spans(alloc, &spans)?,
+        greatest_back: greatest_in(tree, &order, &spans),
         flow: Flow::build(alloc, tree)?,
     })
 }
 
-/// The bytes that every match begins with, by a counter of its own.
+/// The nodes of a pattern, each before its children.
+fn nodes_in_order(alloc: Global, tree: &Tree) -> Result<Vec<NodeId>, Memory>
+    ensures order { IfOk result (λ ids. ids.items ≡ order tree.now.nodes tree.now.root) }
+    ensures nodes { IfOk result (λ ids. map (tree_at (trees tree.now.nodes)) ids.items ≡ all_nodes (tree_of tree.now)) }
+    ensures below { IfOk result (λ ids. All (λ k. k ≤ tree.now.root) ids.items) }
+    ensures rules { TreeRules tree.now }
+{
+    tree.is_sound();
+    let order = preorder(alloc, tree)?;
+    Ok(order)
+}
+
+/// Whether a pattern can match an empty text, which it can where it holds ACCEPT.
+fn empty_or(alloc: Global, tree: &Tree, groups: &Groups, has_accept: bool) -> Result<bool, Memory>
+    requires table { IsGroupTable (trees tree.now.nodes) tree.now.root (tree_of tree.now) groups.now }
+    requires accept { has_accept ≡ nodes.has_accept (tree_of tree.now) }
+    ensures { IfOk result (λ empty. empty ≡ lengths.can_be_empty tree.now.options.match_unset_backref (tree_of tree.now)) }
+{
+    if has_accept {
+        return Ok(true);
+    }
+    passes_whole(alloc, tree, groups)
+}
+
+/// The bytes that every match begins with, which aren't known of a pattern that holds ACCEPT.
+fn lead_unless(
+    alloc: Global,
+    tree: &Tree,
+    classes: &ClassTable,
+    has_accept: bool,
+) -> Result<Option<ByteSet>, Memory>
+    requires table { IsTableOf tree.now classes.now }
+    requires accept { has_accept ≡ nodes.has_accept (tree_of tree.now) }
+    ensures { (fold : ℕ → ℕ) → FoldsIn tree.now.options.utf fold → IfOk result (λ set. IsByteSet set (lead_set_of tree.now fold)) }
+{
+    if has_accept {
+        return Ok(None);
+    }
+    lead_of_whole::<Brand>(alloc, tree, classes, Blank::new(1))
+}
+
+/// The bytes that every match begins with, apart from ACCEPT, by a counter of its own.
 fn lead_of_whole<L: Ledger>(
     alloc: Global,
     tree: &Tree,
@@ -102,9 +197,8 @@ fn lead_of_whole<L: Ledger>(
     requires name { blank.name ≡ L.name }
     requires parts { blank.parts ≡ L.parts }
     requires one { blank.parts ≡ 1 }
-    requires built { IsBuilt (tree_of tree.now) }
     requires table { IsTableOf tree.now classes.now }
-    ensures { (fold : ℕ → ℕ) → IfOk result (λ set. IsByteSet set (lead_set_in tree.now fold)) }
+    ensures { (fold : ℕ → ℕ) → FoldsIn tree.now.options.utf fold → IfOk result (λ set. IsByteSet set (known_set (lead_in tree.now fold (tree_of tree.now)))) }
 {
     let mut steps = Steps::<L>::new(blank);
     lead_set(alloc, tree, classes, &mut steps)

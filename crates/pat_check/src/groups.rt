@@ -3,8 +3,9 @@ ghost use Rattle.std.specs.Prelude.{◌≡◌, ℕ, ◌+◌, ◌^◌, ◌<◌, �
 ghost use Rattle.pat_tree.specs.Nested.{Nested, trees, tree_at, nest};
 ghost use Rattle.pat_tree.specs.Rules.{number_in, numbers_of};
 ghost use Rattle.pat_tree.specs.Sound.{greatest, group_numbers};
-ghost use Rattle.pat_check.specs.Built.{IsBuilt};
-ghost use Rattle.pat_check.specs.Passing.{AreGroups, place_of, capture_number};
+ghost use Rattle.pat_tree.specs.Parts.{tree_of};
+ghost use Rattle.pat_check.specs.Nodes.{all_nodes};
+ghost use Rattle.pat_check.specs.Passing.{AreGroups, IsGroupTable, place_of, capture_number};
 
 use pat_tree::{Memory, Node, NodeId, Tree};
 use std::alloc::Global;
@@ -21,7 +22,6 @@ impl Groups {
     /// Takes in a node that stands before those seen.
     fn see(&mut self, tree: &Tree, id: NodeId)
         requires below { id ≤ tree.now.root }
-        requires built { IsBuilt (tree_at (trees tree.now.nodes) id) }
         requires room { length self.old.places.items ≡ greatest (group_numbers tree.now.nodes) + 1 }
         requires few { self.old.count + 1 < 2 ^ 64 }
         ensures are { (nodes : List Nested) → AreGroups (trees tree.now.nodes) tree.now.root self.old nodes → AreGroups (trees tree.now.nodes) tree.now.root self.new (tree_at (trees tree.now.nodes) id ∷ nodes) }
@@ -34,7 +34,7 @@ impl Groups {
     }
 
     /// Takes in the whole pattern as group 0.
-    pub(crate) fn put_whole(&mut self, root: NodeId)
+    fn put_whole(&mut self, root: NodeId)
         requires { 0 < length self.old.places.items }
         ensures places { self.new.places.items ≡ slice_set self.old.places.items 0 (Some root) }
         ensures count { self.new.count ≡ self.old.count }
@@ -68,10 +68,20 @@ fn number_of(node: &Node) -> Option<u16>
     }
 }
 
-/// The groups of these nodes.
-pub(crate) fn groups_of(alloc: Global, tree: &Tree, order: &[NodeId]) -> Result<Groups, Memory>
+/// The table of a pattern's groups. `order` has its nodes, each before its children.
+pub(crate) fn group_table(alloc: Global, tree: &Tree, order: &[NodeId]) -> Result<Groups, Memory>
     requires below { All (λ k. k ≤ tree.now.root) order.now }
-    requires built { All (λ k. IsBuilt (tree_at (trees tree.now.nodes) k)) order.now }
+    requires nodes { map (tree_at (trees tree.now.nodes)) order.now ≡ all_nodes (tree_of tree.now) }
+    ensures { IfOk result (IsGroupTable (trees tree.now.nodes) tree.now.root (tree_of tree.now)) }
+{
+    let mut groups = groups_of(alloc, tree, order)?;
+    groups.put_whole(tree.root());
+    Ok(groups)
+}
+
+/// The groups of these nodes.
+fn groups_of(alloc: Global, tree: &Tree, order: &[NodeId]) -> Result<Groups, Memory>
+    requires below { All (λ k. k ≤ tree.now.root) order.now }
     ensures are { IfOk result (λ groups. AreGroups (trees tree.now.nodes) tree.now.root groups (map (tree_at (trees tree.now.nodes)) order.now)) }
     ensures room { IfOk result (λ groups. length groups.places.items ≡ greatest (group_numbers tree.now.nodes) + 1) }
 {

@@ -1,32 +1,30 @@
 // The bytes that a pattern may begin with, from its parts up.
-ghost use Rattle.std.specs.Prelude.{◌≡◌, ℕ, ◌+◌, ◌<◌, All, List, IfOk, length};
-ghost use Rattle.pat_tree.specs.Nested.{Nested, trees, nest};
+ghost use Rattle.std.specs.Prelude.{◌≡◌, ℕ, ◌+◌, ◌<◌, true, All, List, IfOk, length};
+ghost use Rattle.pat_tree.specs.Nested.{Nested, trees, tree_at, nest};
 ghost use Rattle.pat_tree.specs.Parts.{tree_of};
-ghost use Rattle.pat_tree.specs.Rules.{kids_of, classes_of};
+ghost use Rattle.pat_tree.specs.Rules.{kids_of, classes_of, asserted_by, is_test};
 ghost use Rattle.char_sets.specs.Table.{IsTableOf};
-ghost use Rattle.pat_check.specs.Built.{IsBuilt};
 ghost use Rattle.pat_check.specs.Known.{IsByteSet};
 ghost use Rattle.pat_check.specs.Lead.{SomeLead};
-ghost use Rattle.pat_check.specs.Starts.{IsSomeLead, KeepLeads, known_set, lead_in, lead_set_in};
+ghost use Rattle.pat_check.specs.Starts.{FoldsIn, IsSomeLead, KeepLeads, known_set, lead_in};
 
 use crate::item_bytes::{break_bytes, item_bytes};
-use crate::starts::{Start, begin, copied, in_turn, one_of, passed, repeated};
+use crate::starts::{Start, begin, copied, in_turn, one_of, one_of_condition, passed, repeated};
 use byte_lanes::ByteSet;
 use char_sets::ClassTable;
 use pat_tree::{Memory, Node, Steps, Tree};
 use std::alloc::Global;
 use std::sync::ledger::Ledger;
 
-/// The bytes that every match begins with, where they are known and each match takes one.
+/// The bytes that every match begins with, where they are known and each match takes one, apart from ACCEPT.
 pub(crate) fn lead_set<L: Ledger>(
     alloc: Global,
     tree: &Tree,
     classes: &ClassTable,
     steps: &mut Steps<L>,
 ) -> Result<Option<ByteSet>, Memory>
-    requires built { IsBuilt (tree_of tree.now) }
     requires table { IsTableOf tree.now classes.now }
-    ensures { (fold : ℕ → ℕ) → IfOk result (λ set. IsByteSet set (lead_set_in tree.now fold)) }
+    ensures { (fold : ℕ → ℕ) → FoldsIn tree.now.options.utf fold → IfOk result (λ set. IsByteSet set (known_set (lead_in tree.now fold (tree_of tree.now)))) }
 {
     let starts = leads(alloc, tree, classes, steps)?;
     Ok(known_set(&starts[tree.root() as usize]))
@@ -42,7 +40,7 @@ fn known_set(start: &Option<Start>) -> Option<ByteSet>
     }
 }
 
-/// The first bytes of each node up to the root. Of a node that has no form told about they are any.
+/// The first bytes of each node up to the root.
 fn leads<L: Ledger>(
     alloc: Global,
     tree: &Tree,
@@ -51,7 +49,7 @@ fn leads<L: Ledger>(
 ) -> Result<Vec<Option<Start>>, Memory>
     requires table { IsTableOf tree.now classes.now }
     ensures count { IfOk result (λ starts. length starts.items ≡ tree.now.root + 1) }
-    ensures kept { (fold : ℕ → ℕ) → IfOk result (λ starts. KeepLeads tree.now fold (trees tree.now.nodes) starts.items) }
+    ensures kept { (fold : ℕ → ℕ) → FoldsIn tree.now.options.utf fold → IfOk result (λ starts. KeepLeads tree.now fold (trees tree.now.nodes) starts.items) }
 {
     let mut starts = Vec::new(alloc);
     for id in 0..tree.root() as u64 + 1 {
@@ -72,11 +70,11 @@ fn lead_of<L: Ledger>(
     requires table { IsTableOf tree.now classes.now }
     requires classes { All (λ n. n < length classes.now) (classes_of node.now) }
     requires below { All (λ k. k < length starts.now) (kids_of node.now) }
-    ensures { (fold : ℕ → ℕ) (trees : List Nested) → KeepLeads tree.now fold trees starts.now → IsBuilt (nest trees node.now) → IsSomeLead result (lead_in tree.now fold (nest trees node.now)) }
+    ensures { (fold : ℕ → ℕ) → FoldsIn tree.now.options.utf fold → (trees : List Nested) → All (λ k. is_test (tree_at trees k) ≡ true) (asserted_by node.now) → KeepLeads tree.now fold trees starts.now → IsSomeLead result (lead_in tree.now fold (nest trees node.now)) }
 {
     match node {
         Node::One(item) => begin(item_bytes(tree, classes, item, steps)),
-        Node::Break => begin(break_bytes(tree.options().bsr)),
+        Node::Break => begin(break_bytes(tree.options().bsr, tree.options().utf)),
         Node::Seq(kids) => in_turn(kids.as_slice(), starts),
         Node::Group { branches, .. } => one_of(branches.as_slice(), starts),
         Node::Repeat { body, min, max, .. } => repeated(&starts[*body as usize], *min, *max),
@@ -84,6 +82,9 @@ fn lead_of<L: Ledger>(
             let once = begin(item_bytes(tree, classes, item, steps));
             repeated(&once, *min, *max)
         }
+        Node::Atomic(branches) => one_of(branches.as_slice(), starts),
+        Node::Cond { test, yes, no } => one_of_condition(test, *yes, *no, starts),
+        Node::Call { .. } => None,
         Node::Ref { .. } => None,
         _ => passed(),
     }

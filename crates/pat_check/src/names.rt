@@ -1,27 +1,15 @@
-// Whether a pattern names CR or LF.
-ghost use Rattle.std.specs.Prelude.{◌≡◌, ◌≤◌, ◌<◌, All, List, length};
+// Whether a node names CR or LF.
+ghost use Rattle.std.specs.Prelude.{◌≡◌, ◌<◌, All, List, length};
 ghost use Rattle.std.specs.List.{list_any};
-ghost use Rattle.pat_tree.specs.Nested.{Nested, trees, tree_at, nest};
+ghost use Rattle.pat_tree.specs.Nested.{Nested, nest};
 ghost use Rattle.pat_tree.specs.Rules.{classes_of, class_in};
 ghost use Rattle.pat_check.specs.Nodes as nodes;
 ghost use Rattle.pat_check.specs.Nodes.{node_names};
 
-use pat_tree::{Item, Node, NodeId, Part, Tree};
+use pat_tree::{Item, Node, Part, Tree};
 
-/// Whether some of these nodes names CR or LF, as a character or as an end of a range.
-pub(crate) fn names_cr_or_lf(tree: &Tree, order: &[NodeId]) -> bool
-    requires { All (λ k. k ≤ tree.now.root) order.now }
-    ensures { result ≡ list_any (λ k. node_names tree.now.classes (tree_at (trees tree.now.nodes) k)) order.now }
-{
-    for id in order {
-        if names(tree, tree.node(*id)) {
-            return true;
-        }
-    }
-    false
-}
-
-fn names(tree: &Tree, node: &Node) -> bool
+/// Whether a node names CR or LF, as a character or as an end of a range.
+pub(crate) fn names(tree: &Tree, node: &Node) -> bool
     requires { All (λ n. n < length tree.now.classes) (classes_of node.now) }
     ensures { (trees : List Nested) → result ≡ node_names tree.now.classes (nest trees node.now) }
 {

@@ -1,11 +1,12 @@
 // The bytes that a part of a pattern may begin with, part by part.
-ghost use Rattle.std.specs.Prelude.{◌≡◌, ℕ, ◌<◌, ◌||◌, All, length};
+ghost use Rattle.std.specs.Prelude.{◌≡◌, ℕ, ◌<◌, ◌∷◌, ◌||◌, All, length};
 ghost use Rattle.byte_lanes.specs.Sets.{has_byte};
 ghost use Rattle.pat_check.specs.Lead.{SomeLead, passes, begins, then_lead, either_lead, repeated_lead};
-ghost use Rattle.pat_check.specs.Starts.{IsSomeLead, AreKept, lead_of_parts, lead_of_branches};
+ghost use Rattle.pat_tree.specs.Rules.{number_in};
+ghost use Rattle.pat_check.specs.Starts.{IsSomeLead, AreKept, lead_of_parts, lead_of_branches, lead_of_condition};
 
 use byte_lanes::ByteSet;
-use pat_tree::NodeId;
+use pat_tree::{Cond, NodeId};
 
 /// The bytes that a part may begin with, and whether it may be passed without one.
 #[derive(Drop)]
@@ -120,6 +121,37 @@ pub(crate) fn repeated(part: &Option<Start>, min: u16, max: Option<u16>) -> Opti
         Some(start) => Some(Start {
             bytes: copied(&start.bytes),
             passing: start.passing || min == 0,
+        }),
+        None => None,
+    }
+}
+
+/// One of both branches of a condition, the second of which is passed where it is missing. A definition is passed.
+pub(crate) fn one_of_condition(
+    test: &Cond,
+    yes: NodeId,
+    no: Option<NodeId>,
+    starts: &[Option<Start>],
+) -> Option<Start>
+    requires { All (λ k. k < length starts.now) (yes ∷ number_in no) }
+    ensures { (of : ℕ → SomeLead) → AreKept starts.now of (yes ∷ number_in no) → IsSomeLead result (lead_of_condition of test.now yes no) }
+{
+    if let Cond::Never = test {
+        return passed();
+    }
+    match no {
+        Some(no) => either(&starts[yes as usize], copy_of(&starts[no as usize])),
+        None => either(&starts[yes as usize], passed()),
+    }
+}
+
+fn copy_of(start: &Option<Start>) -> Option<Start>
+    ensures { (x : SomeLead) → IsSomeLead start.now x → IsSomeLead result x }
+{
+    match start {
+        Some(start) => Some(Start {
+            bytes: copied(&start.bytes),
+            passing: start.passing,
         }),
         None => None,
     }

@@ -1,5 +1,5 @@
 -- Classes (pcre2pattern, "Square brackets and character classes", "POSIX character classes").
-use Rattle.std.specs.Prelude.{ℕ, ◌+◌, true, false, not, ◌&&◌, ◌||◌, ◌==◌, List, [], ◌∷◌, drop, Option, Some, None, Ok, slice_get, slice_range, if◌then◌else◌, codes}
+use Rattle.std.specs.Prelude.{ℕ, ◌+◌, ◌-◌, true, false, not, ◌&&◌, ◌||◌, ◌==◌, List, [], ◌∷◌, length, drop, Option, Some, None, Ok, slice_get, slice_range, if◌then◌else◌, codes}
 use Rattle.std.specs.Str.{bytes_eq}
 use Rattle.std.specs.Char.{is_ascii_alphanumeric}
 use Rattle.pat_tree.specs.declared.nodes.SetName.{SetName}
@@ -7,6 +7,7 @@ use Rattle.pat_tree.specs.declared.nodes.SetName.TheVariants.{Digit, Space, Word
 use Rattle.token_parts.specs.declared.token.LexFlags.{LexFlags}
 use Rattle.token_parts.specs.declared.token.Token.TheVariants.{Literal, Set, ClassStart, ClassEnd, Hyphen, Passed}
 use Rattle.token_parts.specs.Bytes.{◌∈◌, is_at}
+use Rattle.token_parts.specs.Comments.{skip}
 use Rattle.token_parts.specs.Tell.{Lexed, fault}
 use Rattle.token_parts.specs.Codes.{octal, coded}
 use Rattle.pat_lex.specs.Escapes.{everywhere, listed, property}
@@ -49,12 +50,27 @@ module _ (text : List ℕ) where
     | Some mark ↦ if mark ∈ ":.=" then mark_again mark (bracket + 2) (drop (bracket + 2) text) else None
   ]
 
-  -- `[` outside a class
-  unfoldable pub class_start : ℕ → Lexed
-  class_start at = elim (posix_end at) [
-    | Some to ↦ if is_at text ":" (at + 1) then fault 112 at else fault 113 at
-    | None ↦ if is_at text "^" (at + 1) then Ok (ClassStart true, at + 2) else Ok (ClassStart false, at + 1)
-  ]
+  module _ (flags : LexFlags) where
+    -- Past one `\E`, an empty `\Q\E`, or a blank under xx; the place itself where none stands there.
+    unfoldable pub ignored_end : ℕ → ℕ
+    ignored_end i =
+        if is_at text "\\" i && is_at text "E" (i + 1) then i + 2
+        else if is_at text "\\" i && is_at text "Q" (i + 1) && (is_at text "\\" (i + 2) && is_at text "E" (i + 3)) then i + 4
+        else if flags.extended_more && is_at text " \t" i then i + 1
+        else i
+
+    -- past all of them
+    unfoldable pub all_ignored_end : ℕ → ℕ
+    all_ignored_end i = skip ignored_end (length text - i) i
+
+    -- `[` outside a class: a `^` negates it also after what is ignored there
+    unfoldable pub class_start : ℕ → Lexed
+    class_start at = elim (posix_end at) [
+      | Some to ↦ if is_at text ":" (at + 1) then fault 112 at else fault 113 at
+      | None ↦
+          if is_at text "^" (all_ignored_end (at + 1)) then Ok (ClassStart true, all_ignored_end (at + 1) + 1)
+          else Ok (ClassStart false, at + 1)
+    ]
 
   -- a POSIX item whose second mark is given
   unfoldable pub posix : ℕ → ℕ → Lexed

@@ -10,7 +10,7 @@ use Rattle.token_parts.specs.declared.token.OpenKind.TheVariants as open_kind
 use Rattle.token_parts.specs.declared.token.CondText.TheVariants.{InCallOf}
 use Rattle.token_parts.specs.declared.token.VerbKind.TheVariants.{Mark}
 use Rattle.token_parts.specs.declared.token.QuantMode.TheVariants.{Possessive}
-use Rattle.token_parts.specs.declared.token.Token.TheVariants.{Literal, Set, Reference, Open, OptionSet, CondStart, CalloutItem, VerbItem, Quantifier}
+use Rattle.token_parts.specs.declared.token.Token.TheVariants.{Literal, Set, ClassStart, Reference, Open, OptionSet, CondStart, CalloutItem, VerbItem, Quantifier}
 use Rattle.token_parts.specs.Tell.{Lexed, fault}
 use Rattle.pat_lex.specs.Tokens.{token_at}
 
@@ -62,5 +62,6 @@ pub record WorkedRows : Type 0 where
   pub doubled : at_place "(?C'it''s')" 0 ≡ Ok (CalloutItem 0 4 9, 11)
   pub mark : at_place "(*:a b)" 0 ≡ Ok (VerbItem Mark 3 6, 7)
   pub posix : token_at (codes "[[:^alpha:]]") in_class 1 ≡ Ok (Set Alpha true, 11)
+  pub negated_late : at_place "[\\E^]" 0 ≡ Ok (ClassStart true, 4)
   pub too_large : at_place "\\x{100z" 0 ≡ fault 134 0
   pub possessive : token_at (codes "a* # b\n+") extended 1 ≡ Ok (Quantifier 0 None Possessive, 8)

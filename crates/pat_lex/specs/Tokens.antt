@@ -32,7 +32,7 @@ module _ (text : List ℕ) (flags : LexFlags) where
       else if c ∈ "(" then group text at
       else if c ∈ ")" then Ok (Close, at + 1)
       else if c ∈ "|" then Ok (Bar, at + 1)
-      else if c ∈ "[" then class_start text at
+      else if c ∈ "[" then class_start text flags at
       else if c ∈ "." then Ok (Dot, at + 1)
       else if c ∈ "^" then Ok (Caret, at + 1)
       else if c ∈ "$" then Ok (Dollar, at + 1)

@@ -2,7 +2,7 @@
 -- "Assertions"), and items for the very start ("Special start-of-pattern items").
 use Rattle.std.specs.Prelude.{ℕ, ◌+◌, ◌-◌, ◌^◌, Bool, true, false, not, ◌&&◌, ◌||◌, ◌==◌, nat_lt, List, Option, Some, None, Ok, slice_range, if◌then◌else◌, codes}
 use Rattle.std.specs.Str.{bytes_eq}
-use Rattle.pat_tree.specs.declared.options.Newline.TheVariants.{Cr, Lf, CrLf, AnyCrLf, Any, Nul}
+use Rattle.pat_tree.specs.Newlines.{newline_named}
 use Rattle.pat_tree.specs.declared.options.Bsr.TheVariants as bsr
 use Rattle.token_parts.specs.declared.token.StartItem.{StartItem}
 use Rattle.token_parts.specs.declared.token.StartItem.TheVariants.{NewlineIs, BsrIs, Utf, Ucp, NotEmpty, NotEmptyAtStart, NoStartOpt, NoEffect, LimitMatch}
@@ -14,16 +14,10 @@ use Rattle.token_parts.specs.declared.token.Token.TheVariants.{Start, Open, Verb
 use Rattle.token_parts.specs.Bytes.{◌∈◌, is_word_byte, is_at, run_end, digits_end, numeral}
 use Rattle.token_parts.specs.Tell.{Lexed, fault}
 
--- before `)`, at the very start
-unfoldable pub start_word : List ℕ → Option StartItem
-start_word word =
-    if bytes_eq word (codes "CR") then Some (NewlineIs Cr)
-    else if bytes_eq word (codes "LF") then Some (NewlineIs Lf)
-    else if bytes_eq word (codes "CRLF") then Some (NewlineIs CrLf)
-    else if bytes_eq word (codes "ANYCRLF") then Some (NewlineIs AnyCrLf)
-    else if bytes_eq word (codes "ANY") then Some (NewlineIs Any)
-    else if bytes_eq word (codes "NUL") then Some (NewlineIs Nul)
-    else if bytes_eq word (codes "UTF") then Some Utf
+-- before `)`, at the very start, but for the newlines
+abbrev pub other_start_word : List ℕ → Option StartItem
+other_start_word word =
+    if bytes_eq word (codes "UTF") then Some Utf
     else if bytes_eq word (codes "UCP") then Some Ucp
     else if bytes_eq word (codes "NOTEMPTY") then Some NotEmpty
     else if bytes_eq word (codes "NOTEMPTY_ATSTART") then Some NotEmptyAtStart
@@ -34,6 +28,10 @@ start_word word =
     else if bytes_eq word (codes "BSR_ANYCRLF") then Some (BsrIs bsr.AnyCrLf)
     else if bytes_eq word (codes "BSR_UNICODE") then Some (BsrIs bsr.Unicode)
     else None
+
+-- before `)`, at the very start
+unfoldable pub start_word : List ℕ → Option StartItem
+start_word word = elim (newline_named word) [ Some newline ↦ Some (NewlineIs newline) | None ↦ other_start_word word ]
 
 -- before `)` or `:`; without a word a colon is MARK's
 unfoldable pub verb_word : List ℕ → Option VerbKind

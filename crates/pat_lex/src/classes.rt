@@ -1,7 +1,7 @@
 //! Classes (pcre2pattern, "Square brackets and character classes", "POSIX character classes").
 ghost use Rattle.std.specs.Prelude.{◌≡◌, ◌+◌, ◌<◌, ◌≤◌, length, drop, IfSome};
 ghost use Rattle.token_parts.specs.Tell.{IsSound};
-ghost use Rattle.pat_lex.specs.Classes.{posix_set, mark_again, posix_end, class_start, posix, bracket, longer_in_class, class_escape, in_class};
+ghost use Rattle.pat_lex.specs.Classes.{posix_set, mark_again, posix_end, ignored_end, all_ignored_end, class_start, posix, bracket, longer_in_class, class_escape, in_class};
 
 use crate::escapes::{everywhere, property};
 use crate::faults::{
@@ -88,18 +88,69 @@ fn posix_end(text: &[u8], bracket: usize) -> Option<usize>
     }
 }
 
-/// `[` outside a class. A POSIX item that stands as a whole class is refused.
+/// Past one `\E`, an empty `\Q\E`, or a blank under xx; the place itself where none stands there.
+#[tactic(auto, unfolding(crate::specs::Classes::ignored_end))]
+fn ignored_end(text: &[u8], flags: LexFlags, i: usize) -> usize
+    requires { i ≤ length text.now }
+    ensures value { result ≡ ignored_end text.now flags i }
+    ensures past { i ≤ result }
+    ensures within { result ≤ length text.now }
+{
+    let escape = stands(text, b'\\', i);
+    if escape && stands(text, b'E', i + 1) {
+        i + 2
+    } else if escape
+        && stands(text, b'Q', i + 1)
+        && (stands(text, b'\\', i + 2) && stands(text, b'E', i + 3))
+    {
+        i + 4
+    } else if flags.extended_more && (stands(text, b' ', i) || stands(text, b'\t', i)) {
+        i + 1
+    } else {
+        i
+    }
+}
+
+/// Past all that is ignored at a place of a class.
+#[tactic(auto, using(token_parts::proofs::Places::skip_here, token_parts::proofs::Places::skip_later, token_parts::proofs::Places::skip_all), unfolding(crate::specs::Classes::all_ignored_end))]
+fn all_ignored_end(text: &[u8], flags: LexFlags, from: usize) -> usize
+    requires { from ≤ length text.now }
+    ensures value { result ≡ all_ignored_end text.now flags from }
+    ensures past { from ≤ result }
+    ensures within { result ≤ length text.now }
+{
+    let mut i = from;
+    for _turn in from..text.len() {
+        let next = ignored_end(text, flags, i);
+        if next == i {
+            return i;
+        }
+        i = next;
+    }
+    i
+}
+
+/// `[` outside a class. A POSIX item that stands as a whole class is refused. A `^` negates the class also after what is
+/// ignored there.
 #[tactic(auto, unfolding(crate::specs::Classes::class_start))]
-pub(crate) fn class_start(text: &[u8], at: usize) -> Lexed
+pub(crate) fn class_start(text: &[u8], flags: LexFlags, at: usize) -> Lexed
     requires { at < length text.now }
-    ensures value { result ≡ class_start text.now at }
+    ensures value { result ≡ class_start text.now flags at }
     ensures sound { IsSound text.now at result }
 {
-    match posix_end(text, at) {
-        Some(_) if stands(text, b':', at + 1) => Err(Fault::new(POSIX_OUTSIDE, at)),
-        Some(_) => Err(Fault::new(COLLATING_ELEMENT, at)),
-        None if stands(text, b'^', at + 1) => Ok((Token::ClassStart { negated: true }, at + 2)),
-        None => Ok((Token::ClassStart { negated: false }, at + 1)),
+    if posix_end(text, at).is_some() {
+        let number = if stands(text, b':', at + 1) {
+            POSIX_OUTSIDE
+        } else {
+            COLLATING_ELEMENT
+        };
+        return Err(Fault::new(number, at));
+    }
+    let first = all_ignored_end(text, flags, at + 1);
+    if stands(text, b'^', first) {
+        Ok((Token::ClassStart { negated: true }, first + 1))
+    } else {
+        Ok((Token::ClassStart { negated: false }, at + 1))
     }
 }
 

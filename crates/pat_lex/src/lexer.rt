@@ -58,7 +58,7 @@ fn plain(text: &[u8], flags: LexFlags, c: u8, at: usize) -> Lexed
         b'(' => group(text, at),
         b')' => Ok((Token::Close, at + 1)),
         b'|' => Ok((Token::Bar, at + 1)),
-        b'[' => class_start(text, at),
+        b'[' => class_start(text, flags, at),
         b'.' => Ok((Token::Dot, at + 1)),
         b'^' => Ok((Token::Caret, at + 1)),
         b'$' => Ok((Token::Dollar, at + 1)),

@@ -322,11 +322,27 @@ fn other_metacharacters(rt: HostRuntime) {
         ("[:alpha]", Token::ClassStart { negated: false }, 1),
         ("[:a]:]", Token::ClassStart { negated: false }, 1),
         ("[^:alpha:]", Token::ClassStart { negated: true }, 2),
+        ("[\\E^a]", Token::ClassStart { negated: true }, 4),
+        ("[\\Q\\E\\E^^]", Token::ClassStart { negated: true }, 8),
+        ("[\\Q^]", Token::ClassStart { negated: false }, 1),
+        ("[ ^a]", Token::ClassStart { negated: false }, 1),
+        ("[\\E]a]", Token::ClassStart { negated: false }, 1),
         ("(?#a\\)b)", Token::Passed, 6),
     ];
     for (text, token, after) in rows {
         begins(&rt, PLAIN, text, token, after);
     }
+    let spaced = LexFlags {
+        extended_more: true,
+        ..EXTENDED
+    };
+    begins(
+        &rt,
+        spaced,
+        "[ \t\\E ^ ]a]",
+        Token::ClassStart { negated: true },
+        7,
+    );
     begins(&rt, QUOTING, "\\E", Token::QuoteOff, 2);
     begins(&rt, QUOTING, "", Token::End, 0);
     for (text, code) in [("\\d", 92), ("[", 91), ("(", 40), ("*", 42), ("\\", 92)] {

@@ -18,19 +18,10 @@ const LONGEST_NAME: usize = 255;
 fn start_word(word: &[u8]) -> Option<StartItem>
     ensures { result ≡ start_word word.now }
 {
-    if word == b"CR".as_slice() {
-        Some(StartItem::NewlineIs(Newline::Cr))
-    } else if word == b"LF".as_slice() {
-        Some(StartItem::NewlineIs(Newline::Lf))
-    } else if word == b"CRLF".as_slice() {
-        Some(StartItem::NewlineIs(Newline::CrLf))
-    } else if word == b"ANYCRLF".as_slice() {
-        Some(StartItem::NewlineIs(Newline::AnyCrLf))
-    } else if word == b"ANY".as_slice() {
-        Some(StartItem::NewlineIs(Newline::Any))
-    } else if word == b"NUL".as_slice() {
-        Some(StartItem::NewlineIs(Newline::Nul))
-    } else if word == b"UTF".as_slice() {
+    if let Some(newline) = Newline::by_name(word) {
+        return Some(StartItem::NewlineIs(newline));
+    }
+    if word == b"UTF".as_slice() {
         Some(StartItem::Utf)
     } else if word == b"UCP".as_slice() {
         Some(StartItem::Ucp)

@@ -8,7 +8,7 @@ use Rattle.std.proofs.lemmas.List.{drop-take}
 use Rattle.std.proofs.lemmas.Bool.{cases_lt}
 use Rattle.std.proofs.Common.{inl, inr, length-take}
 use Rattle.std.proofs.lemmas.Bool.Decides.{nat_tests}
-use Rattle.byte_lanes.specs.Newlines.{longest, longest_before, any_utf_texts, stands, stands_before}
+use Rattle.byte_lanes.specs.Newlines.{longest_before, any_utf_texts, stands, stands_before}
 use Rattle.pat_tree.specs.Newlines.{longest_of}
 
 pub stands_is : (text bytes : List ℕ) (at : ℕ) → stands text bytes at ≡ pointwise eqb text (take (length text) (drop at bytes))
@@ -78,9 +78,6 @@ utf_lines a b c d e f g h =
     ∙ ap (max (if a || b then 3 else 0)) (merged 2 c d (max (if e then 1 else 0) (max (if f then 1 else 0) (max (if g then 1 else 0) (max (if h then 1 else 0) 0))))
     ∙ ap (max (if c || d then 2 else 0)) (merged 1 e f (max (if g then 1 else 0) (max (if h then 1 else 0) 0)) ∙ merged 1 (e || f) g (max (if h then 1 else 0) 0) ∙ merged 1 ((e || f) || g) h 0))
     ∙ stacked (a || b) (c || d) (((e || f) || g) || h)
-
-pub utf_at : (bytes : List ℕ) (at : ℕ) → longest any_utf_texts bytes at ≡ longest_of (stands (226 ∷ 128 ∷ 168 ∷ []) bytes at || stands (226 ∷ 128 ∷ 169 ∷ []) bytes at) (stands (13 ∷ 10 ∷ []) bytes at || stands (194 ∷ 133 ∷ []) bytes at) (stands (10 ∷ []) bytes at || stands (11 ∷ []) bytes at || stands (12 ∷ []) bytes at || stands (13 ∷ []) bytes at)
-utf_at bytes at = utf_lines (stands (226 ∷ 128 ∷ 168 ∷ []) bytes at) (stands (226 ∷ 128 ∷ 169 ∷ []) bytes at) (stands (13 ∷ 10 ∷ []) bytes at) (stands (194 ∷ 133 ∷ []) bytes at) (stands (10 ∷ []) bytes at) (stands (11 ∷ []) bytes at) (stands (12 ∷ []) bytes at) (stands (13 ∷ []) bytes at)
 
 pub utf_before : (bytes : List ℕ) (at : ℕ) → longest_before any_utf_texts bytes at ≡ longest_of (stands_before (226 ∷ 128 ∷ 168 ∷ []) bytes at || stands_before (226 ∷ 128 ∷ 169 ∷ []) bytes at) (stands_before (13 ∷ 10 ∷ []) bytes at || stands_before (194 ∷ 133 ∷ []) bytes at) (stands_before (10 ∷ []) bytes at || stands_before (11 ∷ []) bytes at || stands_before (12 ∷ []) bytes at || stands_before (13 ∷ []) bytes at)
 utf_before bytes at = utf_lines (stands_before (226 ∷ 128 ∷ 168 ∷ []) bytes at) (stands_before (226 ∷ 128 ∷ 169 ∷ []) bytes at) (stands_before (13 ∷ 10 ∷ []) bytes at) (stands_before (194 ∷ 133 ∷ []) bytes at) (stands_before (10 ∷ []) bytes at) (stands_before (11 ∷ []) bytes at) (stands_before (12 ∷ []) bytes at) (stands_before (13 ∷ []) bytes at)

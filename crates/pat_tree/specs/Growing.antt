@@ -33,6 +33,10 @@ loose_after n before (p ∷ ps) = loose_after (n + 1) (without (kids_of p.node) 
 unfoldable pub loose : List Placed → List ℕ
 loose ps = loose_after 0 [] ps
 
+-- each node lies under this one: every other is a child
+abbrev pub AllUnder : List Placed → ℕ → Type 0
+AllUnder ps root = loose ps ≡ root ∷ []
+
 -- each is loose, and none comes twice
 abbrev pub is_fresh : List ℕ → List ℕ → Bool
 is_fresh free [] = true

@@ -1,4 +1,5 @@
 pub mod Nested
+pub mod Built
 pub mod Groups
 pub mod Names
 pub mod Newlines
@@ -7,4 +8,5 @@ pub mod Rules
 pub mod Refs
 pub mod Growing
 pub mod Sound
+pub mod Pattern
 pub mod Rows

@@ -202,6 +202,26 @@ fn has_names(names: &NameTable) -> bool {
 }
 
 #[test]
+fn newlines_have_names(rt: HostRuntime) {
+    let rows: [(&[u8], Option<Newline>, Option<Newline>); 10] = [
+        (b"CR", Some(Newline::Cr), Some(Newline::Cr)),
+        (b"LF", Some(Newline::Lf), Some(Newline::Lf)),
+        (b"CRLF", Some(Newline::CrLf), Some(Newline::CrLf)),
+        (b"ANYCRLF", Some(Newline::AnyCrLf), Some(Newline::AnyCrLf)),
+        (b"ANY", Some(Newline::Any), Some(Newline::Any)),
+        (b"NUL", Some(Newline::Nul), Some(Newline::Nul)),
+        (b"anyCRLF", None, Some(Newline::AnyCrLf)),
+        (b"nul", None, Some(Newline::Nul)),
+        (b"", None, None),
+        (b"CRL", None, None),
+    ];
+    for (name, capital, any_case) in rows {
+        assert_eq!(rt; Newline::by_name(name), capital);
+        assert_eq!(rt; Newline::by_name_in_any_case(name), any_case);
+    }
+}
+
+#[test]
 fn newlines_begin_and_end(rt: HostRuntime) {
     // a CR LF b LS NEL VT 0
     let text = b"a\r\nb\xe2\x80\xa8\xc2\x85\x0b\x00";

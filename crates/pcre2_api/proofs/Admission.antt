@@ -1,10 +1,10 @@
 -- The text of a match is one that the options admit.
 use Rattle.std.proofs.Common.{◌≡◌, ℕ, zero, suc, ◌+◌, ◌-◌, Bool, true, false, length, Option, Some, None, refl, subst}
-use Rattle.frame_machine.specs.Stream.{State, exhausted, by_verb, by_halt, is_partial, too_many_units, loop, abort, cut, How, reached, accepted, note, state, step, Stream, ends, ◌▸◌}
-use Rattle.frame_machine.specs.Setting.{Setting}
-use Rattle.frame_machine.specs.PlaceAnswer.{Outcome, outcome, Signal, Exhausted, PlaceAnswer, Matched, Failed, Partial, MatchLimit, FrameLimit, Loop, Abort, NoDepth, Walked, answers, has_hit, is_refused_by_end, is_refused_as_empty, walk, place_answer}
-use Rattle.match_drive.specs.Places.{within, place_after, is_excluded}
-use Rattle.match_drive.specs.MatchAnswer.{MatchAnswer, Match, NoMatch, PartialFrom, Error, Found, decided, undecided, failed_at, tried, from_place, match_answer}
+use Rattle.ordered_search.specs.Stream.{State, exhausted, by_verb, by_halt, is_partial, too_many_units, loop, abort, cut, How, reached, accepted, note, state, step, Stream, ends, ◌▸◌}
+use Rattle.ordered_search.specs.Setting.{Setting}
+use Rattle.ordered_search.specs.PlaceAnswer.{Outcome, outcome, Signal, Exhausted, PlaceAnswer, Matched, Failed, Partial, MatchLimit, FrameLimit, Loop, Abort, NoDepth, Walked, answers, has_hit, is_refused_by_end, is_refused_as_empty, walk, place_answer}
+use Rattle.ordered_search.specs.Places.{within, place_after, is_excluded}
+use Rattle.ordered_search.specs.MatchAnswer.{MatchAnswer, Match, NoMatch, PartialFrom, Error, Found, decided, undecided, failed_at, tried, from_place, match_answer}
 use Rattle.pcre2_api.specs.Matched.{IsAdmitted}
 
 module _ (g : Setting) where

@@ -1,9 +1,9 @@
 -- What the answer of a search that goes forward says of a match.
 use Rattle.std.proofs.Common.{◌≡◌, ◌∙◌, ap, subst, Option, None}
-use Rattle.frame_machine.specs.Setting.{Setting}
-use Rattle.frame_machine.specs.PlaceAnswer.{Outcome, last_name}
-use Rattle.match_drive.specs.MatchAnswer.{MatchAnswer, Match, Found}
-use Rattle.match_drive.specs.Forward.{IsPlaced, IsPlain, IsPlainFound}
+use Rattle.ordered_search.specs.Setting.{Setting}
+use Rattle.ordered_search.specs.PlaceAnswer.{Outcome, last_name}
+use Rattle.ordered_search.specs.MatchAnswer.{MatchAnswer, Match, Found}
+use Rattle.ordered_search.specs.Forward.{IsPlaced, IsPlain, IsPlainFound}
 
 module _ (g : Setting) (f : Found) (plain : IsPlainFound g f) where
   pub is_placed : (o : Outcome) → f.answer ≡ Match o → IsPlaced g o

@@ -1,8 +1,9 @@
 -- Groups by their numbers and names.
-use Rattle.std.proofs.Common.{◌≡◌, ◌∙◌, ℕ, zero, suc, ◌+◌, ◌-◌, ◌<◌, true, false, if◌then◌else◌, List, drop, length, get_or, Option, Some, None, refl, sym, subst, arith, bytes_eq, is_some}
+use Rattle.std.proofs.Common.{◌≡◌, ◌∙◌, ℕ, zero, suc, ◌+◌, ◌-◌, ◌<◌, Bool, true, false, if◌then◌else◌, List, drop, length, get_or, Option, Some, None, refl, sym, ap, subst, arith, bytes_eq, is_some}
 use Rattle.std.proofs.Math.Seq.{drop-cons}
+use Rattle.std.proofs.lemmas.Bool.{ne_eqb}
 use Rattle.pat_tree.specs.declared.names.NameEntry.{NameEntry}
-use Rattle.frame_store.specs.Captures.{Captures, capture}
+use Rattle.frame_store.specs.Captures.{Captures, capture, capture_if_any}
 use Rattle.pcre2_api.specs.Matched.{MatchParts}
 use Rattle.pcre2_api.specs.Captured.{group_of, first_named, top_within}
 
@@ -10,6 +11,11 @@ pub top_step : (caps : Captures) (n : ℕ) → 0 < n → top_within caps n ≡ (
 unfolding top_within
 top_step caps zero h = absurd (omega arith)
 top_step caps (suc n) h = let same : suc n - 1 ≡ n = omega arith in rw same refl
+
+-- a number of 1 or more may name a group
+pub capture_numbered : (caps : Captures) (n : ℕ) → 0 < n → capture_if_any caps n ≡ capture caps n
+capture_numbered caps n some =
+    ap (λ (b : Bool). if b then None else capture caps n) (ne_eqb n 0 (λ none. absurd (omega (arith, some, none))))
 
 abbrev pub named_at : MatchParts → List ℕ → NameEntry → List NameEntry → Option (List ℕ)
 named_at f name e es = if bytes_eq e.name name then (elim (group_of f e.group) [ Some text ↦ Some text | None ↦ first_named f name es ]) else first_named f name es

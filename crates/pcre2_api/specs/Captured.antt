@@ -6,7 +6,7 @@ use Rattle.std.specs.Str.{bytes_eq}
 use Rattle.pat_tree.specs.declared.names.NameEntry.{NameEntry}
 use Rattle.frame_store.specs.declared.registers.Span.{Span}
 use Rattle.frame_store.specs.Captures.{Captures, capture}
-use Rattle.frame_machine.specs.PlaceAnswer.{Outcome}
+use Rattle.ordered_search.specs.PlaceAnswer.{Outcome}
 use Rattle.pcre2_api.specs.Matched.{MatchParts}
 
 -- where a group's text stands, if it is set; group 0 is the whole match

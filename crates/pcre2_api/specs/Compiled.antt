@@ -1,5 +1,5 @@
 -- A compiled pattern, and what a pattern is compiled to (pcre2api, "Compiling a pattern").
-use Rattle.std.specs.Prelude.{◌≡◌, ℕ, false, if◌then◌else◌, List, Result, Ok, Err}
+use Rattle.std.specs.Prelude.{◌≡◌, ℕ, false, max, if◌then◌else◌, List, Result, Ok, Err}
 use Rattle.pat_tree.specs.declared.options.Options.{Options}
 use Rattle.pat_tree.specs.Parts.{TreeParts, tree_of}
 use Rattle.pat_tree.specs.Sound.{greatest, group_numbers}
@@ -10,7 +10,10 @@ use Rattle.pat_build.specs.Reading.{Parsed, read}
 use Rattle.pat_build.specs.Machine.{parsed_of}
 use Rattle.char_sets.specs.Table.{CharSet, IsTableOf}
 use Rattle.pat_check.specs.declared.facts.Facts.{Facts}
-use Rattle.pat_check.specs.Built.{IsBuilt}
+use Rattle.pat_tree.specs.Built.{IsBuilt}
+use Rattle.pat_check.specs.declared.facts.CheckError.{CheckError}
+use Rattle.pat_check.specs.declared.facts.CheckError.TheVariants as checking
+use Rattle.pat_check.specs.Backs.{greatest_back}
 use Rattle.pat_check.specs.Lengths.{can_be_empty}
 use Rattle.pat_check.specs.Nodes.{tests_before}
 use Rattle.frame_machine.specs.Ready.{AreFactsOf}
@@ -45,10 +48,15 @@ abbrev pub compile_error_of : ReadError → CompileError
 compile_error_of (reading.Bad number at) = Bad number at
 compile_error_of reading.Memory = Memory
 
--- A match looks at most so far before its start: at one character for `\b`, `\B` and `\A`.
+abbrev pub check_error_of : CheckError → CompileError
+check_error_of (checking.Bad number at) = Bad number at
+check_error_of checking.Memory = Memory
+
+-- A match looks at most so far before its start: as far as a branch of a lookbehind begins, and at one character for `\b`, `\B`
+-- and `\A`.
 abbrev pub info_of : CodeParts → Info
 info_of code = record {
   groups = greatest (group_numbers code.tree.nodes);
-  max_lookbehind = if tests_before (tree_of code.tree) then 1 else 0;
+  max_lookbehind = max (greatest_back code.tree) (if tests_before (tree_of code.tree) then 1 else 0);
   can_be_empty = can_be_empty code.tree.options.match_unset_backref (tree_of code.tree);
 }

@@ -3,13 +3,13 @@ use Rattle.std.specs.Prelude.{◌≡◌, ℕ, ◌<◌, ◌≤◌, ◌==◌, ◌&
 use Rattle.pat_tree.specs.declared.options.MatchOptions.{MatchOptions}
 use Rattle.pat_tree.specs.Sound.{greatest, group_numbers}
 use Rattle.pcre_io.specs.declared.callouts.Block.{Block}
-use Rattle.frame_machine.specs.Setting.{Setting, endanchored, notempty, notempty_atstart}
+use Rattle.ordered_search.specs.Setting.{Setting, endanchored, notempty, notempty_atstart}
 use Rattle.frame_machine.specs.Ready.{setting_in}
-use Rattle.frame_machine.specs.PlaceAnswer as place
-use Rattle.frame_machine.specs.PlaceAnswer.{Outcome, last_name}
-use Rattle.match_drive.specs.MatchAnswer as meant
-use Rattle.match_drive.specs.MatchAnswer.{match_answer}
-use Rattle.match_drive.specs.Forward.{IsPlaced, IsWithin}
+use Rattle.ordered_search.specs.PlaceAnswer as place
+use Rattle.ordered_search.specs.PlaceAnswer.{Outcome, last_name}
+use Rattle.ordered_search.specs.MatchAnswer as meant
+use Rattle.ordered_search.specs.MatchAnswer.{match_answer}
+use Rattle.ordered_search.specs.Forward.{IsPlaced, IsWithin}
 use Rattle.pcre2_api.specs.Compiled.{CodeParts}
 use Rattle.pcre2_api.specs.declared.error.MatchError.{MatchError}
 use Rattle.pcre2_api.specs.declared.error.MatchError.TheVariants as told

@@ -6,8 +6,8 @@ ghost use Rattle.pat_build.specs.Reading.{read};
 ghost use Rattle.pcre_io.specs.declared.callouts.Block.{Block};
 ghost use Rattle.pcre2_api.specs.Compiled.{Compiles, IsCompileError, info_of};
 ghost use Rattle.match_drive.specs.Answer.{IsMatchAnswer};
-ghost use Rattle.match_drive.specs.Forward.{IsPlainFound};
-ghost use Rattle.match_drive.specs.MatchAnswer.{match_answer};
+ghost use Rattle.ordered_search.specs.Forward.{IsPlainFound};
+ghost use Rattle.ordered_search.specs.MatchAnswer.{match_answer};
 ghost use Rattle.pcre2_api.specs.Matched.{search_of, IsFound, IsMatchError};
 
 use crate::error::{CompileError, MatchError};
@@ -166,7 +166,10 @@ impl Code {
     {
         Info {
             groups: self.tree.groups(),
-            max_lookbehind: u32::from(self.facts.tests_before),
+            max_lookbehind: self
+                .facts
+                .greatest_back
+                .max(u32::from(self.facts.tests_before)),
             can_be_empty: self.facts.can_be_empty,
         }
     }

@@ -1,4 +1,7 @@
 //! Why a pattern or a match is refused.
+ghost use Rattle.std.specs.Prelude.{◌≡◌};
+ghost use Rattle.pcre2_api.specs.MatchErrors.{number_of, text_of};
+
 use pat_build::ReadError;
 use pat_check::CheckError;
 use pat_tree::Memory;
@@ -46,6 +49,44 @@ pub enum MatchError {
     Memory,
 }
 
+impl MatchError {
+    /// Its number (pcre2api, "Error return values from pcre2_match()"), which is below 0.
+    pub fn number(self) -> i32
+        ensures { result ≡ number_of self }
+    {
+        match self {
+            MatchError::NoMatch { .. } => -1,
+            MatchError::Partial { .. } => -2,
+            MatchError::BadUtf { .. } => -3,
+            MatchError::BadOffset => -33,
+            MatchError::BadUtfOffset => -36,
+            MatchError::Callout(_) => -37,
+            MatchError::MatchLimit => -47,
+            MatchError::Memory => -48,
+            MatchError::RecurseLoop => -52,
+            MatchError::FrameLimit => -63,
+        }
+    }
+
+    /// What it means. The text of `BadUtf` ends before its place, which a program writes after it.
+    pub fn text(self) -> &'static [u8]
+        ensures { result.now ≡ text_of self }
+    {
+        match self {
+            MatchError::NoMatch { .. } => b"no match",
+            MatchError::Partial { .. } => b"partial match",
+            MatchError::BadUtf { .. } => b"invalid UTF-8 at offset ",
+            MatchError::BadOffset => b"bad offset",
+            MatchError::BadUtfOffset => b"offset is not at a character",
+            MatchError::Callout(_) => b"error in callout",
+            MatchError::MatchLimit => b"match limit exceeded",
+            MatchError::Memory => b"no memory",
+            MatchError::RecurseLoop => b"recursion at the same place",
+            MatchError::FrameLimit => b"frame limit exceeded",
+        }
+    }
+}
+
 impl From<Memory> for CompileError {
     ghost use Rattle.std.specs.Prelude.{◌≡◌};
     ghost use Rattle.pcre2_api.specs.declared.error.CompileError.TheVariants as told;
@@ -70,12 +111,16 @@ impl From<AllocError> for CompileError {
 
 impl From<CheckError> for CompileError {
     ghost use Rattle.std.specs.Prelude.{◌≡◌};
-    ghost use Rattle.pcre2_api.specs.declared.error.CompileError.TheVariants as told;
+    ghost use Rattle.pcre2_api.specs.Compiled.{check_error_of};
 
-    ghost from_gives = { λ _ e. e ≡ told.Memory };
+    ghost from_gives = { λ refusal e. e ≡ check_error_of refusal };
 
     fn from(e: CheckError) -> CompileError {
         match e {
+            CheckError::Bad { number, at } => CompileError::Bad {
+                number,
+                at: at as usize,
+            },
             CheckError::Memory => CompileError::Memory,
         }
     }

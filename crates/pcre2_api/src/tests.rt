@@ -1,7 +1,7 @@
 ghost use Rattle.pat_tree.specs.declared.options.PartialMode.TheVariants.{Off};
 ghost use Rattle.std.specs.Prelude.{◌≡◌};
 
-use crate::{Code, CompileError, MatchError};
+use crate::{Code, CompileError, MatchError, fault_text};
 use frame_machine::Scratch;
 use frame_store::Span;
 use pat_tree::{MatchOptions, Options};
@@ -65,7 +65,7 @@ fn answers(
 
 #[test]
 fn common_patterns_match(rt: HostRuntime) -> Result<(), Fail> {
-    let rows: [Row; 24] = [
+    static ROWS: [Row; 24] = [
         (b"colou?r", b"the color", Some(b"color")),
         (b"colou?r", b"colour", Some(b"colour")),
         (b"colou?r", b"colr", None),
@@ -99,15 +99,15 @@ fn common_patterns_match(rt: HostRuntime) -> Result<(), Fail> {
         (b"[a-f0-9]{5}[0-9]", b"12a456", Some(b"12a456")),
         (b"^\\s*fn\\s+(\\w+)", b"fn main", Some(b"fn main|main")),
     ];
-    for row in rows {
-        answers(&rt, rt.alloc(), &row, 0, &MatchOptions::PLAIN)?;
+    for row in &ROWS {
+        answers(&rt, rt.alloc(), row, 0, &MatchOptions::PLAIN)?;
     }
     Ok(())
 }
 
 #[test]
 fn captures_and_references_match(rt: HostRuntime) -> Result<(), Fail> {
-    let rows: [Row; 24] = [
+    static ROWS: [Row; 24] = [
         (b"^\\s*fn\\s+(\\w+)", b"fn", None),
         (b"^\\s*fn\\s+(\\w+)", b"let fn x", None),
         (b"(a|ab)(c|bcd)(d*)", b"abcd", Some(b"abcd|a|bcd|")),
@@ -133,15 +133,15 @@ fn captures_and_references_match(rt: HostRuntime) -> Result<(), Fail> {
         (b"(a)?\\1b", b"aab", Some(b"aab|a")),
         (b"(a)?\\1b", b"b", None),
     ];
-    for row in rows {
-        answers(&rt, rt.alloc(), &row, 0, &MatchOptions::PLAIN)?;
+    for row in &ROWS {
+        answers(&rt, rt.alloc(), row, 0, &MatchOptions::PLAIN)?;
     }
     Ok(())
 }
 
 #[test]
 fn quantifiers_and_classes_match(rt: HostRuntime) -> Result<(), Fail> {
-    let rows: [Row; 24] = [
+    static ROWS: [Row; 24] = [
         (b"(a)?\\1b", b"ab", None),
         (b"a{2,3}", b"a", None),
         (b"a{2,3}", b"aa", Some(b"aa")),
@@ -167,15 +167,15 @@ fn quantifiers_and_classes_match(rt: HostRuntime) -> Result<(), Fail> {
         (b"\\bfoo\\b", b"a foo b", Some(b"foo")),
         (b"\\bfoo\\b", b"food", None),
     ];
-    for row in rows {
-        answers(&rt, rt.alloc(), &row, 0, &MatchOptions::PLAIN)?;
+    for row in &ROWS {
+        answers(&rt, rt.alloc(), row, 0, &MatchOptions::PLAIN)?;
     }
     Ok(())
 }
 
 #[test]
 fn assertions_and_settings_match(rt: HostRuntime) -> Result<(), Fail> {
-    let rows: [Row; 24] = [
+    static ROWS: [Row; 24] = [
         (b"\\Bo", b"foo", Some(b"o")),
         (b"\\Bo", b"o", None),
         (b"\\d+\\D+\\d+", b"12ab34", Some(b"12ab34")),
@@ -201,15 +201,15 @@ fn assertions_and_settings_match(rt: HostRuntime) -> Result<(), Fail> {
         (b"(?<n>a)(?<m>b)\\k<n>", b"aba", Some(b"aba|a|b")),
         (b"(?<n>a)(?<m>b)\\k<n>", b"abb", None),
     ];
-    for row in rows {
-        answers(&rt, rt.alloc(), &row, 0, &MatchOptions::PLAIN)?;
+    for row in &ROWS {
+        answers(&rt, rt.alloc(), row, 0, &MatchOptions::PLAIN)?;
     }
     Ok(())
 }
 
 #[test]
 fn names_escapes_and_empty_branches_match(rt: HostRuntime) -> Result<(), Fail> {
-    let rows: [Row; 24] = [
+    static ROWS: [Row; 24] = [
         (
             b"(?J)(?:(?<n>foo)|(?<n>bar))\\k<n>",
             b"barbar",
@@ -243,15 +243,15 @@ fn names_escapes_and_empty_branches_match(rt: HostRuntime) -> Result<(), Fail> {
         (b".*b", b"aabab", Some(b"aabab")),
         (b".*b", b"aaa", None),
     ];
-    for row in rows {
-        answers(&rt, rt.alloc(), &row, 0, &MatchOptions::PLAIN)?;
+    for row in &ROWS {
+        answers(&rt, rt.alloc(), row, 0, &MatchOptions::PLAIN)?;
     }
     Ok(())
 }
 
 #[test]
 fn repeats_and_ends_match(rt: HostRuntime) -> Result<(), Fail> {
-    let rows: [Row; 24] = [
+    static ROWS: [Row; 24] = [
         (b".*?b", b"aabab", Some(b"aab")),
         (b".*?b", b"aaa", None),
         (b"^", b"a", Some(b"")),
@@ -277,8 +277,8 @@ fn repeats_and_ends_match(rt: HostRuntime) -> Result<(), Fail> {
         (b"(?:)", b"a", Some(b"")),
         (b"\\Ga", b"ba", None),
     ];
-    for row in rows {
-        answers(&rt, rt.alloc(), &row, 0, &MatchOptions::PLAIN)?;
+    for row in &ROWS {
+        answers(&rt, rt.alloc(), row, 0, &MatchOptions::PLAIN)?;
     }
     Ok(())
 }
@@ -351,7 +351,7 @@ fn matches_go_by_their_options(rt: HostRuntime) -> Result<(), Fail> {
 
 #[test]
 fn patterns_are_refused_at_their_faults(rt: HostRuntime) -> Result<(), Fail> {
-    let rows: [(&[u8], i32, usize); 9] = [
+    static ROWS: [(&'static [u8], i32, usize); 9] = [
         (b"a(", 114, 2),
         (b"a{3,1}", 104, 1),
         (b"[z-a]", 108, 1),
@@ -362,7 +362,8 @@ fn patterns_are_refused_at_their_faults(rt: HostRuntime) -> Result<(), Fail> {
         (b"a)", 122, 1),
         (b"[a", 106, 2),
     ];
-    for (pattern, number, at) in rows {
+    for row in &ROWS {
+        let (pattern, number, at) = *row;
         match Code::compile(rt.alloc(), pattern, Options::PLAIN) {
             Ok(_) => panic!(&rt; "accepted"),
             Err(e) => assert_eq!(&rt; e, CompileError::Bad { number, at }),
@@ -415,5 +416,28 @@ fn a_pattern_tells_of_itself(rt: HostRuntime) -> Result<(), Fail> {
     assert!(&rt; info.can_be_empty);
     assert!(&rt; code.mark_name(0).is_none());
     assert!(&rt; !code.options().anchored);
+    Ok(())
+}
+
+#[test]
+fn match_errors_have_numbers_and_texts(rt: HostRuntime) -> Result<(), Fail> {
+    static ROWS: [(MatchError, i32, &'static [u8]); 6] = [
+        (MatchError::BadOffset, -33, b"bad offset"),
+        (
+            MatchError::BadUtfOffset,
+            -36,
+            b"offset is not at a character",
+        ),
+        (MatchError::Callout(7), -37, b"error in callout"),
+        (MatchError::MatchLimit, -47, b"match limit exceeded"),
+        (MatchError::RecurseLoop, -52, b"recursion at the same place"),
+        (MatchError::FrameLimit, -63, b"frame limit exceeded"),
+    ];
+    for row in &ROWS {
+        assert_eq!(&rt; row.0.number(), row.1);
+        assert_eq!(&rt; row.0.text(), row.2);
+    }
+    assert_eq!(&rt; fault_text(114), b"missing closing parenthesis");
+    assert_eq!(&rt; fault_text(-8), b"invalid UTF-8 in pattern");
     Ok(())
 }

@@ -2,19 +2,11 @@
 //! it on the real ones.
 #![tactic(auto)]
 
-mod fault_text;
-mod grep;
-mod inputs;
-mod laws;
-mod messages;
-mod pattern_files;
 mod real;
-mod sum;
 #[cfg(test)]
 mod tests;
 mod top;
 
-pub use laws::{sound_runs_end_well, told_words_stand_for_one_list};
 use std::process::ExitCode;
 pub use top::run;
 

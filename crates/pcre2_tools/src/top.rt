@@ -2,14 +2,15 @@
 ghost use Rattle.std.specs.Prelude.{◌≡◌, map, string_bytes, List};
 ghost use Rattle.line_feed.specs.Rows.{Input};
 ghost use Rattle.line_feed.specs.Hears.{Hears};
-ghost use Rattle.pcre_io.specs.Told.{Kept};
-ghost use Rattle.grep_core.specs.Asked.{Asked, StandFor};
-ghost use Rattle.pcre2_tools.specs.Runs.{Runs, RunsBy, is_grep, is_test, tool_text, asked_by, said};
+ghost use Rattle.tool_in.specs.Asked.{Asked, StandFor};
+ghost use Rattle.tool_out.specs.Outcomes.{Runs};
+ghost use Rattle.tool_out.specs.Printed.{printed};
+ghost use Rattle.pcre2_tools.specs.ToolText.{is_grep, is_test, tool_text, asked_by};
 
-use crate::grep::grep;
-use grep_core::{Stop, write_texts};
+use grep_run::run_grep;
 use pcre_io::{FileSet, Sink, Source};
 use std::alloc::Global;
+use tool_out::say;
 
 fn is_grep(tool: &str) -> bool
     ensures { result ≡ is_grep tool.now }
@@ -21,41 +22,6 @@ fn is_test(tool: &str) -> bool
     ensures { result ≡ is_test tool.now }
 {
     tool == "pcre2test"
-}
-
-// Writes a line, and answers this status.
-fn say<E: Sink>(err: &mut E, text: &[u8], status: u8) -> Result<u8, Stop>
-    ensures { (out : Kept) → RunsBy (said text.now status) out out (E.tells err.old) (E.tells err.new) result }
-{
-    write_texts(err, &[text, b"\n"])?;
-    Ok(status)
-}
-
-// Runs the tool that the first word names.
-fn run_named<F: FileSet, S: Source, O: Sink, E: Sink>(
-    alloc: Global,
-    words: &[String],
-    files: &mut F,
-    input: &mut S,
-    out: &mut O,
-    err: &mut E,
-) -> Result<u8, Stop>
-    ensures runs { (heard : Input) × Hears (S.tells input.old) (S.tells input.new) heard
-        × ((given : List Asked) × StandFor (F.tells files.old).contents heard (asked_by (map string_bytes words.now)) given
-        × RunsBy (tool_text (map string_bytes words.now) given)
-        (O.tells out.old) (O.tells out.new) (E.tells err.old) (E.tells err.new) result) }
-    ensures files { (F.tells files.new).contents ≡ (F.tells files.old).contents }
-{
-    let [tool, rest @ ..] = words else {
-        return say(err, b"unknown tool", 2);
-    };
-    if is_grep(tool.as_str()) {
-        return grep(alloc, rest, files, input, out, err);
-    }
-    if is_test(tool.as_str()) {
-        return say(err, b"pcre2test: not built", 1);
-    }
-    say(err, b"unknown tool", 2)
 }
 
 /// Runs the tool that the first word names, `pcre2grep` or `pcre2test`, and answers its status.
@@ -75,14 +41,20 @@ pub fn run<F: FileSet, S: Source, O: Sink, E: Sink>(
     // sinks grew by the tool's text, and the answer is its status; or memory lacked or a write failed, and they grew by a
     // part of it.
     ensures text { (heard : Input) × Hears (S.tells input.old) (S.tells input.new) heard
-        × ((given : List Asked) × StandFor (F.tells files.old).contents heard (asked_by (map string_bytes words.now)) given
-        × Runs (tool_text (map string_bytes words.now) given) result (O.tells out.old) (O.tells out.new) (E.tells err.old) (E.tells err.new)) }
+        × ((given : List Asked) × StandFor (F.tells files.old).contents heard
+        (asked_by (map string_bytes words.now)) given
+        × Runs (tool_text (map string_bytes words.now) given) result
+        (printed (O.tells out.old) (E.tells err.old)) (printed (O.tells out.new) (E.tells err.new))) }
     ensures files { (F.tells files.new).contents ≡ (F.tells files.old).contents }
 {
-    match run_named(alloc, words, files, input, out, err) {
-        Ok(status) => status,
-        Err(Stop::TooManyErrors) => 2,
-        Err(Stop::Memory) => 3,
-        Err(Stop::SinkFault) => 4,
+    let [tool, rest @ ..] = words else {
+        return say(err, b"unknown tool", 2);
+    };
+    if is_grep(tool.as_str()) {
+        return run_grep(alloc, rest, files, input, out, err);
     }
+    if is_test(tool.as_str()) {
+        return say(err, b"pcre2test: not built", 1);
+    }
+    say(err, b"unknown tool", 2)
 }

@@ -1,6 +1,6 @@
 -- A file takes its place among others.
 use Rattle.std.proofs.Common.{◌≡◌, ℕ, suc, ◌<◌, Bool, true, false, if◌then◌else◌, List, [], ◌∷◌, ◌++◌, map, length, slice_set, bytes_eq, string_bytes, refl, ap, arith}
-use Rattle.pcre_io.specs.Files.{place_of, with_file, file_view}
+use Rattle.pcre_io.specs.MemTree.{place_of, with_file, file_view}
 use Rattle.pcre_io.specs.declared.mem_files.MemFile.{MemFile}
 
 module _ (m : MemFile) where

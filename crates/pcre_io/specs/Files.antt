@@ -1,8 +1,11 @@
 -- What a set of files tells.
-use Rattle.std.specs.Prelude.{◌≡◌, ℕ, suc, if◌then◌else◌, List, [], ◌∷◌, bytes_eq, ⊤, Option, None, Some, string_bytes}
+use Rattle.std.specs.Prelude.{◌≡◌, ℕ, suc, if◌then◌else◌, Bool, is_some, List, [], ◌∷◌, ◌++◌, bytes_eq, ⊤, Option, None, Some}
+use Rattle.std.specs.List.{list_any}
 use Rattle.std.specs.Option.{option_map}
 use Rattle.pcre_io.specs.Told.{Told}
-use Rattle.pcre_io.specs.declared.mem_files.MemFile.{MemFile}
+use Rattle.pcre_io.specs.declared.entries.Kind.{Kind}
+use Rattle.pcre_io.specs.declared.entries.Kind.TheVariants as kind
+use Rattle.pcre_io.specs.declared.entries.DirEntry.{DirEntry}
 
 -- a file: its name, its bytes and its fault place
 pub record File : Type 0 where
@@ -10,41 +13,74 @@ pub record File : Type 0 where
   pub bytes : List ℕ
   pub fault : Option ℕ
 
--- what a set tells: its files, and its faults
+-- a directory: its name and its entries
+pub record Directory : Type 0 where
+  pub name : List ℕ
+  pub entries : List DirEntry
+
+-- what a set holds: its files, its directories, and the names that it refuses
+pub record Contents : Type 0 where
+  pub files : List File
+  pub tree : List Directory
+  pub refused : List (List ℕ)
+
+-- what a set tells: what it holds, and its faults
 pub record Filed : Type 0 where
-  pub contents : Option (List File)
+  pub contents : Option Contents
   pub faults : ℕ
 
 abbrev pub file_of : List ℕ → List File → Option File
 file_of name [] = None
 file_of name (file ∷ more) = if bytes_eq file.name name then Some file else file_of name more
 
--- how many files stand before the first of this name
-abbrev pub place_of : List ℕ → List File → ℕ
-place_of name [] = 0
-place_of name (file ∷ more) = if bytes_eq file.name name then 0 else suc (place_of name more)
+abbrev pub entries_in : List ℕ → List Directory → Option (List DirEntry)
+entries_in name [] = None
+entries_in name (directory ∷ more) = if bytes_eq directory.name name then Some directory.entries else entries_in name more
 
--- these files with one more, in the place of the one that has its name, if there is one
-abbrev pub with_file : File → List File → List File
-with_file file [] = file ∷ []
-with_file file (f ∷ more) = if bytes_eq f.name file.name then file ∷ more else f ∷ with_file file more
+abbrev pub is_file : List ℕ → List File → Bool
+is_file name files = is_some (file_of name files)
 
--- the set tells the same, but for one file that was added
-abbrev pub Adds : File → Filed → Filed → Type 0
-Adds file old new = (new.contents ≡ option_map (with_file file) old.contents) × (new.faults ≡ old.faults)
+abbrev pub is_among : List ℕ → List (List ℕ) → Bool
+is_among name names = list_any (λ n. bytes_eq n name) names
+
+-- the file that a name opens
+abbrev pub opened_file : List ℕ → Contents → Option File
+opened_file name set = if is_among name set.refused then None else file_of name set.files
+
+-- the entries that are listed of a name; a file has none
+abbrev pub listed_entries : List ℕ → Contents → Option (List DirEntry)
+listed_entries name set =
+    if is_among name set.refused then None
+    else if is_file name set.files then None
+    else entries_in name set.tree
+
+-- the kind of a name: a file or a directory, and not both
+abbrev pub kind_of : List ℕ → Contents → Option Kind
+kind_of name set =
+    if is_among name set.refused then None
+    else if is_file name set.files then Some kind.File
+    else if is_some (entries_in name set.tree) then Some kind.Dir
+    else None
 
 -- a source that was opened tells a file's bytes and its fault place
 abbrev pub IsOf : Option File → Told → Type 0
 IsOf None told = ⊥
 IsOf (Some file) told = (told.left ≡ Some file.bytes) × (told.stop ≡ Some file.fault)
 
-abbrev pub Opens : Option (List File) → List ℕ → Told → Type 0
+abbrev pub Opens : Option Contents → List ℕ → Told → Type 0
 Opens None name told = ⊤
-Opens (Some files) name told = IsOf (file_of name files) told
+Opens (Some set) name told = IsOf (opened_file name set) told
 
-abbrev pub IsMissing : Option (List File) → List ℕ → Type 0
+abbrev pub IsMissing : Option Contents → List ℕ → Type 0
 IsMissing None name = ⊤
-IsMissing (Some files) name = file_of name files ≡ None
+IsMissing (Some set) name = opened_file name set ≡ None
 
-abbrev pub file_view : MemFile → File
-file_view f = record { name = string_bytes f.name; bytes = f.bytes.items; fault = f.fail_at }
+-- the kind that a set tells of a name, if any
+abbrev pub HasKind : Option Contents → List ℕ → Option Kind → Type 0
+HasKind None name answer = ⊤
+HasKind (Some set) name answer = kind_of name set ≡ answer
+
+-- the entries that a set tells of a name, if any
+abbrev pub HasEntries : Option Contents → List ℕ → Option (List DirEntry) → Type 0
+HasEntries None name answer = ⊤
+HasEntries (Some set) name answer = listed_entries name set ≡ answer

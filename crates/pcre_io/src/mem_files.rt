@@ -1,10 +1,16 @@
 //! Files in memory.
-ghost use Rattle.std.specs.Prelude.{◌≡◌, [], map, MatchOption, None, Some, OnErr, OnOk, IfOk, Err, string_bytes};
-ghost use Rattle.pcre_io.specs.Files.{Adds, file_of, file_view, place_of};
+ghost use Rattle.std.specs.Prelude.{◌≡◌, ◌≤◌, [], map, MatchOption, None, Some, OnErr, OnOk, IfOk, Err, string_bytes, option_map};
+ghost use Rattle.std.specs.List.{list_any};
+ghost use Rattle.pcre_io.specs.Files.{file_of, is_file, opened_file, is_among, kind_of};
+ghost use Rattle.pcre_io.specs.Causes.{Rose};
+ghost use Rattle.pcre_io.specs.MemTree.{Adds, Refuses, file_view, held_files, place_of};
 
+use crate::entries::{Kind, Listing};
 use crate::file_set::FileSet;
 use crate::mem_source::MemSource;
+use crate::mem_tree::{entries_below, has_below};
 use crate::memory::Memory;
+use crate::names::{Name, NameList};
 use crate::traits::IoError;
 use std::alloc::Global;
 
@@ -16,20 +22,23 @@ pub struct MemFile {
     pub fail_at: Option<u64>,
 }
 
-/// Files in memory, at most one of a name.
+/// Files in memory, at most one of a name. A name that is no file's is a directory where a file's name begins with it and
+/// a slash.
 #[derive(Drop)]
 pub struct MemFiles {
     files: Vec<MemFile>,
+    refused: NameList,
     faults: u64,
 }
 
 impl MemFiles {
     /// A set without files. Takes no memory.
     pub fn new(alloc: Global) -> MemFiles
-        ensures { ⟦<MemFiles as FileSet>⟧.tells result ≡ record { contents = Some []; faults = 0 } }
+        ensures { ⟦<MemFiles as FileSet>⟧.tells result ≡ record { contents = Some (held_files [] []); faults = 0 } }
     {
         MemFiles {
             files: Vec::new(alloc),
+            refused: NameList::new(alloc),
             faults: 0,
         }
     }
@@ -53,6 +62,68 @@ impl MemFiles {
         }
         Ok(())
     }
+
+    /// Opening, listing and asking the kind of this name fail from now on. The set is unchanged after a refusal, which is
+    /// for want of memory alone.
+    pub fn refuse(&mut self, name: String) -> Result<(), Memory>
+        ensures ok { OnOk result (Refuses (string_bytes name) (⟦<MemFiles as FileSet>⟧.tells self.old) (⟦<MemFiles as FileSet>⟧.tells self.new)) }
+        ensures refused { OnErr result (⟦<MemFiles as FileSet>⟧.tells self.new ≡ ⟦<MemFiles as FileSet>⟧.tells self.old) }
+    {
+        self.refused.push(Name::of(name))
+    }
+
+    // The kind of a name, if it is known.
+    fn kind_of(&self, name: &str) -> Option<Kind>
+        ensures { result ≡ kind_of name.now (held_files (map file_view self.now.files.items) self.now.refused) }
+    {
+        if is_among(name, self.refused.as_slice()) {
+            None
+        } else if has_file(self.files.as_slice(), name) {
+            Some(Kind::File)
+        } else if has_below(self.files.as_slice(), name) {
+            Some(Kind::Dir)
+        } else {
+            None
+        }
+    }
+
+    // The file that a name opens, if there is one.
+    fn opened(&self, name: &str) -> Option<&MemFile>
+        ensures { option_map (λ f. file_view f.now) result ≡ opened_file name.now (held_files (map file_view self.now.files.items) self.now.refused) }
+    {
+        if is_among(name, self.refused.as_slice()) {
+            None
+        } else {
+            find(self.files.as_slice(), name)
+        }
+    }
+
+    // Counts a fault.
+    fn fail(&mut self) -> IoError
+        ensures later { self.old.faults ≤ self.new.faults }
+        ensures counts { Rose self.old.faults self.new.faults }
+        ensures failed { result ≡ IoError.Failed }
+        ensures same { (self.new.files ≡ self.old.files) × (self.new.refused ≡ self.old.refused) }
+    {
+        self.faults = self.faults.saturating_add(1);
+        IoError::Failed
+    }
+}
+
+// Whether a name is among these.
+fn is_among(name: &str, names: &[Name]) -> bool
+    ensures { result ≡ is_among name.now names.now }
+{
+    let mut rest = names;
+    'name: loop {
+        let [first, more @ ..] = rest else {
+            return false;
+        };
+        if first.as_str() == name {
+            return true;
+        }
+        rest = more;
+    }
 }
 
 // How many files stand before the first of this name.
@@ -73,8 +144,8 @@ fn place_of(files: &[MemFile], name: &str) -> usize
     }
 }
 
-// The first file of this name.
-fn find<'a>(files: &'a [MemFile], name: &str) -> Option<&'a MemFile>
+/// The first file of this name.
+pub fn find<'a>(files: &'a [MemFile], name: &str) -> Option<&'a MemFile>
     ensures { MatchOption result (file_of name.now (map file_view files.now) ≡ None) (λ f. file_of name.now (map file_view files.now) ≡ Some (file_view f.now)) }
 {
     let mut rest = files;
@@ -87,6 +158,13 @@ fn find<'a>(files: &'a [MemFile], name: &str) -> Option<&'a MemFile>
         }
         rest = more;
     }
+}
+
+/// Whether a file has this name.
+pub fn has_file(files: &[MemFile], name: &str) -> bool
+    ensures { result ≡ is_file name.now (map file_view files.now) }
+{
+    find(files, name).is_some()
 }
 
 // A source of a file's bytes.
@@ -103,18 +181,26 @@ fn source_of(alloc: Global, file: &MemFile) -> Result<MemSource, IoError>
 impl FileSet for MemFiles {
     type Src = MemSource;
 
-    ghost tells = { λ s. record { contents = Some (map file_view s.files.items); faults = s.faults } };
+    ghost tells = { λ s. record { contents = Some (held_files (map file_view s.files.items) s.refused); faults = s.faults } };
 
     fn open_file(&mut self, alloc: Global, name: &str) -> Result<MemSource, IoError> {
-        match find(self.files.as_slice(), name) {
-            Some(file) => match source_of(alloc, file) {
-                Ok(source) => Ok(source),
-                Err(e) => Err(e),
-            },
-            None => {
-                self.faults = self.faults.saturating_add(1);
-                Err(IoError::Failed)
-            }
+        match self.opened(name) {
+            Some(file) => source_of(alloc, file),
+            None => Err(self.fail()),
+        }
+    }
+
+    fn kind(&mut self, _alloc: Global, name: &str) -> Result<Kind, IoError> {
+        match self.kind_of(name) {
+            Some(kind) => Ok(kind),
+            None => Err(self.fail()),
+        }
+    }
+
+    fn list(&mut self, alloc: Global, name: &str) -> Result<Listing, IoError> {
+        match self.kind_of(name) {
+            Some(Kind::Dir) => entries_below(alloc, name, self.files.as_slice()),
+            _ => Err(self.fail()),
         }
     }
 }

@@ -2,7 +2,7 @@
 ghost use Rattle.std.specs.Prelude.{◌≡◌, ◌≤◌, [], ◌++◌, length, take, Some, IfOk, OnErr, IsErrOf};
 
 use crate::mem_source::up_to;
-use crate::traits::{IoError, Sink};
+use crate::traits::{Failed, IoError, Sink};
 use std::alloc::Global;
 
 /// A sink in memory: what it holds, the room after which every write fails and counts, and the greatest piece of a
@@ -20,7 +20,7 @@ impl MemSink {
     /// An empty sink. After `room` bytes, where it is given, every write fails; one write takes at most `piece` bytes.
     pub fn new(alloc: Global, room: Option<u64>, piece: u32) -> MemSink
         requires { 1 ≤ piece }
-        ensures { ⟦<MemSink as Sink>⟧.tells result ≡ record { held = Some []; faults = 0 } }
+        ensures { ⟦<MemSink as Sink>⟧.tells result ≡ record { held = Some []; room = Some room; piece = Some piece; faults = 0 } }
     {
         MemSink {
             bytes: Vec::new(alloc),
@@ -52,7 +52,7 @@ fn push_front(held: &mut Vec<u8>, bytes: &[u8], n: usize) -> Result<usize, IoErr
 }
 
 impl Sink for MemSink {
-    ghost tells = { λ s. record { held = Some s.bytes.items; faults = s.faults } };
+    ghost tells = { λ s. record { held = Some s.bytes.items; room = Some s.room; piece = Some s.piece; faults = s.faults } };
 
     fn write(&mut self, bytes: &[u8]) -> Result<usize, IoError> {
         let most = bytes.len().min(self.piece as usize);
@@ -69,5 +69,9 @@ impl Sink for MemSink {
                 Ok(taken)
             }
         }
+    }
+    // Nothing is gathered.
+    fn flush(&mut self) -> Result<(), Failed> {
+        Ok(())
     }
 }

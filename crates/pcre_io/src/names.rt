@@ -82,4 +82,10 @@ impl NameList {
     {
         &self.items[i]
     }
+    /// The names.
+    pub fn as_slice(&self) -> &[Name]
+        ensures { result.now ≡ self.now }
+    {
+        self.items.as_slice()
+    }
 }

@@ -1,11 +1,15 @@
 //! The files of the system as a set of files.
-ghost use Rattle.std.specs.Prelude.{◌≡◌, None};
+ghost use Rattle.std.specs.Prelude.{◌≡◌, ◌≤◌, None};
+ghost use Rattle.pcre_io.specs.Causes.{Rose};
 
+use crate::entries::{DirEntry, Kind, Listing};
 use crate::file_set::FileSet;
-use crate::std_streams::StdSource;
+use crate::names::Name;
+use crate::std_source::StdSource;
 use crate::traits::IoError;
 use std::alloc::Global;
-use std::fs::{self, OpenFile};
+use std::fs::{self, FileType, OpenFile};
+use std::io::{self, ErrorKind};
 use std::rt::Files;
 
 /// The files of the system, which tells nothing of what they hold. A directory can't be opened.
@@ -15,7 +19,7 @@ pub struct StdFiles<'a, R: Files> {
     faults: u64,
 }
 
-impl<'a, R: Files> StdFiles<'a, R> {
+impl<'a, R: Files + AllocGlobal + Clone + Drop> StdFiles<'a, R> {
     /// The files that a runtime opens. Takes no memory.
     pub fn new(files: &'a R) -> StdFiles<'a, R>
         ensures { ⟦<StdFiles<'a, R> as FileSet>⟧.tells result ≡ record { contents = None; faults = 0 } }
@@ -35,7 +39,102 @@ fn open<R: Files>(files: &R, name: &str) -> Option<R::File> {
     }
 }
 
-impl<'a, R: Files> FileSet for StdFiles<'a, R> {
+// What the system's refusal is here.
+fn cause_of(error: &io::Error) -> IoError {
+    if error.kind() == ErrorKind::OutOfMemory {
+        IoError::Memory
+    } else {
+        IoError::Failed
+    }
+}
+
+fn kind_by(file_type: FileType) -> Kind {
+    if file_type.is_file() {
+        Kind::File
+    } else if file_type.is_dir() {
+        Kind::Dir
+    } else {
+        Kind::Other
+    }
+}
+
+// The kind of a name's file. A link is followed.
+fn kind_at<R: Files>(files: &R, name: &str) -> Result<Kind, IoError> {
+    match fs::metadata(files, name) {
+        Ok(metadata) => Ok(kind_by(metadata.file_type())),
+        Err(e) => Err(cause_of(&e)),
+    }
+}
+
+fn name_from(alloc: Global, text: &str) -> Result<Name, IoError> {
+    match String::from_str(alloc, text) {
+        Ok(text) => Ok(Name::of(text)),
+        Err(_) => Err(IoError::Memory),
+    }
+}
+
+// An entry as it was read. A link in a directory isn't followed. An entry whose name isn't UTF-8 is told under the empty
+// name.
+fn entry_from<R: Files + Drop>(
+    alloc: Global,
+    entry: io::Result<fs::DirEntry<R, Global>>,
+) -> Result<DirEntry, IoError> {
+    match entry {
+        Ok(entry) => match entry.file_type() {
+            Ok(file_type) => Ok(DirEntry {
+                name: name_from(alloc, entry.file_name())?,
+                kind: kind_by(file_type),
+            }),
+            Err(e) => Err(cause_of(&e)),
+        },
+        Err(e) if e.kind() == ErrorKind::InvalidFilename => Ok(DirEntry {
+            name: name_from(alloc, "")?,
+            kind: Kind::Unnamed,
+        }),
+        Err(e) => Err(cause_of(&e)),
+    }
+}
+
+// The entries of a directory, which is closed again before they are answered.
+fn entries_at<R: Files + AllocGlobal + Clone + Drop>(
+    files: &R,
+    alloc: Global,
+    name: &str,
+) -> Result<Listing, IoError> {
+    let mut listing = Listing::new(alloc);
+    match fs::read_dir(files, name) {
+        Ok(entries) => {
+            for entry in entries {
+                push_entry(&mut listing, entry_from(alloc, entry)?)?;
+            }
+            Ok(listing)
+        }
+        Err(e) => Err(cause_of(&e)),
+    }
+}
+
+fn push_entry(listing: &mut Listing, entry: DirEntry) -> Result<(), IoError> {
+    match listing.push(entry) {
+        Ok(()) => Ok(()),
+        Err(_) => Err(IoError::Memory),
+    }
+}
+
+impl<'a, R: Files> StdFiles<'a, R> {
+    // Counts a fault, unless memory lacked.
+    fn count(&mut self, error: IoError) -> IoError
+        ensures same { result ≡ error }
+        ensures later { self.old.faults ≤ self.new.faults }
+        ensures failed { result ≡ IoError.Failed → Rose self.old.faults self.new.faults }
+    {
+        if error == IoError::Failed {
+            self.faults = self.faults.saturating_add(1);
+        }
+        error
+    }
+}
+
+impl<'a, R: Files + AllocGlobal + Clone + Drop> FileSet for StdFiles<'a, R> {
     type Src = StdSource<R::File>;
 
     ghost tells = { λ s. record { contents = None; faults = s.faults } };
@@ -43,10 +142,21 @@ impl<'a, R: Files> FileSet for StdFiles<'a, R> {
     fn open_file(&mut self, _alloc: Global, name: &str) -> Result<StdSource<R::File>, IoError> {
         match open(self.files, name) {
             Some(file) => Ok(StdSource::new(file)),
-            None => {
-                self.faults = self.faults.saturating_add(1);
-                Err(IoError::Failed)
-            }
+            None => Err(self.count(IoError::Failed)),
+        }
+    }
+
+    fn kind(&mut self, _alloc: Global, name: &str) -> Result<Kind, IoError> {
+        match kind_at(self.files, name) {
+            Ok(kind) => Ok(kind),
+            Err(error) => Err(self.count(error)),
+        }
+    }
+
+    fn list(&mut self, alloc: Global, name: &str) -> Result<Listing, IoError> {
+        match entries_at(self.files, alloc, name) {
+            Ok(listing) => Ok(listing),
+            Err(error) => Err(self.count(error)),
         }
     }
 }

@@ -1,8 +1,8 @@
 //! Sources and sinks.
-ghost use Rattle.std.specs.Prelude.{◌≤◌, ◌<◌, ℕ, length, IfOk};
+ghost use Rattle.std.specs.Prelude.{◌≡◌, ◌≤◌, ◌<◌, ℕ, length, IfOk, OnOk};
 ghost use Rattle.std.specs.Io.{ReadsAtMost, WritesAtMost};
-ghost use Rattle.std.specs.Io.KnownBytes.{ReadConsumes, WriteAppends};
-ghost use Rattle.pcre_io.specs.Told.{StopsAt, Told, Kept};
+ghost use Rattle.std.specs.Io.KnownBytes.{Keeps, ReadConsumes, WriteAppends};
+ghost use Rattle.pcre_io.specs.Told.{StopsAt, LeavesRoom, TakesPiece, Told, Kept};
 ghost use Rattle.pcre_io.specs.Causes.{CountsFaults, HasCause};
 
 /// A read failed.
@@ -32,9 +32,9 @@ pub trait Source {
         ensures cause { CountsFaults (tells self.old).faults (tells self.new).faults result };
 }
 
-/// Where bytes go.
+/// Where bytes go. A sink may gather what it takes, and send it on later.
 pub trait Sink {
-    /// The bytes that it holds, where it tells them, and how many faults it has counted.
+    /// The bytes that it holds, its room and its piece, where it tells them, and how many faults it has counted.
     ghost tells: { Self → Kept };
 
     /// Takes the first bytes of a piece, at least one of a piece that isn't empty, and says how many. A write that was
@@ -43,5 +43,16 @@ pub trait Sink {
         ensures bound { WritesAtMost result bytes.now }
         ensures some { IfOk result (λ n. 0 < length bytes.now → 0 < n) }
         ensures bytes { WriteAppends (tells self.old).held (tells self.new).held result bytes.now }
-        ensures cause { HasCause (tells self.old).faults (tells self.new).faults result };
+        ensures room { LeavesRoom (tells self.old).room (tells self.new).room result (length bytes.now) }
+        ensures piece { TakesPiece (tells self.old).piece (tells self.new).piece result }
+        ensures cause { HasCause (tells self.old).faults (tells self.new).faults result }
+        ensures steady { OnOk result ((tells self.new).faults ≡ (tells self.old).faults) };
+
+    /// Sends on what was gathered, as before a read that may wait. What the sink holds stays. It fails only where a fault
+    /// was counted.
+    fn flush(&mut self) -> Result<(), Failed>
+        ensures bytes { Keeps (tells self.old).held (tells self.new).held }
+        ensures room { (tells self.new).room ≡ (tells self.old).room }
+        ensures piece { (tells self.new).piece ≡ (tells self.old).piece }
+        ensures cause { CountsFaults (tells self.old).faults (tells self.new).faults result };
 }

@@ -1,5 +1,5 @@
 //! Writing a text whole.
-ghost use Rattle.std.specs.Prelude.{OnErr, OnOk};
+ghost use Rattle.std.specs.Prelude.{◌≡◌, OnErr, OnOk};
 ghost use Rattle.std.specs.Io.KnownBytes.{Appends};
 ghost use Rattle.pcre_io.specs.Told.{AppendsPrefix};
 ghost use Rattle.pcre_io.specs.Causes.{HasCause};
@@ -11,6 +11,7 @@ pub fn write_all<O: Sink>(out: &mut O, bytes: &[u8]) -> Result<(), IoError>
     ensures all { OnOk result (Appends (O.tells out.old).held (O.tells out.new).held bytes.now) }
     ensures prefix { OnErr result (AppendsPrefix (O.tells out.old).held (O.tells out.new).held bytes.now) }
     ensures cause { HasCause (O.tells out.old).faults (O.tells out.new).faults result }
+    ensures steady { OnOk result ((O.tells out.new).faults ≡ (O.tells out.old).faults) }
 {
     let mut at = 0;
     while at < bytes.len() {

@@ -4,6 +4,8 @@
 #[cfg(test)]
 mod library;
 #[cfg(test)]
+mod many;
+#[cfg(test)]
 mod reading;
 #[cfg(test)]
 mod searching;

@@ -2,7 +2,7 @@
 ghost use Rattle.std.specs.Prelude.{◌≡◌, ◌≤◌, ◌<◌, false, length};
 ghost use Rattle.pat_tree.specs.Parts.{tree_of};
 ghost use Rattle.char_sets.specs.Table.{IsTableOf};
-ghost use Rattle.pat_check.specs.Built.{IsBuilt};
+ghost use Rattle.pat_tree.specs.Built.{IsBuilt};
 ghost use Rattle.frame_machine.specs.Ready.{AreFactsOf};
 ghost use Rattle.pat_tree.specs.declared.options.PartialMode.TheVariants.{Off};
 

@@ -2,7 +2,7 @@
 use Rattle.std.proofs.Common.{◌≡◌, ℕ, suc, ◌+◌, ◌-◌, ◌<◌, ◌≤◌, Bool, true, false, ltb, eq-eqb, ne_eqb, ◌≢◌, List, length, ap, arith}
 use Rattle.std.proofs.lemmas.Bool.{lt-ltb}
 use Rattle.token_parts.specs.declared.token.LexFlags.{LexFlags}
-use Rattle.token_parts.specs.Comments.{first_place, newline_at, first_newline, skip, blank_end}
+use Rattle.token_parts.specs.Comments.{first_place, newline_at, first_newline, skip}
 
 one_more : (n i : ℕ) → i < n → n - i ≡ suc (n - (i + 1))
 one_more n i more = omega arith
@@ -28,11 +28,11 @@ pub newline_nowhere : (text : List ℕ) (flags : LexFlags) (i : ℕ) → length 
 unfolding first_newline
 newline_nowhere text flags i past = first_nowhere (length text) i (λ j. ltb 0 (newline_at text flags j)) past
 
-pub skip_here : (text : List ℕ) (flags : LexFlags) (n turn i : ℕ) → turn < n → blank_end text flags i ≡ i → skip text flags (n - turn) i ≡ i
-skip_here text flags n turn i more stays = rw (one_more n turn more, eq-eqb (blank_end text flags i) i stays)
+pub skip_here : (step : ℕ → ℕ) (n turn i : ℕ) → turn < n → step i ≡ i → skip step (n - turn) i ≡ i
+skip_here step n turn i more stays = rw (one_more n turn more, eq-eqb (step i) i stays)
 
-pub skip_later : (text : List ℕ) (flags : LexFlags) (n turn i : ℕ) → turn < n → blank_end text flags i ≢ i → skip text flags (n - turn) i ≡ skip text flags (n - (turn + 1)) (blank_end text flags i)
-skip_later text flags n turn i more goes = rw (one_more n turn more, ne_eqb (blank_end text flags i) i goes)
+pub skip_later : (step : ℕ → ℕ) (n turn i : ℕ) → turn < n → step i ≢ i → skip step (n - turn) i ≡ skip step (n - (turn + 1)) (step i)
+skip_later step n turn i more goes = rw (one_more n turn more, ne_eqb (step i) i goes)
 
-pub skip_all : (text : List ℕ) (flags : LexFlags) (n turn i : ℕ) → n ≤ turn → skip text flags (n - turn) i ≡ i
-skip_all text flags n turn i past = let e : n - turn ≡ 0 = omega arith in rw e
+pub skip_all : (step : ℕ → ℕ) (n turn i : ℕ) → n ≤ turn → skip step (n - turn) i ≡ i
+skip_all step n turn i past = let e : n - turn ≡ 0 = omega arith in rw e

@@ -1,7 +1,8 @@
 -- How the bytes of a pattern are read. A place is a number of bytes from the pattern's begin.
-use Rattle.std.specs.Prelude.{ℕ, ◌+◌, ◌*◌, ◌^◌, min, Bool, false, ◌==◌, ◌||◌, List, [], ◌∷◌, drop, fold, Some, None, slice_get, slice_range, nat_eq, codes}
+use Rattle.std.specs.Prelude.{ℕ, ◌+◌, ◌^◌, min, Bool, false, ◌==◌, ◌||◌, List, [], ◌∷◌, drop, Some, None, slice_get, slice_range, nat_eq, codes}
 use Rattle.std.specs.List.{prefix_len, starts_with}
-use Rattle.std.specs.Char.{digit_value, is_digit, is_ascii_alphanumeric}
+use Rattle.std.specs.Str.Parse.{digits_value}
+use Rattle.std.specs.Char.{is_digit, is_ascii_alphanumeric}
 use Prim.Native.String.{String}
 
 abbrev pub is_among : ℕ → List ℕ → Bool
@@ -45,4 +46,4 @@ module _ (text : List ℕ) where
 
   -- The number that the digits between two places write. Those past 4,294,967,295 count as 4,294,967,296.
   unfoldable pub numeral : ℕ → ℕ → ℕ → ℕ
-  numeral radix from to = min (2 ^ 32) (fold (λ n c. n * radix + digit_value c) 0 (slice_range text from to))
+  numeral radix from to = min (2 ^ 32) (digits_value radix (slice_range text from to))

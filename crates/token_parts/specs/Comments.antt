@@ -14,6 +14,11 @@ abbrev pub first_place : ℕ → (ℕ → Bool) → ℕ → ℕ
 first_place zero test i = i
 first_place (suc n) test i = if test i then i else first_place n test (i + 1)
 
+-- past up to n of what stands there, where a step goes past one of them, or stays
+abbrev pub skip : (ℕ → ℕ) → ℕ → ℕ → ℕ
+skip step zero i = i
+skip step (suc n) i = if step i == i then i else skip step n (step i)
+
 abbrev pub is_extended : LexFlags → Bool
 is_extended flags = flags.extended || flags.extended_more
 
@@ -48,11 +53,6 @@ module _ (text : List ℕ) where
         else if is_at text "#" i then line_end flags (i + 1)
         else i
 
-    -- past up to n of them
-    abbrev pub skip : ℕ → ℕ → ℕ
-    skip zero i = i
-    skip (suc n) i = if blank_end i == i then i else skip n (blank_end i)
-
     -- past all of them
     unfoldable pub blanks_end : ℕ → ℕ
-    blanks_end i = skip (length text - i) i
+    blanks_end i = skip blank_end (length text - i) i

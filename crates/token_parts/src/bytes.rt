@@ -1,9 +1,11 @@
 //! How the bytes of a pattern are read. A place is a number of bytes from the pattern's begin.
 ghost use Rattle.std.specs.Prelude.{◌≡◌, ◌<◌, ◌≤◌, ◌+◌, ◌^◌, length, slice_get, drop, nat_eq, IsTrue, IfSome};
-ghost use Rattle.std.specs.Char.{digit_value, is_ascii_digit, is_ascii_alphabetic};
+ghost use Rattle.std.specs.Char.{is_ascii_digit, is_ascii_alphabetic};
 ghost use Rattle.std.specs.List.{starts_with};
 ghost use Rattle.token_parts.specs.Bytes.{passes_at, stands, run_end, numeral};
 ghost use Rattle.token_parts.specs.Runs.{passes};
+
+use byte_lanes::{digit_value, number};
 
 /// What the bytes of a run have in common.
 #[derive(Clone, Copy)]
@@ -29,13 +31,6 @@ impl Run {
             Run::Until(end) => c != end,
         }
     }
-}
-
-/// The value of a digit or a letter, and 36 for any other byte.
-fn digit_value(c: u8) -> u32
-    ensures { result ≡ digit_value c }
-{
-    char::from(c).to_digit(36).unwrap_or(36)
 }
 
 /// The byte at the place, if it lies in the text.
@@ -105,7 +100,7 @@ pub fn run_end(text: &[u8], run: Run, from: usize) -> usize
 }
 
 /// The number that the digits between two places write. Those past 4,294,967,295 count as 4,294,967,296.
-#[tactic(auto, using(crate::proofs::Numerals::digit_more, crate::proofs::Numerals::digits_all), unfolding(crate::specs::Bytes::numeral))]
+#[tactic(auto, using(crate::proofs::Numerals::numeral_within, crate::proofs::Numerals::numeral_past), unfolding(crate::specs::Bytes::numeral))]
 pub fn numeral(text: &[u8], radix: u32, from: usize, to: usize) -> u64
     requires order { from ≤ to }
     requires within { to ≤ length text.now }
@@ -113,11 +108,10 @@ pub fn numeral(text: &[u8], radix: u32, from: usize, to: usize) -> u64
     requires one { 0 < radix }
     ensures { result ≡ numeral text.now radix from to }
 {
-    let mut number = 0;
-    for c in &text[from..to] {
-        number = (number * u64::from(radix) + u64::from(digit_value(*c))).min(LARGE);
+    match number(&text[from..to], radix) {
+        Some(n) => u64::from(n),
+        None => LARGE,
     }
-    number
 }
 
 /// What numbers of more than 32 bits count as.

@@ -1,1 +1,5 @@
 pub mod CharLemmas
+pub mod FoldLemmas
+pub mod NameLemmas
+pub mod NumberLemmas
+pub mod ValidLemmas

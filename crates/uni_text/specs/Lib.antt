@@ -1,4 +1,9 @@
 pub mod Ascii
 pub mod Characters
+pub mod Folding
 pub mod Laws
+pub mod Names
+pub mod Properties
 pub mod Rows
+pub mod Sets
+pub mod Table

@@ -1,7 +1,14 @@
 -- The definitions on small texts. The encodings are the examples of RFC 3629, section 7, and the greatest code point.
-use Rattle.std.specs.Prelude.{◌≡◌, ℕ, true, false, List, [], ◌∷◌}
+use Rattle.std.specs.Prelude.{◌≡◌, ℕ, true, false, List, [], ◌∷◌, Some, None, codes}
+use Rattle.ucd_category.specs.declared.GeneralCategory.TheVariants.{UppercaseLetter, Unassigned}
+use Rattle.ucd_category.specs.declared.GeneralCategoryGroup.TheVariants.{CasedLetter}
+use Rattle.ucd_script.specs.declared.Script.TheVariants.{Greek, SignWriting}
+use Rattle.uni_text.specs.declared.properties.Prop.TheVariants.{Any, Xsp, Group, Category, Script}
 use Rattle.uni_text.specs.Characters.{char_at, char_before}
 use Rattle.uni_text.specs.Ascii.{is_word_char, ascii_fold}
+use Rattle.uni_text.specs.Folding.{fold}
+use Rattle.uni_text.specs.Properties.{has_prop, prop_by_name}
+use Rattle.uni_text.specs.Sets.{digit, space, word, punct}
 
 -- U+0041, U+2262, U+0391
 abbrev pub a_not_alpha : List ℕ
@@ -24,3 +31,30 @@ pub record WorkedRows : Type 0 where
   pub underscore : is_word_char 95 ≡ true
   pub hyphen : is_word_char 45 ≡ false
   pub folded : ascii_fold 90 ≡ 122
+
+-- properties by their names, and what they ask
+pub record PropertyRows : Type 0 where
+  pub category : prop_by_name (codes "Lu") ≡ Some (Category UppercaseLetter)
+  pub cased : prop_by_name (codes "l&") ≡ Some (Group CasedLetter)
+  pub passed_over : prop_by_name (codes " Sign_writ-ING ") ≡ Some (Script SignWriting)
+  pub unknown : prop_by_name (codes "Nosuch") ≡ None
+  pub alpha_is_greek : has_prop (Script Greek) 0x3B1 ≡ true
+  pub a_is_not_greek : has_prop (Script Greek) 0x61 ≡ false
+  pub surrogate : has_prop Any 0xD800 ≡ false
+  pub past_unicode : has_prop (Category Unassigned) 0x11_0000 ≡ false
+  pub wide_space : has_prop Xsp 0x3000 ≡ true
+
+-- the three letters that fold to k, the two forms of sigma, and sets with UCP and without
+pub record FoldingRows : Type 0 where
+  pub kelvin : fold 0x212A ≡ 0x6B
+  pub capital_k : fold 0x4B ≡ 0x6B
+  pub long_s : fold 0x17F ≡ 0x73
+  pub final_sigma : fold 0x3C2 ≡ 0x3C3
+  pub sharp_s : fold 0xDF ≡ 0xDF
+  pub digit_of_arabic : digit true 0x660 ≡ true
+  pub digit_of_ascii : digit false 0x660 ≡ false
+  pub next_line : space true 0x85 ≡ true
+  pub next_byte : space false 0x85 ≡ false
+  pub accent_alone : word true 0x301 ≡ false
+  pub dollar : punct true 0x24 ≡ true
+  pub euro : punct true 0x20AC ≡ false

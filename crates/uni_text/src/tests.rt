@@ -1,5 +1,7 @@
 use super::*;
+use crate::test_tables::{BAD, FOLDINGS, GOOD, PROPERTIES, UNKNOWN, WRITTEN};
 use std::process::Abort;
+use std::test::Fail;
 
 // The character of `text` at `at`, told from both of its ends.
 fn case(rt: &impl Abort, text: &str, at: usize, c: u32, next: usize) {
@@ -58,6 +60,27 @@ fn without_utf_a_character_is_a_byte(rt: HostRuntime) {
     }
 }
 
+// Whether a number is a word character without UCP and with it, by perl 5.36 at the latter.
+const WORDS: [(u32, bool, bool); 17] = [
+    (0x2F, false, false),
+    (0x30, true, true),
+    (0x40, false, false),
+    (0x5F, true, true),
+    (0x7A, true, true),
+    (0x7B, false, false),
+    (0xAA, false, true),
+    (0xB2, false, true),
+    (0xD7, false, false),
+    (0x301, false, false),
+    (0x660, false, true),
+    (0x203F, false, false),
+    (0x2160, false, true),
+    (0x4E00, false, true),
+    (0xD800, false, false),
+    (0x11_0000, false, false),
+    (u32::MAX, false, false),
+];
+
 #[test]
 fn word_characters_are_letters_digits_and_the_underscore(rt: HostRuntime) {
     let words = b"0123456789ABCDEFGHIJKLMNOPQRSTUVWXYZ_abcdefghijklmnopqrstuvwxyz";
@@ -68,7 +91,84 @@ fn word_characters_are_letters_digits_and_the_underscore(rt: HostRuntime) {
             "at {byte}"
         );
     }
-    for c in [0x100, 0x130, 0x141, 0x15F, 0x391, 0x10_FFFF, u32::MAX] {
-        assert!(rt; !is_word(c, false), "at {c}");
+    for (c, ascii, unicode) in WORDS {
+        assert_eq!(rt; is_word(c, false), ascii, "at {c}");
+        assert_eq!(rt; is_word(c, true), unicode, "at {c} with UCP");
     }
+}
+
+// The property of this name, which one number has and another hasn't.
+fn property_case(rt: &impl Abort, name: &str, member: u32, other: u32) -> Result<(), Fail> {
+    let p = Prop::by_name(name.as_bytes()).ok_or("unknown")?;
+    assert!(rt; has_prop(p, member), "{member} has {name}");
+    assert!(rt; !has_prop(p, other), "{other} has not {name}");
+    let found = Prop::by_number(p.number());
+    assert_eq!(rt; found, Some(p), "the number of {name}");
+    for c in [0xD800, 0xDFFF, 0x11_0000, u32::MAX] {
+        assert!(rt; !has_prop(p, c), "{c} is no character");
+    }
+    Ok(())
+}
+
+#[test]
+fn each_property_has_its_name_and_number(rt: HostRuntime) -> Result<(), Fail> {
+    let mut count = 0u32;
+    for line in PROPERTIES.lines() {
+        let (name, numbers) = line.split_once(' ').ok_or("no name")?;
+        let (member, other) = numbers.split_once(' ').ok_or("no number")?;
+        let member = u32::from_str_radix(member, 16)?;
+        property_case(&rt, name, member, u32::from_str_radix(other, 16)?)?;
+        count = count.saturating_add(1);
+    }
+    assert_eq!(rt; count, 219);
+    Ok(())
+}
+
+#[test]
+fn there_are_as_many_numbers_as_properties(rt: HostRuntime) {
+    for n in 0..221 {
+        assert_eq!(rt; Prop::by_number(n).map(|p| p.number()), Some(n));
+    }
+    for n in [221, 222, u16::MAX] {
+        assert_eq!(rt; Prop::by_number(n), None);
+    }
+}
+
+#[test]
+fn names_are_known_however_they_are_written(rt: HostRuntime) {
+    for (written, name) in WRITTEN {
+        let p = Prop::by_name(written.as_bytes());
+        assert!(rt; p.is_some(), "{written} is known");
+        assert_eq!(rt; p, Prop::by_name(name.as_bytes()), "{written} is {name}");
+    }
+    for name in UNKNOWN {
+        assert_eq!(rt; Prop::by_name(name), None);
+    }
+}
+
+#[test]
+fn letters_fold_as_unicode_says(rt: HostRuntime) {
+    for (c, folded) in FOLDINGS {
+        assert_eq!(rt; fold(c), folded, "at {c}");
+    }
+}
+
+#[test]
+fn bad_text_is_refused_at_its_place(rt: HostRuntime) -> Result<(), Fail> {
+    for bytes in GOOD {
+        assert_eq!(rt; check(bytes), Ok(()));
+    }
+    for (bytes, at) in BAD {
+        assert_eq!(rt; check(bytes), Err(BadUtf { at }));
+        // The same after each of some lengths, past the blocks that are read at once.
+        for len in [1, 30, 63, 64, 65, 128] {
+            let mut text = Vec::new(rt.alloc());
+            for _ in 0..len {
+                text.extend_from_slice("\u{E9}".as_bytes())?;
+            }
+            text.extend_from_slice(bytes)?;
+            assert_eq!(rt; check(&text), Err(BadUtf { at: 2 * len + at }));
+        }
+    }
+    Ok(())
 }

@@ -1,13 +1,18 @@
 // Word characters.
-ghost use Rattle.std.specs.Prelude.{◌≡◌, false};
-ghost use Rattle.uni_text.specs.Ascii.{is_word_char};
+ghost use Rattle.std.specs.Prelude.{◌≡◌};
+ghost use Rattle.uni_text.specs.Sets.{word};
 
-/// Whether `c` is a word character, as `\w` and `\b` take it: an ASCII letter, a digit or the underscore
-/// (pcre2pattern, "Generic character types"). Asked without UCP alone.
+use crate::properties::{Prop, has_prop};
+
+/// Whether `c` is a word character, as `\w` and `\b` take it: an ASCII letter, a digit or the underscore, and with UCP a letter or a
+/// number of Unicode, or the underscore (pcre2pattern, "Generic character types").
 #[inline]
 pub fn is_word(c: u32, ucp: bool) -> bool
-    requires { ucp ≡ false }
-    ensures { result ≡ is_word_char c }
+    ensures { result ≡ word ucp c }
 {
-    matches!(c, 0x30..=0x39 | 0x41..=0x5A | 0x5F | 0x61..=0x7A)
+    if ucp {
+        has_prop(Prop::Xwd, c)
+    } else {
+        matches!(c, 0x30..=0x39 | 0x41..=0x5A | 0x5F | 0x61..=0x7A)
+    }
 }

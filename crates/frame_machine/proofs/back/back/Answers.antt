@@ -1,6 +1,6 @@
 use Rattle.frame_store.specs.Entry.{entries}
 use Rattle.frame_machine.proofs.Frames.{slots_sound}
-use Rattle.frame_machine.proofs.BackTurns.{stop_none, pop_branch, pop_exit, pop_later, pop_fewer, pop_more, pop_plain, exit_inside, fewer_stands, more_inside, more_many, more_stands, more_few}
+use Rattle.frame_machine.proofs.BackTurns.{stop_none, pop_branch, pop_exit, pop_later, pop_fewer, pop_more, pop_plain, pop_left, pop_denial, left_within, left_slots, denial_inside, pop_look_test, pop_denial_test, look_test_sound, denial_test_sound, exit_inside, fewer_stands, more_inside, more_many, more_stands, more_few}
 use Rattle.frame_machine.proofs.back.back.Goals as goal
 
 pub pop-requires : goal.pop-requires
@@ -45,4 +45,37 @@ returns-then-newest-eq-KIND_MORE_ITEMS-clause-on g c =
 
 pub returns-clause-on : goal.returns-clause-on
 returns-clause-on g c =
-    pop_plain (g.S.Searchable.searched c.args.on.now) (g.met.S.Searchable.sound c.args.on.now) c.args.spot.now c.args.store.now.records c.pop.new.store.records c.in-Some.newest c.args.registers.now c.pop.new.registers c.requires.valid c.in-Some.ensures.popped c.in-Some.ensures.back c.if-newest-eq-KIND_LATER_BRANCH.false c.if-newest-eq-KIND_TURN_OR_EXIT.false c.if-newest-eq-KIND_LATER_TURN.false c.if-newest-eq-KIND_FEWER_ITEMS.false c.if-newest-eq-KIND_MORE_ITEMS.false
+    pop_plain (g.S.Searchable.searched c.args.on.now) (g.met.S.Searchable.sound c.args.on.now) c.args.spot.now c.args.store.now.records c.pop.new.store.records c.in-Some.newest c.args.registers.now c.pop.new.registers c.requires.valid c.in-Some.ensures.popped c.in-Some.ensures.back c.if-newest-eq-KIND_LATER_BRANCH.false c.if-newest-eq-KIND_TURN_OR_EXIT.false c.if-newest-eq-KIND_LATER_TURN.false c.if-newest-eq-KIND_FEWER_ITEMS.false c.if-newest-eq-KIND_MORE_ITEMS.false c.if-newest-eq-KIND_ATOMIC_LEFT.false c.if-newest-eq-KIND_DENIAL_OPEN.false c.if-newest-eq-KIND_LOOK_TEST.false c.if-newest-eq-KIND_DENIAL_TEST.false
+
+pub undo_to-requires-clause-within : goal.undo_to-requires-clause-within
+undo_to-requires-clause-within g c = left_within (g.S.Searchable.searched c.args.on.now) (g.met.S.Searchable.sound c.args.on.now) c.args.spot.now c.args.store.now.records c.pop.new.store.records c.in-Some.newest c.args.registers.now c.pop.new.registers c.requires.valid c.in-Some.ensures.popped c.in-Some.ensures.back c.if-newest-eq-KIND_ATOMIC_LEFT.true
+
+pub undo_to-requires-clause-slots : goal.undo_to-requires-clause-slots
+undo_to-requires-clause-slots g c = left_slots (g.S.Searchable.searched c.args.on.now) (g.met.S.Searchable.sound c.args.on.now) c.args.spot.now c.args.store.now.records c.pop.new.store.records c.in-Some.newest c.args.registers.now c.pop.new.registers c.requires.valid c.in-Some.ensures.popped c.in-Some.ensures.back
+
+pub returns-then-newest-eq-KIND_ATOMIC_LEFT-clause-on : goal.returns-then-newest-eq-KIND_ATOMIC_LEFT-clause-on
+returns-then-newest-eq-KIND_ATOMIC_LEFT-clause-on g c = pop_left (g.S.Searchable.searched c.args.on.now) (g.met.S.Searchable.sound c.args.on.now) c.args.spot.now c.args.store.now.records c.pop.new.store.records c.in-Some.newest c.args.registers.now c.pop.new.registers c.requires.valid c.in-Some.ensures.popped c.in-Some.ensures.back c.if-newest-eq-KIND_ATOMIC_LEFT.true _ c.undo_to.ensures.cut _ c.undo_to.ensures.undone
+
+pub go_on-requires-then-newest-eq-KIND_DENIAL_OPEN : goal.go_on-requires-then-newest-eq-KIND_DENIAL_OPEN
+go_on-requires-then-newest-eq-KIND_DENIAL_OPEN g c = denial_inside (g.S.Searchable.searched c.args.on.now) (g.met.S.Searchable.sound c.args.on.now) c.args.spot.now c.args.store.now.records c.pop.new.store.records c.in-Some.newest c.args.registers.now c.pop.new.registers c.requires.valid c.in-Some.ensures.popped c.in-Some.ensures.back c.if-newest-eq-KIND_DENIAL_OPEN.true
+
+pub returns-then-newest-eq-KIND_DENIAL_OPEN-clause-on : goal.returns-then-newest-eq-KIND_DENIAL_OPEN-clause-on
+returns-then-newest-eq-KIND_DENIAL_OPEN-clause-on g c = rw (c.go_on-then-newest-eq-KIND_DENIAL_OPEN.ensures, c.restore-then-newest-eq-KIND_DENIAL_OPEN.ensures) (pop_denial (g.S.Searchable.searched c.args.on.now) (g.met.S.Searchable.sound c.args.on.now) c.args.spot.now c.args.store.now.records c.pop.new.store.records c.in-Some.newest c.args.registers.now c.pop.new.registers c.requires.valid c.in-Some.ensures.popped c.in-Some.ensures.back c.if-newest-eq-KIND_DENIAL_OPEN.true)
+
+pub choose-requires-clause-inside : goal.choose-requires-clause-inside
+choose-requires-clause-inside g c = (look_test_sound (g.S.Searchable.searched c.args.on.now) (g.met.S.Searchable.sound c.args.on.now) c.args.spot.now c.args.store.now.records c.pop.new.store.records c.in-Some.newest c.args.registers.now c.pop.new.registers c.requires.valid c.in-Some.ensures.popped c.in-Some.ensures.back c.if-newest-eq-KIND_LOOK_TEST.true).0
+
+pub choose-requires-clause-condition : goal.choose-requires-clause-condition
+choose-requires-clause-condition g c = (look_test_sound (g.S.Searchable.searched c.args.on.now) (g.met.S.Searchable.sound c.args.on.now) c.args.spot.now c.args.store.now.records c.pop.new.store.records c.in-Some.newest c.args.registers.now c.pop.new.registers c.requires.valid c.in-Some.ensures.popped c.in-Some.ensures.back c.if-newest-eq-KIND_LOOK_TEST.true).1
+
+pub returns-then-newest-eq-KIND_LOOK_TEST-clause-on : goal.returns-then-newest-eq-KIND_LOOK_TEST-clause-on
+returns-then-newest-eq-KIND_LOOK_TEST-clause-on g c = rw c.restore-then-newest-eq-KIND_LOOK_TEST.ensures (pop_look_test (g.S.Searchable.searched c.args.on.now) (g.met.S.Searchable.sound c.args.on.now) c.args.spot.now c.args.store.now.records c.pop.new.store.records c.in-Some.newest c.args.registers.now c.pop.new.registers c.requires.valid c.in-Some.ensures.popped c.in-Some.ensures.back c.if-newest-eq-KIND_LOOK_TEST.true _ c.choose.ensures)
+
+pub choose-requires-then-newest-eq-KIND_DENIAL_TEST-clause-inside : goal.choose-requires-then-newest-eq-KIND_DENIAL_TEST-clause-inside
+choose-requires-then-newest-eq-KIND_DENIAL_TEST-clause-inside g c = (denial_test_sound (g.S.Searchable.searched c.args.on.now) (g.met.S.Searchable.sound c.args.on.now) c.args.spot.now c.args.store.now.records c.pop.new.store.records c.in-Some.newest c.args.registers.now c.pop.new.registers c.requires.valid c.in-Some.ensures.popped c.in-Some.ensures.back c.if-newest-eq-KIND_DENIAL_TEST.true).0
+
+pub choose-requires-then-newest-eq-KIND_DENIAL_TEST-clause-condition : goal.choose-requires-then-newest-eq-KIND_DENIAL_TEST-clause-condition
+choose-requires-then-newest-eq-KIND_DENIAL_TEST-clause-condition g c = (denial_test_sound (g.S.Searchable.searched c.args.on.now) (g.met.S.Searchable.sound c.args.on.now) c.args.spot.now c.args.store.now.records c.pop.new.store.records c.in-Some.newest c.args.registers.now c.pop.new.registers c.requires.valid c.in-Some.ensures.popped c.in-Some.ensures.back c.if-newest-eq-KIND_DENIAL_TEST.true).1
+
+pub returns-then-newest-eq-KIND_DENIAL_TEST-clause-on : goal.returns-then-newest-eq-KIND_DENIAL_TEST-clause-on
+returns-then-newest-eq-KIND_DENIAL_TEST-clause-on g c = rw c.restore-then-newest-eq-KIND_DENIAL_TEST.ensures (pop_denial_test (g.S.Searchable.searched c.args.on.now) (g.met.S.Searchable.sound c.args.on.now) c.args.spot.now c.args.store.now.records c.pop.new.store.records c.in-Some.newest c.args.registers.now c.pop.new.registers c.requires.valid c.in-Some.ensures.popped c.in-Some.ensures.back c.if-newest-eq-KIND_DENIAL_TEST.true _ c.choose-then-newest-eq-KIND_DENIAL_TEST.ensures)

@@ -5,8 +5,8 @@ use Rattle.frame_machine.proofs.counted.longest.Goals as goal
 
 pub returns-clause-count : goal.returns-clause-count
 returns-clause-count c =
-    c.counted_run.ensures.count ∙ ap length (run_as (scene_of c.args.view.now c.args.classes.now) c.args.item.now c.args.at c.requires.short c.args.most c.unwrap_or-most.result c.unwrap_or-most.ensures)
+    c.item_run.ensures.count ∙ ap length (run_as (scene_of c.args.view.now c.args.classes.now) c.args.item.now c.args.at c.requires.subject.short c.args.most c.unwrap_or-most.result c.unwrap_or-most.ensures)
 
 pub returns-clause-to : goal.returns-clause-to
 returns-clause-to c =
-    c.counted_run.ensures.to ∙ ap (end_of c.args.at) (run_as (scene_of c.args.view.now c.args.classes.now) c.args.item.now c.args.at c.requires.short c.args.most c.unwrap_or-most.result c.unwrap_or-most.ensures)
+    c.item_run.ensures.to ∙ ap (end_of c.args.at) (run_as (scene_of c.args.view.now c.args.classes.now) c.args.item.now c.args.at c.requires.subject.short c.args.most c.unwrap_or-most.result c.unwrap_or-most.ensures)

@@ -1,6 +1,6 @@
 use Rattle.std.proofs.Common.{arith, sym}
 use Rattle.frame_store.specs.Entry.{entries}
-use Rattle.frame_machine.specs.Machine.{spot_state}
+use Rattle.frame_machine.specs.Frames.{spot_state}
 use Rattle.frame_machine.proofs.EndTurns.{stop_found, turn_refused, turn_no_frame, admits, refuses}
 use Rattle.frame_machine.proofs.ends.finish.Goals as goal
 
@@ -14,4 +14,4 @@ returns-then-spot-eq0-clause-on g c =
 
 pub returns-clause-on : goal.returns-clause-on
 returns-clause-on g c =
-    turn_no_frame (g.S.Searchable.searched c.args.on.now) (g.met.S.Searchable.sound c.args.on.now) c.args.spot.now c.args.store.now.records c.args.registers.now c.requires.valid _ (omega (arith, c.if-spot-eq0.false)) _ c.get.ensures c.if-frame-eq-KIND_GROUP_OPEN.false c.if-frame-eq-KIND_TURN_OPEN.false c.if-frame-eq-KIND_TURN_OR_EXIT.false
+    turn_no_frame (g.S.Searchable.searched c.args.on.now) (g.met.S.Searchable.sound c.args.on.now) c.args.spot.now c.args.store.now.records c.args.registers.now c.requires.valid _ (omega (arith, c.if-spot-eq0.false)) _ c.get.ensures c.if-frame-eq-KIND_GROUP_OPEN.false c.if-frame-eq-KIND_TURN_OPEN.false c.if-frame-eq-KIND_TURN_OR_EXIT.false c.if-frame-eq-KIND_ATOMIC_OPEN.false c.if-frame-eq-KIND_LOOK_OPEN.false c.if-frame-eq-KIND_LOOK_ALL_OPEN.false c.if-frame-eq-KIND_DENIAL_OPEN.false c.if-frame-eq-KIND_LOOK_TEST.false c.if-frame-eq-KIND_DENIAL_TEST.false

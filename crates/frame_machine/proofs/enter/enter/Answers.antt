@@ -6,8 +6,9 @@ use Rattle.frame_machine.proofs.MostOf.{ok_more}
 use Rattle.frame_machine.proofs.Turns.{turn_empty, turn_keep, turn_one, turn_break, turn_ref, turn_anchor, turn_parts, turn_group_of, turn_capture_of, stop_capture_of, ahead_repeat, stray_node}
 use Rattle.std.proofs.lemmas.List.{length-map}
 use Rattle.frame_store.specs.Entry.{entry_of}
-use Rattle.pat_check.specs.Built.{IsBuilt}
+use Rattle.frame_machine.specs.Forms.{IsRunnable}
 use Rattle.frame_machine.proofs.ItemTurns.{turn_many}
+use Rattle.frame_machine.specs.Ground.{IsNode}
 use Rattle.frame_machine.proofs.enter.enter.Goals as goal
 
 pub returns-in-Empty-clause-on : goal.returns-in-Empty-clause-on
@@ -55,5 +56,14 @@ returns-in-Err-clause-stop g c =
 
 pub unreachable-requires : goal.unreachable-requires
 unreachable-requires g c =
-    stray_node (g.S.Searchable.searched c.args.on.now).trees _ (subst IsBuilt (sym c.node.ensures.is) c.requires.valid.running.0.built) c.in_default.not-Empty c.in_default.not-KeepOut c.in_default.not-One c.in_default.not-Break
-    c.in_default.not-Ref c.in_default.not-Anchor c.in_default.not-Seq c.in_default.not-Group c.in_default.not-Repeat c.in_default.not-OneRepeat
+    stray_node (g.S.Searchable.searched c.args.on.now).trees _ (subst IsRunnable (sym c.node.ensures.is) c.requires.valid.running.0.runs) c.in_default.not-Empty c.in_default.not-KeepOut c.in_default.not-One c.in_default.not-Break
+    c.in_default.not-Ref c.in_default.not-Anchor c.in_default.not-Seq c.in_default.not-Group c.in_default.not-Repeat c.in_default.not-OneRepeat c.in_default.not-Atomic c.in_default.not-Look c.in_default.not-Cond
+
+pub enter_atomic-requires-clause-node : goal.enter_atomic-requires-clause-node
+enter_atomic-requires-clause-node g c = subst (IsNode (g.S.Searchable.searched c.args.on.now) c.args.at) c.in-Atomic.is c.node.ensures
+
+pub enter_look-requires-clause-node : goal.enter_look-requires-clause-node
+enter_look-requires-clause-node g c = subst (IsNode (g.S.Searchable.searched c.args.on.now) c.args.at) c.in-Look.is c.node.ensures
+
+pub enter_condition-requires-clause-node : goal.enter_condition-requires-clause-node
+enter_condition-requires-clause-node g c = subst (IsNode (g.S.Searchable.searched c.args.on.now) c.args.at) c.in-Cond.is c.node.ensures

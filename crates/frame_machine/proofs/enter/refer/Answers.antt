@@ -1,5 +1,5 @@
 use Rattle.std.proofs.Common.{sym, subst, ◌∙◌}
-use Rattle.frame_machine.specs.Machine.{SpanStands}
+use Rattle.frame_machine.specs.Validity.{SpanStands}
 use Rattle.frame_machine.proofs.Turns.{stands_set}
 use Rattle.frame_machine.proofs.enter.refer.Goals as goal
 

@@ -1,8 +1,10 @@
 use Rattle.std.proofs.Common.{◌≡◌, ◌≤◌, max}
 use Rattle.frame_store.specs.Entry.{entries}
-use Rattle.frame_machine.specs.PlaceAnswer.{place_answer}
-use Rattle.frame_machine.specs.Moves.{tread, size}
-use Rattle.frame_machine.specs.Machine.{ahead, IsValid, conf}
+use Rattle.ordered_search.specs.PlaceAnswer.{place_answer}
+use Rattle.ordered_search.specs.Moves.{tread, size}
+use Rattle.frame_machine.specs.Machine.{conf}
+use Rattle.frame_machine.specs.Frames.{ahead}
+use Rattle.frame_machine.specs.Validity.{IsValid}
 use Rattle.frame_machine.proofs.run.run.Given as goal
 
 abbrev pub invariant-turns : goal.invariant-turns

@@ -1,5 +1,5 @@
 use Rattle.std.proofs.Common.{ℕ, Option, subst, ap}
-use Rattle.frame_machine.specs.PlaceAnswer.{place_answer}
+use Rattle.ordered_search.specs.PlaceAnswer.{place_answer}
 use Rattle.frame_machine.specs.Answer.{IsMark}
 use Rattle.frame_machine.specs.Scratch.{Workspace}
 use Rattle.frame_machine.proofs.scratch.search_at.Goals as goal

@@ -1,9 +1,10 @@
 use Rattle.std.proofs.Common.{rules, ◌≡◌, Err, subst, sym, ◌∙◌}
 use Rattle.grep_core.specs.declared.ended.Stop.TheVariants.{Memory}
-use Rattle.grep_core.specs.Compiled.{patterns_in}
+use Rattle.grep_match.specs.Compiled.{patterns_in}
 use Rattle.grep_core.specs.OneInput.{ScansAs}
 use Rattle.grep_core.proofs.FileTexts.{scans-skipped, scans-lacks, scans-all, scans-halts, skipped-is, skipped-not}
 use Rattle.grep_core.proofs.file.scan_as.Goals as goal
+use Rattle.tool_out.specs.Printed.{printed}
 
 pub returns-then-is_skipped : goal.returns-then-is_skipped
 returns-then-is_skipped g c before job stood =
@@ -22,7 +23,7 @@ returns-in_err-ended g c before job stood =
     let stop = c.in_err-ended.field-0.0 in
     let same : c.from_residual-in_err-ended.result ≡ Err stop = search rules in
     subst (ScansAs c.args.job.now.plan.now (patterns_in c.args.job.now.patterns.now) c.args.job.now.name.now c.args.job.now.show c.args.treatment c.args.state.now before (g.S.Source.tells c.scan.new.source)
-    c.scan.new.state (g.O.Sink.tells c.args.out.now) (g.O.Sink.tells c.scan.new.out) (g.E.Sink.tells c.args.err.now) (g.E.Sink.tells c.scan.new.err)) (sym same)
+    c.scan.new.state (printed (g.O.Sink.tells c.args.out.now) (g.E.Sink.tells c.args.err.now)) (printed (g.O.Sink.tells c.scan.new.out) (g.E.Sink.tells c.scan.new.err))) (sym same)
     (scans-halts c.args.job.now.plan.now (patterns_in c.args.job.now.patterns.now) c.args.job.now.name.now c.args.job.now.show c.args.state.now c.args.treatment before (g.S.Source.tells c.scan.new.source)
     c.scan.new.course.selected c.scan.new.state (g.O.Sink.tells c.args.out.now) (g.O.Sink.tells c.scan.new.out) (g.E.Sink.tells c.args.err.now) (g.E.Sink.tells c.scan.new.err) stop other (c.in_err-ended.ensures before c.args.treatment (job other) stood))
 

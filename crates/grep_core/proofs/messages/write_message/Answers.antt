@@ -1,4 +1,4 @@
-use Rattle.grep_core.proofs.Writing.{writes-same}
+use Rattle.tool_out.proofs.Writing.{writes-same}
 use Rattle.grep_core.proofs.Said.{message-text}
 use Rattle.grep_core.proofs.messages.write_message.Goals as goal
 

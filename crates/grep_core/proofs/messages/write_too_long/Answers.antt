@@ -1,5 +1,5 @@
 use Rattle.std.proofs.Common.{◌∙◌}
-use Rattle.grep_core.proofs.Writing.{writes-same}
+use Rattle.tool_out.proofs.Writing.{writes-same}
 use Rattle.grep_core.proofs.Said.{too-long-text}
 use Rattle.grep_core.proofs.messages.write_too_long.Goals as goal
 

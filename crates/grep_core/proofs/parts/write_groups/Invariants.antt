@@ -1,6 +1,6 @@
 use Rattle.std.proofs.Common.{drop}
 use Rattle.grep_core.specs.Texts.{joined}
-use Rattle.grep_core.proofs.Writing.{IsLeft}
+use Rattle.tool_out.proofs.Writing.{IsLeft}
 use Rattle.grep_core.proofs.Parted.{set_texts, joined_from}
 use Rattle.grep_core.proofs.parts.write_groups.Given as goal
 

@@ -1,7 +1,7 @@
 use Rattle.std.proofs.Common.{ap, ◌∙◌, ◌-◌, decimal}
 use Rattle.line_feed.specs.Lines.{row_of}
-use Rattle.grep_core.specs.declared.found.Place.{Place}
-use Rattle.grep_core.proofs.Writing.{writes-same}
+use Rattle.grep_match.specs.declared.found.Place.{Place}
+use Rattle.tool_out.proofs.Writing.{writes-same}
 use Rattle.grep_core.proofs.Parted.{in-line-text}
 use Rattle.grep_core.proofs.parts.write_in_line.Goals as goal
 

@@ -1,12 +1,12 @@
 use Rattle.std.proofs.Common.{◌≡◌, ◌+◌, ◌<◌, List, All, Option, drop, take, length, flat_map, sym, ap, subst, ◌∙◌, arith, rules, Err}
 use Rattle.std.proofs.lemmas.List.{drop_more, drop_all}
 use Rattle.frame_store.specs.declared.registers.Span.{Span}
-use Rattle.match_drive.specs.Forward.{IsWithin}
+use Rattle.ordered_search.specs.Forward.{IsWithin}
 use Rattle.line_feed.specs.Lines.{row_of}
-use Rattle.grep_core.specs.Found.{groups_of}
+use Rattle.grep_match.specs.Found.{groups_of}
 use Rattle.grep_core.specs.Texts.{match_text}
-use Rattle.grep_core.specs.Writes.{Writes}
-use Rattle.grep_core.proofs.Writing.{left-all, left-more, left-refused, left-none}
+use Rattle.tool_out.specs.Writes.{Writes}
+use Rattle.tool_out.proofs.Writing.{left-all, left-more, left-refused, left-none}
 use Rattle.grep_core.proofs.Parted.{match_at, no_match, count-listed, place-listed, match-listed, groups-listed, groups-reach, groups-front, groups-rest, groups-within}
 use Rattle.grep_core.proofs.parts.write_matches.Goals as goal
 

@@ -1,9 +1,9 @@
 use Rattle.std.proofs.Common.{◌≡◌, List, drop, length, flat_map}
 use Rattle.line_feed.specs.Lines.{row_of}
-use Rattle.frame_machine.specs.PlaceAnswer.{Outcome}
-use Rattle.grep_core.specs.Found.{Lists, groups_of}
+use Rattle.ordered_search.specs.PlaceAnswer.{Outcome}
+use Rattle.grep_match.specs.Found.{Lists, groups_of}
 use Rattle.grep_core.specs.Texts.{match_text}
-use Rattle.grep_core.proofs.Writing.{IsLeft}
+use Rattle.tool_out.proofs.Writing.{IsLeft}
 use Rattle.grep_core.proofs.parts.write_matches.Given as goal
 
 abbrev pub invariant-loop-i : goal.invariant-loop-i

@@ -1,7 +1,7 @@
 use Rattle.std.proofs.Common.{rules, ◌≡◌, ◌≢◌, ◌<◌, Err, None, arith, sym, subst}
-use Rattle.grep_core.specs.declared.modes.Show.TheVariants.{Lines}
-use Rattle.grep_core.specs.Modes.{lines_after}
-use Rattle.grep_core.specs.Turns.{Follows}
+use Rattle.grep_core.specs.declared.shows.Show.TheVariants.{Lines}
+use Rattle.grep_core.specs.Shows.{lines_after}
+use Rattle.grep_core.specs.Follows.{Follows}
 use Rattle.line_feed.proofs.Given.{live-gives}
 use Rattle.grep_core.proofs.ScansFollow.{after-lines, after-others, following-none, following-more, follows-ends, follows-stops, follows-all}
 use Rattle.grep_core.proofs.scan.follow.Goals as goal

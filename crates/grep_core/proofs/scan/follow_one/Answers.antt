@@ -2,8 +2,9 @@ use Rattle.std.proofs.Common.{◌≡◌, false, Ok, Err, inl, refl, sym, subst, 
 use Rattle.line_feed.specs.Lines.{Answers, row_of}
 use Rattle.line_feed.specs.Answers.{Gives}
 use Rattle.grep_core.specs.Ends.{stop_of}
-use Rattle.grep_core.specs.Turns.{FollowsOne}
-use Rattle.grep_core.proofs.Halting.{halts-of, wrote-of}
+use Rattle.grep_core.specs.Follows.{FollowsOne}
+use Rattle.grep_core.proofs.Halting.{halts-of}
+use Rattle.tool_out.proofs.Printing.{wrote-of}
 use Rattle.grep_core.proofs.scan.follow_one.Goals as goal
 
 pub returns-in_err-write_line-in-Ok-Some : goal.returns-in_err-write_line-in-Ok-Some

@@ -1,9 +1,11 @@
-use Rattle.std.proofs.Common.{◌≡◌, ◌≤◌, false, Ok, Err, refl, sym, ap, subst, rules}
+use Rattle.std.proofs.Common.{◌≡◌, false, Err, refl, sym, subst, rules}
 use Rattle.line_feed.specs.Lines.{row_of}
-use Rattle.grep_core.specs.declared.modes.Show.TheVariants.{Lines}
+use Rattle.grep_core.specs.declared.shows.Show.TheVariants.{Lines}
 use Rattle.grep_core.specs.Ends.{stop_of}
-use Rattle.grep_core.specs.Turns.{Halts, Passes, Writes}
-use Rattle.grep_core.proofs.Halting.{halts-of, wrote-of, context-text, context-behind}
+use Rattle.grep_core.specs.Turns.{Halts, Passes}
+use Rattle.tool_out.specs.Writes.{WritesAll}
+use Rattle.grep_core.proofs.Halting.{halts-of, context-text, context-after}
+use Rattle.tool_out.proofs.Printing.{wrote-of}
 use Rattle.grep_core.proofs.scan.pass.Goals as goal
 
 pub returns-in_err-write_line : goal.returns-in_err-write_line
@@ -27,8 +29,8 @@ returns-in_ok-write_line g c t same =
     let new = g.O.Sink.tells c.write_line.new.out in
     let lines : job.show ≡ Lines = search rules in
     record {
-      wrote = subst (λ l. Writes l old new) (context-text job.plan.now job.name.now job.show c.args.course.now t row lines same c.if-line-course.true)
+      wrote = subst (λ l. WritesAll l old new) (context-text job.plan.now job.name.now job.show c.args.course.now t row lines same c.if-line-course.true)
           (wrote-of _ old new _ (c.in_ok-write_line.ensures (record { row = row; is_selected = false; begins_group = false }) refl refl));
-      stands = context-behind job.plan.now job.show c.args.course.now t row lines same c.if-line-course.true;
+      stands = context-after job.plan.now job.show c.args.course.now t row lines same c.if-line-course.true;
       limit = refl;
     }

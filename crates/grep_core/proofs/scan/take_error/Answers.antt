@@ -1,8 +1,10 @@
-use Rattle.std.proofs.Common.{◌≡◌, ◌<◌, ◌+◌, Ok, Err, sym, ap, subst, ◌∙◌, arith, rules, SFits, w32, to_z, of_z}
+use Rattle.std.proofs.Common.{◌≡◌, ◌+◌, Err, sym, ap, subst, ◌∙◌, arith, rules, SFits, w32}
 use Rattle.std.proofs.lemmas.Int.{to_z-of_z}
 use Rattle.grep_core.specs.Turns.{TakesLine}
-use Rattle.grep_core.proofs.Halting.{wrote-of, takes-last, error-refused, error-takes}
+use Rattle.tool_out.proofs.Printing.{wrote-of}
+use Rattle.grep_core.proofs.Halting.{takes-last, error-refused, error-takes}
 use Rattle.grep_core.proofs.scan.take_error.Goals as goal
+use Rattle.tool_out.specs.Printed.{printed}
 
 pub returns-then-state-ge-MANY_ERRORS : goal.returns-then-state-ge-MANY_ERRORS
 returns-then-state-ge-MANY_ERRORS g c t same is =
@@ -17,8 +19,7 @@ returns-in_err-pass g c t same is =
     let refused : c.from_residual-in_err-pass.result ≡ Err stop = search rules in
     subst
     (TakesLine job.plan.now job.name.now job.show job.most t c.args.course.now c.args.state.now c.pass.new.course
-    (record { errors = c.args.state.now.errors + 1; total = c.args.state.now.total; has_shown = c.args.state.now.has_shown }) (g.O.Sink.tells c.args.out.now) (g.O.Sink.tells c.pass.new.out) (g.E.Sink.tells c.args.err.now)
-    (g.E.Sink.tells c.write_error.new.err))
+    (record { errors = c.args.state.now.errors + 1; total = c.args.state.now.total; has_shown = c.args.state.now.has_shown }) (printed (g.O.Sink.tells c.args.out.now) (g.E.Sink.tells c.args.err.now)) (printed (g.O.Sink.tells c.pass.new.out) (g.E.Sink.tells c.write_error.new.err)))
     (sym refused)
     (error-refused job.plan.now job.name.now job.show job.most c.args.course.now c.pass.new.course c.args.state.now
     (record { errors = c.args.state.now.errors + 1; total = c.args.state.now.total; has_shown = c.args.state.now.has_shown }) t c.args.error (g.O.Sink.tells c.args.out.now) (g.O.Sink.tells c.pass.new.out) (g.E.Sink.tells c.args.err.now)

@@ -1,13 +1,13 @@
-use Rattle.std.proofs.Common.{◌≡◌, Bool, true, false, not, Ok, Err, refl, sym, ap, subst, ◌∙◌, arith, rules, length, SFits, w32, to_z, of_z}
+use Rattle.std.proofs.Common.{◌≡◌, Err, refl, sym, ap, subst, ◌∙◌, rules, length, SFits, w32}
 use Rattle.std.proofs.lemmas.Int.{to_z-of_z}
 use Rattle.line_feed.specs.Lines.{row_of}
-use Rattle.grep_core.specs.Compiled.{patterns_in}
-use Rattle.grep_core.specs.Matches.{Matches, matches, tried_row, is_selected, selects}
-use Rattle.grep_core.specs.Found.{IsVerdict}
+use Rattle.grep_match.specs.Compiled.{patterns_in}
+use Rattle.grep_match.specs.Matches.{tried_row}
 use Rattle.grep_core.specs.Turns.{TakesLine}
 use Rattle.grep_core.proofs.Taking.{IsTried, verdict-error, verdict-match, verdict-none, tried-listed, selected-takes, passed-takes, passed-refused, chosen, unchosen}
 use Rattle.grep_core.proofs.scan.take_line.Goals.{in-Match, in-NoMatch}
 use Rattle.grep_core.proofs.scan.take_line.Goals as goal
+use Rattle.tool_out.specs.Printed.{printed}
 
 pub returns-in-Error : goal.returns-in-Error
 returns-in-Error g c =
@@ -52,8 +52,7 @@ returns-in_err-pass g c =
     let stop = c.in_err-pass.field-0.0 in
     let refused : c.from_residual-in_err-pass.result ≡ Err stop = search rules in
     subst
-    (TakesLine job.plan.now job.name.now job.show job.most t c.args.course.now c.args.state.now c.pass.new.course c.args.state.now (g.O.Sink.tells c.args.out.now) (g.O.Sink.tells c.pass.new.out)
-    (g.E.Sink.tells c.args.err.now) (g.E.Sink.tells c.args.err.now))
+    (TakesLine job.plan.now job.name.now job.show job.most t c.args.course.now c.args.state.now c.pass.new.course c.args.state.now (printed (g.O.Sink.tells c.args.out.now) (g.E.Sink.tells c.args.err.now)) (printed (g.O.Sink.tells c.pass.new.out) (g.E.Sink.tells c.args.err.now)))
     (sym refused)
     (passed-refused job.plan.now job.name.now job.show job.most t tried.found tried.is c.args.course.now c.pass.new.course c.args.state.now c.args.state.now _ _ _ stop
     (tried.selects_so job.plan.now.invert_match ∙ unchosen c.match-branch-2.is_match job.plan.now.invert_match c.if-is_match-job.false)

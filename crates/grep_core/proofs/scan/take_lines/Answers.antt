@@ -1,11 +1,12 @@
 use Rattle.std.proofs.Common.{rules, ◌≡◌, subst, ◌<◌, ◌^◌, length, Err, arith, refl, sym, ap, ◌∙◌}
 use Rattle.grep_core.proofs.scan.take_lines.Goals as goal
-use Rattle.grep_core.specs.Compiled.{patterns_in}
-use Rattle.grep_core.specs.Turns.{TakesAll}
+use Rattle.grep_match.specs.Compiled.{patterns_in}
+use Rattle.grep_core.specs.WholeScans.{TakesAll}
 use Rattle.line_feed.proofs.Given.{live-gives}
 use Rattle.grep_core.proofs.ScansTaken.{standing-line, standing-pauses}
 use Rattle.grep_core.proofs.ScansEnd.{scans-ends, scans-stops}
 use Rattle.grep_core.proofs.ScansLoop.{standing-begun, keeps-more, gave}
+use Rattle.tool_out.specs.Printed.{printed}
 
 pub line-init : goal.line-init
 line-init g c = record {
@@ -14,17 +15,17 @@ line-init g c = record {
       let first = c.requires.first in
       let selected = c.requires.selected in
       let context = c.requires.context in
-      let back = ap length c.requires.back in record {
+      let earlier = ap length c.requires.earlier in record {
         max = c.requires.max;
         numbered = omega arith;
         number = omega arith;
-        back = omega arith;
+        earlier = omega arith;
         context = omega arith;
         selected = omega arith;
         errors = c.requires.errors;
       };
   limit = λ is. c.requires.limit;
-  standing = λ before treated job stood. standing-begun _ _ _ _ _ treated _ before _ _ _ _ _ job stood c.requires.selected c.requires.context c.requires.back c.requires.errors;
+  standing = λ before treated job stood. standing-begun _ _ _ _ _ treated _ before _ _ _ _ _ job stood c.requires.selected c.requires.context c.requires.earlier c.requires.errors;
 }
 
 pub take_turn-requires-clause-live : goal.take_turn-requires-clause-live
@@ -36,8 +37,8 @@ take_turn-requires-clause-max g c = c.line.invariant.keeps.max
 pub take_turn-requires-clause-numbered : goal.take_turn-requires-clause-numbered
 take_turn-requires-clause-numbered g c = c.line.invariant.keeps.numbered
 
-pub take_turn-requires-clause-back : goal.take_turn-requires-clause-back
-take_turn-requires-clause-back g c = c.line.invariant.keeps.back
+pub take_turn-requires-clause-earlier : goal.take_turn-requires-clause-earlier
+take_turn-requires-clause-earlier g c = c.line.invariant.keeps.earlier
 
 pub take_turn-requires-clause-context : goal.take_turn-requires-clause-context
 take_turn-requires-clause-context g c = c.line.invariant.keeps.context
@@ -58,7 +59,7 @@ returns-in_err-take_turn-clause-taken g c = λ before treated job stood.
     let same : c.from_residual.result ≡ Err stop = search rules in
     subst
     (TakesAll job_is.plan.now (patterns_in job_is.patterns.now) job_is.name.now job_is.show job_is.most treated c.args.state.now before (g.S.Source.tells c.take_turn.new.source) c.take_turn.new.feed
-    c.take_turn.new.course.selected c.take_turn.new.state (g.O.Sink.tells c.args.out.now) (g.O.Sink.tells c.take_turn.new.out) (g.E.Sink.tells c.args.err.now) (g.E.Sink.tells c.take_turn.new.err))
+    c.take_turn.new.course.selected c.take_turn.new.state (printed (g.O.Sink.tells c.args.out.now) (g.E.Sink.tells c.args.err.now)) (printed (g.O.Sink.tells c.take_turn.new.out) (g.E.Sink.tells c.take_turn.new.err)))
     (sym same)
     (scans-stops _ _ _ _ _ treated _ _ job before _ _ _ _ _ _ _ _ _ _ _ _ _ _ (c.line.invariant.standing before treated job stood) stop c.in_err-take_turn.ensures)
 

@@ -1,4 +1,4 @@
-use Rattle.grep_core.proofs.Writing.{writes-same}
+use Rattle.tool_out.proofs.Writing.{writes-same}
 use Rattle.grep_core.proofs.Said.{binary-told}
 use Rattle.grep_core.proofs.summary.write_summary.Goals as goal
 

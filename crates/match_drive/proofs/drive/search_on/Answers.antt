@@ -2,16 +2,17 @@ use Rattle.std.proofs.Common.{rules, ◌≡◌, ◌≤◌, ℕ, Option, Some, le
 use Rattle.std.proofs.lemmas.Option.{IfSome_then}
 use Rattle.frame_machine.specs.declared.answer.PlaceAnswer.TheVariants.{Failed}
 use Rattle.frame_machine.specs.Answer.{IsAnswer, IsMark}
-use Rattle.frame_machine.specs.PlaceAnswer.{place_answer}
-use Rattle.frame_machine.specs.Setting.{Setting}
+use Rattle.ordered_search.specs.PlaceAnswer.{place_answer}
+use Rattle.ordered_search.specs.Setting.{Setting}
 use Rattle.match_drive.specs.Asked.{passed_over, replied}
-use Rattle.match_drive.specs.Places.{last_place}
-use Rattle.match_drive.specs.MatchAnswer.{none_found, match_answer}
+use Rattle.ordered_search.specs.Places.{last_place}
+use Rattle.ordered_search.specs.MatchAnswer.{none_found, match_answer}
 use Rattle.match_drive.specs.Answer.{IsMatchAnswer, IsLastMark}
 use Rattle.match_drive.specs.Rest.{IsLeft, IsNextTried}
-use Rattle.match_drive.proofs.Steps.{last_within, left_less, next_within, next_not_excluded, tried_later, tried_from}
+use Rattle.match_drive.proofs.Steps.{left_less, next_within, next_not_excluded, tried_later, tried_from}
+use Rattle.ordered_search.proofs.StartPlaces.{last_within}
 use Rattle.match_drive.proofs.Walk.{walk_begins, walk_ends, walk_on, asked_alike}
-use Rattle.match_drive.proofs.NoPartial.{none_told}
+use Rattle.match_drive.proofs.NoneTold.{none_told}
 use Rattle.match_drive.proofs.drive.search_on.Goals as goal
 
 pub places-init : goal.places-init
@@ -20,7 +21,7 @@ places-init g c =
     let s = replied (g.S.Driven.asked x (g.C.Callouts.answers c.args.calls.now)).reply (g.S.Driven.asked x passed_over) in
     let next : IsNextTried s (Some s.start) c.next_tried-next.result = subst (λ p. IsNextTried s (Some p) c.next_tried-next.result) c.start.ensures (c.next_tried-next.ensures s.reply) in
     record {
-      left = walk_begins s (g.met.S.Driven.not_utf x c.requires) (g.met.S.Driven.begun x c.requires) _ c.next_tried-next.result (search rules) next;
+      left = walk_begins s (g.met.S.Driven.subject_is x c.requires).no_utf (g.met.S.Driven.start_is x c.requires).within _ c.next_tried-next.result (search rules) next;
       begun = tried_from s s.start c.next_tried-next.result next;
       within = next_within s (Some s.start) c.next_tried-next.result next;
       not_excluded = next_not_excluded s (Some s.start) c.next_tried-next.result next;
@@ -39,7 +40,7 @@ returns-in_default-answer-clause-answer g c =
     let e : g.S.Driven.asked x (g.C.Callouts.answers c.places.calls) ≡ s =
     asked_alike (g.S.Driven.asked x) (g.S.Driven.asked x passed_over) first (g.C.Callouts.answers c.places.calls) c.places.invariant.rule (g.met.S.Driven.alike x first) in
     subst (λ (t : Setting). IsMatchAnswer c.decided.result c.try_at-answer.new.scratch.spans (match_answer t)) (sym (g.met.S.Driven.alike x first))
-    (walk_ends s (g.met.S.Driven.not_utf x c.requires) (g.met.S.Driven.begun x c.requires) (match_answer s) c.places.first c.places.scratch.last_mark c.places.next c.in-Some.place c.in-Some.is
+    (walk_ends s (g.met.S.Driven.subject_is x c.requires).no_utf (g.met.S.Driven.start_is x c.requires).within (match_answer s) c.places.first c.places.scratch.last_mark c.places.next c.in-Some.place c.in-Some.is
     c.places.invariant.left c.places.invariant.within c.places.invariant.not_excluded c.try_at-answer.new.scratch.spans c.try_at-answer.result
     c.try_at-answer.new.scratch.last_mark c.last_mark.result c.decided.result
     (subst (λ (t : Setting). IsAnswer c.try_at-answer.result c.try_at-answer.new.scratch.spans (place_answer t c.in-Some.place)) e c.try_at-answer.ensures.answer)
@@ -54,7 +55,7 @@ returns-in_default-answer-clause-last_mark g c =
     let e : g.S.Driven.asked x (g.C.Callouts.answers c.places.calls) ≡ s =
     asked_alike (g.S.Driven.asked x) (g.S.Driven.asked x passed_over) first (g.C.Callouts.answers c.places.calls) c.places.invariant.rule (g.met.S.Driven.alike x first) in
     subst (λ (t : Setting). IsLastMark c.decided.result c.try_at-answer.new.scratch.last_mark (match_answer t)) (sym (g.met.S.Driven.alike x first))
-    (walk_ends s (g.met.S.Driven.not_utf x c.requires) (g.met.S.Driven.begun x c.requires) (match_answer s) c.places.first c.places.scratch.last_mark c.places.next c.in-Some.place c.in-Some.is
+    (walk_ends s (g.met.S.Driven.subject_is x c.requires).no_utf (g.met.S.Driven.start_is x c.requires).within (match_answer s) c.places.first c.places.scratch.last_mark c.places.next c.in-Some.place c.in-Some.is
     c.places.invariant.left c.places.invariant.within c.places.invariant.not_excluded c.try_at-answer.new.scratch.spans c.try_at-answer.result
     c.try_at-answer.new.scratch.last_mark c.last_mark.result c.decided.result
     (subst (λ (t : Setting). IsAnswer c.try_at-answer.result c.try_at-answer.new.scratch.spans (place_answer t c.in-Some.place)) e c.try_at-answer.ensures.answer)
@@ -99,7 +100,7 @@ pub places-smaller : goal.places-smaller
 places-smaller g c =
     let x = c.args.on.now in
     let s = g.S.Driven.asked x passed_over in
-    let high : last_place s ≤ length s.subject = last_within s (g.met.S.Driven.not_utf x c.requires) (g.met.S.Driven.begun x c.requires) in
+    let high : last_place s ≤ length s.subject = last_within s (g.met.S.Driven.subject_is x c.requires).no_utf (g.met.S.Driven.start_is x c.requires).within in
     let low : c.in-Some.place ≤ last_place s = rw c.in-Some.is at c.places.invariant.within in
     left_less (length s.subject) c.in-Some.place c.places.next c.next_tried-next-in-Some.result c.in-Some.is (omega (arith, high, low))
     (tried_later (replied s.reply s) c.place_after.result c.next_tried-next-in-Some.result c.in-Some.place (c.next_tried-next-in-Some.ensures s.reply) c.place_after.ensures.later)
@@ -115,7 +116,7 @@ places-preserved g c =
     let begun : s.start ≤ c.in-Some.place = rw c.in-Some.is at c.places.invariant.begun in
     record {
       left =
-          walk_on s (g.met.S.Driven.not_utf x c.requires) (g.met.S.Driven.begun x c.requires) (match_answer s) c.places.first c.places.scratch.last_mark c.places.next c.in-Some.place c.in-Some.is
+          walk_on s (g.met.S.Driven.subject_is x c.requires).no_utf (g.met.S.Driven.start_is x c.requires).within (match_answer s) c.places.first c.places.scratch.last_mark c.places.next c.in-Some.place c.in-Some.is
           c.places.invariant.left c.places.invariant.within c.places.invariant.not_excluded c.try_at-answer.new.scratch.spans c.in-Failed.signal c.in-Failed.hit_end
           c.try_at-answer.new.scratch.last_mark c.first_hit-first.result c.place_after.result c.next_tried-next-in-Some.result
           (subst (λ (t : Setting). IsAnswer (Failed c.in-Failed.signal c.in-Failed.hit_end) c.try_at-answer.new.scratch.spans (place_answer t c.in-Some.place)) e c.in-Failed.ensures.answer)

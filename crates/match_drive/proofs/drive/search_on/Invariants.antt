@@ -2,8 +2,8 @@ use Rattle.std.proofs.Common.{◌≡◌, ◌≤◌, false, max, length}
 use Rattle.std.specs.Prelude.{IfSome}
 use Rattle.pcre_io.specs.declared.callouts.Block.{Block}
 use Rattle.match_drive.specs.Asked.{passed_over, replied}
-use Rattle.match_drive.specs.Places.{last_place, is_excluded}
-use Rattle.match_drive.specs.MatchAnswer.{match_answer}
+use Rattle.ordered_search.specs.Places.{last_place, is_excluded}
+use Rattle.ordered_search.specs.MatchAnswer.{match_answer}
 use Rattle.match_drive.specs.Rest.{IsLeft, found_from}
 use Rattle.match_drive.proofs.Steps.{places_left}
 use Rattle.match_drive.proofs.drive.search_on.Given as goal

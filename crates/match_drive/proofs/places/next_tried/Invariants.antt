@@ -1,6 +1,6 @@
 use Rattle.std.proofs.Common.{◌≡◌, ◌≤◌, ℤ, length}
 use Rattle.std.specs.Prelude.{IfSome}
-use Rattle.frame_machine.specs.Stream.{Block}
+use Rattle.ordered_search.specs.Stream.{Block}
 use Rattle.match_drive.specs.Asked.{passed_over, replied}
 use Rattle.match_drive.specs.Rest.{found_from}
 use Rattle.match_drive.proofs.Steps.{places_left, IsNoEarlier}

@@ -7,4 +7,4 @@ pub returns-then-at-view : goal.returns-then-at-view
 returns-then-at-view c = told_break_end (bare_scene c.args.view.now) c.args.at (omega (arith, c.if-at-view.true))
 
 pub returns-in-0 : goal.returns-in-0
-returns-in-0 c = told_no_break (bare_scene c.args.view.now) c.args.at c.requires.bytes (omega (arith, c.if-at-view.false)) (omega (arith, c.break_len.ensures, c.in-0.is))
+returns-in-0 c = told_no_break (bare_scene c.args.view.now) c.args.at c.requires.subject.no_utf (omega (arith, c.if-at-view.false)) (omega (arith, c.break_len.ensures, c.in-0.is))

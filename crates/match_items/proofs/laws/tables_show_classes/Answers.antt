@@ -1,6 +1,5 @@
-use Rattle.std.proofs.Common.{◌≡◌, ℕ, Bool, ap}
+use Rattle.std.proofs.Common.{ℕ, Bool, ap}
 use Rattle.std.proofs.Math.Path.{fun_ext}
-use Rattle.match_items.specs.Scene.{Scene}
 use Rattle.match_items.specs.Views.{scene_of}
 use Rattle.match_items.proofs.laws.tables_show_classes.Goals as goal
 

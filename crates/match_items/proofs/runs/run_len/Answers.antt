@@ -6,9 +6,9 @@ use Rattle.match_items.proofs.runs.run_len.Goals as goal
 
 found : (g : given.Over) (c : goal.After-reaches g) → Found (scene_of c.args.view.now c.args.classes.now) c.args.item.now c.args.max c.args.at c.min-limit.result c.run_end-to.result
 found g c = record {
-  bytes = c.requires.bytes;
-  short = c.requires.short;
-  place = c.requires.place;
+  bytes = c.requires.subject.no_utf;
+  short = c.requires.subject.short;
+  place = c.requires.place.within;
   few = omega arith;
   bound = c.min-limit.ensures;
   least = c.run_end-to.ensures.end;

@@ -18,7 +18,11 @@ no_bad f [] at e h = cc
 no_bad f (r ∷ rs) at e h = cc
 
 abbrev parsed : Options → Nested → List ClassSpec → List NameEntry → List Reference → ℕ → List (List ℕ) → Parsed
-parsed o t cs ns rs n vs = record { options = o; tree = t; classes = cs; names = ns; places = map (λ r. r.at) rs; groups = n; verb_names = vs }
+parsed o t cs ns rs n vs = record {
+  pattern = record { options = o; tree = t; groups = n; classes = cs; verb_names = vs };
+  names = ns;
+  places = map (λ r. r.at) rs;
+}
 
 parsed_is : (d : DraftParts) (root : ℕ) (o : Options) (t : Nested) → d.options ≡ o → tree_at (trees d.nodes) root ≡ t → d.classes ≡ [] → d.names ≡ [] → references_of d.nodes ≡ [] → greatest (group_numbers d.nodes) ≡ 0 → d.verb_names ≡ [] →
     parsed_of (with_root d root) ≡ parsed o t [] [] [] 0 []
@@ -38,9 +42,13 @@ unreachable-requires c =
     let none : refs c.group.new.draft.nodes ≡ [] = c.in_ok-root.ensures.adds.refs_are ∙ c.in_ok-parts.ensures.adds.refs_are ∙ ap (λ d. refs d.nodes) c.new-draft.ensures in
     no_bad (has_group c.group.new.draft.nodes) (refs c.group.new.draft.nodes) c.in-Err.field-0.at none c.in-Err.ensures
 
-pub returns : goal.returns
+pub returns-clause-under : goal.returns-clause-under
+returns-clause-under c =
+    rw c.in-Ok.ensures.0 ((rw c.new-branches.ensures at c.in_ok-root.ensures.loose) [] c.in_ok-parts.ensures.loose)
+
+pub returns-clause-parsed : goal.returns-clause-parsed
 unfolding literally references_of
-returns c =
+returns-clause-parsed c =
     let d = c.group.new.draft in
     let made = rw (c.new-branches.ensures, c.in_ok-parts.ensures.stand.trees_are) at c.in_ok-root.ensures.made in
     let one = c.in_ok-parts.ensures.adds in

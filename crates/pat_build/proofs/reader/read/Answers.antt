@@ -16,7 +16,7 @@ returns-then-is_left_out-clause-bad c = read_left_out c.args.options c.args.text
 pub returns-then-options-clause-ok : goal.returns-then-options-clause-ok
 returns-then-options-clause-ok c =
     read_literal c.args.options c.args.text.now c.if-text-gt65536.false (sym c.if-is_left_out.ensures) c.if-options.true
-    ∙ ap (λ p. let x : Result Parsed Fault = Ok p in x) (sym c.in_ok-tree.ensures)
+    ∙ ap (λ p. let x : Result Parsed Fault = Ok p in x) (sym c.in_ok-tree.ensures.parsed)
 
 pub returns-in_err-start-clause-bad : goal.returns-in_err-start-clause-bad
 returns-in_err-start-clause-bad c =

@@ -44,8 +44,13 @@ returns-in-Ok-clause-ok c =
     (tree_is (table_of c.args.text.now c.args.known.now) c.args.text.now st tree (state_of m) (sym made.whole ∙ sym same.whole ∙ ends.is)
     ∙ ap (λ (o : Option ℕ). checked c.args.options o tree (state_of m)) (missing_is m.draft.nodes m.groups None ends.groups ends.refs_are finished.1)
     ∙ ap (λ (o : Options). checked o None tree (state_of m)) (sym options)
-    ∙ ap (λ (n : ℕ). let x : Result Parsed Fault = Ok (record parsed { groups = n; verb_names = [] }) in x) (sym (greatest_is m.draft.nodes m.groups ends.groups))
-    ∙ ap (λ (v : List (List ℕ)). let x : Result Parsed Fault = Ok (record parsed { verb_names = v }) in x) (sym ends.verb_names))
+    ∙ ap (λ (n : ℕ). let x : Result Parsed Fault = Ok (record parsed { pattern = record parsed.pattern { groups = n; verb_names = [] } }) in x) (sym (greatest_is m.draft.nodes m.groups ends.groups))
+    ∙ ap (λ (v : List (List ℕ)). let x : Result Parsed Fault = Ok (record parsed { pattern = record parsed.pattern { verb_names = v } }) in x) (sym ends.verb_names))
+
+pub returns-in-Ok-clause-under : goal.returns-in-Ok-clause-under
+returns-in-Ok-clause-under c =
+    let finished = rw c.replace-draft.ensures.value at c.in-Ok.ensures in
+    rw finished.0 c.in_ok-root.ensures.under
 
 pub returns-clause-bad : goal.returns-clause-bad
 returns-clause-bad c =

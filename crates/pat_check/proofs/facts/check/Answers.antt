@@ -1,26 +1,26 @@
-use Rattle.std.proofs.Common.{◌∙◌, ap, sym, subst}
+use Rattle.std.proofs.Common.{◌≡◌, ◌∙◌, None, sym, ap, refl, subst}
 use Rattle.std.specs.List.{list_any}
-use Rattle.pat_tree.specs.Nested.{trees}
-use Rattle.pat_check.specs.Nodes.{node_names, looks_before}
-use Rattle.pat_check.proofs.OrderLemmas.{any_tree}
-use Rattle.pat_tree.specs.Parts.{tree_of}
-use Rattle.pat_check.specs.Known.{IsByteSet}
-use Rattle.pat_check.proofs.BuiltLemmas.{no_lookbehind}
-use Rattle.pat_check.proofs.NodeLemmas.{lead_set_bytes}
+use Rattle.pat_check.specs.Backs.{fault_in}
+use Rattle.pat_check.specs.Nodes.{is_lookbehind}
+use Rattle.uni_text.specs.Folding.{fold}
+use Rattle.pat_check.specs.Starts.{FoldsIn}
+use Rattle.pat_check.proofs.LookLemmas.{no_fault, none_some}
 use Rattle.pat_check.proofs.facts.check.Goals as goal
 
-pub returns-clause-lookbehind : goal.returns-clause-lookbehind
-returns-clause-lookbehind c = sym (no_lookbehind (tree_of c.args.tree.now) c.requires.built)
+pub returns-clause-backs : goal.returns-clause-backs
+returns-clause-backs c = (rw c.deref-5.ensures.value at (c.in_ok-of_spans.ensures c.args.tree.now)) c.in_ok-spans.ensures
 
 pub returns-clause-lead : goal.returns-clause-lead
-returns-clause-lead c fold = subst (IsByteSet c.in_ok-lead.lead) (lead_set_bytes c.args.tree.now fold c.requires.bytes) (c.in_ok-lead.ensures fold)
+returns-clause-lead c bytes folding = c.in_ok-lead_unless.ensures folding (subst (λ utf. FoldsIn utf folding) (sym bytes) tt)
 
-pub returns-clause-names : goal.returns-clause-names
-returns-clause-names c =
-    let t = c.args.tree.now in
-    rw c.deref-2.ensures.value at c.names_cr_or_lf.ensures ∙ any_tree (node_names t.classes) (trees t.nodes) c.in_ok-order.order.items ∙ ap (list_any (node_names t.classes)) c.in_ok-order.ensures.nodes
+pub returns-clause-lead_in_utf : goal.returns-clause-lead_in_utf
+returns-clause-lead_in_utf c utf = c.in_ok-lead_unless.ensures fold (subst (λ utf. FoldsIn utf fold) (sym utf) (λ k. refl))
 
-pub returns-clause-before : goal.returns-clause-before
-returns-clause-before c =
+pub returns-in-Some-clause-without : goal.returns-in-Some-clause-without
+returns-in-Some-clause-without c none =
     let t = c.args.tree.now in
-    rw c.deref-3.ensures.value at c.tests_before.ensures ∙ any_tree looks_before (trees t.nodes) c.in_ok-order.order.items ∙ ap (list_any looks_before) c.in_ok-order.ensures.nodes
+    let order = c.in_ok-order.order.items in
+    let told : c.fault_in.result ≡ fault_in t order = rw c.deref-3.ensures.value at c.fault_in.ensures in
+    let clear : fault_in t order ≡ None =
+    no_fault t c.in_ok-order.ensures.rules order c.in_ok-order.ensures.below (ap (list_any is_lookbehind) c.in_ok-order.ensures.nodes ∙ none) in
+    absurd (none_some c.fault_in.result c.in-Some.fault (told ∙ clear) c.in-Some.is)

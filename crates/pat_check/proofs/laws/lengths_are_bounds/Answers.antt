@@ -1,5 +1,6 @@
-use Rattle.pat_check.proofs.LengthLaw.{length_laws}
+use Rattle.pat_check.proofs.LengthLaw.{calls_bounds, branch_bounds}
+use Rattle.pat_check.proofs.LeastLaw.{least_of_all}
 use Rattle.pat_check.proofs.laws.lengths_are_bounds.Goals as goal
 
 pub returns : goal.returns
-returns c = length_laws
+returns c = record { by_calls = calls_bounds; of_branches = branch_bounds; least = least_of_all }

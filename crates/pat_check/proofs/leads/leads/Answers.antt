@@ -1,7 +1,7 @@
-use Rattle.std.proofs.Common.{◌≡◌, ◌∙◌, ◌+◌, ◌∷◌, ◌++◌, [], ap, sym, subst, length, length-append}
-use Rattle.pat_tree.specs.Nested.{trees}
-use Rattle.pat_check.specs.Starts.{KeepLeads}
-use Rattle.pat_check.proofs.NodeLemmas.{keeps_more}
+use Rattle.std.proofs.Common.{◌≡◌, ◌∙◌, ◌+◌, ◌∷◌, ◌++◌, [], None, ap, sym, subst, length, length-append}
+use Rattle.pat_tree.specs.Nested.{trees, tree_at}
+use Rattle.pat_check.specs.Starts.{KeepLeads, IsSomeLead, lead_in}
+use Rattle.pat_check.proofs.KeepLemmas.{keep_more}
 use Rattle.pat_check.proofs.leads.leads.Goals as goal
 
 pub loop-id-preserved : goal.loop-id-preserved
@@ -13,6 +13,6 @@ loop-id-preserved g c =
     let items : c.push.new.self.items ≡ old ++ start ∷ [] = c.in_ok-push.ensures.items in
     let count : length old ≡ c.loop-id.id = c.loop-id.invariant.0 in (
       ap length items ∙ length-append old (start ∷ []) ∙ ap (λ n. n + 1) count,
-      λ fold. subst (KeepLeads tree fold ts) (sym items) (keeps_more tree fold ts old start (c.loop-id.invariant.1 fold)
-          (rw (count, ← c.node.ensures.is) (rw c.deref.ensures.value at (c.lead_of-start.ensures fold ts) (c.loop-id.invariant.1 fold)))),
+      λ fold folds. subst (KeepLeads tree fold ts) (sym items) (keep_more (λ k s. IsSomeLead s (lead_in tree fold (tree_at ts k))) old start None (c.loop-id.invariant.1 fold folds)
+          (rw (count, ← c.node.ensures.is) (rw c.deref.ensures.value at (c.lead_of-start.ensures fold folds ts c.node.ensures.rules.test) (c.loop-id.invariant.1 fold folds)))),
     )

@@ -1,15 +1,22 @@
-use Rattle.std.proofs.Common.{map, string_bytes}
-use Rattle.pcre2_tools.proofs.Saying.{runs-whole}
+use Rattle.std.proofs.Common.{true, false, sym, ap, ◌∙◌, map, string_bytes, codes}
+use Rattle.pcre2_tools.specs.ToolText.{is_grep, is_test}
+use Rattle.pcre2_tools.proofs.Naming.{says-none, says-other, runs-said}
+use Rattle.tool_out.specs.Printed.{printed}
 use Rattle.pcre2_tools.proofs.top.run.Goals as goal
 
-pub returns-in-Ok-clause-text : goal.returns-in-Ok-clause-text
-returns-in-Ok-clause-text g c =
-    let runs = c.in-Ok.ensures.runs in (
-      runs.0,
-      runs.1,
-      (
-        runs.2.0,
-        runs.2.1,
-        runs-whole (map string_bytes c.args.words.now) runs.2.0 c.in-Ok.status (g.O.Sink.tells c.args.out.now) (g.O.Sink.tells c.run_named.new.out) (g.E.Sink.tells c.args.err.now) (g.E.Sink.tells c.run_named.new.err) runs.2.2,
-      ),
-    )
+pub returns-in_default-clause-text : goal.returns-in_default-clause-text
+returns-in_default-clause-text g c =
+    runs-said (g.S.Source.tells c.args.input.now) (g.F.FileSet.tells c.args.files.now).contents (map string_bytes c.args.words.now) (codes "unknown tool") 2 c.say.result (printed (g.O.Sink.tells c.args.out.now) (g.E.Sink.tells c.args.err.now)) (printed (g.O.Sink.tells c.args.out.now) (g.E.Sink.tells c.say.new.err))
+    (says-none string_bytes c.args.words.now c.in_default.len_below) (c.say.ensures (g.O.Sink.tells c.args.out.now))
+
+pub returns-then-is_test-clause-text : goal.returns-then-is_test-clause-text
+returns-then-is_test-clause-text g c =
+    runs-said (g.S.Source.tells c.args.input.now) (g.F.FileSet.tells c.args.files.now).contents (map string_bytes c.args.words.now) (codes "pcre2test: not built") 1 c.say-then-is_test.result (printed (g.O.Sink.tells c.args.out.now) (g.E.Sink.tells c.args.err.now)) (printed (g.O.Sink.tells c.args.out.now) (g.E.Sink.tells c.say-then-is_test.new.err))
+    (says-other string_bytes c.args.words.now c.tool-item.result true c.in-len1-up.len_at_least c.tool-item.is (sym (c.is_grep.ensures ∙ ap is_grep c.as_str.ensures.value) ∙ c.if-is_grep.false) (sym (c.is_test.ensures ∙ ap is_test c.as_str-2.ensures.value) ∙ c.if-is_test.true))
+    (c.say-then-is_test.ensures (g.O.Sink.tells c.args.out.now))
+
+pub returns-clause-text : goal.returns-clause-text
+returns-clause-text g c =
+    runs-said (g.S.Source.tells c.args.input.now) (g.F.FileSet.tells c.args.files.now).contents (map string_bytes c.args.words.now) (codes "unknown tool") 2 c.say-2.result (printed (g.O.Sink.tells c.args.out.now) (g.E.Sink.tells c.args.err.now)) (printed (g.O.Sink.tells c.args.out.now) (g.E.Sink.tells c.say-2.new.err))
+    (says-other string_bytes c.args.words.now c.tool-item.result false c.in-len1-up.len_at_least c.tool-item.is (sym (c.is_grep.ensures ∙ ap is_grep c.as_str.ensures.value) ∙ c.if-is_grep.false) (sym (c.is_test.ensures ∙ ap is_test c.as_str-2.ensures.value) ∙ c.if-is_test.false))
+    (c.say-2.ensures (g.O.Sink.tells c.args.out.now))

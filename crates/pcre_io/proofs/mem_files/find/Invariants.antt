@@ -1,5 +1,6 @@
 use Rattle.std.proofs.Common.{◌≡◌, length, map}
-use Rattle.pcre_io.specs.Files.{file_of, file_view}
+use Rattle.pcre_io.specs.Files.{file_of}
+use Rattle.pcre_io.specs.MemTree.{file_view}
 use Rattle.pcre_io.proofs.mem_files.find.Given as goal
 
 abbrev pub invariant-file : goal.invariant-file

@@ -1,5 +1,5 @@
 use Rattle.std.proofs.Common.{◌≡◌, ◌+◌, length, map}
-use Rattle.pcre_io.specs.Files.{place_of, file_view}
+use Rattle.pcre_io.specs.MemTree.{place_of, file_view}
 use Rattle.pcre_io.proofs.mem_files.place_of.Given as goal
 
 abbrev pub invariant-file : goal.invariant-file

@@ -7,5 +7,5 @@ pub loop-at-preserved : goal.loop-at-preserved
 loop-at-preserved g c = record {
   within = search rules;
   written = Appends-piece _ _ _ c.args.bytes.now c.loop-at.at c.in_ok-at.field-0 c.loop-at.invariant.written (rw take_rest at c.in_ok-at.ensures.bytes);
-  later = search rules;
+  steady = search rules;
 }

@@ -1,4 +1,6 @@
 use Rattle.std.proofs.Common.{◌≡◌, ◌+◌, ◌∷◌, ◌++◌, [], length, sym, ap, ◌∙◌, arith, below_more, length-append}
+use Rattle.pat_tree.specs.declared.options.Options.{Options}
+use Rattle.char_sets.specs.Sets.{takes}
 use Rattle.char_sets.specs.Table.{table_has}
 use Rattle.char_sets.proofs.TableLemmas.{table_has-before, table_has-newest, class_has-found, IsTableOf-whole}
 use Rattle.char_sets.proofs.table.ClassTable.build.Goals as goal
@@ -15,7 +17,7 @@ loop-id-preserved c =
       count = ap length items ∙ length-append old (entry ∷ []) ∙ ap (λ n. n + 1) count;
       classes = below_more _ _
           (λ k l x. ap (λ t. table_has t k x) items ∙ table_has-before old entry k x (omega arith) ∙ c.loop-id.invariant.classes k l x)
-          (λ x. ap (λ t. table_has t id x) items ∙ table_has-newest old entry id x count ∙ c.in_ok-entry.ensures x ∙ sym (class_has-found tree id x c.class.result.now c.class.ensures));
+          (λ x. ap (λ t. table_has t id x) items ∙ table_has-newest old entry id x count ∙ c.in_ok-entry.ensures x ∙ ap (λ utf. takes utf c.class.result.now x) (ap (λ (o : Options). o.utf) c.options.ensures) ∙ sym (class_has-found tree id x c.class.result.now c.class.ensures));
     }
 
 pub returns : goal.returns

@@ -1,6 +1,6 @@
 use Rattle.std.proofs.Common.{sym, ap, ◌∙◌}
 use Rattle.std.specs.Option.{option_or}
-use Rattle.frame_machine.specs.PlaceAnswer.{Walked, has_hit, last_name}
+use Rattle.ordered_search.specs.PlaceAnswer.{Walked, has_hit, last_name}
 use Rattle.match_drive.proofs.PastPrefix.{refused}
 use Rattle.match_drive.proofs.course.CourseDriven.try_at.Goals as goal
 

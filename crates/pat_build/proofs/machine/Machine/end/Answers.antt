@@ -1,7 +1,9 @@
-use Rattle.std.proofs.Common.{◌≡◌, ◌∙◌, ◌<◌, length, arith, sym, false-eqb, true-eqb, vec_len}
+use Rattle.std.proofs.Common.{◌≡◌, ◌∙◌, ◌<◌, ◌++◌, [], length, append-nil, arith, ap, sym, false-eqb, true-eqb, vec_len}
 use Rattle.token_parts.specs.declared.token.Token.TheVariants.{End}
+use Rattle.pat_tree.specs.Growing.{loose}
+use Rattle.pat_build.specs.Machine.{ids_held, ids_in}
 use Rattle.pat_build.proofs.States.{nothing_in, last_in}
-use Rattle.pat_build.proofs.Waiting.{ends_level}
+use Rattle.pat_build.proofs.Waiting.{ends_level, loose_idle}
 use Rattle.pat_build.proofs.Nesting.{unclosed_means, whole_means}
 use Rattle.pat_build.proofs.machine.Machine.end.Goals as goal
 
@@ -31,6 +33,15 @@ returns-clause-ok c =
       verb_names = ends.verb_names;
       options = ends.options ∙ f.same.options;
     }
+
+pub returns-clause-under : goal.returns-clause-under
+returns-clause-under c =
+    let m = c.flush.new.self in
+    let f = c.in_ok-flush.ensures in
+    let none : length m.stack.items ≡ 0 = omega (arith, m.stack.ok.0, true-eqb (vec_len m.stack) 0 c.if-not-is_empty.ensures) in
+    let loose_is : loose m.draft.nodes ≡ m.level.branches ++ m.level.parts =
+    loose_idle m f.means f.idle ∙ ap (λ fs. ids_held fs ++ (ids_in m.level ++ [])) (nothing_in m.stack.items none) ∙ append-nil (ids_in m.level) in
+    (rw c.replace-level.ensures.value at c.in_ok-id.ensures.loose) [] loose_is
 
 pub group-requires-clause-loose : goal.group-requires-clause-loose
 group-requires-clause-loose c =

@@ -14,4 +14,4 @@ returns-in-Some-clause-are c nodes are =
     let own : All (λ n. n ≤ greatest (group_numbers t.nodes)) (number ∷ []) = subst (All (λ n. n ≤ greatest (group_numbers t.nodes))) (sym c.in-Some.ensures.own) c.node.ensures.grouped in
     let first : number ≤ greatest (group_numbers t.nodes) = own 0 0 (omega arith) in
     let room : number < length old.places.items = omega (arith, first, c.requires.room) in
-    put_group (trees t.nodes) t.root old c.put.new.self nodes number c.args.id told c.requires.below c.requires.built room c.put.ensures.places c.put.ensures.count c.put.ensures.shared are
+    put_group (trees t.nodes) t.root old c.put.new.self nodes number c.args.id told c.requires.below room c.put.ensures.places c.put.ensures.count c.put.ensures.shared are

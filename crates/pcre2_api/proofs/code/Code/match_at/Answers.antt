@@ -1,6 +1,6 @@
 use Rattle.std.proofs.Common.{sym, subst}
-use Rattle.match_drive.specs.MatchAnswer.{match_answer, PartialFrom, Error}
-use Rattle.frame_machine.specs.PlaceAnswer.{Loop, Abort}
+use Rattle.ordered_search.specs.MatchAnswer.{match_answer, PartialFrom, Error}
+use Rattle.ordered_search.specs.PlaceAnswer.{Loop, Abort}
 use Rattle.pcre2_api.specs.Matched.{search_of, IsFound}
 use Rattle.pcre2_api.proofs.Admission.{is_admitted}
 use Rattle.pcre2_api.proofs.Matching.{is_placed, is_plain, no_name}

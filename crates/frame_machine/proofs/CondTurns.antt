@@ -1,0 +1,269 @@
+-- The steps of the machine at a condition.
+use Rattle.std.proofs.Common.{◌≡◌, ℕ, suc, ◌+◌, ◌<◌, ◌≤◌, ◌∙◌, Bool, true, false, not, List, [], ◌∷◌, map, reverse, Option, Some, None, length, All, slice_get, get_or, refl, sym, ap, subst, arith}
+use Rattle.std.proofs.lemmas.List.Elements.{All-head, All-tail}
+use Rattle.std.proofs.lemmas.Bool.{false≢true}
+use Rattle.pat_tree.specs.declared.nodes.Cond.{Cond}
+use Rattle.pat_tree.specs.declared.nodes.Cond.TheVariants as cond
+use Rattle.pat_tree.specs.declared.nodes.Node.{Node}
+use Rattle.pat_tree.specs.declared.nodes.Node.TheVariants as node
+use Rattle.pat_tree.specs.Nested as tree
+use Rattle.pat_tree.specs.Nested.{Nested, Row, row, tree_at, other_of, nest}
+use Rattle.pat_tree.specs.Rules.{kids_of, number_in, is_test}
+use Rattle.node_flow.specs.Linked.{IsLinked}
+use Rattle.frame_store.specs.declared.registers.Span.{Span}
+use Rattle.frame_store.specs.declared.records.Record.{Record}
+use Rattle.frame_store.specs.declared.kinds.TheConstants.{KIND_LOOK_TEST, KIND_DENIAL_TEST}
+use Rattle.frame_store.specs.Captures.{Captures, HasGroup, capture}
+use Rattle.frame_store.specs.Entry.{Site, Kept, Entry, LookTest, DenialTest, AtomicLeft, entry_in, entry_of, entries, site_of, kept_of}
+use Rattle.frame_store.proofs.EntryLemmas.{entry_of-look_test, entry_of-denial_test}
+use Rattle.ordered_search.specs.Stream.{State, reached}
+use Rattle.ordered_search.specs.Parts.{some_set}
+use Rattle.ordered_search.specs.PlaceAnswer.{answers, FrameLimit}
+use Rattle.ordered_search.specs.Moves.{Moves, pause, Follow, Handler, tread}
+use Rattle.ordered_search.specs.Paths.{paths}
+use Rattle.frame_machine.specs.declared.machine.Next.{Next}
+use Rattle.frame_machine.specs.declared.machine.Next.TheVariants.{Enter, End}
+use Rattle.frame_machine.specs.declared.machine.Spot.{Spot}
+use Rattle.frame_machine.specs.Forms.{IsRunnable}
+use Rattle.frame_machine.specs.Ground.{Ground, tree_of, next_of, IsNode, IsGround, IsPart}
+use Rattle.frame_machine.specs.Machine.{Around, Outside, kept_at, conf, first_next, first_set, towards}
+use Rattle.frame_machine.specs.Frames.{after, branch_rest, past, around, hand, chosen_from, fail, focus, outside, spot_state, ahead}
+use Rattle.frame_machine.specs.Validity.{IsCondition, IsRunning, IsValid, Advances}
+use Rattle.frame_machine.specs.Conditions.{IsChoice, IsTest, IsLook, test_entry, test_kind}
+use Rattle.frame_machine.specs.Stops.{record_at}
+use Rattle.frame_machine.proofs.KidParts.{kid_parts}
+use Rattle.frame_machine.proofs.PartPaths.{tree_by, branched_look, enter_any_set, enter_never, enter_in_call, enter_in_call_of, enter_test}
+use Rattle.frame_machine.proofs.Frames.{hand_same, no_calls, focus_towards, running_towards, framed}
+use Rattle.frame_machine.proofs.Advance.{holding_full, advance_pause, over_units}
+use Rattle.frame_machine.proofs.Turns.{deep, opens}
+use Rattle.frame_machine.proofs.LeaveTurns.{frame_here, stop_leave, turn_leave}
+
+-- the branches of a condition
+module _ (c : Ground) (ok : IsGround c) (q : ℕ) (inside : IsPart c q) (n : Node) (i : IsNode c q n) (test : Cond) (yes' : ℕ) (no' : Option ℕ) (e : n ≡ node.Cond test yes' no') where
+  linked : IsLinked c.rest (c.rest q) (node.Cond test yes' no')
+  linked = subst (IsLinked c.rest (c.rest q)) e i.linked
+
+  kids : All (IsPart c) (kids_of (node.Cond test yes' no'))
+  kids = subst (λ m. All (IsPart c) (kids_of m)) e (kid_parts c q n inside i)
+
+  branch_parts : (t : Cond) → All (IsPart c) (kids_of (node.Cond t yes' no')) → All (IsPart c) (yes' ∷ number_in no')
+  branch_parts (cond.AnySet groups) a = a
+  branch_parts cond.InCall a = a
+  branch_parts (cond.InCallOf groups) a = a
+  branch_parts cond.Never a = a
+  branch_parts (cond.Assert p) a = All-tail (IsPart c) p (yes' ∷ number_in no') a
+
+  is_condition : tree.condition (tree.cond_of c.trees test) (tree_of c yes') (other_of c.trees no') ≡ tree_of c q
+  is_condition = tree_by c q n i (node.Cond test yes' no') e
+
+  entered : (p : ℕ) (d : ℕ) (k : Outside) (s : State) (f : Moves) → c.rest p ≡ c.rest q → k.hand p ≡ k.hand q →
+      focus c (Enter p) d k s f ≡ paths c.setting d (tree_of c p) s (past c d k q) f (k.hand q)
+  entered p d k s f rest same =
+      ap (λ (r : List ℕ). paths c.setting d (tree_of c p) s (after c d k r) f (k.hand p)) rest
+      ∙ ap (λ (h : Handler). paths c.setting d (tree_of c p) s (past c d k q) f h) same
+
+  pub choice_yes : IsChoice c q true (Enter yes')
+  choice_yes = record {
+    goes = λ d k s f same.
+        entered yes' d k s f (All-head (λ p. c.rest p ≡ c.rest q) yes' (number_in no') linked.1) (same yes')
+        ∙ ap (λ t. chosen_from c t true d s (past c d k q) f (k.hand q)) is_condition;
+    runs = λ spot stack w. (All-head (IsPart c) yes' (number_in no') (branch_parts test kids), w);
+  }
+
+  pub choice_some : (p : ℕ) → no' ≡ Some p → IsChoice c q false (Enter p)
+  choice_some p is =
+      let rests : All (λ x. c.rest x ≡ c.rest q) (p ∷ []) = subst (λ o. All (λ x. c.rest x ≡ c.rest q) (number_in o)) is (All-tail (λ x. c.rest x ≡ c.rest q) yes' (number_in no') linked.1) in
+      let parts : All (IsPart c) (p ∷ []) = subst (λ o. All (IsPart c) (number_in o)) is (All-tail (IsPart c) yes' (number_in no') (branch_parts test kids)) in
+      record {
+        goes = λ d k s f same.
+            entered p d k s f (All-head (λ x. c.rest x ≡ c.rest q) p [] rests) (same p)
+            ∙ ap (λ t. chosen_from c t false d s (past c d k q) f (k.hand q))
+            (ap (λ o. tree.condition (tree.cond_of c.trees test) (tree_of c yes') (other_of c.trees o)) (sym is) ∙ is_condition);
+        runs = λ spot stack w. (All-head (IsPart c) p [] parts, w);
+      }
+
+  pub choice_none : no' ≡ None → IsChoice c q false (towards (next_of c q))
+  choice_none is = record {
+    goes = λ d k s f same.
+        focus_towards c ok q inside d k s f
+        ∙ ap (λ t. chosen_from c t false d s (past c d k q) f (k.hand q))
+        (ap (λ o. tree.condition (tree.cond_of c.trees test) (tree_of c yes') (other_of c.trees o)) (sym is) ∙ is_condition);
+    runs = running_towards c ok q inside;
+  }
+
+  pub condition_here : IsCondition c (tree_of c q)
+  condition_here = subst (IsCondition c) is_condition tt
+
+-- no other part is a condition
+pub stray_condition : (c : Ground) (n : Node) → IsCondition c (nest c.trees n) → ((test : Cond) (yes' : ℕ) (no' : Option ℕ) → n ≡ node.Cond test yes' no' → ⊥) → ⊥
+stray_condition c (node.Cond test yes' no') h x = x test yes' no' refl
+stray_condition c _ h x = h
+
+none_some : (a : Span) → None ≡ Some a → ⊥
+none_some a e = cc
+
+-- a group is set where there is a first one that is
+pub set_some : (caps : Captures) (ns : List ℕ) (x : Span) → first_set caps ns ≡ Some x → some_set caps ns ≡ true
+set_some caps [] x e = absurd (none_some x e)
+set_some caps (n ∷ ns) x e =
+    (elim (capture caps n)
+    as (λ o. (let z : Option Span = elim o [ None ↦ first_set caps ns | Some y ↦ Some y ] in z ≡ Some x) → (let b : Bool = elim o [ None ↦ some_set caps ns | Some y ↦ true ] in b ≡ true)) [
+      | None ↦ λ h. set_some caps ns x h
+      | Some y ↦ λ h. refl
+    ]) e
+
+pub set_none : (caps : Captures) (ns : List ℕ) → first_set caps ns ≡ None → some_set caps ns ≡ false
+set_none caps [] e = refl
+set_none caps (n ∷ ns) e =
+    (elim (capture caps n)
+    as (λ o. (let z : Option Span = elim o [ None ↦ first_set caps ns | Some y ↦ Some y ] in z ≡ None) → (let b : Bool = elim o [ None ↦ some_set caps ns | Some y ↦ true ] in b ≡ false)) [
+      | None ↦ λ h. set_none caps ns h
+      | Some y ↦ λ h. absurd (none_some y (sym h))
+    ]) e
+
+-- the groups that a condition names have registers
+pub set_slots : (c : Ground) (q : ℕ) (test : Cond) (yes' : ℕ) (no' : Option ℕ) (ns : List ℕ) (caps : Captures) → IsNode c q (node.Cond test yes' no') → test ≡ cond.AnySet ns →
+    length caps ≡ c.setting.groups → All (HasGroup caps) ns
+set_slots c q test yes' no' ns caps i e same =
+    let named : All (λ k. (0 < k) × (k ≤ c.setting.groups)) ns = (subst (λ t. IsNode c q (node.Cond t yes' no')) e i).named in
+    λ j d l. let z = named j d l in (z.0, omega (arith, z.1, same))
+
+-- a condition is entered
+module _ (c : Ground) (ok : IsGround c) (q : ℕ) (spot : Spot) (stack : List Entry) (caps : Captures) (v : IsValid c (conf (Enter q) spot stack caps)) where
+  calls_none : (spot_state c spot stack caps).calls ≡ []
+  calls_none = no_calls c spot.left (length caps) stack spot.frame v.records
+
+  module _ (holds : Bool) (next : Next) (choice : IsChoice c q holds next) where
+    chosen : ahead c (conf (Enter q) spot stack caps)
+        ≡ pause (chosen_from c (tree_of c q) holds (around c stack spot.frame).depth (spot_state c spot stack caps) (past c (around c stack spot.frame).depth (outside c stack caps spot.frame) q) (fail c stack caps) (hand c stack caps spot.frame q)) →
+        Advances c (conf (Enter q) spot stack caps) (conf next spot stack caps)
+    chosen e =
+        advance_pause c _ _ _ e (choice.goes _ (outside c stack caps spot.frame) _ _ (λ p. hand_same c stack stack caps caps spot.frame spot.frame p q)) refl
+        (record { running = choice.runs spot stack v.running.1; records = v.records; spans = v.spans; slots = v.slots })
+
+  pub turn_any_set : (test : Cond) (ns : List ℕ) (yes' : ℕ) (no' : Option ℕ) → IsNode c q (node.Cond test yes' no') → test ≡ cond.AnySet ns → (next : Next) → IsChoice c q (some_set caps ns) next →
+      Advances c (conf (Enter q) spot stack caps) (conf next spot stack caps)
+  turn_any_set test ns yes' no' i e next choice =
+      let n : Node = node.Cond test yes' no' in
+      chosen (some_set caps ns) next choice (enter_any_set c ok q n i _ _ _ _ _ (deep c ok q spot stack caps v n i) ns yes' no' (ap (λ t. node.Cond t yes' no') e))
+
+  -- a test that holds nowhere yet
+  pub turn_unmet : (test : Cond) (yes' : ℕ) (no' : Option ℕ) → IsNode c q (node.Cond test yes' no') → ((ns : List ℕ) → test ≡ cond.AnySet ns → ⊥) → ((p : ℕ) → test ≡ cond.Assert p → ⊥) →
+      (next : Next) → IsChoice c q false next → Advances c (conf (Enter q) spot stack caps) (conf next spot stack caps)
+  turn_unmet (cond.AnySet ns) yes' no' i a b next choice = absurd (a ns refl)
+  turn_unmet (cond.Assert p) yes' no' i a b next choice = absurd (b p refl)
+  turn_unmet cond.InCall yes' no' i a b next choice =
+      let n : Node = node.Cond cond.InCall yes' no' in
+      chosen false next choice (enter_in_call c ok q n i _ _ _ _ _ (deep c ok q spot stack caps v n i) yes' no' refl calls_none)
+  turn_unmet (cond.InCallOf ns) yes' no' i a b next choice =
+      let n : Node = node.Cond (cond.InCallOf ns) yes' no' in
+      chosen false next choice (enter_in_call_of c ok q n i _ _ _ _ _ (deep c ok q spot stack caps v n i) ns yes' no' refl calls_none)
+  turn_unmet cond.Never yes' no' i a b next choice =
+      let n : Node = node.Cond cond.Never yes' no' in
+      chosen false next choice (enter_never c ok q n i _ _ _ _ _ (deep c ok q spot stack caps v n i) yes' no' refl)
+
+  -- a lookahead as a test
+  module _ (p : ℕ) (test : IsTest c q p) where
+    abbrev n : Node
+    n = node.Cond (cond.Assert p) test.first test.second
+
+    pub test_inside : IsPart c p
+    test_inside = All-head (IsPart c) p (test.first ∷ number_in test.second) (kid_parts c q n v.running.0 test.node)
+
+    pub is_tested : is_test (tree_of c p) ≡ true
+    is_tested = All-head (λ x. is_test (tree_of c x) ≡ true) p [] test.node.tests
+
+    abbrev here : Site
+    here = record { node = q; link = spot.frame }
+
+    otherwise : Bool → Moves
+    otherwise b = chosen_from c (tree_of c q) b (around c stack spot.frame).depth (spot_state c spot stack caps) (past c (around c stack spot.frame).depth (outside c stack caps spot.frame) q) (fail c stack caps) (hand c stack caps spot.frame q)
+
+    module _ (ks : List ℕ) where
+      pub turn_test : (positive : Bool) → IsLook c p positive ks → spot.units < c.setting.matching.frame_limit →
+          Advances c (conf (Enter q) spot stack caps)
+          (conf (first_next p ks) (record spot { frame = suc (length stack); units = spot.units + 1 }) (test_entry positive (record { node = q; link = spot.frame }) (kept_at spot) ∷ stack) caps)
+      unfolding fail otherwise
+      turn_test true l room =
+          let m : Node = node.Look true true l.once ks in
+          opens c ok q spot stack caps v n test.node (LookTest here (kept_at spot)) refl refl refl (λ a. refl) room
+          p test_inside ks (kid_parts c p m test_inside l.node) (branched_look c p m l.node true l.once ks refl) (ap (λ x. branch_rest c x (c.rest p)) (sym (tree_by c p m l.node m refl)))
+          (v.running.0, v.running.1, condition_here c ok q v.running.0 n test.node (cond.Assert p) test.first test.second refl) (λ w. otherwise false) (pause (otherwise false))
+          (enter_test c ok q n test.node _ _ _ _ _ (deep c ok q spot stack caps v n test.node) p test.first test.second refl true l.once ks (sym (tree_by c p m l.node m refl))) refl
+      turn_test false l room =
+          let m : Node = node.Look true false l.once ks in
+          opens c ok q spot stack caps v n test.node (DenialTest here (kept_at spot)) refl refl refl (λ a. refl) room
+          p test_inside ks (kid_parts c p m test_inside l.node) (branched_look c p m l.node false l.once ks refl) (ap (λ x. branch_rest c x (c.rest p)) (sym (tree_by c p m l.node m refl)))
+          (v.running.0, v.running.1, condition_here c ok q v.running.0 n test.node (cond.Assert p) test.first test.second refl) (λ w. otherwise true) (pause (otherwise true))
+          (enter_test c ok q n test.node _ _ _ _ _ (deep c ok q spot stack caps v n test.node) p test.first test.second refl false l.once ks (sym (tree_by c p m l.node m refl))) refl
+
+      pub stop_test : (positive : Bool) → IsLook c p positive ks → c.setting.matching.frame_limit ≤ spot.units →
+          tread c.setting spot.left (ahead c (conf (Enter q) spot stack caps)) ≡ answers FrameLimit
+      stop_test positive l full =
+          let m : Node = node.Look true positive l.once ks in
+          over_units c spot.left _ _ (enter_test c ok q n test.node _ _ _ _ _ (deep c ok q spot stack caps v n test.node) p test.first test.second refl positive l.once ks (sym (tree_by c p m l.node m refl))) (holding_full c.setting _ _ full)
+
+-- A test that runs is a lookahead.
+tested_looks : (t : Nested) → is_test t ≡ true → IsRunnable t → ((ahead' positive once : Bool) (ts : Row) → t ≡ tree.look ahead' positive once ts → ⊥) → ⊥
+tested_looks (tree.look ahead' positive once ts) e b x = x ahead' positive once ts refl
+tested_looks (tree.seq (tree.more (tree.callout k) (tree.more (tree.look ahead' positive once ts) tree.none))) e b x = b.0
+tested_looks _ e b x = false≢true e
+
+look_node : (c : Ground) (n : Node) (ahead' positive once : Bool) (ts : Row) → nest c.trees n ≡ tree.look ahead' positive once ts → ((a p o : Bool) (ks : List ℕ) → n ≡ node.Look a p o ks → ⊥) → ⊥
+look_node c (node.Look a p o ks) ahead' positive once ts e x = x a p o ks refl
+look_node c _ ahead' positive once ts e x = cc
+
+pub stray_test : (c : Ground) (p : ℕ) (n : Node) → IsNode c p n → IsPart c p → is_test (tree_of c p) ≡ true → ((a b o : Bool) (ks : List ℕ) → n ≡ node.Look a b o ks → ⊥) → ⊥
+stray_test c p n i inside e x =
+    tested_looks (nest c.trees n) (subst (λ t. is_test t ≡ true) (sym i.is) e) (subst IsRunnable (sym i.is) inside.runs) (λ a b o ts h. look_node c n a b o ts h x)
+
+pub look_is : (c : Ground) (p : ℕ) (n : Node) → IsNode c p n → IsPart c p → (a b o : Bool) (ks : List ℕ) → n ≡ node.Look a b o ks → IsLook c p b ks
+look_is c p n i inside true b o ks e = record { once = o; node = subst (IsNode c p) e i }
+look_is c p n i inside false b o ks e = absurd (subst (λ m. IsRunnable (nest c.trees m)) e (subst IsRunnable (sym i.is) inside.runs))
+
+pub test_is : (c : Ground) (q : ℕ) (t : Cond) (yes' : ℕ) (no' : Option ℕ) → IsNode c q (node.Cond t yes' no') → (p : ℕ) → t ≡ cond.Assert p → IsTest c q p
+test_is c q t yes' no' i p e = record { first = yes'; second = no'; node = subst (λ x. IsNode c q (node.Cond x yes' no')) e i }
+
+-- a lookahead that is a test has an outcome
+module _ (c : Ground) (ok : IsGround c) (spot : Spot) (records : List Record) (caps : Captures) (v : IsValid c (conf End spot (entries records) caps)) (h : ℕ) (height : spot.frame ≡ h + 1)
+    (p : Record) (at : slice_get (reverse records) h ≡ Some p) where
+  at_height : spot.frame ≡ suc h
+  at_height = omega (arith, height)
+
+  -- what is run then
+  abbrev further : Bool → Around → Outside → Follow
+  further holds a k how u m = chosen_from c (tree_of c p.node) holds a.depth u (past c a.depth k p.node) m (k.hand p.node)
+
+  pub test_sound : (holds : Bool) → p.kind ≡ test_kind holds → IsPart c p.node × IsCondition c (tree_of c p.node)
+  test_sound true kind = let g = framed c spot.left (length caps) records caps h p (LookTest (site_of p) (kept_of p)) (entry_of-look_test p kind) v.records at in (g.sound.0, g.sound.2)
+  test_sound false kind = let g = framed c spot.left (length caps) records caps h p (DenialTest (site_of p) (kept_of p)) (entry_of-denial_test p kind) v.records at in (g.sound.0, g.sound.2)
+
+  test_here : (holds : Bool) → p.kind ≡ test_kind holds → c.stands p.place ≡ true
+  test_here true kind = let g = framed c spot.left (length caps) records caps h p (LookTest (site_of p) (kept_of p)) (entry_of-look_test p kind) v.records at in g.sound.1.here
+  test_here false kind = let g = framed c spot.left (length caps) records caps h p (DenialTest (site_of p) (kept_of p)) (entry_of-denial_test p kind) v.records at in g.sound.1.here
+
+  pub stop_test_left : (holds : Bool) → p.kind ≡ test_kind holds → c.setting.matching.frame_limit ≤ spot.units → tread c.setting spot.left (ahead c (conf End spot (entries records) caps)) ≡ answers FrameLimit
+  stop_test_left true kind full =
+      stop_leave c ok spot records caps v h at_height p at (site_of p) (kept_of p) (LookTest (site_of p) (kept_of p)) (entry_of-look_test p kind) refl (λ a. refl) (λ below s. (s.0, s.1))
+      p.place p.keep p.passed (test_here true kind) (further true) (λ a k x out f. refl) full
+  stop_test_left false kind full =
+      stop_leave c ok spot records caps v h at_height p at (site_of p) (kept_of p) (DenialTest (site_of p) (kept_of p)) (entry_of-denial_test p kind) refl (λ a. refl) (λ below s. (s.0, s.1))
+      p.place p.keep p.passed (test_here false kind) (further false) (λ a k x out f. refl) full
+
+  pub turn_test_left : (holds : Bool) → p.kind ≡ test_kind holds → (next : Next) → IsChoice c p.node holds next → spot.units < c.setting.matching.frame_limit →
+      Advances c (conf End spot (entries records) caps)
+      (conf next (record spot { place = p.place; keep = p.keep; passed = p.passed; frame = p.link; units = spot.units + 1 })
+      (AtomicLeft (record { node = p.node; link = p.link }) (kept_at (record spot { frame = p.link })) h ∷ entries records) caps)
+  turn_test_left true kind next choice room =
+      turn_leave c ok spot records caps v h at_height p at (site_of p) (kept_of p) (LookTest (site_of p) (kept_of p)) (entry_of-look_test p kind) refl (λ a. refl) (λ below s. (s.0, s.1))
+      p.place p.keep p.passed (test_here true kind) (further true) (λ a k x out f. refl)
+      next (λ s m. choice.goes _ (outside c (entries records) caps p.link) s m (λ x. hand_same c (entries records) (entries records) caps caps p.link p.link x p.node)) choice.runs room
+  turn_test_left false kind next choice room =
+      turn_leave c ok spot records caps v h at_height p at (site_of p) (kept_of p) (DenialTest (site_of p) (kept_of p)) (entry_of-denial_test p kind) refl (λ a. refl) (λ below s. (s.0, s.1))
+      p.place p.keep p.passed (test_here false kind) (further false) (λ a k x out f. refl)
+      next (λ s m. choice.goes _ (outside c (entries records) caps p.link) s m (λ x. hand_same c (entries records) (entries records) caps caps p.link p.link x p.node)) choice.runs room
+
+pub test_record : (positive : Bool) (spot : Spot) (q : ℕ) → entry_of (record_at spot (test_kind positive) q 0 0 0) ≡ test_entry positive (record { node = q; link = spot.frame }) (kept_at spot)
+unfolding entry_in
+test_record true spot q = refl
+test_record false spot q = refl

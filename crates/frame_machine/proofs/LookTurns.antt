@@ -1,0 +1,164 @@
+-- The steps of the machine at a lookahead.
+use Rattle.std.proofs.Common.{◌≡◌, ℕ, suc, ◌+◌, ◌<◌, ◌≤◌, ◌∙◌, Bool, true, false, List, ◌∷◌, map, reverse, Some, length, slice_get, refl, sym, ap, subst, arith}
+use Rattle.pat_tree.specs.declared.nodes.Node.{Node}
+use Rattle.pat_tree.specs.declared.nodes.Node.TheVariants as node
+use Rattle.frame_store.specs.declared.records.Record.{Record}
+use Rattle.frame_store.specs.declared.kinds.TheConstants.{KIND_LOOK_OPEN, KIND_LOOK_ALL_OPEN, KIND_DENIAL_OPEN}
+use Rattle.frame_store.specs.Captures.{Captures}
+use Rattle.frame_store.specs.Entry.{Entry, Site, Kept, LookOpen, LookAllOpen, DenialOpen, AtomicLeft, entry_of, entries, site_of, kept_of}
+use Rattle.frame_store.specs.Stack as stack_of
+use Rattle.frame_store.specs.Undo.{undone}
+use Rattle.frame_store.proofs.EntryLemmas.{entry_of-look_open, entry_of-look_all_open, entry_of-denial_open}
+use Rattle.ordered_search.specs.Stream.{reached}
+use Rattle.ordered_search.specs.PlaceAnswer.{answers, FrameLimit}
+use Rattle.ordered_search.specs.Moves.{Moves, pause, catching, tread}
+use Rattle.ordered_search.specs.Paths.{look_path}
+use Rattle.frame_machine.specs.declared.machine.Next.TheVariants.{Enter, Back, End}
+use Rattle.frame_machine.specs.declared.machine.Spot.{Spot}
+use Rattle.frame_machine.specs.Ground.{Ground, tree_of, next_of, IsNode, IsGround, IsPart}
+use Rattle.frame_machine.specs.Machine.{kept_at, conf, first_next, towards}
+use Rattle.frame_machine.specs.Frames.{branch_rest, past, around, hand, fail, outside, spot_state, ahead}
+use Rattle.frame_machine.specs.Validity.{IsValid, Advances}
+use Rattle.frame_machine.specs.Looks.{look_entry, look_kind}
+use Rattle.frame_machine.specs.Forms.{IsRunnable}
+use Rattle.frame_machine.specs.Stops.{record_at}
+use Rattle.frame_machine.proofs.Drops.{past_slots}
+use Rattle.frame_store.proofs.StackLemmas.{up_to-map}
+use Rattle.frame_store.specs.Undo.{HasSlot}
+use Rattle.frame_store.specs.Entry.{entry_in}
+use Rattle.std.proofs.Common.{All}
+use Rattle.std.proofs.lemmas.List.{length-reverse}
+use Rattle.std.proofs.lemmas.Option.{slice_get_within}
+use Rattle.pat_tree.specs.Nested as tree
+use Rattle.pat_tree.specs.Nested.{Row, row, tree_at}
+use Rattle.frame_machine.proofs.PartPaths.{tree_by, branched_look, enter_look}
+use Rattle.frame_machine.proofs.Advance.{holding_full, over_units}
+use Rattle.frame_machine.proofs.Turns.{deep, opens}
+use Rattle.frame_machine.proofs.LeaveTurns.{frame_inside, frame_here, stop_leave, turn_left, turn_through, turn_denied}
+use Rattle.frame_machine.proofs.KidParts.{kid_parts}
+
+module _ (c : Ground) (ok : IsGround c) (q : ℕ) (spot : Spot) (stack : List Entry) (caps : Captures) (v : IsValid c (conf (Enter q) spot stack caps)) (ks : List ℕ) where
+  abbrev here : Site
+  here = record { node = q; link = spot.frame }
+
+  pub turn_look : (positive once : Bool) → IsNode c q (node.Look true positive once ks) → spot.units < c.setting.matching.frame_limit →
+      Advances c (conf (Enter q) spot stack caps)
+      (conf (first_next q ks) (record spot { frame = suc (length stack); units = spot.units + 1 }) (look_entry positive once (record { node = q; link = spot.frame }) (kept_at spot) ∷ stack) caps)
+  unfolding fail look_path
+  turn_look true true i room =
+      let n : Node = node.Look true true true ks in
+      opens c ok q spot stack caps v n i (LookOpen here (kept_at spot)) refl refl refl (λ a. refl) room
+      q v.running.0 ks (kid_parts c q n v.running.0 i) (branched_look c q n i true true ks refl) (ap (λ x. branch_rest c x (c.rest q)) (sym (tree_by c q n i n refl)))
+      (v.running.0, v.running.1, tt) (catching (fail c stack caps) (hand c stack caps spot.frame q)) (pause (fail c stack caps))
+      (enter_look c ok q n i _ _ _ _ _ (deep c ok q spot stack caps v n i) true true ks refl) refl
+  turn_look true false i room =
+      let n : Node = node.Look true true false ks in
+      opens c ok q spot stack caps v n i (LookAllOpen here (kept_at spot)) refl refl refl (λ a. refl) room
+      q v.running.0 ks (kid_parts c q n v.running.0 i) (branched_look c q n i true false ks refl) (ap (λ x. branch_rest c x (c.rest q)) (sym (tree_by c q n i n refl)))
+      (v.running.0, v.running.1, tt) (catching (fail c stack caps) (hand c stack caps spot.frame q)) (pause (fail c stack caps))
+      (enter_look c ok q n i _ _ _ _ _ (deep c ok q spot stack caps v n i) true false ks refl) refl
+  turn_look false once i room =
+      let n : Node = node.Look true false once ks in
+      let passes : Moves = past c (around c stack spot.frame).depth (outside c stack caps spot.frame) q reached (spot_state c spot stack caps) (fail c stack caps) in
+      opens c ok q spot stack caps v n i (DenialOpen here (kept_at spot)) refl refl refl (λ a. refl) room
+      q v.running.0 ks (kid_parts c q n v.running.0 i) (branched_look c q n i false once ks refl) (ap (λ x. branch_rest c x (c.rest q)) (sym (tree_by c q n i n refl)))
+      (v.running.0, v.running.1, tt) (λ w. passes) (pause passes)
+      (enter_look c ok q n i _ _ _ _ _ (deep c ok q spot stack caps v n i) false once ks refl) refl
+
+  pub stop_look : (positive once : Bool) → IsNode c q (node.Look true positive once ks) → c.setting.matching.frame_limit ≤ spot.units →
+      tread c.setting spot.left (ahead c (conf (Enter q) spot stack caps)) ≡ answers FrameLimit
+  unfolding look_path
+  stop_look true true i full =
+      over_units c spot.left _ _ (enter_look c ok q (node.Look true true true ks) i _ _ _ _ _ (deep c ok q spot stack caps v (node.Look true true true ks) i) true true ks refl) (holding_full c.setting _ _ full)
+  stop_look true false i full =
+      over_units c spot.left _ _ (enter_look c ok q (node.Look true true false ks) i _ _ _ _ _ (deep c ok q spot stack caps v (node.Look true true false ks) i) true false ks refl) (holding_full c.setting _ _ full)
+  stop_look false once i full =
+      over_units c spot.left _ _ (enter_look c ok q (node.Look true false once ks) i _ _ _ _ _ (deep c ok q spot stack caps v (node.Look true false once ks) i) false once ks refl) (holding_full c.setting _ _ full)
+
+-- it has ended
+module _ (c : Ground) (ok : IsGround c) (spot : Spot) (records : List Record) (caps : Captures) (v : IsValid c (conf End spot (entries records) caps)) (h : ℕ) (height : spot.frame ≡ h + 1)
+    (p : Record) (at : slice_get (reverse records) h ≡ Some p) where
+  at_height : spot.frame ≡ suc h
+  at_height = omega (arith, height)
+
+  module _ (kind : p.kind ≡ KIND_LOOK_OPEN) where
+    pub look_inside : IsPart c p.node
+    look_inside = frame_inside c ok spot records caps v h at_height p at (site_of p) (kept_of p) (LookOpen (site_of p) (kept_of p)) (entry_of-look_open p kind) refl (λ a. refl) (λ below s. (s.0, s.1))
+
+    look_here : c.stands p.place ≡ true
+    look_here = frame_here c ok spot records caps v h at_height p at (site_of p) (kept_of p) (LookOpen (site_of p) (kept_of p)) (entry_of-look_open p kind) refl (λ a. refl) (λ below s. (s.0, s.1))
+
+    pub stop_look_left : c.setting.matching.frame_limit ≤ spot.units → tread c.setting spot.left (ahead c (conf End spot (entries records) caps)) ≡ answers FrameLimit
+    stop_look_left full =
+        stop_leave c ok spot records caps v h at_height p at (site_of p) (kept_of p) (LookOpen (site_of p) (kept_of p)) (entry_of-look_open p kind) refl (λ a. refl) (λ below s. (s.0, s.1))
+        p.place p.keep p.passed look_here (λ a k. past c a.depth k p.node) (λ a k x out f. refl) full
+
+    pub turn_look_left : spot.units < c.setting.matching.frame_limit →
+        Advances c (conf End spot (entries records) caps)
+        (conf (towards (next_of c p.node)) (record spot { place = p.place; keep = p.keep; passed = p.passed; frame = p.link; units = spot.units + 1 })
+        (AtomicLeft (record { node = p.node; link = p.link }) (kept_at (record spot { frame = p.link })) h ∷ entries records) caps)
+    turn_look_left room =
+        turn_left c ok spot records caps v h at_height p at (site_of p) (kept_of p) (LookOpen (site_of p) (kept_of p)) (entry_of-look_open p kind) refl (λ a. refl) (λ below s. (s.0, s.1))
+        p.place p.keep p.passed look_here (λ a k x out f. refl) room
+
+  module _ (kind : p.kind ≡ KIND_LOOK_ALL_OPEN) where
+    pub through_inside : IsPart c p.node
+    through_inside = frame_inside c ok spot records caps v h at_height p at (site_of p) (kept_of p) (LookAllOpen (site_of p) (kept_of p)) (entry_of-look_all_open p kind) refl (λ a. refl) (λ below s. (s.0, s.1))
+
+    through_here : c.stands p.place ≡ true
+    through_here = frame_here c ok spot records caps v h at_height p at (site_of p) (kept_of p) (LookAllOpen (site_of p) (kept_of p)) (entry_of-look_all_open p kind) refl (λ a. refl) (λ below s. (s.0, s.1))
+
+    pub turn_look_through : Advances c (conf End spot (entries records) caps)
+        (conf (towards (next_of c p.node)) (record spot { place = p.place; keep = p.keep; frame = p.link }) (entries records) caps)
+    turn_look_through =
+        turn_through c ok spot records caps v h at_height p at (site_of p) (kept_of p) (LookAllOpen (site_of p) (kept_of p)) (entry_of-look_all_open p kind) refl (λ a. refl) (λ below s. (s.0, s.1))
+        p.place p.keep spot.passed through_here (λ a k x out f. refl)
+
+  pub turn_look_denied : p.kind ≡ KIND_DENIAL_OPEN →
+      Advances c (conf End spot (entries records) caps) (conf Back spot (stack_of.up_to h (entries records)) (undone (stack_of.past h (entries records)) caps))
+  turn_look_denied kind =
+      turn_denied c ok spot records caps v h at_height p at (site_of p) (kept_of p) (DenialOpen (site_of p) (kept_of p)) (entry_of-denial_open p kind) refl (λ a. refl) (λ below s. (s.0, s.1))
+      (λ a k x out s f. refl)
+
+  pub turn_look_down : p.kind ≡ KIND_DENIAL_OPEN → (rest : List Record) → rest ≡ stack_of.up_to h records → (after : Captures) → after ≡ undone (stack_of.past h (entries records)) caps →
+      Advances c (conf End spot (entries records) caps) (conf Back spot (entries rest) after)
+  turn_look_down kind rest cut after put =
+      let same : entries rest ≡ stack_of.up_to h (entries records) = ap entries cut ∙ sym (up_to-map entry_of h records) in
+      subst (λ x. Advances c (conf End spot (entries records) caps) (conf Back spot (entries rest) x)) (sym put)
+      (subst (λ st. Advances c (conf End spot (entries records) caps) (conf Back spot st (undone (stack_of.past h (entries records)) caps))) (sym same) (turn_look_denied kind))
+
+pub denied_height : (records : List Record) (h : ℕ) (p : Record) → slice_get (reverse records) h ≡ Some p → h ≤ length records
+denied_height records h p at = let within : h < length (reverse records) = slice_get_within (reverse records) h p at in omega (arith, within, length-reverse records)
+
+pub denied_slots : (c : Ground) → IsGround c → (spot : Spot) (records : List Record) (caps : Captures) → IsValid c (conf End spot (entries records) caps) → (h : ℕ) →
+    All (HasSlot caps) (stack_of.past h (entries records))
+denied_slots c ok spot records caps v h = past_slots c ok spot.left caps (entries records) h v.records
+
+-- a lookaround that runs is a lookahead
+looks_ahead : (ahead positive once : Bool) (ts : Row) → IsRunnable (tree.look ahead positive once ts) → ahead ≡ true
+looks_ahead true positive once ts b = refl
+looks_ahead false positive once ts b = absurd b
+
+-- the same of any that runs
+module _ (c : Ground) (ok : IsGround c) (q : ℕ) (spot : Spot) (stack : List Entry) (caps : Captures) (v : IsValid c (conf (Enter q) spot stack caps)) (ahead' positive once : Bool) (ks : List ℕ)
+    (i : IsNode c q (node.Look ahead' positive once ks)) where
+  is_ahead : ahead' ≡ true
+  is_ahead = looks_ahead ahead' positive once (row (map (tree_at c.trees) ks)) (subst IsRunnable (sym i.is) v.running.0.runs)
+
+  node_ahead : IsNode c q (node.Look true positive once ks)
+  node_ahead = subst (λ b. IsNode c q (node.Look b positive once ks)) is_ahead i
+
+  pub turn_look_of : spot.units < c.setting.matching.frame_limit →
+      Advances c (conf (Enter q) spot stack caps)
+      (conf (first_next q ks) (record spot { frame = suc (length stack); units = spot.units + 1 }) (look_entry positive once (record { node = q; link = spot.frame }) (kept_at spot) ∷ stack) caps)
+  turn_look_of room = turn_look c ok q spot stack caps v ks positive once node_ahead room
+
+  pub stop_look_of : c.setting.matching.frame_limit ≤ spot.units → tread c.setting spot.left (ahead c (conf (Enter q) spot stack caps)) ≡ answers FrameLimit
+  stop_look_of full = stop_look c ok q spot stack caps v ks positive once node_ahead full
+
+-- its record
+pub look_record : (positive once : Bool) (spot : Spot) (q : ℕ) → entry_of (record_at spot (look_kind positive once) q 0 0 0) ≡ look_entry positive once (record { node = q; link = spot.frame }) (kept_at spot)
+unfolding entry_in
+look_record true true spot q = refl
+look_record true false spot q = refl
+look_record false once spot q = refl

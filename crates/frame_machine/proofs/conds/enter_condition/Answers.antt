@@ -1,0 +1,30 @@
+use Rattle.std.proofs.Common.{sym, subst, refl}
+use Rattle.frame_store.specs.Entry.{entries}
+use Rattle.frame_machine.specs.Conditions.{IsChoice}
+use Rattle.frame_machine.proofs.CondTurns.{set_slots, turn_any_set, turn_unmet, condition_here, test_is}
+use Rattle.frame_machine.proofs.conds.enter_condition.Goals as goal
+
+pub is_set-holds-requires : goal.is_set-holds-requires
+is_set-holds-requires g c = rw c.as_slice.ensures (set_slots (g.S.Searchable.searched c.args.on.now) c.args.at c.args.test.now c.args.yes c.args.no _ c.args.registers.now c.requires.node c.in-AnySet.is c.requires.valid.slots)
+
+pub choose-requires-clause-inside : goal.choose-requires-clause-inside
+choose-requires-clause-inside g c = c.requires.valid.running.0
+
+pub choose-requires-clause-condition : goal.choose-requires-clause-condition
+choose-requires-clause-condition g c = condition_here (g.S.Searchable.searched c.args.on.now) (g.met.S.Searchable.sound c.args.on.now) c.args.at c.requires.valid.running.0 _ c.requires.node _ _ _ refl
+
+pub returns-in-AnySet-clause-on : goal.returns-in-AnySet-clause-on
+returns-in-AnySet-clause-on g c =
+    turn_any_set (g.S.Searchable.searched c.args.on.now) (g.met.S.Searchable.sound c.args.on.now) c.args.at c.args.spot.now (entries c.args.store.now.records) c.args.registers.now c.requires.valid c.args.test.now _ c.args.yes c.args.no c.requires.node c.in-AnySet.is _ (rw (c.is_set-holds.ensures, c.as_slice.ensures) at c.choose.ensures)
+
+pub enter_test-requires-clause-test : goal.enter_test-requires-clause-test
+enter_test-requires-clause-test g c = test_is (g.S.Searchable.searched c.args.on.now) c.args.at c.args.test.now c.args.yes c.args.no c.requires.node _ c.in-Assert.is
+
+pub choose-requires-in_default-clause-inside : goal.choose-requires-in_default-clause-inside
+choose-requires-in_default-clause-inside g c = c.requires.valid.running.0
+
+pub choose-requires-in_default-clause-condition : goal.choose-requires-in_default-clause-condition
+choose-requires-in_default-clause-condition g c = condition_here (g.S.Searchable.searched c.args.on.now) (g.met.S.Searchable.sound c.args.on.now) c.args.at c.requires.valid.running.0 _ c.requires.node _ _ _ refl
+
+pub returns-in_default-clause-on : goal.returns-in_default-clause-on
+returns-in_default-clause-on g c = turn_unmet (g.S.Searchable.searched c.args.on.now) (g.met.S.Searchable.sound c.args.on.now) c.args.at c.args.spot.now (entries c.args.store.now.records) c.args.registers.now c.requires.valid c.args.test.now c.args.yes c.args.no c.requires.node c.in_default.not-AnySet c.in_default.not-Assert _ c.choose-in_default.ensures

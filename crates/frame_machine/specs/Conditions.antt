@@ -1,0 +1,41 @@
+-- Conditions.
+use Rattle.std.specs.Prelude.{◌≡◌, ℕ, Bool, true, false, List, Option}
+use Rattle.pat_tree.specs.declared.nodes.Cond.TheVariants as cond
+use Rattle.pat_tree.specs.declared.nodes.Node.TheVariants as node
+use Rattle.frame_store.specs.declared.kinds.TheConstants.{KIND_LOOK_TEST, KIND_DENIAL_TEST}
+use Rattle.frame_store.specs.Entry.{Site, Kept, Entry, LookTest, DenialTest}
+use Rattle.frame_machine.specs.declared.machine.Next.{Next}
+use Rattle.frame_machine.specs.declared.machine.Next.TheVariants.{End}
+use Rattle.frame_machine.specs.declared.machine.Spot.{Spot}
+use Rattle.ordered_search.specs.Stream.{State}
+use Rattle.ordered_search.specs.Moves.{Moves}
+use Rattle.frame_machine.specs.Ground.{Ground, tree_of, IsNode}
+use Rattle.frame_machine.specs.Machine.{Outside}
+use Rattle.frame_machine.specs.Frames.{past, chosen_from, focus}
+use Rattle.frame_machine.specs.Validity.{IsRunning}
+
+-- where a condition goes on whose test holds, or not
+pub record IsChoice (c : Ground) (q : ℕ) (holds : Bool) (next : Next) : Type 0 where
+  pub goes : (d : ℕ) (k : Outside) (s : State) (f : Moves) → ((p : ℕ) → k.hand p ≡ k.hand q) →
+      focus c next d k s f ≡ chosen_from c (tree_of c q) holds d s (past c d k q) f (k.hand q)
+  pub runs : (spot : Spot) (stack : List Entry) → IsRunning c spot stack End → IsRunning c spot stack next
+
+-- what a lookaround leaves that is a test, positive or negative
+abbrev pub test_entry : Bool → Site → Kept → Entry
+test_entry true = LookTest
+test_entry false = DenialTest
+
+abbrev pub test_kind : Bool → ℕ
+test_kind true = KIND_LOOK_TEST
+test_kind false = KIND_DENIAL_TEST
+
+-- a condition on the lookaround p
+pub record IsTest (c : Ground) (q p : ℕ) : Type 0 where
+  pub first : ℕ
+  pub second : Option ℕ
+  pub node : IsNode c q (node.Cond (cond.Assert p) first second)
+
+-- a lookahead, with these branches
+pub record IsLook (c : Ground) (q : ℕ) (positive : Bool) (ks : List ℕ) : Type 0 where
+  pub once : Bool
+  pub node : IsNode c q (node.Look true positive once ks)

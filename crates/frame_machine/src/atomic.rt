@@ -1,0 +1,62 @@
+//! Atomic groups (pcre2pattern, "Atomic grouping and possessive quantifiers").
+ghost use Rattle.std.specs.Prelude.{◌≡◌, ◌≤◌, ◌+◌, max, IfOk, IfErr, Some, reverse, slice_get};
+ghost use Rattle.pat_tree.specs.declared.nodes.Node.TheVariants as node;
+ghost use Rattle.frame_store.specs.Entry.{entries};
+ghost use Rattle.frame_machine.specs.Ground.{IsNode};
+ghost use Rattle.frame_machine.specs.Machine.{conf};
+ghost use Rattle.frame_machine.specs.Frames.{ahead};
+ghost use Rattle.frame_machine.specs.Validity.{IsValid, Advances};
+ghost use Rattle.ordered_search.specs.Moves.{tread};
+ghost use Rattle.frame_machine.specs.Stops.{IsStop};
+
+use crate::enter::{first_branch, go_on};
+use crate::framing::{leave, open_frame};
+use crate::machine::{Next, Spot, Stop};
+use crate::searchable::Searchable;
+use frame_store::kinds::KIND_ATOMIC_OPEN;
+use frame_store::{Record, Registers, Store};
+use pat_tree::Kids;
+
+/// Enters an atomic group.
+pub(crate) fn enter_atomic<S: Searchable>(
+    on: &S,
+    at: u32,
+    branches: &Kids,
+    spot: &mut Spot,
+    store: &mut Store,
+    registers: &Registers,
+) -> Result<Next, Stop>
+    requires valid { IsValid (S.searched on.now) (conf (Next.Enter at) spot.old (entries store.old.records) registers.now) }
+    requires node { IsNode (S.searched on.now) at (node.Atomic branches.now) }
+    ensures on { IfOk result (λ next. Advances (S.searched on.now) (conf (Next.Enter at) spot.old (entries store.old.records) registers.now) (conf next spot.new (entries store.new.records) registers.now)) }
+    ensures stop { IfErr result (λ stop. IsStop stop spot.new registers.now (tread (S.searched on.now).setting spot.old.left (ahead (S.searched on.now) (conf (Next.Enter at) spot.old (entries store.old.records) registers.now)))) }
+    ensures peak { store.new.peak ≤ max store.old.peak (S.searched on.now).setting.matching.frame_limit }
+{
+    if let Err(stop) = open_frame(on.unit_limit(), KIND_ATOMIC_OPEN, at, spot, store) {
+        return Err(stop);
+    }
+    Ok(first_branch(at, branches))
+}
+
+/// Leaves an atomic group by its first outcome.
+pub(crate) fn leave_atomic<S: Searchable>(
+    on: &S,
+    frame: &Record,
+    height: usize,
+    spot: &mut Spot,
+    store: &mut Store,
+    registers: &Registers,
+) -> Result<Next, Stop>
+    requires valid { IsValid (S.searched on.now) (conf Next.End spot.old (entries store.old.records) registers.now) }
+    requires frame { spot.old.frame ≡ height + 1 }
+    requires at { slice_get (reverse store.old.records) height ≡ Some frame.now }
+    requires kind { frame.now.kind ≡ KIND_ATOMIC_OPEN }
+    ensures on { IfOk result (λ next. Advances (S.searched on.now) (conf Next.End spot.old (entries store.old.records) registers.now) (conf next spot.new (entries store.new.records) registers.now)) }
+    ensures stop { IfErr result (λ stop. IsStop stop spot.new registers.now (tread (S.searched on.now).setting spot.old.left (ahead (S.searched on.now) (conf Next.End spot.old (entries store.old.records) registers.now)))) }
+    ensures peak { store.new.peak ≤ max store.old.peak (S.searched on.now).setting.matching.frame_limit }
+{
+    if let Err(stop) = leave(on.unit_limit(), frame, height, spot, store) {
+        return Err(stop);
+    }
+    Ok(go_on(on, frame.node))
+}

@@ -1,0 +1,133 @@
+//! Lookarounds (pcre2pattern, "Assertions").
+ghost use Rattle.std.specs.Prelude.{◌≡◌, ◌≤◌, ◌+◌, max, IfOk, IfErr, Some, reverse, slice_get, true};
+ghost use Rattle.pat_tree.specs.declared.nodes.Node.TheVariants as node;
+ghost use Rattle.frame_store.specs.Entry.{entries};
+ghost use Rattle.frame_machine.specs.Ground.{IsNode};
+ghost use Rattle.frame_machine.specs.Machine.{conf};
+ghost use Rattle.frame_machine.specs.Frames.{ahead};
+ghost use Rattle.frame_machine.specs.Validity.{IsValid, Advances};
+ghost use Rattle.ordered_search.specs.Moves.{tread};
+ghost use Rattle.frame_machine.specs.Stops.{IsStop};
+ghost use Rattle.frame_machine.specs.Looks.{look_kind};
+
+use crate::enter::{first_branch, go_on};
+use crate::framing::{leave, open_frame};
+use crate::machine::{Next, Spot, Stop};
+use crate::searchable::Searchable;
+use frame_store::kinds::{KIND_DENIAL_OPEN, KIND_LOOK_ALL_OPEN, KIND_LOOK_OPEN};
+use frame_store::{Record, Registers, Store};
+use pat_tree::Kids;
+
+/// The kind of a lookaround's record.
+fn look_kind(positive: bool, once: bool) -> u8
+    ensures { result ≡ look_kind positive once }
+{
+    if !positive {
+        return KIND_DENIAL_OPEN;
+    }
+    if once {
+        KIND_LOOK_OPEN
+    } else {
+        KIND_LOOK_ALL_OPEN
+    }
+}
+
+/// Enters a lookaround.
+pub(crate) fn enter_look<S: Searchable>(
+    on: &S,
+    at: u32,
+    forward: bool,
+    positive: bool,
+    once: bool,
+    branches: &Kids,
+    spot: &mut Spot,
+    store: &mut Store,
+    registers: &Registers,
+) -> Result<Next, Stop>
+    requires valid { IsValid (S.searched on.now) (conf (Next.Enter at) spot.old (entries store.old.records) registers.now) }
+    requires node { IsNode (S.searched on.now) at (node.Look forward positive once branches.now) }
+    ensures on { IfOk result (λ next. Advances (S.searched on.now) (conf (Next.Enter at) spot.old (entries store.old.records) registers.now) (conf next spot.new (entries store.new.records) registers.now)) }
+    ensures stop { IfErr result (λ stop. IsStop stop spot.new registers.now (tread (S.searched on.now).setting spot.old.left (ahead (S.searched on.now) (conf (Next.Enter at) spot.old (entries store.old.records) registers.now)))) }
+    ensures peak { store.new.peak ≤ max store.old.peak (S.searched on.now).setting.matching.frame_limit }
+{
+    let kind = look_kind(positive, once);
+    if let Err(stop) = open_frame(on.unit_limit(), kind, at, spot, store) {
+        return Err(stop);
+    }
+    Ok(first_branch(at, branches))
+}
+
+/// Goes back to the place of a lookaround, and to the match's start as it was there.
+pub(crate) fn go_back(spot: &mut Spot, frame: &Record)
+    ensures { spot.new ≡ record spot.old { place = frame.now.place; keep = frame.now.keep } }
+{
+    spot.place = frame.place;
+    spot.keep = frame.keep;
+}
+
+/// Leaves a positive lookaround by its first outcome.
+pub(crate) fn leave_look<S: Searchable>(
+    on: &S,
+    frame: &Record,
+    height: usize,
+    spot: &mut Spot,
+    store: &mut Store,
+    registers: &Registers,
+) -> Result<Next, Stop>
+    requires valid { IsValid (S.searched on.now) (conf Next.End spot.old (entries store.old.records) registers.now) }
+    requires frame { spot.old.frame ≡ height + 1 }
+    requires at { slice_get (reverse store.old.records) height ≡ Some frame.now }
+    requires kind { frame.now.kind ≡ KIND_LOOK_OPEN }
+    ensures on { IfOk result (λ next. Advances (S.searched on.now) (conf Next.End spot.old (entries store.old.records) registers.now) (conf next spot.new (entries store.new.records) registers.now)) }
+    ensures stop { IfErr result (λ stop. IsStop stop spot.new registers.now (tread (S.searched on.now).setting spot.old.left (ahead (S.searched on.now) (conf Next.End spot.old (entries store.old.records) registers.now)))) }
+    ensures peak { store.new.peak ≤ max store.old.peak (S.searched on.now).setting.matching.frame_limit }
+{
+    if let Err(stop) = leave(on.unit_limit(), frame, height, spot, store) {
+        return Err(stop);
+    }
+    go_back(spot, frame);
+    Ok(go_on(on, frame.node))
+}
+
+/// Goes on after a positive lookaround all of whose outcomes are kept.
+pub(crate) fn pass_look<S: Searchable>(
+    on: &S,
+    frame: &Record,
+    height: usize,
+    spot: &mut Spot,
+    store: &mut Store,
+    registers: &Registers,
+) -> Result<Next, Stop>
+    requires valid { IsValid (S.searched on.now) (conf Next.End spot.old (entries store.old.records) registers.now) }
+    requires frame { spot.old.frame ≡ height + 1 }
+    requires at { slice_get (reverse store.old.records) height ≡ Some frame.now }
+    requires kind { frame.now.kind ≡ KIND_LOOK_ALL_OPEN }
+    ensures on { IfOk result (λ next. Advances (S.searched on.now) (conf Next.End spot.old (entries store.old.records) registers.now) (conf next spot.new (entries store.new.records) registers.now)) }
+    ensures stop { IfErr result (λ stop. IsStop stop spot.new registers.now (tread (S.searched on.now).setting spot.old.left (ahead (S.searched on.now) (conf Next.End spot.old (entries store.old.records) registers.now)))) }
+    ensures peak { store.new.peak ≤ max store.old.peak (S.searched on.now).setting.matching.frame_limit }
+{
+    go_back(spot, frame);
+    spot.frame = frame.link;
+    Ok(go_on(on, frame.node))
+}
+
+/// Fails where a negative lookaround has an outcome.
+pub(crate) fn deny<S: Searchable>(
+    on: &S,
+    frame: &Record,
+    height: usize,
+    spot: &mut Spot,
+    store: &mut Store,
+    registers: &mut Registers,
+) -> Result<Next, Stop>
+    requires valid { IsValid (S.searched on.now) (conf Next.End spot.old (entries store.old.records) registers.old) }
+    requires frame { spot.old.frame ≡ height + 1 }
+    requires at { slice_get (reverse store.old.records) height ≡ Some frame.now }
+    requires kind { frame.now.kind ≡ KIND_DENIAL_OPEN }
+    ensures on { IfOk result (λ next. Advances (S.searched on.now) (conf Next.End spot.old (entries store.old.records) registers.old) (conf next spot.new (entries store.new.records) registers.new)) }
+    ensures stop { IfErr result (λ stop. IsStop stop spot.new registers.new (tread (S.searched on.now).setting spot.old.left (ahead (S.searched on.now) (conf Next.End spot.old (entries store.old.records) registers.old)))) }
+    ensures peak { store.new.peak ≤ max store.old.peak (S.searched on.now).setting.matching.frame_limit }
+{
+    store.undo_to(height, registers);
+    Ok(Next::Back)
+}

@@ -1,9 +1,0 @@
-use Rattle.std.proofs.Common.{drop, flat_map, false}
-use Rattle.grep_core.specs.Course.{line_as}
-use Rattle.grep_core.proofs.Writing.{IsLeft}
-use Rattle.grep_core.proofs.scan.write_back.Given as goal
-
-abbrev pub invariant-loop-i : goal.invariant-loop-i
-invariant-loop-i g l =
-    IsLeft (flat_map (line_as l.job.plan.now l.job.name.now false) l.back.rows) (flat_map (line_as l.job.plan.now l.job.name.now false) (drop l.i l.back.rows))
-    (g.O.Sink.tells l.initial.out) (g.O.Sink.tells l.out)

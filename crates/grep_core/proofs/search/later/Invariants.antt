@@ -1,6 +1,0 @@
-use Rattle.grep_core.specs.Compiled.{patterns_in}
-use Rattle.grep_core.proofs.Searching.{IsOn}
-use Rattle.grep_core.proofs.search.later.Given as goal
-
-abbrev pub invariant-loop-turn : goal.invariant-loop-turn
-invariant-loop-turn l = IsOn l.plan (patterns_in l.codes) l.line l.initial.start l.initial.work.found l.work.found l._turn l.start

@@ -1,0 +1,67 @@
+-- What follows the last line that is selected: the rows after it → its context.
+use Rattle.std.specs.Prelude.{◌≡◌, ℕ, ◌≤◌, ◌<◌, false, List, ◌++◌, length, flat_map, Option, Some, None, Result, Ok, Err, ◌⊎◌}
+use Rattle.pcre_io.specs.Told.{Told, Kept}
+use Rattle.line_feed.specs.Rows.{Row}
+use Rattle.line_feed.specs.View.{Feed}
+use Rattle.line_feed.specs.Answers.{Gives, Refuses}
+use Rattle.line_feed.specs.declared.phase.FeedError.TheVariants as feed
+use Rattle.grep_args.specs.declared.plan.GrepPlan.{GrepPlan}
+use Rattle.grep_core.specs.declared.shows.Show.{Show}
+use Rattle.grep_core.specs.declared.shows.Treatment.{Treatment}
+use Rattle.grep_core.specs.declared.ended.Ended.{Ended}
+use Rattle.grep_core.specs.declared.ended.Ended.TheVariants as told
+use Rattle.grep_core.specs.declared.ended.Stop.{Stop}
+use Rattle.grep_core.specs.declared.ended.Stop.TheVariants.{Memory}
+use Rattle.grep_core.specs.Shows.{lines_after}
+use Rattle.grep_core.specs.Course.{line_as}
+use Rattle.tool_out.specs.Writes.{WritesAll}
+use Rattle.grep_core.specs.WholeScans.{BeginsWith, EndsWith}
+use Rattle.grep_core.specs.Turns.{Halts, EndsSo}
+
+-- a row is shown as the context of the last line that is selected, where there is one
+module _ (plan : GrepPlan) (name : List ℕ) where
+  pub record ShowsRow (f g : Feed) (now after : Told) (out_old out_new : Kept) : Type 0 where
+    pub row : Row
+    pub gives : Gives f g now after row
+    pub wrote : WritesAll (line_as plan name false row) out_old out_new
+
+  pub record HaltsRow (f g : Feed) (now after : Told) (out_old out_new : Kept) (stop : Stop)
+      : Type 0 where
+    pub row : Row
+    pub gives : Gives f g now after row
+    pub wrote : Halts (line_as plan name false row) out_old out_new stop
+
+  abbrev pub FollowsOne : Feed → Feed → Told → Told → Kept → Kept → Result (Option Ended) Stop
+      → Type 0
+  FollowsOne f g now after out_old out_new (Ok None) = ShowsRow f g now after out_old out_new
+  FollowsOne f g now after out_old out_new (Ok (Some ended)) =
+      EndsSo f g now after ended × (out_new ≡ out_old)
+  FollowsOne f g now after out_old out_new (Err stop) =
+      HaltsRow f g now after out_old out_new stop ⊎
+      ((stop ≡ Memory) × Refuses f g now after feed.Memory × (out_new ≡ out_old))
+
+-- the rows after the last line that is selected are shown as its context
+module _ (plan : GrepPlan) (name : List ℕ) (show : Show) (treated : Treatment) (before after : Told)
+    (given : List Row) (out_old out_new : Kept) where
+  pub record FollowsAll : Type 0 where
+    pub rows : List Row
+    pub begins : BeginsWith plan treated before after (given ++ rows)
+    pub long : length rows ≡ lines_after show plan.after_context
+    pub wrote : WritesAll (flat_map (line_as plan name false) rows) out_old out_new
+
+  pub record FollowsSome (ended : Ended) : Type 0 where
+    pub rows : List Row
+    pub ends : EndsWith plan treated before after (given ++ rows) ended
+    pub long : length rows < lines_after show plan.after_context
+    pub wrote : WritesAll (flat_map (line_as plan name false) rows) out_old out_new
+
+  pub record FollowsPart (stop : Stop) : Type 0 where
+    pub rows : List Row
+    pub begins : BeginsWith plan treated before after (given ++ rows)
+    pub long : length rows ≤ lines_after show plan.after_context
+    pub wrote : Halts (flat_map (line_as plan name false) rows) out_old out_new stop
+
+  abbrev pub Follows : Result Ended Stop → Type 0
+  Follows (Ok told.Early) = FollowsAll
+  Follows (Ok ended) = FollowsSome ended
+  Follows (Err stop) = FollowsPart stop

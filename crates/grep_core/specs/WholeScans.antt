@@ -1,0 +1,138 @@
+-- What the scan of an input does as a whole: what the source told → the input that it stands for → its scan → what was written
+-- of it, and what it leaves.
+use Rattle.std.specs.Prelude.{[], ◌≡◌, ◌≢◌, ℕ, ◌+◌, ◌≤◌, true, false, ◌||◌, nat_eq, List, ◌∷◌, ◌++◌, length, map, filter, flat_map, Option, Some, None, Result, Ok, Err, ◌⊎◌, ⊤}
+use Rattle.std.specs.List.{list_any}
+use Rattle.pcre_io.specs.Told.{Told}
+use Rattle.line_feed.specs.Rows.{Row, Rows, Input, Finish}
+use Rattle.line_feed.specs.View.{Feed}
+use Rattle.line_feed.specs.Hears.{Hears, HasGiven, HasShown}
+use Rattle.grep_args.specs.declared.plan.GrepPlan.{GrepPlan}
+use Rattle.grep_core.specs.declared.shows.Show.{Show}
+use Rattle.grep_core.specs.declared.shows.Treatment.{Treatment}
+use Rattle.grep_core.specs.declared.shows.Treatment.TheVariants.{AsText, Skipped}
+use Rattle.grep_core.specs.declared.ended.Ended.{Ended}
+use Rattle.grep_core.specs.declared.ended.Stop.{Stop}
+use Rattle.grep_core.specs.declared.ended.Stop.TheVariants.{SinkFault, TooManyErrors}
+use Rattle.grep_match.specs.PatternTexts.{line_end}
+use Rattle.grep_core.specs.Shows.{is_told, show_in, greatest_selected}
+use Rattle.grep_match.specs.Modes.{mode}
+use Rattle.pat_tree.specs.Pattern.{Pattern}
+use Rattle.grep_core.specs.Lines.{is_nul, lines, treatment, treatment_by}
+use Rattle.grep_match.specs.Matches.{tried_row, is_selected}
+use Rattle.grep_core.specs.Scans as meant
+use Rattle.grep_core.specs.Scans.{Scan, scan_of_rows, selected_in, errors_in, too_many_errors}
+use Rattle.grep_core.specs.Messages.{error_message}
+use Rattle.grep_core.specs.declared.state.State.{State}
+use Rattle.grep_core.specs.InputText.{shown_out, shows_group}
+use Rattle.grep_core.specs.Course.{scan_so_far}
+use Rattle.grep_core.specs.Ends.{ended_of}
+use Rattle.tool_out.specs.Printed.{Printed}
+use Rattle.tool_out.specs.Prints.{Wrote, Breaks}
+
+-- Since the source stood so, the feed has given these rows; and the input is treated so, by its first bytes.
+abbrev pub Stood : GrepPlan → Treatment → Told → Told → Feed → List Row → Type 0
+Stood plan treated before now f given =
+    ((is_nul plan.newline ≡ true) × (treated ≡ AsText) × HasGiven before now f given)
+    ⊎ ((is_nul plan.newline ≡ false) × ((shown : List ℕ) × HasShown before now f given shown
+    × (treatment_by (list_any (nat_eq 0) shown) plan.binary ≡ treated)))
+
+module _ (plan : GrepPlan) (patterns : List Pattern) (name : List ℕ) (show : Show)
+    (treated : Treatment) (s : State) where
+  -- the scan of these lines
+  abbrev pub scan_of : Rows → Scan
+  scan_of found = scan_of_rows plan patterns s.errors treated found
+
+  -- what the lines of a scan leave
+  abbrev pub left_by : Scan → State
+  left_by scan =
+      record s {
+        errors = s.errors + length (errors_in scan);
+        has_shown = s.has_shown
+            || shows_group plan name show scan;
+      }
+
+  -- the scan was written whole
+  pub record Scans (scan : Scan) (selected : ℕ) (s_new : State) (old new : Printed) : Type 0 where
+    pub wrote : Wrote (shown_out plan name show s.has_shown scan)
+        (flat_map (error_message name) scan.tried) old new
+    pub count : selected ≡ length (selected_in plan scan)
+    pub state : s_new ≡ left_by scan
+
+  abbrev pub ScansTo : Scan → ℕ → State → Printed → Printed → Result Ended Stop → Type 0
+  ScansTo scan selected s_new old new (Ok ended) =
+      Scans scan selected s_new old new × (scan.ended ≡ ended_of ended)
+  ScansTo scan selected s_new old new (Err TooManyErrors) =
+      Scans scan selected s_new old new × (scan.ended ≡ too_many_errors)
+  ScansTo scan selected s_new old new (Err stop) =
+      Breaks (shown_out plan name show s.has_shown scan) (flat_map (error_message name) scan.tried)
+      old new (stop ≡ SinkFault)
+
+  -- the scan of the input that the source stands for was written, or a part of it
+  pub record ScansInput (before after : Told) (selected : ℕ) (s_new : State) (old new : Printed)
+      (result : Result Ended Stop) : Type 0 where
+    pub heard : Input
+    pub hears : Hears before after heard
+    pub treats : treatment plan heard ≡ treated
+    pub scans : ScansTo (scan_of (lines plan heard)) selected s_new old new result
+
+-- one line at least may be selected
+abbrev pub AtLeastOne : Option ℕ → Type 0
+AtLeastOne None = ⊤
+AtLeastOne (Some most) = 1 ≤ most
+
+-- A scan of an input of these patterns that is treated so, by a job that is made for it, from the first line on.
+pub record IsJob (plan : GrepPlan) (treated : Treatment) (show : Show) (most : Option ℕ) (f : Feed)
+    : Type 0 where
+  pub show_is : show ≡ show_in (is_told plan treated) (mode plan)
+  pub most_is : most ≡ greatest_selected plan treated
+  pub some : AtLeastOne most
+  pub scanned : treated ≢ Skipped
+  pub kind : f.kind ≡ line_end plan
+  pub max : f.max ≡ plan.max_buffer_size
+
+-- The two loops of a scan.
+
+-- the input that the source stands for begins with these rows, and is treated so
+pub record BeginsWith (plan : GrepPlan) (treated : Treatment) (before after : Told)
+    (given : List Row) : Type 0 where
+  pub heard : Input
+  pub hears : Hears before after heard
+  pub treats : treatment plan heard ≡ treated
+  pub more : List Row
+  pub all : (lines plan heard).rows ≡ given ++ more
+
+-- these are all its rows, and they end so
+pub record EndsWith (plan : GrepPlan) (treated : Treatment) (before after : Told) (given : List Row)
+    (ended : Ended) : Type 0 where
+  pub heard : Input
+  pub hears : Hears before after heard
+  pub treats : treatment plan heard ≡ treated
+  pub finish : Finish
+  pub all : lines plan heard ≡ record { rows = given; finish = finish }
+  pub ended_so : ended_of ended ≡ meant.at_finish finish
+
+module _ (plan : GrepPlan) (patterns : List Pattern) (name : List ℕ) (show : Show) (most : Option ℕ)
+    (treated : Treatment) (s : State) where
+  -- the row was the last one that may be selected, and the lines up to it were scanned
+  pub record Pauses (before after : Told) (g : Feed) (selected : ℕ) (s_new : State)
+      (old new : Printed) : Type 0 where
+    pub rows : List Row
+    pub row : Row
+    pub stood : Stood plan treated before after g (rows ++ row ∷ [])
+    pub kind : g.kind ≡ line_end plan
+    pub max : g.max ≡ plan.max_buffer_size
+    pub few : s_new.errors ≤ 20
+    pub last : most ≡ Some (length (filter (is_selected plan) (map (tried_row plan patterns) rows))
+        + 1)
+    pub selects : is_selected plan (tried_row plan patterns row) ≡ true
+    pub scans : Scans plan patterns name show treated s
+        (scan_so_far (map (tried_row plan patterns) (rows ++ row ∷ []))) selected s_new old new
+
+  abbrev pub TakesAll : Told → Told → Feed → ℕ → State → Printed → Printed
+      → Result (Option Ended) Stop → Type 0
+  TakesAll before after g selected s_new old new (Ok None) =
+      Pauses before after g selected s_new old new
+  TakesAll before after g selected s_new old new (Ok (Some ended)) =
+      ScansInput plan patterns name show treated s before after selected s_new old new (Ok ended)
+  TakesAll before after g selected s_new old new (Err stop) =
+      ScansInput plan patterns name show treated s before after selected s_new old new (Err stop)

@@ -1,0 +1,10 @@
+use Rattle.std.proofs.Common.{◌≡◌, drop}
+use Rattle.grep_match.specs.Compiled.{patterns_in}
+use Rattle.grep_match.specs.Matches.{first_answer}
+use Rattle.grep_match.proofs.search.first_answer.Given as goal
+
+abbrev pub invariant-loop-code : goal.invariant-loop-code
+invariant-loop-code l = record {
+  rest : first_answer l.options l.line l.start (patterns_in (drop l.code-index l.codes)) ≡ first_answer l.options l.line l.start (patterns_in l.codes);
+  list : l.work.found ≡ l.initial.work.found;
+}

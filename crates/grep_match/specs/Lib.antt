@@ -1,0 +1,5 @@
+pub mod PatternTexts
+pub mod Compiled
+pub mod Modes
+pub mod Matches
+pub mod Found

@@ -1,0 +1,14 @@
+//! The patterns of pcre2grep, and what they find in a line.
+#![tactic(auto)]
+
+mod ending;
+mod found;
+mod modes;
+mod patterns;
+mod search;
+
+pub use ending::line_end;
+pub use found::{MatchList, Place};
+pub use modes::{Mode, is_matching, is_named, mode_of};
+pub use patterns::{PatternError, Patterns};
+pub use search::{Verdict, Workspace, search_line};

@@ -1,0 +1,208 @@
+//! What the patterns find in a line.
+ghost use Rattle.std.specs.Prelude.{◌≡◌, ◌<◌, ◌≤◌, ◌+◌, [], ◌∷◌, length, IfOk};
+ghost use Rattle.pat_tree.specs.declared.options.PartialMode.TheVariants.{Off};
+ghost use Rattle.ordered_search.specs.Setting.{Setting};
+ghost use Rattle.ordered_search.specs.PlaceAnswer.{Outcome};
+ghost use Rattle.ordered_search.specs.MatchAnswer.{match_answer};
+ghost use Rattle.pcre2_api.specs.Matched.{IsMatchError};
+ghost use Rattle.pat_tree.specs.Pattern.{pattern_of};
+ghost use Rattle.grep_match.specs.Compiled.{patterns_in};
+ghost use Rattle.grep_match.specs.Matches.{matches, first_answer, limits, later, with_match, shows_each};
+ghost use Rattle.pcre2_api.specs.Answers.{pattern_answer, answer_of};
+ghost use Rattle.grep_match.specs.Found.{Lists, IsAdded, IsUnfound, IsAnswer, IsVerdict};
+
+use crate::found::{MatchList, Place};
+use crate::modes::{Mode, mode_of};
+use crate::patterns::Patterns;
+use grep_args::GrepPlan;
+use pcre_io::Memory;
+use pcre2_api::{Code, Found, MatchError, MatchOptions, NoCallouts, Scratch};
+use std::alloc::Global;
+
+/// What the searches on a line answer.
+#[derive(Clone, Copy, Debug, PartialEq, Eq)]
+pub enum Verdict {
+    Match,
+    NoMatch,
+    /// The number of the match error that ended them.
+    Error(i32),
+}
+
+/// What one search answers.
+#[derive(Clone, Copy, Debug, PartialEq, Eq)]
+enum Answer {
+    Found(Place),
+    Nothing,
+    /// The number of the match error.
+    Error(i32),
+}
+
+/// What is needed for searches: their workspace, and a list of matches.
+#[derive(Drop)]
+pub struct Workspace {
+    pub scratch: Scratch,
+    pub found: MatchList,
+}
+
+impl Workspace {
+    /// A workspace with no room. Takes no memory.
+    pub fn new(alloc: Global) -> Workspace {
+        Workspace {
+            scratch: Scratch::new(alloc),
+            found: MatchList::new(alloc),
+        }
+    }
+}
+
+// What a search answers that finds no match: nothing, or the number of its error.
+fn error_number(e: MatchError) -> Result<Answer, Memory>
+    ensures { (g : Setting) → g.start ≤ length g.subject → IsMatchError g e
+        → IfOk result (λ a. IsUnfound a (answer_of (match_answer g).answer)) }
+{
+    match e {
+        MatchError::NoMatch { .. } => Ok(Answer::Nothing),
+        MatchError::Memory => Err(Memory),
+        _ => Ok(Answer::Error(e.number())),
+    }
+}
+
+// Notes a match with the groups that are shown.
+fn note(found: &Found<'_>, wanted: &[u32], list: &mut MatchList) -> Result<Place, Memory>
+    ensures { IfOk result (λ place. IsAdded wanted.now list.old list.new place found.now.outcome) }
+{
+    let place = Place {
+        keep: found.start(),
+        to: found.end(),
+    };
+    list.push_place(place)?;
+    for group in wanted {
+        list.push_group(found.span(*group))?;
+    }
+    Ok(place)
+}
+
+// Searches for one pattern from a start on.
+fn try_pattern(
+    code: &Code,
+    line: &[u8],
+    start: usize,
+    options: &MatchOptions,
+    wanted: &[u32],
+    work: &mut Workspace,
+) -> Result<Answer, Memory>
+    requires begun { start ≤ length line.now }
+    requires short { length line.now < 4294967295 }
+    requires off { options.now.«partial» ≡ Off }
+    ensures { IfOk result (λ a. IsAnswer wanted.now (length line.now)
+        work.old.found work.new.found a (pattern_answer options.now line.now start
+        (pattern_of code.now.tree))) }
+{
+    // so no line and no start place is at fault
+    code.is_of_bytes();
+    match code.match_at(line, start, options, &mut work.scratch, &mut NoCallouts) {
+        Ok(found) => Ok(Answer::Found(note(&found, wanted, &mut work.found)?)),
+        Err(e) => error_number(e),
+    }
+}
+
+// Searches for the patterns in order. The first that doesn't answer that there is no match ends it.
+fn first_answer(
+    codes: &[Code],
+    line: &[u8],
+    start: usize,
+    options: &MatchOptions,
+    wanted: &[u32],
+    work: &mut Workspace,
+) -> Result<Answer, Memory>
+    requires begun { start ≤ length line.now }
+    requires short { length line.now < 4294967295 }
+    requires off { options.now.«partial» ≡ Off }
+    ensures { IfOk result (λ a. IsAnswer wanted.now (length line.now)
+        work.old.found work.new.found a (first_answer options.now line.now start
+        (patterns_in codes.now))) }
+{
+    for code in codes {
+        match try_pattern(code, line, start, options, wanted, work)? {
+            Answer::Nothing => {}
+            answer => return Ok(answer),
+        }
+    }
+    Ok(Answer::Nothing)
+}
+
+// The limits of a plan.
+fn limits(plan: &GrepPlan) -> MatchOptions
+    ensures { result ≡ limits plan.now }
+{
+    MatchOptions {
+        match_limit: plan.match_limit,
+        frame_limit: plan.frame_limit,
+        ..MatchOptions::PLAIN
+    }
+}
+
+// The later matches, from the end of the first one. None of them is empty.
+fn later(
+    plan: &GrepPlan,
+    codes: &[Code],
+    line: &[u8],
+    mut start: usize,
+    work: &mut Workspace,
+) -> Result<Verdict, Memory>
+    requires begun { start ≤ length line.now }
+    requires short { length line.now < 4294967295 }
+    ensures { IfOk result (λ v. (o : Outcome) → Lists plan.now.only_matching (length line.now)
+        work.old.found (o ∷ [])
+        → IsVerdict plan.now.only_matching (length line.now) work.new.found v
+        (with_match o (later plan.now (patterns_in codes.now) line.now (length line.now + 1)
+        start))) }
+{
+    let wanted = plan.only_matching.as_slice();
+    let options = MatchOptions {
+        notempty: true,
+        ..limits(plan)
+    };
+    for _turn in 0..line.len() + 1 {
+        match first_answer(codes, line, start, &options, wanted, work)? {
+            Answer::Found(place) => start = place.to,
+            Answer::Nothing => return Ok(Verdict::Match),
+            Answer::Error(n) => return Ok(Verdict::Error(n)),
+        }
+    }
+    Ok(Verdict::Match)
+}
+
+// Whether each match of a line is shown.
+fn shows_each(plan: &GrepPlan) -> bool
+    ensures { result ≡ shows_each plan.now }
+{
+    mode_of(plan) == Mode::Parts && !plan.invert_match
+}
+
+/// Searches for the patterns in a line, and lists its matches: the first one, and where the plan shows each match the
+/// later ones.
+pub fn search_line(
+    plan: &GrepPlan,
+    patterns: &Patterns,
+    line: &[u8],
+    work: &mut Workspace,
+) -> Result<Verdict, Memory>
+    requires { length line.now < 4294967295 }
+    ensures { IfOk result (λ v. IsVerdict plan.now.only_matching (length line.now) work.new.found v
+        (matches plan.now (patterns_in patterns.now) line.now)) }
+{
+    let codes = patterns.codes();
+    let wanted = plan.only_matching.as_slice();
+    work.found.clear();
+    match first_answer(codes, line, 0, &limits(plan), wanted, work)? {
+        Answer::Nothing => Ok(Verdict::NoMatch),
+        Answer::Error(n) => Ok(Verdict::Error(n)),
+        Answer::Found(place) => {
+            if shows_each(plan) {
+                later(plan, codes, line, place.to, work)
+            } else {
+                Ok(Verdict::Match)
+            }
+        }
+    }
+}

@@ -1,0 +1,9 @@
+pub mod Errors
+pub mod Outcomes
+pub mod Asking
+pub mod FilePatterns
+pub mod Reporting
+pub mod Saying
+pub mod Summing
+pub mod TextLaws
+pub mod RowProofs

@@ -1,0 +1,80 @@
+-- What is said in place of a search, and what a run comes to.
+use Rattle.std.proofs.Common.{◌≡◌, ℕ, ◌<◌, ◌≤◌, Bool, true, false, if◌then◌else◌, List, [], ◌∷◌, ◌++◌, codes, decimal, length, take, drop, map, get_or, Option, Some, None, Result, Ok, Err, refl, sym, ap, subst, ◌∙◌, arith, append_assoc, append-nil}
+use Rattle.std.proofs.lemmas.Bool.{lt-leb}
+use Rattle.std.specs.Fmt.{signed_decimal}
+use Rattle.pcre_io.specs.Told.{Told, Kept}
+use Rattle.pcre_io.specs.Files.{Contents}
+use Rattle.line_feed.specs.Rows.{Input}
+use Rattle.line_feed.specs.Hears.{Hears}
+use Rattle.grep_args.specs.declared.plan.GrepPlan.{GrepPlan}
+use Rattle.grep_args.specs.declared.plan.HelpKind.{HelpKind}
+use Rattle.grep_args.specs.Words.{Reads, plan_of}
+use Rattle.grep_core.specs.declared.ended.Stop.{Stop}
+use Rattle.tool_in.specs.Asked.{Asked, StandFor}
+use Rattle.grep_match.specs.Compiled.{BadPattern, Compiled, patterns_of}
+use Rattle.pcre2_api.specs.FaultTexts.{fault_text}
+use Rattle.grep_core.specs.InputText.{first_state}
+use Rattle.grep_core.specs.Messages.{message}
+use Rattle.tool_out.specs.Outcomes.{RunOutcome, said, Stops, RunsSome, RunsAll, Runs}
+use Rattle.grep_run.specs.Refusals.{refusal, usage_message, pattern_message}
+use Rattle.grep_run.specs.Reports.{Report, reports}
+use Rattle.grep_run.specs.PatternFiles.{FileTexts, texts_in_files}
+use Rattle.grep_run.specs.ToolText.{status_of, with_names, text_by_patterns, text_by_texts, text_by_help, text_of, asked_words}
+use Rattle.grep_run.specs.RunsBy.{RunsBy}
+use Rattle.tool_in.proofs.Taking.{hears-any}
+use Rattle.tool_out.specs.Printed.{printed}
+
+-- The texts of messages, as they are written piece by piece.
+
+pub usage-of : (start word : List ℕ) → codes "pcre2grep: " ++ (start ++ (word ++ (codes "\n" ++ []))) ≡ message (start ++ word)
+usage-of start word = simp (append_assoc, append-nil)
+
+pattern-of : (number error at text : List ℕ)
+    → codes "pcre2grep: pattern " ++ (number ++ (codes ": error " ++ (error ++ (codes " at offset " ++ (at ++ (codes ": " ++ (text ++ (codes "\n" ++ []))))))))
+    ≡ message (codes "pattern " ++ number ++ codes ": error " ++ error ++ codes " at offset " ++ at ++ codes ": " ++ text)
+pattern-of number error at text = simp (append_assoc, append-nil)
+
+pub pattern-said : (bad : BadPattern) (number error at text : List ℕ) → number ≡ decimal bad.number → error ≡ signed_decimal bad.fault.number → at ≡ decimal bad.fault.at → text ≡ fault_text bad.fault.number
+    → codes "pcre2grep: pattern " ++ (number ++ (codes ": error " ++ (error ++ (codes " at offset " ++ (at ++ (codes ": " ++ (text ++ (codes "\n" ++ []))))))))
+    ≡ pattern_message bad
+pattern-said bad number error at text n e a t =
+    pattern-of number error at text ∙ (λ i. message (codes "pattern " ++ n i ++ codes ": error " ++ e i ++ codes " at offset " ++ a i ++ codes ": " ++ t i))
+
+-- The status of a run that can go on is at most 2.
+
+abbrev Few : RunOutcome → Type 0
+Few text = text.status < 3
+
+few-reports : (rs : List Report) → status_of rs < 3
+few-reports rs = grind arith
+
+few-patterns : (plan : GrepPlan) (given : List Asked) (found : Compiled) → Few (text_by_patterns plan given found)
+few-patterns plan given (Err bad) = omega arith
+few-patterns plan given (Ok patterns) = few-reports (reports plan patterns given first_state)
+
+few-texts : (plan : GrepPlan) (n : ℕ) (given : List Asked) (texts : FileTexts) → Few (text_by_texts plan n given texts)
+few-texts plan n given (Err text) = omega arith
+few-texts plan n given (Ok texts) = few-patterns (with_names n plan) given (patterns_of plan (plan.patterns ++ texts))
+
+few-help : (plan : GrepPlan) (file_words : List (List ℕ)) (given : List Asked) (help : Option HelpKind) → Few (text_by_help plan file_words given help)
+few-help plan file_words given (Some kind) = omega arith
+few-help plan file_words given None =
+    let n = length plan.pattern_files in few-texts plan (length file_words) (drop n given) (texts_in_files plan (take n given))
+
+few-plan : (words : List (List ℕ)) (given : List Asked) (found : Reads GrepPlan)
+    → Few (elim found [ Err fault ↦ refusal (usage_message words fault) | Ok plan ↦ text_by_help plan (drop plan.files_from words) given plan.help ])
+few-plan words given (Err fault) = omega arith
+few-plan words given (Ok plan) = few-help plan (drop plan.files_from words) given plan.help
+
+few-grep : (words : List (List ℕ)) (given : List Asked) → Few (text_of words given)
+unfolding text_of
+few-grep words given = few-plan words given (plan_of words)
+
+-- a run that wrote all
+pub runs-whole : (words : List (List ℕ)) (given : List Asked) (status : ℕ) (out_old out_new err_old err_new : Kept)
+    → RunsBy (text_of words given) (printed out_old err_old) (printed out_new err_new) (Ok status) → Runs (text_of words given) status (printed out_old err_old) (printed out_new err_new)
+runs-whole words given status out_old out_new err_old err_new runs =
+    let text = text_of words given in
+    let few : status < 3 = subst (λ n. n < 3) (sym runs.1) (few-grep words given) in
+    subst (λ b. Stops b (RunsSome text status (printed out_old err_old) (printed out_new err_new)) (RunsAll text status (printed out_old err_old) (printed out_new err_new))) (sym (lt-leb 3 status few))
+    (record { out = runs.0.out; err = runs.0.err; answer = runs.1 })

@@ -1,0 +1,149 @@
+-- What pcre2grep writes, and its status (pcre2grep, "OPTIONS", -t, and "DIAGNOSTICS"): words → plan → patterns → reports → text,
+-- total and status.
+use Rattle.std.specs.Prelude.{ℕ, ◌==◌, Bool, true, false, ◌&&◌, ◌||◌, not, nat_lt, nat_le, if◌then◌else◌, List, [], ◌∷◌, ◌++◌, length, take, drop, flat_map, filter, sum_by, codes, decimal, Option, Some, None, Ok, Err}
+use Rattle.std.specs.List.{list_any}
+use Rattle.line_feed.specs.Rows.{At, End}
+use Rattle.grep_args.specs.declared.plan.GrepPlan.{GrepPlan}
+use Rattle.grep_args.specs.declared.plan.NameMode.{NameMode}
+use Rattle.grep_args.specs.declared.plan.NameMode.TheVariants.{Auto, With}
+use Rattle.grep_args.specs.declared.plan.HelpKind.{HelpKind}
+use Rattle.grep_args.specs.Words.{plan_of}
+use Rattle.grep_match.specs.Compiled.{Compiled, patterns_of}
+use Rattle.grep_match.specs.declared.modes.Mode.{Mode}
+use Rattle.grep_match.specs.declared.modes.Mode.TheVariants.{Nothing, NamesWithout, Counts}
+use Rattle.grep_match.specs.Modes.{mode, is_with, is_matching}
+use Rattle.grep_core.specs.Scans.{Ended, at_finish, early, too_many_errors}
+use Rattle.tool_out.specs.Texts.{line, text_if}
+use Rattle.tool_out.specs.Outcomes.{RunOutcome}
+use Rattle.grep_run.specs.Refusals.{refusal, usage_message, pattern_message, help_text}
+use Rattle.grep_core.specs.InputText.{first_state}
+use Rattle.tool_in.specs.Asked.{Asked}
+use Rattle.grep_run.specs.Reports.{Report, scanned, missing, is_broken, reports}
+use Rattle.grep_run.specs.PatternFiles.{FileTexts, is_given, texts_in_files}
+
+-- The status.
+
+-- an input that is missing, that wasn't read to its end, or whose match errors were too many
+abbrev pub is_failed : Ended → Bool
+is_failed (at_finish (At End)) = false
+is_failed (at_finish _) = true
+is_failed early = false
+is_failed too_many_errors = true
+
+abbrev pub has_failed : Report → Bool
+has_failed (scanned w) = is_failed w.ended
+has_failed (missing text) = true
+
+abbrev pub selected_by : Report → ℕ
+selected_by (scanned w) = w.selected
+selected_by (missing text) = 0
+
+abbrev pub total_of : List Report → ℕ
+total_of rs = sum_by selected_by rs
+
+abbrev pub status_of : List Report → ℕ
+status_of rs = if list_any has_failed rs then 2 else if nat_lt 0 (total_of rs) then 0 else 1
+
+-- The total of `-t`.
+
+abbrev pub out_of : Report → List ℕ
+out_of (scanned w) = w.out
+out_of (missing text) = []
+
+abbrev pub err_of : Report → List ℕ
+err_of (scanned w) = w.err
+err_of (missing text) = text
+
+abbrev pub writes : Report → Bool
+writes r = is_given (out_of r)
+
+-- how many counts were written
+abbrev pub count_lines : List Report → ℕ
+count_lines rs = length (filter writes rs)
+
+abbrev pub total_text : List ℕ → List Report → List ℕ
+total_text before rs = line (before ++ decimal (total_of rs))
+
+-- with `-q` and `-L` there is none, and none after just one count
+abbrev pub total_after : GrepPlan → List Report → Mode → List ℕ
+total_after plan rs Nothing = []
+total_after plan rs NamesWithout = []
+total_after plan rs Counts =
+    if count_lines rs == 1 then []
+    else total_text (text_if ((is_with plan.names || is_matching plan.names)
+    && nat_lt 0 (count_lines rs)) (codes "TOTAL:")) rs
+total_after plan rs _ = total_text [] rs
+
+abbrev pub last_text : GrepPlan → List Report → List ℕ
+last_text plan rs =
+    text_if (plan.total_count && not (list_any is_broken rs)) (total_after plan rs (mode plan))
+
+-- All together.
+
+abbrev pub outcome_of : GrepPlan → List Report → RunOutcome
+outcome_of plan rs =
+    record {
+      out = flat_map out_of rs ++ last_text plan rs;
+      err = flat_map err_of rs;
+      status =
+          status_of rs;
+    }
+
+-- by default names are shown where there are two or more words for files
+abbrev pub names_for : ℕ → NameMode → NameMode
+names_for n Auto = if nat_le 2 n then With else Auto
+names_for n other = other
+
+abbrev pub with_names : ℕ → GrepPlan → GrepPlan
+with_names n plan = record plan { names = names_for n plan.names }
+
+-- no word stands for standard input
+abbrev pub or_standard : List (List ℕ) → List (List ℕ)
+or_standard [] = codes "-" ∷ []
+or_standard (word ∷ words) = word ∷ words
+
+-- the words that a search asks for: files of patterns, and then inputs
+abbrev pub asked_by_plan : GrepPlan → List (List ℕ) → List (List ℕ)
+asked_by_plan plan file_words = plan.pattern_files ++ or_standard file_words
+
+abbrev pub asked_unless : Option HelpKind → List (List ℕ) → List (List ℕ)
+asked_unless (Some kind) words = []
+asked_unless None words = words
+
+-- the words that a run asks for, by those after its name
+abbrev pub asked_words : List (List ℕ) → List (List ℕ)
+asked_words words = elim (plan_of words) [
+  | Err fault ↦ []
+  | Ok plan ↦ asked_unless plan.help (asked_by_plan plan (drop plan.files_from words))
+]
+
+-- by the inputs
+abbrev pub text_by_patterns : GrepPlan → List Asked → Compiled → RunOutcome
+text_by_patterns plan given (Err bad) = refusal (pattern_message bad)
+text_by_patterns plan given (Ok patterns) =
+    outcome_of plan (reports plan patterns given first_state)
+
+-- the patterns of the plan come first, then those of its files
+abbrev pub text_by_texts : GrepPlan → ℕ → List Asked → FileTexts → RunOutcome
+text_by_texts plan n given (Err text) = refusal text
+text_by_texts plan n given (Ok texts) =
+    text_by_patterns (with_names n plan) given (patterns_of plan (plan.patterns ++ texts))
+
+-- by the files of patterns, and the inputs; n words name inputs
+abbrev pub text_by_plan : GrepPlan → ℕ → List Asked → List Asked → RunOutcome
+text_by_plan plan n pattern_files given =
+    text_by_texts plan n given (texts_in_files plan pattern_files)
+
+abbrev pub text_by_help : GrepPlan → List (List ℕ) → List Asked → Option HelpKind → RunOutcome
+text_by_help plan file_words given (Some kind) =
+    record { out = help_text kind; err = []; status = 0 }
+text_by_help plan file_words given None =
+    let n = length plan.pattern_files in text_by_plan plan (length file_words) (take n given)
+    (drop n given)
+
+-- What pcre2grep writes for the words after its name, where the words that it asks for stand for these inputs.
+unfoldable pub text_of : List (List ℕ) → List Asked → RunOutcome
+text_of words given = elim (plan_of words) [
+  | Err fault ↦ refusal (usage_message words fault)
+  | Ok plan ↦ text_by_help plan (drop plan.files_from words) given plan.help
+]

@@ -1,0 +1,125 @@
+-- A search of bytes for a tree of the forms that are built gives a match in the subject, none, or a limit, and tells nothing else.
+use Rattle.std.proofs.Common.{◌≡◌, ℕ, zero, suc, ◌+◌, ◌-◌, ◌<◌, ◌≤◌, ◌≢◌, Bool, true, false, List, [], ◌++◌, length, Option, Some, None, refl, sym, subst, arith}
+use Rattle.std.specs.Prelude.{nat_le, IfSome}
+use Rattle.std.proofs.lemmas.List.{length-replicate}
+use Rattle.std.proofs.lemmas.List.Elements.{All-replicate}
+use Rattle.ordered_search.specs.Stream.{State, first_state, exhausted, by_verb, by_halt, is_partial, too_many_units, loop, abort, cut, Note, reached, accepted, note, state, step, Stream, ends, ◌▸◌}
+use Rattle.ordered_search.specs.Setting.{Setting, match_limit}
+use Rattle.ordered_search.specs.PlaceAnswer.{outcome, Signal, Exhausted, Prune, Skip, Commit, PlaceAnswer, Matched, Failed, Partial, MatchLimit, FrameLimit, Loop, Abort, NoDepth, Walked, answers, has_hit, is_refused_by_end, is_refused_as_empty, walk, place_answer}
+use Rattle.ordered_search.proofs.WalkLaw.{no_cut}
+use Rattle.ordered_search.specs.Places.{last_place, within, place_after, is_excluded}
+use Rattle.ordered_search.specs.MatchAnswer.{Match, PartialFrom, Error, Found, none_found, decided, undecided, failed_at, tried, from_place}
+use Rattle.ordered_search.specs.Forward.{IsWithin, IsPlaced, IsPlainFound, IsBuiltSearch, ForwardLaw}
+use Rattle.ordered_search.proofs.StartPlaces.{last_within, start_within, after_later}
+use Rattle.ordered_search.proofs.ForwardStreams.{IsOnWay, Forward}
+use Rattle.ordered_search.proofs.ForwardSearch.{forward_run}
+
+module _ (g : Setting) (search : IsBuiltSearch g) where
+  -- what a place answers
+  abbrev IsPlainPlace : PlaceAnswer → Type 0
+  IsPlainPlace (Matched o) = IsPlaced g o
+  IsPlainPlace (Failed Exhausted) = Unit {0}
+  IsPlainPlace MatchLimit = Unit {0}
+  IsPlainPlace FrameLimit = Unit {0}
+  IsPlainPlace NoDepth = Unit {0}
+  IsPlainPlace _ = ⊥
+
+  abbrev IsPlainWalk : Walked → Type 0
+  IsPlainWalk w = IsPlainPlace w.answer × (w.notes ≡ [])
+
+  placed : (low : ℕ) (s : State) → g.start ≤ low → IsOnWay g low s → IsPlaced g (outcome s)
+  placed low s le on =
+      let begins = on.begins in
+      record { begins = omega (arith, le, begins); ordered = on.ordered; within = on.within; caps = on.caps; groups = on.groups; no_mark = on.no_mark }
+
+  plain_state : (low : ℕ) (s : State) (empty by_end : Bool) (w : Walked) → g.start ≤ low → IsOnWay g low s → IsPlainWalk w →
+      IsPlainWalk (elim (elim empty as (λ _. Option PlaceAnswer) [ true ↦ None | false ↦ elim by_end [ false ↦ Some (Matched (outcome s)) | true ↦ elim reached as (λ _. Option PlaceAnswer) [ reached ↦ None | accepted ↦ Some (Failed Exhausted) ] ] ]) [ None ↦ w | Some a ↦ answers a ])
+  plain_state low s true by_end w le on h = h
+  plain_state low s false false w le on h = (placed low s le on, refl)
+  plain_state low s false true w le on h = h
+
+  plain_walk : (low p n : ℕ) (x : Stream) → g.start ≤ low → Forward g low p x → IsPlainWalk (walk g n x)
+  unfolding Forward walk
+  plain_walk low p n (ends exhausted) le h = (tt, refl)
+  plain_walk low p n (ends (by_verb v)) le h = absurd h
+  plain_walk low p n (ends (by_halt is_partial)) le h = absurd h
+  plain_walk low p n (ends (by_halt too_many_units)) le h = (tt, refl)
+  plain_walk low p n (ends (by_halt loop)) le h = absurd h
+  plain_walk low p n (ends (by_halt (abort m))) le h = absurd h
+  plain_walk low p n (ends (by_halt cut)) le h = (tt, refl)
+  plain_walk low p n (note k ▸ x) le h = absurd h
+  plain_walk low p n (state reached s ▸ x) le h =
+      plain_state low s (is_refused_as_empty g s) (is_refused_by_end g s) (walk g n x) le h.1 (plain_walk low p n x le h.2)
+  plain_walk low p n (state accepted s ▸ x) le h = absurd h
+  plain_walk low p zero (step ▸ x) le h = (tt, refl)
+  plain_walk low p (suc n) (step ▸ x) le h = plain_walk low p n x le h
+
+  begun_at : (p : ℕ) → p ≤ length g.subject → IsOnWay g p (first_state g.groups p)
+  begun_at p within = record {
+    begins = omega arith;
+    ordered = omega arith;
+    within = within;
+    caps = All-replicate (IsWithin (length g.subject)) g.groups None tt;
+    groups = length-replicate g.groups None;
+    no_mark = refl;
+  }
+
+  plain_place : (p : ℕ) → g.start ≤ p → p ≤ length g.subject → IsPlainWalk (place_answer g p)
+  plain_place p le within =
+      plain_walk p p (match_limit g) _ le (forward_run g p search.bytes search.off (match_limit g + 1) g.whole search.built (first_state g.groups p) (begun_at p within))
+
+  not_cut : (p : ℕ) (b : Bool) → (elim b as (λ _. Walked) [ true ↦ answers (Failed Exhausted) | false ↦ place_answer g p ]).answer ≢ NoDepth
+  not_cut p true = λ e. cc
+  not_cut p false = no_cut g p
+
+  plain_tried : (p : ℕ) (b : Bool) → g.start ≤ p → p ≤ length g.subject → IsPlainWalk (elim b [ true ↦ answers (Failed Exhausted) | false ↦ place_answer g p ])
+  plain_tried p true le in' = (tt, refl)
+  plain_tried p false le in' = plain_place p le in'
+
+  none_plain : IsPlainFound g none_found
+  none_plain = record { answer = tt; notes = refl }
+
+  plain_failed : (p : ℕ) (ns : List Note) (later : Found) → ns ≡ [] → IsPlainFound g later → IsPlainFound g (record { answer = undecided (has_hit ns) p later.answer; notes = ns ++ later.notes })
+  plain_failed p ns later e h = subst (λ ms. IsPlainFound g (record { answer = undecided (has_hit ms) p later.answer; notes = ms ++ later.notes })) (sym e) h
+
+  plain_answer : (p : ℕ) (w : Walked) (later : Signal → Found) (a : PlaceAnswer) → IsPlainPlace a → a ≢ NoDepth → w.notes ≡ [] → ((signal : Signal) → IsPlainFound g (later signal)) →
+      IsPlainFound g (elim a [ Matched o ↦ decided w (Match o) | Failed signal ↦ failed_at p w (later signal) | Partial ↦ decided w (PartialFrom p) | b ↦ decided w (Error b) ])
+  plain_answer p w later (Matched o) h n e k = record { answer = h; notes = e }
+  plain_answer p w later (Failed Exhausted) h n e k = plain_failed p w.notes (later Exhausted) e (k Exhausted)
+  plain_answer p w later (Failed Prune) h n e k = absurd h
+  plain_answer p w later (Failed (Skip q)) h n e k = absurd h
+  plain_answer p w later (Failed Commit) h n e k = absurd h
+  plain_answer p w later Partial h n e k = absurd h
+  plain_answer p w later MatchLimit h n e k = record { answer = tt; notes = e }
+  plain_answer p w later FrameLimit h n e k = record { answer = tt; notes = e }
+  plain_answer p w later Loop h n e k = absurd h
+  plain_answer p w later (Abort m) h n e k = absurd h
+  plain_answer p w later NoDepth h n e k = absurd (n refl)
+
+  abbrev IsInside : Option ℕ → Type 0
+  IsInside next = IfSome next (λ p. (g.start ≤ p) × (p ≤ last_place g))
+
+  inside_after : (p : ℕ) (next : Option ℕ) → g.start ≤ p → IfSome next (λ q. (p < q) × (q ≤ last_place g)) → IsInside next
+  inside_after p None le h = tt
+  inside_after p (Some q) le h = let later : p < q = h.0 in (omega (arith, le, later), h.1)
+
+  plain_from : (n : ℕ) (next : Option ℕ) → IsInside next → IsPlainFound g (from_place g n next)
+  unfolding from_place
+  plain_from zero next h = none_plain
+  plain_from (suc n) None h = none_plain
+  plain_from (suc n) (Some p) h =
+      let last : last_place g ≤ length g.subject = last_within g search.bytes search.begun.within in
+      let to : p ≤ last_place g = h.1 in
+      let walk = plain_tried p (is_excluded g p) h.0 (omega (arith, last, to)) in
+      plain_answer p (tried g p) (λ signal. from_place g n (place_after g p signal)) (tried g p).answer walk.0 (not_cut p (is_excluded g p)) walk.1
+      (λ signal. plain_from n (place_after g p signal) (inside_after p (place_after g p signal) h.0 (after_later g search.bytes search.begun.within p signal)))
+
+  first_inside : IsInside (within g (Some g.start))
+  first_inside = by_test (nat_le g.start (last_place g)) refl
+    where
+      by_test : (b : Bool) → nat_le g.start (last_place g) ≡ b → IsInside (elim b [ true ↦ Some g.start | false ↦ None ])
+      by_test true e = (omega arith, start_within g search.bytes search.begun.within)
+      by_test false e = tt
+
+pub forward_law : ForwardLaw
+forward_law g search = plain_from g search (length g.subject + 1 - g.start) (within g (Some g.start)) (first_inside g search)

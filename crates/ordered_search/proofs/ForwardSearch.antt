@@ -1,0 +1,231 @@
+-- The search of a tree of the forms that are built goes forward, over bytes.
+use Rattle.std.proofs.Common.{◌≡◌, ℕ, zero, suc, ◌+◌, ◌-◌, ◌<◌, ◌≤◌, Bool, true, false, List, [], ◌∷◌, ◌++◌, length, drop, reverse, Option, Some, None, refl, sym, subst, arith}
+use Rattle.std.specs.Prelude.{nat_lt}
+use Rattle.std.proofs.lemmas.List.{reverse-append}
+use Rattle.pat_tree.specs.declared.nodes.Item.{Item}
+use Rattle.pat_tree.specs.declared.nodes.AnchorKind.{AnchorKind}
+use Rattle.pat_tree.specs.declared.options.PartialMode.TheVariants.{Off}
+use Rattle.pat_tree.specs.Nested as tree
+use Rattle.pat_tree.specs.Nested.{Nested, Row, repeat}
+use Rattle.pat_tree.specs.Built.{IsBuilt, AreBuilt}
+use Rattle.frame_store.specs.declared.registers.Span.{Span}
+use Rattle.frame_store.specs.Captures.{capture}
+use Rattle.match_items.specs.Items.{one_less, is_none_left, after_item, item_reaches, run_places, longest_run, break_len, after_ref, ref_reaches, holds, anchor_reaches}
+use Rattle.match_items.proofs.Places.{item_forward, break_within, ref_within}
+use Rattle.ordered_search.specs.Stream.{State, Stream, Search, captured}
+use Rattle.ordered_search.specs.Setting.{Setting, reach_if}
+use Rattle.ordered_search.specs.Tests.{move_to, goes_to, run_one, run_break, run_ref, run_anchor, offers, greedy, offer_and, reluctant, lazy_run, run_many}
+use Rattle.ordered_search.specs.Parts.{Searches, in_order, choices, branches, run_group, is_over, turn, run_repeat}
+use Rattle.ordered_search.specs.Run.{level, levels, run}
+use Rattle.ordered_search.proofs.ForwardStreams.{IsOnWay, Forward, IsForward, forward_nothing, forward_gives, forward_step, forward_if, forward_or_else, forward_each, forward_and_then, forward_catch, with_units, with_early, with_place, with_keep, with_capture, forward_held, forward_hold, forward_reach_if}
+
+-- a place that is told is as far as what was taken
+told_far : (b : Bool) (p n q : ℕ) → elim b as (λ _. Option ℕ) [ true ↦ Some (p + n) | false ↦ None ] ≡ Some q → p ≤ q
+told_far true p n q e = let same : p + n ≡ q = cc in omega (arith, same)
+told_far false p n q e = absurd (cc)
+
+-- all of these places are at p or past it, and at n at most
+abbrev AreBetween : ℕ → ℕ → List ℕ → Type 0
+AreBetween p n [] = Unit {0}
+AreBetween p n (q ∷ qs) = ((p ≤ q) × (q ≤ n)) × AreBetween p n qs
+
+between_less : (p q n : ℕ) (qs : List ℕ) → p ≤ q → AreBetween q n qs → AreBetween p n qs
+between_less p q n [] le h = tt
+between_less p q n (r ∷ rs) le h = let first : q ≤ r = h.0.0 in ((omega (arith, le, first), h.0.1), between_less p q n rs le h.1)
+
+between_append : (p n : ℕ) (qs rs : List ℕ) → AreBetween p n qs → AreBetween p n rs → AreBetween p n (qs ++ rs)
+between_append p n [] rs h k = k
+between_append p n (q ∷ qs) rs h k = (h.0, between_append p n qs rs h.1 k)
+
+between_reverse : (p n : ℕ) (qs : List ℕ) → AreBetween p n qs → AreBetween p n (reverse qs)
+between_reverse p n [] h = tt
+between_reverse p n (q ∷ qs) h = subst (AreBetween p n) (sym (reverse-append (q ∷ []) qs)) (between_append p n (reverse qs) (q ∷ []) (between_reverse p n qs h.1) (h.0, tt))
+
+between_drop : (p n k : ℕ) (qs : List ℕ) → AreBetween p n qs → AreBetween p n (drop k qs)
+between_drop p n zero qs h = h
+between_drop p n (suc k) [] h = tt
+between_drop p n (suc k) (q ∷ qs) h = between_drop p n k qs h.1
+
+module _ (g : Setting) (low : ℕ) (bytes : g.options.utf ≡ false) (off : g.matching.«partial» ≡ Off) where
+  abbrev Goes : Search → Type 0
+  Goes = IsForward g low
+
+  abbrev AllGo : List Search → Type 0
+  AllGo [] = Unit {0}
+  AllGo (f ∷ fs) = Goes f × AllGo fs
+
+  forward_goes : (s : State) (o : Option ℕ) → IsOnWay g low s → ((q : ℕ) → o ≡ Some q → (s.place ≤ q) × (q ≤ length g.subject)) → Forward g low s.place (goes_to o s)
+  forward_goes s None on h = forward_nothing g low s.place
+  forward_goes s (Some q) on h = let far = h q refl in forward_gives g low s.place (move_to q s) far.0 (with_place g low s q far.0 far.1 on)
+
+  forward_one : (item : Item) → Goes (run_one g item)
+  unfolding run_one
+  forward_one item s on =
+      forward_reach_if g low off s.place _ s _ (forward_goes s _ on (λ q e.
+      let there = item_forward g.scene item s.place q bytes on.within e in
+      let later : s.place < q = there.0 in
+      (omega (arith, later), there.1)))
+
+  forward_break : Goes (run_break g)
+  unfolding run_break
+  forward_break s on =
+      forward_reach_if g low off s.place _ s _ (forward_goes s _ on (λ q e.
+      (told_far (nat_lt 0 (break_len g.scene s.place)) s.place (break_len g.scene s.place) q e, break_within g.scene s.place q on.within e)))
+
+  forward_ref : (ns : List ℕ) (caseless : Bool) → Goes (run_ref g ns caseless)
+  unfolding run_ref
+  forward_ref [] caseless s on = forward_if g low s.place g.options.match_unset_backref _ _ (forward_gives g low s.place s (omega arith) on) (forward_nothing g low s.place)
+  forward_ref (m ∷ ns) caseless s on = by_capture (capture s.caps m) (forward_ref ns caseless s on)
+    where
+      by_capture : (o : Option Span) → Forward g low s.place (run_ref g ns caseless s) → Forward g low s.place (elim o [
+        | None ↦ run_ref g ns caseless s
+        | Some span ↦ reach_if g (ref_reaches g.scene span.from span.to caseless s.place) s (goes_to (after_ref g.scene span.from span.to caseless s.place) s)
+      ])
+      by_capture None h = h
+      by_capture (Some span) h =
+          forward_reach_if g low off s.place _ s _ (forward_goes s _ on (λ q e.
+          (told_far _ s.place _ q e, ref_within g.scene span.from span.to s.place q caseless bytes on.within e)))
+
+  forward_anchor : (kind : AnchorKind) → Goes (run_anchor g kind)
+  unfolding run_anchor
+  forward_anchor kind s on =
+      forward_reach_if g low off s.place (anchor_reaches g.scene kind s.place) _ _
+      (forward_if g low s.place (holds g.scene kind s.place) _ _
+      (forward_gives g low s.place _ (omega arith) (with_early g low s _ on)) (forward_nothing g low s.place))
+
+  forward_offers : (ps : List ℕ) (s : State) → IsOnWay g low s → AreBetween s.place (length g.subject) ps → Forward g low s.place (offers g ps s)
+  unfolding offers
+  forward_offers [] s on h = forward_nothing g low s.place
+  forward_offers (p ∷ []) s on h =
+      forward_step g low s.place _ (forward_gives g low s.place (move_to p s) h.0.0 (with_place g low s p h.0.0 h.0.1 on))
+  forward_offers (p ∷ q ∷ ps) s on h =
+      forward_step g low s.place _ (forward_or_else g low s.place _ _
+      (forward_hold g low s.place (move_to p s) h.0.0 (with_place g low s p h.0.0 h.0.1 on))
+      (forward_offers (q ∷ ps) s on h.1))
+
+  forward_offer_and : (b : Bool) (p : ℕ) (s : State) (x : Stream) → p ≤ s.place → IsOnWay g low s → Forward g low p x → Forward g low p (offer_and g b s x)
+  forward_offer_and true p s x le on h = forward_step g low p _ (forward_gives g low p s le on)
+  forward_offer_and false p s x le on h = forward_step g low p _ (forward_or_else g low p _ _ (forward_hold g low p s le on) h)
+
+  forward_reluctant : (item : Item) (left : Option ℕ) (ps : List ℕ) (s : State) → IsOnWay g low s → AreBetween s.place (length g.subject) ps → Forward g low s.place (reluctant g item left ps s)
+  unfolding reluctant
+  forward_reluctant item left [] s on h = forward_nothing g low s.place
+  forward_reluctant item left (p ∷ ps) s on h =
+      forward_offer_and (is_none_left left) s.place (move_to p s) _ h.0.0 (with_place g low s p h.0.0 h.0.1 on)
+      (forward_reach_if g low off s.place (item_reaches g.scene item p) s _ (forward_reluctant item (one_less left) ps s on h.1))
+
+  -- the places of a run lie between
+  places_between : (item : Item) (n : ℕ) (most : Option ℕ) (p : ℕ) → p ≤ length g.subject → AreBetween p (length g.subject) (run_places g.scene item n most p)
+  unfolding run_places
+  places_between item zero most p within = tt
+  places_between item (suc n) most p within = by_left (places_between item n (one_less most)) (is_none_left most)
+    where
+      Later : Type 0
+      Later = (q : ℕ) → q ≤ length g.subject → AreBetween q (length g.subject) (run_places g.scene item n (one_less most) q)
+
+      by_item : (o : Option ℕ) → ((q : ℕ) → o ≡ Some q → (p ≤ q) × (q ≤ length g.subject)) → Later → AreBetween p (length g.subject) (elim o [ None ↦ [] | Some q ↦ q ∷ run_places g.scene item n (one_less most) q ])
+      by_item None h k = tt
+      by_item (Some q) h k = let there = h q refl in (there, between_less p q (length g.subject) _ there.0 (k q there.1))
+
+      later : (q : ℕ) → after_item g.scene item p ≡ Some q → (p ≤ q) × (q ≤ length g.subject)
+      later q e = let there = item_forward g.scene item p q bytes within e in let far : p < q = there.0 in (omega (arith, far), there.1)
+
+      by_left : Later → (b : Bool) → AreBetween p (length g.subject) (elim b [ true ↦ [] | false ↦ elim (after_item g.scene item p) [ None ↦ [] | Some q ↦ q ∷ run_places g.scene item n (one_less most) q ] ])
+      by_left k true = tt
+      by_left k false = by_item (after_item g.scene item p) later k
+
+  run_between : (item : Item) (most : Option ℕ) (p : ℕ) → p ≤ length g.subject → AreBetween p (length g.subject) (p ∷ longest_run g.scene item most p)
+  run_between item most p within = ((omega arith, within), places_between item (length g.subject) most p within)
+
+  forward_many : (item : Item) (least : ℕ) (high : Option ℕ) (lazily : Bool) → Goes (run_many g item least high lazily)
+  unfolding run_many greedy lazy_run
+  forward_many item least high false s on =
+      forward_reach_if g low off s.place _ s _ (forward_offers _ s on
+      (between_reverse s.place (length g.subject) _ (between_drop s.place (length g.subject) least _ (run_between item high s.place on.within))))
+  forward_many item least high true s on =
+      forward_reach_if g low off s.place _ s _ (forward_reluctant item _ _ s on
+      (between_drop s.place (length g.subject) least _ (run_between item high s.place on.within)))
+
+  forward_in_order : (fs : List Search) → AllGo fs → Goes (in_order fs)
+  unfolding in_order
+  forward_in_order [] h s on = forward_gives g low s.place s (omega arith) on
+  forward_in_order (f ∷ fs) h s on = forward_and_then g low s.place (f s) (in_order fs) (h.0 s on) (λ t le on'. forward_in_order fs h.1 t on')
+
+  forward_choices : (fs : List Search) → AllGo fs → Goes (choices g fs)
+  unfolding choices
+  forward_choices [] h s on = forward_nothing g low s.place
+  forward_choices (f ∷ []) h s on = forward_step g low s.place _ (forward_catch g low s.place (f s) (h.0 s on))
+  forward_choices (f ∷ f' ∷ fs) h s on =
+      forward_step g low s.place _ (forward_or_else g low s.place _ _
+      (forward_held g low s.place 1 s _ (forward_catch g low s.place _ (h.0 _ (with_units g low s _ on))))
+      (forward_choices (f' ∷ fs) h.1 s on))
+
+  forward_branches : (fs : List Search) → AllGo fs → Goes (branches g fs)
+  unfolding branches
+  forward_branches [] h s on = forward_nothing g low s.place
+  forward_branches (f ∷ []) h s on = h.0 s on
+  forward_branches (f ∷ f' ∷ fs) h s on = forward_choices (f ∷ f' ∷ fs) h s on
+
+  forward_group : (k : Option ℕ) (f : Search) → Goes f → Goes (run_group g k f)
+  unfolding run_group
+  forward_group None f h s on = h s on
+  forward_group (Some n) f h s on =
+      forward_held g low s.place 1 s _ (forward_each g low s.place _ _ (h _ (with_units g low s _ on))
+      (λ u le on'. forward_hold g low s.place (captured n s.place u) le (with_capture g low u n s.place le on')))
+
+  -- Repeats, whose turns go a level deeper.
+
+  abbrev GoesBelow : Searches → Type 0
+  GoesBelow below = (t : Nested) → IsBuilt t → Goes (below t)
+
+  forward_turn : (below : Searches) (body : Nested) (least : ℕ) (high : Option ℕ) (lazily : Bool) → GoesBelow below → IsBuilt body → Goes (turn g below body least high lazily)
+  unfolding turn
+  forward_turn below body least high lazily h built s on =
+      forward_step g low s.place _ (forward_held g low s.place 1 s _
+      (forward_and_then g low s.place _ _ (h body built _ (with_units g low s _ on)) (λ u le on'.
+      forward_if g low u.place (is_over least high s u) _ _ (forward_gives g low u.place u (omega arith) on')
+      (h (repeat body (least - 1) (one_less high) lazily) built u on'))))
+
+  forward_repeat : (below : Searches) (body : Nested) (least : ℕ) (high : Option ℕ) (lazily : Bool) → GoesBelow below → IsBuilt body → Goes (run_repeat g below body least high lazily)
+  unfolding run_repeat
+  forward_repeat below body (suc least) high lazily h built s on = forward_turn below body (suc least) high lazily h built s on
+  forward_repeat below body zero (Some zero) lazily h built s on = forward_gives g low s.place s (omega arith) on
+  forward_repeat below body zero (Some (suc n)) true h built s on =
+      forward_or_else g low s.place _ _ (forward_hold g low s.place s (omega arith) on) (forward_turn below body zero (Some (suc n)) true h built s on)
+  forward_repeat below body zero (Some (suc n)) false h built s on =
+      forward_or_else g low s.place _ _ (forward_turn below body zero (Some (suc n)) false h built s on) (forward_gives g low s.place s (omega arith) on)
+  forward_repeat below body zero None true h built s on =
+      forward_or_else g low s.place _ _ (forward_hold g low s.place s (omega arith) on) (forward_turn below body zero None true h built s on)
+  forward_repeat below body zero None false h built s on =
+      forward_or_else g low s.place _ _ (forward_turn below body zero None false h built s on) (forward_gives g low s.place s (omega arith) on)
+
+  module _ (below : Searches) (deeper : GoesBelow below) where
+    mutual
+      unfolding level
+
+      forward_level : (t : Nested) → IsBuilt t → Goes (level g below t)
+      forward_level tree.empty built s on = forward_gives g low s.place s (omega arith) on
+      forward_level (tree.one item) built s on = forward_one item s on
+      forward_level tree.line_break built s on = forward_break s on
+      forward_level (tree.seq ts) built s on = forward_in_order _ (forward_levels ts built) s on
+      forward_level (tree.group number ts) built s on = forward_group number _ (forward_branches _ (forward_levels ts built)) s on
+      forward_level (tree.repeat body least high lazily) built s on = forward_repeat below body least high lazily deeper built s on
+      forward_level (tree.one_repeat item least high lazily) built s on = forward_many item least high lazily s on
+      forward_level (tree.atomic ts) built s on = absurd built
+      forward_level (tree.look ahead positive once ts) built s on = absurd built
+      forward_level (tree.condition test first second) built s on = absurd built
+      forward_level (tree.call n) built s on = absurd built
+      forward_level (tree.ref ns caseless) built s on = forward_ref ns caseless s on
+      forward_level (tree.anchor kind) built s on = forward_anchor kind s on
+      forward_level tree.keep_out built s on = forward_gives g low s.place _ (omega arith) (with_keep g low s on)
+      forward_level (tree.verb v) built s on = absurd built
+      forward_level (tree.callout c) built s on = absurd built
+
+      forward_levels : (ts : Row) → AreBuilt ts → AllGo (levels g below ts)
+      forward_levels tree.none built = tt
+      forward_levels (tree.more t ts) built = (forward_level t built.0, forward_levels ts built.1)
+
+  pub forward_run : (d : ℕ) (t : Nested) → IsBuilt t → Goes (run g d t)
+  unfolding run Forward
+  forward_run zero t built s on = tt
+  forward_run (suc d) t built s on = forward_level (run g d) (forward_run d) t built s on

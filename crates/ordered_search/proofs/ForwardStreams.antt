@@ -1,0 +1,145 @@
+-- Streams that go forward: their states are reached at a place or past it, in the subject, and nothing is told beside them.
+use Rattle.std.proofs.Common.{◌≡◌, ◌∙◌, ℕ, ◌+◌, ◌≤◌, Bool, true, false, All, length, Some, None, arith}
+use Rattle.std.specs.Prelude.{nat_le}
+use Rattle.std.proofs.lemmas.List.{length-set}
+use Rattle.std.proofs.lemmas.List.Elements.{All-set}
+use Rattle.pat_tree.specs.declared.options.PartialMode.{PartialMode}
+use Rattle.pat_tree.specs.declared.options.PartialMode.TheVariants.{Off, Soft, Hard}
+use Rattle.ordered_search.specs.Stream.{State, exhausted, by_verb, by_halt, is_partial, too_many_units, loop, abort, cut, How, reached, accepted, note, state, step, Stream, Search, ends, ◌▸◌, nothing, gives, ◌or_else◌, each, and_then, go_on, catch, is_next_branch, captured}
+use Rattle.ordered_search.specs.Setting.{Setting, held, hold, reach, reach_if}
+use Rattle.ordered_search.specs.Forward.{IsWithin}
+
+module _ (g : Setting) (low : ℕ) where
+  -- a state on a path that began at `low`
+  pub record IsOnWay (s : State) : Type 0 where
+    pub begins : low ≤ s.keep
+    pub ordered : s.keep ≤ s.place
+    pub within : s.place ≤ length g.subject
+    pub caps : All (IsWithin (length g.subject)) s.caps
+    pub groups : length s.caps ≡ g.groups
+    pub no_mark : s.mark ≡ None
+
+  unfoldable pub Forward : ℕ → Stream → Type 0
+  Forward p (ends exhausted) = Unit {0}
+  Forward p (ends (by_verb v)) = ⊥
+  Forward p (ends (by_halt is_partial)) = ⊥
+  Forward p (ends (by_halt too_many_units)) = Unit {0}
+  Forward p (ends (by_halt loop)) = ⊥
+  Forward p (ends (by_halt (abort n))) = ⊥
+  Forward p (ends (by_halt cut)) = Unit {0}
+  Forward p (note k ▸ x) = ⊥
+  Forward p (state reached s ▸ x) = (p ≤ s.place) × IsOnWay s × Forward p x
+  Forward p (state accepted s ▸ x) = ⊥
+  Forward p (step ▸ x) = Forward p x
+
+  -- a search whose streams go forward
+  abbrev pub IsForward : Search → Type 0
+  IsForward f = (s : State) → IsOnWay s → Forward s.place (f s)
+
+  pub forward_nothing : (p : ℕ) → Forward p nothing
+  unfolding Forward
+  forward_nothing p = tt
+
+  pub forward_gives : (p : ℕ) (s : State) → p ≤ s.place → IsOnWay s → Forward p (gives reached s)
+  unfolding Forward
+  forward_gives p s h on = (h, on, tt)
+
+  pub forward_step : (p : ℕ) (x : Stream) → Forward p x → Forward p (step ▸ x)
+  unfolding Forward
+  forward_step p x h = h
+
+  pub forward_if : (p : ℕ) (b : Bool) (x y : Stream) → Forward p x → Forward p y → Forward p (elim b [ true ↦ x | false ↦ y ])
+  forward_if p true x y h k = h
+  forward_if p false x y h k = k
+
+  pub forward_less : (p q : ℕ) (x : Stream) → p ≤ q → Forward q x → Forward p x
+  unfolding Forward
+  forward_less p q (ends exhausted) le h = tt
+  forward_less p q (ends (by_verb v)) le h = absurd h
+  forward_less p q (ends (by_halt is_partial)) le h = absurd h
+  forward_less p q (ends (by_halt too_many_units)) le h = tt
+  forward_less p q (ends (by_halt loop)) le h = absurd h
+  forward_less p q (ends (by_halt (abort n))) le h = absurd h
+  forward_less p q (ends (by_halt cut)) le h = tt
+  forward_less p q (note k ▸ x) le h = absurd h
+  forward_less p q (state reached s ▸ x) le h = (omega (arith, le, h.0), h.1, forward_less p q x le h.2)
+  forward_less p q (state accepted s ▸ x) le h = absurd h
+  forward_less p q (step ▸ x) le h = forward_less p q x le h
+
+  pub forward_or_else : (p : ℕ) (x y : Stream) → Forward p x → Forward p y → Forward p (x or_else y)
+  unfolding Forward ◌or_else◌
+  forward_or_else p (ends exhausted) y h k = k
+  forward_or_else p (ends (by_verb v)) y h k = absurd h
+  forward_or_else p (ends (by_halt a)) y h k = h
+  forward_or_else p (note m ▸ x) y h k = absurd h
+  forward_or_else p (state reached s ▸ x) y h k = (h.0, h.1, forward_or_else p x y h.2 k)
+  forward_or_else p (state accepted s ▸ x) y h k = absurd h
+  forward_or_else p (step ▸ x) y h k = forward_or_else p x y h k
+
+  pub forward_each : (p : ℕ) (x : Stream) (f : How → Search) → Forward p x → ((s : State) → p ≤ s.place → IsOnWay s → Forward p (f reached s)) → Forward p (each x f)
+  unfolding Forward each
+  forward_each p (ends e) f h k = h
+  forward_each p (note m ▸ x) f h k = absurd h
+  forward_each p (state reached s ▸ x) f h k = forward_or_else p (f reached s) (each x f) (k s h.0 h.1) (forward_each p x f h.2 k)
+  forward_each p (state accepted s ▸ x) f h k = absurd h
+  forward_each p (step ▸ x) f h k = forward_each p x f h k
+
+  pub forward_and_then : (p : ℕ) (x : Stream) (f : Search) → Forward p x → ((s : State) → p ≤ s.place → IsOnWay s → Forward s.place (f s)) → Forward p (and_then x f)
+  forward_and_then p x f h k = forward_each p x (go_on f) h (λ s le on. forward_less p s.place (f s) le (k s le on))
+
+  pub forward_catch : (p : ℕ) (x : Stream) → Forward p x → Forward p (catch is_next_branch x)
+  unfolding Forward catch
+  forward_catch p (ends exhausted) h = tt
+  forward_catch p (ends (by_verb v)) h = absurd h
+  forward_catch p (ends (by_halt a)) h = h
+  forward_catch p (note m ▸ x) h = absurd h
+  forward_catch p (state reached s ▸ x) h = (h.0, h.1, forward_catch p x h.2)
+  forward_catch p (state accepted s ▸ x) h = absurd h
+  forward_catch p (step ▸ x) h = forward_catch p x h
+
+  -- States that stay on the way.
+
+  pub with_units : (s : State) (n : ℕ) → IsOnWay s → IsOnWay (record s { units = n })
+  with_units s n on = record { begins = on.begins; ordered = on.ordered; within = on.within; caps = on.caps; groups = on.groups; no_mark = on.no_mark }
+
+  pub with_early : (s : State) (n : ℕ) → IsOnWay s → IsOnWay (record s { early = n })
+  with_early s n on = record { begins = on.begins; ordered = on.ordered; within = on.within; caps = on.caps; groups = on.groups; no_mark = on.no_mark }
+
+  pub with_place : (s : State) (q : ℕ) → s.place ≤ q → q ≤ length g.subject → IsOnWay s → IsOnWay (record s { place = q })
+  with_place s q le in' on = let ordered = on.ordered in record { begins = on.begins; ordered = omega (arith, ordered, le); within = in'; caps = on.caps; groups = on.groups; no_mark = on.no_mark }
+
+  pub with_keep : (s : State) → IsOnWay s → IsOnWay (record s { keep = s.place })
+  with_keep s on =
+      let begins = on.begins in
+      let ordered = on.ordered in
+      record { begins = omega (arith, begins, ordered); ordered = omega arith; within = on.within; caps = on.caps; groups = on.groups; no_mark = on.no_mark }
+
+  pub with_capture : (s : State) (n p : ℕ) → p ≤ s.place → IsOnWay s → IsOnWay (captured n p s)
+  with_capture s n p le on = record {
+    begins = on.begins;
+    ordered = on.ordered;
+    within = on.within;
+    caps = All-set (IsWithin (length g.subject)) s.caps _ (Some (record { from = p; to = s.place })) (le, on.within) on.caps;
+    groups = length-set s.caps _ _ ∙ on.groups;
+    no_mark = on.no_mark;
+  }
+
+  -- Units and hits of the end.
+
+  pub forward_held : (p k : ℕ) (s : State) (f : Search) → Forward p (f (record s { units = s.units + k })) → Forward p (held g k s f)
+  unfolding held Forward
+  forward_held p k s f h = forward_if p (nat_le (s.units + k) g.matching.frame_limit) _ _ h tt
+
+  pub forward_hold : (p : ℕ) (s : State) → p ≤ s.place → IsOnWay s → Forward p (hold g reached s)
+  unfolding hold
+  forward_hold p s le on = forward_held p 1 s (gives reached) (forward_gives p _ le (with_units s _ on))
+
+  forward_off : (p : ℕ) (mode : PartialMode) (x y z : Stream) → mode ≡ Off → Forward p x → Forward p (elim mode [ Off ↦ x | Soft ↦ y | Hard ↦ z ])
+  forward_off p Off x y z e h = h
+  forward_off p Soft x y z e h = absurd (cc)
+  forward_off p Hard x y z e h = absurd (cc)
+
+  pub forward_reach_if : g.matching.«partial» ≡ Off → (p : ℕ) (b : Bool) (s : State) (x : Stream) → Forward p x → Forward p (reach_if g b s x)
+  unfolding reach reach_if
+  forward_reach_if off p true s x h = forward_off p g.matching.«partial» x _ _ off h
+  forward_reach_if off p false s x h = h

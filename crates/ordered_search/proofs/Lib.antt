@@ -1,0 +1,15 @@
+pub mod Late
+pub mod CutLaw
+pub mod WalkLaw
+pub mod PlaceRowProofs
+pub mod MatchRowProofs
+pub mod HitlessStreams
+pub mod Hitless
+pub mod NoPartial
+pub mod StartPlaces
+pub mod ForwardStreams
+pub mod ForwardSearch
+pub mod ForwardLaw
+pub mod Before
+pub mod Free
+pub mod Classes

@@ -1,0 +1,97 @@
+-- The start places of a search of bytes: each is later than the one before, and none is past the last one.
+use Rattle.std.proofs.Common.{inl, inr, ◌≡◌, ℕ, zero, suc, ◌+◌, ◌-◌, ◌<◌, ◌≤◌, Bool, true, false, length, Option, Some, None, nat_le, nat_lt, if◌then◌else◌, refl, sym, ap, subst, ◌∙◌, arith}
+use Rattle.std.specs.Prelude.{IfSome}
+use Rattle.std.proofs.lemmas.Bool.{cases_lt, leb-true, le-leb, lt-leb, ltb-true}
+use Rattle.byte_lanes.specs.Places.{least_of}
+use Rattle.uni_text.specs.Characters.{char_at}
+use Rattle.match_items.specs.Items.{newline_at}
+use Rattle.ordered_search.specs.PlaceAnswer.{Signal, Exhausted, Prune, Skip, Commit}
+use Rattle.ordered_search.specs.Setting.{Setting, anchored}
+use Rattle.ordered_search.specs.Places.{up_to, passes_crlf, next_place, last_place, within, place_after}
+
+-- A place that isn't past the last one.
+
+pub up_to_is : (last p : ℕ) → p ≤ last → up_to last (Some p) ≡ Some p
+up_to_is last p h = ap (λ b. elim b [ true ↦ Some p | false ↦ None ]) (le-leb p last h)
+
+pub up_to_past : (last p : ℕ) → last < p → up_to last (Some p) ≡ None
+up_to_past last p h = ap (λ b. elim b [ true ↦ Some p | false ↦ None ]) (lt-leb p last h)
+
+-- what holds of a place holds of it where it isn't past the last one
+pub up_to_keeps : (P : ℕ → Type 0) (last : ℕ) (o : Option ℕ) → IfSome o P → IfSome (up_to last o) (λ q. P q × (q ≤ last))
+up_to_keeps P last None h = tt
+up_to_keeps P last (Some q) h = by_test (nat_le q last) refl
+  where
+    by_test : (b : Bool) → nat_le q last ≡ b → IfSome (elim b [ true ↦ Some q | false ↦ None ]) (λ q. P q × (q ≤ last))
+    by_test true e = (h, leb-true q last e)
+    by_test false e = tt
+
+least_within : (test : ℕ → Bool) (i n : ℕ) → least_of test i n ≤ i + n
+unfolding least_of
+least_within test i zero = omega arith
+least_within test i (suc n) = by_test (test i) (least_within test (i + 1) n)
+  where
+    by_test : (b : Bool) → least_of test (i + 1) n ≤ (i + 1) + n → (if b then i else least_of test (i + 1) n) ≤ i + suc n
+    by_test true h = omega arith
+    by_test false h = omega (arith, h)
+
+least_low : (test : ℕ → Bool) (i n : ℕ) → i ≤ least_of test i n
+unfolding least_of
+least_low test i zero = omega arith
+least_low test i (suc n) = by_test (test i) (least_low test (i + 1) n)
+  where
+    by_test : (b : Bool) → i + 1 ≤ least_of test (i + 1) n → i ≤ (if b then i else least_of test (i + 1) n)
+    by_test true h = omega arith
+    by_test false h = omega (arith, h)
+
+module _ (g : Setting) (not_utf : g.options.utf ≡ false) (begun : g.start ≤ length g.subject) where
+  pub last_within : last_place g ≤ length g.subject
+  last_within = by_anchored (anchored g) g.options.firstline
+    where
+      by_anchored : (a f : Bool) → (elim a [ true ↦ g.start | false ↦ elim f [ true ↦ least_of (λ p. nat_lt 0 (newline_at g.scene p)) g.start (length g.subject - g.start) | false ↦ length g.subject ] ]) ≤ length g.subject
+      by_anchored true f = begun
+      by_anchored false true = omega (arith, least_within (λ p. nat_lt 0 (newline_at g.scene p)) g.start (length g.subject - g.start))
+      by_anchored false false = omega arith
+
+  pub start_within : g.start ≤ last_place g
+  start_within = by_anchored (anchored g) g.options.firstline
+    where
+      by_anchored : (a f : Bool) → g.start ≤ (elim a [ true ↦ g.start | false ↦ elim f [ true ↦ least_of (λ p. nat_lt 0 (newline_at g.scene p)) g.start (length g.subject - g.start) | false ↦ length g.subject ] ])
+      by_anchored true f = omega arith
+      by_anchored false true = least_low (λ p. nat_lt 0 (newline_at g.scene p)) g.start (length g.subject - g.start)
+      by_anchored false false = begun
+
+  -- the next place
+  abbrev char_from : ℕ → Bool → Bool → Option (ℕ × ℕ)
+  char_from p ends utf = elim ends [ true ↦ None | false ↦ Some (char_at utf g.subject p) ]
+
+  abbrev place_from : ℕ → Option (ℕ × ℕ) → Option ℕ
+  place_from p None = None
+  place_from p (Some c) = elim (passes_crlf g p) [ true ↦ Some (p + 2) | false ↦ Some c.1 ]
+
+  pub next_inside : (p : ℕ) → p < length g.subject → next_place g p ≡ elim (passes_crlf g p) [ true ↦ Some (p + 2) | false ↦ Some (p + 1) ]
+  next_inside p h = ap (λ e. place_from p (char_from p e g.options.utf)) (lt-leb (length g.subject) p h) ∙ ap (λ u. place_from p (char_from p false u)) not_utf
+
+  pub next_past : (p : ℕ) → length g.subject ≤ p → next_place g p ≡ None
+  next_past p h = ap (λ e. place_from p (char_from p e g.options.utf)) (le-leb (length g.subject) p h)
+
+  pub next_later : (p : ℕ) → IfSome (next_place g p) (λ q. p < q)
+  next_later p = elim (cases_lt p (length g.subject)) [
+    | inl inside ↦ subst (λ (o : Option ℕ). IfSome o (λ q. p < q)) (sym (next_inside p inside)) (by_crlf (passes_crlf g p))
+    | inr past ↦ subst (λ (o : Option ℕ). IfSome o (λ q. p < q)) (sym (next_past p past)) tt
+  ]
+    where
+      by_crlf : (b : Bool) → IfSome (elim b [ true ↦ Some (p + 2) | false ↦ Some (p + 1) ]) (λ q. p < q)
+      by_crlf true = omega arith
+      by_crlf false = omega arith
+
+  -- the place after one that failed is later, and none is past the last one
+  pub after_later : (p : ℕ) (signal : Signal) → IfSome (place_after g p signal) (λ q. (p < q) × (q ≤ last_place g))
+  after_later p Exhausted = up_to_keeps (λ q. p < q) (last_place g) (next_place g p) (next_later p)
+  after_later p Prune = up_to_keeps (λ q. p < q) (last_place g) (next_place g p) (next_later p)
+  after_later p (Skip to) = by_test (nat_lt p to) refl
+    where
+      by_test : (b : Bool) → nat_lt p to ≡ b → IfSome (elim b [ true ↦ within g (Some to) | false ↦ within g (next_place g p) ]) (λ q. (p < q) × (q ≤ last_place g))
+      by_test true e = up_to_keeps (λ q. p < q) (last_place g) (Some to) (ltb-true p to e)
+      by_test false e = up_to_keeps (λ q. p < q) (last_place g) (next_place g p) (next_later p)
+  after_later p Commit = tt

@@ -1,0 +1,364 @@
+-- What is read is built of forms that can be searched.
+use Rattle.std.proofs.Common.{◌≡◌, ℕ, zero, suc, ◌+◌, ◌-◌, ◌*◌, Bool, true, false, ◌||◌, nat_lt, List, [], ◌∷◌, length, map, not, Option, Some, None, Ok, refl, ap, All, slice_range}
+use Rattle.std.proofs.lemmas.List.Elements.{All-nil, All-cons, All-append}
+use Rattle.pat_tree.specs.declared.options.Options.{Options}
+use Rattle.pat_tree.specs.declared.nodes.Item.TheVariants as item
+use Rattle.pat_tree.specs.declared.nodes.ClassSpec.{ClassSpec}
+use Rattle.pat_tree.specs.declared.nodes.Part.TheVariants as part
+use Rattle.pat_tree.specs.declared.names.NameEntry.{NameEntry}
+use Rattle.pat_tree.specs.Nested.{Nested, Row, empty, one, group, anchor, row}
+use Rattle.pat_tree.specs.Nested as tree
+use Rattle.token_parts.specs.declared.token.OptionMask.{OptionMask}
+use Rattle.token_parts.specs.declared.token.OpenKind.TheVariants as opening
+use Rattle.token_parts.specs.declared.token.QuantMode.{QuantMode}
+use Rattle.token_parts.specs.declared.token.QuantMode.TheVariants.{Greedy, Lazy, Possessive}
+use Rattle.token_parts.specs.declared.token.StartItem.{StartItem}
+use Rattle.token_parts.specs.declared.token.StartItem.TheVariants as start_item
+use Rattle.token_parts.specs.declared.token.Token.{Token}
+use Rattle.token_parts.specs.declared.token.Token.TheVariants as token
+use Rattle.token_parts.specs.Tell.{fault, ◌>>=◌}
+use Rattle.pat_tree.specs.Built.{IsBuilt, AreBuilt, IsPlain}
+use Rattle.pat_build.specs.State.{State, Reads, next, passed_over}
+use Rattle.pat_build.specs.Options.{with_setting, with_item}
+use Rattle.pat_build.specs.Groups.{Opening, Opens, opened, captured, named, named_by, missing}
+use Rattle.pat_build.specs.Parts.{alternative, repeat_of, repeated, Beginning, atom, bare, inside, nothing, over, enters, of_class, type_class, any_or_line, boundary, beginning}
+use Rattle.pat_build.specs.Reading.{quantified, closed, part_then, parts_from, alternatives_from, sequence, alternatives, whole, started, start, reading, literally, checked, read_from, read}
+use Rattle.pat_build.specs.Searchable.{IsSearchable, SearchableLaw}
+use Rattle.pat_build.proofs.Holding.{Holds, holds_ok, holds_err, holds_then, holds_if, holds_where, holds_any, holds_of}
+use Rattle.pat_build.proofs.Searchable.Tokens.{AsksNoProperty}
+use Rattle.pat_build.proofs.Searchable.Classes.{IsPlainPart, Fits, Keeps, KeepsAfter, next_keeps, KeepsSome, passed_keeps, set_is_plain, ClassKeeps, class_keeps}
+
+abbrev AllBuilt : List Nested → Type 0
+AllBuilt [] = Unit {0}
+AllBuilt (t ∷ ts) = IsBuilt t × AllBuilt ts
+
+-- a tree, and the state after it
+abbrev TreeKeeps : Nested × State → Type 0
+TreeKeeps r = IsBuilt r.0 × Keeps r.1
+
+-- trees, and the state after them
+abbrev TreesKeep : List Nested × State → Type 0
+TreesKeep r = AllBuilt r.0 × Keeps r.1
+
+row_built : (ts : List Nested) → AllBuilt ts → AreBuilt (row ts)
+row_built [] h = tt
+row_built (t ∷ ts) h = (h.0, row_built ts h.1)
+
+alternative_built : (ts : List Nested) → AllBuilt ts → IsBuilt (alternative ts)
+alternative_built [] h = tt
+alternative_built (t ∷ []) h = h.0
+alternative_built (t ∷ u ∷ ts) h = row_built (t ∷ u ∷ ts) h
+
+repeat_built : (low : ℕ) (high : Option ℕ) (lazily : Bool) (t : Nested) → IsBuilt t → IsBuilt (repeat_of low high lazily t)
+repeat_built low high lazily (one i) h = tt
+repeat_built low high lazily tree.empty h = h
+repeat_built low high lazily tree.line_break h = h
+repeat_built low high lazily (tree.seq ts) h = h
+repeat_built low high lazily (tree.group number ts) h = h
+repeat_built low high lazily (tree.repeat t least most mode) h = h
+repeat_built low high lazily (tree.one_repeat i least most mode) h = h
+repeat_built low high lazily (tree.ref ns caseless) h = h
+repeat_built low high lazily (tree.anchor kind) h = h
+repeat_built low high lazily tree.keep_out h = h
+repeat_built low high lazily _ h = absurd h
+
+repeated_built : (low : ℕ) (high : Option ℕ) (mode : QuantMode) (t : Nested) (st : State) → IsBuilt t → Holds IsBuilt (repeated low high mode t st)
+repeated_built low high Greedy t st h = holds_ok IsBuilt _ (repeat_built low high _ t h)
+repeated_built low high Lazy t st h = holds_ok IsBuilt _ (repeat_built low high _ t h)
+repeated_built low high Possessive t st h = holds_err IsBuilt _
+
+-- options without UTF and UCP, whatever the classes are
+record IsWithout (options : Options) : Type 0 where
+  pub utf : options.utf ≡ false
+  pub ucp : options.ucp ≡ false
+
+-- a group, whose end puts the options around it back, and the state in which its inside begins
+abbrev GroupKeeps : Opening × State → Type 0
+GroupKeeps r = IsWithout r.0.around × Keeps r.1
+
+without : (options : Options) (classes : List ClassSpec) → Fits options classes → IsWithout options
+without options classes h = record { utf = h.utf; ucp = h.ucp }
+
+module _ (st : State) (h : Keeps st) where
+  opened_keeps : (number : Option ℕ) (after : State) → Keeps after → Holds GroupKeeps (opened st number after)
+  unfolding opened
+  opened_keeps number after k =
+      holds_if GroupKeeps _ _ _ (holds_err GroupKeeps _) (holds_ok GroupKeeps _ (without st.options st.classes h, k))
+
+  captured_keeps : (after : State) → Keeps after → Holds GroupKeeps (captured st after)
+  unfolding captured
+  captured_keeps after k =
+      holds_then GroupKeeps GroupKeeps _ _ (opened_keeps (Some (st.groups + 1)) (record after { groups = st.groups + 1 }) k)
+      (λ g l. holds_if GroupKeeps _ _ _ (holds_err GroupKeeps _) (holds_ok GroupKeeps g l))
+
+  named_keeps : (name : List ℕ) (after : State) → Keeps after → Holds GroupKeeps (named st name after)
+  unfolding named
+  named_keeps name after k =
+      holds_then GroupKeeps GroupKeeps _ _ (captured_keeps _ k)
+      (λ g l. holds_if GroupKeeps _ _ _ (holds_err GroupKeeps _) (holds_ok GroupKeeps g l))
+
+-- what begins at a token
+abbrev Begins : Beginning → Type 0
+Begins (atom t after) = IsBuilt t × Keeps after
+Begins (bare t after) = IsBuilt t × Keeps after
+Begins (inside opening begun) = IsWithout opening.around × Keeps begun
+Begins (nothing after) = Keeps after
+Begins over = Unit {0}
+
+enters_begins : (opens : Opens) → Holds GroupKeeps opens → Holds Begins (enters opens)
+enters_begins opens h = holds_then GroupKeeps Begins opens _ h (λ g k. holds_ok Begins (inside g.0 g.1) k)
+
+any_built : (dotall : Bool) → IsBuilt (any_or_line dotall)
+any_built true = tt
+any_built false = tt
+
+boundary_built : (opposite ucp : Bool) → ucp ≡ false → IsBuilt (anchor (boundary opposite ucp))
+boundary_built true ucp off = ap not off
+boundary_built false ucp off = ap not off
+
+with_class : (spec : ClassSpec) (after : State) → IsPlain spec → Keeps after → Begins (of_class spec after)
+with_class spec after plain h =
+    (tt, record { utf = h.utf; ucp = h.ucp; plain = All-append IsPlain after.classes (spec ∷ []) h.plain (All-cons IsPlain spec [] plain (All-nil IsPlain)) })
+
+setting_keeps : (reset : Bool) (on off : OptionMask) (options : Options) (classes : List ClassSpec) → IsWithout options → All IsPlain classes →
+    Fits (with_setting reset on off options) classes
+unfolding with_setting
+setting_keeps reset on off options classes h plain = record { utf = h.utf; ucp = h.ucp; plain = plain }
+
+module _ (known : List NameEntry) (text : List ℕ) where
+  begins : (n : ℕ) (st : State) (t : Token) (after : State) → Keeps st → AsksNoProperty t → Keeps after → Holds Begins (beginning known text n st t after)
+  begins n st token.End after h plain k = holds_ok Begins _ tt
+  begins n st token.Bar after h plain k = holds_ok Begins _ tt
+  begins n st token.Close after h plain k = holds_ok Begins _ tt
+  begins n st (token.Literal c) after h plain k = holds_ok Begins _ (tt, k)
+  begins n st token.Dot after h plain k = holds_ok Begins _ (any_built st.options.dotall, k)
+  begins n st token.NotNewline after h plain k = holds_ok Begins _ (tt, k)
+  begins n st token.LineBreak after h plain k = holds_ok Begins _ (tt, k)
+  begins n st (token.Set set opposite) after h plain k =
+      holds_ok Begins _ (with_class (type_class st (part.Set set opposite st.options.ucp)) after
+      (All-cons IsPlainPart (part.Set set opposite st.options.ucp) [] (set_is_plain set opposite st.options.ucp plain h.ucp) (All-nil IsPlainPart)) k)
+  begins n st (token.ClassStart negated) after h plain k =
+      holds_then (ClassKeeps text) Begins _ _ (class_keeps text n negated after k)
+      (λ r l. holds_ok Begins _ (with_class r.0 r.1 l.0 l.1))
+  begins n st token.Caret after h plain k = holds_ok Begins _ (refl, k)
+  begins n st token.Dollar after h plain k = holds_ok Begins _ (refl, k)
+  begins n st token.SubjectStart after h plain k = holds_ok Begins _ (refl, k)
+  begins n st token.SubjectEnd after h plain k = holds_ok Begins _ (refl, k)
+  begins n st token.EndOrNewline after h plain k = holds_ok Begins _ (refl, k)
+  begins n st token.StartGiven after h plain k = holds_ok Begins _ (refl, k)
+  begins n st (token.Boundary opposite) after h plain k = holds_ok Begins _ (boundary_built opposite st.options.ucp h.ucp, k)
+  begins n st token.KeepOut after h plain k = holds_ok Begins _ (tt, k)
+  begins n st (token.Reference target) after h plain k =
+      holds_then (λ groups. Unit {0}) Begins (named_by known text st target) _ (holds_any _) (λ groups _. holds_ok Begins _ (tt, k))
+  begins n st (token.Open opening.Capture) after h plain k =
+      enters_begins _ (holds_if GroupKeeps _ _ _ (opened_keeps st h None after k) (captured_keeps st h after k))
+  begins n st (token.Open opening.Plain) after h plain k = enters_begins _ (opened_keeps st h None after k)
+  begins n st (token.Open (opening.Named from to)) after h plain k = enters_begins _ (named_keeps st h (slice_range text from to) after k)
+  begins n st (token.OptionSet reset on off true) after h plain k =
+      enters_begins _ (opened_keeps st h None (record after { options = with_setting reset on off st.options })
+      (setting_keeps reset on off st.options after.classes (without st.options st.classes h) k.plain))
+  begins n st (token.OptionSet reset on off false) after h plain k =
+      holds_ok Begins _ (setting_keeps reset on off st.options after.classes (without st.options st.classes h) k.plain)
+  begins n st token.Passed after h plain k = holds_ok Begins _ k
+  begins n st token.QuoteOn after h plain k = holds_ok Begins _ k
+  begins n st token.QuoteOff after h plain k = holds_ok Begins _ k
+  begins n st _ after h plain k = holds_err Begins _
+
+module _ (text : List ℕ) where
+  after_atom : (n : ℕ) (t : Nested) (st : State) (o : Option State) → IsBuilt t → Keeps st →
+      ((st : State) → Keeps st → Holds TreeKeeps (quantified text n t st)) → KeepsSome o →
+      Holds TreeKeeps (elim o [ Some beyond ↦ quantified text n t beyond | None ↦ Ok (t, st) ])
+  after_atom n t st (Some beyond) built h again k = again beyond k
+  after_atom n t st None built h again k = holds_ok TreeKeeps (t, st) (built, h)
+
+  after_token : (n : ℕ) (t : Nested) (st : State) (found : Token) (after : State) → IsBuilt t → Keeps st →
+      ((st : State) → Keeps st → Holds TreeKeeps (quantified text n t st)) → Keeps after →
+      Holds TreeKeeps (elim found [
+        | token.Quantifier low high mode ↦ repeated low high mode t st >>= λ part. Ok (part, after)
+        | other ↦ elim (passed_over other after) [ Some beyond ↦ quantified text n t beyond | None ↦ Ok (t, st) ]
+      ])
+  after_token n t st (token.Quantifier low high mode) after built h again k =
+      holds_then IsBuilt TreeKeeps _ _ (repeated_built low high mode t st built) (λ part l. holds_ok TreeKeeps (part, after) (l, k))
+  after_token n t st other after built h again k = after_atom n t st (passed_over other after) built h again (passed_keeps other after k)
+
+  quantified_keeps : (n : ℕ) (t : Nested) (st : State) → IsBuilt t → Keeps st → Holds TreeKeeps (quantified text n t st)
+  unfolding quantified
+  quantified_keeps zero t st built h = holds_err TreeKeeps _
+  quantified_keeps (suc n) t st built h =
+      holds_then KeepsAfter TreeKeeps (next text false st) _ (next_keeps text false st h)
+      (λ r k. after_token n t st r.0 r.1 built h (λ st l. quantified_keeps n t st built l) k.1)
+
+  closed_at : (opening : Opening) (branches : List Nested) (st : State) (found : Token) (after : State) → IsWithout opening.around → AllBuilt branches → Keeps after →
+      Holds TreeKeeps (elim found [
+        | token.Close ↦ Ok (group opening.number (row branches), record after { options = opening.around; depth = st.depth - 1 })
+        | _ ↦ fault 114 (length text)
+      ])
+  closed_at opening branches st token.Close after h built k =
+      holds_ok TreeKeeps (group opening.number (row branches), record after { options = opening.around; depth = st.depth - 1 })
+      (row_built branches built, record { utf = h.utf; ucp = h.ucp; plain = k.plain })
+  closed_at opening branches st _ after h built k = holds_err TreeKeeps _
+
+  closed_keeps : (opening : Opening) (branches : List Nested) (st : State) → IsWithout opening.around → AllBuilt branches → Keeps st →
+      Holds TreeKeeps (closed text opening branches st)
+  unfolding closed
+  closed_keeps opening branches st h built k =
+      holds_then KeepsAfter TreeKeeps (next text false st) _ (next_keeps text false st k)
+      (λ r l. closed_at opening branches st r.0 r.1 h built l.1)
+
+  -- what goes on from any such state
+  abbrev GoesOn : (State → Reads (List Nested)) → Type 0
+  GoesOn rest = (st : State) → Keeps st → Holds TreesKeep (rest st)
+
+  part_then_keeps : (rest : State → Reads (List Nested)) (first : Reads Nested) → GoesOn rest → Holds TreeKeeps first →
+      Holds TreesKeep (part_then text rest first)
+  unfolding part_then
+  part_then_keeps rest first goes h =
+      holds_then TreeKeeps TreesKeep first _ h
+      (λ r k. holds_then TreesKeep TreesKeep (rest r.1) _ (goes r.1 k.1)
+      (λ s l. holds_ok TreesKeep (r.0 ∷ s.0, s.1) ((k.0, l.0), l.1)))
+
+  parts_keep : (n : ℕ) (inner rest : State → Reads (List Nested)) (st : State) (what : Beginning) → GoesOn inner → GoesOn rest → Keeps st → Begins what →
+      Holds TreesKeep (parts_from text n inner rest st what)
+  parts_keep n inner rest st (atom t after) g goes h k = part_then_keeps rest _ goes (quantified_keeps n t after k.0 k.1)
+  parts_keep n inner rest st (bare t after) g goes h k = part_then_keeps rest _ goes (holds_ok TreeKeeps (t, after) k)
+  parts_keep n inner rest st (inside opening begun) g goes h k =
+      part_then_keeps rest _ goes
+      (holds_then TreesKeep TreeKeeps (inner begun) _ (g begun k.1)
+      (λ r l. holds_then TreeKeeps TreeKeeps _ _ (closed_keeps opening r.0 r.1 k.0 l.0 l.1)
+      (λ s m. quantified_keeps n s.0 s.1 m.0 m.1)))
+  parts_keep n inner rest st (nothing after) g goes h k = goes after k
+  parts_keep n inner rest st over g goes h k = holds_ok TreesKeep ([], st) (tt, h)
+
+  alternatives_at : (again : State → Reads (List Nested)) (parts : List Nested) (st : State) (found : Token) (after : State) → GoesOn again → AllBuilt parts → Keeps st → Keeps after →
+      Holds TreesKeep (elim found [
+        | token.Bar ↦ again after >>= λ (others, end). Ok (alternative parts ∷ others, end)
+        | _ ↦ Ok (alternative parts ∷ [], st)
+      ])
+  alternatives_at again parts st token.Bar after goes built h k =
+      holds_then TreesKeep TreesKeep (again after) _ (goes after k)
+      (λ r l. holds_ok TreesKeep (alternative parts ∷ r.0, r.1) ((alternative_built parts built, l.0), l.1))
+  alternatives_at again parts st _ after goes built h k = holds_ok TreesKeep (alternative parts ∷ [], st) ((alternative_built parts built, tt), h)
+
+  alternatives_from_keep : (again : State → Reads (List Nested)) (parts : List Nested) (st : State) → GoesOn again → AllBuilt parts → Keeps st →
+      Holds TreesKeep (alternatives_from text again parts st)
+  unfolding alternatives_from
+  alternatives_from_keep again parts st goes built h =
+      holds_then KeepsAfter TreesKeep (next text false st) _ (next_keeps text false st h)
+      (λ r k. alternatives_at again parts st r.0 r.1 goes built h k.1)
+
+module _ (known : List NameEntry) (text : List ℕ) where
+  mutual
+    unfolding sequence alternatives
+
+    sequence_keeps : (n : ℕ) (st : State) → Keeps st → Holds TreesKeep (sequence known text n st)
+    sequence_keeps zero st h = holds_err TreesKeep _
+    sequence_keeps (suc n) st h =
+        holds_then KeepsAfter TreesKeep (next text false st) _ (next_keeps text false st h)
+        (λ r k. holds_then Begins TreesKeep _ _ (begins known text n st r.0 r.1 h k.0 k.1)
+        (λ what l. parts_keep text n (alternatives known text n) (sequence known text n) st what (alternatives_keep n) (sequence_keeps n) h l))
+
+    alternatives_keep : (n : ℕ) (st : State) → Keeps st → Holds TreesKeep (alternatives known text n st)
+    alternatives_keep zero st h = holds_err TreesKeep _
+    alternatives_keep (suc n) st h =
+        holds_then TreesKeep TreesKeep (sequence known text n st) _ (sequence_keeps n st h)
+        (λ r k. alternatives_from_keep text (alternatives known text n) r.0 r.1 (alternatives_keep n) k.0 k.1)
+
+whole_at : (branches : List Nested) (st : State) (found : Token) → AllBuilt branches → Keeps st →
+    Holds TreeKeeps (elim found [ token.End ↦ Ok (group None (row branches), st) | _ ↦ fault 122 st.at ])
+whole_at branches st token.End built h = holds_ok TreeKeeps (group None (row branches), st) (row_built branches built, h)
+whole_at branches st _ built h = holds_err TreeKeeps _
+
+whole_keeps : (text : List ℕ) (branches : List Nested) (st : State) → AllBuilt branches → Keeps st → Holds TreeKeeps (whole text branches st)
+unfolding whole
+whole_keeps text branches st built h =
+    holds_then KeepsAfter TreeKeeps (next text false st) _ (next_keeps text false st h)
+    (λ r k. whole_at branches st r.0 built h)
+
+reading_keeps : (known : List NameEntry) (text : List ℕ) (st : State) → Keeps st → Holds TreeKeeps (reading known text st)
+unfolding reading
+reading_keeps known text st h =
+    holds_then TreesKeep TreeKeeps (alternatives known text (2 * length text + 2) st) _ (alternatives_keep known text (2 * length text + 2) st h)
+    (λ r k. whole_keeps text r.0 r.1 k.0 k.1)
+
+-- no start item sets UTF or UCP
+item_without : (i : StartItem) (at : ℕ) (options : Options) → IsWithout options → Holds IsWithout (with_item i at options)
+unfolding with_item
+item_without (start_item.NewlineIs newline) at o h = holds_ok IsWithout _ (record { utf = h.utf; ucp = h.ucp })
+item_without (start_item.BsrIs bsr) at o h = holds_ok IsWithout _ (record { utf = h.utf; ucp = h.ucp })
+item_without start_item.Utf at o h = holds_err IsWithout _
+item_without start_item.Ucp at o h = holds_err IsWithout _
+item_without start_item.NotEmpty at o h = holds_ok IsWithout _ (record { utf = h.utf; ucp = h.ucp })
+item_without start_item.NotEmptyAtStart at o h = holds_ok IsWithout _ (record { utf = h.utf; ucp = h.ucp })
+item_without start_item.NoStartOpt at o h = holds_ok IsWithout _ (record { utf = h.utf; ucp = h.ucp })
+item_without start_item.NoEffect at o h = holds_ok IsWithout _ (record { utf = h.utf; ucp = h.ucp })
+item_without (start_item.LimitMatch limit) at o h = holds_ok IsWithout _ (record { utf = h.utf; ucp = h.ucp })
+
+started_at : (text : List ℕ) (n : ℕ) (st : State) (found : Token) (after : State) → Keeps st → Keeps after →
+    ((st : State) → Keeps st → Holds Keeps (started text n st)) →
+    Holds Keeps (elim found [
+      | token.Start i ↦ with_item i st.at st.options >>= λ options. started text n (record after { options = options })
+      | _ ↦ Ok st
+    ])
+started_at text n st (token.Start i) after h k again =
+    holds_then IsWithout Keeps _ _ (item_without i st.at st.options (without st.options st.classes h))
+    (λ options l. again (record after { options = options }) (record { utf = l.utf; ucp = l.ucp; plain = k.plain }))
+started_at text n st _ after h k again = holds_ok Keeps st h
+
+started_keeps : (text : List ℕ) (n : ℕ) (st : State) → Keeps st → Holds Keeps (started text n st)
+unfolding started
+started_keeps text zero st h = holds_err Keeps _
+started_keeps text (suc n) st h =
+    holds_then KeepsAfter Keeps (next text false st) _ (next_keeps text false st h)
+    (λ r k. started_at text n st r.0 r.1 h k.1 (started_keeps text n))
+
+checked_searchable : (options : Options) (bad : Option ℕ) (t : Nested) (last : State) → IsWithout options → IsBuilt t → Keeps last →
+    Holds IsSearchable (checked options bad t last)
+checked_searchable options (Some at) t last h built k = holds_err IsSearchable _
+checked_searchable options None t last h built k =
+    holds_ok IsSearchable _ (record { built = built; without_utf = h.utf; without_ucp = h.ucp; plain = k.plain })
+
+read_from_searchable : (text : List ℕ) (st : State) → Keeps st → Holds IsSearchable (read_from text st)
+unfolding read_from
+read_from_searchable text st h =
+    holds_then (λ r. Unit {0}) IsSearchable (reading [] text st) _ (holds_any _)
+    (λ first _. holds_then TreeKeeps IsSearchable (reading first.1.names text st) _ (reading_keeps first.1.names text st h)
+    (λ r k. checked_searchable st.options (missing r.1.groups r.1.references) r.0 r.1 (without st.options st.classes h) k.0 k.1))
+
+characters_built : (caseless : Bool) (text : List ℕ) → AllBuilt (map (λ c. one (item.Char c caseless)) text)
+characters_built caseless [] = tt
+characters_built caseless (c ∷ cs) = (tt, characters_built caseless cs)
+
+literally_searchable : (options : Options) (text : List ℕ) → IsWithout options → IsSearchable (literally options text)
+unfolding literally
+literally_searchable options text h = record {
+  built = (alternative_built _ (characters_built options.caseless text), tt);
+  without_utf = h.utf;
+  without_ucp = h.ucp;
+  plain = All-nil IsPlain;
+}
+
+neither : (a b : Bool) → (a || b) ≡ false → (a ≡ false) × (b ≡ false)
+neither true b none = cc
+neither false b none = (refl, none)
+
+without_both : (options : Options) → (options.utf || (options.ucp || options.auto_callout)) ≡ false → IsWithout options
+without_both options none =
+    let first = neither options.utf (options.ucp || options.auto_callout) none in
+    let second = neither options.ucp options.auto_callout first.1 in
+    record { utf = first.0; ucp = second.0 }
+
+starts_without : (options : Options) → IsWithout options → Keeps (start options)
+starts_without options h = record { utf = h.utf; ucp = h.ucp; plain = All-nil IsPlain }
+
+read_searchable : (options : Options) (text : List ℕ) → Holds IsSearchable (read options text)
+unfolding read
+read_searchable options text =
+    holds_if IsSearchable (nat_lt 65536 (length text)) _ _ (holds_err IsSearchable _)
+    (holds_where IsSearchable (options.utf || (options.ucp || options.auto_callout)) _ _ (holds_err IsSearchable _) (λ none.
+    holds_if IsSearchable options.literal _ _ (holds_ok IsSearchable _ (literally_searchable options text (without_both options none)))
+    (holds_then Keeps IsSearchable (started text (length text + 1) (start options)) _
+    (started_keeps text (length text + 1) (start options) (starts_without options (without_both options none)))
+    (read_from_searchable text))))
+
+pub searchable_law : SearchableLaw
+searchable_law options text parsed is = holds_of IsSearchable (read options text) parsed (read_searchable options text) is

@@ -1,0 +1,49 @@
+-- The patterns that are told about and searched: without atomic groups, lookarounds, conditions, calls, verbs and callouts.
+-- No class asks for a property of Unicode, and `\b` and `\B` go by the word characters of ASCII.
+use Rattle.std.specs.Prelude.{Bool, true, false, not, IsTrue, All}
+use Rattle.pat_tree.specs.declared.nodes.AnchorKind.{AnchorKind}
+use Rattle.pat_tree.specs.declared.nodes.AnchorKind.TheVariants.{Word, NotWord}
+use Rattle.pat_tree.specs.declared.nodes.SetName.TheVariants.{Property}
+use Rattle.pat_tree.specs.declared.nodes.Part.{Part}
+use Rattle.pat_tree.specs.declared.nodes.Part.TheVariants.{Range, Set}
+use Rattle.pat_tree.specs.declared.nodes.ClassSpec.{ClassSpec}
+use Rattle.pat_tree.specs.Nested as tree
+use Rattle.pat_tree.specs.Nested.{Nested, Row}
+
+-- an assertion that asks for no property of Unicode
+abbrev pub is_plain_anchor : AnchorKind → Bool
+is_plain_anchor (Word ucp) = not ucp
+is_plain_anchor (NotWord ucp) = not ucp
+is_plain_anchor _ = true
+
+abbrev mutual
+  pub IsBuilt : Nested → Type 0
+  IsBuilt tree.empty = Unit {0}
+  IsBuilt (tree.one item) = Unit {0}
+  IsBuilt tree.line_break = Unit {0}
+  IsBuilt (tree.seq ts) = AreBuilt ts
+  IsBuilt (tree.group number ts) = AreBuilt ts
+  IsBuilt (tree.repeat body low high lazily) = IsBuilt body
+  IsBuilt (tree.one_repeat item low high lazily) = Unit {0}
+  IsBuilt (tree.atomic ts) = ⊥
+  IsBuilt (tree.look ahead positive once ts) = ⊥
+  IsBuilt (tree.condition test first second) = ⊥
+  IsBuilt (tree.call n) = ⊥
+  IsBuilt (tree.ref ns caseless) = Unit {0}
+  IsBuilt (tree.anchor kind) = IsTrue (is_plain_anchor kind)
+  IsBuilt tree.keep_out = Unit {0}
+  IsBuilt (tree.verb v) = ⊥
+  IsBuilt (tree.callout c) = ⊥
+
+  pub AreBuilt : Row → Type 0
+  AreBuilt tree.none = Unit {0}
+  AreBuilt (tree.more t ts) = IsBuilt t × AreBuilt ts
+
+-- a part that asks for no property of Unicode
+abbrev pub is_plain : Part → Bool
+is_plain (Range from to) = true
+is_plain (Set (Property n) reversed ucp) = false
+is_plain (Set set reversed ucp) = not ucp
+
+abbrev pub IsPlain : ClassSpec → Type 0
+IsPlain class = All (λ part. IsTrue (is_plain part)) class.parts

@@ -1,0 +1,5 @@
+pub mod Cuts
+pub mod Writing
+pub mod Joining
+pub mod Closings
+pub mod LineLaw

@@ -1,0 +1,11 @@
+pub mod Modifiers
+pub mod Table
+pub mod Texts
+pub mod Refusals
+pub mod Values
+pub mod Stopping
+pub mod Lists
+pub mod Subjects
+pub mod Pieces
+pub mod Script
+pub mod Readers
