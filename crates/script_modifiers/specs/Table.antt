@@ -2,12 +2,12 @@
 use Rattle.std.specs.Prelude.{ℕ, Bool, true, false, List, [], ◌∷◌, Option, Some, None, codes, bytes_eq, find, if◌then◌else◌}
 use Rattle.std.specs.Option.{option_map, option_or}
 use Rattle.token_parts.specs.Bytes.{◌∈◌}
-use Rattle.test_script.specs.declared.kinds.Flag.{Flag}
-use Rattle.test_script.specs.declared.kinds.Flag.TheVariants as flag
-use Rattle.test_script.specs.declared.kinds.NumberModifier.TheVariants as number
-use Rattle.test_script.specs.declared.table.Row.{Row as Kept}
-use Rattle.test_script.specs.declared.kinds.Modifier.{Modifier}
-use Rattle.test_script.specs.declared.kinds.Modifier.TheVariants as modifier
+use Rattle.script_modifiers.specs.declared.kinds.Flag.{Flag}
+use Rattle.script_modifiers.specs.declared.kinds.Flag.TheVariants as flag
+use Rattle.script_modifiers.specs.declared.kinds.NumberModifier.TheVariants as number
+use Rattle.script_modifiers.specs.declared.table.Row.{Row as Kept}
+use Rattle.script_modifiers.specs.declared.kinds.Modifier.{Modifier}
+use Rattle.script_modifiers.specs.declared.kinds.Modifier.TheVariants as modifier
 
 pub record Row : Type 0 where
   pub name : List ℕ

@@ -1,6 +1,6 @@
 //! What the modifiers of a list say.
 ghost use Rattle.std.specs.Prelude.{◌≡◌, IfOk};
-ghost use Rattle.test_script.specs.Modifiers.{ungiven, over};
+ghost use Rattle.script_modifiers.specs.Modifiers.{ungiven, over};
 
 use crate::refusal::Memory;
 use pat_tree::{Bsr, ByteList, Newline};

@@ -1,6 +1,6 @@
 //! What is refused, and want of memory.
 ghost use Rattle.std.specs.Prelude.{◌≡◌, IfErr};
-ghost use Rattle.test_script.specs.declared.refusal.ListError.TheVariants as answer;
+ghost use Rattle.script_modifiers.specs.declared.refusal.ListError.TheVariants as answer;
 
 use pat_tree::Word;
 use std::alloc::{AllocError, AllocFailed, Global};

@@ -7,10 +7,10 @@ use Rattle.byte_lanes.specs.Digits.{number_of}
 use Rattle.pat_tree.specs.Newlines.{newline_in_any_case}
 use Rattle.pat_tree.specs.declared.options.Bsr.{Bsr}
 use Rattle.pat_tree.specs.declared.options.Bsr.TheVariants as bsr
-use Rattle.test_script.specs.declared.modifiers.Modifiers.{Modifiers}
-use Rattle.test_script.specs.declared.kinds.Modifier.{Modifier}
-use Rattle.test_script.specs.declared.kinds.Modifier.TheVariants as modifier
-use Rattle.test_script.specs.Modifiers.{flag_given, number_given}
+use Rattle.script_modifiers.specs.declared.modifiers.Modifiers.{Modifiers}
+use Rattle.script_modifiers.specs.declared.kinds.Modifier.{Modifier}
+use Rattle.script_modifiers.specs.declared.kinds.Modifier.TheVariants as modifier
+use Rattle.script_modifiers.specs.Modifiers.{flag_given, number_given}
 
 -- a number: one or more decimal digits, at most 4,294,967,295
 abbrev pub decimal : List ℕ → Option ℕ

@@ -2,15 +2,15 @@
 use Rattle.std.specs.Prelude.{ℕ, ◌+◌, ◌==◌, List, [], ◌∷◌, Bool, true, false, not, ◌&&◌, Option, Some, None, Ok, take, drop, position, nat_eq, codes, if◌then◌else◌}
 use Rattle.std.specs.List.{slice_split, starts_with}
 use Rattle.std.specs.Option.{option_map, option_and_then}
-use Rattle.test_script.specs.declared.modifiers.Modifiers.{Modifiers}
-use Rattle.test_script.specs.declared.kinds.Flag.TheVariants as flag
-use Rattle.test_script.specs.declared.kinds.Modifier.{Modifier}
-use Rattle.test_script.specs.declared.refusal.Refusal.TheVariants.{UnknownModifier, BadModifierValue}
-use Rattle.test_script.specs.Modifiers.{ungiven, flag_given}
-use Rattle.test_script.specs.Table.{by_name, by_letter}
-use Rattle.test_script.specs.Values.{plain_given, value_given}
-use Rattle.test_script.specs.Refusals.{Reads, ◌>>=◌, or_refused}
-use Rattle.test_script.specs.Texts.{is_blank, without_begin, without_end}
+use Rattle.script_modifiers.specs.declared.modifiers.Modifiers.{Modifiers}
+use Rattle.script_modifiers.specs.declared.kinds.Flag.TheVariants as flag
+use Rattle.script_modifiers.specs.declared.kinds.Modifier.{Modifier}
+use Rattle.script_modifiers.specs.declared.refusal.Refusal.TheVariants.{UnknownModifier, BadModifierValue}
+use Rattle.script_modifiers.specs.Modifiers.{ungiven, flag_given}
+use Rattle.script_modifiers.specs.Table.{by_name, by_letter}
+use Rattle.script_modifiers.specs.Values.{plain_given, value_given}
+use Rattle.script_modifiers.specs.Refusals.{Reads, ◌>>=◌, or_refused}
+use Rattle.script_modifiers.specs.Texts.{is_blank, without_begin, without_end}
 
 -- letters that are joined, of which `xx` is one
 abbrev pub begins_xx : List ℕ → Bool

@@ -1,8 +1,8 @@
 -- Blanks, white space, and texts without them.
 use Rattle.std.specs.Prelude.{ℕ, ◌-◌, ◌==◌, ◌||◌, Bool, true, List, [], ◌∷◌, length, take, drop, reverse, take_while}
 use Rattle.std.specs.Int.{is_in_range}
-use Rattle.test_script.specs.declared.spaces.Space.{Space}
-use Rattle.test_script.specs.declared.spaces.Space.TheVariants.{Blank, White}
+use Rattle.script_modifiers.specs.declared.spaces.Space.{Space}
+use Rattle.script_modifiers.specs.declared.spaces.Space.TheVariants.{Blank, White}
 
 -- space and tab
 abbrev pub is_blank : ℕ → Bool

@@ -2,9 +2,9 @@
 ghost use Rattle.std.specs.Prelude.{◌≡◌, IfOk, IfErr, OnOk, Some, None};
 ghost use Rattle.std.specs.List.{list_all};
 ghost use Rattle.std.specs.Char.{is_ascii_digit};
-ghost use Rattle.test_script.specs.Modifiers.{flag_given, number_given};
-ghost use Rattle.test_script.specs.Values.{decimal, bsr_of, plain_given, value_given};
-ghost use Rattle.test_script.specs.Stopping.{Stops};
+ghost use Rattle.script_modifiers.specs.Modifiers.{flag_given, number_given};
+ghost use Rattle.script_modifiers.specs.Values.{decimal, bsr_of, plain_given, value_given};
+ghost use Rattle.script_modifiers.specs.Stopping.{Stops};
 
 use crate::kinds::{Flag, Modifier, NumberModifier};
 use crate::modifiers::Modifiers;
@@ -22,7 +22,7 @@ pub enum Stop {
 }
 
 impl From<AllocError> for Stop {
-    ghost use Rattle.test_script.specs.declared.effects.Stop.TheVariants as stop;
+    ghost use Rattle.script_modifiers.specs.declared.effects.Stop.TheVariants as stop;
 
     ghost from_gives = { λ _ stopped. stopped ≡ stop.Memory };
 

@@ -1,6 +1,6 @@
 //! The modifiers by their names and letters.
 ghost use Rattle.std.specs.Prelude.{◌≡◌, map};
-ghost use Rattle.test_script.specs.Table.{row_seen, on_both, on_patterns, named, by_name, by_letter};
+ghost use Rattle.script_modifiers.specs.Table.{row_seen, on_both, on_patterns, named, by_name, by_letter};
 
 use crate::kinds::{Flag, Modifier, NumberModifier};
 

@@ -1,8 +1,8 @@
 -- What is refused, and what a call that reads may answer.
 use Rattle.std.specs.Prelude.{◌≡◌, ⊤, Option, Some, None, Result, Ok, Err}
-use Rattle.test_script.specs.declared.refusal.Refusal.{Refusal}
-use Rattle.test_script.specs.declared.refusal.ListError.{ListError}
-use Rattle.test_script.specs.declared.refusal.ListError.TheVariants.{Refused, Memory}
+use Rattle.script_modifiers.specs.declared.refusal.Refusal.{Refusal}
+use Rattle.script_modifiers.specs.declared.refusal.ListError.{ListError}
+use Rattle.script_modifiers.specs.declared.refusal.ListError.TheVariants.{Refused, Memory}
 
 -- what is read, or why it is refused
 abbrev pub Reads : Type 0 → Type 0

@@ -1,6 +1,6 @@
 //! Blanks and white space.
 ghost use Rattle.std.specs.Prelude.{◌≡◌, ◌≤◌, length, reverse, take_while};
-ghost use Rattle.test_script.specs.Texts.{is_space, without_begin, without_end, begins_white, is_white};
+ghost use Rattle.script_modifiers.specs.Texts.{is_space, without_begin, without_end, begins_white, is_white};
 
 /// Bytes that may be passed over.
 #[derive(Clone, Copy)]
@@ -52,6 +52,7 @@ impl Space {
     }
 }
 
+/// Whether a byte is white space.
 pub fn is_white(b: u8) -> bool
     ensures { result ≡ is_white b }
 {

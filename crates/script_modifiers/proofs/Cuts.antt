@@ -3,9 +3,9 @@ use Rattle.std.proofs.Common.{◌≡◌, ℕ, ◌+◌, ◌<◌, ◌≤◌, Bool,
 use Rattle.std.specs.List.{position, position_or_len, slice_split}
 use Rattle.std.proofs.lemmas.List.Splits.{slice_split_first, slice_split-cons_no}
 use borrow.Author.Tests.{ltb-true, ltb-false}
-use Rattle.test_script.specs.declared.refusal.ListError.{ListError}
-use Rattle.test_script.specs.declared.refusal.ListError.TheVariants.{Refused, Memory}
-use Rattle.test_script.specs.Refusals.{Reads, ◌>>=◌, Refuses}
+use Rattle.script_modifiers.specs.declared.refusal.ListError.{ListError}
+use Rattle.script_modifiers.specs.declared.refusal.ListError.TheVariants.{Refused, Memory}
+use Rattle.script_modifiers.specs.Refusals.{Reads, ◌>>=◌, Refuses}
 
 given_place : (n m i : ℕ) (b : Bool) → ltb n m ≡ b → cond b (Some n) None ≡ Some i → (n < m) × (n ≡ i)
 given_place n m i true less same = (ltb-true n m less, cc)

@@ -1,8 +1,8 @@
 use Rattle.std.proofs.Common.{sym, ◌∙◌, ap, take, ◌∷◌}
 use Rattle.std.specs.List.{slice_split}
-use Rattle.test_script.specs.Lists.{is_comma}
-use Rattle.test_script.proofs.Cuts.{split_at_place, split_nowhere}
-use Rattle.test_script.proofs.lists.first_item.Goals as goal
+use Rattle.script_modifiers.specs.Lists.{is_comma}
+use Rattle.script_modifiers.proofs.Cuts.{split_at_place, split_nowhere}
+use Rattle.script_modifiers.proofs.lists.first_item.Goals as goal
 
 pub returns-in-Some-clause-more : goal.returns-in-Some-clause-more
 returns-in-Some-clause-more c =

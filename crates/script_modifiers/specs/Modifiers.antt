@@ -1,11 +1,11 @@
 -- What the modifiers of a list say, and what each of them sets (pcre2test, "PATTERN MODIFIERS" and "SUBJECT MODIFIERS").
 use Rattle.std.specs.Prelude.{ℕ, Bool, Some, None}
 use Rattle.std.specs.Option.{option_or}
-use Rattle.test_script.specs.declared.modifiers.Modifiers.{Modifiers}
-use Rattle.test_script.specs.declared.kinds.Flag.{Flag}
-use Rattle.test_script.specs.declared.kinds.Flag.TheVariants as flag
-use Rattle.test_script.specs.declared.kinds.NumberModifier.{NumberModifier}
-use Rattle.test_script.specs.declared.kinds.NumberModifier.TheVariants as number
+use Rattle.script_modifiers.specs.declared.modifiers.Modifiers.{Modifiers}
+use Rattle.script_modifiers.specs.declared.kinds.Flag.{Flag}
+use Rattle.script_modifiers.specs.declared.kinds.Flag.TheVariants as flag
+use Rattle.script_modifiers.specs.declared.kinds.NumberModifier.{NumberModifier}
+use Rattle.script_modifiers.specs.declared.kinds.NumberModifier.TheVariants as number
 
 -- no modifier is given
 abbrev pub ungiven : Modifiers

@@ -1,12 +1,12 @@
 -- Letters that are joined, from the front on.
 use Rattle.std.proofs.Common.{◌≡◌, ℕ, ◌<◌, Bool, true, false, cond, ◌&&◌, List, [], ◌∷◌, length, drop, get_or, eqb, Option, Some, None, refl, ap, ◌∙◌, arith}
 use Rattle.std.specs.Option.{option_map, option_and_then}
-use Rattle.test_script.specs.declared.modifiers.Modifiers.{Modifiers}
-use Rattle.test_script.specs.declared.kinds.Flag.{Flag}
-use Rattle.test_script.specs.declared.kinds.Flag.TheVariants as flag
-use Rattle.test_script.specs.Modifiers.{flag_given}
-use Rattle.test_script.specs.Table.{by_letter}
-use Rattle.test_script.specs.Lists.{begins_xx, letters_given}
+use Rattle.script_modifiers.specs.declared.modifiers.Modifiers.{Modifiers}
+use Rattle.script_modifiers.specs.declared.kinds.Flag.{Flag}
+use Rattle.script_modifiers.specs.declared.kinds.Flag.TheVariants as flag
+use Rattle.script_modifiers.specs.Modifiers.{flag_given}
+use Rattle.script_modifiers.specs.Table.{by_letter}
+use Rattle.script_modifiers.specs.Lists.{begins_xx, letters_given}
 
 and_false : (b : Bool) → (b && false) ≡ false
 and_false true = refl

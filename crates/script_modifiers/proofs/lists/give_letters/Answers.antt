@@ -1,7 +1,7 @@
 use Rattle.std.proofs.Common.{◌≡◌, ℕ, zero, suc, ◌<◌, false, eqb, drop, sym, ◌∙◌, ap, arith, length}
-use Rattle.test_script.specs.Lists.{letters_given}
-use Rattle.test_script.proofs.Joining.{letters_pair, letters_one}
-use Rattle.test_script.proofs.lists.give_letters.Goals as goal
+use Rattle.script_modifiers.specs.Lists.{letters_given}
+use Rattle.script_modifiers.proofs.Joining.{letters_pair, letters_one}
+use Rattle.script_modifiers.proofs.lists.give_letters.Goals as goal
 
 some_left : (n : ℕ) → false ≡ eqb n 0 → 0 < n
 some_left zero none = cc
