@@ -18,11 +18,11 @@ use Rattle.pcre_io.specs.declared.callouts.Block.{Block}
 use Rattle.pat_check.specs.declared.facts.Facts.{Facts}
 use Rattle.frame_machine.specs.Forms.{IsRunnable}
 use Rattle.pat_check.specs.Known.{IsByteSet, lead_set_of}
-use Rattle.pat_check.specs.Backs.{AreBacks, first_fault, greatest_back}
-use Rattle.pat_check.specs.Lengths.{can_be_empty}
+use Rattle.pat_lengths.specs.Backs.{AreBacks, first_fault, greatest_back}
+use Rattle.pat_lengths.specs.Lengths.{can_be_empty}
 use Rattle.pat_check.specs.Size.{size}
 use Rattle.pat_check.specs.Support.{dfa_support}
-use Rattle.pat_check.specs.Nodes.{names_cr_or_lf, has_lookbehind, tests_before}
+use Rattle.pat_lengths.specs.Nodes.{names_cr_or_lf, has_lookbehind, tests_before}
 use Rattle.frame_machine.specs.declared.ready.Ready.{Ready}
 use Rattle.ordered_search.specs.Stream as search
 use Rattle.ordered_search.specs.Setting.{Setting, setting_of}
