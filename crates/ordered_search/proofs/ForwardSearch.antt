@@ -12,12 +12,12 @@ use Rattle.frame_store.specs.declared.registers.Span.{Span}
 use Rattle.frame_store.specs.Captures.{capture}
 use Rattle.match_items.specs.Items.{one_less, is_none_left, after_item, item_reaches, run_places, longest_run, break_len, after_ref, ref_reaches, holds, anchor_reaches}
 use Rattle.match_items.proofs.Places.{item_forward, break_within, ref_within}
-use Rattle.ordered_search.specs.Stream.{State, Stream, Search, captured}
-use Rattle.ordered_search.specs.Setting.{Setting, reach_if}
+use Rattle.ordered_search.specs.Stream.{State, reached, Stream, Search, nothing, gives, no_ending, is_next_branch, fails_alone, fails_inside, captured}
+use Rattle.ordered_search.specs.Setting.{Setting, hold, reach_if}
 use Rattle.ordered_search.specs.Tests.{move_to, goes_to, run_one, run_break, run_ref, run_anchor, offers, greedy, offer_and, reluctant, lazy_run, run_many}
-use Rattle.ordered_search.specs.Parts.{Searches, in_order, choices, branches, run_group, is_over, turn, run_repeat}
+use Rattle.ordered_search.specs.Parts.{Searches, in_order, choices, branches, run_group, back_to, forget_passed, run_atomic, run_look, is_over, turn, run_repeat}
 use Rattle.ordered_search.specs.Run.{level, levels, run}
-use Rattle.ordered_search.proofs.ForwardStreams.{IsOnWay, Forward, IsForward, forward_nothing, forward_gives, forward_step, forward_if, forward_or_else, forward_each, forward_and_then, forward_catch, with_units, with_early, with_place, with_keep, with_capture, forward_held, forward_hold, forward_reach_if}
+use Rattle.ordered_search.proofs.ForwardStreams.{IsOnWay, Forward, IsForward, forward_nothing, forward_gives, forward_step, forward_if, forward_or_else, forward_each, forward_and_then, forward_catch, forward_decide, with_units, with_early, with_place, with_keep, with_capture, with_passed, with_return, forward_held, forward_hold, forward_reach_if}
 
 -- a place that is told is as far as what was taken
 told_far : (b : Bool) (p n q : ℕ) → elim b as (λ _. Option ℕ) [ true ↦ Some (p + n) | false ↦ None ] ≡ Some q → p ≤ q
@@ -154,10 +154,10 @@ module _ (g : Setting) (low : ℕ) (bytes : g.options.utf ≡ false) (off : g.ma
   forward_choices : (fs : List Search) → AllGo fs → Goes (choices g fs)
   unfolding choices
   forward_choices [] h s on = forward_nothing g low s.place
-  forward_choices (f ∷ []) h s on = forward_step g low s.place _ (forward_catch g low s.place (f s) (h.0 s on))
+  forward_choices (f ∷ []) h s on = forward_step g low s.place _ (forward_catch g low s.place is_next_branch (f s) (h.0 s on))
   forward_choices (f ∷ f' ∷ fs) h s on =
       forward_step g low s.place _ (forward_or_else g low s.place _ _
-      (forward_held g low s.place 1 s _ (forward_catch g low s.place _ (h.0 _ (with_units g low s _ on))))
+      (forward_held g low s.place 1 s _ (forward_catch g low s.place is_next_branch _ (h.0 _ (with_units g low s _ on))))
       (forward_choices (f' ∷ fs) h.1 s on))
 
   forward_branches : (fs : List Search) → AllGo fs → Goes (branches g fs)
@@ -172,6 +172,28 @@ module _ (g : Setting) (low : ℕ) (bytes : g.options.utf ≡ false) (off : g.ma
   forward_group (Some n) f h s on =
       forward_held g low s.place 1 s _ (forward_each g low s.place _ _ (h _ (with_units g low s _ on))
       (λ u le on'. forward_hold g low s.place (captured n s.place u) le (with_capture g low u n s.place le on')))
+
+  forward_atomic : (f : Search) → Goes f → Goes (run_atomic g f)
+  unfolding run_atomic
+  forward_atomic f h s on =
+      forward_held g low s.place 1 s _
+      (forward_decide g low s.place no_ending _ (λ how u. hold g how (forget_passed s u)) nothing (h _ (with_units g low s _ on)) (forward_nothing g low s.place)
+      (λ u le on'. forward_hold g low s.place (forget_passed s u) le (with_passed g low u s.passed on')))
+
+  forward_look : (positive once : Bool) (f : Search) → Goes f → Goes (run_look g positive once f)
+  unfolding run_look
+  forward_look true true f h s on =
+      forward_held g low s.place 1 s _
+      (forward_decide g low s.place fails_alone _ (λ how u. hold g reached (back_to s (forget_passed s u))) nothing (h _ (with_units g low s _ on)) (forward_nothing g low s.place)
+      (λ u le on'. forward_hold g low s.place (back_to s (forget_passed s u)) (omega arith) (with_return g low s _ on (with_passed g low u s.passed on'))))
+  forward_look true false f h s on =
+      forward_held g low s.place 1 s _
+      (forward_catch g low s.place fails_alone _ (forward_each g low s.place _ (λ how u. gives reached (back_to s u)) (h _ (with_units g low s _ on))
+      (λ u le on'. forward_gives g low s.place (back_to s u) (omega arith) (with_return g low s u on on'))))
+  forward_look false once f h s on =
+      forward_held g low s.place 1 s _
+      (forward_decide g low s.place fails_inside _ (λ how u. nothing) (gives reached s) (h _ (with_units g low s _ on)) (forward_gives g low s.place s (omega arith) on)
+      (λ u le on'. forward_nothing g low s.place))
 
   -- Repeats, whose turns go a level deeper.
 
@@ -211,8 +233,9 @@ module _ (g : Setting) (low : ℕ) (bytes : g.options.utf ≡ false) (off : g.ma
       forward_level (tree.group number ts) built s on = forward_group number _ (forward_branches _ (forward_levels ts built)) s on
       forward_level (tree.repeat body least high lazily) built s on = forward_repeat below body least high lazily deeper built s on
       forward_level (tree.one_repeat item least high lazily) built s on = forward_many item least high lazily s on
-      forward_level (tree.atomic ts) built s on = absurd built
-      forward_level (tree.look ahead positive once ts) built s on = absurd built
+      forward_level (tree.atomic ts) built s on = forward_atomic _ (forward_branches _ (forward_levels ts built)) s on
+      forward_level (tree.look true positive once ts) built s on = forward_look positive once _ (forward_branches _ (forward_levels ts built)) s on
+      forward_level (tree.look false positive once ts) built s on = absurd built
       forward_level (tree.condition test first second) built s on = absurd built
       forward_level (tree.call n) built s on = absurd built
       forward_level (tree.ref ns caseless) built s on = forward_ref ns caseless s on

@@ -1,12 +1,13 @@
 -- Streams that go forward: their states are reached at a place or past it, in the subject, and nothing is told beside them.
-use Rattle.std.proofs.Common.{◌≡◌, ◌∙◌, ℕ, ◌+◌, ◌≤◌, Bool, true, false, All, length, Some, None, arith}
+use Rattle.std.proofs.Common.{◌≡◌, ◌∙◌, ℕ, ◌+◌, ◌≤◌, Bool, true, false, List, All, length, Some, None, arith}
 use Rattle.std.specs.Prelude.{nat_le}
 use Rattle.std.proofs.lemmas.List.{length-set}
 use Rattle.std.proofs.lemmas.List.Elements.{All-set}
 use Rattle.pat_tree.specs.declared.options.PartialMode.{PartialMode}
 use Rattle.pat_tree.specs.declared.options.PartialMode.TheVariants.{Off, Soft, Hard}
-use Rattle.ordered_search.specs.Stream.{State, exhausted, by_verb, by_halt, is_partial, too_many_units, loop, abort, cut, How, reached, accepted, note, state, step, Stream, Search, ends, ◌▸◌, nothing, gives, ◌or_else◌, each, and_then, go_on, catch, is_next_branch, captured}
+use Rattle.ordered_search.specs.Stream.{State, exhausted, by_verb, by_halt, is_partial, too_many_units, loop, abort, cut, Ending, How, reached, accepted, note, state, step, Stream, Search, ends, ◌▸◌, nothing, gives, ◌or_else◌, each, and_then, go_on, decide, catch, captured}
 use Rattle.ordered_search.specs.Setting.{Setting, held, hold, reach, reach_if}
+use Rattle.ordered_search.specs.Parts.{back_to}
 use Rattle.ordered_search.specs.Forward.{IsWithin}
 
 module _ (g : Setting) (low : ℕ) where
@@ -87,15 +88,23 @@ module _ (g : Setting) (low : ℕ) where
   pub forward_and_then : (p : ℕ) (x : Stream) (f : Search) → Forward p x → ((s : State) → p ≤ s.place → IsOnWay s → Forward s.place (f s)) → Forward p (and_then x f)
   forward_and_then p x f h k = forward_each p x (go_on f) h (λ s le on. forward_less p s.place (f s) le (k s le on))
 
-  pub forward_catch : (p : ℕ) (x : Stream) → Forward p x → Forward p (catch is_next_branch x)
+  pub forward_catch : (p : ℕ) (caught : Ending → Bool) (x : Stream) → Forward p x → Forward p (catch caught x)
   unfolding Forward catch
-  forward_catch p (ends exhausted) h = tt
-  forward_catch p (ends (by_verb v)) h = absurd h
-  forward_catch p (ends (by_halt a)) h = h
-  forward_catch p (note m ▸ x) h = absurd h
-  forward_catch p (state reached s ▸ x) h = (h.0, h.1, forward_catch p x h.2)
-  forward_catch p (state accepted s ▸ x) h = absurd h
-  forward_catch p (step ▸ x) h = forward_catch p x h
+  forward_catch p caught (ends e) h = forward_if p (caught e) nothing (ends e) (forward_nothing p) h
+  forward_catch p caught (note m ▸ x) h = absurd h
+  forward_catch p caught (state reached s ▸ x) h = (h.0, h.1, forward_catch p caught x h.2)
+  forward_catch p caught (state accepted s ▸ x) h = absurd h
+  forward_catch p caught (step ▸ x) h = forward_catch p caught x h
+
+  -- the first state decides
+  pub forward_decide : (p : ℕ) (fails : Ending → Bool) (x : Stream) (f : How → Search) (y : Stream) → Forward p x → Forward p y →
+      ((s : State) → p ≤ s.place → IsOnWay s → Forward p (f reached s)) → Forward p (decide fails x f y)
+  unfolding Forward decide
+  forward_decide p fails (ends e) f y h k to = forward_if p (fails e) y (ends e) k h
+  forward_decide p fails (note m ▸ x) f y h k to = absurd h
+  forward_decide p fails (state reached s ▸ x) f y h k to = to s h.0 h.1
+  forward_decide p fails (state accepted s ▸ x) f y h k to = absurd h
+  forward_decide p fails (step ▸ x) f y h k to = forward_decide p fails x f y h k to
 
   -- States that stay on the way.
 
@@ -123,6 +132,13 @@ module _ (g : Setting) (low : ℕ) where
     groups = length-set s.caps _ _ ∙ on.groups;
     no_mark = on.no_mark;
   }
+
+  pub with_passed : (s : State) (ps : List (ℕ × ℕ)) → IsOnWay s → IsOnWay (record s { passed = ps })
+  with_passed s ps on = record { begins = on.begins; ordered = on.ordered; within = on.within; caps = on.caps; groups = on.groups; no_mark = on.no_mark }
+
+  -- back from a lookaround, with the captures of its body
+  pub with_return : (s u : State) → IsOnWay s → IsOnWay u → IsOnWay (back_to s u)
+  with_return s u on on' = record { begins = on.begins; ordered = on.ordered; within = on.within; caps = on'.caps; groups = on'.groups; no_mark = on'.no_mark }
 
   -- Units and hits of the end.
 

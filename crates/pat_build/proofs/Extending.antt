@@ -1,6 +1,5 @@
 -- A draft with one node more, which is no group and takes no other.
 use Rattle.std.proofs.Common.{◌≡◌, ℕ, ◌≤◌, ◌+◌, ◌||◌, false, List, [], ◌∷◌, ◌++◌, length, Option, None, refl, sym, ap, ◌∙◌, append-nil, arith, length-append}
-use Rattle.std.proofs.lemmas.Grind.{flat_map-append}
 use Rattle.pat_tree.specs.declared.nodes.Placed.{Placed}
 use Rattle.pat_tree.specs.declared.nodes.ClassSpec.{ClassSpec}
 use Rattle.pat_tree.specs.Parts.{DraftParts, with_node, with_class}
@@ -8,10 +7,9 @@ use Rattle.pat_tree.specs.Nested.{Nested}
 use Rattle.pat_tree.specs.Refs.{refs, refs_of, has_group, is_group}
 use Rattle.pat_tree.specs.Growing.{Grows, Makes, Replaces, loose}
 use Rattle.pat_tree.proofs.Growing.{grows_not, refs_push}
-use Rattle.pat_build.specs.State.{Reference}
-use Rattle.pat_build.specs.Groups.{places_named}
-use Rattle.pat_build.specs.Machine.{Adds, references_of, reference_in, is_number}
-use Rattle.pat_build.proofs.States.{references_push, or_false}
+use Rattle.pat_build.specs.Groups.{Form, grouped, number_of, noted, places_named}
+use Rattle.pat_build.specs.Machine.{Adds, Closes, references_of, reference_in, is_number}
+use Rattle.pat_build.proofs.States.{references_push, places_append, or_false}
 
 -- the draft has this loose node more, if any
 pub record Extends (old new : DraftParts) (tail : List ℕ) : Type 0 where
@@ -24,10 +22,6 @@ pub record Extends (old new : DraftParts) (tail : List ℕ) : Type 0 where
   pub groups : (n : ℕ) → has_group new.nodes n ≡ has_group old.nodes n
   pub loose_is : loose new.nodes ≡ loose old.nodes ++ tail
   pub count : length new.nodes ≤ length old.nodes + 1
-
-pub places_append : (xs ys : List Reference) → places_named (xs ++ ys) ≡ places_named xs ++ places_named ys
-unfolding places_named
-places_append xs ys = flat_map-append _ xs ys
 
 pub extends_none : (d : DraftParts) → refs d.nodes ≡ places_named (references_of d.nodes) → Extends d d []
 extends_none d h = record {
@@ -71,30 +65,67 @@ extends_node d new p id t h is made replaces no_group groups named = record {
   count = omega (arith, ap (λ v. length v.nodes) is, length-append d.nodes (p ∷ []));
 }
 
-pub adds_none : (d : DraftParts) → Adds d d None
-adds_none d = record { options = refl; classes = refl; names = refl; verb_names = refl; references = refl; refs_are = refl; groups = λ n. sym (or_false (has_group d.nodes n)) }
+pub adds_none : (d : DraftParts) → Adds d d
+adds_none d = record { options = refl; classes = refl; names = refl; verb_names = refl; references = refl; refs_are = refl; groups = λ n. refl }
 
--- a node that is no reference is added
-pub adds_node : (d new : DraftParts) (p : Placed) (number : Option ℕ) → new ≡ with_node d p → refs new.nodes ≡ refs d.nodes ++ refs_of p → refs_of p ≡ [] → reference_in p ≡ [] →
-    ((n : ℕ) → has_group new.nodes n ≡ (has_group d.nodes n || is_group n p.node)) → ((n : ℕ) → is_group n p.node ≡ is_number number n) → Adds d new number
-adds_node d new p number is refs_are none no_reference groups numbered = record {
+-- a node that is no capturing group, reference and lookaround is added
+pub adds_node : (d new : DraftParts) (p : Placed) → new ≡ with_node d p → refs new.nodes ≡ refs d.nodes ++ refs_of p → refs_of p ≡ [] → reference_in p ≡ [] →
+    ((n : ℕ) → has_group new.nodes n ≡ (has_group d.nodes n || is_group n p.node)) → ((n : ℕ) → is_group n p.node ≡ false) → Adds d new
+adds_node d new p is refs_are none no_reference groups no_group = record {
   options = ap (λ v. v.options) is;
   classes = ap (λ v. v.classes) is;
   names = ap (λ v. v.names) is;
   verb_names = ap (λ v. v.verb_names) is;
   references = ap (λ v. references_of v.nodes) is ∙ references_push d.nodes p ∙ ap (λ v. references_of d.nodes ++ v) no_reference ∙ append-nil (references_of d.nodes);
   refs_are = refs_are ∙ ap (λ v. refs d.nodes ++ v) none ∙ append-nil (refs d.nodes);
+  groups = λ n. groups n ∙ ap (λ b. has_group d.nodes n || b) (no_group n) ∙ or_false (has_group d.nodes n);
+}
+
+-- a group's node is added
+pub closes_node : (d new : DraftParts) (p : Placed) (form : Form) → new ≡ with_node d p → refs new.nodes ≡ refs d.nodes ++ refs_of p → refs_of p ≡ [] → reference_in p ≡ noted form p.at →
+    ((n : ℕ) → has_group new.nodes n ≡ (has_group d.nodes n || is_group n p.node)) → ((n : ℕ) → is_group n p.node ≡ is_number (number_of form) n) → Closes d new form p.at
+closes_node d new p form is refs_are none told groups numbered = record {
+  options = ap (λ v. v.options) is;
+  classes = ap (λ v. v.classes) is;
+  names = ap (λ v. v.names) is;
+  verb_names = ap (λ v. v.verb_names) is;
+  references = ap (λ v. references_of v.nodes) is ∙ references_push d.nodes p ∙ ap (λ v. references_of d.nodes ++ v) told;
+  refs_are = refs_are ∙ ap (λ v. refs d.nodes ++ v) none ∙ append-nil (refs d.nodes);
   groups = λ n. groups n ∙ ap (λ b. has_group d.nodes n || b) (numbered n);
 }
 
--- first nodes that are no group, then others
-pub adds_then : {a b c : DraftParts} {number : Option ℕ} → Adds a b None → Adds b c number → Adds a c number
-adds_then {a} {b} {c} {number} s t = record {
+-- first some nodes, then others
+pub adds_then : {a b c : DraftParts} → Adds a b → Adds b c → Adds a c
+adds_then s t = record {
   options = t.options ∙ s.options;
   classes = t.classes ∙ s.classes;
   names = t.names ∙ s.names;
   verb_names = t.verb_names ∙ s.verb_names;
   references = t.references ∙ s.references;
   refs_are = t.refs_are ∙ s.refs_are;
-  groups = λ n. t.groups n ∙ ap (λ x. x || is_number number n) (s.groups n ∙ or_false (has_group a.nodes n));
+  groups = λ n. t.groups n ∙ s.groups n;
+}
+
+-- the last alternative, then the group
+pub closes_then : {a b c : DraftParts} {form : Form} {at : ℕ} → Adds a b → Closes b c form at → Closes a c form at
+closes_then {a} {b} {c} {form} {at} s t = record {
+  options = t.options ∙ s.options;
+  classes = t.classes ∙ s.classes;
+  names = t.names ∙ s.names;
+  verb_names = t.verb_names ∙ s.verb_names;
+  references = t.references ∙ ap (λ v. v ++ noted form at) s.references;
+  refs_are = t.refs_are ∙ s.refs_are;
+  groups = λ n. t.groups n ∙ ap (λ x. x || is_number (number_of form) n) (s.groups n);
+}
+
+-- a plain group adds nothing else
+pub closes_plain : {a b : DraftParts} {at : ℕ} → Closes a b (grouped None) at → Adds a b
+closes_plain {a} {b} {at} s = record {
+  options = s.options;
+  classes = s.classes;
+  names = s.names;
+  verb_names = s.verb_names;
+  references = s.references ∙ append-nil (references_of a.nodes);
+  refs_are = s.refs_are;
+  groups = λ n. s.groups n ∙ or_false (has_group a.nodes n);
 }

@@ -19,21 +19,20 @@ use Rattle.token_parts.specs.declared.token.Token.{Token}
 use Rattle.token_parts.specs.declared.token.Token.TheVariants.{End, Bar, Close}
 use Rattle.token_parts.specs.Tell.{fault}
 use Rattle.pat_lex.specs.Tokens.{token_at}
-use Rattle.pat_build.specs.declared.machine.Atom.TheVariants.{Whole}
 use Rattle.pat_build.specs.declared.machine.Frame.{Frame}
 use Rattle.pat_build.specs.declared.machine.Level.{Level}
 use Rattle.pat_build.specs.declared.machine.Machine.{Machine}
 use Rattle.pat_build.specs.declared.names.Name.{Name}
-use Rattle.pat_build.specs.State.{State, Reads, flags_of}
-use Rattle.pat_build.specs.Groups.{is_opened}
+use Rattle.pat_build.specs.State.{State, Reference, Reads, flags_of}
+use Rattle.pat_build.specs.Groups.{Form, grouped, atomically, looks, Opening, is_look, built, noted, is_opened}
 use Rattle.pat_build.specs.Names.{given_after, with_given}
 use Rattle.pat_build.specs.Parts.{inside, alternative}
 use Rattle.pat_build.specs.Stack.{Layer, Opened, resume, ended}
-use Rattle.pat_build.specs.Machine.{Adds, Named, state_of, known_of, whole_of, left, Means, Ready, Begins, Took, Numbered, Gives, Ends, opening_of, ids_waiting, ids_in, ids_held, is_open, is_number}
+use Rattle.pat_build.specs.Machine.{Adds, Closes, IsAtom, Named, form_of, atom_of, atom_tree, ids_of, number_in_frame, references_of, state_of, known_of, whole_of, left, Means, Ready, Begins, Took, Numbered, Gives, Ends, opening_of, ids_waiting, ids_in, ids_held, is_open, is_number}
 use Rattle.pat_build.proofs.Naming.{named_push, length_table}
 use Rattle.pat_build.proofs.Steps.{step_open, step_bar, step_over, step_close, step_unclosed, step_unopened, step_whole}
 use Rattle.pat_build.proofs.Standing.{positive, level_on, stack_on, innermost, none_open}
-use Rattle.pat_build.proofs.States.{state_kept, whole_kept, refs_kept, named_kept, numbers_kept, held_push, or_false}
+use Rattle.pat_build.proofs.States.{state_kept, whole_kept, refs_kept, named_kept, numbers_kept, state_closed, whole_closed, refs_closed, named_closed, held_push, or_false}
 use Rattle.pat_build.proofs.Waiting.{idle_value, loose_idle, to_parts}
 
 as_branch : (h b x : List ℕ) → (h ++ b) ++ x ≡ h ++ (((b ++ x) ++ []) ++ [])
@@ -49,29 +48,29 @@ or_swap true false = refl
 or_swap false true = refl
 or_swap false false = refl
 
-open_push : (fs : List Frame) (f : Frame) (n : ℕ) → is_open (fs ++ f ∷ []) n ≡ (is_open fs n || is_number f.number n)
-open_push fs f n = list_any-append (λ g. is_number g.number n) fs (f ∷ []) ∙ ap (λ b. is_open fs n || b) (or_false (is_number f.number n))
+open_push : (fs : List Frame) (f : Frame) (n : ℕ) → is_open (fs ++ f ∷ []) n ≡ (is_open fs n || is_number (number_in_frame f) n)
+open_push fs f n = list_any-append (λ g. is_number (number_in_frame g) n) fs (f ∷ []) ∙ ap (λ b. is_open fs n || b) (or_false (is_number (number_in_frame f) n))
 
 opened_more : (g n : ℕ) → (is_opened g n || ((g + 1) == n)) ≡ is_opened (g + 1) n
 opened_more g n = grind (arith, nat_tests)
 
 -- a group begins
-numbers_enter : (ps : List Placed) (fs : List Frame) (f : Frame) (groups after : ℕ) → Numbered groups f.number after →
+numbers_enter : (ps : List Placed) (fs : List Frame) (f : Frame) (groups after : ℕ) → Numbered groups (number_in_frame f) after →
     ((n : ℕ) → (has_group ps n || is_open fs n) ≡ is_opened groups n) → (n : ℕ) → (has_group ps n || is_open (fs ++ f ∷ []) n) ≡ is_opened after n
 numbers_enter ps fs f groups after numbered h n =
-    ap (λ b. has_group ps n || b) (open_push fs f n) ∙ sym (or_assoc (has_group ps n) (is_open fs n) (is_number f.number n)) ∙ ap (λ b. b || is_number f.number n) (h n)
-    ∙ (elim (f.number) as (λ number. Numbered groups number after → (is_opened groups n || is_number number n) ≡ is_opened after n) [
+    ap (λ b. has_group ps n || b) (open_push fs f n) ∙ sym (or_assoc (has_group ps n) (is_open fs n) (is_number (number_in_frame f) n)) ∙ ap (λ b. b || is_number (number_in_frame f) n) (h n)
+    ∙ (elim (number_in_frame f) as (λ number. Numbered groups number after → (is_opened groups n || is_number number n) ≡ is_opened after n) [
       | None ↦ λ e. or_false (is_opened groups n) ∙ ap (λ g. is_opened g n) (sym e)
       | Some k ↦ λ e. ap (λ g. is_opened groups n || (g == n)) e.0 ∙ opened_more groups n ∙ ap (λ g. is_opened g n) (sym e.1)
     ] numbered)
 
 -- a group ends
 numbers_close : (ps qs : List Placed) (fs front : List Frame) (f : Frame) (groups : ℕ) → fs ≡ front ++ f ∷ [] →
-    ((n : ℕ) → has_group qs n ≡ (has_group ps n || is_number f.number n)) →
+    ((n : ℕ) → has_group qs n ≡ (has_group ps n || is_number (number_in_frame f) n)) →
     ((n : ℕ) → (has_group ps n || is_open fs n) ≡ is_opened groups n) → (n : ℕ) → (has_group qs n || is_open front n) ≡ is_opened groups n
 numbers_close ps qs fs front f groups popped grown h n =
-    ap (λ b. b || is_open front n) (grown n) ∙ or_assoc (has_group ps n) (is_number f.number n) (is_open front n)
-    ∙ ap (λ b. has_group ps n || b) (or_swap (is_number f.number n) (is_open front n) ∙ sym (open_push front f n))
+    ap (λ b. b || is_open front n) (grown n) ∙ or_assoc (has_group ps n) (is_number (number_in_frame f) n) (is_open front n)
+    ∙ ap (λ b. has_group ps n || b) (or_swap (is_number (number_in_frame f) n) (is_open front n) ∙ sym (open_push front f n))
     ∙ ap (λ l. has_group ps n || is_open l n) (sym popped) ∙ h n
 
 not_both : (b : Bool) → b ≡ true → b ≡ false → ⊥
@@ -84,10 +83,10 @@ or_true false = refl
 
 -- an open group that captures has a number from 1 on
 pub frame_numbered : (ps : List Placed) (fs front : List Frame) (f : Frame) (groups : ℕ) → fs ≡ front ++ f ∷ [] →
-    ((n : ℕ) → (has_group ps n || is_open fs n) ≡ is_opened groups n) → All (λ n. 1 ≤ n) (number_in f.number)
-frame_numbered ps fs front f groups popped h = elim (f.number) as (λ number. f.number ≡ number → All (λ n. 1 ≤ n) (number_in number)) [
+    ((n : ℕ) → (has_group ps n || is_open fs n) ≡ is_opened groups n) → All (λ n. 1 ≤ n) (number_in (number_in_frame f))
+frame_numbered ps fs front f groups popped h = elim (number_in_frame f) as (λ number. number_in_frame f ≡ number → All (λ n. 1 ≤ n) (number_in number)) [
   | None ↦ λ e. All-nil (λ n. 1 ≤ n)
-  | Some k ↦ λ e. All-push (λ n. 1 ≤ n) [] k (All-nil (λ n. 1 ≤ n)) (elim k as (λ j. f.number ≡ Some j → 1 ≤ j) [
+  | Some k ↦ λ e. All-push (λ n. 1 ≤ n) [] k (All-nil (λ n. 1 ≤ n)) (elim k as (λ j. number_in_frame f ≡ Some j → 1 ≤ j) [
     | zero ↦ λ z. absurd (let open_at : is_open fs 0 ≡ true = ap (λ l. is_open l 0) popped ∙ open_push front f 0 ∙ ap (λ v. is_open front 0 || is_number v 0) z ∙ or_true (is_open front 0) in
         not_both (has_group ps 0 || is_open fs 0) (ap (λ b. has_group ps 0 || b) open_at ∙ or_true (has_group ps 0)) (h 0))
     | suc j ↦ λ z. omega arith
@@ -112,8 +111,28 @@ few_names text names table groups after number h numbered small =
     let more : groups ≤ after = more_groups groups number after numbered in
     omega (arith, ap length h.is, length_table text names, h.count)
 
-state_eq : (st : State) {o o' : Options} {d d' : ℕ} → o ≡ o' → d ≡ d' → record st { options = o; depth = d } ≡ record st { options = o'; depth = d' }
-state_eq st {o} {o'} {d} {d'} p q = ap (λ v. record st { options = v; depth = d }) p ∙ ap (λ v. record st { options = o'; depth = v }) q
+-- a group has ended
+state_eq : (st : State) (rs : List Reference) {o o' : Opening} {d d' : ℕ} → o ≡ o' → d ≡ d' →
+    record st { options = o.around; looking = o.looking; depth = d; references = rs ++ noted o.form o.at } ≡ record st { options = o'.around; looking = o'.looking; depth = d'; references = rs ++ noted o'.form o'.at }
+state_eq st rs {o} {o'} {d} {d'} p q =
+    ap (λ (v : Opening). record st { options = v.around; looking = v.looking; depth = d; references = rs ++ noted v.form v.at }) p
+    ∙ ap (λ v. record st { options = o'.around; looking = o'.looking; depth = v; references = rs ++ noted o'.form o'.at }) q
+
+-- the group of this node waits for a quantifier
+closed_atom : (draft : DraftParts) (form : Form) (id at : ℕ) (branches : List Nested) → id < length draft.nodes → tree_at (trees draft.nodes) id ≡ built form branches → IsAtom draft (atom_of form id at)
+closed_atom draft (grouped number) id at branches below is = (below, rw is (record { many = λ low high lazy. refl }))
+closed_atom draft atomically id at branches below is = (below, rw is (record { many = λ low high lazy. refl }))
+closed_atom draft (looks ahead positive once) id at branches below is = (below, rw is (record { looks = λ low high lazy. refl }))
+
+closed_tree : (ps : List Placed) (form : Form) (id at : ℕ) → atom_tree ps (atom_of form id at) ≡ tree_at (trees ps) id
+closed_tree ps (grouped number) id at = refl
+closed_tree ps atomically id at = refl
+closed_tree ps (looks ahead positive once) id at = refl
+
+closed_ids : (form : Form) (id at : ℕ) → ids_of (atom_of form id at) ≡ id ∷ []
+closed_ids (grouped number) id at = refl
+closed_ids atomically id at = refl
+closed_ids (looks ahead positive once) id at = refl
 
 resume_eq : (known : List NameEntry) (text : List ℕ) (os : List Opened) (layer : Layer) (n : ℕ) {t u : Nested} {st st' : State} → t ≡ u → st ≡ st' → resume known text os layer (Some (n, t)) st ≡ resume known text os layer (Some (n, u)) st'
 resume_eq known text os layer n {t} {u} {st} {st'} p q = ap (λ v. resume known text os layer (Some (n, v)) st) p ∙ ap (λ v. resume known text os layer (Some (n, u)) v) q
@@ -121,7 +140,7 @@ resume_eq known text os layer n {t} {u} {st} {st'} p q = ap (λ v. resume known 
 module _ (m : Machine) (means : Means m) where
   -- the old level's numbers serve for the new one
   pub bar_means : (id : ℕ) (draft : DraftParts) (branches : List ℕ) (after : ℕ) →
-      Ready Bar after m → Makes m.draft.nodes draft.nodes id (alternative (map (tree_at (trees m.draft.nodes)) m.level.parts)) → Adds m.draft draft None → Replaces m.draft.nodes m.level.parts draft.nodes id →
+      Ready Bar after m → Makes m.draft.nodes draft.nodes id (alternative (map (tree_at (trees m.draft.nodes)) m.level.parts)) → Adds m.draft draft → Replaces m.draft.nodes m.level.parts draft.nodes id →
       branches ≡ m.level.branches ++ id ∷ [] → length draft.nodes ≤ length m.draft.nodes + 1 →
       Took m (record m { draft = draft; level = record { branches = branches; parts = [] }; at = after })
   bar_means id draft branches after ready makes adds replaces more count =
@@ -165,9 +184,9 @@ module _ (m : Machine) (means : Means m) where
 
   -- a group begins, which may get a name
   pub enter_means : (token : Token) (after : ℕ) (f : Frame) (stack : Vec Frame Global) (options : Options) (groups : ℕ) (names : Vec Name Global) (table : List NameEntry) →
-      Ready token after m → stack.items ≡ m.stack.items ++ f ∷ [] → f.outer ≡ m.level → length m.stack.items < 250 → Numbered m.groups f.number groups → Named m.text.now names.items table groups →
-      Begins m token after (Ok (inside (opening_of f) (record (state_of m) { at = after; options = options; groups = groups; depth = length m.stack.items + 1; names = table }))) →
-      Took m (record m { draft = record (m.draft) { names = table }; names = names; stack = stack; level = record { branches = []; parts = [] }; options = options; groups = groups; at = after })
+      Ready token after m → stack.items ≡ m.stack.items ++ f ∷ [] → f.outer ≡ m.level → length m.stack.items < 250 → Numbered m.groups (number_in_frame f) groups → Named m.text.now names.items table groups →
+      Begins m token after (Ok (inside (opening_of f) (record (state_of m) { at = after; options = options; groups = groups; depth = length m.stack.items + 1; looking = is_look (form_of f.form) || m.looking; names = table }))) →
+      Took m (record m { draft = record (m.draft) { names = table }; names = names; stack = stack; level = record { branches = []; parts = [] }; options = options; groups = groups; looking = is_look (form_of f.form) || m.looking; at = after })
   enter_means token after f stack options groups names table ready pushed outer fits numbered named begins =
       let (n, n_is) = positive (left m) means.layer.n means.level.n in
       let there = ready.there in
@@ -179,13 +198,13 @@ module _ (m : Machine) (means : Means m) where
       let enough : u < suc q = omega (arith, above) in
       let plenty : u + 1 < suc q = omega (arith, above) in
       let level = level_on (grows_not m.draft.nodes) (left m) u less means.level in
-      let new : Machine = record m { draft = record (m.draft) { names = table }; names = names; stack = stack; level = record { branches = []; parts = [] }; options = options; groups = groups; at = after } in
+      let new : Machine = record m { draft = record (m.draft) { names = table }; names = names; stack = stack; level = record { branches = []; parts = [] }; options = options; groups = groups; looking = is_look (form_of f.form) || m.looking; at = after } in
       let o : Opened = record { how = opening_of f; outer = record (means.layer) { n = suc q } } in
       let inner : Layer = record { n = q; k = q; branches = []; parts = [] } in
       let turned : reverse stack.items ≡ f ∷ reverse m.stack.items = ap reverse pushed ∙ reverse-append m.stack.items (f ∷ []) in
       let deep : length stack.items ≡ length m.stack.items + 1 = omega (arith, ap length pushed, length-append m.stack.items (f ∷ [])) in
       let step = step_open (known_of m) m.text.now (state_of m) token after there.token_is means.opens means.layer q (opening_of f)
-      (record (state_of m) { at = after; options = options; groups = groups; depth = length m.stack.items + 1; names = table }) (n_is ∙ ap suc q_is) (begins (suc q) plenty) in record {
+      (record (state_of m) { at = after; options = options; groups = groups; depth = length m.stack.items + 1; looking = is_look (form_of f.form) || m.looking; names = table }) (n_is ∙ ap suc q_is) (begins (suc q) plenty) in record {
         means = record {
           opens = o ∷ means.opens;
           layer = inner;
@@ -240,7 +259,7 @@ module _ (m : Machine) (means : Means m) where
 
   pub whole_means : (after id : ℕ) (draft : DraftParts) (level : Level) → m.waiting ≡ None → token_at m.text.now (flags_of false (state_of m)) m.at ≡ Ok (End, after) → m.stack.items ≡ [] →
       Makes m.draft.nodes draft.nodes id (group None (row (map (tree_at (trees m.draft.nodes)) m.level.branches ++ alternative (map (tree_at (trees m.draft.nodes)) m.level.parts) ∷ []))) →
-      Adds m.draft draft None → Ends m (record m { draft = draft; level = level }) id
+      Adds m.draft draft → Ends m (record m { draft = draft; level = level }) id
   whole_means after id draft level idle token_is none makes adds =
       let opens : means.opens ≡ [] = none_open m.draft.nodes (left m) means.opens (rw none at means.stack) in
       let made = rw (means.level.branches.trees_are, means.level.parts.trees_are) at makes in
@@ -260,11 +279,11 @@ module _ (m : Machine) (means : Means m) where
       }
 
   -- a group ends, and waits for a quantifier
-  pub close_means : (after id at : ℕ) (f : Frame) (stack : Vec Frame Global) (draft : DraftParts) → Ready Close after m → m.stack.items ≡ stack.items ++ f ∷ [] →
-      Makes m.draft.nodes draft.nodes id (group f.number (row (map (tree_at (trees m.draft.nodes)) m.level.branches ++ alternative (map (tree_at (trees m.draft.nodes)) m.level.parts) ∷ []))) →
-      Adds m.draft draft f.number → Replaces m.draft.nodes (m.level.branches ++ m.level.parts) draft.nodes id → length draft.nodes ≤ length m.draft.nodes + 2 →
-      Took m (record m { draft = draft; stack = stack; level = f.outer; waiting = Some (Whole id at); options = f.around; at = after })
-  close_means after id at f stack draft ready popped makes adds replaces count =
+  pub close_means : (after id : ℕ) (f : Frame) (stack : Vec Frame Global) (draft : DraftParts) → Ready Close after m → m.stack.items ≡ stack.items ++ f ∷ [] →
+      Makes m.draft.nodes draft.nodes id (built (form_of f.form) (map (tree_at (trees m.draft.nodes)) m.level.branches ++ alternative (map (tree_at (trees m.draft.nodes)) m.level.parts) ∷ [])) →
+      Closes m.draft draft (form_of f.form) f.at → Replaces m.draft.nodes (m.level.branches ++ m.level.parts) draft.nodes id → length draft.nodes ≤ length m.draft.nodes + 2 →
+      Took m (record m { draft = draft; stack = stack; level = f.outer; waiting = Some (atom_of (form_of f.form) id f.at); options = f.around; looking = f.looking; at = after })
+  close_means after id f stack draft ready popped makes closes replaces count =
       let there = ready.there in
       let u : ℕ = 2 * (length m.text.now - after) in
       let falls : u < left m - 1 = omega (arith, there.goes, there.within) in
@@ -276,38 +295,39 @@ module _ (m : Machine) (means : Means m) where
       let made = rw (means.level.branches.trees_are, means.level.parts.trees_are) at makes in
       let level = level_on makes.grows (left m) u less i.frame.outer in
       let branches : List Nested = means.layer.branches ++ alternative means.layer.parts ∷ [] in
-      let t : Nested = group i.o.how.number (row branches) in
+      let t : Nested = built i.o.how.form branches in
       let tree : tree_at (trees draft.nodes) id ≡ t = rw i.frame.how made.is in
       let step = step_close (known_of m) m.text.now (state_of m) Close after there.token_is refl i.o i.os branches in
-      let last : State = record (state_of m) { at = after; options = i.o.how.around; depth = length m.stack.items - 1 } in
-      let whole = whole_kept m draft adds in
+      let last : State = record (state_of m) { at = after; options = i.o.how.around; looking = i.o.how.looking; depth = length m.stack.items - 1; references = references_of m.draft.nodes ++ noted i.o.how.form i.o.how.at } in
+      let whole = whole_closed m draft closes in
       let value : resume (known_of m) m.text.now i.os i.o.outer (Some (i.o.outer.n, t)) last ≡ whole_of m =
       sym step ∙ ap (λ os. ended (known_of m) m.text.now os branches (state_of m)) (sym i.is)
       ∙ over_value Close after (inl refl) ready.idle there.token_is in
-      let new : Machine = record m { draft = draft; stack = stack; level = f.outer; waiting = Some (Whole id at); options = f.around; at = after } in
+      let new : Machine = record m { draft = draft; stack = stack; level = f.outer; waiting = Some (atom_of (form_of f.form) id f.at); options = f.around; looking = f.looking; at = after } in
       let state : state_of new ≡ last =
-      ap (λ (st : State). let x : State = record st { at = after; options = f.around; depth = length stack.items } in x) (state_kept m draft adds)
-      ∙ state_eq (record (state_of m) { at = after }) (ap (λ h. h.around) (sym i.frame.how)) (sym less_deep) in record {
+      ap (λ (st : State). let x : State = record st { at = after; options = f.around; looking = f.looking; depth = length stack.items } in x) (state_closed m draft closes)
+      ∙ state_eq (record (state_of m) { at = after }) (references_of m.draft.nodes) (sym i.frame.how) (sym less_deep) in record {
         means = record {
           opens = i.os;
           layer = i.o.outer;
           waiting = Some (i.o.outer.n, tree_at (trees draft.nodes) id);
           stack = stack_on makes.grows (left m) u less (reverse stack.items) i.os i.stack;
           level = level;
-          pending = ((makes.below, rw tree (record { many = λ low high lazy. refl })), (i.o.outer.n, level.n, refl));
+          pending = (closed_atom draft (form_of f.form) id f.at branches makes.below made.is, (i.o.outer.n, level.n, ap (λ v. Some (i.o.outer.n, v)) (sym (closed_tree draft.nodes (form_of f.form) id f.at))));
           value = resume_eq (known_of m) m.text.now i.os i.o.outer i.o.outer.n tree state ∙ value ∙ sym whole;
           within = there.within;
           short = means.short;
           depth = omega (arith, deep, means.depth);
-          classes = omega (arith, means.classes, there.goes, ap length adds.classes);
+          classes = omega (arith, means.classes, there.goes, ap length closes.classes);
           known = means.known;
-          named = named_kept m draft adds means.named;
-          verb_names = adds.verb_names ∙ means.verb_names;
-          refs_are = refs_kept m draft adds means.refs_are;
-          loose_is = replaces (ids_held m.stack.items) (loose_idle m means ready.idle ∙ ap (λ l. ids_held m.stack.items ++ l) (append-nil (ids_in m.level))) ∙ ap (λ l. l ++ id ∷ []) (ap ids_held popped ∙ held_push stack.items f) ∙ append_assoc (ids_held stack.items) (ids_in f.outer) (id ∷ []);
-          numbers = numbers_close m.draft.nodes draft.nodes m.stack.items stack.items f m.groups popped adds.groups means.numbers;
+          named = named_closed m draft closes means.named;
+          verb_names = closes.verb_names ∙ means.verb_names;
+          refs_are = refs_closed m draft closes means.refs_are;
+          loose_is = replaces (ids_held m.stack.items) (loose_idle m means ready.idle ∙ ap (λ l. ids_held m.stack.items ++ l) (append-nil (ids_in m.level))) ∙ ap (λ l. l ++ id ∷ []) (ap ids_held popped ∙ held_push stack.items f) ∙ append_assoc (ids_held stack.items) (ids_in f.outer) (id ∷ [])
+              ∙ ap (λ w. ids_held stack.items ++ (ids_in f.outer ++ w)) (sym (closed_ids (form_of f.form) id f.at));
+          numbers = numbers_close m.draft.nodes draft.nodes m.stack.items stack.items f m.groups popped closes.groups means.numbers;
         };
         room = omega (arith, ready.room, there.goes, count);
         goes = there.goes;
-        same = record { text = refl; options = adds.options; whole = whole };
+        same = record { text = refl; options = closes.options; whole = whole };
       }

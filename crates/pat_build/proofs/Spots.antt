@@ -68,7 +68,7 @@ module _ (cursor : Cursor) (from here : Place) (token : Token) (at : ℕ) (passe
       ((st : State) → passed_over token (record (state_at cursor st here) { at = at }) ≡ Some (state_at cursor st beyond)) → beyond.at ≡ at →
       Passes cursor from beyond × (here.at < beyond.at)
   passes_on moves beyond over is =
-      let none : State = record { at = 0; quoting = false; options = cursor.options; groups = 0; depth = 0; classes = []; names = []; references = [] } in
+      let none : State = record { at = 0; quoting = false; options = cursor.options; groups = 0; depth = 0; looking = false; classes = []; names = []; references = [] } in
       let goes : (here.at < at) × (at ≤ length cursor.text.now) = moves_over _ _ _ token _ _ moves (over none) in (
         record {
           past = omega (arith, passes.past);

@@ -1,12 +1,14 @@
 -- A machine's state and its reading, as its draft grows.
 use Rattle.std.proofs.Common.{◌≡◌, ℕ, ◌<◌, Bool, true, false, ◌||◌, List, [], ◌∷◌, ◌++◌, length, Option, None, refl, sym, ap, ◌∙◌, append_assoc, append-nil, arith}
+use Rattle.std.proofs.lemmas.Grind.{flat_map-append}
 use Rattle.pat_tree.specs.declared.nodes.Placed.{Placed}
 use Rattle.pat_tree.specs.Parts.{DraftParts}
 use Rattle.pat_tree.specs.Refs.{refs, has_group}
 use Rattle.pat_build.specs.declared.machine.Frame.{Frame}
 use Rattle.pat_build.specs.declared.machine.Machine.{Machine}
-use Rattle.pat_build.specs.Groups.{places_named, is_opened}
-use Rattle.pat_build.specs.Machine.{Adds, Named, references_of, reference_in, state_of, state_from, known_of, whole_of, ids_held, ids_in, is_open}
+use Rattle.pat_build.specs.State.{Reference}
+use Rattle.pat_build.specs.Groups.{Form, grouped, atomically, looks, noted, places_named, is_opened}
+use Rattle.pat_build.specs.Machine.{Adds, Closes, Named, references_of, reference_in, state_of, state_from, known_of, whole_of, ids_held, ids_in, is_open}
 use Rattle.pat_build.specs.Reading.{reading}
 
 pub or_false : (a : Bool) → (a || false) ≡ a
@@ -37,12 +39,16 @@ unfolding references_of
 references_push [] p = append-nil (reference_in p)
 references_push (q ∷ ps) p = ap (λ rs. reference_in q ++ rs) (references_push ps p) ∙ sym (append_assoc (reference_in q) (references_of ps) (reference_in p))
 
+pub places_append : (xs ys : List Reference) → places_named (xs ++ ys) ≡ places_named xs ++ places_named ys
+unfolding places_named
+places_append xs ys = flat_map-append _ xs ys
+
 pub held_push : (fs : List Frame) (f : Frame) → ids_held (fs ++ f ∷ []) ≡ ids_held fs ++ ids_in f.outer
 held_push [] f = append-nil (ids_in f.outer)
 held_push (g ∷ fs) f = ap (λ l. ids_in g.outer ++ l) (held_push fs f) ∙ sym (append_assoc (ids_in g.outer) (ids_held fs) (ids_in f.outer))
 
 -- the state and the reading of a machine whose draft has more nodes
-module _ (m : Machine) (draft : DraftParts) {number : Option ℕ} (adds : Adds m.draft draft number) where
+module _ (m : Machine) (draft : DraftParts) (adds : Adds m.draft draft) where
   pub state_kept : state_of (record m { draft = draft }) ≡ state_of m
   state_kept =
       ap (λ v. record (state_of (record m { draft = draft })) { classes = v }) adds.classes
@@ -58,7 +64,33 @@ module _ (m : Machine) (draft : DraftParts) {number : Option ℕ} (adds : Adds m
   pub named_kept : Named m.text.now m.names.items m.draft.names m.groups → Named m.text.now m.names.items draft.names m.groups
   named_kept h = record { known = h.known; is = adds.names ∙ h.is; few = h.few; count = h.count }
 
+-- the same where a group's node comes last
+module _ (m : Machine) (draft : DraftParts) {form : Form} {at : ℕ} (closes : Closes m.draft draft form at) where
+  pub state_closed : state_of (record m { draft = draft }) ≡ record (state_of m) { references = references_of m.draft.nodes ++ noted form at }
+  state_closed =
+      ap (λ v. record (state_of (record m { draft = draft })) { classes = v }) closes.classes
+      ∙ ap (λ v. record (state_of (record m { draft = draft })) { classes = m.draft.classes; names = v }) closes.names
+      ∙ ap (λ v. record (state_of m) { references = v }) closes.references
+
+  pub whole_closed : whole_of (record m { draft = draft }) ≡ whole_of m
+  whole_closed = ap (λ v. reading (known_of m) m.text.now (state_from m.start v)) closes.options
+
+  -- a lookaround names no group
+  none_noted : (f : Form) (place : ℕ) → places_named (noted f place) ≡ []
+  unfolding places_named
+  none_noted (grouped number) place = refl
+  none_noted atomically place = refl
+  none_noted (looks ahead positive once) place = refl
+
+  pub refs_closed : refs m.draft.nodes ≡ places_named (references_of m.draft.nodes) → refs draft.nodes ≡ places_named (references_of draft.nodes)
+  refs_closed h =
+      closes.refs_are ∙ h ∙ sym (append-nil (places_named (references_of m.draft.nodes))) ∙ ap (λ v. places_named (references_of m.draft.nodes) ++ v) (sym (none_noted form at))
+      ∙ sym (places_append (references_of m.draft.nodes) (noted form at)) ∙ ap places_named (sym closes.references)
+
+  pub named_closed : Named m.text.now m.names.items m.draft.names m.groups → Named m.text.now m.names.items draft.names m.groups
+  named_closed h = record { known = h.known; is = closes.names ∙ h.is; few = h.few; count = h.count }
+
 -- nodes that are no group leave the numbers as they are
-pub numbers_kept : (old new : DraftParts) (fs : List Frame) (groups : ℕ) → Adds old new None →
+pub numbers_kept : (old new : DraftParts) (fs : List Frame) (groups : ℕ) → Adds old new →
     ((n : ℕ) → (has_group old.nodes n || is_open fs n) ≡ is_opened groups n) → (n : ℕ) → (has_group new.nodes n || is_open fs n) ≡ is_opened groups n
-numbers_kept old new fs groups adds h n = ap (λ b. b || is_open fs n) (adds.groups n ∙ or_false (has_group old.nodes n)) ∙ h n
+numbers_kept old new fs groups adds h n = ap (λ b. b || is_open fs n) (adds.groups n) ∙ h n

@@ -9,7 +9,7 @@ use Rattle.token_parts.specs.declared.token.QuantMode.{QuantMode}
 use Rattle.token_parts.specs.Tell.{fault, ◌>>=◌}
 use Rattle.pat_lex.specs.Tokens.{token_at}
 use Rattle.pat_build.specs.State.{State, Reads, flags_of, next, passed_over}
-use Rattle.pat_build.specs.Groups.{Opening}
+use Rattle.pat_build.specs.Groups.{Opening, built, noted}
 use Rattle.pat_build.specs.Parts.{atom, bare, inside, nothing, over, alternative, repeated, beginning}
 use Rattle.pat_build.specs.Reading.{quantified, closed, part_then, alternatives_from, sequence, alternatives, whole, reading}
 use Rattle.pat_build.specs.Stack.{Layer, Opened, with_part, resumed, ended, resume, IsPlain}
@@ -45,7 +45,7 @@ module _ (known : List NameEntry) (text : List ℕ) where
 
     quantified_plain : IsPlain token → (n : ℕ) (t : Nested) → quantified text (suc n) t st ≡ Ok (t, st)
     unfolding quantified
-    quantified_plain plain n t = rw next_is (elim token as (λ v. IsPlain v → ◌≡◌ {A = Reads Nested} (elim v [ Quantifier low high mode ↦ repeated low high mode t st >>= λ part. Ok (part, record st { at = place }) | other ↦ elim (passed_over other (record st { at = place })) [ Some beyond ↦ quantified text n t beyond | None ↦ Ok (t, st) ] ]) (Ok (t, st))) [
+    quantified_plain plain n t = rw next_is (elim token as (λ v. IsPlain v → ◌≡◌ {A = Reads Nested} (elim v [ Quantifier low high mode ↦ Ok (repeated low high mode st.options.ungreedy t, record st { at = place }) | other ↦ elim (passed_over other (record st { at = place })) [ Some beyond ↦ quantified text n t beyond | None ↦ Ok (t, st) ] ]) (Ok (t, st))) [
       | Quantifier low high mode ↦ λ h. absurd h
       | Passed ↦ λ h. absurd h
       | QuoteOn ↦ λ h. absurd h
@@ -133,7 +133,8 @@ module _ (known : List NameEntry) (text : List ℕ) where
     -- a group ends at its parenthesis, and a quantifier may follow
     pub step_close : token ≡ Close → (o : Opened) (os : List Opened) (branches : List Nested) →
         ended known text (o ∷ os) branches st
-        ≡ resume known text os o.outer (Some (o.outer.n, group o.how.number (row branches))) (record st { at = place; options = o.how.around; depth = st.depth - 1 })
+        ≡ resume known text os o.outer (Some (o.outer.n, built o.how.form branches))
+        (record st { at = place; options = o.how.around; looking = o.how.looking; depth = st.depth - 1; references = st.references ++ noted o.how.form o.how.at })
     unfolding resume ended closed
     step_close is o os branches = rw (closed, next_is, is)
 
@@ -150,16 +151,11 @@ module _ (known : List NameEntry) (text : List ℕ) where
     step_whole is branches = rw (whole, next_is, is)
 
     pub step_quantifier : (low : ℕ) (high : Option ℕ) (mode : QuantMode) → token ≡ Quantifier low high mode →
-        (os : List Opened) (layer : Layer) (n : ℕ) (t part : Nested) → repeated low high mode t st ≡ Ok part →
-        resume known text os layer (Some (suc n, t)) st ≡ resume known text os (with_part layer part) None (record st { at = place })
+        (os : List Opened) (layer : Layer) (n : ℕ) (t : Nested) →
+        resume known text os layer (Some (suc n, t)) st
+        ≡ resume known text os (with_part layer (repeated low high mode st.options.ungreedy t)) None (record st { at = place })
     unfolding resume quantified
-    step_quantifier low high mode is os layer n t part found = rw (quantified, next_is, is, found)
-
-    pub step_no_quantifier : (low : ℕ) (high : Option ℕ) (mode : QuantMode) → token ≡ Quantifier low high mode →
-        (os : List Opened) (layer : Layer) (n : ℕ) (t : Nested) (f : Fault) → repeated low high mode t st ≡ Err f →
-        resume known text os layer (Some (suc n, t)) st ≡ Err f
-    unfolding resume quantified
-    step_no_quantifier low high mode is os layer n t f found = rw (quantified, next_is, is, found)
+    step_quantifier low high mode is os layer n t = rw (quantified, next_is, is)
 
     -- what is passed over leaves the atom waiting
     pub step_passed : token ≡ Passed → (os : List Opened) (layer : Layer) (n : ℕ) (t : Nested) →

@@ -202,18 +202,19 @@ module _ (m : Machine) (means : Means m) where
       }
 
   -- the atom under its quantifier is a part
-  pub quantifier_means : (after low : ℕ) (high : Option ℕ) (mode : QuantMode) (a : Atom) (t : Nested) (id : ℕ) (draft : DraftParts) (parts : List ℕ) →
-      m.waiting ≡ Some a → IsNext (Quantifier low high mode) after m → HasRoom 0 m → repeated low high mode (atom_tree m.draft.nodes a) (state_of m) ≡ Ok t →
-      Makes m.draft.nodes draft.nodes id t → length draft.nodes ≤ length m.draft.nodes + 1 → Adds m.draft draft None → Replaces m.draft.nodes (ids_of a) draft.nodes id → parts ≡ m.level.parts ++ id ∷ [] →
+  pub quantifier_means : (after low : ℕ) (high : Option ℕ) (mode : QuantMode) (a : Atom) (id : ℕ) (draft : DraftParts) (parts : List ℕ) →
+      m.waiting ≡ Some a → IsNext (Quantifier low high mode) after m → HasRoom 0 m →
+      Makes m.draft.nodes draft.nodes id (repeated low high mode m.options.ungreedy (atom_tree m.draft.nodes a)) → length draft.nodes ≤ length m.draft.nodes + 2 → Adds m.draft draft → Replaces m.draft.nodes (ids_of a) draft.nodes id → parts ≡ m.level.parts ++ id ∷ [] →
       Took m (record m { draft = draft; level = record (m.level) { parts = parts }; waiting = None; at = after })
-  quantifier_means after low high mode a t id draft parts is there room found makes count adds replaces more =
+  quantifier_means after low high mode a id draft parts is there room makes count adds replaces more =
+      let t = repeated low high mode m.options.ungreedy (atom_tree m.draft.nodes a) in
       let waits = waits_for m means a is in
       let p = waits.0 in
       let u : ℕ = 2 * (length m.text.now - after) in
       let falls : u < left m - 1 = omega (arith, there.goes, there.within) in
       let less : u ≤ left m = omega arith in
       let level = level_on makes.grows (left m) u less means.level in
-      let step = step_quantifier (known_of m) m.text.now (state_of m) (Quantifier low high mode) after there.token_is low high mode refl means.opens means.layer p (atom_tree m.draft.nodes a) t found in
+      let step = step_quantifier (known_of m) m.text.now (state_of m) (Quantifier low high mode) after there.token_is low high mode refl means.opens means.layer p (atom_tree m.draft.nodes a) in
       let whole = whole_kept m draft adds in record {
         means = record {
           opens = means.opens;

@@ -21,10 +21,10 @@ use Rattle.pat_build.specs.declared.cursor.Place.{Place}
 use Rattle.pat_build.specs.State.{Reads, flags_of}
 use Rattle.pat_build.specs.Classes.{class_spec}
 use Rattle.pat_build.specs.Groups.{named_by}
-use Rattle.pat_build.specs.Parts.{repeated, of_class}
+use Rattle.pat_build.specs.Parts.{of_class}
 use Rattle.pat_build.specs.Stack.{with_part, resume, IsPlain}
 use Rattle.pat_build.specs.Machine.{Adds, Refuses, IsAtom, atom_tree, state_of, known_of, whole_of, left, Means, IsNext, Ready, Begins, ids_of, ids_waiting, ids_in, ids_held}
-use Rattle.pat_build.proofs.Steps.{step_flush, step_bad, step_fault, step_fault_waiting, step_no_quantifier}
+use Rattle.pat_build.proofs.Steps.{step_flush, step_bad, step_fault, step_fault_waiting}
 use Rattle.pat_build.proofs.Standing.{positive, level_on, stack_on}
 use Rattle.pat_build.proofs.States.{state_kept, whole_kept, refs_kept, named_kept, numbers_kept}
 
@@ -69,7 +69,7 @@ module _ (m : Machine) (means : Means m) where
 
   pub flush_means : (a : Atom) (id : ℕ) (draft : DraftParts) (parts : List ℕ) (token : Token) (after : ℕ) →
       m.waiting ≡ Some a → token_at m.text.now (flags_of false (state_of m)) m.at ≡ Ok (token, after) → IsPlain token →
-      Makes m.draft.nodes draft.nodes id (atom_tree m.draft.nodes a) → Adds m.draft draft None → Replaces m.draft.nodes (ids_of a) draft.nodes id → parts ≡ m.level.parts ++ id ∷ [] →
+      Makes m.draft.nodes draft.nodes id (atom_tree m.draft.nodes a) → Adds m.draft draft → Replaces m.draft.nodes (ids_of a) draft.nodes id → parts ≡ m.level.parts ++ id ∷ [] →
       Means (record m { draft = draft; level = record (m.level) { parts = parts }; waiting = None })
   flush_means a id draft parts token after is there plain makes adds replaces more =
       let waits = waits_for a is in
@@ -122,13 +122,6 @@ module _ (m : Machine) (means : Means m) where
       sym (idle_value idle)
       ∙ step_bad (known_of m) m.text.now (state_of m) (Quantifier low high mode) after there.token_is means.opens means.layer n.0 _ n.1 refl
 
-  pub possessive_means : (after low : ℕ) (high : Option ℕ) (mode : QuantMode) (a : Atom) → m.waiting ≡ Some a → IsNext (Quantifier low high mode) after m →
-      ((t : Nested) → repeated low high mode t (state_of m) ≡ fault 195 m.at) → whole_of m ≡ fault 195 m.at
-  possessive_means after low high mode a is there found =
-      let waits = waits_for a is in
-      let t = atom_tree m.draft.nodes a in
-      sym waits.3 ∙ step_no_quantifier (known_of m) m.text.now (state_of m) (Quantifier low high mode) after there.token_is low high mode refl means.opens means.layer waits.0 t _ (found t)
-
   -- the fault of the groups that a reference names
   pub refers_refuse : (target : Target) (after : ℕ) (e : ReadError) → Ready (Reference target) after m → Refuses (named_by (known_of m) m.text.now (state_of m) target) e → Refuses (whole_of m) e
   refers_refuse target after (Bad number at) ready h = bad_means (Reference target) after _ ready (λ n k. rw h refl)
@@ -165,9 +158,9 @@ module _ (m : Machine) (means : Means m) where
 -- a cursor at the machine's place has the machine's token
 pub token_same : (m : Machine) (text : List ℕ) (place : Place) (options : Options) (groups : ℕ) → text ≡ m.text.now → place ≡ record { at = m.at; quoting = m.quoting } → options ≡ m.options → groups ≡ m.groups →
     token_at m.text.now (flags_of false (state_of m)) m.at
-    ≡ token_at text (flags_of false (record { at = place.at; quoting = place.quoting; options = options; groups = groups; depth = 0; classes = []; names = []; references = [] })) place.at
+    ≡ token_at text (flags_of false (record { at = place.at; quoting = place.quoting; options = options; groups = groups; depth = 0; looking = false; classes = []; names = []; references = [] })) place.at
 token_same m text place options groups text_is place_is options_is groups_is =
     ap (λ t. token_at t (flags_of false (state_of m)) m.at) (sym text_is)
-    ∙ ap (λ p. token_at text (flags_of false (record { at = p.at; quoting = p.quoting; options = m.options; groups = m.groups; depth = 0; classes = []; names = []; references = [] })) p.at) (sym place_is)
-    ∙ ap (λ o. token_at text (flags_of false (record { at = place.at; quoting = place.quoting; options = o; groups = m.groups; depth = 0; classes = []; names = []; references = [] })) place.at) (sym options_is)
-    ∙ ap (λ g. token_at text (flags_of false (record { at = place.at; quoting = place.quoting; options = options; groups = g; depth = 0; classes = []; names = []; references = [] })) place.at) (sym groups_is)
+    ∙ ap (λ p. token_at text (flags_of false (record { at = p.at; quoting = p.quoting; options = m.options; groups = m.groups; depth = 0; looking = false; classes = []; names = []; references = [] })) p.at) (sym place_is)
+    ∙ ap (λ o. token_at text (flags_of false (record { at = place.at; quoting = place.quoting; options = o; groups = m.groups; depth = 0; looking = false; classes = []; names = []; references = [] })) place.at) (sym options_is)
+    ∙ ap (λ g. token_at text (flags_of false (record { at = place.at; quoting = place.quoting; options = options; groups = g; depth = 0; looking = false; classes = []; names = []; references = [] })) place.at) (sym groups_is)

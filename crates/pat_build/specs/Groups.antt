@@ -1,9 +1,10 @@
 -- Groups, their numbers and their names (pcre2pattern, "Groups", "Named capture groups", "Backreferences").
-use Rattle.std.specs.Prelude.{ℕ, ◌+◌, ◌-◌, Bool, not, ◌&&◌, nat_le, nat_lt, List, [], ◌∷◌, map, filter, flat_map, Option, Some, Result, Ok, slice_range, if◌then◌else◌}
+use Rattle.std.specs.Prelude.{ℕ, ◌+◌, ◌-◌, Bool, true, false, not, ◌&&◌, ◌||◌, nat_le, nat_lt, List, [], ◌∷◌, map, filter, flat_map, Option, Some, None, Result, Ok, slice_range, if◌then◌else◌}
 use Rattle.std.specs.List.{list_any}
 use Rattle.std.specs.Str.{bytes_eq}
 use Rattle.pat_tree.specs.declared.options.Options.{Options}
 use Rattle.pat_tree.specs.declared.names.NameEntry.{NameEntry}
+use Rattle.pat_tree.specs.Nested.{Nested, group, atomic, look, row}
 use Rattle.pat_tree.specs.Names.{with_name}
 use Rattle.pat_tree.specs.Refs.{bad_ref}
 use Rattle.token_parts.specs.declared.fault.Fault.{Fault}
@@ -12,10 +13,42 @@ use Rattle.token_parts.specs.declared.token.Target.TheVariants.{Number, Plus, Mi
 use Rattle.token_parts.specs.Tell.{fault, ◌>>=◌}
 use Rattle.pat_build.specs.State.{State, Reference}
 
--- a group whose inside is read: its number where it captures, and the options in force around it
+-- what a group is
+pub data Form : Type 0 where
+  -- its number where it captures
+  grouped : Option ℕ → Form
+  atomically : Form
+  -- a lookaround: ahead, positive, atomic
+  looks : Bool → Bool → Bool → Form
+
+abbrev pub number_of : Form → Option ℕ
+number_of (grouped number) = number
+number_of atomically = None
+number_of (looks ahead positive once) = None
+
+abbrev pub is_look : Form → Bool
+is_look (grouped number) = false
+is_look atomically = false
+is_look (looks ahead positive once) = true
+
+-- a group of these branches
+abbrev pub built : Form → List Nested → Nested
+built (grouped number) branches = group number (row branches)
+built atomically branches = atomic (row branches)
+built (looks ahead positive once) branches = look ahead positive once (row branches)
+
+-- a group whose inside is read: the options around it, whether it stands in a lookaround, and its place
 pub record Opening : Type 0 where
-  pub number : Option ℕ
+  pub form : Form
   pub around : Options
+  pub looking : Bool
+  pub at : ℕ
+
+-- where a lookaround stands
+abbrev pub noted : Form → ℕ → List Reference
+noted (grouped number) at = []
+noted atomically at = []
+noted (looks ahead positive once) at = record { at = at; groups = [] } ∷ []
 
 -- the group and the state in which its inside begins
 abbrev pub Opens : Type 0
@@ -25,14 +58,17 @@ abbrev pub has_name : List ℕ → NameEntry → Bool
 has_name name entry = bytes_eq entry.name name
 
 -- One more parenthesis than `st` has open. The state after the parenthesis is given.
-unfoldable pub opened : State → Option ℕ → State → Opens
-opened st number after =
+unfoldable pub opened : State → Form → State → Opens
+opened st form after =
     if nat_le 250 st.depth then fault 119 st.at
-    else Ok (record { number = number; around = st.options }, record after { depth = st.depth + 1 })
+    else Ok (
+      record { form = form; around = st.options; looking = st.looking; at = st.at },
+      record after { depth = st.depth + 1; looking = is_look form || st.looking },
+    )
 
 -- a capturing group has the next number
 unfoldable pub captured : State → State → Opens
-captured st after = opened st (Some (st.groups + 1)) (record after { groups = st.groups + 1 }) >>= λ group.
+captured st after = opened st (grouped (Some (st.groups + 1))) (record after { groups = st.groups + 1 }) >>= λ group.
     if nat_le 65535 st.groups then fault 161 st.at else Ok group
 
 -- a name that another group has needs DUPNAMES

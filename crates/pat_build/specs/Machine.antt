@@ -13,7 +13,7 @@ use Rattle.pat_tree.specs.Rules.{class_in}
 use Rattle.pat_tree.specs.Growing.{Stand, loose}
 use Rattle.token_parts.specs.declared.fault.Fault.{Fault}
 use Rattle.token_parts.specs.declared.token.Token.{Token}
-use Rattle.token_parts.specs.declared.token.Token.TheVariants.{End, Literal, Dot, NotNewline, LineBreak, KeepOut, Caret, Dollar, SubjectStart, SubjectEnd, EndOrNewline, StartGiven, Boundary}
+use Rattle.token_parts.specs.declared.token.Token.TheVariants.{End, Literal, Dot, NotNewline, LineBreak, Caret, Dollar, SubjectStart, SubjectEnd, EndOrNewline, StartGiven, Boundary}
 use Rattle.token_parts.specs.declared.token.Token.TheVariants as token
 use Rattle.token_parts.specs.Tell.{IsWell, ◌>>=◌}
 use Rattle.pat_lex.specs.Tokens.{token_at}
@@ -23,18 +23,24 @@ use Rattle.pat_build.specs.declared.names.Name.{Name}
 use Rattle.pat_build.specs.declared.machine.Level.{Level}
 use Rattle.pat_build.specs.declared.machine.Frame.{Frame}
 use Rattle.pat_build.specs.declared.machine.Atom.{Atom}
-use Rattle.pat_build.specs.declared.machine.Atom.TheVariants.{Single, Whole}
+use Rattle.pat_build.specs.declared.machine.Atom.TheVariants.{Single, Whole, Look}
+use Rattle.pat_build.specs.declared.machine.Form as machine
+use Rattle.pat_build.specs.declared.machine.Form.TheVariants as kept
 use Rattle.pat_build.specs.declared.machine.Machine.{Machine}
 use Rattle.pat_build.specs.State.{State, Reads, Reference, flags_of}
-use Rattle.pat_build.specs.Groups.{Opening, is_opened, places_named, missing}
+use Rattle.pat_build.specs.Groups.{Opening, Form, grouped, atomically, looks, number_of, noted, is_opened, places_named, missing}
 use Rattle.pat_build.specs.Names.{IsKnown, Stands, table_of}
-use Rattle.pat_build.specs.Parts.{Beginning, repeat_of, beginning}
+use Rattle.pat_build.specs.Parts.{Beginning, once_more, repeat_of, beginning}
 use Rattle.pat_build.specs.Reading.{Parsed, reading, checked}
 use Rattle.pat_build.specs.Stack.{Layer, Opened, Waiting, resume}
 
--- the references among the nodes, in the order of adding
+-- the references and lookarounds among the nodes, in the order of adding
 abbrev pub reference_in : Placed → List Reference
-reference_in p = elim (p.node) [ node.Ref groups caseless ↦ record { at = p.at; groups = groups } ∷ [] | _ ↦ [] ]
+reference_in p = elim (p.node) [
+  | node.Ref groups caseless ↦ record { at = p.at; groups = groups } ∷ []
+  | node.Look ahead positive once branches ↦ record { at = p.at; groups = [] } ∷ []
+  | _ ↦ []
+]
 
 unfoldable pub references_of : List Placed → List Reference
 references_of [] = []
@@ -53,28 +59,50 @@ abbrev pub is_number : Option ℕ → ℕ → Bool
 is_number None n = false
 is_number (Some m) n = m == n
 
--- The draft has more nodes: a group of this number, if any, and no reference.
-pub record Adds (old new : DraftParts) (number : Option ℕ) : Type 0 where
+-- The draft has more nodes, among which no capturing group, reference and lookaround is.
+pub record Adds (old new : DraftParts) : Type 0 where
   pub options : new.options ≡ old.options
   pub classes : new.classes ≡ old.classes
   pub names : new.names ≡ old.names
   pub verb_names : new.verb_names ≡ old.verb_names
   pub references : references_of new.nodes ≡ references_of old.nodes
   pub refs_are : refs new.nodes ≡ refs old.nodes
-  pub groups : (n : ℕ) → has_group new.nodes n ≡ (has_group old.nodes n || is_number number n)
+  pub groups : (n : ℕ) → has_group new.nodes n ≡ has_group old.nodes n
 
--- no one-item atom
+-- The draft has more nodes: a group that began at this place, and others that are no such node.
+pub record Closes (old new : DraftParts) (form : Form) (at : ℕ) : Type 0 where
+  pub options : new.options ≡ old.options
+  pub classes : new.classes ≡ old.classes
+  pub names : new.names ≡ old.names
+  pub verb_names : new.verb_names ≡ old.verb_names
+  pub references : references_of new.nodes ≡ references_of old.nodes ++ noted form at
+  pub refs_are : refs new.nodes ≡ refs old.nodes
+  pub groups : (n : ℕ) → has_group new.nodes n ≡ (has_group old.nodes n || is_number (number_of form) n)
+
+-- no one-item atom and no lookaround
 pub record IsMany (t : Nested) : Type 0 where
   pub many : (low : ℕ) (high : Option ℕ) (lazy : Bool) → repeat_of low high lazy t ≡ repeat t low high lazy
+
+-- a lookaround
+pub record IsLooking (t : Nested) : Type 0 where
+  pub looks : (low : ℕ) (high : Option ℕ) (lazy : Bool) → repeat_of low high lazy t ≡ repeat t low (once_more low high) lazy
 
 abbrev pub atom_tree : List Placed → Atom → Nested
 atom_tree ps (Single item at) = one item
 atom_tree ps (Whole id at) = tree_at (trees ps) id
+atom_tree ps (Look id at) = tree_at (trees ps) id
+
+-- a group of this node, before a quantifier
+abbrev pub atom_of : Form → ℕ → ℕ → Atom
+atom_of (grouped number) id at = Whole id at
+atom_of atomically id at = Whole id at
+atom_of (looks ahead positive once) id at = Look id at
 
 -- the node of the atom, where it has one
 abbrev pub ids_of : Atom → List ℕ
 ids_of (Single item at) = []
 ids_of (Whole id at) = id ∷ []
+ids_of (Look id at) = id ∷ []
 
 abbrev pub ids_waiting : Option Atom → List ℕ
 ids_waiting None = []
@@ -92,9 +120,19 @@ ids_held (f ∷ fs) = ids_in f.outer ++ ids_held fs
 abbrev pub IsAtom : DraftParts → Atom → Type 0
 IsAtom d (Single item at) = All (λ n. n < length d.classes) (class_in item)
 IsAtom d (Whole id at) = (id < length d.nodes) × IsMany (tree_at (trees d.nodes) id)
+IsAtom d (Look id at) = (id < length d.nodes) × IsLooking (tree_at (trees d.nodes) id)
+
+abbrev pub form_of : machine.Form → Form
+form_of (kept.Group number) = grouped number
+form_of kept.Atomic = atomically
+form_of (kept.Look ahead positive once) = looks ahead positive once
 
 abbrev pub opening_of : Frame → Opening
-opening_of f = record { number = f.number; around = f.around }
+opening_of f = record { form = form_of f.form; around = f.around; looking = f.looking; at = f.at }
+
+-- the number of the group, where it captures
+abbrev pub number_in_frame : Frame → Option ℕ
+number_in_frame f = number_of (form_of f.form)
 
 -- the level stands for the layer, whose numbers are above this one
 pub record LevelStands (ps : List Placed) (left : ℕ) (level : Level) (layer : Layer) : Type 0 where
@@ -119,7 +157,7 @@ AtomStands d left None waiting = waiting ≡ None
 AtomStands d left (Some atom) waiting = IsAtom d atom × ((n : ℕ) × (left < n) × (waiting ≡ Some (n, atom_tree d.nodes atom)))
 
 abbrev pub is_open : List Frame → ℕ → Bool
-is_open fs n = list_any (λ f. is_number f.number n) fs
+is_open fs n = list_any (λ f. is_number (number_in_frame f) n) fs
 
 -- The names that were given are those of the draft, each to a group that was opened.
 pub record Named (text : List ℕ) (names : List Name) (table : List NameEntry) (groups : ℕ) : Type 0 where
@@ -145,6 +183,7 @@ state_of m = record {
   options = m.options;
   groups = m.groups;
   depth = length m.stack.items;
+  looking = m.looking;
   classes = m.draft.classes;
   names = m.draft.names;
   references = references_of m.draft.nodes;
@@ -152,7 +191,7 @@ state_of m = record {
 
 -- the state in which the reading begins, after the start items
 abbrev pub state_from : ℕ → Options → State
-state_from at options = record { at = at; quoting = false; options = options; groups = 0; depth = 0; classes = []; names = []; references = [] }
+state_from at options = record { at = at; quoting = false; options = options; groups = 0; depth = 0; looking = false; classes = []; names = []; references = [] }
 
 abbrev pub known_of : Machine → List NameEntry
 known_of m = table_of m.text.now m.known.now
@@ -244,14 +283,13 @@ IsAssertion StartGiven = Unit {0}
 IsAssertion (Boundary opposite) = Unit {0}
 IsAssertion _ = ⊥
 
--- a character, a type, `\R` or `\K`
+-- a character, a type or `\R`
 abbrev pub IsCharacter : Token → Type 0
 IsCharacter (Literal c) = Unit {0}
 IsCharacter Dot = Unit {0}
 IsCharacter NotNewline = Unit {0}
 IsCharacter LineBreak = Unit {0}
 IsCharacter (token.Set set outside) = Unit {0}
-IsCharacter KeepOut = Unit {0}
 IsCharacter _ = ⊥
 
 -- The text has been read: the tree has this number, and the last state is that of the machine.

@@ -1,5 +1,5 @@
 -- What each token begins, outside classes.
-use Rattle.std.specs.Prelude.{ℕ, Bool, true, false, not, List, [], ◌∷◌, ◌++◌, length, Option, None, Result, Ok, slice_range, if◌then◌else◌}
+use Rattle.std.specs.Prelude.{ℕ, ◌+◌, min, Bool, true, false, not, List, [], ◌∷◌, ◌++◌, length, Option, Some, None, Result, Ok, slice_range, if◌then◌else◌}
 use Rattle.pat_tree.specs.declared.nodes.Item.TheVariants as item
 use Rattle.pat_tree.specs.declared.nodes.AnchorKind.{AnchorKind}
 use Rattle.pat_tree.specs.declared.nodes.AnchorKind.TheVariants as kind
@@ -7,7 +7,7 @@ use Rattle.pat_tree.specs.declared.nodes.Part.{Part}
 use Rattle.pat_tree.specs.declared.nodes.Part.TheVariants as part
 use Rattle.pat_tree.specs.declared.nodes.ClassSpec.{ClassSpec}
 use Rattle.pat_tree.specs.declared.names.NameEntry.{NameEntry}
-use Rattle.pat_tree.specs.Nested.{Nested, empty, one, line_break, seq, repeat, one_repeat, ref, anchor, keep_out, row}
+use Rattle.pat_tree.specs.Nested.{Nested, empty, one, line_break, seq, repeat, one_repeat, atomic, look, ref, anchor, keep_out, row}
 use Rattle.token_parts.specs.declared.fault.Fault.{Fault}
 use Rattle.token_parts.specs.declared.token.OpenKind.TheVariants as opening
 use Rattle.token_parts.specs.declared.token.QuantMode.{QuantMode}
@@ -18,7 +18,7 @@ use Rattle.token_parts.specs.Tell.{fault, ◌>>=◌}
 use Rattle.pat_build.specs.State.{State}
 use Rattle.pat_build.specs.Options.{with_setting}
 use Rattle.pat_build.specs.Classes.{class_spec}
-use Rattle.pat_build.specs.Groups.{Opening, Opens, opened, captured, named, named_by}
+use Rattle.pat_build.specs.Groups.{Opening, Opens, grouped, atomically, looks, opened, captured, named, named_by}
 
 -- An alternative without parts is empty, one with one part is that part.
 abbrev pub alternative : List Nested → Nested
@@ -26,16 +26,32 @@ alternative [] = empty
 alternative (t ∷ []) = t
 alternative (t ∷ u ∷ ts) = seq (row (t ∷ u ∷ ts))
 
+-- without a maximum a lookaround is repeated at most once more than it must be ("Assertions")
+abbrev pub once_more : ℕ → Option ℕ → Option ℕ
+once_more low None = Some (min (low + 1) 65535)
+once_more low (Some high) = Some high
+
 -- what takes one character has a repeat of its own
 abbrev pub repeat_of : ℕ → Option ℕ → Bool → Nested → Nested
 repeat_of low high lazy (one item) = one_repeat item low high lazy
+repeat_of low high lazy (look ahead positive once ts) = repeat (look ahead positive once ts) low (once_more low high) lazy
 repeat_of low high lazy t = repeat t low high lazy
 
--- An atom under a quantifier at a place ("Repetition"): UNGREEDY swaps greedy and lazy. Possessive ones are left out.
-abbrev pub repeated : ℕ → Option ℕ → QuantMode → Nested → State → Result Nested Fault
-repeated low high Greedy t st = Ok (repeat_of low high st.options.ungreedy t)
-repeated low high Lazy t st = Ok (repeat_of low high (not st.options.ungreedy) t)
-repeated low high Possessive t st = fault 195 st.at
+-- UNGREEDY swaps greedy and lazy
+abbrev pub is_lazy : QuantMode → Bool → Bool
+is_lazy Greedy ungreedy = ungreedy
+is_lazy Lazy ungreedy = not ungreedy
+is_lazy Possessive ungreedy = false
+
+-- a possessive quantifier is an atomic group round the repeat
+abbrev pub held : QuantMode → Nested → Nested
+held Greedy t = t
+held Lazy t = t
+held Possessive t = atomic (row (t ∷ []))
+
+-- an atom under a quantifier ("Repetition", "Atomic grouping and possessive quantifiers")
+abbrev pub repeated : ℕ → Option ℕ → QuantMode → Bool → Nested → Nested
+repeated low high mode ungreedy t = held mode (repeat_of low high (is_lazy mode ungreedy) t)
 
 -- what begins at a token
 pub data Beginning : Type 0 where
@@ -99,14 +115,16 @@ module _ (known : List NameEntry) (text : List ℕ) where
   beginning n st token.EndOrNewline next = simple kind.EndOrNewline next
   beginning n st token.StartGiven next = simple kind.StartGiven next
   beginning n st (token.Boundary opposite) next = simple (boundary opposite st.options.ucp) next
-  beginning n st token.KeepOut next = Ok (bare keep_out next)
+  beginning n st token.KeepOut next = if st.looking then fault 199 st.at else Ok (bare keep_out next)
   -- references
   beginning n st (token.Reference target) next = named_by known text st target >>= λ groups. Ok (with_reference st next groups)
   -- groups
-  beginning n st (token.Open opening.Capture) next = enters (if st.options.no_auto_capture then opened st None next else captured st next)
-  beginning n st (token.Open opening.Plain) next = enters (opened st None next)
+  beginning n st (token.Open opening.Capture) next = enters (if st.options.no_auto_capture then opened st (grouped None) next else captured st next)
+  beginning n st (token.Open opening.Plain) next = enters (opened st (grouped None) next)
+  beginning n st (token.Open opening.Atomic) next = enters (opened st atomically next)
+  beginning n st (token.Open (opening.Look true positive once)) next = enters (opened st (looks true positive once) next)
   beginning n st (token.Open (opening.Named from to)) next = enters (named st (slice_range text from to) next)
-  beginning n st (token.OptionSet reset on off true) next = enters (opened st None (record next { options = with_setting reset on off st.options }))
+  beginning n st (token.OptionSet reset on off true) next = enters (opened st (grouped None) (record next { options = with_setting reset on off st.options }))
   -- what is no part
   beginning n st (token.OptionSet reset on off false) next = Ok (nothing (record next { options = with_setting reset on off st.options }))
   beginning n st token.Passed next = Ok (nothing next)
@@ -115,5 +133,5 @@ module _ (known : List NameEntry) (text : List ℕ) where
   -- a quantifier without an atom, and a start item that isn't at the start
   beginning n st (token.Quantifier low high mode) next = fault 109 st.at
   beginning n st (token.Start item) next = fault 160 st.at
-  -- Left out: properties; atomic groups, lookarounds, conditions and branch reset; calls and verbs; callouts.
+  -- Left out: properties; lookbehinds, conditions and branch reset; calls and verbs; callouts.
   beginning n st _ next = fault 195 st.at

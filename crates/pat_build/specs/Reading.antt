@@ -2,7 +2,7 @@
 --
 -- The grammar has alternatives, each a sequence of parts, a part being an atom under the quantifier that follows it. Where a
 -- number stands as a first argument it bounds how deep the calls go; twice the bytes that are left, and two, are enough.
-use Rattle.std.specs.Prelude.{ℕ, zero, suc, ◌+◌, ◌-◌, ◌*◌, false, ◌||◌, nat_lt, List, [], ◌∷◌, length, map, Option, Some, None, Result, Ok, if◌then◌else◌}
+use Rattle.std.specs.Prelude.{ℕ, zero, suc, ◌+◌, ◌-◌, ◌*◌, false, ◌||◌, nat_lt, List, [], ◌∷◌, ◌++◌, length, map, Option, Some, None, Result, Ok, if◌then◌else◌}
 use Rattle.pat_tree.specs.declared.nodes.Item.TheVariants.{Char}
 use Rattle.pat_tree.specs.declared.names.NameEntry.{NameEntry}
 use Rattle.pat_tree.specs.declared.options.Options.{Options}
@@ -13,7 +13,7 @@ use Rattle.token_parts.specs.declared.token.Token.TheVariants.{End, Bar, Close, 
 use Rattle.token_parts.specs.Tell.{fault, ◌>>=◌}
 use Rattle.pat_build.specs.State.{State, Reads, next, passed_over}
 use Rattle.pat_build.specs.Options.{with_item}
-use Rattle.pat_build.specs.Groups.{Opening, missing}
+use Rattle.pat_build.specs.Groups.{Opening, built, noted, missing}
 use Rattle.pat_build.specs.Parts.{Beginning, atom, bare, inside, nothing, over, alternative, repeated, beginning}
 
 module _ (text : List ℕ) where
@@ -21,14 +21,22 @@ module _ (text : List ℕ) where
   unfoldable pub quantified : ℕ → Nested → State → Reads Nested
   quantified zero t st = fault 0 0
   quantified (suc n) t st = next text false st >>= λ (token, after). elim token [
-    | Quantifier low high mode ↦ repeated low high mode t st >>= λ part. Ok (part, after)
+    | Quantifier low high mode ↦ Ok (repeated low high mode st.options.ungreedy t, after)
     | other ↦ elim (passed_over other after) [ Some beyond ↦ quantified n t beyond | None ↦ Ok (t, st) ]
   ]
 
-  -- A group of these branches, at its closing parenthesis. The options around it are in force again.
+  -- A group of these branches, at its closing parenthesis. What holds around it holds again.
   unfoldable pub closed : Opening → List Nested → State → Reads Nested
   closed opening branches st = next text false st >>= λ (token, after). elim token [
-    | Close ↦ Ok (group opening.number (row branches), record after { options = opening.around; depth = st.depth - 1 })
+    | Close ↦ Ok (
+      built opening.form branches,
+      record after {
+        options = opening.around;
+        looking = opening.looking;
+        depth = st.depth - 1;
+        references = st.references ++ noted opening.form opening.at;
+      },
+    )
     | _ ↦ fault 114 (length text)
   ]
 
@@ -90,7 +98,7 @@ started text (suc n) st = next text false st >>= λ (token, after). elim token [
 ]
 
 abbrev pub start : Options → State
-start options = record { at = 0; quoting = false; options = options; groups = 0; depth = 0; classes = []; names = []; references = [] }
+start options = record { at = 0; quoting = false; options = options; groups = 0; depth = 0; looking = false; classes = []; names = []; references = [] }
 
 -- the tree from a state on and the last state, where these are the names of the whole pattern
 unfoldable pub reading : List NameEntry → List ℕ → State → Reads Nested
@@ -105,7 +113,7 @@ pub record Parsed : Type 0 where
   pub open pattern use *
   -- in the order of the table
   pub names : List NameEntry
-  -- where the references stand, in the order of reading: so they stand in the tree from left to right
+  -- where the references and lookarounds stand, in the order in which they end
   pub places : List ℕ
 
 -- under LITERAL each byte is a character

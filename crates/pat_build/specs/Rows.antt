@@ -10,7 +10,7 @@ use Rattle.pat_tree.specs.declared.nodes.Part.TheVariants.{Range, Set}
 use Rattle.pat_tree.specs.declared.nodes.SetName.TheVariants.{Digit}
 use Rattle.pat_tree.specs.declared.nodes.ClassSpec.{ClassSpec}
 use Rattle.pat_tree.specs.declared.names.NameEntry.{NameEntry}
-use Rattle.pat_tree.specs.Nested.{Nested, empty, one, seq, group, one_repeat, ref, row}
+use Rattle.pat_tree.specs.Nested.{Nested, empty, one, seq, group, repeat, one_repeat, atomic, look, ref, row}
 use Rattle.pat_tree.specs.Pattern.{Pattern}
 use Rattle.token_parts.specs.declared.fault.Fault.{Fault}
 use Rattle.token_parts.specs.Tell.{fault}
@@ -55,6 +55,16 @@ mixed_class = record {
   parts = single (byte "]") ∷ single (byte "-") ∷ Range (byte "a") (byte "c") ∷ Set Digit false false ∷ single (byte "-") ∷ [];
 }
 
+abbrev pub possessive : Nested
+possessive = atomic (row (one_repeat (Char (byte "b") false) 1 None false ∷ []))
+
+-- a lookahead, repeated at most once more than it must be
+abbrev pub denial : Nested
+denial = look true false true (row (letter "a" ∷ []))
+
+abbrev pub with_places : List ℕ → Parsed → Parsed
+with_places places parsed = record parsed { places = places }
+
 -- options hold to the end of their group, also for the alternatives that follow
 abbrev pub some_cases : Parsed
 some_cases = branches (
@@ -83,7 +93,10 @@ pub record WorkedRows : Type 0 where
   pub two_names : reads "(?<n>a)(?<n>b)" ≡ fault 143 7
   pub two_quantifiers : reads "a**" ≡ fault 109 2
   pub no_group : reads "(a)\\2" ≡ fault 115 3
-  pub left_out : reads "x(?>a)" ≡ fault 195 1
+  pub left_out : reads "x(?|a)" ≡ fault 195 1
+  pub keeping_out : reads "(?=a(b\\K))" ≡ fault 199 6
+  pub held : reads "(?>a|)b++" ≡ Ok (branches (seq (row (atomic (row (letter "a" ∷ empty ∷ [])) ∷ possessive ∷ [])) ∷ []))
+  pub looking : reads "(?U)(*nla:a)+" ≡ Ok (with_places (4 ∷ []) (branches (repeat denial 1 (Some 2) true ∷ [])))
   pub no_minimum : reads "a{,2}" ≡ Ok (branches (seq (row (letter "a" ∷ letter "{" ∷ letter "," ∷ letter "2" ∷ letter "}" ∷ [])) ∷ []))
   pub class : reads "[^]\\Q-\\Ea-c\\d-]" ≡ Ok (with (λ p. record p { classes = mixed_class ∷ [] }) (branches (one (Class 0) ∷ [])))
   pub cases : reads "(?i)a|(?-i:b|c)d{2,}?|" ≡ Ok some_cases

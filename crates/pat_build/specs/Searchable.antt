@@ -4,8 +4,8 @@ use Rattle.pat_tree.specs.declared.options.Options.{Options}
 use Rattle.pat_tree.specs.Built.{IsBuilt, IsPlain}
 use Rattle.pat_build.specs.Reading.{Parsed, read}
 
--- The tree has no atomic group, lookaround, condition, call, verb and callout. Neither UTF nor UCP is set, and no set of a
--- class asks for a property or goes by UCP.
+-- The tree has no lookbehind, condition, call, verb and callout. Neither UTF nor UCP is set, and no set of a class asks for
+-- a property or goes by UCP.
 pub record IsSearchable (parsed : Parsed) : Type 0 where
   pub built : IsBuilt parsed.tree
   pub without_utf : parsed.options.utf ≡ false

@@ -10,7 +10,7 @@ use Rattle.token_parts.specs.declared.token.Token.TheVariants.{Passed, QuoteOn, 
 use Rattle.token_parts.specs.Tell.{◌>>=◌}
 use Rattle.pat_lex.specs.Tokens.{token_at}
 
--- a reference: its place, and the groups that it names
+-- a reference or a lookaround: its place, and the groups that it names, which are none for a lookaround
 pub record Reference : Type 0 where
   pub at : ℕ
   pub groups : List ℕ
@@ -26,11 +26,13 @@ pub record State : Type 0 where
   pub groups : ℕ
   -- how many parentheses are open
   pub depth : ℕ
+  -- the place is inside a lookaround
+  pub looking : Bool
   -- the classes that were read, in that order
   pub classes : List ClassSpec
   -- the names that were given, in the order of the table of names
   pub names : List NameEntry
-  -- the references that were read, in that order
+  -- the references and lookarounds that were read, in the order in which they end
   pub references : List Reference
 
 -- a value and the state after it, or the first fault

@@ -1,34 +1,45 @@
 //! What each token does.
-ghost use Rattle.std.specs.Prelude.{◌≡◌, ℕ, ◌+◌, ◌<◌, ◌≤◌, [], ◌∷◌, ◌++◌, length, map, IfOk, OnOk, IfErr, MatchOption, None, Some, Ok, Option, false};
+ghost use Rattle.std.specs.Prelude.{◌≡◌, ◌||◌, ℕ, ◌+◌, ◌<◌, ◌≤◌, [], ◌∷◌, ◌++◌, length, IfOk, OnOk, IfErr, None, Some, Ok, false};
 ghost use Rattle.pat_tree.specs.declared.nodes.Node.TheVariants as node;
-ghost use Rattle.pat_tree.specs.Nested.{Nested, one, line_break, ref, anchor, keep_out};
+ghost use Rattle.pat_tree.specs.Nested.{one, line_break, ref, anchor};
 ghost use Rattle.pat_tree.specs.Rules.{class_in};
 ghost use Rattle.token_parts.specs.declared.token.Token.{Token};
-ghost use Rattle.token_parts.specs.declared.token.Token.TheVariants.{Bar, Close, Quantifier};
-ghost use Rattle.token_parts.specs.Tell.{fault};
+ghost use Rattle.token_parts.specs.declared.token.Token.TheVariants.{Bar, Close, KeepOut, Quantifier};
 ghost use Rattle.pat_lex.specs.Tokens.{token_at};
-ghost use Rattle.pat_build.specs.State.{State, passed_over, flags_of};
+ghost use Rattle.pat_build.specs.State.{passed_over, flags_of};
 ghost use Rattle.pat_build.specs.Names.{with_given, given_after};
-ghost use Rattle.pat_build.specs.Parts.{atom, bare, inside, nothing, of_class, with_reference, repeated, repeat_of};
+ghost use Rattle.pat_build.specs.Groups.{number_of, is_look};
+ghost use Rattle.pat_build.specs.Parts.{atom, bare, inside, nothing, of_class, with_reference};
 ghost use Rattle.pat_build.specs.Stack.{IsPlain};
-ghost use Rattle.pat_build.specs.Machine.{Means, Ready, IsNext, Begins, Took, Same, HasRoom, Refuses, Numbered, Gives, left_at, state_of, whole_of, references_of};
+ghost use Rattle.pat_build.specs.Machine.{Means, Ready, IsNext, Begins, Took, Same, HasRoom, Refuses, Numbered, Gives, form_of, atom_of, state_of, whole_of};
 
 use crate::error::ReadError;
-use crate::machine::{Atom, Frame, Level, Machine};
+use crate::machine::{Atom, Form, Frame, Level, Machine};
 use crate::names::Name;
-use crate::nodes::{alternative, group, place, repeat};
+use crate::nodes::{alternative, group, place, repeated};
 use pat_lex::QuantMode;
-use pat_tree::{AnchorKind, ClassSpec, Draft, GroupList, Item, Kids, Memory, Node, Options};
+use pat_tree::{
+    AnchorKind, ClassSpec, Draft, GroupList, Item, Kids, Memory, Node, NodeId, Options,
+};
 use std::mem;
 
-/// Whether an atom is repeated as few times as it can be; nothing for a possessive quantifier, which is left out.
-fn laziness(mode: QuantMode, ungreedy: bool) -> Option<bool>
-    ensures { MatchOption result ((low : ℕ) (high : Option ℕ) (t : Nested) (st : State) → repeated low high mode t st ≡ fault 195 st.at) (λ lazy. (low : ℕ) (high : Option ℕ) (t : Nested) (st : State) → st.options.ungreedy ≡ ungreedy → repeated low high mode t st ≡ Ok (repeat_of low high lazy t)) }
+/// Whether the inside of a group is inside a lookaround.
+fn is_looking(form: Form, around: bool) -> bool
+    ensures { result ≡ (is_look (form_of form) || around) }
 {
-    match mode {
-        QuantMode::Greedy => Some(ungreedy),
-        QuantMode::Lazy => Some(!ungreedy),
-        QuantMode::Possessive => None,
+    match form {
+        Form::Look { .. } => true,
+        Form::Group { .. } | Form::Atomic => around,
+    }
+}
+
+/// The group of this node, before a quantifier.
+fn atom_of(form: Form, id: NodeId, at: u32) -> Atom
+    ensures { result ≡ atom_of (form_of form) id at }
+{
+    match form {
+        Form::Look { .. } => Atom::Look { id, at },
+        Form::Group { .. } | Form::Atomic => Atom::Whole { id, at },
     }
 }
 
@@ -157,11 +168,15 @@ impl<'a> Machine<'a> {
         Ok(())
     }
 
-    /// `\K`
-    pub(crate) fn keep_out(&mut self, after: usize) -> Result<(), Memory>
-        requires { (token : Token) × Ready token after self.old × Begins self.old token after (Ok (bare keep_out (record (state_of self.old) { at = after }))) }
-        ensures { OnOk result (Took self.old self.new) }
+    /// `\K`, which no lookaround may have.
+    pub(crate) fn keep_out(&mut self, after: usize) -> Result<(), ReadError>
+        requires { Ready KeepOut after self.old }
+        ensures ok { OnOk result (Took self.old self.new) }
+        ensures bad { IfErr result (Refuses (whole_of self.old)) }
     {
+        if self.looking {
+            return Err(self.fault(199));
+        }
         let id = self.draft.add(Node::KeepOut, self.at as u32)?;
         self.level.parts.push(id)?;
         self.at = after;
@@ -193,16 +208,16 @@ impl<'a> Machine<'a> {
     /// A group begins inside which these options are in force.
     pub(crate) fn enter(
         &mut self,
-        number: Option<u16>,
+        form: Form,
         given: Option<Name>,
         options: Options,
         groups: u16,
         after: usize,
     ) -> Result<(), Memory>
         requires shallow { length self.old.stack.items < 250 }
-        requires numbered { Numbered self.old.groups number groups }
+        requires numbered { Numbered self.old.groups (number_of (form_of form)) groups }
         requires gives { Gives self.old.text.now self.old.groups given groups }
-        requires ready { (token : Token) × Ready token after self.old × Begins self.old token after (Ok (inside (record { number = number; around = self.old.options }) (record (state_of self.old) { at = after; options = options; groups = groups; depth = length self.old.stack.items + 1; names = with_given self.old.text.now given self.old.draft.names }))) }
+        requires ready { (token : Token) × Ready token after self.old × Begins self.old token after (Ok (inside (record { form = form_of form; around = self.old.options; looking = self.old.looking; at = self.old.at }) (record (state_of self.old) { at = after; options = options; groups = groups; depth = length self.old.stack.items + 1; looking = is_look (form_of form) || self.old.looking; names = with_given self.old.text.now given self.old.draft.names }))) }
         ensures { OnOk result (Took self.old self.new) }
     {
         let inner = Level {
@@ -211,8 +226,9 @@ impl<'a> Machine<'a> {
         };
         let outer = mem::replace(&mut self.level, inner);
         let frame = Frame {
-            number,
+            form,
             around: self.options,
+            looking: self.looking,
             at: self.at as u32,
             outer,
         };
@@ -220,6 +236,7 @@ impl<'a> Machine<'a> {
         push_frame(&mut self.stack, frame)?;
         self.options = options;
         self.groups = groups;
+        self.looking = is_looking(form, self.looking);
         self.at = after;
         Ok(())
     }
@@ -232,8 +249,9 @@ impl<'a> Machine<'a> {
     {
         let Some(
             Frame {
-                number,
+                form,
                 around,
+                looking,
                 at,
                 outer,
             },
@@ -245,9 +263,10 @@ impl<'a> Machine<'a> {
             });
         };
         let level = mem::replace(&mut self.level, outer);
-        let id = group(&mut self.draft, number, level, at)?;
-        self.waiting = Some(Atom::Whole { id, at });
+        let id = group(&mut self.draft, form, level, at)?;
+        self.waiting = Some(atom_of(form, id, at));
         self.options = around;
+        self.looking = looking;
         self.at = after;
         Ok(())
     }
@@ -270,10 +289,8 @@ impl<'a> Machine<'a> {
         let Some(atom) = self.waiting else {
             return Err(ReadError::Bad { number: 109, at });
         };
-        let Some(lazy) = laziness(mode, self.options.ungreedy) else {
-            return Err(ReadError::Bad { number: 195, at });
-        };
-        let id = repeat(&mut self.draft, min, max, lazy, atom)?;
+        let ungreedy = self.options.ungreedy;
+        let id = repeated(self.alloc, &mut self.draft, min, max, mode, ungreedy, atom)?;
         self.level.parts.push(id)?;
         self.waiting = None;
         self.at = after;

@@ -8,6 +8,7 @@ ghost use Rattle.pat_build.specs.Machine.{Adds, parsed_of};
 
 use crate::machine::Level;
 use crate::nodes::group;
+use crate::openings::PLAIN;
 use pat_tree::{Draft, Item, Kids, Memory, Node, NodeId, Options, Tree};
 use std::alloc::Global;
 
@@ -17,7 +18,7 @@ fn add_character(draft: &mut Draft, c: u8, caseless: bool, at: u32) -> Result<No
     ensures made { IfOk result (λ id. Makes draft.old.nodes draft.new.nodes id (one (Char c caseless))) }
     ensures loose { IfOk result (λ id. Replaces draft.old.nodes [] draft.new.nodes id) }
     ensures count { OnOk result (length draft.new.nodes ≡ length draft.old.nodes + 1) }
-    ensures adds { OnOk result (Adds draft.old draft.new None) }
+    ensures adds { OnOk result (Adds draft.old draft.new) }
 {
     let item = Item::Char {
         c: u32::from(c),
@@ -33,7 +34,7 @@ fn characters(alloc: Global, draft: &mut Draft, text: &[u8], caseless: bool) -> 
     requires short { length text.now ≤ 65536 }
     ensures stand { IfOk result (λ kids. Stand draft.new.nodes kids (map (λ c. one (Char c caseless)) text.now)) }
     ensures loose { IfOk result (λ kids. loose draft.new.nodes ≡ kids) }
-    ensures adds { OnOk result (Adds draft.old draft.new None) }
+    ensures adds { OnOk result (Adds draft.old draft.new) }
     ensures count { OnOk result (length draft.new.nodes ≡ length text.now) }
 {
     let mut kids = Kids::new(alloc);
@@ -53,7 +54,7 @@ pub(crate) fn literally(alloc: Global, text: &[u8], options: Options) -> Result<
     let mut draft = Draft::new(alloc, options);
     let parts = characters(alloc, &mut draft, text, options.caseless)?;
     let branches = Kids::new(alloc);
-    let root = group(&mut draft, None, Level { branches, parts }, 0)?;
+    let root = group(&mut draft, PLAIN, Level { branches, parts }, 0)?;
     match draft.finish(root) {
         Ok(tree) => Ok(tree),
         Err(_) => unreachable!(),

@@ -14,11 +14,28 @@ pub(crate) struct Level {
     pub parts: Kids,
 }
 
-/// An open group: its number where it captures, the options around it, its place, and what encloses it.
+/// What a group is.
+#[derive(Clone, Copy)]
+pub(crate) enum Form {
+    /// A group, with its number where it captures.
+    Group {
+        number: Option<u16>,
+    },
+    Atomic,
+    Look {
+        ahead: bool,
+        positive: bool,
+        atomic: bool,
+    },
+}
+
+/// An open group: what holds around it (the options, and whether that is inside a lookaround), its place, and what
+/// encloses it.
 #[derive(Drop)]
 pub(crate) struct Frame {
-    pub number: Option<u16>,
+    pub form: Form,
     pub around: Options,
+    pub looking: bool,
     pub at: u32,
     pub outer: Level,
 }
@@ -30,6 +47,17 @@ pub(crate) enum Atom {
     Single { item: Item, at: u32 },
     /// It has a node.
     Whole { id: NodeId, at: u32 },
+    /// It is a lookaround.
+    Look { id: NodeId, at: u32 },
+}
+
+impl Atom {
+    /// Where it stands.
+    pub(crate) fn at(self) -> u32 {
+        match self {
+            Atom::Single { at, .. } | Atom::Whole { at, .. } | Atom::Look { at, .. } => at,
+        }
+    }
 }
 
 /// A reading in progress.
@@ -54,6 +82,8 @@ pub(crate) struct Machine<'a> {
     pub options: Options,
     /// How many capturing groups were opened.
     pub groups: u16,
+    /// The place is inside a lookaround.
+    pub looking: bool,
 }
 
 impl<'a> Machine<'a> {

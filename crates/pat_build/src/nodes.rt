@@ -1,13 +1,16 @@
 //! Nodes of a draft, as the reader makes them.
 ghost use Rattle.std.specs.Prelude.{ℕ, ◌≡◌, ◌+◌, ◌<◌, ◌≤◌, [], ◌∷◌, ◌++◌, length, map, IfOk, OnOk, All, None};
-ghost use Rattle.pat_tree.specs.Nested.{tree_at, trees, row, group};
+ghost use Rattle.pat_tree.specs.Nested.{tree_at, trees, row, atomic};
 ghost use Rattle.pat_tree.specs.Growing.{EndsIn, Replaces, Makes};
 ghost use Rattle.pat_tree.specs.Rules.{number_in, AtMost};
-ghost use Rattle.pat_build.specs.Parts.{alternative, repeat_of};
-ghost use Rattle.pat_build.specs.Machine.{Adds, IsAtom, atom_tree, ids_of};
+ghost use Rattle.pat_build.specs.Groups.{number_of, built};
+ghost use Rattle.pat_build.specs.Parts.{alternative, once_more, repeat_of, is_lazy, repeated};
+ghost use Rattle.pat_build.specs.Machine.{Adds, Closes, IsAtom, atom_tree, ids_of, form_of};
 
-use crate::machine::{Atom, Level};
+use crate::machine::{Atom, Form, Level};
+use pat_lex::QuantMode;
 use pat_tree::{Draft, Kids, Memory, Node, NodeId};
+use std::alloc::Global;
 
 /// The node of an alternative with these parts.
 pub(crate) fn alternative(draft: &mut Draft, parts: Kids, at: u32) -> Result<NodeId, Memory>
@@ -17,7 +20,7 @@ pub(crate) fn alternative(draft: &mut Draft, parts: Kids, at: u32) -> Result<Nod
     ensures made { IfOk result (λ id. Makes draft.old.nodes draft.new.nodes id (alternative (map (tree_at (trees draft.old.nodes)) parts))) }
     ensures loose { IfOk result (λ id. Replaces draft.old.nodes parts draft.new.nodes id) }
     ensures count { OnOk result (length draft.new.nodes ≤ length draft.old.nodes + 1) }
-    ensures adds { OnOk result (Adds draft.old draft.new None) }
+    ensures adds { OnOk result (Adds draft.old draft.new) }
 {
     match parts.len() {
         0 => {
@@ -40,33 +43,65 @@ pub(crate) fn place(draft: &mut Draft, atom: Atom) -> Result<NodeId, Memory>
     ensures made { IfOk result (λ id. Makes draft.old.nodes draft.new.nodes id (atom_tree draft.old.nodes atom)) }
     ensures loose { IfOk result (λ id. Replaces draft.old.nodes (ids_of atom) draft.new.nodes id) }
     ensures count { OnOk result (length draft.new.nodes ≤ length draft.old.nodes + 1) }
-    ensures adds { OnOk result (Adds draft.old draft.new None) }
+    ensures adds { OnOk result (Adds draft.old draft.new) }
 {
     match atom {
         Atom::Single { item, at } => {
             let id = draft.add(Node::One(item), at)?;
             Ok(id)
         }
-        Atom::Whole { id, .. } => Ok(id),
+        Atom::Whole { id, .. } | Atom::Look { id, .. } => Ok(id),
+    }
+}
+
+/// The node of a group with these branches.
+fn form_node(draft: &mut Draft, form: Form, branches: Kids, at: u32) -> Result<NodeId, Memory>
+    requires room { length draft.old.nodes < 4294967295 }
+    requires branches { All (λ k. k < length draft.old.nodes) branches }
+    requires loose { EndsIn draft.old.nodes branches }
+    requires numbered { All (λ n. 1 ≤ n) (number_in (number_of (form_of form))) }
+    ensures made { IfOk result (λ id. Makes draft.old.nodes draft.new.nodes id (built (form_of form) (map (tree_at (trees draft.old.nodes)) branches))) }
+    ensures loose { IfOk result (λ id. Replaces draft.old.nodes branches draft.new.nodes id) }
+    ensures count { OnOk result (length draft.new.nodes ≡ length draft.old.nodes + 1) }
+    ensures closes { OnOk result (Closes draft.old draft.new (form_of form) at) }
+{
+    match form {
+        Form::Group { number } => {
+            let id = draft.add(Node::Group { number, branches }, at)?;
+            Ok(id)
+        }
+        Form::Atomic => {
+            let id = draft.add(Node::Atomic(branches), at)?;
+            Ok(id)
+        }
+        Form::Look {
+            ahead,
+            positive,
+            atomic,
+        } => {
+            let node = Node::Look {
+                ahead,
+                positive,
+                atomic,
+                branches,
+            };
+            let id = draft.add(node, at)?;
+            Ok(id)
+        }
     }
 }
 
 /// The node of a group, whose last alternative has the parts in progress.
-pub(crate) fn group(
-    draft: &mut Draft,
-    number: Option<u16>,
-    level: Level,
-    at: u32,
-) -> Result<NodeId, Memory>
+pub(crate) fn group(draft: &mut Draft, form: Form, level: Level, at: u32) -> Result<NodeId, Memory>
     requires room { length draft.old.nodes + 1 < 4294967295 }
     requires branches { All (λ k. k < length draft.old.nodes) level.branches }
     requires parts { All (λ k. k < length draft.old.nodes) level.parts }
     requires loose { EndsIn draft.old.nodes (level.branches ++ level.parts) }
-    requires numbered { All (λ n. 1 ≤ n) (number_in number) }
-    ensures made { IfOk result (λ id. Makes draft.old.nodes draft.new.nodes id (group number (row (map (tree_at (trees draft.old.nodes)) level.branches ++ alternative (map (tree_at (trees draft.old.nodes)) level.parts) ∷ [])))) }
+    requires numbered { All (λ n. 1 ≤ n) (number_in (number_of (form_of form))) }
+    ensures made { IfOk result (λ id. Makes draft.old.nodes draft.new.nodes id (built (form_of form) (map (tree_at (trees draft.old.nodes)) level.branches ++ alternative (map (tree_at (trees draft.old.nodes)) level.parts) ∷ []))) }
     ensures loose { IfOk result (λ id. Replaces draft.old.nodes (level.branches ++ level.parts) draft.new.nodes id) }
     ensures count { OnOk result (length draft.new.nodes ≤ length draft.old.nodes + 2) }
-    ensures adds { OnOk result (Adds draft.old draft.new number) }
+    ensures closes { OnOk result (Closes draft.old draft.new (form_of form) at) }
 {
     let Level {
         mut branches,
@@ -74,12 +109,23 @@ pub(crate) fn group(
     } = level;
     let last = alternative(draft, parts, at)?;
     branches.push(last)?;
-    let id = draft.add(Node::Group { number, branches }, at)?;
+    let id = form_node(draft, form, branches, at)?;
     Ok(id)
 }
 
-/// The node of an atom under a quantifier.
-pub(crate) fn repeat(
+/// How often a lookaround is repeated at most.
+fn once_more(min: u16, max: Option<u16>) -> Option<u16>
+    ensures is { result ≡ once_more min max }
+    ensures ordered { AtMost min max → AtMost min result }
+{
+    match max {
+        None => Some(min.saturating_add(1)),
+        some => some,
+    }
+}
+
+/// The node of the repeat of an atom.
+fn repeat(
     draft: &mut Draft,
     min: u16,
     max: Option<u16>,
@@ -93,7 +139,7 @@ pub(crate) fn repeat(
     ensures made { IfOk result (λ id. Makes draft.old.nodes draft.new.nodes id (repeat_of min max lazy (atom_tree draft.old.nodes atom))) }
     ensures loose { IfOk result (λ id. Replaces draft.old.nodes (ids_of atom) draft.new.nodes id) }
     ensures count { OnOk result (length draft.new.nodes ≤ length draft.old.nodes + 1) }
-    ensures adds { OnOk result (Adds draft.old draft.new None) }
+    ensures adds { OnOk result (Adds draft.old draft.new) }
 {
     match atom {
         Atom::Single { item, at } => {
@@ -116,5 +162,68 @@ pub(crate) fn repeat(
             let id = draft.add(node, at)?;
             Ok(id)
         }
+        Atom::Look { id: body, at } => {
+            let node = Node::Repeat {
+                body,
+                min,
+                max: once_more(min, max),
+                lazy,
+            };
+            let id = draft.add(node, at)?;
+            Ok(id)
+        }
+    }
+}
+
+/// The node of an atomic group of this node alone.
+fn hold(alloc: Global, draft: &mut Draft, body: NodeId, at: u32) -> Result<NodeId, Memory>
+    requires room { length draft.old.nodes < 4294967295 }
+    requires below { body < length draft.old.nodes }
+    requires loose { EndsIn draft.old.nodes (body ∷ []) }
+    ensures made { IfOk result (λ id. Makes draft.old.nodes draft.new.nodes id (atomic (row (tree_at (trees draft.old.nodes) body ∷ [])))) }
+    ensures loose { IfOk result (λ id. Replaces draft.old.nodes (body ∷ []) draft.new.nodes id) }
+    ensures count { OnOk result (length draft.new.nodes ≡ length draft.old.nodes + 1) }
+    ensures adds { OnOk result (Adds draft.old draft.new) }
+{
+    let mut branches = Kids::new(alloc);
+    branches.push(body)?;
+    let id = draft.add(Node::Atomic(branches), at)?;
+    Ok(id)
+}
+
+/// Whether a repeat is lazy.
+fn is_lazy(mode: QuantMode, ungreedy: bool) -> bool
+    ensures { result ≡ is_lazy mode ungreedy }
+{
+    match mode {
+        QuantMode::Greedy => ungreedy,
+        QuantMode::Lazy => !ungreedy,
+        QuantMode::Possessive => false,
+    }
+}
+
+/// The node of an atom under a quantifier.
+pub(crate) fn repeated(
+    alloc: Global,
+    draft: &mut Draft,
+    min: u16,
+    max: Option<u16>,
+    mode: QuantMode,
+    ungreedy: bool,
+    atom: Atom,
+) -> Result<NodeId, Memory>
+    requires room { length draft.old.nodes + 1 < 4294967295 }
+    requires atom { IsAtom draft.old atom }
+    requires loose { EndsIn draft.old.nodes (ids_of atom) }
+    requires ordered { AtMost min max }
+    ensures made { IfOk result (λ id. Makes draft.old.nodes draft.new.nodes id (repeated min max mode ungreedy (atom_tree draft.old.nodes atom))) }
+    ensures loose { IfOk result (λ id. Replaces draft.old.nodes (ids_of atom) draft.new.nodes id) }
+    ensures count { OnOk result (length draft.new.nodes ≤ length draft.old.nodes + 2) }
+    ensures adds { OnOk result (Adds draft.old draft.new) }
+{
+    let repeat = repeat(draft, min, max, is_lazy(mode, ungreedy), atom)?;
+    match mode {
+        QuantMode::Greedy | QuantMode::Lazy => Ok(repeat),
+        QuantMode::Possessive => hold(alloc, draft, repeat, atom.at()),
     }
 }

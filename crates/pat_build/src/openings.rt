@@ -6,12 +6,12 @@ ghost use Rattle.token_parts.specs.declared.token.OpenKind.TheVariants as openin
 ghost use Rattle.token_parts.specs.Tell.{IsTarget};
 ghost use Rattle.pat_build.specs.Names.{IsKnown};
 ghost use Rattle.std.specs.List.{list_any};
-ghost use Rattle.pat_build.specs.Groups.{has_name, opened, named_by};
+ghost use Rattle.pat_build.specs.Groups.{has_name, number_of, opened, named_by};
 ghost use Rattle.pat_build.specs.Parts.{enters};
-ghost use Rattle.pat_build.specs.Machine.{Named, Ready, Begins, Took, Refuses, state_of, whole_of, known_of};
+ghost use Rattle.pat_build.specs.Machine.{Named, Ready, Begins, Took, Refuses, form_of, state_of, whole_of, known_of};
 
 use crate::error::ReadError;
-use crate::machine::Machine;
+use crate::machine::{Form, Machine};
 use crate::names::{Name, groups_of, is_given, one_group};
 use pat_lex::{OpenKind, Target};
 use pat_tree::{GroupList, Options};
@@ -22,17 +22,26 @@ const DEEPEST: usize = 250;
 /// The greatest number of a capturing group.
 const GREATEST: u16 = 65535;
 
+/// A group that doesn't capture.
+pub(crate) const PLAIN: Form = Form::Group { number: None };
+
 impl<'a> Machine<'a> {
-    /// A group that doesn't capture begins.
-    pub(crate) fn plain_group(&mut self, options: Options, after: usize) -> Result<(), ReadError>
-        requires { (token : Token) × Ready token after self.old × Begins self.old token after (enters (opened (state_of self.old) None (record (state_of self.old) { at = after; options = options }))) }
+    /// A group that has no number begins.
+    pub(crate) fn plain_group(
+        &mut self,
+        form: Form,
+        options: Options,
+        after: usize,
+    ) -> Result<(), ReadError>
+        requires numberless { number_of (form_of form) ≡ None }
+        requires ready { (token : Token) × Ready token after self.old × Begins self.old token after (enters (opened (state_of self.old) (form_of form) (record (state_of self.old) { at = after; options = options }))) }
         ensures ok { OnOk result (Took self.old self.new) }
         ensures bad { IfErr result (Refuses (whole_of self.old)) }
     {
         if self.stack.len() >= DEEPEST {
             return Err(self.fault(119));
         }
-        self.enter(None, None, options, self.groups, after)?;
+        self.enter(form, None, options, self.groups, after)?;
         Ok(())
     }
 
@@ -50,7 +59,10 @@ impl<'a> Machine<'a> {
             return Err(self.fault(161));
         }
         let number = self.groups + 1;
-        self.enter(Some(number), None, self.options, number, after)?;
+        let form = Form::Group {
+            number: Some(number),
+        };
+        self.enter(form, None, self.options, number, after)?;
         Ok(())
     }
 
@@ -83,11 +95,37 @@ impl<'a> Machine<'a> {
             to,
             group: number,
         };
-        self.enter(Some(number), Some(name), self.options, number, after)?;
+        let form = Form::Group {
+            number: Some(number),
+        };
+        self.enter(form, Some(name), self.options, number, after)?;
         Ok(())
     }
 
-    /// A group begins. Atomic groups, lookarounds and branch reset are left out.
+    /// A lookaround begins. Lookbehinds are left out.
+    fn look(
+        &mut self,
+        ahead: bool,
+        positive: bool,
+        atomic: bool,
+        after: usize,
+    ) -> Result<(), ReadError>
+        requires { Ready (Open (opening.Look ahead positive atomic)) after self.old }
+        ensures ok { OnOk result (Took self.old self.new) }
+        ensures bad { IfErr result (Refuses (whole_of self.old)) }
+    {
+        if !ahead {
+            return Err(self.fault(195));
+        }
+        let form = Form::Look {
+            ahead,
+            positive,
+            atomic,
+        };
+        self.plain_group(form, self.options, after)
+    }
+
+    /// A group begins. Branch reset is left out.
     pub(crate) fn open(&mut self, kind: OpenKind, after: usize) -> Result<(), ReadError>
         requires { Ready (Open kind) after self.old }
         ensures ok { OnOk result (Took self.old self.new) }
@@ -96,16 +134,20 @@ impl<'a> Machine<'a> {
         match kind {
             OpenKind::Capture => {
                 if self.options.no_auto_capture {
-                    self.plain_group(self.options, after)
+                    self.plain_group(PLAIN, self.options, after)
                 } else {
                     self.capturing_group(after)
                 }
             }
-            OpenKind::Plain => self.plain_group(self.options, after),
+            OpenKind::Plain => self.plain_group(PLAIN, self.options, after),
+            OpenKind::Atomic => self.plain_group(Form::Atomic, self.options, after),
             OpenKind::Named { from, to } => self.named_group(from, to, after),
-            OpenKind::Atomic | OpenKind::BranchReset | OpenKind::Look { .. } => {
-                Err(self.fault(195))
-            }
+            OpenKind::Look {
+                ahead,
+                positive,
+                atomic,
+            } => self.look(ahead, positive, atomic, after),
+            OpenKind::BranchReset => Err(self.fault(195)),
         }
     }
 

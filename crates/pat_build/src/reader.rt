@@ -15,6 +15,7 @@ use crate::literal::literally;
 use crate::machine::{Level, Machine};
 use crate::names::Name;
 use crate::nodes::group;
+use crate::openings::PLAIN;
 use crate::start::started;
 use pat_lex::Token;
 use pat_tree::{Draft, Kids, NodeId, Options, Tree};
@@ -57,6 +58,7 @@ impl<'a> Machine<'a> {
             quoting: false,
             options,
             groups: 0,
+            looking: false,
         }
     }
 
@@ -116,7 +118,7 @@ impl<'a> Machine<'a> {
             parts: Kids::new(self.alloc),
         };
         let level = mem::replace(&mut self.level, inner);
-        let id = group(&mut self.draft, None, level, 0)?;
+        let id = group(&mut self.draft, PLAIN, level, 0)?;
         Ok(id)
     }
 }

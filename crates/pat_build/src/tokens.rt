@@ -11,6 +11,7 @@ ghost use Rattle.pat_build.specs.Machine.{Means, Ready, IsNext, IsMore, IsAssert
 use crate::brackets::read_class;
 use crate::error::ReadError;
 use crate::machine::Machine;
+use crate::openings::PLAIN;
 use crate::options::with_setting;
 use pat_lex::{OptionMask, Token};
 use pat_tree::{AnchorKind, ClassSpec, Item, Memory, Part, PartList, SetName};
@@ -91,7 +92,7 @@ impl<'a> Machine<'a> {
     {
         let options = with_setting(reset, on, off, self.options);
         if opens {
-            return self.plain_group(options, after);
+            return self.plain_group(PLAIN, options, after);
         }
         self.nothing(options, self.quoting, after);
         Ok(())
@@ -117,7 +118,7 @@ impl<'a> Machine<'a> {
         }
     }
 
-    /// A character, a type or `\K`.
+    /// A character or a type.
     fn character(&mut self, token: Token, after: usize) -> Result<(), Memory>
         requires ready { Ready token after self.old }
         requires character { IsCharacter token }
@@ -139,7 +140,6 @@ impl<'a> Machine<'a> {
             }
             Token::LineBreak => self.line_break(after),
             Token::Set { set, not } => self.set(set, not, after),
-            Token::KeepOut => self.keep_out(after),
             _ => unreachable!(),
         }
     }
@@ -157,8 +157,8 @@ impl<'a> Machine<'a> {
             | Token::Dot
             | Token::NotNewline
             | Token::LineBreak
-            | Token::Set { .. }
-            | Token::KeepOut => Ok(self.character(token, after)?),
+            | Token::Set { .. } => Ok(self.character(token, after)?),
+            Token::KeepOut => self.keep_out(after),
             Token::Caret
             | Token::Dollar
             | Token::SubjectStart

@@ -18,8 +18,9 @@ mutual
   no_lookbehind (tree.group number ts) h = no_lookbehinds ts h
   no_lookbehind (tree.repeat t low high lazily) h = no_lookbehind t h
   no_lookbehind (tree.one_repeat item low high lazily) h = refl
-  no_lookbehind (tree.atomic ts) h = absurd h
-  no_lookbehind (tree.look ahead positive once ts) h = absurd h
+  no_lookbehind (tree.atomic ts) h = no_lookbehinds ts h
+  no_lookbehind (tree.look true positive once ts) h = no_lookbehinds ts h
+  no_lookbehind (tree.look false positive once ts) h = absurd h
   no_lookbehind (tree.condition test first second) h = absurd h
   no_lookbehind (tree.call n) h = absurd h
   no_lookbehind (tree.ref ns caseless) h = refl

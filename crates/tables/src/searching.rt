@@ -169,7 +169,7 @@ fn answer_of<'a>(
 }
 
 /// What a search answers, and what group 1 captured.
-fn searched(
+pub(crate) fn searched(
     alloc: Global,
     pattern: &[u8],
     options: Options,

@@ -1,5 +1,5 @@
 -- What is read is built of forms that can be searched.
-use Rattle.std.proofs.Common.{◌≡◌, ℕ, zero, suc, ◌+◌, ◌-◌, ◌*◌, Bool, true, false, ◌||◌, nat_lt, List, [], ◌∷◌, length, map, not, Option, Some, None, Ok, refl, ap, All, slice_range}
+use Rattle.std.proofs.Common.{◌≡◌, ℕ, zero, suc, ◌+◌, ◌-◌, ◌*◌, Bool, true, false, ◌||◌, nat_lt, List, [], ◌∷◌, ◌++◌, length, map, not, Option, Some, None, Ok, refl, ap, All, slice_range}
 use Rattle.std.proofs.lemmas.List.Elements.{All-nil, All-cons, All-append}
 use Rattle.pat_tree.specs.declared.options.Options.{Options}
 use Rattle.pat_tree.specs.declared.nodes.Item.TheVariants as item
@@ -20,7 +20,7 @@ use Rattle.token_parts.specs.Tell.{fault, ◌>>=◌}
 use Rattle.pat_tree.specs.Built.{IsBuilt, AreBuilt, IsPlain}
 use Rattle.pat_build.specs.State.{State, Reads, next, passed_over}
 use Rattle.pat_build.specs.Options.{with_setting, with_item}
-use Rattle.pat_build.specs.Groups.{Opening, Opens, opened, captured, named, named_by, missing}
+use Rattle.pat_build.specs.Groups.{Form, grouped, atomically, looks, built, noted, Opening, Opens, opened, captured, named, named_by, missing}
 use Rattle.pat_build.specs.Parts.{alternative, repeat_of, repeated, Beginning, atom, bare, inside, nothing, over, enters, of_class, type_class, any_or_line, boundary, beginning}
 use Rattle.pat_build.specs.Reading.{quantified, closed, part_then, parts_from, alternatives_from, sequence, alternatives, whole, started, start, reading, literally, checked, read_from, read}
 use Rattle.pat_build.specs.Searchable.{IsSearchable, SearchableLaw}
@@ -57,38 +57,58 @@ repeat_built low high lazily (tree.seq ts) h = h
 repeat_built low high lazily (tree.group number ts) h = h
 repeat_built low high lazily (tree.repeat t least most mode) h = h
 repeat_built low high lazily (tree.one_repeat i least most mode) h = h
+repeat_built low high lazily (tree.atomic ts) h = h
+repeat_built low high lazily (tree.look true positive once ts) h = h
+repeat_built low high lazily (tree.look false positive once ts) h = absurd h
 repeat_built low high lazily (tree.ref ns caseless) h = h
 repeat_built low high lazily (tree.anchor kind) h = h
 repeat_built low high lazily tree.keep_out h = h
 repeat_built low high lazily _ h = absurd h
 
-repeated_built : (low : ℕ) (high : Option ℕ) (mode : QuantMode) (t : Nested) (st : State) → IsBuilt t → Holds IsBuilt (repeated low high mode t st)
-repeated_built low high Greedy t st h = holds_ok IsBuilt _ (repeat_built low high _ t h)
-repeated_built low high Lazy t st h = holds_ok IsBuilt _ (repeat_built low high _ t h)
-repeated_built low high Possessive t st h = holds_err IsBuilt _
+repeated_built : (low : ℕ) (high : Option ℕ) (mode : QuantMode) (ungreedy : Bool) (t : Nested) → IsBuilt t → IsBuilt (repeated low high mode ungreedy t)
+repeated_built low high Greedy ungreedy t h = repeat_built low high _ t h
+repeated_built low high Lazy ungreedy t h = repeat_built low high _ t h
+repeated_built low high Possessive ungreedy t h = (repeat_built low high _ t h, tt)
 
 -- options without UTF and UCP, whatever the classes are
 record IsWithout (options : Options) : Type 0 where
   pub utf : options.utf ≡ false
   pub ucp : options.ucp ≡ false
 
--- a group, whose end puts the options around it back, and the state in which its inside begins
+-- no lookbehind
+abbrev IsBuiltForm : Form → Type 0
+IsBuiltForm (grouped number) = Unit {0}
+IsBuiltForm atomically = Unit {0}
+IsBuiltForm (looks true positive once) = Unit {0}
+IsBuiltForm (looks false positive once) = ⊥
+
+form_built : (form : Form) (ts : List Nested) → IsBuiltForm form → AllBuilt ts → IsBuilt (built form ts)
+form_built (grouped number) ts f h = row_built ts h
+form_built atomically ts f h = row_built ts h
+form_built (looks true positive once) ts f h = row_built ts h
+form_built (looks false positive once) ts f h = absurd f
+
+-- a group, whose end puts the options around it back
+abbrev IsOpening : Opening → Type 0
+IsOpening o = IsBuiltForm o.form × IsWithout o.around
+
+-- and the state in which its inside begins
 abbrev GroupKeeps : Opening × State → Type 0
-GroupKeeps r = IsWithout r.0.around × Keeps r.1
+GroupKeeps r = IsOpening r.0 × Keeps r.1
 
 without : (options : Options) (classes : List ClassSpec) → Fits options classes → IsWithout options
 without options classes h = record { utf = h.utf; ucp = h.ucp }
 
 module _ (st : State) (h : Keeps st) where
-  opened_keeps : (number : Option ℕ) (after : State) → Keeps after → Holds GroupKeeps (opened st number after)
+  opened_keeps : (form : Form) (after : State) → IsBuiltForm form → Keeps after → Holds GroupKeeps (opened st form after)
   unfolding opened
-  opened_keeps number after k =
-      holds_if GroupKeeps _ _ _ (holds_err GroupKeeps _) (holds_ok GroupKeeps _ (without st.options st.classes h, k))
+  opened_keeps form after f k =
+      holds_if GroupKeeps _ _ _ (holds_err GroupKeeps _) (holds_ok GroupKeeps _ ((f, without st.options st.classes h), k))
 
   captured_keeps : (after : State) → Keeps after → Holds GroupKeeps (captured st after)
   unfolding captured
   captured_keeps after k =
-      holds_then GroupKeeps GroupKeeps _ _ (opened_keeps (Some (st.groups + 1)) (record after { groups = st.groups + 1 }) k)
+      holds_then GroupKeeps GroupKeeps _ _ (opened_keeps (grouped (Some (st.groups + 1))) (record after { groups = st.groups + 1 }) tt k)
       (λ g l. holds_if GroupKeeps _ _ _ (holds_err GroupKeeps _) (holds_ok GroupKeeps g l))
 
   named_keeps : (name : List ℕ) (after : State) → Keeps after → Holds GroupKeeps (named st name after)
@@ -101,7 +121,7 @@ module _ (st : State) (h : Keeps st) where
 abbrev Begins : Beginning → Type 0
 Begins (atom t after) = IsBuilt t × Keeps after
 Begins (bare t after) = IsBuilt t × Keeps after
-Begins (inside opening begun) = IsWithout opening.around × Keeps begun
+Begins (inside opening begun) = IsOpening opening × Keeps begun
 Begins (nothing after) = Keeps after
 Begins over = Unit {0}
 
@@ -147,15 +167,17 @@ module _ (known : List NameEntry) (text : List ℕ) where
   begins n st token.EndOrNewline after h plain k = holds_ok Begins _ (refl, k)
   begins n st token.StartGiven after h plain k = holds_ok Begins _ (refl, k)
   begins n st (token.Boundary opposite) after h plain k = holds_ok Begins _ (boundary_built opposite st.options.ucp h.ucp, k)
-  begins n st token.KeepOut after h plain k = holds_ok Begins _ (tt, k)
+  begins n st token.KeepOut after h plain k = holds_if Begins _ _ _ (holds_err Begins _) (holds_ok Begins _ (tt, k))
   begins n st (token.Reference target) after h plain k =
       holds_then (λ groups. Unit {0}) Begins (named_by known text st target) _ (holds_any _) (λ groups _. holds_ok Begins _ (tt, k))
   begins n st (token.Open opening.Capture) after h plain k =
-      enters_begins _ (holds_if GroupKeeps _ _ _ (opened_keeps st h None after k) (captured_keeps st h after k))
-  begins n st (token.Open opening.Plain) after h plain k = enters_begins _ (opened_keeps st h None after k)
+      enters_begins _ (holds_if GroupKeeps _ _ _ (opened_keeps st h (grouped None) after tt k) (captured_keeps st h after k))
+  begins n st (token.Open opening.Plain) after h plain k = enters_begins _ (opened_keeps st h (grouped None) after tt k)
+  begins n st (token.Open opening.Atomic) after h plain k = enters_begins _ (opened_keeps st h atomically after tt k)
+  begins n st (token.Open (opening.Look true positive once)) after h plain k = enters_begins _ (opened_keeps st h (looks true positive once) after tt k)
   begins n st (token.Open (opening.Named from to)) after h plain k = enters_begins _ (named_keeps st h (slice_range text from to) after k)
   begins n st (token.OptionSet reset on off true) after h plain k =
-      enters_begins _ (opened_keeps st h None (record after { options = with_setting reset on off st.options })
+      enters_begins _ (opened_keeps st h (grouped None) (record after { options = with_setting reset on off st.options }) tt
       (setting_keeps reset on off st.options after.classes (without st.options st.classes h) k.plain))
   begins n st (token.OptionSet reset on off false) after h plain k =
       holds_ok Begins _ (setting_keeps reset on off st.options after.classes (without st.options st.classes h) k.plain)
@@ -174,11 +196,11 @@ module _ (text : List ℕ) where
   after_token : (n : ℕ) (t : Nested) (st : State) (found : Token) (after : State) → IsBuilt t → Keeps st →
       ((st : State) → Keeps st → Holds TreeKeeps (quantified text n t st)) → Keeps after →
       Holds TreeKeeps (elim found [
-        | token.Quantifier low high mode ↦ repeated low high mode t st >>= λ part. Ok (part, after)
+        | token.Quantifier low high mode ↦ Ok (repeated low high mode st.options.ungreedy t, after)
         | other ↦ elim (passed_over other after) [ Some beyond ↦ quantified text n t beyond | None ↦ Ok (t, st) ]
       ])
   after_token n t st (token.Quantifier low high mode) after built h again k =
-      holds_then IsBuilt TreeKeeps _ _ (repeated_built low high mode t st built) (λ part l. holds_ok TreeKeeps (part, after) (l, k))
+      holds_ok TreeKeeps (repeated low high mode st.options.ungreedy t, after) (repeated_built low high mode st.options.ungreedy t built, k)
   after_token n t st other after built h again k = after_atom n t st (passed_over other after) built h again (passed_keeps other after k)
 
   quantified_keeps : (n : ℕ) (t : Nested) (st : State) → IsBuilt t → Keeps st → Holds TreeKeeps (quantified text n t st)
@@ -188,17 +210,21 @@ module _ (text : List ℕ) where
       holds_then KeepsAfter TreeKeeps (next text false st) _ (next_keeps text false st h)
       (λ r k. after_token n t st r.0 r.1 built h (λ st l. quantified_keeps n t st built l) k.1)
 
-  closed_at : (opening : Opening) (branches : List Nested) (st : State) (found : Token) (after : State) → IsWithout opening.around → AllBuilt branches → Keeps after →
+  -- the state after a group
+  abbrev ended_in : Opening → State → State → State
+  ended_in opening st after = record after { options = opening.around; looking = opening.looking; depth = st.depth - 1; references = st.references ++ noted opening.form opening.at }
+
+  closed_at : (opening : Opening) (branches : List Nested) (st : State) (found : Token) (after : State) → IsOpening opening → AllBuilt branches → Keeps after →
       Holds TreeKeeps (elim found [
-        | token.Close ↦ Ok (group opening.number (row branches), record after { options = opening.around; depth = st.depth - 1 })
+        | token.Close ↦ Ok (built opening.form branches, ended_in opening st after)
         | _ ↦ fault 114 (length text)
       ])
-  closed_at opening branches st token.Close after h built k =
-      holds_ok TreeKeeps (group opening.number (row branches), record after { options = opening.around; depth = st.depth - 1 })
-      (row_built branches built, record { utf = h.utf; ucp = h.ucp; plain = k.plain })
+  closed_at opening branches st token.Close after h all k =
+      holds_ok TreeKeeps (built opening.form branches, ended_in opening st after)
+      (form_built opening.form branches h.0 all, record { utf = h.1.utf; ucp = h.1.ucp; plain = k.plain })
   closed_at opening branches st _ after h built k = holds_err TreeKeeps _
 
-  closed_keeps : (opening : Opening) (branches : List Nested) (st : State) → IsWithout opening.around → AllBuilt branches → Keeps st →
+  closed_keeps : (opening : Opening) (branches : List Nested) (st : State) → IsOpening opening → AllBuilt branches → Keeps st →
       Holds TreeKeeps (closed text opening branches st)
   unfolding closed
   closed_keeps opening branches st h built k =

@@ -288,17 +288,9 @@ fn what_is_not_built(rt: HostRuntime) {
         (r"[a\p{Nd}]", 195, 2),
         ("(*UTF)a", 195, 0),
         ("(*CR)(*UCP)a", 195, 5),
-        ("x(?>a)", 195, 1),
-        ("(*atomic:a)", 195, 0),
-        ("a++", 195, 1),
-        ("ab?+c", 195, 2),
-        ("(a){2}+", 195, 3),
-        ("(?=a)", 195, 0),
-        ("a(?!b)", 195, 1),
         ("(?<=a)", 195, 0),
         ("(?<!a)b", 195, 0),
-        ("(*pla:a)", 195, 0),
-        ("(?*a)", 195, 0),
+        ("(*plb:a)", 195, 0),
         ("(?<*a)", 195, 0),
         ("(a)(?(1)b)", 195, 3),
         ("(?(DEFINE)a)", 195, 0),
@@ -338,6 +330,27 @@ fn what_is_not_built_or_left_out(rt: HostRuntime) {
     are_refused(&rt, rt.alloc(), &rows);
 }
 
+#[test]
+fn faults_of_lookaheads_and_possessive_quantifiers(rt: HostRuntime) {
+    let rows = [
+        (r"(?=a\K)", 199, 4),
+        (r"a(?!(b|\K))", 199, 7),
+        (r"(?=(?=a)\K)", 199, 8),
+        (r"(*napla:\Ka)", 199, 8),
+        (r"(?>(?*a(?i:\K)))", 199, 11),
+        (r"(?=a)\K(?!\K)", 199, 10),
+        ("a+++", 109, 3),
+        ("(?=a)*?+", 109, 7),
+        ("++", 109, 0),
+        ("(?=", 114, 3),
+        ("(?>a", 114, 4),
+        ("(?!a))", 122, 5),
+        (r"(?=\1)", 115, 3),
+        ("(*pla a)", 160, 0),
+    ];
+    are_refused(&rt, rt.alloc(), &rows);
+}
+
 // The first fault from the left is told, and a missing group only where there is no other fault.
 #[test]
 fn the_first_fault(rt: HostRuntime) {
@@ -355,8 +368,8 @@ fn the_first_fault(rt: HostRuntime) {
         ("(?<n>a)(?<n>", 143, 7),
         ("(?#", 118, 3),
         ("((?#a", 118, 5),
-        (r"a++\1", 195, 1),
-        (r"\2(a)++", 195, 5),
+        (r"a(?<=b)\1", 195, 1),
+        (r"\2(a)(?|a)", 195, 5),
         (r"\y[z-a]", 103, 0),
     ];
     are_refused(&rt, rt.alloc(), &rows);
@@ -397,7 +410,7 @@ fn faults_under_options(rt: HostRuntime) {
     let rows = [
         ("(a # )", 114, 6),
         (" *", 109, 1),
-        ("a + +", 195, 2),
+        ("a + + *", 109, 6),
         ("a + ?", 109, 4),
         ("( ?i)", 109, 2),
         ("a{3,1} #", 104, 1),

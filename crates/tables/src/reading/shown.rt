@@ -46,6 +46,18 @@ fn text_of(texts: &[String], id: NodeId) -> &str {
     }
 }
 
+// How a lookaround begins.
+fn look(ahead: bool, positive: bool, atomic: bool) -> &'static str {
+    match (ahead, positive, atomic) {
+        (true, false, _) => "(!",
+        (true, true, true) => "(=",
+        (true, true, false) => "(*",
+        (false, false, _) => "(<!",
+        (false, true, true) => "(<=",
+        (false, true, false) => "(<*",
+    }
+}
+
 fn node_text(alloc: Global, tree: &Tree, node: &Node, texts: &[String]) -> Result<String, Fail> {
     let mut text = String::new(alloc);
     match node {
@@ -62,6 +74,21 @@ fn node_text(alloc: Global, tree: &Tree, node: &Node, texts: &[String]) -> Resul
             if let Some(number) = number {
                 write!(text, "{number}:")?;
             }
+            joined(&mut text, texts, branches, '|')?;
+            text.push(')')?;
+        }
+        Node::Atomic(branches) => {
+            text.push_str("(>")?;
+            joined(&mut text, texts, branches, '|')?;
+            text.push(')')?;
+        }
+        Node::Look {
+            ahead,
+            positive,
+            atomic,
+            branches,
+        } => {
+            text.push_str(look(*ahead, *positive, *atomic))?;
             joined(&mut text, texts, branches, '|')?;
             text.push(')')?;
         }

@@ -9,7 +9,7 @@ use Rattle.pat_tree.specs.Sound.{greatest, group_numbers}
 use Rattle.pat_build.specs.State.{Reference}
 use Rattle.pat_build.specs.Reading.{Parsed, literally}
 use Rattle.pat_build.specs.Machine.{parsed_of, references_of}
-use Rattle.pat_build.proofs.States.{or_false}
+use Rattle.pat_build.proofs.Extending.{closes_plain}
 use Rattle.pat_build.proofs.Numbering.{greatest_none}
 use Rattle.pat_build.proofs.literal.literally.Goals as goal
 
@@ -39,7 +39,7 @@ parsed_is d root o t options tree classes names references groups verb_names =
 pub unreachable-requires : goal.unreachable-requires
 unfolding refs
 unreachable-requires c =
-    let none : refs c.group.new.draft.nodes ≡ [] = c.in_ok-root.ensures.adds.refs_are ∙ c.in_ok-parts.ensures.adds.refs_are ∙ ap (λ d. refs d.nodes) c.new-draft.ensures in
+    let none : refs c.group.new.draft.nodes ≡ [] = c.in_ok-root.ensures.closes.refs_are ∙ c.in_ok-parts.ensures.adds.refs_are ∙ ap (λ d. refs d.nodes) c.new-draft.ensures in
     no_bad (has_group c.group.new.draft.nodes) (refs c.group.new.draft.nodes) c.in-Err.field-0.at none c.in-Err.ensures
 
 pub returns-clause-under : goal.returns-clause-under
@@ -52,10 +52,10 @@ returns-clause-parsed c =
     let d = c.group.new.draft in
     let made = rw (c.new-branches.ensures, c.in_ok-parts.ensures.stand.trees_are) at c.in_ok-root.ensures.made in
     let one = c.in_ok-parts.ensures.adds in
-    let two = c.in_ok-root.ensures.adds in
+    let two = closes_plain c.in_ok-root.ensures.closes in
     let start = c.new-draft.ensures in
     ap parsed_of c.in-Ok.ensures.0
     ∙ parsed_is d c.in_ok-root.root c.args.options _ (two.options ∙ one.options ∙ ap (λ v. v.options) start) made.is (two.classes ∙ one.classes ∙ ap (λ v. v.classes) start)
     (two.names ∙ one.names ∙ ap (λ v. v.names) start) (two.references ∙ one.references ∙ ap (λ v. references_of v.nodes) start)
-    (greatest_none d.nodes (λ n. two.groups n ∙ or_false _ ∙ one.groups n ∙ or_false _ ∙ ap (λ v. has_group v.nodes n) start))
+    (greatest_none d.nodes (λ n. two.groups n ∙ one.groups n ∙ ap (λ v. has_group v.nodes n) start))
     (two.verb_names ∙ one.verb_names ∙ ap (λ v. v.verb_names) start)

@@ -20,10 +20,10 @@ pub add-requires-in_default-clause-fresh : goal.add-requires-in_default-clause-f
 add-requires-in_default-clause-fresh c = fresh_at_end c.requires.loose
 
 pub returns-in_ok-id-in-0-clause-adds : goal.returns-in_ok-id-in-0-clause-adds
-returns-in_ok-id-in-0-clause-adds c = adds_node c.args.draft.now c.add.new.self _ None c.in_ok-id-in-0.ensures.grows c.in_ok-id-in-0.ensures.refs refl refl c.in_ok-id-in-0.ensures.groups (λ n. refl)
+returns-in_ok-id-in-0-clause-adds c = adds_node c.args.draft.now c.add.new.self _ c.in_ok-id-in-0.ensures.grows c.in_ok-id-in-0.ensures.refs refl refl c.in_ok-id-in-0.ensures.groups (λ n. refl)
 
 pub returns-in_ok-id-in_default-clause-adds : goal.returns-in_ok-id-in_default-clause-adds
-returns-in_ok-id-in_default-clause-adds c = adds_node c.args.draft.now c.add-in_default.new.self _ None c.in_ok-id-in_default.ensures.grows c.in_ok-id-in_default.ensures.refs refl refl c.in_ok-id-in_default.ensures.groups (λ n. refl)
+returns-in_ok-id-in_default-clause-adds c = adds_node c.args.draft.now c.add-in_default.new.self _ c.in_ok-id-in_default.ensures.grows c.in_ok-id-in_default.ensures.refs refl refl c.in_ok-id-in_default.ensures.groups (λ n. refl)
 
 pub returns-in-1-clause-made : goal.returns-in-1-clause-made
 returns-in-1-clause-made c = one_part c.args.draft.now.nodes c.args.parts c.get.result.now (sym c.len.ensures ∙ c.in-1.is) c.get.ensures c.requires.below

@@ -1,14 +1,9 @@
-use Rattle.std.proofs.Common.{append_assoc, ◌≡◌, ◌++◌, ◌∷◌, [], None, Some, Option, map, refl, List, ℕ, sym, ◌∙◌}
+use Rattle.std.proofs.Common.{append_assoc, ◌≡◌, ◌++◌, ◌∷◌, [], map, refl, List, ℕ, sym, ◌∙◌}
 use Rattle.pat_tree.specs.Nested.{tree_at, trees}
 use Rattle.pat_tree.specs.Growing.{loose, Stand}
-use Rattle.pat_tree.specs.Rules.{number_in}
-use Rattle.pat_tree.specs.Refs.{is_in}
 use Rattle.pat_tree.proofs.Growing.{stand_made, makes_then}
-use Rattle.pat_tree.proofs.Loose.{fresh_at_end}
 use Rattle.pat_build.specs.Parts.{alternative}
-use Rattle.pat_build.specs.Machine.{is_number}
-use Rattle.pat_build.proofs.States.{or_false}
-use Rattle.pat_build.proofs.Extending.{adds_node, adds_then}
+use Rattle.pat_build.proofs.Extending.{closes_then}
 use Rattle.pat_build.proofs.nodes.group.Goals as goal
 use Rattle.pat_build.proofs.nodes.group.Goals.{In_ok-push}
 
@@ -19,8 +14,8 @@ stands c =
     record { below = c.requires.branches; trees_are = refl } in
     rw c.in_ok-push.ensures.ok (stand_made c.in_ok-last.ensures.made before)
 
-pub add-requires-clause-kids : goal.add-requires-clause-kids
-add-requires-clause-kids c = (stands (goal.at.add-requires-clause-kids c).In_ok-push).below
+pub form_node-requires-clause-branches : goal.form_node-requires-clause-branches
+form_node-requires-clause-branches c = (stands (goal.at.form_node-requires-clause-branches c).In_ok-push).below
 
 pub returns-clause-made : goal.returns-clause-made
 returns-clause-made c =
@@ -43,19 +38,13 @@ after_last c front e =
     (c.in_ok-last.ensures.loose (front ++ c.args.level.branches) (e ∙ sym (append_assoc front c.args.level.branches c.args.level.parts))
     ∙ regroup front c.args.level.branches c.in_ok-last.last)
 
-pub add-requires-clause-fresh : goal.add-requires-clause-fresh
-add-requires-clause-fresh c =
+pub form_node-requires-clause-loose : goal.form_node-requires-clause-loose
+form_node-requires-clause-loose c =
     let front = c.requires.loose.front in
-    fresh_at_end (record { front = front; is = after_last (goal.at.add-requires-clause-fresh c).In_ok-push front c.requires.loose.is })
+    record { front = front; is = after_last (goal.at.form_node-requires-clause-loose c).In_ok-push front c.requires.loose.is }
 
 pub returns-clause-loose : goal.returns-clause-loose
-returns-clause-loose c front e = c.in_ok-id.ensures.replaces front (after_last (goal.at.returns-clause-loose c).In_ok-push front e)
+returns-clause-loose c front e = c.in_ok-id.ensures.loose front (after_last (goal.at.returns-clause-loose c).In_ok-push front e)
 
-one_number : (number : Option ℕ) (n : ℕ) → is_in n (number_in number) ≡ is_number number n
-one_number None n = refl
-one_number (Some m) n = or_false _
-
-pub returns-clause-adds : goal.returns-clause-adds
-returns-clause-adds c =
-    adds_then c.in_ok-last.ensures.adds
-    (adds_node c.alternative.new.draft c.add.new.self _ c.args.number c.in_ok-id.ensures.grows c.in_ok-id.ensures.refs refl refl c.in_ok-id.ensures.groups (λ n. one_number c.args.number n))
+pub returns-clause-closes : goal.returns-clause-closes
+returns-clause-closes c = closes_then c.in_ok-last.ensures.adds c.in_ok-id.ensures.closes

@@ -22,6 +22,6 @@ pub returns-clause-ok : goal.returns-clause-ok
 returns-clause-ok c =
     let m = c.args.self.now in
     let e = rw (c.replace-level.ensures.value) at c.in_ok-id.ensures in
-    rw c.replace-level.ensures.after
-    (close_means m c.requires.means c.args.after c.in_ok-id.id c.in-Some.field-0.at c.in-Some.field-0 c.pop.new.self c.group.new.draft
-    c.requires c.in-Some.ensures.items e.made e.adds (λ front h. e.loose front h) e.count)
+    rw (c.replace-level.ensures.after, c.atom_of.ensures)
+    (close_means m c.requires.means c.args.after c.in_ok-id.id c.in-Some.field-0 c.pop.new.self c.group.new.draft
+    c.requires c.in-Some.ensures.items e.made e.closes (λ front h. e.loose front h) e.count)

@@ -3,6 +3,7 @@ use Rattle.token_parts.specs.declared.token.Token.TheVariants.{End}
 use Rattle.pat_tree.specs.Growing.{loose}
 use Rattle.pat_build.specs.Machine.{ids_held, ids_in}
 use Rattle.pat_build.proofs.States.{nothing_in, last_in}
+use Rattle.pat_build.proofs.Extending.{closes_plain}
 use Rattle.pat_build.proofs.Waiting.{ends_level, loose_idle}
 use Rattle.pat_build.proofs.Nesting.{unclosed_means, whole_means}
 use Rattle.pat_build.proofs.machine.Machine.end.Goals as goal
@@ -24,7 +25,7 @@ returns-clause-ok c =
     let f = c.in_ok-flush.ensures in
     let none : length m.stack.items ≡ 0 = omega (arith, m.stack.ok.0, true-eqb (vec_len m.stack) 0 c.if-not-is_empty.ensures) in
     let ends = whole_means m f.means c.args.self.now.at c.in_ok-id.id c.group.new.draft c.replace-level.new.dest f.idle (f.there ∙ c.requires.token) (nothing_in m.stack.items none)
-    (rw c.replace-level.ensures.value at c.in_ok-id.ensures.made) c.in_ok-id.ensures.adds in record {
+    (rw c.replace-level.ensures.value at c.in_ok-id.ensures.made) (closes_plain c.in_ok-id.ensures.closes) in record {
       is = sym f.same.whole ∙ ends.is;
       groups = ends.groups;
       refs_are = ends.refs_are;

@@ -1,17 +1,26 @@
-use Rattle.std.proofs.Common.{refl, sym, ap, ◌∙◌, append-nil, Ok}
+use Rattle.std.proofs.Common.{refl, sym, ap, ◌∙◌, append-nil, Ok, if◌then◌else◌}
+use Rattle.token_parts.specs.declared.token.Token.TheVariants.{KeepOut}
+use Rattle.token_parts.specs.Tell.{fault}
 use Rattle.pat_tree.specs.Nested.{keep_out}
 use Rattle.pat_build.specs.Groups.{places_named}
 use Rattle.pat_build.specs.Parts.{bare}
 use Rattle.pat_build.specs.Machine.{state_of, references_of}
 use Rattle.pat_build.proofs.Adding.{node_stands}
+use Rattle.pat_build.proofs.Waiting.{bad_means}
 use Rattle.pat_build.proofs.machine.Machine.keep_out.Goals as goal
 
-pub returns : goal.returns
-unfolding places_named
-returns c =
+pub returns-then-self-clause-bad : goal.returns-then-self-clause-bad
+returns-then-self-clause-bad c =
     let m = c.args.self.now in
-    let ready = c.requires.1 in
+    rw c.fault.ensures (bad_means m c.requires.means KeepOut c.args.after _ c.requires
+    (λ n h. ap (λ b. if b then fault 199 m.at else Ok (bare keep_out (record (state_of m) { at = c.args.after }))) c.if-self.true))
+
+pub returns-clause-ok : goal.returns-clause-ok
+unfolding places_named
+returns-clause-ok c =
+    let m = c.args.self.now in
     let e = c.in_ok-id.ensures in
-    node_stands m ready.means c.requires.0 c.args.after c.in_ok-id.id keep_out c.add.new.self _ c.push.new.self ready
+    node_stands m c.requires.means KeepOut c.args.after c.in_ok-id.id keep_out c.add.new.self _ c.push.new.self c.requires
     (record { is = e.grows; makes = e.made; replaces = e.replaces; no_group = λ n. refl; groups = e.groups; named = refl }) c.in_ok-push.ensures.ok
-    (λ n h. c.requires.2 n h ∙ ap (λ rs. Ok (bare keep_out (record (state_of m) { at = c.args.after; references = rs }))) (sym (append-nil (references_of m.draft.nodes))))
+    (λ n h. ap (λ b. if b then fault 199 m.at else Ok (bare keep_out (record (state_of m) { at = c.args.after }))) c.if-self.false
+    ∙ ap (λ rs. Ok (bare keep_out (record (state_of m) { at = c.args.after; references = rs }))) (sym (append-nil (references_of m.draft.nodes))))

@@ -1,0 +1,37 @@
+use Rattle.std.proofs.Common.{ℕ, ◌≡◌, Option, None, Some, refl}
+use Rattle.pat_tree.specs.Rules.{number_in}
+use Rattle.pat_tree.specs.Refs.{is_in}
+use Rattle.pat_tree.proofs.Loose.{fresh_at_end}
+use Rattle.pat_build.specs.Groups.{grouped, atomically, looks}
+use Rattle.pat_build.specs.Machine.{is_number}
+use Rattle.pat_build.proofs.States.{or_false}
+use Rattle.pat_build.proofs.Extending.{closes_node}
+use Rattle.pat_build.proofs.nodes.form_node.Goals as goal
+
+one_number : (number : Option ℕ) (n : ℕ) → is_in n (number_in number) ≡ is_number number n
+one_number None n = refl
+one_number (Some m) n = or_false _
+
+pub add-requires-clause-fresh : goal.add-requires-clause-fresh
+add-requires-clause-fresh c = fresh_at_end c.requires.loose
+
+pub returns-in_ok-id-in-Group-clause-closes : goal.returns-in_ok-id-in-Group-clause-closes
+returns-in_ok-id-in-Group-clause-closes c =
+    let e = c.in_ok-id-in-Group.ensures in
+    rw c.in-Group.is (closes_node c.args.draft.now c.add.new.self _ (grouped c.in-Group.number) e.grows e.refs refl refl e.groups (λ n. one_number c.in-Group.number n))
+
+pub add-requires-in-Atomic-clause-fresh : goal.add-requires-in-Atomic-clause-fresh
+add-requires-in-Atomic-clause-fresh c = fresh_at_end c.requires.loose
+
+pub returns-in_ok-id-in-Atomic-clause-closes : goal.returns-in_ok-id-in-Atomic-clause-closes
+returns-in_ok-id-in-Atomic-clause-closes c =
+    let e = c.in_ok-id-in-Atomic.ensures in
+    rw c.in-Atomic.is (closes_node c.args.draft.now c.add-in-Atomic.new.self _ atomically e.grows e.refs refl refl e.groups (λ n. refl))
+
+pub add-requires-in-Look-clause-fresh : goal.add-requires-in-Look-clause-fresh
+add-requires-in-Look-clause-fresh c = fresh_at_end c.requires.loose
+
+pub returns-in_ok-id-in-Look-clause-closes : goal.returns-in_ok-id-in-Look-clause-closes
+returns-in_ok-id-in-Look-clause-closes c =
+    let e = c.in_ok-id-in-Look.ensures in
+    rw c.in-Look.is (closes_node c.args.draft.now c.add-in-Look.new.self _ (looks c.in-Look.ahead c.in-Look.positive c.in-Look.atomic) e.grows e.refs refl refl e.groups (λ n. refl))

@@ -1,0 +1,175 @@
+//! What searches find with groups that keep their first way and with lookaheads (pcre2pattern, "Atomic grouping and
+//! possessive quantifiers", "Assertions", "Non-atomic assertions"). The answers are those of the C library, 10.42.
+use super::searching::searched;
+use frame_machine::Scratch;
+use match_drive::MatchAnswer;
+use pat_tree::{MatchOptions, Options};
+use std::alloc::Global;
+use std::process::Abort;
+use std::test::Fail;
+
+/// A pattern, a subject, the match's text, and what group 1 captured.
+type Row = (
+    &'static [u8],
+    &'static [u8],
+    Option<(usize, usize)>,
+    Option<(u64, u64)>,
+);
+
+fn case(rt: &impl Abort, alloc: Global, row: &Row, scratch: &mut Scratch) -> Result<(), Fail> {
+    let (pattern, subject, text, group) = *row;
+    let options = Options::PLAIN;
+    assert!(rt; subject.len() < 100);
+    let found = searched(
+        alloc,
+        pattern,
+        options,
+        subject,
+        0,
+        &MatchOptions::PLAIN,
+        scratch,
+    )?;
+    match text {
+        None => assert_eq!(rt; found.0, MatchAnswer::NoMatch { mark: None }),
+        Some((keep, to)) => {
+            let answer = MatchAnswer::Match {
+                keep,
+                to,
+                mark: None,
+            };
+            assert_eq!(rt; found.0, answer);
+            assert_eq!(rt; found.1.map(|span| (span.from, span.to)), group);
+        }
+    }
+    Ok(())
+}
+
+fn cases(rt: &impl Abort, alloc: Global, rows: &[Row]) -> Result<(), Fail> {
+    let mut scratch = Scratch::new(alloc);
+    for row in rows {
+        case(rt, alloc, row, &mut scratch)?;
+    }
+    Ok(())
+}
+
+#[test]
+fn atomic_groups_keep_their_first_way(rt: HostRuntime) -> Result<(), Fail> {
+    static ROWS: [Row; 22] = [
+        (b"(?>a*)a", b"aaa", None, None),
+        (b"(?>a*)b", b"aaab", Some((0, 4)), None),
+        (b"(?>a|ab)c", b"abc", None, None),
+        (b"(?>ab|a)c", b"abc", Some((0, 3)), None),
+        (b"(?>ab|a)c", b"ac", Some((0, 2)), None),
+        (b"x(?>a+?)b", b"xaab", None, None),
+        (b"(?>(a+))b", b"aab", Some((0, 3)), Some((0, 2))),
+        (
+            b"(?>(a|ab)(c|bcd))(d*)",
+            b"abcd",
+            Some((0, 4)),
+            Some((0, 1)),
+        ),
+        (b"(?>a*+)b", b"aab", Some((0, 3)), None),
+        (b"(?>(?>a|b)+)c", b"abac", Some((0, 4)), None),
+        (b"((?>a+)b)+", b"aabab", Some((0, 5)), Some((3, 5))),
+        (b"(?i:(?>A)b)c", b"aBc", Some((0, 3)), None),
+        (b"(?>)x", b"x", Some((0, 1)), None),
+        (b"(?>|a)b", b"ab", Some((1, 2)), None),
+        (b"(*atomic:a|ab)b", b"abb", Some((0, 2)), None),
+        (b"(?>a(?i)b)c", b"aBc", Some((0, 3)), None),
+        (b"(?>a(?i)b)c", b"aBC", None, None),
+        (b"(?>\\d+)(?=\\.)", b"12.3", Some((0, 2)), None),
+        (b"(?>a\\Kb)c", b"abc", Some((1, 3)), None),
+        (b"(?>(a)|b)*c", b"abac", Some((0, 4)), Some((2, 3))),
+        (b"(?>(a)|b){2}?", b"ab", Some((0, 2)), Some((0, 1))),
+        (b"(?>a){0}b", b"b", Some((0, 1)), None),
+    ];
+    cases(&rt, rt.alloc(), &ROWS)
+}
+
+#[test]
+fn possessive_quantifiers_give_nothing_back(rt: HostRuntime) -> Result<(), Fail> {
+    static ROWS: [Row; 14] = [
+        (b"a++a", b"aaa", None, None),
+        (b"a*+b", b"aab", Some((0, 3)), None),
+        (b"a?+a", b"a", None, None),
+        (b"a?+a", b"aa", Some((0, 2)), None),
+        (b"[ab]{1,2}+b", b"abb", Some((0, 3)), None),
+        (b"(a|b)++b", b"abab", None, None),
+        (b"(ab)*+c", b"ababc", Some((0, 5)), Some((2, 4))),
+        (b"(a)++(b)", b"aab", Some((0, 3)), Some((1, 2))),
+        (b"(?U)a++b", b"aab", Some((0, 3)), None),
+        (b"(?U)a*+a", b"aa", None, None),
+        (b"\\R++\\n", b"\r\n\n", None, None),
+        (b"(a+)?+b", b"aab", Some((0, 3)), Some((0, 2))),
+        (b".*+\\n", b"ab\n", Some((0, 3)), None),
+        (b"(\\w)\\1++x", b"aaax", Some((0, 4)), Some((0, 1))),
+    ];
+    cases(&rt, rt.alloc(), &ROWS)
+}
+
+#[test]
+fn lookaheads_take_nothing(rt: HostRuntime) -> Result<(), Fail> {
+    static ROWS: [Row; 34] = [
+        (b"a(?=b)", b"acab", Some((2, 3)), None),
+        (b"a(?!b)", b"abac", Some((2, 3)), None),
+        (b"(?=(a+))\\1b", b"aab", Some((0, 3)), Some((0, 2))),
+        (b"(?=(a+?))(\\1ab)", b"aab", Some((0, 3)), Some((0, 1))),
+        (b"(?=(?>a+))a*b", b"aab", Some((0, 3)), None),
+        (b"(?!(a)b)a", b"ac", Some((0, 1)), None),
+        (b"(?=(a)|b)", b"b", Some((0, 0)), None),
+        (b"(?=a)*b", b"ab", Some((1, 2)), None),
+        (b"(?=(a))?", b"b", Some((0, 0)), None),
+        (b"(?=(a)){0}a", b"a", Some((0, 1)), None),
+        (b"(?=(a)){0,5}a", b"a", Some((0, 1)), Some((0, 1))),
+        (b"(?=(.))+?b", b"ab", Some((1, 2)), Some((1, 2))),
+        (b"(?!a)+.", b"ab", Some((1, 2)), None),
+        (b"(?!a)?a", b"a", Some((0, 1)), None),
+        (b"(?=a)++a", b"a", Some((0, 1)), None),
+        (b"foo(?=(bar|baz))", b"foobaz", Some((0, 3)), Some((3, 6))),
+        (b"(?=.*\\d)(?=.*[a-z])\\w+", b"1a2", Some((0, 3)), None),
+        (b"(?=.*\\d)(?=.*[a-z])\\w+", b"12", None, None),
+        (b"^(?!.*x)(a|b)*$", b"abab", Some((0, 4)), Some((3, 4))),
+        (b"^(?!.*x)(a|b)*$", b"abxb", None, None),
+        (b"(?=)a", b"a", Some((0, 1)), None),
+        (b"(?!)a", b"a", None, None),
+        (b"a|(?!)", b"b", None, None),
+        (b"(?=a(?=b(?=c)))", b"aabc", Some((1, 1)), None),
+        (b"(?!(?!a))a", b"a", Some((0, 1)), None),
+        (b"(?=(?!(a)b)(a))a\\2", b"aa", Some((0, 2)), None),
+        (b"(*pla:b).", b"ab", Some((1, 2)), None),
+        (
+            b"(*positive_lookahead:(b)).",
+            b"ab",
+            Some((1, 2)),
+            Some((1, 2)),
+        ),
+        (b"(*nla:a).", b"ab", Some((1, 2)), None),
+        (b"(*negative_lookahead:a|b).", b"abc", Some((2, 3)), None),
+        (b"(?=(?i)B)b", b"b", Some((0, 1)), None),
+        (b"((?=ab|(a))a)+", b"aab", Some((0, 2)), Some((1, 2))),
+        (b"(a(?=b|(c)))*", b"ab", Some((0, 1)), Some((0, 1))),
+        (b"(?:a(?!c))+", b"aaac", Some((0, 2)), None),
+    ];
+    cases(&rt, rt.alloc(), &ROWS)
+}
+
+#[test]
+fn other_ways_of_a_lookahead_are_tried(rt: HostRuntime) -> Result<(), Fail> {
+    static ROWS: [Row; 9] = [
+        (b"(?*a+?)aa(?=b)", b"aab", Some((0, 2)), None),
+        (b"(?=(a+?))a*?\\1b", b"aaab", Some((0, 4)), Some((0, 1))),
+        (b"(?*(a+?))a\\1b", b"aaab", Some((0, 4)), Some((0, 2))),
+        (b"(?=(a+?))a\\1b", b"aaab", Some((1, 4)), Some((1, 2))),
+        (b"(*napla:(.)).*?\\1", b"abb", Some((0, 1)), Some((0, 1))),
+        (b"^(?*(.*)b)\\1c", b"aab", None, None),
+        (
+            b"(*non_atomic_positive_lookahead:.*(b))a",
+            b"aab",
+            Some((0, 1)),
+            Some((2, 3)),
+        ),
+        (b"^(?*.*(\\w)).\\1", b"abcb", Some((0, 2)), Some((3, 4))),
+        (b"^(?=.*(\\w)).\\1", b"abcb", Some((0, 2)), Some((3, 4))),
+    ];
+    cases(&rt, rt.alloc(), &ROWS)
+}
