@@ -1,4 +1,4 @@
-//! Tables of answers that cross crates: what patterns are read as, what searches find, and how a program uses the library.
+//! Tables of answers that cross crates: what searches find, and how a program uses the library.
 #![tactic(auto)]
 
 #[cfg(test)]
@@ -7,7 +7,5 @@ mod forms;
 mod library;
 #[cfg(test)]
 mod many;
-#[cfg(test)]
-mod reading;
 #[cfg(test)]
 mod searching;

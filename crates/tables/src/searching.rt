@@ -6,6 +6,7 @@ ghost use Rattle.pat_tree.specs.Built.{IsBuilt};
 ghost use Rattle.frame_machine.specs.Ready.{AreFactsOf};
 ghost use Rattle.pat_tree.specs.declared.options.PartialMode.TheVariants.{Off};
 
+use Change::{Captured, Compiled, Limited, Lines, Matching, Started};
 use char_sets::ClassTable;
 use frame_machine::{Ready, Scratch};
 use frame_store::Span;
@@ -19,15 +20,29 @@ use std::alloc::Global;
 use std::process::Abort;
 use std::test::Fail;
 
-/// A search, its answer, and what group 1 captured in a match.
+/// A pattern, a subject, the answer of the search, and what differs from a plain search.
+type Row = (&'static [u8], &'static [u8], MatchAnswer, &'static [Change]);
+
+/// What differs from a search from the subject's begin on, without options, after which group 1 is unset.
 #[derive(Clone, Copy)]
-struct Row {
-    pattern: &'static [u8],
+enum Change {
+    /// The greatest numbers of Steps and of units.
+    Limited(u32, u32),
+    /// What group 1 captured.
+    Captured(u64, u64),
+    Started(usize),
+    Compiled(Options),
+    Matching(MatchOptions),
+    /// Lines end so.
+    Lines(Newline),
+}
+
+/// How a search is made, and what group 1 captured in its match.
+#[derive(Clone, Copy)]
+struct Search {
     options: Options,
-    subject: &'static [u8],
     start: usize,
     matching: MatchOptions,
-    answer: MatchAnswer,
     group: Option<(u64, u64)>,
 }
 
@@ -73,67 +88,44 @@ const NOTEMPTY_ATSTART: MatchOptions = MatchOptions {
     ..MatchOptions::PLAIN
 };
 
-fn found(keep: usize, to: usize) -> MatchAnswer {
-    MatchAnswer::Match {
-        keep,
-        to,
-        mark: None,
+macro_rules! found {
+    ($keep:expr, $to:expr) => {
+        MatchAnswer::Match {
+            keep: $keep,
+            to: $to,
+            mark: None,
+        }
+    };
+}
+
+impl Search {
+    fn change(&mut self, change: Change) {
+        match change {
+            Limited(match_limit, frame_limit) => {
+                self.matching.match_limit = match_limit;
+                self.matching.frame_limit = frame_limit;
+            }
+            Captured(from, to) => self.group = Some((from, to)),
+            Started(start) => self.start = start,
+            Compiled(options) => self.options = options,
+            Matching(matching) => self.matching = matching,
+            Lines(newline) => self.options.newline = newline,
+        }
     }
 }
 
-/// A search from the subject's begin on, without options, after which group 1 is unset.
-fn plain(pattern: &'static [u8], subject: &'static [u8], answer: MatchAnswer) -> Row {
-    Row {
-        pattern,
+/// A plain search with these changes.
+fn search_with(changes: &[Change]) -> Search {
+    let mut search = Search {
         options: Options::PLAIN,
-        subject,
         start: 0,
         matching: MatchOptions::PLAIN,
-        answer,
         group: None,
+    };
+    for change in changes {
+        search.change(*change);
     }
-}
-
-/// The row with so many Steps and units.
-fn limited(match_limit: u32, frame_limit: u32, row: Row) -> Row {
-    Row {
-        matching: MatchOptions {
-            match_limit,
-            frame_limit,
-            ..MatchOptions::PLAIN
-        },
-        ..row
-    }
-}
-
-fn captured(from: u64, to: u64, row: Row) -> Row {
-    Row {
-        group: Some((from, to)),
-        ..row
-    }
-}
-
-fn started(start: usize, row: Row) -> Row {
-    Row { start, ..row }
-}
-
-fn compiled(options: Options, row: Row) -> Row {
-    Row { options, ..row }
-}
-
-fn matching(matching: MatchOptions, row: Row) -> Row {
-    Row { matching, ..row }
-}
-
-/// The row where lines end so.
-fn lines(newline: Newline, row: Row) -> Row {
-    Row {
-        options: Options {
-            newline,
-            ..row.options
-        },
-        ..row
-    }
+    search
 }
 
 /// What a search of a finished tree answers.
@@ -193,25 +185,26 @@ pub(crate) fn searched(
 
 /// A row is answered by a workspace.
 fn case(rt: &impl Abort, alloc: Global, row: &Row, scratch: &mut Scratch) -> Result<(), Fail> {
-    let subject = row.subject;
+    let (pattern, subject, expected, changes) = *row;
+    let wanted = search_with(changes);
     let matching = MatchOptions {
         partial: PartialMode::Off,
-        ..row.matching
+        ..wanted.matching
     };
     assert!(rt; subject.len() < 100);
-    assert!(rt; row.start <= subject.len());
+    assert!(rt; wanted.start <= subject.len());
     let (answer, group) = searched(
         alloc,
-        row.pattern,
-        row.options,
+        pattern,
+        wanted.options,
         subject,
-        row.start,
+        wanted.start,
         &matching,
         scratch,
     )?;
-    assert_eq!(rt; answer, row.answer);
+    assert_eq!(rt; answer, expected);
     if matches!(answer, MatchAnswer::Match { .. }) {
-        assert_eq!(rt; group.map(|span| (span.from, span.to)), row.group);
+        assert_eq!(rt; group.map(|span| (span.from, span.to)), wanted.group);
     }
     Ok(())
 }
@@ -229,176 +222,257 @@ fn cases(rt: &impl Abort, alloc: Global, rows: &[Row]) -> Result<(), Fail> {
 // Steps are counted anew at each place, and a limit of the pattern only lowers that of the match.
 #[test]
 fn limits_on_steps_are_exact(rt: HostRuntime) -> Result<(), Fail> {
-    let rows = [
-        limited(3, 99, plain(b"(?:ab)*c", b"ababc", found(0, 5))),
-        limited(2, 99, plain(b"(?:ab)*c", b"ababc", MatchAnswer::MatchLimit)),
-        limited(3, 99, plain(b"a*b", b"aacab", found(3, 5))),
-        limited(2, 99, plain(b"a*b", b"aacab", MatchAnswer::MatchLimit)),
-        limited(4, 99, plain(b"a*?b", b"aaab", found(0, 4))),
-        limited(3, 99, plain(b"a*?b", b"aaab", MatchAnswer::MatchLimit)),
-        limited(2, 99, plain(b"(?:a|b)c", b"bc", found(0, 2))),
-        limited(1, 99, plain(b"(?:a|b)c", b"bc", MatchAnswer::MatchLimit)),
-        limited(7, 99, plain(b"(?:a|b)*c", b"aac", found(0, 3))),
-        limited(6, 99, plain(b"(?:a|b)*c", b"aac", MatchAnswer::MatchLimit)),
-        limited(4, 99, plain(b"(?:a|b)*?c", b"aac", found(0, 3))),
-        limited(3, 99, plain(b"(?:a|b)*?c", b"aac", MatchAnswer::MatchLimit)),
-        plain(b"(*LIMIT_MATCH=3)(?:ab)*c", b"ababc", found(0, 5)),
-        plain(
+    static ROWS: [Row; 16] = [
+        (b"(?:ab)*c", b"ababc", found!(0, 5), &[Limited(3, 99)]),
+        (
+            b"(?:ab)*c",
+            b"ababc",
+            MatchAnswer::MatchLimit,
+            &[Limited(2, 99)],
+        ),
+        (b"a*b", b"aacab", found!(3, 5), &[Limited(3, 99)]),
+        (b"a*b", b"aacab", MatchAnswer::MatchLimit, &[Limited(2, 99)]),
+        (b"a*?b", b"aaab", found!(0, 4), &[Limited(4, 99)]),
+        (b"a*?b", b"aaab", MatchAnswer::MatchLimit, &[Limited(3, 99)]),
+        (b"(?:a|b)c", b"bc", found!(0, 2), &[Limited(2, 99)]),
+        (
+            b"(?:a|b)c",
+            b"bc",
+            MatchAnswer::MatchLimit,
+            &[Limited(1, 99)],
+        ),
+        (b"(?:a|b)*c", b"aac", found!(0, 3), &[Limited(7, 99)]),
+        (
+            b"(?:a|b)*c",
+            b"aac",
+            MatchAnswer::MatchLimit,
+            &[Limited(6, 99)],
+        ),
+        (b"(?:a|b)*?c", b"aac", found!(0, 3), &[Limited(4, 99)]),
+        (
+            b"(?:a|b)*?c",
+            b"aac",
+            MatchAnswer::MatchLimit,
+            &[Limited(3, 99)],
+        ),
+        (b"(*LIMIT_MATCH=3)(?:ab)*c", b"ababc", found!(0, 5), &[]),
+        (
             b"(*LIMIT_MATCH=2)(?:ab)*c",
             b"ababc",
             MatchAnswer::MatchLimit,
+            &[],
         ),
-        limited(
-            2,
-            99,
-            plain(
-                b"(*LIMIT_MATCH=9)(?:ab)*c",
-                b"ababc",
-                MatchAnswer::MatchLimit,
-            ),
+        (
+            b"(*LIMIT_MATCH=9)(?:ab)*c",
+            b"ababc",
+            MatchAnswer::MatchLimit,
+            &[Limited(2, 99)],
         ),
-        limited(
-            1000,
-            99,
-            plain(
-                b"(a+)*zz",
-                b"aaaaaaaaaaaaaaaaaaaaaaaaaaaaaa",
-                MatchAnswer::MatchLimit,
-            ),
+        (
+            b"(a+)*zz",
+            b"aaaaaaaaaaaaaaaaaaaaaaaaaaaaaa",
+            MatchAnswer::MatchLimit,
+            &[Limited(1000, 99)],
         ),
     ];
-    cases(&rt, rt.alloc(), &rows)
+    cases(&rt, rt.alloc(), &ROWS)
 }
 
 // At one event the Step is compared first, then the unit.
 #[test]
 fn limits_on_units_are_exact(rt: HostRuntime) -> Result<(), Fail> {
-    let rows = [
-        limited(99, 2, captured(0, 1, plain(b"(a)", b"a", found(0, 1)))),
-        limited(99, 1, plain(b"(a)", b"a", MatchAnswer::FrameLimit)),
-        limited(99, 4, captured(0, 1, plain(b"(a)(b)", b"ab", found(0, 2)))),
-        limited(99, 3, plain(b"(a)(b)", b"ab", MatchAnswer::FrameLimit)),
-        limited(99, 1, plain(b"a*b", b"aaab", found(0, 4))),
-        limited(99, 0, plain(b"a*b", b"aaab", MatchAnswer::FrameLimit)),
-        limited(99, 0, plain(b"a{3}b", b"aaab", found(0, 4))),
-        limited(0, 0, plain(b"a{3}b", b"aaab", MatchAnswer::MatchLimit)),
-        limited(99, 1, plain(b"(?:a|b)c", b"bc", found(0, 2))),
-        limited(99, 0, plain(b"(?:a|b)c", b"bc", MatchAnswer::FrameLimit)),
-        limited(0, 0, plain(b"(?:a|b)c", b"bc", MatchAnswer::MatchLimit)),
-        limited(99, 6, plain(b"(?:a|b)*c", b"aac", found(0, 3))),
-        limited(99, 5, plain(b"(?:a|b)*c", b"aac", MatchAnswer::FrameLimit)),
-        limited(99, 5, plain(b"(?:a|b)*?c", b"aac", found(0, 3))),
-        limited(99, 4, plain(b"(?:a|b)*?c", b"aac", MatchAnswer::FrameLimit)),
-        limited(0, 0, plain(b"abc", b"xabc", found(1, 4))),
+    static ROWS: [Row; 16] = [
+        (
+            b"(a)",
+            b"a",
+            found!(0, 1),
+            &[Captured(0, 1), Limited(99, 2)],
+        ),
+        (b"(a)", b"a", MatchAnswer::FrameLimit, &[Limited(99, 1)]),
+        (
+            b"(a)(b)",
+            b"ab",
+            found!(0, 2),
+            &[Captured(0, 1), Limited(99, 4)],
+        ),
+        (b"(a)(b)", b"ab", MatchAnswer::FrameLimit, &[Limited(99, 3)]),
+        (b"a*b", b"aaab", found!(0, 4), &[Limited(99, 1)]),
+        (b"a*b", b"aaab", MatchAnswer::FrameLimit, &[Limited(99, 0)]),
+        (b"a{3}b", b"aaab", found!(0, 4), &[Limited(99, 0)]),
+        (b"a{3}b", b"aaab", MatchAnswer::MatchLimit, &[Limited(0, 0)]),
+        (b"(?:a|b)c", b"bc", found!(0, 2), &[Limited(99, 1)]),
+        (
+            b"(?:a|b)c",
+            b"bc",
+            MatchAnswer::FrameLimit,
+            &[Limited(99, 0)],
+        ),
+        (
+            b"(?:a|b)c",
+            b"bc",
+            MatchAnswer::MatchLimit,
+            &[Limited(0, 0)],
+        ),
+        (b"(?:a|b)*c", b"aac", found!(0, 3), &[Limited(99, 6)]),
+        (
+            b"(?:a|b)*c",
+            b"aac",
+            MatchAnswer::FrameLimit,
+            &[Limited(99, 5)],
+        ),
+        (b"(?:a|b)*?c", b"aac", found!(0, 3), &[Limited(99, 5)]),
+        (
+            b"(?:a|b)*?c",
+            b"aac",
+            MatchAnswer::FrameLimit,
+            &[Limited(99, 4)],
+        ),
+        (b"abc", b"xabc", found!(1, 4), &[Limited(0, 0)]),
     ];
-    cases(&rt, rt.alloc(), &rows)
+    cases(&rt, rt.alloc(), &ROWS)
 }
 
 // The answers of this table and the next ones are those of the C library, 10.42.
 #[test]
 fn a_search_goes_from_its_start(rt: HostRuntime) -> Result<(), Fail> {
-    let rows = [
-        plain(b"a", b"bba", found(2, 3)),
-        started(1, plain(b"a", b"aba", found(2, 3))),
-        started(2, plain(b"a", b"ab", NONE)),
-        plain(b"", b"", found(0, 0)),
-        started(2, plain(b"x*", b"ab", found(2, 2))),
-        started(1, plain(b"^b", b"ab", NONE)),
-        started(1, plain(b"\\Gb", b"ab", found(1, 2))),
-        plain(b"\\Ga", b"ba", NONE),
-        compiled(ANCHORED, plain(b"b", b"ab", NONE)),
-        started(1, compiled(ANCHORED, plain(b"b", b"ab", found(1, 2)))),
-        matching(MATCH_ANCHORED, plain(b"b", b"ab", NONE)),
-        started(1, matching(MATCH_ANCHORED, plain(b"b", b"ab", found(1, 2)))),
-        captured(2, 2, plain(b"(a*)*", b"aab", found(0, 2))),
-        plain(b"foo\\Kbar", b"foobar", found(3, 6)),
-        captured(0, 1, plain(b"(a)", b"a", found(0, 1))),
-        plain(b"(a)|b", b"xb", found(1, 2)),
+    static ROWS: [Row; 16] = [
+        (b"a", b"bba", found!(2, 3), &[]),
+        (b"a", b"aba", found!(2, 3), &[Started(1)]),
+        (b"a", b"ab", NONE, &[Started(2)]),
+        (b"", b"", found!(0, 0), &[]),
+        (b"x*", b"ab", found!(2, 2), &[Started(2)]),
+        (b"^b", b"ab", NONE, &[Started(1)]),
+        (b"\\Gb", b"ab", found!(1, 2), &[Started(1)]),
+        (b"\\Ga", b"ba", NONE, &[]),
+        (b"b", b"ab", NONE, &[Compiled(ANCHORED)]),
+        (b"b", b"ab", found!(1, 2), &[Compiled(ANCHORED), Started(1)]),
+        (b"b", b"ab", NONE, &[Matching(MATCH_ANCHORED)]),
+        (
+            b"b",
+            b"ab",
+            found!(1, 2),
+            &[Matching(MATCH_ANCHORED), Started(1)],
+        ),
+        (b"(a*)*", b"aab", found!(0, 2), &[Captured(2, 2)]),
+        (b"foo\\Kbar", b"foobar", found!(3, 6), &[]),
+        (b"(a)", b"a", found!(0, 1), &[Captured(0, 1)]),
+        (b"(a)|b", b"xb", found!(1, 2), &[]),
     ];
-    cases(&rt, rt.alloc(), &rows)
+    cases(&rt, rt.alloc(), &ROWS)
 }
 
 #[test]
 fn some_matches_are_not_admitted(rt: HostRuntime) -> Result<(), Fail> {
-    let rows = [
-        compiled(ENDANCHORED, plain(b"a", b"aba", found(2, 3))),
-        compiled(ENDANCHORED, plain(b"a|ab", b"ab", found(0, 2))),
-        matching(MATCH_ENDANCHORED, plain(b"a|ab", b"ab", found(0, 2))),
-        matching(MATCH_ENDANCHORED, plain(b"ab?", b"abc", NONE)),
-        plain(b"a|ab", b"ab", found(0, 1)),
-        plain(b"a*", b"baa", found(0, 0)),
-        matching(NOTEMPTY, plain(b"a*", b"baa", found(1, 3))),
-        matching(NOTEMPTY, plain(b"a*?", b"baa", found(1, 2))),
-        matching(NOTEMPTY, plain(b"a*", b"b", NONE)),
-        plain(b"(*NOTEMPTY)a*", b"baa", found(1, 3)),
-        plain(b"(*NOTEMPTY_ATSTART)x*", b"ab", found(1, 1)),
-        matching(NOTEMPTY_ATSTART, plain(b"a*", b"baa", found(1, 3))),
-        matching(NOTEMPTY_ATSTART, plain(b"x*", b"ab", found(1, 1))),
-        started(
-            1,
-            matching(NOTEMPTY_ATSTART, plain(b"x*", b"ab", found(2, 2))),
+    static ROWS: [Row; 15] = [
+        (b"a", b"aba", found!(2, 3), &[Compiled(ENDANCHORED)]),
+        (b"a|ab", b"ab", found!(0, 2), &[Compiled(ENDANCHORED)]),
+        (b"a|ab", b"ab", found!(0, 2), &[Matching(MATCH_ENDANCHORED)]),
+        (b"ab?", b"abc", NONE, &[Matching(MATCH_ENDANCHORED)]),
+        (b"a|ab", b"ab", found!(0, 1), &[]),
+        (b"a*", b"baa", found!(0, 0), &[]),
+        (b"a*", b"baa", found!(1, 3), &[Matching(NOTEMPTY)]),
+        (b"a*?", b"baa", found!(1, 2), &[Matching(NOTEMPTY)]),
+        (b"a*", b"b", NONE, &[Matching(NOTEMPTY)]),
+        (b"(*NOTEMPTY)a*", b"baa", found!(1, 3), &[]),
+        (b"(*NOTEMPTY_ATSTART)x*", b"ab", found!(1, 1), &[]),
+        (b"a*", b"baa", found!(1, 3), &[Matching(NOTEMPTY_ATSTART)]),
+        (b"x*", b"ab", found!(1, 1), &[Matching(NOTEMPTY_ATSTART)]),
+        (
+            b"x*",
+            b"ab",
+            found!(2, 2),
+            &[Matching(NOTEMPTY_ATSTART), Started(1)],
         ),
-        started(2, matching(NOTEMPTY_ATSTART, plain(b"x*", b"ab", NONE))),
+        (
+            b"x*",
+            b"ab",
+            NONE,
+            &[Matching(NOTEMPTY_ATSTART), Started(2)],
+        ),
     ];
-    cases(&rt, rt.alloc(), &rows)
+    cases(&rt, rt.alloc(), &ROWS)
 }
 
 #[test]
 fn firstline_ends_at_the_first_newline(rt: HostRuntime) -> Result<(), Fail> {
-    let rows = [
-        compiled(FIRSTLINE, plain(b"b", b"a\nb", NONE)),
-        compiled(FIRSTLINE, plain(b"b", b"ab\nb", found(1, 2))),
-        compiled(FIRSTLINE, plain(b"\\nb", b"a\nb", found(1, 3))),
-        started(2, compiled(FIRSTLINE, plain(b"b", b"a\nb", found(2, 3)))),
-        compiled(FIRSTLINE, plain(b"", b"\na", found(0, 0))),
-        lines(
-            Newline::Cr,
-            compiled(FIRSTLINE, plain(b"b", b"a\rb\r", NONE)),
+    static ROWS: [Row; 10] = [
+        (b"b", b"a\nb", NONE, &[Compiled(FIRSTLINE)]),
+        (b"b", b"ab\nb", found!(1, 2), &[Compiled(FIRSTLINE)]),
+        (b"\\nb", b"a\nb", found!(1, 3), &[Compiled(FIRSTLINE)]),
+        (
+            b"b",
+            b"a\nb",
+            found!(2, 3),
+            &[Compiled(FIRSTLINE), Started(2)],
         ),
-        lines(
-            Newline::Cr,
-            compiled(FIRSTLINE, plain(b"b", b"a\nb\r", found(2, 3))),
+        (b"", b"\na", found!(0, 0), &[Compiled(FIRSTLINE)]),
+        (
+            b"b",
+            b"a\rb\r",
+            NONE,
+            &[Compiled(FIRSTLINE), Lines(Newline::Cr)],
         ),
-        lines(
-            Newline::CrLf,
-            compiled(FIRSTLINE, plain(b"b", b"a\r\nb", NONE)),
+        (
+            b"b",
+            b"a\nb\r",
+            found!(2, 3),
+            &[Compiled(FIRSTLINE), Lines(Newline::Cr)],
         ),
-        lines(
-            Newline::CrLf,
-            compiled(FIRSTLINE, plain(b"\\Wb", b"a\r\nb", NONE)),
+        (
+            b"b",
+            b"a\r\nb",
+            NONE,
+            &[Compiled(FIRSTLINE), Lines(Newline::CrLf)],
         ),
-        lines(
-            Newline::CrLf,
-            compiled(FIRSTLINE, plain(b"\\W+b", b"a\r\nb", found(1, 4))),
+        (
+            b"\\Wb",
+            b"a\r\nb",
+            NONE,
+            &[Compiled(FIRSTLINE), Lines(Newline::CrLf)],
+        ),
+        (
+            b"\\W+b",
+            b"a\r\nb",
+            found!(1, 4),
+            &[Compiled(FIRSTLINE), Lines(Newline::CrLf)],
         ),
     ];
-    cases(&rt, rt.alloc(), &rows)
+    cases(&rt, rt.alloc(), &ROWS)
 }
 
 #[test]
 fn a_crlf_is_passed_whole(rt: HostRuntime) -> Result<(), Fail> {
-    let rows = [
-        lines(Newline::Cr, plain(b"\\Wx", b"a\r\nx", found(2, 4))),
-        lines(Newline::Lf, plain(b"\\Wx", b"a\r\nx", found(2, 4))),
-        lines(Newline::CrLf, plain(b"\\Wx", b"a\r\nx", NONE)),
-        lines(Newline::Any, plain(b"\\Wx", b"a\r\nx", NONE)),
-        lines(Newline::AnyCrLf, plain(b"\\Wx", b"a\r\nx", NONE)),
-        lines(Newline::Nul, plain(b"\\Wx", b"a\r\nx", found(2, 4))),
-        lines(Newline::CrLf, plain(b"\\nx", b"a\r\nx", found(2, 4))),
-        lines(Newline::CrLf, plain(b"[\\r]?\\Wx", b"a\r\nx", found(1, 4))),
-        started(
-            2,
-            lines(Newline::CrLf, plain(b"\\Wx", b"a\r\nx", found(2, 4))),
+    static ROWS: [Row; 13] = [
+        (b"\\Wx", b"a\r\nx", found!(2, 4), &[Lines(Newline::Cr)]),
+        (b"\\Wx", b"a\r\nx", found!(2, 4), &[Lines(Newline::Lf)]),
+        (b"\\Wx", b"a\r\nx", NONE, &[Lines(Newline::CrLf)]),
+        (b"\\Wx", b"a\r\nx", NONE, &[Lines(Newline::Any)]),
+        (b"\\Wx", b"a\r\nx", NONE, &[Lines(Newline::AnyCrLf)]),
+        (b"\\Wx", b"a\r\nx", found!(2, 4), &[Lines(Newline::Nul)]),
+        (b"\\nx", b"a\r\nx", found!(2, 4), &[Lines(Newline::CrLf)]),
+        (
+            b"[\\r]?\\Wx",
+            b"a\r\nx",
+            found!(1, 4),
+            &[Lines(Newline::CrLf)],
         ),
-        lines(
-            Newline::CrLf,
-            compiled(NO_START_OPTIMIZE, plain(b"\\Wx", b"a\r\nx", NONE)),
+        (
+            b"\\Wx",
+            b"a\r\nx",
+            found!(2, 4),
+            &[Lines(Newline::CrLf), Started(2)],
         ),
-        lines(Newline::CrLf, plain(b"$", b"a\r\n", found(1, 1))),
-        lines(Newline::CrLf, plain(b"(?s).\\z", b"a\r\n", NONE)),
-        lines(Newline::Lf, plain(b"(?s).\\z", b"a\r\n", found(2, 3))),
+        (
+            b"\\Wx",
+            b"a\r\nx",
+            NONE,
+            &[Compiled(NO_START_OPTIMIZE), Lines(Newline::CrLf)],
+        ),
+        (b"$", b"a\r\n", found!(1, 1), &[Lines(Newline::CrLf)]),
+        (b"(?s).\\z", b"a\r\n", NONE, &[Lines(Newline::CrLf)]),
+        (b"(?s).\\z", b"a\r\n", found!(2, 3), &[Lines(Newline::Lf)]),
     ];
-    cases(&rt, rt.alloc(), &rows)
+    cases(&rt, rt.alloc(), &ROWS)
 }
 
 // A million turns take two Steps each, and the exit that they wait for takes a unit more.
@@ -419,7 +493,7 @@ fn a_million_lazy_turns_take_two_steps_each(rt: HostRuntime) -> Result<(), Fail>
         &matching,
         &mut scratch,
     )?;
-    assert_eq!(rt; enough.0, found(0, 1_000_001));
+    assert_eq!(rt; enough.0, found!(0, 1_000_001));
     matching.match_limit = 1_999_999;
     let few = searched(
         alloc,

@@ -2,12 +2,12 @@
 //!
 //! The C library, 10.42, accepts each pattern of these tables, of those of classes and of those of options, but two: in
 //! `[\E^]` it takes `^` as the negation, and it has `(*LIMIT_MATCH=4294967295)` as a number too large.
-use super::answers::are_read;
+use crate::answers::are_read;
 use std::test::Fail;
 
 #[test]
 fn characters_and_alternatives(rt: HostRuntime) -> Result<(), Fail> {
-    let rows = [
+    static ROWS: [(&'static str, &'static str); 24] = [
         ("", "(-)"),
         ("a", "(a)"),
         ("abc", "(<a b c>)"),
@@ -33,12 +33,12 @@ fn characters_and_alternatives(rt: HostRuntime) -> Result<(), Fail> {
         ("^a$", "(<^ a $>)"),
         ("a^|$b", "(<a ^>|<$ b>)"),
     ];
-    are_read(&rt, rt.alloc(), &rows)
+    are_read(&rt, rt.alloc(), &ROWS)
 }
 
 #[test]
 fn escapes(rt: HostRuntime) -> Result<(), Fail> {
-    let rows = [
+    static ROWS: [(&'static str, &'static str); 24] = [
         (r"\a\e\f\n\r\t", "(<'07' '1b' '0c' '0a' '0d' '09'>)"),
         (r"\cA\cz\c[\c?", "(<'01' '1a' '1b' '7f'>)"),
         (r"\0\00\012\0123", "(<'00' '00' '0a' '0a' 3>)"),
@@ -64,12 +64,12 @@ fn escapes(rt: HostRuntime) -> Result<(), Fail> {
         (r"\R\N", r"(<\R .>)"),
         (r"\N{3}\N{2,}", "(<.{3,3} .{2,}>)"),
     ];
-    are_read(&rt, rt.alloc(), &rows)
+    are_read(&rt, rt.alloc(), &ROWS)
 }
 
 #[test]
 fn quantifiers(rt: HostRuntime) -> Result<(), Fail> {
-    let rows = [
+    static ROWS: [(&'static str, &'static str); 24] = [
         ("a*", "(a{0,})"),
         ("a+", "(a{1,})"),
         ("a?", "(a{0,1})"),
@@ -95,12 +95,12 @@ fn quantifiers(rt: HostRuntime) -> Result<(), Fail> {
         (r"a\Q\E{2}?", "(a{2,2}?)"),
         ("a(?#x)*(b)(?#y)(?#z)+", "(<a{0,} (1:b)*{1,}>)"),
     ];
-    are_read(&rt, rt.alloc(), &rows)
+    are_read(&rt, rt.alloc(), &ROWS)
 }
 
 #[test]
 fn groups(rt: HostRuntime) -> Result<(), Fail> {
-    let rows = [
+    static ROWS: [(&'static str, &'static str); 24] = [
         ("()", "((1:-))"),
         ("(?:)", "((-))"),
         ("(a)(b)", "(<(1:a) (2:b)>)"),
@@ -129,12 +129,12 @@ fn groups(rt: HostRuntime) -> Result<(), Fail> {
         (r"(\))", "((1:')'))"),
         ("(?:a|(?:b|c)d)e", "(<(a|<(b|c) d>) e>)"),
     ];
-    are_read(&rt, rt.alloc(), &rows)
+    are_read(&rt, rt.alloc(), &ROWS)
 }
 
 #[test]
 fn references(rt: HostRuntime) -> Result<(), Fail> {
-    let rows = [
+    static ROWS: [(&'static str, &'static str); 24] = [
         (r"(a)\1", "(<(1:a) =1>)"),
         (r"\1(a)", "(<=1 (1:a)>)"),
         (r"(a\1)", "((1:<a =1>))"),
@@ -166,12 +166,12 @@ fn references(rt: HostRuntime) -> Result<(), Fail> {
         (r"(a)\Q\1\E", r"(<(1:a) '\' 1>)"),
         (r"(a)[\1]", "(<(1:a) ['01']>)"),
     ];
-    are_read(&rt, rt.alloc(), &rows)
+    are_read(&rt, rt.alloc(), &ROWS)
 }
 
 #[test]
 fn settings_in_patterns(rt: HostRuntime) -> Result<(), Fail> {
-    let rows = [
+    static ROWS: [(&'static str, &'static str); 24] = [
         ("(?i)a", "(~a)"),
         ("a(?i)b|c", "(<a ~b>|~c)"),
         ("(a(?i)b)c", "(<(1:<a ~b>) c>)"),
@@ -197,12 +197,12 @@ fn settings_in_patterns(rt: HostRuntime) -> Result<(), Fail> {
         ("(?imsx)(?^)^a .", "(<^ a ' ' .>)"),
         ("(?i)(?^m:^a)a", "(<(<^m a>) ~a>)"),
     ];
-    are_read(&rt, rt.alloc(), &rows)
+    are_read(&rt, rt.alloc(), &ROWS)
 }
 
 #[test]
 fn settings_without_parts(rt: HostRuntime) -> Result<(), Fail> {
-    let rows = [
+    static ROWS: [(&'static str, &'static str); 14] = [
         ("(?)", "(-)"),
         ("(?i)", "(-)"),
         ("(?-)a", "(a)"),
@@ -218,12 +218,12 @@ fn settings_without_parts(rt: HostRuntime) -> Result<(), Fail> {
         ("(?U)(?-U)a?", "(a{0,1})"),
         ("(?x)a + b", "(<a{1,} b>)"),
     ];
-    are_read(&rt, rt.alloc(), &rows)
+    are_read(&rt, rt.alloc(), &ROWS)
 }
 
 #[test]
 fn atomic_groups_and_lookaheads(rt: HostRuntime) -> Result<(), Fail> {
-    let rows = [
+    static ROWS: [(&'static str, &'static str); 19] = [
         ("(?>a|b)c", "(<(>a|b) c>)"),
         ("(*atomic:)", "((>-))"),
         ("a++b", "(<(>a{1,}) b>)"),
@@ -244,5 +244,5 @@ fn atomic_groups_and_lookaheads(rt: HostRuntime) -> Result<(), Fail> {
         ("(?>(?i)a)b(?=(?i)c)d", "(<(>~a) b (=~c) d>)"),
         ("(?>(a))(?=(b))(c)", "(<(>(1:a)) (=(2:b)) (3:c)>)"),
     ];
-    are_read(&rt, rt.alloc(), &rows)
+    are_read(&rt, rt.alloc(), &ROWS)
 }

@@ -1,5 +1,5 @@
 //! The greatest patterns (pcre2limits, and the limit of 65,536 bytes and of 250 nested parentheses).
-use super::answers::fault_of;
+use crate::answers::fault_of;
 use pat_build::read;
 use pat_tree::{Options, Tree};
 use std::alloc::Global;

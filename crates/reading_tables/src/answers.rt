@@ -1,5 +1,5 @@
 //! What `read` answers for a row of a table.
-use super::shown::shown;
+use crate::shown::shown;
 use pat_build::{ReadError, read};
 use pat_tree::Options;
 use std::alloc::Global;

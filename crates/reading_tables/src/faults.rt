@@ -4,7 +4,7 @@
 //! mostly finer, for 36: as 141 for `(?Pn)`, 194 for `(?^-i)`, 129 for `(?+a)` and 158 for `(?R` where we have 111 and 114,
 //! and 160 for `(**)`. It accepts eight, by our own rules refused: `[[:<:]]`, `[[:>:]]`, `\g` in a class, a hyphen between
 //! `\d\E` and a character, and what stands between a quantifier and its `+` or `?`. Places were not compared.
-use super::answers::{are_refused, fault_of};
+use crate::answers::{are_refused, fault_of};
 use pat_tree::Options;
 use std::alloc::Global;
 use std::process::Abort;
@@ -14,7 +14,7 @@ const PLAIN: Options = Options::PLAIN;
 
 #[test]
 fn faults_of_escapes(rt: HostRuntime) {
-    let rows = [
+    static ROWS: [(&'static str, i32, usize); 23] = [
         (r"\", 101, 0),
         (r"ab\", 101, 2),
         (r"[a\", 101, 2),
@@ -39,12 +39,12 @@ fn faults_of_escapes(rt: HostRuntime) {
         (r"a\P{L", 146, 1),
         (r"\p1", 146, 0),
     ];
-    are_refused(&rt, rt.alloc(), &rows);
+    are_refused(&rt, rt.alloc(), &ROWS);
 }
 
 #[test]
 fn faults_of_classes(rt: HostRuntime) {
-    let rows = [
+    static ROWS: [(&'static str, i32, usize); 24] = [
         ("[", 106, 1),
         ("[]", 106, 2),
         ("a[^]b", 106, 5),
@@ -70,12 +70,12 @@ fn faults_of_classes(rt: HostRuntime) {
         ("[[:>:]]a", 130, 1),
         ("[[:Alpha:]]", 130, 1),
     ];
-    are_refused(&rt, rt.alloc(), &rows);
+    are_refused(&rt, rt.alloc(), &ROWS);
 }
 
 #[test]
 fn faults_of_sets(rt: HostRuntime) {
-    let rows = [
+    static ROWS: [(&'static str, i32, usize); 13] = [
         ("[:alpha:]", 112, 0),
         ("a[:^x:]", 112, 1),
         ("[:a[:b:]", 130, 3),
@@ -90,12 +90,12 @@ fn faults_of_sets(rt: HostRuntime) {
         (r"[a-\y]", 103, 3),
         (r"[\d\E-z]", 150, 5),
     ];
-    are_refused(&rt, rt.alloc(), &rows);
+    are_refused(&rt, rt.alloc(), &ROWS);
 }
 
 #[test]
 fn faults_of_quantifiers(rt: HostRuntime) {
-    let rows = [
+    static ROWS: [(&'static str, i32, usize); 24] = [
         ("a{3,1}", 104, 1),
         ("(?:a){2,0}", 104, 5),
         ("x{65535,65534}?", 104, 1),
@@ -121,12 +121,12 @@ fn faults_of_quantifiers(rt: HostRuntime) {
         (r"\A{2}", 109, 2),
         (r"\K*", 109, 2),
     ];
-    are_refused(&rt, rt.alloc(), &rows);
+    are_refused(&rt, rt.alloc(), &ROWS);
 }
 
 #[test]
 fn faults_of_quantifiers_after_what_is_no_part(rt: HostRuntime) {
-    let rows = [
+    static ROWS: [(&'static str, i32, usize); 10] = [
         ("(?i)*", 109, 4),
         (r"\Q\E*", 109, 4),
         ("(?#a)+", 109, 5),
@@ -138,12 +138,12 @@ fn faults_of_quantifiers_after_what_is_no_part(rt: HostRuntime) {
         ("a{2}?{3}", 109, 5),
         ("(?x)a+ #\n?", 109, 9),
     ];
-    are_refused(&rt, rt.alloc(), &rows);
+    are_refused(&rt, rt.alloc(), &ROWS);
 }
 
 #[test]
 fn faults_of_groups(rt: HostRuntime) {
-    let rows = [
+    static ROWS: [(&'static str, i32, usize); 24] = [
         ("(?a)", 111, 0),
         ("x(?y", 111, 1),
         ("(?Pn)", 111, 0),
@@ -169,12 +169,12 @@ fn faults_of_groups(rt: HostRuntime) {
         ("(?#", 118, 3),
         ("a(?#b", 118, 5),
     ];
-    are_refused(&rt, rt.alloc(), &rows);
+    are_refused(&rt, rt.alloc(), &ROWS);
 }
 
 #[test]
 fn faults_of_parentheses_and_names(rt: HostRuntime) {
-    let rows = [
+    static ROWS: [(&'static str, i32, usize); 22] = [
         (")", 122, 0),
         ("a)", 122, 1),
         ("(a))", 122, 3),
@@ -198,12 +198,12 @@ fn faults_of_parentheses_and_names(rt: HostRuntime) {
         ("(?(1x)b)", 128, 0),
         ("(?(<ab>", 128, 0),
     ];
-    are_refused(&rt, rt.alloc(), &rows);
+    are_refused(&rt, rt.alloc(), &ROWS);
 }
 
 #[test]
 fn faults_of_references(rt: HostRuntime) {
-    let rows = [
+    static ROWS: [(&'static str, i32, usize); 23] = [
         (r"\1", 115, 0),
         (r"(a)\2", 115, 3),
         (r"(?:a)\1", 115, 5),
@@ -228,12 +228,12 @@ fn faults_of_references(rt: HostRuntime) {
         (r"\g{-65536}", 161, 0),
         ("(?65536)", 161, 0),
     ];
-    are_refused(&rt, rt.alloc(), &rows);
+    are_refused(&rt, rt.alloc(), &ROWS);
 }
 
 #[test]
 fn faults_of_marks_and_callouts(rt: HostRuntime) {
-    let rows = [
+    static ROWS: [(&'static str, i32, usize); 24] = [
         ("(?C256)", 138, 0),
         ("a(?C999)b", 138, 1),
         ("(?C1", 139, 0),
@@ -259,7 +259,7 @@ fn faults_of_marks_and_callouts(rt: HostRuntime) {
         (r"\ga", 169, 0),
         (r"(a)\g{1", 169, 3),
     ];
-    are_refused(&rt, rt.alloc(), &rows);
+    are_refused(&rt, rt.alloc(), &ROWS);
 }
 
 #[test]
@@ -282,7 +282,7 @@ fn a_name_of_a_verb_has_255_bytes(rt: HostRuntime) -> Result<(), Fail> {
 
 #[test]
 fn what_is_not_built(rt: HostRuntime) {
-    let rows = [
+    static ROWS: [(&'static str, i32, usize); 12] = [
         (r"\pL", 195, 0),
         (r"a\P{Greek}", 195, 1),
         (r"[a\p{Nd}]", 195, 2),
@@ -296,12 +296,12 @@ fn what_is_not_built(rt: HostRuntime) {
         ("(?(DEFINE)a)", 195, 0),
         ("a(?|b)", 195, 1),
     ];
-    are_refused(&rt, rt.alloc(), &rows);
+    are_refused(&rt, rt.alloc(), &ROWS);
 }
 
 #[test]
 fn what_is_not_built_or_left_out(rt: HostRuntime) {
-    let rows = [
+    static ROWS: [(&'static str, i32, usize); 24] = [
         ("a(?R)", 195, 1),
         ("(a)(?1)", 195, 3),
         ("(?<n>a)(?&n)", 195, 7),
@@ -327,12 +327,12 @@ fn what_is_not_built_or_left_out(rt: HostRuntime) {
         ("(?(VERSION>=10)a)", 195, 0),
         ("(?(VERSION=10)a)", 195, 0),
     ];
-    are_refused(&rt, rt.alloc(), &rows);
+    are_refused(&rt, rt.alloc(), &ROWS);
 }
 
 #[test]
 fn faults_of_lookaheads_and_possessive_quantifiers(rt: HostRuntime) {
-    let rows = [
+    static ROWS: [(&'static str, i32, usize); 14] = [
         (r"(?=a\K)", 199, 4),
         (r"a(?!(b|\K))", 199, 7),
         (r"(?=(?=a)\K)", 199, 8),
@@ -348,13 +348,13 @@ fn faults_of_lookaheads_and_possessive_quantifiers(rt: HostRuntime) {
         (r"(?=\1)", 115, 3),
         ("(*pla a)", 160, 0),
     ];
-    are_refused(&rt, rt.alloc(), &rows);
+    are_refused(&rt, rt.alloc(), &ROWS);
 }
 
 // The first fault from the left is told, and a missing group only where there is no other fault.
 #[test]
 fn the_first_fault(rt: HostRuntime) {
-    let rows = [
+    static ROWS: [(&'static str, i32, usize); 16] = [
         (r"\1[", 106, 3),
         (r"(a)\2)", 122, 5),
         (r"\k<n>(?<n>a", 114, 11),
@@ -372,7 +372,7 @@ fn the_first_fault(rt: HostRuntime) {
         (r"\2(a)(?|a)", 195, 5),
         (r"\y[z-a]", 103, 0),
     ];
-    are_refused(&rt, rt.alloc(), &rows);
+    are_refused(&rt, rt.alloc(), &ROWS);
 }
 
 // The fault of a pattern under these options.
@@ -407,7 +407,7 @@ fn options_that_are_not_built(rt: HostRuntime) {
 fn faults_under_options(rt: HostRuntime) {
     let mut extended = PLAIN;
     extended.extended = true;
-    let rows = [
+    static EXTENDED: [(&'static str, i32, usize); 6] = [
         ("(a # )", 114, 6),
         (" *", 109, 1),
         ("a + + *", 109, 6),
@@ -415,18 +415,18 @@ fn faults_under_options(rt: HostRuntime) {
         ("( ?i)", 109, 2),
         ("a{3,1} #", 104, 1),
     ];
-    for (pattern, number, at) in rows {
+    for (pattern, number, at) in EXTENDED {
         is_refused(&rt, rt.alloc(), extended, pattern, number, at);
     }
     let mut empty_class = PLAIN;
     empty_class.allow_empty_class = true;
-    let rows = [
+    static EMPTY_CLASS: [(&'static str, i32, usize); 4] = [
         ("[", 106, 1),
         ("[a", 106, 2),
         ("[^", 106, 2),
         ("[]a]*)", 122, 5),
     ];
-    for (pattern, number, at) in rows {
+    for (pattern, number, at) in EMPTY_CLASS {
         is_refused(&rt, rt.alloc(), empty_class, pattern, number, at);
     }
 }

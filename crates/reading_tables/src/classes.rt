@@ -1,10 +1,10 @@
 //! Classes and types that are read (pcre2pattern, "Square brackets and character classes", "Generic character types").
-use super::answers::are_read;
+use crate::answers::are_read;
 use std::test::Fail;
 
 #[test]
 fn characters_and_ranges_of_classes(rt: HostRuntime) -> Result<(), Fail> {
-    let rows = [
+    static ROWS: [(&'static str, &'static str); 24] = [
         ("[a]", "([a])"),
         ("[abc]", "([a b c])"),
         ("[a-c]", "([a-c])"),
@@ -33,12 +33,12 @@ fn characters_and_ranges_of_classes(rt: HostRuntime) -> Result<(), Fail> {
         ("(?i)[a-z]", "(~[a-z])"),
         ("[\u{e9}]", "(['c3' 'a9'])"),
     ];
-    are_read(&rt, rt.alloc(), &rows)
+    are_read(&rt, rt.alloc(), &ROWS)
 }
 
 #[test]
 fn escapes_in_classes(rt: HostRuntime) -> Result<(), Fail> {
-    let rows = [
+    static ROWS: [(&'static str, &'static str); 25] = [
         (r"[\b]", "(['08'])"),
         (r"[\]\-\\\^]", r"([']' '-' '\' '^'])"),
         (r"[\101\8\9]", "([A 8 9])"),
@@ -65,12 +65,12 @@ fn escapes_in_classes(rt: HostRuntime) -> Result<(), Fail> {
         (r"[\E^a]", "([^a])"),
         (r"(?xx)[ ^a]", "([^a])"),
     ];
-    are_read(&rt, rt.alloc(), &rows)
+    are_read(&rt, rt.alloc(), &ROWS)
 }
 
 #[test]
 fn named_sets_and_types(rt: HostRuntime) -> Result<(), Fail> {
-    let rows = [
+    static ROWS: [(&'static str, &'static str); 22] = [
         (r"\d\s\w\h\v", "(<[Digit] [Space] [Word] [H] [V]>)"),
         (r"\D\S\W\H\V", "(<[!Digit] [!Space] [!Word] [!H] [!V]>)"),
         (r"(?i)\d\W", "(<~[Digit] ~[!Word]>)"),
@@ -94,5 +94,5 @@ fn named_sets_and_types(rt: HostRuntime) -> Result<(), Fail> {
         ("[:]:]", "(<[':'] ':' ']'>)"),
         ("[.]", "(['.'])"),
     ];
-    are_read(&rt, rt.alloc(), &rows)
+    are_read(&rt, rt.alloc(), &ROWS)
 }

@@ -1,6 +1,6 @@
 //! What the options of a pattern and its start items change (pcre2api, "Compiling a pattern"; pcre2pattern, "Special
 //! start-of-pattern items").
-use super::answers::is_read;
+use crate::answers::is_read;
 use Setting::{
     AllowEmptyClass, Caseless, DollarEndOnly, DotAll, DupNames, Extended, ExtendedCrLf,
     ExtendedMore, Literal, LiteralCaseless, Multiline, NoAutoCapture, Ungreedy,
@@ -57,7 +57,7 @@ fn options_of(setting: Setting) -> Options {
 
 #[test]
 fn options_of_patterns(rt: HostRuntime) -> Result<(), Fail> {
-    let rows = [
+    static ROWS: [(&'static str, Setting, &'static str); 20] = [
         ("aB1", Caseless, "(<~a ~B ~1>)"),
         ("(?-i)a", Caseless, "(a)"),
         (r"(a)\1[b]", Caseless, "(<(1:~a) ~=1 ~[b]>)"),
@@ -79,7 +79,7 @@ fn options_of_patterns(rt: HostRuntime) -> Result<(), Fail> {
         ("[]a]", AllowEmptyClass, "(<[] a ']'>)"),
         ("[a]]", AllowEmptyClass, "(<[a] ']'>)"),
     ];
-    for (pattern, setting, expected) in rows {
+    for (pattern, setting, expected) in ROWS {
         is_read(&rt, rt.alloc(), pattern, options_of(setting), expected)?;
     }
     Ok(())
@@ -87,7 +87,7 @@ fn options_of_patterns(rt: HostRuntime) -> Result<(), Fail> {
 
 #[test]
 fn white_space_and_literal_text(rt: HostRuntime) -> Result<(), Fail> {
-    let rows = [
+    static ROWS: [(&'static str, Setting, &'static str); 22] = [
         (" a b ", Extended, "(<a b>)"),
         ("a\t\n\u{b}\u{c}\rb", Extended, "(<a b>)"),
         ("a#b\nc", Extended, "(<a c>)"),
@@ -111,7 +111,7 @@ fn white_space_and_literal_text(rt: HostRuntime) -> Result<(), Fail> {
         ("a|[B", LiteralCaseless, "(<~a ~'|' ~'[' ~B>)"),
         ("", Literal, "(-)"),
     ];
-    for (pattern, setting, expected) in rows {
+    for (pattern, setting, expected) in ROWS {
         is_read(&rt, rt.alloc(), pattern, options_of(setting), expected)?;
     }
     Ok(())
@@ -120,7 +120,7 @@ fn white_space_and_literal_text(rt: HostRuntime) -> Result<(), Fail> {
 #[test]
 fn start_items(rt: HostRuntime) -> Result<(), Fail> {
     let lf = PLAIN;
-    let rows = [
+    static ROWS: [(&'static str, Newline, Bsr, Option<u32>); 14] = [
         ("(*CR)a", Newline::Cr, Bsr::Unicode, None),
         ("(*LF)a", Newline::Lf, Bsr::Unicode, None),
         ("(*CRLF)a", Newline::CrLf, Bsr::Unicode, None),
@@ -156,7 +156,7 @@ fn start_items(rt: HostRuntime) -> Result<(), Fail> {
             None,
         ),
     ];
-    for (pattern, newline, bsr, match_limit) in rows {
+    for (pattern, newline, bsr, match_limit) in ROWS {
         let tree = read(rt.alloc(), pattern.as_bytes(), lf)?;
         let expected = Options {
             newline,
@@ -171,7 +171,7 @@ fn start_items(rt: HostRuntime) -> Result<(), Fail> {
 
 #[test]
 fn start_items_that_set_options(rt: HostRuntime) -> Result<(), Fail> {
-    let rows = [
+    static ROWS: [(&'static str, Options); 4] = [
         (
             "(*NOTEMPTY)",
             Options {
@@ -196,7 +196,7 @@ fn start_items_that_set_options(rt: HostRuntime) -> Result<(), Fail> {
         ),
         ("(?i)(?x)", PLAIN),
     ];
-    for (pattern, expected) in rows {
+    for (pattern, expected) in ROWS {
         let tree = read(rt.alloc(), pattern.as_bytes(), PLAIN)?;
         assert_eq!(rt; *tree.options(), expected, "{pattern}");
     }
