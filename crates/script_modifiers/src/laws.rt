@@ -11,6 +11,8 @@ pub fn worked_lists()
         ≡ Ok (record ungiven { caseless = Some false; multiline = Some true; extended = Some true; offset = Some 12 }) }
     ensures subject { list_of false (codes " g, ps,replace=a=b ")
         ≡ Ok (record ungiven { global = Some true; partial_soft = Some true; replace = Some (codes "a=b") }) }
-    ensures unknown { list_of false (codes "mark,gi,offset") ≡ Err (refusal.UnknownModifier (codes "gi")) }
-    ensures value { list_of true (codes "mark,-offset=1,nosuch") ≡ Err (refusal.BadModifierValue (codes "offset")) }
+    ensures unknown { list_of false (codes "mark,gi,offset")
+        ≡ Err (refusal.UnknownModifier (codes "gi")) }
+    ensures value { list_of true (codes "mark,-offset=1,nosuch")
+        ≡ Err (refusal.BadModifierValue (codes "offset")) }
 {}

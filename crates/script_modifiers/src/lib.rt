@@ -13,5 +13,5 @@ mod table;
 pub use laws::worked_lists;
 pub use lists::{after, read_list};
 pub use modifiers::Modifiers;
-pub use refusal::{ListError, Memory, Refusal};
+pub use refusal::{ListError, Refusal};
 pub use spaces::{Space, begins_white, is_white};

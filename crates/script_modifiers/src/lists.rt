@@ -71,7 +71,8 @@ fn begins_pair(letters: &[u8], pattern: bool) -> bool
 
 /// Gives the modifiers of letters. Whether all of them are letters of modifiers.
 fn give_letters(modifiers: &mut Modifiers, letters: &[u8], pattern: bool) -> bool
-    ensures yes { result ≡ true → letters_given pattern letters.now modifiers.old ≡ Some modifiers.new }
+    ensures yes { result ≡ true
+        → letters_given pattern letters.now modifiers.old ≡ Some modifiers.new }
     ensures no { result ≡ false → letters_given pattern letters.now modifiers.old ≡ None }
 {
     let mut rest = letters;
@@ -98,8 +99,11 @@ fn give_modifier(
     off: bool,
     value: Option<&[u8]>,
 ) -> Result<(), Stop>
-    ensures ok { OnOk result (modifier_given modifier off (option_copied value.entry) modifiers.old ≡ Some modifiers.new) }
-    ensures stop { IfErr result (Stops (modifier_given modifier off (option_copied value.entry) modifiers.old)) }
+    ensures ok { OnOk result
+        (modifier_given modifier off (option_copied value.entry) modifiers.old
+        ≡ Some modifiers.new) }
+    ensures stop { IfErr result
+        (Stops (modifier_given modifier off (option_copied value.entry) modifiers.old)) }
 {
     match value {
         None => give_plain(modifiers, modifier, !off),
@@ -146,7 +150,8 @@ fn give_item(
 /// What stands before the first comma, and what stands after it.
 fn first_item(list: &[u8]) -> (&[u8], Option<&[u8]>)
     ensures last { result.1 ≡ None → slice_split is_comma list.now ≡ result.0.now ∷ [] }
-    ensures more { IfSome result.1 (λ rest. slice_split is_comma list.now ≡ result.0.now ∷ slice_split is_comma rest.now) }
+    ensures more { IfSome result.1 (λ rest.
+        slice_split is_comma list.now ≡ result.0.now ∷ slice_split is_comma rest.now) }
     ensures shorter { IfSome result.1 (λ rest. length rest.now < length list.now) }
 {
     match first_place(list, b',') {

@@ -2,8 +2,7 @@
 ghost use Rattle.std.specs.Prelude.{◌≡◌, IfOk};
 ghost use Rattle.script_modifiers.specs.Modifiers.{ungiven, over};
 
-use crate::refusal::Memory;
-use pat_tree::{Bsr, ByteList, Newline};
+use pat_tree::{Bsr, ByteList, Memory, Newline};
 use std::alloc::Global;
 
 /// What the modifiers of a list say (pcre2test, "PATTERN MODIFIERS" and "SUBJECT MODIFIERS"). A modifier that isn't

@@ -1,9 +1,9 @@
-//! What is refused, and want of memory.
+//! What is refused.
 ghost use Rattle.std.specs.Prelude.{◌≡◌, IfErr};
 ghost use Rattle.script_modifiers.specs.declared.refusal.ListError.TheVariants as answer;
 
 use pat_tree::Word;
-use std::alloc::{AllocError, AllocFailed, Global};
+use std::alloc::AllocError;
 
 /// Why a line is refused.
 #[derive(Debug, Drop)]
@@ -18,32 +18,12 @@ pub enum Refusal {
     BadSubject,
 }
 
-/// Want of memory.
-#[derive(Clone, Copy, Debug, PartialEq, Eq)]
-pub struct Memory;
-
 /// Why a list of modifiers can't be read.
 #[derive(Debug, Drop)]
 pub enum ListError {
     Refused(Refusal),
     /// Want of memory.
     Memory,
-}
-
-impl From<AllocError> for Memory {
-    ghost from_gives = { λ _ _. Unit {0} };
-
-    fn from(_e: AllocError) -> Memory {
-        Memory
-    }
-}
-
-impl<T: Drop> From<AllocFailed<T>> for Memory {
-    ghost from_gives = { λ _ _. Unit {0} };
-
-    fn from(_e: AllocFailed<T>) -> Memory {
-        Memory
-    }
 }
 
 impl From<AllocError> for ListError {

@@ -61,7 +61,8 @@ pub fn pattern_text(
     line: &[u8],
     backslash: bool,
 ) -> Result<Vec<u8>, AllocError>
-    ensures { IfOk result (λ text. text.items ≡ before.now ++ line.now ++ (if backslash then 92 ∷ [] else [])) }
+    ensures { IfOk result (λ text.
+        text.items ≡ before.now ++ line.now ++ (if backslash then 92 ∷ [] else [])) }
 {
     let mut text = Vec::from_slice(alloc, before)?;
     text.extend_from_slice(line)?;

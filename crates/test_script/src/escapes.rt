@@ -96,7 +96,8 @@ fn braced(utf: bool, text: &[u8], radix: u32, at: usize) -> Option<Piece>
     requires within { at ≤ length text.now }
     requires some { 1 ≤ radix }
     requires few { radix ≤ 16 }
-    ensures value { MatchOption result (is_braced text.now radix at ≡ false) (λ found. (is_braced text.now radix at ≡ true) × (piece_seen found ≡ braced utf text.now radix at)) }
+    ensures value { MatchOption result (is_braced text.now radix at ≡ false) (λ found.
+        (is_braced text.now radix at ≡ true) × (piece_seen found ≡ braced utf text.now radix at)) }
     ensures place { IfSome result (λ found. place_after found ≤ length text.now) }
 {
     if !stands(text, b'{', at) {

@@ -12,9 +12,10 @@ mod subjects;
 
 pub use entries::{Command, Entry, PatternEntry, SubjectEntry};
 pub use laws::{lines_of_a_pattern_are_joined, worked_scripts, worked_subjects};
+pub use pat_tree::Memory;
 pub use plan::TestPlan;
 pub use reader::ScriptReader;
-pub use script_modifiers::{ListError, Memory, Modifiers, Refusal, read_list};
+pub use script_modifiers::{ListError, Modifiers, Refusal, read_list};
 
 #[cfg(test)]
 mod tests;

@@ -5,10 +5,8 @@ ghost use Rattle.test_script.specs.Script.{is_command, is_note};
 use crate::closing::{after_backslash, closing_place, is_delimiter, pattern_text, push_line};
 use crate::entries::{Command, Entry, PatternEntry};
 use crate::subject_lines::{is_blank_line, subject_entry, trimmed};
-use pat_tree::ByteList;
-use script_modifiers::{
-    ListError, Memory, Modifiers, Refusal, after, begins_white, is_white, read_list,
-};
+use pat_tree::{ByteList, Memory};
+use script_modifiers::{ListError, Modifiers, Refusal, after, begins_white, is_white, read_list};
 use std::alloc::Global;
 use std::marker::Model;
 
@@ -77,7 +75,8 @@ impl ScriptReader {
 
     /// A pattern that is closed, with the list after it.
     fn pattern_with(&mut self, text: Vec<u8>, list: &[u8]) -> Result<Entry, Memory>
-        ensures entry { IfOk result (λ entry. pattern_with self.old text.items (list_of true list.now) ≡ (entry, self.new)) }
+        ensures entry { IfOk result (λ entry.
+            pattern_with self.old text.items (list_of true list.now) ≡ (entry, self.new)) }
         ensures refused { OnErr result (self.new ≡ self.old) }
     {
         match read_list(self.alloc, list, true) {
@@ -100,7 +99,8 @@ impl ScriptReader {
 
     /// The first line of a pattern, after its delimiter.
     fn first_pattern_line(&mut self, delimiter: u8, line: &[u8]) -> Result<Entry, Memory>
-        ensures entry { IfOk result (λ entry. pattern_line self.old delimiter [] line.now ≡ (entry, self.new)) }
+        ensures entry { IfOk result (λ entry.
+            pattern_line self.old delimiter [] line.now ≡ (entry, self.new)) }
         ensures refused { OnErr result (self.new ≡ self.old) }
     {
         match closing_place(delimiter, line) {
@@ -120,7 +120,8 @@ impl ScriptReader {
 
     /// A command that sets defaults, of patterns or of subjects, by its list.
     fn defaults_line(&mut self, pattern: bool, list: &[u8]) -> Result<Entry, Memory>
-        ensures entry { IfOk result (λ entry. defaults_line self.old pattern list.now ≡ (entry, self.new)) }
+        ensures entry { IfOk result (λ entry.
+            defaults_line self.old pattern list.now ≡ (entry, self.new)) }
         ensures refused { OnErr result (self.new ≡ self.old) }
     {
         match read_list(self.alloc, list, pattern) {

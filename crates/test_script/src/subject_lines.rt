@@ -5,10 +5,8 @@ ghost use Rattle.test_script.specs.Pieces.{written_seen};
 
 use crate::entries::{Entry, SubjectEntry};
 use crate::subjects::{Written, subject_text};
-use pat_tree::ByteList;
-use script_modifiers::{
-    ListError, Memory, Modifiers, Refusal, Space, after, begins_white, read_list,
-};
+use pat_tree::{ByteList, Memory};
+use script_modifiers::{ListError, Modifiers, Refusal, Space, after, begins_white, read_list};
 use std::alloc::Global;
 
 /// A line without white space at its begin and its end.
@@ -35,7 +33,8 @@ fn is_subject_note(line: &[u8]) -> bool
 /// A subject line by what it writes.
 fn subject_read(alloc: Global, line: &[u8], written: Written) -> Result<Entry, Memory>
     requires { IfSome written.list (λ from. from ≤ length line.now) }
-    ensures { IfOk result (λ entry. entry ≡ subject_read line.now (Some (written.bytes.items, written.list))) }
+    ensures { IfOk result (λ entry.
+        entry ≡ subject_read line.now (Some (written.bytes.items, written.list))) }
 {
     let Written { bytes, list } = written;
     let read = match list {

@@ -68,8 +68,10 @@ fn repeated(
     from: usize,
 ) -> Result<Option<Repetition>, AllocError>
     requires { from ≤ length text.now }
-    ensures value { IfOk result (λ found. repeated_seen found ≡ repeated utf text.now (length text.now) from) }
-    ensures place { IfOk result (λ found. IfSome found (λ repetition. repetition.to ≤ length text.now)) }
+    ensures value { IfOk result (λ found.
+        repeated_seen found ≡ repeated utf text.now (length text.now) from) }
+    ensures place { IfOk result (λ found.
+        IfSome found (λ repetition. repetition.to ≤ length text.now)) }
 {
     let mut bytes = Vec::new(alloc);
     let mut at = from;
@@ -145,7 +147,9 @@ fn push_repetition(
     from: usize,
 ) -> Result<Option<usize>, AllocError>
     requires { from ≤ length text.now }
-    ensures value { IfOk result (Copies bytes.old.items (copies utf text.now (repeated utf text.now (length text.now) from)) bytes.new.items) }
+    ensures value { IfOk result
+        (Copies bytes.old.items
+        (copies utf text.now (repeated utf text.now (length text.now) from)) bytes.new.items) }
     ensures place { IfOk result (λ found. IfSome found (λ to. to ≤ length text.now)) }
 {
     let Some(repetition) = repeated(alloc, utf, text, from)? else {
@@ -218,7 +222,8 @@ fn not_too_long(bytes: Vec<u8>, list: Option<usize>) -> Option<Written>
 /// none that there is, or the bytes are too many.
 pub fn subject_text(alloc: Global, utf: bool, text: &[u8]) -> Result<Option<Written>, AllocError>
     ensures value { IfOk result (λ found. written_seen found ≡ subject_text utf text.now) }
-    ensures place { IfOk result (λ found. IfSome found (λ line. IfSome line.list (λ from. from ≤ length text.now))) }
+    ensures place { IfOk result (λ found.
+        IfSome found (λ line. IfSome line.list (λ from. from ≤ length text.now))) }
 {
     let mut bytes = Vec::new(alloc);
     let mut at = 0;
