@@ -11,7 +11,7 @@ use Rattle.frame_machine.specs.declared.machine.Next.TheVariants.{Back, End}
 use Rattle.frame_machine.specs.declared.machine.Spot.{Spot}
 use Rattle.frame_machine.specs.Ground.{Ground, next_of, IsGround, IsPart}
 use Rattle.frame_machine.specs.Machine.{Conf, conf, towards}
-use Rattle.frame_machine.specs.Frames.{past, around, cont, outside, fail, spot_state, ahead}
+use Rattle.frame_machine.specs.Frames.{past, around, outside, fail, spot_state, ahead}
 use Rattle.frame_machine.specs.Validity.{AreSpans, AreSound, IsRunning, IsValid, Advances}
 use Rattle.frame_machine.proofs.Frames.{focus_towards, running_towards}
 

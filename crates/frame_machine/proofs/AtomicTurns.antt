@@ -1,22 +1,19 @@
 -- The steps of the machine at an atomic group.
-use Rattle.std.proofs.Common.{◌≡◌, ℕ, suc, ◌+◌, ◌<◌, ◌≤◌, ◌∙◌, List, ◌∷◌, map, reverse, Some, length, slice_get, refl, sym, ap, subst, arith}
-use Rattle.pat_tree.specs.declared.nodes.Node.{Node}
+use Rattle.std.proofs.Common.{◌≡◌, ℕ, suc, ◌+◌, ◌<◌, ◌≤◌, List, ◌∷◌, reverse, Some, length, slice_get, refl, sym, ap, arith}
 use Rattle.pat_tree.specs.declared.nodes.Node.TheVariants as node
-use Rattle.pat_tree.specs.Nested.{nest}
-use Rattle.pat_tree.specs.Rules.{kids_of}
 use Rattle.frame_store.specs.declared.records.Record.{Record}
 use Rattle.frame_store.specs.declared.kinds.TheConstants.{KIND_ATOMIC_OPEN}
 use Rattle.frame_store.specs.Captures.{Captures}
-use Rattle.frame_store.specs.Entry.{Entry, AtomicOpen, AtomicLeft, entry_of, entries, site_of, kept_of}
+use Rattle.frame_store.specs.Entry.{Entry, AtomicOpen, AtomicLeft, entries, site_of, kept_of}
 use Rattle.frame_store.proofs.EntryLemmas.{entry_of-atomic_open}
 use Rattle.ordered_search.specs.PlaceAnswer.{answers, FrameLimit}
 use Rattle.ordered_search.specs.Moves.{pause, tread}
 use Rattle.frame_machine.specs.declared.machine.Next.TheVariants.{Enter, End}
 use Rattle.frame_machine.specs.declared.machine.Spot.{Spot}
-use Rattle.frame_machine.specs.Ground.{Ground, tree_of, next_of, IsNode, IsGround, IsPart}
+use Rattle.frame_machine.specs.Ground.{Ground, next_of, IsNode, IsGround, IsPart}
 use Rattle.frame_machine.specs.Machine.{kept_at, conf, first_next, towards}
 use Rattle.frame_machine.specs.Begun.{is_behind}
-use Rattle.frame_machine.specs.Frames.{branch_rest, around, hand, fail, ahead, past}
+use Rattle.frame_machine.specs.Frames.{branch_rest, hand, fail, ahead, past}
 use Rattle.frame_machine.specs.Validity.{IsValid, Advances}
 use Rattle.frame_machine.proofs.PartPaths.{tree_by, branched_atomic, enter_atomic}
 use Rattle.frame_machine.proofs.Advance.{holding_full, over_units}

@@ -14,7 +14,7 @@ use Rattle.frame_machine.specs.declared.machine.Next.TheVariants.{Branch, Begin,
 use Rattle.frame_machine.specs.declared.machine.Spot.{Spot}
 use Rattle.frame_machine.specs.Ground.{Ground, tree_of, next_of, IsGround, IsPart}
 use Rattle.frame_machine.specs.Machine.{Around, Outside, less, state_at, Conf, conf, towards}
-use Rattle.frame_machine.specs.Frames.{past, around, more_from, further_from, on_fail, cont, outside, fail, ahead}
+use Rattle.frame_machine.specs.Frames.{past, around, more_from, further_from, on_fail, outside, fail, ahead}
 use Rattle.frame_machine.specs.Validity.{IsMany, HasFurther, IsSound, AreSound, IsValid, Advances, IsCondition}
 use Rattle.frame_machine.proofs.PartPaths.{reaching_off}
 use Rattle.frame_machine.proofs.Advance.{advance_pause, goes_back, goes_on}

@@ -1,7 +1,7 @@
 -- The lengths of lookbehinds.
 use Rattle.std.proofs.Common.{◌≡◌, ◌∙◌, ℕ, zero, suc, ◌<◌, ◌≤◌, Bool, true, false, ◌==◌, nat_le, List, [], ◌∷◌, ◌++◌, map, flat_map, drop, length, All, Option, Some, None, get_or, refl, sym, ap, subst, arith, length-drop}
 use Rattle.std.specs.Option.{option_or}
-use Rattle.std.proofs.lemmas.Bool.{false≢true, eqb-true, leb-true}
+use Rattle.std.proofs.lemmas.Bool.{eqb-true, leb-true}
 use Rattle.std.proofs.lemmas.List.{get_or_default}
 use Rattle.std.proofs.lemmas.List.Elements.{All-nil, All-cons, All-head, All-tail, All-append}
 use Rattle.pat_tree.specs.declared.nodes.Node.{Node}
@@ -16,12 +16,12 @@ use Rattle.node_flow.specs.Order.{order}
 use Rattle.node_flow.proofs.TreeLaws.{parts_come_first}
 use Rattle.match_items.specs.Scene.{Scene}
 use Rattle.match_items.specs.Items.{places_back, previous}
-use Rattle.pat_check.specs.declared.backs.LengthFault.{LengthFault}
-use Rattle.pat_lengths.specs.Nodes.{nodes, all_nodes}
-use Rattle.pat_lengths.specs.Lengths.{Lengths, SomeLengths, between, only, counted, too_long, branch_fault}
+use Rattle.pat_lengths.specs.declared.backs.LengthFault.{LengthFault}
+use Rattle.pat_lengths.specs.Nodes.{all_nodes}
+use Rattle.pat_lengths.specs.Lengths.{SomeLengths, between, only, counted, too_long, branch_fault}
 use Rattle.pat_lengths.specs.Backs.{behind_branches, fault_from, lengths_at, fault_among, fault_of_node, fault_in, first_fault}
-use Rattle.pat_check.proofs.OrderLemmas.{node_first, nodes_at}
-use Rattle.frame_machine.specs.Behind.{IsFixed, AreFixed, HasFixed, IsMeasured}
+use Rattle.pat_lengths.proofs.OrderLemmas.{node_first, nodes_at}
+use Rattle.frame_machine.specs.Behind.{AreFixed, HasFixed, IsMeasured}
 use Rattle.frame_machine.specs.Ready.{lengths_in}
 
 some_none : {A : Type 0} (a : A) → Some a ≡ None → ⊥

@@ -1,10 +1,9 @@
 -- A branch of a group, by its node.
-use Rattle.std.proofs.Common.{◌≡◌, ℕ, suc, ◌+◌, ◌-◌, ◌<◌, ◌≤◌, ◌∙◌, List, [], ◌∷◌, map, Option, Some, None, length, All, slice_get, get_or, inl, inr, refl, sym, ap, subst, arith, ◌≢◌, true, false, Bool}
+use Rattle.std.proofs.Common.{◌≡◌, ℕ, suc, ◌+◌, ◌-◌, ◌<◌, ◌≤◌, List, ◌∷◌, map, Option, Some, length, All, slice_get, get_or, inl, inr, refl, sym, ap, subst, arith, ◌≢◌, true, Bool}
 use Rattle.std.proofs.lemmas.Bool.{cases_lt}
 use Rattle.pat_tree.specs.declared.nodes.Node.{Node}
 use Rattle.pat_tree.specs.declared.nodes.Node.TheVariants as node
-use Rattle.pat_tree.specs.Nested as tree
-use Rattle.pat_tree.specs.Nested.{Nested, Row, row, nest, tree_at}
+use Rattle.pat_tree.specs.Nested.{row, nest, tree_at}
 use Rattle.pat_tree.specs.Rules.{kids_of}
 use Rattle.frame_store.specs.Captures.{Captures}
 use Rattle.frame_store.specs.Entry.{Entry, LaterBranch}
@@ -12,12 +11,11 @@ use Rattle.ordered_search.specs.PlaceAnswer.{answers, MatchLimit, FrameLimit}
 use Rattle.ordered_search.specs.Moves.{tread}
 use Rattle.frame_machine.specs.declared.machine.Next.TheVariants.{Branch}
 use Rattle.frame_machine.specs.declared.machine.Spot.{Spot}
-use Rattle.node_flow.specs.Linked.{AllFollowed, IsLinked}
 use Rattle.frame_machine.specs.Begun.{is_behind, IsFixedPart, begun_place, begun_next, begun_spot}
 use Rattle.frame_machine.specs.Branches.{AreBranches, IsBranched}
 use Rattle.frame_machine.specs.Ground.{Ground, tree_of, IsNode, IsGround, IsPart}
 use Rattle.frame_machine.specs.Machine.{kept_at, conf, row_length}
-use Rattle.frame_machine.specs.Frames.{branch_rest, ahead}
+use Rattle.frame_machine.specs.Frames.{ahead}
 use Rattle.frame_machine.specs.Validity.{HasBranch, IsValid, Advances}
 use Rattle.frame_machine.proofs.KidParts.{kid_parts}
 use Rattle.std.proofs.Common.{suc}

@@ -1,5 +1,5 @@
 -- The steps of the machine at a condition.
-use Rattle.std.proofs.Common.{◌≡◌, ℕ, suc, ◌+◌, ◌<◌, ◌≤◌, ◌∙◌, Bool, true, false, not, List, [], ◌∷◌, map, reverse, Option, Some, None, length, All, slice_get, get_or, refl, sym, ap, subst, arith}
+use Rattle.std.proofs.Common.{◌≡◌, ℕ, suc, ◌+◌, ◌<◌, ◌≤◌, ◌∙◌, Bool, true, false, not, List, [], ◌∷◌, reverse, Option, Some, None, length, All, slice_get, refl, sym, ap, subst, arith}
 use Rattle.std.proofs.lemmas.List.Elements.{All-head, All-tail}
 use Rattle.std.proofs.lemmas.Bool.{false≢true}
 use Rattle.pat_tree.specs.declared.nodes.Cond.{Cond}
@@ -12,11 +12,10 @@ use Rattle.pat_tree.specs.Rules.{kids_of, number_in, is_test}
 use Rattle.node_flow.specs.Linked.{IsLinked}
 use Rattle.frame_store.specs.declared.registers.Span.{Span}
 use Rattle.frame_store.specs.declared.records.Record.{Record}
-use Rattle.frame_store.specs.declared.kinds.TheConstants.{KIND_LOOK_TEST, KIND_DENIAL_TEST}
 use Rattle.frame_store.specs.Captures.{Captures, HasGroup, capture}
-use Rattle.frame_store.specs.Entry.{Site, Kept, Entry, LookTest, DenialTest, AtomicLeft, entry_site, entry_in, entry_of, entries, site_of, kept_of}
+use Rattle.frame_store.specs.Entry.{Site, Entry, LookTest, DenialTest, AtomicLeft, entry_site, entry_in, entry_of, entries, site_of, kept_of}
 use Rattle.frame_store.proofs.EntryLemmas.{entry_of-look_test, entry_of-denial_test}
-use Rattle.ordered_search.specs.Stream.{State, reached}
+use Rattle.ordered_search.specs.Stream.{State}
 use Rattle.ordered_search.specs.Parts.{some_set}
 use Rattle.ordered_search.specs.PlaceAnswer.{answers, FrameLimit}
 use Rattle.ordered_search.specs.Moves.{Moves, pause, holding, Follow, Handler, tread}
@@ -30,7 +29,7 @@ use Rattle.frame_machine.specs.Ground.{Ground, tree_of, next_of, IsNode, IsGroun
 use Rattle.frame_machine.specs.Begun.{IsFixedPart, first_begun, first_spot}
 use Rattle.frame_machine.specs.Machine.{Around, Outside, entry_kept, kept_at, conf, first_set, towards}
 use Rattle.frame_machine.specs.Frames.{after, branch_rest, past, around, frame_around, hand, chosen_from, fail, focus, outside, spot_state, ahead}
-use Rattle.frame_machine.specs.Validity.{IsCondition, IsRunning, IsSound, IsValid, Advances}
+use Rattle.frame_machine.specs.Validity.{IsCondition, IsSound, IsValid, Advances}
 use Rattle.frame_machine.specs.Conditions.{IsChoice, IsTest, IsLook, test_entry, test_kind}
 use Rattle.frame_machine.specs.Stops.{record_at}
 use Rattle.frame_machine.proofs.KidParts.{kid_parts}
@@ -38,7 +37,7 @@ use Rattle.frame_machine.proofs.PartPaths.{tree_by, kid_paths, branched_look, be
 use Rattle.frame_machine.proofs.Frames.{hand_same, inside_of, no_calls, focus_towards, running_towards, framed}
 use Rattle.frame_machine.proofs.Advance.{holding_full, advance_pause, over_units}
 use Rattle.frame_machine.proofs.Turns.{deep, opens_as}
-use Rattle.frame_machine.proofs.LeaveTurns.{frame_here, stop_leave, turn_leave}
+use Rattle.frame_machine.proofs.LeaveTurns.{stop_leave, turn_leave}
 
 -- the branches of a condition
 module _ (c : Ground) (ok : IsGround c) (q : ℕ) (inside : IsPart c q) (n : Node) (i : IsNode c q n) (test : Cond) (yes' : ℕ) (no' : Option ℕ) (e : n ≡ node.Cond test yes' no') where

@@ -1,7 +1,7 @@
 -- A stack is cut to a height, and what its later records wrote is taken back.
-use Rattle.std.proofs.Common.{◌≡◌, ℕ, zero, suc, ◌-◌, ◌≤◌, ◌<◌, ◌∙◌, List, [], ◌∷◌, ◌++◌, length, All, take, drop, refl, sym, ap, subst, inl, inr, arith}
+use Rattle.std.proofs.Common.{◌≡◌, ℕ, zero, suc, ◌-◌, ◌≤◌, ◌∙◌, List, [], ◌∷◌, ◌++◌, length, All, take, drop, refl, sym, ap, subst, inl, inr, arith}
 use Rattle.std.proofs.lemmas.List.{take-append-drop}
-use Rattle.std.proofs.lemmas.List.Elements.{All-cons, All-tail, All-head, All-append}
+use Rattle.std.proofs.lemmas.List.Elements.{All-cons, All-tail, All-head}
 use Rattle.std.proofs.lemmas.Bool.{cases_eq, cond-true, cond-false, eq-eqb, ne_eqb}
 use Rattle.frame_store.specs.Captures.{Captures}
 use Rattle.frame_store.specs.Entry.{Entry}
@@ -9,7 +9,6 @@ use Rattle.frame_store.specs.Stack as stack_of
 use Rattle.frame_store.specs.Undo.{taken_back, undone, HasSlot}
 use Rattle.frame_store.proofs.StackLemmas.{up_to-more, up_to-all, past-more, past-all}
 use Rattle.frame_store.proofs.UndoLemmas.{length-taken_back, length-undone, undone-cons, undone-nil}
-use Rattle.ordered_search.specs.Moves.{Moves}
 use Rattle.frame_machine.specs.declared.machine.Next.TheVariants.{Back}
 use Rattle.frame_machine.specs.declared.machine.Spot.{Spot}
 use Rattle.frame_machine.specs.Ground.{Ground, IsGround}

@@ -7,7 +7,7 @@ use Rattle.std.proofs.lemmas.Option.{slice_get_within}
 use Rattle.frame_store.specs.declared.records.Record.{Record}
 use Rattle.frame_store.specs.declared.registers.Span.{Span}
 use Rattle.frame_store.specs.Captures.{Captures}
-use Rattle.frame_store.specs.Entry.{Kept, Entry, Undo, LaterBranch, GroupOpen, TurnOpen, TurnOrExit, LaterTurn, FewerItems, MoreItems, entry_of, entries, Other, CallOpen}
+use Rattle.frame_store.specs.Entry.{Kept, Entry, Undo, entry_of, entries, Other, CallOpen}
 use mathlib.Core.Path.{fun_ext}
 use Rattle.frame_store.specs.Stack as stack_of
 use Rattle.frame_store.specs.Undo.{taken_back, HasSlot, undone}

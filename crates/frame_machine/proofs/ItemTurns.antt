@@ -15,7 +15,7 @@ use Rattle.frame_machine.specs.declared.machine.Spot.{Spot}
 use Rattle.frame_machine.specs.Ground.{Ground, tree_of, next_of, IsGround}
 use Rattle.match_items.specs.Views.{end_of}
 use Rattle.frame_machine.specs.Machine.{Around, less, kept_at, conf, towards}
-use Rattle.frame_machine.specs.Frames.{past, around, more_from, further_from, fewer_places, cont, outside, fail, spot_state, ahead}
+use Rattle.frame_machine.specs.Frames.{past, around, more_from, further_from, fewer_places, outside, fail, spot_state, ahead}
 use Rattle.frame_machine.specs.Validity.{IsStanding, IsMany, HasFurther, IsValid, Advances}
 use Rattle.frame_machine.proofs.PartPaths.{reaching_off, enter_many}
 use Rattle.frame_machine.proofs.Frames.{around_push, focus_kept, sound_less, focus_towards, running_towards}

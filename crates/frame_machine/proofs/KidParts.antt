@@ -1,5 +1,5 @@
 -- The parts that the search comes to from a part.
-use Rattle.std.proofs.Common.{◌≡◌, ℕ, true, false, List, [], ◌∷◌, ◌++◌, All, Some, None, sym, subst, arith}
+use Rattle.std.proofs.Common.{◌≡◌, ℕ, List, [], ◌∷◌, ◌++◌, All, Some, None, sym, subst, arith}
 use Rattle.std.proofs.lemmas.List.Elements.{All-nil, All-cons, All-head, All-tail, All-append}
 use Rattle.pat_tree.specs.declared.nodes.Node.{Node}
 use Rattle.pat_tree.specs.declared.nodes.Node.TheVariants as node

@@ -1,12 +1,12 @@
 -- An atomic part is left by its first outcome.
-use Rattle.std.proofs.Common.{◌≡◌, ℕ, suc, ◌+◌, ◌-◌, ◌<◌, ◌≤◌, ◌∙◌, true, List, [], ◌∷◌, reverse, Some, length, slice_get, refl, sym, ap, subst, arith}
+use Rattle.std.proofs.Common.{◌≡◌, ℕ, suc, ◌+◌, ◌<◌, ◌≤◌, ◌∙◌, true, List, ◌∷◌, reverse, Some, length, slice_get, refl, sym, ap, subst, arith}
 use Rattle.std.proofs.lemmas.Option.{slice_get_within}
 use Rattle.std.proofs.lemmas.List.{length-reverse, length-map}
 use Rattle.frame_store.specs.declared.records.Record.{Record}
 use Rattle.frame_store.specs.Captures.{Captures}
 use Rattle.frame_store.specs.Entry.{Site, Kept, Entry, AtomicLeft, entry_of, entries}
 use Rattle.frame_store.specs.Stack as stack_of
-use Rattle.frame_store.specs.Undo.{taken_back, undone}
+use Rattle.frame_store.specs.Undo.{undone}
 use Rattle.ordered_search.specs.Stream.{State, reached}
 use Rattle.ordered_search.specs.PlaceAnswer.{answers, FrameLimit}
 use Rattle.ordered_search.specs.Moves.{Moves, pause, Follow, holding, tread}
@@ -15,11 +15,11 @@ use Rattle.frame_machine.specs.declared.machine.Next.TheVariants.{Back, End}
 use Rattle.frame_machine.specs.declared.machine.Spot.{Spot}
 use Rattle.frame_machine.specs.Ground.{Ground, next_of, IsGround, IsPart}
 use Rattle.frame_machine.specs.Machine.{Around, Outside, state_at, kept_at, link_of, conf, towards}
-use Rattle.frame_machine.specs.Frames.{frame_around, past, around, frame_end, cont, fail, fail_to, outside, spot_state, ahead, focus}
+use Rattle.frame_machine.specs.Frames.{frame_around, past, around, frame_end, cont, fail, outside, spot_state, ahead, focus}
 use Rattle.frame_machine.specs.Validity.{IsStanding, IsSound, IsValid, Advances, IsRunning}
 use Rattle.frame_machine.proofs.Frames.{around_push, focus_kept, focus_towards, running_towards, Framed, framed}
 use Rattle.frame_machine.proofs.Drops.{fail_to_is, dropped}
-use Rattle.frame_machine.proofs.Advance.{holding_room, holding_full, advance_pause, over_units, goes_back, goes_on}
+use Rattle.frame_machine.proofs.Advance.{holding_room, holding_full, advance_pause, over_units, goes_on}
 use Rattle.frame_machine.specs.declared.machine.Next.{Next}
 
 -- a frame around branches has ended, of which a record tells where the path came from

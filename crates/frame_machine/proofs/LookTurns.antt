@@ -5,7 +5,7 @@ use Rattle.pat_tree.specs.declared.nodes.Node.TheVariants as node
 use Rattle.frame_store.specs.declared.records.Record.{Record}
 use Rattle.frame_store.specs.declared.kinds.TheConstants.{KIND_LOOK_OPEN, KIND_LOOK_ALL_OPEN, KIND_DENIAL_OPEN}
 use Rattle.frame_store.specs.Captures.{Captures}
-use Rattle.frame_store.specs.Entry.{Entry, entry_site, Site, Kept, LookOpen, LookAllOpen, DenialOpen, AtomicLeft, entry_of, entries, site_of, kept_of}
+use Rattle.frame_store.specs.Entry.{Entry, entry_site, Site, LookOpen, LookAllOpen, DenialOpen, AtomicLeft, entry_of, entries, site_of, kept_of}
 use Rattle.frame_store.specs.Stack as stack_of
 use Rattle.frame_store.specs.Undo.{taken_back, undone}
 use Rattle.frame_store.proofs.EntryLemmas.{entry_of-look_open, entry_of-look_all_open, entry_of-denial_open}

@@ -1,5 +1,5 @@
 -- A part, by its node: what it stands for with what follows.
-use Rattle.std.proofs.Common.{◌≡◌, ℕ, zero, suc, ◌-◌, ◌<◌, ◌≤◌, ◌∙◌, ◌==◌, Bool, true, false, List, [], ◌∷◌, ◌++◌, map, drop, reverse, length, All, Option, Some, None, slice_get, if◌then◌else◌, refl, sym, ap, subst, arith, not}
+use Rattle.std.proofs.Common.{◌≡◌, ℕ, zero, suc, ◌-◌, ◌<◌, ◌≤◌, ◌∙◌, Bool, true, false, List, [], ◌∷◌, ◌++◌, map, drop, reverse, length, All, Option, Some, None, slice_get, if◌then◌else◌, refl, sym, ap, subst, arith, not}
 use Rattle.std.proofs.lemmas.List.{drop-map}
 use Rattle.std.proofs.Math.ListN.{drop_of_length-le}
 use Rattle.std.proofs.lemmas.List.Elements.{All-nil, All-cons, All-head, All-tail}
@@ -20,7 +20,7 @@ use Rattle.frame_store.specs.declared.registers.Span.{Span}
 use Rattle.frame_store.specs.Captures.{capture}
 use Rattle.ordered_search.specs.Stream.{State, reached, accepted, hit_end, by_halt, is_partial}
 use Rattle.ordered_search.specs.Setting.{counts, branch_lengths}
-use Rattle.ordered_search.specs.Moves.{Moves, stops, pause, stepped, noted, Follow, Handler, Path, at_verbs, catching, going, holding, reaching}
+use Rattle.ordered_search.specs.Moves.{Moves, stops, pause, stepped, noted, Follow, Handler, Path, catching, going, holding, reaching}
 use Rattle.ordered_search.specs.Paths.{close, ref_path, many_paths, turn_path, repeat_path, go_path, parts_path, choice_paths, branch_paths, leave, look_path, path, row_paths, behind_paths, try_path, tries_path, behind_path, paths, choose_path, other_path, test_path, assert_path, tested_path}
 use Rattle.frame_machine.specs.declared.machine.Next.TheVariants.{Branch, Offer, Begin}
 use Rattle.node_flow.specs.Followers.{first_of}

@@ -14,7 +14,7 @@ use Rattle.frame_machine.specs.declared.machine.Next.TheVariants.{Enter, Offer, 
 use Rattle.frame_machine.specs.declared.machine.Spot.{Spot}
 use Rattle.frame_machine.specs.Ground.{Ground, tree_of, next_of, IsGround, IsPart}
 use Rattle.frame_machine.specs.Machine.{Around, less, kept_at, conf, towards, Outside}
-use Rattle.frame_machine.specs.Frames.{after, past, enter, turned_from, around, cont, outside, fail, spot_state, ahead, hand}
+use Rattle.frame_machine.specs.Frames.{after, past, enter, turned_from, around, outside, fail, spot_state, ahead, hand}
 use Rattle.frame_machine.specs.Validity.{IsStanding, AreSound, IsRunning, IsValid, Advances}
 use Rattle.frame_machine.specs.Stops.{turn_entry}
 use Rattle.frame_machine.proofs.PartPaths.{after_nil, offer_below, offer_full, offer_greedy, offer_lazy, begin_step}

@@ -12,7 +12,7 @@ use Rattle.frame_machine.specs.declared.machine.Next.TheVariants.{Enter}
 use Rattle.frame_machine.specs.declared.machine.Spot.{Spot}
 use Rattle.frame_machine.specs.Ground.{Ground, tree_of, IsGround}
 use Rattle.frame_machine.specs.Machine.{conf, Outside}
-use Rattle.frame_machine.specs.Frames.{after, around, cont, fail, ahead, hand, outside}
+use Rattle.frame_machine.specs.Frames.{after, around, fail, ahead, hand, outside}
 use Rattle.frame_machine.specs.Validity.{SpanStands, IsValid}
 use Rattle.frame_machine.proofs.KidParts.{root_part}
 use Rattle.frame_machine.proofs.PartPaths.{after_nil}

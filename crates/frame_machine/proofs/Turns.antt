@@ -7,8 +7,7 @@ use Rattle.pat_tree.specs.declared.nodes.Item.{Item}
 use Rattle.pat_tree.specs.declared.nodes.AnchorKind.{AnchorKind}
 use Rattle.pat_tree.specs.declared.nodes.Node.{Node}
 use Rattle.pat_tree.specs.declared.nodes.Node.TheVariants as node
-use Rattle.pat_tree.specs.Nested as tree
-use Rattle.pat_tree.specs.Nested.{Nested, Row, row, nest, tree_at}
+use Rattle.pat_tree.specs.Nested.{Nested, row, nest, tree_at}
 use Rattle.pat_tree.specs.Rules.{kids_of}
 use Rattle.match_items.specs.Items.{after_item, after_break, after_ref, holds, earliest}
 use Rattle.frame_store.specs.declared.registers.Span.{Span}
@@ -19,20 +18,18 @@ use Rattle.ordered_search.specs.PlaceAnswer.{answers, MatchLimit, FrameLimit}
 use Rattle.pat_lengths.specs.Lengths.{SomeLengths}
 use Rattle.ordered_search.specs.Setting.{branch_lengths}
 use Rattle.ordered_search.specs.Moves.{Moves, pause, stepped, Follow, Path, going, holding, tread, Handler}
-use Rattle.frame_machine.specs.Forms.{IsRunnable, AreRunnable}
-use Rattle.ordered_search.specs.Verbless.{IsVerbless}
-use Rattle.ordered_search.proofs.Free.{AllFree, holding_same}
+use Rattle.frame_machine.specs.Forms.{IsRunnable}
+use Rattle.ordered_search.proofs.Free.{AllFree}
 use Rattle.frame_machine.proofs.Forms.{verbless}
 use Rattle.frame_machine.specs.declared.machine.Next.{Next}
 use Rattle.frame_machine.specs.declared.machine.Next.TheVariants.{Enter, Branch, Offer, Back, End}
 use Rattle.frame_machine.specs.declared.machine.Spot.{Spot}
-use Rattle.node_flow.specs.Linked.{AllFollowed}
 use Rattle.frame_machine.specs.Begun.{is_behind, begun_by, begun_place, begun_next, begun_spot, first_begun, first_spot}
 use Rattle.frame_machine.specs.Branches.{IsBranched}
 use Rattle.frame_machine.specs.Ground.{Ground, tree_of, next_of, IsNode, StandsIf, IsGround, IsPart}
-use Rattle.frame_machine.specs.Machine.{Around, kept_at, conf, first_set, first_next, row_length, towards, Outside, entry_kept, state_at}
-use Rattle.frame_machine.specs.Frames.{past, enter, branch_rest, around, cont, outside, fail, focus, spot_state, ahead, frame_around, close_from, hand}
-use Rattle.frame_machine.specs.Validity.{StandsAt, HasBranch, IsRepeat, IsCapture, SpanStands, AreSpans, IsRunning, IsValid, Advances, IsSound}
+use Rattle.frame_machine.specs.Machine.{Around, kept_at, conf, first_set, first_next, row_length, towards, entry_kept, state_at}
+use Rattle.frame_machine.specs.Frames.{past, branch_rest, around, outside, fail, focus, spot_state, ahead, frame_around, hand}
+use Rattle.frame_machine.specs.Validity.{StandsAt, IsRepeat, IsCapture, SpanStands, AreSpans, IsRunning, IsValid, Advances, IsSound}
 use Rattle.frame_machine.specs.Stops.{moved_next, moved_spot, held_next, held_early, part_next}
 use Rattle.frame_machine.proofs.KidParts.{kid_parts}
 use Rattle.frame_machine.proofs.PartPaths.{enter_empty, enter_keep, enter_one, enter_break, enter_anchor, enter_ref, enter_seq_none, enter_seq, enter_group, enter_capture, enter_repeat, branch_last, branch_more, Alike, part_paths, kid_paths, plain_kids, free_kid, begun_state, first_state, first_plain, branched_group, branches_in}

@@ -1,5 +1,5 @@
 -- Where the branches of a part begin: those of a lookbehind at earlier places.
-use Rattle.std.specs.Prelude.{◌≡◌, ℕ, Bool, true, false, not, min, List, [], ◌∷◌, All, Option, Some, None}
+use Rattle.std.specs.Prelude.{ℕ, Bool, true, false, not, min, List, [], ◌∷◌, Option, Some, None}
 use Rattle.pat_tree.specs.Nested as tree
 use Rattle.pat_tree.specs.Nested.{Nested}
 use Rattle.pat_lengths.specs.Lengths.{SomeLengths}

@@ -1,5 +1,5 @@
 -- Facts that a board keeps have one proof at most.
-use Rattle.std.proofs.Common.{ℕ, true, false, List, [], ◌∷◌, Option, Some, None}
+use Rattle.std.proofs.Common.{ℕ, false, List, [], ◌∷◌, Option, Some, None}
 use Rattle.std.specs.Coded.{×_prop}
 use Rattle.std.proofs.Props.{props}
 use Rattle.pat_tree.specs.declared.nodes.Node.{Node}

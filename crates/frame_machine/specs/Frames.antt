@@ -5,7 +5,7 @@ use Rattle.pat_tree.specs.Nested as tree
 use Rattle.pat_tree.specs.Nested.{Nested, Row, Other}
 use Rattle.match_items.specs.Items.{one_less, item_reaches, run_places, place_before}
 use Rattle.frame_store.specs.Captures.{Captures}
-use Rattle.frame_store.specs.Entry.{Kept, Entry, LaterBranch, GroupOpen, TurnOpen, TurnOrExit, LaterTurn, FewerItems, MoreItems, AtomicOpen, LookOpen, LookAllOpen, LookTest, DenialOpen, DenialTest, CallOpen, AtomicLeft}
+use Rattle.frame_store.specs.Entry.{Entry, LaterBranch, GroupOpen, TurnOpen, TurnOrExit, LaterTurn, FewerItems, MoreItems, AtomicOpen, LookOpen, LookAllOpen, LookTest, DenialOpen, DenialTest, CallOpen, AtomicLeft}
 use Rattle.frame_store.specs.Undo.{taken_back}
 use Rattle.frame_machine.specs.declared.machine.Next.{Next}
 use Rattle.frame_machine.specs.declared.machine.Next.TheVariants.{Enter, Branch, Offer, Begin, Fewer, More, End, Back}

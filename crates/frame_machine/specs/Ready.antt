@@ -1,5 +1,5 @@
 -- A finished tree made ready for searches, and what a search of it is about.
-use Rattle.std.specs.Prelude.{◌≡◌, ◌<◌, ◌≤◌, ℕ, ℤ, true, false, List, [], ◌∷◌, None, length, nat_le, slice_index_or}
+use Rattle.std.specs.Prelude.{◌≡◌, ◌<◌, ◌≤◌, ℕ, ℤ, true, List, [], ◌∷◌, None, length, nat_le, slice_index_or}
 use Rattle.uni_text.specs.Ascii.{ascii_fold, is_word_char}
 use Rattle.pat_tree.specs.declared.options.MatchOptions.{MatchOptions}
 use Rattle.pat_tree.specs.declared.options.PartialMode.TheVariants.{Off}

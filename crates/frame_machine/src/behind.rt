@@ -19,7 +19,12 @@ pub(crate) fn is_behind<S: Searchable>(on: &S, part: u32) -> bool
 }
 
 /// Begins a branch. One of a lookbehind begins so many characters before the place as it is long, if there are so many.
-pub(crate) fn begin_branch<S: Searchable>(on: &S, behind: bool, branch: u32, spot: &mut Spot) -> Next
+pub(crate) fn begin_branch<S: Searchable>(
+    on: &S,
+    behind: bool,
+    branch: u32,
+    spot: &mut Spot,
+) -> Next
     requires inside { IsPart (S.searched on.now) branch }
     requires fixed { behind ≡ true → IsFixedPart (S.searched on.now) branch }
     requires place { (S.searched on.now).stands spot.old.place ≡ true }

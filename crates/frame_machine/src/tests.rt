@@ -273,7 +273,7 @@ fn found(
 }
 
 /// A match from `keep` to `to`.
-const fn matched(keep: usize, to: usize) -> PlaceAnswer {
+fn matched(keep: usize, to: usize) -> PlaceAnswer {
     PlaceAnswer::Matched {
         keep,
         to,
@@ -823,7 +823,11 @@ fn a_lookbehind_begins_before_its_place(rt: HostRuntime) -> Result<(), Fail> {
         Row {
             steps: BEHIND,
             subject: b"ab",
-            answer: matched(0, 2),
+            answer: PlaceAnswer::Matched {
+                keep: 0,
+                to: 2,
+                mark: None,
+            },
             ..PLAIN
         },
         // A unit for entering it and one for leaving it.
@@ -831,7 +835,11 @@ fn a_lookbehind_begins_before_its_place(rt: HostRuntime) -> Result<(), Fail> {
             steps: BEHIND,
             subject: b"ab",
             frame_limit: 2,
-            answer: matched(0, 2),
+            answer: PlaceAnswer::Matched {
+                keep: 0,
+                to: 2,
+                mark: None,
+            },
             ..PLAIN
         },
         Row {
@@ -845,7 +853,11 @@ fn a_lookbehind_begins_before_its_place(rt: HostRuntime) -> Result<(), Fail> {
             steps: ANY_BEHIND,
             subject: b"ab",
             frame_limit: 1,
-            answer: matched(0, 2),
+            answer: PlaceAnswer::Matched {
+                keep: 0,
+                to: 2,
+                mark: None,
+            },
             ..PLAIN
         },
         // There is no character before the first place.
@@ -858,7 +870,11 @@ fn a_lookbehind_begins_before_its_place(rt: HostRuntime) -> Result<(), Fail> {
         Row {
             steps: NOTHING_BEFORE,
             subject: b"b",
-            answer: matched(0, 1),
+            answer: PlaceAnswer::Matched {
+                keep: 0,
+                to: 1,
+                mark: None,
+            },
             ..PLAIN
         },
         Row {
@@ -870,7 +886,11 @@ fn a_lookbehind_begins_before_its_place(rt: HostRuntime) -> Result<(), Fail> {
         Row {
             steps: EITHER_BEHIND,
             subject: b"ab",
-            answer: matched(0, 2),
+            answer: PlaceAnswer::Matched {
+                keep: 0,
+                to: 2,
+                mark: None,
+            },
             group: Some((0, 1)),
             ..PLAIN
         },
@@ -879,7 +899,11 @@ fn a_lookbehind_begins_before_its_place(rt: HostRuntime) -> Result<(), Fail> {
             steps: EITHER_BEHIND,
             subject: b"ab",
             match_limit: 2,
-            answer: matched(0, 2),
+            answer: PlaceAnswer::Matched {
+                keep: 0,
+                to: 2,
+                mark: None,
+            },
             group: Some((0, 1)),
             ..PLAIN
         },
@@ -894,7 +918,11 @@ fn a_lookbehind_begins_before_its_place(rt: HostRuntime) -> Result<(), Fail> {
         Row {
             steps: TWO_LENGTHS,
             subject: b"abc",
-            answer: matched(0, 3),
+            answer: PlaceAnswer::Matched {
+                keep: 0,
+                to: 3,
+                mark: None,
+            },
             ..PLAIN
         },
         Row {

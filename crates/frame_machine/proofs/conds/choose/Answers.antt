@@ -1,6 +1,5 @@
 use Rattle.std.proofs.Common.{sym, subst}
 use Rattle.frame_machine.specs.Validity.{IsCondition}
-use Rattle.frame_machine.specs.Conditions.{IsChoice}
 use Rattle.frame_machine.proofs.CondTurns.{choice_yes, choice_some, choice_none, stray_condition}
 use Rattle.frame_machine.proofs.conds.choose.Goals as goal
 

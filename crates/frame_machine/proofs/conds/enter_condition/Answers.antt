@@ -1,6 +1,5 @@
-use Rattle.std.proofs.Common.{sym, subst, refl}
+use Rattle.std.proofs.Common.{refl}
 use Rattle.frame_store.specs.Entry.{entries}
-use Rattle.frame_machine.specs.Conditions.{IsChoice}
 use Rattle.frame_machine.proofs.CondTurns.{set_slots, turn_any_set, turn_unmet, condition_here, test_is}
 use Rattle.frame_machine.proofs.conds.enter_condition.Goals as goal
 

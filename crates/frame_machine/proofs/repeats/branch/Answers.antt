@@ -1,7 +1,7 @@
 use Rattle.std.proofs.Common.{arith}
 use Rattle.frame_store.specs.Entry.{entry_in, entries}
 use Rattle.frame_machine.proofs.HeldStops.{held_stop}
-use Rattle.frame_machine.proofs.BranchTurns.{branch_inside, stop_at_branch, turn_last_branch, stop_at_branch_units, turn_next_branch, branch_part, branch_fixed}
+use Rattle.frame_machine.proofs.BranchTurns.{branch_inside, stop_at_branch, turn_last_branch, stop_at_branch_units, turn_next_branch}
 use Rattle.frame_machine.proofs.repeats.branch.Goals as goal
 
 pub get-first-requires : goal.get-first-requires
