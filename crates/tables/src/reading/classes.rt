@@ -62,7 +62,7 @@ fn escapes_in_classes(rt: HostRuntime) -> Result<(), Fail> {
         (r"[\E]a]", "([']' a])"),
         (r"[\Q\d\E]", r"(['\' d])"),
         (r"[^\E^]", "([^'^'])"),
-        (r"[\E^]", "(['^'])"),
+        (r"[\E^]^]", "([^']' '^'])"),
     ];
     are_read(&rt, rt.alloc(), &rows)
 }
