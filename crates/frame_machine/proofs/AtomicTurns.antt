@@ -15,6 +15,7 @@ use Rattle.frame_machine.specs.declared.machine.Next.TheVariants.{Enter, End}
 use Rattle.frame_machine.specs.declared.machine.Spot.{Spot}
 use Rattle.frame_machine.specs.Ground.{Ground, tree_of, next_of, IsNode, IsGround, IsPart}
 use Rattle.frame_machine.specs.Machine.{kept_at, conf, first_next, towards}
+use Rattle.frame_machine.specs.Begun.{is_behind}
 use Rattle.frame_machine.specs.Frames.{branch_rest, around, hand, fail, ahead, past}
 use Rattle.frame_machine.specs.Validity.{IsValid, Advances}
 use Rattle.frame_machine.proofs.PartPaths.{tree_by, branched_atomic, enter_atomic}
@@ -31,7 +32,7 @@ module _ (c : Ground) (ok : IsGround c) (q : ℕ) (spot : Spot) (stack : List En
   turn_atomic room =
       opens c ok q spot stack caps v (node.Atomic ks) i (AtomicOpen (record { node = q; link = spot.frame }) (kept_at spot)) refl refl refl (λ a. refl) room
       q v.running.0 ks (kid_parts c q (node.Atomic ks) v.running.0 i) (branched_atomic c q (node.Atomic ks) i ks refl) (ap (λ x. branch_rest c x (c.rest q)) (sym (tree_by c q (node.Atomic ks) i (node.Atomic ks) refl)))
-      (v.running.0, v.running.1, tt) (hand c stack caps spot.frame q) (pause (fail c stack caps))
+      (v.running.0, v.running.1, tt) (hand c stack caps spot.frame q) (pause (fail c stack caps)) (ap is_behind (sym (tree_by c q (node.Atomic ks) i (node.Atomic ks) refl)))
       (enter_atomic c ok q (node.Atomic ks) i _ _ _ _ _ (deep c ok q spot stack caps v (node.Atomic ks) i) ks refl) refl
 
   pub stop_atomic : c.setting.matching.frame_limit ≤ spot.units → tread c.setting spot.left (ahead c (conf (Enter q) spot stack caps)) ≡ answers FrameLimit

@@ -10,9 +10,10 @@ use Rattle.frame_store.specs.Captures.{Captures}
 use Rattle.frame_store.specs.Entry.{Entry, LaterBranch}
 use Rattle.ordered_search.specs.PlaceAnswer.{answers, MatchLimit, FrameLimit}
 use Rattle.ordered_search.specs.Moves.{tread}
-use Rattle.frame_machine.specs.declared.machine.Next.TheVariants.{Enter, Branch}
+use Rattle.frame_machine.specs.declared.machine.Next.TheVariants.{Branch}
 use Rattle.frame_machine.specs.declared.machine.Spot.{Spot}
 use Rattle.node_flow.specs.Linked.{AllFollowed, IsLinked}
+use Rattle.frame_machine.specs.Begun.{is_behind, IsFixedPart, begun_place, begun_next, begun_spot}
 use Rattle.frame_machine.specs.Branches.{AreBranches, IsBranched}
 use Rattle.frame_machine.specs.Ground.{Ground, tree_of, IsNode, IsGround, IsPart}
 use Rattle.frame_machine.specs.Machine.{kept_at, conf, row_length}
@@ -46,7 +47,14 @@ module _ (c : Ground) (ok : IsGround c) (q j : ℕ) (spot : Spot) (stack : List 
           | inr ge ↦ stop_branch c ok q j spot stack caps v ks b.branched p at kid_inside out _ refl (inl ge)
         ]
 
-    pub turn_last_branch : length ks ≤ suc j → 0 < spot.left → Advances c (conf (Branch q j) spot stack caps) (conf (Enter p) (record spot { left = spot.left - 1 }) stack caps)
+    abbrev behind : Bool
+    behind = is_behind (tree_of c q)
+
+    abbrev start : Option ℕ
+    start = begun_place c p spot.place
+
+    pub turn_last_branch : length ks ≤ suc j → 0 < spot.left →
+        Advances c (conf (Branch q j) spot stack caps) (conf (begun_next behind start p) (begun_spot behind start (record spot { left = spot.left - 1 })) stack caps)
     turn_last_branch ge left = turn_branch_last c ok q j spot stack caps v ks b.branched p at kid_inside ge left
 
     pub stop_at_branch_units : suc j < length ks → 0 < spot.left → c.setting.matching.frame_limit ≤ spot.units → tread c.setting spot.left (ahead c (conf (Branch q j) spot stack caps)) ≡ answers FrameLimit
@@ -54,11 +62,18 @@ module _ (c : Ground) (ok : IsGround c) (q j : ℕ) (spot : Spot) (stack : List 
 
     pub turn_next_branch : (j' : ℕ) → j' ≡ suc j → suc j < length ks → 0 < spot.left → spot.units < c.setting.matching.frame_limit →
         Advances c (conf (Branch q j) spot stack caps)
-        (conf (Enter p) (record spot { left = spot.left - 1; units = spot.units + 1 }) (LaterBranch (record { node = q; link = spot.frame }) (kept_at spot) j' ∷ stack) caps)
+        (conf (begun_next behind start p) (begun_spot behind start (record spot { left = spot.left - 1; units = spot.units + 1 })) (LaterBranch (record { node = q; link = spot.frame }) (kept_at spot) j' ∷ stack) caps)
     turn_next_branch j' same lt left room =
         let z = next_branch lt in
-        subst (λ x. Advances c (conf (Branch q j) spot stack caps) (conf (Enter p) (record spot { left = spot.left - 1; units = spot.units + 1 }) (LaterBranch (record { node = q; link = spot.frame }) (kept_at spot) x ∷ stack) caps)) (sym same)
+        subst (λ x. Advances c (conf (Branch q j) spot stack caps) (conf (begun_next behind start p) (begun_spot behind start (record spot { left = spot.left - 1; units = spot.units + 1 })) (LaterBranch (record { node = q; link = spot.frame }) (kept_at spot) x ∷ stack) caps)) (sym same)
         (turn_branch_more c ok q j spot stack caps v ks b.branched p at kid_inside z.0 z.1 left lt room)
+
+    -- it begins where it is entered, or so far before as it is long
+    pub branch_part : IsPart c p
+    branch_part = kid_inside
+
+    pub branch_fixed : behind ≡ true → IsFixedPart c p
+    branch_fixed e = All-at c (IsFixedPart c) ks j p (b.branched.fixed e) at
 
 -- the branches of a part, by its node
 module _ (c : Ground) (q : ℕ) (inside : IsPart c q) (n : Node) (i : IsNode c q n) where
@@ -72,12 +87,8 @@ module _ (c : Ground) (q : ℕ) (inside : IsPart c q) (n : Node) (i : IsNode c q
   pub group_branches : (number : Option ℕ) (ks : List ℕ) → n ≡ node.Group number ks → AreBranches c q ks
   group_branches number ks e = branches_by ks (ap kids_of e) (branched_group c q n i number ks e)
 
-  pub look_branches : (positive once : Bool) (ks : List ℕ) → n ≡ node.Look true positive once ks → AreBranches c q ks
-  look_branches positive once ks e = branches_by ks (ap kids_of e) (branched_look c q n i positive once ks e)
-
-  pub look_branches_of : (ahead positive once : Bool) (ks : List ℕ) → n ≡ node.Look ahead positive once ks → AreBranches c q ks
-  look_branches_of true positive once ks e = look_branches positive once ks e
-  look_branches_of false positive once ks e = absurd (subst (λ m. IsRunnable (nest c.trees m)) e (subst IsRunnable (sym i.is) inside.runs))
+  pub look_branches : (ahead positive once : Bool) (ks : List ℕ) → n ≡ node.Look ahead positive once ks → AreBranches c q ks
+  look_branches ahead positive once ks e = branches_by ks (ap kids_of e) (branched_look c q n i inside ahead positive once ks e)
 
   pub atomic_branches : (ks : List ℕ) → n ≡ node.Atomic ks → AreBranches c q ks
   atomic_branches ks e = branches_by ks (ap kids_of e) (branched_atomic c q n i ks e)

@@ -14,28 +14,30 @@ use Rattle.frame_store.specs.declared.registers.Span.{Span}
 use Rattle.frame_store.specs.declared.records.Record.{Record}
 use Rattle.frame_store.specs.declared.kinds.TheConstants.{KIND_LOOK_TEST, KIND_DENIAL_TEST}
 use Rattle.frame_store.specs.Captures.{Captures, HasGroup, capture}
-use Rattle.frame_store.specs.Entry.{Site, Kept, Entry, LookTest, DenialTest, AtomicLeft, entry_in, entry_of, entries, site_of, kept_of}
+use Rattle.frame_store.specs.Entry.{Site, Kept, Entry, LookTest, DenialTest, AtomicLeft, entry_site, entry_in, entry_of, entries, site_of, kept_of}
 use Rattle.frame_store.proofs.EntryLemmas.{entry_of-look_test, entry_of-denial_test}
 use Rattle.ordered_search.specs.Stream.{State, reached}
 use Rattle.ordered_search.specs.Parts.{some_set}
 use Rattle.ordered_search.specs.PlaceAnswer.{answers, FrameLimit}
-use Rattle.ordered_search.specs.Moves.{Moves, pause, Follow, Handler, tread}
-use Rattle.ordered_search.specs.Paths.{paths}
+use Rattle.ordered_search.specs.Moves.{Moves, pause, holding, Follow, Handler, tread}
+use Rattle.frame_store.specs.Undo.{taken_back}
+use Rattle.ordered_search.specs.Paths.{branch_paths, tested_path, paths}
 use Rattle.frame_machine.specs.declared.machine.Next.{Next}
 use Rattle.frame_machine.specs.declared.machine.Next.TheVariants.{Enter, End}
 use Rattle.frame_machine.specs.declared.machine.Spot.{Spot}
 use Rattle.frame_machine.specs.Forms.{IsRunnable}
 use Rattle.frame_machine.specs.Ground.{Ground, tree_of, next_of, IsNode, IsGround, IsPart}
-use Rattle.frame_machine.specs.Machine.{Around, Outside, kept_at, conf, first_next, first_set, towards}
-use Rattle.frame_machine.specs.Frames.{after, branch_rest, past, around, hand, chosen_from, fail, focus, outside, spot_state, ahead}
-use Rattle.frame_machine.specs.Validity.{IsCondition, IsRunning, IsValid, Advances}
+use Rattle.frame_machine.specs.Begun.{IsFixedPart, first_begun, first_spot}
+use Rattle.frame_machine.specs.Machine.{Around, Outside, entry_kept, kept_at, conf, first_set, towards}
+use Rattle.frame_machine.specs.Frames.{after, branch_rest, past, around, frame_around, hand, chosen_from, fail, focus, outside, spot_state, ahead}
+use Rattle.frame_machine.specs.Validity.{IsCondition, IsRunning, IsSound, IsValid, Advances}
 use Rattle.frame_machine.specs.Conditions.{IsChoice, IsTest, IsLook, test_entry, test_kind}
 use Rattle.frame_machine.specs.Stops.{record_at}
 use Rattle.frame_machine.proofs.KidParts.{kid_parts}
-use Rattle.frame_machine.proofs.PartPaths.{tree_by, branched_look, enter_any_set, enter_never, enter_in_call, enter_in_call_of, enter_test}
-use Rattle.frame_machine.proofs.Frames.{hand_same, no_calls, focus_towards, running_towards, framed}
+use Rattle.frame_machine.proofs.PartPaths.{tree_by, kid_paths, branched_look, behind_look, fixed_look, enter_any_set, enter_never, enter_in_call, enter_in_call_of, enter_test}
+use Rattle.frame_machine.proofs.Frames.{hand_same, inside_of, no_calls, focus_towards, running_towards, framed}
 use Rattle.frame_machine.proofs.Advance.{holding_full, advance_pause, over_units}
-use Rattle.frame_machine.proofs.Turns.{deep, opens}
+use Rattle.frame_machine.proofs.Turns.{deep, opens_as}
 use Rattle.frame_machine.proofs.LeaveTurns.{frame_here, stop_leave, turn_leave}
 
 -- the branches of a condition
@@ -162,7 +164,7 @@ module _ (c : Ground) (ok : IsGround c) (q : ℕ) (spot : Spot) (stack : List En
       let n : Node = node.Cond cond.Never yes' no' in
       chosen false next choice (enter_never c ok q n i _ _ _ _ _ (deep c ok q spot stack caps v n i) yes' no' refl)
 
-  -- a lookahead as a test
+  -- a lookaround as a test
   module _ (p : ℕ) (test : IsTest c q p) where
     abbrev n : Node
     n = node.Cond (cond.Assert p) test.first test.second
@@ -179,31 +181,53 @@ module _ (c : Ground) (ok : IsGround c) (q : ℕ) (spot : Spot) (stack : List En
     otherwise : Bool → Moves
     otherwise b = chosen_from c (tree_of c q) b (around c stack spot.frame).depth (spot_state c spot stack caps) (past c (around c stack spot.frame).depth (outside c stack caps spot.frame) q) (fail c stack caps) (hand c stack caps spot.frame q)
 
-    module _ (ks : List ℕ) where
-      pub turn_test : (positive : Bool) → IsLook c p positive ks → spot.units < c.setting.matching.frame_limit →
-          Advances c (conf (Enter q) spot stack caps)
-          (conf (first_next p ks) (record spot { frame = suc (length stack); units = spot.units + 1 }) (test_entry positive (record { node = q; link = spot.frame }) (kept_at spot) ∷ stack) caps)
-      unfolding fail otherwise
-      turn_test true l room =
-          let m : Node = node.Look true true l.once ks in
-          opens c ok q spot stack caps v n test.node (LookTest here (kept_at spot)) refl refl refl (λ a. refl) room
-          p test_inside ks (kid_parts c p m test_inside l.node) (branched_look c p m l.node true l.once ks refl) (ap (λ x. branch_rest c x (c.rest p)) (sym (tree_by c p m l.node m refl)))
-          (v.running.0, v.running.1, condition_here c ok q v.running.0 n test.node (cond.Assert p) test.first test.second refl) (λ w. otherwise false) (pause (otherwise false))
-          (enter_test c ok q n test.node _ _ _ _ _ (deep c ok q spot stack caps v n test.node) p test.first test.second refl true l.once ks (sym (tree_by c p m l.node m refl))) refl
-      turn_test false l room =
-          let m : Node = node.Look true false l.once ks in
-          opens c ok q spot stack caps v n test.node (DenialTest here (kept_at spot)) refl refl refl (λ a. refl) room
-          p test_inside ks (kid_parts c p m test_inside l.node) (branched_look c p m l.node false l.once ks refl) (ap (λ x. branch_rest c x (c.rest p)) (sym (tree_by c p m l.node m refl)))
-          (v.running.0, v.running.1, condition_here c ok q v.running.0 n test.node (cond.Assert p) test.first test.second refl) (λ w. otherwise true) (pause (otherwise true))
-          (enter_test c ok q n test.node _ _ _ _ _ (deep c ok q spot stack caps v n test.node) p test.first test.second refl false l.once ks (sym (tree_by c p m l.node m refl))) refl
+    module _ (ks : List ℕ) (forward positive' : Bool) (l : IsLook c p forward positive' ks) where
+      abbrev m : Node
+      m = node.Look forward positive' l.once ks
 
-      pub stop_test : (positive : Bool) → IsLook c p positive ks → c.setting.matching.frame_limit ≤ spot.units →
-          tread c.setting spot.left (ahead c (conf (Enter q) spot stack caps)) ≡ answers FrameLimit
-      stop_test positive l full =
-          let m : Node = node.Look true positive l.once ks in
-          over_units c spot.left _ _ (enter_test c ok q n test.node _ _ _ _ _ (deep c ok q spot stack caps v n test.node) p test.first test.second refl positive l.once ks (sym (tree_by c p m l.node m refl))) (holding_full c.setting _ _ full)
+      pub test_parts : All (IsPart c) ks
+      test_parts = kid_parts c p m test_inside l.node
 
--- A test that runs is a lookahead.
+      pub test_fixed : not forward ≡ true → All (IsFixedPart c) ks
+      test_fixed behind = fixed_look c p m l.node test_inside forward positive' l.once ks refl behind
+
+      -- the frame of the condition is opened around the branches of its test
+      module _ (r : Entry) (at : entry_site r ≡ here) (kept : entry_kept r ≡ kept_at spot) (plain : taken_back r caps ≡ caps) (same : (a : Around) → frame_around r a ≡ a)
+          (room : spot.units < c.setting.matching.frame_limit) (sound : IsSound c spot.left (length caps) stack r) (h : Handler) (z : Moves) where
+        test_opens : ahead c (conf (Enter q) spot stack caps)
+            ≡ pause (holding c.setting 1 (spot_state c spot stack caps) (λ u.
+            branch_paths c.setting (kid_paths c (tree_of c p) (around c stack spot.frame).depth ks) u (inside_of c r stack caps).follow z h)) →
+            fail c (r ∷ stack) caps ≡ z →
+            Advances c (conf (Enter q) spot stack caps)
+            (conf (first_begun c (not forward) p ks spot.place) (first_spot c (not forward) ks (record spot { frame = suc (length stack); units = spot.units + 1 })) (r ∷ stack) caps)
+        test_opens e f =
+            opens_as c ok q spot stack caps v n test.node r at kept plain same room
+            p test_inside ks test_parts (branched_look c p m l.node test_inside forward positive' l.once ks refl) (ap (λ x. branch_rest c x (c.rest p)) (sym (tree_by c p m l.node m refl)))
+            sound h z (not forward) (behind_look c p m l.node forward positive' l.once ks refl) e f
+
+      entered_test : ahead c (conf (Enter q) spot stack caps)
+          ≡ tested_path c.setting (branch_paths c.setting (kid_paths c (tree_of c p) (around c stack spot.frame).depth ks)) (chosen_from c (tree_of c q) positive' (around c stack spot.frame).depth) (chosen_from c (tree_of c q) (not positive') (around c stack spot.frame).depth)
+          (spot_state c spot stack caps) (past c (around c stack spot.frame).depth (outside c stack caps spot.frame) q) (fail c stack caps) (hand c stack caps spot.frame q)
+      entered_test =
+          enter_test c ok q n test.node _ _ _ _ _ (deep c ok q spot stack caps v n test.node) p test.first test.second refl forward positive' l.once ks (sym (tree_by c p m l.node m refl))
+
+      pub stop_test : c.setting.matching.frame_limit ≤ spot.units → tread c.setting spot.left (ahead c (conf (Enter q) spot stack caps)) ≡ answers FrameLimit
+      stop_test full = over_units c spot.left _ _ entered_test (holding_full c.setting _ _ full)
+
+    pub turn_test : (ks : List ℕ) (forward positive : Bool) → IsLook c p forward positive ks → spot.units < c.setting.matching.frame_limit →
+        Advances c (conf (Enter q) spot stack caps)
+        (conf (first_begun c (not forward) p ks spot.place) (first_spot c (not forward) ks (record spot { frame = suc (length stack); units = spot.units + 1 })) (test_entry positive (record { node = q; link = spot.frame }) (kept_at spot) ∷ stack) caps)
+    unfolding fail otherwise
+    turn_test ks forward true l room =
+        test_opens ks forward true l (LookTest here (kept_at spot)) refl refl refl (λ a. refl) room
+        (v.running.0, v.running.1, condition_here c ok q v.running.0 n test.node (cond.Assert p) test.first test.second refl) (λ w. otherwise false) (pause (otherwise false))
+        (entered_test ks forward true l) refl
+    turn_test ks forward false l room =
+        test_opens ks forward false l (DenialTest here (kept_at spot)) refl refl refl (λ a. refl) room
+        (v.running.0, v.running.1, condition_here c ok q v.running.0 n test.node (cond.Assert p) test.first test.second refl) (λ w. otherwise true) (pause (otherwise true))
+        (entered_test ks forward false l) refl
+
+-- A test that runs is a lookaround.
 tested_looks : (t : Nested) → is_test t ≡ true → IsRunnable t → ((ahead' positive once : Bool) (ts : Row) → t ≡ tree.look ahead' positive once ts → ⊥) → ⊥
 tested_looks (tree.look ahead' positive once ts) e b x = x ahead' positive once ts refl
 tested_looks (tree.seq (tree.more (tree.callout k) (tree.more (tree.look ahead' positive once ts) tree.none))) e b x = b.0
@@ -217,14 +241,13 @@ pub stray_test : (c : Ground) (p : ℕ) (n : Node) → IsNode c p n → IsPart c
 stray_test c p n i inside e x =
     tested_looks (nest c.trees n) (subst (λ t. is_test t ≡ true) (sym i.is) e) (subst IsRunnable (sym i.is) inside.runs) (λ a b o ts h. look_node c n a b o ts h x)
 
-pub look_is : (c : Ground) (p : ℕ) (n : Node) → IsNode c p n → IsPart c p → (a b o : Bool) (ks : List ℕ) → n ≡ node.Look a b o ks → IsLook c p b ks
-look_is c p n i inside true b o ks e = record { once = o; node = subst (IsNode c p) e i }
-look_is c p n i inside false b o ks e = absurd (subst (λ m. IsRunnable (nest c.trees m)) e (subst IsRunnable (sym i.is) inside.runs))
+pub look_is : (c : Ground) (p : ℕ) (n : Node) → IsNode c p n → (a b o : Bool) (ks : List ℕ) → n ≡ node.Look a b o ks → IsLook c p a b ks
+look_is c p n i a b o ks e = record { once = o; node = subst (IsNode c p) e i }
 
 pub test_is : (c : Ground) (q : ℕ) (t : Cond) (yes' : ℕ) (no' : Option ℕ) → IsNode c q (node.Cond t yes' no') → (p : ℕ) → t ≡ cond.Assert p → IsTest c q p
 test_is c q t yes' no' i p e = record { first = yes'; second = no'; node = subst (λ x. IsNode c q (node.Cond x yes' no')) e i }
 
--- a lookahead that is a test has an outcome
+-- a lookaround that is a test has an outcome
 module _ (c : Ground) (ok : IsGround c) (spot : Spot) (records : List Record) (caps : Captures) (v : IsValid c (conf End spot (entries records) caps)) (h : ℕ) (height : spot.frame ≡ h + 1)
     (p : Record) (at : slice_get (reverse records) h ≡ Some p) where
   at_height : spot.frame ≡ suc h

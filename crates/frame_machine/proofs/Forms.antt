@@ -49,8 +49,7 @@ mutual
   verbless (tree.repeat body low high lazily) b = verbless body b
   verbless (tree.one_repeat item low high lazily) b = tt
   verbless (tree.atomic ts) b = verbless_row ts b
-  verbless (tree.look true positive once ts) b = verbless_row ts b
-  verbless (tree.look false positive once ts) b = absurd b
+  verbless (tree.look ahead positive once ts) b = verbless_row ts b
   verbless (tree.condition test first second) b = (verbless_test test b.0, verbless first b.1, verbless_other second b.2)
   verbless (tree.call n) b = absurd b
   verbless (tree.ref ns caseless) b = tt
@@ -68,8 +67,7 @@ mutual
   verbless_test tree.in_call b = tt
   verbless_test (tree.in_call_of ns) b = tt
   verbless_test tree.never b = tt
-  verbless_test (tree.assert true positive once ts) b = verbless_row ts b
-  verbless_test (tree.assert false positive once ts) b = absurd b
+  verbless_test (tree.assert ahead positive once ts) b = verbless_row ts b
   verbless_test (tree.called c test) b = absurd b
 
   verbless_other : (second : Other) → IsRunnableOther second → IsVerblessOther second
@@ -87,8 +85,7 @@ module _ (trees : List Nested) where
 
   -- a lookaround, or a callout and a lookaround after it
   tested_runs : (t : Nested) → is_test t ≡ true → IsRunnableTest (test_of t) → IsRunnable t
-  tested_runs (tree.look true positive once ts) e b = b
-  tested_runs (tree.look false positive once ts) e b = absurd b
+  tested_runs (tree.look ahead positive once ts) e b = b
   tested_runs (tree.seq (tree.more (tree.callout x) (tree.more (tree.look ahead positive once ts) tree.none))) e b = absurd b
   tested_runs _ e b = absurd (false≢true e)
 
@@ -113,8 +110,7 @@ module _ (trees : List Nested) where
   kids_runnable (node.Repeat body min max lazy) e h = row_runs (body ∷ []) (h, tt)
   kids_runnable (node.OneRepeat item min max lazy) e h = no_kid
   kids_runnable (node.Atomic branches) e h = row_runs branches h
-  kids_runnable (node.Look true positive once branches) e h = row_runs branches h
-  kids_runnable (node.Look false positive once branches) e h = absurd h
+  kids_runnable (node.Look ahead positive once branches) e h = row_runs branches h
   kids_runnable (node.Cond test yes' no') e h =
       All-append (λ k. IsRunnable (tree_at trees k)) (tests_of test) (yes' ∷ number_in no') (test_runs test e h.0)
       (All-cons (λ k. IsRunnable (tree_at trees k)) yes' (number_in no') h.1 (other_runs no' h.2))

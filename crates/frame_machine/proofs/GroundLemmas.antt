@@ -24,7 +24,9 @@ use Rattle.pat_tree.specs.Parts.{TreeParts, tree_of}
 use Rattle.node_flow.specs.Followers.{rest}
 use Rattle.node_flow.specs.Linked.{IsLinked}
 use Rattle.node_flow.proofs.TreeLaws.{followers_hang_together}
+use Rattle.pat_lengths.specs.Backs.{first_fault}
 use Rattle.frame_machine.specs.Forms.{IsRunnable}
+use Rattle.frame_machine.proofs.BehindLemmas.{measured_whole}
 use Rattle.char_sets.specs.Table.{CharSet, table_has, IsTableOf}
 use Rattle.pcre_io.specs.declared.callouts.Block.{Block}
 use Rattle.match_items.specs.declared.view.View.{View}
@@ -182,11 +184,12 @@ numbered_from class_count name_count all (p ∷ ps) a n e = elim (cases_Bool (is
 ]
 
 -- what is known of a finished tree, and what is asked of a search of it
-pub byte_search : (t : TreeParts) (table : List CharSet) (matching : MatchOptions) (subject : List ℕ) → TreeRules t → IsRunnable (tree_of t) →
+pub byte_search : (t : TreeParts) (table : List CharSet) (matching : MatchOptions) (subject : List ℕ) → TreeRules t → IsRunnable (tree_of t) → first_fault t ≡ None →
     IsTableOf t table → IsSubject t.options subject → matching.«partial» ≡ Off → greatest (group_numbers t.nodes) ≤ 65535 → matching.match_limit ≤ 4294967295 →
     IsByteSearch t table matching subject
-byte_search t table matching subject rules runs shown searched off groups few = record {
+byte_search t table matching subject rules runs fixed shown searched off groups few = record {
   runs = runs;
+  measured = measured_whole t rules fixed;
   shown = shown;
   searched = searched;
   off = off;

@@ -3,12 +3,15 @@ use Rattle.std.proofs.Common.{◌≡◌, ℕ, true, false, List, [], ◌∷◌, 
 use Rattle.std.proofs.lemmas.List.Elements.{All-nil, All-cons, All-head, All-tail, All-append}
 use Rattle.pat_tree.specs.declared.nodes.Node.{Node}
 use Rattle.pat_tree.specs.declared.nodes.Node.TheVariants as node
-use Rattle.pat_tree.specs.Nested.{nest}
+use Rattle.pat_tree.specs.Nested.{Nested, nest}
 use Rattle.pat_tree.specs.Rules.{kids_of, tests_of, number_in}
 use Rattle.frame_machine.specs.Forms.{IsRunnable}
 use Rattle.frame_machine.proofs.Forms.{kids_runnable}
 use Rattle.node_flow.specs.Linked.{AreChained, AllFollowed, IsLinked}
-use Rattle.frame_machine.specs.Ground.{Ground, tree_of, IsNode, IsGround, IsRunnablePart, IsPart}
+use Rattle.ordered_search.specs.Setting.{branch_lengths}
+use Rattle.frame_machine.specs.Behind.{HasFixed}
+use Rattle.frame_machine.specs.Ground.{Ground, tree_of, IsNode, IsGround, IsMeasuredIn, IsRunnablePart, IsPart}
+use Rattle.frame_machine.proofs.BehindLemmas.{all_below}
 
 module _ (c : Ground) where
   -- parts that follow one another, before others
@@ -18,12 +21,12 @@ module _ (c : Ground) where
       let first = All-head (IsRunnablePart c) k ks a in
       let later = All-tail (IsRunnablePart c) k ks a in
       All-cons (IsPart c) k ks
-      (record { within = first.0; runs = first.1; followed = subst (All (IsRunnablePart c)) (sym l.0) (All-append (IsRunnablePart c) ks after later b) })
+      (record { within = first.0; runs = first.1; measured = first.2; followed = subst (All (IsRunnablePart c)) (sym l.0) (All-append (IsRunnablePart c) ks after later b) })
       (chained_parts after ks l.1 later b)
 
   -- parts each of which others follow
   followed_parts : (after ks : List ℕ) → AllFollowed c.rest after ks → All (IsRunnablePart c) ks → All (IsRunnablePart c) after → All (IsPart c) ks
-  followed_parts after ks l a b = λ i d m. record { within = (a i d m).0; runs = (a i d m).1; followed = subst (All (IsRunnablePart c)) (sym (l i d m)) b }
+  followed_parts after ks l a b = λ i d m. record { within = (a i d m).0; runs = (a i d m).1; measured = (a i d m).2; followed = subst (All (IsRunnablePart c)) (sym (l i d m)) b }
 
   front_parts : (xs ys : List ℕ) → All (IsRunnablePart c) (xs ++ ys) → All (IsRunnablePart c) xs
   front_parts [] ys a = All-nil (IsRunnablePart c)
@@ -43,12 +46,11 @@ module _ (c : Ground) where
   parts_under after (node.Repeat body low high lazily) b l a r =
       let first = All-head (IsRunnablePart c) body [] a in
       All-cons (IsPart c) body []
-      (record { within = first.0; runs = first.1; followed = subst (All (IsRunnablePart c)) (sym l) (All-nil (IsRunnablePart c)) })
+      (record { within = first.0; runs = first.1; measured = first.2; followed = subst (All (IsRunnablePart c)) (sym l) (All-nil (IsRunnablePart c)) })
       (All-nil (IsPart c))
   parts_under after (node.OneRepeat item low high lazily) b l a r = All-nil (IsPart c)
   parts_under after (node.Atomic ks) b l a r = followed_parts [] ks l a (All-nil (IsRunnablePart c))
-  parts_under after (node.Look true positive once ks) b l a r = followed_parts [] ks l a (All-nil (IsRunnablePart c))
-  parts_under after (node.Look false positive once ks) b l a r = absurd b
+  parts_under after (node.Look ahead positive once ks) b l a r = followed_parts [] ks l a (All-nil (IsRunnablePart c))
   parts_under after (node.Cond test yes' no') b l a r =
       All-append (IsPart c) (tests_of test) (yes' ∷ number_in no')
       (followed_parts [] (tests_of test) l.0 (front_parts (tests_of test) (yes' ∷ number_in no') a) (All-nil (IsRunnablePart c)))
@@ -65,15 +67,17 @@ module _ (c : Ground) where
   kid_parts q n p i =
       let runs : IsRunnable (nest c.trees n) = subst IsRunnable (sym i.is) p.runs in
       let kids : All (λ k. IsRunnable (tree_of c k)) (kids_of n) = kids_runnable c.trees n i.tests runs in
-      parts_under (c.rest q) n runs i.linked (λ j d m. let lt = i.below j d m in (omega (arith, lt, p.within), kids j d m)) p.followed
+      let P : Nested → Type 0 = HasFixed (branch_lengths c.setting) in
+      let measured : All (λ k. IsMeasuredIn c (tree_of c k)) (kids_of n) = all_below P c.trees n i.tests (subst (IsMeasuredIn c) (sym i.is) p.measured) in
+      parts_under (c.rest q) n runs i.linked (λ j d m. let lt = i.below j d m in (omega (arith, lt, p.within), kids j d m, measured j d m)) p.followed
 
   -- the part that follows
   pub next_part : IsGround c → (q p : ℕ) (ps : List ℕ) → IsPart c q → c.rest q ≡ p ∷ ps → IsPart c p
   next_part ok q p ps h e =
       let all : All (IsRunnablePart c) (p ∷ ps) = subst (All (IsRunnablePart c)) e h.followed in
       let first = All-head (IsRunnablePart c) p ps all in
-      record { within = first.0; runs = first.1; followed = subst (All (IsRunnablePart c)) (sym (ok.chained q p ps h.within e)) (All-tail (IsRunnablePart c) p ps all) }
+      record { within = first.0; runs = first.1; measured = first.2; followed = subst (All (IsRunnablePart c)) (sym (ok.chained q p ps h.within e)) (All-tail (IsRunnablePart c) p ps all) }
 
   -- the whole pattern
   pub root_part : IsGround c → IsPart c c.root
-  root_part ok = record { within = omega arith; runs = subst IsRunnable (sym ok.whole) ok.runs; followed = subst (All (IsRunnablePart c)) (sym ok.last) (All-nil (IsRunnablePart c)) }
+  root_part ok = record { within = omega arith; runs = subst IsRunnable (sym ok.whole) ok.runs; measured = subst (IsMeasuredIn c) (sym ok.whole) ok.measured; followed = subst (All (IsRunnablePart c)) (sym ok.last) (All-nil (IsRunnablePart c)) }

@@ -1,4 +1,5 @@
 pub mod Forms
+mod BehindLemmas
 mod PartPaths
 mod KidParts
 mod Frames

@@ -1,26 +1,25 @@
--- The steps of the machine at a lookahead.
-use Rattle.std.proofs.Common.{◌≡◌, ℕ, suc, ◌+◌, ◌<◌, ◌≤◌, ◌∙◌, Bool, true, false, List, ◌∷◌, map, reverse, Some, length, slice_get, refl, sym, ap, subst, arith}
+-- The steps of the machine at a lookaround.
+use Rattle.std.proofs.Common.{◌≡◌, ℕ, suc, ◌+◌, ◌<◌, ◌≤◌, ◌∙◌, Bool, true, false, not, List, [], ◌∷◌, reverse, Some, length, slice_get, refl, sym, ap, subst, arith}
 use Rattle.pat_tree.specs.declared.nodes.Node.{Node}
 use Rattle.pat_tree.specs.declared.nodes.Node.TheVariants as node
 use Rattle.frame_store.specs.declared.records.Record.{Record}
 use Rattle.frame_store.specs.declared.kinds.TheConstants.{KIND_LOOK_OPEN, KIND_LOOK_ALL_OPEN, KIND_DENIAL_OPEN}
 use Rattle.frame_store.specs.Captures.{Captures}
-use Rattle.frame_store.specs.Entry.{Entry, Site, Kept, LookOpen, LookAllOpen, DenialOpen, AtomicLeft, entry_of, entries, site_of, kept_of}
+use Rattle.frame_store.specs.Entry.{Entry, entry_site, Site, Kept, LookOpen, LookAllOpen, DenialOpen, AtomicLeft, entry_of, entries, site_of, kept_of}
 use Rattle.frame_store.specs.Stack as stack_of
-use Rattle.frame_store.specs.Undo.{undone}
+use Rattle.frame_store.specs.Undo.{taken_back, undone}
 use Rattle.frame_store.proofs.EntryLemmas.{entry_of-look_open, entry_of-look_all_open, entry_of-denial_open}
 use Rattle.ordered_search.specs.Stream.{reached}
 use Rattle.ordered_search.specs.PlaceAnswer.{answers, FrameLimit}
-use Rattle.ordered_search.specs.Moves.{Moves, pause, catching, tread}
-use Rattle.ordered_search.specs.Paths.{look_path}
+use Rattle.ordered_search.specs.Moves.{Moves, Handler, pause, holding, catching, tread}
+use Rattle.ordered_search.specs.Paths.{branch_paths, look_path}
 use Rattle.frame_machine.specs.declared.machine.Next.TheVariants.{Enter, Back, End}
 use Rattle.frame_machine.specs.declared.machine.Spot.{Spot}
 use Rattle.frame_machine.specs.Ground.{Ground, tree_of, next_of, IsNode, IsGround, IsPart}
-use Rattle.frame_machine.specs.Machine.{kept_at, conf, first_next, towards}
-use Rattle.frame_machine.specs.Frames.{branch_rest, past, around, hand, fail, outside, spot_state, ahead}
-use Rattle.frame_machine.specs.Validity.{IsValid, Advances}
+use Rattle.frame_machine.specs.Machine.{Around, kept_at, entry_kept, conf, towards}
+use Rattle.frame_machine.specs.Frames.{branch_rest, past, around, frame_around, hand, fail, outside, spot_state, ahead}
+use Rattle.frame_machine.specs.Validity.{IsSound, IsValid, Advances}
 use Rattle.frame_machine.specs.Looks.{look_entry, look_kind}
-use Rattle.frame_machine.specs.Forms.{IsRunnable}
 use Rattle.frame_machine.specs.Stops.{record_at}
 use Rattle.frame_machine.proofs.Drops.{past_slots}
 use Rattle.frame_store.proofs.StackLemmas.{up_to-map}
@@ -29,11 +28,12 @@ use Rattle.frame_store.specs.Entry.{entry_in}
 use Rattle.std.proofs.Common.{All}
 use Rattle.std.proofs.lemmas.List.{length-reverse}
 use Rattle.std.proofs.lemmas.Option.{slice_get_within}
-use Rattle.pat_tree.specs.Nested as tree
-use Rattle.pat_tree.specs.Nested.{Row, row, tree_at}
-use Rattle.frame_machine.proofs.PartPaths.{tree_by, branched_look, enter_look}
+use Rattle.frame_machine.specs.Begun.{is_behind, IsFixedPart, first_begun, first_spot}
+use Rattle.frame_machine.specs.Branches.{IsBranched}
+use Rattle.frame_machine.proofs.PartPaths.{tree_by, kid_paths, branched_look, behind_look, fixed_look, enter_look}
+use Rattle.frame_machine.proofs.Frames.{inside_of}
 use Rattle.frame_machine.proofs.Advance.{holding_full, over_units}
-use Rattle.frame_machine.proofs.Turns.{deep, opens}
+use Rattle.frame_machine.proofs.Turns.{deep, opens_as}
 use Rattle.frame_machine.proofs.LeaveTurns.{frame_inside, frame_here, stop_leave, turn_left, turn_through, turn_denied}
 use Rattle.frame_machine.proofs.KidParts.{kid_parts}
 
@@ -41,39 +41,65 @@ module _ (c : Ground) (ok : IsGround c) (q : ℕ) (spot : Spot) (stack : List En
   abbrev here : Site
   here = record { node = q; link = spot.frame }
 
-  pub turn_look : (positive once : Bool) → IsNode c q (node.Look true positive once ks) → spot.units < c.setting.matching.frame_limit →
-      Advances c (conf (Enter q) spot stack caps)
-      (conf (first_next q ks) (record spot { frame = suc (length stack); units = spot.units + 1 }) (look_entry positive once (record { node = q; link = spot.frame }) (kept_at spot) ∷ stack) caps)
-  unfolding fail look_path
-  turn_look true true i room =
-      let n : Node = node.Look true true true ks in
-      opens c ok q spot stack caps v n i (LookOpen here (kept_at spot)) refl refl refl (λ a. refl) room
-      q v.running.0 ks (kid_parts c q n v.running.0 i) (branched_look c q n i true true ks refl) (ap (λ x. branch_rest c x (c.rest q)) (sym (tree_by c q n i n refl)))
-      (v.running.0, v.running.1, tt) (catching (fail c stack caps) (hand c stack caps spot.frame q)) (pause (fail c stack caps))
-      (enter_look c ok q n i _ _ _ _ _ (deep c ok q spot stack caps v n i) true true ks refl) refl
-  turn_look true false i room =
-      let n : Node = node.Look true true false ks in
-      opens c ok q spot stack caps v n i (LookAllOpen here (kept_at spot)) refl refl refl (λ a. refl) room
-      q v.running.0 ks (kid_parts c q n v.running.0 i) (branched_look c q n i true false ks refl) (ap (λ x. branch_rest c x (c.rest q)) (sym (tree_by c q n i n refl)))
-      (v.running.0, v.running.1, tt) (catching (fail c stack caps) (hand c stack caps spot.frame q)) (pause (fail c stack caps))
-      (enter_look c ok q n i _ _ _ _ _ (deep c ok q spot stack caps v n i) true false ks refl) refl
-  turn_look false once i room =
-      let n : Node = node.Look true false once ks in
-      let passes : Moves = past c (around c stack spot.frame).depth (outside c stack caps spot.frame) q reached (spot_state c spot stack caps) (fail c stack caps) in
-      opens c ok q spot stack caps v n i (DenialOpen here (kept_at spot)) refl refl refl (λ a. refl) room
-      q v.running.0 ks (kid_parts c q n v.running.0 i) (branched_look c q n i false once ks refl) (ap (λ x. branch_rest c x (c.rest q)) (sym (tree_by c q n i n refl)))
-      (v.running.0, v.running.1, tt) (λ w. passes) (pause passes)
-      (enter_look c ok q n i _ _ _ _ _ (deep c ok q spot stack caps v n i) false once ks refl) refl
+  module _ (ahead' positive' once' : Bool) (i : IsNode c q (node.Look ahead' positive' once' ks)) where
+    abbrev n : Node
+    n = node.Look ahead' positive' once' ks
 
-  pub stop_look : (positive once : Bool) → IsNode c q (node.Look true positive once ks) → c.setting.matching.frame_limit ≤ spot.units →
+    parts : All (IsPart c) ks
+    parts = kid_parts c q n v.running.0 i
+
+    branches : IsBranched c q ks
+    branches = branched_look c q n i v.running.0 ahead' positive' once' ks refl
+
+    none : branch_rest c (tree_of c q) (c.rest q) ≡ []
+    none = ap (λ x. branch_rest c x (c.rest q)) (sym (tree_by c q n i n refl))
+
+    behind : is_behind (tree_of c q) ≡ not ahead'
+    behind = behind_look c q n i ahead' positive' once' ks refl
+
+    -- its frame is opened
+    module _ (r : Entry) (at : entry_site r ≡ here) (kept : entry_kept r ≡ kept_at spot) (plain : taken_back r caps ≡ caps) (same : (a : Around) → frame_around r a ≡ a)
+        (room : spot.units < c.setting.matching.frame_limit) (sound : IsSound c spot.left (length caps) stack r) (h : Handler) (z : Moves) where
+      look_opens : ahead c (conf (Enter q) spot stack caps)
+          ≡ pause (holding c.setting 1 (spot_state c spot stack caps) (λ u.
+          branch_paths c.setting (kid_paths c (tree_of c q) (around c stack spot.frame).depth ks) u (inside_of c r stack caps).follow z h)) →
+          fail c (r ∷ stack) caps ≡ z →
+          Advances c (conf (Enter q) spot stack caps)
+          (conf (first_begun c (not ahead') q ks spot.place) (first_spot c (not ahead') ks (record spot { frame = suc (length stack); units = spot.units + 1 })) (r ∷ stack) caps)
+      look_opens e f = opens_as c ok q spot stack caps v n i r at kept plain same room q v.running.0 ks parts branches none sound h z (not ahead') behind e f
+
+    entered : ahead c (conf (Enter q) spot stack caps)
+        ≡ look_path c.setting positive' once' (branch_paths c.setting (kid_paths c (tree_of c q) (around c stack spot.frame).depth ks)) (spot_state c spot stack caps) (past c (around c stack spot.frame).depth (outside c stack caps spot.frame) q) (fail c stack caps) (hand c stack caps spot.frame q)
+    entered = enter_look c ok q n i _ _ _ _ _ (deep c ok q spot stack caps v n i) ahead' positive' once' ks refl
+
+  pub turn_look : (ahead' positive once : Bool) → IsNode c q (node.Look ahead' positive once ks) → spot.units < c.setting.matching.frame_limit →
+      Advances c (conf (Enter q) spot stack caps)
+      (conf (first_begun c (not ahead') q ks spot.place) (first_spot c (not ahead') ks (record spot { frame = suc (length stack); units = spot.units + 1 })) (look_entry positive once (record { node = q; link = spot.frame }) (kept_at spot) ∷ stack) caps)
+  unfolding fail look_path
+  turn_look ahead' true true i room =
+      look_opens ahead' true true i (LookOpen here (kept_at spot)) refl refl refl (λ a. refl) room (v.running.0, v.running.1, tt)
+      (catching (fail c stack caps) (hand c stack caps spot.frame q)) (pause (fail c stack caps)) (entered ahead' true true i) refl
+  turn_look ahead' true false i room =
+      look_opens ahead' true false i (LookAllOpen here (kept_at spot)) refl refl refl (λ a. refl) room (v.running.0, v.running.1, tt)
+      (catching (fail c stack caps) (hand c stack caps spot.frame q)) (pause (fail c stack caps)) (entered ahead' true false i) refl
+  turn_look ahead' false once i room =
+      let passes : Moves = past c (around c stack spot.frame).depth (outside c stack caps spot.frame) q reached (spot_state c spot stack caps) (fail c stack caps) in
+      look_opens ahead' false once i (DenialOpen here (kept_at spot)) refl refl refl (λ a. refl) room (v.running.0, v.running.1, tt)
+      (λ w. passes) (pause passes) (entered ahead' false once i) refl
+
+  pub stop_look : (ahead' positive once : Bool) → IsNode c q (node.Look ahead' positive once ks) → c.setting.matching.frame_limit ≤ spot.units →
       tread c.setting spot.left (ahead c (conf (Enter q) spot stack caps)) ≡ answers FrameLimit
   unfolding look_path
-  stop_look true true i full =
-      over_units c spot.left _ _ (enter_look c ok q (node.Look true true true ks) i _ _ _ _ _ (deep c ok q spot stack caps v (node.Look true true true ks) i) true true ks refl) (holding_full c.setting _ _ full)
-  stop_look true false i full =
-      over_units c spot.left _ _ (enter_look c ok q (node.Look true true false ks) i _ _ _ _ _ (deep c ok q spot stack caps v (node.Look true true false ks) i) true false ks refl) (holding_full c.setting _ _ full)
-  stop_look false once i full =
-      over_units c spot.left _ _ (enter_look c ok q (node.Look true false once ks) i _ _ _ _ _ (deep c ok q spot stack caps v (node.Look true false once ks) i) false once ks refl) (holding_full c.setting _ _ full)
+  stop_look ahead' true true i full = over_units c spot.left _ _ (entered ahead' true true i) (holding_full c.setting _ _ full)
+  stop_look ahead' true false i full = over_units c spot.left _ _ (entered ahead' true false i) (holding_full c.setting _ _ full)
+  stop_look ahead' false once i full = over_units c spot.left _ _ (entered ahead' false once i) (holding_full c.setting _ _ full)
+
+  -- its branches are parts, of one length each where it looks back
+  pub look_parts : (ahead' positive once : Bool) → IsNode c q (node.Look ahead' positive once ks) → All (IsPart c) ks
+  look_parts ahead' positive once i = parts ahead' positive once i
+
+  pub look_fixed : (ahead' positive once : Bool) → IsNode c q (node.Look ahead' positive once ks) → not ahead' ≡ true → All (IsFixedPart c) ks
+  look_fixed ahead' positive once i e = fixed_look c q (node.Look ahead' positive once ks) i v.running.0 ahead' positive once ks refl e
 
 -- it has ended
 module _ (c : Ground) (ok : IsGround c) (spot : Spot) (records : List Record) (caps : Captures) (v : IsValid c (conf End spot (entries records) caps)) (h : ℕ) (height : spot.frame ≡ h + 1)
@@ -133,28 +159,6 @@ denied_height records h p at = let within : h < length (reverse records) = slice
 pub denied_slots : (c : Ground) → IsGround c → (spot : Spot) (records : List Record) (caps : Captures) → IsValid c (conf End spot (entries records) caps) → (h : ℕ) →
     All (HasSlot caps) (stack_of.past h (entries records))
 denied_slots c ok spot records caps v h = past_slots c ok spot.left caps (entries records) h v.records
-
--- a lookaround that runs is a lookahead
-looks_ahead : (ahead positive once : Bool) (ts : Row) → IsRunnable (tree.look ahead positive once ts) → ahead ≡ true
-looks_ahead true positive once ts b = refl
-looks_ahead false positive once ts b = absurd b
-
--- the same of any that runs
-module _ (c : Ground) (ok : IsGround c) (q : ℕ) (spot : Spot) (stack : List Entry) (caps : Captures) (v : IsValid c (conf (Enter q) spot stack caps)) (ahead' positive once : Bool) (ks : List ℕ)
-    (i : IsNode c q (node.Look ahead' positive once ks)) where
-  is_ahead : ahead' ≡ true
-  is_ahead = looks_ahead ahead' positive once (row (map (tree_at c.trees) ks)) (subst IsRunnable (sym i.is) v.running.0.runs)
-
-  node_ahead : IsNode c q (node.Look true positive once ks)
-  node_ahead = subst (λ b. IsNode c q (node.Look b positive once ks)) is_ahead i
-
-  pub turn_look_of : spot.units < c.setting.matching.frame_limit →
-      Advances c (conf (Enter q) spot stack caps)
-      (conf (first_next q ks) (record spot { frame = suc (length stack); units = spot.units + 1 }) (look_entry positive once (record { node = q; link = spot.frame }) (kept_at spot) ∷ stack) caps)
-  turn_look_of room = turn_look c ok q spot stack caps v ks positive once node_ahead room
-
-  pub stop_look_of : c.setting.matching.frame_limit ≤ spot.units → tread c.setting spot.left (ahead c (conf (Enter q) spot stack caps)) ≡ answers FrameLimit
-  stop_look_of full = stop_look c ok q spot stack caps v ks positive once node_ahead full
 
 -- its record
 pub look_record : (positive once : Bool) (spot : Spot) (q : ℕ) → entry_of (record_at spot (look_kind positive once) q 0 0 0) ≡ look_entry positive once (record { node = q; link = spot.frame }) (kept_at spot)

@@ -1,9 +1,9 @@
 -- A part, by its node: what it stands for with what follows.
-use Rattle.std.proofs.Common.{◌≡◌, ℕ, zero, suc, ◌-◌, ◌<◌, ◌≤◌, ◌∙◌, Bool, true, false, List, [], ◌∷◌, ◌++◌, map, drop, length, All, Option, Some, None, slice_get, if◌then◌else◌, refl, sym, ap, subst, arith, not}
+use Rattle.std.proofs.Common.{◌≡◌, ℕ, zero, suc, ◌-◌, ◌<◌, ◌≤◌, ◌∙◌, ◌==◌, Bool, true, false, List, [], ◌∷◌, ◌++◌, map, drop, reverse, length, All, Option, Some, None, slice_get, if◌then◌else◌, refl, sym, ap, subst, arith, not}
 use Rattle.std.proofs.lemmas.List.{drop-map}
 use Rattle.std.proofs.Math.ListN.{drop_of_length-le}
-use Rattle.std.proofs.lemmas.List.Elements.{All-head, All-tail}
-use Rattle.std.proofs.lemmas.Bool.{false≢true, ne_eqb}
+use Rattle.std.proofs.lemmas.List.Elements.{All-nil, All-cons, All-head, All-tail}
+use Rattle.std.proofs.lemmas.Bool.{false≢true, eq-eqb, ne_eqb}
 use Rattle.pat_tree.specs.declared.options.PartialMode.{PartialMode}
 use Rattle.pat_tree.specs.declared.options.PartialMode.TheVariants.{Off, Soft, Hard}
 use Rattle.pat_tree.specs.declared.nodes.Item.{Item}
@@ -15,22 +15,27 @@ use Rattle.pat_tree.specs.Nested.{Nested, Row, row, nest, tree_at, other_of, tes
 use mathlib.Core.Path.{fun_ext}
 use Rattle.pat_tree.specs.declared.nodes.Cond.{Cond}
 use Rattle.pat_tree.specs.declared.nodes.Cond.TheVariants as cond
-use Rattle.match_items.specs.Items.{is_none_left, after_item, longest_run, after_break, after_ref, ref_reaches, holds, earliest}
+use Rattle.match_items.specs.Items.{is_none_left, after_item, longest_run, after_break, after_ref, ref_reaches, holds, earliest, places_back}
 use Rattle.frame_store.specs.declared.registers.Span.{Span}
 use Rattle.frame_store.specs.Captures.{capture}
 use Rattle.ordered_search.specs.Stream.{State, reached, accepted, hit_end, by_halt, is_partial}
-use Rattle.ordered_search.specs.Setting.{counts}
+use Rattle.ordered_search.specs.Setting.{counts, branch_lengths}
 use Rattle.ordered_search.specs.Moves.{Moves, stops, pause, stepped, noted, Follow, Handler, Path, at_verbs, catching, going, holding, reaching}
-use Rattle.ordered_search.specs.Paths.{close, ref_path, many_paths, turn_path, repeat_path, go_path, parts_path, choice_paths, branch_paths, leave, look_path, path, row_paths, paths, choose_path, other_path, test_path, assert_path, tested_path}
+use Rattle.ordered_search.specs.Paths.{close, ref_path, many_paths, turn_path, repeat_path, go_path, parts_path, choice_paths, branch_paths, leave, look_path, path, row_paths, behind_paths, try_path, tries_path, behind_path, paths, choose_path, other_path, test_path, assert_path, tested_path}
 use Rattle.frame_machine.specs.declared.machine.Next.TheVariants.{Branch, Offer, Begin}
+use Rattle.node_flow.specs.Followers.{first_of}
 use Rattle.node_flow.specs.Linked.{AreChained, AllFollowed, IsLinked}
 use Rattle.frame_machine.specs.Branches.{IsBranched}
-use Rattle.frame_machine.specs.Ground.{Ground, tree_of, IsNode, IsGround}
+use Rattle.pat_lengths.specs.Lengths.{SomeLengths, branch_fault}
+use Rattle.frame_machine.specs.Behind.{AreFixed, HasFixed}
+use Rattle.frame_machine.specs.Begun.{is_behind, IsFixedPart, begun_by, begun_place, begun_next, first_begun}
+use Rattle.frame_machine.specs.Ground.{Ground, tree_of, IsNode, IsMeasuredIn, IsPart, IsGround}
+use Rattle.frame_machine.proofs.BehindLemmas.{one_length, one_place, all_here}
 use Rattle.frame_machine.specs.Machine.{less, in_row, first_set, first_next, Outside}
 use Rattle.frame_machine.specs.Frames.{after, past, enter, branch_rest, branch_from, offer_from, begin_from, turned_from, close_from, focus, branch_row, branch_path, other_from, chosen_from}
-use Rattle.ordered_search.proofs.Free.{follow_same, holding_same, free_paths, AllFree, free_branches}
+use Rattle.ordered_search.proofs.Free.{follow_same, holding_same, free_paths, IsFree, AllFree, free_behind, free_branches}
 use Rattle.ordered_search.specs.Verbless.{IsVerbless}
-use Rattle.ordered_search.specs.Parts.{some_set, is_called, is_called_of}
+use Rattle.ordered_search.specs.Parts.{begun_at, some_set, is_called, is_called_of}
 
 path_same : (P Q : Path) → ((s : State) (k : Follow) (f : Moves) (h : Handler) → P s k f h ≡ Q s k f h) → P ≡ Q
 path_same P Q e = fun_ext (λ s. fun_ext (λ k. fun_ext (λ f. fun_ext (λ h. e s k f h))))
@@ -42,6 +47,10 @@ less_none (Some n) = let e : n ≡ n - 0 = omega arith in ap Some e
 -- the paths of some parts
 abbrev pub part_paths : Ground → ℕ → List ℕ → List Path
 part_paths c d ks = map (λ q. paths c.setting d (tree_of c q)) ks
+
+-- the paths of the branches of a tree
+abbrev pub kid_paths : Ground → Nested → ℕ → List ℕ → List Path
+kid_paths c t d ks = map (λ q. branch_path c t d (tree_of c q)) ks
 
 module _ (c : Ground) where
   pub after_nil : (d : ℕ) (k : Outside) → after c d k [] ≡ k.follow
@@ -150,27 +159,117 @@ module _ (c : Ground) where
         | Some span ↦ reaching_off ok _ s _
       ]
 
+  in_row_kids : (t : Nested) (d : ℕ) (ks : List ℕ) → in_row (branch_path c t d) (row (map (tree_at c.trees) ks)) ≡ kid_paths c t d ks
+  in_row_kids t d [] = refl
+  in_row_kids t d (q ∷ ks) = ap (λ ps. branch_path c t d (tree_of c q) ∷ ps) (in_row_kids t d ks)
+
+  -- but for those of a lookbehind, branches begin where they are entered
+  plain_path : (t : Nested) → is_behind t ≡ false → branch_path c t ≡ paths c.setting
+  plain_path (tree.look false positive once ts) e = absurd (false≢true (sym e))
+  plain_path _ e = refl
+
+  pub plain_kids : (t : Nested) → is_behind t ≡ false → (d : ℕ) (ks : List ℕ) → kid_paths c t d ks ≡ part_paths c d ks
+  plain_kids t e d ks = ap (λ (w : ℕ → Nested → Path). map (λ q. w d (tree_of c q)) ks) (plain_path t e)
+
   -- the branches of a part, from one on
   branch_is : (q i d : ℕ) (ks : List ℕ) → IsBranched c q ks → (s : State) (k : Follow) (f : Moves) (h : Handler) →
-      branch_from c (tree_of c q) i d s k f h ≡ choice_paths c.setting (drop i (part_paths c d ks)) s k f h
+      branch_from c (tree_of c q) i d s k f h ≡ choice_paths c.setting (drop i (kid_paths c (tree_of c q) d ks)) s k f h
   branch_is q i d ks b s k f h =
-      ap (λ (w : ℕ → Nested → Path). choice_paths c.setting (drop i (in_row (w d) (branch_row c (tree_of c q)))) s k f h) b.plain
-      ∙ ap (λ r. choice_paths c.setting (drop i (in_row (paths c.setting d) r)) s k f h) b.rows
-      ∙ ap (λ (xs : List Path). choice_paths c.setting (drop i xs) s k f h) (in_row_parts d ks)
+      ap (λ r. choice_paths c.setting (drop i (in_row (branch_path c (tree_of c q) d) r)) s k f h) b.rows
+      ∙ ap (λ (xs : List Path). choice_paths c.setting (drop i xs) s k f h) (in_row_kids (tree_of c q) d ks)
+
+  -- Where a branch begins.
+
+  -- where it begins, if it is of a lookbehind
+  abbrev pub begun_path : Bool → Option ℕ → Path → Path
+  begun_path false to p s k f h = p s k f h
+  begun_path true None p s k f h = f
+  begun_path true (Some place) p s k f h = p (begun_at place s) k f h
+
+  try_begun : (p : Path) (s : State) (k : Follow) (f : Moves) (h : Handler) (places : List ℕ) → length places ≤ 1 →
+      begun_path true (first_of places) p s k f h ≡ try_path (reverse places) p s k f h
+  unfolding try_path
+  try_begun p s k f h [] le = refl
+  try_begun p s k f h (x ∷ []) le = refl
+  try_begun p s k f h (x ∷ y ∷ more) le = absurd (omega (arith, le))
+
+  -- of one length, it begins so far before the place
+  behind_begun : (a : SomeLengths) → branch_fault a ≡ None → (p : Path) (s : State) (k : Follow) (f : Moves) (h : Handler) →
+      begun_path true (begun_by c a s.place) p s k f h ≡ behind_path c.setting a p s k f h
+  unfolding behind_path
+  behind_begun a e p s k f h =
+      let one = one_length a e in
+      let n : ℕ = one.0 in
+      let before : List ℕ = drop n (places_back c.setting.scene n s.place) in
+      subst (λ (x : SomeLengths). begun_path true (begun_by c x s.place) p s k f h ≡ behind_path c.setting x p s k f h) (sym one.1)
+      (try_begun p s k f h before (one_place c.setting.scene n s.place)
+      ∙ ap (λ (b : Bool). elim b [ true ↦ try_path (reverse before) p s k f h | false ↦ tries_path c.setting (reverse before) p s k f h ]) (sym (eq-eqb n n refl)))
+
+  begun_kid : (t : Nested) (p : ℕ) → (is_behind t ≡ true → IsFixedPart c p) → (d : ℕ) (s : State) (k : Follow) (f : Moves) (h : Handler) →
+      begun_path (is_behind t) (begun_place c p s.place) (paths c.setting d (tree_of c p)) s k f h ≡ branch_path c t d (tree_of c p) s k f h
+  begun_kid (tree.look false positive once ts) p fixed d s k f h = behind_begun (branch_lengths c.setting (tree_of c p)) (fixed refl) (paths c.setting d (tree_of c p)) s k f h
+  begun_kid (tree.look true positive once ts) p fixed d s k f h = refl
+  begun_kid _ p fixed d s k f h = refl
+
+  abbrev pub begun_state : Bool → Option ℕ → State → State
+  begun_state false to s = s
+  begun_state true None s = s
+  begun_state true (Some place) s = begun_at place s
+
+  begun_focus : (b : Bool) (to : Option ℕ) (p d : ℕ) (k : Outside) (s : State) (f : Moves) →
+      focus c (begun_next b to p) d k (begun_state b to s) f ≡ begun_path b to (paths c.setting d (tree_of c p)) s (after c d k (c.rest p)) f (k.hand p)
+  begun_focus false to p d k s f = refl
+  begun_focus true None p d k s f = refl
+  begun_focus true (Some place) p d k s f = refl
+
+  -- a branch that is begun, with what follows the branches of its part
+  pub begun_is : (q p : ℕ) → (is_behind (tree_of c q) ≡ true → IsFixedPart c p) → c.rest p ≡ branch_rest c (tree_of c q) (c.rest q) →
+      (d : ℕ) (k : Outside) → k.hand p ≡ k.hand q → (s : State) (f : Moves) →
+      focus c (begun_next (is_behind (tree_of c q)) (begun_place c p s.place) p) d k (begun_state (is_behind (tree_of c q)) (begun_place c p s.place) s) f
+      ≡ branch_path c (tree_of c q) d (tree_of c p) s (after c d k (branch_rest c (tree_of c q) (c.rest q))) f (k.hand q)
+  begun_is q p fixed linked d k same s f =
+      begun_focus (is_behind (tree_of c q)) (begun_place c p s.place) p d k s f
+      ∙ begun_kid (tree_of c q) p fixed d s (after c d k (c.rest p)) f (k.hand p)
+      ∙ ap (λ (r : List ℕ). branch_path c (tree_of c q) d (tree_of c p) s (after c d k r) f (k.hand p)) linked
+      ∙ ap (λ (z : Handler). branch_path c (tree_of c q) d (tree_of c p) s (after c d k (branch_rest c (tree_of c q) (c.rest q))) f z) same
+
+  abbrev pub first_state : Bool → List ℕ → State → State
+  first_state b [] s = s
+  first_state b (p ∷ []) s = begun_state b (begun_place c p s.place) s
+  first_state b (p ∷ p' ∷ ps) s = s
 
   -- where the branches begin
   pub first_branch : (q d : ℕ) (ks : List ℕ) → IsBranched c q ks → (k : Outside) → Alike k q ks → (s : State) (f : Moves) →
-      focus c (first_next q ks) d k s f
-      ≡ branch_paths c.setting (part_paths c d ks) s (after c d k (branch_rest c (tree_of c q) (c.rest q))) f (k.hand q)
+      focus c (first_begun c (is_behind (tree_of c q)) q ks s.place) d k (first_state (is_behind (tree_of c q)) ks s) f
+      ≡ branch_paths c.setting (kid_paths c (tree_of c q) d ks) s (after c d k (branch_rest c (tree_of c q) (c.rest q))) f (k.hand q)
   unfolding branch_paths
   first_branch q d [] b k a s f = refl
   first_branch q d (p ∷ []) b k a s f =
-      ap (λ (r : List ℕ). paths c.setting d (tree_of c p) s (after c d k r) f (k.hand p))
-      (All-head (λ x. c.rest x ≡ branch_rest c (tree_of c q) (c.rest q)) p [] b.linked)
-      ∙ ap (λ (z : Handler). paths c.setting d (tree_of c p) s (after c d k (branch_rest c (tree_of c q) (c.rest q))) f z)
-      (All-head (λ x. k.hand x ≡ k.hand q) p [] a)
+      begun_is q p (λ e. All-head (IsFixedPart c) p [] (b.fixed e)) (All-head (λ x. c.rest x ≡ branch_rest c (tree_of c q) (c.rest q)) p [] b.linked)
+      d k (All-head (λ x. k.hand x ≡ k.hand q) p [] a) s f
   first_branch q d (p ∷ p' ∷ ps) b k a s f =
       branch_is q 0 d (p ∷ p' ∷ ps) b s (after c d k (branch_rest c (tree_of c q) (c.rest q))) f (k.hand q)
+
+  -- where they begin at the place itself
+  pub first_plain : (q : ℕ) (ks : List ℕ) (place : ℕ) → first_begun c false q ks place ≡ first_next q ks
+  first_plain q [] place = refl
+  first_plain q (p ∷ []) place = refl
+  first_plain q (p ∷ p' ∷ ps) place = refl
+
+  state_plain : (ks : List ℕ) (s : State) → first_state false ks s ≡ s
+  state_plain [] s = refl
+  state_plain (p ∷ []) s = refl
+  state_plain (p ∷ p' ∷ ps) s = refl
+
+  first_here : (q d : ℕ) (ks : List ℕ) → IsBranched c q ks → (k : Outside) → Alike k q ks → (s : State) (f : Moves) → is_behind (tree_of c q) ≡ false →
+      focus c (first_next q ks) d k s f
+      ≡ branch_paths c.setting (part_paths c d ks) s (after c d k (branch_rest c (tree_of c q) (c.rest q))) f (k.hand q)
+  first_here q d ks b k a s f plain =
+      sym (ap (λ n. focus c n d k s f) (first_plain q ks s.place))
+      ∙ sym (ap (λ u. focus c (first_begun c false q ks s.place) d k u f) (state_plain ks s))
+      ∙ sym (ap (λ (x : Bool). focus c (first_begun c x q ks s.place) d k (first_state x ks s) f) plain)
+      ∙ first_branch q d ks b k a s f
+      ∙ ap (λ (xs : List Path). branch_paths c.setting xs s (after c d k (branch_rest c (tree_of c q) (c.rest q))) f (k.hand q)) (plain_kids (tree_of c q) plain d ks)
 
   none_some : (p : ℕ) → None ≡ Some p → ⊥
   none_some p e = cc
@@ -189,55 +288,69 @@ module _ (c : Ground) where
   All-at P (x ∷ ks) (suc i) p a e = All-at P ks i p (All-tail P x ks a) e
 
   -- where nothing follows the branches, they end their frame; without verbs they are the same before any handler
-  pub branches_in : (q d : ℕ) (ks : List ℕ) → IsBranched c q ks → branch_rest c (tree_of c q) (c.rest q) ≡ [] → AllFree (part_paths c d ks) →
+  pub branches_in : (q d : ℕ) (ks : List ℕ) → IsBranched c q ks → branch_rest c (tree_of c q) (c.rest q) ≡ [] → AllFree (kid_paths c (tree_of c q) d ks) →
       (k : Outside) → Alike k q ks → (s : State) (f : Moves) (h : Handler) →
-      branch_paths c.setting (part_paths c d ks) s k.follow f h ≡ focus c (first_next q ks) d k s f
+      branch_paths c.setting (kid_paths c (tree_of c q) d ks) s k.follow f h
+      ≡ focus c (first_begun c (is_behind (tree_of c q)) q ks s.place) d k (first_state (is_behind (tree_of c q)) ks s) f
   branches_in q d ks b none free k a s f h =
-      (free_branches c.setting (part_paths c d ks) free).same s k.follow f h (k.hand q)
-      ∙ ap (λ (z : Follow). branch_paths c.setting (part_paths c d ks) s z f (k.hand q)) (sym (after_nil d k) ∙ ap (after c d k) (sym none))
+      (free_branches c.setting (kid_paths c (tree_of c q) d ks) free).same s k.follow f h (k.hand q)
+      ∙ ap (λ (z : Follow). branch_paths c.setting (kid_paths c (tree_of c q) d ks) s z f (k.hand q)) (sym (after_nil d k) ∙ ap (after c d k) (sym none))
       ∙ sym (first_branch q d ks b k a s f)
+
+  -- a branch of a tree without verbs is the same before any handler
+  pub free_kid : (t : Nested) (d : ℕ) (u : Nested) → IsVerbless u → IsFree (branch_path c t d u)
+  free_kid (tree.look false positive once ts) d u v = free_behind c.setting (branch_lengths c.setting u) (paths c.setting d u) (free_paths c.setting d u v)
+  free_kid (tree.look true positive once ts) d u v = free_paths c.setting d u v
+  free_kid _ d u v = free_paths c.setting d u v
 
   -- one branch of a part
   module _ (q i d : ℕ) (ks : List ℕ) (b : IsBranched c q ks) (p : ℕ) (at : slice_get ks i ≡ Some p) (verbless : IsVerbless (tree_of c p))
-      (s : State) (k : Outside) (f : Moves) where
+      (s : State) (k : Outside) (same : k.hand p ≡ k.hand q) (f : Moves) where
+    abbrev K : Follow
+    K = after c d k (branch_rest c (tree_of c q) (c.rest q))
+
     choice_at : focus c (Branch q i) d k s f
-        ≡ choice_paths c.setting (paths c.setting d (tree_of c p) ∷ part_paths c d (drop (suc i) ks)) s (after c d k (branch_rest c (tree_of c q) (c.rest q))) f (k.hand q)
+        ≡ choice_paths c.setting (branch_path c (tree_of c q) d (tree_of c p) ∷ kid_paths c (tree_of c q) d (drop (suc i) ks)) s K f (k.hand q)
     choice_at =
-        branch_is q i d ks b s (after c d k (branch_rest c (tree_of c q) (c.rest q))) f (k.hand q)
-        ∙ ap (λ (xs : List Path). choice_paths c.setting xs s (after c d k (branch_rest c (tree_of c q) (c.rest q))) f (k.hand q))
-        (drop-map (λ x. paths c.setting d (tree_of c x)) i ks ∙ ap (part_paths c d) (drop_here ks i p at))
+        branch_is q i d ks b s K f (k.hand q)
+        ∙ ap (λ (xs : List Path). choice_paths c.setting xs s K f (k.hand q))
+        (drop-map (λ x. branch_path c (tree_of c q) d (tree_of c x)) i ks ∙ ap (kid_paths c (tree_of c q) d) (drop_here ks i p at))
 
     -- without verbs it is the same before any handler
-    branch_followed : (u : State) (m : Moves) (h : Handler) →
-        paths c.setting d (tree_of c p) u (after c d k (branch_rest c (tree_of c q) (c.rest q))) m h ≡ enter c d k p u m
+    branch_followed : (u : State) (m : Moves) (h : Handler) → branch_path c (tree_of c q) d (tree_of c p) u K m h
+        ≡ focus c (begun_next (is_behind (tree_of c q)) (begun_place c p u.place) p) d k (begun_state (is_behind (tree_of c q)) (begun_place c p u.place) u) m
     branch_followed u m h =
-        (free_paths c.setting d (tree_of c p) verbless).same u (after c d k (branch_rest c (tree_of c q) (c.rest q))) m h (k.hand p)
-        ∙ ap (λ (r : List ℕ). paths c.setting d (tree_of c p) u (after c d k r) m (k.hand p))
-        (sym (All-at (λ x. c.rest x ≡ branch_rest c (tree_of c q) (c.rest q)) ks i p b.linked at))
+        (free_kid (tree_of c q) d (tree_of c p) verbless).same u K m h (k.hand q)
+        ∙ sym (begun_is q p (λ e. All-at (IsFixedPart c) ks i p (b.fixed e) at) (All-at (λ x. c.rest x ≡ branch_rest c (tree_of c q) (c.rest q)) ks i p b.linked at) d k same u m)
 
-    pub branch_last : length ks ≤ suc i → focus c (Branch q i) d k s f ≡ stepped (enter c d k p s f)
+    pub branch_last : length ks ≤ suc i → focus c (Branch q i) d k s f
+        ≡ stepped (focus c (begun_next (is_behind (tree_of c q)) (begun_place c p s.place) p) d k (begun_state (is_behind (tree_of c q)) (begun_place c p s.place) s) f)
     unfolding choice_paths
     branch_last e =
         choice_at
-        ∙ ap (λ (xs : List ℕ). choice_paths c.setting (paths c.setting d (tree_of c p) ∷ part_paths c d xs) s (after c d k (branch_rest c (tree_of c q) (c.rest q))) f (k.hand q))
+        ∙ ap (λ (xs : List ℕ). choice_paths c.setting (branch_path c (tree_of c q) d (tree_of c p) ∷ kid_paths c (tree_of c q) d xs) s K f (k.hand q))
         (drop_of_length-le ks e)
         ∙ ap stepped (branch_followed s f (catching f (k.hand q)))
 
     pub branch_more : (p' : ℕ) → slice_get ks (suc i) ≡ Some p' →
-        focus c (Branch q i) d k s f ≡ stepped (holding c.setting 1 s (λ u. enter c d k p u (pause (focus c (Branch q (suc i)) d k s f))))
+        focus c (Branch q i) d k s f ≡ stepped (holding c.setting 1 s (λ u.
+        focus c (begun_next (is_behind (tree_of c q)) (begun_place c p u.place) p) d k (begun_state (is_behind (tree_of c q)) (begun_place c p u.place) u)
+        (pause (focus c (Branch q (suc i)) d k s f))))
     unfolding choice_paths
     branch_more p' at' =
-        let K : Follow = after c d k (branch_rest c (tree_of c q) (c.rest q)) in
         let rest : drop (suc i) ks ≡ p' ∷ drop (suc (suc i)) ks = drop_here ks (suc i) p' at' in
-        let later : Moves = pause (choice_paths c.setting (part_paths c d (p' ∷ drop (suc (suc i)) ks)) s K f (k.hand q)) in
+        let later : Moves = pause (choice_paths c.setting (kid_paths c (tree_of c q) d (p' ∷ drop (suc (suc i)) ks)) s K f (k.hand q)) in
         let same : later ≡ pause (focus c (Branch q (suc i)) d k s f) =
-        ap (λ (xs : List ℕ). pause (choice_paths c.setting (part_paths c d xs) s K f (k.hand q))) (sym rest)
-        ∙ ap (λ (xs : List Path). pause (choice_paths c.setting xs s K f (k.hand q))) (sym (drop-map (λ x. paths c.setting d (tree_of c x)) (suc i) ks))
+        ap (λ (xs : List ℕ). pause (choice_paths c.setting (kid_paths c (tree_of c q) d xs) s K f (k.hand q))) (sym rest)
+        ∙ ap (λ (xs : List Path). pause (choice_paths c.setting xs s K f (k.hand q))) (sym (drop-map (λ x. branch_path c (tree_of c q) d (tree_of c x)) (suc i) ks))
         ∙ ap pause (sym (branch_is q (suc i) d ks b s K f (k.hand q))) in
         choice_at
-        ∙ ap (λ (xs : List ℕ). choice_paths c.setting (paths c.setting d (tree_of c p) ∷ part_paths c d xs) s K f (k.hand q)) rest
+        ∙ ap (λ (xs : List ℕ). choice_paths c.setting (branch_path c (tree_of c q) d (tree_of c p) ∷ kid_paths c (tree_of c q) d xs) s K f (k.hand q)) rest
         ∙ ap stepped
-        (holding_same c.setting 1 s _ _ (λ u. branch_followed u later (catching later (k.hand q)) ∙ ap (enter c d k p u) same))
+        (holding_same c.setting 1 s _ _
+        (λ u.
+        branch_followed u later (catching later (k.hand q))
+        ∙ ap (focus c (begun_next (is_behind (tree_of c q)) (begun_place c p u.place) p) d k (begun_state (is_behind (tree_of c q)) (begun_place c p u.place) u)) same))
 
   -- the branches of a part, by its node
   module _ (q : ℕ) (n : Node) (i : IsNode c q n) where
@@ -245,30 +358,70 @@ module _ (c : Ground) where
     tree_by m e = subst (λ z. nest c.trees z ≡ tree_of c q) e i.is
 
     branched : (ks r : List ℕ) (t : Nested) → t ≡ tree_of c q → branch_row c t ≡ row (map (tree_at c.trees) ks) → branch_rest c t (c.rest q) ≡ r →
-        branch_path c t ≡ paths c.setting → AllFollowed c.rest r ks → IsBranched c q ks
-    branched ks r t is rows rest plain l = record {
+        (is_behind t ≡ true → All (IsFixedPart c) ks) → AllFollowed c.rest r ks → IsBranched c q ks
+    branched ks r t is rows rest fixed l = record {
       rows = ap (branch_row c) (sym is) ∙ rows;
       linked = subst (λ x. AllFollowed c.rest x ks) (sym rest ∙ ap (λ x. branch_rest c x (c.rest q)) is) l;
-      plain = ap (branch_path c) (sym is) ∙ plain;
+      fixed = λ e. fixed (ap is_behind is ∙ e);
     }
 
     pub branched_group : (number : Option ℕ) (ks : List ℕ) → n ≡ node.Group number ks → IsBranched c q ks
     branched_group None ks e =
-        branched ks (c.rest q) (tree.group None (row (map (tree_at c.trees) ks))) (tree_by (node.Group None ks) e) refl refl refl
+        branched ks (c.rest q) (tree.group None (row (map (tree_at c.trees) ks))) (tree_by (node.Group None ks) e) refl refl (λ z. absurd (false≢true z))
         (subst (IsLinked c.rest (c.rest q)) e i.linked)
     branched_group (Some m) ks e =
-        branched ks [] (tree.group (Some m) (row (map (tree_at c.trees) ks))) (tree_by (node.Group (Some m) ks) e) refl refl refl
+        branched ks [] (tree.group (Some m) (row (map (tree_at c.trees) ks))) (tree_by (node.Group (Some m) ks) e) refl refl (λ z. absurd (false≢true z))
         (subst (IsLinked c.rest (c.rest q)) e i.linked)
 
     pub branched_atomic : (ks : List ℕ) → n ≡ node.Atomic ks → IsBranched c q ks
     branched_atomic ks e =
-        branched ks [] (tree.atomic (row (map (tree_at c.trees) ks))) (tree_by (node.Atomic ks) e) refl refl refl
+        branched ks [] (tree.atomic (row (map (tree_at c.trees) ks))) (tree_by (node.Atomic ks) e) refl refl (λ z. absurd (false≢true z))
         (subst (IsLinked c.rest (c.rest q)) e i.linked)
 
-    pub branched_look : (positive once : Bool) (ks : List ℕ) → n ≡ node.Look true positive once ks → IsBranched c q ks
-    branched_look positive once ks e =
-        branched ks [] (tree.look true positive once (row (map (tree_at c.trees) ks))) (tree_by (node.Look true positive once ks) e) refl refl refl
+    -- the branches of a lookbehind have one length each
+    fixed_row : (ks : List ℕ) → AreFixed (branch_lengths c.setting) (row (map (tree_at c.trees) ks)) → All (IsFixedPart c) ks
+    fixed_row [] a = All-nil (IsFixedPart c)
+    fixed_row (k ∷ ks) a = All-cons (IsFixedPart c) k ks a.0 (fixed_row ks a.1)
+
+    fixed_here : IsPart c q → HasFixed (branch_lengths c.setting) (nest c.trees n)
+    fixed_here part = let P : Nested → Type 0 = HasFixed (branch_lengths c.setting) in all_here P c.trees n i.tests (subst (IsMeasuredIn c) (sym i.is) part.measured)
+
+    pub fixed_look : IsPart c q → (ahead positive once : Bool) (ks : List ℕ) → n ≡ node.Look ahead positive once ks → not ahead ≡ true → All (IsFixedPart c) ks
+    fixed_look part true positive once ks e behind = absurd (false≢true behind)
+    fixed_look part false positive once ks e behind = fixed_row ks (subst (λ m. HasFixed (branch_lengths c.setting) (nest c.trees m)) e (fixed_here part))
+
+    pub branched_look : IsPart c q → (ahead positive once : Bool) (ks : List ℕ) → n ≡ node.Look ahead positive once ks → IsBranched c q ks
+    branched_look part ahead positive once ks e =
+        branched ks [] (tree.look ahead positive once (row (map (tree_at c.trees) ks))) (tree_by (node.Look ahead positive once ks) e) refl refl (fixed_look part ahead positive once ks e)
         (subst (IsLinked c.rest (c.rest q)) e i.linked)
+
+    pub behind_look : (ahead positive once : Bool) (ks : List ℕ) → n ≡ node.Look ahead positive once ks → is_behind (tree_of c q) ≡ not ahead
+    behind_look ahead positive once ks e = ap is_behind (sym (tree_by (node.Look ahead positive once ks) e))
+
+    pub behind_none : ((ahead positive once : Bool) (ks : List ℕ) → n ≡ node.Look ahead positive once ks → ⊥) → is_behind (tree_of c q) ≡ false
+    behind_none stray = ap is_behind (sym i.is) ∙ none_behind n stray
+      where
+        none_behind : (m : Node) → ((ahead positive once : Bool) (ks : List ℕ) → m ≡ node.Look ahead positive once ks → ⊥) → is_behind (nest c.trees m) ≡ false
+        none_behind (node.Look ahead positive once ks) x = absurd (x ahead positive once ks refl)
+        none_behind _ x = refl
+
+  -- the branches of a lookaround, forward or back
+  abbrev look_paths : Bool → ℕ → Row → List Path
+  look_paths true z ts = row_paths c.setting z (paths c.setting z) ts
+  look_paths false z ts = behind_paths c.setting z (paths c.setting z) ts
+
+  behind_parts : (z : ℕ) (ks : List ℕ) (positive once : Bool) (ts : Row) →
+      behind_paths c.setting z (paths c.setting z) (row (map (tree_at c.trees) ks)) ≡ kid_paths c (tree.look false positive once ts) (suc z) ks
+  unfolding path paths
+  behind_parts z [] positive once ts = refl
+  behind_parts z (q ∷ ks) positive once ts =
+      ap (λ ps. behind_path c.setting (branch_lengths c.setting (tree_of c q)) (paths c.setting (suc z) (tree_of c q)) ∷ ps) (behind_parts z ks positive once ts)
+
+  look_row : (d z : ℕ) → d ≡ suc z → (ahead positive once : Bool) (ks : List ℕ) (t : Nested) → tree.look ahead positive once (row (map (tree_at c.trees) ks)) ≡ t →
+      look_paths ahead z (row (map (tree_at c.trees) ks)) ≡ kid_paths c t d ks
+  look_row d z deep true positive once ks t e = row_deep d z ks deep ∙ sym (plain_kids t (ap is_behind (sym e)) d ks)
+  look_row d z deep false positive once ks t e =
+      behind_parts z ks positive once (row (map (tree_at c.trees) ks)) ∙ ap (λ u. kid_paths c u (suc z) ks) e ∙ ap (λ x. kid_paths c t x ks) (sym deep)
 
   -- a part with what follows it, continued
   module _ (ok : IsGround c) (q : ℕ) (n : Node) (i : IsNode c q n) (d z : ℕ) (k : Outside) (s : State) (f : Moves) (deep : d ≡ suc z) where
@@ -314,7 +467,7 @@ module _ (c : Ground) where
         by_node (node.Group None ks) e
         ∙ ap (λ (xs : List Path). pause (branch_paths c.setting xs s (past c d k q) f (k.hand q))) (row_deep d z ks deep)
         ∙ ap (λ (r : List ℕ). pause (branch_paths c.setting (part_paths c d ks) s (after c d k r) f (k.hand q))) (ap (λ z. branch_rest c z (c.rest q)) t)
-        ∙ ap pause (sym (first_branch q d ks (branched_group q n i None ks e) k a s f))
+        ∙ ap pause (sym (first_here q d ks (branched_group q n i None ks e) k a s f (ap is_behind (sym t))))
 
     pub enter_capture : (m : ℕ) (ks : List ℕ) → n ≡ node.Group (Some m) ks → enter c d k q s f
         ≡ pause (holding c.setting 1 s (λ t. branch_paths c.setting (part_paths c d ks) t (close_from c (tree_of c q) s.place (past c d k q)) (pause f) (k.hand q)))
@@ -337,13 +490,21 @@ module _ (c : Ground) where
         by_node (node.Atomic ks) e
         ∙ ap (λ (xs : List Path). pause (holding c.setting 1 s (λ t. branch_paths c.setting xs t (λ how u e. leave c.setting s how u (past c d k q) f) (pause f) (k.hand q)))) (row_deep d z ks deep)
 
-    -- a lookahead
-    pub enter_look : (positive once : Bool) (ks : List ℕ) → n ≡ node.Look true positive once ks → enter c d k q s f
-        ≡ look_path c.setting positive once (branch_paths c.setting (part_paths c d ks)) s (past c d k q) f (k.hand q)
+    -- the branches of a lookaround
+    look_kids : (ahead positive once : Bool) (ks : List ℕ) (t : Nested) → tree.look ahead positive once (row (map (tree_at c.trees) ks)) ≡ t →
+        path c.setting z (paths c.setting z) (tree.look ahead positive once (row (map (tree_at c.trees) ks))) s (past c d k q) f (k.hand q)
+        ≡ look_path c.setting positive once (branch_paths c.setting (kid_paths c t d ks)) s (past c d k q) f (k.hand q)
     unfolding path
-    enter_look positive once ks e =
-        by_node (node.Look true positive once ks) e
-        ∙ ap (λ (xs : List Path). look_path c.setting positive once (branch_paths c.setting xs) s (past c d k q) f (k.hand q)) (row_deep d z ks deep)
+    look_kids true positive once ks t e =
+        ap (λ (xs : List Path). look_path c.setting positive once (branch_paths c.setting xs) s (past c d k q) f (k.hand q)) (look_row d z deep true positive once ks t e)
+    look_kids false positive once ks t e =
+        ap (λ (xs : List Path). look_path c.setting positive once (branch_paths c.setting xs) s (past c d k q) f (k.hand q)) (look_row d z deep false positive once ks t e)
+
+    -- a lookaround
+    pub enter_look : (ahead positive once : Bool) (ks : List ℕ) → n ≡ node.Look ahead positive once ks → enter c d k q s f
+        ≡ look_path c.setting positive once (branch_paths c.setting (kid_paths c (tree_of c q) d ks)) s (past c d k q) f (k.hand q)
+    enter_look ahead positive once ks e =
+        by_node (node.Look ahead positive once ks) e ∙ look_kids ahead positive once ks (tree_of c q) (tree_by q n i (node.Look ahead positive once ks) e)
 
     -- A condition.
 
@@ -392,7 +553,7 @@ module _ (c : Ground) where
         by_node (node.Cond (cond.InCallOf ns) yes' no') e ∙ enter_chosen (cond.InCallOf ns) yes' no' e (is_called_of s.calls ns)
         ∙ ap (λ (l : List (ℕ × ℕ)). pause (chosen_from c (tree_of c q) (is_called_of l ns) d s (past c d k q) f (k.hand q))) none
 
-    -- a lookahead as a test
+    -- a lookaround as a test
     module _ (p : ℕ) (yes' : ℕ) (no' : Option ℕ) (e : n ≡ node.Cond (cond.Assert p) yes' no') where
       first_path : path c.setting z (paths c.setting z) (tree_of c yes') ≡ chosen_from c (tree_of c q) true d
       first_path = path_same _ _ (λ u K m h. first_is yes' u K m h ∙ ap (λ t. chosen_from c t true d u K m h) (tree_by q n i (node.Cond (cond.Assert p) yes' no') e))
@@ -400,24 +561,35 @@ module _ (c : Ground) where
       second_path : other_path c.setting z (paths c.setting z) (other_of c.trees no') ≡ chosen_from c (tree_of c q) false d
       second_path = path_same _ _ (λ u K m h. other_is no' u K m h ∙ ap (λ t. chosen_from c t false d u K m h) (tree_by q n i (node.Cond (cond.Assert p) yes' no') e))
 
-      asserted : (positive once : Bool) (ks : List ℕ) → tree_of c p ≡ tree.look true positive once (row (map (tree_at c.trees) ks)) →
-          enter c d k q s f ≡ assert_path c.setting positive (branch_paths c.setting (part_paths c d ks)) (chosen_from c (tree_of c q) true d) (chosen_from c (tree_of c q) false d) s (past c d k q) f (k.hand q)
+      test_kids : (ahead positive once : Bool) (ks : List ℕ) (t : Nested) → tree.look ahead positive once (row (map (tree_at c.trees) ks)) ≡ t → (P P' : Path) (K : Follow) →
+          test_path c.setting z (paths c.setting z) (tree.assert ahead positive once (row (map (tree_at c.trees) ks))) P P' s K f (k.hand q)
+          ≡ assert_path c.setting positive (branch_paths c.setting (kid_paths c t d ks)) P P' s K f (k.hand q)
       unfolding path
-      asserted positive once ks t =
+      test_kids true positive once ks t l P P' K =
+          ap (λ (xs : List Path). assert_path c.setting positive (branch_paths c.setting xs) P P' s K f (k.hand q)) (look_row d z deep true positive once ks t l)
+      test_kids false positive once ks t l P P' K =
+          ap (λ (xs : List Path). assert_path c.setting positive (branch_paths c.setting xs) P P' s K f (k.hand q)) (look_row d z deep false positive once ks t l)
+
+      asserted : (ahead positive once : Bool) (ks : List ℕ) → tree_of c p ≡ tree.look ahead positive once (row (map (tree_at c.trees) ks)) →
+          enter c d k q s f
+          ≡ assert_path c.setting positive (branch_paths c.setting (kid_paths c (tree_of c p) d ks)) (chosen_from c (tree_of c q) true d) (chosen_from c (tree_of c q) false d) s (past c d k q) f (k.hand q)
+      unfolding path
+      asserted ahead positive once ks t =
           let P : Path = path c.setting z (paths c.setting z) (tree_of c yes') in
           let P' : Path = other_path c.setting z (paths c.setting z) (other_of c.trees no') in
           let K : Follow = past c d k q in
           by_node (node.Cond (cond.Assert p) yes' no') e
           ∙ ap (λ u. test_path c.setting z (paths c.setting z) (test_of u) P P' s K f (k.hand q)) t
-          ∙ ap (λ (xs : List Path). assert_path c.setting positive (branch_paths c.setting xs) P P' s K f (k.hand q)) (row_deep d z ks deep)
-          ∙ ap (λ (x : Path). assert_path c.setting positive (branch_paths c.setting (part_paths c d ks)) x P' s K f (k.hand q)) first_path
-          ∙ ap (λ (x : Path). assert_path c.setting positive (branch_paths c.setting (part_paths c d ks)) (chosen_from c (tree_of c q) true d) x s K f (k.hand q)) second_path
+          ∙ test_kids ahead positive once ks (tree_of c p) (sym t) P P' K
+          ∙ ap (λ (x : Path). assert_path c.setting positive (branch_paths c.setting (kid_paths c (tree_of c p) d ks)) x P' s K f (k.hand q)) first_path
+          ∙ ap (λ (x : Path). assert_path c.setting positive (branch_paths c.setting (kid_paths c (tree_of c p) d ks)) (chosen_from c (tree_of c q) true d) x s K f (k.hand q)) second_path
 
       -- where it has an outcome, the first branch is run if it is positive, and else the second
-      pub enter_test : (positive once : Bool) (ks : List ℕ) → tree_of c p ≡ tree.look true positive once (row (map (tree_at c.trees) ks)) →
-          enter c d k q s f ≡ tested_path c.setting (branch_paths c.setting (part_paths c d ks)) (chosen_from c (tree_of c q) positive d) (chosen_from c (tree_of c q) (not positive) d) s (past c d k q) f (k.hand q)
-      enter_test true once ks t = asserted true once ks t
-      enter_test false once ks t = asserted false once ks t
+      pub enter_test : (ahead positive once : Bool) (ks : List ℕ) → tree_of c p ≡ tree.look ahead positive once (row (map (tree_at c.trees) ks)) →
+          enter c d k q s f
+          ≡ tested_path c.setting (branch_paths c.setting (kid_paths c (tree_of c p) d ks)) (chosen_from c (tree_of c q) positive d) (chosen_from c (tree_of c q) (not positive) d) s (past c d k q) f (k.hand q)
+      enter_test ahead true once ks t = asserted ahead true once ks t
+      enter_test ahead false once ks t = asserted ahead false once ks t
 
     pub enter_repeat : (body low : ℕ) (high : Option ℕ) (lazily : Bool) → n ≡ node.Repeat body low high lazily →
         enter c d k q s f ≡ focus c (Offer q 0) d k s f

@@ -13,17 +13,21 @@ use Rattle.pat_tree.specs.Rules.{kids_of}
 use Rattle.match_items.specs.Items.{after_item, after_break, after_ref, holds, earliest}
 use Rattle.frame_store.specs.declared.registers.Span.{Span}
 use Rattle.frame_store.specs.Captures.{Captures, capture}
-use Rattle.frame_store.specs.Entry.{Entry, GroupOpen, LaterBranch, Site, entry_site}
+use Rattle.frame_store.specs.Entry.{Entry, GroupOpen, LaterBranch, Site, Kept, entry_site}
 use Rattle.ordered_search.specs.Stream.{State, reached}
 use Rattle.ordered_search.specs.PlaceAnswer.{answers, MatchLimit, FrameLimit}
-use Rattle.ordered_search.specs.Moves.{Moves, pause, stepped, Follow, going, holding, tread, Handler}
+use Rattle.pat_lengths.specs.Lengths.{SomeLengths}
+use Rattle.ordered_search.specs.Setting.{branch_lengths}
+use Rattle.ordered_search.specs.Moves.{Moves, pause, stepped, Follow, Path, going, holding, tread, Handler}
 use Rattle.frame_machine.specs.Forms.{IsRunnable, AreRunnable}
 use Rattle.ordered_search.specs.Verbless.{IsVerbless}
-use Rattle.ordered_search.proofs.Free.{AllFree, holding_same, free_paths}
+use Rattle.ordered_search.proofs.Free.{AllFree, holding_same}
 use Rattle.frame_machine.proofs.Forms.{verbless}
+use Rattle.frame_machine.specs.declared.machine.Next.{Next}
 use Rattle.frame_machine.specs.declared.machine.Next.TheVariants.{Enter, Branch, Offer, Back, End}
 use Rattle.frame_machine.specs.declared.machine.Spot.{Spot}
 use Rattle.node_flow.specs.Linked.{AllFollowed}
+use Rattle.frame_machine.specs.Begun.{is_behind, begun_by, begun_place, begun_next, begun_spot, first_begun, first_spot}
 use Rattle.frame_machine.specs.Branches.{IsBranched}
 use Rattle.frame_machine.specs.Ground.{Ground, tree_of, next_of, IsNode, StandsIf, IsGround, IsPart}
 use Rattle.frame_machine.specs.Machine.{Around, kept_at, conf, first_set, first_next, row_length, towards, Outside, entry_kept, state_at}
@@ -31,7 +35,7 @@ use Rattle.frame_machine.specs.Frames.{past, enter, branch_rest, around, cont, o
 use Rattle.frame_machine.specs.Validity.{StandsAt, HasBranch, IsRepeat, IsCapture, SpanStands, AreSpans, IsRunning, IsValid, Advances, IsSound}
 use Rattle.frame_machine.specs.Stops.{moved_next, moved_spot, held_next, held_early, part_next}
 use Rattle.frame_machine.proofs.KidParts.{kid_parts}
-use Rattle.frame_machine.proofs.PartPaths.{enter_empty, enter_keep, enter_one, enter_break, enter_anchor, enter_ref, enter_seq_none, enter_seq, enter_group, enter_capture, enter_repeat, branch_last, branch_more, Alike, part_paths, branched_group, branches_in}
+use Rattle.frame_machine.proofs.PartPaths.{enter_empty, enter_keep, enter_one, enter_break, enter_anchor, enter_ref, enter_seq_none, enter_seq, enter_group, enter_capture, enter_repeat, branch_last, branch_more, Alike, part_paths, kid_paths, plain_kids, free_kid, begun_state, first_state, first_plain, branched_group, branches_in}
 use Rattle.frame_machine.proofs.Frames.{around_here, around_push, focus_kept, focus_framed, sound_less, hand_same, inside_of}
 use Rattle.frame_machine.proofs.Advance.{holding_room, holding_full, advance_pause, advance_step, over_steps, over_units, over_units_step, goes_back, goes_on}
 use Rattle.frame_store.specs.Undo.{taken_back}
@@ -69,10 +73,50 @@ pub alike : (c : Ground) (stack : List Entry) (caps : Captures) (l q : ℕ) (ks 
 alike c stack caps l q ks = λ i d h. hand_same c stack stack caps caps l l (get_or ks i d) q
 
 -- parts that run have no verbs
-pub free_kids : (c : Ground) (d : ℕ) (ks : List ℕ) → All (IsPart c) ks → AllFree (part_paths c d ks)
-free_kids c d [] a = tt
-free_kids c d (k ∷ ks) a =
-    (free_paths c.setting d (tree_of c k) (verbless (tree_of c k) (All-head (IsPart c) k ks a).runs), free_kids c d ks (All-tail (IsPart c) k ks a))
+pub free_kids : (c : Ground) (t : Nested) (d : ℕ) (ks : List ℕ) → All (IsPart c) ks → AllFree (kid_paths c t d ks)
+free_kids c t d [] a = tt
+free_kids c t d (k ∷ ks) a =
+    (free_kid c t d (tree_of c k) (verbless (tree_of c k) (All-head (IsPart c) k ks a).runs), free_kids c t d ks (All-tail (IsPart c) k ks a))
+
+-- A branch is begun: where it begins stands.
+
+module _ (c : Ground) (ok : IsGround c) where
+  stands_begun : (a : SomeLengths) (place : ℕ) → c.stands place ≡ true → StandsIf c (begun_by c a place)
+  stands_begun None place h = tt
+  stands_begun (Some a) place h = ok.steps_back a.least place h
+
+  stands_at : (p place : ℕ) → c.stands place ≡ true → StandsIf c (begun_place c p place)
+  stands_at p place h = stands_begun (branch_lengths c.setting (tree_of c p)) place h
+
+  begun_ahead : (b : Bool) (to : Option ℕ) (p : ℕ) (spot : Spot) (stack : List Entry) (caps : Captures) →
+      ahead c (conf (begun_next b to p) (begun_spot b to spot) stack caps)
+      ≡ focus c (begun_next b to p) (around c stack spot.frame).depth (outside c stack caps spot.frame) (state_at (around c stack spot.frame) (kept_at (begun_spot b to spot)) caps) (fail c stack caps)
+  begun_ahead false to p spot stack caps = refl
+  begun_ahead true None p spot stack caps = refl
+  begun_ahead true (Some place) p spot stack caps = refl
+
+  begun_kept : (b : Bool) (to : Option ℕ) (a : Around) (spot : Spot) (caps : Captures) → state_at a (kept_at (begun_spot b to spot)) caps ≡ begun_state c b to (state_at a (kept_at spot) caps)
+  begun_kept false to a spot caps = refl
+  begun_kept true None a spot caps = refl
+  begun_kept true (Some place) a spot caps = refl
+
+  begun_left : (b : Bool) (to : Option ℕ) (spot : Spot) → (begun_spot b to spot).left ≡ spot.left
+  begun_left false to spot = refl
+  begun_left true None spot = refl
+  begun_left true (Some place) spot = refl
+
+  begun_valid : (b : Bool) (to : Option ℕ) → StandsIf c to → (p : ℕ) (spot : Spot) (stack : List Entry) (caps : Captures) →
+      IsValid c (conf (Enter p) spot stack caps) → IsValid c (conf (begun_next b to p) (begun_spot b to spot) stack caps)
+  begun_valid false to h p spot stack caps v = v
+  begun_valid true None h p spot stack caps v = record { running = tt; records = v.records; spans = v.spans; slots = v.slots }
+  begun_valid true (Some place) h p spot stack caps v =
+      let w = v.running.1 in
+      record {
+        running = (v.running.0, record { inside = w.inside; deep = w.deep; counted = w.counted; few = w.few; here = h });
+        records = v.records;
+        spans = v.spans;
+        slots = v.slots;
+      }
 
 -- a part is run
 module _ (c : Ground) (ok : IsGround c) (q : ℕ) (spot : Spot) (stack : List Entry) (caps : Captures) (v : IsValid c (conf (Enter q) spot stack caps)) (n : Node) (i : IsNode c q n) where
@@ -187,6 +231,34 @@ module _ (c : Ground) (ok : IsGround c) (q : ℕ) (spot : Spot) (stack : List En
   first_running p (x ∷ []) inside parts b spot' stack' w = (All-head (IsPart c) x [] parts, w)
   first_running p (x ∷ y ∷ ps) inside parts b spot' stack' w = (inside, w, subst (λ r. 0 < row_length r) (sym b.rows) (omega arith))
 
+  first_valid : (b : Bool) (p : ℕ) (ks : List ℕ) (spot' : Spot) (stack' : List Entry) (caps' : Captures) → c.stands spot'.place ≡ true →
+      IsValid c (conf (first_next p ks) spot' stack' caps') → IsValid c (conf (first_begun c b p ks spot'.place) (first_spot c b ks spot') stack' caps')
+  first_valid b p [] spot' stack' caps' h w = w
+  first_valid b p (x ∷ []) spot' stack' caps' h w = begun_valid c ok b (begun_place c x spot'.place) (stands_at c ok x spot'.place h) x spot' stack' caps' w
+  first_valid b p (x ∷ y ∷ ps) spot' stack' caps' h w = w
+
+  first_ahead : (b : Bool) (p : ℕ) (ks : List ℕ) (spot' : Spot) (stack' : List Entry) (caps' : Captures) →
+      ahead c (conf (first_begun c b p ks spot'.place) (first_spot c b ks spot') stack' caps')
+      ≡ focus c (first_begun c b p ks spot'.place) (around c stack' spot'.frame).depth (outside c stack' caps' spot'.frame) (state_at (around c stack' spot'.frame) (kept_at (first_spot c b ks spot')) caps') (fail c stack' caps')
+  first_ahead b p [] spot' stack' caps' = refl
+  first_ahead b p (x ∷ []) spot' stack' caps' = begun_ahead c ok b (begun_place c x spot'.place) x spot' stack' caps'
+  first_ahead b p (x ∷ y ∷ ps) spot' stack' caps' = refl
+
+  first_kept : (b : Bool) (ks : List ℕ) (a : Around) (spot' : Spot) (caps' : Captures) → state_at a (kept_at (first_spot c b ks spot')) caps' ≡ first_state c b ks (state_at a (kept_at spot') caps')
+  first_kept b [] a spot' caps' = refl
+  first_kept b (x ∷ []) a spot' caps' = begun_kept c ok b (begun_place c x spot'.place) a spot' caps'
+  first_kept b (x ∷ y ∷ ps) a spot' caps' = refl
+
+  first_left : (b : Bool) (ks : List ℕ) (spot' : Spot) → (first_spot c b ks spot').left ≡ spot'.left
+  first_left b [] spot' = refl
+  first_left b (x ∷ []) spot' = begun_left c ok b (begun_place c x spot'.place) spot'
+  first_left b (x ∷ y ∷ ps) spot' = refl
+
+  spot_plain : (ks : List ℕ) (spot' : Spot) → first_spot c false ks spot' ≡ spot'
+  spot_plain [] spot' = refl
+  spot_plain (x ∷ []) spot' = refl
+  spot_plain (x ∷ y ∷ ps) spot' = refl
+
   pub turn_group : (ks : List ℕ) → n ≡ node.Group None ks → Advances c (conf (Enter q) spot stack caps) (conf (first_next q ks) spot stack caps)
   turn_group ks e =
       advance_pause c _ _ _ (enter_group c ok q n i _ _ _ _ _ deep ks (alike c stack caps spot.frame q ks) e) refl refl
@@ -208,26 +280,60 @@ module _ (c : Ground) (ok : IsGround c) (q : ℕ) (spot : Spot) (stack : List En
 
     module _ (p : ℕ) (inside : IsPart c p) (ks : List ℕ) (parts : All (IsPart c) ks) (b : IsBranched c p ks) (none : branch_rest c (tree_of c p) (c.rest p) ≡ [])
         (sound : IsSound c spot.left (length caps) stack r) (h : Handler) (z : Moves) where
-      pub opens : ahead c (conf (Enter q) spot stack caps)
+      abbrev backward : Bool
+      backward = is_behind (tree_of c p)
+
+      abbrev level : ℕ
+      level = (around c stack spot.frame).depth
+
+      opens_behind : ahead c (conf (Enter q) spot stack caps)
           ≡ pause (holding c.setting 1 (spot_state c spot stack caps) (λ u.
-          branch_paths c.setting (part_paths c (around c stack spot.frame).depth ks) u (inside_of c r stack caps).follow z h)) →
+          branch_paths c.setting (kid_paths c (tree_of c p) level ks) u (inside_of c r stack caps).follow z h)) →
           fail c (r ∷ stack) caps ≡ z →
-          Advances c (conf (Enter q) spot stack caps) (conf (first_next p ks) opened (r ∷ stack) caps)
-      opens e f =
+          Advances c (conf (Enter q) spot stack caps) (conf (first_begun c backward p ks spot.place) (first_spot c backward ks opened) (r ∷ stack) caps)
+      opens_behind e f =
+          let next : Next = first_begun c backward p ks spot.place in
+          let kept : Kept = kept_at (first_spot c backward ks opened) in
           advance_pause c _ _ _
           (e ∙ ap pause (holding_room c.setting _ _ room))
-          (focus_framed c r stack caps (first_next p ks) (kept_at opened) caps (fail c (r ∷ stack) caps)
-          ∙ ap (λ (a : Around). focus c (first_next p ks) a.depth (inside_of c r stack caps) (state_at a (kept_at opened) caps) (fail c (r ∷ stack) caps))
+          (first_ahead backward p ks opened (r ∷ stack) caps
+          ∙ focus_framed c r stack caps next kept caps (fail c (r ∷ stack) caps)
+          ∙ ap (λ (a : Around). focus c next a.depth (inside_of c r stack caps) (state_at a kept caps) (fail c (r ∷ stack) caps))
           (same _ ∙ ap (around c stack) (ap (λ (x : Site). x.link) at))
-          ∙ ap (focus c (first_next p ks) (around c stack spot.frame).depth (inside_of c r stack caps) (state_at (around c stack spot.frame) (kept_at opened) caps)) f
-          ∙ sym (branches_in c p _ ks b none (free_kids c _ ks parts) (inside_of c r stack caps) (alike c (r ∷ stack) caps (suc (length stack)) p ks) _ z h))
-          refl
+          ∙ ap (focus c next level (inside_of c r stack caps) (state_at (around c stack spot.frame) kept caps)) f
+          ∙ ap (λ (u : State). focus c next level (inside_of c r stack caps) u z) (first_kept backward ks (around c stack spot.frame) opened caps)
+          ∙ sym (branches_in c p level ks b none (free_kids c (tree_of c p) level ks parts) (inside_of c r stack caps) (alike c (r ∷ stack) caps (suc (length stack)) p ks) (state_at (around c stack spot.frame) (kept_at opened) caps) z h))
+          (first_left backward ks opened)
+          (first_valid backward p ks opened (r ∷ stack) caps v.running.1.here
           (record {
             running = first_running p ks inside parts b opened (r ∷ stack) opened_standing;
             records = (sound, v.records);
             spans = v.spans;
             slots = v.slots;
-          })
+          }))
+
+      -- those of a lookaround, forward or back
+      pub opens_as : (behind' : Bool) → is_behind (tree_of c p) ≡ behind' → ahead c (conf (Enter q) spot stack caps)
+          ≡ pause (holding c.setting 1 (spot_state c spot stack caps) (λ u.
+          branch_paths c.setting (kid_paths c (tree_of c p) level ks) u (inside_of c r stack caps).follow z h)) →
+          fail c (r ∷ stack) caps ≡ z →
+          Advances c (conf (Enter q) spot stack caps) (conf (first_begun c behind' p ks spot.place) (first_spot c behind' ks opened) (r ∷ stack) caps)
+      opens_as behind' is e f =
+          subst (λ x. Advances c (conf (Enter q) spot stack caps) (conf (first_begun c x p ks spot.place) (first_spot c x ks opened) (r ∷ stack) caps)) is (opens_behind e f)
+
+      -- those that begin at the place itself
+      pub opens : is_behind (tree_of c p) ≡ false → ahead c (conf (Enter q) spot stack caps)
+          ≡ pause (holding c.setting 1 (spot_state c spot stack caps) (λ u.
+          branch_paths c.setting (part_paths c level ks) u (inside_of c r stack caps).follow z h)) →
+          fail c (r ∷ stack) caps ≡ z →
+          Advances c (conf (Enter q) spot stack caps) (conf (first_next p ks) opened (r ∷ stack) caps)
+      opens plain e f =
+          let kids : List Path = kid_paths c (tree_of c p) level ks in
+          subst (λ x. Advances c (conf (Enter q) spot stack caps) (conf x opened (r ∷ stack) caps)) (first_plain c p ks spot.place)
+          (subst (λ x. Advances c (conf (Enter q) spot stack caps) (conf (first_begun c false p ks spot.place) x (r ∷ stack) caps)) (spot_plain ks opened)
+          (opens_as false plain
+          (e ∙ ap (λ (xs : List Path). pause (holding c.setting 1 (spot_state c spot stack caps) (λ u. branch_paths c.setting xs u (inside_of c r stack caps).follow z h))) (sym (plain_kids c (tree_of c p) plain level ks)))
+          f))
 
   pub turn_capture : (m : ℕ) (ks : List ℕ) → n ≡ node.Group (Some m) ks → spot.units < c.setting.matching.frame_limit →
       Advances c (conf (Enter q) spot stack caps)
@@ -239,7 +345,7 @@ module _ (c : Ground) (ok : IsGround c) (q : ℕ) (spot : Spot) (stack : List En
       q v.running.0 ks (kids_are ks (ap kids_of e)) (branched_group c q n i (Some m) ks e)
       (ap (λ x. branch_rest c x (c.rest q)) (sym t))
       (v.running.0, v.running.1, subst (IsCapture c) t tt)
-      (hand c stack caps spot.frame q) (pause (fail c stack caps))
+      (hand c stack caps spot.frame q) (pause (fail c stack caps)) (ap is_behind (sym t))
       (enter_capture c ok q n i _ _ _ _ _ deep m ks e) refl
 
   pub stop_capture : (m : ℕ) (ks : List ℕ) → n ≡ node.Group (Some m) ks → c.setting.matching.frame_limit ≤ spot.units →
@@ -284,36 +390,50 @@ length_row c (x ∷ xs) = ap suc (length_row c xs)
 -- a branch of a group is tried
 module _ (c : Ground) (ok : IsGround c) (q j : ℕ) (spot : Spot) (stack : List Entry) (caps : Captures) (v : IsValid c (conf (Branch q j) spot stack caps))
     (ks : List ℕ) (b : IsBranched c q ks) (p : ℕ) (at : slice_get ks j ≡ Some p) (inside : IsPart c p) where
+  abbrev behind : Bool
+  behind = is_behind (tree_of c q)
+
+  abbrev start : Option ℕ
+  start = begun_place c p spot.place
+
+  same_hand : (outside c stack caps spot.frame).hand p ≡ (outside c stack caps spot.frame).hand q
+  same_hand = hand_same c stack stack caps caps spot.frame spot.frame p q
+
   pub stop_branch : spot.left ≡ 0 → (p' : Option ℕ) → slice_get ks (suc j) ≡ p' → length ks ≤ suc j ⊎ ((x : ℕ) × (slice_get ks (suc j) ≡ Some x)) →
       tread c.setting spot.left (ahead c (conf (Branch q j) spot stack caps)) ≡ answers MatchLimit
-  stop_branch out p' e (inl last) = over_steps c spot.left _ _ (branch_last c q j _ ks b p at (verbless (tree_of c p) inside.runs) _ _ _ last) out
-  stop_branch out p' e (inr more) = over_steps c spot.left _ _ (branch_more c q j _ ks b p at (verbless (tree_of c p) inside.runs) _ _ _ more.0 more.1) out
+  stop_branch out p' e (inl last) = over_steps c spot.left _ _ (branch_last c q j _ ks b p at (verbless (tree_of c p) inside.runs) _ _ same_hand _ last) out
+  stop_branch out p' e (inr more) = over_steps c spot.left _ _ (branch_more c q j _ ks b p at (verbless (tree_of c p) inside.runs) _ _ same_hand _ more.0 more.1) out
 
   pub turn_branch_last : length ks ≤ suc j → 0 < spot.left →
-      Advances c (conf (Branch q j) spot stack caps) (conf (Enter p) (record spot { left = spot.left - 1 }) stack caps)
+      Advances c (conf (Branch q j) spot stack caps) (conf (begun_next behind start p) (begun_spot behind start (record spot { left = spot.left - 1 })) stack caps)
   turn_branch_last last left =
       let w = v.running.1 in
-      advance_step c _ _ _ (branch_last c q j _ ks b p at (verbless (tree_of c p) inside.runs) _ _ _ last) refl (omega arith)
+      let to : Spot = record spot { left = spot.left - 1 } in
+      advance_step c _ _ _ (branch_last c q j _ ks b p at (verbless (tree_of c p) inside.runs) _ _ same_hand _ last)
+      (begun_ahead c ok behind start p to stack caps
+      ∙ ap (λ (u : State). focus c (begun_next behind start p) (around c stack spot.frame).depth (outside c stack caps spot.frame) u (fail c stack caps)) (begun_kept c ok behind start (around c stack spot.frame) to caps))
+      (omega (arith, begun_left c ok behind start to, left))
+      (begun_valid c ok behind start (stands_at c ok p spot.place w.here) p to stack caps
       (record {
         running = (inside, record { inside = w.inside; deep = omega (arith, w.deep); counted = w.counted; few = w.few; here = w.here });
         records = sound_less c spot.left (spot.left - 1) (length caps) stack (omega arith) v.records;
         spans = v.spans;
         slots = v.slots;
-      })
+      }))
 
   module _ (p' : ℕ) (at' : slice_get ks (suc j) ≡ Some p') (left : 0 < spot.left) where
     choosing : ahead c (conf (Branch q j) spot stack caps)
         ≡ stepped (holding c.setting 1 (spot_state c spot stack caps) (λ u.
-        enter c (around c stack spot.frame).depth (outside c stack caps spot.frame) p u
+        focus c (begun_next behind (begun_place c p u.place) p) (around c stack spot.frame).depth (outside c stack caps spot.frame) (begun_state c behind (begun_place c p u.place) u)
         (pause (focus c (Branch q (suc j)) (around c stack spot.frame).depth (outside c stack caps spot.frame) (spot_state c spot stack caps) (fail c stack caps)))))
-    choosing = branch_more c q j _ ks b p at (verbless (tree_of c p) inside.runs) _ _ _ p' at'
+    choosing = branch_more c q j _ ks b p at (verbless (tree_of c p) inside.runs) _ _ same_hand _ p' at'
 
     pub stop_branch_units : c.setting.matching.frame_limit ≤ spot.units → tread c.setting spot.left (ahead c (conf (Branch q j) spot stack caps)) ≡ answers FrameLimit
     stop_branch_units full = over_units_step c spot.left _ _ choosing (holding_full c.setting _ _ full) left
 
     pub turn_branch_more : suc j < length ks → spot.units < c.setting.matching.frame_limit →
         Advances c (conf (Branch q j) spot stack caps)
-        (conf (Enter p) (record spot { left = spot.left - 1; units = spot.units + 1 }) (LaterBranch (record { node = q; link = spot.frame }) (kept_at spot) (suc j) ∷ stack) caps)
+        (conf (begun_next behind start p) (begun_spot behind start (record spot { left = spot.left - 1; units = spot.units + 1 })) (LaterBranch (record { node = q; link = spot.frame }) (kept_at spot) (suc j) ∷ stack) caps)
     unfolding fail
     turn_branch_more lt room =
         let r : Entry = LaterBranch (record { node = q; link = spot.frame }) (kept_at spot) (suc j) in
@@ -322,8 +442,11 @@ module _ (c : Ground) (ok : IsGround c) (q j : ℕ) (spot : Spot) (stack : List 
         let counts : row_length (row (map (tree_at c.trees) ks)) ≡ length ks = length_row c ks in
         advance_step c _ _ _
         (choosing ∙ ap stepped (holding_room c.setting _ _ room))
-        (focus_kept c r stack caps (Enter p) spot.frame (kept_at to) caps (fail c (r ∷ stack) caps) w.inside)
-        (omega arith)
+        (begun_ahead c ok behind start p to (r ∷ stack) caps
+        ∙ focus_kept c r stack caps (begun_next behind start p) spot.frame (kept_at (begun_spot behind start to)) caps (fail c (r ∷ stack) caps) w.inside
+        ∙ ap (λ (u : State). focus c (begun_next behind start p) (around c stack spot.frame).depth (outside c stack caps spot.frame) u (fail c (r ∷ stack) caps)) (begun_kept c ok behind start (around c stack spot.frame) to caps))
+        (omega (arith, begun_left c ok behind start to, left))
+        (begun_valid c ok behind start (stands_at c ok p spot.place w.here) p to (r ∷ stack) caps
         (record {
           running = (
             inside,
@@ -345,7 +468,7 @@ module _ (c : Ground) (ok : IsGround c) (q j : ℕ) (spot : Spot) (stack : List 
           );
           spans = v.spans;
           slots = v.slots;
-        })
+        }))
 
 -- a node of no other form runs
 pub stray_node : (ts : List Nested) (n : Node) → IsRunnable (nest ts n) → n ≢ node.Empty → n ≢ node.KeepOut → ((item : Item) → n ≢ node.One item) → n ≢ node.Break →

@@ -13,7 +13,10 @@ use Rattle.char_sets.specs.Table.{CharSet}
 use Rattle.node_flow.specs.Followers.{IsFlowOf}
 use Rattle.node_flow.specs.Linked.{AreChained, IsLinked}
 use Rattle.frame_machine.specs.Forms.{IsRunnable, AreRunnable, IsRunnableTest, IsRunnableOther}
+use Rattle.frame_machine.specs.Behind.{AreFixed, HasFixed}
 use Rattle.frame_machine.specs.Ready.{IsByteSearch}
+use Rattle.pat_lengths.specs.Lengths.{SomeLengths}
+use Rattle.pat_lengths.specs.Backs.{AreBacks}
 
 ×_prop3 : {A B C : Type 0} → IsProp A → IsProp B → IsProp C → IsProp (A × B × C)
 ×_prop3 a b c = hlevel (a, b, c)
@@ -28,8 +31,7 @@ mutual
   IsRunnable-prop (tree.repeat body low high lazily) = IsRunnable-prop body
   IsRunnable-prop (tree.one_repeat item low high lazily) = hlevel props
   IsRunnable-prop (tree.atomic ts) = AreRunnable-prop ts
-  IsRunnable-prop (tree.look true positive once ts) = AreRunnable-prop ts
-  IsRunnable-prop (tree.look false positive once ts) = hlevel props
+  IsRunnable-prop (tree.look ahead positive once ts) = AreRunnable-prop ts
   IsRunnable-prop (tree.condition test first second) = ×_prop3 (IsRunnableTest-prop test) (IsRunnable-prop first) (IsRunnableOther-prop second)
   IsRunnable-prop (tree.call n) = hlevel props
   IsRunnable-prop (tree.ref ns caseless) = hlevel props
@@ -47,13 +49,21 @@ mutual
   IsRunnableTest-prop tree.in_call = hlevel props
   IsRunnableTest-prop (tree.in_call_of ns) = hlevel props
   IsRunnableTest-prop tree.never = hlevel props
-  IsRunnableTest-prop (tree.assert true positive once ts) = AreRunnable-prop ts
-  IsRunnableTest-prop (tree.assert false positive once ts) = hlevel props
+  IsRunnableTest-prop (tree.assert ahead positive once ts) = AreRunnable-prop ts
   IsRunnableTest-prop (tree.called c test) = hlevel props
 
   IsRunnableOther-prop : (second : Other) → IsProp (IsRunnableOther second)
   IsRunnableOther-prop tree.no_other = hlevel props
   IsRunnableOther-prop (tree.other t) = IsRunnable-prop t
+
+module _ (lengths : Nested → SomeLengths) where
+  AreFixed-prop : (ts : Row) → IsProp (AreFixed lengths ts)
+  AreFixed-prop tree.none = hlevel props
+  AreFixed-prop (tree.more t ts) = ×_prop (hlevel props) (AreFixed-prop ts)
+
+  HasFixed-prop : (t : Nested) → IsProp (HasFixed lengths t)
+  HasFixed-prop (tree.look false positive once ts) = AreFixed-prop ts
+  HasFixed-prop _ = hlevel props
 
 module _ (rest : ℕ → List ℕ) where
   AreChained-prop : (ks after : List ℕ) → IsProp (AreChained rest ks after)
@@ -80,7 +90,10 @@ module _ (rest : ℕ → List ℕ) where
   IsLinked-prop after (node.Callout number from to at len) = hlevel props
 
 pub IsByteSearch-prop : (t : TreeParts) (table : List CharSet) (matching : MatchOptions) (subject : List ℕ) → IsProp (IsByteSearch t table matching subject)
-IsByteSearch-prop t table matching subject = hlevel (props, IsRunnable-prop, IsLinked-prop)
+IsByteSearch-prop t table matching subject = hlevel (props, IsRunnable-prop, HasFixed-prop, IsLinked-prop)
 
 pub IsFlowOf-prop : (nodes : List Placed) (root : ℕ) (flow : List (Option ℕ)) → IsProp (IsFlowOf nodes root flow)
 IsFlowOf-prop nodes root flow = hlevel props
+
+pub AreBacks-prop : (t : TreeParts) (backs : List ℕ) → IsProp (AreBacks t backs)
+AreBacks-prop t backs = hlevel props

@@ -35,7 +35,7 @@ pub record IsTest (c : Ground) (q p : ℕ) : Type 0 where
   pub second : Option ℕ
   pub node : IsNode c q (node.Cond (cond.Assert p) first second)
 
--- a lookahead, with these branches
-pub record IsLook (c : Ground) (q : ℕ) (positive : Bool) (ks : List ℕ) : Type 0 where
+-- a lookaround, with these branches
+pub record IsLook (c : Ground) (q : ℕ) (forward positive : Bool) (ks : List ℕ) : Type 0 where
   pub once : Bool
-  pub node : IsNode c q (node.Look true positive once ks)
+  pub node : IsNode c q (node.Look forward positive once ks)

@@ -1,5 +1,4 @@
--- The forms of patterns that the machine runs: all but lookbehinds, calls, verbs and callouts.
-use Rattle.std.specs.Prelude.{true, false}
+-- The forms of patterns that the machine runs: all but calls, verbs and callouts.
 use Rattle.pat_tree.specs.Nested as tree
 use Rattle.pat_tree.specs.Nested.{Nested, Row, Test, Other}
 
@@ -13,8 +12,7 @@ abbrev mutual
   IsRunnable (tree.repeat body low high lazily) = IsRunnable body
   IsRunnable (tree.one_repeat item low high lazily) = Unit {0}
   IsRunnable (tree.atomic ts) = AreRunnable ts
-  IsRunnable (tree.look true positive once ts) = AreRunnable ts
-  IsRunnable (tree.look false positive once ts) = ⊥
+  IsRunnable (tree.look ahead positive once ts) = AreRunnable ts
   IsRunnable (tree.condition test first second) = IsRunnableTest test × IsRunnable first × IsRunnableOther second
   IsRunnable (tree.call n) = ⊥
   IsRunnable (tree.ref ns caseless) = Unit {0}
@@ -33,8 +31,7 @@ abbrev mutual
   IsRunnableTest tree.in_call = Unit {0}
   IsRunnableTest (tree.in_call_of ns) = Unit {0}
   IsRunnableTest tree.never = Unit {0}
-  IsRunnableTest (tree.assert true positive once ts) = AreRunnable ts
-  IsRunnableTest (tree.assert false positive once ts) = ⊥
+  IsRunnableTest (tree.assert ahead positive once ts) = AreRunnable ts
   IsRunnableTest (tree.called c test) = ⊥
 
   pub IsRunnableOther : Other → Type 0

@@ -9,8 +9,9 @@ use Rattle.pat_tree.specs.Refs.{named_by}
 use Rattle.node_flow.specs.Followers.{first_of}
 use Rattle.node_flow.specs.Linked.{IsLinked}
 use Rattle.match_items.specs.Items.{after_item, after_break, after_ref, place_before}
-use Rattle.ordered_search.specs.Setting.{Setting, match_limit}
+use Rattle.ordered_search.specs.Setting.{Setting, match_limit, branch_lengths}
 use Rattle.frame_machine.specs.Forms.{IsRunnable}
+use Rattle.frame_machine.specs.Behind.{IsMeasured, place_back}
 
 pub record Ground : Type 0 where
   pub setting : Setting
@@ -49,21 +50,27 @@ abbrev pub StandsIf : Ground → Option ℕ → Type 0
 StandsIf c None = Unit {0}
 StandsIf c (Some p) = c.stands p ≡ true
 
+-- the branches of the lookbehinds in a tree have one length each
+abbrev pub IsMeasuredIn : Ground → Nested → Type 0
+IsMeasuredIn c t = IsMeasured (branch_lengths c.setting) t
+
 -- a part of the pattern in forms that run
 abbrev pub IsRunnablePart : Ground → ℕ → Type 0
-IsRunnablePart c q = (q ≤ c.root) × IsRunnable (tree_of c q)
+IsRunnablePart c q = (q ≤ c.root) × IsRunnable (tree_of c q) × IsMeasuredIn c (tree_of c q)
 
 -- The search may come to the part: it is one of the pattern's, in forms that run, and so are those that follow it. A tree
 -- may hold nodes beside the pattern's, of which nothing is asked.
 pub record IsPart (c : Ground) (q : ℕ) : Type 0 where
   pub within : q ≤ c.root
   pub runs : IsRunnable (tree_of c q)
+  pub measured : IsMeasuredIn c (tree_of c q)
   pub followed : All (IsRunnablePart c) (c.rest q)
 
 -- What holds of all places and parts.
 pub record IsGround (c : Ground) : Type 0 where
   -- all forms of the pattern run
   pub runs : IsRunnable c.setting.whole
+  pub measured : IsMeasuredIn c c.setting.whole
   pub whole : tree_of c c.root ≡ c.setting.whole
   pub last : c.rest c.root ≡ []
   pub chained : (q p : ℕ) (ps : List ℕ) → q ≤ c.root → c.rest q ≡ p ∷ ps → c.rest p ≡ ps
@@ -77,5 +84,6 @@ pub record IsGround (c : Ground) : Type 0 where
   pub breaks : (p : ℕ) → c.stands p ≡ true → StandsIf c (after_break c.setting.scene p)
   pub refers : (from to p : ℕ) (caseless : Bool) → c.stands from ≡ true → c.stands to ≡ true → c.stands p ≡ true →
       StandsIf c (after_ref c.setting.scene from to caseless p)
+  pub steps_back : (n p : ℕ) → c.stands p ≡ true → StandsIf c (place_back c.setting.scene n p)
   pub backward : (p : ℕ) → c.stands p ≡ true → 0 < p → (place_before c.setting.scene p < p) × (c.stands (place_before c.setting.scene p) ≡ true)
   pub off : c.setting.matching.«partial» ≡ Off

@@ -9,6 +9,8 @@ use Rattle.pcre_io.specs.declared.callouts.Block.{Block}
 use Rattle.match_items.specs.Items.{after_item, after_break, after_ref, place_before}
 use Rattle.match_items.proofs.Places.{item_forward, place_before-less, break_within, ref_within}
 use Rattle.ordered_search.specs.Setting.{lower_of}
+use Rattle.frame_machine.specs.Behind.{place_back}
+use Rattle.frame_machine.specs.BytesBack.{place_back_within}
 use Rattle.frame_machine.specs.Ground.{Ground, IsGround, StandsIf}
 use Rattle.frame_machine.specs.Ready.{IsByteSearch, ground_in}
 
@@ -43,9 +45,14 @@ module _ (t : TreeParts) (table : List CharSet) (matching : MatchOptions) (subje
       let e = place_before-less board.setting.scene p h.searched.no_utf in
       (omega (arith, e, some), standing (place_before board.setting.scene p) (omega (arith, e, le)))
 
+  steps_back : (n p : ℕ) → board.stands p ≡ true → StandsIf board (place_back board.setting.scene n p)
+  steps_back n p here =
+      stands_if board refl (place_back board.setting.scene n p) (λ q e. let le = place_back_within board.setting.scene h.searched.no_utf n p q e in omega (arith, le, within p here))
+
   pub ground_is : IsGround board
   ground_is = record {
     runs = h.runs;
+    measured = h.measured;
     whole = refl;
     last = h.last;
     chained = λ q p ps le e. h.chained q p ps e;
@@ -57,6 +64,7 @@ module _ (t : TreeParts) (table : List CharSet) (matching : MatchOptions) (subje
     breaks = λ p here. stands_if board refl (after_break board.setting.scene p) (λ q e. break_within board.setting.scene p q (within p here) e);
     refers = λ from to p caseless a b here.
         stands_if board refl (after_ref board.setting.scene from to caseless p) (λ q e. ref_within board.setting.scene from to p q caseless h.searched.no_utf (within p here) e);
+    steps_back = steps_back;
     backward = backward;
     off = h.off;
   }

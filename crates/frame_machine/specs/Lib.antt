@@ -1,5 +1,7 @@
 pub mod Forms
+pub mod Behind
 pub mod Ground
+pub mod Begun
 pub mod Machine
 pub mod Frames
 pub mod Validity
@@ -12,5 +14,6 @@ pub mod Answer
 pub mod Ready
 pub mod Told
 pub mod BoardProps
+pub mod BytesBack
 pub mod GroundLaw
 pub mod Made

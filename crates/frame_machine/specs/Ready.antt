@@ -3,7 +3,7 @@ use Rattle.std.specs.Prelude.{◌≡◌, ◌<◌, ◌≤◌, ℕ, ℤ, true, fal
 use Rattle.uni_text.specs.Ascii.{ascii_fold, is_word_char}
 use Rattle.pat_tree.specs.declared.options.MatchOptions.{MatchOptions}
 use Rattle.pat_tree.specs.declared.options.PartialMode.TheVariants.{Off}
-use Rattle.pat_tree.specs.Nested.{trees}
+use Rattle.pat_tree.specs.Nested.{Nested, trees}
 use Rattle.pat_tree.specs.Parts.{TreeParts, tree_of}
 use Rattle.pat_tree.specs.Pattern.{pattern_of}
 use Rattle.pat_tree.specs.Refs.{has_group}
@@ -18,15 +18,16 @@ use Rattle.pcre_io.specs.declared.callouts.Block.{Block}
 use Rattle.pat_check.specs.declared.facts.Facts.{Facts}
 use Rattle.frame_machine.specs.Forms.{IsRunnable}
 use Rattle.pat_check.specs.Known.{IsByteSet, lead_set_of}
-use Rattle.pat_check.specs.Backs.{AreBacks, first_fault, greatest_back}
-use Rattle.pat_check.specs.Lengths.{can_be_empty}
+use Rattle.pat_lengths.specs.Backs.{AreBacks, first_fault, greatest_back}
+use Rattle.pat_lengths.specs.Lengths.{SomeLengths, branch_lengths, can_be_empty}
 use Rattle.pat_check.specs.Size.{size}
 use Rattle.pat_check.specs.Support.{dfa_support}
-use Rattle.pat_check.specs.Nodes.{names_cr_or_lf, has_lookbehind, tests_before}
+use Rattle.pat_lengths.specs.Nodes.{names_cr_or_lf, has_lookbehind, tests_before}
 use Rattle.frame_machine.specs.declared.ready.Ready.{Ready}
 use Rattle.ordered_search.specs.Stream as search
 use Rattle.ordered_search.specs.Setting.{Setting, setting_of}
 use Rattle.frame_machine.specs.Ground.{Ground}
+use Rattle.frame_machine.specs.Behind.{IsMeasured}
 
 -- what is known of a tree is known of this one
 pub record AreFactsOf (tree : TreeParts) (facts : Facts) : Type 0 where
@@ -65,9 +66,15 @@ setting_in tree matching subject start answers = setting_of (pattern_of tree) ma
 abbrev pub setting_for : TreeParts → View → (Block → ℤ) → Setting
 setting_for tree view answers = setting_in tree view.matching.now view.subject.now view.start answers
 
--- The search is one that runs here: all forms of the tree run, and the subject is one of bytes.
+-- the lengths of a branch of a lookbehind in it
+abbrev pub lengths_in : TreeParts → Nested → SomeLengths
+lengths_in tree t = branch_lengths tree.options.match_unset_backref (tree_of tree) t
+
+-- The search is one that runs here: all forms of the tree run, the branches of its lookbehinds have one length each, and
+-- the subject is one of bytes.
 pub record IsByteSearch (tree : TreeParts) (table : List CharSet) (matching : MatchOptions) (subject : List ℕ) : Type 0 where
   pub runs : IsRunnable (tree_of tree)
+  pub measured : IsMeasured (lengths_in tree) (tree_of tree)
   pub shown : IsTableOf tree table
   pub searched : IsSubject tree.options subject
   pub off : matching.«partial» ≡ Off

@@ -3,9 +3,10 @@ ghost use Rattle.std.specs.Prelude.{◌≡◌, ◌<◌, ◌≤◌, false, length
 ghost use Rattle.match_items.specs.Subjects.{IsSubject};
 ghost use Rattle.match_items.specs.Views.{scene_of};
 ghost use Rattle.node_flow.specs.Followers.{IsFlowOf};
+ghost use Rattle.pat_lengths.specs.Backs.{AreBacks};
 ghost use Rattle.frame_machine.specs.Ready.{IsByteSearch, setting_in};
 ghost use Rattle.frame_machine.specs.Told.{in_ascii};
-ghost use Rattle.frame_machine.specs.BoardProps.{IsByteSearch-prop, IsFlowOf-prop};
+ghost use Rattle.frame_machine.specs.BoardProps.{IsByteSearch-prop, IsFlowOf-prop, AreBacks-prop};
 
 use crate::counted::{longest, place_of, taken};
 use crate::searchable::{Run, Searchable};
@@ -27,6 +28,7 @@ pub(crate) struct Board<'a, C: Callouts> {
     pub calls: &'a C,
     ghost runs: { IsByteSearch tree.now classes.now matching.now subject.now } by { IsByteSearch-prop tree.now classes.now matching.now subject.now },
     ghost flows: { IsFlowOf tree.now.nodes tree.now.root facts.now.flow } by { IsFlowOf-prop tree.now.nodes tree.now.root facts.now.flow },
+    ghost backs: { AreBacks tree.now facts.now.backs } by { AreBacks-prop tree.now facts.now.backs },
 }
 
 impl<C: Callouts> Board<'_, C> {
@@ -134,6 +136,14 @@ impl<C: Callouts> Searchable for Board<'_, C> {
 
     fn before(&self, at: u64) -> u64 {
         at.saturating_sub(1)
+    }
+
+    fn step_back(&self, at: u64, count: u32) -> Option<u64> {
+        at.checked_sub(u64::from(count))
+    }
+
+    fn back(&self, branch: u32) -> u32 {
+        self.facts.back(branch)
     }
 
     fn step_limit(&self) -> u32 {

@@ -12,7 +12,8 @@ ghost use Rattle.frame_machine.specs.Conditions.{IsChoice, IsTest, IsLook, test_
 ghost use Rattle.ordered_search.specs.Moves.{tread};
 ghost use Rattle.frame_machine.specs.Stops.{IsStop};
 
-use crate::enter::{first_branch, first_set, go_on};
+use crate::behind::begin_branches;
+use crate::enter::{first_set, go_on};
 use crate::framing::{leave, open_frame};
 use crate::looks::go_back;
 use crate::machine::{Next, Spot, Stop};
@@ -109,10 +110,13 @@ fn enter_test<S: Searchable>(
 {
     match on.node(look) {
         Node::Look {
+            ahead,
             positive,
             branches,
             ..
-        } => open_test(on, at, look, *positive, branches, spot, store, registers),
+        } => open_test(
+            on, at, look, *ahead, *positive, branches, spot, store, registers,
+        ),
         _ => unreachable!(),
     }
 }
@@ -122,6 +126,7 @@ fn open_test<S: Searchable>(
     on: &S,
     at: u32,
     look: u32,
+    forward: bool,
     positive: bool,
     branches: &Kids,
     spot: &mut Spot,
@@ -130,7 +135,7 @@ fn open_test<S: Searchable>(
 ) -> Result<Next, Stop>
     requires valid { IsValid (S.searched on.now) (conf (Next.Enter at) spot.old (entries store.old.records) registers.now) }
     requires test { IsTest (S.searched on.now) at look }
-    requires look { IsLook (S.searched on.now) look positive branches.now }
+    requires look { IsLook (S.searched on.now) look forward positive branches.now }
     ensures on { IfOk result (λ next. Advances (S.searched on.now) (conf (Next.Enter at) spot.old (entries store.old.records) registers.now) (conf next spot.new (entries store.new.records) registers.now)) }
     ensures stop { IfErr result (λ stop. IsStop stop spot.new registers.now (tread (S.searched on.now).setting spot.old.left (ahead (S.searched on.now) (conf (Next.Enter at) spot.old (entries store.old.records) registers.now)))) }
     ensures peak { store.new.peak ≤ max store.old.peak (S.searched on.now).setting.matching.frame_limit }
@@ -139,7 +144,7 @@ fn open_test<S: Searchable>(
     if let Err(stop) = open_frame(on.unit_limit(), kind, at, spot, store) {
         return Err(stop);
     }
-    Ok(first_branch(look, branches))
+    Ok(begin_branches(on, !forward, look, branches, spot))
 }
 
 /// Leaves a lookaround that is a test by its first outcome: the test holds, or not where it is negative.

@@ -4,6 +4,7 @@
 mod answer;
 mod atomic;
 mod back;
+mod behind;
 mod board;
 mod conds;
 mod counted;

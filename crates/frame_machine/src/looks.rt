@@ -10,7 +10,8 @@ ghost use Rattle.ordered_search.specs.Moves.{tread};
 ghost use Rattle.frame_machine.specs.Stops.{IsStop};
 ghost use Rattle.frame_machine.specs.Looks.{look_kind};
 
-use crate::enter::{first_branch, go_on};
+use crate::behind::begin_branches;
+use crate::enter::go_on;
 use crate::framing::{leave, open_frame};
 use crate::machine::{Next, Spot, Stop};
 use crate::searchable::Searchable;
@@ -54,7 +55,7 @@ pub(crate) fn enter_look<S: Searchable>(
     if let Err(stop) = open_frame(on.unit_limit(), kind, at, spot, store) {
         return Err(stop);
     }
-    Ok(first_branch(at, branches))
+    Ok(begin_branches(on, !forward, at, branches, spot))
 }
 
 /// Goes back to the place of a lookaround, and to the match's start as it was there.

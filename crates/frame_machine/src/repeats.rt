@@ -12,6 +12,7 @@ ghost use Rattle.frame_machine.specs.Validity.{IsValid, Advances, HasBranch, IsR
 ghost use Rattle.ordered_search.specs.Moves.{tread};
 ghost use Rattle.frame_machine.specs.Stops.{IsStop, many_next, turn_entry};
 
+use crate::behind::{begin_branch, is_behind};
 use crate::enter::go_on;
 use crate::machine::{Next, Spot, Stop, hold};
 use crate::searchable::Searchable;
@@ -101,20 +102,21 @@ pub(crate) fn branch<S: Searchable>(
     ensures peak { store.new.peak ≤ max store.old.peak (S.searched on.now).setting.matching.frame_limit }
 {
     let branches = branches_of(on, at, index);
+    let behind = is_behind(on, at);
     let first = *branches.get(index as usize);
     if spot.left == 0 {
         return Err(Stop::MatchLimit);
     }
     if index as usize + 1 >= branches.len() {
         spot.left -= 1;
-        return Ok(Next::Enter(first));
+        return Ok(begin_branch(on, behind, first, spot));
     }
     let record = spot.record(KIND_LATER_BRANCH, at, index + 1, 0, 0);
     if let Err(stop) = hold(on.unit_limit(), record, spot, store) {
         return Err(stop);
     }
     spot.left -= 1;
-    Ok(Next::Enter(first))
+    Ok(begin_branch(on, behind, first, spot))
 }
 
 /// Offers a further turn of a repeat after so many turns, and its exit.

@@ -3,8 +3,11 @@ ghost use Rattle.std.specs.Prelude.{◌≡◌, ◌<◌, ◌≤◌, true, All, le
 ghost use Rattle.pat_tree.specs.Rules.{class_in};
 ghost use Rattle.match_items.specs.Items.{after_item, after_break, after_ref, longest_run, place_before, holds, earliest};
 ghost use Rattle.match_items.specs.Views.{end_of};
-ghost use Rattle.ordered_search.specs.Setting.{match_limit};
-ghost use Rattle.frame_machine.specs.Ground.{Ground, IsPart, IsNode, IsGround, next_of};
+ghost use Rattle.pat_lengths.specs.Lengths.{only};
+ghost use Rattle.ordered_search.specs.Setting.{match_limit, branch_lengths};
+ghost use Rattle.frame_machine.specs.Ground.{Ground, IsPart, IsNode, IsGround, next_of, tree_of};
+ghost use Rattle.frame_machine.specs.Behind.{place_back};
+ghost use Rattle.frame_machine.specs.Begun.{IsFixedPart};
 
 use pat_tree::{AnchorKind, Item, MatchOptions, Node, Options};
 
@@ -78,6 +81,17 @@ pub trait Searchable {
     fn before(&self, at: u64) -> u64
         requires { (searched self.now).stands at ≡ true }
         ensures { result ≡ place_before (searched self.now).setting.scene at };
+
+    /// The place so many characters before another, if there are so many.
+    fn step_back(&self, at: u64, count: u32) -> Option<u64>
+        requires { (searched self.now).stands at ≡ true }
+        ensures { result ≡ place_back (searched self.now).setting.scene count at };
+
+    /// The length of a branch of a lookbehind, in characters.
+    fn back(&self, branch: u32) -> u32
+        requires inside { IsPart (searched self.now) branch }
+        requires fixed { IsFixedPart (searched self.now) branch }
+        ensures { branch_lengths (searched self.now).setting (tree_of (searched self.now) branch) ≡ only result };
 
     fn step_limit(&self) -> u32
         ensures { result ≡ match_limit (searched self.now).setting };

@@ -38,6 +38,10 @@ enum Step {
     OnceEither,
     /// A lookahead of the last one, positive or negative, atomic or not.
     Ahead(bool, bool),
+    /// A lookbehind of the last one, positive or negative, atomic or not.
+    Behind(bool, bool),
+    /// A lookbehind of the last two as its branches, positive or negative.
+    BehindEither(bool),
 }
 
 fn item(letter: u8) -> Item
@@ -141,6 +145,15 @@ fn add_over_one(
             };
             add(draft, waiting, node)
         }
+        Step::Behind(positive, atomic) => {
+            let node = Node::Look {
+                ahead: false,
+                positive,
+                atomic,
+                branches,
+            };
+            add(draft, waiting, node)
+        }
         _ => {
             let node = Node::Group {
                 number: Some(1),
@@ -176,6 +189,12 @@ fn add_over_two(
             branches: kids,
         },
         Step::OnceEither => Node::Atomic(kids),
+        Step::BehindEither(positive) => Node::Look {
+            ahead: false,
+            positive,
+            atomic: true,
+            branches: kids,
+        },
         _ => Node::Seq(kids),
     };
     add(draft, waiting, node)
@@ -195,7 +214,7 @@ fn take_step(
 {
     match step {
         Step::Letter(_) | Step::Letters(..) | Step::Keep => add_leaf(draft, waiting, step),
-        Step::Join | Step::Either | Step::OnceEither => {
+        Step::Join | Step::Either | Step::OnceEither | Step::BehindEither(_) => {
             add_over_two(alloc, draft, waiting, step)
         }
         _ => add_over_one(alloc, draft, waiting, step),
@@ -254,7 +273,7 @@ fn found(
 }
 
 /// A match from `keep` to `to`.
-fn matched(keep: usize, to: usize) -> PlaceAnswer {
+const fn matched(keep: usize, to: usize) -> PlaceAnswer {
     PlaceAnswer::Matched {
         keep,
         to,
@@ -698,6 +717,196 @@ fn a_lookahead_goes_back_to_its_place(rt: HostRuntime) -> Result<(), Fail> {
     ];
     let mut used = Scratch::new(alloc);
     for row in rows {
+        both(&rt, alloc, row, &mut used)?;
+    }
+    Ok(())
+}
+
+/// `a(?<=a)b`
+const BEHIND: &[Step] = &[
+    Step::Letter(b'a'),
+    Step::Letter(b'a'),
+    Step::Behind(true, true),
+    Step::Join,
+    Step::Letter(b'b'),
+    Step::Join,
+];
+
+/// `a(?<*a)b`
+const ANY_BEHIND: &[Step] = &[
+    Step::Letter(b'a'),
+    Step::Letter(b'a'),
+    Step::Behind(true, false),
+    Step::Join,
+    Step::Letter(b'b'),
+    Step::Join,
+];
+
+/// `(?<=a)b`
+const BEFORE_THE_START: &[Step] = &[
+    Step::Letter(b'a'),
+    Step::Behind(true, true),
+    Step::Letter(b'b'),
+    Step::Join,
+];
+
+/// `(?<!a)b`
+const NOTHING_BEFORE: &[Step] = &[
+    Step::Letter(b'a'),
+    Step::Behind(false, true),
+    Step::Letter(b'b'),
+    Step::Join,
+];
+
+/// `a(?<!a)b`
+const NOT_BEHIND: &[Step] = &[
+    Step::Letter(b'a'),
+    Step::Letter(b'a'),
+    Step::Behind(false, true),
+    Step::Join,
+    Step::Letter(b'b'),
+    Step::Join,
+];
+
+/// `a(?<=x|(a))b`, whose branches have one length
+const EITHER_BEHIND: &[Step] = &[
+    Step::Letter(b'a'),
+    Step::Letter(b'x'),
+    Step::Letter(b'a'),
+    Step::Capture,
+    Step::BehindEither(true),
+    Step::Join,
+    Step::Letter(b'b'),
+    Step::Join,
+];
+
+/// `ab(?<=b|a\Kb)b`, whose branches have two lengths
+const TWO_LENGTHS: &[Step] = &[
+    Step::Letter(b'a'),
+    Step::Letter(b'b'),
+    Step::Join,
+    Step::Letter(b'x'),
+    Step::Letter(b'a'),
+    Step::Keep,
+    Step::Join,
+    Step::Letter(b'b'),
+    Step::Join,
+    Step::BehindEither(true),
+    Step::Join,
+    Step::Letter(b'c'),
+    Step::Join,
+];
+
+/// `ab(?<!x|ab)c`
+const NEITHER: &[Step] = &[
+    Step::Letter(b'a'),
+    Step::Letter(b'b'),
+    Step::Join,
+    Step::Letter(b'x'),
+    Step::Letter(b'a'),
+    Step::Letter(b'b'),
+    Step::Join,
+    Step::BehindEither(false),
+    Step::Join,
+    Step::Letter(b'c'),
+    Step::Join,
+];
+
+const NO_MATCH: PlaceAnswer = PlaceAnswer::Failed {
+    signal: Signal::Exhausted,
+    hit_end: false,
+};
+
+#[test]
+fn a_lookbehind_begins_before_its_place(rt: HostRuntime) -> Result<(), Fail> {
+    static ROWS: [Row; 12] = [
+        Row {
+            steps: BEHIND,
+            subject: b"ab",
+            answer: matched(0, 2),
+            ..PLAIN
+        },
+        // A unit for entering it and one for leaving it.
+        Row {
+            steps: BEHIND,
+            subject: b"ab",
+            frame_limit: 2,
+            answer: matched(0, 2),
+            ..PLAIN
+        },
+        Row {
+            steps: BEHIND,
+            subject: b"ab",
+            frame_limit: 1,
+            answer: PlaceAnswer::FrameLimit,
+            ..PLAIN
+        },
+        Row {
+            steps: ANY_BEHIND,
+            subject: b"ab",
+            frame_limit: 1,
+            answer: matched(0, 2),
+            ..PLAIN
+        },
+        // There is no character before the first place.
+        Row {
+            steps: BEFORE_THE_START,
+            subject: b"b",
+            answer: NO_MATCH,
+            ..PLAIN
+        },
+        Row {
+            steps: NOTHING_BEFORE,
+            subject: b"b",
+            answer: matched(0, 1),
+            ..PLAIN
+        },
+        Row {
+            steps: NOT_BEHIND,
+            subject: b"ab",
+            answer: NO_MATCH,
+            ..PLAIN
+        },
+        Row {
+            steps: EITHER_BEHIND,
+            subject: b"ab",
+            answer: matched(0, 2),
+            group: Some((0, 1)),
+            ..PLAIN
+        },
+        // Each of its branches is a step.
+        Row {
+            steps: EITHER_BEHIND,
+            subject: b"ab",
+            match_limit: 2,
+            answer: matched(0, 2),
+            group: Some((0, 1)),
+            ..PLAIN
+        },
+        Row {
+            steps: EITHER_BEHIND,
+            subject: b"ab",
+            match_limit: 1,
+            answer: PlaceAnswer::MatchLimit,
+            ..PLAIN
+        },
+        // It goes back to its place, and to the match's start.
+        Row {
+            steps: TWO_LENGTHS,
+            subject: b"abc",
+            answer: matched(0, 3),
+            ..PLAIN
+        },
+        Row {
+            steps: NEITHER,
+            subject: b"abc",
+            answer: NO_MATCH,
+            ..PLAIN
+        },
+    ];
+    let alloc = rt.alloc();
+    let mut used = Scratch::new(alloc);
+    for row in ROWS {
         both(&rt, alloc, row, &mut used)?;
     }
     Ok(())

@@ -25,8 +25,8 @@ use Rattle.pat_build.specs.Groups.{opened, captured, named, groups_of, named_by,
 use Rattle.pat_build.specs.Reading.{quantified, closed, part_then, alternatives_from, sequence, alternatives, whole, started, reading, read_from, read}
 use Rattle.pat_tree.specs.Nested.{trees_after, trees}
 use Rattle.pat_tree.specs.Sound.{group_numbers}
-use Rattle.pat_check.specs.Nodes.{nodes}
-use Rattle.pat_check.specs.Lengths.{lengths, by_calls, lead_to, behind}
+use Rattle.pat_lengths.specs.Nodes.{nodes}
+use Rattle.pat_lengths.specs.Lengths.{lengths, by_calls, lead_to, behind}
 use Rattle.pat_check.specs.Lead.{lead}
 use Rattle.match_items.specs.Items.{places_back, run_places, run_reaches}
 use Rattle.ordered_search.specs.Stream.{◌or_else◌, each, decide, catch, changes}

@@ -11,7 +11,7 @@ use Rattle.pat_tree.specs.Nested as tree
 use Rattle.pat_tree.specs.Nested.{Nested, Row, Test, Other, Callout}
 use Rattle.pat_tree.specs.Groups.{group_of}
 use Rattle.match_items.specs.Items.{one_less, is_none_left, places_back, item_reaches, after_ref, ref_reaches, holds, anchor_reaches}
-use Rattle.pat_check.specs.Lengths.{SomeLengths}
+use Rattle.pat_lengths.specs.Lengths.{SomeLengths}
 use Rattle.ordered_search.specs.Stream.{State, Ending, by_verb, by_halt, next_branch, prune, skip, commit, is_partial, too_many_units, loop, abort, cut, hit_end, How, reached, accepted, Stream, Search, nothing, gives, no_ending, is_next_branch, is_verb, fails_alone, fails_inside, captured, changes}
 use Rattle.frame_store.specs.Captures.{capture}
 use Rattle.ordered_search.specs.Setting.{Setting, branch_lengths, verb_name, held, hold, counts, reach, reach_if}

@@ -4,7 +4,7 @@ use mathlib.Core.Path.{fun_ext}
 use Rattle.pat_tree.specs.Nested as tree
 use Rattle.pat_tree.specs.Nested.{Nested, Row, Test, Other}
 use Rattle.match_items.specs.Items.{one_less, places_back}
-use Rattle.pat_check.specs.Lengths.{SomeLengths}
+use Rattle.pat_lengths.specs.Lengths.{SomeLengths}
 use Rattle.ordered_search.specs.Stream.{State, How, reached, accepted}
 use Rattle.ordered_search.specs.Setting.{Setting, branch_lengths}
 use Rattle.ordered_search.specs.Parts.{is_over, begun_at, back_to, some_set, is_called, is_called_of}

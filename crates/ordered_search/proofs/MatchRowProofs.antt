@@ -6,8 +6,8 @@ use Rattle.pat_tree.specs.Nested.{trees_after, trees}
 use Rattle.pat_tree.specs.Sound.{group_numbers}
 use Rattle.byte_lanes.specs.Newlines.{stands}
 use Rattle.byte_lanes.specs.Places.{least_of}
-use Rattle.pat_check.specs.Nodes.{nodes}
-use Rattle.pat_check.specs.Lengths.{lengths, by_calls, lead_to, behind}
+use Rattle.pat_lengths.specs.Nodes.{nodes}
+use Rattle.pat_lengths.specs.Lengths.{lengths, by_calls, lead_to, behind}
 use Rattle.pat_check.specs.Lead.{lead}
 use Rattle.match_items.specs.Items.{places_back, run_places, run_reaches}
 use Rattle.ordered_search.specs.Stream.{◌or_else◌, each, decide, catch, changes}

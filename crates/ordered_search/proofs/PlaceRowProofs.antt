@@ -2,8 +2,8 @@
 use Rattle.std.proofs.Common.{◌≡◌, refl}
 use Rattle.std.specs.Str.{chars}
 use Rattle.byte_lanes.specs.Newlines.{stands}
-use Rattle.pat_check.specs.Nodes.{nodes}
-use Rattle.pat_check.specs.Lengths.{lengths, by_calls, lead_to, behind}
+use Rattle.pat_lengths.specs.Nodes.{nodes}
+use Rattle.pat_lengths.specs.Lengths.{lengths, by_calls, lead_to, behind}
 use Rattle.match_items.specs.Items.{places_back, run_places, run_reaches}
 use Rattle.ordered_search.specs.Stream.{first_state, exhausted, reached, state, step, ends, ◌▸◌, ◌or_else◌, each, decide, catch, changes}
 use Rattle.ordered_search.specs.Setting.{held, hold, reach, reach_if}

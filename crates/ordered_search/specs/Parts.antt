@@ -5,7 +5,7 @@ use Rattle.pat_tree.specs.declared.nodes.Verb.TheVariants.{Accept, Fail, Commit,
 use Rattle.pat_tree.specs.Nested.{Nested, Callout, repeat}
 use Rattle.pat_tree.specs.Groups.{group_of}
 use Rattle.match_items.specs.Items.{one_less, places_back}
-use Rattle.pat_check.specs.Lengths.{SomeLengths}
+use Rattle.pat_lengths.specs.Lengths.{SomeLengths}
 use Rattle.ordered_search.specs.Stream.{State, Block, next_branch, prune, skip, commit, loop, abort, Ending, exhausted, by_verb, by_halt, How, reached, accepted, note, step, name, shown, state, Stream, Search, ends, ◌▸◌, nothing, gives, ◌or_else◌, each, and_then, decide, catch, no_ending, is_next_branch, is_verb, fails_alone, fails_inside, captured, changes}
 use Rattle.frame_store.specs.Captures.{Captures, capture}
 use Rattle.ordered_search.specs.Setting.{Setting, held, hold, verb_name}

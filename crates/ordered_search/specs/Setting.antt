@@ -8,9 +8,9 @@ use Rattle.pat_tree.specs.Nested.{Nested}
 use Rattle.pat_tree.specs.Pattern.{Pattern}
 use Rattle.char_sets.specs.Sets.{takes}
 use Rattle.match_items.specs.Scene.{Scene}
-use Rattle.pat_check.specs.Nodes as nodes
-use Rattle.pat_check.specs.Lengths as lengths
-use Rattle.pat_check.specs.Lengths.{SomeLengths}
+use Rattle.pat_lengths.specs.Nodes as nodes
+use Rattle.pat_lengths.specs.Lengths as lengths
+use Rattle.pat_lengths.specs.Lengths.{SomeLengths}
 use Rattle.pat_check.specs.Lead as lead
 use Rattle.ordered_search.specs.Stream.{State, Block, hit_end, note, How, Stream, Search, ends, ◌▸◌, by_halt, too_many_units, is_partial, gives}
 

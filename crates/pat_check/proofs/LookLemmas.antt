@@ -11,9 +11,9 @@ use Rattle.pat_tree.specs.Nested.{Nested, tree_at, trees, nest}
 use Rattle.pat_tree.specs.Parts.{TreeParts}
 use Rattle.pat_tree.specs.Sound.{TreeRules}
 use Rattle.pat_tree.proofs.Reached.{reached_node}
-use Rattle.pat_check.specs.Nodes.{is_lookbehind}
-use Rattle.pat_check.specs.Backs.{behind_branches, placed_at, fault_among, fault_of_node, fault_in}
-use Rattle.pat_check.specs.declared.backs.LengthFault.{LengthFault}
+use Rattle.pat_lengths.specs.Nodes.{is_lookbehind}
+use Rattle.pat_lengths.specs.Backs.{behind_branches, placed_at, fault_among, fault_of_node, fault_in}
+use Rattle.pat_lengths.specs.declared.backs.LengthFault.{LengthFault}
 
 no_branches : (ts : List Nested) (n : Node) → is_lookbehind (nest ts n) ≡ false → behind_branches n ≡ []
 no_branches ts (node.Look true positive once branches) h = refl

@@ -10,9 +10,9 @@ use Rattle.pat_tree.specs.declared.nodes.Node.{Node}
 use Rattle.pat_tree.specs.declared.nodes.Node.TheVariants as node
 use Rattle.pat_tree.specs.Parts.{TreeParts}
 use Rattle.pat_tree.specs.Rules.{tests_of, is_test}
+use Rattle.pat_lengths.proofs.OrderLemmas.{by_test}
 use Rattle.pat_check.specs.Lead.{SomeLead, lead, lead_in_turn, lead_of_one, lead_of_test, lead_of_other, passes, then_lead, either_lead}
 use Rattle.pat_check.specs.Starts.{lead_in, lead_of_parts, lead_of_branches, lead_of_second, lead_of_condition}
-use Rattle.pat_check.proofs.OrderLemmas.{by_test}
 
 module _ (utf : Bool) (newlines breaks : EndKind) (class_has : ℕ → ℕ → Bool) (fold : ℕ → ℕ) where
   abbrev lead_of : Nested → SomeLead

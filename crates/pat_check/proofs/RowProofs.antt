@@ -2,8 +2,8 @@
 use Rattle.std.proofs.Common.{refl}
 use Rattle.std.specs.Char.{encode_utf8}
 use Rattle.byte_lanes.specs.Newlines.{stands}
-use Rattle.pat_check.specs.Nodes.{nodes}
-use Rattle.pat_check.specs.Lengths.{lengths, by_calls, lead_to, behind}
+use Rattle.pat_lengths.specs.Nodes.{nodes}
+use Rattle.pat_lengths.specs.Lengths.{lengths, by_calls, lead_to, behind}
 use Rattle.pat_check.specs.Lead.{lead}
 use Rattle.pat_check.specs.Size.{whole_size}
 use Rattle.pat_check.specs.Rows.{LengthRows, EmptyRows, LeadRows, SizeRows, NameRows, WorkedRows}

@@ -10,24 +10,10 @@ use Rattle.pat_tree.specs.declared.nodes.Node.TheVariants as node
 use Rattle.pat_tree.specs.Nested as tree
 use Rattle.pat_tree.specs.Nested.{Nested, Test, tree_at, row, nest, test_of, cond_of, other_of}
 use Rattle.pat_tree.specs.Rules.{kids_of, tests_of, number_in, asserted_by, is_test}
-use Rattle.pat_check.specs.Lengths.{counted}
+use Rattle.pat_lengths.specs.Lengths.{counted}
+use Rattle.pat_lengths.proofs.CountLemmas.{counted_both}
+use Rattle.pat_lengths.proofs.OrderLemmas.{by_test}
 use Rattle.pat_check.specs.Size.{whole_size, size_of_all, size_of_test, size_of_other, size, counted_sum, size_at}
-use Rattle.pat_check.proofs.OrderLemmas.{by_test}
-
-pub counted_right : (a b : ℕ) → counted (a + counted b) ≡ counted (a + b)
-counted_right a b = omega arith
-
-counted_both : (a b : ℕ) → counted (counted a + counted b) ≡ counted (a + b)
-counted_both a b = omega arith
-
-pub counted_times : (n k : ℕ) → counted (n * counted k) ≡ counted (n * k)
-counted_times zero k = omega arith
-counted_times (suc n) k = elim (cases_lt k 4294967295) [
-  | inl l ↦ let e : counted k ≡ k = omega (arith, l) in rw e refl
-  | inr l ↦
-      let e : counted k ≡ 4294967295 = omega (arith, l) in
-      rw e (omega (arith, l, mul-le-mul_left (suc n) l))
-]
 
 -- the sizes of these trees together
 abbrev pub total : List Nested → List ℕ → ℕ

@@ -4,7 +4,10 @@ use Rattle.byte_lanes.specs.Sets.{has_byte}
 use Rattle.pat_tree.specs.Newlines.{end_kind, break_kind}
 use Rattle.pat_tree.specs.Parts.{TreeParts, tree_of}
 use Rattle.char_sets.specs.Sets.{class_has}
+use Rattle.pat_lengths.specs.declared.backs.LengthFault.{LengthFault}
 use Rattle.pat_check.specs.Lead.{lead_set}
+use Rattle.pat_check.specs.declared.facts.CheckError.{CheckError}
+use Rattle.pat_check.specs.declared.facts.CheckError.TheVariants.{Bad, Memory}
 
 -- the bytes that every match of a finished tree begins with, by the folding in UTF
 abbrev pub lead_set_of : TreeParts → (ℕ → ℕ) → Option (ℕ → Bool)
@@ -17,3 +20,8 @@ abbrev pub IsByteSet : Option (List Bool) → Option (ℕ → Bool) → Type 0
 IsByteSet None None = Unit {0}
 IsByteSet (Some set) (Some test) = (b : ℕ) → b < 256 → has_byte set b ≡ test b
 IsByteSet _ _ = ⊥
+
+-- the refusal tells this fault; want of memory may come at any time
+abbrev pub IsCheckError : Option LengthFault → CheckError → Type 0
+IsCheckError fault (Bad number at) = fault ≡ Some (record { number = number; at = at })
+IsCheckError fault Memory = Unit {0}

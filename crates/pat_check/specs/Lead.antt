@@ -8,7 +8,7 @@ use Rattle.pat_tree.specs.Nested.{Nested, Row, Test, Other, empty, one, line_bre
 use Rattle.byte_lanes.specs.declared.line_end.EndKind.{EndKind}
 use Rattle.byte_lanes.specs.Newlines.{newline_texts, newline_len}
 use Rattle.uni_text.specs.Ascii.{ascii_fold}
-use Rattle.pat_check.specs.Nodes.{has_accept}
+use Rattle.pat_lengths.specs.Nodes.{has_accept}
 
 -- the first bytes, and whether the tree may be passed without one
 pub record Lead : Type 0 where

@@ -9,8 +9,8 @@ use Rattle.pat_tree.specs.declared.nodes.SetName.TheVariants.{V}
 use Rattle.pat_tree.specs.declared.nodes.ClassSpec.{ClassSpec}
 use Rattle.pat_tree.specs.Nested.{Nested, Row, empty, one, line_break, seq, group, repeat, one_repeat, look, condition, call, ref, verb, none, more, never, no_other}
 use Rattle.byte_lanes.specs.declared.line_end.EndKind.TheVariants.{Lf, Any, AnyUtf}
-use Rattle.pat_check.specs.Nodes.{has_lookbehind, names_cr_or_lf}
-use Rattle.pat_check.specs.Lengths.{SomeLengths, between, only, any_length, can_be_empty, branch_lengths, branch_fault}
+use Rattle.pat_lengths.specs.Nodes.{has_lookbehind, names_cr_or_lf}
+use Rattle.pat_lengths.specs.Lengths.{SomeLengths, between, only, any_length, can_be_empty, branch_lengths, branch_fault}
 use Rattle.pat_check.specs.Lead.{lead_set}
 use Rattle.pat_check.specs.Size.{size}
 

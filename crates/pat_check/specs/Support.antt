@@ -4,9 +4,9 @@ use Rattle.std.specs.Prelude.{Bool, true, false, List, [], ◌∷◌}
 use Rattle.pat_tree.specs.Nested.{Nested, Row, Test, Other, empty, one, line_break, seq, group, repeat, one_repeat, atomic, look, condition, call, ref, anchor, keep_out, verb, callout, none, more, any_set, in_call, in_call_of, never, assert, called, no_other, other}
 use Rattle.pat_tree.specs.declared.nodes.Verb.{Verb}
 use Rattle.pat_tree.specs.declared.nodes.Verb.TheVariants.{Fail}
+use Rattle.pat_lengths.specs.Nodes.{all_nodes}
 use Rattle.pat_check.specs.declared.support.DfaSupport.{DfaSupport}
 use Rattle.pat_check.specs.declared.support.DfaSupport.TheVariants.{Yes, Item, Cond}
-use Rattle.pat_check.specs.Nodes.{all_nodes}
 
 -- of the verbs only FAIL is supported
 abbrev pub verb_support : Verb → DfaSupport

@@ -3,7 +3,7 @@ use Rattle.std.specs.Prelude.{◌≡◌, Bool, List}
 use Rattle.std.specs.List.{list_any}
 use Rattle.pat_tree.specs.declared.nodes.ClassSpec.{ClassSpec}
 use Rattle.pat_tree.specs.Nested.{Nested}
-use Rattle.pat_check.specs.Nodes.{node_names, is_lookbehind, looks_before, is_accept}
+use Rattle.pat_lengths.specs.Nodes.{node_names, is_lookbehind, looks_before, is_accept}
 use Rattle.pat_check.specs.Support.{support_of_all}
 use Rattle.pat_check.specs.declared.survey.Survey.{Survey}
 

@@ -8,28 +8,25 @@ ghost use Rattle.uni_text.specs.Folding.{fold};
 ghost use Rattle.node_flow.specs.Followers.{IsFlowOf, next_of};
 ghost use Rattle.node_flow.specs.Order.{order};
 ghost use Rattle.char_sets.specs.Table.{IsTableOf};
-ghost use Rattle.pat_check.specs.Backs.{AreBacks, IsCheckError, first_fault, greatest_back, lengths_at};
-ghost use Rattle.pat_check.specs.Known.{IsByteSet, lead_set_of};
-ghost use Rattle.pat_check.specs.Lengths as lengths;
-ghost use Rattle.pat_check.specs.Lengths.{branch_fault, only};
-ghost use Rattle.pat_check.specs.Nodes as nodes;
-ghost use Rattle.pat_check.specs.Nodes.{all_nodes};
-ghost use Rattle.pat_check.specs.Passing.{IsGroupTable};
+ghost use Rattle.pat_lengths.specs.Backs.{AreBacks, first_fault, greatest_back, lengths_at};
+ghost use Rattle.pat_lengths.specs.Lengths as lengths;
+ghost use Rattle.pat_lengths.specs.Lengths.{branch_fault, only};
+ghost use Rattle.pat_lengths.specs.Nodes as nodes;
+ghost use Rattle.pat_lengths.specs.Nodes.{all_nodes};
+ghost use Rattle.pat_lengths.specs.Passing.{IsGroupTable};
+ghost use Rattle.pat_check.specs.Known.{IsByteSet, IsCheckError, lead_set_of};
 ghost use Rattle.pat_check.specs.Size as sizes;
 ghost use Rattle.pat_check.specs.Starts.{FoldsIn, known_set, lead_in};
 ghost use Rattle.pat_check.specs.Support as support;
 
-use crate::backs::{Backs, fault_in, greatest_in};
-use crate::behind::branch_spans;
-use crate::groups::{Groups, group_table};
 use crate::leads::lead_set;
-use crate::passing::passes_whole;
 use crate::size::size_of;
 use crate::support::DfaSupport;
 use crate::survey::survey_of;
 use byte_lanes::ByteSet;
 use char_sets::ClassTable;
 use node_flow::{Flow, preorder};
+use pat_lengths::{Backs, Groups, branch_spans, fault_in, greatest_in, group_table, passes_whole};
 use pat_tree::{Memory, NodeId, Steps, Tree};
 use std::alloc::Global;
 use std::marker::Brand;
@@ -66,7 +63,8 @@ impl Facts {
     /// The part that runs when this one is done, if there is one before the end of the innermost frame around it.
     pub fn next(&self, id: NodeId) -> Option<NodeId>
         requires { id < length self.now.flow }
-        ensures { (nodes : List Placed) (root : ℕ) → IsFlowOf nodes root self.now.flow → result ≡ next_of nodes root id }
+        ensures { (nodes : List Placed) (root : ℕ) → IsFlowOf nodes root self.now.flow
+            → result ≡ next_of nodes root id }
     {
         self.flow.next(id)
     }
@@ -75,7 +73,8 @@ impl Facts {
     /// the tree that these facts are of (pcre2pattern, "Lookbehind assertions").
     pub fn back(&self, branch: NodeId) -> u32
         requires { branch < length self.now.backs }
-        ensures { (tree : TreeParts) → AreBacks tree self.now.backs → branch_fault (lengths_at tree branch) ≡ None → lengths_at tree branch ≡ only result }
+        ensures { (tree : TreeParts) → AreBacks tree self.now.backs
+            → branch_fault (lengths_at tree branch) ≡ None → lengths_at tree branch ≡ only result }
     {
         self.backs.of(branch)
     }
@@ -107,12 +106,19 @@ impl From<Memory> for CheckError {
 /// for want of memory alone. Nodes that aren't under the root don't count.
 pub fn check(alloc: Global, tree: &Tree, classes: &ClassTable) -> Result<Facts, CheckError>
     requires table { IsTableOf tree.now classes.now }
-    ensures lead { tree.now.options.utf ≡ false → (folding : ℕ → ℕ) → IfOk result (λ facts. IsByteSet facts.lead (lead_set_of tree.now folding)) }
-    ensures lead_in_utf { tree.now.options.utf ≡ true → IfOk result (λ facts. IsByteSet facts.lead (lead_set_of tree.now fold)) }
-    ensures empty { IfOk result (λ facts. facts.can_be_empty ≡ lengths.can_be_empty tree.now.options.match_unset_backref (tree_of tree.now)) }
-    ensures names { IfOk result (λ facts. facts.names_crlf ≡ nodes.names_cr_or_lf tree.now.classes (tree_of tree.now)) }
-    ensures lookbehind { IfOk result (λ facts. facts.has_lookbehind ≡ nodes.has_lookbehind (tree_of tree.now)) }
-    ensures before { IfOk result (λ facts. facts.tests_before ≡ nodes.tests_before (tree_of tree.now)) }
+    ensures lead { tree.now.options.utf ≡ false → (folding : ℕ → ℕ)
+        → IfOk result (λ facts. IsByteSet facts.lead (lead_set_of tree.now folding)) }
+    ensures lead_in_utf { tree.now.options.utf ≡ true
+        → IfOk result (λ facts. IsByteSet facts.lead (lead_set_of tree.now fold)) }
+    ensures empty { IfOk result (λ facts.
+        facts.can_be_empty
+        ≡ lengths.can_be_empty tree.now.options.match_unset_backref (tree_of tree.now)) }
+    ensures names { IfOk result (λ facts.
+        facts.names_crlf ≡ nodes.names_cr_or_lf tree.now.classes (tree_of tree.now)) }
+    ensures lookbehind { IfOk result (λ facts.
+        facts.has_lookbehind ≡ nodes.has_lookbehind (tree_of tree.now)) }
+    ensures before { IfOk result (λ facts.
+        facts.tests_before ≡ nodes.tests_before (tree_of tree.now)) }
     ensures size { IfOk result (λ facts. facts.size ≡ sizes.size (tree_of tree.now)) }
     ensures dfa { IfOk result (λ facts. facts.dfa ≡ support.dfa_support (tree_of tree.now)) }
     ensures backs { IfOk result (λ facts. AreBacks tree.now facts.backs) }
@@ -120,7 +126,8 @@ pub fn check(alloc: Global, tree: &Tree, classes: &ClassTable) -> Result<Facts, 
     ensures flow { IfOk result (λ facts. IsFlowOf tree.now.nodes tree.now.root facts.flow) }
     ensures fixed { IfOk result (λ facts. first_fault tree.now ≡ None) }
     ensures refused { IfErr result (IsCheckError (first_fault tree.now)) }
-    ensures without { nodes.has_lookbehind (tree_of tree.now) ≡ false → IfErr result (λ e. e ≡ CheckError.Memory) }
+    ensures without { nodes.has_lookbehind (tree_of tree.now) ≡ false
+        → IfErr result (λ e. e ≡ CheckError.Memory) }
 {
     let order = nodes_in_order(alloc, tree)?;
     let survey = survey_of(tree, &order);
@@ -149,7 +156,8 @@ pub fn check(alloc: Global, tree: &Tree, classes: &ClassTable) -> Result<Facts, 
 /// The nodes of a pattern, each before its children.
 fn nodes_in_order(alloc: Global, tree: &Tree) -> Result<Vec<NodeId>, Memory>
     ensures order { IfOk result (λ ids. ids.items ≡ order tree.now.nodes tree.now.root) }
-    ensures nodes { IfOk result (λ ids. map (tree_at (trees tree.now.nodes)) ids.items ≡ all_nodes (tree_of tree.now)) }
+    ensures nodes { IfOk result (λ ids.
+        map (tree_at (trees tree.now.nodes)) ids.items ≡ all_nodes (tree_of tree.now)) }
     ensures below { IfOk result (λ ids. All (λ k. k ≤ tree.now.root) ids.items) }
     ensures rules { TreeRules tree.now }
 {
@@ -160,9 +168,11 @@ fn nodes_in_order(alloc: Global, tree: &Tree) -> Result<Vec<NodeId>, Memory>
 
 /// Whether a pattern can match an empty text, which it can where it holds ACCEPT.
 fn empty_or(alloc: Global, tree: &Tree, groups: &Groups, has_accept: bool) -> Result<bool, Memory>
-    requires table { IsGroupTable (trees tree.now.nodes) tree.now.root (tree_of tree.now) groups.now }
+    requires table { IsGroupTable (trees tree.now.nodes) tree.now.root (tree_of tree.now)
+        groups.now }
     requires accept { has_accept ≡ nodes.has_accept (tree_of tree.now) }
-    ensures { IfOk result (λ empty. empty ≡ lengths.can_be_empty tree.now.options.match_unset_backref (tree_of tree.now)) }
+    ensures { IfOk result (λ empty.
+        empty ≡ lengths.can_be_empty tree.now.options.match_unset_backref (tree_of tree.now)) }
 {
     if has_accept {
         return Ok(true);
@@ -179,7 +189,8 @@ fn lead_unless(
 ) -> Result<Option<ByteSet>, Memory>
     requires table { IsTableOf tree.now classes.now }
     requires accept { has_accept ≡ nodes.has_accept (tree_of tree.now) }
-    ensures { (fold : ℕ → ℕ) → FoldsIn tree.now.options.utf fold → IfOk result (λ set. IsByteSet set (lead_set_of tree.now fold)) }
+    ensures { (fold : ℕ → ℕ) → FoldsIn tree.now.options.utf fold
+        → IfOk result (λ set. IsByteSet set (lead_set_of tree.now fold)) }
 {
     if has_accept {
         return Ok(None);
@@ -198,7 +209,9 @@ fn lead_of_whole<L: Ledger>(
     requires parts { blank.parts ≡ L.parts }
     requires one { blank.parts ≡ 1 }
     requires table { IsTableOf tree.now classes.now }
-    ensures { (fold : ℕ → ℕ) → FoldsIn tree.now.options.utf fold → IfOk result (λ set. IsByteSet set (known_set (lead_in tree.now fold (tree_of tree.now)))) }
+    ensures { (fold : ℕ → ℕ) → FoldsIn tree.now.options.utf fold
+        → IfOk result (λ set.
+        IsByteSet set (known_set (lead_in tree.now fold (tree_of tree.now)))) }
 {
     let mut steps = Steps::<L>::new(blank);
     lead_set(alloc, tree, classes, &mut steps)

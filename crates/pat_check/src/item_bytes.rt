@@ -21,7 +21,8 @@ pub(crate) fn item_bytes<L: Ledger>(
 ) -> ByteSet
     requires table { IsTableOf tree.now classes.now }
     requires class { All (λ n. n < length classes.now) (class_in item.now) }
-    ensures { (fold : ℕ → ℕ) → FoldsIn tree.now.options.utf fold → (b : ℕ) → b < 256 → has_byte result b ≡ item_lead_in tree.now fold item.now b }
+    ensures { (fold : ℕ → ℕ) → FoldsIn tree.now.options.utf fold → (b : ℕ) → b < 256
+        → has_byte result b ≡ item_lead_in tree.now fold item.now b }
 {
     let mut bytes = ByteSet::empty();
     for b in 0..256u32 {
@@ -42,7 +43,8 @@ fn begins<L: Ledger>(
 ) -> bool
     requires table { IsTableOf tree.now classes.now }
     requires class { All (λ n. n < length classes.now) (class_in item.now) }
-    ensures { (fold : ℕ → ℕ) → FoldsIn tree.now.options.utf fold → result ≡ item_lead_in tree.now fold item.now byte }
+    ensures { (fold : ℕ → ℕ) → FoldsIn tree.now.options.utf fold
+        → result ≡ item_lead_in tree.now fold item.now byte }
 {
     let utf = tree.options().utf;
     if let Item::Char { c, caseless: false } = *item {
@@ -64,7 +66,8 @@ fn takes<L: Ledger>(
 ) -> bool
     requires table { IsTableOf tree.now classes.now }
     requires class { All (λ n. n < length classes.now) (class_in item.now) }
-    ensures { (fold : ℕ → ℕ) → FoldsIn tree.now.options.utf fold → result ≡ byte_taken tree.now fold item.now byte }
+    ensures { (fold : ℕ → ℕ) → FoldsIn tree.now.options.utf fold
+        → result ≡ byte_taken tree.now fold item.now byte }
 {
     let options = tree.options();
     match *item {
@@ -77,7 +80,8 @@ fn takes<L: Ledger>(
 
 /// Whether a character is this one, or in any case.
 fn is_char(c: u32, caseless: bool, byte: u8, utf: bool) -> bool
-    ensures { (folding : ℕ → ℕ) → FoldsIn utf folding → result ≡ char_taken utf folding c caseless byte }
+    ensures { (folding : ℕ → ℕ) → FoldsIn utf folding
+        → result ≡ char_taken utf folding c caseless byte }
 {
     if caseless {
         return folded(c, utf) == folded(byte as u32, utf);

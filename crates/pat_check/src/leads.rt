@@ -24,7 +24,9 @@ pub(crate) fn lead_set<L: Ledger>(
     steps: &mut Steps<L>,
 ) -> Result<Option<ByteSet>, Memory>
     requires table { IsTableOf tree.now classes.now }
-    ensures { (fold : ℕ → ℕ) → FoldsIn tree.now.options.utf fold → IfOk result (λ set. IsByteSet set (known_set (lead_in tree.now fold (tree_of tree.now)))) }
+    ensures { (fold : ℕ → ℕ) → FoldsIn tree.now.options.utf fold
+        → IfOk result (λ set.
+        IsByteSet set (known_set (lead_in tree.now fold (tree_of tree.now)))) }
 {
     let starts = leads(alloc, tree, classes, steps)?;
     Ok(known_set(&starts[tree.root() as usize]))
@@ -49,7 +51,8 @@ fn leads<L: Ledger>(
 ) -> Result<Vec<Option<Start>>, Memory>
     requires table { IsTableOf tree.now classes.now }
     ensures count { IfOk result (λ starts. length starts.items ≡ tree.now.root + 1) }
-    ensures kept { (fold : ℕ → ℕ) → FoldsIn tree.now.options.utf fold → IfOk result (λ starts. KeepLeads tree.now fold (trees tree.now.nodes) starts.items) }
+    ensures kept { (fold : ℕ → ℕ) → FoldsIn tree.now.options.utf fold
+        → IfOk result (λ starts. KeepLeads tree.now fold (trees tree.now.nodes) starts.items) }
 {
     let mut starts = Vec::new(alloc);
     for id in 0..tree.root() as u64 + 1 {
@@ -70,7 +73,10 @@ fn lead_of<L: Ledger>(
     requires table { IsTableOf tree.now classes.now }
     requires classes { All (λ n. n < length classes.now) (classes_of node.now) }
     requires below { All (λ k. k < length starts.now) (kids_of node.now) }
-    ensures { (fold : ℕ → ℕ) → FoldsIn tree.now.options.utf fold → (trees : List Nested) → All (λ k. is_test (tree_at trees k) ≡ true) (asserted_by node.now) → KeepLeads tree.now fold trees starts.now → IsSomeLead result (lead_in tree.now fold (nest trees node.now)) }
+    ensures { (fold : ℕ → ℕ) → FoldsIn tree.now.options.utf fold → (trees : List Nested)
+        → All (λ k. is_test (tree_at trees k) ≡ true) (asserted_by node.now)
+        → KeepLeads tree.now fold trees starts.now
+        → IsSomeLead result (lead_in tree.now fold (nest trees node.now)) }
 {
     match node {
         Node::One(item) => begin(item_bytes(tree, classes, item, steps)),

@@ -3,8 +3,8 @@ ghost use Rattle.std.specs.Prelude.{◌≡◌, ◌<◌, All, List, length};
 ghost use Rattle.std.specs.List.{list_any};
 ghost use Rattle.pat_tree.specs.Nested.{Nested, nest};
 ghost use Rattle.pat_tree.specs.Rules.{classes_of, class_in};
-ghost use Rattle.pat_check.specs.Nodes as nodes;
-ghost use Rattle.pat_check.specs.Nodes.{node_names};
+ghost use Rattle.pat_lengths.specs.Nodes as nodes;
+ghost use Rattle.pat_lengths.specs.Nodes.{node_names};
 
 use pat_tree::{Item, Node, Part, Tree};
 

@@ -3,10 +3,11 @@ ghost use Rattle.std.specs.Prelude.{◌≡◌, ℕ, ◌+◌, ◌*◌, ◌∷◌,
 ghost use Rattle.pat_tree.specs.Nested.{Nested, trees, tree_at, nest};
 ghost use Rattle.pat_tree.specs.Parts.{tree_of};
 ghost use Rattle.pat_tree.specs.Rules.{kids_of, asserted_by, is_test, number_in, tests_of};
-ghost use Rattle.pat_check.specs.Lengths.{counted};
+ghost use Rattle.pat_lengths.specs.Lengths.{counted};
 ghost use Rattle.pat_check.specs.Size as spec;
 ghost use Rattle.pat_check.specs.Size.{KeepSizes, counted_sum, size_at};
 
+use pat_lengths::{product, sum};
 use pat_tree::{Cond, Memory, Node, NodeId, Tree};
 use std::alloc::Global;
 
@@ -34,7 +35,9 @@ fn sizes_of(alloc: Global, tree: &Tree) -> Result<Vec<u32>, Memory>
 /// The size of a node, by those of its children.
 fn node_size(node: &Node, sizes: &[u32]) -> u32
     requires below { All (λ k. k < length sizes.now) (kids_of node.now) }
-    ensures { (trees : List Nested) → All (λ k. is_test (tree_at trees k) ≡ true) (asserted_by node.now) → KeepSizes trees sizes.now → result ≡ spec.size (nest trees node.now) }
+    ensures { (trees : List Nested)
+        → All (λ k. is_test (tree_at trees k) ≡ true) (asserted_by node.now)
+        → KeepSizes trees sizes.now → result ≡ spec.size (nest trees node.now) }
 {
     match node {
         Node::Repeat { body, min, max, .. } => {
@@ -54,21 +57,6 @@ fn copies(min: u16, max: Option<u16>) -> u32
         Some(max) => max as u32,
         None => min as u32 + 1,
     }
-}
-
-/// A sum that stays at the greatest number of 32 bits.
-pub(crate) fn sum(a: u32, b: u32) -> u32
-    ensures { result ≡ counted (a + b) }
-{
-    (a as u64 + b as u64).min(u32::MAX as u64) as u32
-}
-
-/// A product that stays at the greatest number of 32 bits.
-pub(crate) fn product(a: u32, b: u32) -> u32
-    requires { a ≤ 65536 }
-    ensures { result ≡ counted (a * b) }
-{
-    (a as u64 * b as u64).min(u32::MAX as u64) as u32
 }
 
 /// The sizes of these nodes together.

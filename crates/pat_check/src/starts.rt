@@ -27,7 +27,8 @@ pub(crate) fn passed() -> Option<Start>
 
 /// A part that begins with one of these bytes.
 pub(crate) fn begin(bytes: ByteSet) -> Option<Start>
-    ensures { (has : _) → ((b : ℕ) → b < 256 → has_byte bytes b ≡ has b) → IsSomeLead result (begins has) }
+    ensures { (has : _) → ((b : ℕ) → b < 256 → has_byte bytes b ≡ has b)
+        → IsSomeLead result (begins has) }
 {
     Some(Start {
         bytes,
@@ -37,7 +38,8 @@ pub(crate) fn begin(bytes: ByteSet) -> Option<Start>
 
 /// Adds the bytes of another set.
 fn add_all(bytes: &mut ByteSet, more: &ByteSet)
-    ensures { (b : ℕ) → b < 256 → has_byte bytes.new b ≡ (has_byte bytes.old b || has_byte more.now b) }
+    ensures { (b : ℕ) → b < 256
+        → has_byte bytes.new b ≡ (has_byte bytes.old b || has_byte more.now b) }
 {
     for b in 0..256u32 {
         if more.has(b as u8) {
@@ -56,7 +58,8 @@ pub(crate) fn copied(bytes: &ByteSet) -> ByteSet
 
 /// A part, and what follows it.
 fn followed(first: &Option<Start>, rest: Option<Start>) -> Option<Start>
-    ensures { (x y : SomeLead) → IsSomeLead first.now x → IsSomeLead rest y → IsSomeLead result (then_lead x y) }
+    ensures { (x y : SomeLead) → IsSomeLead first.now x → IsSomeLead rest y
+        → IsSomeLead result (then_lead x y) }
 {
     let Some(first) = first else {
         return None;
@@ -71,7 +74,8 @@ fn followed(first: &Option<Start>, rest: Option<Start>) -> Option<Start>
 
 /// A part or another.
 fn either(one: &Option<Start>, other: Option<Start>) -> Option<Start>
-    ensures { (x y : SomeLead) → IsSomeLead one.now x → IsSomeLead other y → IsSomeLead result (either_lead x y) }
+    ensures { (x y : SomeLead) → IsSomeLead one.now x → IsSomeLead other y
+        → IsSomeLead result (either_lead x y) }
 {
     let Some(one) = one else {
         return None;
@@ -85,7 +89,8 @@ fn either(one: &Option<Start>, other: Option<Start>) -> Option<Start>
 /// Parts one after the other.
 pub(crate) fn in_turn(parts: &[NodeId], starts: &[Option<Start>]) -> Option<Start>
     requires { All (λ k. k < length starts.now) parts.now }
-    ensures { (of : ℕ → SomeLead) → AreKept starts.now of parts.now → IsSomeLead result (lead_of_parts of parts.now) }
+    ensures { (of : ℕ → SomeLead) → AreKept starts.now of parts.now
+        → IsSomeLead result (lead_of_parts of parts.now) }
 {
     let mut whole = passed();
     let mut i = parts.len();
@@ -99,7 +104,8 @@ pub(crate) fn in_turn(parts: &[NodeId], starts: &[Option<Start>]) -> Option<Star
 /// One of these branches.
 pub(crate) fn one_of(branches: &[NodeId], starts: &[Option<Start>]) -> Option<Start>
     requires { All (λ k. k < length starts.now) branches.now }
-    ensures { (of : ℕ → SomeLead) → AreKept starts.now of branches.now → IsSomeLead result (lead_of_branches of branches.now) }
+    ensures { (of : ℕ → SomeLead) → AreKept starts.now of branches.now
+        → IsSomeLead result (lead_of_branches of branches.now) }
 {
     let mut whole = begin(ByteSet::empty());
     let mut i = branches.len();
@@ -134,7 +140,8 @@ pub(crate) fn one_of_condition(
     starts: &[Option<Start>],
 ) -> Option<Start>
     requires { All (λ k. k < length starts.now) (yes ∷ number_in no) }
-    ensures { (of : ℕ → SomeLead) → AreKept starts.now of (yes ∷ number_in no) → IsSomeLead result (lead_of_condition of test.now yes no) }
+    ensures { (of : ℕ → SomeLead) → AreKept starts.now of (yes ∷ number_in no)
+        → IsSomeLead result (lead_of_condition of test.now yes no) }
 {
     if let Cond::Never = test {
         return passed();

@@ -1,12 +1,13 @@
 // What the nodes of a pattern hold, each apart from its children.
 ghost use Rattle.std.specs.Prelude.{◌≡◌, ◌≤◌, ◌∷◌, All, List, map};
 ghost use Rattle.pat_tree.specs.Nested.{Nested, trees, tree_at, nest};
-ghost use Rattle.pat_check.specs.Nodes as nodes;
+ghost use Rattle.pat_lengths.specs.Nodes as nodes;
 ghost use Rattle.pat_check.specs.Survey.{IsSurvey};
 
 use crate::names::names;
 use crate::support::{DfaSupport, node_support};
-use pat_tree::{AnchorKind, Node, NodeId, Tree, Verb};
+use pat_lengths::is_accept;
+use pat_tree::{AnchorKind, Node, NodeId, Tree};
 
 /// What some of the nodes seen hold, and what the first that isn't supported says.
 #[derive(Clone, Copy)]
@@ -22,7 +23,8 @@ impl Survey {
     /// Takes in a node that stands before those seen.
     fn see(&mut self, tree: &Tree, id: NodeId)
         requires { id ≤ tree.now.root }
-        ensures { (seen : List Nested) → IsSurvey tree.now.classes seen self.old → IsSurvey tree.now.classes (tree_at (trees tree.now.nodes) id ∷ seen) self.new }
+        ensures { (seen : List Nested) → IsSurvey tree.now.classes seen self.old
+            → IsSurvey tree.now.classes (tree_at (trees tree.now.nodes) id ∷ seen) self.new }
     {
         let node = tree.node(id);
         let names_crlf = names(tree, node) || self.names_crlf;
@@ -78,15 +80,6 @@ fn looks_before(node: &Node) -> bool
             kind,
             AnchorKind::SubjectStart | AnchorKind::Word { .. } | AnchorKind::NotWord { .. }
         ),
-        _ => false,
-    }
-}
-
-pub(crate) fn is_accept(node: &Node) -> bool
-    ensures { (trees : List Nested) → result ≡ nodes.is_accept (nest trees node.now) }
-{
-    match node {
-        Node::VerbNode(verb) => matches!(verb, Verb::Accept { .. }),
         _ => false,
     }
 }

@@ -5,7 +5,7 @@ use Rattle.std.specs.List.{list_any}
 use Rattle.pat_tree.specs.Built.{IsBuilt, AreBuilt}
 use Rattle.pat_tree.specs.Nested as tree
 use Rattle.pat_tree.specs.Nested.{Nested, Row}
-use Rattle.pat_check.specs.Nodes.{nodes, nodes_in, is_lookbehind}
+use Rattle.pat_lengths.specs.Nodes.{nodes, nodes_in, is_lookbehind}
 
 mutual
   unfolding nodes

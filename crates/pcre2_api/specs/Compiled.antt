@@ -13,9 +13,9 @@ use Rattle.pat_check.specs.declared.facts.Facts.{Facts}
 use Rattle.pat_tree.specs.Built.{IsBuilt}
 use Rattle.pat_check.specs.declared.facts.CheckError.{CheckError}
 use Rattle.pat_check.specs.declared.facts.CheckError.TheVariants as checking
-use Rattle.pat_check.specs.Backs.{greatest_back}
-use Rattle.pat_check.specs.Lengths.{can_be_empty}
-use Rattle.pat_check.specs.Nodes.{tests_before}
+use Rattle.pat_lengths.specs.Backs.{greatest_back}
+use Rattle.pat_lengths.specs.Lengths.{can_be_empty}
+use Rattle.pat_lengths.specs.Nodes.{tests_before}
 use Rattle.frame_machine.specs.Ready.{AreFactsOf}
 use Rattle.pcre2_api.specs.declared.code.Info.{Info}
 use Rattle.pcre2_api.specs.declared.error.CompileError.{CompileError}

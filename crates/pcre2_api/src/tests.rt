@@ -437,7 +437,7 @@ fn match_errors_have_numbers_and_texts(rt: HostRuntime) -> Result<(), Fail> {
         assert_eq!(&rt; row.0.number(), row.1);
         assert_eq!(&rt; row.0.text(), row.2);
     }
-    assert_eq!(&rt; fault_text(114), b"missing closing parenthesis");
-    assert_eq!(&rt; fault_text(-8), b"invalid UTF-8 in pattern");
+    assert_eq!(&rt; fault_text(114), b"missing closing parenthesis".as_slice());
+    assert_eq!(&rt; fault_text(-8), b"invalid UTF-8 in pattern".as_slice());
     Ok(())
 }

@@ -1,9 +1,10 @@
 //! The tool on the program's words, the real files and the standard streams.
 use crate::top::run;
 use pcre_io::{StdFiles, StdSink, StdSource};
-use std::env;
+use std::env::{self, Env, FillError};
 use std::io::{self, BufWriter, Write};
 use std::process::ExitCode;
+use std::str;
 
 // So many bytes of results are gathered before they are written.
 const BUFFER: usize = 65_536;
@@ -16,6 +17,9 @@ const NO_WRITE: u8 = 4;
 
 // The words can't be read: one of them isn't UTF-8.
 const BAD_WORDS: u8 = 2;
+
+// Linux hands on no word of more bytes.
+const LONGEST_WORD: usize = 131_072;
 
 fn is_tool(name: &str) -> bool {
     name == "pcre2grep" || name == "pcre2test"
@@ -44,6 +48,29 @@ fn words_of(rt: &HostRuntime) -> io::Result<Vec<String>> {
         words.push(word)?;
     }
     Ok(words)
+}
+
+// The first word after the program's name that isn't UTF-8, counted from 1.
+fn first_bad_word(rt: &HostRuntime) -> Option<usize> {
+    let Ok(mut word) = vec![in rt.alloc(); 0u8; LONGEST_WORD] else {
+        return None;
+    };
+    for i in 1..usize::MAX {
+        match rt.arg(i, &mut word) {
+            Ok(len) if str::from_utf8(&word[..len]).is_err() => return Some(i),
+            Ok(_) | Err(FillError::TooLong) => {}
+            Err(FillError::NotPresent) => break,
+        }
+    }
+    None
+}
+
+// Says which word isn't UTF-8.
+fn say_bad_word(rt: &HostRuntime) {
+    let number = first_bad_word(rt).unwrap_or(0);
+    if let Ok(line) = format!(in rt.alloc(); "pcre2grep: word {number} is not UTF-8\n") {
+        let _ = rt.stderr().write_all(line.as_bytes());
+    }
 }
 
 // Runs the tool on these words, and writes what is still gathered.
@@ -76,7 +103,7 @@ pub fn run_real(rt: &HostRuntime) -> ExitCode {
         Ok(words) => ExitCode::from(run_words(rt, words.as_slice())),
         Err(e) if e.kind() == io::ErrorKind::OutOfMemory => ExitCode::from(NO_MEMORY),
         Err(_) => {
-            let _ = rt.stderr().write_all(b"pcre2grep: a word is not UTF-8\n");
+            say_bad_word(rt);
             ExitCode::from(BAD_WORDS)
         }
     }

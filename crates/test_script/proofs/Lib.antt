@@ -1,5 +1,3 @@
-pub mod Cuts
 pub mod Writing
-pub mod Joining
 pub mod Closings
 pub mod LineLaw

@@ -1,10 +1,6 @@
-pub mod Modifiers
-pub mod Table
-pub mod Texts
-pub mod Refusals
-pub mod Values
-pub mod Stopping
-pub mod Lists
+pub use Rattle.script_modifiers.specs.Modifiers
+pub use Rattle.script_modifiers.specs.Refusals
+pub use Rattle.script_modifiers.specs.Lists
 pub mod Subjects
 pub mod Pieces
 pub mod Script

@@ -1,7 +1,6 @@
 //! What a line of a script is.
-use crate::modifiers::Modifiers;
-use crate::refusal::Refusal;
 use pat_tree::ByteList;
+use script_modifiers::{Modifiers, Refusal};
 
 /// A pattern (pcre2test, "PATTERN SYNTAX").
 #[derive(Debug, Drop)]

@@ -1,24 +1,12 @@
-//! Laws on scripts and lists of modifiers.
+//! Laws on scripts.
 ghost use Rattle.std.specs.Prelude.{◌≡◌, ◌≢◌, ℕ, ◌+◌, List, [], ◌∷◌, ◌++◌, length, true, false, Some, None, Ok, Err, codes};
 ghost use Rattle.std.specs.Option.{option_map};
-ghost use Rattle.test_script.specs.declared.refusal.Refusal.TheVariants as refusal;
+ghost use Rattle.script_modifiers.specs.declared.refusal.Refusal.TheVariants as refusal;
 ghost use Rattle.test_script.specs.declared.entries.Entry.TheVariants as entry;
 ghost use Rattle.test_script.specs.declared.entries.Command.TheVariants as command;
-ghost use Rattle.test_script.specs.Modifiers.{ungiven};
-ghost use Rattle.test_script.specs.Lists.{list_of};
+ghost use Rattle.script_modifiers.specs.Modifiers.{ungiven};
 ghost use Rattle.test_script.specs.Subjects.{subject_text};
 ghost use Rattle.test_script.specs.Script.{beginning, closing_place, entries_of};
-
-/// Lists of modifiers, in patterns and in subjects.
-#[tactic(auto, unfolding(crate::specs::Lists::list_of))]
-pub fn worked_lists()
-    ensures pattern { list_of true (codes "imx,-caseless,offset=12")
-        ≡ Ok (record ungiven { caseless = Some false; multiline = Some true; extended = Some true; offset = Some 12 }) }
-    ensures subject { list_of false (codes " g, ps,replace=a=b ")
-        ≡ Ok (record ungiven { global = Some true; partial_soft = Some true; replace = Some (codes "a=b") }) }
-    ensures unknown { list_of false (codes "mark,gi,offset") ≡ Err (refusal.UnknownModifier (codes "gi")) }
-    ensures value { list_of true (codes "mark,-offset=1,nosuch") ≡ Err (refusal.BadModifierValue (codes "offset")) }
-{}
 
 /// Texts of subject lines, without UTF and with it: the bytes, and where the list begins.
 #[tactic(auto, unfolding(crate::specs::Subjects::subject_text, crate::specs::Subjects::times, crate::specs::Subjects::piece_at, crate::specs::Subjects::escape, crate::specs::Subjects::octal, crate::specs::Subjects::hexadecimal, crate::specs::Subjects::braced_octal, token_parts::specs::Bytes::run_end))]
@@ -30,7 +18,7 @@ pub fn worked_subjects()
 {}
 
 /// Scripts, and what each of their lines is.
-#[tactic(auto, unfolding(crate::specs::Script::line_of, crate::specs::Lists::list_of, crate::specs::Subjects::subject_text, crate::specs::Subjects::times, crate::specs::Subjects::piece_at, crate::specs::Subjects::escape, crate::specs::Subjects::octal, crate::specs::Subjects::hexadecimal, crate::specs::Subjects::braced_octal, token_parts::specs::Bytes::run_end))]
+#[tactic(auto, unfolding(crate::specs::Script::line_of, script_modifiers::specs::Lists::list_of, crate::specs::Subjects::subject_text, crate::specs::Subjects::times, crate::specs::Subjects::piece_at, crate::specs::Subjects::escape, crate::specs::Subjects::octal, crate::specs::Subjects::hexadecimal, crate::specs::Subjects::braced_octal, token_parts::specs::Bytes::run_end))]
 pub fn worked_scripts()
     ensures lines { entries_of (beginning ungiven) (codes "/a\\/b" ∷ codes "c/\\i" ∷ codes "# x" ∷ [] ∷ codes "# x" ∷ [])
         ≡ entry.More

@@ -4,12 +4,11 @@ ghost use Rattle.test_script.specs.Script.{is_command, is_note};
 
 use crate::closing::{after_backslash, closing_place, is_delimiter, pattern_text, push_line};
 use crate::entries::{Command, Entry, PatternEntry};
-use crate::lists::{after, read_list};
-use crate::modifiers::Modifiers;
-use crate::refusal::{ListError, Memory, Refusal};
-use crate::spaces::{begins_white, is_white};
 use crate::subject_lines::{is_blank_line, subject_entry, trimmed};
 use pat_tree::ByteList;
+use script_modifiers::{
+    ListError, Memory, Modifiers, Refusal, after, begins_white, is_white, read_list,
+};
 use std::alloc::Global;
 use std::marker::Model;
 
@@ -62,7 +61,7 @@ fn is_command(word: &[u8], text: &[u8]) -> bool
 
 impl ScriptReader {
     ghost use Rattle.std.specs.Prelude.{◌≡◌, ◌++◌, [], length, drop, IfOk, OnErr, true};
-    ghost use Rattle.test_script.specs.Lists.{list_of};
+    ghost use Rattle.script_modifiers.specs.Lists.{list_of};
     ghost use Rattle.test_script.specs.Script.{beginning, closing, subject, pattern_with, pattern_line, defaults_line, command_line, begun_line, first_line, subject_line, skipped_line, line_of};
 
     /// A reader before the first line, with these defaults. Takes no memory.

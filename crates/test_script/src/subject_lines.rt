@@ -4,12 +4,11 @@ ghost use Rattle.test_script.specs.Script.{trimmed, is_blank_line, is_subject_no
 ghost use Rattle.test_script.specs.Pieces.{written_seen};
 
 use crate::entries::{Entry, SubjectEntry};
-use crate::lists::{after, read_list};
-use crate::modifiers::Modifiers;
-use crate::refusal::{ListError, Memory, Refusal};
-use crate::spaces::{Space, begins_white};
 use crate::subjects::{Written, subject_text};
 use pat_tree::ByteList;
+use script_modifiers::{
+    ListError, Memory, Modifiers, Refusal, Space, after, begins_white, read_list,
+};
 use std::alloc::Global;
 
 /// A line without white space at its begin and its end.

@@ -62,7 +62,8 @@ fn escapes_in_classes(rt: HostRuntime) -> Result<(), Fail> {
         (r"[\E]a]", "([']' a])"),
         (r"[\Q\d\E]", r"(['\' d])"),
         (r"[^\E^]", "([^'^'])"),
-        (r"[\E^]^]", "([^']' '^'])"),
+        (r"[\E^a]", "([^a])"),
+        (r"(?xx)[ ^a]", "([^a])"),
     ];
     are_read(&rt, rt.alloc(), &rows)
 }

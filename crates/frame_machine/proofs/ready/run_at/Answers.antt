@@ -12,6 +12,7 @@ invariant_of-board g c =
     let groups : greatest (group_numbers t.nodes) ≤ 65535 = omega (arith, c.groups-groups.ensures.greatest, c.groups-groups.ensures.few) in
     let few : c.args.view.now.matching.now.match_limit ≤ 4294967295 = omega arith in
     record {
-      runs = byte_search t c.args.ready.now.classes.now c.args.view.now.matching.now c.args.view.now.subject.now c.is_sound.ensures need.runs need.table searched need.off groups few;
+      runs = byte_search t c.args.ready.now.classes.now c.args.view.now.matching.now c.args.view.now.subject.now c.is_sound.ensures need.runs need.facts.fixed need.table searched need.off groups few;
       flows = need.facts.flow;
+      backs = need.facts.backs;
     }

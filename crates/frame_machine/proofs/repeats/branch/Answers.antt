@@ -1,7 +1,7 @@
 use Rattle.std.proofs.Common.{arith}
 use Rattle.frame_store.specs.Entry.{entry_in, entries}
 use Rattle.frame_machine.proofs.HeldStops.{held_stop}
-use Rattle.frame_machine.proofs.BranchTurns.{branch_inside, stop_at_branch, turn_last_branch, stop_at_branch_units, turn_next_branch}
+use Rattle.frame_machine.proofs.BranchTurns.{branch_inside, stop_at_branch, turn_last_branch, stop_at_branch_units, turn_next_branch, branch_part, branch_fixed}
 use Rattle.frame_machine.proofs.repeats.branch.Goals as goal
 
 pub get-first-requires : goal.get-first-requires
@@ -11,7 +11,9 @@ pub returns-then-spot-eq0-clause-stop : goal.returns-then-spot-eq0-clause-stop
 returns-then-spot-eq0-clause-stop g c = stop_at_branch (g.S.Searchable.searched c.args.on.now) (g.met.S.Searchable.sound c.args.on.now) c.args.at c.args.index c.args.spot.now (entries c.args.store.now.records) c.args.registers.now c.requires.valid _ c.branches_of-branches.ensures _ c.get-first.ensures c.if-spot-eq0.true
 
 pub returns-then-index-len-clause-on : goal.returns-then-index-len-clause-on
-returns-then-index-len-clause-on g c = turn_last_branch (g.S.Searchable.searched c.args.on.now) (g.met.S.Searchable.sound c.args.on.now) c.args.at c.args.index c.args.spot.now (entries c.args.store.now.records) c.args.registers.now c.requires.valid _ c.branches_of-branches.ensures _ c.get-first.ensures (omega (arith, c.if-index-len.true, c.len.ensures)) (omega (arith, c.if-spot-eq0.false))
+returns-then-index-len-clause-on g c =
+    rw (c.begin_branch.ensures.next, c.begin_branch.ensures.spot, c.is_behind-behind.ensures)
+    (turn_last_branch (g.S.Searchable.searched c.args.on.now) (g.met.S.Searchable.sound c.args.on.now) c.args.at c.args.index c.args.spot.now (entries c.args.store.now.records) c.args.registers.now c.requires.valid _ c.branches_of-branches.ensures _ c.get-first.ensures (omega (arith, c.if-index-len.true, c.len.ensures)) (omega (arith, c.if-spot-eq0.false)))
 
 pub returns-in-Err-clause-stop : goal.returns-in-Err-clause-stop
 returns-in-Err-clause-stop g c =
@@ -21,7 +23,7 @@ returns-in-Err-clause-stop g c =
 pub returns-clause-on : goal.returns-clause-on
 unfolding entry_in
 returns-clause-on g c =
-    rw (c.in_default.ensures.spot, c.in_default.ensures.pushed, c.record-record.ensures)
+    rw (c.begin_branch-2.ensures.next, c.begin_branch-2.ensures.spot, c.is_behind-behind.ensures, c.in_default.ensures.spot, c.in_default.ensures.pushed, c.record-record.ensures)
     (turn_next_branch (g.S.Searchable.searched c.args.on.now) (g.met.S.Searchable.sound c.args.on.now) c.args.at c.args.index c.args.spot.now (entries c.args.store.now.records) c.args.registers.now c.requires.valid _ c.branches_of-branches.ensures _ c.get-first.ensures _ (omega arith) (omega (arith, c.if-index-len.false, c.len.ensures)) (omega (arith, c.if-spot-eq0.false)) (omega (arith, c.in_default.ensures.room, c.unit_limit.ensures)))
 
 pub branches_of-branches-requires-clause-inside : goal.branches_of-branches-requires-clause-inside

@@ -1,7 +1,7 @@
 use Rattle.std.proofs.Common.{sym, subst}
 use Rattle.frame_machine.specs.Validity.{HasBranch}
 use Rattle.frame_machine.specs.Forms.{IsRunnable}
-use Rattle.frame_machine.proofs.BranchTurns.{group_branches, atomic_branches, look_branches_of, stray_branches}
+use Rattle.frame_machine.proofs.BranchTurns.{group_branches, atomic_branches, look_branches, stray_branches}
 use Rattle.frame_machine.proofs.repeats.branches_of.Goals as goal
 
 pub returns-in-Group : goal.returns-in-Group
@@ -11,7 +11,7 @@ pub returns-in-Atomic : goal.returns-in-Atomic
 returns-in-Atomic g c = atomic_branches (g.S.Searchable.searched c.args.on.now) c.args.part c.requires.inside _ c.node.ensures _ c.in-Atomic.is
 
 pub returns-in-Look : goal.returns-in-Look
-returns-in-Look g c = look_branches_of (g.S.Searchable.searched c.args.on.now) c.args.part c.requires.inside _ c.node.ensures _ _ _ _ c.in-Look.is
+returns-in-Look g c = look_branches (g.S.Searchable.searched c.args.on.now) c.args.part c.requires.inside _ c.node.ensures _ _ _ _ c.in-Look.is
 
 pub unreachable-requires : goal.unreachable-requires
 unreachable-requires g c =

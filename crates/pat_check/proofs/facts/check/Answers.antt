@@ -1,7 +1,7 @@
 use Rattle.std.proofs.Common.{◌≡◌, ◌∙◌, None, sym, ap, refl, subst}
 use Rattle.std.specs.List.{list_any}
-use Rattle.pat_check.specs.Backs.{fault_in}
-use Rattle.pat_check.specs.Nodes.{is_lookbehind}
+use Rattle.pat_lengths.specs.Backs.{fault_in}
+use Rattle.pat_lengths.specs.Nodes.{is_lookbehind}
 use Rattle.uni_text.specs.Folding.{fold}
 use Rattle.pat_check.specs.Starts.{FoldsIn}
 use Rattle.pat_check.proofs.LookLemmas.{no_fault, none_some}

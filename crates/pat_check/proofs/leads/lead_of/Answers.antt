@@ -4,9 +4,9 @@ use Rattle.pat_tree.specs.Newlines.{end_kind, break_kind}
 use Rattle.pat_tree.specs.Nested.{tree_at}
 use Rattle.pat_tree.specs.Rules.{kids_of, number_in, asserted_by, tests_of, is_test}
 use Rattle.char_sets.specs.Sets.{class_has}
+use Rattle.pat_lengths.proofs.KeepLemmas.{all_kept, one_kept, branches_all}
 use Rattle.pat_check.specs.Lead.{lead}
 use Rattle.pat_check.specs.Starts.{IsSomeLead, lead_in, item_lead_in, break_lead_in}
-use Rattle.pat_check.proofs.KeepLemmas.{all_kept, one_kept, branches_all}
 use Rattle.pat_check.proofs.NodeLemmas.{parts_lead, branches_lead, condition_lead, other_lead}
 use Rattle.pat_check.proofs.leads.lead_of.Goals as goal
 

@@ -1,7 +1,7 @@
 use Rattle.std.proofs.Common.{◌≡◌, ◌∙◌, ◌+◌, ◌∷◌, ◌++◌, [], None, ap, sym, subst, length, length-append}
 use Rattle.pat_tree.specs.Nested.{trees, tree_at}
+use Rattle.pat_lengths.proofs.KeepLemmas.{keep_more}
 use Rattle.pat_check.specs.Starts.{KeepLeads, IsSomeLead, lead_in}
-use Rattle.pat_check.proofs.KeepLemmas.{keep_more}
 use Rattle.pat_check.proofs.leads.leads.Goals as goal
 
 pub loop-id-preserved : goal.loop-id-preserved

@@ -1,10 +1,11 @@
 use Rattle.std.proofs.Common.{◌≡◌, ◌∙◌, ◌+◌, ◌*◌, ◌<◌, ◌∷◌, [], All, length, ap, sym, subst}
 use Rattle.pat_tree.specs.Nested.{tree_at}
 use Rattle.pat_tree.specs.Rules.{kids_of}
-use Rattle.pat_check.specs.Lengths.{counted}
+use Rattle.pat_lengths.specs.Lengths.{counted}
+use Rattle.pat_lengths.proofs.KeepLemmas.{all_kept, one_kept}
+use Rattle.pat_lengths.proofs.CountLemmas.{counted_right, counted_times}
 use Rattle.pat_check.specs.Size.{whole_size, size, size_at, copies}
-use Rattle.pat_check.proofs.KeepLemmas.{all_kept, one_kept}
-use Rattle.pat_check.proofs.SizeLemmas.{counted_right, counted_times, total, sums, size_first, no_repeat}
+use Rattle.pat_check.proofs.SizeLemmas.{total, sums, size_first, no_repeat}
 use Rattle.pat_check.proofs.size.node_size.Goals as goal
 
 pub returns-in-Repeat : goal.returns-in-Repeat

@@ -1,5 +1,5 @@
 use Rattle.std.proofs.Common.{◌<◌, length}
-use Rattle.pat_check.proofs.KeepLemmas.{branches_all}
+use Rattle.pat_lengths.proofs.KeepLemmas.{branches_all}
 use Rattle.pat_check.proofs.size.sum_of_condition.Goals as goal
 
 pub sum_of_two-branches-requires : goal.sum_of_two-branches-requires

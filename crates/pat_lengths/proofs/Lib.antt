@@ -1,0 +1,10 @@
+mod LengthLaw
+mod LeastLaw
+pub mod CountLemmas
+pub mod OrderLemmas
+pub mod PassLemmas
+pub mod GroupLemmas
+pub mod KeepLemmas
+pub mod RoundLemmas
+pub mod KidLemmas
+pub mod SpanLemmas

@@ -1,0 +1,164 @@
+-- The lengths of a node by those of its children, as they are kept.
+use Rattle.std.proofs.Common.{◌≡◌, ◌∙◌, ◌≢◌, ℕ, zero, suc, ◌+◌, ◌*◌, ◌<◌, ◌≤◌, ◌||◌, nat_le, if◌then◌else◌, Bool, true, false, List, [], ◌∷◌, map, length, get_or, Option, Some, None, All, inl, inr, refl, sym, ap, subst, arith}
+use Rattle.std.proofs.lemmas.Bool.{cases_lt, le-leb}
+use Rattle.std.proofs.lemmas.List.Elements.{All-head, All-tail}
+use Rattle.pat_tree.specs.declared.nodes.Item.{Item}
+use Rattle.pat_tree.specs.declared.nodes.Cond.{Cond}
+use Rattle.pat_tree.specs.declared.nodes.Cond.TheVariants.{AnySet, InCall, InCallOf, Never, Assert}
+use Rattle.pat_tree.specs.declared.nodes.Node.{Node}
+use Rattle.pat_tree.specs.declared.nodes.Node.TheVariants as node
+use Rattle.pat_tree.specs.Nested.{Nested, tree_at, row, nest, test_of, cond_of, other_of}
+use Rattle.pat_tree.specs.Rules.{tests_of, is_test, AtMost}
+use Rattle.std.proofs.lemmas.List.{get_or_past}
+use Rattle.pat_tree.specs.Groups.{group_of}
+use Rattle.pat_lengths.specs.Nodes.{captures, has_shared_number}
+use Rattle.pat_lengths.specs.Passing.{flagged, IsAt, place_of}
+use Rattle.pat_lengths.proofs.RoundLemmas.{lost}
+use Rattle.pat_lengths.specs.Lengths.{SomeLengths, counted, only, any_length, behind, leads_back, lengths_of_group, in_turn, either, most_in_turns, in_some_turns, in_turns, lengths, lengths_in_turn, lengths_of_one, lengths_of_other, of_test}
+use Rattle.pat_lengths.specs.Spans.{counted_most, kept, span_at, span_in, KeepSpans, KeepGroups, lengths_of_parts, lengths_of_branches, lengths_of_second, lengths_of_condition}
+use Rattle.pat_lengths.specs.declared.spans.Span.{Span}
+use Rattle.pat_lengths.proofs.OrderLemmas.{by_test}
+use Rattle.pat_lengths.proofs.CountLemmas.{counted_times}
+
+in_bounds : (low : ℕ) (high : Option ℕ) (x : SomeLengths) → AtMost low high → in_turns low high x ≡ in_some_turns low high x
+in_bounds low None x h = refl
+in_bounds low (Some high) x h = rw (le-leb low high h, in_turns) refl
+
+-- turns of a part that has some length
+pub turns_some : (low : ℕ) (high : Option ℕ) (once : Span) (least : ℕ) (most : Option ℕ) → AtMost low high → least ≡ counted (low * once.least) →
+    ((x : Option ℕ) → once.most ≡ counted_most x → most ≡ counted_most (most_in_turns high x)) →
+    (x : SomeLengths) → Some once ≡ kept x → Some (record { least = least; most = most }) ≡ kept (in_turns low high x)
+turns_some low high once least most h e f None k = absurd cc
+turns_some low high once least most h e f (Some a) k =
+    let first : once.least ≡ counted a.least = cc in
+    let last : once.most ≡ counted_most a.most = cc in
+    rw (in_bounds low high (Some a) h) (both low (f a.most last) (e ∙ ap (λ n. counted (low * n)) first ∙ counted_times low a.least))
+  where
+    both : (low : ℕ) → most ≡ counted_most (most_in_turns high a.most) → least ≡ counted (low * a.least) →
+        Some (record { least = least; most = most }) ≡ kept (in_some_turns low high (Some a))
+    both zero m l = cc
+    both (suc n) m l = cc
+
+module _ (unset : Bool) (whole : Nested) (of_group : ℕ → SomeLengths) where
+  abbrev of : Nested → SomeLengths
+  of t = lengths unset whole of_group t
+
+  pub parts_lengths : (trees : List Nested) (ks : List ℕ) →
+      lengths_of_parts (λ k. lengths unset whole of_group (tree_at trees k)) ks ≡ lengths_in_turn unset whole of_group (row (map (tree_at trees) ks))
+  unfolding lengths
+  parts_lengths trees [] = refl
+  parts_lengths trees (k ∷ ks) = ap (in_turn (of (tree_at trees k))) (parts_lengths trees ks)
+
+  pub branches_lengths : (trees : List Nested) (ks : List ℕ) →
+      lengths_of_branches (λ k. lengths unset whole of_group (tree_at trees k)) ks ≡ lengths_of_one unset whole of_group (row (map (tree_at trees) ks))
+  unfolding lengths
+  branches_lengths trees [] = refl
+  branches_lengths trees (k ∷ ks) = ap (either (of (tree_at trees k))) (branches_lengths trees ks)
+
+  second_lengths : (trees : List Nested) (second : Option ℕ) →
+      lengths_of_second (λ k. lengths unset whole of_group (tree_at trees k)) second ≡ lengths_of_other unset whole of_group (other_of trees second)
+  unfolding lengths
+  second_lengths trees None = refl
+  second_lengths trees (Some k) = refl
+
+  tested_lengths : (x : SomeLengths) (t : Nested) → is_test t ≡ true → of_test unset whole of_group (test_of t) x ≡ x
+  unfolding lengths
+  tested_lengths x t h = by_test (λ t. of_test unset whole of_group (test_of t) x ≡ x) (λ ahead positive once ts. refl) (λ c ahead positive once ts. refl) t h
+
+  pub condition_lengths : (trees : List Nested) (test : Cond) (first : ℕ) (second : Option ℕ) → All (λ k. is_test (tree_at trees k) ≡ true) (tests_of test) →
+      lengths_of_condition (λ k. lengths unset whole of_group (tree_at trees k)) test first second ≡ lengths unset whole of_group (nest trees (node.Cond test first second))
+  unfolding lengths
+  condition_lengths trees (AnySet groups) first second h = ap (either (of (tree_at trees first))) (second_lengths trees second)
+  condition_lengths trees InCall first second h = ap (either (of (tree_at trees first))) (second_lengths trees second)
+  condition_lengths trees (InCallOf groups) first second h = ap (either (of (tree_at trees first))) (second_lengths trees second)
+  condition_lengths trees Never first second h = refl
+  condition_lengths trees (Assert k) first second h =
+      ap (either (of (tree_at trees first))) (second_lengths trees second)
+      ∙ sym (tested_lengths _ (tree_at trees k) (All-head (λ k. is_test (tree_at trees k) ≡ true) k [] h))
+
+  pub other_lengths : (trees : List Nested) (n : Node) →
+      ((x : Item) → n ≡ node.One x → ⊥) → (n ≡ node.Break → ⊥) → ((x : List ℕ) → n ≡ node.Seq x → ⊥) →
+      ((x : Option ℕ) (y : List ℕ) → n ≡ node.Group x y → ⊥) →
+      ((w x : ℕ) (y : Option ℕ) (z : Bool) → n ≡ node.Repeat w x y z → ⊥) →
+      ((w : Item) (x : ℕ) (y : Option ℕ) (z : Bool) → n ≡ node.OneRepeat w x y z → ⊥) →
+      ((x : List ℕ) → n ≡ node.Atomic x → ⊥) →
+      ((x : Cond) (y : ℕ) (z : Option ℕ) → n ≡ node.Cond x y z → ⊥) →
+      ((x : ℕ) → n ≡ node.Call x → ⊥) →
+      ((x : List ℕ) (y : Bool) → n ≡ node.Ref x y → ⊥) →
+      lengths unset whole of_group (nest trees n) ≡ only 0
+  unfolding lengths
+  other_lengths trees node.Empty a b c d e f g h i j = refl
+  other_lengths trees (node.One item) a b c d e f g h i j = absurd (a item refl)
+  other_lengths trees node.Break a b c d e f g h i j = absurd (b refl)
+  other_lengths trees (node.Seq kids) a b c d e f g h i j = absurd (c kids refl)
+  other_lengths trees (node.Group number branches) a b c d e f g h i j = absurd (d number branches refl)
+  other_lengths trees (node.Repeat body min max lazy) a b c d e f g h i j = absurd (e body min max lazy refl)
+  other_lengths trees (node.OneRepeat item min max lazy) a b c d e f g h i j = absurd (f item min max lazy refl)
+  other_lengths trees (node.Atomic branches) a b c d e f g h i j = absurd (g branches refl)
+  other_lengths trees (node.Look ahead positive once branches) a b c d e f g h i j = refl
+  other_lengths trees (node.Cond test first second) a b c d e f g h i j = absurd (h test first second refl)
+  other_lengths trees (node.Call n) a b c d e f g h i j = absurd (i n refl)
+  other_lengths trees (node.Ref groups caseless) a b c d e f g h i j = absurd (j groups caseless refl)
+  other_lengths trees (node.Anchor kind) a b c d e f g h i j = refl
+  other_lengths trees node.KeepOut a b c d e f g h i j = refl
+  other_lengths trees (node.VerbNode v) a b c d e f g h i j = refl
+  other_lengths trees (node.Callout number from to at len) a b c d e f g h i j = refl
+
+-- two lists that agree place by place are one
+pub same_lists : {X : Type 0} (xs ys : List X) (d : X) → length xs ≡ length ys → ((i : ℕ) → i < length xs → get_or xs i d ≡ get_or ys i d) → xs ≡ ys
+same_lists [] [] d e h = refl
+same_lists [] (y ∷ ys) d e h = absurd (omega (arith, e))
+same_lists (x ∷ xs) [] d e h = absurd (omega (arith, e))
+same_lists (x ∷ xs) (y ∷ ys) d e h =
+    let here : x ≡ y = h 0 (omega arith) in
+    let later : xs ≡ ys = same_lists xs ys d (omega (arith, e)) (λ i l. h (suc i) (omega (arith, l))) in
+    rw (here, later) refl
+
+-- One round over the groups' places.
+
+placed_span : (unset : Bool) (whole : Nested) (trees : List Nested) (root d n : ℕ) (spans : List (Option Span)) (place : Option ℕ) (back : Bool) →
+    length spans ≡ root + 1 → KeepSpans (lengths unset whole (behind unset whole d)) trees spans → back ≡ leads_back whole n → IsAt trees root place (group_of whole n) →
+    span_in spans place back ≡ kept (behind unset whole (suc d) n)
+unfolding behind
+placed_span unset whole trees root d n spans place back count keep is at = here place back (leads_back whole n) is at
+  where
+    here : (place : Option ℕ) (b c : Bool) → b ≡ c → IsAt trees root place (group_of whole n) →
+        span_in spans place b ≡ kept (elim c as (λ c. SomeLengths) [ true ↦ any_length | false ↦ lengths_of_group (lengths unset whole (behind unset whole d)) (group_of whole n) ])
+    here place true true e at = refl
+    here place true false e at = absurd (cc)
+    here place false true e at = absurd (cc)
+    here None false false e at = rw at refl
+    here (Some k) false false e at = keep k (omega (arith, count, at.0)) ∙ ap (λ o. kept (lengths_of_group (lengths unset whole (behind unset whole d)) o)) (sym at.1)
+
+pub span_step : (unset : Bool) (whole : Nested) (trees : List Nested) (root d n : ℕ) (spans next : List (Option Span)) (places : List (Option ℕ)) (back : List Bool) →
+    length spans ≡ root + 1 → KeepSpans (lengths unset whole (behind unset whole d)) trees spans → ((n : ℕ) → flagged back n ≡ leads_back whole n) → ((n : ℕ) → IsAt trees root (place_of places n) (group_of whole n)) →
+    length next ≡ length places → ((i : ℕ) → i < length places → span_at next i ≡ span_in spans (get_or places i None) (flagged back i)) →
+    span_at next n ≡ kept (behind unset whole (suc d) n)
+unfolding behind
+span_step unset whole trees root d n spans next places back count keep is at same are = elim (cases_lt n (length places)) [
+  | inl l ↦ are n l ∙ placed_span unset whole trees root d n spans (get_or places n None) (flagged back n) count keep (is n) (at n)
+  | inr l ↦
+      let past : place_of places n ≡ None = get_or_past places n None l in
+      let none : group_of whole n ≡ None = subst (λ p. IsAt trees root p (group_of whole n)) past (at n) in
+      let no_back : leads_back whole n ≡ false = lost whole n (suc (captures whole)) n none in
+      get_or_past next n None (omega (arith, same, l)) ∙ rw (no_back, none, behind) refl
+]
+
+-- before the first round no group has a length
+pub none_before : (unset : Bool) (whole : Nested) (any : Bool) → any ≡ (unset || has_shared_number whole) → KeepGroups unset whole (behind unset whole 0) any []
+unfolding behind
+none_before unset whole any is = record { any_is = is; each = λ n. refl }
+
+-- a branch with ACCEPT has any length
+pub freed_is : (a b : Bool) (x : Option Span) (y : SomeLengths) → a ≡ b → x ≡ kept y → (if a then kept any_length else x) ≡ kept (elim b [ true ↦ any_length | false ↦ y ])
+freed_is true true x y e f = refl
+freed_is true false x y e f = absurd (cc)
+freed_is false true x y e f = absurd (cc)
+freed_is false false x y e f = f
+
+pub no_definition : (of : ℕ → SomeLengths) (test : Cond) (first : ℕ) (second : Option ℕ) → (test ≡ Never → ⊥) → lengths_of_condition of test first second ≡ either (of first) (lengths_of_second of second)
+no_definition of Never first second h = absurd (h refl)
+no_definition of (AnySet groups) first second h = refl
+no_definition of InCall first second h = refl
+no_definition of (InCallOf groups) first second h = refl
+no_definition of (Assert k) first second h = refl

@@ -1,0 +1,192 @@
+// What is asked of each group, where its answer depends on those of the groups that it names.
+ghost use Rattle.std.specs.Prelude.{◌≡◌, ℕ, suc, ◌+◌, ◌<◌, ◌||◌, ◌==◌, true, All, List, IfOk, length};
+ghost use Rattle.std.specs.List.{list_all, list_any};
+ghost use Rattle.pat_tree.specs.Groups.{group_of};
+ghost use Rattle.pat_tree.specs.Nested.{Nested, trees, tree_at, nest};
+ghost use Rattle.pat_tree.specs.Parts.{tree_of};
+ghost use Rattle.pat_tree.specs.Rules.{kids_of, asserted_by, is_test, IsOrdered};
+ghost use Rattle.pat_lengths.specs.Passing.{IsAt, flagged, place_of, passes_at, ref_passes, condition_passes, passes};
+ghost use Rattle.pat_lengths.specs.Rounds.{KeepAnswers, AreRounds, answer};
+
+use crate::groups::Groups;
+use crate::kids::{has_flag, some_flag, some_kid};
+use pat_tree::{Cond, Memory, Node, NodeId, Tree};
+use std::alloc::Global;
+
+/// What is asked of each group.
+#[derive(Clone, Copy)]
+pub(crate) enum Question {
+    /// Whether it can match an empty text. Under `any` a reference can.
+    Passes { any: bool },
+    /// Whether it leads to the group of this number by calls and references.
+    LeadsTo { target: usize },
+}
+
+/// The answer of each group, where calls and references lead through as many groups as there are.
+// A round that changes nothing is the last: every later one would change nothing either.
+pub(crate) fn answers_of(
+    alloc: Global,
+    tree: &Tree,
+    groups: &Groups,
+    question: Question,
+) -> Result<Vec<bool>, Memory>
+    requires places { (n : ℕ)
+        → IsAt (trees tree.now.nodes) tree.now.root (place_of groups.now.places.items n)
+        (group_of (tree_of tree.now) n) }
+    ensures { IfOk result (λ of.
+        AreRounds question (tree_of tree.now) (suc groups.now.count) of.items) }
+{
+    let mut of = next_round(alloc, tree, &groups.places, question, &[])?;
+    for _ in 0..groups.count {
+        let next = next_round(alloc, tree, &groups.places, question, &of)?;
+        if next.as_slice() == of.as_slice() {
+            return Ok(of);
+        }
+        of = next;
+    }
+    Ok(of)
+}
+
+/// The answers after one round more.
+fn next_round(
+    alloc: Global,
+    tree: &Tree,
+    places: &[Option<NodeId>],
+    question: Question,
+    of: &[bool],
+) -> Result<Vec<bool>, Memory>
+    requires places { (n : ℕ)
+        → IsAt (trees tree.now.nodes) tree.now.root (place_of places.now n)
+        (group_of (tree_of tree.now) n) }
+    ensures { IfOk result (λ next.
+        (d : ℕ) → AreRounds question (tree_of tree.now) d of.now
+        → AreRounds question (tree_of tree.now) (suc d) next.items) }
+{
+    let answers = node_answers(alloc, tree, question, of)?;
+    let mut next = Vec::new(alloc);
+    for place in places {
+        next.push(flag_at(&answers, *place))?;
+    }
+    Ok(next)
+}
+
+fn flag_at(flags: &[bool], place: Option<NodeId>) -> bool
+    ensures { result ≡ passes_at flags.now place }
+{
+    match place {
+        Some(id) => has_flag(flags, id as usize),
+        None => false,
+    }
+}
+
+/// The answer of each node up to the root, by those of the groups.
+pub(crate) fn node_answers(
+    alloc: Global,
+    tree: &Tree,
+    question: Question,
+    of: &[bool],
+) -> Result<Vec<bool>, Memory>
+    ensures count { IfOk result (λ answers. length answers.items ≡ tree.now.root + 1) }
+    ensures kept { IfOk result (λ answers.
+        KeepAnswers question of.now (trees tree.now.nodes) answers.items) }
+{
+    let mut answers = Vec::new(alloc);
+    for id in 0..tree.root() as u64 + 1 {
+        let answer = node_answer(tree.node(id as u32), question, of, &answers);
+        answers.push(answer)?;
+    }
+    Ok(answers)
+}
+
+/// The answer of a node, by those of its children.
+fn node_answer(node: &Node, question: Question, of: &[bool], answers: &[bool]) -> bool
+    requires below { All (λ k. k < length answers.now) (kids_of node.now) }
+    requires ordered { IsOrdered node.now }
+    ensures { (trees : List Nested)
+        → All (λ k. is_test (tree_at trees k) ≡ true) (asserted_by node.now)
+        → KeepAnswers question of.now trees answers.now
+        → result ≡ answer question (flagged of.now) (nest trees node.now) }
+{
+    match question {
+        Question::Passes { any } => node_passes(node, any, of, answers),
+        Question::LeadsTo { target } => node_leads(node, target, of, answers),
+    }
+}
+
+/// Whether a node can match an empty text, by its children, and the groups that can.
+fn node_passes(node: &Node, any: bool, can: &[bool], passing: &[bool]) -> bool
+    requires below { All (λ k. k < length passing.now) (kids_of node.now) }
+    requires ordered { IsOrdered node.now }
+    ensures { (trees : List Nested)
+        → All (λ k. is_test (tree_at trees k) ≡ true) (asserted_by node.now)
+        → KeepAnswers (Question.Passes any) can.now trees passing.now
+        → result ≡ passes any (flagged can.now) (nest trees node.now) }
+{
+    match node {
+        Node::One(_) => false,
+        Node::Break => false,
+        Node::Seq(kids) => all_pass(kids.as_slice(), passing),
+        Node::Group { branches, .. } => some_flag(branches.as_slice(), passing),
+        Node::Repeat { body, min, .. } => *min == 0 || has_flag(passing, *body as usize),
+        Node::OneRepeat { min, .. } => *min == 0,
+        Node::Atomic(branches) => some_flag(branches.as_slice(), passing),
+        Node::Cond { test, yes, no } => condition_passes(test, *yes, *no, passing),
+        Node::Call { group } => has_flag(can, *group as usize),
+        Node::Ref { groups, .. } => ref_passes(groups.as_slice(), any, can),
+        _ => true,
+    }
+}
+
+fn all_pass(kids: &[NodeId], passing: &[bool]) -> bool
+    ensures { result ≡ list_all (flagged passing.now) kids.now }
+{
+    kids.iter().all(|id| has_flag(passing, *id as usize))
+}
+
+/// A definition is passed.
+fn condition_passes(test: &Cond, yes: NodeId, no: Option<NodeId>, passing: &[bool]) -> bool
+    ensures { result ≡ condition_passes (flagged passing.now) test.now yes no }
+{
+    if let Cond::Never = test {
+        return true;
+    }
+    match no {
+        Some(no) => has_flag(passing, yes as usize) || has_flag(passing, no as usize),
+        None => true,
+    }
+}
+
+fn ref_passes(groups: &[u16], any: bool, can: &[bool]) -> bool
+    ensures { result ≡ ref_passes any (flagged can.now) groups.now }
+{
+    groups.len() != 1 || any || has_flag(can, groups[0] as usize)
+}
+
+/// Whether some group that is named in a node is the target or leads to it.
+fn node_leads(node: &Node, target: usize, leads: &[bool], leading: &[bool]) -> bool
+    requires below { All (λ k. k < length leading.now) (kids_of node.now) }
+    ensures { (trees : List Nested)
+        → All (λ k. is_test (tree_at trees k) ≡ true) (asserted_by node.now)
+        → KeepAnswers (Question.LeadsTo target) leads.now trees leading.now
+        → result ≡ answer (Question.LeadsTo target) (flagged leads.now) (nest trees node.now) }
+{
+    match node {
+        Node::Call { group } => is_or_leads(*group, target, leads),
+        Node::Ref { groups, .. } => some_leads(groups.as_slice(), target, leads),
+        _ => some_kid(node, leading),
+    }
+}
+
+fn some_leads(groups: &[u16], target: usize, leads: &[bool]) -> bool
+    ensures { result ≡ list_any (λ n. n == target || flagged leads.now n) groups.now }
+{
+    groups
+        .iter()
+        .any(|group| is_or_leads(*group, target, leads))
+}
+
+fn is_or_leads(group: u16, target: usize, leads: &[bool]) -> bool
+    ensures { result ≡ (group == target || flagged leads.now group) }
+{
+    group as usize == target || has_flag(leads, group as usize)
+}

@@ -1,0 +1,7 @@
+pub mod Modifiers
+pub mod Table
+pub mod Texts
+pub mod Refusals
+pub mod Values
+pub mod Stopping
+pub mod Lists
