@@ -1,7 +1,7 @@
 //! Patterns that are read, with their trees by the manual (pcre2pattern).
 //!
-//! The C library, 10.42, accepts each pattern of these tables, of those of classes and of those of options, but two: in
-//! `[\E^]` it takes `^` as the negation, and it has `(*LIMIT_MATCH=4294967295)` as a number too large.
+//! The C library, 10.42, accepts each pattern of these tables, of those of classes and of those of options, but one: it
+//! has `(*LIMIT_MATCH=4294967295)` as a number too large.
 use crate::answers::are_read;
 use std::test::Fail;
 
