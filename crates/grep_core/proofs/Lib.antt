@@ -8,6 +8,7 @@ pub mod ScansRows
 pub mod ScansTexts
 pub mod ScansTaken
 pub mod ScansEnd
+pub mod ScansSent
 pub mod ScansLoop
 pub mod ScansFollow
 pub mod ScansWhole

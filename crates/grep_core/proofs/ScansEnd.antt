@@ -120,7 +120,7 @@ module _ (plan : GrepPlan) (patterns : List Pattern) (name : List ℕ) (shows : 
     pub ends-scan : (before after : Told) (given : List Row) (ended : Ended) (ends : EndsWith plan treated before after given ended) → scan_in (lines plan ends.heard) ≡ full_of ends.finish (tries plan patterns given)
     ends-scan before after given ended ends = ap scan_in ends.all ∙ scan-is job.show_is job.most_is (record { rows = given; finish = ends.finish })
 
-    goes-of : (before now : Told) (f : Feed) (c : Course) (s : State) (out0 out err0 err : Kept) (standing : Standing plan patterns name shows most treated s0 before now f c s out0 out err0 err)
+    pub goes-of : (before now : Told) (f : Feed) (c : Course) (s : State) (out0 out err0 err : Kept) (standing : Standing plan patterns name shows most treated s0 before now f c s out0 out err0 err)
         → Goes plan shows left most (tries plan patterns standing.given) (course_of c)
     goes-of before now f c s out0 out err0 err standing = record { reached = standing.taken.reached; few = standing.few; below = standing.below }
 

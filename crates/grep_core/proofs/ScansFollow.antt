@@ -114,3 +114,28 @@ module _ (plan : GrepPlan) (name : List ℕ) (shows : Show) (treated : Treatment
     long = had.long ∙ is;
     wrote = had.wrote;
   }
+
+  module _ (now : Told) (f : Feed) (out0 out out1 : Kept) (n : ℕ) (had : Following now f out0 out n) where
+    sent-to : WritesAll [] out out1 → Following now f out0 out1 n
+    sent-to sent = record {
+      rows = had.rows;
+      stood = had.stood;
+      kind = had.kind;
+      max = had.max;
+      long = had.long;
+      wrote = subst (λ l. WritesAll l out0 out1) (append-nil (texts had.rows)) (writes-more (texts had.rows) [] out0 out out1 had.wrote sent);
+    }
+
+    -- what was gathered was sent on
+    pub following-sent : (g : Feed) → g ≡ f → WritesAll [] out out1 → Following now g out0 out1 n
+    following-sent g same sent = subst (λ (h : Feed). Following now h out0 out1 n) (sym same) (sent-to sent)
+
+    -- it was refused
+    pub follows-unsent : (stop : Stop) → n < lines_after shows plan.after_context → Halts [] out out1 stop → FollowsPart plan name shows treated before now given out0 out1 stop
+    follows-unsent stop few halts =
+        let long = had.long in record {
+          rows = had.rows;
+          begins = stood-begins plan treated before now f (given ++ had.rows) had.kind had.max had.stood;
+          long = omega arith;
+          wrote = subst (λ l. Halts l out0 out1 stop) (append-nil (texts had.rows)) (halts-more (texts had.rows) [] out0 out out1 stop had.wrote halts);
+        }

@@ -16,4 +16,5 @@ pub mod Course
 pub mod Turns
 pub mod WholeScans
 pub mod Follows
+pub mod Sending
 pub mod OneInput

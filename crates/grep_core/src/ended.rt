@@ -1,6 +1,6 @@
 //! How a scan ends.
 use line_feed::FeedError;
-use pcre_io::{IoError, Memory};
+use pcre_io::{Failed, IoError, Memory};
 
 /// How the scan of an input ended.
 #[derive(Clone, Copy, Debug, PartialEq, Eq)]
@@ -47,6 +47,17 @@ impl From<Memory> for Stop {
 
     fn from(_e: Memory) -> Stop {
         Stop::Memory
+    }
+}
+
+impl From<Failed> for Stop {
+    ghost use Rattle.std.specs.Prelude.{◌≡◌};
+    ghost use Rattle.grep_core.specs.declared.ended.Stop.TheVariants as told;
+
+    ghost from_gives = { λ _ e. e ≡ told.SinkFault };
+
+    fn from(_e: Failed) -> Stop {
+        Stop::SinkFault
     }
 }
 

@@ -16,6 +16,7 @@ ghost use Rattle.tool_out.specs.Writes.{Writes};
 ghost use Rattle.grep_core.specs.declared.shows.Treatment.{Treatment};
 ghost use Rattle.grep_core.specs.Turns.{course_of, is_full, TakesLine, Passes, Selects, Turns, ended_by};
 ghost use Rattle.grep_core.specs.Follows.{FollowsOne, Follows};
+ghost use Rattle.grep_core.specs.Sending.{SendsOn};
 ghost use Rattle.grep_core.specs.WholeScans.{Stood, IsJob, ScansInput, TakesAll};
 ghost use Rattle.tool_out.specs.Printed.{printed};
 
@@ -307,6 +308,17 @@ fn ended_by(e: FeedError) -> Result<Ended, Stop>
     }
 }
 
+// Sends on what was gathered, before a read that may wait: who reads on need not wait with it.
+fn send_on<S: Source, O: Sink>(feed: &mut LineFeed, source: &S, out: &mut O) -> Result<(), Stop>
+    ensures same { feed.new ≡ feed.old }
+    ensures sent { SendsOn (O.tells out.old) (O.tells out.new) result }
+{
+    if source.may_wait() && !feed.holds_line() {
+        out.flush()?;
+    }
+    Ok(())
+}
+
 // Takes the next line, where there is one.
 fn take_turn<S: Source, O: Sink, E: Sink>(
     job: &Job<'_>,
@@ -380,6 +392,7 @@ fn follow<S: Source, O: Sink>(
         return Ok(Ended::Early);
     }
     'line: for _ in 0..job.plan.after_context {
+        send_on(feed, source, out)?;
         if let Some(ended) = follow_one(job, feed, source, out)? {
             return Ok(ended);
         }
@@ -418,6 +431,7 @@ fn take_lines<S: Source, O: Sink, E: Sink>(
 {
     prove!(job.plan.after_context <= u32::MAX);
     'line: loop {
+        send_on(feed, source, out)?;
         match take_turn(job, feed, source, out, err, work, state, course)? {
             Turn::Took(Next::Line) => {}
             Turn::Took(Next::Context) => return Ok(None),

@@ -1,5 +1,5 @@
 -- What the bytes that a feed holds tell of its rows, whatever follows.
-use Rattle.std.proofs.Common.{◌≡◌, ◌≢◌, ◌⊎◌, inl, inr, ℕ, ◌+◌, ◌-◌, ◌<◌, ◌≤◌, true, false, ◌&&◌, eqb, List, [], ◌∷◌, ◌++◌, length, take, drop, slice_range, get_or, refl, sym, ap, subst, ◌∙◌, arith, ⊎_elim, length-append, length-drop, length-take-le, append-nil, ◌^◌}
+use Rattle.std.proofs.Common.{min, ◌≡◌, ◌≢◌, ◌⊎◌, inl, inr, ℕ, ◌+◌, ◌-◌, ◌<◌, ◌≤◌, true, false, ◌&&◌, eqb, List, [], ◌∷◌, ◌++◌, length, take, drop, slice_range, get_or, refl, sym, ap, subst, ◌∙◌, arith, ⊎_elim, length-append, length-drop, length-take-le, append-nil, ◌^◌}
 use Rattle.std.proofs.lemmas.Bool.{cases_Bool, cases_lt, both_ways, eq-eqb}
 use Rattle.std.proofs.lemmas.List.{take-append-le, drop-append-le, take_all, drop_all, take-append-drop}
 use Rattle.std.proofs.Math.Seq.{take-add}
@@ -268,6 +268,13 @@ pub searched-part : (kind : EndKind) (held : List ℕ) → ¬ HoldsRow kind held
 searched-part kind held none k l = (
   omega arith,
   ⊎_elim (λ some. absurd (none (k, some, λ _. omega arith))) (λ z. let e : newline_len kind held k ≡ 0 = omega arith in e) (cases_lt 0 (newline_len kind held k)),
+)
+
+-- the places before the first newline
+pub searched-end : (f : Feed) (at len : ℕ) → FirstEnd f at len → IsSearched f.kind f.held (min at (length f.held - 2))
+searched-end f at len first k l = (
+  omega arith,
+  ⊎_elim (λ some. absurd (first.least.before k (omega arith) (omega arith) some)) (λ z. let e : newline_len f.kind f.held k ≡ 0 = omega arith in e) (cases_lt 0 (newline_len f.kind f.held k)),
 )
 
 pub nothing-held : (held : List ℕ) → length held ≡ 0 → held ≡ []

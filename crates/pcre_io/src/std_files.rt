@@ -28,12 +28,14 @@ impl<'a, R: Files + AllocGlobal + Clone + Drop> StdFiles<'a, R> {
     }
 }
 
-// Opens a file that isn't a directory.
-fn open<R: Files>(files: &R, name: &str) -> Option<R::File> {
+// Opens a file that isn't a directory. A read waits where it is a pipe or a device.
+fn open<R: Files>(files: &R, name: &str) -> Option<StdSource<R::File>> {
     match fs::open(files, name) {
         Ok(file) => match file.metadata() {
-            Ok(metadata) if !metadata.is_dir() => Some(file),
-            _ => None,
+            Ok(metadata) if metadata.is_dir() => None,
+            Ok(metadata) if metadata.is_file() => Some(StdSource::of_file(file)),
+            Ok(_) => Some(StdSource::new(file)),
+            Err(_) => None,
         },
         Err(_) => None,
     }
@@ -141,7 +143,7 @@ impl<'a, R: Files + AllocGlobal + Clone + Drop> FileSet for StdFiles<'a, R> {
 
     fn open_file(&mut self, _alloc: Global, name: &str) -> Result<StdSource<R::File>, IoError> {
         match open(self.files, name) {
-            Some(file) => Ok(StdSource::new(file)),
+            Some(source) => Ok(source),
             None => Err(self.count(IoError::Failed)),
         }
     }

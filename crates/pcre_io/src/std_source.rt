@@ -12,6 +12,7 @@ use std::io::Read;
 #[derive(Drop)]
 pub struct StdSource<R> {
     reader: R,
+    may_wait: bool,
     faults: u64,
 }
 
@@ -20,7 +21,22 @@ impl<R: Read> StdSource<R> {
     pub fn new(reader: R) -> StdSource<R>
         ensures { ⟦<StdSource<R> as Source>⟧.tells result ≡ record { left = R.remaining reader; stop = None; faults = 0 } }
     {
-        StdSource { reader, faults: 0 }
+        StdSource {
+            reader,
+            may_wait: true,
+            faults: 0,
+        }
+    }
+
+    /// A source over a reader whose reads don't wait, as a file's. Takes no memory.
+    pub fn of_file(reader: R) -> StdSource<R>
+        ensures { ⟦<StdSource<R> as Source>⟧.tells result ≡ record { left = R.remaining reader; stop = None; faults = 0 } }
+    {
+        StdSource {
+            reader,
+            may_wait: false,
+            faults: 0,
+        }
     }
 }
 
@@ -42,5 +58,9 @@ impl<R: Read> Source for StdSource<R> {
                 Err(Failed)
             }
         }
+    }
+
+    fn may_wait(&self) -> bool {
+        self.may_wait
     }
 }

@@ -30,6 +30,12 @@ pub trait Source {
         ensures bytes { ReadConsumes (tells self.old).left (tells self.new).left result buf.new }
         ensures stop { StopsAt (tells self.old).stop (tells self.new).stop result (length buf.old) }
         ensures cause { CountsFaults (tells self.old).faults (tells self.new).faults result };
+
+    /// Whether a read may wait for bytes that are still to come, as at a terminal or a pipe. A source that leaves this out
+    /// says so.
+    fn may_wait(&self) -> bool {
+        true
+    }
 }
 
 /// Where bytes go. A sink may gather what it takes, and send it on later.

@@ -1,9 +1,11 @@
 use Rattle.std.proofs.Common.{rules, ◌≡◌, ◌≢◌, ◌<◌, Err, None, arith, sym, subst}
+use Rattle.line_feed.specs.View.{Feed}
+use Rattle.line_feed.specs.declared.phase.Phase.TheVariants.{Closed}
 use Rattle.grep_core.specs.declared.shows.Show.TheVariants.{Lines}
 use Rattle.grep_core.specs.Shows.{lines_after}
 use Rattle.grep_core.specs.Follows.{Follows}
 use Rattle.line_feed.proofs.Given.{live-gives}
-use Rattle.grep_core.proofs.ScansFollow.{after-lines, after-others, following-none, following-more, follows-ends, follows-stops, follows-all}
+use Rattle.grep_core.proofs.ScansFollow.{after-lines, after-others, following-none, following-more, follows-ends, follows-stops, follows-all, following-sent, follows-unsent}
 use Rattle.grep_core.proofs.scan.follow.Goals as goal
 
 pub returns-then-ne : goal.returns-then-ne
@@ -20,19 +22,19 @@ line-init g c = record {
 }
 
 pub follow_one-requires : goal.follow_one-requires
-follow_one-requires g c = c.line.invariant.live
+follow_one-requires g c = subst (λ (f : Feed). f.phase ≢ Closed) (sym c.send_on.ensures.same) c.line.invariant.live
 
 pub returns-in_err-ended : goal.returns-in_err-ended
 returns-in_err-ended g c = λ before treated given stood kind max.
     let job = c.args.job.now in
     let stop = c.in_err-ended.field-0.0 in
-    let same : c.from_residual.result ≡ Err stop = search rules in
+    let same : c.from_residual-in_err-ended.result ≡ Err stop = search rules in
     let lines : job.show ≡ Lines = search rules in
     let after = after-lines job.show job.plan.now.after_context lines in
     let less = c.line-test.true in
     let few : c.line.counter < lines_after job.show job.plan.now.after_context = omega arith in
     subst (Follows job.plan.now job.name.now job.show treated before (g.S.Source.tells c.follow_one.new.source) given (g.O.Sink.tells c.args.out.now) (g.O.Sink.tells c.follow_one.new.out)) (sym same)
-    (follows-stops job.plan.now job.name.now job.show treated before given _ _ _ _ _ _ _ _ (c.line.invariant.following before treated given stood kind max) stop few c.in_err-ended.ensures)
+    (follows-stops job.plan.now job.name.now job.show treated before given _ _ _ _ _ _ _ _ (following-sent job.plan.now job.name.now job.show treated before given _ _ _ _ _ _ (c.line.invariant.following before treated given stood kind max) _ c.send_on.ensures.same c.in_ok-send_on.ensures.sent) stop few c.in_err-ended.ensures)
 
 pub returns-in-Some : goal.returns-in-Some
 returns-in-Some g c = λ before treated given stood kind max.
@@ -42,7 +44,7 @@ returns-in-Some g c = λ before treated given stood kind max.
     let less = c.line-test.true in
     let few : c.line.counter < lines_after job.show job.plan.now.after_context = omega arith in
     let ends = rw c.in-Some.is at c.in_ok-ended.ensures in
-    follows-ends job.plan.now job.name.now job.show treated before given _ _ _ _ _ _ _ _ (c.line.invariant.following before treated given stood kind max) c.in-Some.ended few ends
+    follows-ends job.plan.now job.name.now job.show treated before given _ _ _ _ _ _ _ _ (following-sent job.plan.now job.name.now job.show treated before given _ _ _ _ _ _ (c.line.invariant.following before treated given stood kind max) _ c.send_on.ensures.same c.in_ok-send_on.ensures.sent) c.in-Some.ended few ends
 
 pub line-preserved : goal.line-preserved
 line-preserved g c =
@@ -52,7 +54,7 @@ line-preserved g c =
     record {
       live = live-gives _ _ _ _ shows.row shows.gives;
       within = let less = c.line-test.true in omega arith;
-      following = λ before treated given stood kind max. following-more job.plan.now job.name.now job.show treated before given _ _ _ _ _ _ _ _ (c.line.invariant.following before treated given stood kind max) shows;
+      following = λ before treated given stood kind max. following-more job.plan.now job.name.now job.show treated before given _ _ _ _ _ _ _ _ (following-sent job.plan.now job.name.now job.show treated before given _ _ _ _ _ _ (c.line.invariant.following before treated given stood kind max) _ c.send_on.ensures.same c.in_ok-send_on.ensures.sent) shows;
     }
 
 pub returns : goal.returns
@@ -64,3 +66,15 @@ returns g c = λ before treated given stood kind max.
     let within = c.line.invariant.within in
     let all : c.line.counter ≡ lines_after job.show job.plan.now.after_context = omega arith in
     follows-all job.plan.now job.name.now job.show treated before given _ _ _ _ _ (c.line.invariant.following before treated given stood kind max) all
+
+pub returns-in_err-send_on : goal.returns-in_err-send_on
+returns-in_err-send_on g c = λ before treated given stood kind max.
+    let job = c.args.job.now in
+    let stop = c.in_err-send_on.field-0.0 in
+    let same : c.from_residual.result ≡ Err stop = search rules in
+    let lines : job.show ≡ Lines = search rules in
+    let after = after-lines job.show job.plan.now.after_context lines in
+    let less = c.line-test.true in
+    let few : c.line.counter < lines_after job.show job.plan.now.after_context = omega arith in
+    subst (Follows job.plan.now job.name.now job.show treated before (g.S.Source.tells c.line.source) given (g.O.Sink.tells c.args.out.now) (g.O.Sink.tells c.send_on.new.out)) (sym same)
+    (follows-unsent job.plan.now job.name.now job.show treated before given _ _ _ _ _ _ (c.line.invariant.following before treated given stood kind max) stop few c.in_err-send_on.ensures.sent)

@@ -1,11 +1,14 @@
-use Rattle.std.proofs.Common.{rules, ◌≡◌, subst, ◌<◌, ◌^◌, length, Err, arith, refl, sym, ap, ◌∙◌}
+use Rattle.std.proofs.Common.{rules, ◌≢◌, ◌≡◌, subst, ◌<◌, ◌^◌, length, Err, arith, refl, sym, ap, ◌∙◌}
 use Rattle.grep_core.proofs.scan.take_lines.Goals as goal
 use Rattle.grep_match.specs.Compiled.{patterns_in}
 use Rattle.grep_core.specs.WholeScans.{TakesAll}
 use Rattle.line_feed.proofs.Given.{live-gives}
 use Rattle.grep_core.proofs.ScansTaken.{standing-line, standing-pauses}
 use Rattle.grep_core.proofs.ScansEnd.{scans-ends, scans-stops}
-use Rattle.grep_core.proofs.ScansLoop.{standing-begun, keeps-more, gave}
+use Rattle.grep_core.proofs.ScansLoop.{Keeps, standing-begun, keeps-more, gave}
+use Rattle.grep_core.proofs.ScansSent.{standing-sent, scans-unsent}
+use Rattle.line_feed.specs.View.{Feed}
+use Rattle.line_feed.specs.declared.phase.Phase.TheVariants.{Closed}
 use Rattle.tool_out.specs.Printed.{printed}
 
 pub line-init : goal.line-init
@@ -29,16 +32,16 @@ line-init g c = record {
 }
 
 pub take_turn-requires-clause-live : goal.take_turn-requires-clause-live
-take_turn-requires-clause-live g c = c.line.invariant.live
+take_turn-requires-clause-live g c = subst (λ (f : Feed). f.phase ≢ Closed) (sym c.send_on.ensures.same) c.line.invariant.live
 
 pub take_turn-requires-clause-max : goal.take_turn-requires-clause-max
-take_turn-requires-clause-max g c = c.line.invariant.keeps.max
+take_turn-requires-clause-max g c = let kept = subst (λ (f : Feed). Keeps f c.line.course c.line.state) (sym c.send_on.ensures.same) c.line.invariant.keeps in kept.max
 
 pub take_turn-requires-clause-numbered : goal.take_turn-requires-clause-numbered
-take_turn-requires-clause-numbered g c = c.line.invariant.keeps.numbered
+take_turn-requires-clause-numbered g c = let kept = subst (λ (f : Feed). Keeps f c.line.course c.line.state) (sym c.send_on.ensures.same) c.line.invariant.keeps in kept.numbered
 
 pub take_turn-requires-clause-earlier : goal.take_turn-requires-clause-earlier
-take_turn-requires-clause-earlier g c = c.line.invariant.keeps.earlier
+take_turn-requires-clause-earlier g c = let kept = subst (λ (f : Feed). Keeps f c.line.course c.line.state) (sym c.send_on.ensures.same) c.line.invariant.keeps in kept.earlier
 
 pub take_turn-requires-clause-context : goal.take_turn-requires-clause-context
 take_turn-requires-clause-context g c = c.line.invariant.keeps.context
@@ -56,12 +59,12 @@ pub returns-in_err-take_turn-clause-taken : goal.returns-in_err-take_turn-clause
 returns-in_err-take_turn-clause-taken g c = λ before treated job stood.
     let job_is = c.args.job.now in
     let stop = c.in_err-take_turn.field-0.0 in
-    let same : c.from_residual.result ≡ Err stop = search rules in
+    let same : c.from_residual-in_err-take_turn.result ≡ Err stop = search rules in
     subst
     (TakesAll job_is.plan.now (patterns_in job_is.patterns.now) job_is.name.now job_is.show job_is.most treated c.args.state.now before (g.S.Source.tells c.take_turn.new.source) c.take_turn.new.feed
     c.take_turn.new.course.selected c.take_turn.new.state (printed (g.O.Sink.tells c.args.out.now) (g.E.Sink.tells c.args.err.now)) (printed (g.O.Sink.tells c.take_turn.new.out) (g.E.Sink.tells c.take_turn.new.err)))
     (sym same)
-    (scans-stops _ _ _ _ _ treated _ _ job before _ _ _ _ _ _ _ _ _ _ _ _ _ _ (c.line.invariant.standing before treated job stood) stop c.in_err-take_turn.ensures)
+    (scans-stops _ _ _ _ _ treated _ _ job before _ _ _ _ _ _ _ _ _ _ _ _ _ _ (standing-sent _ _ _ _ _ treated _ before _ _ _ _ _ _ _ _ _ (c.line.invariant.standing before treated job stood) _ c.send_on.ensures.same c.in_ok-send_on.ensures.sent) stop c.in_err-take_turn.ensures)
 
 pub line-smaller : goal.line-smaller
 line-smaller g c =
@@ -69,6 +72,7 @@ line-smaller g c =
     let grew = gave _ _ _ _ row.row row.gives in
     let more = grew.offset in
     let limit = grew.limit in
+    let same = ap (λ (f : Feed). f.offset) c.send_on.ensures.same in
     omega arith
 
 pub line-preserved : goal.line-preserved
@@ -76,19 +80,31 @@ line-preserved g c =
     let row = rw c.in-Took-Line.field-0-is at (rw c.in-Took-Line.is at c.in_ok-take_turn.ensures) in
     let few : c.args.job.now.plan.now.after_context < 2 ^ 32 = let most = c.if-prove.false in omega arith in
     let had = c.line.invariant in
+    let kept = subst (λ (f : Feed). Keeps f c.line.course c.line.state) (sym c.send_on.ensures.same) c.line.invariant.keeps in
     record {
       live = live-gives _ _ _ _ row.row row.gives;
-      keeps = keeps-more c.args.job.now.plan.now c.args.job.now.name.now c.args.job.now.show c.args.job.now.most _ _ _ _ row.row _ _ _ _ _ _ _ _ _ _ few refl had.keeps row.gives row.takes;
+      keeps = keeps-more c.args.job.now.plan.now c.args.job.now.name.now c.args.job.now.show c.args.job.now.most _ _ _ _ row.row _ _ _ _ _ _ _ _ _ _ few refl kept row.gives row.takes;
       limit = λ is. row.takes.limit ∙ had.limit is;
-      standing = λ before treated job stood. standing-line _ _ _ _ _ treated _ before _ _ _ _ row.row _ _ _ _ _ _ _ _ _ _ (had.standing before treated job stood) row.gives row.takes;
+      standing = λ before treated job stood. standing-line _ _ _ _ _ treated _ before _ _ _ _ row.row _ _ _ _ _ _ _ _ _ _ (standing-sent _ _ _ _ _ treated _ before _ _ _ _ _ _ _ _ _ (had.standing before treated job stood) _ c.send_on.ensures.same c.in_ok-send_on.ensures.sent) row.gives row.takes;
     }
 
 pub returns-in-Took-Context-clause-taken : goal.returns-in-Took-Context-clause-taken
 returns-in-Took-Context-clause-taken g c = λ before treated job stood.
     let row = rw c.in-Took-Context.field-0-is at (rw c.in-Took-Context.is at c.in_ok-take_turn.ensures) in
-    standing-pauses _ _ _ _ _ treated _ before _ _ _ _ row.row _ _ _ _ _ _ _ _ _ _ (c.line.invariant.standing before treated job stood) row.gives row.takes
+    standing-pauses _ _ _ _ _ treated _ before _ _ _ _ row.row _ _ _ _ _ _ _ _ _ _ (standing-sent _ _ _ _ _ treated _ before _ _ _ _ _ _ _ _ _ (c.line.invariant.standing before treated job stood) _ c.send_on.ensures.same c.in_ok-send_on.ensures.sent) row.gives row.takes
 
 pub returns-in-Finished-clause-taken : goal.returns-in-Finished-clause-taken
 returns-in-Finished-clause-taken g c = λ before treated job stood.
     let ends = rw c.in-Finished.is at c.in_ok-take_turn.ensures in
-    scans-ends _ _ _ _ _ treated _ _ job before _ _ _ _ _ _ _ _ _ _ _ _ _ _ (c.line.invariant.standing before treated job stood) c.in-Finished.ended ends.0 ends.1
+    scans-ends _ _ _ _ _ treated _ _ job before _ _ _ _ _ _ _ _ _ _ _ _ _ _ (standing-sent _ _ _ _ _ treated _ before _ _ _ _ _ _ _ _ _ (c.line.invariant.standing before treated job stood) _ c.send_on.ensures.same c.in_ok-send_on.ensures.sent) c.in-Finished.ended ends.0 ends.1
+
+pub returns-in_err-send_on-clause-taken : goal.returns-in_err-send_on-clause-taken
+returns-in_err-send_on-clause-taken g c = λ before treated job stood.
+    let job_is = c.args.job.now in
+    let stop = c.in_err-send_on.field-0.0 in
+    let same : c.from_residual.result ≡ Err stop = search rules in
+    subst
+    (TakesAll job_is.plan.now (patterns_in job_is.patterns.now) job_is.name.now job_is.show job_is.most treated c.args.state.now before (g.S.Source.tells c.line.source) c.send_on.new.feed
+    c.line.course.selected c.line.state (printed (g.O.Sink.tells c.args.out.now) (g.E.Sink.tells c.args.err.now)) (printed (g.O.Sink.tells c.send_on.new.out) (g.E.Sink.tells c.line.err)))
+    (sym same)
+    (scans-unsent _ _ _ _ _ treated _ before _ _ _ _ _ _ _ _ _ (c.line.invariant.standing before treated job stood) _ job stop c.in_err-send_on.ensures.sent)

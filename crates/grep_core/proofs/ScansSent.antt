@@ -1,0 +1,85 @@
+-- What was gathered is sent on between two lines.
+use Rattle.std.proofs.Common.{◌≡◌, ℕ, List, [], ◌++◌, Option, Result, Err, sym, subst, append-nil}
+use Rattle.std.specs.Prelude.{flat_map}
+use Rattle.pcre_io.specs.Told.{Told, Kept}
+use Rattle.line_feed.specs.Rows.{Row}
+use Rattle.line_feed.specs.View.{Feed}
+use Rattle.grep_args.specs.declared.plan.GrepPlan.{GrepPlan}
+use Rattle.pat_tree.specs.Pattern.{Pattern}
+use Rattle.grep_core.specs.declared.shows.Show.{Show}
+use Rattle.grep_core.specs.declared.shows.Treatment.{Treatment}
+use Rattle.grep_core.specs.declared.ended.Stop.{Stop}
+use Rattle.grep_core.specs.declared.ended.Stop.TheVariants.{SinkFault, TooManyErrors, Memory}
+use Rattle.grep_core.specs.declared.scan.Course.{Course}
+use Rattle.grep_core.specs.declared.state.State.{State}
+use Rattle.grep_match.specs.Matches.{Tried}
+use Rattle.grep_core.specs.Lines.{lines}
+use Rattle.grep_core.specs.Messages.{error_message}
+use Rattle.grep_core.specs.InputText.{shown_out}
+use Rattle.grep_core.specs.Course.{scan_so_far}
+use Rattle.grep_core.specs.Turns.{course_of, Halts}
+use Rattle.grep_core.specs.WholeScans.{ScansInput, ScansTo, IsJob}
+use Rattle.tool_out.specs.Prints.{Wrote, Breaks}
+use Rattle.tool_out.specs.Printed.{printed}
+use Rattle.tool_out.specs.Writes.{WritesAll}
+use Rattle.grep_core.proofs.Extends.{extends}
+use Rattle.grep_core.proofs.ScansRows.{stood-begins}
+use Rattle.grep_core.proofs.ScansTexts.{wrote-out, breaks-out, breaks-ext}
+use Rattle.grep_core.proofs.ScansTaken.{tries, Standing}
+use Rattle.grep_core.proofs.ScansEnd.{left, full_of, begins-scan, begins-tried, goes-of}
+
+module _ (plan : GrepPlan) (patterns : List Pattern) (name : List ℕ) (shows : Show) (most : Option ℕ) (treated : Treatment) (s0 : State) (before now : Told) (f : Feed) (c : Course) (s : State) (out0 out out1 err0 err : Kept)
+    (standing : Standing plan patterns name shows most treated s0 before now f c s out0 out err0 err) where
+  abbrev us : List Tried
+  us = tries plan patterns standing.given
+
+  abbrev a : List ℕ
+  a = shown_out plan name shows s0.has_shown (scan_so_far us)
+
+  abbrev b : List ℕ
+  b = flat_map (error_message name) us
+
+  sent-to : WritesAll [] out out1 → Standing plan patterns name shows most treated s0 before now f c s out0 out1 err0 err
+  sent-to sent = record {
+    given = standing.given;
+    stood = standing.stood;
+    kind = standing.kind;
+    max = standing.max;
+    few = standing.few;
+    below = standing.below;
+    taken = record {
+      reached = standing.taken.reached;
+      wrote = subst (λ l. Wrote l b (printed out0 err0) (printed out1 err)) (append-nil a) (wrote-out a b [] out0 out out1 err0 err standing.taken.wrote sent);
+      state = standing.taken.state;
+    };
+  }
+
+  -- it was: the scan stands as before
+  pub standing-sent : (g : Feed) → g ≡ f → WritesAll [] out out1 → Standing plan patterns name shows most treated s0 before now g c s out0 out1 err0 err
+  standing-sent g same sent = subst (λ (h : Feed). Standing plan patterns name shows most treated s0 before now h c s out0 out1 err0 err) (sym same) (sent-to sent)
+
+  module _ (f0 : Feed) (job : IsJob plan treated shows most f0) where
+    unsent : (stop : Stop) → Halts [] out out1 stop → (c1 : ℕ) (s1 : State)
+        → ((x : _) → Breaks (shown_out plan name shows s0.has_shown x) (flat_map (error_message name) x.tried) (printed out0 err0) (printed out1 err) (stop ≡ SinkFault)
+        → ScansTo plan patterns name shows treated s0 x c1 s1 (printed out0 err0) (printed out1 err) (Err stop))
+        → ScansInput plan patterns name shows treated s0 before now c1 s1 (printed out0 err0) (printed out1 err) (Err stop)
+    unsent stop halts c1 s1 to =
+        let begins = stood-begins plan treated before now f standing.given standing.kind standing.max standing.stood in
+        let finish = (lines plan begins.heard).finish in
+        let vs = tries plan patterns begins.more in
+        let is = begins-scan plan patterns name shows most treated s0 f0 job before now standing.given begins in
+        let goes = goes-of plan patterns name shows most treated s0 f0 job before now f c s out0 out err0 err standing in
+        let ext = extends plan name shows s0.has_shown (left plan patterns name shows most treated s0) most finish vs us (course_of c) goes (begins-tried plan patterns name shows most treated s0 f0 job before now standing.given begins) in
+        let breaks = subst (λ l. Breaks l b (printed out0 err0) (printed out1 err) (stop ≡ SinkFault)) (append-nil a) (breaks-out a b [] out0 out out1 err0 err standing.taken.wrote stop halts) in
+        let all = full_of plan patterns name shows most treated s0 finish (us ++ vs) in record {
+          heard = begins.heard;
+          hears = begins.hears;
+          treats = begins.treats;
+          scans = subst (λ x. ScansTo plan patterns name shows treated s0 x c1 s1 (printed out0 err0) (printed out1 err) (Err stop)) (sym is) (to all (breaks-ext plan name shows s0.has_shown all a b out0 out1 err0 err stop ext breaks));
+        }
+
+    -- it was refused: a part of the scan was written
+    pub scans-unsent : (stop : Stop) → Halts [] out out1 stop → ScansInput plan patterns name shows treated s0 before now c.selected s (printed out0 err0) (printed out1 err) (Err stop)
+    scans-unsent SinkFault halts = unsent SinkFault halts c.selected s (λ x breaks. breaks)
+    scans-unsent Memory halts = unsent Memory halts c.selected s (λ x breaks. breaks)
+    scans-unsent TooManyErrors halts = absurd halts
