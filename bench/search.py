@@ -1,8 +1,8 @@
 #!/usr/bin/env python3
 """Times the search beside the C library's pcre2grep --no-jit -c, on 20 MB of lines.
 
-Makes its input itself, in a temporary folder: lines of words, letters and digits, with an address and a function head now and
-then. The crate `measure` compiles the pattern and counts the lines of its standard input that it matches. Prints both times
+Makes its input itself, in a temporary folder: lines of words, letters and digits, with an address, a function head, a quoted
+text and the like now and then. The crate `measure` compiles the pattern and counts the lines of its standard input that it matches. Prints both times
 (the best of three), their ratio (below 1 is faster than the C library), and whether the counts agree. Run `rt run` in
 crates/measure first; the C library's pcre2grep has to be on the PATH.
 """
@@ -16,13 +16,22 @@ import time
 HERE = os.path.dirname(os.path.abspath(__file__))
 OURS = os.path.join(HERE, "..", "crates", "measure", "out", "measure")
 SIZE = 20_000_000
-PATTERNS = [r"(\w+)@(\w+)\.com", r"[a-f0-9]{5}[0-9]", r"colou?r", r"^\s*fn\s+(\w+)", r"(?:a|b)*c"]
+PATTERNS = [
+    r"(\w+)@(\w+)\.com",
+    r"[a-f0-9]{5}[0-9]",
+    r"colou?r",
+    r"^\s*fn\s+(\w+)",
+    r"(?:a|b)*c",
+    r"TODO(?=:)",
+    r'"(?>[^"\\]++|\\.)*+"',
+    r"(?i)(?=.*error)(?=.*disk)^.*$",
+]
 
 
 def make_input(path):
     choice = random.Random(1)
     words = "the of and a to in is you that it he was for on are as with his they at be this have from color abba cab".split()
-    rare = ["me@site.com", "fn main() {", "colour", "12a456", "deadbeef0"]
+    rare = ["me@site.com", "fn main() {", "colour", "12a456", "deadbeef0", "TODO: it", r'"so \"said\" he"', "Disk error"]
     written = 0
     with open(path, "w", encoding="ascii") as out:
         while written < SIZE:
@@ -51,7 +60,7 @@ def main():
             ours, count = best([OURS, "search", pattern], path)
             theirs, expected = best(["pcre2grep", "--no-jit", "-c", pattern], path)
             agrees = "same count" if count == expected else f"{count} in place of {expected}"
-            print(f"{pattern:20} ours {ours:.3f} s, theirs {theirs:.3f} s, ratio {ours / theirs:.2f}, {agrees}")
+            print(f"{pattern:32} ours {ours:.3f} s, theirs {theirs:.3f} s, ratio {ours / theirs:.2f}, {agrees}")
 
 
 if __name__ == "__main__":
