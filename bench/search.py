@@ -1,10 +1,10 @@
 #!/usr/bin/env python3
 """Times the search beside the C library's pcre2grep --no-jit -c, on 20 MB of lines.
 
-Makes its input itself, in a temporary folder: lines of words, letters and digits, with an address, a function head, a quoted
-text and the like now and then. The crate `measure` compiles the pattern and counts the lines of its standard input that it matches. Prints both times
-(the best of three), their ratio (below 1 is faster than the C library), and whether the counts agree. Run `rt run` in
-crates/measure first; the C library's pcre2grep has to be on the PATH.
+Makes its input itself, in a temporary folder: lines of words, letters and digits, with an address, a function head, a
+quoted text and the like now and then. The crate `measure` compiles the pattern and counts the lines of its standard
+input that it matches. Prints both times (the best of three), their ratio (below 1 is faster than the C library), and
+whether the counts agree. Run `rt run` in crates/measure first; the C library's pcre2grep has to be on the PATH.
 """
 import os
 import random
