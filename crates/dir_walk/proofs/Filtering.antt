@@ -1,0 +1,70 @@
+-- Patterns that are compiled one after the other, and what they find.
+use Rattle.std.proofs.Common.{◌≡◌, ℕ, ◌+◌, ◌<◌, ◌≤◌, Bool, true, false, ◌&&◌, not, List, [], ◌∷◌, ◌++◌, length, length-append, map, Result, Ok, Err, ℤ, pos, refl, ap, sym, subst, ◌∙◌, append_assoc, append-nil, arith}
+use Rattle.std.specs.Str.{is_utf8}
+use Rattle.std.proofs.lemmas.List.{map-append}
+use Rattle.pat_tree.specs.declared.options.MatchOptions.{MatchOptions}
+use Rattle.pat_tree.specs.declared.options.TheConstants.Options as plain
+use Rattle.pat_tree.specs.declared.options.TheConstants.MatchOptions as plain_match
+use Rattle.pat_tree.specs.Pattern.{Pattern, pattern_of}
+use Rattle.token_parts.specs.declared.fault.Fault.{Fault}
+use Rattle.ordered_search.specs.MatchAnswer.{MatchAnswer, match_answer}
+use Rattle.pcre2_api.specs.Compiled.{CodeParts}
+use Rattle.pcre2_api.specs.Matched.{search_of}
+use Rattle.pcre2_api.specs.Patterns.{compiled}
+use Rattle.pcre2_api.specs.Answers.{Answer, error, answer_of, pattern_answer, minus, is_place}
+use Rattle.grep_args.specs.declared.options.FilterOption.{FilterOption}
+use Rattle.dir_walk.specs.declared.filters.FilterError.{FilterError}
+use Rattle.dir_walk.specs.declared.filters.FilterError.TheVariants as refused
+use Rattle.dir_walk.specs.Filters.{BadFilter, Compiled, compiled_from, is_found, patterns_in, with_patterns, IsFilterError}
+
+past_faults : (utf a b : Bool) (x y z : Answer) → utf ≡ false → (elim (utf && a) [ true ↦ x | false ↦ elim (utf && b) [ true ↦ y | false ↦ z ] ]) ≡ z
+past_faults false a b x y z e = refl
+past_faults true a b x y z e = cc
+
+-- a pattern of bytes meets no fault of UTF
+pub answered : (code : CodeParts) (matching : MatchOptions) (line : List ℕ) (start : ℕ) (a : MatchAnswer) → code.tree.options.utf ≡ false
+    → (match_answer (search_of code matching line start (λ _. pos 0))).answer ≡ a → pattern_answer matching line start (pattern_of code.tree) ≡ answer_of a
+answered code matching line start a bytes e =
+    past_faults code.tree.options.utf (not (is_utf8 line)) (not (is_place line start)) (error (minus 3)) (error (minus 36)) _ bytes ∙ ap answer_of e
+
+with-twice : (ps qs : List Pattern) (more : Compiled) → with_patterns ps (with_patterns qs more) ≡ with_patterns (ps ++ qs) more
+with-twice ps qs (Ok rs) = ap Ok (sym (append_assoc ps qs rs))
+with-twice ps qs (Err bad) = refl
+
+-- the patterns of a text and of others, where the text's are these
+after-one : (option : FilterOption) (n : ℕ) (text : List ℕ) (texts : List (List ℕ)) (ps : List Pattern) (one : Result Pattern Fault) → compiled plain.PLAIN text ≡ one
+    → compiled_from option n (text ∷ []) ≡ Ok ps → compiled_from option n (text ∷ texts) ≡ with_patterns ps (compiled_from option (n + 1) texts)
+after-one option n text texts ps (Ok p) is e =
+    let same : p ∷ [] ≡ ps = (let so : with_patterns (p ∷ []) (Ok []) ≡ Ok ps = subst (λ r. (elim r [ Ok p ↦ with_patterns (p ∷ []) (Ok []) | Err fault ↦ Err (record { option = option; index = n; fault = fault }) ]) ≡ Ok ps) is e in cc) in
+    rw is (ap (λ l. with_patterns l (compiled_from option (n + 1) texts)) same)
+after-one option n text texts ps (Err fault) is e =
+    let so : Err (record { option = option; index = n; fault = fault }) ≡ Ok ps = subst (λ r. (elim r [ Ok p ↦ with_patterns (p ∷ []) (Ok []) | Err fault ↦ Err (record { option = option; index = n; fault = fault }) ]) ≡ Ok ps) is e in
+    cc
+
+-- a text is refused, and so are it and others
+after-bad : (option : FilterOption) (n : ℕ) (text : List ℕ) (texts : List (List ℕ)) (bad : BadFilter) (one : Result Pattern Fault) → compiled plain.PLAIN text ≡ one
+    → compiled_from option n (text ∷ []) ≡ Err bad → compiled_from option n (text ∷ texts) ≡ Err bad
+after-bad option n text texts bad (Ok p) is e =
+    let so : with_patterns (p ∷ []) (Ok []) ≡ Err bad = subst (λ r. (elim r [ Ok p ↦ with_patterns (p ∷ []) (Ok []) | Err fault ↦ Err (record { option = option; index = n; fault = fault }) ]) ≡ Err bad) is e in
+    cc
+after-bad option n text texts bad (Err fault) is e = rw is at e (rw is e)
+
+module _ (option : FilterOption) (whole : List (List ℕ)) (text : List ℕ) (texts : List (List ℕ)) (codes : List CodeParts)
+    (so_far : with_patterns (patterns_in codes) (compiled_from option (length codes + 1) (text ∷ texts)) ≡ compiled_from option 1 whole) where
+  pub one_more : (code : CodeParts) (new : List CodeParts) (index : ℕ) → index ≡ length codes + 1 → new ≡ codes ++ code ∷ []
+      → compiled_from option index (text ∷ []) ≡ Ok (patterns_in (code ∷ []))
+      → with_patterns (patterns_in new) (compiled_from option (length new + 1) texts) ≡ compiled_from option 1 whole
+  one_more code new index at grown is =
+      let p = patterns_in (code ∷ []) in
+      let first = subst (λ k. compiled_from option k (text ∷ []) ≡ Ok p) at is in
+      let count : length codes + 1 + 1 ≡ length new + 1 = omega (arith, ap length grown, length-append codes (code ∷ [])) in
+      sym
+      (sym so_far ∙ ap (with_patterns (patterns_in codes)) (after-one option (length codes + 1) text texts p (compiled plain.PLAIN text) refl first)
+      ∙ with-twice (patterns_in codes) p (compiled_from option (length codes + 1 + 1) texts)
+      ∙ ap (λ l. with_patterns l (compiled_from option (length codes + 1 + 1) texts)) (sym (map-append (λ (c : CodeParts). pattern_of c.tree) codes (code ∷ [])) ∙ ap patterns_in (sym grown))
+      ∙ ap (λ k. with_patterns (patterns_in new) (compiled_from option k texts)) count)
+
+  pub one_bad : (e : FilterError) (index : ℕ) → index ≡ length codes + 1 → IsFilterError (compiled_from option index (text ∷ [])) e → IsFilterError (compiled_from option 1 whole) e
+  one_bad (refused.Bad o i number place) index at is =
+      sym so_far ∙ ap (with_patterns (patterns_in codes)) (after-bad option (length codes + 1) text texts _ (compiled plain.PLAIN text) refl (subst (λ k. compiled_from option k (text ∷ []) ≡ Err (record { option = o; index = i; fault = record { number = number; at = place } })) at is))
+  one_bad refused.Memory index at is = tt

@@ -1,0 +1,4 @@
+pub mod Filters
+pub mod Paths
+pub mod Targets
+pub mod Walks
