@@ -62,7 +62,12 @@ impl Model for NameFilter {
 }
 
 // Compiles a pattern with default options.
-fn compile(alloc: Global, option: FilterOption, index: u64, text: &[u8]) -> Result<Code, FilterError>
+fn compile(
+    alloc: Global,
+    option: FilterOption,
+    index: u64,
+    text: &[u8],
+) -> Result<Code, FilterError>
     ensures compiled { IfOk result (λ code. compiled_from option index (text.now ∷ []) ≡ Ok (patterns_in (code ∷ []))) }
     ensures refused { IfErr result (IsFilterError (compiled_from option index (text.now ∷ []))) }
 {
@@ -152,12 +157,7 @@ fn matches_one(codes: &[Code], name: &[u8], scratch: &mut Scratch) -> Result<boo
 }
 
 // Whether the patterns allow a name.
-fn allows(
-    alloc: Global,
-    include: &[Code],
-    exclude: &[Code],
-    name: &[u8],
-) -> Result<bool, Memory>
+fn allows(alloc: Global, include: &[Code], exclude: &[Code], name: &[u8]) -> Result<bool, Memory>
     ensures { IfOk result (λ b. b ≡ allows (choice_of (patterns_in include.now) (patterns_in exclude.now)) name.now) }
 {
     let mut scratch = Scratch::new(alloc);
@@ -194,7 +194,12 @@ impl NameFilter {
         ensures { IfOk result (λ b. b ≡ allows_file (filter_in self.now) path.now) }
     {
         let name = name_of(path.as_bytes());
-        allows(alloc, self.include.as_slice(), self.exclude.as_slice(), name)
+        allows(
+            alloc,
+            self.include.as_slice(),
+            self.exclude.as_slice(),
+            name,
+        )
     }
 
     /// Whether a directory is allowed by the last component of its path.
@@ -202,6 +207,11 @@ impl NameFilter {
         ensures { IfOk result (λ b. b ≡ allows_directory (filter_in self.now) path.now) }
     {
         let name = name_of(path.as_bytes());
-        allows(alloc, self.include_dir.as_slice(), self.exclude_dir.as_slice(), name)
+        allows(
+            alloc,
+            self.include_dir.as_slice(),
+            self.exclude_dir.as_slice(),
+            name,
+        )
     }
 }

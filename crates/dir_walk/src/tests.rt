@@ -211,12 +211,26 @@ fn the_first_bad_pattern_is_told(rt: HostRuntime) -> Result<(), Fail> {
     let alloc = rt.alloc();
     let rows = [
         ("include=a exclude=b", None),
-        ("exclude-dir=( exclude=a exclude=x( include=y", Some((FilterOption::Exclude, 2, 114, 2))),
-        ("include-dir=a include-dir=[ exclude-dir=(", Some((FilterOption::IncludeDir, 2, 106, 1))),
-        ("include=( include=)", Some((FilterOption::Include, 1, 114, 1))),
+        (
+            "exclude-dir=( exclude=a exclude=x( include=y",
+            Some((FilterOption::Exclude, 2, 114, 2)),
+        ),
+        (
+            "include-dir=a include-dir=[ exclude-dir=(",
+            Some((FilterOption::IncludeDir, 2, 106, 1)),
+        ),
+        (
+            "include=( include=)",
+            Some((FilterOption::Include, 1, 114, 1)),
+        ),
     ];
     for (row, wanted) in rows {
-        let wanted = wanted.map(|(option, index, number, at)| FilterError::Bad { option, index, number, at });
+        let wanted = wanted.map(|(option, index, number, at)| FilterError::Bad {
+            option,
+            index,
+            number,
+            at,
+        });
         assert_eq!(&rt; refusal(alloc, row)?, wanted, "of {row}");
     }
     Ok(())

@@ -31,11 +31,7 @@ fn push(stack: &mut Vec<Pending>, item: Item, levels: u32) -> Result<(), Memory>
 }
 
 // Adds items to the stack, so that the first of them is its top.
-fn push_all(
-    stack: &mut Vec<Pending>,
-    mut items: BTreeSet<Item>,
-    levels: u32,
-) -> Result<(), Memory>
+fn push_all(stack: &mut Vec<Pending>, mut items: BTreeSet<Item>, levels: u32) -> Result<(), Memory>
     ensures { OnOk result (map pending_parts stack.new.items ≡ map pending_parts stack.old.items
         ++ reverse (map (at_levels levels) (map item_parts items.keys))) }
 {

@@ -10,7 +10,7 @@ pub returns-then-levels-eq0-clause-steps : goal.returns-then-levels-eq0-clause-s
 returns-then-levels-eq0-clause-steps g c =
     let path = string_bytes c.args.path in
     on_ok_weaker c.push.result (λ grown filter. told_step filter (g.F.FileSet.tells c.args.files.now).contents (λ set. directory_targets filter set c.args.levels path) c.args.levels (map pending_parts c.args.stack.now.items) c.args.told.now c.push.new.self
-        (λ set is. grown ∙ ap (λ p. c.args.told.now ++ TooDeep p ∷ []) c.of.ensures ∙ ap (λ l. c.args.told.now ++ l) (too_deep filter set c.args.levels path c.if-levels-eq0.true))) c.push.ensures.ok
+    (λ set is. grown ∙ ap (λ p. c.args.told.now ++ TooDeep p ∷ []) c.of.ensures ∙ ap (λ l. c.args.told.now ++ l) (too_deep filter set c.args.levels path c.if-levels-eq0.true))) c.push.ensures.ok
 
 pub returns-else-levels-eq0-clause-steps : goal.returns-else-levels-eq0-clause-steps
 returns-else-levels-eq0-clause-steps g c =
