@@ -5,6 +5,7 @@ ghost use Rattle.pat_tree.specs.declared.options.TheConstants.MatchOptions as pl
 ghost use Rattle.pat_tree.specs.Pattern.{pattern_of};
 ghost use Rattle.pcre2_api.specs.Answers.{pattern_answer};
 ghost use Rattle.dir_walk.specs.Filters.{allows, choice_of, compiled_from, filter_in, filter_of, is_found, is_match, matches_one, patterns_in, IsFilterError};
+ghost use Rattle.dir_walk.specs.Paths.{name_of};
 ghost use Rattle.dir_walk.specs.Targets.{allows_file, allows_directory};
 
 use crate::paths::name_of;
@@ -58,7 +59,12 @@ impl Model for NameFilter {
 
     ghost Value = { FilterCodes };
 
-    ghost view = { λ filter. record { include = filter.include.items; exclude = filter.exclude.items; include_dir = filter.include_dir.items; exclude_dir = filter.exclude_dir.items } };
+    ghost view = { λ filter. record {
+      include = filter.include.items;
+      exclude = filter.exclude.items;
+      include_dir = filter.include_dir.items;
+      exclude_dir = filter.exclude_dir.items;
+    } };
 }
 
 // Compiles a pattern with default options.
@@ -68,7 +74,8 @@ fn compile(
     index: u64,
     text: &[u8],
 ) -> Result<Code, FilterError>
-    ensures compiled { IfOk result (λ code. compiled_from option index (text.now ∷ []) ≡ Ok (patterns_in (code ∷ []))) }
+    ensures compiled { IfOk result (λ code. compiled_from option index (text.now ∷ [])
+        ≡ Ok (patterns_in (code ∷ []))) }
     ensures refused { IfErr result (IsFilterError (compiled_from option index (text.now ∷ []))) }
 {
     match Code::compile(alloc, text, Options::PLAIN) {
@@ -97,7 +104,8 @@ fn compile_all(
     option: FilterOption,
     texts: &TextList,
 ) -> Result<Vec<Code>, FilterError>
-    ensures compiled { IfOk result (λ codes. compiled_from option 1 texts.now ≡ Ok (patterns_in codes.items)) }
+    ensures compiled { IfOk result (λ codes. compiled_from option 1 texts.now
+        ≡ Ok (patterns_in codes.items)) }
     ensures refused { IfErr result (IsFilterError (compiled_from option 1 texts.now)) }
 {
     let mut codes = Vec::new(alloc);
@@ -118,7 +126,8 @@ fn compile_all(
 // Whether a match is found in a name.
 fn finds(code: &Code, name: &[u8], scratch: &mut Scratch) -> Result<bool, Memory>
     requires { length name.now < 4294967295 }
-    ensures { IfOk result (λ b. b ≡ is_found (pattern_answer plain_match.PLAIN name.now 0 (pattern_of code.now.tree))) }
+    ensures { IfOk result (λ b. b ≡ is_found (pattern_answer plain_match.PLAIN name.now 0
+        (pattern_of code.now.tree))) }
 {
     // so the name needn't be UTF-8
     code.is_of_bytes();
@@ -156,10 +165,12 @@ fn matches_one(codes: &[Code], name: &[u8], scratch: &mut Scratch) -> Result<boo
     }
 }
 
-// Whether the patterns allow a name.
-fn allows(alloc: Global, include: &[Code], exclude: &[Code], name: &[u8]) -> Result<bool, Memory>
-    ensures { IfOk result (λ b. b ≡ allows (choice_of (patterns_in include.now) (patterns_in exclude.now)) name.now) }
+// Whether the patterns allow a path, by its last component.
+fn allows(alloc: Global, include: &[Code], exclude: &[Code], path: &str) -> Result<bool, Memory>
+    ensures { IfOk result (λ b. b ≡ allows
+        (choice_of (patterns_in include.now) (patterns_in exclude.now)) (name_of path.now)) }
 {
+    let name = name_of(path.as_bytes());
     let mut scratch = Scratch::new(alloc);
     if matches_one(exclude, name, &mut scratch)? {
         Ok(false)
@@ -193,12 +204,11 @@ impl NameFilter {
     pub fn allows_file(&self, alloc: Global, path: &str) -> Result<bool, Memory>
         ensures { IfOk result (λ b. b ≡ allows_file (filter_in self.now) path.now) }
     {
-        let name = name_of(path.as_bytes());
         allows(
             alloc,
             self.include.as_slice(),
             self.exclude.as_slice(),
-            name,
+            path,
         )
     }
 
@@ -206,12 +216,11 @@ impl NameFilter {
     pub fn allows_directory(&self, alloc: Global, path: &str) -> Result<bool, Memory>
         ensures { IfOk result (λ b. b ≡ allows_directory (filter_in self.now) path.now) }
     {
-        let name = name_of(path.as_bytes());
         allows(
             alloc,
             self.include_dir.as_slice(),
             self.exclude_dir.as_slice(),
-            name,
+            path,
         )
     }
 }

@@ -33,7 +33,8 @@ pub fn has_unnamed(entries: &[DirEntry]) -> bool
 
 // Adds an item, unless it is there.
 fn insert(items: &mut BTreeSet<Item>, item: Item) -> Result<(), Memory>
-    ensures { OnOk result (map item_parts items.new.keys ≡ with_items (map item_parts items.old.keys) (item_parts item ∷ [])) }
+    ensures { OnOk result (map item_parts items.new.keys
+        ≡ with_items (map item_parts items.old.keys) (item_parts item ∷ [])) }
 {
     items.insert(item)?;
     Ok(())
@@ -46,7 +47,8 @@ fn add_entry(
     entry: &DirEntry,
     items: &mut BTreeSet<Item>,
 ) -> Result<(), Memory>
-    ensures { OnOk result (map item_parts items.new.keys ≡ with_items (map item_parts items.old.keys) (item_of path.now entry.now)) }
+    ensures { OnOk result (map item_parts items.new.keys
+        ≡ with_items (map item_parts items.old.keys) (item_of path.now entry.now)) }
 {
     let is_directory = match entry.kind {
         Kind::File => false,

@@ -13,6 +13,6 @@ mod words;
 
 pub use filters::{FilterError, NameFilter};
 pub use grep_args::FilterOption;
-pub use laws::worked_paths;
+pub use laws::{worked_directories, worked_paths, worked_words};
 pub use lists::{Target, TargetList};
 pub use words::targets;

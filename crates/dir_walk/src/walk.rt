@@ -24,7 +24,8 @@ pub struct Pending {
 
 // Adds one item to the stack.
 fn push(stack: &mut Vec<Pending>, item: Item, levels: u32) -> Result<(), Memory>
-    ensures { OnOk result (map pending_parts stack.new.items ≡ map pending_parts stack.old.items ++ at_levels levels (item_parts item) ∷ []) }
+    ensures { OnOk result (map pending_parts stack.new.items
+        ≡ map pending_parts stack.old.items ++ at_levels levels (item_parts item) ∷ []) }
 {
     stack.push(Pending { item, levels })?;
     Ok(())
@@ -32,7 +33,8 @@ fn push(stack: &mut Vec<Pending>, item: Item, levels: u32) -> Result<(), Memory>
 
 // Adds items to the stack, so that the first of them is its top.
 fn push_all(stack: &mut Vec<Pending>, mut items: BTreeSet<Item>, levels: u32) -> Result<(), Memory>
-    ensures { OnOk result (map pending_parts stack.new.items ≡ map pending_parts stack.old.items
+    ensures { OnOk result (map pending_parts stack.new.items
+        ≡ map pending_parts stack.old.items
         ++ reverse (map (at_levels levels) (map item_parts items.keys))) }
 {
     'item: loop {
@@ -71,8 +73,8 @@ fn take_entries(
     ensures steps { OnOk result ((filter : Filter) (contents : Option Contents)
         → Steps filter contents
         (λ set. listed_targets filter (directory_targets filter set levels) path.now (Some entries.now))
-        (weight (suc levels)) (map pending_parts stack.old.items) (map pending_parts stack.new.items)
-        told.old told.new) }
+        (weight (suc levels)) (map pending_parts stack.old.items)
+        (map pending_parts stack.new.items) told.old told.new) }
     ensures unfailed { OnOk result (has_failed told.new ≡ has_failed told.old) }
 {
     let items = items_in(alloc, path, entries.as_slice())?;
@@ -92,9 +94,10 @@ fn list_directory<F: FileSet>(
     ensures steps { OnOk result ((filter : Filter)
         → Steps filter (F.tells files.old).contents
         (λ set. directory_targets filter set (suc levels) (string_bytes path))
-        (weight (suc levels)) (map pending_parts stack.old.items) (map pending_parts stack.new.items)
-        told.old told.new) }
-    ensures causes { OnOk result (HasCauses told.old told.new (F.tells files.old).faults (F.tells files.new).faults) }
+        (weight (suc levels)) (map pending_parts stack.old.items)
+        (map pending_parts stack.new.items) told.old told.new) }
+    ensures causes { OnOk result (HasCauses told.old told.new
+        (F.tells files.old).faults (F.tells files.new).faults) }
     ensures same { (F.tells files.new).contents ≡ (F.tells files.old).contents }
     ensures later { (F.tells files.old).faults ≤ (F.tells files.new).faults }
 {
@@ -119,7 +122,8 @@ fn take_directory<F: FileSet>(
         (λ set. directory_targets filter set levels (string_bytes path))
         (weight levels) (map pending_parts stack.old.items) (map pending_parts stack.new.items)
         told.old told.new) }
-    ensures causes { OnOk result (HasCauses told.old told.new (F.tells files.old).faults (F.tells files.new).faults) }
+    ensures causes { OnOk result (HasCauses told.old told.new
+        (F.tells files.old).faults (F.tells files.new).faults) }
     ensures same { (F.tells files.new).contents ≡ (F.tells files.old).contents }
     ensures later { (F.tells files.old).faults ≤ (F.tells files.new).faults }
 {
@@ -137,7 +141,8 @@ pub fn take_file(
     path: String,
     told: &mut TargetList,
 ) -> Result<(), Memory>
-    ensures grows { OnOk result (told.new ≡ told.old ++ file_targets (filter_in filter.now) (string_bytes path)) }
+    ensures grows { OnOk result (told.new
+        ≡ told.old ++ file_targets (filter_in filter.now) (string_bytes path)) }
     ensures unfailed { OnOk result (has_failed told.new ≡ has_failed told.old) }
 {
     if filter.allows_file(alloc, path.as_str())? {
@@ -159,7 +164,8 @@ fn take<F: FileSet>(
         (λ set. pending_targets (filter_in filter.now) set (pending_parts pending))
         (weight pending.levels) (map pending_parts stack.old.items) (map pending_parts stack.new.items)
         told.old told.new) }
-    ensures causes { OnOk result (HasCauses told.old told.new (F.tells files.old).faults (F.tells files.new).faults) }
+    ensures causes { OnOk result (HasCauses told.old told.new
+        (F.tells files.old).faults (F.tells files.new).faults) }
     ensures same { (F.tells files.new).contents ≡ (F.tells files.old).contents }
     ensures later { (F.tells files.old).faults ≤ (F.tells files.new).faults }
 {
@@ -184,9 +190,11 @@ pub fn walk<F: FileSet>(
     told: &mut TargetList,
 ) -> Result<(), Memory>
     ensures grows { OnOk result (Grows (F.tells files.old).contents
-        (λ set. item_targets (filter_in filter.now) (directory_targets (filter_in filter.now) set levels) (as_item (string_bytes path) true))
+        (λ set. item_targets (filter_in filter.now) (directory_targets (filter_in filter.now) set levels)
+        (as_item (string_bytes path) true))
         told.old told.new) }
-    ensures causes { OnOk result (HasCauses told.old told.new (F.tells files.old).faults (F.tells files.new).faults) }
+    ensures causes { OnOk result (HasCauses told.old told.new
+        (F.tells files.old).faults (F.tells files.new).faults) }
     ensures same { (F.tells files.new).contents ≡ (F.tells files.old).contents }
     ensures later { (F.tells files.old).faults ≤ (F.tells files.new).faults }
 {

@@ -27,7 +27,8 @@ fn take_kind<F: FileSet>(
 ) -> Result<(), Memory>
     ensures grows { OnOk result (Grows (F.tells files.old).contents
         (λ set. kind_targets (filter_in filter.now) set path.now (Some kind)) told.old told.new) }
-    ensures causes { OnOk result (HasCauses told.old told.new (F.tells files.old).faults (F.tells files.new).faults) }
+    ensures causes { OnOk result (HasCauses told.old told.new
+        (F.tells files.old).faults (F.tells files.new).faults) }
     ensures same { (F.tells files.new).contents ≡ (F.tells files.old).contents }
     ensures later { (F.tells files.old).faults ≤ (F.tells files.new).faults }
 {
@@ -48,7 +49,8 @@ fn take_path<F: FileSet>(
 ) -> Result<(), Memory>
     ensures grows { OnOk result (Grows (F.tells files.old).contents
         (λ set. path_targets (filter_in filter.now) set true path.now) told.old told.new) }
-    ensures causes { OnOk result (HasCauses told.old told.new (F.tells files.old).faults (F.tells files.new).faults) }
+    ensures causes { OnOk result (HasCauses told.old told.new
+        (F.tells files.old).faults (F.tells files.new).faults) }
     ensures same { (F.tells files.new).contents ≡ (F.tells files.old).contents }
     ensures later { (F.tells files.old).faults ≤ (F.tells files.new).faults }
 {
@@ -70,7 +72,8 @@ fn take_word<F: FileSet>(
 ) -> Result<(), Memory>
     ensures grows { OnOk result (Grows (F.tells files.old).contents
         (λ set. word_targets (filter_in filter.now) set recursive word.now) told.old told.new) }
-    ensures causes { OnOk result (HasCauses told.old told.new (F.tells files.old).faults (F.tells files.new).faults) }
+    ensures causes { OnOk result (HasCauses told.old told.new
+        (F.tells files.old).faults (F.tells files.new).faults) }
     ensures same { (F.tells files.new).contents ≡ (F.tells files.old).contents }
     ensures later { (F.tells files.old).faults ≤ (F.tells files.new).faults }
 {
@@ -92,7 +95,8 @@ fn take_words<F: FileSet>(
     files: &mut F,
 ) -> Result<TargetList, Memory>
     ensures told { IfOk result (λ list. IfSome (F.tells files.old).contents (λ set.
-        list ≡ flat_map (word_targets (filter_in filter.now) set recursive) (map string_bytes words.now))) }
+        list ≡ flat_map (word_targets (filter_in filter.now) set recursive)
+        (map string_bytes words.now))) }
     ensures causes { IfOk result (λ list. IsTrue (has_failed list)
         → Rose (F.tells files.old).faults (F.tells files.new).faults) }
     ensures same { (F.tells files.new).contents ≡ (F.tells files.old).contents }
