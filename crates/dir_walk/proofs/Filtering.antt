@@ -15,7 +15,7 @@ use Rattle.pcre2_api.specs.Answers.{Answer, error, answer_of, pattern_answer, mi
 use Rattle.grep_args.specs.declared.options.FilterOption.{FilterOption}
 use Rattle.dir_walk.specs.declared.filters.FilterError.{FilterError}
 use Rattle.dir_walk.specs.declared.filters.FilterError.TheVariants as refused
-use Rattle.dir_walk.specs.Filters.{BadFilter, Compiled, compiled_from, is_found, patterns_in, with_patterns, IsFilterError}
+use Rattle.dir_walk.specs.Filters.{BadFilter, Compiled, compiled_from, is_found, patterns_in, with_compiled, with_patterns, IsFilterError}
 
 past_faults : (utf a b : Bool) (x y z : Answer) → utf ≡ false → (elim (utf && a) [ true ↦ x | false ↦ elim (utf && b) [ true ↦ y | false ↦ z ] ]) ≡ z
 past_faults false a b x y z e = refl
@@ -32,22 +32,14 @@ with-twice ps qs (Ok rs) = ap Ok (sym (append_assoc ps qs rs))
 with-twice ps qs (Err bad) = refl
 
 -- the patterns of a text and of others, where the text's are these
-after-one : (option : FilterOption) (n : ℕ) (text : List ℕ) (texts : List (List ℕ)) (ps : List Pattern) (one : Result Pattern Fault) → compiled plain.PLAIN text ≡ one
-    → compiled_from option n (text ∷ []) ≡ Ok ps → compiled_from option n (text ∷ texts) ≡ with_patterns ps (compiled_from option (n + 1) texts)
-after-one option n text texts ps (Ok p) is e =
-    let same : p ∷ [] ≡ ps = (let so : with_patterns (p ∷ []) (Ok []) ≡ Ok ps = subst (λ r. (elim r [ Ok p ↦ with_patterns (p ∷ []) (Ok []) | Err fault ↦ Err (record { option = option; index = n; fault = fault }) ]) ≡ Ok ps) is e in cc) in
-    rw is (ap (λ l. with_patterns l (compiled_from option (n + 1) texts)) same)
-after-one option n text texts ps (Err fault) is e =
-    let so : Err (record { option = option; index = n; fault = fault }) ≡ Ok ps = subst (λ r. (elim r [ Ok p ↦ with_patterns (p ∷ []) (Ok []) | Err fault ↦ Err (record { option = option; index = n; fault = fault }) ]) ≡ Ok ps) is e in
-    cc
+then-ok : (option : FilterOption) (n : ℕ) (ps : List Pattern) (later : Compiled) (one : Result Pattern Fault) → with_compiled option n one (Ok []) ≡ Ok ps → with_compiled option n one later ≡ with_patterns ps later
+then-ok option n ps later (Ok p) e = let so : with_patterns (p ∷ []) (Ok []) ≡ Ok ps = e in let same : p ∷ [] ≡ ps = cc in ap (λ l. with_patterns l later) same
+then-ok option n ps later (Err fault) e = cc
 
 -- a text is refused, and so are it and others
-after-bad : (option : FilterOption) (n : ℕ) (text : List ℕ) (texts : List (List ℕ)) (bad : BadFilter) (one : Result Pattern Fault) → compiled plain.PLAIN text ≡ one
-    → compiled_from option n (text ∷ []) ≡ Err bad → compiled_from option n (text ∷ texts) ≡ Err bad
-after-bad option n text texts bad (Ok p) is e =
-    let so : with_patterns (p ∷ []) (Ok []) ≡ Err bad = subst (λ r. (elim r [ Ok p ↦ with_patterns (p ∷ []) (Ok []) | Err fault ↦ Err (record { option = option; index = n; fault = fault }) ]) ≡ Err bad) is e in
-    cc
-after-bad option n text texts bad (Err fault) is e = rw is at e (rw is e)
+then-bad : (option : FilterOption) (n : ℕ) (bad : BadFilter) (later : Compiled) (one : Result Pattern Fault) → with_compiled option n one (Ok []) ≡ Err bad → with_compiled option n one later ≡ Err bad
+then-bad option n bad later (Ok p) e = let so : with_patterns (p ∷ []) (Ok []) ≡ Err bad = e in cc
+then-bad option n bad later (Err fault) e = e
 
 module _ (option : FilterOption) (whole : List (List ℕ)) (text : List ℕ) (texts : List (List ℕ)) (codes : List CodeParts)
     (so_far : with_patterns (patterns_in codes) (compiled_from option (length codes + 1) (text ∷ texts)) ≡ compiled_from option 1 whole) where
@@ -59,12 +51,12 @@ module _ (option : FilterOption) (whole : List (List ℕ)) (text : List ℕ) (te
       let first = subst (λ k. compiled_from option k (text ∷ []) ≡ Ok p) at is in
       let count : length codes + 1 + 1 ≡ length new + 1 = omega (arith, ap length grown, length-append codes (code ∷ [])) in
       sym
-      (sym so_far ∙ ap (with_patterns (patterns_in codes)) (after-one option (length codes + 1) text texts p (compiled plain.PLAIN text) refl first)
+      (sym so_far ∙ ap (with_patterns (patterns_in codes)) (then-ok option (length codes + 1) p (compiled_from option (length codes + 1 + 1) texts) (compiled plain.PLAIN text) first)
       ∙ with-twice (patterns_in codes) p (compiled_from option (length codes + 1 + 1) texts)
       ∙ ap (λ l. with_patterns l (compiled_from option (length codes + 1 + 1) texts)) (sym (map-append (λ (c : CodeParts). pattern_of c.tree) codes (code ∷ [])) ∙ ap patterns_in (sym grown))
       ∙ ap (λ k. with_patterns (patterns_in new) (compiled_from option k texts)) count)
 
   pub one_bad : (e : FilterError) (index : ℕ) → index ≡ length codes + 1 → IsFilterError (compiled_from option index (text ∷ [])) e → IsFilterError (compiled_from option 1 whole) e
   one_bad (refused.Bad o i number place) index at is =
-      sym so_far ∙ ap (with_patterns (patterns_in codes)) (after-bad option (length codes + 1) text texts _ (compiled plain.PLAIN text) refl (subst (λ k. compiled_from option k (text ∷ []) ≡ Err (record { option = o; index = i; fault = record { number = number; at = place } })) at is))
+      sym so_far ∙ ap (with_patterns (patterns_in codes)) (then-bad option (length codes + 1) _ (compiled_from option (length codes + 1 + 1) texts) (compiled plain.PLAIN text) (subst (λ k. compiled_from option k (text ∷ []) ≡ Err (record { option = o; index = i; fault = record { number = number; at = place } })) at is))
   one_bad refused.Memory index at is = tt

@@ -175,3 +175,6 @@ file_item filter below item is = rw is refl
 
 pub directory_item : (filter : Filter) (below : List ℕ → List Target) (item : ItemParts) → item.is_directory ≡ true → allows_directory filter item.path ≡ true → below item.path ≡ item_targets filter below item
 directory_item filter below item is allowed = rw (is, allowed) refl
+
+pub barred_item : (filter : Filter) (below : List ℕ → List Target) (item : ItemParts) → item.is_directory ≡ true → allows_directory filter item.path ≡ false → [] ≡ item_targets filter below item
+barred_item filter below item is barred = rw (is, barred) refl

@@ -62,13 +62,16 @@ abbrev pub with_patterns : List Pattern → Compiled → Compiled
 with_patterns ps (Ok qs) = Ok (ps ++ qs)
 with_patterns ps (Err bad) = Err bad
 
+-- a pattern, or its fault, before others
+abbrev pub with_compiled : FilterOption → ℕ → Result Pattern Fault → Compiled → Compiled
+with_compiled option n (Ok p) later = with_patterns (p ∷ []) later
+with_compiled option n (Err fault) later = Err (record { option = option; index = n; fault = fault })
+
 -- the patterns of an option from the n-th on, with default options, or the first one that is refused
 abbrev pub compiled_from : FilterOption → ℕ → List (List ℕ) → Compiled
 compiled_from option n [] = Ok []
-compiled_from option n (text ∷ texts) = elim (compiled plain.PLAIN text) [
-  | Ok p ↦ with_patterns (p ∷ []) (compiled_from option (n + 1) texts)
-  | Err fault ↦ Err (record { option = option; index = n; fault = fault })
-]
+compiled_from option n (text ∷ texts) =
+    with_compiled option n (compiled plain.PLAIN text) (compiled_from option (n + 1) texts)
 
 -- the patterns of the four options, compiled
 pub record FilterCodes : Type 0 where

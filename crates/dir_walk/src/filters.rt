@@ -109,18 +109,14 @@ fn compile_all(
     ensures refused { IfErr result (IsFilterError (compiled_from option 1 texts.now)) }
 {
     let mut codes = Vec::new(alloc);
-    let mut rest = texts.as_slice();
-    'text: loop {
-        let [text, more @ ..] = rest else {
-            return Ok(codes);
-        };
+    for text in texts.as_slice() {
         let index = codes.len() as u64 + 1;
         match compile(alloc, option, index, text.bytes()) {
             Ok(code) => push(&mut codes, code)?,
             Err(e) => return Err(e),
         }
-        rest = more;
     }
+    Ok(codes)
 }
 
 // Whether a match is found in a name.
