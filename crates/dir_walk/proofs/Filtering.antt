@@ -1,10 +1,9 @@
 -- Patterns that are compiled one after the other, and what they find.
-use Rattle.std.proofs.Common.{◌≡◌, ℕ, ◌+◌, ◌<◌, ◌≤◌, Bool, true, false, ◌&&◌, not, List, [], ◌∷◌, ◌++◌, length, length-append, map, Result, Ok, Err, ℤ, pos, refl, ap, sym, subst, ◌∙◌, append_assoc, append-nil, arith}
+use Rattle.std.proofs.Common.{◌≡◌, ℕ, ◌+◌, Bool, true, false, ◌&&◌, not, List, [], ◌∷◌, ◌++◌, length, length-append, Result, Ok, Err, pos, refl, ap, sym, subst, ◌∙◌, append_assoc, arith}
 use Rattle.std.specs.Str.{is_utf8}
 use Rattle.std.proofs.lemmas.List.{map-append}
 use Rattle.pat_tree.specs.declared.options.MatchOptions.{MatchOptions}
 use Rattle.pat_tree.specs.declared.options.TheConstants.Options as plain
-use Rattle.pat_tree.specs.declared.options.TheConstants.MatchOptions as plain_match
 use Rattle.pat_tree.specs.Pattern.{Pattern, pattern_of}
 use Rattle.token_parts.specs.declared.fault.Fault.{Fault}
 use Rattle.ordered_search.specs.MatchAnswer.{MatchAnswer, match_answer}
@@ -15,7 +14,7 @@ use Rattle.pcre2_api.specs.Answers.{Answer, error, answer_of, pattern_answer, mi
 use Rattle.grep_args.specs.declared.options.FilterOption.{FilterOption}
 use Rattle.dir_walk.specs.declared.filters.FilterError.{FilterError}
 use Rattle.dir_walk.specs.declared.filters.FilterError.TheVariants as refused
-use Rattle.dir_walk.specs.Filters.{BadFilter, Compiled, compiled_from, is_found, patterns_in, with_compiled, with_patterns, IsFilterError}
+use Rattle.dir_walk.specs.Filters.{BadFilter, Compiled, compiled_from, patterns_in, with_compiled, with_patterns, IsFilterError}
 
 past_faults : (utf a b : Bool) (x y z : Answer) → utf ≡ false → (elim (utf && a) [ true ↦ x | false ↦ elim (utf && b) [ true ↦ y | false ↦ z ] ]) ≡ z
 past_faults false a b x y z e = refl

@@ -1,12 +1,12 @@
 -- Items at their places in the order.
-use Rattle.std.proofs.Common.{◌≡◌, ℕ, List, [], ◌∷◌, ◌++◌, map, reverse, flat_map, fold, Less, Equal, Greater, refl, ap, sym, ◌∙◌}
+use Rattle.std.proofs.Common.{◌≡◌, ℕ, List, [], ◌∷◌, map, flat_map, Less, Equal, Greater, refl, ap, sym, ◌∙◌}
 use Rattle.std.specs.declared.cmp.Ordering.{Ordering}
 use Rattle.std.specs.Ordering.{match_ordering}
 use Rattle.std.specs.BTreeSet.{insert_key}
 use Rattle.std.proofs.lemmas.List.Sums.{fold-append}
 use Rattle.pcre_io.specs.declared.entries.DirEntry.{DirEntry}
 use Rattle.dir_walk.specs.declared.items.Item.{Item}
-use Rattle.dir_walk.specs.Paths.{ItemParts, item_parts, item_cmp, item_of, items_in, with_items}
+use Rattle.dir_walk.specs.Paths.{ItemParts, item_parts, item_cmp, item_of, with_items}
 
 -- keys that compare as their items do
 module _ (cmp : Item → Item → Ordering) (same : (a b : Item) → cmp a b ≡ item_cmp (item_parts a) (item_parts b)) where

@@ -1,12 +1,11 @@
 -- The stack of a walk, and what is told of it.
-use Rattle.std.proofs.Common.{◌≡◌, ℕ, zero, suc, ◌+◌, ◌-◌, ◌*◌, ◌<◌, ◌≤◌, min, Bool, true, false, ◌||◌, IsTrue, List, [], ◌∷◌, ◌++◌, length, map, reverse, flat_map, Option, Some, None, IfSome, sum_by, refl, ap, sym, subst, ◌∙◌, append_assoc, append-nil, arith}
-use Rattle.std.specs.List.{list_any}
-use Rattle.std.proofs.lemmas.List.{map-append, reverse-append, reverse-reverse, length-map}
+use Rattle.std.proofs.Common.{◌≡◌, ℕ, zero, suc, ◌+◌, ◌*◌, ◌<◌, ◌≤◌, Bool, true, false, ◌||◌, List, [], ◌∷◌, ◌++◌, length, map, reverse, flat_map, Option, Some, None, IfSome, refl, ap, sym, subst, ◌∙◌, append_assoc, append-nil, arith}
+use Rattle.std.proofs.lemmas.List.{reverse-append, reverse-reverse}
 use Rattle.std.proofs.Math.Nat.{mul-lt-mul_of_pos_right, suc-mul}
 use Rattle.std.proofs.lemmas.List.Concat.{flat_map-append}
 use Rattle.std.proofs.lemmas.List.Folds.{list_any-append}
 use Rattle.std.proofs.lemmas.List.Sums.{sum_by-append, sum_by_push}
-use Rattle.pcre_io.specs.Causes.{Rose, counted}
+use Rattle.pcre_io.specs.Causes.{Rose}
 use Rattle.pcre_io.specs.Files.{Contents, listed_entries, HasEntries}
 use Rattle.pcre_io.specs.declared.entries.DirEntry.{DirEntry}
 use Rattle.dir_walk.specs.declared.lists.Target.{Target}

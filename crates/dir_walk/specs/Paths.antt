@@ -1,12 +1,11 @@
 -- The paths of files and of directories.
-use Rattle.std.specs.Prelude.{◌≡◌, ℕ, Bool, true, false, if◌then◌else◌, List, [], ◌∷◌, ◌++◌, flat_map, fold, reverse, string_bytes}
+use Rattle.std.specs.Prelude.{ℕ, Bool, true, false, if◌then◌else◌, List, [], ◌∷◌, flat_map, fold, reverse, string_bytes}
 use Rattle.std.specs.List.{list_any}
 use Rattle.std.specs.declared.cmp.Ordering.{Ordering}
 use Rattle.std.specs.Ordering.{ordering_then, bool_cmp, nat_cmp}
 use Rattle.std.specs.Cmp.Lexicographic.{slice_cmp}
 use Rattle.std.specs.BTreeSet.{insert_key}
 use Rattle.pcre_io.specs.MemTree.{is_slash, joined}
-use Rattle.pcre_io.specs.declared.entries.Kind.{Kind}
 use Rattle.pcre_io.specs.declared.entries.Kind.TheVariants as kind
 use Rattle.pcre_io.specs.declared.entries.DirEntry.{DirEntry}
 use Rattle.dir_walk.specs.declared.items.Item.{Item}

@@ -1,5 +1,5 @@
 -- Which files a list of words stands for (pcre2grep, "DESCRIPTION" and "OPTIONS": -r, --include and the others).
-use Rattle.std.specs.Prelude.{◌≡◌, ℕ, zero, suc, Bool, true, false, if◌then◌else◌, List, [], ◌∷◌, ◌++◌, flat_map, codes, bytes_eq, Option, None, Some}
+use Rattle.std.specs.Prelude.{ℕ, zero, suc, Bool, true, false, if◌then◌else◌, List, [], ◌∷◌, ◌++◌, flat_map, codes, bytes_eq, Option, None, Some}
 use Rattle.pcre_io.specs.Files.{Contents, kind_of, listed_entries}
 use Rattle.pcre_io.specs.declared.entries.Kind.{Kind}
 use Rattle.pcre_io.specs.declared.entries.Kind.TheVariants as kind

@@ -1,10 +1,10 @@
 -- What the calls of a walk tell, and what it has yet to look at.
-use Rattle.std.specs.Prelude.{◌≡◌, ℕ, zero, suc, ◌*◌, ◌+◌, ◌≤◌, ◌<◌, Bool, true, false, IsTrue, List, [], ◌∷◌, ◌++◌, flat_map, map, reverse, Option, IfSome}
+use Rattle.std.specs.Prelude.{◌≡◌, ℕ, zero, suc, ◌*◌, ◌+◌, ◌<◌, Bool, true, false, IsTrue, List, ◌++◌, flat_map, reverse, Option, IfSome}
 use Rattle.std.specs.List.{list_any, sum_by}
 use Rattle.pcre_io.specs.Causes.{Rose}
 use Rattle.pcre_io.specs.Files.{Contents}
 use Rattle.dir_walk.specs.declared.lists.Target.{Target}
-use Rattle.dir_walk.specs.declared.lists.Target.TheVariants.{Input, File, NoOpen, NoList, TooDeep, Unnamed}
+use Rattle.dir_walk.specs.declared.lists.Target.TheVariants.{NoOpen, NoList}
 use Rattle.dir_walk.specs.declared.walk.Pending.{Pending}
 use Rattle.dir_walk.specs.Filters.{Filter}
 use Rattle.dir_walk.specs.Paths.{ItemParts, item_parts}

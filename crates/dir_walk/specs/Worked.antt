@@ -1,6 +1,6 @@
 -- Files for the worked rows, and a filter that allows every name.
 use Rattle.std.specs.Prelude.{ℕ, List, [], ◌∷◌, codes, None}
-use Rattle.pcre_io.specs.Files.{File, Directory, Contents}
+use Rattle.pcre_io.specs.Files.{File, Contents}
 use Rattle.pcre_io.specs.MemTree.{held_files}
 use Rattle.pcre_io.specs.declared.entries.Kind.{Kind}
 use Rattle.pcre_io.specs.declared.entries.Kind.TheVariants as kind

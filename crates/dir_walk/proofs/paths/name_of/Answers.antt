@@ -1,4 +1,4 @@
-use Rattle.std.proofs.Common.{◌≤◌, arith}
+use Rattle.std.proofs.Common.{arith}
 use Rattle.dir_walk.proofs.Naming.{one_more}
 use Rattle.dir_walk.proofs.paths.name_of.Goals as goal
 

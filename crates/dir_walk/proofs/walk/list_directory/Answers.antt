@@ -1,6 +1,5 @@
-use Rattle.std.proofs.Common.{◌≡◌, ◌++◌, ◌∷◌, [], suc, map, string_bytes, Some, None, refl, ap, ◌∙◌}
+use Rattle.std.proofs.Common.{◌++◌, ◌∷◌, [], suc, map, string_bytes, Some, None, refl, ap, ◌∙◌}
 use Rattle.std.proofs.lemmas.Result.{on_ok_weaker}
-use Rattle.pcre_io.specs.Files.{Contents}
 use Rattle.dir_walk.specs.declared.lists.Target.TheVariants.{NoList}
 use Rattle.dir_walk.specs.Targets.{directory_targets, listed_targets}
 use Rattle.dir_walk.specs.Walks.{pending_parts, weight}

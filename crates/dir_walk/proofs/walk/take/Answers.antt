@@ -1,7 +1,6 @@
-use Rattle.std.proofs.Common.{◌≡◌, ◌++◌, false, true, map, string_bytes, append-nil, refl, sym, subst, ap, ◌∙◌}
+use Rattle.std.proofs.Common.{◌≡◌, ◌++◌, false, true, map, append-nil, refl, sym, subst, ap, ◌∙◌}
 use Rattle.std.proofs.lemmas.Result.{on_ok_weaker}
 use Rattle.dir_walk.specs.Filters.{filter_in}
-use Rattle.dir_walk.specs.Paths.{item_parts}
 use Rattle.dir_walk.specs.Targets.{allows_directory, directory_targets}
 use Rattle.dir_walk.specs.Walks.{pending_parts, pending_targets, weight}
 use Rattle.dir_walk.proofs.Walking.{step_as, told_step, file_item, directory_item, barred_item}

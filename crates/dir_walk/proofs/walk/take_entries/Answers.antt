@@ -1,8 +1,8 @@
-use Rattle.std.proofs.Common.{◌<◌, length, map, string_bytes, sym, subst}
+use Rattle.std.proofs.Common.{◌<◌, map, sym, subst}
 use Rattle.std.proofs.lemmas.List.{length-map}
 use Rattle.std.proofs.lemmas.Result.{on_ok_weaker}
 use Rattle.dir_walk.specs.Paths.{item_parts}
-use Rattle.dir_walk.specs.Walks.{at_levels, pending_parts}
+use Rattle.dir_walk.specs.Walks.{pending_parts}
 use Rattle.dir_walk.proofs.Walking.{entries_step}
 use Rattle.dir_walk.proofs.walk.take_entries.Goals as goal
 
