@@ -7,18 +7,20 @@ use Rattle.grep_args.specs.declared.plan.GrepPlan.{GrepPlan}
 use Rattle.grep_args.specs.declared.plan.HelpKind.{HelpKind}
 use Rattle.grep_args.specs.declared.usage.UsageKind.{UsageKind}
 use Rattle.grep_args.specs.declared.options.Flag.{Flag}
-use Rattle.grep_args.specs.declared.options.Flag.TheVariants.{Count, TotalCount, FixedStrings, IgnoreCase, Utf, LineNumber, Quiet, NoMessages, InvertMatch, WordRegex, LineRegex}
+use Rattle.grep_args.specs.declared.options.Flag.TheVariants.{Count, TotalCount, FixedStrings, IgnoreCase, Utf, LineNumber, Quiet, NoMessages, InvertMatch, WordRegex, LineRegex, Recursive}
 use Rattle.grep_args.specs.declared.options.PlainOption.{PlainOption}
 use Rattle.grep_args.specs.declared.options.PlainOption.TheVariants.{Switch, Names, Binary, Offsets, Help, NoEffect}
 use Rattle.grep_args.specs.declared.options.NumberOption.{NumberOption}
 use Rattle.grep_args.specs.declared.options.NumberOption.TheVariants.{AfterContext, BeforeContext, Context, MatchLimit, FrameLimit, BufferSize, MaxBufferSize, MaxCount}
+use Rattle.grep_args.specs.declared.options.FilterOption.{FilterOption}
+use Rattle.grep_args.specs.declared.options.FilterOption.TheVariants as filter
 use Rattle.grep_args.specs.declared.options.ValuedOption.{ValuedOption}
 use Rattle.grep_args.specs.declared.options.ValuedOption.TheVariants as valued
 use Rattle.grep_args.specs.declared.options.GrepOption.{GrepOption}
 use Rattle.grep_args.specs.declared.options.GrepOption.TheVariants.{Plain, OnlyMatching, Valued}
 use Rattle.grep_args.specs.Numbers.{number_of, greatest}
 use Rattle.grep_args.specs.Table.{by_letter, by_name}
-use Rattle.grep_args.specs.Effects.{◌>>=◌, Effect, unset, switched, is_empty, no_offsets, same_offsets, plain_effect, within, ranged, number_effect, listed, binary_of, value_effect, group_shown, group_effect}
+use Rattle.grep_args.specs.Effects.{◌>>=◌, Effect, unset, switched, is_empty, no_offsets, same_offsets, plain_effect, within, ranged, number_effect, listed, binary_of, filter_effect, value_effect, group_shown, group_effect}
 use Rattle.grep_args.specs.Words.{Reads, Taken, Opted, told, complete, starts_with_digit, letter, letters, long, long_option, joined_value, is_equals, Word, operand, terminator, name, joined, word_of, option_in, options, has_patterns, pattern_word, plan_of}
 use Rattle.grep_args.specs.Limits.{IsWithinLimits}
 
@@ -42,6 +44,7 @@ switched_keeps NoMessages plan h = h
 switched_keeps InvertMatch plan h = h
 switched_keeps WordRegex plan h = h
 switched_keeps LineRegex plan h = h
+switched_keeps Recursive plan h = h
 
 -- an effect keeps the limits
 abbrev Keeps : Effect → Type 0
@@ -76,8 +79,15 @@ always : {A E : Type 0} (r : Result A E) → IfOk r (λ _. Unit {0})
 always (Ok x) = tt
 always (Err e) = tt
 
+filtered_keeps : (option : FilterOption) (text : List ℕ) (plan : GrepPlan) → IsWithinLimits plan → IsWithinLimits (filter_effect option text plan)
+filtered_keeps filter.Include text plan h = h
+filtered_keeps filter.Exclude text plan h = h
+filtered_keeps filter.IncludeDir text plan h = h
+filtered_keeps filter.ExcludeDir text plan h = h
+
 valued_keeps : (option : ValuedOption) (text : List ℕ) → Keeps (value_effect option text)
 valued_keeps (valued.Number option) text plan h = numbered_keeps option text plan h
+valued_keeps (valued.Filter option) text plan h = filtered_keeps option text plan h
 valued_keeps valued.Regex text plan h = h
 valued_keeps valued.File text plan h = h
 valued_keeps valued.Label text plan h = h

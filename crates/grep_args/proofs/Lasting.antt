@@ -36,6 +36,7 @@ number_again MaxCount first last = set_again (λ n plan. record plan { max_count
 
 pub value_again : (option : ValuedOption) (first last : List ℕ) (plan after : GrepPlan) → IsTrue (keeps_one option) → value_effect option first plan ≡ Ok after → value_effect option last after ≡ value_effect option last plan
 value_again (valued.Number option) first last plan after one h = number_again option first last plan after h
+value_again (valued.Filter option) first last plan after one h = cc
 value_again valued.Regex first last plan after one h = cc
 value_again valued.File first last plan after one h = cc
 value_again valued.Label first last plan after one h = set_again (λ text plan. record plan { label = text }) (λ a b plan. refl) (Ok first) (Ok last) plan after h

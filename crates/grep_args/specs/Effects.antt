@@ -12,11 +12,13 @@ use Rattle.grep_args.specs.declared.plan.GrepPlan.{GrepPlan}
 use Rattle.grep_args.specs.declared.usage.UsageKind.{UsageKind}
 use Rattle.grep_args.specs.declared.usage.UsageKind.TheVariants.{BadNumber, BadValue, Exclude}
 use Rattle.grep_args.specs.declared.options.Flag.{Flag}
-use Rattle.grep_args.specs.declared.options.Flag.TheVariants.{Count, TotalCount, FixedStrings, IgnoreCase, Utf, LineNumber, Quiet, NoMessages, InvertMatch, WordRegex, LineRegex}
+use Rattle.grep_args.specs.declared.options.Flag.TheVariants.{Count, TotalCount, FixedStrings, IgnoreCase, Utf, LineNumber, Quiet, NoMessages, InvertMatch, WordRegex, LineRegex, Recursive}
 use Rattle.grep_args.specs.declared.options.PlainOption.{PlainOption}
 use Rattle.grep_args.specs.declared.options.PlainOption.TheVariants.{Switch, Names, Binary, Offsets, Help, NoEffect}
 use Rattle.grep_args.specs.declared.options.NumberOption.{NumberOption}
 use Rattle.grep_args.specs.declared.options.NumberOption.TheVariants.{AfterContext, BeforeContext, Context, MatchLimit, FrameLimit, BufferSize, MaxBufferSize, MaxCount}
+use Rattle.grep_args.specs.declared.options.FilterOption.{FilterOption}
+use Rattle.grep_args.specs.declared.options.FilterOption.TheVariants as filter
 use Rattle.grep_args.specs.declared.options.ValuedOption.{ValuedOption}
 use Rattle.grep_args.specs.declared.options.ValuedOption.TheVariants as valued
 use Rattle.grep_args.specs.Numbers.{number_of, greatest}
@@ -52,6 +54,11 @@ unset = record {
   max_count = None;
   newline = Lf;
   help = None;
+  recursive = false;
+  include = [];
+  exclude = [];
+  include_dir = [];
+  exclude_dir = [];
 }
 
 infixl 10 ◌>>=◌
@@ -76,6 +83,7 @@ switched NoMessages plan = record plan { no_messages = true }
 switched InvertMatch plan = record plan { invert_match = true }
 switched WordRegex plan = record plan { word_regex = true }
 switched LineRegex plan = record plan { line_regex = true }
+switched Recursive plan = record plan { recursive = true }
 
 -- more than one of `-o`, `--line-offsets` and `--file-offsets` is a fault
 abbrev pub is_empty : List ℕ → Bool
@@ -140,9 +148,17 @@ binary_of word =
     else if bytes_eq word (codes "without-match") then Some binary.WithoutMatch
     else None
 
+-- the patterns for names add up
+abbrev pub filter_effect : FilterOption → List ℕ → GrepPlan → GrepPlan
+filter_effect filter.Include text plan = record plan { include = plan.include ++ text ∷ [] }
+filter_effect filter.Exclude text plan = record plan { exclude = plan.exclude ++ text ∷ [] }
+filter_effect filter.IncludeDir text plan = record plan { include_dir = plan.include_dir ++ text ∷ [] }
+filter_effect filter.ExcludeDir text plan = record plan { exclude_dir = plan.exclude_dir ++ text ∷ [] }
+
 -- the last value counts; patterns and their files add up
 abbrev pub value_effect : ValuedOption → List ℕ → Effect
 value_effect (valued.Number option) text plan = number_effect option text plan
+value_effect (valued.Filter option) text plan = Ok (filter_effect option text plan)
 value_effect valued.Regex text plan = Ok (record plan { patterns = plan.patterns ++ text ∷ [] })
 value_effect valued.File text plan = Ok (record plan { pattern_files = plan.pattern_files ++ text ∷ [] })
 value_effect valued.Label text plan = Ok (record plan { label = text })

@@ -2,11 +2,12 @@
 use Rattle.std.specs.Prelude.{Bool, true, false}
 use Rattle.grep_args.specs.Effects.{◌>>=◌, Effect}
 use Rattle.grep_args.specs.declared.options.ValuedOption.{ValuedOption}
-use Rattle.grep_args.specs.declared.options.ValuedOption.TheVariants.{Number, Regex, File, Label, OmSeparator, BinaryFiles, Newline}
+use Rattle.grep_args.specs.declared.options.ValuedOption.TheVariants.{Number, Filter, Regex, File, Label, OmSeparator, BinaryFiles, Newline}
 
 -- the last value counts, but patterns and their files add up
 abbrev pub keeps_one : ValuedOption → Bool
 keeps_one (Number option) = true
+keeps_one (Filter option) = false
 keeps_one Regex = false
 keeps_one File = false
 keeps_one Label = true

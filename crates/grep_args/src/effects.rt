@@ -1,13 +1,13 @@
 //! What each option does to the plan.
 ghost use Rattle.std.specs.Prelude.{◌≡◌, OnOk, IfOk, IfErr, Ok, Err};
-ghost use Rattle.grep_args.specs.Effects.{switched, plain_effect, offsets_shown, group_shown, group_effect, ranged, binary_of, number_effect, value_effect};
+ghost use Rattle.grep_args.specs.Effects.{switched, plain_effect, offsets_shown, group_shown, group_effect, ranged, binary_of, number_effect, filter_effect, value_effect};
 ghost use Rattle.grep_args.specs.Stopping.{Stops};
 
 use crate::numbers::number;
-use crate::options::{Flag, NumberOption, PlainOption, ValuedOption};
+use crate::options::{FilterOption, Flag, NumberOption, PlainOption, ValuedOption};
 use crate::plan::{BinaryMode, GrepPlan, OffsetMode};
 use crate::usage::{Stop, UsageKind};
-use pat_tree::{ByteList, Newline};
+use pat_tree::{ByteList, Memory, Newline};
 use pcre_io::Name;
 use std::alloc::{AllocError, Global};
 
@@ -30,6 +30,7 @@ fn switch(plan: &mut GrepPlan, flag: Flag)
         Flag::InvertMatch => plan.invert_match = true,
         Flag::WordRegex => plan.word_regex = true,
         Flag::LineRegex => plan.line_regex = true,
+        Flag::Recursive => plan.recursive = true,
     }
 }
 
@@ -132,6 +133,19 @@ pub fn take_group(plan: &mut GrepPlan, text: &[u8]) -> Result<(), Stop>
     show_group(plan, n)
 }
 
+/// Adds a pattern for names.
+fn take_filter(plan: &mut GrepPlan, option: FilterOption, text: ByteList) -> Result<(), Memory>
+    ensures { OnOk result (plan.new ≡ filter_effect option text plan.old) }
+{
+    match option {
+        FilterOption::Include => plan.include.push(text)?,
+        FilterOption::Exclude => plan.exclude.push(text)?,
+        FilterOption::IncludeDir => plan.include_dir.push(text)?,
+        FilterOption::ExcludeDir => plan.exclude_dir.push(text)?,
+    }
+    Ok(())
+}
+
 /// Does what an option with its value asks for.
 pub fn take_value(
     alloc: Global,
@@ -144,6 +158,7 @@ pub fn take_value(
 {
     match option {
         ValuedOption::Number(option) => take_number(plan, option, text.as_bytes())?,
+        ValuedOption::Filter(option) => take_filter(plan, option, bytes_of(alloc, text)?)?,
         ValuedOption::Regex => plan.patterns.push(bytes_of(alloc, text)?)?,
         ValuedOption::File => plan.pattern_files.push(name_of(alloc, text)?)?,
         ValuedOption::Label => plan.label = name_of(alloc, text)?,

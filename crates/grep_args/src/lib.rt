@@ -13,6 +13,7 @@ mod usage;
 mod words;
 
 pub use laws::{last_values_count, offsets_exclude_groups, worked_faults, worked_plans};
+pub use options::FilterOption;
 pub use plan::{BinaryMode, GrepPlan, HelpKind, NameMode, OffsetMode};
 pub use reading::read;
 pub use usage::{ArgError, UsageKind};

@@ -15,6 +15,7 @@ pub enum Flag {
     InvertMatch,
     WordRegex,
     LineRegex,
+    Recursive,
 }
 
 /// An option that takes no value.
@@ -42,10 +43,21 @@ pub enum NumberOption {
     MaxCount,
 }
 
+/// An option whose value is a pattern for the names of files or of directories.
+#[derive(Clone, Copy, Debug, PartialEq, Eq)]
+pub enum FilterOption {
+    Include,
+    Exclude,
+    IncludeDir,
+    ExcludeDir,
+}
+
 /// An option that takes a value.
 #[derive(Clone, Copy, Debug, PartialEq, Eq)]
 pub enum ValuedOption {
     Number(NumberOption),
+    /// A pattern for names.
+    Filter(FilterOption),
     /// A pattern.
     Regex,
     /// The name of a file of patterns.

@@ -107,4 +107,14 @@ pub struct GrepPlan {
     pub newline: Newline,
     /// The text that is asked for in place of a search.
     pub help: Option<HelpKind>,
+    /// `-r`: the files in directories are searched.
+    pub recursive: bool,
+    /// The patterns of `--include` in order, one of which the name of a file must match, where there are any.
+    pub include: TextList,
+    /// The patterns of `--exclude` in order, none of which the name of a file may match.
+    pub exclude: TextList,
+    /// The patterns of `--include-dir` in order, one of which the name of a directory must match, where there are any.
+    pub include_dir: TextList,
+    /// The patterns of `--exclude-dir` in order, none of which the name of a directory may match.
+    pub exclude_dir: TextList,
 }

@@ -1,8 +1,9 @@
 //! The plan of the words.
-ghost use Rattle.std.specs.Prelude.{◌≡◌, map, string_bytes, IfOk, IfErr, Ok};
+ghost use Rattle.std.specs.Prelude.{◌≡◌, [], ◌∷◌, map, slice_get, string_bytes, IfOk, IfErr, Ok};
 ghost use Rattle.grep_args.specs.Effects.{unset};
 ghost use Rattle.grep_args.specs.Limits.{IsWithinLimits};
-ghost use Rattle.grep_args.specs.Words.{plan_of, completed, Refuses};
+ghost use Rattle.grep_args.specs.Words.{plan_of, completed, has_patterns, pattern_word, Refuses};
+ghost use Rattle.grep_args.specs.declared.usage.ArgError.TheVariants as answer;
 
 use crate::effects::{bytes_of, name_of};
 use crate::plan::{BinaryMode, GrepPlan, NameMode, OffsetMode};
@@ -45,7 +46,55 @@ fn unset(alloc: Global) -> Result<GrepPlan, AllocError>
         max_count: None,
         newline: Newline::Lf,
         help: None,
+        recursive: false,
+        include: TextList::new(alloc),
+        exclude: TextList::new(alloc),
+        include_dir: TextList::new(alloc),
+        exclude_dir: TextList::new(alloc),
     })
+}
+
+/// Whether an option gave a pattern or a file of patterns.
+fn has_patterns(plan: &GrepPlan) -> bool
+    ensures { result ≡ has_patterns plan.now }
+{
+    plan.patterns.len() > 0 || plan.pattern_files.len() > 0
+}
+
+/// A list of one pattern.
+fn only(alloc: Global, pattern: &str) -> Result<TextList, ArgError>
+    ensures ok { IfOk result (λ patterns. patterns ≡ pattern.now ∷ []) }
+    ensures memory { IfErr result (λ error. error ≡ answer.Memory) }
+{
+    let mut patterns = TextList::new(alloc);
+    patterns.push(bytes_of(alloc, pattern)?)?;
+    Ok(patterns)
+}
+
+/// The pattern that is the word after n words.
+fn take_pattern(
+    alloc: Global,
+    mut plan: GrepPlan,
+    words: &[String],
+    n: usize,
+) -> Result<GrepPlan, ArgError>
+    ensures ok { IfOk result (λ whole. pattern_word n (slice_get (map string_bytes words.now) n)
+        plan.help plan ≡ Ok whole) }
+    ensures fault { IfErr result (Refuses (pattern_word n (slice_get (map string_bytes words.now) n)
+        plan.help plan)) }
+{
+    match words.get(n) {
+        Some(pattern) => {
+            plan.patterns = only(alloc, pattern.as_str())?;
+            plan.files_from = n + 1;
+            Ok(plan)
+        }
+        None if plan.help.is_none() => Err(UsageKind::NoPattern.at(n)),
+        None => {
+            plan.files_from = n;
+            Ok(plan)
+        }
+    }
 }
 
 /// The pattern, where no option gives one, and where the files begin, after n words that are the options.
@@ -58,18 +107,11 @@ fn complete(
     ensures ok { IfOk result (λ whole. completed (map string_bytes words.now) n plan ≡ Ok whole) }
     ensures fault { IfErr result (Refuses (completed (map string_bytes words.now) n plan)) }
 {
-    plan.files_from = n;
-    if plan.patterns.len() > 0 || plan.pattern_files.len() > 0 {
-        return Ok(plan);
-    }
-    match words.get(n) {
-        Some(pattern) => {
-            plan.patterns.push(bytes_of(alloc, pattern.as_str())?)?;
-            plan.files_from = n + 1;
-            Ok(plan)
-        }
-        None if plan.help.is_none() => Err(UsageKind::NoPattern.at(n)),
-        None => Ok(plan),
+    if has_patterns(&plan) {
+        plan.files_from = n;
+        Ok(plan)
+    } else {
+        take_pattern(alloc, plan, words, n)
     }
 }
 

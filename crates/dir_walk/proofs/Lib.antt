@@ -1,0 +1,4 @@
+mod Naming
+mod Filtering
+mod Placing
+mod Walking
