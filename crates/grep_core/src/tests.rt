@@ -59,23 +59,25 @@ fn check_all(rt: &impl Abort, alloc: Global, rows: &[Row]) -> Result<(), Fail> {
     Ok(())
 }
 
+/// Six lines, of which the second and the last are `x`.
+const TEXT: &[u8] = b"a\nx\nb\nc\nd\nx\n";
+
 #[test]
 fn lines_are_shown_with_context(rt: HostRuntime) -> Result<(), Fail> {
     static ROWS: [Row; 12] = [
-        ("-n -C 1 x", text, b"1-a\n2:x\n3-b\n--\n5-d\n6:x\n", b""),
-        ("-n -C 2 x", text, b"1-a\n2:x\n3-b\n4-c\n5-d\n6:x\n", b""),
-        ("-B 1 x", text, b"a\nx\n--\nd\nx\n", b""),
-        ("-A 1 x", text, b"x\nb\n--\nx\n", b""),
-        ("-m 1 -A 2 x", text, b"x\nb\nc\n", b""),
-        ("-v -n x", text, b"1:a\n3:b\n4:c\n5:d\n", b""),
-        ("-c x", text, b"2\n", b""),
-        ("-cH x", text, b"f:2\n", b""),
-        ("-l x", text, b"f\n", b""),
-        ("-L x", text, b"", b""),
-        ("-L y", text, b"f\n", b""),
-        ("-q x", text, b"", b""),
+        ("-n -C 1 x", TEXT, b"1-a\n2:x\n3-b\n--\n5-d\n6:x\n", b""),
+        ("-n -C 2 x", TEXT, b"1-a\n2:x\n3-b\n4-c\n5-d\n6:x\n", b""),
+        ("-B 1 x", TEXT, b"a\nx\n--\nd\nx\n", b""),
+        ("-A 1 x", TEXT, b"x\nb\n--\nx\n", b""),
+        ("-m 1 -A 2 x", TEXT, b"x\nb\nc\n", b""),
+        ("-v -n x", TEXT, b"1:a\n3:b\n4:c\n5:d\n", b""),
+        ("-c x", TEXT, b"2\n", b""),
+        ("-cH x", TEXT, b"f:2\n", b""),
+        ("-l x", TEXT, b"f\n", b""),
+        ("-L x", TEXT, b"", b""),
+        ("-L y", TEXT, b"f\n", b""),
+        ("-q x", TEXT, b"", b""),
     ];
-    let text = b"a\nx\nb\nc\nd\nx\n";
     check_all(&rt, rt.alloc(), &ROWS)
 }
 
