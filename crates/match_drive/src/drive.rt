@@ -103,8 +103,8 @@ pub fn search_on<S: Driven, C: Callouts>(
 /// answer. Want of memory may be answered at any time.
 ///
 /// Needs the table and the facts of the tree, and a view with the tree's options; a start in the subject; a subject of fewer
-/// than 4,294,967,295 bytes without UTF; no partial matching; and a tree without atomic groups, lookarounds, conditions, calls,
-/// verbs and callouts. So it calls at no callout.
+/// than 4,294,967,295 bytes without UTF; no partial matching; and a tree without calls, verbs and callouts. So it calls at no
+/// callout.
 pub fn search<C: Callouts>(
     ready: &Ready<'_>,
     view: &View<'_>,
