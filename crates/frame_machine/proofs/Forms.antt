@@ -24,8 +24,7 @@ mutual
   built_runs (tree.repeat body low high lazily) b = built_runs body b
   built_runs (tree.one_repeat item low high lazily) b = tt
   built_runs (tree.atomic ts) b = built_row ts b
-  built_runs (tree.look true positive once ts) b = built_row ts b
-  built_runs (tree.look false positive once ts) b = absurd b
+  built_runs (tree.look ahead positive once ts) b = built_row ts b
   built_runs (tree.condition test first second) b = absurd b
   built_runs (tree.call n) b = absurd b
   built_runs (tree.ref ns caseless) b = tt

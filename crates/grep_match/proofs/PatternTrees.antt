@@ -4,18 +4,12 @@ use Rattle.std.proofs.lemmas.List.{map-append, length-map}
 use Rattle.pat_tree.specs.declared.options.Options.{Options}
 use Rattle.pat_tree.specs.Parts.{TreeParts}
 use Rattle.token_parts.specs.declared.fault.Fault.{Fault}
-use Rattle.token_parts.specs.Tell.{◌>>=◌}
-use Rattle.pat_build.specs.Reading.{Parsed, read}
-use Rattle.pat_build.specs.Machine.{parsed_of}
 use Rattle.pcre2_api.specs.Compiled.{CodeParts, Compiles}
 use Rattle.grep_match.specs.declared.patterns.PatternError.{PatternError}
 use Rattle.grep_match.specs.declared.patterns.PatternError.TheVariants.{Bad, Memory}
 use Rattle.pat_tree.specs.Pattern.{Pattern, pattern_of}
 use Rattle.pcre2_api.specs.Patterns.{compiled}
 use Rattle.grep_match.specs.Compiled.{BadPattern, Compiled, patterns_in, compiled_from, with_pattern, Adds}
-
-read-compiled : (options : Options) (text : List ℕ) (found : Result Parsed Fault) → read options text ≡ found → compiled options text ≡ (found >>= λ parsed. Ok parsed.pattern)
-read-compiled options text found is = ap (λ r. r >>= λ parsed. Ok parsed.pattern) is
 
 -- what the first text adds to what the others are
 first_then : ℕ → Result Pattern Fault → Compiled → Compiled
@@ -111,12 +105,12 @@ pub adds-one : {A : Type 0} (a : A) (options : Options) (text : List ℕ) (old n
 adds-one a options text old new code is grown = (
   code ∷ [],
   grown,
-  from-ok options (length old + 1) text [] (pattern_of code.tree) (read-compiled options text _ is.1),
+  from-ok options (length old + 1) text [] (pattern_of code.tree) is.2,
 )
 
-pub adds-bad : (A : Type 0) (options : Options) (text : List ℕ) (old new : List CodeParts) (n number at : _) → read options text ≡ Err (record { number = number; at = at }) → n ≡ length old + 1 → Adds {A = A} options (text ∷ []) old new (Err (Bad n number at))
+pub adds-bad : (A : Type 0) (options : Options) (text : List ℕ) (old new : List CodeParts) (n number at : _) → compiled options text ≡ Err (record { number = number; at = at }) → n ≡ length old + 1 → Adds {A = A} options (text ∷ []) old new (Err (Bad n number at))
 adds-bad A options text old new n number at is place =
-    from-bad options (length old + 1) text [] _ (read-compiled options text _ is)
+    from-bad options (length old + 1) text [] _ is
     ∙ ap (λ k. let r : Compiled = Err (record { number = k; fault = record { number = number; at = at } }) in r) (sym place)
 
 pub adds-then : {A B : Type 0} (a : A) (options : Options) (xs ys : List (List ℕ)) (old mid new : List CodeParts) (found : Result B PatternError) → Adds options xs old mid (Ok a) → Adds options ys mid new found → Adds options (xs ++ ys) old new found

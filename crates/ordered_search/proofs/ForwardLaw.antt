@@ -27,18 +27,18 @@ module _ (g : Setting) (search : IsBuiltSearch g) where
   abbrev IsPlainWalk : Walked → Type 0
   IsPlainWalk w = IsPlainPlace w.answer × (w.notes ≡ [])
 
-  placed : (low : ℕ) (s : State) → g.start ≤ low → IsOnWay g low s → IsPlaced g (outcome s)
+  placed : (low : ℕ) (s : State) → g.start ≤ low → IsOnWay g (Some low) s → IsPlaced g (outcome s)
   placed low s le on =
-      let begins = on.begins in
-      record { begins = omega (arith, le, begins); ordered = on.ordered; within = on.within; caps = on.caps; groups = on.groups; no_mark = on.no_mark }
+      let begins : low ≤ s.keep = on.kept.0 in
+      record { begins = omega (arith, le, begins); ordered = on.kept.1; within = on.within; caps = on.caps; groups = on.groups; no_mark = on.no_mark }
 
-  plain_state : (low : ℕ) (s : State) (empty by_end : Bool) (w : Walked) → g.start ≤ low → IsOnWay g low s → IsPlainWalk w →
+  plain_state : (low : ℕ) (s : State) (empty by_end : Bool) (w : Walked) → g.start ≤ low → IsOnWay g (Some low) s → IsPlainWalk w →
       IsPlainWalk (elim (elim empty as (λ _. Option PlaceAnswer) [ true ↦ None | false ↦ elim by_end [ false ↦ Some (Matched (outcome s)) | true ↦ elim reached as (λ _. Option PlaceAnswer) [ reached ↦ None | accepted ↦ Some (Failed Exhausted) ] ] ]) [ None ↦ w | Some a ↦ answers a ])
   plain_state low s true by_end w le on h = h
   plain_state low s false false w le on h = (placed low s le on, refl)
   plain_state low s false true w le on h = h
 
-  plain_walk : (low p n : ℕ) (x : Stream) → g.start ≤ low → Forward g low p x → IsPlainWalk (walk g n x)
+  plain_walk : (low p n : ℕ) (x : Stream) → g.start ≤ low → Forward g (Some low) p x → IsPlainWalk (walk g n x)
   unfolding Forward walk
   plain_walk low p n (ends exhausted) le h = (tt, refl)
   plain_walk low p n (ends (by_verb v)) le h = absurd h
@@ -54,10 +54,9 @@ module _ (g : Setting) (search : IsBuiltSearch g) where
   plain_walk low p zero (step ▸ x) le h = (tt, refl)
   plain_walk low p (suc n) (step ▸ x) le h = plain_walk low p n x le h
 
-  begun_at : (p : ℕ) → p ≤ length g.subject → IsOnWay g p (first_state g.groups p)
+  begun_at : (p : ℕ) → p ≤ length g.subject → IsOnWay g (Some p) (first_state g.groups p)
   begun_at p within = record {
-    begins = omega arith;
-    ordered = omega arith;
+    kept = (omega arith, omega arith);
     within = within;
     caps = All-replicate (IsWithin (length g.subject)) g.groups None tt;
     groups = length-replicate g.groups None;
@@ -66,7 +65,7 @@ module _ (g : Setting) (search : IsBuiltSearch g) where
 
   plain_place : (p : ℕ) → g.start ≤ p → p ≤ length g.subject → IsPlainWalk (place_answer g p)
   plain_place p le within =
-      plain_walk p p (match_limit g) _ le (forward_run g p search.bytes search.off (match_limit g + 1) g.whole search.built (first_state g.groups p) (begun_at p within))
+      plain_walk p p (match_limit g) _ le (forward_run g search.bytes search.off (match_limit g + 1) (Some p) g.whole search.built (first_state g.groups p) (begun_at p within))
 
   not_cut : (p : ℕ) (b : Bool) → (elim b as (λ _. Walked) [ true ↦ answers (Failed Exhausted) | false ↦ place_answer g p ]).answer ≢ NoDepth
   not_cut p true = λ e. cc

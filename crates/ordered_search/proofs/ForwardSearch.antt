@@ -1,5 +1,5 @@
 -- The search of a tree of the forms that are built goes forward, over bytes.
-use Rattle.std.proofs.Common.{◌≡◌, ℕ, zero, suc, ◌+◌, ◌-◌, ◌<◌, ◌≤◌, Bool, true, false, List, [], ◌∷◌, ◌++◌, length, drop, reverse, Option, Some, None, refl, sym, subst, arith}
+use Rattle.std.proofs.Common.{◌≡◌, ℕ, zero, suc, ◌+◌, ◌-◌, ◌<◌, ◌≤◌, Bool, true, false, List, [], ◌∷◌, ◌++◌, length, drop, reverse, Option, Some, None, refl, sym, ap, ◌∙◌, subst, arith, ◌==◌}
 use Rattle.std.specs.Prelude.{nat_lt}
 use Rattle.std.proofs.lemmas.List.{reverse-append}
 use Rattle.pat_tree.specs.declared.nodes.Item.{Item}
@@ -8,16 +8,18 @@ use Rattle.pat_tree.specs.declared.options.PartialMode.TheVariants.{Off}
 use Rattle.pat_tree.specs.Nested as tree
 use Rattle.pat_tree.specs.Nested.{Nested, Row, repeat}
 use Rattle.pat_tree.specs.Built.{IsBuilt, AreBuilt}
+use Rattle.uni_text.specs.Characters.{char_before}
+use Rattle.pat_lengths.specs.Lengths.{SomeLengths}
 use Rattle.frame_store.specs.declared.registers.Span.{Span}
 use Rattle.frame_store.specs.Captures.{capture}
-use Rattle.match_items.specs.Items.{one_less, is_none_left, after_item, item_reaches, run_places, longest_run, break_len, after_ref, ref_reaches, holds, anchor_reaches}
+use Rattle.match_items.specs.Items.{one_less, is_none_left, after_item, item_reaches, run_places, longest_run, places_back, break_len, after_ref, ref_reaches, holds, anchor_reaches}
 use Rattle.match_items.proofs.Places.{item_forward, break_within, ref_within}
-use Rattle.ordered_search.specs.Stream.{State, reached, Stream, Search, nothing, gives, no_ending, is_next_branch, fails_alone, fails_inside, captured}
-use Rattle.ordered_search.specs.Setting.{Setting, hold, reach_if}
+use Rattle.ordered_search.specs.Stream.{State, reached, Stream, Search, nothing, gives, no_ending, is_next_branch, fails_alone, fails_inside, captured, and_then, go_on}
+use Rattle.ordered_search.specs.Setting.{Setting, branch_lengths, hold, reach_if}
 use Rattle.ordered_search.specs.Tests.{move_to, goes_to, run_one, run_break, run_ref, run_anchor, offers, greedy, offer_and, reluctant, lazy_run, run_many}
-use Rattle.ordered_search.specs.Parts.{Searches, in_order, choices, branches, run_group, back_to, forget_passed, run_atomic, run_look, is_over, turn, run_repeat}
-use Rattle.ordered_search.specs.Run.{level, levels, run}
-use Rattle.ordered_search.proofs.ForwardStreams.{IsOnWay, Forward, IsForward, forward_nothing, forward_gives, forward_step, forward_if, forward_or_else, forward_each, forward_and_then, forward_catch, forward_decide, with_units, with_early, with_place, with_keep, with_capture, with_passed, with_return, forward_held, forward_hold, forward_reach_if}
+use Rattle.ordered_search.specs.Parts.{Searches, in_order, choices, branches, run_group, back_to, forget_passed, run_atomic, run_look, begun_at, ends_at, one_try, tries, tries_within, run_behind, is_over, turn, run_repeat}
+use Rattle.ordered_search.specs.Run.{level, levels, levels_behind, run}
+use Rattle.ordered_search.proofs.ForwardStreams.{IsOnWay, Forward, IsForward, forward_nothing, forward_gives, forward_step, forward_if, forward_less, forward_or_else, forward_each, forward_and_then, forward_catch, forward_decide, with_units, with_early, with_place, with_keep, with_capture, with_passed, loosened, with_return, each_inside, decide_inside, forward_held, forward_hold, forward_reach_if}
 
 -- a place that is told is as far as what was taken
 told_far : (b : Bool) (p n q : ℕ) → elim b as (λ _. Option ℕ) [ true ↦ Some (p + n) | false ↦ None ] ≡ Some q → p ≤ q
@@ -46,7 +48,7 @@ between_drop p n zero qs h = h
 between_drop p n (suc k) [] h = tt
 between_drop p n (suc k) (q ∷ qs) h = between_drop p n k qs h.1
 
-module _ (g : Setting) (low : ℕ) (bytes : g.options.utf ≡ false) (off : g.matching.«partial» ≡ Off) where
+module _ (g : Setting) (low : Option ℕ) (bytes : g.options.utf ≡ false) (off : g.matching.«partial» ≡ Off) where
   abbrev Goes : Search → Type 0
   Goes = IsForward g low
 
@@ -151,20 +153,33 @@ module _ (g : Setting) (low : ℕ) (bytes : g.options.utf ≡ false) (off : g.ma
   forward_in_order [] h s on = forward_gives g low s.place s (omega arith) on
   forward_in_order (f ∷ fs) h s on = forward_and_then g low s.place (f s) (in_order fs) (h.0 s on) (λ t le on'. forward_in_order fs h.1 t on')
 
-  forward_choices : (fs : List Search) → AllGo fs → Goes (choices g fs)
-  unfolding choices
-  forward_choices [] h s on = forward_nothing g low s.place
-  forward_choices (f ∷ []) h s on = forward_step g low s.place _ (forward_catch g low s.place is_next_branch (f s) (h.0 s on))
-  forward_choices (f ∷ f' ∷ fs) h s on =
-      forward_step g low s.place _ (forward_or_else g low s.place _ _
-      (forward_held g low s.place 1 s _ (forward_catch g low s.place is_next_branch _ (h.0 _ (with_units g low s _ on))))
-      (forward_choices (f' ∷ fs) h.1 s on))
+  -- from the state's place on, or from anywhere
+  abbrev bound : Bool → State → ℕ
+  bound true s = s.place
+  bound false s = 0
 
-  forward_branches : (fs : List Search) → AllGo fs → Goes (branches g fs)
+  abbrev AllReach : Bool → List Search → Type 0
+  AllReach far [] = Unit {0}
+  AllReach far (f ∷ fs) = ((s : State) → IsOnWay g low s → Forward g low (bound far s) (f s)) × AllReach far fs
+
+  forward_choices : (far : Bool) (fs : List Search) → AllReach far fs → (s : State) → IsOnWay g low s → Forward g low (bound far s) (choices g fs s)
+  unfolding choices
+  forward_choices far [] h s on = forward_nothing g low (bound far s)
+  forward_choices far (f ∷ []) h s on = forward_step g low (bound far s) _ (forward_catch g low (bound far s) is_next_branch (f s) (h.0 s on))
+  forward_choices far (f ∷ f' ∷ fs) h s on =
+      forward_step g low (bound far s) _ (forward_or_else g low (bound far s) _ _
+      (forward_held g low (bound far s) 1 s _ (forward_catch g low (bound far s) is_next_branch _ (by_far far f h.0)))
+      (forward_choices far (f' ∷ fs) h.1 s on))
+    where
+      by_far : (b : Bool) (f : Search) → ((s : State) → IsOnWay g low s → Forward g low (bound b s) (f s)) → Forward g low (bound b s) (f (record s { units = s.units + 1 }))
+      by_far true f h = h _ (with_units g low s _ on)
+      by_far false f h = h _ (with_units g low s _ on)
+
+  forward_branches : (far : Bool) (fs : List Search) → AllReach far fs → (s : State) → IsOnWay g low s → Forward g low (bound far s) (branches g fs s)
   unfolding branches
-  forward_branches [] h s on = forward_nothing g low s.place
-  forward_branches (f ∷ []) h s on = h.0 s on
-  forward_branches (f ∷ f' ∷ fs) h s on = forward_choices (f ∷ f' ∷ fs) h s on
+  forward_branches far [] h s on = forward_nothing g low (bound far s)
+  forward_branches far (f ∷ []) h s on = h.0 s on
+  forward_branches far (f ∷ f' ∷ fs) h s on = forward_choices far (f ∷ f' ∷ fs) h s on
 
   forward_group : (k : Option ℕ) (f : Search) → Goes f → Goes (run_group g k f)
   unfolding run_group
@@ -180,20 +195,21 @@ module _ (g : Setting) (low : ℕ) (bytes : g.options.utf ≡ false) (off : g.ma
       (forward_decide g low s.place no_ending _ (λ how u. hold g how (forget_passed s u)) nothing (h _ (with_units g low s _ on)) (forward_nothing g low s.place)
       (λ u le on'. forward_hold g low s.place (forget_passed s u) le (with_passed g low u s.passed on')))
 
-  forward_look : (positive once : Bool) (f : Search) → Goes f → Goes (run_look g positive once f)
+  -- what is inside a lookaround goes its own way
+  forward_look : (positive once : Bool) (f : Search) → ((s : State) → IsOnWay g None s → Forward g None 0 (f s)) → Goes (run_look g positive once f)
   unfolding run_look
   forward_look true true f h s on =
       forward_held g low s.place 1 s _
-      (forward_decide g low s.place fails_alone _ (λ how u. hold g reached (back_to s (forget_passed s u))) nothing (h _ (with_units g low s _ on)) (forward_nothing g low s.place)
-      (λ u le on'. forward_hold g low s.place (back_to s (forget_passed s u)) (omega arith) (with_return g low s _ on (with_passed g low u s.passed on'))))
+      (decide_inside g low s.place fails_alone _ (λ how u. hold g reached (back_to s (forget_passed s u))) nothing (h _ (with_units g None s _ (loosened g low s on))) (forward_nothing g low s.place)
+      (λ u on'. forward_hold g low s.place (back_to s (forget_passed s u)) (omega arith) (with_return g low s _ on (with_passed g None u s.passed on'))))
   forward_look true false f h s on =
       forward_held g low s.place 1 s _
-      (forward_catch g low s.place fails_alone _ (forward_each g low s.place _ (λ how u. gives reached (back_to s u)) (h _ (with_units g low s _ on))
-      (λ u le on'. forward_gives g low s.place (back_to s u) (omega arith) (with_return g low s u on on'))))
+      (forward_catch g low s.place fails_alone _ (each_inside g low s.place _ (λ how u. gives reached (back_to s u)) (h _ (with_units g None s _ (loosened g low s on)))
+      (λ u on'. forward_gives g low s.place (back_to s u) (omega arith) (with_return g low s u on on'))))
   forward_look false once f h s on =
       forward_held g low s.place 1 s _
-      (forward_decide g low s.place fails_inside _ (λ how u. nothing) (gives reached s) (h _ (with_units g low s _ on)) (forward_gives g low s.place s (omega arith) on)
-      (λ u le on'. forward_nothing g low s.place))
+      (decide_inside g low s.place fails_inside _ (λ how u. nothing) (gives reached s) (h _ (with_units g None s _ (loosened g low s on))) (forward_gives g low s.place s (omega arith) on)
+      (λ u on'. forward_nothing g low s.place))
 
   -- Repeats, whose turns go a level deeper.
 
@@ -221,34 +237,97 @@ module _ (g : Setting) (low : ℕ) (bytes : g.options.utf ≡ false) (off : g.ma
   forward_repeat below body zero None false h built s on =
       forward_or_else g low s.place _ _ (forward_turn below body zero None false h built s on) (forward_gives g low s.place s (omega arith) on)
 
-  module _ (below : Searches) (deeper : GoesBelow below) where
+-- Branches of a lookbehind, which begin before its place.
+module _ (g : Setting) (bytes : g.options.utf ≡ false) where
+  back_between : (n p : ℕ) → p ≤ length g.subject → AreBetween 0 (length g.subject) (places_back g.scene n p)
+  unfolding places_back
+  back_between zero p h = ((omega arith, h), tt)
+  back_between (suc n) zero h = ((omega arith, h), tt)
+  back_between (suc n) (suc p) h =
+      let place : (char_before g.options.utf g.subject (suc p)).1 ≡ p = ap (λ (utf : Bool). (char_before utf g.subject (suc p)).1) bytes ∙ omega arith in
+      ((omega arith, h), subst (λ q. AreBetween 0 (length g.subject) (places_back g.scene n q)) (sym place) (back_between n p (omega (arith, h))))
+
+  abbrev Roams : Search → Type 0
+  Roams f = (s : State) → IsOnWay g None s → Forward g None 0 (f s)
+
+  begun : (p : ℕ) (s : State) → p ≤ length g.subject → IsOnWay g None s → IsOnWay g None (begun_at p s)
+  begun p s h on = record { kept = tt; within = h; caps = on.caps; groups = on.groups; no_mark = on.no_mark }
+
+  begins_at : (p : ℕ) (f : Search) → IsForward g None f → (s : State) → p ≤ length g.subject → IsOnWay g None s → Forward g None 0 (f (begun_at p s))
+  begins_at p f h s within on = forward_less g None 0 p (f (begun_at p s)) (omega arith) (h (begun_at p s) (begun p s within on))
+
+  ends_there : (p : ℕ) (x : Stream) → Forward g None 0 x → Forward g None 0 (and_then x (ends_at p))
+  ends_there p x h =
+      forward_each g None 0 x (go_on (ends_at p)) h (λ u le on. forward_if g None 0 (u.place == p) _ _ (forward_gives g None 0 u (omega arith) on) (forward_nothing g None 0))
+
+  roam_tries : (ps : List ℕ) (f : Search) → IsForward g None f → AreBetween 0 (length g.subject) ps → Roams (tries g ps f)
+  unfolding tries
+  roam_tries [] f h b s on = forward_nothing g None 0
+  roam_tries (p ∷ []) f h b s on = forward_step g None 0 _ (ends_there s.place _ (begins_at p f h s b.0.1 on))
+  roam_tries (p ∷ q ∷ ps) f h b s on =
+      forward_step g None 0 _ (forward_or_else g None 0 _ _
+      (forward_held g None 0 1 s _ (ends_there s.place _ (begins_at p f h _ b.0.1 (with_units g None s _ on))))
+      (roam_tries (q ∷ ps) f h b.1 s on))
+
+  roam_once : (ps : List ℕ) (f : Search) → IsForward g None f → AreBetween 0 (length g.subject) ps → Roams (one_try ps f)
+  unfolding one_try
+  roam_once [] f h b s on = forward_nothing g None 0
+  roam_once (p ∷ ps) f h b s on = begins_at p f h s b.0.1 on
+
+  roam_behind : (lengths : SomeLengths) (f : Search) → IsForward g None f → Roams (run_behind g lengths f)
+  unfolding run_behind tries_within
+  roam_behind None f h s on = forward_nothing g None 0
+  roam_behind (Some a) f h s on = by_most a.most
+    where
+      by_most : (most : Option ℕ) → Forward g None 0 (tries_within g a.least most f s)
+      by_most None = forward_nothing g None 0
+      by_most (Some most) =
+          let places = reverse (drop a.least (places_back g.scene most s.place)) in
+          let between = between_reverse 0 (length g.subject) _ (between_drop 0 (length g.subject) a.least _ (back_between most s.place on.within)) in
+          forward_if g None 0 (a.least == most) (one_try places f s) (tries g places f s) (roam_once places f h between s on) (roam_tries places f h between s on)
+
+module _ (g : Setting) (bytes : g.options.utf ≡ false) (off : g.matching.«partial» ≡ Off) where
+  module _ (below : Searches) (deeper : (low : Option ℕ) (t : Nested) → IsBuilt t → IsForward g low (below t)) where
     mutual
       unfolding level
 
-      forward_level : (t : Nested) → IsBuilt t → Goes (level g below t)
-      forward_level tree.empty built s on = forward_gives g low s.place s (omega arith) on
-      forward_level (tree.one item) built s on = forward_one item s on
-      forward_level tree.line_break built s on = forward_break s on
-      forward_level (tree.seq ts) built s on = forward_in_order _ (forward_levels ts built) s on
-      forward_level (tree.group number ts) built s on = forward_group number _ (forward_branches _ (forward_levels ts built)) s on
-      forward_level (tree.repeat body least high lazily) built s on = forward_repeat below body least high lazily deeper built s on
-      forward_level (tree.one_repeat item least high lazily) built s on = forward_many item least high lazily s on
-      forward_level (tree.atomic ts) built s on = forward_atomic _ (forward_branches _ (forward_levels ts built)) s on
-      forward_level (tree.look true positive once ts) built s on = forward_look positive once _ (forward_branches _ (forward_levels ts built)) s on
-      forward_level (tree.look false positive once ts) built s on = absurd built
-      forward_level (tree.condition test first second) built s on = absurd built
-      forward_level (tree.call n) built s on = absurd built
-      forward_level (tree.ref ns caseless) built s on = forward_ref ns caseless s on
-      forward_level (tree.anchor kind) built s on = forward_anchor kind s on
-      forward_level tree.keep_out built s on = forward_gives g low s.place _ (omega arith) (with_keep g low s on)
-      forward_level (tree.verb v) built s on = absurd built
-      forward_level (tree.callout c) built s on = absurd built
+      forward_level : (low : Option ℕ) (t : Nested) → IsBuilt t → IsForward g low (level g below t)
+      forward_level low tree.empty built s on = forward_gives g low s.place s (omega arith) on
+      forward_level low (tree.one item) built s on = forward_one g low bytes off item s on
+      forward_level low tree.line_break built s on = forward_break g low bytes off s on
+      forward_level low (tree.seq ts) built s on = forward_in_order g low bytes off _ (forward_levels low ts built) s on
+      forward_level low (tree.group number ts) built s on = forward_group g low bytes off number _ (forward_branches g low bytes off true _ (forward_reach low ts built)) s on
+      forward_level low (tree.repeat body least high lazily) built s on = forward_repeat g low bytes off below body least high lazily (deeper low) built s on
+      forward_level low (tree.one_repeat item least high lazily) built s on = forward_many g low bytes off item least high lazily s on
+      forward_level low (tree.atomic ts) built s on = forward_atomic g low bytes off _ (forward_branches g low bytes off true _ (forward_reach low ts built)) s on
+      forward_level low (tree.look true positive once ts) built s on = forward_look g low bytes off positive once _ (forward_branches g None bytes off false _ (roam_ahead ts built)) s on
+      forward_level low (tree.look false positive once ts) built s on = forward_look g low bytes off positive once _ (forward_branches g None bytes off false _ (roam_back ts built)) s on
+      forward_level low (tree.condition test first second) built s on = absurd built
+      forward_level low (tree.call n) built s on = absurd built
+      forward_level low (tree.ref ns caseless) built s on = forward_ref g low bytes off ns caseless s on
+      forward_level low (tree.anchor kind) built s on = forward_anchor g low bytes off kind s on
+      forward_level low tree.keep_out built s on = forward_gives g low s.place _ (omega arith) (with_keep g low s on)
+      forward_level low (tree.verb v) built s on = absurd built
+      forward_level low (tree.callout c) built s on = absurd built
 
-      forward_levels : (ts : Row) → AreBuilt ts → AllGo (levels g below ts)
-      forward_levels tree.none built = tt
-      forward_levels (tree.more t ts) built = (forward_level t built.0, forward_levels ts built.1)
+      forward_levels : (low : Option ℕ) (ts : Row) → AreBuilt ts → AllGo g low bytes off (levels g below ts)
+      forward_levels low tree.none built = tt
+      forward_levels low (tree.more t ts) built = (forward_level low t built.0, forward_levels low ts built.1)
 
-  pub forward_run : (d : ℕ) (t : Nested) → IsBuilt t → Goes (run g d t)
+      forward_reach : (low : Option ℕ) (ts : Row) → AreBuilt ts → AllReach g low bytes off true (levels g below ts)
+      forward_reach low tree.none built = tt
+      forward_reach low (tree.more t ts) built = (forward_level low t built.0, forward_reach low ts built.1)
+
+      roam_ahead : (ts : Row) → AreBuilt ts → AllReach g None bytes off false (levels g below ts)
+      roam_ahead tree.none built = tt
+      roam_ahead (tree.more t ts) built =
+          (λ s on. forward_less g None 0 s.place (level g below t s) (omega arith) (forward_level None t built.0 s on), roam_ahead ts built.1)
+
+      roam_back : (ts : Row) → AreBuilt ts → AllReach g None bytes off false (levels_behind g below ts)
+      roam_back tree.none built = tt
+      roam_back (tree.more t ts) built = (roam_behind g bytes (branch_lengths g t) (level g below t) (forward_level None t built.0), roam_back ts built.1)
+
+  pub forward_run : (d : ℕ) (low : Option ℕ) (t : Nested) → IsBuilt t → IsForward g low (run g d t)
   unfolding run Forward
-  forward_run zero t built s on = tt
-  forward_run (suc d) t built s on = forward_level (run g d) (forward_run d) t built s on
+  forward_run zero low t built s on = tt
+  forward_run (suc d) low t built s on = forward_level (run g d) (forward_run d) low t built s on

@@ -1,5 +1,5 @@
 -- Streams that go forward: their states are reached at a place or past it, in the subject, and nothing is told beside them.
-use Rattle.std.proofs.Common.{◌≡◌, ◌∙◌, ℕ, ◌+◌, ◌≤◌, Bool, true, false, List, All, length, Some, None, arith}
+use Rattle.std.proofs.Common.{◌≡◌, ◌∙◌, ℕ, ◌+◌, ◌≤◌, Bool, true, false, List, All, length, Option, Some, None, arith}
 use Rattle.std.specs.Prelude.{nat_le}
 use Rattle.std.proofs.lemmas.List.{length-set}
 use Rattle.std.proofs.lemmas.List.Elements.{All-set}
@@ -10,11 +10,24 @@ use Rattle.ordered_search.specs.Setting.{Setting, held, hold, reach, reach_if}
 use Rattle.ordered_search.specs.Parts.{back_to}
 use Rattle.ordered_search.specs.Forward.{IsWithin}
 
-module _ (g : Setting) (low : ℕ) where
+-- The text of a match begins at `low` or past it, and not past the place. In a lookaround, which leaves it as it was, nothing is
+-- asked of it.
+abbrev pub IsKept : Option ℕ → ℕ → ℕ → Type 0
+IsKept None keep place = Unit {0}
+IsKept (Some low) keep place = (low ≤ keep) × (keep ≤ place)
+
+kept_on : (low : Option ℕ) (keep p q : ℕ) → p ≤ q → IsKept low keep p → IsKept low keep q
+kept_on None keep p q le h = tt
+kept_on (Some low) keep p q le h = let ordered : keep ≤ p = h.1 in (h.0, omega (arith, ordered, le))
+
+kept_here : (low : Option ℕ) (keep p : ℕ) → IsKept low keep p → IsKept low p p
+kept_here None keep p h = tt
+kept_here (Some low) keep p h = let begins : low ≤ keep = h.0 in let ordered : keep ≤ p = h.1 in (omega (arith, begins, ordered), omega arith)
+
+module _ (g : Setting) (low : Option ℕ) where
   -- a state on a path that began at `low`
   pub record IsOnWay (s : State) : Type 0 where
-    pub begins : low ≤ s.keep
-    pub ordered : s.keep ≤ s.place
+    pub kept : IsKept low s.keep s.place
     pub within : s.place ≤ length g.subject
     pub caps : All (IsWithin (length g.subject)) s.caps
     pub groups : length s.caps ≡ g.groups
@@ -109,24 +122,20 @@ module _ (g : Setting) (low : ℕ) where
   -- States that stay on the way.
 
   pub with_units : (s : State) (n : ℕ) → IsOnWay s → IsOnWay (record s { units = n })
-  with_units s n on = record { begins = on.begins; ordered = on.ordered; within = on.within; caps = on.caps; groups = on.groups; no_mark = on.no_mark }
+  with_units s n on = record { kept = on.kept; within = on.within; caps = on.caps; groups = on.groups; no_mark = on.no_mark }
 
   pub with_early : (s : State) (n : ℕ) → IsOnWay s → IsOnWay (record s { early = n })
-  with_early s n on = record { begins = on.begins; ordered = on.ordered; within = on.within; caps = on.caps; groups = on.groups; no_mark = on.no_mark }
+  with_early s n on = record { kept = on.kept; within = on.within; caps = on.caps; groups = on.groups; no_mark = on.no_mark }
 
   pub with_place : (s : State) (q : ℕ) → s.place ≤ q → q ≤ length g.subject → IsOnWay s → IsOnWay (record s { place = q })
-  with_place s q le in' on = let ordered = on.ordered in record { begins = on.begins; ordered = omega (arith, ordered, le); within = in'; caps = on.caps; groups = on.groups; no_mark = on.no_mark }
+  with_place s q le in' on = record { kept = kept_on low s.keep s.place q le on.kept; within = in'; caps = on.caps; groups = on.groups; no_mark = on.no_mark }
 
   pub with_keep : (s : State) → IsOnWay s → IsOnWay (record s { keep = s.place })
-  with_keep s on =
-      let begins = on.begins in
-      let ordered = on.ordered in
-      record { begins = omega (arith, begins, ordered); ordered = omega arith; within = on.within; caps = on.caps; groups = on.groups; no_mark = on.no_mark }
+  with_keep s on = record { kept = kept_here low s.keep s.place on.kept; within = on.within; caps = on.caps; groups = on.groups; no_mark = on.no_mark }
 
   pub with_capture : (s : State) (n p : ℕ) → p ≤ s.place → IsOnWay s → IsOnWay (captured n p s)
   with_capture s n p le on = record {
-    begins = on.begins;
-    ordered = on.ordered;
+    kept = on.kept;
     within = on.within;
     caps = All-set (IsWithin (length g.subject)) s.caps _ (Some (record { from = p; to = s.place })) (le, on.within) on.caps;
     groups = length-set s.caps _ _ ∙ on.groups;
@@ -134,11 +143,7 @@ module _ (g : Setting) (low : ℕ) where
   }
 
   pub with_passed : (s : State) (ps : List (ℕ × ℕ)) → IsOnWay s → IsOnWay (record s { passed = ps })
-  with_passed s ps on = record { begins = on.begins; ordered = on.ordered; within = on.within; caps = on.caps; groups = on.groups; no_mark = on.no_mark }
-
-  -- back from a lookaround, with the captures of its body
-  pub with_return : (s u : State) → IsOnWay s → IsOnWay u → IsOnWay (back_to s u)
-  with_return s u on on' = record { begins = on.begins; ordered = on.ordered; within = on.within; caps = on'.caps; groups = on'.groups; no_mark = on'.no_mark }
+  with_passed s ps on = record { kept = on.kept; within = on.within; caps = on.caps; groups = on.groups; no_mark = on.no_mark }
 
   -- Units and hits of the end.
 
@@ -159,3 +164,40 @@ module _ (g : Setting) (low : ℕ) where
   unfolding reach reach_if
   forward_reach_if off p true s x h = forward_off p g.matching.«partial» x _ _ off h
   forward_reach_if off p false s x h = h
+
+-- Lookarounds: what is inside goes its own way, and only its captures stay.
+module _ (g : Setting) (low : Option ℕ) where
+  pub loosened : (s : State) → IsOnWay g low s → IsOnWay g None s
+  loosened s on = record { kept = tt; within = on.within; caps = on.caps; groups = on.groups; no_mark = on.no_mark }
+
+  -- back from a lookaround, with the captures of its body
+  pub with_return : (s u : State) → IsOnWay g low s → IsOnWay g None u → IsOnWay g low (back_to s u)
+  with_return s u on on' = record { kept = on.kept; within = on.within; caps = on'.caps; groups = on'.groups; no_mark = on'.no_mark }
+
+  forward_ending : (p : ℕ) (e : Ending) → Forward g None 0 (ends e) → Forward g low p (ends e)
+  unfolding Forward
+  forward_ending p exhausted h = tt
+  forward_ending p (by_verb v) h = absurd h
+  forward_ending p (by_halt is_partial) h = absurd h
+  forward_ending p (by_halt too_many_units) h = tt
+  forward_ending p (by_halt loop) h = absurd h
+  forward_ending p (by_halt (abort n)) h = absurd h
+  forward_ending p (by_halt cut) h = tt
+
+  pub each_inside : (p : ℕ) (x : Stream) (f : How → Search) → Forward g None 0 x → ((s : State) → IsOnWay g None s → Forward g low p (f reached s)) → Forward g low p (each x f)
+  unfolding Forward each
+  each_inside p (ends e) f h k = forward_ending p e h
+  each_inside p (note m ▸ x) f h k = absurd h
+  each_inside p (state reached s ▸ x) f h k = forward_or_else g low p (f reached s) (each x f) (k s h.1) (each_inside p x f h.2 k)
+  each_inside p (state accepted s ▸ x) f h k = absurd h
+  each_inside p (step ▸ x) f h k = each_inside p x f h k
+
+  -- the first state decides
+  pub decide_inside : (p : ℕ) (fails : Ending → Bool) (x : Stream) (f : How → Search) (y : Stream) → Forward g None 0 x → Forward g low p y →
+      ((s : State) → IsOnWay g None s → Forward g low p (f reached s)) → Forward g low p (decide fails x f y)
+  unfolding Forward decide
+  decide_inside p fails (ends e) f y h k to = forward_if g low p (fails e) y (ends e) k (forward_ending p e h)
+  decide_inside p fails (note m ▸ x) f y h k to = absurd h
+  decide_inside p fails (state reached s ▸ x) f y h k to = to s h.1
+  decide_inside p fails (state accepted s ▸ x) f y h k to = absurd h
+  decide_inside p fails (step ▸ x) f y h k to = decide_inside p fails x f y h k to

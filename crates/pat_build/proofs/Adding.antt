@@ -8,6 +8,7 @@ use Rattle.pat_tree.specs.Parts.{DraftParts, with_node, with_class}
 use Rattle.pat_tree.specs.Nested.{Nested, one}
 use Rattle.pat_tree.specs.Refs.{refs_of, has_group, is_group}
 use Rattle.pat_tree.specs.Growing.{Makes, Replaces}
+use Rattle.pat_tree.specs.Rules.{kids_of}
 use Rattle.token_parts.specs.declared.token.Token.{Token}
 use Rattle.pat_build.specs.declared.machine.Atom.TheVariants.{Single, Whole}
 use Rattle.pat_build.specs.declared.machine.Machine.{Machine}
@@ -26,6 +27,7 @@ pub record OneMore (m : Machine) (draft : DraftParts) (p : Placed) (id : ℕ) (t
   pub no_group : (n : ℕ) → is_group n p.node ≡ false
   pub groups : (n : ℕ) → has_group draft.nodes n ≡ (has_group m.draft.nodes n || is_group n p.node)
   pub named : refs_of p ≡ places_named (reference_in p)
+  pub childless : kids_of p.node ≡ []
 
 state_more : (m : Machine) (draft : DraftParts) (p : Placed) → draft ≡ with_node m.draft p →
     state_of (record m { draft = draft }) ≡ record (state_of m) { references = references_of m.draft.nodes ++ reference_in p }
@@ -39,7 +41,7 @@ module _ (m : Machine) (means : Means m) where
       Took m (record m { draft = draft; waiting = Some (Whole id at); at = after })
   node_waits token after at id t draft p ready more many begins =
       let state = state_more m draft p more.is in
-      let extends = extends_node m.draft draft p id t means.refs_are more.is more.makes more.replaces more.no_group more.groups more.named in
+      let extends = extends_node m.draft draft p id t means.refs_are more.is more.makes more.replaces more.no_group more.groups more.named more.childless in
       atom_means m means token after after m.quoting (Whole id at) draft ready (omega arith) ready.there.within extends (more.makes.below, rw more.makes.is many)
       (λ n h. begins n h ∙ ap (λ st. Ok (atom t (record st { at = after }))) (sym state) ∙ ap (λ u. Ok (atom u (record (state_of (record m { draft = draft })) { at = after }))) (sym more.makes.is))
 
@@ -49,7 +51,7 @@ module _ (m : Machine) (means : Means m) where
       Took m (record m { draft = draft; level = record (m.level) { parts = parts }; at = after })
   node_stands token after id t draft p parts ready more pushed begins =
       let state = state_more m draft p more.is in
-      let extends = extends_node m.draft draft p id t means.refs_are more.is more.makes more.replaces more.no_group more.groups more.named in
+      let extends = extends_node m.draft draft p id t means.refs_are more.is more.makes more.replaces more.no_group more.groups more.named more.childless in
       bare_means m means token after id t draft parts ready extends more.makes pushed
       (λ n h. begins n h ∙ ap (λ st. Ok (bare t (record st { at = after }))) (sym state))
 

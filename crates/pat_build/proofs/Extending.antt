@@ -1,15 +1,29 @@
 -- A draft with one node more, which is no group and takes no other.
-use Rattle.std.proofs.Common.{◌≡◌, ℕ, ◌≤◌, ◌+◌, ◌||◌, false, List, [], ◌∷◌, ◌++◌, length, Option, None, refl, sym, ap, ◌∙◌, append-nil, arith, length-append}
+use Rattle.std.proofs.Common.{◌≡◌, ℕ, ◌≤◌, ◌+◌, ◌||◌, false, List, [], ◌∷◌, ◌++◌, length, Option, None, refl, sym, ap, ◌∙◌, append_assoc, append-nil, arith, length-append, subst}
 use Rattle.pat_tree.specs.declared.nodes.Placed.{Placed}
 use Rattle.pat_tree.specs.declared.nodes.ClassSpec.{ClassSpec}
 use Rattle.pat_tree.specs.Parts.{DraftParts, with_node, with_class}
 use Rattle.pat_tree.specs.Nested.{Nested}
 use Rattle.pat_tree.specs.Refs.{refs, refs_of, has_group, is_group}
-use Rattle.pat_tree.specs.Growing.{Grows, Makes, Replaces, loose}
+use Rattle.pat_tree.specs.Rules.{kids_of}
+use Rattle.pat_tree.specs.Growing.{EndsIn, Grows, Makes, Replaces, loose}
+use Rattle.pat_tree.specs.Closing.{TakeTheLast, StandInTurn}
 use Rattle.pat_tree.proofs.Growing.{grows_not, refs_push}
 use Rattle.pat_build.specs.Groups.{Form, grouped, number_of, noted, places_named}
 use Rattle.pat_build.specs.Machine.{Adds, Closes, references_of, reference_in, is_number}
 use Rattle.pat_build.proofs.States.{references_push, places_append, or_false}
+
+-- a node without children takes none
+pub none_taken : (ps : List Placed) → EndsIn ps []
+none_taken ps = record { front = loose ps; is = sym (append-nil (loose ps)) }
+
+-- a node that takes the last stands in turn
+turns_after : (before ps : List Placed) (p : Placed) → TakeTheLast before ps → EndsIn (before ++ ps) (kids_of p.node) → TakeTheLast before (ps ++ p ∷ [])
+turns_after before [] p h last = (subst (λ l. EndsIn l (kids_of p.node)) (append-nil before) last, tt)
+turns_after before (q ∷ ps) p h last = (h.0, turns_after (before ++ q ∷ []) ps p h.1 (subst (λ l. EndsIn l (kids_of p.node)) (sym (append_assoc before (q ∷ []) ps)) last))
+
+turns_with : (d new : DraftParts) (p : Placed) → new ≡ with_node d p → EndsIn d.nodes (kids_of p.node) → StandInTurn d.nodes → StandInTurn new.nodes
+turns_with d new p is last h = subst (λ v. StandInTurn v.nodes) (sym is) (turns_after [] d.nodes p h last)
 
 -- the draft has this loose node more, if any
 pub record Extends (old new : DraftParts) (tail : List ℕ) : Type 0 where
@@ -20,6 +34,7 @@ pub record Extends (old new : DraftParts) (tail : List ℕ) : Type 0 where
   pub classes : length new.classes ≤ length old.classes + 1
   pub refs_are : refs new.nodes ≡ places_named (references_of new.nodes)
   pub groups : (n : ℕ) → has_group new.nodes n ≡ has_group old.nodes n
+  pub turns : StandInTurn old.nodes → StandInTurn new.nodes
   pub loose_is : loose new.nodes ≡ loose old.nodes ++ tail
   pub count : length new.nodes ≤ length old.nodes + 1
 
@@ -32,6 +47,7 @@ extends_none d h = record {
   classes = omega arith;
   refs_are = h;
   groups = λ n. refl;
+  turns = λ h. h;
   loose_is = sym (append-nil (loose d.nodes));
   count = omega arith;
 }
@@ -45,14 +61,15 @@ extends_class d spec h = record {
   classes = omega (arith, length-append d.classes (spec ∷ []));
   refs_are = h;
   groups = λ n. refl;
+  turns = λ h. h;
   loose_is = sym (append-nil (loose d.nodes));
   count = omega arith;
 }
 
 pub extends_node : (d new : DraftParts) (p : Placed) (id : ℕ) (t : Nested) → refs d.nodes ≡ places_named (references_of d.nodes) →
     new ≡ with_node d p → Makes d.nodes new.nodes id t → Replaces d.nodes [] new.nodes id → ((n : ℕ) → is_group n p.node ≡ false) → ((n : ℕ) → has_group new.nodes n ≡ (has_group d.nodes n || is_group n p.node)) →
-    refs_of p ≡ places_named (reference_in p) → Extends d new (id ∷ [])
-extends_node d new p id t h is made replaces no_group groups named = record {
+    refs_of p ≡ places_named (reference_in p) → kids_of p.node ≡ [] → Extends d new (id ∷ [])
+extends_node d new p id t h is made replaces no_group groups named childless = record {
   grows = made.grows;
   options = ap (λ v. v.options) is;
   names = ap (λ v. v.names) is;
@@ -61,17 +78,19 @@ extends_node d new p id t h is made replaces no_group groups named = record {
   refs_are = ap (λ v. refs v.nodes) is ∙ refs_push d.nodes p ∙ ap (λ v. v ++ refs_of p) h ∙ ap (λ v. places_named (references_of d.nodes) ++ v) named
       ∙ sym (places_append (references_of d.nodes) (reference_in p)) ∙ ap places_named (sym (references_push d.nodes p)) ∙ ap (λ v. places_named (references_of v.nodes)) (sym is);
   groups = λ n. groups n ∙ ap (λ b. has_group d.nodes n || b) (no_group n) ∙ or_false (has_group d.nodes n);
+  turns = turns_with d new p is (rw childless (none_taken d.nodes));
   loose_is = replaces (loose d.nodes) (sym (append-nil (loose d.nodes)));
   count = omega (arith, ap (λ v. length v.nodes) is, length-append d.nodes (p ∷ []));
 }
 
 pub adds_none : (d : DraftParts) → Adds d d
-adds_none d = record { options = refl; classes = refl; names = refl; verb_names = refl; references = refl; refs_are = refl; groups = λ n. refl }
+adds_none d = record { options = refl; classes = refl; names = refl; verb_names = refl; references = refl; refs_are = refl; groups = λ n. refl; turns = λ h. h }
 
 -- a node that is no capturing group, reference and lookaround is added
 pub adds_node : (d new : DraftParts) (p : Placed) → new ≡ with_node d p → refs new.nodes ≡ refs d.nodes ++ refs_of p → refs_of p ≡ [] → reference_in p ≡ [] →
-    ((n : ℕ) → has_group new.nodes n ≡ (has_group d.nodes n || is_group n p.node)) → ((n : ℕ) → is_group n p.node ≡ false) → Adds d new
-adds_node d new p is refs_are none no_reference groups no_group = record {
+    ((n : ℕ) → has_group new.nodes n ≡ (has_group d.nodes n || is_group n p.node)) → ((n : ℕ) → is_group n p.node ≡ false) →
+    EndsIn d.nodes (kids_of p.node) → Adds d new
+adds_node d new p is refs_are none no_reference groups no_group last = record {
   options = ap (λ v. v.options) is;
   classes = ap (λ v. v.classes) is;
   names = ap (λ v. v.names) is;
@@ -79,12 +98,14 @@ adds_node d new p is refs_are none no_reference groups no_group = record {
   references = ap (λ v. references_of v.nodes) is ∙ references_push d.nodes p ∙ ap (λ v. references_of d.nodes ++ v) no_reference ∙ append-nil (references_of d.nodes);
   refs_are = refs_are ∙ ap (λ v. refs d.nodes ++ v) none ∙ append-nil (refs d.nodes);
   groups = λ n. groups n ∙ ap (λ b. has_group d.nodes n || b) (no_group n) ∙ or_false (has_group d.nodes n);
+  turns = turns_with d new p is last;
 }
 
 -- a group's node is added
 pub closes_node : (d new : DraftParts) (p : Placed) (form : Form) → new ≡ with_node d p → refs new.nodes ≡ refs d.nodes ++ refs_of p → refs_of p ≡ [] → reference_in p ≡ noted form p.at →
-    ((n : ℕ) → has_group new.nodes n ≡ (has_group d.nodes n || is_group n p.node)) → ((n : ℕ) → is_group n p.node ≡ is_number (number_of form) n) → Closes d new form p.at
-closes_node d new p form is refs_are none told groups numbered = record {
+    ((n : ℕ) → has_group new.nodes n ≡ (has_group d.nodes n || is_group n p.node)) → ((n : ℕ) → is_group n p.node ≡ is_number (number_of form) n) →
+    EndsIn d.nodes (kids_of p.node) → Closes d new form p.at
+closes_node d new p form is refs_are none told groups numbered last = record {
   options = ap (λ v. v.options) is;
   classes = ap (λ v. v.classes) is;
   names = ap (λ v. v.names) is;
@@ -92,6 +113,7 @@ closes_node d new p form is refs_are none told groups numbered = record {
   references = ap (λ v. references_of v.nodes) is ∙ references_push d.nodes p ∙ ap (λ v. references_of d.nodes ++ v) told;
   refs_are = refs_are ∙ ap (λ v. refs d.nodes ++ v) none ∙ append-nil (refs d.nodes);
   groups = λ n. groups n ∙ ap (λ b. has_group d.nodes n || b) (numbered n);
+  turns = turns_with d new p is last;
 }
 
 -- first some nodes, then others
@@ -104,6 +126,7 @@ adds_then s t = record {
   references = t.references ∙ s.references;
   refs_are = t.refs_are ∙ s.refs_are;
   groups = λ n. t.groups n ∙ s.groups n;
+  turns = λ h. t.turns (s.turns h);
 }
 
 -- the last alternative, then the group
@@ -116,6 +139,7 @@ closes_then {a} {b} {c} {form} {at} s t = record {
   references = t.references ∙ ap (λ v. v ++ noted form at) s.references;
   refs_are = t.refs_are ∙ s.refs_are;
   groups = λ n. t.groups n ∙ ap (λ x. x || is_number (number_of form) n) (s.groups n);
+  turns = λ h. t.turns (s.turns h);
 }
 
 -- a plain group adds nothing else
@@ -128,4 +152,5 @@ closes_plain {a} {b} {at} s = record {
   references = s.references ∙ append-nil (references_of a.nodes);
   refs_are = s.refs_are;
   groups = λ n. s.groups n ∙ or_false (has_group a.nodes n);
+  turns = s.turns;
 }

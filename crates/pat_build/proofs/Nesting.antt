@@ -174,6 +174,7 @@ module _ (m : Machine) (means : Means m) where
           named = named_kept m draft adds means.named;
           verb_names = adds.verb_names ∙ means.verb_names;
           refs_are = refs_kept m draft adds means.refs_are;
+          turns = adds.turns means.turns;
           loose_is = replaces (ids_held m.stack.items ++ m.level.branches) (loose_idle m means ready.idle ∙ to_parts (ids_held m.stack.items) m.level.branches m.level.parts) ∙ as_branch (ids_held m.stack.items) m.level.branches (id ∷ []) ∙ ap (λ l. ids_held m.stack.items ++ ((l ++ []) ++ [])) (sym more) ∙ ap (λ w. ids_held m.stack.items ++ ((branches ++ []) ++ ids_waiting w)) (sym ready.idle);
           numbers = numbers_kept m.draft draft m.stack.items m.groups adds means.numbers;
         };
@@ -227,6 +228,7 @@ module _ (m : Machine) (means : Means m) where
           named = named;
           verb_names = means.verb_names;
           refs_are = means.refs_are;
+          turns = means.turns;
           loose_is = loose_idle m means ready.idle ∙ ap (λ l. ids_held m.stack.items ++ l) (append-nil (ids_in m.level)) ∙ ap (λ l. ids_held m.stack.items ++ ids_in l) (sym outer) ∙ sym (held_push m.stack.items f) ∙ ap ids_held (sym pushed) ∙ sym (append-nil (ids_held stack.items)) ∙ ap (λ w. ids_held stack.items ++ ids_waiting w) (sym ready.idle);
           numbers = rw pushed (numbers_enter m.draft.nodes m.stack.items f m.groups groups numbered means.numbers);
         };
@@ -270,6 +272,7 @@ module _ (m : Machine) (means : Means m) where
             ∙ step_whole (known_of m) m.text.now (state_of m) End after token_is refl branches
             ∙ ap (λ t. let x : Reads Nested = Ok (t, state_of m) in x) (sym made.is)
             ∙ ap (λ st. let x : Reads Nested = Ok (tree_at (trees draft.nodes) id, st) in x) (sym (state_kept m draft adds));
+        turns = adds.turns means.turns;
         groups = λ n. sym (or_false (has_group draft.nodes n)) ∙ ap (λ l. has_group draft.nodes n || is_open l n) (sym none) ∙ numbers n;
         refs_are = refs_kept m draft adds means.refs_are;
         text = refl;
@@ -323,6 +326,7 @@ module _ (m : Machine) (means : Means m) where
           named = named_closed m draft closes means.named;
           verb_names = closes.verb_names ∙ means.verb_names;
           refs_are = refs_closed m draft closes means.refs_are;
+          turns = closes.turns means.turns;
           loose_is = replaces (ids_held m.stack.items) (loose_idle m means ready.idle ∙ ap (λ l. ids_held m.stack.items ++ l) (append-nil (ids_in m.level))) ∙ ap (λ l. l ++ id ∷ []) (ap ids_held popped ∙ held_push stack.items f) ∙ append_assoc (ids_held stack.items) (ids_in f.outer) (id ∷ [])
               ∙ ap (λ w. ids_held stack.items ++ (ids_in f.outer ++ w)) (sym (closed_ids (form_of f.form) id f.at));
           numbers = numbers_close m.draft.nodes draft.nodes m.stack.items stack.items f m.groups popped closes.groups means.numbers;

@@ -58,6 +58,7 @@ module _ (m : Machine) (means : Means m) where
           verb_names = extends.verb_names ∙ means.verb_names;
           named = record { known = means.named.known; is = extends.names ∙ means.named.is; few = means.named.few; count = means.named.count };
           refs_are = extends.refs_are;
+          turns = extends.turns means.turns;
           loose_is = extends.loose_is ∙ ap (λ l. l ++ ids_of a) (loose_idle m means ready.idle ∙ ap (λ l. ids_held m.stack.items ++ l) (append-nil (ids_in m.level))) ∙ append_assoc (ids_held m.stack.items) (ids_in m.level) (ids_of a);
           numbers = λ n. ap (λ b. b || is_open m.stack.items n) (extends.groups n) ∙ means.numbers n;
         };
@@ -98,6 +99,7 @@ module _ (m : Machine) (means : Means m) where
           verb_names = extends.verb_names ∙ means.verb_names;
           named = record { known = means.named.known; is = extends.names ∙ means.named.is; few = means.named.few; count = means.named.count };
           refs_are = extends.refs_are;
+          turns = extends.turns means.turns;
           loose_is = extends.loose_is ∙ ap (λ l. l ++ id ∷ []) (loose_idle m means ready.idle ∙ ap (λ l. ids_held m.stack.items ++ l) (append-nil (ids_in m.level)))
               ∙ as_part (ids_held m.stack.items) m.level.branches m.level.parts (id ∷ [])
               ∙ ap (λ l. ids_held m.stack.items ++ ((m.level.branches ++ l) ++ [])) (sym more) ∙ ap (λ w. ids_held m.stack.items ++ ((m.level.branches ++ parts) ++ ids_waiting w)) (sym ready.idle);
@@ -138,6 +140,7 @@ module _ (m : Machine) (means : Means m) where
           named = means.named;
           verb_names = means.verb_names;
           refs_are = means.refs_are;
+          turns = means.turns;
           loose_is = means.loose_is;
           numbers = means.numbers;
         };
@@ -193,6 +196,7 @@ module _ (m : Machine) (means : Means m) where
           named = means.named;
           verb_names = means.verb_names;
           refs_are = means.refs_are;
+          turns = means.turns;
           loose_is = means.loose_is;
           numbers = means.numbers;
         };
@@ -232,6 +236,7 @@ module _ (m : Machine) (means : Means m) where
           named = named_kept m draft adds means.named;
           verb_names = adds.verb_names ∙ means.verb_names;
           refs_are = refs_kept m draft adds means.refs_are;
+          turns = adds.turns means.turns;
           loose_is = replaces (ids_held m.stack.items ++ ids_in m.level) (loose_waiting m means a is) ∙ as_part (ids_held m.stack.items) m.level.branches m.level.parts (id ∷ []) ∙ ap (λ l. ids_held m.stack.items ++ ((m.level.branches ++ l) ++ [])) (sym more);
           numbers = numbers_kept m.draft draft m.stack.items m.groups adds means.numbers;
         };

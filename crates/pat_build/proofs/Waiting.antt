@@ -97,6 +97,7 @@ module _ (m : Machine) (means : Means m) where
         named = named_kept m draft adds means.named;
         verb_names = adds.verb_names ∙ means.verb_names;
         refs_are = refs_kept m draft adds means.refs_are;
+        turns = adds.turns means.turns;
         loose_is = replaces (ids_held m.stack.items ++ ids_in m.level) (loose_waiting a is) ∙ as_part (ids_held m.stack.items) m.level.branches m.level.parts (id ∷ []) ∙ ap (λ l. ids_held m.stack.items ++ ((m.level.branches ++ l) ++ [])) (sym more);
         numbers = numbers_kept m.draft draft m.stack.items m.groups adds means.numbers;
       }

@@ -8,9 +8,10 @@ use Rattle.pat_tree.specs.declared.names.NameEntry.{NameEntry}
 use Rattle.pat_tree.specs.Nested.{Nested, one, repeat, tree_at, trees}
 use Rattle.pat_tree.specs.Parts.{DraftParts, TreeParts}
 use Rattle.pat_tree.specs.Pattern.{pattern_of}
-use Rattle.pat_tree.specs.Refs.{refs, has_group}
+use Rattle.pat_tree.specs.Refs.{refs, has_group, named_in}
 use Rattle.pat_tree.specs.Rules.{class_in}
 use Rattle.pat_tree.specs.Growing.{Stand, loose}
+use Rattle.pat_tree.specs.Closing.{StandInTurn}
 use Rattle.token_parts.specs.declared.fault.Fault.{Fault}
 use Rattle.token_parts.specs.declared.token.Token.{Token}
 use Rattle.token_parts.specs.declared.token.Token.TheVariants.{End, Literal, Dot, NotNewline, LineBreak, Caret, Dollar, SubjectStart, SubjectEnd, EndOrNewline, StartGiven, Boundary}
@@ -34,11 +35,12 @@ use Rattle.pat_build.specs.Parts.{Beginning, once_more, repeat_of, beginning}
 use Rattle.pat_build.specs.Reading.{Parsed, reading, checked}
 use Rattle.pat_build.specs.Stack.{Layer, Opened, Waiting, resume}
 
--- the references and lookarounds among the nodes, in the order of adding
+-- the references, lookarounds and conditions among the nodes, in the order of adding
 abbrev pub reference_in : Placed → List Reference
 reference_in p = elim (p.node) [
   | node.Ref groups caseless ↦ record { at = p.at; groups = groups } ∷ []
   | node.Look ahead positive once branches ↦ record { at = p.at; groups = [] } ∷ []
+  | node.Cond test yes' no' ↦ record { at = p.at; groups = named_in test } ∷ []
   | _ ↦ []
 ]
 
@@ -68,6 +70,7 @@ pub record Adds (old new : DraftParts) : Type 0 where
   pub references : references_of new.nodes ≡ references_of old.nodes
   pub refs_are : refs new.nodes ≡ refs old.nodes
   pub groups : (n : ℕ) → has_group new.nodes n ≡ has_group old.nodes n
+  pub turns : StandInTurn old.nodes → StandInTurn new.nodes
 
 -- The draft has more nodes: a group that began at this place, and others that are no such node.
 pub record Closes (old new : DraftParts) (form : Form) (at : ℕ) : Type 0 where
@@ -78,6 +81,7 @@ pub record Closes (old new : DraftParts) (form : Form) (at : ℕ) : Type 0 where
   pub references : references_of new.nodes ≡ references_of old.nodes ++ noted form at
   pub refs_are : refs new.nodes ≡ refs old.nodes
   pub groups : (n : ℕ) → has_group new.nodes n ≡ (has_group old.nodes n || is_number (number_of form) n)
+  pub turns : StandInTurn old.nodes → StandInTurn new.nodes
 
 -- no one-item atom and no lookaround
 pub record IsMany (t : Nested) : Type 0 where
@@ -229,6 +233,7 @@ pub record Means (m : Machine) : Type 0 where
   pub verb_names : m.draft.verb_names ≡ []
   pub refs_are : refs m.draft.nodes ≡ places_named (references_of m.draft.nodes)
   pub loose_is : loose m.draft.nodes ≡ ids_held m.stack.items ++ (ids_in m.level ++ ids_waiting m.waiting)
+  pub turns : StandInTurn m.draft.nodes
   pub numbers : (n : ℕ) → (has_group m.draft.nodes n || is_open m.stack.items n) ≡ is_opened m.groups n
 
 -- the draft has room for the nodes of the tokens that are left
@@ -296,6 +301,7 @@ IsCharacter _ = ⊥
 pub record Ends (old new : Machine) (id : ℕ) : Type 0 where
   pub is : whole_of old ≡ Ok (tree_at (trees new.draft.nodes) id, state_of new)
   pub groups : (n : ℕ) → has_group new.draft.nodes n ≡ is_opened new.groups n
+  pub turns : StandInTurn new.draft.nodes
   pub refs_are : refs new.draft.nodes ≡ places_named (references_of new.draft.nodes)
   pub text : new.text.now ≡ old.text.now
   pub named : Named new.text.now new.names.items new.draft.names new.groups

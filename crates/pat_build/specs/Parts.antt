@@ -122,7 +122,7 @@ module _ (known : List NameEntry) (text : List ℕ) where
   beginning n st (token.Open opening.Capture) next = enters (if st.options.no_auto_capture then opened st (grouped None) next else captured st next)
   beginning n st (token.Open opening.Plain) next = enters (opened st (grouped None) next)
   beginning n st (token.Open opening.Atomic) next = enters (opened st atomically next)
-  beginning n st (token.Open (opening.Look true positive once)) next = enters (opened st (looks true positive once) next)
+  beginning n st (token.Open (opening.Look ahead positive once)) next = enters (opened st (looks ahead positive once) next)
   beginning n st (token.Open (opening.Named from to)) next = enters (named st (slice_range text from to) next)
   beginning n st (token.OptionSet reset on off true) next = enters (opened st (grouped None) (record next { options = with_setting reset on off st.options }))
   -- what is no part
@@ -133,5 +133,5 @@ module _ (known : List NameEntry) (text : List ℕ) where
   -- a quantifier without an atom, and a start item that isn't at the start
   beginning n st (token.Quantifier low high mode) next = fault 109 st.at
   beginning n st (token.Start item) next = fault 160 st.at
-  -- Left out: properties; lookbehinds, conditions and branch reset; calls and verbs; callouts.
+  -- Left out: properties; conditions and branch reset; calls and verbs; callouts.
   beginning n st _ next = fault 195 st.at

@@ -3,6 +3,7 @@ ghost use Rattle.std.specs.Prelude.{◌≡◌, ◌+◌, ◌<◌, ◌≤◌, [], 
 ghost use Rattle.pat_tree.specs.declared.nodes.Item.TheVariants.{Char};
 ghost use Rattle.pat_tree.specs.Nested.{one};
 ghost use Rattle.pat_tree.specs.Growing.{AllUnder, Makes, Replaces, Stand, loose};
+ghost use Rattle.pat_tree.specs.Closing.{StandInTurn};
 ghost use Rattle.pat_build.specs.Reading.{literally};
 ghost use Rattle.pat_build.specs.Machine.{Adds, parsed_of};
 
@@ -50,6 +51,7 @@ pub(crate) fn literally(alloc: Global, text: &[u8], options: Options) -> Result<
     requires { length text.now ≤ 65536 }
     ensures parsed { IfOk result (λ tree. parsed_of tree ≡ literally options text.now) }
     ensures under { IfOk result (λ tree. AllUnder tree.nodes tree.root) }
+    ensures turns { IfOk result (λ tree. StandInTurn tree.nodes) }
 {
     let mut draft = Draft::new(alloc, options);
     let parts = characters(alloc, &mut draft, text, options.caseless)?;

@@ -102,7 +102,7 @@ impl<'a> Machine<'a> {
         Ok(())
     }
 
-    /// A lookaround begins. Lookbehinds are left out.
+    /// A lookaround begins.
     fn look(
         &mut self,
         ahead: bool,
@@ -114,9 +114,6 @@ impl<'a> Machine<'a> {
         ensures ok { OnOk result (Took self.old self.new) }
         ensures bad { IfErr result (Refuses (whole_of self.old)) }
     {
-        if !ahead {
-            return Err(self.fault(195));
-        }
         let form = Form::Look {
             ahead,
             positive,

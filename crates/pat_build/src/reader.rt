@@ -2,6 +2,7 @@
 ghost use Rattle.std.specs.Prelude.{◌≡◌, ◌||◌, ℕ, ◌<◌, ◌≤◌, false, [], length, Ok, OnOk, IfOk, IfErr};
 ghost use Rattle.pat_tree.specs.Nested.{Nested};
 ghost use Rattle.pat_tree.specs.Growing.{AllUnder};
+ghost use Rattle.pat_tree.specs.Closing.{StandInTurn};
 ghost use Rattle.token_parts.specs.declared.token.Token.TheVariants.{End};
 ghost use Rattle.token_parts.specs.Tell.{IsWell, Moves};
 ghost use Rattle.pat_lex.specs.Tokens.{token_at};
@@ -157,6 +158,7 @@ fn tree_of(
     requires known { IsKnown text.now known.now }
     ensures ok { IfOk result (λ tree. tree_with (table_of text.now known.now) text.now (state_from start options) ≡ Ok (parsed_of tree)) }
     ensures under { IfOk result (λ tree. AllUnder tree.nodes tree.root) }
+    ensures turns { IfOk result (λ tree. StandInTurn tree.nodes) }
     ensures bad { IfErr result (Refuses (tree_with (table_of text.now known.now) text.now (state_from start options))) }
 {
     let mut machine = Machine::new(alloc, known, text, start, options);
@@ -181,7 +183,8 @@ fn is_left_out(options: &Options) -> bool
 
 /// Reads a pattern of at most 65,536 bytes (pcre2pattern): the tree has its nested value, its classes in the order of
 /// reading, its names in the order of the table, and the options with those that the start items set. Under LITERAL each
-/// byte is a character. Each node lies under the root. No call is nested deeper for a pattern that is: open groups stand in a vector, 250 at most.
+/// byte is a character. Each node lies under the root, and stands behind those under it. No call is nested deeper for a
+/// pattern that is: open groups stand in a vector, 250 at most.
 ///
 /// `Bad` has the number and the place of the fault that the definition tells: first 120 for a pattern that is longer and
 /// 195 for UTF, UCP and AUTO_CALLOUT, at 0; then the first fault from the left; last 115 at the leftmost reference to no
@@ -189,6 +192,7 @@ fn is_left_out(options: &Options) -> bool
 pub fn read(alloc: Global, text: &[u8], options: Options) -> Result<Tree, ReadError>
     ensures ok { IfOk result (λ tree. read options text.now ≡ Ok (parsed_of tree)) }
     ensures under { IfOk result (λ tree. AllUnder tree.nodes tree.root) }
+    ensures turns { IfOk result (λ tree. StandInTurn tree.nodes) }
     ensures bad { IfErr result (Refuses (read options text.now)) }
 {
     if text.len() > 65536 {

@@ -8,3 +8,4 @@ pub mod KeepLemmas
 pub mod RoundLemmas
 pub mod KidLemmas
 pub mod SpanLemmas
+pub mod Placing

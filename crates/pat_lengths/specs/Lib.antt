@@ -5,3 +5,4 @@ pub mod Passing
 pub mod Backs
 pub mod Spans
 pub mod Rounds
+pub mod Lookbehinds

@@ -19,6 +19,6 @@ pub use backs::{Backs, LengthFault, fault_in, greatest_in};
 pub use behind::branch_spans;
 pub use counts::{product, sum};
 pub use groups::{Groups, group_table};
-pub use laws::lengths_are_bounds;
+pub use laws::{first_refused_is_leftmost, lengths_are_bounds};
 pub use passing::passes_whole;
 pub use spans::Span;

@@ -1,4 +1,4 @@
--- The patterns that are told about and searched: without lookbehinds, conditions, calls, verbs and callouts.
+-- The patterns that are told about and searched: without conditions, calls, verbs and callouts.
 -- No class asks for a property of Unicode, and `\b` and `\B` go by the word characters of ASCII.
 use Rattle.std.specs.Prelude.{Bool, true, false, not, IsTrue, All}
 use Rattle.pat_tree.specs.declared.nodes.AnchorKind.{AnchorKind}
@@ -26,8 +26,7 @@ abbrev mutual
   IsBuilt (tree.repeat body low high lazily) = IsBuilt body
   IsBuilt (tree.one_repeat item low high lazily) = Unit {0}
   IsBuilt (tree.atomic ts) = AreBuilt ts
-  IsBuilt (tree.look true positive once ts) = AreBuilt ts
-  IsBuilt (tree.look false positive once ts) = ⊥
+  IsBuilt (tree.look ahead positive once ts) = AreBuilt ts
   IsBuilt (tree.condition test first second) = ⊥
   IsBuilt (tree.call n) = ⊥
   IsBuilt (tree.ref ns caseless) = Unit {0}

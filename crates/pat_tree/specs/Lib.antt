@@ -10,3 +10,4 @@ pub mod Growing
 pub mod Sound
 pub mod Pattern
 pub mod Rows
+pub mod Closing

@@ -1,4 +1,4 @@
 pub mod Admission
 pub mod Matching
 pub mod Naming
-pub mod Lookless
+pub mod Behind

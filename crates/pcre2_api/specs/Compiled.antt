@@ -2,11 +2,12 @@
 use Rattle.std.specs.Prelude.{◌≡◌, ℕ, false, max, if◌then◌else◌, List, Result, Ok, Err}
 use Rattle.pat_tree.specs.declared.options.Options.{Options}
 use Rattle.pat_tree.specs.Parts.{TreeParts, tree_of}
+use Rattle.pat_tree.specs.Pattern.{Pattern, pattern_of}
 use Rattle.pat_tree.specs.Sound.{greatest, group_numbers}
 use Rattle.token_parts.specs.declared.fault.Fault.{Fault}
 use Rattle.pat_build.specs.declared.error.ReadError.{ReadError}
 use Rattle.pat_build.specs.declared.error.ReadError.TheVariants as reading
-use Rattle.pat_build.specs.Reading.{Parsed, read}
+use Rattle.pat_build.specs.Reading.{read}
 use Rattle.pat_build.specs.Machine.{parsed_of}
 use Rattle.char_sets.specs.Table.{CharSet, IsTableOf}
 use Rattle.pat_check.specs.declared.facts.Facts.{Facts}
@@ -17,6 +18,7 @@ use Rattle.pat_lengths.specs.Backs.{greatest_back}
 use Rattle.pat_lengths.specs.Lengths.{can_be_empty}
 use Rattle.pat_lengths.specs.Nodes.{tests_before}
 use Rattle.frame_machine.specs.Ready.{AreFactsOf}
+use Rattle.pcre2_api.specs.Patterns.{compiled}
 use Rattle.pcre2_api.specs.declared.code.Info.{Info}
 use Rattle.pcre2_api.specs.declared.error.CompileError.{CompileError}
 use Rattle.pcre2_api.specs.declared.error.CompileError.TheVariants.{Bad, Memory}
@@ -35,14 +37,15 @@ pub record IsCode (code : CodeParts) : Type 0 where
   pub bytes : code.tree.options.utf ≡ false
   pub built : IsBuilt (tree_of code.tree)
 
--- what the text is read as is the code's tree
+-- what the text is read as is the code's tree, and no lookbehind of it is refused
 abbrev pub Compiles : Options → List ℕ → CodeParts → Type 0
-Compiles options text code = (code.text ≡ text) × (read options text ≡ Ok (parsed_of code.tree))
+Compiles options text code =
+    (code.text ≡ text) × (read options text ≡ Ok (parsed_of code.tree)) × (compiled options text ≡ Ok (pattern_of code.tree))
 
--- the first fault of the text; want of memory may come at any time
-abbrev pub IsCompileError : Result Parsed Fault → CompileError → Type 0
-IsCompileError reads (Bad number at) = reads ≡ Err (record { number = number; at = at })
-IsCompileError reads Memory = Unit {0}
+-- the fault for which a pattern is refused; want of memory may come at any time
+abbrev pub IsCompileError : Result Pattern Fault → CompileError → Type 0
+IsCompileError pattern (Bad number at) = pattern ≡ Err (record { number = number; at = at })
+IsCompileError pattern Memory = Unit {0}
 
 abbrev pub compile_error_of : ReadError → CompileError
 compile_error_of (reading.Bad number at) = Bad number at

@@ -2,9 +2,9 @@
 ghost use Rattle.std.specs.Prelude.{◌≡◌, ◌≤◌, ◌<◌, false, IfOk, IfErr, length, max, slice_get};
 ghost use Rattle.std.specs.Option.{option_copied};
 ghost use Rattle.pat_tree.specs.declared.options.PartialMode.TheVariants.{Off};
-ghost use Rattle.pat_build.specs.Reading.{read};
 ghost use Rattle.pcre_io.specs.declared.callouts.Block.{Block};
 ghost use Rattle.pcre2_api.specs.Compiled.{Compiles, IsCompileError, info_of};
+ghost use Rattle.pcre2_api.specs.Patterns.{compiled};
 ghost use Rattle.match_drive.specs.Answer.{IsMatchAnswer};
 ghost use Rattle.ordered_search.specs.Forward.{IsPlainFound};
 ghost use Rattle.ordered_search.specs.MatchAnswer.{match_answer};
@@ -18,6 +18,7 @@ use match_drive::{MatchAnswer, search};
 use match_items::View;
 use pat_build::{read, what_is_read_can_be_searched};
 use pat_check::{Facts, check};
+use pat_lengths::first_refused_is_leftmost;
 use pat_tree::{MatchOptions, NameTable, Options, Tree};
 use pcre_io::Callouts;
 use std::alloc::Global;
@@ -55,14 +56,16 @@ impl Model for Code {
 
 impl Code {
     /// Compiles a pattern (pcre2_compile). Refuses it with the first fault of pcre2pattern's rules, counted in bytes from
-    /// the pattern's start, or for want of memory.
+    /// the pattern's start, or for want of memory. The faults of lookbehinds, 125 and 187, come after all others.
     pub fn compile(alloc: Global, pattern: &[u8], options: Options) -> Result<Code, CompileError>
         ensures compiled { IfOk result (Compiles options pattern.now) }
-        ensures refused { IfErr result (IsCompileError (read options pattern.now)) }
+        ensures refused { IfErr result (IsCompileError (compiled options pattern.now)) }
     {
         let tree = read(alloc, pattern, options)?;
-        // so the tree has the forms of which a table and facts are made
+        // so the tree has the forms of which a table and facts are made, and its leftmost fault is that of the definition
         what_is_read_can_be_searched();
+        first_refused_is_leftmost();
+        tree.is_sound();
         let classes = ClassTable::build(alloc, &tree)?;
         let facts = check(alloc, &tree, &classes)?;
         let text = pattern.to_vec(alloc)?;

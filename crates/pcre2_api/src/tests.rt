@@ -351,7 +351,15 @@ fn matches_go_by_their_options(rt: HostRuntime) -> Result<(), Fail> {
 
 #[test]
 fn patterns_are_refused_at_their_faults(rt: HostRuntime) -> Result<(), Fail> {
-    static ROWS: [(&'static [u8], i32, usize); 9] = [
+    static ROWS: [(&'static [u8], i32, usize); 17] = [
+        (b"(?<=a+)b", 125, 0),
+        (b"(?<=ab|c*)d", 125, 0),
+        (b"a(?<!b|\\R)c", 125, 1),
+        (b"(?<=a)(?<!b+)c", 125, 6),
+        (b"(?<=(?<=a+)b)c", 125, 4),
+        (b"(?=(?<=a{2,3}))b", 125, 3),
+        (b"(?<=a{65535}b)c", 187, 0),
+        (b"(?<=a+)b(", 114, 9),
         (b"a(", 114, 2),
         (b"a{3,1}", 104, 1),
         (b"[z-a]", 108, 1),
@@ -392,6 +400,13 @@ fn groups_are_found_by_name(rt: HostRuntime) -> Result<(), Fail> {
         }
         Err(e) => return Err(Fail::from(e)),
     }
+    Ok(())
+}
+
+#[test]
+fn branches_of_a_lookbehind_may_differ(rt: HostRuntime) -> Result<(), Fail> {
+    let code = Code::compile(rt.alloc(), b"(?<=ab|c)d", Options::PLAIN)?;
+    assert_eq!(&rt; code.info().max_lookbehind, 2);
     Ok(())
 }
 

@@ -282,16 +282,12 @@ fn a_name_of_a_verb_has_255_bytes(rt: HostRuntime) -> Result<(), Fail> {
 
 #[test]
 fn what_is_not_built(rt: HostRuntime) {
-    static ROWS: [(&'static str, i32, usize); 12] = [
+    static ROWS: [(&'static str, i32, usize); 8] = [
         (r"\pL", 195, 0),
         (r"a\P{Greek}", 195, 1),
         (r"[a\p{Nd}]", 195, 2),
         ("(*UTF)a", 195, 0),
         ("(*CR)(*UCP)a", 195, 5),
-        ("(?<=a)", 195, 0),
-        ("(?<!a)b", 195, 0),
-        ("(*plb:a)", 195, 0),
-        ("(?<*a)", 195, 0),
         ("(a)(?(1)b)", 195, 3),
         ("(?(DEFINE)a)", 195, 0),
         ("a(?|b)", 195, 1),
@@ -368,7 +364,7 @@ fn the_first_fault(rt: HostRuntime) {
         ("(?<n>a)(?<n>", 143, 7),
         ("(?#", 118, 3),
         ("((?#a", 118, 5),
-        (r"a(?<=b)\1", 195, 1),
+        (r"a(?<=b)\1", 115, 7),
         (r"\2(a)(?|a)", 195, 5),
         (r"\y[z-a]", 103, 0),
     ];

@@ -1,4 +1,4 @@
-//! What searches find with groups that keep their first way and with lookaheads (pcre2pattern, "Atomic grouping and
+//! What searches find with groups that keep their first way and with lookarounds (pcre2pattern, "Atomic grouping and
 //! possessive quantifiers", "Assertions", "Non-atomic assertions"). The answers are those of the C library, 10.42.
 use super::searching::searched;
 use frame_machine::Scratch;
@@ -170,6 +170,41 @@ fn other_ways_of_a_lookahead_are_tried(rt: HostRuntime) -> Result<(), Fail> {
         ),
         (b"^(?*.*(\\w)).\\1", b"abcb", Some((0, 2)), Some((3, 4))),
         (b"^(?=.*(\\w)).\\1", b"abcb", Some((0, 2)), Some((3, 4))),
+    ];
+    cases(&rt, rt.alloc(), &ROWS)
+}
+
+#[test]
+fn lookbehinds_look_at_what_stands_before(rt: HostRuntime) -> Result<(), Fail> {
+    static ROWS: [Row; 28] = [
+        (b"(?<=a)b", b"ab", Some((1, 2)), None),
+        (b"(?<=a)b", b"cb", None, None),
+        (b"(?<=ab|c)d", b"cd", Some((1, 2)), None),
+        (b"(?<=ab|c)d", b"abd", Some((2, 3)), None),
+        (b"(?<=ab|c)d", b"bd", None, None),
+        (b"(?<!a)b", b"ab", None, None),
+        (b"(?<!a)b", b"abcb", Some((3, 4)), None),
+        (b"(?<=a{3})b", b"aab", None, None),
+        (b"(?<=a{3})b", b"aaab", Some((3, 4)), None),
+        (b"(?<=(a|b))c", b"bc", Some((1, 2)), Some((0, 1))),
+        (b"(?<!(a))b", b"cb", Some((1, 2)), None),
+        (b"(?<=^a)b", b"ab", Some((1, 2)), None),
+        (b"(?<=^a)b", b"cab", None, None),
+        (b"(?<=\\ba)b", b"-ab", Some((2, 3)), None),
+        (b"a(?<=ab)", b"ab", None, None),
+        (b"(?<=)a", b"a", Some((0, 1)), None),
+        (b"(?<!)a", b"a", None, None),
+        (b"(?<=(?<=a)b)c", b"abc", Some((2, 3)), None),
+        (b"(?<=(?=ab)a)b", b"ab", Some((1, 2)), None),
+        (b"(?<=(?<!a)b)c", b"abc", None, None),
+        (b"(?<*a|ba)c", b"bac", Some((2, 3)), None),
+        (b"(*plb:a)b", b"ab", Some((1, 2)), None),
+        (b"(*negative_lookbehind:a)b", b"ab", None, None),
+        (b"(?<=a)*b", b"ab", Some((1, 2)), None),
+        (b"(?<=a)+b", b"cb", None, None),
+        (b"x*(?<=xx)y", b"xxxy", Some((0, 4)), None),
+        (b"(?<=\\d{2})(\\w)", b"a12b", Some((3, 4)), Some((3, 4))),
+        (b"(?<=(a)\\1)b", b"aab", Some((2, 3)), Some((0, 1))),
     ];
     cases(&rt, rt.alloc(), &ROWS)
 }

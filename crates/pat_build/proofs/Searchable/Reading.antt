@@ -58,8 +58,7 @@ repeat_built low high lazily (tree.group number ts) h = h
 repeat_built low high lazily (tree.repeat t least most mode) h = h
 repeat_built low high lazily (tree.one_repeat i least most mode) h = h
 repeat_built low high lazily (tree.atomic ts) h = h
-repeat_built low high lazily (tree.look true positive once ts) h = h
-repeat_built low high lazily (tree.look false positive once ts) h = absurd h
+repeat_built low high lazily (tree.look ahead positive once ts) h = h
 repeat_built low high lazily (tree.ref ns caseless) h = h
 repeat_built low high lazily (tree.anchor kind) h = h
 repeat_built low high lazily tree.keep_out h = h
@@ -75,18 +74,16 @@ record IsWithout (options : Options) : Type 0 where
   pub utf : options.utf ≡ false
   pub ucp : options.ucp ≡ false
 
--- no lookbehind
+-- what is built
 abbrev IsBuiltForm : Form → Type 0
 IsBuiltForm (grouped number) = Unit {0}
 IsBuiltForm atomically = Unit {0}
-IsBuiltForm (looks true positive once) = Unit {0}
-IsBuiltForm (looks false positive once) = ⊥
+IsBuiltForm (looks ahead positive once) = Unit {0}
 
 form_built : (form : Form) (ts : List Nested) → IsBuiltForm form → AllBuilt ts → IsBuilt (built form ts)
 form_built (grouped number) ts f h = row_built ts h
 form_built atomically ts f h = row_built ts h
-form_built (looks true positive once) ts f h = row_built ts h
-form_built (looks false positive once) ts f h = absurd f
+form_built (looks ahead positive once) ts f h = row_built ts h
 
 -- a group, whose end puts the options around it back
 abbrev IsOpening : Opening → Type 0
@@ -174,7 +171,7 @@ module _ (known : List NameEntry) (text : List ℕ) where
       enters_begins _ (holds_if GroupKeeps _ _ _ (opened_keeps st h (grouped None) after tt k) (captured_keeps st h after k))
   begins n st (token.Open opening.Plain) after h plain k = enters_begins _ (opened_keeps st h (grouped None) after tt k)
   begins n st (token.Open opening.Atomic) after h plain k = enters_begins _ (opened_keeps st h atomically after tt k)
-  begins n st (token.Open (opening.Look true positive once)) after h plain k = enters_begins _ (opened_keeps st h (looks true positive once) after tt k)
+  begins n st (token.Open (opening.Look ahead positive once)) after h plain k = enters_begins _ (opened_keeps st h (looks ahead positive once) after tt k)
   begins n st (token.Open (opening.Named from to)) after h plain k = enters_begins _ (named_keeps st h (slice_range text from to) after k)
   begins n st (token.OptionSet reset on off true) after h plain k =
       enters_begins _ (opened_keeps st h (grouped None) (record after { options = with_setting reset on off st.options }) tt

@@ -46,6 +46,10 @@ pub returns-clause-under : goal.returns-clause-under
 returns-clause-under c =
     rw c.in-Ok.ensures.0 ((rw c.new-branches.ensures at c.in_ok-root.ensures.loose) [] c.in_ok-parts.ensures.loose)
 
+pub returns-clause-turns : goal.returns-clause-turns
+returns-clause-turns c =
+    rw c.in-Ok.ensures.0 (c.in_ok-root.ensures.closes.turns (c.in_ok-parts.ensures.adds.turns (rw c.new-draft.ensures tt)))
+
 pub returns-clause-parsed : goal.returns-clause-parsed
 unfolding literally references_of
 returns-clause-parsed c =

@@ -18,7 +18,7 @@ add-requires-clause-fresh c = fresh_at_end c.requires.loose
 pub returns-in_ok-id-in-Group-clause-closes : goal.returns-in_ok-id-in-Group-clause-closes
 returns-in_ok-id-in-Group-clause-closes c =
     let e = c.in_ok-id-in-Group.ensures in
-    rw c.in-Group.is (closes_node c.args.draft.now c.add.new.self _ (grouped c.in-Group.number) e.grows e.refs refl refl e.groups (λ n. one_number c.in-Group.number n))
+    rw c.in-Group.is (closes_node c.args.draft.now c.add.new.self _ (grouped c.in-Group.number) e.grows e.refs refl refl e.groups (λ n. one_number c.in-Group.number n) c.requires.loose)
 
 pub add-requires-in-Atomic-clause-fresh : goal.add-requires-in-Atomic-clause-fresh
 add-requires-in-Atomic-clause-fresh c = fresh_at_end c.requires.loose
@@ -26,7 +26,7 @@ add-requires-in-Atomic-clause-fresh c = fresh_at_end c.requires.loose
 pub returns-in_ok-id-in-Atomic-clause-closes : goal.returns-in_ok-id-in-Atomic-clause-closes
 returns-in_ok-id-in-Atomic-clause-closes c =
     let e = c.in_ok-id-in-Atomic.ensures in
-    rw c.in-Atomic.is (closes_node c.args.draft.now c.add-in-Atomic.new.self _ atomically e.grows e.refs refl refl e.groups (λ n. refl))
+    rw c.in-Atomic.is (closes_node c.args.draft.now c.add-in-Atomic.new.self _ atomically e.grows e.refs refl refl e.groups (λ n. refl) c.requires.loose)
 
 pub add-requires-in-Look-clause-fresh : goal.add-requires-in-Look-clause-fresh
 add-requires-in-Look-clause-fresh c = fresh_at_end c.requires.loose
@@ -34,4 +34,4 @@ add-requires-in-Look-clause-fresh c = fresh_at_end c.requires.loose
 pub returns-in_ok-id-in-Look-clause-closes : goal.returns-in_ok-id-in-Look-clause-closes
 returns-in_ok-id-in-Look-clause-closes c =
     let e = c.in_ok-id-in-Look.ensures in
-    rw c.in-Look.is (closes_node c.args.draft.now c.add-in-Look.new.self _ (looks c.in-Look.ahead c.in-Look.positive c.in-Look.atomic) e.grows e.refs refl refl e.groups (λ n. refl))
+    rw c.in-Look.is (closes_node c.args.draft.now c.add-in-Look.new.self _ (looks c.in-Look.ahead c.in-Look.positive c.in-Look.atomic) e.grows e.refs refl refl e.groups (λ n. refl) c.requires.loose)

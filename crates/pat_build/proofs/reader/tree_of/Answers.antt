@@ -52,6 +52,11 @@ returns-in-Ok-clause-under c =
     let finished = rw c.replace-draft.ensures.value at c.in-Ok.ensures in
     rw finished.0 c.in_ok-root.ensures.under
 
+pub returns-in-Ok-clause-turns : goal.returns-in-Ok-clause-turns
+returns-in-Ok-clause-turns c =
+    let finished = rw c.replace-draft.ensures.value at c.in-Ok.ensures in
+    rw finished.0 c.in_ok-root.ensures.ok.turns
+
 pub returns-clause-bad : goal.returns-clause-bad
 returns-clause-bad c =
     let m = c.end.new.self in

@@ -28,6 +28,7 @@ returns-clause-ok c =
     (rw c.replace-level.ensures.value at c.in_ok-id.ensures.made) (closes_plain c.in_ok-id.ensures.closes) in record {
       is = sym f.same.whole ∙ ends.is;
       groups = ends.groups;
+      turns = ends.turns;
       refs_are = ends.refs_are;
       text = ends.text ∙ f.same.text;
       named = ends.named;

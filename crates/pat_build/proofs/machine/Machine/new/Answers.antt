@@ -35,6 +35,7 @@ returns-clause-means c =
       named = rw c.new-3.ensures.items (record { known = record { inside = All-nil (Stands c.args.text.now); rising = tt }; is = refl; few = All-nil (λ (name : Name). name.group ≤ 0); count = omega arith });
       verb_names = refl;
       refs_are = refl;
+      turns = tt;
       loose_is = rw c.new-5.ensures.items refl;
       numbers = rw c.new-5.ensures.items (λ n. none_opened n);
     })

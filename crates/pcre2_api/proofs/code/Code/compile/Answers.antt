@@ -1,10 +1,10 @@
 use Rattle.std.proofs.Common.{◌≡◌, ◌∙◌, Err, IfErr, subst, sym, ap, rules}
-use Rattle.pat_tree.specs.Parts.{tree_of}
-use Rattle.pat_build.specs.Reading.{read}
-use Rattle.pat_check.specs.declared.facts.CheckError.TheVariants.{Memory}
+use Rattle.pat_tree.specs.Pattern.{pattern_of}
 use Rattle.pat_build.specs.Machine.{parsed_of}
-use Rattle.pcre2_api.specs.Compiled.{IsCompileError, check_error_of}
-use Rattle.pcre2_api.proofs.Lookless.{no_lookbehind}
+use Rattle.pat_lengths.specs.Backs.{first_fault}
+use Rattle.pcre2_api.specs.Compiled.{IsCompileError, check_error_of, compile_error_of}
+use Rattle.pcre2_api.specs.Patterns.{compiled, unless_refused}
+use Rattle.pcre2_api.proofs.Behind.{compiled_is, check_refused, read_refused}
 use Rattle.pcre2_api.proofs.code.Code.compile.Goals as goal
 
 pub invariant_of-result : goal.invariant_of-result
@@ -30,11 +30,24 @@ invariant_of-result c =
       built = kept.built;
     }
 
--- what is read holds no lookbehind, so only memory can lack
+pub returns-clause-compiled : goal.returns-clause-compiled
+returns-clause-compiled c =
+    let t = c.in_ok-tree.tree in
+    let is = compiled_is c.first_refused_is_leftmost.ensures c.args.options c.args.pattern.now t c.is_sound.ensures c.in_ok-tree.ensures.turns c.in_ok-tree.ensures.under c.in_ok-tree.ensures.ok in
+    (c.in_ok-text.ensures, c.in_ok-tree.ensures.ok, is ∙ ap (unless_refused (pattern_of t)) c.in_ok-facts.ensures.fixed)
+
 pub returns-in_err-facts-clause-refused : goal.returns-in_err-facts-clause-refused
 returns-in_err-facts-clause-refused c =
-    let kept = c.what_is_read_can_be_searched.ensures c.args.options c.args.pattern.now (parsed_of c.in_ok-tree.tree) c.in_ok-tree.ensures.ok in
+    let t = c.in_ok-tree.tree in
     let e = c.in_err-facts.field-0.0 in
-    let memory : e ≡ Memory = c.in_err-facts.ensures.without (no_lookbehind (tree_of c.in_ok-tree.tree) kept.built) in
+    let is = compiled_is c.first_refused_is_leftmost.ensures c.args.options c.args.pattern.now t c.is_sound.ensures c.in_ok-tree.ensures.turns c.in_ok-tree.ensures.under c.in_ok-tree.ensures.ok in
     let same : c.from_residual-in_err-facts.result ≡ Err (check_error_of e) = search rules in
-    subst (λ r. IfErr r (IsCompileError (read c.args.options c.args.pattern.now))) (sym (same ∙ ap (λ x. Err (check_error_of x)) memory)) tt
+    subst (λ r. IfErr r (IsCompileError (compiled c.args.options c.args.pattern.now))) (sym same)
+    (check_refused (compiled c.args.options c.args.pattern.now) (pattern_of t) (first_fault t) e c.in_err-facts.ensures.refused is)
+
+pub returns-in_err-tree-clause-refused : goal.returns-in_err-tree-clause-refused
+returns-in_err-tree-clause-refused c =
+    let e = c.in_err-tree.field-0.0 in
+    let same : c.from_residual.result ≡ Err (compile_error_of e) = search rules in
+    subst (λ r. IfErr r (IsCompileError (compiled c.args.options c.args.pattern.now))) (sym same)
+    (read_refused c.args.options c.args.pattern.now e c.in_err-tree.ensures.bad)
