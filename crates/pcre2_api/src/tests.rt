@@ -349,17 +349,23 @@ fn matches_go_by_their_options(rt: HostRuntime) -> Result<(), Fail> {
     Ok(())
 }
 
+/// A pattern, the number of its fault, and the fault's place.
+type Refusal = (&'static [u8], i32, usize);
+
+fn refused(rt: &impl Abort, alloc: Global, rows: &[Refusal]) -> Result<(), Fail> {
+    for row in rows {
+        let (pattern, number, at) = *row;
+        match Code::compile(alloc, pattern, Options::PLAIN) {
+            Ok(_) => panic!(rt; "accepted"),
+            Err(e) => assert_eq!(rt; e, CompileError::Bad { number, at }),
+        }
+    }
+    Ok(())
+}
+
 #[test]
 fn patterns_are_refused_at_their_faults(rt: HostRuntime) -> Result<(), Fail> {
-    static ROWS: [(&'static [u8], i32, usize); 17] = [
-        (b"(?<=a+)b", 125, 0),
-        (b"(?<=ab|c*)d", 125, 0),
-        (b"a(?<!b|\\R)c", 125, 1),
-        (b"(?<=a)(?<!b+)c", 125, 6),
-        (b"(?<=(?<=a+)b)c", 125, 4),
-        (b"(?=(?<=a{2,3}))b", 125, 3),
-        (b"(?<=a{65535}b)c", 187, 0),
-        (b"(?<=a+)b(", 114, 9),
+    static ROWS: [Refusal; 9] = [
         (b"a(", 114, 2),
         (b"a{3,1}", 104, 1),
         (b"[z-a]", 108, 1),
@@ -370,14 +376,46 @@ fn patterns_are_refused_at_their_faults(rt: HostRuntime) -> Result<(), Fail> {
         (b"a)", 122, 1),
         (b"[a", 106, 2),
     ];
-    for row in &ROWS {
-        let (pattern, number, at) = *row;
-        match Code::compile(rt.alloc(), pattern, Options::PLAIN) {
-            Ok(_) => panic!(&rt; "accepted"),
-            Err(e) => assert_eq!(&rt; e, CompileError::Bad { number, at }),
-        }
-    }
-    Ok(())
+    refused(&rt, rt.alloc(), &ROWS)
+}
+
+// The answers of the C library, 10.42.
+#[test]
+fn lookbehinds_are_refused_at_their_parentheses(rt: HostRuntime) -> Result<(), Fail> {
+    static ROWS: [Refusal; 19] = [
+        (b"(?<=a+)b", 125, 0),
+        (b"(?<=ab|c*)d", 125, 0),
+        (b"(?<=a|b{2}|c?)d", 125, 0),
+        (b"(?<*a|b+)c", 125, 0),
+        (b"(?<=\\R)a", 125, 0),
+        (b"a(?<!b|\\R)c", 125, 1),
+        (b"(?<=(a|bc))d", 125, 0),
+        (b"(?<=(?>a|bc))d", 125, 0),
+        (b"(a+)(?<=\\1)b", 125, 4),
+        (b"(?<=a)(?<!b+)c", 125, 6),
+        (b"(?<=(?<=a+)b)c", 125, 4),
+        (b"(?<=(?<!a+)b)c", 125, 4),
+        (b"(?=(?<=a{2,3}))b", 125, 3),
+        (b"(?<=a{65535}b)c", 187, 0),
+        (b"(?<=a{65535}b|c+)d", 187, 0),
+        (b"(?<=a{65535}|b+)c", 125, 0),
+        (b"(?<=a+)b(", 114, 9),
+        (b"(?<=(a*))b[z-a]", 108, 13),
+        (b"(?<=", 114, 4),
+    ];
+    refused(&rt, rt.alloc(), &ROWS)
+}
+
+// The C library tells the place past a word, the inner of two lookbehinds, and the lookbehind before the reference.
+#[test]
+fn the_leftmost_lookbehind_is_told_last(rt: HostRuntime) -> Result<(), Fail> {
+    static ROWS: [Refusal; 4] = [
+        (b"a(*nlb:b?)c", 125, 1),
+        (b"(?<=(?<=b{1,2})a+)c", 125, 0),
+        (b"(?<=(?<!b*)a|c+)d", 125, 0),
+        (b"(?<=(a*))b\\2", 115, 10),
+    ];
+    refused(&rt, rt.alloc(), &ROWS)
 }
 
 #[test]

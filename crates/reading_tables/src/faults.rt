@@ -327,14 +327,16 @@ fn what_is_not_built_or_left_out(rt: HostRuntime) {
 }
 
 #[test]
-fn faults_of_lookaheads_and_possessive_quantifiers(rt: HostRuntime) {
-    static ROWS: [(&'static str, i32, usize); 14] = [
+fn faults_of_lookarounds_and_possessive_quantifiers(rt: HostRuntime) {
+    static ROWS: [(&'static str, i32, usize); 16] = [
         (r"(?=a\K)", 199, 4),
         (r"a(?!(b|\K))", 199, 7),
         (r"(?=(?=a)\K)", 199, 8),
         (r"(*napla:\Ka)", 199, 8),
         (r"(?>(?*a(?i:\K)))", 199, 11),
         (r"(?=a)\K(?!\K)", 199, 10),
+        (r"(?<=a\Kb)c", 199, 5),
+        (r"(*nlb:\K)b", 199, 6),
         ("a+++", 109, 3),
         ("(?=a)*?+", 109, 7),
         ("++", 109, 0),

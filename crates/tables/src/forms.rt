@@ -208,3 +208,40 @@ fn lookbehinds_look_at_what_stands_before(rt: HostRuntime) -> Result<(), Fail> {
     ];
     cases(&rt, rt.alloc(), &ROWS)
 }
+
+#[test]
+fn lookbehinds_stand_in_other_parts(rt: HostRuntime) -> Result<(), Fail> {
+    static ROWS: [Row; 25] = [
+        (b"(?=x(?<=ax))x", b"ax", Some((1, 2)), None),
+        (b"(?=x(?<=ax))x", b"bx", None, None),
+        (b"a(?!(?<=a)b)(.)", b"abac", Some((2, 4)), Some((3, 4))),
+        (b"(?<=(?>a|b)b)c", b"abc", Some((2, 3)), None),
+        (b"(?<=(?>a|b)b)c", b"bc", None, None),
+        (b"(?<=(?=(b))b)c", b"bc", Some((1, 2)), Some((0, 1))),
+        (b"((?<=a)|b)c", b"bac", Some((2, 3)), Some((2, 2))),
+        (b"(?:(?<=a)b|(?<=b)c)+", b"abcb", Some((1, 3)), None),
+        (b"(?<=\\Gab)c", b"abc", Some((2, 3)), None),
+        (b"a\\K(?<=a)b", b"ab", Some((1, 2)), None),
+        (b"(?<=a|bc|def)x", b"bcx", Some((2, 3)), None),
+        (b"(?<=a|bc|def)x", b"defx", Some((3, 4)), None),
+        (b"(?<=a|bc|def)x", b"efx", None, None),
+        (b"(?<!a|bc)(x)", b"axbcxcx", Some((6, 7)), Some((6, 7))),
+        (b"(a)(?<!ba)b", b"bab", None, None),
+        (b"(a)(?<!ba)b", b"cab", Some((1, 3)), Some((1, 2))),
+        (b"(\\w)(?<!\\1\\1)c", b"aac", None, None),
+        (b"(\\w)(?<!\\1\\1)c", b"bac", Some((1, 3)), Some((1, 2))),
+        (b"(?<=(.)\\1)c", b"abbc", Some((3, 4)), Some((1, 2))),
+        (b"(*nlb:a)(b)", b"cb", Some((1, 2)), Some((1, 2))),
+        (b"(*naplb:a|(b))c", b"bc", Some((1, 2)), Some((0, 1))),
+        (
+            b"(*napla:.*(?<=(b)).)a",
+            b"aabxa",
+            Some((0, 1)),
+            Some((2, 3)),
+        ),
+        (b"(?*a+?)aa(?<*a{2})b", b"aab", Some((0, 3)), None),
+        (b"(?<*(a)b|a(b))(?<=\\2)c", b"abc", Some((2, 3)), None),
+        (b"(?<=(a)b|a(b))(?<=\\2)c", b"abc", None, None),
+    ];
+    cases(&rt, rt.alloc(), &ROWS)
+}

@@ -332,6 +332,40 @@ fn limits_on_units_are_exact(rt: HostRuntime) -> Result<(), Fail> {
     cases(&rt, rt.alloc(), &ROWS)
 }
 
+// Each branch of a lookbehind is a Step, and to enter it, to leave it where it is true and to keep a branch are units.
+#[test]
+fn limits_of_a_lookbehind_are_exact(rt: HostRuntime) -> Result<(), Fail> {
+    static ROWS: [Row; 6] = [
+        (b"(?<=a|b)c", b"bc", found!(1, 2), &[Limited(2, 2)]),
+        (
+            b"(?<=a|b)c",
+            b"bc",
+            MatchAnswer::MatchLimit,
+            &[Limited(1, 99)],
+        ),
+        (
+            b"(?<=a|b)c",
+            b"bc",
+            MatchAnswer::FrameLimit,
+            &[Limited(99, 1)],
+        ),
+        (b"(?<!a|b)c", b"dc", found!(1, 2), &[Limited(2, 2)]),
+        (
+            b"(?<!a|b)c",
+            b"dc",
+            MatchAnswer::MatchLimit,
+            &[Limited(1, 99)],
+        ),
+        (
+            b"(?<!a|b)c",
+            b"dc",
+            MatchAnswer::FrameLimit,
+            &[Limited(99, 1)],
+        ),
+    ];
+    cases(&rt, rt.alloc(), &ROWS)
+}
+
 // The answers of this table and the next ones are those of the C library, 10.42.
 #[test]
 fn a_search_goes_from_its_start(rt: HostRuntime) -> Result<(), Fail> {
