@@ -246,3 +246,19 @@ fn atomic_groups_and_lookaheads(rt: HostRuntime) -> Result<(), Fail> {
     ];
     are_read(&rt, rt.alloc(), &ROWS)
 }
+
+#[test]
+fn lookbehinds_are_lookarounds(rt: HostRuntime) -> Result<(), Fail> {
+    static ROWS: [(&'static str, &'static str); 9] = [
+        ("(?<=a|bc)d", "(<(<=a|<b c>) d>)"),
+        ("(?<!a)", "((<!a))"),
+        ("(?<*a)(*naplb:b)", "(<(<*a) (<*b)>)"),
+        ("(*plb:)(*nlb:(a))", "(<(<=-) (<!(1:a))>)"),
+        ("(?<=(?<!a)b)", "((<=<(<!a) b>))"),
+        ("(?<=a+)*", "((<=a{1,})*{0,1})"),
+        ("(?=(?<=a))", "((=(<=a)))"),
+        ("(?<=(?i)a)b", "(<(<=~a) b>)"),
+        ("(?<=a)*+", "((>(<=a)*{0,1}))"),
+    ];
+    are_read(&rt, rt.alloc(), &ROWS)
+}
