@@ -34,7 +34,7 @@ pub returns-clause-compiled : goal.returns-clause-compiled
 returns-clause-compiled c =
     let t = c.in_ok-tree.tree in
     let is = compiled_is c.first_refused_is_leftmost.ensures c.args.options c.args.pattern.now t c.is_sound.ensures c.in_ok-tree.ensures.turns c.in_ok-tree.ensures.under c.in_ok-tree.ensures.ok in
-    (c.in_ok-text.ensures, c.in_ok-tree.ensures.ok, is ∙ ap (unless_refused (pattern_of t)) c.in_ok-facts.ensures.fixed)
+    (c.in_ok-text.ensures.items_if_clones_equal (λ x y same. same), c.in_ok-tree.ensures.ok, is ∙ ap (unless_refused (pattern_of t)) c.in_ok-facts.ensures.fixed)
 
 pub returns-in_err-facts-clause-refused : goal.returns-in_err-facts-clause-refused
 returns-in_err-facts-clause-refused c =
