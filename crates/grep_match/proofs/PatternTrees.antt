@@ -2,7 +2,6 @@
 use Rattle.std.proofs.Common.{◌≡◌, ℕ, ◌+◌, List, [], ◌∷◌, ◌++◌, length, Result, Ok, Err, refl, sym, ap, ◌∙◌, arith, append-nil, append_assoc, length-append}
 use Rattle.std.proofs.lemmas.List.{map-append, length-map}
 use Rattle.pat_tree.specs.declared.options.Options.{Options}
-use Rattle.pat_tree.specs.Parts.{TreeParts}
 use Rattle.token_parts.specs.declared.fault.Fault.{Fault}
 use Rattle.pcre2_api.specs.Compiled.{CodeParts, Compiles}
 use Rattle.grep_match.specs.declared.patterns.PatternError.{PatternError}

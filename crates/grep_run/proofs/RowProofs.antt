@@ -78,6 +78,8 @@ rows_hold = record {
   twenty_errors = refl;
   too_many_errors = refl;
   refused = refl;
+  looked_behind = refl;
+  refused_behind = refl;
   too_long = refl;
   finished_tree = λ t matching subject start. refl;
 }
