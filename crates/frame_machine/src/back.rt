@@ -37,7 +37,7 @@ fn pop(store: &mut Store, registers: &mut Registers) -> Option<Record>
 }
 
 /// What a repeat of one item takes at a place.
-fn take_further<S: Searchable>(on: &S, part: u32, at: u64) -> Option<u64>
+pub(crate) fn take_further<S: Searchable>(on: &S, part: u32, at: u64) -> Option<u64>
     requires inside { IsPart (S.searched on.now) part }
     requires many { IsMany (S.searched on.now) (tree_of (S.searched on.now) part) }
     requires place { (S.searched on.now).stands at ≡ true }
@@ -89,13 +89,11 @@ pub(crate) fn back<S: Searchable>(
     }
     if newest.kind == KIND_FEWER_ITEMS {
         spot.restore(&newest);
-        let last = on.before(newest.to);
-        return Ok(Next::Fewer(newest.node, newest.from, last));
+        return Ok(Next::Fewer(newest.node, newest.from, on.before(newest.to)));
     }
     if newest.kind == KIND_MORE_ITEMS {
         spot.restore(&newest);
-        let further = take_further(on, newest.node, newest.to);
-        return Ok(more_or_back(&newest, further));
+        return Ok(more_or_back(&newest, take_further(on, newest.node, newest.to)));
     }
     if newest.kind == KIND_ATOMIC_LEFT {
         store.undo_to(newest.from as usize, registers);
