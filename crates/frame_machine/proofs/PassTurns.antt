@@ -1,12 +1,15 @@
 -- Runs of one item, and branches, that are refused at once: the turns that try one, fail and go back to the next.
-use Rattle.std.proofs.Common.{◌≡◌, ℕ, suc, ◌+◌, ◌-◌, ◌<◌, ◌≤◌, ◌∙◌, Bool, true, false, List, ◌∷◌, All, Option, Some, None, length, reverse, slice_get, refl, sym, ap, subst, arith}
+use Rattle.std.proofs.Common.{◌≡◌, ℕ, suc, ◌+◌, ◌-◌, ◌<◌, ◌≤◌, ◌∙◌, Bool, false, List, [], ◌∷◌, All, MatchOption, Option, Some, None, is_some, length, reverse, slice_get, slice_index_or, refl, sym, ap, subst, arith}
+use Rattle.std.proofs.lemmas.Bool.{false≢true}
+use Rattle.std.proofs.lemmas.List.Elements.{All-head}
 use Rattle.std.proofs.lemmas.List.{length-reverse, set-set, set-get_or}
 use Rattle.std.proofs.lemmas.Option.{slice_get_within}
 use Rattle.pat_tree.specs.Nested as tree
 use Rattle.pat_tree.specs.declared.nodes.Item.{Item}
 use Rattle.pat_tree.specs.declared.nodes.Node.{Node}
 use Rattle.pat_tree.specs.declared.nodes.Node.TheVariants as node
-use Rattle.pat_tree.specs.Rules.{classes_of}
+use Rattle.pat_tree.specs.Rules.{classes_of, kids_of}
+use Rattle.node_flow.specs.Followers.{first_of}
 use Rattle.match_items.specs.Items.{after_item, is_none_left, place_before}
 use Rattle.frame_store.specs.declared.records.Record.{Record}
 use Rattle.frame_store.specs.declared.kinds.TheConstants.{KIND_GROUP_OPEN, KIND_FEWER_ITEMS, KIND_MORE_ITEMS}
@@ -17,11 +20,12 @@ use Rattle.frame_store.specs.Undo.{taken_back}
 use Rattle.frame_store.proofs.StackLemmas.{slice_get-reverse-below}
 use Rattle.frame_machine.specs.declared.machine.Next.TheVariants.{Enter, Branch, Fewer, More, End, Back}
 use Rattle.frame_machine.specs.declared.machine.Spot.{Spot}
-use Rattle.frame_machine.specs.Ground.{Ground, tree_of, next_of, IsNode, IsGround}
+use Rattle.frame_machine.specs.Ground.{Ground, tree_of, next_of, IsNode, IsGround, IsPart}
 use Rattle.frame_machine.specs.Machine.{Conf, less, kept_at, conf, towards}
 use Rattle.frame_machine.specs.Validity.{IsValid, Advances}
 use Rattle.frame_machine.specs.Stops.{moved_next, moved_spot, record_at, restored, IsMost, IsFurther}
 use Rattle.frame_machine.specs.Passing.{HasNumber, BeginsWith, FailsAt, IsFollower, FallsBack, Reaches}
+use Rattle.frame_machine.proofs.KidParts.{kid_parts, next_part}
 use Rattle.frame_machine.proofs.MostOf.{most}
 use Rattle.frame_machine.proofs.Turns.{turn_one, turn_seq}
 use Rattle.frame_machine.proofs.EndTurns.{turn_open}
@@ -31,6 +35,12 @@ use Rattle.frame_machine.proofs.BackTurns.{back_branch, back_fewer, back_further
 use Rattle.frame_machine.proofs.BranchTurns.{turn_next_branch}
 use Rattle.frame_machine.specs.Begun.{is_behind, begun_place, begun_next, begun_spot}
 use Rattle.frame_machine.specs.Branches.{AreBranches}
+
+some_none : (p : ℕ) → Some p ≡ None → ⊥
+some_none p e = cc
+
+some_same : (p x : ℕ) → Some p ≡ Some x → p ≡ x
+some_same p x e = cc
 
 module _ (c : Ground) where
   pub stays : (m : Conf) → IsValid c m → Reaches c m m
@@ -45,7 +55,15 @@ module _ (c : Ground) where
   both : (m p n : Conf) → Advances c m p → Advances c p n → Advances c m n
   both m p n a b = record { answer = a.answer ∙ b.answer; shorter = omega (arith, a.shorter, b.shorter); valid = b.valid }
 
+pub takes_none : (o : Option ℕ) → is_some o ≡ false → o ≡ None
+takes_none None e = refl
+takes_none (Some p) e = absurd (false≢true (sym e))
+
 module _ (c : Ground) (ok : IsGround c) where
+  pub next_inside : (q p : ℕ) → IsPart c q → (ps : List ℕ) → c.rest q ≡ ps → Some p ≡ first_of ps → IsPart c p
+  next_inside q p inside [] e is = absurd (some_none p is)
+  next_inside q p inside (x ∷ xs) e is = subst (IsPart c) (sym (some_same p x is)) (next_part c ok q x xs inside e)
+
   -- an item that a part needs
   pub begins_one : (p : ℕ) (n : Node) → IsNode c p n → (item : Item) → n ≡ node.One item → BeginsWith c p item
   begins_one p n i item e = record {
@@ -150,6 +168,17 @@ module _ (c : Ground) (ok : IsGround c) where
         let into = turn_seq c ok p spot stack caps v n i k ks e in
         both c _ _ _ into (b.fails spot stack caps into.valid none);
   }
+
+  -- the first part of a sequence
+  pub first_kid : (q : ℕ) (n : Node) → IsPart c q → IsNode c q n → (ks : List ℕ) → n ≡ node.Seq ks → (xs : List ℕ) → xs ≡ ks → 1 ≤ length xs → IsPart c (slice_index_or xs 0 0)
+  first_kid q n inside i ks e [] same some = absurd (omega (arith, some))
+  first_kid q n inside i ks e (x ∷ xs) same some = All-head (IsPart c) x xs (subst (All (IsPart c)) (ap kids_of e ∙ sym same) (kid_parts c q n inside i))
+
+  pub leads : (q : ℕ) (n : Node) → IsNode c q n → (ks : List ℕ) → n ≡ node.Seq ks → (xs : List ℕ) → xs ≡ ks → 1 ≤ length xs → (r : Option Item) →
+      MatchOption r (Unit {0}) (λ item. BeginsWith c (slice_index_or xs 0 0) item) → MatchOption r (Unit {0}) (λ item. BeginsWith c q item)
+  leads q n i ks e [] same some r b = absurd (omega (arith, some))
+  leads q n i ks e (x ∷ xs) same some None b = tt
+  leads q n i ks e (x ∷ xs) same some (Some item) b = begins_seq q n i x xs (e ∙ ap node.Seq (sym same)) item b
 
   pub branch_refused : (q j : ℕ) (spot : Spot) (stack : List Entry) (caps : Captures) → IsValid c (conf (Branch q j) spot stack caps) → (ks : List ℕ) → AreBranches c q ks → (p : ℕ) → slice_get ks j ≡ Some p →
       is_behind (tree_of c q) ≡ false → FailsAt c p spot.place → (j' : ℕ) → j' ≡ suc j → suc j < length ks → 0 < spot.left → spot.units < c.setting.matching.frame_limit →

@@ -2,7 +2,7 @@
 //!
 //! By the definition each is a Step, and holds units on the way to that item. Where there is room for these, nothing but
 //! the Step is left of it.
-ghost use Rattle.std.specs.Prelude.{◌≡◌, ◌<◌, ◌+◌, true, Unit, IsTrue, MatchOption};
+ghost use Rattle.std.specs.Prelude.{◌≡◌, ◌<◌, ◌+◌, true, IsTrue, MatchOption};
 ghost use Rattle.frame_store.specs.Entry.{entries};
 ghost use Rattle.frame_machine.specs.Ground.{next_of, IsPart};
 ghost use Rattle.frame_machine.specs.Machine.{conf, towards};

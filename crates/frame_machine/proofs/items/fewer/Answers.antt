@@ -5,7 +5,7 @@ use Rattle.frame_machine.specs.Stops.{IsStop}
 use Rattle.frame_machine.proofs.items.fewer.Goals as goal
 
 pub hand_on-requires : goal.hand_on-requires
-hand_on-requires g c = c.pass_fewer-last.ensures.valid
+hand_on-requires g c = record { valid = c.pass_fewer-last.ensures.valid }
 
 pub returns-clause-on : goal.returns-clause-on
 returns-clause-on g c =

@@ -5,7 +5,7 @@ use Rattle.frame_machine.specs.Stops.{IsStop}
 use Rattle.frame_machine.proofs.items.more.Goals as goal
 
 pub wait_for_more-requires : goal.wait_for_more-requires
-wait_for_more-requires g c = c.pass_more-run.ensures.valid
+wait_for_more-requires g c = record { valid = c.pass_more-run.ensures.valid }
 
 pub returns-clause-on : goal.returns-clause-on
 returns-clause-on g c =

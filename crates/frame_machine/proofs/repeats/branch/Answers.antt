@@ -5,7 +5,7 @@ use Rattle.frame_machine.specs.Stops.{IsStop}
 use Rattle.frame_machine.proofs.repeats.branch.Goals as goal
 
 pub try_branch-requires : goal.try_branch-requires
-try_branch-requires g c = c.pass_branches-index.ensures.valid
+try_branch-requires g c = record { valid = c.pass_branches-index.ensures.valid }
 
 pub returns-clause-on : goal.returns-clause-on
 returns-clause-on g c =
