@@ -1,5 +1,6 @@
 //! Back to the newest record.
 ghost use Rattle.std.specs.Prelude.{◌≡◌, ◌≤◌, ◌<◌, ◌+◌, max, All, IfOk, IfErr, MatchOption, Some, true, [], ◌∷◌};
+ghost use Rattle.match_items.specs.Items.{place_before};
 ghost use Rattle.frame_store.specs.Entry.{entries, entry_of};
 ghost use Rattle.frame_store.specs.Undo.{taken_back, HasSlot};
 ghost use Rattle.frame_machine.specs.Ground.{tree_of, IsPart};
@@ -49,6 +50,15 @@ pub(crate) fn take_further<S: Searchable>(on: &S, part: u32, at: u64) -> Option<
     }
 }
 
+/// Where a greedy repeat of one item leads that gives a character back.
+fn fewer_before<S: Searchable>(on: &S, kept: &Record) -> Next
+    requires { (S.searched on.now).stands kept.now.to ≡ true }
+    ensures { result ≡ Next.Fewer kept.now.node kept.now.from (place_before (S.searched on.now).setting.scene kept.now.to) }
+{
+    let last = on.before(kept.to);
+    Next::Fewer(kept.node, kept.from, last)
+}
+
 /// Where a lazy repeat of one item leads that takes a further item, if it does.
 fn more_or_back(kept: &Record, further: Option<u64>) -> Next
     requires { kept.now.count < 4294967295 }
@@ -89,7 +99,7 @@ pub(crate) fn back<S: Searchable>(
     }
     if newest.kind == KIND_FEWER_ITEMS {
         spot.restore(&newest);
-        return Ok(Next::Fewer(newest.node, newest.from, on.before(newest.to)));
+        return Ok(fewer_before(on, &newest));
     }
     if newest.kind == KIND_MORE_ITEMS {
         spot.restore(&newest);

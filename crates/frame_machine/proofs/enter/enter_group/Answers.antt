@@ -5,8 +5,8 @@ use Rattle.frame_machine.proofs.HeldStops.{held_stop}
 use Rattle.frame_machine.proofs.Turns.{turn_group_of, turn_capture_of, stop_capture_of}
 use Rattle.frame_machine.proofs.enter.enter_group.Goals as goal
 
-pub returns-in_default-number-clause-on : goal.returns-in_default-number-clause-on
-returns-in_default-number-clause-on g c = rw c.first_branch.ensures (turn_group_of (g.S.Searchable.searched c.args.on.now) (g.met.S.Searchable.sound c.args.on.now) c.args.at c.args.spot.now (entries c.args.store.now.records) c.args.registers.now c.requires.valid _ c.requires.node _ _ refl c.in_default-number.not-Some)
+pub returns-in_default-clause-on : goal.returns-in_default-clause-on
+returns-in_default-clause-on g c = rw c.first_branch.ensures (turn_group_of (g.S.Searchable.searched c.args.on.now) (g.met.S.Searchable.sound c.args.on.now) c.args.at c.args.spot.now (entries c.args.store.now.records) c.args.registers.now c.requires.valid _ c.requires.node _ _ refl c.in_default.not-Some)
 
 pub returns-clause-on : goal.returns-clause-on
 unfolding entry_in
