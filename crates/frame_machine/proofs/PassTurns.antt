@@ -13,7 +13,6 @@ use Rattle.node_flow.specs.Followers.{first_of}
 use Rattle.match_items.specs.Items.{after_item, is_none_left, place_before}
 use Rattle.frame_store.specs.declared.records.Record.{Record}
 use Rattle.frame_store.specs.declared.kinds.TheConstants.{KIND_GROUP_OPEN, KIND_FEWER_ITEMS, KIND_MORE_ITEMS}
-use Rattle.frame_store.specs.declared.registers.Span.{Span}
 use Rattle.frame_store.specs.Captures.{Captures, capture, with_capture}
 use Rattle.frame_store.specs.Entry.{Entry, Site, Undo, LaterBranch, entry_in, entries}
 use Rattle.frame_store.specs.Undo.{taken_back}

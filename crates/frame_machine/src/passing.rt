@@ -44,7 +44,13 @@ fn is_capture<S: Searchable>(on: &S, part: u32) -> bool
     requires { IsPart (S.searched on.now) part }
     ensures { IsTrue result → HasNumber (S.searched on.now) part }
 {
-    matches!(on.node(part), Node::Group { number: Some(_), .. })
+    matches!(
+        on.node(part),
+        Node::Group {
+            number: Some(_),
+            ..
+        }
+    )
 }
 
 /// What follows the capturing group whose frame is the innermost.

@@ -1,11 +1,8 @@
-use Rattle.std.proofs.Common.{arith, sym, refl, subst}
-use Rattle.frame_store.specs.Entry.{entry_in, entries}
-use Rattle.frame_machine.proofs.HeldStops.{held_stop}
+use Rattle.std.proofs.Common.{sym, refl, subst}
+use Rattle.frame_store.specs.Entry.{entries}
 use Rattle.frame_machine.proofs.Advance.{advance_same}
 use Rattle.frame_machine.proofs.MostOf.{ok_more}
-use Rattle.frame_machine.proofs.Turns.{turn_empty, turn_keep, turn_one, turn_break, turn_ref, turn_anchor, turn_parts, turn_group_of, turn_capture_of, stop_capture_of, ahead_repeat, stray_node}
-use Rattle.std.proofs.lemmas.List.{length-map}
-use Rattle.frame_store.specs.Entry.{entry_of}
+use Rattle.frame_machine.proofs.Turns.{turn_empty, turn_keep, turn_one, turn_break, turn_ref, turn_anchor, turn_parts, ahead_repeat, stray_node}
 use Rattle.frame_machine.specs.Forms.{IsRunnable}
 use Rattle.frame_machine.proofs.ItemTurns.{turn_many}
 use Rattle.frame_machine.specs.Ground.{IsNode}
