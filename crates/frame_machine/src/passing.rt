@@ -1,7 +1,8 @@
-//! Runs of one item, and branches, that are refused at once: the item that has to come next takes nothing there.
+//! Runs of one item, and branches, that are refused at once: the item that has to come next takes
+//! nothing there.
 //!
-//! By the definition each is a Step, and holds units on the way to that item. Where there is room for these, nothing but
-//! the Step is left of it.
+//! By the definition each is a Step, and holds units on the way to that item. Where there is room
+//! for these, nothing but the Step is left of it.
 ghost use Rattle.std.specs.Prelude.{◌≡◌, ◌<◌, ◌+◌, true, IsTrue, MatchOption};
 ghost use Rattle.frame_store.specs.Entry.{entries};
 ghost use Rattle.frame_machine.specs.Ground.{next_of, IsPart};
@@ -60,8 +61,11 @@ fn after_group<S: Searchable>(
     store: &Store,
     registers: &Registers,
 ) -> Option<Follower>
-    requires valid { IsValid (S.searched on.now) (conf Next.End spot.now (entries store.now.records) registers.now) }
-    ensures { MatchOption result (Unit {0}) (λ f. IsFollower (S.searched on.now) Next.End spot.now.frame store.now.records registers.now f.item f.units) }
+    requires valid { IsValid (S.searched on.now)
+        (conf Next.End spot.now (entries store.now.records) registers.now) }
+    ensures { MatchOption result (Unit {0})
+        (λ f. IsFollower (S.searched on.now) Next.End spot.now.frame store.now.records registers.now
+        f.item f.units) }
 {
     if spot.frame == 0 {
         return None;
@@ -91,8 +95,11 @@ fn after_part<S: Searchable>(
     registers: &Registers,
 ) -> Option<Follower>
     requires inside { IsPart (S.searched on.now) at }
-    requires valid { IsValid (S.searched on.now) (conf Next.End spot.now (entries store.now.records) registers.now) }
-    ensures { MatchOption result (Unit {0}) (λ f. IsFollower (S.searched on.now) (towards (next_of (S.searched on.now) at)) spot.now.frame store.now.records registers.now f.item f.units) }
+    requires valid { IsValid (S.searched on.now)
+        (conf Next.End spot.now (entries store.now.records) registers.now) }
+    ensures { MatchOption result (Unit {0})
+        (λ f. IsFollower (S.searched on.now) (towards (next_of (S.searched on.now) at))
+        spot.now.frame store.now.records registers.now f.item f.units) }
 {
     let Some(next) = on.next(at) else {
         return after_group(on, spot, store, registers);
@@ -103,15 +110,16 @@ fn after_part<S: Searchable>(
     Some(Follower { item, units: 0 })
 }
 
-/// Whether the units are there that are held on the way to a follower, and that of a record before it.
+/// Whether the units are there that are held on the way to a follower, and that of a record before
+/// it.
 fn has_room(limit: u32, spot: &Spot, follower: &Follower) -> bool
     ensures { IsTrue result → spot.now.units + follower.now.units < limit }
 {
     spot.units.saturating_add(follower.units) < limit
 }
 
-/// Passes over the runs of a greedy repeat that are refused at once, a Step for each, and gives the end of the first that
-/// isn't, or of the shortest.
+/// Passes over the runs of a greedy repeat that are refused at once, a Step for each, and gives the
+/// end of the first that isn't, or of the shortest.
 pub(crate) fn pass_fewer<S: Searchable>(
     on: &S,
     at: u32,
@@ -121,8 +129,11 @@ pub(crate) fn pass_fewer<S: Searchable>(
     store: &Store,
     registers: &Registers,
 ) -> u64
-    requires valid { IsValid (S.searched on.now) (conf (Next.Fewer at least last) spot.old (entries store.now.records) registers.now) }
-    ensures { Reaches (S.searched on.now) (conf (Next.Fewer at least last) spot.old (entries store.now.records) registers.now) (conf (Next.Fewer at least result) spot.new (entries store.now.records) registers.now) }
+    requires valid { IsValid (S.searched on.now)
+        (conf (Next.Fewer at least last) spot.old (entries store.now.records) registers.now) }
+    ensures { Reaches (S.searched on.now)
+        (conf (Next.Fewer at least last) spot.old (entries store.now.records) registers.now)
+        (conf (Next.Fewer at least result) spot.new (entries store.now.records) registers.now) }
 {
     let Some(follower) = after_part(on, at, spot, store, registers) else {
         return last;
@@ -138,8 +149,8 @@ pub(crate) fn pass_fewer<S: Searchable>(
     to
 }
 
-/// Passes over the runs of a lazy repeat that are refused at once, a Step for each, and gives the first that isn't, or the
-/// longest.
+/// Passes over the runs of a lazy repeat that are refused at once, a Step for each, and gives the
+/// first that isn't, or the longest.
 pub(crate) fn pass_more<S: Searchable>(
     on: &S,
     at: u32,
@@ -149,8 +160,12 @@ pub(crate) fn pass_more<S: Searchable>(
     store: &Store,
     registers: &Registers,
 ) -> Run
-    requires valid { IsValid (S.searched on.now) (conf (Next.More at count last) spot.old (entries store.now.records) registers.now) }
-    ensures { Reaches (S.searched on.now) (conf (Next.More at count last) spot.old (entries store.now.records) registers.now) (conf (Next.More at result.count result.to) spot.new (entries store.now.records) registers.now) }
+    requires valid { IsValid (S.searched on.now)
+        (conf (Next.More at count last) spot.old (entries store.now.records) registers.now) }
+    ensures { Reaches (S.searched on.now)
+        (conf (Next.More at count last) spot.old (entries store.now.records) registers.now)
+        (conf (Next.More at result.count result.to) spot.new (entries store.now.records)
+        registers.now) }
 {
     let mut run = Run { count, to: last };
     let Some(follower) = after_part(on, at, spot, store, registers) else {
@@ -202,8 +217,8 @@ fn is_refused<S: Searchable>(on: &S, branch: u32, place: u64) -> bool
     on.take(&item, place).is_none()
 }
 
-/// Passes over the branches of a part that fail at once, a Step for each, and gives the first that isn't known to, or the
-/// last.
+/// Passes over the branches of a part that fail at once, a Step for each, and gives the first that
+/// isn't known to, or the last.
 pub(crate) fn pass_branches<S: Searchable>(
     on: &S,
     at: u32,
@@ -212,8 +227,11 @@ pub(crate) fn pass_branches<S: Searchable>(
     store: &Store,
     registers: &Registers,
 ) -> u32
-    requires valid { IsValid (S.searched on.now) (conf (Next.Branch at index) spot.old (entries store.now.records) registers.now) }
-    ensures { Reaches (S.searched on.now) (conf (Next.Branch at index) spot.old (entries store.now.records) registers.now) (conf (Next.Branch at result) spot.new (entries store.now.records) registers.now) }
+    requires valid { IsValid (S.searched on.now)
+        (conf (Next.Branch at index) spot.old (entries store.now.records) registers.now) }
+    ensures { Reaches (S.searched on.now)
+        (conf (Next.Branch at index) spot.old (entries store.now.records) registers.now)
+        (conf (Next.Branch at result) spot.new (entries store.now.records) registers.now) }
 {
     if is_behind(on, at) || spot.units >= on.unit_limit() {
         return index;
