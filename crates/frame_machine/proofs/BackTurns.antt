@@ -39,7 +39,7 @@ use Rattle.frame_machine.specs.Conditions.{IsChoice}
 use Rattle.frame_machine.specs.declared.machine.Next.{Next}
 
 module _ (c : Ground) (ok : IsGround c) (spot : Spot) (stack : List Entry) (caps : Captures) where
-  back_branch : (site : Site) (kept : Kept) (next : ℕ) → IsValid c (conf Back spot (LaterBranch site kept next ∷ stack) caps) →
+  pub back_branch : (site : Site) (kept : Kept) (next : ℕ) → IsValid c (conf Back spot (LaterBranch site kept next ∷ stack) caps) →
       Advances c (conf Back spot (LaterBranch site kept next ∷ stack) caps) (conf (Branch site.node next) (restored spot site kept) stack caps)
   unfolding fail
   back_branch site kept next v = advance_pause c _ _ _ refl refl refl (record { running = v.records.0; records = v.records.1; spans = v.spans; slots = v.slots })
@@ -54,7 +54,7 @@ module _ (c : Ground) (ok : IsGround c) (spot : Spot) (stack : List Entry) (caps
   unfolding fail
   back_later site kept count v = advance_pause c _ _ _ refl refl refl (record { running = v.records.0; records = v.records.1; spans = v.spans; slots = v.slots })
 
-  back_fewer : (site : Site) (kept : Kept) (from to : ℕ) → IsValid c (conf Back spot (FewerItems site kept from to ∷ stack) caps) →
+  pub back_fewer : (site : Site) (kept : Kept) (from to : ℕ) → IsValid c (conf Back spot (FewerItems site kept from to ∷ stack) caps) →
       Advances c (conf Back spot (FewerItems site kept from to ∷ stack) caps) (conf (Fewer site.node from (place_before c.setting.scene to)) (restored spot site kept) stack caps)
   unfolding fail
   back_fewer site kept from to v =
@@ -82,7 +82,7 @@ module _ (c : Ground) (ok : IsGround c) (spot : Spot) (stack : List Entry) (caps
         (further_is
         ∙ ap (λ l. pause (lazy_paths c.setting item (one_less (less count high)) l (state_at (around c stack site.link) kept caps) (past c (around c stack site.link).depth (outside c stack caps site.link) site.node) (fail c stack caps))) (longest_none c ok item (less count high) to e))
 
-    back_further_some : (p j : ℕ) → j ≡ suc count → after_item c.setting.scene item to ≡ Some p →
+    pub back_further_some : (p j : ℕ) → j ≡ suc count → after_item c.setting.scene item to ≡ Some p →
         Advances c (conf Back spot (MoreItems site kept count to ∷ stack) caps) (conf (More site.node j p) (restored spot site kept) stack caps)
     back_further_some p j same e =
         let s = v.records.0 in
@@ -133,7 +133,7 @@ module _ (c : Ground) (ok : IsGround c) (spot : Spot) (stack : List Entry) (caps
       advance_pause c _ _ _ refl (sym (fail_to_is c stack caps h v.records.0.2)) refl (dropped c ok spot stack caps h v.records.1 v.spans v.slots)
 
   -- a record that leaves nothing
-  back_plain : (r : Entry) → ((a : Around) (k : Outside) (x : Captures) (out : Moves) (to : ℕ → Moves) → on_fail c r a k x out to ≡ out) → IsValid c (conf Back spot (r ∷ stack) caps) →
+  pub back_plain : (r : Entry) → ((a : Around) (k : Outside) (x : Captures) (out : Moves) (to : ℕ → Moves) → on_fail c r a k x out to ≡ out) → IsValid c (conf Back spot (r ∷ stack) caps) →
       Advances c (conf Back spot (r ∷ stack) caps) (conf Back spot stack (taken_back r caps))
   unfolding fail
   back_plain r plain v =

@@ -18,6 +18,7 @@ mod CondTurns
 mod HeldStops
 mod MostOf
 mod BranchTurns
+mod PassTurns
 mod Start
 mod GroundLemmas
 mod MadeLemmas

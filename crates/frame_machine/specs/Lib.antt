@@ -7,6 +7,7 @@ pub mod Frames
 pub mod Validity
 pub mod Branches
 pub mod Looks
+pub mod Passing
 pub mod Conditions
 pub mod Stops
 pub mod Scratch

@@ -1,5 +1,6 @@
 //! Back to the newest record.
 ghost use Rattle.std.specs.Prelude.{◌≡◌, ◌≤◌, ◌<◌, ◌+◌, max, All, IfOk, IfErr, MatchOption, Some, true, [], ◌∷◌};
+ghost use Rattle.match_items.specs.Items.{place_before};
 ghost use Rattle.frame_store.specs.Entry.{entries, entry_of};
 ghost use Rattle.frame_store.specs.Undo.{taken_back, HasSlot};
 ghost use Rattle.frame_machine.specs.Ground.{tree_of, IsPart};
@@ -37,7 +38,7 @@ fn pop(store: &mut Store, registers: &mut Registers) -> Option<Record>
 }
 
 /// What a repeat of one item takes at a place.
-fn take_further<S: Searchable>(on: &S, part: u32, at: u64) -> Option<u64>
+pub(crate) fn take_further<S: Searchable>(on: &S, part: u32, at: u64) -> Option<u64>
     requires inside { IsPart (S.searched on.now) part }
     requires many { IsMany (S.searched on.now) (tree_of (S.searched on.now) part) }
     requires place { (S.searched on.now).stands at ≡ true }
@@ -47,6 +48,15 @@ fn take_further<S: Searchable>(on: &S, part: u32, at: u64) -> Option<u64>
         Node::OneRepeat { item, .. } => on.take(item, at),
         _ => unreachable!(),
     }
+}
+
+/// Where a greedy repeat of one item leads that gives a character back.
+fn fewer_before<S: Searchable>(on: &S, kept: &Record) -> Next
+    requires { (S.searched on.now).stands kept.now.to ≡ true }
+    ensures { result ≡ Next.Fewer kept.now.node kept.now.from (place_before (S.searched on.now).setting.scene kept.now.to) }
+{
+    let last = on.before(kept.to);
+    Next::Fewer(kept.node, kept.from, last)
 }
 
 /// Where a lazy repeat of one item leads that takes a further item, if it does.
@@ -89,13 +99,11 @@ pub(crate) fn back<S: Searchable>(
     }
     if newest.kind == KIND_FEWER_ITEMS {
         spot.restore(&newest);
-        let last = on.before(newest.to);
-        return Ok(Next::Fewer(newest.node, newest.from, last));
+        return Ok(fewer_before(on, &newest));
     }
     if newest.kind == KIND_MORE_ITEMS {
         spot.restore(&newest);
-        let further = take_further(on, newest.node, newest.to);
-        return Ok(more_or_back(&newest, further));
+        return Ok(more_or_back(&newest, take_further(on, newest.node, newest.to)));
     }
     if newest.kind == KIND_ATOMIC_LEFT {
         store.undo_to(newest.from as usize, registers);

@@ -1,8 +1,9 @@
 //! The parts of a pattern, run one after the other.
 ghost use Rattle.std.specs.Prelude.{◌≡◌, ◌≤◌, true, max, All, IfOk, IfErr};
+ghost use Rattle.pat_tree.specs.declared.nodes.Node.TheVariants as node;
 ghost use Rattle.frame_store.specs.Captures.{HasGroup};
 ghost use Rattle.frame_store.specs.Entry.{entries};
-ghost use Rattle.frame_machine.specs.Ground.{next_of, IsPart};
+ghost use Rattle.frame_machine.specs.Ground.{next_of, IsNode, IsPart};
 ghost use Rattle.frame_machine.specs.Machine.{conf, towards, first_next, first_set};
 ghost use Rattle.frame_machine.specs.Frames.{ahead};
 ghost use Rattle.frame_machine.specs.Validity.{IsValid, Advances, AreSpans, SpanStands};
@@ -15,7 +16,7 @@ use crate::conds::enter_condition;
 use crate::items::many;
 use crate::looks::enter_look;
 use crate::machine::{Next, Spot, Stop, hold};
-use crate::repeats::{offer, widen};
+use crate::repeats::offer;
 use crate::searchable::Searchable;
 use frame_store::kinds::KIND_GROUP_OPEN;
 use frame_store::{Registers, Span, Store};
@@ -119,6 +120,33 @@ fn first_part<S: Searchable>(on: &S, part: u32, kids: &Kids) -> Next
     }
 }
 
+/// Enters a group. A capturing one is a frame.
+fn enter_group<S: Searchable>(
+    on: &S,
+    at: u32,
+    number: Option<u16>,
+    branches: &Kids,
+    spot: &mut Spot,
+    store: &mut Store,
+    registers: &Registers,
+) -> Result<Next, Stop>
+    requires valid { IsValid (S.searched on.now) (conf (Next.Enter at) spot.old (entries store.old.records) registers.now) }
+    requires node { IsNode (S.searched on.now) at (node.Group number branches.now) }
+    ensures on { IfOk result (λ next. Advances (S.searched on.now) (conf (Next.Enter at) spot.old (entries store.old.records) registers.now) (conf next spot.new (entries store.new.records) registers.now)) }
+    ensures stop { IfErr result (λ stop. IsStop stop spot.new registers.now (tread (S.searched on.now).setting spot.old.left (ahead (S.searched on.now) (conf (Next.Enter at) spot.old (entries store.old.records) registers.now)))) }
+    ensures peak { store.new.peak ≤ max store.old.peak (S.searched on.now).setting.matching.frame_limit }
+{
+    let Some(_) = number else {
+        return Ok(first_branch(at, branches));
+    };
+    let record = spot.record(KIND_GROUP_OPEN, at, 0, 0, 0);
+    if let Err(stop) = hold(on.unit_limit(), record, spot, store) {
+        return Err(stop);
+    }
+    spot.frame = store.len() as u32;
+    Ok(first_branch(at, branches))
+}
+
 /// Runs a part.
 pub(crate) fn enter<S: Searchable>(
     on: &S,
@@ -147,15 +175,7 @@ pub(crate) fn enter<S: Searchable>(
         Node::Anchor(kind) => Ok(anchor(on, at, *kind, spot)),
         Node::Seq(kids) => Ok(first_part(on, at, kids)),
         Node::Group { number, branches } => {
-            let Some(_) = *number else {
-                return Ok(first_branch(at, branches));
-            };
-            let record = spot.record(KIND_GROUP_OPEN, at, 0, 0, 0);
-            if let Err(stop) = hold(on.unit_limit(), record, spot, store) {
-                return Err(stop);
-            }
-            spot.frame = store.len() as u32;
-            Ok(first_branch(at, branches))
+            enter_group(on, at, *number, branches, spot, store, registers)
         }
         Node::Repeat { .. } => offer(on, at, 0, spot, store, registers),
         Node::OneRepeat {
@@ -163,15 +183,7 @@ pub(crate) fn enter<S: Searchable>(
             min,
             max,
             lazy,
-        } => Ok(many(
-            on,
-            at,
-            item,
-            u32::from(*min),
-            widen(*max),
-            *lazy,
-            spot.place,
-        )),
+        } => Ok(many(on, at, item, *min, *max, *lazy, spot.place)),
         Node::Atomic(branches) => enter_atomic(on, at, branches, spot, store, registers),
         Node::Look {
             ahead,

@@ -13,6 +13,7 @@ ghost use Rattle.frame_machine.specs.Stops.{IsStop, IsMost, many_next};
 
 use crate::enter::go_on;
 use crate::machine::{Next, Spot, Stop, hold};
+use crate::passing::{pass_fewer, pass_more};
 use crate::repeats::{is_last, widen};
 use crate::searchable::Searchable;
 use frame_store::kinds::{KIND_FEWER_ITEMS, KIND_MORE_ITEMS};
@@ -34,8 +35,8 @@ pub(crate) fn many<S: Searchable>(
     on: &S,
     at: u32,
     item: &Item,
-    min: u32,
-    max: Option<u32>,
+    min: u16,
+    max: Option<u16>,
     lazy: bool,
     place: u64,
 ) -> Next
@@ -43,6 +44,7 @@ pub(crate) fn many<S: Searchable>(
     requires class { All (λ n. n < (S.searched on.now).class_count) (class_in item.now) }
     ensures { result ≡ many_next (S.searched on.now) at item.now min max lazy place }
 {
+    let (min, max) = (u32::from(min), widen(max));
     let first = on.run(item, place, Some(min));
     if first.count < min {
         return Next::Back;
@@ -55,7 +57,7 @@ pub(crate) fn many<S: Searchable>(
 }
 
 /// The most that a repeat of one item takes.
-fn most_of<S: Searchable>(on: &S, part: u32) -> Option<u32>
+pub(crate) fn most_of<S: Searchable>(on: &S, part: u32) -> Option<u32>
     requires inside { IsPart (S.searched on.now) part }
     requires many { IsMany (S.searched on.now) (tree_of (S.searched on.now) part) }
     ensures { IsMost (tree_of (S.searched on.now) part) result }
@@ -68,6 +70,25 @@ fn most_of<S: Searchable>(on: &S, part: u32) -> Option<u32>
 
 /// Goes on after the run of a greedy repeat that ends at a place, and leaves the shorter ones.
 pub(crate) fn fewer<S: Searchable>(
+    on: &S,
+    at: u32,
+    least: u64,
+    last: u64,
+    spot: &mut Spot,
+    store: &mut Store,
+    registers: &Registers,
+) -> Result<Next, Stop>
+    requires valid { IsValid (S.searched on.now) (conf (Next.Fewer at least last) spot.old (entries store.old.records) registers.now) }
+    ensures on { IfOk result (λ next. Advances (S.searched on.now) (conf (Next.Fewer at least last) spot.old (entries store.old.records) registers.now) (conf next spot.new (entries store.new.records) registers.now)) }
+    ensures stop { IfErr result (λ stop. IsStop stop spot.new registers.now (tread (S.searched on.now).setting spot.old.left (ahead (S.searched on.now) (conf (Next.Fewer at least last) spot.old (entries store.old.records) registers.now)))) }
+    ensures peak { store.new.peak ≤ max store.old.peak (S.searched on.now).setting.matching.frame_limit }
+{
+    let last = pass_fewer(on, at, least, last, spot, store, registers);
+    hand_on(on, at, least, last, spot, store, registers)
+}
+
+/// Goes on after a run of a greedy repeat, and leaves the shorter ones.
+fn hand_on<S: Searchable>(
     on: &S,
     at: u32,
     least: u64,
@@ -100,6 +121,25 @@ pub(crate) fn fewer<S: Searchable>(
 
 /// Goes on after so many items of a lazy repeat, and leaves the longer runs.
 pub(crate) fn more<S: Searchable>(
+    on: &S,
+    at: u32,
+    count: u32,
+    last: u64,
+    spot: &mut Spot,
+    store: &mut Store,
+    registers: &Registers,
+) -> Result<Next, Stop>
+    requires valid { IsValid (S.searched on.now) (conf (Next.More at count last) spot.old (entries store.old.records) registers.now) }
+    ensures on { IfOk result (λ next. Advances (S.searched on.now) (conf (Next.More at count last) spot.old (entries store.old.records) registers.now) (conf next spot.new (entries store.new.records) registers.now)) }
+    ensures stop { IfErr result (λ stop. IsStop stop spot.new registers.now (tread (S.searched on.now).setting spot.old.left (ahead (S.searched on.now) (conf (Next.More at count last) spot.old (entries store.old.records) registers.now)))) }
+    ensures peak { store.new.peak ≤ max store.old.peak (S.searched on.now).setting.matching.frame_limit }
+{
+    let run = pass_more(on, at, count, last, spot, store, registers);
+    wait_for_more(on, at, run.count, run.to, spot, store, registers)
+}
+
+/// Goes on after a run of a lazy repeat, and leaves the longer ones.
+fn wait_for_more<S: Searchable>(
     on: &S,
     at: u32,
     count: u32,

@@ -14,6 +14,7 @@ mod framing;
 mod items;
 mod looks;
 mod machine;
+mod passing;
 mod ready;
 mod repeats;
 mod run;

@@ -15,6 +15,7 @@ ghost use Rattle.frame_machine.specs.Stops.{IsStop, many_next, turn_entry};
 use crate::behind::{begin_branch, is_behind};
 use crate::enter::go_on;
 use crate::machine::{Next, Spot, Stop, hold};
+use crate::passing::pass_branches;
 use crate::searchable::Searchable;
 use frame_store::kinds::{KIND_LATER_BRANCH, KIND_LATER_TURN, KIND_TURN_OPEN, KIND_TURN_OR_EXIT};
 use frame_store::{Record, Registers, Store};
@@ -74,7 +75,7 @@ pub(crate) fn turns_of<S: Searchable>(on: &S, part: u32) -> Turns
 }
 
 /// The branches of a part that has one of this number.
-fn branches_of<S: Searchable>(on: &S, part: u32, index: u32) -> &Kids
+pub(crate) fn branches_of<S: Searchable>(on: &S, part: u32, index: u32) -> &Kids
     requires inside { IsPart (S.searched on.now) part }
     requires some { HasBranch (S.searched on.now) (tree_of (S.searched on.now) part) index }
     ensures { AreBranches (S.searched on.now) part result.now }
@@ -89,6 +90,24 @@ fn branches_of<S: Searchable>(on: &S, part: u32, index: u32) -> &Kids
 
 /// Tries a branch of a part, and leaves those after it.
 pub(crate) fn branch<S: Searchable>(
+    on: &S,
+    at: u32,
+    index: u32,
+    spot: &mut Spot,
+    store: &mut Store,
+    registers: &Registers,
+) -> Result<Next, Stop>
+    requires valid { IsValid (S.searched on.now) (conf (Next.Branch at index) spot.old (entries store.old.records) registers.now) }
+    ensures on { IfOk result (λ next. Advances (S.searched on.now) (conf (Next.Branch at index) spot.old (entries store.old.records) registers.now) (conf next spot.new (entries store.new.records) registers.now)) }
+    ensures stop { IfErr result (λ stop. IsStop stop spot.new registers.now (tread (S.searched on.now).setting spot.old.left (ahead (S.searched on.now) (conf (Next.Branch at index) spot.old (entries store.old.records) registers.now)))) }
+    ensures peak { store.new.peak ≤ max store.old.peak (S.searched on.now).setting.matching.frame_limit }
+{
+    let index = pass_branches(on, at, index, spot, store, registers);
+    try_branch(on, at, index, spot, store, registers)
+}
+
+/// Goes on with a branch of a part, and leaves those after it.
+fn try_branch<S: Searchable>(
     on: &S,
     at: u32,
     index: u32,

@@ -21,27 +21,27 @@ returns-then-newest-eq-KIND_TURN_OR_EXIT-clause-on g c = rw (c.go_on.ensures, c.
 pub returns-then-newest-eq-KIND_LATER_TURN-clause-on : goal.returns-then-newest-eq-KIND_LATER_TURN-clause-on
 returns-then-newest-eq-KIND_LATER_TURN-clause-on g c = rw c.restore-then-newest-eq-KIND_LATER_TURN.ensures (pop_later (g.S.Searchable.searched c.args.on.now) (g.met.S.Searchable.sound c.args.on.now) c.args.spot.now c.args.store.now.records c.pop.new.store.records c.in-Some.newest c.args.registers.now c.pop.new.registers c.requires.valid c.in-Some.ensures.popped c.in-Some.ensures.back c.if-newest-eq-KIND_LATER_TURN.true)
 
-pub before-last-requires : goal.before-last-requires
-before-last-requires g c = fewer_stands (g.S.Searchable.searched c.args.on.now) (g.met.S.Searchable.sound c.args.on.now) c.args.spot.now c.args.store.now.records c.pop.new.store.records c.in-Some.newest c.args.registers.now c.pop.new.registers c.requires.valid c.in-Some.ensures.popped c.in-Some.ensures.back c.if-newest-eq-KIND_FEWER_ITEMS.true
+pub fewer_before-requires : goal.fewer_before-requires
+fewer_before-requires g c = fewer_stands (g.S.Searchable.searched c.args.on.now) (g.met.S.Searchable.sound c.args.on.now) c.args.spot.now c.args.store.now.records c.pop.new.store.records c.in-Some.newest c.args.registers.now c.pop.new.registers c.requires.valid c.in-Some.ensures.popped c.in-Some.ensures.back c.if-newest-eq-KIND_FEWER_ITEMS.true
 
 pub returns-then-newest-eq-KIND_FEWER_ITEMS-clause-on : goal.returns-then-newest-eq-KIND_FEWER_ITEMS-clause-on
-returns-then-newest-eq-KIND_FEWER_ITEMS-clause-on g c = rw (c.before-last.ensures, c.restore-then-newest-eq-KIND_FEWER_ITEMS.ensures) (pop_fewer (g.S.Searchable.searched c.args.on.now) (g.met.S.Searchable.sound c.args.on.now) c.args.spot.now c.args.store.now.records c.pop.new.store.records c.in-Some.newest c.args.registers.now c.pop.new.registers c.requires.valid c.in-Some.ensures.popped c.in-Some.ensures.back c.if-newest-eq-KIND_FEWER_ITEMS.true)
+returns-then-newest-eq-KIND_FEWER_ITEMS-clause-on g c = rw (c.fewer_before.ensures, c.restore-then-newest-eq-KIND_FEWER_ITEMS.ensures) (pop_fewer (g.S.Searchable.searched c.args.on.now) (g.met.S.Searchable.sound c.args.on.now) c.args.spot.now c.args.store.now.records c.pop.new.store.records c.in-Some.newest c.args.registers.now c.pop.new.registers c.requires.valid c.in-Some.ensures.popped c.in-Some.ensures.back c.if-newest-eq-KIND_FEWER_ITEMS.true)
 
-pub take_further-further-requires-clause-inside : goal.take_further-further-requires-clause-inside
-take_further-further-requires-clause-inside g c = more_inside (g.S.Searchable.searched c.args.on.now) (g.met.S.Searchable.sound c.args.on.now) c.args.spot.now c.args.store.now.records c.pop.new.store.records c.in-Some.newest c.args.registers.now c.pop.new.registers c.requires.valid c.in-Some.ensures.popped c.in-Some.ensures.back c.if-newest-eq-KIND_MORE_ITEMS.true
+pub take_further-requires-clause-inside : goal.take_further-requires-clause-inside
+take_further-requires-clause-inside g c = more_inside (g.S.Searchable.searched c.args.on.now) (g.met.S.Searchable.sound c.args.on.now) c.args.spot.now c.args.store.now.records c.pop.new.store.records c.in-Some.newest c.args.registers.now c.pop.new.registers c.requires.valid c.in-Some.ensures.popped c.in-Some.ensures.back c.if-newest-eq-KIND_MORE_ITEMS.true
 
-pub take_further-further-requires-clause-many : goal.take_further-further-requires-clause-many
-take_further-further-requires-clause-many g c = more_many (g.S.Searchable.searched c.args.on.now) (g.met.S.Searchable.sound c.args.on.now) c.args.spot.now c.args.store.now.records c.pop.new.store.records c.in-Some.newest c.args.registers.now c.pop.new.registers c.requires.valid c.in-Some.ensures.popped c.in-Some.ensures.back c.if-newest-eq-KIND_MORE_ITEMS.true
+pub take_further-requires-clause-many : goal.take_further-requires-clause-many
+take_further-requires-clause-many g c = more_many (g.S.Searchable.searched c.args.on.now) (g.met.S.Searchable.sound c.args.on.now) c.args.spot.now c.args.store.now.records c.pop.new.store.records c.in-Some.newest c.args.registers.now c.pop.new.registers c.requires.valid c.in-Some.ensures.popped c.in-Some.ensures.back c.if-newest-eq-KIND_MORE_ITEMS.true
 
-pub take_further-further-requires-clause-place : goal.take_further-further-requires-clause-place
-take_further-further-requires-clause-place g c = more_stands (g.S.Searchable.searched c.args.on.now) (g.met.S.Searchable.sound c.args.on.now) c.args.spot.now c.args.store.now.records c.pop.new.store.records c.in-Some.newest c.args.registers.now c.pop.new.registers c.requires.valid c.in-Some.ensures.popped c.in-Some.ensures.back c.if-newest-eq-KIND_MORE_ITEMS.true
+pub take_further-requires-clause-place : goal.take_further-requires-clause-place
+take_further-requires-clause-place g c = more_stands (g.S.Searchable.searched c.args.on.now) (g.met.S.Searchable.sound c.args.on.now) c.args.spot.now c.args.store.now.records c.pop.new.store.records c.in-Some.newest c.args.registers.now c.pop.new.registers c.requires.valid c.in-Some.ensures.popped c.in-Some.ensures.back c.if-newest-eq-KIND_MORE_ITEMS.true
 
 pub more_or_back-requires : goal.more_or_back-requires
 more_or_back-requires g c = more_few (g.S.Searchable.searched c.args.on.now) (g.met.S.Searchable.sound c.args.on.now) c.args.spot.now c.args.store.now.records c.pop.new.store.records c.in-Some.newest c.args.registers.now c.pop.new.registers c.requires.valid c.in-Some.ensures.popped c.in-Some.ensures.back c.if-newest-eq-KIND_MORE_ITEMS.true
 
 pub returns-then-newest-eq-KIND_MORE_ITEMS-clause-on : goal.returns-then-newest-eq-KIND_MORE_ITEMS-clause-on
 returns-then-newest-eq-KIND_MORE_ITEMS-clause-on g c =
-    rw (c.more_or_back.ensures, c.restore-then-newest-eq-KIND_MORE_ITEMS.ensures) (pop_more (g.S.Searchable.searched c.args.on.now) (g.met.S.Searchable.sound c.args.on.now) c.args.spot.now c.args.store.now.records c.pop.new.store.records c.in-Some.newest c.args.registers.now c.pop.new.registers c.requires.valid c.in-Some.ensures.popped c.in-Some.ensures.back c.if-newest-eq-KIND_MORE_ITEMS.true _ c.take_further-further.ensures)
+    rw (c.more_or_back.ensures, c.restore-then-newest-eq-KIND_MORE_ITEMS.ensures) (pop_more (g.S.Searchable.searched c.args.on.now) (g.met.S.Searchable.sound c.args.on.now) c.args.spot.now c.args.store.now.records c.pop.new.store.records c.in-Some.newest c.args.registers.now c.pop.new.registers c.requires.valid c.in-Some.ensures.popped c.in-Some.ensures.back c.if-newest-eq-KIND_MORE_ITEMS.true _ c.take_further.ensures)
 
 pub returns-clause-on : goal.returns-clause-on
 returns-clause-on g c =

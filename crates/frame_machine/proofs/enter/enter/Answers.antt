@@ -1,11 +1,8 @@
-use Rattle.std.proofs.Common.{arith, sym, refl, subst}
-use Rattle.frame_store.specs.Entry.{entry_in, entries}
-use Rattle.frame_machine.proofs.HeldStops.{held_stop}
+use Rattle.std.proofs.Common.{sym, refl, subst}
+use Rattle.frame_store.specs.Entry.{entries}
 use Rattle.frame_machine.proofs.Advance.{advance_same}
 use Rattle.frame_machine.proofs.MostOf.{ok_more}
-use Rattle.frame_machine.proofs.Turns.{turn_empty, turn_keep, turn_one, turn_break, turn_ref, turn_anchor, turn_parts, turn_group_of, turn_capture_of, stop_capture_of, ahead_repeat, stray_node}
-use Rattle.std.proofs.lemmas.List.{length-map}
-use Rattle.frame_store.specs.Entry.{entry_of}
+use Rattle.frame_machine.proofs.Turns.{turn_empty, turn_keep, turn_one, turn_break, turn_ref, turn_anchor, turn_parts, ahead_repeat, stray_node}
 use Rattle.frame_machine.specs.Forms.{IsRunnable}
 use Rattle.frame_machine.proofs.ItemTurns.{turn_many}
 use Rattle.frame_machine.specs.Ground.{IsNode}
@@ -34,25 +31,11 @@ pub returns-in-Seq-clause-on : goal.returns-in-Seq-clause-on
 returns-in-Seq-clause-on g c = rw c.first_part.ensures (turn_parts (g.S.Searchable.searched c.args.on.now) (g.met.S.Searchable.sound c.args.on.now) c.args.at c.args.spot.now (entries c.args.store.now.records) c.args.registers.now c.requires.valid _ c.node.ensures _ c.in-Seq.is)
 
 pub returns-in-OneRepeat-clause-on : goal.returns-in-OneRepeat-clause-on
-returns-in-OneRepeat-clause-on g c = rw (c.many.ensures, c.widen.ensures, c.from.ensures) (turn_many (g.S.Searchable.searched c.args.on.now) (g.met.S.Searchable.sound c.args.on.now) c.args.at c.args.spot.now (entries c.args.store.now.records) c.args.registers.now c.requires.valid _ c.node.ensures _ _ _ _ c.in-OneRepeat.is)
+returns-in-OneRepeat-clause-on g c = rw (c.many.ensures) (turn_many (g.S.Searchable.searched c.args.on.now) (g.met.S.Searchable.sound c.args.on.now) c.args.at c.args.spot.now (entries c.args.store.now.records) c.args.registers.now c.requires.valid _ c.node.ensures _ _ _ _ c.in-OneRepeat.is)
 
 pub returns-in-Repeat-clause-on : goal.returns-in-Repeat-clause-on
 returns-in-Repeat-clause-on g c =
     ok_more _ _ c.offer.result (λ x a. advance_same (g.S.Searchable.searched c.args.on.now) _ _ _ (ahead_repeat (g.S.Searchable.searched c.args.on.now) (g.met.S.Searchable.sound c.args.on.now) c.args.at c.args.spot.now (entries c.args.store.now.records) c.args.registers.now c.requires.valid _ c.node.ensures _ _ _ _ c.in-Repeat.is) refl a) c.offer.ensures.on
-
-pub returns-in_default-number-clause-on : goal.returns-in_default-number-clause-on
-returns-in_default-number-clause-on g c = rw c.first_branch.ensures (turn_group_of (g.S.Searchable.searched c.args.on.now) (g.met.S.Searchable.sound c.args.on.now) c.args.at c.args.spot.now (entries c.args.store.now.records) c.args.registers.now c.requires.valid _ c.node.ensures _ _ c.in-Group.is c.in_default-number.not-Some)
-
-pub returns-in_default-hold-clause-on : goal.returns-in_default-hold-clause-on
-unfolding entry_in
-returns-in_default-hold-clause-on g c =
-    rw (c.first_branch-in-Group.ensures, c.len.ensures, c.in_default-hold.ensures.spot, c.in_default-hold.ensures.pushed, c.record-record.ensures, sym (length-map c.args.store.now.records entry_of))
-    (turn_capture_of (g.S.Searchable.searched c.args.on.now) (g.met.S.Searchable.sound c.args.on.now) c.args.at c.args.spot.now (entries c.args.store.now.records) c.args.registers.now c.requires.valid _ c.node.ensures _ _ c.in-Group.is _ c.in-Some.is (omega (arith, c.in_default-hold.ensures.room, c.unit_limit.ensures)))
-
-pub returns-in-Err-clause-stop : goal.returns-in-Err-clause-stop
-returns-in-Err-clause-stop g c =
-    held_stop c.in-Err.stop _ _ _ _ _ c.in-Err.ensures.stop
-    (λ h. stop_capture_of (g.S.Searchable.searched c.args.on.now) (g.met.S.Searchable.sound c.args.on.now) c.args.at c.args.spot.now (entries c.args.store.now.records) c.args.registers.now c.requires.valid _ c.node.ensures _ _ c.in-Group.is _ c.in-Some.is (omega (arith, h, c.unit_limit.ensures)))
 
 pub unreachable-requires : goal.unreachable-requires
 unreachable-requires g c =
@@ -67,3 +50,6 @@ enter_look-requires-clause-node g c = subst (IsNode (g.S.Searchable.searched c.a
 
 pub enter_condition-requires-clause-node : goal.enter_condition-requires-clause-node
 enter_condition-requires-clause-node g c = subst (IsNode (g.S.Searchable.searched c.args.on.now) c.args.at) c.in-Cond.is c.node.ensures
+
+pub enter_group-requires-clause-node : goal.enter_group-requires-clause-node
+enter_group-requires-clause-node g c = subst (IsNode (g.S.Searchable.searched c.args.on.now) c.args.at) c.in-Group.is c.node.ensures

@@ -1,0 +1,104 @@
+//! The least limits under which searches are answered, where what follows a repeat or begins a branch refuses the place
+//! at once (pcre2api, "The match context").
+use super::searching::searched;
+use frame_machine::Scratch;
+use match_drive::MatchAnswer;
+use pat_tree::{MatchOptions, Options};
+use std::alloc::Global;
+use std::process::Abort;
+use std::test::Fail;
+
+/// A pattern, a subject, the text of the match, and how many Steps and units it takes at least.
+type Row = (
+    &'static [u8],
+    &'static [u8],
+    Option<(usize, usize)>,
+    u32,
+    u32,
+);
+
+/// What is answered under these limits.
+fn limited(
+    rt: &impl Abort,
+    alloc: Global,
+    row: &Row,
+    limits: (u32, u32),
+    scratch: &mut Scratch,
+) -> Result<MatchAnswer, Fail> {
+    let mut matching = MatchOptions::PLAIN;
+    matching.match_limit = limits.0;
+    matching.frame_limit = limits.1;
+    assert!(rt; row.1.len() < 100);
+    let found = searched(alloc, row.0, Options::PLAIN, row.1, 0, &matching, scratch)?;
+    Ok(found.0)
+}
+
+fn case(rt: &impl Abort, alloc: Global, row: &Row, scratch: &mut Scratch) -> Result<(), Fail> {
+    let (steps, units) = (row.3, row.4);
+    assert!(rt; steps > 0 && units > 0);
+    let answer = match row.2 {
+        None => MatchAnswer::NoMatch { mark: None },
+        Some((keep, to)) => MatchAnswer::Match {
+            keep,
+            to,
+            mark: None,
+        },
+    };
+    assert_eq!(rt; limited(rt, alloc, row, (steps, units), scratch)?, answer);
+    let few_steps = limited(rt, alloc, row, (steps - 1, 99), scratch)?;
+    assert_eq!(rt; few_steps, MatchAnswer::MatchLimit);
+    let few_units = limited(rt, alloc, row, (99, units - 1), scratch)?;
+    assert_eq!(rt; few_units, MatchAnswer::FrameLimit);
+    Ok(())
+}
+
+fn cases(rt: &impl Abort, alloc: Global, rows: &[Row]) -> Result<(), Fail> {
+    let mut scratch = Scratch::new(alloc);
+    for row in rows {
+        case(rt, alloc, row, &mut scratch)?;
+    }
+    Ok(())
+}
+
+#[test]
+fn each_shorter_run_is_a_step(rt: HostRuntime) -> Result<(), Fail> {
+    static ROWS: [Row; 12] = [
+        (b"\\w+;", b"ab;", Some((0, 3)), 1, 1),
+        (b"\\w+;", b"abc", None, 3, 1),
+        (b"a+ab", b"aaab", Some((0, 4)), 2, 1),
+        (b".*\\.h", b"x.h.c", Some((0, 3)), 5, 1),
+        (b"[^ ]+ [^ ]+ s", b"ab cd s", Some((0, 7)), 2, 2),
+        (b"a{2,}b", b"aaaac", None, 3, 1),
+        (b"a*b+c", b"aabx", None, 4, 1),
+        (b"(\\w+)\\.", b"ab", None, 2, 3),
+        (b"(\\w+)\\.(\\w+)\\(", b"ab.cd(", Some((0, 6)), 2, 6),
+        (b"(\\w+)\\.(\\w+)\\(", b"ab.cd", None, 4, 6),
+        (b"((a+))b", b"aac", None, 2, 5),
+        (b"(?:(a+)b)*c", b"aabaac", Some((5, 6)), 6, 8),
+    ];
+    cases(&rt, rt.alloc(), &ROWS)
+}
+
+#[test]
+fn each_longer_run_is_a_step(rt: HostRuntime) -> Result<(), Fail> {
+    static ROWS: [Row; 6] = [
+        (b"a+?b", b"aaab", Some((0, 4)), 3, 1),
+        (b"a+?b", b"aac", None, 2, 1),
+        (b"(a+?)b", b"aaab", Some((0, 4)), 3, 3),
+        (b"a{1,3}?b", b"aaab", Some((0, 4)), 3, 1),
+        (b"a{1,2}?b", b"aab", Some((0, 3)), 2, 1),
+        (b".*?\\.h", b"x.c.h", Some((0, 5)), 4, 1),
+    ];
+    cases(&rt, rt.alloc(), &ROWS)
+}
+
+#[test]
+fn each_branch_is_a_step(rt: HostRuntime) -> Result<(), Fail> {
+    static ROWS: [Row; 4] = [
+        (b"(?:ab|cd|ef)x", b"efx", Some((0, 3)), 3, 1),
+        (b"(?:ab|cd|ef)x", b"efy", None, 3, 1),
+        (b"foo|bar|baz", b"baz", Some((0, 3)), 3, 1),
+        (b"(a|b|c)d", b"cd", Some((0, 2)), 3, 2),
+    ];
+    cases(&rt, rt.alloc(), &ROWS)
+}
