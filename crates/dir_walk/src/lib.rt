@@ -15,4 +15,5 @@ pub use filters::{FilterError, NameFilter};
 pub use grep_args::FilterOption;
 pub use laws::{worked_directories, worked_paths, worked_words};
 pub use lists::{Target, TargetList};
+pub use paths::word_path;
 pub use words::targets;

@@ -8,8 +8,9 @@ use Rattle.grep_args.specs.declared.plan.OffsetMode.TheVariants as offsets
 use Rattle.grep_args.specs.declared.plan.HelpKind.TheVariants as help
 use Rattle.grep_args.specs.declared.options.Flag.TheVariants as flag
 use Rattle.grep_args.specs.declared.options.NumberOption.TheVariants as number
+use Rattle.grep_args.specs.declared.options.FilterOption.TheVariants as filter
 use Rattle.grep_args.specs.declared.options.PlainOption.TheVariants.{Switch, Names, Binary, Offsets, Help, NoEffect}
-use Rattle.grep_args.specs.declared.options.ValuedOption.TheVariants.{Number, Regex, File, Label, OmSeparator, BinaryFiles, Newline}
+use Rattle.grep_args.specs.declared.options.ValuedOption.TheVariants.{Number, Filter, Regex, File, Label, OmSeparator, BinaryFiles, Newline}
 use Rattle.grep_args.specs.declared.options.GrepOption.{GrepOption}
 use Rattle.grep_args.specs.declared.options.GrepOption.TheVariants.{Plain, OnlyMatching, Valued}
 
@@ -56,6 +57,11 @@ table =
     ∷ row (codes "o") (one (codes "only-matching")) OnlyMatching
     ∷ row [] (one (codes "om-separator")) (Valued OmSeparator)
     ∷ row (codes "q") (one (codes "quiet")) (Plain (Switch flag.Quiet))
+    ∷ row (codes "r") (one (codes "recursive")) (Plain (Switch flag.Recursive))
+    ∷ row [] (one (codes "include")) (Valued (Filter filter.Include))
+    ∷ row [] (one (codes "exclude")) (Valued (Filter filter.Exclude))
+    ∷ row [] (one (codes "include-dir")) (Valued (Filter filter.IncludeDir))
+    ∷ row [] (one (codes "exclude-dir")) (Valued (Filter filter.ExcludeDir))
     ∷ row (codes "s") (one (codes "no-messages")) (Plain (Switch flag.NoMessages))
     ∷ row (codes "v") (one (codes "invert-match")) (Plain (Switch flag.InvertMatch))
     ∷ row (codes "w") (codes "word-regex" ∷ codes "word-regexp" ∷ []) (Plain (Switch flag.WordRegex))

@@ -2,7 +2,7 @@
 ghost use Rattle.std.specs.Prelude.{◌≡◌, ◌<◌, OnSome};
 ghost use Rattle.grep_args.specs.Table.{by_letter, by_name};
 
-use crate::options::{Flag, GrepOption, NumberOption, PlainOption, ValuedOption};
+use crate::options::{FilterOption, Flag, GrepOption, NumberOption, PlainOption, ValuedOption};
 use crate::plan::{BinaryMode, HelpKind, NameMode, OffsetMode};
 
 /// The option of a letter, each of which is ASCII.
@@ -31,6 +31,7 @@ pub fn by_letter(letter: u8) -> Option<GrepOption>
         b'n' => Some(GrepOption::Plain(PlainOption::Switch(Flag::LineNumber))),
         b'o' => Some(GrepOption::OnlyMatching),
         b'q' => Some(GrepOption::Plain(PlainOption::Switch(Flag::Quiet))),
+        b'r' => Some(GrepOption::Plain(PlainOption::Switch(Flag::Recursive))),
         b's' => Some(GrepOption::Plain(PlainOption::Switch(Flag::NoMessages))),
         b't' => Some(GrepOption::Plain(PlainOption::Switch(Flag::TotalCount))),
         b'u' => Some(GrepOption::Plain(PlainOption::Switch(Flag::Utf))),
@@ -80,6 +81,11 @@ pub fn by_name(name: &str) -> Option<GrepOption>
         "only-matching" => Some(GrepOption::OnlyMatching),
         "om-separator" => Some(GrepOption::Valued(ValuedOption::OmSeparator)),
         "quiet" => Some(GrepOption::Plain(PlainOption::Switch(Flag::Quiet))),
+        "recursive" => Some(GrepOption::Plain(PlainOption::Switch(Flag::Recursive))),
+        "include" => Some(GrepOption::Valued(ValuedOption::Filter(FilterOption::Include))),
+        "exclude" => Some(GrepOption::Valued(ValuedOption::Filter(FilterOption::Exclude))),
+        "include-dir" => Some(GrepOption::Valued(ValuedOption::Filter(FilterOption::IncludeDir))),
+        "exclude-dir" => Some(GrepOption::Valued(ValuedOption::Filter(FilterOption::ExcludeDir))),
         "no-messages" => Some(GrepOption::Plain(PlainOption::Switch(Flag::NoMessages))),
         "invert-match" => Some(GrepOption::Plain(PlainOption::Switch(Flag::InvertMatch))),
         "word-regex" | "word-regexp" => Some(GrepOption::Plain(PlainOption::Switch(

@@ -1,6 +1,6 @@
 //! Lists of words, with what they ask for or the word at fault.
 use super::{ArgError, BinaryMode, GrepPlan, NameMode, OffsetMode, read};
-use pat_tree::Newline;
+use pat_tree::{Newline, TextList};
 use std::alloc::{AllocError, Global};
 use std::process::Abort;
 use std::test::Fail;
@@ -81,6 +81,15 @@ const OPTIONS: &str = "\
 --om-separator , x | sep:, e:x at:3
 -q x | q e:x at:2
 --quiet x | q e:x at:2
+-r x | r e:x at:2
+--recursive x | r e:x at:2
+--include=i x | include:i e:x at:2
+--include i x | include:i e:x at:3
+--exclude=i x | exclude:i e:x at:2
+--exclude= x | exclude: e:x at:2
+--include-dir=i x | include-dir:i e:x at:2
+--include-dir -r x | include-dir:-r e:x at:3
+--exclude-dir=i=j x | exclude-dir:i=j e:x at:2
 -s x | s e:x at:2
 --no-messages x | s e:x at:2
 -v x | v e:x at:2
@@ -141,6 +150,9 @@ x -n | e:x at:1
 -LH x | With e:x at:2
 -hL x | NotMatching e:x at:2
 --line-offsets --line-offsets x | Lines e:x at:3
+-rnr x d | n r e:x at:2
+--exclude=b --include=a --exclude=c x | include:a exclude:b exclude:c e:x at:4
+--exclude-dir=a --include-dir=b --exclude-dir=a -rex | include-dir:b exclude-dir:a exclude-dir:a r e:x at:4
 --help -V | Help at:2
 -V --help x f | Version e:x at:3
 -Vq -- | q Version at:2
@@ -175,12 +187,9 @@ const FAULTS: &str = "\
 --no-jit=1 x | UnknownOption 0
 -M x | UnknownOption 0
 --multiline x | UnknownOption 0
--r x | UnknownOption 0
---recursive x | UnknownOption 0
---include=x x | UnknownOption 0
---exclude=x x | UnknownOption 0
---include-dir=x x | UnknownOption 0
---exclude-dir=x x | UnknownOption 0
+-R x | UnknownOption 0
+--recursive=1 x | UnknownOption 0
+--includes=x x | UnknownOption 0
 --include-from=x x | UnknownOption 0
 --exclude-from=x x | UnknownOption 0
 --null x | UnknownOption 0
@@ -196,6 +205,8 @@ const FAULTS: &str = "\
 --om-separator | MissingValue 0
 --binary-files | MissingValue 0
 --max-buffer-size | MissingValue 0
+--include | MissingValue 0
+-r --exclude-dir | MissingValue 1
 -A x p | BadNumber 1
 -Ax p | BadNumber 0
 -nAx p | BadNumber 0
@@ -299,6 +310,7 @@ fn show_flags(out: &mut String, plan: &GrepPlan) -> Result<(), AllocError> {
         (plan.utf, "u "),
         (plan.line_number, "n "),
         (plan.quiet, "q "),
+        (plan.recursive, "r "),
         (plan.no_messages, "s "),
         (plan.invert_match, "v "),
         (plan.word_regex, "w "),
@@ -334,6 +346,20 @@ fn show_limits(out: &mut String, plan: &GrepPlan) -> Result<(), AllocError> {
     Ok(())
 }
 
+fn show_list(out: &mut String, name: &str, texts: &TextList) -> Result<(), AllocError> {
+    for text in texts.as_slice() {
+        write!(out, "{name}:{} ", text_of(text.bytes()))?;
+    }
+    Ok(())
+}
+
+fn show_filters(out: &mut String, plan: &GrepPlan) -> Result<(), AllocError> {
+    show_list(out, "include", &plan.include)?;
+    show_list(out, "exclude", &plan.exclude)?;
+    show_list(out, "include-dir", &plan.include_dir)?;
+    show_list(out, "exclude-dir", &plan.exclude_dir)
+}
+
 fn show_texts(out: &mut String, plan: &GrepPlan) -> Result<(), AllocError> {
     if plan.om_separator.len() > 0 {
         write!(out, "sep:{} ", text_of(plan.om_separator.bytes()))?;
@@ -357,6 +383,7 @@ fn told(alloc: Global, line: &str) -> Result<String, AllocError> {
     let mut out = String::new(alloc);
     match read(alloc, words.as_slice()) {
         Ok(plan) => {
+            show_filters(&mut out, &plan)?;
             show_modes(&mut out, &plan)?;
             show_flags(&mut out, &plan)?;
             show_limits(&mut out, &plan)?;

@@ -1,183 +1,260 @@
--- From the words of a run to the search of its inputs.
-use Rattle.std.proofs.Common.{◌≡◌, sym, ap, subst, ◌∙◌, arith, ℕ, ◌-◌, min, Bool, true, false, List, [], ◌++◌, length, map, take, drop, Option, Some, None, Result, Ok, Err}
+-- From the words of a run to the search of its targets.
+use Rattle.std.proofs.Common.{◌≡◌, refl, sym, ap, subst, ◌∙◌, arith, ℕ, ◌-◌, ◌≤◌, min, IsTrue, Bool, true, false, List, [], ◌∷◌, ◌++◌, length, map, take, drop, Option, Some, None, IfSome, Result, Ok, Err}
+use Rattle.std.proofs.lemmas.Bool.{false≢true}
 use Rattle.std.proofs.lemmas.List.{take_at, drop_at, take_all, length-drop, drop_min, drop-map, length-map}
+use Rattle.pcre_io.specs.Causes.{Rose}
 use Rattle.pcre_io.specs.Told.{Told, Kept}
-use Rattle.pcre_io.specs.Files.{Contents}
+use Rattle.pcre_io.specs.Files.{Contents, Filed}
 use Rattle.line_feed.specs.Rows.{Input}
 use Rattle.line_feed.specs.Hears.{Hears}
 use Rattle.grep_args.specs.declared.plan.GrepPlan.{GrepPlan}
 use Rattle.grep_args.specs.declared.plan.HelpKind.{HelpKind}
 use Rattle.grep_args.specs.Words.{Fault, Reads, plan_of}
+use Rattle.dir_walk.specs.declared.lists.Target.{Target}
+use Rattle.dir_walk.specs.Filters.{Filter, BadFilter, filter_of}
+use Rattle.dir_walk.specs.Targets.{targets}
+use Rattle.dir_walk.specs.Walks.{has_failed}
 use Rattle.grep_core.specs.declared.ended.Stop.{Stop}
 use Rattle.grep_core.specs.declared.ended.Stop.TheVariants.{Memory}
-use Rattle.tool_in.specs.Asked.{Asked, StandFor}
+use Rattle.tool_in.specs.Asked.{Asked, StandFor, named_target, standard_after}
 use Rattle.pat_tree.specs.Pattern.{Pattern}
 use Rattle.grep_match.specs.Compiled.{BadPattern, Compiled, patterns_of}
 use Rattle.grep_core.specs.InputText.{first_state}
 use Rattle.tool_out.specs.Outcomes.{RunOutcome}
-use Rattle.grep_run.specs.Refusals.{refusal, pattern_message, usage_message, help_text}
+use Rattle.tool_out.specs.Printed.{Printed, printed}
+use Rattle.grep_run.specs.Refusals.{refusal, pattern_message, filter_message, usage_message, help_text}
 use Rattle.grep_run.specs.PatternFiles.{FileTexts, texts_in_files}
 use Rattle.grep_run.specs.Reports.{reports}
-use Rattle.grep_run.specs.ToolText.{outcome_of, with_names, or_standard, asked_by_plan, asked_unless, asked_words, text_by_patterns, text_by_texts, text_by_plan, text_by_help, text_of}
+use Rattle.grep_run.specs.ToolText.{outcome_of, with_names, targets_of, text_by_filter, text_by_patterns, text_by_texts, text_by_plan, text_by_help, text_of}
+use Rattle.grep_run.specs.Asks.{Lists, AsksUnless, AsksBy, AsksFor, asked_by_plan, filtered, targets_by}
 use Rattle.tool_in.specs.Takes.{Takes, TakesAll}
 use Rattle.grep_run.specs.Adds.{AddsTo, AddsAllFrom}
 use Rattle.grep_run.specs.RunsBy.{RunsBy}
+use Rattle.grep_run.specs.Stages.{Streams, SearchesFor, SearchesBy, RunsOn, streams}
 use Rattle.tool_in.proofs.Taking.{hears-any, stand-any, stand-length, takes-any, takes-rest, takes-then}
 use Rattle.grep_run.proofs.Outcomes.{runs-lacks, said-whole, said-halts}
-use Rattle.tool_out.specs.Printed.{printed}
 
--- A search for these patterns, where n words name inputs, of what all words stand for.
-module _ (plan : GrepPlan) (n : ℕ) (found : Compiled) (contents : Option Contents) (was_used : Bool) (words : List (List ℕ)) where
-  abbrev pub SearchesFor : Told → Told → Kept → Kept → Kept → Kept → Result ℕ Stop → Type 0
-  SearchesFor before after out_old out_new err_old err_new result =
-      (given : List Asked) × TakesAll was_used before after contents (or_standard words) given
-      × RunsBy (text_by_patterns (with_names n plan) given found) (printed out_old err_old) (printed out_new err_new) result
+-- Faults that were counted before or after.
 
-  pub for-lacks : (t : Told) (out err : Kept) → SearchesFor t t out out err err (Err Memory)
-  for-lacks t out err = let any = takes-any was_used t contents (or_standard words) in (any.0, any.1, runs-lacks (text_by_patterns (with_names n plan) any.0 found) out err)
+rose_later : (first mid last : ℕ) → Rose first mid → mid ≤ last → Rose first last
+rose_later first mid last rose later = omega (arith, rose, later)
 
-  pub for-refused : (bad : BadPattern) (t : Told) (out err_old err_new : Kept) (result : Result ℕ Stop) → found ≡ Err bad → RunsBy (refusal (pattern_message bad)) (printed out err_old) (printed out err_new) result
-      → SearchesFor t t out out err_old err_new result
-  for-refused bad t out err_old err_new result is h =
-      let any = takes-any was_used t contents (or_standard words) in
-      (any.0, any.1, subst (λ f. RunsBy (text_by_patterns (with_names n plan) any.0 f) (printed out err_old) (printed out err_new) result) (sym is) h)
+rose_before : (first mid last : ℕ) → first ≤ mid → Rose mid last → Rose first last
+rose_before first mid last later rose = omega (arith, rose, later)
 
-  pub for-found : (named : GrepPlan) (patterns : List Pattern) (before after : Told) (out_old out_new err_old err_new : Kept) (result : Result ℕ Stop) → found ≡ Ok patterns → named ≡ with_names n plan
-      → ((given : List Asked) × TakesAll was_used before after contents (or_standard words) given × RunsBy (outcome_of named (reports named patterns given first_state)) (printed out_old err_old) (printed out_new err_new) result)
-      → SearchesFor before after out_old out_new err_old err_new result
-  for-found named patterns before after out_old out_new err_old err_new result is names h = (
-    h.0,
-    h.1,
-    subst (λ f. RunsBy (text_by_patterns (with_names n plan) h.0 f) (printed out_old err_old) (printed out_new err_new) result) (sym is)
-        (subst (λ p. RunsBy (outcome_of p (reports p patterns h.0 first_state)) (printed out_old err_old) (printed out_new err_new) result) names h.2),
-  )
+-- What words for files stand for.
+
+pub lists-told : (contents : Option Contents) (first last : ℕ) (plan : GrepPlan) (words : List (List ℕ)) (list : List Target) (filter : Filter) → filter_of plan ≡ Ok filter
+    → IfSome contents (λ set. list ≡ targets filter set words plan.recursive) → (IsTrue (has_failed list) → Rose first last) → Lists contents first last plan words list
+lists-told (Some set) first last plan words list filter is told causes = told ∙ sym (ap (λ f. filtered f plan set words) is)
+lists-told None first last plan words list filter is told causes = causes
+
+pub lists-later : (contents : Option Contents) (first mid last : ℕ) (plan : GrepPlan) (words : List (List ℕ)) (list : List Target) → mid ≤ last → Lists contents first mid plan words list → Lists contents first last plan words list
+lists-later (Some set) first mid last plan words list later h = h
+lists-later None first mid last plan words list later h = λ some. rose_later first mid last (h some) later
+
+lists-before : (contents : Option Contents) (first mid last : ℕ) (plan : GrepPlan) (words : List (List ℕ)) (list : List Target) → first ≤ mid → Lists contents mid last plan words list → Lists contents first last plan words list
+lists-before (Some set) first mid last plan words list later h = h
+lists-before None first mid last plan words list later h = λ some. rose_before first mid last later (h some)
+
+-- nobody looked
+lists-any : (contents : Option Contents) (first last : ℕ) (plan : GrepPlan) (words : List (List ℕ)) → (list : List Target) × Lists contents first last plan words list
+lists-any (Some set) first last plan words = (targets_by plan set words, refl)
+lists-any None first last plan words = ([], λ some. absurd (false≢true some))
+
+stand-targets : (contents : Option Contents) (standard : Input) (list : List Target) (given : List Asked) → StandFor contents standard list given → targets_of given ≡ list
+stand-targets contents standard [] [] h = refl
+stand-targets contents standard [] (a ∷ given) h = absurd h
+stand-targets contents standard (target ∷ list) [] h = absurd h
+stand-targets contents standard (target ∷ list) (a ∷ given) h = λ i. h.0 i ∷ stand-targets contents (standard_after target standard) list given h.2 i
+
+takes-targets : (was_used : Bool) (before after : Told) (contents : Option Contents) (list : List Target) (given : List Asked) → TakesAll was_used before after contents list given → targets_of given ≡ list
+takes-targets true before after contents list given h = stand-targets contents _ list given h.1
+takes-targets false before after contents list given h = stand-targets contents h.0 list given h.2
+
+-- A search for these patterns.
+module _ (plan : GrepPlan) (found : Compiled) (words : List (List ℕ)) (was_used : Bool) (files files_new : Filed) where
+  -- no target is looked at
+  for-any : (t : Told) (old new : Printed) (result : Result ℕ Stop) → ((given : List Asked) → RunsBy (text_by_patterns words plan given found) old new result)
+      → SearchesFor plan found words was_used (streams files t old) (streams files_new t new) result
+  for-any t old new result runs =
+      let list = lists-any files.contents files.faults files_new.faults plan words in
+      let any = takes-any was_used t files.contents list.0 in (list.0, list.1, (any.0, any.1, runs any.0))
+
+  pub for-lacks : (t : Told) (out err : Kept) → SearchesFor plan found words was_used (streams files t (printed out err)) (streams files_new t (printed out err)) (Err Memory)
+  for-lacks t out err = for-any t (printed out err) (printed out err) (Err Memory) (λ given. runs-lacks (text_by_patterns words plan given found) out err)
+
+  pub for-refused : (bad : BadPattern) (t : Told) (old new : Printed) (result : Result ℕ Stop) → found ≡ Err bad → RunsBy (refusal (pattern_message bad)) old new result
+      → SearchesFor plan found words was_used (streams files t old) (streams files_new t new) result
+  for-refused bad t old new result is h =
+      for-any t old new result (λ given. subst (λ f. RunsBy (text_by_patterns words plan given f) old new result) (sym is) h)
+
+pub for-found : (plan : GrepPlan) (found : Compiled) (patterns : List Pattern) (words : List (List ℕ)) (was_used : Bool) (old new : Streams) (result : Result ℕ Stop) → found ≡ Ok patterns
+    → SearchesFor plan (Ok patterns) words was_used old new result → SearchesFor plan found words was_used old new result
+for-found plan found patterns words was_used old new result is h = subst (λ f. SearchesFor plan f words was_used old new result) (sym is) h
+
+module _ (plan : GrepPlan) (patterns : List Pattern) (words : List (List ℕ)) (was_used : Bool) (files files_new : Filed) where
+  pub for-unfiltered : (bad : BadFilter) (t : Told) (old new : Printed) (result : Result ℕ Stop) → filter_of plan ≡ Err bad → RunsBy (refusal (filter_message bad)) old new result
+      → SearchesFor plan (Ok patterns) words was_used (streams files t old) (streams files_new t new) result
+  for-unfiltered bad t old new result is h =
+      for-any plan (Ok patterns) words was_used files files_new t old new result (λ given. subst (λ f. RunsBy (text_by_filter words plan given patterns f) old new result) (sym is) h)
+
+  pub for-listed : (filter : Filter) (list : List Target) (named : GrepPlan) (before after : Told) (old new : Printed) (result : Result ℕ Stop) → filter_of plan ≡ Ok filter
+      → Lists files.contents files.faults files_new.faults plan words list → named ≡ with_names words list plan
+      → ((given : List Asked) × TakesAll was_used before after files.contents list given × RunsBy (outcome_of named (reports named patterns given first_state)) old new result)
+      → SearchesFor plan (Ok patterns) words was_used (streams files before old) (streams files_new after new) result
+  for-listed filter list named before after old new result is lists names h =
+      let same = takes-targets was_used before after files.contents list h.0 h.1 in
+      let named_so : named ≡ with_names words (targets_of h.0) plan = names ∙ ap (λ l. with_names words l plan) (sym same) in (
+        list,
+        lists,
+        (
+          h.0,
+          h.1,
+          subst (λ f. RunsBy (text_by_filter words plan h.0 patterns f) old new result) (sym is)
+              (subst (λ p. RunsBy (outcome_of p (reports p patterns h.0 first_state)) old new result) named_so h.2),
+        ),
+      )
 
 -- What a run comes to, by what its files of patterns gave.
-module _ (plan : GrepPlan) (n : ℕ) (given : List Asked) (old new : List (List ℕ)) where
-  unread-text : (found : FileTexts) (out err_old err_new : Kept) → AddsTo found old new err_old err_new (Ok false) → RunsBy (text_by_texts plan n given found) (printed out err_old) (printed out err_new) (Ok 2)
+module _ (words : List (List ℕ)) (plan : GrepPlan) (given : List Asked) (old new : List (List ℕ)) where
+  unread-text : (found : FileTexts) (out err_old err_new : Kept) → AddsTo found old new err_old err_new (Ok false) → RunsBy (text_by_texts words plan given found) (printed out err_old) (printed out err_new) (Ok 2)
   unread-text (Ok more) out err_old err_new h = absurd h
   unread-text (Err text) out err_old err_new h = said-whole text 2 out err_old err_new h
 
-  stopped-text : (found : FileTexts) (out err_old err_new : Kept) (stop : Stop) → AddsTo found old new err_old err_new (Err stop) → RunsBy (text_by_texts plan n given found) (printed out err_old) (printed out err_new) (Err stop)
+  stopped-text : (found : FileTexts) (out err_old err_new : Kept) (stop : Stop) → AddsTo found old new err_old err_new (Err stop) → RunsBy (text_by_texts words plan given found) (printed out err_old) (printed out err_new) (Err stop)
   stopped-text (Ok more) out err_old err_new stop h =
-      subst (λ s. RunsBy (text_by_texts plan n given (Ok more)) (printed out err_old) (printed out err_new) (Err s)) (sym h.0)
-      (subst (λ k. RunsBy (text_by_texts plan n given (Ok more)) (printed out err_old) (printed out k) (Err Memory)) (sym h.1) (runs-lacks (text_by_texts plan n given (Ok more)) out err_old))
+      subst (λ s. RunsBy (text_by_texts words plan given (Ok more)) (printed out err_old) (printed out err_new) (Err s)) (sym h.0)
+      (subst (λ k. RunsBy (text_by_texts words plan given (Ok more)) (printed out err_old) (printed out k) (Err Memory)) (sym h.1) (runs-lacks (text_by_texts words plan given (Ok more)) out err_old))
   stopped-text (Err text) out err_old err_new stop h = said-halts text 2 out err_old err_new stop h
 
-  read-text : (found : FileTexts) (out_old out_new err_old err_mid err_new : Kept) (result : Result ℕ Stop) → old ≡ plan.patterns → AddsTo found old new err_old err_mid (Ok true)
-      → RunsBy (text_by_patterns (with_names n plan) given (patterns_of plan new)) (printed out_old err_mid) (printed out_new err_new) result
-      → RunsBy (text_by_texts plan n given found) (printed out_old err_old) (printed out_new err_new) result
-  read-text (Ok more) out_old out_new err_old err_mid err_new result own h i =
-      subst (λ ts. RunsBy (text_by_patterns (with_names n plan) given (patterns_of plan ts)) (printed out_old err_old) (printed out_new err_new) result) (h.0 ∙ ap (λ ts. ts ++ more) own)
-      (subst (λ k. RunsBy (text_by_patterns (with_names n plan) given (patterns_of plan new)) (printed out_old k) (printed out_new err_new) result) h.1 i)
-  read-text (Err text) out_old out_new err_old err_mid err_new result own h i = absurd h
+  read-text : (found : FileTexts) (out_old err_old err_mid : Kept) (printed_new : Printed) (result : Result ℕ Stop) → old ≡ plan.patterns → AddsTo found old new err_old err_mid (Ok true)
+      → RunsBy (text_by_patterns words plan given (patterns_of plan new)) (printed out_old err_mid) printed_new result
+      → RunsBy (text_by_texts words plan given found) (printed out_old err_old) printed_new result
+  read-text (Ok more) out_old err_old err_mid printed_new result own h i =
+      subst (λ ts. RunsBy (text_by_patterns words plan given (patterns_of plan ts)) (printed out_old err_old) printed_new result) (h.0 ∙ ap (λ ts. ts ++ more) own)
+      (subst (λ k. RunsBy (text_by_patterns words plan given (patterns_of plan new)) (printed out_old k) printed_new result) h.1 i)
+  read-text (Err text) out_old err_old err_mid printed_new result own h i = absurd h
 
--- A search by a plan, where n words name inputs.
-module _ (plan : GrepPlan) (words : List (List ℕ)) (n : ℕ) (contents : Option Contents) (before after : Told) where
-  abbrev pub SearchesBy : Kept → Kept → Kept → Kept → Result ℕ Stop → Type 0
-  SearchesBy out_old out_new err_old err_new result =
-      (heard : Input) × Hears before after heard
-      × ((pattern_files : List Asked) × (given : List Asked) × (length pattern_files ≡ length plan.pattern_files)
-      × StandFor contents heard (asked_by_plan plan words) (pattern_files ++ given)
-      × RunsBy (text_by_plan plan n pattern_files given) (printed out_old err_old) (printed out_new err_new) result)
+-- A search by a plan.
+module _ (plan : GrepPlan) (words : List (List ℕ)) (files files_new : Filed) (before after : Told) where
+  abbrev named : List Target
+  named = map named_target plan.pattern_files
 
-  -- the words for inputs aren't looked at
-  by-files : (pattern_files : List Asked) (out_old out_new err_old err_new : Kept) (result : Result ℕ Stop) → TakesAll false before after contents plan.pattern_files pattern_files
-      → ((given : List Asked) → RunsBy (text_by_plan plan n pattern_files given) (printed out_old err_old) (printed out_new err_new) result) → SearchesBy out_old out_new err_old err_new result
-  by-files pattern_files out_old out_new err_old err_new result h runs =
-      let rest = takes-rest false before after contents plan.pattern_files (or_standard words) pattern_files h in
-      (rest.1.0, rest.1.1, (pattern_files, rest.0, stand-length contents h.0 plan.pattern_files pattern_files h.2, rest.1.2, runs rest.0))
+  named-length : (given : List Asked) → length given ≡ length named → length given ≡ length plan.pattern_files
+  named-length given h = h ∙ length-map plan.pattern_files named_target
 
-  pub by-unread : (old new : List (List ℕ)) (used : Bool) (out err_old err_new : Kept) → AddsAllFrom plan contents false used before after old new err_old err_new (Ok false)
-      → SearchesBy out out err_old err_new (Ok 2)
+  -- the words for files aren't looked at
+  by-files : (pattern_files : List Asked) (old new : Printed) (result : Result ℕ Stop) → TakesAll false before after files.contents named pattern_files
+      → ((given : List Asked) → RunsBy (text_by_plan words plan pattern_files given) old new result) → SearchesBy plan words (streams files before old) (streams files_new after new) result
+  by-files pattern_files old new result h runs =
+      let list = lists-any files.contents files.faults files_new.faults plan words in
+      let rest = takes-rest false before after files.contents named list.0 pattern_files h in
+      (rest.1.0, rest.1.1, (list.0, list.1, (pattern_files, rest.0, named-length pattern_files (stand-length files.contents h.0 named pattern_files h.2), rest.1.2, runs rest.0)))
+
+  pub by-unread : (old new : List (List ℕ)) (used : Bool) (out err_old err_new : Kept) → AddsAllFrom plan files.contents false used before after old new err_old err_new (Ok false)
+      → SearchesBy plan words (streams files before (printed out err_old)) (streams files_new after (printed out err_new)) (Ok 2)
   by-unread old new used out err_old err_new h =
-      by-files h.0 out out err_old err_new (Ok 2) h.1 (λ given. unread-text plan n given old new (texts_in_files plan h.0) out err_old err_new h.2)
+      by-files h.0 (printed out err_old) (printed out err_new) (Ok 2) h.1 (λ given. unread-text words plan given old new (texts_in_files plan h.0) out err_old err_new h.2)
 
-  pub by-stopped : (old new : List (List ℕ)) (used : Bool) (out err_old err_new : Kept) (stop : Stop) → AddsAllFrom plan contents false used before after old new err_old err_new (Err stop)
-      → SearchesBy out out err_old err_new (Err stop)
+  pub by-stopped : (old new : List (List ℕ)) (used : Bool) (out err_old err_new : Kept) (stop : Stop) → AddsAllFrom plan files.contents false used before after old new err_old err_new (Err stop)
+      → SearchesBy plan words (streams files before (printed out err_old)) (streams files_new after (printed out err_new)) (Err stop)
   by-stopped old new used out err_old err_new stop h =
-      by-files h.0 out out err_old err_new (Err stop) h.1 (λ given. stopped-text plan n given old new (texts_in_files plan h.0) out err_old err_new stop h.2)
+      by-files h.0 (printed out err_old) (printed out err_new) (Err stop) h.1 (λ given. stopped-text words plan given old new (texts_in_files plan h.0) out err_old err_new stop h.2)
 
-  pub by-search : (mid : Told) (old new : List (List ℕ)) (used : Bool) (out_old out_new err_old err_mid err_new : Kept) (result : Result ℕ Stop) → old ≡ plan.patterns
-      → AddsAllFrom plan contents false used before mid old new err_old err_mid (Ok true)
-      → SearchesFor plan n (patterns_of plan new) contents used words mid after out_old out_new err_mid err_new result
-      → SearchesBy out_old out_new err_old err_new result
-  by-search mid old new used out_old out_new err_old err_mid err_new result own h i =
-      let all = takes-then false used before mid after contents plan.pattern_files (or_standard words) h.0 i.0 h.1 i.1 in
-      let front = takes-length used mid h.0 h.1 in
-      (all.0, all.1, (h.0, i.0, front, all.2, read-text plan n i.0 old new (texts_in_files plan h.0) out_old out_new err_old err_mid err_new result own h.2 i.2))
+  pub by-search : (files_mid : Filed) (mid : Told) (old new : List (List ℕ)) (used : Bool) (out_old err_old err_mid : Kept) (printed_new : Printed) (result : Result ℕ Stop) → old ≡ plan.patterns
+      → files_mid.contents ≡ files.contents → files.faults ≤ files_mid.faults
+      → AddsAllFrom plan files.contents false used before mid old new err_old err_mid (Ok true)
+      → SearchesFor plan (patterns_of plan new) words used (streams files_mid mid (printed out_old err_mid)) (streams files_new after printed_new) result
+      → SearchesBy plan words (streams files before (printed out_old err_old)) (streams files_new after printed_new) result
+  by-search files_mid mid old new used out_old err_old err_mid printed_new result own same later h i =
+      let list = i.0 in
+      let given = i.2.0 in
+      let lists = lists-before files.contents files.faults files_mid.faults files_new.faults plan words list later (subst (λ x. Lists x files_mid.faults files_new.faults plan words list) same i.1) in
+      let taken = subst (λ x. TakesAll used mid after x list given) same i.2.1 in
+      let all = takes-then false used before mid after files.contents named list h.0 given h.1 taken in
+      let front = named-length h.0 (takes-length used mid h.0 h.1) in
+      (all.0, all.1, (list, lists, (h.0, given, front, all.2, read-text words plan given old new (texts_in_files plan h.0) out_old err_old err_mid printed_new result own h.2 i.2.2)))
     where
-      takes-length : (used : Bool) (mid : Told) (given : List Asked) → Takes false used before mid contents plan.pattern_files given → length given ≡ length plan.pattern_files
-      takes-length false mid given t = stand-length contents (hears-any before).0 plan.pattern_files given (t.1 (hears-any before).0).0
-      takes-length true mid given t = stand-length contents t.0 plan.pattern_files given t.2
+      takes-length : (used : Bool) (mid : Told) (given : List Asked) → Takes false used before mid files.contents named given → length given ≡ length named
+      takes-length false mid given t = stand-length files.contents (hears-any before).0 named given (t.1 (hears-any before).0).0
+      takes-length true mid given t = stand-length files.contents t.0 named given t.2
 
-pub by-lacks : (plan : GrepPlan) (words : List (List ℕ)) (n : ℕ) (contents : Option Contents) (t : Told) (out err : Kept) → SearchesBy plan words n contents t t out out err err (Err Memory)
-by-lacks plan words n contents t out err =
-    let any = takes-any false t contents plan.pattern_files in
-    by-files plan words n contents t t any.0 out out err err (Err Memory) any.1 (λ given. runs-lacks (text_by_plan plan n any.0 given) out err)
+pub by-lacks : (plan : GrepPlan) (words : List (List ℕ)) (files : Filed) (t : Told) (out err : Kept) → SearchesBy plan words (streams files t (printed out err)) (streams files t (printed out err)) (Err Memory)
+by-lacks plan words files t out err =
+    let any = takes-any false t files.contents (map named_target plan.pattern_files) in
+    by-files plan words files files t t any.0 (printed out err) (printed out err) (Err Memory) any.1 (λ given. runs-lacks (text_by_plan words plan any.0 given) out err)
 
 -- the words from the first that names an input, or none
-pub by-rest : {X : Type 0} (bytes : X → List ℕ) (ws : List X) (from start : ℕ) (plan : GrepPlan) (contents : Option Contents) (before after : Told) (out_old out_new err_old err_new : Kept) (result : Result ℕ Stop)
-    → start ≡ min from (length ws)
-    → SearchesBy plan (map bytes (take (length ws - start) (drop start ws))) (length (take (length ws - start) (drop start ws))) contents before after out_old out_new err_old err_new result
-    → SearchesBy plan (drop from (map bytes ws)) (length (drop from (map bytes ws))) contents before after out_old out_new err_old err_new result
-by-rest bytes ws from start plan contents before after out_old out_new err_old err_new result is h =
+pub by-rest : {X : Type 0} (bytes : X → List ℕ) (ws : List X) (from start : ℕ) (holds : List (List ℕ) → Type 0) → start ≡ min from (length ws)
+    → holds (map bytes (take (length ws - start) (drop start ws))) → holds (drop from (map bytes ws))
+by-rest bytes ws from start holds is h =
     let rest : take (length ws - start) (drop start ws) ≡ drop from ws = take_all (length ws - start) (drop start ws) (omega (arith, length-drop start ws)) ∙ ap (λ n. drop n ws) is ∙ drop_min from ws in
-    let searched = subst (λ l. SearchesBy plan (map bytes l) (length l) contents before after out_old out_new err_old err_new result) rest h in
-    subst (λ l. SearchesBy plan l (length l) contents before after out_old out_new err_old err_new result) (sym (drop-map bytes from ws))
-    (subst (λ n. SearchesBy plan (map bytes (drop from ws)) n contents before after out_old out_new err_old err_new result) (sym (length-map (drop from ws) bytes)) searched)
+    subst holds (ap (map bytes) rest ∙ sym (drop-map bytes from ws)) h
 
 -- A run on these words.
-module _ (words : List (List ℕ)) where
-  asked-by : (read : Reads GrepPlan) → plan_of words ≡ read → asked_words words ≡ elim read [ Err fault ↦ [] | Ok plan ↦ asked_unless plan.help (asked_by_plan plan (drop plan.files_from words)) ]
-  asked-by read is = ap (λ (r : Reads GrepPlan). elim r [ Err fault ↦ [] | Ok plan ↦ asked_unless plan.help (asked_by_plan plan (drop plan.files_from words)) ]) is
+module _ (words : List (List ℕ)) (contents : Option Contents) (first last : ℕ) where
+  asks-by : (read : Reads GrepPlan) (asked : List Target) → plan_of words ≡ read → AsksBy read contents first last words asked → AsksFor contents first last words asked
+  asks-by read asked is h = subst (λ (r : Reads GrepPlan). AsksBy r contents first last words asked) (sym is) h
 
-  text-by : (read : Reads GrepPlan) (given : List Asked) → plan_of words ≡ read
-      → text_of words given ≡ elim read [ Err fault ↦ refusal (usage_message words fault) | Ok plan ↦ text_by_help plan (drop plan.files_from words) given plan.help ]
-  unfolding text_of
-  text-by read given is = ap (λ (r : Reads GrepPlan). elim r [ Err fault ↦ refusal (usage_message words fault) | Ok plan ↦ text_by_help plan (drop plan.files_from words) given plan.help ]) is
+  asks-any-unless : (help : Option HelpKind) (plan : GrepPlan) (rest : List (List ℕ)) → (asked : List Target) × AsksUnless help contents first last plan rest asked
+  asks-any-unless (Some kind) plan rest = ([], refl)
+  asks-any-unless None plan rest = let list = lists-any contents first last plan rest in (asked_by_plan plan list.0, (list.0, refl, list.1))
 
-module _ (words : List (List ℕ)) (contents : Option Contents) (before after : Told) (out_old out_new err_old err_new : Kept) (result : Result ℕ Stop) where
-  abbrev pub RunsOn : Type 0
-  RunsOn = (heard : Input) × Hears before after heard
-      × ((given : List Asked) × StandFor contents heard (asked_words words) given × RunsBy (text_of words given) (printed out_old err_old) (printed out_new err_new) result)
+  asks-any-by : (read : Reads GrepPlan) → (asked : List Target) × AsksBy read contents first last words asked
+  asks-any-by (Err fault) = ([], refl)
+  asks-any-by (Ok plan) = asks-any-unless plan.help plan (drop plan.files_from words)
 
-  pub on-plan : (plan : GrepPlan) → plan_of words ≡ Ok plan → plan.help ≡ None
-      → SearchesBy plan (drop plan.files_from words) (length (drop plan.files_from words)) contents before after out_old out_new err_old err_new result → RunsOn
-  on-plan plan is search h =
-      let files = h.2.0 in
-      let given = h.2.1 in
+  asks-any : (asked : List Target) × AsksFor contents first last words asked
+  asks-any = asks-any-by (plan_of words)
+
+text-by : (words : List (List ℕ)) (read : Reads GrepPlan) (given : List Asked) → plan_of words ≡ read
+    → text_of words given ≡ elim read [ Err fault ↦ refusal (usage_message words fault) | Ok plan ↦ text_by_help (drop plan.files_from words) plan given plan.help ]
+unfolding text_of
+text-by words read given is = ap (λ (r : Reads GrepPlan). elim r [ Err fault ↦ refusal (usage_message words fault) | Ok plan ↦ text_by_help (drop plan.files_from words) plan given plan.help ]) is
+
+module _ (words : List (List ℕ)) (files files_new : Filed) where
+  pub on-plan : (before after : Told) (old new : Printed) (result : Result ℕ Stop) (plan : GrepPlan) → plan_of words ≡ Ok plan → plan.help ≡ None
+      → SearchesBy plan (drop plan.files_from words) (streams files before old) (streams files_new after new) result → RunsOn words (streams files before old) (streams files_new after new) result
+  on-plan before after old new result plan is search h =
       let names = drop plan.files_from words in
-      let asked = asked-by words (Ok plan) is ∙ ap (λ k. asked_unless k (asked_by_plan plan names)) search in
-      let parted = ap (λ l. text_by_plan plan (length names) l (drop (length plan.pattern_files) (files ++ given))) (take_at files given (length plan.pattern_files) h.2.2)
-      ∙ ap (λ l. text_by_plan plan (length names) files l) (drop_at files given (length plan.pattern_files) h.2.2) in
-      let text = text-by words (Ok plan) (files ++ given) is ∙ ap (text_by_help plan names (files ++ given)) search ∙ parted in
-      (h.0, h.1, (files ++ given, subst (λ ws. StandFor contents h.0 ws (files ++ given)) (sym asked) h.2.3, subst (λ t. RunsBy t (printed out_old err_old) (printed out_new err_new) result) (sym text) h.2.4))
+      let list = h.2.0 in
+      let front = h.2.2.0 in
+      let given = h.2.2.1 in
+      let asked = asked_by_plan plan list in
+      let asks =
+      asks-by words files.contents files.faults files_new.faults (Ok plan) asked is
+      (subst (λ k. AsksUnless k files.contents files.faults files_new.faults plan names asked) (sym search) (list, refl, h.2.1)) in
+      let parted = ap (λ l. text_by_plan names plan l (drop (length plan.pattern_files) (front ++ given))) (take_at front given (length plan.pattern_files) h.2.2.2)
+      ∙ ap (λ l. text_by_plan names plan front l) (drop_at front given (length plan.pattern_files) h.2.2.2) in
+      let text = text-by words (Ok plan) (front ++ given) is ∙ ap (text_by_help names plan (front ++ given)) search ∙ parted in
+      (h.0, h.1, (asked, asks, (front ++ given, h.2.2.3, subst (λ t. RunsBy t old new result) (sym text) h.2.2.4)))
 
 -- Where nothing is searched.
-module _ (words : List (List ℕ)) (contents : Option Contents) (t : Told) where
-  pub on-nothing : (out err : Kept) → RunsOn words contents t t out out err err (Err Memory)
+module _ (words : List (List ℕ)) (files : Filed) (t : Told) where
+  pub on-nothing : (out err : Kept) → RunsOn words (streams files t (printed out err)) (streams files t (printed out err)) (Err Memory)
   on-nothing out err =
       let any = hears-any t in
-      let given = stand-any contents any.0 (asked_words words) in
-      (any.0, any.1, (given.0, given.1, runs-lacks (text_of words given.0) out err))
+      let asked = asks-any words files.contents files.faults files.faults in
+      let given = stand-any files.contents any.0 asked.0 in
+      (any.0, any.1, (asked.0, asked.1, (given.0, given.1, runs-lacks (text_of words given.0) out err)))
 
-  unasked : (text : RunOutcome) (out_old out_new err_old err_new : Kept) (result : Result ℕ Stop) → asked_words words ≡ [] → text_of words [] ≡ text → RunsBy text (printed out_old err_old) (printed out_new err_new) result
-      → RunsOn words contents t t out_old out_new err_old err_new result
-  unasked text out_old out_new err_old err_new result asked is h =
+  unasked : (text : RunOutcome) (old new : Printed) (result : Result ℕ Stop) → AsksFor files.contents files.faults files.faults words [] → text_of words [] ≡ text → RunsBy text old new result
+      → RunsOn words (streams files t old) (streams files t new) result
+  unasked text old new result asks is h =
       let any = hears-any t in
-      (any.0, any.1, ([], subst (λ ws. StandFor contents any.0 ws []) (sym asked) tt, subst (λ o. RunsBy o (printed out_old err_old) (printed out_new err_new) result) (sym is) h))
+      (any.0, any.1, ([], asks, ([], tt, subst (λ o. RunsBy o old new result) (sym is) h)))
 
-  pub on-fault : (fault : Fault) (out_old out_new err_old err_new : Kept) (result : Result ℕ Stop) → plan_of words ≡ Err fault → RunsBy (refusal (usage_message words fault)) (printed out_old err_old) (printed out_new err_new) result
-      → RunsOn words contents t t out_old out_new err_old err_new result
-  on-fault fault out_old out_new err_old err_new result is h =
-      unasked (refusal (usage_message words fault)) out_old out_new err_old err_new result (asked-by words (Err fault) is) (text-by words (Err fault) [] is) h
+  pub on-fault : (fault : Fault) (old new : Printed) (result : Result ℕ Stop) → plan_of words ≡ Err fault → RunsBy (refusal (usage_message words fault)) old new result
+      → RunsOn words (streams files t old) (streams files t new) result
+  on-fault fault old new result is h =
+      unasked (refusal (usage_message words fault)) old new result (asks-by words files.contents files.faults files.faults (Err fault) [] is refl) (text-by words (Err fault) [] is) h
 
-  pub on-help : (plan : GrepPlan) (kind : HelpKind) (out_old out_new err_old err_new : Kept) (result : Result ℕ Stop) → plan_of words ≡ Ok plan → plan.help ≡ Some kind
-      → RunsBy (record { out = help_text kind; err = []; status = 0 }) (printed out_old err_old) (printed out_new err_new) result
-      → RunsOn words contents t t out_old out_new err_old err_new result
-  on-help plan kind out_old out_new err_old err_new result is help h =
+  pub on-help : (plan : GrepPlan) (kind : HelpKind) (old new : Printed) (result : Result ℕ Stop) → plan_of words ≡ Ok plan → plan.help ≡ Some kind
+      → RunsBy (record { out = help_text kind; err = []; status = 0 }) old new result
+      → RunsOn words (streams files t old) (streams files t new) result
+  on-help plan kind old new result is help h =
       let names = drop plan.files_from words in
-      unasked (record { out = help_text kind; err = []; status = 0 }) out_old out_new err_old err_new result
-      (asked-by words (Ok plan) is ∙ ap (λ k. asked_unless k (asked_by_plan plan names)) help)
-      (text-by words (Ok plan) [] is ∙ ap (text_by_help plan names []) help) h
+      unasked (record { out = help_text kind; err = []; status = 0 }) old new result
+      (asks-by words files.contents files.faults files.faults (Ok plan) [] is (subst (λ k. AsksUnless k files.contents files.faults files.faults plan names []) (sym help) refl))
+      (text-by words (Ok plan) [] is ∙ ap (text_by_help names plan []) help) h

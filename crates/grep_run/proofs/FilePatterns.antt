@@ -1,5 +1,5 @@
 -- Files of patterns: what a line gives, what a source gives, and files one after another (pcre2grep, "OPTIONS", -f).
-use Rattle.std.proofs.Common.{◌≡◌, ◌≢◌, ℕ, ◌+◌, ◌-◌, ◌≤◌, Bool, true, false, if◌then◌else◌, List, [], ◌∷◌, ◌++◌, length, take, drop, get_or, map, filter, Option, Some, Result, Ok, Err, refl, sym, ap, subst, ◌∙◌, arith, append-nil, append_assoc}
+use Rattle.std.proofs.Common.{◌≡◌, ◌≢◌, ℕ, ◌+◌, ◌-◌, ◌≤◌, Bool, true, false, if◌then◌else◌, List, [], ◌∷◌, ◌++◌, length, take, drop, get_or, map, filter, bytes_eq, codes, Option, Some, Result, Ok, Err, refl, sym, ap, subst, ◌∙◌, arith, append-nil, append_assoc}
 use Rattle.std.specs.Prelude.{slice_get}
 use Rattle.std.proofs.lemmas.List.{map-append, take_all, take_more, take-append-drop}
 use Rattle.std.proofs.lemmas.List.Elements.{filter-append}
@@ -11,7 +11,7 @@ use Rattle.byte_lanes.specs.declared.line_end.EndKind.TheVariants.{Lf}
 use Rattle.line_feed.specs.declared.phase.FeedError.{FeedError}
 use Rattle.line_feed.specs.declared.phase.FeedError.TheVariants as feed
 use Rattle.line_feed.specs.declared.phase.Phase.TheVariants.{Open, Closed}
-use Rattle.line_feed.specs.Rows.{Row, Rows, Finish, At, Long, End, Fault, Limit}
+use Rattle.line_feed.specs.Rows.{Input, Row, Rows, Finish, At, Long, End, Fault, Limit}
 use Rattle.line_feed.specs.View.{Feed}
 use Rattle.line_feed.specs.Answers.{Gives, Ends, Refuses}
 use Rattle.line_feed.specs.Hears.{HasGiven, HasHeard}
@@ -21,7 +21,9 @@ use Rattle.grep_core.specs.declared.ended.Ended.{Ended}
 use Rattle.grep_core.specs.declared.ended.Ended.TheVariants as told
 use Rattle.grep_core.specs.declared.ended.Stop.{Stop}
 use Rattle.grep_core.specs.declared.ended.Stop.TheVariants.{Memory}
-use Rattle.tool_in.specs.Asked.{Asked, asked}
+use Rattle.dir_walk.specs.declared.lists.Target.{Target}
+use Rattle.dir_walk.specs.declared.lists.Target.TheVariants as targets
+use Rattle.tool_in.specs.Asked.{Asked, Opened, asked, named_target}
 use Rattle.grep_run.specs.PatternFiles.{shown_name, FileTexts, is_white, with_byte, trimmed, is_given, patterns_in, texts_or_message, texts_of_rows, texts_of, texts_then, texts_in_files}
 use Rattle.grep_core.specs.Ends.{ended_of, stop_of}
 use Rattle.grep_core.specs.Messages.{ended_message}
@@ -30,9 +32,9 @@ use Rattle.tool_out.specs.Writes.{Writes, WritesAll}
 use Rattle.grep_core.specs.Turns.{Halts, ended_by}
 use Rattle.grep_core.proofs.Halting.{halts-of}
 use Rattle.tool_out.proofs.Printing.{wrote-of, prefix-none}
-use Rattle.tool_in.specs.Takes.{Takes, TakesAll}
+use Rattle.tool_in.specs.Takes.{IsLeft, Takes, TakesAll}
 use Rattle.grep_run.specs.Adds.{AddsLines, AddsTo, AddsWordFrom, AddsAllFrom}
-use Rattle.tool_in.proofs.Taking.{takes-more, takes-then, takes-end, takes-rest}
+use Rattle.tool_in.proofs.Taking.{takes-more, takes-then, takes-end, takes-rest, takes-standard, takes-opened}
 
 -- White space at the end of a line: its last byte is white, or it isn't.
 
@@ -173,13 +175,13 @@ then-assoc (Ok first) (Ok more) (Ok last) = ap Ok (sym (append_assoc first more 
 files-more : (plan : GrepPlan) (given more : List Asked) → texts_in_files plan (given ++ more) ≡ texts_then (texts_in_files plan given) (texts_in_files plan more)
 files-more plan [] more = sym (then-none (texts_in_files plan more))
 files-more plan (a ∷ given) more =
-    let first = texts_of plan (shown_name plan a.word) a.input in
+    let first = texts_of plan (shown_name plan a.target) a.input in
     ap (texts_then first) (files-more plan given more) ∙ then-assoc first (texts_in_files plan given) (texts_in_files plan more)
 
 files-one : (plan : GrepPlan) (given : List Asked) (a : Asked)
-    → texts_then (texts_in_files plan given) (texts_of plan (shown_name plan a.word) a.input) ≡ texts_in_files plan (given ++ a ∷ [])
+    → texts_then (texts_in_files plan given) (texts_of plan (shown_name plan a.target) a.input) ≡ texts_in_files plan (given ++ a ∷ [])
 files-one plan given a =
-    sym (files-more plan given (a ∷ []) ∙ ap (texts_then (texts_in_files plan given)) (none-then (texts_of plan (shown_name plan a.word) a.input)))
+    sym (files-more plan given (a ∷ []) ∙ ap (texts_then (texts_in_files plan given)) (none-then (texts_of plan (shown_name plan a.target) a.input)))
 
 adds-then : (first more : FileTexts) (old mid new : List (List ℕ)) (err_old err_mid err_new : Kept) (result : Result Bool Stop) → AddsTo first old mid err_old err_mid (Ok true)
     → AddsTo more mid new err_mid err_new result → AddsTo (texts_then first more) old new err_old err_new result
@@ -205,55 +207,63 @@ adds-halted (Err text) rest old new err_old err_new stop h = h
 -- the patterns of the files that these words name were added
 pub record AddsFiles (plan : GrepPlan) (contents : Option Contents) (was_used is_used : Bool) (before now : Told) (words : List (List ℕ)) (old new : List (List ℕ)) (err_old err_new : Kept) : Type 0 where
   pub given : List Asked
-  pub takes : Takes was_used is_used before now contents words given
+  pub takes : Takes was_used is_used before now contents (map named_target words) given
   pub adds : AddsTo (texts_in_files plan given) old new err_old err_new (Ok true)
 
--- words up to one of them, and those after it
-words-more : (words : List (List ℕ)) (i : ℕ) (word : List ℕ) → slice_get words i ≡ Some word → take i words ++ word ∷ [] ≡ take (i + 1) words
-words-more words i word at =
-    sym (take_more words i [] (slice_get_within words i word at) ∙ ap (λ (w : List ℕ). take i words ++ w ∷ []) (get_or_from_slice_get words i word [] at))
+-- the targets of words up to one of them, and of those after it
+named-more : (words : List (List ℕ)) (i : ℕ) (word : List ℕ) → slice_get words i ≡ Some word → map named_target (take i words) ++ named_target word ∷ [] ≡ map named_target (take (i + 1) words)
+named-more words i word at =
+    sym (map-append named_target (take i words) (word ∷ []))
+    ∙ ap (map named_target) (sym (take_more words i [] (slice_get_within words i word at) ∙ ap (λ (w : List ℕ). take i words ++ w ∷ []) (get_or_from_slice_get words i word [] at)))
 
-words-all : (words : List (List ℕ)) (i : ℕ) (word : List ℕ) → slice_get words i ≡ Some word → (take i words ++ word ∷ []) ++ drop (i + 1) words ≡ words
-words-all words i word at = ap (λ l. l ++ drop (i + 1) words) (words-more words i word at) ∙ take-append-drop (i + 1) words
+named-all : (words : List (List ℕ)) (i : ℕ) (word : List ℕ) → slice_get words i ≡ Some word
+    → (map named_target (take i words) ++ named_target word ∷ []) ++ map named_target (drop (i + 1) words) ≡ map named_target words
+named-all words i word at =
+    ap (λ l. l ++ map named_target (drop (i + 1) words)) (named-more words i word at)
+    ∙ sym (map-append named_target (take (i + 1) words) (drop (i + 1) words))
+    ∙ ap (map named_target) (take-append-drop (i + 1) words)
 
 -- the patterns of the files before this one were added, and then it was read
 module _ (plan : GrepPlan) (contents contents_now : Option Contents) (was_used mid_used is_used : Bool) (before now after : Told) (i : ℕ) (word : List ℕ) (old mid new : List (List ℕ)) (err_old err_mid err_new : Kept)
     (at : slice_get plan.pattern_files i ≡ Some word) (same : contents_now ≡ contents) (files : AddsFiles plan contents was_used mid_used before now (take i plan.pattern_files) old mid err_old err_mid) where
-  abbrev words : List (List ℕ)
-  words = take i plan.pattern_files
+  abbrev named : List Target
+  named = map named_target (take i plan.pattern_files)
+
+  abbrev target_here : Target
+  target_here = named_target word
 
   after_words : (result : Result Bool Stop) → (w : AddsWordFrom plan word contents_now mid_used is_used now after mid new err_mid err_new result)
-      → AddsTo (texts_in_files plan (files.given ++ asked word w.given ∷ [])) old new err_old err_new result
+      → AddsTo (texts_in_files plan (files.given ++ asked target_here w.given ∷ [])) old new err_old err_new result
   after_words result w =
-      subst (λ t. AddsTo t old new err_old err_new result) (files-one plan files.given (asked word w.given))
-      (adds-then (texts_in_files plan files.given) (texts_of plan (shown_name plan word) w.given) old mid new err_old err_mid err_new result files.adds w.adds)
+      subst (λ t. AddsTo t old new err_old err_new result) (files-one plan files.given (asked target_here w.given))
+      (adds-then (texts_in_files plan files.given) (texts_of plan (shown_name plan target_here) w.given) old mid new err_old err_mid err_new result files.adds w.adds)
 
   pub adds-more : AddsWordFrom plan word contents_now mid_used is_used now after mid new err_mid err_new (Ok true)
       → AddsFiles plan contents was_used is_used before after (take (i + 1) plan.pattern_files) old new err_old err_new
   adds-more w = record {
-    given = files.given ++ asked word w.given ∷ [];
-    takes = subst (λ l. Takes was_used is_used before after contents l (files.given ++ asked word w.given ∷ [])) (words-more plan.pattern_files i word at)
-        (takes-more was_used mid_used is_used before now after contents words (word ∷ []) files.given (asked word w.given ∷ []) files.takes
-        (subst (λ c. Takes mid_used is_used now after c (word ∷ []) (asked word w.given ∷ [])) same w.takes));
+    given = files.given ++ asked target_here w.given ∷ [];
+    takes = subst (λ l. Takes was_used is_used before after contents l (files.given ++ asked target_here w.given ∷ [])) (named-more plan.pattern_files i word at)
+        (takes-more was_used mid_used is_used before now after contents named (target_here ∷ []) files.given (asked target_here w.given ∷ []) files.takes
+        (subst (λ c. Takes mid_used is_used now after c (target_here ∷ []) (asked target_here w.given ∷ [])) same w.takes));
     adds = after_words (Ok true) w;
   }
 
-  -- what all words stand for, where it stops at this one
+  -- what all files stand for, where it stops at this one
   all-taken : (result : Result Bool Stop) (w : AddsWordFrom plan word contents_now mid_used is_used now after mid new err_mid err_new result)
-      → (more : List Asked) × TakesAll was_used before after contents plan.pattern_files ((files.given ++ asked word w.given ∷ []) ++ more)
+      → (more : List Asked) × TakesAll was_used before after contents (map named_target plan.pattern_files) ((files.given ++ asked target_here w.given ∷ []) ++ more)
   all-taken result w =
-      let one = subst (λ c. Takes mid_used is_used now after c (word ∷ []) (asked word w.given ∷ [])) same w.takes in
-      let last = takes-end mid_used is_used now after contents (word ∷ []) (asked word w.given ∷ []) one in
+      let one = subst (λ c. Takes mid_used is_used now after c (target_here ∷ []) (asked target_here w.given ∷ [])) same w.takes in
+      let last = takes-end mid_used is_used now after contents (target_here ∷ []) (asked target_here w.given ∷ []) one in
       let taken =
-      takes-rest was_used before after contents (words ++ word ∷ []) (drop (i + 1) plan.pattern_files) (files.given ++ asked word w.given ∷ [])
-      (takes-then was_used mid_used before now after contents words (word ∷ []) files.given (asked word w.given ∷ []) files.takes last) in
-      (taken.0, subst (λ l. TakesAll was_used before after contents l ((files.given ++ asked word w.given ∷ []) ++ taken.0)) (words-all plan.pattern_files i word at) taken.1)
+      takes-rest was_used before after contents (named ++ target_here ∷ []) (map named_target (drop (i + 1) plan.pattern_files)) (files.given ++ asked target_here w.given ∷ [])
+      (takes-then was_used mid_used before now after contents named (target_here ∷ []) files.given (asked target_here w.given ∷ []) files.takes last) in
+      (taken.0, subst (λ l. TakesAll was_used before after contents l ((files.given ++ asked target_here w.given ∷ []) ++ taken.0)) (named-all plan.pattern_files i word at) taken.1)
 
   pub adds-stops : AddsWordFrom plan word contents_now mid_used is_used now after mid new err_mid err_new (Ok false)
       → AddsAllFrom plan contents was_used is_used before after old new err_old err_new (Ok false)
   adds-stops w =
       let taken = all-taken (Ok false) w in
-      let given = files.given ++ asked word w.given ∷ [] in (
+      let given = files.given ++ asked target_here w.given ∷ [] in (
         given ++ taken.0,
         taken.1,
         subst (λ t. AddsTo t old new err_old err_new (Ok false)) (sym (files-more plan given taken.0))
@@ -264,9 +274,32 @@ module _ (plan : GrepPlan) (contents contents_now : Option Contents) (was_used m
       → AddsAllFrom plan contents was_used is_used before after old new err_old err_new (Err stop)
   adds-halts stop w =
       let taken = all-taken (Err stop) w in
-      let given = files.given ++ asked word w.given ∷ [] in (
+      let given = files.given ++ asked target_here w.given ∷ [] in (
         given ++ taken.0,
         taken.1,
         subst (λ t. AddsTo t old new err_old err_new (Err stop)) (sym (files-more plan given taken.0))
             (adds-halted (texts_in_files plan given) (texts_in_files plan taken.0) old new err_old err_new stop (after_words (Err stop) w)),
       )
+
+-- One file of patterns: standard input, or a file by its name.
+module _ (plan : GrepPlan) (word : List ℕ) (contents : Option Contents) (old new : List (List ℕ)) (err_old err_new : Kept) (result : Result Bool Stop) where
+  word_adds : (target : Target) (was_used is_used : Bool) (before after : Told) (given : Option Input) → named_target word ≡ target → Takes was_used is_used before after contents (target ∷ []) (asked target given ∷ [])
+      → AddsTo (texts_of plan (shown_name plan target) given) old new err_old err_new result → AddsWordFrom plan word contents was_used is_used before after old new err_old err_new result
+  word_adds target was_used is_used before after given is takes adds = record {
+    given = given;
+    takes = subst (λ t. Takes was_used is_used before after contents (t ∷ []) (asked t given ∷ [])) (sym is) takes;
+    adds = subst (λ t. AddsTo (texts_of plan (shown_name plan t) given) old new err_old err_new result) (sym is) adds;
+  }
+
+  named-is : (b : Bool) → bytes_eq word (codes "-") ≡ b → named_target word ≡ (if b then targets.Input else targets.File word)
+  named-is b is = ap (λ x. if x then targets.Input else targets.File word) is
+
+  pub adds-standard : (was_used is_used : Bool) (before after : Told) (left : Input) → bytes_eq word (codes "-") ≡ true → IsLeft was_used is_used before after left
+      → AddsTo (texts_of plan plan.label (Some left)) old new err_old err_new result → AddsWordFrom plan word contents was_used is_used before after old new err_old err_new result
+  adds-standard was_used is_used before after left is taken adds =
+      word_adds targets.Input was_used is_used before after (Some left) (named-is true is) (takes-standard was_used is_used before after contents targets.Input left refl taken) adds
+
+  pub adds-named : (used : Bool) (t : Told) (given : Option Input) → bytes_eq word (codes "-") ≡ false → Opened contents word given
+      → AddsTo (texts_of plan word given) old new err_old err_new result → AddsWordFrom plan word contents used used t t old new err_old err_new result
+  adds-named used t given is opened adds =
+      word_adds (targets.File word) used used t t given (named-is false is) (takes-opened used t contents (targets.File word) given refl opened) adds

@@ -81,5 +81,9 @@ rows_hold = record {
   looked_behind = refl;
   refused_behind = refl;
   too_long = refl;
+  included = refl;
+  excluded_directory = refl;
+  not_there = refl;
+  bad_filter = refl;
   finished_tree = λ t matching subject start. refl;
 }

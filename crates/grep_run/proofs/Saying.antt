@@ -3,25 +3,23 @@ use Rattle.std.proofs.Common.{◌≡◌, ℕ, ◌<◌, ◌≤◌, Bool, true, fa
 use Rattle.std.proofs.lemmas.Bool.{lt-leb}
 use Rattle.std.specs.Fmt.{signed_decimal}
 use Rattle.pcre_io.specs.Told.{Told, Kept}
-use Rattle.pcre_io.specs.Files.{Contents}
-use Rattle.line_feed.specs.Rows.{Input}
-use Rattle.line_feed.specs.Hears.{Hears}
 use Rattle.grep_args.specs.declared.plan.GrepPlan.{GrepPlan}
 use Rattle.grep_args.specs.declared.plan.HelpKind.{HelpKind}
 use Rattle.grep_args.specs.Words.{Reads, plan_of}
 use Rattle.grep_core.specs.declared.ended.Stop.{Stop}
-use Rattle.tool_in.specs.Asked.{Asked, StandFor}
+use Rattle.pat_tree.specs.Pattern.{Pattern}
+use Rattle.dir_walk.specs.Filters.{Filter, BadFilter, filter_of}
+use Rattle.tool_in.specs.Asked.{Asked}
 use Rattle.grep_match.specs.Compiled.{BadPattern, Compiled, patterns_of}
 use Rattle.pcre2_api.specs.FaultTexts.{fault_text}
 use Rattle.grep_core.specs.InputText.{first_state}
 use Rattle.grep_core.specs.Messages.{message}
 use Rattle.tool_out.specs.Outcomes.{RunOutcome, said, Stops, RunsSome, RunsAll, Runs}
-use Rattle.grep_run.specs.Refusals.{refusal, usage_message, pattern_message}
+use Rattle.grep_run.specs.Refusals.{refusal, usage_message, pattern_message, filter_name, filter_message}
 use Rattle.grep_run.specs.Reports.{Report, reports}
 use Rattle.grep_run.specs.PatternFiles.{FileTexts, texts_in_files}
-use Rattle.grep_run.specs.ToolText.{status_of, with_names, text_by_patterns, text_by_texts, text_by_help, text_of, asked_words}
+use Rattle.grep_run.specs.ToolText.{status_of, with_names, targets_of, text_by_filter, text_by_patterns, text_by_texts, text_by_help, text_of}
 use Rattle.grep_run.specs.RunsBy.{RunsBy}
-use Rattle.tool_in.proofs.Taking.{hears-any}
 use Rattle.tool_out.specs.Printed.{printed}
 
 -- The texts of messages, as they are written piece by piece.
@@ -40,6 +38,17 @@ pub pattern-said : (bad : BadPattern) (number error at text : List ℕ) → numb
 pattern-said bad number error at text n e a t =
     pattern-of number error at text ∙ (λ i. message (codes "pattern " ++ n i ++ codes ": error " ++ e i ++ codes " at offset " ++ a i ++ codes ": " ++ t i))
 
+filter-of : (name index error at text : List ℕ)
+    → codes "pcre2grep: " ++ (name ++ (codes " " ++ (index ++ (codes ": error " ++ (error ++ (codes " at offset " ++ (at ++ (codes ": " ++ (text ++ (codes "\n" ++ []))))))))))
+    ≡ message (name ++ codes " " ++ index ++ codes ": error " ++ error ++ codes " at offset " ++ at ++ codes ": " ++ text)
+filter-of name index error at text = simp (append_assoc, append-nil)
+
+pub filter-said : (bad : BadFilter) (name index error at text : List ℕ) → name ≡ filter_name bad.option → index ≡ decimal bad.index → error ≡ signed_decimal bad.fault.number → at ≡ decimal bad.fault.at → text ≡ fault_text bad.fault.number
+    → codes "pcre2grep: " ++ (name ++ (codes " " ++ (index ++ (codes ": error " ++ (error ++ (codes " at offset " ++ (at ++ (codes ": " ++ (text ++ (codes "\n" ++ []))))))))))
+    ≡ filter_message bad
+filter-said bad name index error at text o n e a t =
+    filter-of name index error at text ∙ (λ i. message (o i ++ codes " " ++ n i ++ codes ": error " ++ e i ++ codes " at offset " ++ a i ++ codes ": " ++ t i))
+
 -- The status of a run that can go on is at most 2.
 
 abbrev Few : RunOutcome → Type 0
@@ -48,23 +57,27 @@ Few text = text.status < 3
 few-reports : (rs : List Report) → status_of rs < 3
 few-reports rs = grind arith
 
-few-patterns : (plan : GrepPlan) (given : List Asked) (found : Compiled) → Few (text_by_patterns plan given found)
-few-patterns plan given (Err bad) = omega arith
-few-patterns plan given (Ok patterns) = few-reports (reports plan patterns given first_state)
+few-filter : (words : List (List ℕ)) (plan : GrepPlan) (given : List Asked) (patterns : List Pattern) (found : Result Filter BadFilter) → Few (text_by_filter words plan given patterns found)
+few-filter words plan given patterns (Err bad) = omega arith
+few-filter words plan given patterns (Ok filter) = few-reports (reports (with_names words (targets_of given) plan) patterns given first_state)
 
-few-texts : (plan : GrepPlan) (n : ℕ) (given : List Asked) (texts : FileTexts) → Few (text_by_texts plan n given texts)
-few-texts plan n given (Err text) = omega arith
-few-texts plan n given (Ok texts) = few-patterns (with_names n plan) given (patterns_of plan (plan.patterns ++ texts))
+few-patterns : (words : List (List ℕ)) (plan : GrepPlan) (given : List Asked) (found : Compiled) → Few (text_by_patterns words plan given found)
+few-patterns words plan given (Err bad) = omega arith
+few-patterns words plan given (Ok patterns) = few-filter words plan given patterns (filter_of plan)
 
-few-help : (plan : GrepPlan) (file_words : List (List ℕ)) (given : List Asked) (help : Option HelpKind) → Few (text_by_help plan file_words given help)
-few-help plan file_words given (Some kind) = omega arith
-few-help plan file_words given None =
-    let n = length plan.pattern_files in few-texts plan (length file_words) (drop n given) (texts_in_files plan (take n given))
+few-texts : (words : List (List ℕ)) (plan : GrepPlan) (given : List Asked) (texts : FileTexts) → Few (text_by_texts words plan given texts)
+few-texts words plan given (Err text) = omega arith
+few-texts words plan given (Ok texts) = few-patterns words plan given (patterns_of plan (plan.patterns ++ texts))
+
+few-help : (words : List (List ℕ)) (plan : GrepPlan) (given : List Asked) (help : Option HelpKind) → Few (text_by_help words plan given help)
+few-help words plan given (Some kind) = omega arith
+few-help words plan given None =
+    let n = length plan.pattern_files in few-texts words plan (drop n given) (texts_in_files plan (take n given))
 
 few-plan : (words : List (List ℕ)) (given : List Asked) (found : Reads GrepPlan)
-    → Few (elim found [ Err fault ↦ refusal (usage_message words fault) | Ok plan ↦ text_by_help plan (drop plan.files_from words) given plan.help ])
+    → Few (elim found [ Err fault ↦ refusal (usage_message words fault) | Ok plan ↦ text_by_help (drop plan.files_from words) plan given plan.help ])
 few-plan words given (Err fault) = omega arith
-few-plan words given (Ok plan) = few-help plan (drop plan.files_from words) given plan.help
+few-plan words given (Ok plan) = few-help (drop plan.files_from words) plan given plan.help
 
 few-grep : (words : List (List ℕ)) (given : List Asked) → Few (text_of words given)
 unfolding text_of

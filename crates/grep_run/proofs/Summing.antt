@@ -3,7 +3,7 @@ use Rattle.std.proofs.Common.{◌≡◌, ◌≢◌, refl, sym, ap, subst, ◌∙
 use Rattle.std.specs.Prelude.{filter}
 use Rattle.std.specs.List.{list_any}
 use Rattle.std.proofs.lemmas.Bool.{false≢true}
-use Rattle.std.proofs.lemmas.List.{take-append-drop, map-append, map_more}
+use Rattle.std.proofs.lemmas.List.{take-append-drop, take_more}
 use Rattle.std.proofs.lemmas.List.Concat.{flat_map-append}
 use Rattle.std.proofs.lemmas.List.Elements.{filter-append}
 use Rattle.std.proofs.lemmas.List.Folds.{list_any-append}
@@ -23,6 +23,7 @@ use Rattle.grep_match.specs.declared.modes.Mode.TheVariants.{Counts}
 use Rattle.grep_core.specs.declared.shows.Treatment.{Treatment}
 use Rattle.grep_core.specs.declared.shows.Treatment.TheVariants.{AsText, AsBinary, Skipped}
 use Rattle.grep_core.specs.declared.state.State.{State}
+use Rattle.dir_walk.specs.declared.lists.Target.{Target}
 use Rattle.tool_in.specs.Asked.{Asked, asked}
 use Rattle.grep_run.specs.PatternFiles.{shown_name, is_given}
 use Rattle.pat_tree.specs.Pattern.{Pattern}
@@ -44,7 +45,7 @@ use Rattle.grep_core.proofs.FileTexts.{breaks-out}
 use Rattle.grep_run.proofs.Errors.{few-errors}
 use Rattle.grep_run.specs.declared.sum.Sum.{Sum}
 use Rattle.tool_in.specs.Takes.{Takes, TakesAll}
-use Rattle.grep_run.specs.Searches.{ReportsTo, ReportsWordFrom}
+use Rattle.grep_run.specs.Searches.{ReportsTo, ReportsTargetFrom}
 use Rattle.grep_run.specs.RunsBy.{RunsBy}
 use Rattle.grep_run.specs.Sums.{SumIs, SumsTo, adds_end, one_if, writes_count}
 use Rattle.tool_in.proofs.Taking.{takes-none, takes-more, takes-end, takes-rest}
@@ -252,10 +253,10 @@ module _ (plan : GrepPlan) where
   pub total-bound : (sum sum_new : Sum) (end : Option FileEnd) (n : ℕ) → sum_new ≡ adds_end plan sum end → sum.total ≤ n * 2 ^ 64 → told_of end < 2 ^ 64 → sum_new.total ≤ (n + 1) * 2 ^ 64
   total-bound sum sum_new end n is few small = let more = ap (λ (x : Sum). x.total) is ∙ total-more sum end in omega (arith, more, few, small)
 
--- One more word was searched.
-module _ (plan : GrepPlan) (patterns : List Pattern) (s s_new : State) (word : List ℕ) (out out_new err err_new : Kept) where
+-- One more target was searched.
+module _ (plan : GrepPlan) (patterns : List Pattern) (s s_new : State) (target : Target) (out out_new err err_new : Kept) where
   abbrev report : Option Input → Report
-  report given = report_of plan patterns s (asked word given)
+  report given = report_of plan patterns s (asked target given)
 
   -- it didn't end the run
   record Comes (r : Report) (end : Option FileEnd) : Type 0 where
@@ -270,7 +271,7 @@ module _ (plan : GrepPlan) (patterns : List Pattern) (s s_new : State) (word : L
   comes None (Some end) h = absurd h
   comes (Some input) None h = absurd h
   comes (Some input) (Some end) h =
-      let name = shown_name plan word in
+      let name = shown_name plan target in
       let w = input_text plan patterns name s input in record {
         wrote = h.wrote;
         tells = (h.selected, h.ended, λ m. input-counted plan patterns name s input end.ended m h.ended);
@@ -300,12 +301,12 @@ breaks-longer {out_old} {out_new} {err_old} {err_new} a b c d stop h = record {
   cause = h.cause;
 }
 
--- The first words of a run.
+-- The first targets of a run.
 module _ (plan : GrepPlan) (patterns : List Pattern) (contents : Option Contents) (was_used : Bool) (before : Told) (out_old err_old : Kept) where
   -- they were searched
-  pub record Searched (words : List (List ℕ)) (is_used : Bool) (now : Told) (s : State) (sum : Sum) (out err : Kept) : Type 0 where
+  pub record Searched (list : List Target) (is_used : Bool) (now : Told) (s : State) (sum : Sum) (out err : Kept) : Type 0 where
     pub given : List Asked
-    pub takes : Takes was_used is_used before now contents words given
+    pub takes : Takes was_used is_used before now contents list given
     pub wrote : Wrote (flat_map out_of (all plan patterns given)) (flat_map err_of (all plan patterns given)) (printed out_old err_old) (printed out err)
     pub sums : SumIs plan (all plan patterns given) sum
     pub state : s ≡ states_after (all plan patterns given) first_state
@@ -324,29 +325,29 @@ module _ (plan : GrepPlan) (patterns : List Pattern) (contents : Option Contents
     total = ap (λ (x : State). x.total) is;
   }
 
-  -- what the words come to where nothing is searched after these
-  abbrev pub Ends : List (List ℕ) → Told → Kept → Kept → Result Sum Stop → Type 0
-  Ends words after out err result =
-      (given : List Asked) × TakesAll was_used before after contents words given
+  -- what the targets come to where nothing is searched after these
+  abbrev pub Ends : List Target → Told → Kept → Kept → Result Sum Stop → Type 0
+  Ends list after out err result =
+      (given : List Asked) × TakesAll was_used before after contents list given
       × SumsTo plan (all plan patterns given) (printed out_old err_old) (printed out err) result
 
-  pub searched-all : (words : List (List ℕ)) (is_used : Bool) (after : Told) (s : State) (sum : Sum) (out err : Kept) → Searched words is_used after s sum out err → Ends words after out err (Ok sum)
-  searched-all words is_used after s sum out err had = (had.given, takes-end was_used is_used before after contents words had.given had.takes, (had.wrote, had.sums))
+  pub searched-all : (list : List Target) (is_used : Bool) (after : Told) (s : State) (sum : Sum) (out err : Kept) → Searched list is_used after s sum out err → Ends list after out err (Ok sum)
+  searched-all list is_used after s sum out err had = (had.given, takes-end was_used is_used before after contents list had.given had.takes, (had.wrote, had.sums))
 
-  module _ (words : List (List ℕ)) (word : List ℕ) (mid_used is_used : Bool) (mid after : Told) (s s_new : State) (sum : Sum) (out out_new err err_new : Kept) (had : Searched words mid_used mid s sum out err) where
+  module _ (list : List Target) (target : Target) (mid_used is_used : Bool) (mid after : Told) (s s_new : State) (sum : Sum) (out out_new err err_new : Kept) (had : Searched list mid_used mid s sum out err) where
     abbrev so_far : List Report
     so_far = all plan patterns had.given
 
-    -- one more word
-    module _ (end : Option FileEnd) (came : ReportsWordFrom plan patterns word contents mid_used is_used mid after s s_new (printed out err) (printed out_new err_new) (Ok end)) where
+    -- one more target
+    module _ (end : Option FileEnd) (came : ReportsTargetFrom plan patterns target contents mid_used is_used mid after s s_new (printed out err) (printed out_new err_new) (Ok end)) where
       abbrev a : Asked
-      a = asked word came.given
+      a = asked target came.given
 
       abbrev r : Report
       r = report_of plan patterns s a
 
-      abbrev one : Comes plan patterns s s_new word out out_new err err_new r end
-      one = comes plan patterns s s_new word out out_new err err_new came.given end came.reports
+      abbrev one : Comes plan patterns s s_new target out out_new err err_new r end
+      one = comes plan patterns s s_new target out out_new err err_new came.given end came.reports
 
       all_is : all plan patterns (had.given ++ a ∷ []) ≡ so_far ++ r ∷ []
       all_is = all-one plan patterns had.given a s had.sums.whole had.state
@@ -357,10 +358,10 @@ module _ (plan : GrepPlan) (patterns : List Pattern) (contents : Option Contents
           (subst (λ l. Wrote (flat_map out_of so_far ++ out_of r) l (printed out_old err_old) (printed out_new err_new)) (sym (text-more err_of so_far r))
           (wrote-more (flat_map out_of so_far) (flat_map err_of so_far) (out_of r) (err_of r) had.wrote one.wrote))
 
-      searched-more : Searched (words ++ word ∷ []) is_used after s_new (adds_end plan sum end) out_new err_new
+      searched-more : Searched (list ++ target ∷ []) is_used after s_new (adds_end plan sum end) out_new err_new
       searched-more = record {
         given = had.given ++ a ∷ [];
-        takes = takes-more was_used mid_used is_used before mid after contents words (word ∷ []) had.given (a ∷ []) had.takes came.takes;
+        takes = takes-more was_used mid_used is_used before mid after contents list (target ∷ []) had.given (a ∷ []) had.takes came.takes;
         wrote = subst (λ l. Wrote (flat_map out_of l) (flat_map err_of l) (printed out_old err_old) (printed out_new err_new)) (sym all_is) wrote_all;
         sums = subst (λ l. SumIs plan l (adds_end plan sum end)) (sym all_is) (sum-more plan so_far r sum end had.sums one.tells);
         state = one.state ∙ ap (λ x. state_after_report x r) had.state ∙ sym (states-more so_far r first_state) ∙ ap (λ l. states_after l first_state) (sym all_is);
@@ -368,30 +369,30 @@ module _ (plan : GrepPlan) (patterns : List Pattern) (contents : Option Contents
         total = one.total ∙ ap (λ n. n + told_of end) had.total ∙ sym (total-more plan sum end);
       }
 
-      pub searched-next : (next : List (List ℕ)) (sum_new : Sum) → next ≡ words ++ word ∷ [] → sum_new ≡ adds_end plan sum end → Searched next is_used after s_new sum_new out_new err_new
+      pub searched-next : (next : List Target) (sum_new : Sum) → next ≡ list ++ target ∷ [] → sum_new ≡ adds_end plan sum end → Searched next is_used after s_new sum_new out_new err_new
       searched-next next sum_new next_is sum_is =
           subst (λ x. Searched next is_used after s_new x out_new err_new) (sym sum_is) (subst (λ l. Searched l is_used after s_new (adds_end plan sum end) out_new err_new) (sym next_is) searched-more)
 
-    -- the run stops at this word
-    module _ (rest : List (List ℕ)) (stop : Stop) (came : ReportsWordFrom plan patterns word contents mid_used is_used mid after s s_new (printed out err) (printed out_new err_new) (Err stop)) where
+    -- the run stops at this target
+    module _ (rest : List Target) (stop : Stop) (came : ReportsTargetFrom plan patterns target contents mid_used is_used mid after s s_new (printed out err) (printed out_new err_new) (Err stop)) where
       abbrev b : Asked
-      b = asked word came.given
+      b = asked target came.given
 
       abbrev q : Report
       q = report_of plan patterns s b
 
-      stop_takes : (more : List Asked) × TakesAll was_used before after contents ((words ++ word ∷ []) ++ rest) ((had.given ++ b ∷ []) ++ more)
+      stop_takes : (more : List Asked) × TakesAll was_used before after contents ((list ++ target ∷ []) ++ rest) ((had.given ++ b ∷ []) ++ more)
       stop_takes =
-          takes-rest was_used before after contents (words ++ word ∷ []) rest (had.given ++ b ∷ [])
-          (takes-end was_used is_used before after contents (words ++ word ∷ []) (had.given ++ b ∷ [])
-          (takes-more was_used mid_used is_used before mid after contents words (word ∷ []) had.given (b ∷ []) had.takes came.takes))
+          takes-rest was_used before after contents (list ++ target ∷ []) rest (had.given ++ b ∷ [])
+          (takes-end was_used is_used before after contents (list ++ target ∷ []) (had.given ++ b ∷ [])
+          (takes-more was_used mid_used is_used before mid after contents list (target ∷ []) had.given (b ∷ []) had.takes came.takes))
 
       all_stop : (more : List Asked) → all plan patterns ((had.given ++ b ∷ []) ++ more) ≡ so_far ++ reports plan patterns (b ∷ more) s
       all_stop more = ap (all plan patterns) (append_assoc had.given (b ∷ []) more) ∙ all-more plan patterns had.given (b ∷ more) s had.sums.whole had.state
 
       stop_last : stop ≡ TooManyErrors → (more : List Asked) → SumsTo plan (all plan patterns ((had.given ++ b ∷ []) ++ more)) (printed out_old err_old) (printed out_new err_new) (Err TooManyErrors)
       stop_last is more =
-          let last = comes-last plan patterns s s_new word out out_new err err_new came.given (subst (λ x. ReportsTo q s s_new (printed out err) (printed out_new err_new) (Err x)) is came.reports) in
+          let last = comes-last plan patterns s s_new target out out_new err err_new came.given (subst (λ x. ReportsTo q s s_new (printed out err) (printed out_new err_new) (Err x)) is came.reports) in
           let all_is = all_stop more ∙ ap (λ l. so_far ++ l) (reports-broken plan patterns b more s last.1) in
           subst (λ l. SumsTo plan l (printed out_old err_old) (printed out_new err_new) (Err TooManyErrors)) (sym all_is) (
             subst (λ l. Wrote l (flat_map err_of (so_far ++ q ∷ [])) (printed out_old err_old) (printed out_new err_new)) (sym (text-more out_of so_far q))
@@ -402,7 +403,7 @@ module _ (plan : GrepPlan) (patterns : List Pattern) (contents : Option Contents
 
       stop_part : stop ≢ TooManyErrors → (more : List Asked) → Breaks (flat_map out_of (all plan patterns ((had.given ++ b ∷ []) ++ more))) (flat_map err_of (all plan patterns ((had.given ++ b ∷ []) ++ more))) (printed out_old err_old) (printed out_new err_new) (stop ≡ SinkFault)
       stop_part other more =
-          let part = comes-part plan patterns s s_new word out out_new err err_new came.given stop other came.reports in
+          let part = comes-part plan patterns s s_new target out out_new err err_new came.given stop other came.reports in
           let some = reports-some plan patterns b more s in
           let all_is : all plan patterns ((had.given ++ b ∷ []) ++ more) ≡ so_far ++ (q ∷ some.0) = all_stop more ∙ ap (λ l. so_far ++ l) some.1 in
           let whole = wrote-breaks (flat_map out_of so_far) (flat_map err_of so_far) (out_of q ++ flat_map out_of some.0) (err_of q ++ flat_map err_of some.0) had.wrote (stop ≡ SinkFault)
@@ -411,22 +412,19 @@ module _ (plan : GrepPlan) (patterns : List Pattern) (contents : Option Contents
           (subst (λ l. Breaks l (flat_map err_of (so_far ++ q ∷ some.0)) (printed out_old err_old) (printed out_new err_new) (stop ≡ SinkFault)) (sym (flat_map-append out_of so_far (q ∷ some.0)))
           (subst (λ l. Breaks (flat_map out_of so_far ++ flat_map out_of (q ∷ some.0)) l (printed out_old err_old) (printed out_new err_new) (stop ≡ SinkFault)) (sym (flat_map-append err_of so_far (q ∷ some.0))) whole))
 
-    stops-so : (rest : List (List ℕ)) (stop : Stop) (came : ReportsWordFrom plan patterns word contents mid_used is_used mid after s s_new (printed out err) (printed out_new err_new) (Err stop)) → Ends ((words ++ word ∷ []) ++ rest) after out_new err_new (Err stop)
-    stops-so rest SinkFault came = let more = stop_takes rest SinkFault came in ((had.given ++ asked word came.given ∷ []) ++ more.0, more.1, stop_part rest SinkFault came (λ e. cc) more.0)
-    stops-so rest TooManyErrors came = let more = stop_takes rest TooManyErrors came in ((had.given ++ asked word came.given ∷ []) ++ more.0, more.1, stop_last rest TooManyErrors came refl more.0)
-    stops-so rest Memory came = let more = stop_takes rest Memory came in ((had.given ++ asked word came.given ∷ []) ++ more.0, more.1, stop_part rest Memory came (λ e. cc) more.0)
+    stops-so : (rest : List Target) (stop : Stop) (came : ReportsTargetFrom plan patterns target contents mid_used is_used mid after s s_new (printed out err) (printed out_new err_new) (Err stop)) → Ends ((list ++ target ∷ []) ++ rest) after out_new err_new (Err stop)
+    stops-so rest SinkFault came = let more = stop_takes rest SinkFault came in ((had.given ++ asked target came.given ∷ []) ++ more.0, more.1, stop_part rest SinkFault came (λ e. cc) more.0)
+    stops-so rest TooManyErrors came = let more = stop_takes rest TooManyErrors came in ((had.given ++ asked target came.given ∷ []) ++ more.0, more.1, stop_last rest TooManyErrors came refl more.0)
+    stops-so rest Memory came = let more = stop_takes rest Memory came in ((had.given ++ asked target came.given ∷ []) ++ more.0, more.1, stop_part rest Memory came (λ e. cc) more.0)
 
-    pub searched-stops : (every rest : List (List ℕ)) (stop : Stop) (result : Result Sum Stop) → (words ++ word ∷ []) ++ rest ≡ every → result ≡ Err stop
-        → ReportsWordFrom plan patterns word contents mid_used is_used mid after s s_new (printed out err) (printed out_new err_new) (Err stop) → Ends every after out_new err_new result
+    pub searched-stops : (every rest : List Target) (stop : Stop) (result : Result Sum Stop) → (list ++ target ∷ []) ++ rest ≡ every → result ≡ Err stop
+        → ReportsTargetFrom plan patterns target contents mid_used is_used mid after s s_new (printed out err) (printed out_new err_new) (Err stop) → Ends every after out_new err_new result
     searched-stops every rest stop result is same came =
-        subst (λ l. Ends l after out_new err_new result) is (subst (Ends ((words ++ word ∷ []) ++ rest) after out_new err_new) (sym same) (stops-so rest stop came))
+        subst (λ l. Ends l after out_new err_new result) is (subst (Ends ((list ++ target ∷ []) ++ rest) after out_new err_new) (sym same) (stops-so rest stop came))
 
--- the first words, one of them, and those after it are all
-pub words-parted : {X : Type 0} (text : X → List ℕ) (words : List X) (i : ℕ) (d : X) → i < length words → (map text (take i words) ++ text (get_or words i d) ∷ []) ++ map text (drop (i + 1) words) ≡ map text words
-words-parted text words i d within =
-    ap (λ l. l ++ map text (drop (i + 1) words)) (sym (map_more text words i d within))
-    ∙ sym (map-append text (take (i + 1) words) (drop (i + 1) words))
-    ∙ ap (map text) (take-append-drop (i + 1) words)
+-- the first targets, one of them, and those after it are all
+pub list-parted : (list : List Target) (i : ℕ) (d : Target) → i < length list → (take i list ++ get_or list i d ∷ []) ++ drop (i + 1) list ≡ list
+list-parted list i d within = ap (λ l. l ++ drop (i + 1) list) (sym (take_more list i d within)) ∙ take-append-drop (i + 1) list
 
 -- What the reports come to.
 

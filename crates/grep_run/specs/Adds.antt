@@ -1,6 +1,6 @@
 -- What reading files of patterns does: words, and the patterns so far → what the words stand for → the patterns of their lines, or
 -- a message.
-use Rattle.std.specs.Prelude.{◌≡◌, ℕ, Bool, true, false, List, [], ◌∷◌, ◌++◌, Option, Result, Ok, Err}
+use Rattle.std.specs.Prelude.{◌≡◌, ℕ, Bool, true, false, List, [], ◌∷◌, ◌++◌, map, Option, Result, Ok, Err}
 use Rattle.pcre_io.specs.Told.{Told, Kept}
 use Rattle.pcre_io.specs.Files.{Contents}
 use Rattle.byte_lanes.specs.declared.line_end.EndKind.TheVariants.{Lf}
@@ -10,7 +10,7 @@ use Rattle.grep_args.specs.declared.plan.GrepPlan.{GrepPlan}
 use Rattle.grep_core.specs.declared.ended.Ended.{Ended}
 use Rattle.grep_core.specs.declared.ended.Stop.{Stop}
 use Rattle.grep_core.specs.declared.ended.Stop.TheVariants.{Memory}
-use Rattle.tool_in.specs.Asked.{Asked, asked}
+use Rattle.tool_in.specs.Asked.{Asked, asked, named_target}
 use Rattle.grep_run.specs.PatternFiles.{shown_name, FileTexts, patterns_in, texts_of, texts_in_files}
 use Rattle.grep_core.specs.Ends.{ended_of}
 use Rattle.grep_core.specs.Scans as meant
@@ -43,17 +43,18 @@ module _ (plan : GrepPlan) where
       (before after : Told) (old new : List (List ℕ)) (err_old err_new : Kept)
       (result : Result Bool Stop) : Type 0 where
     pub given : Option Input
-    pub takes : Takes was_used is_used before after contents (word ∷ []) (asked word given ∷ [])
-    pub adds : AddsTo (texts_of plan (shown_name plan word) given) old new err_old err_new result
+    pub takes : Takes was_used is_used before after contents (named_target word ∷ [])
+        (asked (named_target word) given ∷ [])
+    pub adds : AddsTo (texts_of plan (shown_name plan (named_target word)) given) old new err_old err_new result
 
   -- all files were read, or one of them can't be
   abbrev pub AddsAllFrom : Option Contents → Bool → Bool → Told → Told → List (List ℕ)
       → List (List ℕ) → Kept → Kept → Result Bool Stop → Type 0
   AddsAllFrom contents was_used is_used before after old new err_old err_new (Ok true) =
-      (given : List Asked) × Takes was_used is_used before after contents plan.pattern_files given
+      (given : List Asked) × Takes was_used is_used before after contents (map named_target plan.pattern_files) given
       × AddsTo (texts_in_files plan given) old new err_old err_new (Ok true)
   AddsAllFrom contents was_used is_used before after old new err_old err_new result =
-      (given : List Asked) × TakesAll was_used before after contents plan.pattern_files given
+      (given : List Asked) × TakesAll was_used before after contents (map named_target plan.pattern_files) given
       × AddsTo (texts_in_files plan given) old new err_old err_new result
 
 -- how the reading of files of patterns stands: the inputs, the patterns so far, and what the messages tell

@@ -2,10 +2,12 @@ pub mod PatternFiles
 pub mod Reports
 pub mod Refusals
 pub mod ToolText
+pub mod Asks
 pub mod RowRuns
 pub mod Worked
 pub mod Adds
 pub mod Searches
 pub mod Sums
 pub mod RunsBy
+pub mod Stages
 pub mod Laws

@@ -1,15 +1,22 @@
--- Files of patterns (pcre2grep, "OPTIONS", -f): words → inputs → rows → trimmed lines → patterns, or a message.
+-- Files of patterns (pcre2grep, "OPTIONS", -f): targets → inputs → rows → trimmed lines → patterns, or a message.
 use Rattle.std.specs.Prelude.{ℕ, ◌==◌, Bool, true, false, ◌||◌, if◌then◌else◌, List, [], ◌∷◌, ◌++◌, map, filter, codes, Option, Some, None, Result, Ok, Err}
 use Rattle.std.specs.Int.{is_in_range}
 use Rattle.byte_lanes.specs.declared.line_end.EndKind.TheVariants.{Lf}
 use Rattle.line_feed.specs.Rows.{Row, Rows, Input, End, Finish, At, rows}
 use Rattle.grep_args.specs.declared.plan.GrepPlan.{GrepPlan}
-use Rattle.tool_in.specs.Asked.{Asked, is_standard}
+use Rattle.dir_walk.specs.declared.lists.Target.{Target}
+use Rattle.dir_walk.specs.declared.lists.Target.TheVariants as targets
+use Rattle.tool_in.specs.Asked.{Asked}
 use Rattle.grep_core.specs.Messages.{message_on, finish_message}
 
 -- standard input is shown under its label
-abbrev pub shown_name : GrepPlan → List ℕ → List ℕ
-shown_name plan word = if is_standard word then plan.label else word
+abbrev pub shown_name : GrepPlan → Target → List ℕ
+shown_name plan targets.Input = plan.label
+shown_name plan (targets.File path) = path
+shown_name plan (targets.NoOpen path) = path
+shown_name plan (targets.NoList path) = path
+shown_name plan (targets.TooDeep path) = path
+shown_name plan (targets.Unnamed path) = path
 
 abbrev pub missing_message : List ℕ → List ℕ
 missing_message name = message_on name (codes "cannot be opened")
@@ -59,4 +66,4 @@ texts_then (Err text) more = Err text
 abbrev pub texts_in_files : GrepPlan → List Asked → FileTexts
 texts_in_files plan [] = Ok []
 texts_in_files plan (a ∷ given) =
-    texts_then (texts_of plan (shown_name plan a.word) a.input) (texts_in_files plan given)
+    texts_then (texts_of plan (shown_name plan a.target) a.input) (texts_in_files plan given)

@@ -5,7 +5,10 @@ use Rattle.grep_args.specs.declared.plan.HelpKind.{HelpKind}
 use Rattle.grep_args.specs.declared.plan.HelpKind.TheVariants.{Help, Version}
 use Rattle.grep_args.specs.declared.usage.UsageKind.{UsageKind}
 use Rattle.grep_args.specs.declared.usage.UsageKind.TheVariants.{UnknownOption, MissingValue, BadNumber, BadValue, Exclude, NoPattern}
+use Rattle.grep_args.specs.declared.options.FilterOption.{FilterOption}
+use Rattle.grep_args.specs.declared.options.FilterOption.TheVariants.{Include, Exclude, IncludeDir, ExcludeDir}
 use Rattle.grep_args.specs.Words.{Fault}
+use Rattle.dir_walk.specs.Filters.{BadFilter}
 use Rattle.grep_match.specs.Compiled.{BadPattern}
 use Rattle.tool_out.specs.Texts.{line}
 use Rattle.grep_core.specs.Messages.{message}
@@ -30,6 +33,19 @@ usage_message words fault = message (usage_text fault.kind (slice_index_or words
 abbrev pub pattern_message : BadPattern → List ℕ
 pattern_message bad =
     message (codes "pattern " ++ decimal bad.number ++ codes ": error "
+    ++ signed_decimal bad.fault.number
+    ++ codes " at offset " ++ decimal bad.fault.at ++ codes ": " ++ fault_text bad.fault.number)
+
+-- the option of a pattern for names
+abbrev pub filter_name : FilterOption → List ℕ
+filter_name Include = codes "--include"
+filter_name Exclude = codes "--exclude"
+filter_name IncludeDir = codes "--include-dir"
+filter_name ExcludeDir = codes "--exclude-dir"
+
+abbrev pub filter_message : BadFilter → List ℕ
+filter_message bad =
+    message (filter_name bad.option ++ codes " " ++ decimal bad.index ++ codes ": error "
     ++ signed_decimal bad.fault.number
     ++ codes " at offset " ++ decimal bad.fault.at ++ codes ": " ++ fault_text bad.fault.number)
 

@@ -1,11 +1,13 @@
--- What pcre2grep makes of its inputs: words and what they stand for → the text of each after those before it.
+-- What pcre2grep makes of its targets: targets and what they stand for → the text of each after those before it.
 use Rattle.std.specs.Prelude.{ℕ, ◌==◌, Bool, true, false, ◌||◌, not, if◌then◌else◌, List, [], ◌∷◌, ◌++◌, map, filter, codes, Option, Some, None, Result, Ok, Err}
 use Rattle.std.specs.Int.{is_in_range}
 use Rattle.byte_lanes.specs.declared.line_end.EndKind.TheVariants.{Lf}
 use Rattle.line_feed.specs.Rows.{Row, Rows, Input, End, Finish, At, rows}
 use Rattle.grep_args.specs.declared.plan.GrepPlan.{GrepPlan}
+use Rattle.dir_walk.specs.declared.lists.Target.{Target}
+use Rattle.dir_walk.specs.declared.lists.Target.TheVariants as targets
 use Rattle.tool_in.specs.Asked.{Asked}
-use Rattle.grep_run.specs.PatternFiles.{shown_name, missing_message}
+use Rattle.grep_run.specs.PatternFiles.{shown_name}
 use Rattle.pat_tree.specs.Pattern.{Pattern}
 use Rattle.grep_core.specs.Scans.{at_finish, early, too_many_errors}
 use Rattle.tool_out.specs.Texts.{text_if}
@@ -15,7 +17,16 @@ use Rattle.grep_core.specs.InputText.{Written, input_text}
 
 -- All inputs.
 
--- what becomes of a word: its input is scanned, or it is missing
+-- why a target isn't searched: its name isn't a file's, or it is a directory that isn't gone through, or not whole
+abbrev pub fault_said : Target → List ℕ
+fault_said targets.Input = codes "cannot be opened"
+fault_said (targets.File path) = codes "cannot be opened"
+fault_said (targets.NoOpen path) = codes "cannot be opened"
+fault_said (targets.NoList path) = codes "cannot be listed"
+fault_said (targets.TooDeep path) = codes "too deep"
+fault_said (targets.Unnamed path) = codes "an entry has no readable name"
+
+-- what becomes of a target: its input is scanned, or it is missing
 pub data Report : Type 0 where
   scanned : Written → Report
   missing : List ℕ → Report
@@ -31,13 +42,16 @@ state_after_report before (scanned w) = w.state
 state_after_report before (missing text) = before
 
 module _ (plan : GrepPlan) (patterns : List Pattern) where
-  -- of an input of this name, after what the inputs before it leave
-  abbrev pub report_on : State → List ℕ → Option Input → Report
-  report_on before name None = missing (text_if (not plan.no_messages) (missing_message name))
-  report_on before name (Some input) = scanned (input_text plan patterns name before input)
+  -- of a target, after what the inputs before it leave; `-s` leaves its message out
+  abbrev pub report_on : State → Target → Option Input → Report
+  report_on before target None =
+      missing (text_if (not plan.no_messages) (message_on (shown_name plan target)
+      (fault_said target)))
+  report_on before target (Some input) =
+      scanned (input_text plan patterns (shown_name plan target) before input)
 
   abbrev pub report_of : State → Asked → Report
-  report_of before a = report_on before (shown_name plan a.word) a.input
+  report_of before a = report_on before a.target a.input
 
   -- each input after those before it, up to a match error that ends the run
   unfoldable pub reports : List Asked → State → List Report

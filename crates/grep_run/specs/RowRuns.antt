@@ -5,7 +5,8 @@ use Rattle.pcre_io.specs.Files.{File}
 use Rattle.pcre_io.specs.MemTree.{held_files}
 use Rattle.line_feed.specs.Rows.{Input, End, input_with}
 use Rattle.tool_in.specs.Asked.{all_asked}
-use Rattle.grep_run.specs.ToolText.{text_of, asked_words}
+use Rattle.grep_run.specs.ToolText.{text_of}
+use Rattle.grep_run.specs.Asks.{asked_targets}
 use Rattle.tool_out.specs.Outcomes.{RunOutcome}
 
 abbrev pub outcome : String → String → ℕ → RunOutcome
@@ -14,7 +15,7 @@ outcome out err status = record { out = codes out; err = codes err; status = sta
 -- over these files and this input
 abbrev pub run_on : List File → Input → List (List ℕ) → RunOutcome
 run_on files standard words =
-    text_of words (all_asked (held_files files []) standard (asked_words words))
+    let set = held_files files [] in text_of words (all_asked set standard (asked_targets set words))
 
 -- over standard input
 abbrev pub over : String → List String → RunOutcome

@@ -1,4 +1,4 @@
--- What searching the inputs does, one by one: a word, and how the search stood → what the word stands for → its report → what was
+-- What searching the targets does, one by one: a target, and how the search stood → what it stands for → its report → what was
 -- written, and how the search stands then.
 use Rattle.std.specs.Prelude.{◌≡◌, ℕ, ◌≤◌, ◌<◌, ◌^◌, Bool, List, [], ◌∷◌, Option, Some, None, Result, Ok, Err}
 use Rattle.pcre_io.specs.Told.{Told, Kept}
@@ -10,6 +10,7 @@ use Rattle.grep_core.specs.declared.ended.FileEnd.{FileEnd}
 use Rattle.grep_core.specs.declared.ended.Stop.{Stop}
 use Rattle.grep_core.specs.declared.ended.Stop.TheVariants.{SinkFault, TooManyErrors}
 use Rattle.grep_core.specs.declared.state.State.{State}
+use Rattle.dir_walk.specs.declared.lists.Target.{Target}
 use Rattle.tool_in.specs.Asked.{asked}
 use Rattle.pat_tree.specs.Pattern.{Pattern}
 use Rattle.grep_core.specs.OneInput.{GrepsTo}
@@ -35,15 +36,15 @@ ReportsTo (missing text) s s_new old new (Ok None) = Wrote [] text old new × (s
 ReportsTo (missing text) s s_new old new (Err TooManyErrors) = ⊥
 ReportsTo (missing text) s s_new old new (Err stop) = Breaks [] text old new (stop ≡ SinkFault)
 
--- what a word stands for was searched
-pub record ReportsWordFrom (plan : GrepPlan) (patterns : List Pattern) (word : List ℕ)
+-- what a target stands for was searched
+pub record ReportsTargetFrom (plan : GrepPlan) (patterns : List Pattern) (target : Target)
     (contents : Option Contents) (was_used is_used : Bool) (before after : Told) (s s_new : State)
     (old new : Printed) (result : Result (Option FileEnd) Stop) : Type 0 where
   pub given : Option Input
-  pub takes : Takes was_used is_used before after contents (word ∷ []) (asked word given ∷ [])
-  pub reports : ReportsTo (report_of plan patterns s (asked word given)) s s_new old new result
+  pub takes : Takes was_used is_used before after contents (target ∷ []) (asked target given ∷ [])
+  pub reports : ReportsTo (report_of plan patterns s (asked target given)) s s_new old new result
 
--- how a search stands between two words
+-- how a search stands between two targets
 pub record Searching : Type 0 where
   pub inputs : Inputs
   pub state : State
@@ -52,8 +53,8 @@ pub record Searching : Type 0 where
 abbrev pub searching : Inputs → State → Printed → Searching
 searching inputs state printed = record { inputs = inputs; state = state; printed = printed }
 
-abbrev pub ReportsWord : GrepPlan → List Pattern → List ℕ → Searching → Searching
+abbrev pub ReportsTarget : GrepPlan → List Pattern → Target → Searching → Searching
     → Result (Option FileEnd) Stop → Type 0
-ReportsWord plan patterns word old new result =
-    ReportsWordFrom plan patterns word old.inputs.contents old.inputs.is_used new.inputs.is_used
+ReportsTarget plan patterns target old new result =
+    ReportsTargetFrom plan patterns target old.inputs.contents old.inputs.is_used new.inputs.is_used
     old.inputs.standard new.inputs.standard old.state new.state old.printed new.printed result

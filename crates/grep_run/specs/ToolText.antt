@@ -1,6 +1,6 @@
--- What pcre2grep writes, and its status (pcre2grep, "OPTIONS", -t, and "DIAGNOSTICS"): words → plan → patterns → reports → text,
--- total and status.
-use Rattle.std.specs.Prelude.{ℕ, ◌==◌, Bool, true, false, ◌&&◌, ◌||◌, not, nat_lt, nat_le, if◌then◌else◌, List, [], ◌∷◌, ◌++◌, length, take, drop, flat_map, filter, sum_by, codes, decimal, Option, Some, None, Ok, Err}
+-- What pcre2grep writes, and its status (pcre2grep, "OPTIONS", -t, and "DIAGNOSTICS"): words → plan → patterns → filter →
+-- reports → text, total and status.
+use Rattle.std.specs.Prelude.{ℕ, ◌==◌, Bool, true, false, ◌&&◌, ◌||◌, not, nat_lt, nat_le, if◌then◌else◌, List, [], ◌∷◌, ◌++◌, length, take, drop, map, flat_map, filter, sum_by, codes, decimal, bytes_eq, Option, Some, None, Result, Ok, Err}
 use Rattle.std.specs.List.{list_any}
 use Rattle.line_feed.specs.Rows.{At, End}
 use Rattle.grep_args.specs.declared.plan.GrepPlan.{GrepPlan}
@@ -15,8 +15,13 @@ use Rattle.grep_match.specs.Modes.{mode, is_with, is_matching}
 use Rattle.grep_core.specs.Scans.{Ended, at_finish, early, too_many_errors}
 use Rattle.tool_out.specs.Texts.{line, text_if}
 use Rattle.tool_out.specs.Outcomes.{RunOutcome}
-use Rattle.grep_run.specs.Refusals.{refusal, usage_message, pattern_message, help_text}
+use Rattle.grep_run.specs.Refusals.{refusal, usage_message, pattern_message, filter_message, help_text}
 use Rattle.grep_core.specs.InputText.{first_state}
+use Rattle.pat_tree.specs.Pattern.{Pattern}
+use Rattle.dir_walk.specs.declared.lists.Target.{Target}
+use Rattle.dir_walk.specs.declared.lists.Target.TheVariants as targets
+use Rattle.dir_walk.specs.Paths.{word_path}
+use Rattle.dir_walk.specs.Filters.{Filter, BadFilter, filter_of}
 use Rattle.tool_in.specs.Asked.{Asked}
 use Rattle.grep_run.specs.Reports.{Report, scanned, missing, is_broken, reports}
 use Rattle.grep_run.specs.PatternFiles.{FileTexts, is_given, texts_in_files}
@@ -89,61 +94,60 @@ outcome_of plan rs =
           status_of rs;
     }
 
--- by default names are shown where there are two or more words for files
-abbrev pub names_for : ℕ → NameMode → NameMode
-names_for n Auto = if nat_le 2 n then With else Auto
-names_for n other = other
+-- whether it is a file that no word names, so that one of them names a directory
+abbrev pub is_below : List (List ℕ) → Target → Bool
+is_below words (targets.File path) = not (list_any (λ word. bytes_eq path (word_path word)) words)
+is_below words _ = false
 
-abbrev pub with_names : ℕ → GrepPlan → GrepPlan
-with_names n plan = record plan { names = names_for n plan.names }
+-- names are shown by default where there are two or more words for files, or one names a directory
+abbrev pub shows_names : List (List ℕ) → List Target → Bool
+shows_names words list = nat_le 2 (length words) || list_any (is_below words) list
 
--- no word stands for standard input
-abbrev pub or_standard : List (List ℕ) → List (List ℕ)
-or_standard [] = codes "-" ∷ []
-or_standard (word ∷ words) = word ∷ words
+abbrev pub names_for : Bool → NameMode → NameMode
+names_for shown Auto = if shown then With else Auto
+names_for shown other = other
 
--- the words that a search asks for: files of patterns, and then inputs
-abbrev pub asked_by_plan : GrepPlan → List (List ℕ) → List (List ℕ)
-asked_by_plan plan file_words = plan.pattern_files ++ or_standard file_words
+abbrev pub with_names : List (List ℕ) → List Target → GrepPlan → GrepPlan
+with_names words list plan =
+    record plan { names = names_for (shows_names words list) plan.names }
 
-abbrev pub asked_unless : Option HelpKind → List (List ℕ) → List (List ℕ)
-asked_unless (Some kind) words = []
-asked_unless None words = words
+abbrev pub targets_of : List Asked → List Target
+targets_of given = map (λ (a : Asked). a.target) given
 
--- the words that a run asks for, by those after its name
-abbrev pub asked_words : List (List ℕ) → List (List ℕ)
-asked_words words = elim (plan_of words) [
-  | Err fault ↦ []
-  | Ok plan ↦ asked_unless plan.help (asked_by_plan plan (drop plan.files_from words))
-]
+-- by the filter for names
+abbrev pub text_by_filter : List (List ℕ) → GrepPlan → List Asked → List Pattern
+    → Result Filter BadFilter → RunOutcome
+text_by_filter words plan given patterns (Err bad) = refusal (filter_message bad)
+text_by_filter words plan given patterns (Ok filter) =
+    let named = with_names words (targets_of given) plan in
+    outcome_of named (reports named patterns given first_state)
 
--- by the inputs
-abbrev pub text_by_patterns : GrepPlan → List Asked → Compiled → RunOutcome
-text_by_patterns plan given (Err bad) = refusal (pattern_message bad)
-text_by_patterns plan given (Ok patterns) =
-    outcome_of plan (reports plan patterns given first_state)
+-- by the patterns; those for names are looked at after them
+abbrev pub text_by_patterns : List (List ℕ) → GrepPlan → List Asked → Compiled → RunOutcome
+text_by_patterns words plan given (Err bad) = refusal (pattern_message bad)
+text_by_patterns words plan given (Ok patterns) =
+    text_by_filter words plan given patterns (filter_of plan)
 
 -- the patterns of the plan come first, then those of its files
-abbrev pub text_by_texts : GrepPlan → ℕ → List Asked → FileTexts → RunOutcome
-text_by_texts plan n given (Err text) = refusal text
-text_by_texts plan n given (Ok texts) =
-    text_by_patterns (with_names n plan) given (patterns_of plan (plan.patterns ++ texts))
+abbrev pub text_by_texts : List (List ℕ) → GrepPlan → List Asked → FileTexts → RunOutcome
+text_by_texts words plan given (Err text) = refusal text
+text_by_texts words plan given (Ok texts) =
+    text_by_patterns words plan given (patterns_of plan (plan.patterns ++ texts))
 
--- by the files of patterns, and the inputs; n words name inputs
-abbrev pub text_by_plan : GrepPlan → ℕ → List Asked → List Asked → RunOutcome
-text_by_plan plan n pattern_files given =
-    text_by_texts plan n given (texts_in_files plan pattern_files)
+-- by the files of patterns, and the targets of these words
+abbrev pub text_by_plan : List (List ℕ) → GrepPlan → List Asked → List Asked → RunOutcome
+text_by_plan words plan pattern_files given =
+    text_by_texts words plan given (texts_in_files plan pattern_files)
 
-abbrev pub text_by_help : GrepPlan → List (List ℕ) → List Asked → Option HelpKind → RunOutcome
-text_by_help plan file_words given (Some kind) =
+abbrev pub text_by_help : List (List ℕ) → GrepPlan → List Asked → Option HelpKind → RunOutcome
+text_by_help words plan given (Some kind) =
     record { out = help_text kind; err = []; status = 0 }
-text_by_help plan file_words given None =
-    let n = length plan.pattern_files in text_by_plan plan (length file_words) (take n given)
-    (drop n given)
+text_by_help words plan given None =
+    let n = length plan.pattern_files in text_by_plan words plan (take n given) (drop n given)
 
--- What pcre2grep writes for the words after its name, where the words that it asks for stand for these inputs.
+-- What pcre2grep writes for the words after its name, where the targets that it asks for stand for these inputs.
 unfoldable pub text_of : List (List ℕ) → List Asked → RunOutcome
 text_of words given = elim (plan_of words) [
   | Err fault ↦ refusal (usage_message words fault)
-  | Ok plan ↦ text_by_help plan (drop plan.files_from words) given plan.help
+  | Ok plan ↦ text_by_help (drop plan.files_from words) plan given plan.help
 ]

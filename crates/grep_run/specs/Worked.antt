@@ -21,6 +21,10 @@ some_files = file "a" "two\none\n" ∷ failing 7 (file "b" "one\ntwo") ∷ file 
 abbrev pub cut_file : File
 cut_file = failing 4 (file "d" "x\ny\nx\n")
 
+-- files in directories
+abbrev pub tree_files : List File
+tree_files = file "d/sub/c.c" "x\n" ∷ file "d/b.h" "x\n" ∷ file "d/a.c" "x\n" ∷ []
+
 pub record WorkedRows : Type 0 where
   pub optional_letter : over "red\ncolor\nColour\ncolour" ("colou?r" ∷ [])
       ≡ outcome "color\ncolour\n" "" 0
@@ -54,6 +58,14 @@ pub record WorkedRows : Type 0 where
   pub refused_behind : over "" ("x(?<=(?<=a+)b)c" ∷ [])
       ≡ outcome "" "pcre2grep: pattern 1: error 125 at offset 5: lookbehind is not fixed length\n" 2
   pub too_long : over "ab\nabcde\nb\n" ("--max-buffer-size=4" ∷ "b" ∷ []) ≡ outcome "ab\n" "pcre2grep: (standard input): line 2 is too long\n" 2
+  pub included : over_files tree_files ("-r" ∷ "--include=\\.c$" ∷ "x" ∷ "d" ∷ [])
+      ≡ outcome "d/a.c:x\nd/sub/c.c:x\n" "" 0
+  pub excluded_directory : over_files tree_files ("-r" ∷ "--exclude-dir=^sub$" ∷ "x" ∷ "d" ∷ [])
+      ≡ outcome "d/a.c:x\nd/b.h:x\n" "" 0
+  pub not_there : over_files tree_files ("-r" ∷ "x" ∷ "nope" ∷ [])
+      ≡ outcome "" "pcre2grep: nope: cannot be opened\n" 2
+  pub bad_filter : over_files tree_files ("-r" ∷ "--include=a(" ∷ "x" ∷ "d" ∷ [])
+      ≡ outcome "" "pcre2grep: --include 1: error 114 at offset 2: missing closing parenthesis\n" 2
   -- what a search of a finished tree is about
   pub finished_tree : (t : TreeParts) (matching : MatchOptions) (subject : List ℕ) (start : ℕ)
       → setting (pattern_of t) matching subject start ≡ setting_of (pattern_of t)

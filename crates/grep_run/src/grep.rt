@@ -1,25 +1,27 @@
 //! A run of pcre2grep.
-ghost use Rattle.std.specs.Prelude.{◌≡◌, [], ◌++◌, map, length, string_bytes, codes, IfOk, OnErr, Err, List};
-ghost use Rattle.line_feed.specs.Rows.{Input};
-ghost use Rattle.line_feed.specs.Hears.{Hears};
+ghost use Rattle.std.specs.Prelude.{◌≡◌, ◌≤◌, [], map, length, string_bytes, bytes_eq, Ok, List};
+ghost use Rattle.std.specs.List.{list_any};
 ghost use Rattle.grep_args.specs.Limits.{IsWithinLimits};
-ghost use Rattle.grep_core.specs.declared.ended.Stop.TheVariants.{Memory};
-ghost use Rattle.tool_in.specs.Asked.{Asked, StandFor};
+ghost use Rattle.dir_walk.specs.Filters.{filter_in, filter_of};
+ghost use Rattle.dir_walk.specs.Paths.{word_path};
+ghost use Rattle.tool_in.specs.Asked.{Asked};
 ghost use Rattle.pcre_io.specs.Told.{Kept};
 ghost use Rattle.grep_match.specs.Compiled.{patterns_in, patterns_of};
 ghost use Rattle.grep_core.specs.InputText.{first_state};
 ghost use Rattle.grep_run.specs.Refusals.{refusal, usage_message, help_text};
 ghost use Rattle.grep_run.specs.Reports.{reports};
-ghost use Rattle.grep_run.specs.ToolText.{outcome_of, asked_by_plan, asked_words, text_by_patterns, text_by_plan, text_of, with_names, names_for, or_standard};
+ghost use Rattle.grep_run.specs.ToolText.{outcome_of, is_below, names_for, shows_names};
 ghost use Rattle.tool_in.specs.Takes.{TakesAll};
+ghost use Rattle.grep_run.specs.Stages.{RunsOn, SearchesBy, SearchesFor, streams};
 ghost use Rattle.grep_run.specs.Sums.{SumsTo};
 ghost use Rattle.grep_run.specs.RunsBy.{RunsBy};
 ghost use Rattle.tool_out.specs.Printed.{printed};
 
-use crate::inputs::grep_word;
-use crate::messages::{write_bad_pattern, write_help, write_usage};
+use crate::inputs::grep_target;
+use crate::messages::{write_bad_filter, write_bad_pattern, write_help, write_usage};
 use crate::pattern_files::{add_files, own_texts};
 use crate::sum::{Sum, added, status_of, write_last};
+use dir_walk::{FilterError, NameFilter, Target, targets, word_path};
 use grep_args::{ArgError, GrepPlan, HelpKind, NameMode, UsageKind, read};
 use grep_core::{GrepState, Stop};
 use grep_match::{PatternError, Patterns};
@@ -27,12 +29,12 @@ use pat_tree::TextList;
 use pcre_io::{FileSet, Sink, Source};
 use std::alloc::Global;
 
-// Searches what these words stand for, in order.
-fn grep_words<F: FileSet, S: Source, O: Sink, E: Sink>(
+// Searches these targets, in order.
+fn grep_targets<F: FileSet, S: Source, O: Sink, E: Sink>(
     alloc: Global,
     patterns: &Patterns,
     plan: &GrepPlan,
-    words: &[String],
+    list: &[Target],
     files: &mut F,
     input: &mut S,
     is_used: &mut bool,
@@ -41,11 +43,12 @@ fn grep_words<F: FileSet, S: Source, O: Sink, E: Sink>(
 ) -> Result<Sum, Stop>
     requires { IsWithinLimits plan.now }
     ensures sums { (given : List Asked) × TakesAll is_used.old (S.tells input.old)
-        (S.tells input.new) (F.tells files.old).contents (map string_bytes words.now) given
+        (S.tells input.new) (F.tells files.old).contents list.now given
         × SumsTo plan.now (reports plan.now (patterns_in patterns.now) given first_state)
         (printed (O.tells out.old) (E.tells err.old))
         (printed (O.tells out.new) (E.tells err.new)) result }
     ensures files { (F.tells files.new).contents ≡ (F.tells files.old).contents }
+    ensures later { (F.tells files.old).faults ≤ (F.tells files.new).faults }
 {
     let mut state = GrepState::new(alloc);
     let mut sum = Sum {
@@ -53,73 +56,21 @@ fn grep_words<F: FileSet, S: Source, O: Sink, E: Sink>(
         counts: 0,
         total: 0,
     };
-    for word in words {
-        let end = grep_word(
-            alloc,
-            patterns,
-            plan,
-            word.as_str(),
-            files,
-            input,
-            is_used,
-            out,
-            err,
-            &mut state,
+    for target in list {
+        let end = grep_target(
+            alloc, patterns, plan, target, files, input, is_used, out, err, &mut state,
         )?;
         sum = added(plan, sum, end);
     }
     Ok(sum)
 }
 
-// The word for standard input.
-fn standard_word(alloc: Global) -> Result<String, Stop>
-    ensures ok { IfOk result (λ word. string_bytes word ≡ codes "-") }
-    ensures memory { OnErr result (result ≡ Err Memory) }
-{
-    match String::from_str(alloc, "-") {
-        Ok(word) => Ok(word),
-        Err(_) => Err(Stop::Memory),
-    }
-}
-
-// Searches what these words stand for, or standard input where there is none.
-fn grep_or_standard<F: FileSet, S: Source, O: Sink, E: Sink>(
+// Searches these targets, and writes the total.
+fn grep_list<F: FileSet, S: Source, O: Sink, E: Sink>(
     alloc: Global,
     patterns: &Patterns,
     plan: &GrepPlan,
-    words: &[String],
-    files: &mut F,
-    input: &mut S,
-    is_used: &mut bool,
-    out: &mut O,
-    err: &mut E,
-) -> Result<Sum, Stop>
-    requires { IsWithinLimits plan.now }
-    ensures sums { (given : List Asked) × TakesAll is_used.old (S.tells input.old)
-        (S.tells input.new) (F.tells files.old).contents (or_standard (map string_bytes words.now))
-        given
-        × SumsTo plan.now (reports plan.now (patterns_in patterns.now) given first_state)
-        (printed (O.tells out.old) (E.tells err.old))
-        (printed (O.tells out.new) (E.tells err.new)) result }
-    ensures files { (F.tells files.new).contents ≡ (F.tells files.old).contents }
-{
-    if words.is_empty() {
-        let standard = [standard_word(alloc)?];
-        return grep_words(
-            alloc, patterns, plan, &standard, files, input, is_used, out, err,
-        );
-    }
-    grep_words(
-        alloc, patterns, plan, words, files, input, is_used, out, err,
-    )
-}
-
-// Searches what these words stand for, or standard input where there is none, and writes the total.
-fn grep_inputs<F: FileSet, S: Source, O: Sink, E: Sink>(
-    alloc: Global,
-    patterns: &Patterns,
-    plan: &GrepPlan,
-    words: &[String],
+    list: &[Target],
     files: &mut F,
     input: &mut S,
     is_used: &mut bool,
@@ -128,25 +79,158 @@ fn grep_inputs<F: FileSet, S: Source, O: Sink, E: Sink>(
 ) -> Result<u8, Stop>
     requires { IsWithinLimits plan.now }
     ensures runs { (given : List Asked) × TakesAll is_used.old (S.tells input.old)
-        (S.tells input.new) (F.tells files.old).contents (or_standard (map string_bytes words.now))
-        given
+        (S.tells input.new) (F.tells files.old).contents list.now given
         × RunsBy (outcome_of plan.now (reports plan.now (patterns_in patterns.now)
         given first_state))
         (printed (O.tells out.old) (E.tells err.old))
         (printed (O.tells out.new) (E.tells err.new)) result }
     ensures files { (F.tells files.new).contents ≡ (F.tells files.old).contents }
+    ensures later { (F.tells files.old).faults ≤ (F.tells files.new).faults }
 {
-    let sum = grep_or_standard(
-        alloc, patterns, plan, words, files, input, is_used, out, err,
-    )?;
+    let sum = grep_targets(alloc, patterns, plan, list, files, input, is_used, out, err)?;
     write_last(out, plan, sum)?;
     Ok(status_of(sum))
+}
+
+// Whether a word names this path.
+fn is_named(words: &[String], path: &str) -> bool
+    ensures { result ≡ list_any (λ word. bytes_eq path.now (word_path word))
+        (map string_bytes words.now) }
+{
+    let mut rest = words;
+    'word: loop {
+        let [word, more @ ..] = rest else {
+            return false;
+        };
+        if path == word_path(word.as_str()) {
+            return true;
+        }
+        rest = more;
+    }
+}
+
+// Whether a target is a file that no word names, so that one of them names a directory.
+fn is_below(words: &[String], target: &Target) -> bool
+    ensures { result ≡ is_below (map string_bytes words.now) target.now }
+{
+    match target {
+        Target::File(path) => !is_named(words, path.as_str()),
+        _ => false,
+    }
+}
+
+// Whether one of these targets is a file that no word names.
+fn has_below(words: &[String], list: &[Target]) -> bool
+    ensures { result ≡ list_any (is_below (map string_bytes words.now)) list.now }
+{
+    let mut rest = list;
+    'target: loop {
+        let [target, more @ ..] = rest else {
+            return false;
+        };
+        if is_below(words, target) {
+            return true;
+        }
+        rest = more;
+    }
+}
+
+// By default names are shown where there are two or more words for files, or one names a directory.
+fn names_for(words: &[String], list: &[Target], names: NameMode) -> NameMode
+    ensures { result ≡ names_for (shows_names (map string_bytes words.now) list.now) names }
+{
+    if names == NameMode::Auto && (words.len() >= 2 || has_below(words, list)) {
+        NameMode::With
+    } else {
+        names
+    }
+}
+
+// Searches what these words stand for, where their names are allowed.
+fn grep_allowed<F: FileSet, S: Source, O: Sink, E: Sink>(
+    alloc: Global,
+    patterns: &Patterns,
+    filter: &NameFilter,
+    mut plan: GrepPlan,
+    words: &[String],
+    files: &mut F,
+    input: &mut S,
+    is_used: &mut bool,
+    out: &mut O,
+    err: &mut E,
+) -> Result<u8, Stop>
+    requires limits { IsWithinLimits plan }
+    requires filter { filter_of plan ≡ Ok (filter_in filter.now) }
+    ensures runs { SearchesFor plan (Ok (patterns_in patterns.now))
+        (map string_bytes words.now) is_used.old
+        (streams (F.tells files.old) (S.tells input.old)
+        (printed (O.tells out.old) (E.tells err.old)))
+        (streams (F.tells files.new) (S.tells input.new)
+        (printed (O.tells out.new) (E.tells err.new))) result }
+    ensures files { (F.tells files.new).contents ≡ (F.tells files.old).contents }
+    ensures later { (F.tells files.old).faults ≤ (F.tells files.new).faults }
+{
+    let list = targets(alloc, filter, words, plan.recursive, files)?;
+    plan.names = names_for(words, list.as_slice(), plan.names);
+    grep_list(
+        alloc,
+        patterns,
+        &plan,
+        list.as_slice(),
+        files,
+        input,
+        is_used,
+        out,
+        err,
+    )
+}
+
+// Compiles the patterns for names, and searches what these words stand for.
+fn grep_filtered<F: FileSet, S: Source, O: Sink, E: Sink>(
+    alloc: Global,
+    patterns: &Patterns,
+    plan: GrepPlan,
+    words: &[String],
+    files: &mut F,
+    input: &mut S,
+    is_used: &mut bool,
+    out: &mut O,
+    err: &mut E,
+) -> Result<u8, Stop>
+    requires { IsWithinLimits plan }
+    ensures runs { SearchesFor plan (Ok (patterns_in patterns.now))
+        (map string_bytes words.now) is_used.old
+        (streams (F.tells files.old) (S.tells input.old)
+        (printed (O.tells out.old) (E.tells err.old)))
+        (streams (F.tells files.new) (S.tells input.new)
+        (printed (O.tells out.new) (E.tells err.new))) result }
+    ensures files { (F.tells files.new).contents ≡ (F.tells files.old).contents }
+    ensures later { (F.tells files.old).faults ≤ (F.tells files.new).faults }
+{
+    let filter = match NameFilter::build(alloc, &plan) {
+        Ok(filter) => filter,
+        Err(
+            FilterError::Bad {
+                option,
+                index,
+                number,
+                at,
+            },
+        ) => {
+            write_bad_filter(err, option, index, number, at)?;
+            return Ok(2);
+        }
+        Err(FilterError::Memory) => return Err(Stop::Memory),
+    };
+    grep_allowed(
+        alloc, patterns, &filter, plan, words, files, input, is_used, out, err,
+    )
 }
 
 // Compiles the patterns, and searches what these words stand for.
 fn grep_for<F: FileSet, S: Source, O: Sink, E: Sink>(
     alloc: Global,
-    mut plan: GrepPlan,
+    plan: GrepPlan,
     texts: &TextList,
     words: &[String],
     files: &mut F,
@@ -156,14 +240,14 @@ fn grep_for<F: FileSet, S: Source, O: Sink, E: Sink>(
     err: &mut E,
 ) -> Result<u8, Stop>
     requires { IsWithinLimits plan }
-    ensures runs { (given : List Asked) × TakesAll is_used.old (S.tells input.old)
-        (S.tells input.new) (F.tells files.old).contents (or_standard (map string_bytes words.now))
-        given
-        × RunsBy (text_by_patterns (with_names (length words.now) plan) given
-        (patterns_of plan texts.now))
-        (printed (O.tells out.old) (E.tells err.old))
-        (printed (O.tells out.new) (E.tells err.new)) result }
+    ensures runs { SearchesFor plan (patterns_of plan texts.now)
+        (map string_bytes words.now) is_used.old
+        (streams (F.tells files.old) (S.tells input.old)
+        (printed (O.tells out.old) (E.tells err.old)))
+        (streams (F.tells files.new) (S.tells input.new)
+        (printed (O.tells out.new) (E.tells err.new))) result }
     ensures files { (F.tells files.new).contents ≡ (F.tells files.old).contents }
+    ensures later { (F.tells files.old).faults ≤ (F.tells files.new).faults }
 {
     let patterns = match Patterns::build(alloc, &plan, texts) {
         Ok(patterns) => patterns,
@@ -179,21 +263,9 @@ fn grep_for<F: FileSet, S: Source, O: Sink, E: Sink>(
         }
         Err(PatternError::Memory) => return Err(Stop::Memory),
     };
-    plan.names = names_for(words.len(), plan.names);
-    grep_inputs(
-        alloc, &patterns, &plan, words, files, input, is_used, out, err,
+    grep_filtered(
+        alloc, &patterns, plan, words, files, input, is_used, out, err,
     )
-}
-
-// By default names are shown where there are two or more words for files.
-fn names_for(words: usize, names: NameMode) -> NameMode
-    ensures { result ≡ names_for words names }
-{
-    if names == NameMode::Auto && words >= 2 {
-        NameMode::With
-    } else {
-        names
-    }
 }
 
 // Searches by a plan what these words stand for.
@@ -207,14 +279,11 @@ fn grep_by<F: FileSet, S: Source, O: Sink, E: Sink>(
     err: &mut E,
 ) -> Result<u8, Stop>
     requires { IsWithinLimits plan }
-    ensures runs { (heard : Input) × Hears (S.tells input.old) (S.tells input.new) heard
-        × ((pattern_files : List Asked) × (given : List Asked)
-        × (length pattern_files ≡ length plan.pattern_files)
-        × StandFor (F.tells files.old).contents heard
-        (asked_by_plan plan (map string_bytes words.now)) (pattern_files ++ given)
-        × RunsBy (text_by_plan plan (length words.now) pattern_files given)
-        (printed (O.tells out.old) (E.tells err.old))
-        (printed (O.tells out.new) (E.tells err.new)) result) }
+    ensures runs { SearchesBy plan (map string_bytes words.now)
+        (streams (F.tells files.old) (S.tells input.old)
+        (printed (O.tells out.old) (E.tells err.old)))
+        (streams (F.tells files.new) (S.tells input.new)
+        (printed (O.tells out.new) (E.tells err.new))) result }
     ensures files { (F.tells files.new).contents ≡ (F.tells files.old).contents }
 {
     let mut is_used = false;
@@ -264,12 +333,11 @@ pub fn grep<F: FileSet, S: Source, O: Sink, E: Sink>(
     out: &mut O,
     err: &mut E,
 ) -> Result<u8, Stop>
-    ensures runs { (heard : Input) × Hears (S.tells input.old) (S.tells input.new) heard
-        × ((given : List Asked) × StandFor (F.tells files.old).contents heard
-        (asked_words (map string_bytes words.now)) given
-        × RunsBy (text_of (map string_bytes words.now) given)
-        (printed (O.tells out.old) (E.tells err.old))
-        (printed (O.tells out.new) (E.tells err.new)) result) }
+    ensures runs { RunsOn (map string_bytes words.now)
+        (streams (F.tells files.old) (S.tells input.old)
+        (printed (O.tells out.old) (E.tells err.old)))
+        (streams (F.tells files.new) (S.tells input.new)
+        (printed (O.tells out.new) (E.tells err.new))) result }
     ensures files { (F.tells files.new).contents ≡ (F.tells files.old).contents }
 {
     let plan = match read(alloc, words) {

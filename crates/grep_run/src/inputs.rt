@@ -1,18 +1,23 @@
-//! The inputs of a search.
-ghost use Rattle.std.specs.Prelude.{◌≡◌, ◌≤◌, ◌<◌, ◌^◌, Option};
+//! The targets of a search, one by one.
+ghost use Rattle.std.specs.Prelude.{◌≡◌, ◌≤◌, ◌<◌, ◌^◌, not, Option};
+ghost use Rattle.pcre_io.specs.Told.{Kept};
 ghost use Rattle.line_feed.specs.Rows.{Input};
 ghost use Rattle.tool_in.specs.Asked.{Opened};
 ghost use Rattle.grep_match.specs.Compiled.{patterns_in};
+ghost use Rattle.dir_walk.specs.declared.lists.Target.TheVariants as targets;
+ghost use Rattle.grep_core.specs.declared.state.State.{State};
 ghost use Rattle.grep_core.specs.InputText.{input_text};
+ghost use Rattle.grep_core.specs.Messages.{message_on};
 ghost use Rattle.grep_core.specs.OneInput.{GrepsTo};
-ghost use Rattle.grep_run.specs.Reports.{report_on};
+ghost use Rattle.grep_run.specs.Reports.{missing, report_on};
 ghost use Rattle.tool_in.specs.Takes.{IsLeft, inputs};
-ghost use Rattle.grep_run.specs.Searches.{IsReady, ReportsTo, ReportsWord, searching};
+ghost use Rattle.grep_run.specs.Searches.{IsReady, ReportsTo, ReportsTarget, searching};
 ghost use Rattle.tool_out.specs.Printed.{printed};
+ghost use Rattle.tool_out.specs.Texts.{text_if};
 
-use crate::messages::write_missing;
+use dir_walk::Target;
 use grep_args::GrepPlan;
-use grep_core::{FileEnd, GrepState, Stop, grep_file};
+use grep_core::{FileEnd, GrepState, Stop, grep_file, write_message};
 use grep_match::Patterns;
 use pcre_io::{FileSet, IoError, MemSource, Sink, Source};
 use std::alloc::Global;
@@ -45,6 +50,23 @@ fn grep_standard<S: Source, O: Sink, E: Sink>(
     grep_file(patterns, plan, name, input, out, err, state)
 }
 
+// Says why a target isn't searched.
+fn pass_over<E: Sink>(
+    plan: &GrepPlan,
+    name: &str,
+    why: &[u8],
+    err: &mut E,
+) -> Result<Option<FileEnd>, Stop>
+    ensures { (state : State) (out : Kept)
+        → ReportsTo (missing (text_if (not plan.now.no_messages) (message_on name.now why.now)))
+        state state (printed out (E.tells err.old)) (printed out (E.tells err.new)) result }
+{
+    if !plan.no_messages {
+        write_message(err, name, why)?;
+    }
+    Ok(None)
+}
+
 // Searches a file. None where it can't be opened.
 fn grep_named<F: FileSet, O: Sink, E: Sink>(
     alloc: Global,
@@ -58,32 +80,30 @@ fn grep_named<F: FileSet, O: Sink, E: Sink>(
 ) -> Result<Option<FileEnd>, Stop>
     requires { IsReady plan.now state.old }
     ensures reports { (given : Option Input) × Opened (F.tells files.old).contents name.now given
-        × ReportsTo (report_on plan.now (patterns_in patterns.now) state.old name.now given)
+        × ReportsTo (report_on plan.now (patterns_in patterns.now) state.old
+        (targets.File name.now) given)
         state.old state.new
         (printed (O.tells out.old) (E.tells err.old))
         (printed (O.tells out.new) (E.tells err.new)) result }
     ensures files { (F.tells files.new).contents ≡ (F.tells files.old).contents }
+    ensures later { (F.tells files.old).faults ≤ (F.tells files.new).faults }
 {
     match files.open_file(alloc, name) {
         Ok(mut source) => {
             let end = grep_file(patterns, plan, name, &mut source, out, err, state)?;
             Ok(Some(end))
         }
-        Err(IoError::Failed) if plan.no_messages => Ok(None),
-        Err(IoError::Failed) => {
-            write_missing(err, name)?;
-            Ok(None)
-        }
+        Err(IoError::Failed) => pass_over(plan, name, b"cannot be opened", err),
         Err(IoError::Memory) => Err(Stop::Memory),
     }
 }
 
-/// Searches what a word stands for. None where it can't be opened.
-pub fn grep_word<F: FileSet, S: Source, O: Sink, E: Sink>(
+/// Searches what a target stands for. None where it isn't there or isn't gone through whole.
+pub fn grep_target<F: FileSet, S: Source, O: Sink, E: Sink>(
     alloc: Global,
     patterns: &Patterns,
     plan: &GrepPlan,
-    word: &str,
+    target: &Target,
     files: &mut F,
     input: &mut S,
     is_used: &mut bool,
@@ -92,17 +112,31 @@ pub fn grep_word<F: FileSet, S: Source, O: Sink, E: Sink>(
     state: &mut GrepState,
 ) -> Result<Option<FileEnd>, Stop>
     requires { IsReady plan.now state.old }
-    ensures reports { ReportsWord plan.now (patterns_in patterns.now) word.now
+    ensures reports { ReportsTarget plan.now (patterns_in patterns.now) target.now
         (searching (inputs (F.tells files.old).contents (S.tells input.old) is_used.old) state.old
         (printed (O.tells out.old) (E.tells err.old)))
         (searching (inputs (F.tells files.new).contents (S.tells input.new) is_used.new) state.new
         (printed (O.tells out.new) (E.tells err.new)))
         result }
     ensures files { (F.tells files.new).contents ≡ (F.tells files.old).contents }
+    ensures later { (F.tells files.old).faults ≤ (F.tells files.new).faults }
 {
-    if word == "-" {
-        let end = grep_standard(alloc, patterns, plan, input, is_used, out, err, state)?;
-        return Ok(Some(end));
+    match target {
+        Target::Input => {
+            let end = grep_standard(alloc, patterns, plan, input, is_used, out, err, state)?;
+            Ok(Some(end))
+        }
+        Target::File(name) => {
+            grep_named(alloc, patterns, plan, name.as_str(), files, out, err, state)
+        }
+        Target::NoOpen(name) => pass_over(plan, name.as_str(), b"cannot be opened", err),
+        Target::NoList(name) => pass_over(plan, name.as_str(), b"cannot be listed", err),
+        Target::TooDeep(name) => pass_over(plan, name.as_str(), b"too deep", err),
+        Target::Unnamed(name) => pass_over(
+            plan,
+            name.as_str(),
+            b"an entry has no readable name",
+            err,
+        ),
     }
-    grep_named(alloc, patterns, plan, word, files, out, err, state)
 }

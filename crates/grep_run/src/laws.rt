@@ -1,11 +1,16 @@
 //! Laws of the text of a run, and worked rows of the definitions.
-ghost use Rattle.grep_run.specs.Laws.{SoundEndWell};
+ghost use Rattle.grep_run.specs.Laws.{SoundEndWell, ToldAskForOne};
 ghost use Rattle.grep_run.specs.Worked.{WorkedRows};
 
 /// A run of pcre2grep ends with status 0 or 1 where its words and patterns are accepted, its inputs are there and read to
-/// their ends, and there are at most 20 match errors.
+/// their ends, its directories are listed, and there are at most 20 match errors.
 pub fn sound_runs_end_well()
     ensures { SoundEndWell }
+{}
+
+/// Over files that are told, the words of a run ask for one list of targets.
+pub fn told_words_ask_for_one_list()
+    ensures { ToldAskForOne }
 {}
 
 /// Runs computed from the definition, each as pcre2grep has it.

@@ -9,5 +9,5 @@ mod pattern_files;
 mod status;
 mod sum;
 
-pub use laws::{sound_runs_end_well, worked_rows};
+pub use laws::{sound_runs_end_well, told_words_ask_for_one_list, worked_rows};
 pub use status::run_grep;

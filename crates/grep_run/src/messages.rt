@@ -3,11 +3,11 @@ ghost use Rattle.std.specs.Prelude.{◌≡◌, [], ◌++◌, map, string_bytes, 
 ghost use Rattle.grep_args.specs.Words.{Fault};
 ghost use Rattle.grep_match.specs.Compiled.{BadPattern};
 ghost use Rattle.grep_core.specs.Messages.{message};
-ghost use Rattle.grep_run.specs.Refusals.{usage_text, usage_message, pattern_message, help_text};
+ghost use Rattle.grep_run.specs.Refusals.{usage_text, usage_message, pattern_message, filter_message, filter_name, help_text};
 ghost use Rattle.grep_run.specs.PatternFiles.{missing_message};
 ghost use Rattle.tool_out.specs.Writes.{Writes};
 
-use grep_args::{HelpKind, UsageKind};
+use grep_args::{FilterOption, HelpKind, UsageKind};
 use grep_core::write_message;
 use itoa::Buffer;
 use pcre_io::{IoError, Sink};
@@ -90,6 +90,54 @@ pub fn write_bad_pattern<E: Sink>(
         &[
             b"pcre2grep: pattern ",
             place.format(pattern).as_bytes(),
+            b": error ",
+            fault.format(number).as_bytes(),
+            b" at offset ",
+            offset.format(at).as_bytes(),
+            b": ",
+            fault_text(number),
+            b"\n",
+        ],
+    )
+}
+
+// The option of a pattern for names.
+fn filter_name(option: FilterOption) -> &'static [u8]
+    ensures { result.now ≡ filter_name option }
+{
+    match option {
+        FilterOption::Include => b"--include",
+        FilterOption::Exclude => b"--exclude",
+        FilterOption::IncludeDir => b"--include-dir",
+        FilterOption::ExcludeDir => b"--exclude-dir",
+    }
+}
+
+/// Writes which pattern for names is refused, and why.
+pub fn write_bad_filter<E: Sink>(
+    err: &mut E,
+    option: FilterOption,
+    index: u64,
+    number: i32,
+    at: usize,
+) -> Result<(), IoError>
+    ensures { Writes (filter_message (record {
+      option = option;
+      index = index;
+      fault =
+          record { number = number; at = at };
+    })) (E.tells err.old) (E.tells err.new) result }
+{
+    let mut place = Buffer::new();
+    let mut fault = Buffer::new();
+    let mut offset = Buffer::new();
+    write_texts(
+        err,
+        &[
+            b"pcre2grep: ",
+            filter_name(option),
+            b" ",
+            place.format(index).as_bytes(),
             b": error ",
             fault.format(number).as_bytes(),
             b" at offset ",

@@ -146,6 +146,7 @@ fn add_named<F: FileSet, E: Sink>(
         × AddsTo (texts_of plan.now name.now given) texts.old texts.new (E.tells err.old)
         (E.tells err.new) result }
     ensures files { (F.tells files.new).contents ≡ (F.tells files.old).contents }
+    ensures later { (F.tells files.old).faults ≤ (F.tells files.new).faults }
 {
     match files.open_file(alloc, name) {
         Ok(mut source) => add_source(alloc, plan, name, &mut source, err, texts),
@@ -175,6 +176,7 @@ fn add_file<F: FileSet, S: Source, E: Sink>(
         (reading (inputs (F.tells files.new).contents (S.tells input.new) is_used.new) texts.new
         (E.tells err.new)) result }
     ensures files { (F.tells files.new).contents ≡ (F.tells files.old).contents }
+    ensures later { (F.tells files.old).faults ≤ (F.tells files.new).faults }
 {
     if word == "-" {
         add_standard(alloc, plan, input, is_used, err, texts)
@@ -200,6 +202,7 @@ pub fn add_files<F: FileSet, S: Source, E: Sink>(
         (reading (inputs (F.tells files.new).contents (S.tells input.new) is_used.new) texts.new
         (E.tells err.new)) result }
     ensures files { (F.tells files.new).contents ≡ (F.tells files.old).contents }
+    ensures later { (F.tells files.old).faults ≤ (F.tells files.new).faults }
 {
     for i in 0..plan.pattern_files.len() {
         let word = plan.pattern_files.get(i).as_str();

@@ -2,10 +2,12 @@
 ghost use Rattle.std.specs.Prelude.{◌≡◌, map, string_bytes, List};
 ghost use Rattle.line_feed.specs.Rows.{Input};
 ghost use Rattle.line_feed.specs.Hears.{Hears};
+ghost use Rattle.dir_walk.specs.declared.lists.Target.{Target};
 ghost use Rattle.tool_in.specs.Asked.{Asked, StandFor};
 ghost use Rattle.tool_out.specs.Outcomes.{Runs};
 ghost use Rattle.tool_out.specs.Printed.{printed};
-ghost use Rattle.grep_run.specs.ToolText.{asked_words, text_of};
+ghost use Rattle.grep_run.specs.Asks.{AsksFor};
+ghost use Rattle.grep_run.specs.ToolText.{text_of};
 
 use crate::grep::grep;
 use grep_core::Stop;
@@ -25,13 +27,15 @@ pub fn run_grep<F: FileSet, S: Source, O: Sink, E: Sink>(
     out: &mut O,
     err: &mut E,
 ) -> u8
-    // The words that it asks for stand for the input that the source stands for, and for the files. For these the sinks
-    // grew by its text, and the answer is its status; or memory lacked or a write failed, and they grew by a part of it.
+    // The targets that its words ask for stand for the input that the source stands for, and for the files. For these the
+    // sinks grew by its text, and the answer is its status; or memory lacked or a write failed, and they grew by a part of
+    // it.
     ensures text { (heard : Input) × Hears (S.tells input.old) (S.tells input.new) heard
-        × ((given : List Asked) × StandFor (F.tells files.old).contents heard
-        (asked_words (map string_bytes words.now)) given
+        × ((asked : List Target) × AsksFor (F.tells files.old).contents (F.tells files.old).faults
+        (F.tells files.new).faults (map string_bytes words.now) asked
+        × ((given : List Asked) × StandFor (F.tells files.old).contents heard asked given
         × Runs (text_of (map string_bytes words.now) given) result
-        (printed (O.tells out.old) (E.tells err.old)) (printed (O.tells out.new) (E.tells err.new))) }
+        (printed (O.tells out.old) (E.tells err.old)) (printed (O.tells out.new) (E.tells err.new)))) }
     ensures files { (F.tells files.new).contents ≡ (F.tells files.old).contents }
 {
     match grep(alloc, words, files, input, out, err) {

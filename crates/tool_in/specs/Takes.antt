@@ -1,9 +1,11 @@
--- How a run takes its inputs: words, and how files and standard input stood → what the words stand for, and how they stand then.
-use Rattle.std.specs.Prelude.{◌≡◌, ℕ, Bool, true, false, List, Option}
+-- How a run takes its inputs: targets, and how files and standard input stood → what the targets stand for, and how they stand
+-- then.
+use Rattle.std.specs.Prelude.{◌≡◌, Bool, true, false, List, Option}
 use Rattle.pcre_io.specs.Told.{Told}
 use Rattle.pcre_io.specs.Files.{Contents}
 use Rattle.line_feed.specs.Rows.{Input}
 use Rattle.line_feed.specs.Hears.{Hears}
+use Rattle.dir_walk.specs.declared.lists.Target.{Target}
 use Rattle.tool_in.specs.Asked.{Asked, StandFor, nothing, standard_after_all}
 
 -- what a run's inputs tell: its files, what standard input has left, and whether it was used
@@ -21,22 +23,22 @@ abbrev pub IsLeft : Bool → Bool → Told → Told → Input → Type 0
 IsLeft true is_used before after left = (is_used ≡ true) × (after ≡ before) × (left ≡ nothing)
 IsLeft false is_used before after left = (is_used ≡ true) × Hears before after left
 
--- The words stand for these inputs, where standard input was or wasn't used before them, and is or isn't after them. As
+-- The targets stand for these inputs, where standard input was or wasn't used before them, and is or isn't after them. As
 -- long as it isn't, they stand for them whatever it stands for.
-abbrev pub Takes : Bool → Bool → Told → Told → Option Contents → List (List ℕ) → List Asked
+abbrev pub Takes : Bool → Bool → Told → Told → Option Contents → List Target → List Asked
     → Type 0
-Takes true is_used before after contents words given =
-    (is_used ≡ true) × (after ≡ before) × StandFor contents nothing words given
-Takes false false before after contents words given =
-    (after ≡ before) × ((standard : Input) → StandFor contents standard words given
-    × (standard_after_all words standard ≡ standard))
-Takes false true before after contents words given =
-    (heard : Input) × Hears before after heard × StandFor contents heard words given
-    × (standard_after_all words heard ≡ nothing)
+Takes true is_used before after contents list given =
+    (is_used ≡ true) × (after ≡ before) × StandFor contents nothing list given
+Takes false false before after contents list given =
+    (after ≡ before) × ((standard : Input) → StandFor contents standard list given
+    × (standard_after_all list standard ≡ standard))
+Takes false true before after contents list given =
+    (heard : Input) × Hears before after heard × StandFor contents heard list given
+    × (standard_after_all list heard ≡ nothing)
 
--- the same of the last words of a run, or of words at which it stops
-abbrev pub TakesAll : Bool → Told → Told → Option Contents → List (List ℕ) → List Asked → Type 0
-TakesAll true before after contents words given =
-    (after ≡ before) × StandFor contents nothing words given
-TakesAll false before after contents words given =
-    (heard : Input) × Hears before after heard × StandFor contents heard words given
+-- the same of the last targets of a run, or of targets at which it stops
+abbrev pub TakesAll : Bool → Told → Told → Option Contents → List Target → List Asked → Type 0
+TakesAll true before after contents list given =
+    (after ≡ before) × StandFor contents nothing list given
+TakesAll false before after contents list given =
+    (heard : Input) × Hears before after heard × StandFor contents heard list given

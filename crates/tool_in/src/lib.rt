@@ -3,4 +3,4 @@
 
 mod laws;
 
-pub use laws::told_words_stand_for_one_list;
+pub use laws::told_targets_stand_for_one_list;

@@ -2,6 +2,7 @@
 //! manual page pcre2grep and the rules of `docs/DEFINITIONS.md`.
 mod binary;
 mod context;
+mod directories;
 mod errors;
 mod faults;
 mod matches;

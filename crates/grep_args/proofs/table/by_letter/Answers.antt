@@ -65,6 +65,9 @@ returns-in-111-clause-option c = ap by_letter (sym c.in-111.is)
 pub returns-in-113-clause-option : goal.returns-in-113-clause-option
 returns-in-113-clause-option c = ap by_letter (sym c.in-113.is)
 
+pub returns-in-114-clause-option : goal.returns-in-114-clause-option
+returns-in-114-clause-option c = ap by_letter (sym c.in-114.is)
+
 pub returns-in-115-clause-option : goal.returns-in-115-clause-option
 returns-in-115-clause-option c = ap by_letter (sym c.in-115.is)
 

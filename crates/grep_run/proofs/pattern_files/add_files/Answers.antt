@@ -1,4 +1,4 @@
-use Rattle.std.proofs.Common.{rules, ◌≡◌, ◌∙◌, Some, Err, sym, subst}
+use Rattle.std.proofs.Common.{rules, arith, ◌≡◌, ◌∙◌, Some, Err, sym, subst}
 use Rattle.std.specs.Prelude.{slice_get}
 use Rattle.grep_run.specs.Adds.{AddsAllFrom}
 use Rattle.grep_run.proofs.FilePatterns.{adds-more, adds-stops, adds-halts}
@@ -7,32 +7,60 @@ use Rattle.grep_run.proofs.pattern_files.add_files.Goals as goal
 pub returns-in_err-add_file-clause-adds : goal.returns-in_err-add_file-clause-adds
 returns-in_err-add_file-clause-adds g c =
     let plan = c.args.plan.now in
+    let contents = (g.F.FileSet.tells c.args.files.now).contents in
+    let contents_now = (g.F.FileSet.tells c.loop-i.files).contents in
+    let was_used = c.args.is_used.now in
+    let is_used = c.add_file.new.is_used in
+    let before = g.S.Source.tells c.args.input.now in
+    let now = g.S.Source.tells c.loop-i.input in
+    let after = g.S.Source.tells c.add_file.new.input in
+    let old = c.args.texts.now in
+    let new = c.add_file.new.texts in
+    let err_old = g.E.Sink.tells c.args.err.now in
+    let err_mid = g.E.Sink.tells c.loop-i.err in
+    let err_new = g.E.Sink.tells c.add_file.new.err in
     let had = c.loop-i.invariant in
     let word = c.as_str-word.result.now in
     let at = subst (λ w. slice_get plan.pattern_files c.loop-i.i ≡ Some w) (sym c.as_str-word.ensures) c.get.ensures in
     let stop = c.in_err-add_file.field-0.0 in
     let same : c.from_residual.result ≡ Err stop = search rules in
-    subst
-    (AddsAllFrom plan (g.F.FileSet.tells c.args.files.now).contents c.args.is_used.now c.add_file.new.is_used (g.S.Source.tells c.args.input.now) (g.S.Source.tells c.add_file.new.input) c.args.texts.now c.add_file.new.texts
-    (g.E.Sink.tells c.args.err.now) (g.E.Sink.tells c.add_file.new.err))
-    (sym same)
-    (adds-halts plan _ _ _ _ _ _ _ _ c.loop-i.i word _ _ _ _ _ _ at had.files had.adds stop c.in_err-add_file.ensures.adds)
+    subst (AddsAllFrom plan contents was_used is_used before after old new err_old err_new) (sym same)
+    (adds-halts plan contents contents_now was_used c.loop-i.is_used is_used before now after c.loop-i.i word old c.loop-i.texts new err_old err_mid err_new at had.files had.adds stop c.in_err-add_file.ensures.adds)
 
 pub returns-then-not-branch-clause-adds : goal.returns-then-not-branch-clause-adds
 returns-then-not-branch-clause-adds g c =
     let plan = c.args.plan.now in
+    let contents = (g.F.FileSet.tells c.args.files.now).contents in
+    let contents_now = (g.F.FileSet.tells c.loop-i.files).contents in
+    let before = g.S.Source.tells c.args.input.now in
+    let now = g.S.Source.tells c.loop-i.input in
+    let after = g.S.Source.tells c.add_file.new.input in
+    let err_old = g.E.Sink.tells c.args.err.now in
+    let err_mid = g.E.Sink.tells c.loop-i.err in
+    let err_new = g.E.Sink.tells c.add_file.new.err in
     let had = c.loop-i.invariant in
     let word = c.as_str-word.result.now in
     let at = subst (λ w. slice_get plan.pattern_files c.loop-i.i ≡ Some w) (sym c.as_str-word.ensures) c.get.ensures in
-    adds-stops plan _ _ _ _ _ _ _ _ c.loop-i.i word _ _ _ _ _ _ at had.files had.adds (rw c.if-not-branch.true at c.in_ok-add_file.ensures.adds)
+    adds-stops plan contents contents_now c.args.is_used.now c.loop-i.is_used c.add_file.new.is_used before now after c.loop-i.i word c.args.texts.now c.loop-i.texts c.add_file.new.texts err_old err_mid err_new at had.files had.adds
+    (rw c.if-not-branch.true at c.in_ok-add_file.ensures.adds)
 
 pub loop-i-preserved : goal.loop-i-preserved
 loop-i-preserved g c =
     let plan = c.args.plan.now in
+    let contents = (g.F.FileSet.tells c.args.files.now).contents in
+    let contents_now = (g.F.FileSet.tells c.loop-i.files).contents in
+    let before = g.S.Source.tells c.args.input.now in
+    let now = g.S.Source.tells c.loop-i.input in
+    let after = g.S.Source.tells c.add_file.new.input in
+    let err_old = g.E.Sink.tells c.args.err.now in
+    let err_mid = g.E.Sink.tells c.loop-i.err in
+    let err_new = g.E.Sink.tells c.add_file.new.err in
     let had = c.loop-i.invariant in
     let word = c.as_str-word.result.now in
     let at = subst (λ w. slice_get plan.pattern_files c.loop-i.i ≡ Some w) (sym c.as_str-word.ensures) c.get.ensures in
     record {
       files = c.in_ok-add_file.ensures.files ∙ had.files;
-      adds = adds-more plan _ _ _ _ _ _ _ _ c.loop-i.i word _ _ _ _ _ _ at had.files had.adds (rw c.if-not-branch.false at c.in_ok-add_file.ensures.adds);
+      later = let one = c.in_ok-add_file.ensures.later in let before = had.later in omega (arith, one, before);
+      adds = adds-more plan contents contents_now c.args.is_used.now c.loop-i.is_used c.add_file.new.is_used before now after c.loop-i.i word c.args.texts.now c.loop-i.texts c.add_file.new.texts err_old err_mid err_new at had.files had.adds
+          (rw c.if-not-branch.false at c.in_ok-add_file.ensures.adds);
     }

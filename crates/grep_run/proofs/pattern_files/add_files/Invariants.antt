@@ -1,4 +1,4 @@
-use Rattle.std.proofs.Common.{◌≡◌, take}
+use Rattle.std.proofs.Common.{◌≡◌, ◌≤◌, take}
 use Rattle.grep_run.proofs.FilePatterns.{AddsFiles}
 use Rattle.grep_run.proofs.pattern_files.add_files.Given as goal
 
@@ -6,6 +6,7 @@ use Rattle.grep_run.proofs.pattern_files.add_files.Given as goal
 abbrev pub invariant-loop-i : goal.invariant-loop-i
 invariant-loop-i g l = record {
   files : (g.F.FileSet.tells l.files).contents ≡ (g.F.FileSet.tells l.initial.files).contents;
+  later : (g.F.FileSet.tells l.initial.files).faults ≤ (g.F.FileSet.tells l.files).faults;
   adds : AddsFiles l.plan (g.F.FileSet.tells l.initial.files).contents l.initial.is_used l.is_used (g.S.Source.tells l.initial.input) (g.S.Source.tells l.input) (take l.i l.plan.pattern_files)
       l.initial.texts l.texts (g.E.Sink.tells l.initial.err) (g.E.Sink.tells l.err);
 }

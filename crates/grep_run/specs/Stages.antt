@@ -1,0 +1,55 @@
+-- What a run does from each of its stages on: words, their plan, and its patterns → the targets that it asks for → what these
+-- stand for → its text.
+use Rattle.std.specs.Prelude.{◌≡◌, ℕ, Bool, List, ◌++◌, length, Result}
+use Rattle.pcre_io.specs.Told.{Told}
+use Rattle.pcre_io.specs.Files.{Filed}
+use Rattle.line_feed.specs.Rows.{Input}
+use Rattle.line_feed.specs.Hears.{Hears}
+use Rattle.grep_args.specs.declared.plan.GrepPlan.{GrepPlan}
+use Rattle.dir_walk.specs.declared.lists.Target.{Target}
+use Rattle.tool_in.specs.Asked.{Asked, StandFor}
+use Rattle.tool_in.specs.Takes.{TakesAll}
+use Rattle.tool_out.specs.Printed.{Printed}
+use Rattle.grep_match.specs.Compiled.{Compiled}
+use Rattle.grep_core.specs.declared.ended.Stop.{Stop}
+use Rattle.grep_run.specs.Asks.{AsksFor, Lists, asked_by_plan}
+use Rattle.grep_run.specs.RunsBy.{RunsBy}
+use Rattle.grep_run.specs.ToolText.{text_by_patterns, text_by_plan, text_of}
+
+-- what a run's files and its standard input tell, and what was printed
+pub record Streams : Type 0 where
+  pub files : Filed
+  pub input : Told
+  pub printed : Printed
+
+abbrev pub streams : Filed → Told → Printed → Streams
+streams files input printed = record { files = files; input = input; printed = printed }
+
+-- a search for these patterns, where standard input was or wasn't used
+abbrev pub SearchesFor : GrepPlan → Compiled → List (List ℕ) → Bool → Streams → Streams
+    → Result ℕ Stop → Type 0
+SearchesFor plan found words was_used old new result =
+    (list : List Target)
+    × Lists old.files.contents old.files.faults new.files.faults plan words list
+    × ((given : List Asked) × TakesAll was_used old.input new.input old.files.contents list given
+    × RunsBy (text_by_patterns words plan given found) old.printed new.printed result)
+
+-- a search by a plan
+abbrev pub SearchesBy : GrepPlan → List (List ℕ) → Streams → Streams → Result ℕ Stop → Type 0
+SearchesBy plan words old new result =
+    (heard : Input) × Hears old.input new.input heard
+    × ((list : List Target)
+    × Lists old.files.contents old.files.faults new.files.faults plan words list
+    × ((pattern_files : List Asked) × (given : List Asked)
+    × (length pattern_files ≡ length plan.pattern_files)
+    × StandFor old.files.contents heard (asked_by_plan plan list) (pattern_files ++ given)
+    × RunsBy (text_by_plan words plan pattern_files given) old.printed new.printed result))
+
+-- a run on the words after the tool's name
+abbrev pub RunsOn : List (List ℕ) → Streams → Streams → Result ℕ Stop → Type 0
+RunsOn words old new result =
+    (heard : Input) × Hears old.input new.input heard
+    × ((asked : List Target)
+    × AsksFor old.files.contents old.files.faults new.files.faults words asked
+    × ((given : List Asked) × StandFor old.files.contents heard asked given
+    × RunsBy (text_of words given) old.printed new.printed result))
