@@ -9,7 +9,7 @@ use Rattle.pat_tree.specs.Rules.{kids_of, tests_of, number_in, asserted_by, is_t
 use Rattle.pat_tree.specs.declared.nodes.Cond.{Cond}
 use Rattle.pat_tree.specs.declared.nodes.Cond.TheVariants as cond
 use Rattle.std.proofs.lemmas.Bool.{false≢true}
-use Rattle.pat_tree.specs.Built.{IsBuilt, AreBuilt}
+use Rattle.pat_tree.specs.Built.{IsBuilt, AreBuilt, IsBuiltTest, IsBuiltOther}
 use Rattle.ordered_search.specs.Verbless.{IsVerbless, AreVerbless, IsVerblessTest, IsVerblessOther}
 use Rattle.frame_machine.specs.Forms.{IsRunnable, AreRunnable, IsRunnableTest, IsRunnableOther}
 
@@ -25,7 +25,7 @@ mutual
   built_runs (tree.one_repeat item low high lazily) b = tt
   built_runs (tree.atomic ts) b = built_row ts b
   built_runs (tree.look ahead positive once ts) b = built_row ts b
-  built_runs (tree.condition test first second) b = absurd b
+  built_runs (tree.condition test first second) b = (built_test test b.0, built_runs first b.1, built_other second b.2)
   built_runs (tree.call n) b = absurd b
   built_runs (tree.ref ns caseless) b = tt
   built_runs (tree.anchor kind) b = tt
@@ -36,6 +36,18 @@ mutual
   built_row : (ts : Row) → AreBuilt ts → AreRunnable ts
   built_row tree.none b = tt
   built_row (tree.more t ts) b = (built_runs t b.0, built_row ts b.1)
+
+  built_test : (test : Test) → IsBuiltTest test → IsRunnableTest test
+  built_test (tree.any_set ns) b = tt
+  built_test tree.in_call b = tt
+  built_test (tree.in_call_of ns) b = tt
+  built_test tree.never b = tt
+  built_test (tree.assert ahead positive once ts) b = absurd b
+  built_test (tree.called c test) b = absurd b
+
+  built_other : (second : Other) → IsBuiltOther second → IsRunnableOther second
+  built_other tree.no_other b = tt
+  built_other (tree.other t) b = built_runs t b
 
 -- they have no verbs
 mutual

@@ -6,8 +6,8 @@ use Rattle.pat_tree.specs.declared.nodes.Item.{Item}
 use Rattle.pat_tree.specs.declared.nodes.AnchorKind.{AnchorKind}
 use Rattle.pat_tree.specs.declared.options.PartialMode.TheVariants.{Off}
 use Rattle.pat_tree.specs.Nested as tree
-use Rattle.pat_tree.specs.Nested.{Nested, Row, repeat}
-use Rattle.pat_tree.specs.Built.{IsBuilt, AreBuilt}
+use Rattle.pat_tree.specs.Nested.{Nested, Row, Test, Other, repeat}
+use Rattle.pat_tree.specs.Built.{IsBuilt, AreBuilt, IsBuiltTest, IsBuiltOther}
 use Rattle.uni_text.specs.Characters.{char_before}
 use Rattle.pat_lengths.specs.Lengths.{SomeLengths}
 use Rattle.frame_store.specs.declared.registers.Span.{Span}
@@ -17,8 +17,8 @@ use Rattle.match_items.proofs.Places.{item_forward, break_within, ref_within}
 use Rattle.ordered_search.specs.Stream.{State, reached, Stream, Search, nothing, gives, no_ending, is_next_branch, fails_alone, fails_inside, captured, and_then, go_on}
 use Rattle.ordered_search.specs.Setting.{Setting, branch_lengths, hold, reach_if}
 use Rattle.ordered_search.specs.Tests.{move_to, goes_to, run_one, run_break, run_ref, run_anchor, offers, greedy, offer_and, reluctant, lazy_run, run_many}
-use Rattle.ordered_search.specs.Parts.{Searches, in_order, choices, branches, run_group, back_to, forget_passed, run_atomic, run_look, begun_at, ends_at, one_try, tries, tries_within, run_behind, is_over, turn, run_repeat}
-use Rattle.ordered_search.specs.Run.{level, levels, levels_behind, run}
+use Rattle.ordered_search.specs.Parts.{Searches, in_order, choices, branches, run_group, back_to, forget_passed, run_atomic, run_look, tests, some_set, is_called, is_called_of, begun_at, ends_at, one_try, tries, tries_within, run_behind, is_over, turn, run_repeat}
+use Rattle.ordered_search.specs.Run.{level, levels, levels_behind, level_test, level_other, run}
 use Rattle.ordered_search.proofs.ForwardStreams.{IsOnWay, Forward, IsForward, forward_nothing, forward_gives, forward_step, forward_if, forward_less, forward_or_else, forward_each, forward_and_then, forward_catch, forward_decide, with_units, with_early, with_place, with_keep, with_capture, with_passed, loosened, with_return, each_inside, decide_inside, forward_held, forward_hold, forward_reach_if}
 
 -- a place that is told is as far as what was taken
@@ -211,6 +211,11 @@ module _ (g : Setting) (low : Option ℕ) (bytes : g.options.utf ≡ false) (off
       (decide_inside g low s.place fails_inside _ (λ how u. nothing) (gives reached s) (h _ (with_units g None s _ (loosened g low s on))) (forward_gives g low s.place s (omega arith) on)
       (λ u on'. forward_nothing g low s.place))
 
+  forward_tests : (b : Bool) (f f' : Search) (s : State) → Forward g low s.place (f s) → Forward g low s.place (f' s) → Forward g low s.place (tests b f f' s)
+  unfolding tests
+  forward_tests true f f' s h k = h
+  forward_tests false f f' s h k = k
+
   -- Repeats, whose turns go a level deeper.
 
   abbrev GoesBelow : Searches → Type 0
@@ -302,7 +307,8 @@ module _ (g : Setting) (bytes : g.options.utf ≡ false) (off : g.matching.«par
       forward_level low (tree.atomic ts) built s on = forward_atomic g low bytes off _ (forward_branches g low bytes off true _ (forward_reach low ts built)) s on
       forward_level low (tree.look true positive once ts) built s on = forward_look g low bytes off positive once _ (forward_branches g None bytes off false _ (roam_ahead ts built)) s on
       forward_level low (tree.look false positive once ts) built s on = forward_look g low bytes off positive once _ (forward_branches g None bytes off false _ (roam_back ts built)) s on
-      forward_level low (tree.condition test first second) built s on = absurd built
+      forward_level low (tree.condition test first second) built s on =
+          forward_test low test _ _ built.0 (forward_level low first built.1) (forward_other low second built.2) s on
       forward_level low (tree.call n) built s on = absurd built
       forward_level low (tree.ref ns caseless) built s on = forward_ref g low bytes off ns caseless s on
       forward_level low (tree.anchor kind) built s on = forward_anchor g low bytes off kind s on
@@ -317,6 +323,18 @@ module _ (g : Setting) (bytes : g.options.utf ≡ false) (off : g.matching.«par
       forward_reach : (low : Option ℕ) (ts : Row) → AreBuilt ts → AllReach g low bytes off true (levels g below ts)
       forward_reach low tree.none built = tt
       forward_reach low (tree.more t ts) built = (forward_level low t built.0, forward_reach low ts built.1)
+
+      forward_test : (low : Option ℕ) (test : Test) (f f' : Search) → IsBuiltTest test → IsForward g low f → IsForward g low f' → IsForward g low (level_test g below test f f')
+      forward_test low (tree.any_set ns) f f' built h h' s on = forward_tests g low bytes off (some_set s.caps ns) f f' s (h s on) (h' s on)
+      forward_test low tree.in_call f f' built h h' s on = forward_tests g low bytes off (is_called s.calls) f f' s (h s on) (h' s on)
+      forward_test low (tree.in_call_of ns) f f' built h h' s on = forward_tests g low bytes off (is_called_of s.calls ns) f f' s (h s on) (h' s on)
+      forward_test low tree.never f f' built h h' s on = h' s on
+      forward_test low (tree.assert ahead positive once ts) f f' built h h' s on = absurd built
+      forward_test low (tree.called c test) f f' built h h' s on = absurd built
+
+      forward_other : (low : Option ℕ) (second : Other) → IsBuiltOther second → IsForward g low (level_other g below second)
+      forward_other low tree.no_other built s on = forward_gives g low s.place s (omega arith) on
+      forward_other low (tree.other t) built s on = forward_level low t built s on
 
       roam_ahead : (ts : Row) → AreBuilt ts → AllReach g None bytes off false (levels g below ts)
       roam_ahead tree.none built = tt

@@ -8,8 +8,12 @@ use Rattle.pat_tree.specs.declared.names.NameEntry.{NameEntry}
 use Rattle.token_parts.specs.declared.token.Token.TheVariants.{Open}
 use Rattle.token_parts.specs.declared.token.OpenKind.TheVariants.{Capture}
 use Rattle.pat_build.specs.State.{State}
-use Rattle.pat_build.specs.Parts.{beginning, enters}
-use Rattle.pat_build.specs.Groups.{Opens, Form, grouped, is_look, has_name, opened, captured, named}
+use Rattle.token_parts.specs.declared.token.CondText.{CondText}
+use Rattle.pat_build.specs.declared.error.ReadError.{ReadError}
+use Rattle.pat_build.specs.declared.error.ReadError.TheVariants.{Bad, Memory}
+use Rattle.pat_build.specs.Machine.{Refuses}
+use Rattle.pat_build.specs.Parts.{beginning, conditions, enters}
+use Rattle.pat_build.specs.Groups.{Opens, Form, grouped, is_look, bars_in, has_name, opened, captured, named, form_in, beyond_after}
 
 pub opened_deep : (st : State) (form : Form) (after : State) → 250 ≤ st.depth → opened st form after ≡ fault 119 st.at
 unfolding opened
@@ -18,7 +22,7 @@ opened_deep st form after h = grind (arith, nat_tests)
 -- the group, and the state in which its inside begins
 abbrev pub begun : State → Form → State → Opens
 begun st form after =
-    Ok (record { form = form; around = st.options; looking = st.looking; at = st.at }, record after { depth = st.depth + 1; looking = is_look form || st.looking })
+    Ok (record { form = form; around = st.options; looking = st.looking; bars = st.bars; at = st.at }, record after { depth = st.depth + 1; looking = is_look form || st.looking; bars = bars_in form })
 
 pub opened_fits : (st : State) (form : Form) (after : State) → st.depth < 250 → opened st form after ≡ begun st form after
 unfolding opened
@@ -64,3 +68,21 @@ module _ (st : State) (name : List ℕ) (after : State) where
 module _ (known : List NameEntry) (text : List ℕ) (n : ℕ) (st next : State) where
   pub capture_is : st.options.no_auto_capture ≡ false → (opens : Opens) → captured st next ≡ opens → beginning known text n st (Open Capture) next ≡ enters opens
   capture_is captures opens is = ap (λ b. enters (if b then opened st (grouped None) next else captured st next)) captures ∙ ap enters is
+
+-- what begins a conditional group
+module _ (known : List NameEntry) (text : List ℕ) (st : State) (cond : CondText) (word : List ℕ) (after : State) where
+  pub conditions_deep : 250 ≤ st.depth → conditions known text st cond word after ≡ fault 119 st.at
+  unfolding conditions
+  conditions_deep h = let deep : nat_le 250 st.depth ≡ true = grind (arith, nat_tests) in rw deep refl
+
+  pub conditions_refuse : st.depth < 250 → (e : ReadError) → Refuses (form_in known text st cond word) e → Refuses (conditions known text st cond word after) e
+  unfolding conditions
+  conditions_refuse h (Bad number at) r = let fits : nat_le 250 st.depth ≡ false = grind (arith, nat_tests) in rw (fits, r) refl
+  conditions_refuse h Memory r = tt
+
+  pub conditions_fit : st.depth < 250 → (form : Form) → form_in known text st cond word ≡ Ok form →
+      conditions known text st cond word after ≡ enters (begun st form (record after { beyond = beyond_after known st cond word }))
+  unfolding conditions
+  conditions_fit h form is =
+      let fits : nat_le 250 st.depth ≡ false = grind (arith, nat_tests) in
+      rw (fits, is, opened_fits st form (record after { beyond = beyond_after known st cond word }) h) refl

@@ -25,10 +25,10 @@ refuses_on r f (Bad number at) h = rw h refl
 refuses_on r f Memory h = tt
 
 pub tree_refuses : (known : List NameEntry) (text : List ℕ) (st : State) (e : ReadError) → Refuses (reading known text st) e → Refuses (tree_with known text st) e
-tree_refuses known text st e h = refuses_on (reading known text st) (λ (tree, last). checked st.options (missing last.groups last.references) tree last) e h
+tree_refuses known text st e h = refuses_on (reading known text st) (λ (tree, last). checked st.options last.beyond (missing last.groups last.references) tree last) e h
 
 pub tree_is : (known : List NameEntry) (text : List ℕ) (st : State) (tree : Nested) (last : State) → reading known text st ≡ Ok (tree, last) →
-    tree_with known text st ≡ checked st.options (missing last.groups last.references) tree last
+    tree_with known text st ≡ checked st.options last.beyond (missing last.groups last.references) tree last
 tree_is known text st tree last h = rw h refl
 
 bad_ref_same : (f g : ℕ → Bool) (rs : List (ℕ × ℕ)) → ((n : ℕ) → f n ≡ g n) → bad_ref f rs ≡ bad_ref g rs

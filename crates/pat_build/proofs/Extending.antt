@@ -102,16 +102,16 @@ adds_node d new p is refs_are none no_reference groups no_group last = record {
 }
 
 -- a group's node is added
-pub closes_node : (d new : DraftParts) (p : Placed) (form : Form) → new ≡ with_node d p → refs new.nodes ≡ refs d.nodes ++ refs_of p → refs_of p ≡ [] → reference_in p ≡ noted form p.at →
+pub closes_node : (d new : DraftParts) (p : Placed) (form : Form) → new ≡ with_node d p → refs new.nodes ≡ refs d.nodes ++ refs_of p → refs_of p ≡ places_named (noted form p.at) → reference_in p ≡ noted form p.at →
     ((n : ℕ) → has_group new.nodes n ≡ (has_group d.nodes n || is_group n p.node)) → ((n : ℕ) → is_group n p.node ≡ is_number (number_of form) n) →
     EndsIn d.nodes (kids_of p.node) → Closes d new form p.at
-closes_node d new p form is refs_are none told groups numbered last = record {
+closes_node d new p form is refs_are named told groups numbered last = record {
   options = ap (λ v. v.options) is;
   classes = ap (λ v. v.classes) is;
   names = ap (λ v. v.names) is;
   verb_names = ap (λ v. v.verb_names) is;
   references = ap (λ v. references_of v.nodes) is ∙ references_push d.nodes p ∙ ap (λ v. references_of d.nodes ++ v) told;
-  refs_are = refs_are ∙ ap (λ v. refs d.nodes ++ v) none ∙ append-nil (refs d.nodes);
+  refs_are = refs_are ∙ ap (λ v. refs d.nodes ++ v) named;
   groups = λ n. groups n ∙ ap (λ b. has_group d.nodes n || b) (numbered n);
   turns = turns_with d new p is last;
 }
@@ -137,20 +137,21 @@ closes_then {a} {b} {c} {form} {at} s t = record {
   names = t.names ∙ s.names;
   verb_names = t.verb_names ∙ s.verb_names;
   references = t.references ∙ ap (λ v. v ++ noted form at) s.references;
-  refs_are = t.refs_are ∙ s.refs_are;
+  refs_are = t.refs_are ∙ ap (λ v. v ++ places_named (noted form at)) s.refs_are;
   groups = λ n. t.groups n ∙ ap (λ x. x || is_number (number_of form) n) (s.groups n);
   turns = λ h. t.turns (s.turns h);
 }
 
 -- a plain group adds nothing else
 pub closes_plain : {a b : DraftParts} {at : ℕ} → Closes a b (grouped None) at → Adds a b
+unfolding places_named
 closes_plain {a} {b} {at} s = record {
   options = s.options;
   classes = s.classes;
   names = s.names;
   verb_names = s.verb_names;
   references = s.references ∙ append-nil (references_of a.nodes);
-  refs_are = s.refs_are;
+  refs_are = s.refs_are ∙ append-nil (refs a.nodes);
   groups = λ n. s.groups n ∙ or_false (has_group a.nodes n);
   turns = s.turns;
 }

@@ -17,3 +17,4 @@ pub mod Beginning
 pub mod Starting
 pub mod Exits
 pub mod Numbering
+pub mod Conditions

@@ -10,7 +10,7 @@ use Rattle.pat_tree.specs.declared.options.Options.{Options}
 use Rattle.pat_tree.specs.declared.nodes.Placed.{Placed}
 use Rattle.pat_tree.specs.declared.names.NameEntry.{NameEntry}
 use Rattle.pat_tree.specs.Parts.{DraftParts}
-use Rattle.pat_tree.specs.Nested.{Nested, row, group, tree_at, trees}
+use Rattle.pat_tree.specs.Nested.{Nested, Test, row, group, never, tree_at, trees}
 use Rattle.pat_tree.specs.Refs.{has_group}
 use Rattle.pat_tree.specs.Rules.{number_in}
 use Rattle.pat_tree.specs.Growing.{Replaces, Makes}
@@ -19,18 +19,22 @@ use Rattle.token_parts.specs.declared.token.Token.{Token}
 use Rattle.token_parts.specs.declared.token.Token.TheVariants.{End, Bar, Close}
 use Rattle.token_parts.specs.Tell.{fault}
 use Rattle.pat_lex.specs.Tokens.{token_at}
+use Rattle.pat_build.specs.declared.machine.Bars.{Bars}
+use Rattle.pat_build.specs.declared.machine.Bars.TheVariants.{Free, First, Second, Define}
 use Rattle.pat_build.specs.declared.machine.Frame.{Frame}
 use Rattle.pat_build.specs.declared.machine.Level.{Level}
 use Rattle.pat_build.specs.declared.machine.Machine.{Machine}
 use Rattle.pat_build.specs.declared.names.Name.{Name}
+use Rattle.pat_build.specs.declared.error.ReadError.{ReadError}
+use Rattle.pat_build.specs.declared.error.ReadError.TheVariants.{Bad, Memory}
 use Rattle.pat_build.specs.State.{State, Reference, Reads, flags_of}
-use Rattle.pat_build.specs.Groups.{Form, grouped, atomically, looks, Opening, is_look, built, noted, is_opened}
+use Rattle.pat_build.specs.Groups.{Form, grouped, atomically, looks, conditional, defines, Opening, is_look, bars_in, barred, branched, built, noted, is_opened}
 use Rattle.pat_build.specs.Names.{given_after, with_given}
 use Rattle.pat_build.specs.Parts.{inside, alternative}
 use Rattle.pat_build.specs.Stack.{Layer, Opened, resume, ended}
-use Rattle.pat_build.specs.Machine.{Adds, Closes, IsAtom, Named, form_of, atom_of, atom_tree, ids_of, number_in_frame, references_of, state_of, known_of, whole_of, left, Means, Ready, Begins, Took, Numbered, Gives, Ends, opening_of, ids_waiting, ids_in, ids_held, is_open, is_number}
+use Rattle.pat_build.specs.Machine.{Refuses, Adds, Closes, IsAtom, IsMany, IsBarred, AreBarred, CanHave, Named, form_of, atom_of, atom_tree, ids_of, number_in_frame, references_of, state_of, known_of, whole_of, left, Means, Ready, Begins, Took, Numbered, Gives, Ends, opening_of, ids_waiting, ids_in, ids_held, is_open, is_number}
 use Rattle.pat_build.proofs.Naming.{named_push, length_table}
-use Rattle.pat_build.proofs.Steps.{step_open, step_bar, step_over, step_close, step_unclosed, step_unopened, step_whole}
+use Rattle.pat_build.proofs.Steps.{step_open, step_bar, step_barred, step_over, step_close, step_unclosed, step_unopened, step_whole}
 use Rattle.pat_build.proofs.Standing.{positive, level_on, stack_on, innermost, none_open}
 use Rattle.pat_build.proofs.States.{state_kept, whole_kept, refs_kept, named_kept, numbers_kept, state_closed, whole_closed, refs_closed, named_closed, held_push, or_false}
 use Rattle.pat_build.proofs.Waiting.{idle_value, loose_idle, to_parts}
@@ -113,37 +117,97 @@ few_names text names table groups after number h numbered small =
 
 -- a group has ended
 state_eq : (st : State) (rs : List Reference) {o o' : Opening} {d d' : ℕ} → o ≡ o' → d ≡ d' →
-    record st { options = o.around; looking = o.looking; depth = d; references = rs ++ noted o.form o.at } ≡ record st { options = o'.around; looking = o'.looking; depth = d'; references = rs ++ noted o'.form o'.at }
+    record st { options = o.around; looking = o.looking; bars = o.bars; depth = d; references = rs ++ noted o.form o.at } ≡ record st { options = o'.around; looking = o'.looking; bars = o'.bars; depth = d'; references = rs ++ noted o'.form o'.at }
 state_eq st rs {o} {o'} {d} {d'} p q =
-    ap (λ (v : Opening). record st { options = v.around; looking = v.looking; depth = d; references = rs ++ noted v.form v.at }) p
-    ∙ ap (λ v. record st { options = o'.around; looking = o'.looking; depth = v; references = rs ++ noted o'.form o'.at }) q
+    ap (λ (v : Opening). record st { options = v.around; looking = v.looking; bars = v.bars; depth = d; references = rs ++ noted v.form v.at }) p
+    ∙ ap (λ v. record st { options = o'.around; looking = o'.looking; bars = o'.bars; depth = v; references = rs ++ noted o'.form o'.at }) q
+
+-- no condition is an item or a lookaround
+branched_many : (test : Test) (branches : List Nested) → IsMany (branched test branches)
+branched_many test [] = record { many = λ low high lazy. refl }
+branched_many test (yes' ∷ []) = record { many = λ low high lazy. refl }
+branched_many test (yes' ∷ no' ∷ others) = record { many = λ low high lazy. refl }
+
+-- a group begins with its first alternative
+bars_first : (form : Form) → IsBarred form 0 (bars_in form)
+bars_first (grouped number) = refl
+bars_first atomically = refl
+bars_first (looks ahead positive once) = refl
+bars_first (conditional test) = refl
+bars_first defines = (refl, refl)
+
+free_after : (bars next : Bars) (at : ℕ) → barred bars at ≡ Ok next → bars ≡ Free → next ≡ Free
+free_after Free next at found is = cc
+free_after First next at found is = absurd cc
+free_after Second next at found is = absurd cc
+free_after Define next at found is = absurd cc
+
+-- a further alternative begins
+bars_more : (form : Form) (n : ℕ) (bars next : Bars) (at : ℕ) → barred bars at ≡ Ok next → IsBarred form n bars → IsBarred form (n + 1) next
+bars_more (grouped number) n bars next at found is = free_after bars next at found is
+bars_more atomically n bars next at found is = free_after bars next at found is
+bars_more (looks ahead positive once) n bars next at found is = free_after bars next at found is
+bars_more (conditional test) n Free next at found is = absurd is
+bars_more (conditional test) n First Second at found is = omega (arith, is)
+bars_more (conditional test) n First Free at found is = absurd cc
+bars_more (conditional test) n First First at found is = absurd cc
+bars_more (conditional test) n First Define at found is = absurd cc
+bars_more (conditional test) n Second next at found is = absurd cc
+bars_more (conditional test) n Define next at found is = absurd is
+bars_more defines n Free next at found is = absurd cc
+bars_more defines n First next at found is = absurd cc
+bars_more defines n Second next at found is = absurd cc
+bars_more defines n Define next at found is = absurd cc
+
+bars_push : (fs : List Frame) (branches : List ℕ) (id : ℕ) (bars next : Bars) (at : ℕ) → barred bars at ≡ Ok next → AreBarred fs (length branches) bars → AreBarred fs (length (branches ++ id ∷ [])) next
+bars_push [] branches id bars next at found is = free_after bars next at found is
+bars_push (f ∷ fs) branches id bars next at found is =
+    let more : length (branches ++ id ∷ []) ≡ length branches + 1 = length-append branches (id ∷ []) in
+    rw more (bars_more (form_of f.form) (length branches) bars next at found is.0, is.1)
+
+-- a group ends after its last alternative
+pub bars_last : (form : Form) (n : ℕ) (bars : Bars) → IsBarred form n bars → CanHave form (n + 1)
+bars_last (grouped number) n bars is = tt
+bars_last atomically n bars is = tt
+bars_last (looks ahead positive once) n bars is = tt
+bars_last (conditional test) n Free is = absurd is
+bars_last (conditional test) n First is = (omega arith, omega (arith, is))
+bars_last (conditional test) n Second is = (omega arith, omega (arith, is))
+bars_last (conditional test) n Define is = absurd is
+bars_last defines n bars is = omega (arith, is.0)
 
 -- the group of this node waits for a quantifier
 closed_atom : (draft : DraftParts) (form : Form) (id at : ℕ) (branches : List Nested) → id < length draft.nodes → tree_at (trees draft.nodes) id ≡ built form branches → IsAtom draft (atom_of form id at)
 closed_atom draft (grouped number) id at branches below is = (below, rw is (record { many = λ low high lazy. refl }))
 closed_atom draft atomically id at branches below is = (below, rw is (record { many = λ low high lazy. refl }))
 closed_atom draft (looks ahead positive once) id at branches below is = (below, rw is (record { looks = λ low high lazy. refl }))
+closed_atom draft (conditional test) id at branches below is = (below, rw is (branched_many test branches))
+closed_atom draft defines id at branches below is = (below, rw is (branched_many never branches))
 
 closed_tree : (ps : List Placed) (form : Form) (id at : ℕ) → atom_tree ps (atom_of form id at) ≡ tree_at (trees ps) id
 closed_tree ps (grouped number) id at = refl
 closed_tree ps atomically id at = refl
 closed_tree ps (looks ahead positive once) id at = refl
+closed_tree ps (conditional test) id at = refl
+closed_tree ps defines id at = refl
 
 closed_ids : (form : Form) (id at : ℕ) → ids_of (atom_of form id at) ≡ id ∷ []
 closed_ids (grouped number) id at = refl
 closed_ids atomically id at = refl
 closed_ids (looks ahead positive once) id at = refl
+closed_ids (conditional test) id at = refl
+closed_ids defines id at = refl
 
 resume_eq : (known : List NameEntry) (text : List ℕ) (os : List Opened) (layer : Layer) (n : ℕ) {t u : Nested} {st st' : State} → t ≡ u → st ≡ st' → resume known text os layer (Some (n, t)) st ≡ resume known text os layer (Some (n, u)) st'
 resume_eq known text os layer n {t} {u} {st} {st'} p q = ap (λ v. resume known text os layer (Some (n, v)) st) p ∙ ap (λ v. resume known text os layer (Some (n, u)) v) q
 
 module _ (m : Machine) (means : Means m) where
   -- the old level's numbers serve for the new one
-  pub bar_means : (id : ℕ) (draft : DraftParts) (branches : List ℕ) (after : ℕ) →
-      Ready Bar after m → Makes m.draft.nodes draft.nodes id (alternative (map (tree_at (trees m.draft.nodes)) m.level.parts)) → Adds m.draft draft → Replaces m.draft.nodes m.level.parts draft.nodes id →
+  pub bar_means : (id : ℕ) (draft : DraftParts) (branches : List ℕ) (bars : Bars) (after : ℕ) →
+      Ready Bar after m → barred m.bars m.at ≡ Ok bars → Makes m.draft.nodes draft.nodes id (alternative (map (tree_at (trees m.draft.nodes)) m.level.parts)) → Adds m.draft draft → Replaces m.draft.nodes m.level.parts draft.nodes id →
       branches ≡ m.level.branches ++ id ∷ [] → length draft.nodes ≤ length m.draft.nodes + 1 →
-      Took m (record m { draft = draft; level = record { branches = branches; parts = [] }; at = after })
-  bar_means id draft branches after ready makes adds replaces more count =
+      Took m (record m { draft = draft; level = record { branches = branches; parts = [] }; bars = bars; at = after })
+  bar_means id draft branches bars after ready found makes adds replaces more count =
       let (n, n_is) = positive (left m) means.layer.n means.level.n in
       let (k, k_is) = positive (left m) means.layer.k means.level.k in
       let there = ready.there in
@@ -151,7 +215,7 @@ module _ (m : Machine) (means : Means m) where
       let falls : u < left m - 1 = omega (arith, there.goes, there.within) in
       let less : u ≤ left m = omega arith in
       let layer : Layer = record { n = k; k = k; branches = means.layer.branches ++ alternative means.layer.parts ∷ []; parts = [] } in
-      let step = step_bar (known_of m) m.text.now (state_of m) Bar after there.token_is refl means.opens means.layer n k n_is k_is in
+      let step = step_bar (known_of m) m.text.now (state_of m) Bar after there.token_is refl means.opens means.layer n k bars n_is k_is found in
       let whole = whole_kept m draft adds in record {
         means = record {
           opens = means.opens;
@@ -165,7 +229,8 @@ module _ (m : Machine) (means : Means m) where
             k = omega (arith, k_is, means.level.k);
           };
           pending = rw (ready.idle) refl;
-          value = ap (λ st. resume (known_of m) m.text.now means.opens layer None (record st { at = after })) (state_kept m draft adds) ∙ sym step ∙ idle_value m means ready.idle ∙ sym whole;
+          barred = rw more (bars_push (reverse m.stack.items) m.level.branches id m.bars bars m.at found means.barred);
+          value = ap (λ st. resume (known_of m) m.text.now means.opens layer None (record st { at = after; bars = bars })) (state_kept m draft adds) ∙ sym step ∙ idle_value m means ready.idle ∙ sym whole;
           within = there.within;
           short = means.short;
           depth = means.depth;
@@ -184,11 +249,11 @@ module _ (m : Machine) (means : Means m) where
       }
 
   -- a group begins, which may get a name
-  pub enter_means : (token : Token) (after : ℕ) (f : Frame) (stack : Vec Frame Global) (options : Options) (groups : ℕ) (names : Vec Name Global) (table : List NameEntry) →
-      Ready token after m → stack.items ≡ m.stack.items ++ f ∷ [] → f.outer ≡ m.level → length m.stack.items < 250 → Numbered m.groups (number_in_frame f) groups → Named m.text.now names.items table groups →
-      Begins m token after (Ok (inside (opening_of f) (record (state_of m) { at = after; options = options; groups = groups; depth = length m.stack.items + 1; looking = is_look (form_of f.form) || m.looking; names = table }))) →
-      Took m (record m { draft = record (m.draft) { names = table }; names = names; stack = stack; level = record { branches = []; parts = [] }; options = options; groups = groups; looking = is_look (form_of f.form) || m.looking; at = after })
-  enter_means token after f stack options groups names table ready pushed outer fits numbered named begins =
+  pub enter_means : (token : Token) (after : ℕ) (f : Frame) (stack : Vec Frame Global) (options : Options) (groups : ℕ) (names : Vec Name Global) (table : List NameEntry) (beyond : Option ℕ) →
+      Ready token after m → f.bars ≡ m.bars → stack.items ≡ m.stack.items ++ f ∷ [] → f.outer ≡ m.level → length m.stack.items < 250 → Numbered m.groups (number_in_frame f) groups → Named m.text.now names.items table groups →
+      Begins m token after (Ok (inside (opening_of f) (record (state_of m) { at = after; options = options; groups = groups; depth = length m.stack.items + 1; looking = is_look (form_of f.form) || m.looking; bars = bars_in (form_of f.form); names = table; beyond = beyond }))) →
+      Took m (record m { draft = record (m.draft) { names = table }; names = names; stack = stack; level = record { branches = []; parts = [] }; options = options; groups = groups; looking = is_look (form_of f.form) || m.looking; bars = bars_in (form_of f.form); beyond = beyond; at = after })
+  enter_means token after f stack options groups names table beyond ready same pushed outer fits numbered named begins =
       let (n, n_is) = positive (left m) means.layer.n means.level.n in
       let there = ready.there in
       let u : ℕ = 2 * (length m.text.now - after) in
@@ -199,13 +264,13 @@ module _ (m : Machine) (means : Means m) where
       let enough : u < suc q = omega (arith, above) in
       let plenty : u + 1 < suc q = omega (arith, above) in
       let level = level_on (grows_not m.draft.nodes) (left m) u less means.level in
-      let new : Machine = record m { draft = record (m.draft) { names = table }; names = names; stack = stack; level = record { branches = []; parts = [] }; options = options; groups = groups; looking = is_look (form_of f.form) || m.looking; at = after } in
+      let new : Machine = record m { draft = record (m.draft) { names = table }; names = names; stack = stack; level = record { branches = []; parts = [] }; options = options; groups = groups; looking = is_look (form_of f.form) || m.looking; bars = bars_in (form_of f.form); beyond = beyond; at = after } in
       let o : Opened = record { how = opening_of f; outer = record (means.layer) { n = suc q } } in
       let inner : Layer = record { n = q; k = q; branches = []; parts = [] } in
       let turned : reverse stack.items ≡ f ∷ reverse m.stack.items = ap reverse pushed ∙ reverse-append m.stack.items (f ∷ []) in
       let deep : length stack.items ≡ length m.stack.items + 1 = omega (arith, ap length pushed, length-append m.stack.items (f ∷ [])) in
       let step = step_open (known_of m) m.text.now (state_of m) token after there.token_is means.opens means.layer q (opening_of f)
-      (record (state_of m) { at = after; options = options; groups = groups; depth = length m.stack.items + 1; looking = is_look (form_of f.form) || m.looking; names = table }) (n_is ∙ ap suc q_is) (begins (suc q) plenty) in record {
+      (record (state_of m) { at = after; options = options; groups = groups; depth = length m.stack.items + 1; looking = is_look (form_of f.form) || m.looking; bars = bars_in (form_of f.form); names = table; beyond = beyond }) (n_is ∙ ap suc q_is) (begins (suc q) plenty) in record {
         means = record {
           opens = o ∷ means.opens;
           layer = inner;
@@ -219,6 +284,7 @@ module _ (m : Machine) (means : Means m) where
           );
           level = record { branches = stand_none m.draft.nodes; parts = stand_none m.draft.nodes; n = above; k = above };
           pending = rw (ready.idle) refl;
+          barred = rw turned (bars_first (form_of f.form), rw (outer, same) means.barred);
           value = ap (λ d. resume (known_of m) m.text.now (o ∷ means.opens) inner None (record (state_of new) { depth = d })) deep ∙ sym step ∙ idle_value m means ready.idle;
           within = there.within;
           short = means.short;
@@ -236,6 +302,13 @@ module _ (m : Machine) (means : Means m) where
         goes = there.goes;
         same = record { text = refl; options = refl; whole = refl };
       }
+
+  -- no further alternative may come
+  pub barred_means : (after : ℕ) (e : ReadError) → Ready Bar after m → Refuses (barred m.bars m.at) e → Refuses (whole_of m) e
+  barred_means after (Bad number at) ready h =
+      let n = positive (left m) means.layer.n means.level.n in
+      sym (idle_value m means ready.idle) ∙ step_barred (known_of m) m.text.now (state_of m) Bar after ready.there.token_is refl means.opens means.layer n.0 _ n.1 h
+  barred_means after Memory ready h = tt
 
   over_value : (token : Token) (after : ℕ) → (token ≡ Close) ⊎ (token ≡ End) → m.waiting ≡ None → token_at m.text.now (flags_of false (state_of m)) m.at ≡ Ok (token, after) →
       ended (known_of m) m.text.now means.opens (means.layer.branches ++ alternative means.layer.parts ∷ []) (state_of m) ≡ whole_of m
@@ -285,7 +358,7 @@ module _ (m : Machine) (means : Means m) where
   pub close_means : (after id : ℕ) (f : Frame) (stack : Vec Frame Global) (draft : DraftParts) → Ready Close after m → m.stack.items ≡ stack.items ++ f ∷ [] →
       Makes m.draft.nodes draft.nodes id (built (form_of f.form) (map (tree_at (trees m.draft.nodes)) m.level.branches ++ alternative (map (tree_at (trees m.draft.nodes)) m.level.parts) ∷ [])) →
       Closes m.draft draft (form_of f.form) f.at → Replaces m.draft.nodes (m.level.branches ++ m.level.parts) draft.nodes id → length draft.nodes ≤ length m.draft.nodes + 2 →
-      Took m (record m { draft = draft; stack = stack; level = f.outer; waiting = Some (atom_of (form_of f.form) id f.at); options = f.around; looking = f.looking; at = after })
+      Took m (record m { draft = draft; stack = stack; level = f.outer; waiting = Some (atom_of (form_of f.form) id f.at); options = f.around; looking = f.looking; bars = f.bars; at = after })
   close_means after id f stack draft ready popped makes closes replaces count =
       let there = ready.there in
       let u : ℕ = 2 * (length m.text.now - after) in
@@ -301,14 +374,14 @@ module _ (m : Machine) (means : Means m) where
       let t : Nested = built i.o.how.form branches in
       let tree : tree_at (trees draft.nodes) id ≡ t = rw i.frame.how made.is in
       let step = step_close (known_of m) m.text.now (state_of m) Close after there.token_is refl i.o i.os branches in
-      let last : State = record (state_of m) { at = after; options = i.o.how.around; looking = i.o.how.looking; depth = length m.stack.items - 1; references = references_of m.draft.nodes ++ noted i.o.how.form i.o.how.at } in
+      let last : State = record (state_of m) { at = after; options = i.o.how.around; looking = i.o.how.looking; bars = i.o.how.bars; depth = length m.stack.items - 1; references = references_of m.draft.nodes ++ noted i.o.how.form i.o.how.at } in
       let whole = whole_closed m draft closes in
       let value : resume (known_of m) m.text.now i.os i.o.outer (Some (i.o.outer.n, t)) last ≡ whole_of m =
       sym step ∙ ap (λ os. ended (known_of m) m.text.now os branches (state_of m)) (sym i.is)
       ∙ over_value Close after (inl refl) ready.idle there.token_is in
-      let new : Machine = record m { draft = draft; stack = stack; level = f.outer; waiting = Some (atom_of (form_of f.form) id f.at); options = f.around; looking = f.looking; at = after } in
+      let new : Machine = record m { draft = draft; stack = stack; level = f.outer; waiting = Some (atom_of (form_of f.form) id f.at); options = f.around; looking = f.looking; bars = f.bars; at = after } in
       let state : state_of new ≡ last =
-      ap (λ (st : State). let x : State = record st { at = after; options = f.around; looking = f.looking; depth = length stack.items } in x) (state_closed m draft closes)
+      ap (λ (st : State). let x : State = record st { at = after; options = f.around; looking = f.looking; bars = f.bars; depth = length stack.items } in x) (state_closed m draft closes)
       ∙ state_eq (record (state_of m) { at = after }) (references_of m.draft.nodes) (sym i.frame.how) (sym less_deep) in record {
         means = record {
           opens = i.os;
@@ -316,6 +389,7 @@ module _ (m : Machine) (means : Means m) where
           waiting = Some (i.o.outer.n, tree_at (trees draft.nodes) id);
           stack = stack_on makes.grows (left m) u less (reverse stack.items) i.os i.stack;
           level = level;
+          barred = (rw turned at means.barred).1;
           pending = (closed_atom draft (form_of f.form) id f.at branches makes.below made.is, (i.o.outer.n, level.n, ap (λ v. Some (i.o.outer.n, v)) (sym (closed_tree draft.nodes (form_of f.form) id f.at))));
           value = resume_eq (known_of m) m.text.now i.os i.o.outer i.o.outer.n tree state ∙ value ∙ sym whole;
           within = there.within;

@@ -7,7 +7,7 @@ use Rattle.pat_tree.specs.Refs.{refs, has_group}
 use Rattle.pat_build.specs.declared.machine.Frame.{Frame}
 use Rattle.pat_build.specs.declared.machine.Machine.{Machine}
 use Rattle.pat_build.specs.State.{Reference}
-use Rattle.pat_build.specs.Groups.{Form, grouped, atomically, looks, noted, places_named, is_opened}
+use Rattle.pat_build.specs.Groups.{Form, noted, places_named, is_opened}
 use Rattle.pat_build.specs.Machine.{Adds, Closes, Named, references_of, reference_in, state_of, state_from, known_of, whole_of, ids_held, ids_in, is_open}
 use Rattle.pat_build.specs.Reading.{reading}
 
@@ -75,16 +75,9 @@ module _ (m : Machine) (draft : DraftParts) {form : Form} {at : ℕ} (closes : C
   pub whole_closed : whole_of (record m { draft = draft }) ≡ whole_of m
   whole_closed = ap (λ v. reading (known_of m) m.text.now (state_from m.start v)) closes.options
 
-  -- a lookaround names no group
-  none_noted : (f : Form) (place : ℕ) → places_named (noted f place) ≡ []
-  unfolding places_named
-  none_noted (grouped number) place = refl
-  none_noted atomically place = refl
-  none_noted (looks ahead positive once) place = refl
-
   pub refs_closed : refs m.draft.nodes ≡ places_named (references_of m.draft.nodes) → refs draft.nodes ≡ places_named (references_of draft.nodes)
   refs_closed h =
-      closes.refs_are ∙ h ∙ sym (append-nil (places_named (references_of m.draft.nodes))) ∙ ap (λ v. places_named (references_of m.draft.nodes) ++ v) (sym (none_noted form at))
+      closes.refs_are ∙ ap (λ v. v ++ places_named (noted form at)) h
       ∙ sym (places_append (references_of m.draft.nodes) (noted form at)) ∙ ap places_named (sym closes.references)
 
   pub named_closed : Named m.text.now m.names.items m.draft.names m.groups → Named m.text.now m.names.items draft.names m.groups

@@ -9,7 +9,8 @@ use Rattle.token_parts.specs.declared.token.QuantMode.{QuantMode}
 use Rattle.token_parts.specs.Tell.{fault, ◌>>=◌}
 use Rattle.pat_lex.specs.Tokens.{token_at}
 use Rattle.pat_build.specs.State.{State, Reads, flags_of, next, passed_over}
-use Rattle.pat_build.specs.Groups.{Opening, built, noted}
+use Rattle.pat_build.specs.declared.machine.Bars.{Bars}
+use Rattle.pat_build.specs.Groups.{Opening, barred, built, noted}
 use Rattle.pat_build.specs.Parts.{atom, bare, inside, nothing, over, alternative, repeated, beginning}
 use Rattle.pat_build.specs.Reading.{quantified, closed, part_then, alternatives_from, sequence, alternatives, whole, reading}
 use Rattle.pat_build.specs.Stack.{Layer, Opened, with_part, resumed, ended, resume, IsPlain}
@@ -111,17 +112,21 @@ module _ (known : List NameEntry) (text : List ℕ) where
         rw (e, sequence, next_is, begins)
         (ap (λ parts. alternatives_from text (alternatives known text layer.k) parts st >>= λ (branches, last). ended known text os (layer.branches ++ branches) last) (append-nil layer.parts))
 
-    pub step_bar : token ≡ Bar → (os : List Opened) (layer : Layer) (n k : ℕ) → layer.n ≡ suc n → layer.k ≡ suc k →
+    pub step_bar : token ≡ Bar → (os : List Opened) (layer : Layer) (n k : ℕ) (bars : Bars) → layer.n ≡ suc n → layer.k ≡ suc k → barred st.bars st.at ≡ Ok bars →
         resume known text os layer None st
-        ≡ resume known text os (record { n = k; k = k; branches = layer.branches ++ alternative layer.parts ∷ []; parts = [] }) None (record st { at = place })
+        ≡ resume known text os (record { n = k; k = k; branches = layer.branches ++ alternative layer.parts ∷ []; parts = [] }) None (record st { at = place; bars = bars })
     unfolding resume resumed alternatives alternatives_from
-    step_bar is os layer n k e e' =
-        let after : State = record st { at = place } in
+    step_bar is os layer n k bars e e' found =
+        let after : State = record st { at = place; bars = bars } in
         ends_here os layer n e (rw is refl)
-        ∙ rw (alternatives_from, next_is, is, e')
+        ∙ rw (alternatives_from, next_is, is, found, e')
         (prepend layer.branches (ended known text os) (alternative layer.parts) (alternatives known text (suc k) after)
         ∙ assoc (sequence known text k after) (λ (parts, end). alternatives_from text (alternatives known text k) parts end)
         (λ (others, last). ended known text os ((layer.branches ++ alternative layer.parts ∷ []) ++ others) last))
+
+    pub step_barred : token ≡ Bar → (os : List Opened) (layer : Layer) (n : ℕ) (f : Fault) → layer.n ≡ suc n → barred st.bars st.at ≡ Err f → resume known text os layer None st ≡ Err f
+    unfolding alternatives_from
+    step_barred is os layer n f e found = ends_here os layer n e (rw is refl) ∙ rw (alternatives_from, next_is, is, found)
 
     -- the last alternative ends
     pub step_over : (token ≡ Close) ⊎ (token ≡ End) → (os : List Opened) (layer : Layer) (n : ℕ) → layer.n ≡ suc n →
@@ -134,7 +139,7 @@ module _ (known : List NameEntry) (text : List ℕ) where
     pub step_close : token ≡ Close → (o : Opened) (os : List Opened) (branches : List Nested) →
         ended known text (o ∷ os) branches st
         ≡ resume known text os o.outer (Some (o.outer.n, built o.how.form branches))
-        (record st { at = place; options = o.how.around; looking = o.how.looking; depth = st.depth - 1; references = st.references ++ noted o.how.form o.how.at })
+        (record st { at = place; options = o.how.around; looking = o.how.looking; bars = o.how.bars; depth = st.depth - 1; references = st.references ++ noted o.how.form o.how.at })
     unfolding resume ended closed
     step_close is o os branches = rw (closed, next_is, is)
 

@@ -1,5 +1,5 @@
 -- Where an atom waits for a quantifier, and where none does.
-use Rattle.std.proofs.Common.{◌≡◌, ℕ, suc, ◌+◌, ◌-◌, ◌*◌, ◌<◌, ◌≤◌, List, [], ◌∷◌, ◌++◌, length, append_assoc, append-nil, reverse, Option, Some, None, Ok, Err, refl, sym, ap, ◌∙◌, arith, Bool, false}
+use Rattle.std.proofs.Common.{◌≡◌, ℕ, suc, ◌+◌, ◌-◌, ◌*◌, ◌<◌, ◌≤◌, List, [], ◌∷◌, ◌++◌, length, append_assoc, append-nil, reverse, Option, Some, None, Ok, Err, refl, sym, ap, ◌∙◌, arith, Bool, false, slice_range}
 use Rattle.pat_tree.specs.declared.options.Options.{Options}
 use Rattle.pat_tree.specs.declared.nodes.ClassSpec.{ClassSpec}
 use Rattle.pat_tree.specs.Parts.{DraftParts}
@@ -9,19 +9,21 @@ use Rattle.pat_tree.proofs.Growing.{stand_made}
 use Rattle.token_parts.specs.declared.fault.Fault.{Fault}
 use Rattle.token_parts.specs.declared.token.Token.{Token}
 use Rattle.token_parts.specs.declared.token.Target.{Target}
-use Rattle.token_parts.specs.declared.token.Token.TheVariants.{Quantifier, Reference, ClassStart}
+use Rattle.token_parts.specs.declared.token.Token.TheVariants.{Quantifier, Reference, ClassStart, CondStart}
 use Rattle.token_parts.specs.declared.token.QuantMode.{QuantMode}
 use Rattle.token_parts.specs.Tell.{fault}
 use Rattle.pat_lex.specs.Tokens.{token_at}
 use Rattle.pat_build.specs.declared.error.ReadError.{ReadError}
 use Rattle.pat_build.specs.declared.error.ReadError.TheVariants.{Bad, Memory}
 use Rattle.pat_build.specs.declared.machine.Atom.{Atom}
+use Rattle.pat_build.specs.declared.machine.Bars.TheVariants.{Free}
 use Rattle.pat_build.specs.declared.machine.Machine.{Machine}
 use Rattle.pat_build.specs.declared.cursor.Place.{Place}
 use Rattle.pat_build.specs.State.{Reads, flags_of}
 use Rattle.pat_build.specs.Classes.{class_spec}
 use Rattle.pat_build.specs.Groups.{named_by}
-use Rattle.pat_build.specs.Parts.{of_class}
+use Rattle.token_parts.specs.declared.token.CondText.{CondText}
+use Rattle.pat_build.specs.Parts.{of_class, conditions}
 use Rattle.pat_build.specs.Stack.{with_part, resume, IsPlain}
 use Rattle.pat_build.specs.Machine.{Adds, Refuses, IsAtom, atom_tree, state_of, known_of, whole_of, left, Means, IsNext, Ready, Begins, ids_of, ids_waiting, ids_in, ids_held}
 use Rattle.pat_build.proofs.Steps.{step_flush, step_bad, step_fault, step_fault_waiting}
@@ -86,6 +88,7 @@ module _ (m : Machine) (means : Means m) where
           k = level.k;
         };
         pending = refl;
+        barred = means.barred;
         value = ap (λ st. resume (known_of m) m.text.now means.opens (with_part means.layer t) None st) (state_kept m draft adds)
             ∙ sym (step_flush (known_of m) m.text.now (state_of m) token after there plain means.opens means.layer waits.0 t)
             ∙ waits.3 ∙ sym (whole_kept m draft adds);
@@ -128,6 +131,12 @@ module _ (m : Machine) (means : Means m) where
   refers_refuse target after (Bad number at) ready h = bad_means (Reference target) after _ ready (λ n k. rw h refl)
   refers_refuse target after Memory ready h = tt
 
+  -- the fault of a conditional group's test
+  pub condition_refuses : (cond : CondText) (from to after : ℕ) (e : ReadError) → Ready (CondStart cond from to) after m →
+      Refuses (conditions (known_of m) m.text.now (state_of m) cond (slice_range m.text.now from to) (record (state_of m) { at = after })) e → Refuses (whole_of m) e
+  condition_refuses cond from to after (Bad number at) ready h = bad_means (CondStart cond from to) after _ ready (λ n k. h)
+  condition_refuses cond from to after Memory ready h = tt
+
   -- where a class begins, by what a cursor at that place tells of it
   module _ (negated : Bool) (after : ℕ) (text : List ℕ) (place : Place) (options : Options) (groups : ℕ)
       (text_is : text ≡ m.text.now) (place_is : place ≡ record { at = after; quoting = m.quoting }) (options_is : options ≡ m.options) (groups_is : groups ≡ m.groups) where
@@ -159,9 +168,9 @@ module _ (m : Machine) (means : Means m) where
 -- a cursor at the machine's place has the machine's token
 pub token_same : (m : Machine) (text : List ℕ) (place : Place) (options : Options) (groups : ℕ) → text ≡ m.text.now → place ≡ record { at = m.at; quoting = m.quoting } → options ≡ m.options → groups ≡ m.groups →
     token_at m.text.now (flags_of false (state_of m)) m.at
-    ≡ token_at text (flags_of false (record { at = place.at; quoting = place.quoting; options = options; groups = groups; depth = 0; looking = false; classes = []; names = []; references = [] })) place.at
+    ≡ token_at text (flags_of false (record { at = place.at; quoting = place.quoting; options = options; groups = groups; depth = 0; looking = false; bars = Free; classes = []; names = []; references = []; beyond = None })) place.at
 token_same m text place options groups text_is place_is options_is groups_is =
     ap (λ t. token_at t (flags_of false (state_of m)) m.at) (sym text_is)
-    ∙ ap (λ p. token_at text (flags_of false (record { at = p.at; quoting = p.quoting; options = m.options; groups = m.groups; depth = 0; looking = false; classes = []; names = []; references = [] })) p.at) (sym place_is)
-    ∙ ap (λ o. token_at text (flags_of false (record { at = place.at; quoting = place.quoting; options = o; groups = m.groups; depth = 0; looking = false; classes = []; names = []; references = [] })) place.at) (sym options_is)
-    ∙ ap (λ g. token_at text (flags_of false (record { at = place.at; quoting = place.quoting; options = options; groups = g; depth = 0; looking = false; classes = []; names = []; references = [] })) place.at) (sym groups_is)
+    ∙ ap (λ p. token_at text (flags_of false (record { at = p.at; quoting = p.quoting; options = m.options; groups = m.groups; depth = 0; looking = false; bars = Free; classes = []; names = []; references = []; beyond = None })) p.at) (sym place_is)
+    ∙ ap (λ o. token_at text (flags_of false (record { at = place.at; quoting = place.quoting; options = o; groups = m.groups; depth = 0; looking = false; bars = Free; classes = []; names = []; references = []; beyond = None })) place.at) (sym options_is)
+    ∙ ap (λ g. token_at text (flags_of false (record { at = place.at; quoting = place.quoting; options = options; groups = g; depth = 0; looking = false; bars = Free; classes = []; names = []; references = []; beyond = None })) place.at) (sym groups_is)

@@ -1,16 +1,20 @@
 -- Groups, their numbers and their names (pcre2pattern, "Groups", "Named capture groups", "Backreferences").
-use Rattle.std.specs.Prelude.{ℕ, ◌+◌, ◌-◌, Bool, true, false, not, ◌&&◌, ◌||◌, nat_le, nat_lt, List, [], ◌∷◌, map, filter, flat_map, Option, Some, None, Result, Ok, slice_range, if◌then◌else◌}
+use Rattle.std.specs.Prelude.{ℕ, zero, suc, ◌+◌, ◌-◌, Bool, true, false, not, ◌&&◌, ◌||◌, nat_le, nat_lt, List, [], ◌∷◌, map, filter, flat_map, Option, Some, None, Result, Ok, slice_range, if◌then◌else◌}
 use Rattle.std.specs.List.{list_any}
 use Rattle.std.specs.Str.{bytes_eq}
 use Rattle.pat_tree.specs.declared.options.Options.{Options}
 use Rattle.pat_tree.specs.declared.names.NameEntry.{NameEntry}
-use Rattle.pat_tree.specs.Nested.{Nested, group, atomic, look, row}
+use Rattle.pat_tree.specs.Nested.{Nested, Test, empty, group, atomic, look, condition, any_set, in_call, in_call_of, never, no_other, other, row}
 use Rattle.pat_tree.specs.Names.{with_name}
-use Rattle.pat_tree.specs.Refs.{bad_ref}
+use Rattle.pat_tree.specs.Refs.{bad_ref, beside_whole}
 use Rattle.token_parts.specs.declared.fault.Fault.{Fault}
 use Rattle.token_parts.specs.declared.token.Target.{Target}
 use Rattle.token_parts.specs.declared.token.Target.TheVariants.{Number, Plus, Minus, Named}
 use Rattle.token_parts.specs.Tell.{fault, ◌>>=◌}
+use Rattle.token_parts.specs.declared.token.CondText.{CondText}
+use Rattle.token_parts.specs.declared.token.CondText.TheVariants as tested
+use Rattle.pat_build.specs.declared.machine.Bars.{Bars}
+use Rattle.pat_build.specs.declared.machine.Bars.TheVariants as bars
 use Rattle.pat_build.specs.State.{State, Reference}
 
 -- what a group is
@@ -20,35 +24,75 @@ pub data Form : Type 0 where
   atomically : Form
   -- a lookaround: ahead, positive, atomic
   looks : Bool → Bool → Bool → Form
+  -- a conditional group, and one that only defines
+  conditional : Test → Form
+  defines : Form
 
 abbrev pub number_of : Form → Option ℕ
 number_of (grouped number) = number
 number_of atomically = None
 number_of (looks ahead positive once) = None
+number_of (conditional test) = None
+number_of defines = None
 
 abbrev pub is_look : Form → Bool
 is_look (grouped number) = false
 is_look atomically = false
 is_look (looks ahead positive once) = true
+is_look (conditional test) = false
+is_look defines = false
+
+-- a conditional group of these branches
+abbrev pub branched : Test → List Nested → Nested
+branched test [] = condition test empty no_other
+branched test (yes' ∷ []) = condition test yes' no_other
+branched test (yes' ∷ no' ∷ others) = condition test yes' (other no')
 
 -- a group of these branches
 abbrev pub built : Form → List Nested → Nested
 built (grouped number) branches = group number (row branches)
 built atomically branches = atomic (row branches)
 built (looks ahead positive once) branches = look ahead positive once (row branches)
+built (conditional test) branches = branched test branches
+built defines branches = branched never branches
 
--- a group whose inside is read: the options around it, whether it stands in a lookaround, and its place
+-- the alternatives that a group may have: DEFINE has one, any other conditional group two
+abbrev pub bars_in : Form → Bars
+bars_in (grouped number) = bars.Free
+bars_in atomically = bars.Free
+bars_in (looks ahead positive once) = bars.Free
+bars_in (conditional test) = bars.First
+bars_in defines = bars.Define
+
+-- what is so after a bar, if there may be one
+abbrev pub barred : Bars → ℕ → Result Bars Fault
+barred bars.Free at = Ok bars.Free
+barred bars.First at = Ok bars.Second
+barred bars.Second at = fault 127 at
+barred bars.Define at = fault 154 at
+
+-- a group whose inside is read: what holds around it (the options, whether that is inside a lookaround, the alternatives
+-- that the group around may still have), and its place
 pub record Opening : Type 0 where
   pub form : Form
   pub around : Options
   pub looking : Bool
+  pub bars : Bars
   pub at : ℕ
 
--- where a lookaround stands
+-- the groups that a test names
+abbrev pub groups_in : Test → List ℕ
+groups_in (any_set ns) = ns
+groups_in (in_call_of ns) = beside_whole ns
+groups_in _ = []
+
+-- where a lookaround or a condition stands
 abbrev pub noted : Form → ℕ → List Reference
 noted (grouped number) at = []
 noted atomically at = []
 noted (looks ahead positive once) at = record { at = at; groups = [] } ∷ []
+noted (conditional test) at = record { at = at; groups = groups_in test } ∷ []
+noted defines at = record { at = at; groups = [] } ∷ []
 
 -- the group and the state in which its inside begins
 abbrev pub Opens : Type 0
@@ -62,8 +106,8 @@ unfoldable pub opened : State → Form → State → Opens
 opened st form after =
     if nat_le 250 st.depth then fault 119 st.at
     else Ok (
-      record { form = form; around = st.options; looking = st.looking; at = st.at },
-      record after { depth = st.depth + 1; looking = is_look form || st.looking },
+      record { form = form; around = st.options; looking = st.looking; bars = st.bars; at = st.at },
+      record after { depth = st.depth + 1; looking = is_look form || st.looking; bars = bars_in form },
     )
 
 -- a capturing group has the next number
@@ -93,6 +137,41 @@ named_by known text st (Number n) = Ok (n ∷ [])
 named_by known text st (Plus n) = if nat_lt 65535 (st.groups + n) then fault 161 st.at else Ok ((st.groups + n) ∷ [])
 named_by known text st (Minus n) = Ok ((st.groups + 1 - n) ∷ [])
 named_by known text st (Named from to) = Ok (groups_of known (slice_range text from to))
+
+-- A group that is named `R` or `Rn` takes a test of that text.
+unfoldable pub unless_named : List NameEntry → List ℕ → Test → Test
+unless_named known word test = if list_any (has_name word) known then any_set (groups_of known word) else test
+
+-- the number of a call that is tested, which stands for the whole pattern where no group can have it
+abbrev pub called_number : ℕ → ℕ
+called_number n = if nat_lt 65535 n then 0 else n
+
+-- In a test of a call 0 is the whole pattern: a name that no group has is told as where a group is tested.
+abbrev pub called_by : List ℕ → Test
+called_by [] = in_call_of []
+called_by (zero ∷ ns) = any_set (zero ∷ ns)
+called_by (suc n ∷ ns) = in_call_of (suc n ∷ ns)
+
+-- a conditional group by the text of its test
+unfoldable pub form_in : List NameEntry → List ℕ → State → CondText → List ℕ → Result Form Fault
+form_in known text st (tested.Group target) word = named_by known text st target >>= λ groups. Ok (conditional (any_set groups))
+form_in known text st tested.InCall word = Ok (conditional (unless_named known word in_call))
+form_in known text st (tested.InCallOf (Number n)) word = Ok (conditional (unless_named known word (in_call_of (called_number n ∷ []))))
+form_in known text st (tested.InCallOf target) word = named_by known text st target >>= λ groups. Ok (conditional (called_by groups))
+form_in known text st tested.Define word = Ok defines
+form_in known text st tested.Lookaround word = fault 195 st.at
+
+-- the test asks for a call of a group whose number is too big, and no group has that text as its name
+unfoldable pub is_beyond : List NameEntry → CondText → List ℕ → Bool
+is_beyond known (tested.InCallOf (Number n)) word = nat_lt 65535 n && not (list_any (has_name word) known)
+is_beyond known _ word = false
+
+abbrev pub first_of : Option ℕ → ℕ → Option ℕ
+first_of None at = Some at
+first_of (Some first) at = Some first
+
+abbrev pub beyond_after : List NameEntry → State → CondText → List ℕ → Option ℕ
+beyond_after known st cond word = if is_beyond known cond word then first_of st.beyond st.at else st.beyond
 
 -- each group that a reference names, with the reference's place
 unfoldable pub places_named : List Reference → List (ℕ × ℕ)

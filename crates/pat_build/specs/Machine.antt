@@ -1,11 +1,13 @@
 -- What the reader's state stands for: the rest of the reading.
 use Rattle.std.specs.List.{list_any}
-use Rattle.std.specs.Prelude.{false, ◌||◌, ◌==◌, ◌≡◌, ℕ, ◌+◌, ◌-◌, ◌*◌, ◌<◌, ◌≤◌, Bool, List, [], ◌∷◌, ◌++◌, length, map, reverse, Option, Some, None, Result, Ok, Err, All}
+use Rattle.std.specs.Prelude.{true, false, ◌||◌, ◌==◌, ◌≡◌, ℕ, ◌+◌, ◌-◌, ◌*◌, ◌<◌, ◌≤◌, Bool, List, [], ◌∷◌, ◌++◌, length, map, reverse, Option, Some, None, Result, Ok, Err, All}
 use Rattle.pat_tree.specs.declared.options.Options.{Options}
 use Rattle.pat_tree.specs.declared.nodes.Placed.{Placed}
+use Rattle.pat_tree.specs.declared.nodes.Cond.{Cond}
+use Rattle.pat_tree.specs.declared.nodes.Cond.TheVariants as cond
 use Rattle.pat_tree.specs.declared.nodes.Node.TheVariants as node
 use Rattle.pat_tree.specs.declared.names.NameEntry.{NameEntry}
-use Rattle.pat_tree.specs.Nested.{Nested, one, repeat, tree_at, trees}
+use Rattle.pat_tree.specs.Nested.{Nested, Test, one, repeat, any_set, in_call, in_call_of, tree_at, trees}
 use Rattle.pat_tree.specs.Parts.{DraftParts, TreeParts}
 use Rattle.pat_tree.specs.Pattern.{pattern_of}
 use Rattle.pat_tree.specs.Refs.{refs, has_group, named_in}
@@ -27,9 +29,13 @@ use Rattle.pat_build.specs.declared.machine.Atom.{Atom}
 use Rattle.pat_build.specs.declared.machine.Atom.TheVariants.{Single, Whole, Look}
 use Rattle.pat_build.specs.declared.machine.Form as machine
 use Rattle.pat_build.specs.declared.machine.Form.TheVariants as kept
+use Rattle.pat_build.specs.declared.machine.Test as machine_test
+use Rattle.pat_build.specs.declared.machine.Test.TheVariants as tested
+use Rattle.pat_build.specs.declared.machine.Bars.{Bars}
+use Rattle.pat_build.specs.declared.machine.Bars.TheVariants as barring
 use Rattle.pat_build.specs.declared.machine.Machine.{Machine}
 use Rattle.pat_build.specs.State.{State, Reads, Reference, flags_of}
-use Rattle.pat_build.specs.Groups.{Opening, Form, grouped, atomically, looks, number_of, noted, is_opened, places_named, missing}
+use Rattle.pat_build.specs.Groups.{Opening, Form, grouped, atomically, looks, conditional, defines, is_look, number_of, noted, is_opened, places_named, missing}
 use Rattle.pat_build.specs.Names.{IsKnown, Stands, table_of}
 use Rattle.pat_build.specs.Parts.{Beginning, once_more, repeat_of, beginning}
 use Rattle.pat_build.specs.Reading.{Parsed, reading, checked}
@@ -61,7 +67,7 @@ abbrev pub is_number : Option ℕ → ℕ → Bool
 is_number None n = false
 is_number (Some m) n = m == n
 
--- The draft has more nodes, among which no capturing group, reference and lookaround is.
+-- The draft has more nodes, among which no capturing group, reference, lookaround and condition is.
 pub record Adds (old new : DraftParts) : Type 0 where
   pub options : new.options ≡ old.options
   pub classes : new.classes ≡ old.classes
@@ -79,7 +85,7 @@ pub record Closes (old new : DraftParts) (form : Form) (at : ℕ) : Type 0 where
   pub names : new.names ≡ old.names
   pub verb_names : new.verb_names ≡ old.verb_names
   pub references : references_of new.nodes ≡ references_of old.nodes ++ noted form at
-  pub refs_are : refs new.nodes ≡ refs old.nodes
+  pub refs_are : refs new.nodes ≡ refs old.nodes ++ places_named (noted form at)
   pub groups : (n : ℕ) → has_group new.nodes n ≡ (has_group old.nodes n || is_number (number_of form) n)
   pub turns : StandInTurn old.nodes → StandInTurn new.nodes
 
@@ -96,11 +102,13 @@ atom_tree ps (Single item at) = one item
 atom_tree ps (Whole id at) = tree_at (trees ps) id
 atom_tree ps (Look id at) = tree_at (trees ps) id
 
--- a group of this node, before a quantifier
+-- a lookaround of this node, or another group, before a quantifier
+abbrev pub atom_where : Bool → ℕ → ℕ → Atom
+atom_where true id at = Look id at
+atom_where false id at = Whole id at
+
 abbrev pub atom_of : Form → ℕ → ℕ → Atom
-atom_of (grouped number) id at = Whole id at
-atom_of atomically id at = Whole id at
-atom_of (looks ahead positive once) id at = Look id at
+atom_of form id at = atom_where (is_look form) id at
 
 -- the node of the atom, where it has one
 abbrev pub ids_of : Atom → List ℕ
@@ -126,13 +134,26 @@ IsAtom d (Single item at) = All (λ n. n < length d.classes) (class_in item)
 IsAtom d (Whole id at) = (id < length d.nodes) × IsMany (tree_at (trees d.nodes) id)
 IsAtom d (Look id at) = (id < length d.nodes) × IsLooking (tree_at (trees d.nodes) id)
 
+abbrev pub test_of : machine_test.Test → Test
+test_of (tested.AnySet groups) = any_set groups
+test_of tested.InCall = in_call
+test_of (tested.InCallOf groups) = in_call_of groups
+
+-- the test as a node has it
+abbrev pub cond_in : machine_test.Test → Cond
+cond_in (tested.AnySet groups) = cond.AnySet groups
+cond_in tested.InCall = cond.InCall
+cond_in (tested.InCallOf groups) = cond.InCallOf groups
+
 abbrev pub form_of : machine.Form → Form
 form_of (kept.Group number) = grouped number
 form_of kept.Atomic = atomically
 form_of (kept.Look ahead positive once) = looks ahead positive once
+form_of (kept.Condition test) = conditional (test_of test)
+form_of kept.Define = defines
 
 abbrev pub opening_of : Frame → Opening
-opening_of f = record { form = form_of f.form; around = f.around; looking = f.looking; at = f.at }
+opening_of f = record { form = form_of f.form; around = f.around; looking = f.looking; bars = f.bars; at = f.at }
 
 -- the number of the group, where it captures
 abbrev pub number_in_frame : Frame → Option ℕ
@@ -170,6 +191,28 @@ pub record Named (text : List ℕ) (names : List Name) (table : List NameEntry) 
   pub few : All (λ name. name.group ≤ groups) names
   pub count : length names ≤ groups
 
+-- a group of this form can have so many alternatives
+abbrev pub CanHave : Form → ℕ → Type 0
+CanHave (conditional test) n = (0 < n) × (n ≤ 2)
+CanHave defines n = n ≡ 1
+CanHave _ n = Unit {0}
+
+-- the group has so many alternatives before the one in progress, and may have those that this says
+abbrev pub IsBarred : Form → ℕ → Bars → Type 0
+IsBarred (grouped number) n bars = bars ≡ barring.Free
+IsBarred atomically n bars = bars ≡ barring.Free
+IsBarred (looks ahead positive once) n bars = bars ≡ barring.Free
+IsBarred (conditional test) n barring.First = n ≡ 0
+IsBarred (conditional test) n barring.Second = n ≡ 1
+IsBarred (conditional test) n barring.Free = ⊥
+IsBarred (conditional test) n barring.Define = ⊥
+IsBarred defines n bars = (n ≡ 0) × (bars ≡ barring.Define)
+
+-- so it is in each group that is open, the innermost first
+abbrev pub AreBarred : List Frame → ℕ → Bars → Type 0
+AreBarred [] n bars = bars ≡ barring.Free
+AreBarred (f ∷ fs) n bars = IsBarred (form_of f.form) n bars × AreBarred fs (length f.outer.branches) f.bars
+
 -- how a group that begins is numbered
 abbrev pub Numbered : ℕ → Option ℕ → ℕ → Type 0
 Numbered groups None after = after ≡ groups
@@ -188,14 +231,16 @@ state_of m = record {
   groups = m.groups;
   depth = length m.stack.items;
   looking = m.looking;
+  bars = m.bars;
   classes = m.draft.classes;
   names = m.draft.names;
   references = references_of m.draft.nodes;
+  beyond = m.beyond;
 }
 
 -- the state in which the reading begins, after the start items
 abbrev pub state_from : ℕ → Options → State
-state_from at options = record { at = at; quoting = false; options = options; groups = 0; depth = 0; looking = false; classes = []; names = []; references = [] }
+state_from at options = record { at = at; quoting = false; options = options; groups = 0; depth = 0; looking = false; bars = barring.Free; classes = []; names = []; references = []; beyond = None }
 
 abbrev pub known_of : Machine → List NameEntry
 known_of m = table_of m.text.now m.known.now
@@ -206,7 +251,7 @@ whole_of m = reading (known_of m) m.text.now (state_from m.start m.draft.options
 
 -- what a pattern is read as, by the names of the whole pattern, from the place after the start items on
 abbrev pub tree_with : List NameEntry → List ℕ → State → Result Parsed Fault
-tree_with known text st = reading known text st >>= λ (tree, last). checked st.options (missing last.groups last.references) tree last
+tree_with known text st = reading known text st >>= λ (tree, last). checked st.options last.beyond (missing last.groups last.references) tree last
 
 -- twice the bytes that are left
 abbrev pub left_at : List ℕ → ℕ → ℕ
@@ -223,6 +268,7 @@ pub record Means (m : Machine) : Type 0 where
   pub stack : StackStands m.draft.nodes (left m) (reverse m.stack.items) opens
   pub level : LevelStands m.draft.nodes (left m) m.level layer
   pub pending : AtomStands m.draft (left m) m.waiting waiting
+  pub barred : AreBarred (reverse m.stack.items) (length m.level.branches) m.bars
   pub value : resume (known_of m) m.text.now opens layer waiting (state_of m) ≡ whole_of m
   pub within : m.at ≤ length m.text.now
   pub short : length m.text.now ≤ 65536

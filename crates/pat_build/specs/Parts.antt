@@ -1,5 +1,5 @@
 -- What each token begins, outside classes.
-use Rattle.std.specs.Prelude.{ℕ, ◌+◌, min, Bool, true, false, not, List, [], ◌∷◌, ◌++◌, length, Option, Some, None, Result, Ok, slice_range, if◌then◌else◌}
+use Rattle.std.specs.Prelude.{ℕ, ◌+◌, min, Bool, true, false, not, List, [], ◌∷◌, ◌++◌, length, nat_le, Option, Some, None, Result, Ok, slice_range, if◌then◌else◌}
 use Rattle.pat_tree.specs.declared.nodes.Item.TheVariants as item
 use Rattle.pat_tree.specs.declared.nodes.AnchorKind.{AnchorKind}
 use Rattle.pat_tree.specs.declared.nodes.AnchorKind.TheVariants as kind
@@ -10,6 +10,7 @@ use Rattle.pat_tree.specs.declared.names.NameEntry.{NameEntry}
 use Rattle.pat_tree.specs.Nested.{Nested, empty, one, line_break, seq, repeat, one_repeat, atomic, look, ref, anchor, keep_out, row}
 use Rattle.token_parts.specs.declared.fault.Fault.{Fault}
 use Rattle.token_parts.specs.declared.token.OpenKind.TheVariants as opening
+use Rattle.token_parts.specs.declared.token.CondText.{CondText}
 use Rattle.token_parts.specs.declared.token.QuantMode.{QuantMode}
 use Rattle.token_parts.specs.declared.token.QuantMode.TheVariants.{Greedy, Lazy, Possessive}
 use Rattle.token_parts.specs.declared.token.Token.{Token}
@@ -18,7 +19,7 @@ use Rattle.token_parts.specs.Tell.{fault, ◌>>=◌}
 use Rattle.pat_build.specs.State.{State}
 use Rattle.pat_build.specs.Options.{with_setting}
 use Rattle.pat_build.specs.Classes.{class_spec}
-use Rattle.pat_build.specs.Groups.{Opening, Opens, grouped, atomically, looks, opened, captured, named, named_by}
+use Rattle.pat_build.specs.Groups.{Opening, Opens, grouped, atomically, looks, opened, captured, named, named_by, form_in, beyond_after}
 
 -- An alternative without parts is empty, one with one part is that part.
 abbrev pub alternative : List Nested → Nested
@@ -92,6 +93,12 @@ abbrev pub with_reference : State → State → List ℕ → Beginning
 with_reference st next groups =
     atom (ref groups st.options.caseless) (record next { references = st.references ++ record { at = st.at; groups = groups } ∷ [] })
 
+-- a conditional group, the text of whose test is given
+unfoldable pub conditions : List NameEntry → List ℕ → State → CondText → List ℕ → State → Result Beginning Fault
+conditions known text st cond word next =
+    if nat_le 250 st.depth then fault 119 st.at
+    else form_in known text st cond word >>= λ form. enters (opened st form (record next { beyond = beyond_after known st cond word }))
+
 module _ (known : List NameEntry) (text : List ℕ) where
   -- By the names of the whole pattern, since a name may be given later than it is used: what begins at a token, from the
   -- state before it and the state after it. The number bounds the items of a class.
@@ -125,6 +132,7 @@ module _ (known : List NameEntry) (text : List ℕ) where
   beginning n st (token.Open (opening.Look ahead positive once)) next = enters (opened st (looks ahead positive once) next)
   beginning n st (token.Open (opening.Named from to)) next = enters (named st (slice_range text from to) next)
   beginning n st (token.OptionSet reset on off true) next = enters (opened st (grouped None) (record next { options = with_setting reset on off st.options }))
+  beginning n st (token.CondStart cond from to) next = conditions known text st cond (slice_range text from to) next
   -- what is no part
   beginning n st (token.OptionSet reset on off false) next = Ok (nothing (record next { options = with_setting reset on off st.options }))
   beginning n st token.Passed next = Ok (nothing next)
@@ -133,5 +141,5 @@ module _ (known : List NameEntry) (text : List ℕ) where
   -- a quantifier without an atom, and a start item that isn't at the start
   beginning n st (token.Quantifier low high mode) next = fault 109 st.at
   beginning n st (token.Start item) next = fault 160 st.at
-  -- Left out: properties; conditions and branch reset; calls and verbs; callouts.
+  -- Left out: properties; conditions on lookarounds and branch reset; calls and verbs; callouts.
   beginning n st _ next = fault 195 st.at

@@ -13,7 +13,8 @@ use Rattle.token_parts.specs.declared.token.Token.TheVariants.{End, Bar, Close, 
 use Rattle.token_parts.specs.Tell.{fault, ◌>>=◌}
 use Rattle.pat_build.specs.State.{State, Reads, next, passed_over}
 use Rattle.pat_build.specs.Options.{with_item}
-use Rattle.pat_build.specs.Groups.{Opening, built, noted, missing}
+use Rattle.pat_build.specs.declared.machine.Bars.TheVariants.{Free}
+use Rattle.pat_build.specs.Groups.{Opening, barred, built, noted, missing}
 use Rattle.pat_build.specs.Parts.{Beginning, atom, bare, inside, nothing, over, alternative, repeated, beginning}
 
 module _ (text : List ℕ) where
@@ -33,6 +34,7 @@ module _ (text : List ℕ) where
       record after {
         options = opening.around;
         looking = opening.looking;
+        bars = opening.bars;
         depth = st.depth - 1;
         references = st.references ++ noted opening.form opening.at;
       },
@@ -61,7 +63,7 @@ module _ (text : List ℕ) where
   -- an alternative of these parts, and those after a bar
   unfoldable pub alternatives_from : (State → Reads (List Nested)) → List Nested → State → Reads (List Nested)
   alternatives_from again parts st = next text false st >>= λ (token, after). elim token [
-    | Bar ↦ again after >>= λ (others, end). Ok (alternative parts ∷ others, end)
+    | Bar ↦ barred st.bars st.at >>= λ bars. again (record after { bars = bars }) >>= λ (others, end). Ok (alternative parts ∷ others, end)
     | _ ↦ Ok (alternative parts ∷ [], st)
   ]
 
@@ -98,7 +100,7 @@ started text (suc n) st = next text false st >>= λ (token, after). elim token [
 ]
 
 abbrev pub start : Options → State
-start options = record { at = 0; quoting = false; options = options; groups = 0; depth = 0; looking = false; classes = []; names = []; references = [] }
+start options = record { at = 0; quoting = false; options = options; groups = 0; depth = 0; looking = false; bars = Free; classes = []; names = []; references = []; beyond = None }
 
 -- the tree from a state on and the last state, where these are the names of the whole pattern
 unfoldable pub reading : List NameEntry → List ℕ → State → Reads Nested
@@ -113,7 +115,7 @@ pub record Parsed : Type 0 where
   pub open pattern use *
   -- in the order of the table
   pub names : List NameEntry
-  -- where the references and lookarounds stand, in the order in which they end
+  -- where the references, lookarounds and conditions stand, in the order in which they end
   pub places : List ℕ
 
 -- under LITERAL each byte is a character
@@ -130,10 +132,11 @@ literally options text = record {
   places = [];
 }
 
--- The references of what was read must name groups.
-abbrev pub checked : Options → Option ℕ → Nested → State → Result Parsed Fault
-checked options (Some at) tree last = fault 115 at
-checked options None tree last = Ok (record {
+-- No test may ask for a call of a group whose number is too big, and the references of what was read must name groups.
+abbrev pub checked : Options → Option ℕ → Option ℕ → Nested → State → Result Parsed Fault
+checked options (Some beyond) bad tree last = fault 161 beyond
+checked options None (Some at) tree last = fault 115 at
+checked options None None tree last = Ok (record {
   pattern = record { options = options; tree = tree; groups = last.groups; classes = last.classes; verb_names = [] };
   names = last.names;
   places = map (λ r. r.at) last.references;
@@ -144,7 +147,7 @@ unfoldable pub read_from : List ℕ → State → Result Parsed Fault
 read_from text st = do
   (first, named) ← reading [] text st
   (tree, last) ← reading named.names text st
-  checked st.options (missing last.groups last.references) tree last
+  checked st.options last.beyond (missing last.groups last.references) tree last
 
 -- First the size is tested, then what is left out, then the start items; then the first fault from the left is told, and last
 -- the leftmost reference to no group. UTF, UCP and AUTO_CALLOUT are left out.

@@ -9,8 +9,9 @@ use Rattle.token_parts.specs.declared.token.Token.{Token}
 use Rattle.token_parts.specs.declared.token.Token.TheVariants.{Passed, QuoteOn, QuoteOff}
 use Rattle.token_parts.specs.Tell.{◌>>=◌}
 use Rattle.pat_lex.specs.Tokens.{token_at}
+use Rattle.pat_build.specs.declared.machine.Bars.{Bars}
 
--- a reference or a lookaround: its place, and the groups that it names, which are none for a lookaround
+-- a reference, a lookaround or a condition: its place, and the groups that it names, which are none for a lookaround
 pub record Reference : Type 0 where
   pub at : ℕ
   pub groups : List ℕ
@@ -28,12 +29,16 @@ pub record State : Type 0 where
   pub depth : ℕ
   -- the place is inside a lookaround
   pub looking : Bool
+  -- which alternatives the group may still have
+  pub bars : Bars
   -- the classes that were read, in that order
   pub classes : List ClassSpec
   -- the names that were given, in the order of the table of names
   pub names : List NameEntry
-  -- the references and lookarounds that were read, in the order in which they end
+  -- the references, lookarounds and conditions that were read, in the order in which they end
   pub references : List Reference
+  -- the first test of a call whose number no group can have
+  pub beyond : Option ℕ
 
 -- a value and the state after it, or the first fault
 abbrev pub Reads : Type 0 → Type 0

@@ -8,13 +8,13 @@ ghost use Rattle.token_parts.specs.declared.token.Token.TheVariants.{Bar, Close,
 ghost use Rattle.pat_lex.specs.Tokens.{token_at};
 ghost use Rattle.pat_build.specs.State.{passed_over, flags_of};
 ghost use Rattle.pat_build.specs.Names.{with_given, given_after};
-ghost use Rattle.pat_build.specs.Groups.{number_of, is_look};
+ghost use Rattle.pat_build.specs.Groups.{number_of, is_look, bars_in, barred};
 ghost use Rattle.pat_build.specs.Parts.{atom, bare, inside, nothing, of_class, with_reference};
 ghost use Rattle.pat_build.specs.Stack.{IsPlain};
-ghost use Rattle.pat_build.specs.Machine.{Means, Ready, IsNext, Begins, Took, Same, HasRoom, Refuses, Numbered, Gives, form_of, atom_of, state_of, whole_of};
+ghost use Rattle.pat_build.specs.Machine.{Means, Ready, IsNext, Begins, Took, Same, HasRoom, Refuses, Numbered, Gives, form_of, atom_where, state_of, whole_of};
 
 use crate::error::ReadError;
-use crate::machine::{Atom, Form, Frame, Level, Machine};
+use crate::machine::{Atom, Bars, Form, Frame, Level, Machine};
 use crate::names::Name;
 use crate::nodes::{alternative, group, place, repeated};
 use pat_lex::QuantMode;
@@ -23,23 +23,40 @@ use pat_tree::{
 };
 use std::mem;
 
+fn is_look(form: &Form) -> bool
+    ensures { result ≡ is_look (form_of form.now) }
+{
+    is_looking(form, false)
+}
+
+fn bars_in(form: &Form) -> Bars
+    ensures { result ≡ bars_in (form_of form.now) }
+{
+    match form {
+        Form::Condition(_) => Bars::First,
+        Form::Define => Bars::Define,
+        Form::Group { .. } | Form::Atomic | Form::Look { .. } => Bars::Free,
+    }
+}
+
 /// Whether the inside of a group is inside a lookaround.
-fn is_looking(form: Form, around: bool) -> bool
-    ensures { result ≡ (is_look (form_of form) || around) }
+fn is_looking(form: &Form, around: bool) -> bool
+    ensures { result ≡ (is_look (form_of form.now) || around) }
 {
     match form {
         Form::Look { .. } => true,
-        Form::Group { .. } | Form::Atomic => around,
+        Form::Group { .. } | Form::Atomic | Form::Condition(_) | Form::Define => around,
     }
 }
 
 /// The group of this node, before a quantifier.
-fn atom_of(form: Form, id: NodeId, at: u32) -> Atom
-    ensures { result ≡ atom_of (form_of form) id at }
+fn atom_of(looks: bool, id: NodeId, at: u32) -> Atom
+    ensures { result ≡ atom_where looks id at }
 {
-    match form {
-        Form::Look { .. } => Atom::Look { id, at },
-        Form::Group { .. } | Form::Atomic => Atom::Whole { id, at },
+    if looks {
+        Atom::Look { id, at }
+    } else {
+        Atom::Whole { id, at }
     }
 }
 
@@ -91,14 +108,30 @@ impl<'a> Machine<'a> {
         Ok(())
     }
 
-    /// At a bar the next alternative begins.
-    pub(crate) fn bar(&mut self, after: usize) -> Result<(), Memory>
-        requires { Ready Bar after self.old }
-        ensures { OnOk result (Took self.old self.new) }
+    /// Which alternatives the group may have after a bar.
+    fn barred(&self) -> Result<Bars, ReadError>
+        ensures ok { IfOk result (λ bars. barred self.now.bars self.now.at ≡ Ok bars) }
+        ensures bad { IfErr result (Refuses (barred self.now.bars self.now.at)) }
     {
+        match self.bars {
+            Bars::Free => Ok(Bars::Free),
+            Bars::First => Ok(Bars::Second),
+            Bars::Second => Err(self.fault(127)),
+            Bars::Define => Err(self.fault(154)),
+        }
+    }
+
+    /// At a bar the next alternative begins.
+    pub(crate) fn bar(&mut self, after: usize) -> Result<(), ReadError>
+        requires { Ready Bar after self.old }
+        ensures ok { OnOk result (Took self.old self.new) }
+        ensures bad { IfErr result (Refuses (whole_of self.old)) }
+    {
+        let bars = self.barred()?;
         let parts = mem::replace(&mut self.level.parts, Kids::new(self.alloc));
         let id = alternative(&mut self.draft, parts, self.at as u32)?;
         self.level.branches.push(id)?;
+        self.bars = bars;
         self.at = after;
         Ok(())
     }
@@ -212,14 +245,17 @@ impl<'a> Machine<'a> {
         given: Option<Name>,
         options: Options,
         groups: u16,
+        beyond: Option<usize>,
         after: usize,
     ) -> Result<(), Memory>
         requires shallow { length self.old.stack.items < 250 }
         requires numbered { Numbered self.old.groups (number_of (form_of form)) groups }
         requires gives { Gives self.old.text.now self.old.groups given groups }
-        requires ready { (token : Token) × Ready token after self.old × Begins self.old token after (Ok (inside (record { form = form_of form; around = self.old.options; looking = self.old.looking; at = self.old.at }) (record (state_of self.old) { at = after; options = options; groups = groups; depth = length self.old.stack.items + 1; looking = is_look (form_of form) || self.old.looking; names = with_given self.old.text.now given self.old.draft.names }))) }
+        requires ready { (token : Token) × Ready token after self.old × Begins self.old token after (Ok (inside (record { form = form_of form; around = self.old.options; looking = self.old.looking; bars = self.old.bars; at = self.old.at }) (record (state_of self.old) { at = after; options = options; groups = groups; depth = length self.old.stack.items + 1; looking = is_look (form_of form) || self.old.looking; bars = bars_in (form_of form); names = with_given self.old.text.now given self.old.draft.names; beyond = beyond }))) }
         ensures { OnOk result (Took self.old self.new) }
     {
+        let looking = is_looking(&form, self.looking);
+        let bars = bars_in(&form);
         let inner = Level {
             branches: Kids::new(self.alloc),
             parts: Kids::new(self.alloc),
@@ -229,6 +265,7 @@ impl<'a> Machine<'a> {
             form,
             around: self.options,
             looking: self.looking,
+            bars: self.bars,
             at: self.at as u32,
             outer,
         };
@@ -236,7 +273,9 @@ impl<'a> Machine<'a> {
         push_frame(&mut self.stack, frame)?;
         self.options = options;
         self.groups = groups;
-        self.looking = is_looking(form, self.looking);
+        self.looking = looking;
+        self.bars = bars;
+        self.beyond = beyond;
         self.at = after;
         Ok(())
     }
@@ -252,6 +291,7 @@ impl<'a> Machine<'a> {
                 form,
                 around,
                 looking,
+                bars,
                 at,
                 outer,
             },
@@ -263,10 +303,12 @@ impl<'a> Machine<'a> {
             });
         };
         let level = mem::replace(&mut self.level, outer);
+        let looks = is_look(&form);
         let id = group(&mut self.draft, form, level, at)?;
-        self.waiting = Some(atom_of(form, id, at));
+        self.waiting = Some(atom_of(looks, id, at));
         self.options = around;
         self.looking = looking;
+        self.bars = bars;
         self.at = after;
         Ok(())
     }

@@ -8,8 +8,7 @@ ghost use Rattle.pat_build.specs.Reading.{literally};
 ghost use Rattle.pat_build.specs.Machine.{Adds, parsed_of};
 
 use crate::machine::Level;
-use crate::nodes::group;
-use crate::openings::PLAIN;
+use crate::nodes::{group, plain};
 use pat_tree::{Draft, Item, Kids, Memory, Node, NodeId, Options, Tree};
 use std::alloc::Global;
 
@@ -56,7 +55,7 @@ pub(crate) fn literally(alloc: Global, text: &[u8], options: Options) -> Result<
     let mut draft = Draft::new(alloc, options);
     let parts = characters(alloc, &mut draft, text, options.caseless)?;
     let branches = Kids::new(alloc);
-    let root = group(&mut draft, PLAIN, Level { branches, parts }, 0)?;
+    let root = group(&mut draft, plain(), Level { branches, parts }, 0)?;
     match draft.finish(root) {
         Ok(tree) => Ok(tree),
         Err(_) => unreachable!(),

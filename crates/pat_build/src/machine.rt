@@ -4,7 +4,7 @@ ghost use Rattle.std.specs.Prelude.{◌≡◌};
 use crate::cursor::{Cursor, Place};
 use crate::error::ReadError;
 use crate::names::Name;
-use pat_tree::{Draft, Item, Kids, NodeId, Options};
+use pat_tree::{Draft, GroupList, Item, Kids, NodeId, Options};
 use std::alloc::Global;
 
 /// The alternatives that were read of a group, and the parts of the one in progress.
@@ -14,8 +14,32 @@ pub(crate) struct Level {
     pub parts: Kids,
 }
 
-/// What a group is.
+/// What a conditional group tests.
+#[derive(Drop)]
+pub(crate) enum Test {
+    /// One of these groups is set.
+    AnySet(GroupList),
+    /// Some call is active.
+    InCall,
+    /// The latest active call is of one of these groups.
+    InCallOf(GroupList),
+}
+
+/// Which alternatives a group may still have.
 #[derive(Clone, Copy)]
+pub(crate) enum Bars {
+    /// Any.
+    Free,
+    /// The first one of a condition is read, and a second one may come.
+    First,
+    /// The second one of a condition is read.
+    Second,
+    /// The only one of DEFINE is read.
+    Define,
+}
+
+/// What a group is.
+#[derive(Drop)]
 pub(crate) enum Form {
     /// A group, with its number where it captures.
     Group {
@@ -27,15 +51,19 @@ pub(crate) enum Form {
         positive: bool,
         atomic: bool,
     },
+    Condition(Test),
+    /// A conditional group that only defines.
+    Define,
 }
 
-/// An open group: what holds around it (the options, and whether that is inside a lookaround), its place, and what
-/// encloses it.
+/// An open group: what holds around it (the options, whether that is inside a lookaround, and which alternatives may
+/// come there), its place, and what encloses it.
 #[derive(Drop)]
 pub(crate) struct Frame {
     pub form: Form,
     pub around: Options,
     pub looking: bool,
+    pub bars: Bars,
     pub at: u32,
     pub outer: Level,
 }
@@ -84,6 +112,10 @@ pub(crate) struct Machine<'a> {
     pub groups: u16,
     /// The place is inside a lookaround.
     pub looking: bool,
+    /// Which alternatives the innermost group may still have.
+    pub bars: Bars,
+    /// The first test of a call whose number no group can have.
+    pub beyond: Option<usize>,
 }
 
 impl<'a> Machine<'a> {

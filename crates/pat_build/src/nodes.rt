@@ -3,13 +3,14 @@ ghost use Rattle.std.specs.Prelude.{ℕ, ◌≡◌, ◌+◌, ◌<◌, ◌≤◌,
 ghost use Rattle.pat_tree.specs.Nested.{tree_at, trees, row, atomic};
 ghost use Rattle.pat_tree.specs.Growing.{EndsIn, Replaces, Makes};
 ghost use Rattle.pat_tree.specs.Rules.{number_in, AtMost};
-ghost use Rattle.pat_build.specs.Groups.{number_of, built};
+ghost use Rattle.pat_build.specs.declared.machine.Form.TheVariants as kept;
+ghost use Rattle.pat_build.specs.Groups.{number_of, built, conditional};
 ghost use Rattle.pat_build.specs.Parts.{alternative, once_more, repeat_of, is_lazy, repeated};
-ghost use Rattle.pat_build.specs.Machine.{Adds, Closes, IsAtom, atom_tree, ids_of, form_of};
+ghost use Rattle.pat_build.specs.Machine.{Adds, Closes, CanHave, IsAtom, atom_tree, ids_of, form_of, test_of, cond_in};
 
-use crate::machine::{Atom, Form, Level};
+use crate::machine::{Atom, Form, Level, Test};
 use pat_lex::QuantMode;
-use pat_tree::{Draft, Kids, Memory, Node, NodeId};
+use pat_tree::{Cond, Draft, Kids, Memory, Node, NodeId};
 use std::alloc::Global;
 
 /// The node of an alternative with these parts.
@@ -54,12 +55,100 @@ pub(crate) fn place(draft: &mut Draft, atom: Atom) -> Result<NodeId, Memory>
     }
 }
 
+/// A group that doesn't capture.
+pub(crate) fn plain() -> Form
+    ensures { result ≡ kept.Group None }
+{
+    Form::Group { number: None }
+}
+
+/// The test of a condition's node.
+fn cond_of(test: Test) -> Cond
+    ensures { result ≡ cond_in test }
+{
+    match test {
+        Test::AnySet(groups) => Cond::AnySet(groups),
+        Test::InCall => Cond::InCall,
+        Test::InCallOf(groups) => Cond::InCallOf(groups),
+    }
+}
+
+/// The node of a conditional group with one branch.
+fn single_condition(
+    draft: &mut Draft,
+    test: Test,
+    branches: Kids,
+    at: u32,
+) -> Result<NodeId, Memory>
+    requires room { length draft.old.nodes < 4294967295 }
+    requires branches { All (λ k. k < length draft.old.nodes) branches }
+    requires loose { EndsIn draft.old.nodes branches }
+    requires few { length branches ≡ 1 }
+    ensures made { IfOk result (λ id. Makes draft.old.nodes draft.new.nodes id (built (conditional (test_of test)) (map (tree_at (trees draft.old.nodes)) branches))) }
+    ensures loose { IfOk result (λ id. Replaces draft.old.nodes branches draft.new.nodes id) }
+    ensures count { OnOk result (length draft.new.nodes ≡ length draft.old.nodes + 1) }
+    ensures closes { OnOk result (Closes draft.old draft.new (conditional (test_of test)) at) }
+{
+    let node = Node::Cond {
+        test: cond_of(test),
+        yes: *branches.get(0),
+        no: None,
+    };
+    let id = draft.add(node, at)?;
+    Ok(id)
+}
+
+/// The node of a conditional group with two branches.
+fn double_condition(
+    draft: &mut Draft,
+    test: Test,
+    branches: Kids,
+    at: u32,
+) -> Result<NodeId, Memory>
+    requires room { length draft.old.nodes < 4294967295 }
+    requires branches { All (λ k. k < length draft.old.nodes) branches }
+    requires loose { EndsIn draft.old.nodes branches }
+    requires few { length branches ≡ 2 }
+    ensures made { IfOk result (λ id. Makes draft.old.nodes draft.new.nodes id (built (conditional (test_of test)) (map (tree_at (trees draft.old.nodes)) branches))) }
+    ensures loose { IfOk result (λ id. Replaces draft.old.nodes branches draft.new.nodes id) }
+    ensures count { OnOk result (length draft.new.nodes ≡ length draft.old.nodes + 1) }
+    ensures closes { OnOk result (Closes draft.old draft.new (conditional (test_of test)) at) }
+{
+    let no = *branches.get(1);
+    let node = Node::Cond {
+        test: cond_of(test),
+        yes: *branches.get(0),
+        no: Some(no),
+    };
+    let id = draft.add(node, at)?;
+    Ok(id)
+}
+
+/// The node of a conditional group with these branches.
+fn condition_node(draft: &mut Draft, test: Test, branches: Kids, at: u32) -> Result<NodeId, Memory>
+    requires room { length draft.old.nodes < 4294967295 }
+    requires branches { All (λ k. k < length draft.old.nodes) branches }
+    requires loose { EndsIn draft.old.nodes branches }
+    requires few { CanHave (conditional (test_of test)) (length branches) }
+    ensures made { IfOk result (λ id. Makes draft.old.nodes draft.new.nodes id (built (conditional (test_of test)) (map (tree_at (trees draft.old.nodes)) branches))) }
+    ensures loose { IfOk result (λ id. Replaces draft.old.nodes branches draft.new.nodes id) }
+    ensures count { OnOk result (length draft.new.nodes ≡ length draft.old.nodes + 1) }
+    ensures closes { OnOk result (Closes draft.old draft.new (conditional (test_of test)) at) }
+{
+    if branches.len() == 1 {
+        single_condition(draft, test, branches, at)
+    } else {
+        double_condition(draft, test, branches, at)
+    }
+}
+
 /// The node of a group with these branches.
 fn form_node(draft: &mut Draft, form: Form, branches: Kids, at: u32) -> Result<NodeId, Memory>
     requires room { length draft.old.nodes < 4294967295 }
     requires branches { All (λ k. k < length draft.old.nodes) branches }
     requires loose { EndsIn draft.old.nodes branches }
     requires numbered { All (λ n. 1 ≤ n) (number_in (number_of (form_of form))) }
+    requires few { CanHave (form_of form) (length branches) }
     ensures made { IfOk result (λ id. Makes draft.old.nodes draft.new.nodes id (built (form_of form) (map (tree_at (trees draft.old.nodes)) branches))) }
     ensures loose { IfOk result (λ id. Replaces draft.old.nodes branches draft.new.nodes id) }
     ensures count { OnOk result (length draft.new.nodes ≡ length draft.old.nodes + 1) }
@@ -88,6 +177,16 @@ fn form_node(draft: &mut Draft, form: Form, branches: Kids, at: u32) -> Result<N
             let id = draft.add(node, at)?;
             Ok(id)
         }
+        Form::Condition(test) => condition_node(draft, test, branches, at),
+        Form::Define => {
+            let node = Node::Cond {
+                test: Cond::Never,
+                yes: *branches.get(0),
+                no: None,
+            };
+            let id = draft.add(node, at)?;
+            Ok(id)
+        }
     }
 }
 
@@ -98,6 +197,7 @@ pub(crate) fn group(draft: &mut Draft, form: Form, level: Level, at: u32) -> Res
     requires parts { All (λ k. k < length draft.old.nodes) level.parts }
     requires loose { EndsIn draft.old.nodes (level.branches ++ level.parts) }
     requires numbered { All (λ n. 1 ≤ n) (number_in (number_of (form_of form))) }
+    requires few { CanHave (form_of form) (length level.branches + 1) }
     ensures made { IfOk result (λ id. Makes draft.old.nodes draft.new.nodes id (built (form_of form) (map (tree_at (trees draft.old.nodes)) level.branches ++ alternative (map (tree_at (trees draft.old.nodes)) level.parts) ∷ []))) }
     ensures loose { IfOk result (λ id. Replaces draft.old.nodes (level.branches ++ level.parts) draft.new.nodes id) }
     ensures count { OnOk result (length draft.new.nodes ≤ length draft.old.nodes + 2) }

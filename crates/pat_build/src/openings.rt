@@ -1,20 +1,22 @@
 //! What begins a group, and what refers to one.
-ghost use Rattle.std.specs.Prelude.{◌≡◌, ℕ, ◌<◌, not, ◌&&◌, length, false, IfOk, OnOk, IfErr, None, Ok};
+ghost use Rattle.std.specs.Prelude.{◌≡◌, ℕ, ◌<◌, not, ◌&&◌, [], ◌∷◌, length, slice_range, false, IfOk, OnOk, IfErr, None, Ok};
 ghost use Rattle.token_parts.specs.declared.token.Token.{Token};
-ghost use Rattle.token_parts.specs.declared.token.Token.TheVariants.{Open, Reference};
+ghost use Rattle.token_parts.specs.declared.token.Token.TheVariants.{Open, CondStart, Reference};
 ghost use Rattle.token_parts.specs.declared.token.OpenKind.TheVariants as opening;
-ghost use Rattle.token_parts.specs.Tell.{IsTarget};
+ghost use Rattle.token_parts.specs.Tell.{IsTarget, IsPart, IsTest};
+ghost use Rattle.pat_tree.specs.Nested.{in_call_of};
 ghost use Rattle.pat_build.specs.Names.{IsKnown};
 ghost use Rattle.std.specs.List.{list_any};
-ghost use Rattle.pat_build.specs.Groups.{has_name, number_of, opened, named_by};
+ghost use Rattle.pat_build.specs.Groups.{has_name, number_of, opened, conditional, unless_named, called_number, called_by, form_in, is_beyond, beyond_after, named_by};
 ghost use Rattle.pat_build.specs.Parts.{enters};
-ghost use Rattle.pat_build.specs.Machine.{Named, Ready, Begins, Took, Refuses, form_of, state_of, whole_of, known_of};
+ghost use Rattle.pat_build.specs.Machine.{Named, Ready, Begins, Took, Refuses, form_of, test_of, state_of, whole_of, known_of};
 
 use crate::error::ReadError;
-use crate::machine::{Form, Machine};
+use crate::machine::{Form, Machine, Test};
 use crate::names::{Name, groups_of, is_given, one_group};
-use pat_lex::{OpenKind, Target};
-use pat_tree::{GroupList, Options};
+use crate::nodes::plain;
+use pat_lex::{CondText, OpenKind, Target};
+use pat_tree::{GroupList, Memory, Options};
 
 /// The most parentheses that may be open.
 const DEEPEST: usize = 250;
@@ -22,8 +24,17 @@ const DEEPEST: usize = 250;
 /// The greatest number of a capturing group.
 const GREATEST: u16 = 65535;
 
-/// A group that doesn't capture.
-pub(crate) const PLAIN: Form = Form::Group { number: None };
+/// What a test of a call by a name asks, where 0 stands for a name that no group has.
+fn named_call(groups: GroupList) -> Test
+    requires { 0 < length groups }
+    ensures { test_of result ≡ called_by groups }
+{
+    if *groups.get(0) == 0 {
+        Test::AnySet(groups)
+    } else {
+        Test::InCallOf(groups)
+    }
+}
 
 impl<'a> Machine<'a> {
     /// A group that has no number begins.
@@ -41,7 +52,7 @@ impl<'a> Machine<'a> {
         if self.stack.len() >= DEEPEST {
             return Err(self.fault(119));
         }
-        self.enter(form, None, options, self.groups, after)?;
+        self.enter(form, None, options, self.groups, self.beyond, after)?;
         Ok(())
     }
 
@@ -62,7 +73,7 @@ impl<'a> Machine<'a> {
         let form = Form::Group {
             number: Some(number),
         };
-        self.enter(form, None, self.options, number, after)?;
+        self.enter(form, None, self.options, number, self.beyond, after)?;
         Ok(())
     }
 
@@ -98,7 +109,7 @@ impl<'a> Machine<'a> {
         let form = Form::Group {
             number: Some(number),
         };
-        self.enter(form, Some(name), self.options, number, after)?;
+        self.enter(form, Some(name), self.options, number, self.beyond, after)?;
         Ok(())
     }
 
@@ -131,12 +142,12 @@ impl<'a> Machine<'a> {
         match kind {
             OpenKind::Capture => {
                 if self.options.no_auto_capture {
-                    self.plain_group(PLAIN, self.options, after)
+                    self.plain_group(plain(), self.options, after)
                 } else {
                     self.capturing_group(after)
                 }
             }
-            OpenKind::Plain => self.plain_group(PLAIN, self.options, after),
+            OpenKind::Plain => self.plain_group(plain(), self.options, after),
             OpenKind::Atomic => self.plain_group(Form::Atomic, self.options, after),
             OpenKind::Named { from, to } => self.named_group(from, to, after),
             OpenKind::Look {
@@ -146,6 +157,119 @@ impl<'a> Machine<'a> {
             } => self.look(ahead, positive, atomic, after),
             OpenKind::BranchReset => Err(self.fault(195)),
         }
+    }
+
+    /// Whether a group of the whole pattern has the name between these places.
+    fn is_named(&self, from: usize, to: usize) -> bool
+        requires known { IsKnown self.now.text.now self.now.known.now }
+        requires part { IsPart self.now.text.now from to }
+        ensures { result ≡ list_any (has_name (slice_range self.now.text.now from to)) (known_of self.now) }
+    {
+        is_given(self.text, self.known, &self.text[from..to])
+    }
+
+    /// The test of a call, unless a group has the text between these places as its name.
+    fn unless_named(&self, test: Test, from: usize, to: usize) -> Result<Form, Memory>
+        requires known { IsKnown self.now.text.now self.now.known.now }
+        requires part { IsPart self.now.text.now from to }
+        ensures numberless { IfOk result (λ form. number_of (form_of form) ≡ None) }
+        ensures is { IfOk result (λ form. form_of form ≡ conditional (unless_named (known_of self.now) (slice_range self.now.text.now from to) (test_of test))) }
+    {
+        if self.is_named(from, to) {
+            let name = &self.text[from..to];
+            let groups = groups_of(self.alloc, self.text, self.known, name)?;
+            return Ok(Form::Condition(Test::AnySet(groups)));
+        }
+        Ok(Form::Condition(test))
+    }
+
+    /// What a test of a call with this number asks.
+    fn call_test(&self, n: u32) -> Result<Test, Memory>
+        ensures { IfOk result (λ test. test_of test ≡ in_call_of (called_number n ∷ [])) }
+    {
+        let groups = if n > u32::from(GREATEST) {
+            one_group(self.alloc, 0)?
+        } else {
+            one_group(self.alloc, n as u16)?
+        };
+        Ok(Test::InCallOf(groups))
+    }
+
+    /// A conditional group by the text of its test, which stands between these places.
+    #[tactic(auto, unfolding(crate::specs::Groups::form_in))]
+    fn form(&self, cond: CondText, from: usize, to: usize) -> Result<Form, ReadError>
+        requires known { IsKnown self.now.text.now self.now.known.now }
+        requires well { IsTest self.now.text.now cond }
+        requires part { IsPart self.now.text.now from to }
+        ensures ok { IfOk result (λ form. form_in (known_of self.now) self.now.text.now (state_of self.now) cond (slice_range self.now.text.now from to) ≡ Ok (form_of form)) }
+        ensures numberless { IfOk result (λ form. number_of (form_of form) ≡ None) }
+        ensures bad { IfErr result (Refuses (form_in (known_of self.now) self.now.text.now (state_of self.now) cond (slice_range self.now.text.now from to))) }
+    {
+        match cond {
+            CondText::Group(target) => {
+                let groups = self.named_by(target)?;
+                Ok(Form::Condition(Test::AnySet(groups)))
+            }
+            CondText::InCall => Ok(self.unless_named(Test::InCall, from, to)?),
+            CondText::InCallOf(Target::Number(n)) => {
+                let test = self.call_test(n)?;
+                Ok(self.unless_named(test, from, to)?)
+            }
+            CondText::InCallOf(target) => {
+                let groups = self.named_by(target)?;
+                Ok(Form::Condition(named_call(groups)))
+            }
+            CondText::Define => Ok(Form::Define),
+            CondText::Lookaround => Err(self.fault(195)),
+        }
+    }
+
+    /// Whether the test is of a call of a group whose number is too big, and no group has its text as a name.
+    #[tactic(auto, unfolding(crate::specs::Groups::is_beyond))]
+    fn is_beyond(&self, cond: CondText, from: usize, to: usize) -> bool
+        requires known { IsKnown self.now.text.now self.now.known.now }
+        requires part { IsPart self.now.text.now from to }
+        ensures { result ≡ is_beyond (known_of self.now) cond (slice_range self.now.text.now from to) }
+    {
+        match cond {
+            CondText::InCallOf(Target::Number(n)) => n > u32::from(GREATEST)
+                && !self.is_named(from, to),
+            _ => false,
+        }
+    }
+
+    /// The first test of a call whose number no group can have, this one included.
+    fn beyond_after(&self, cond: CondText, from: usize, to: usize) -> Option<usize>
+        requires known { IsKnown self.now.text.now self.now.known.now }
+        requires part { IsPart self.now.text.now from to }
+        ensures { result ≡ beyond_after (known_of self.now) (state_of self.now) cond (slice_range self.now.text.now from to) }
+    {
+        match self.beyond {
+            Some(first) => Some(first),
+            None if self.is_beyond(cond, from, to) => Some(self.at),
+            None => None,
+        }
+    }
+
+    /// A conditional group begins, whose test stands between these places.
+    pub(crate) fn condition(
+        &mut self,
+        cond: CondText,
+        from: usize,
+        to: usize,
+        after: usize,
+    ) -> Result<(), ReadError>
+        requires { Ready (CondStart cond from to) after self.old }
+        ensures ok { OnOk result (Took self.old self.new) }
+        ensures bad { IfErr result (Refuses (whole_of self.old)) }
+    {
+        if self.stack.len() >= DEEPEST {
+            return Err(self.fault(119));
+        }
+        let form = self.form(cond, from, to)?;
+        let beyond = self.beyond_after(cond, from, to);
+        self.enter(form, None, self.options, self.groups, beyond, after)?;
+        Ok(())
     }
 
     /// The groups that a reference names, by the names of the whole pattern.

@@ -1,5 +1,5 @@
 //! The reader of a pattern.
-ghost use Rattle.std.specs.Prelude.{◌≡◌, ◌||◌, ℕ, ◌<◌, ◌≤◌, false, [], length, Ok, OnOk, IfOk, IfErr};
+ghost use Rattle.std.specs.Prelude.{◌≡◌, ◌||◌, ℕ, pos, ◌<◌, ◌≤◌, false, [], length, Some, None, Ok, OnOk, IfOk, IfErr};
 ghost use Rattle.pat_tree.specs.Nested.{Nested};
 ghost use Rattle.pat_tree.specs.Growing.{AllUnder};
 ghost use Rattle.pat_tree.specs.Closing.{StandInTurn};
@@ -13,10 +13,9 @@ ghost use Rattle.pat_build.specs.Machine.{Means, HasRoom, Refuses, Ends, Same, s
 
 use crate::error::ReadError;
 use crate::literal::literally;
-use crate::machine::{Level, Machine};
+use crate::machine::{Bars, Level, Machine};
 use crate::names::Name;
-use crate::nodes::group;
-use crate::openings::PLAIN;
+use crate::nodes::{group, plain};
 use crate::start::started;
 use pat_lex::Token;
 use pat_tree::{Draft, Kids, NodeId, Options, Tree};
@@ -60,6 +59,8 @@ impl<'a> Machine<'a> {
             options,
             groups: 0,
             looking: false,
+            bars: Bars::Free,
+            beyond: None,
         }
     }
 
@@ -119,7 +120,7 @@ impl<'a> Machine<'a> {
             parts: Kids::new(self.alloc),
         };
         let level = mem::replace(&mut self.level, inner);
-        let id = group(&mut self.draft, PLAIN, level, 0)?;
+        let id = group(&mut self.draft, plain(), level, 0)?;
         Ok(id)
     }
 }
@@ -145,6 +146,17 @@ fn names_of(
     Ok(names)
 }
 
+/// No test may ask for a call of a group whose number is too big.
+fn none_beyond(beyond: Option<usize>) -> Result<(), ReadError>
+    ensures ok { OnOk result (beyond ≡ None) }
+    ensures bad { IfErr result (λ e. (at : ℕ) × (beyond ≡ Some at) × (e ≡ ReadError.Bad (pos 161) at)) }
+{
+    match beyond {
+        None => Ok(()),
+        Some(at) => Err(ReadError::Bad { number: 161, at }),
+    }
+}
+
 /// The tree of the pattern, whose names are known.
 fn tree_of(
     alloc: Global,
@@ -164,6 +176,7 @@ fn tree_of(
     let mut machine = Machine::new(alloc, known, text, start, options);
     machine.run()?;
     let root = machine.end()?;
+    none_beyond(machine.beyond)?;
     let draft = mem::replace(&mut machine.draft, Draft::new(alloc, options));
     match draft.finish(root) {
         Ok(tree) => Ok(tree),
@@ -187,8 +200,9 @@ fn is_left_out(options: &Options) -> bool
 /// pattern that is: open groups stand in a vector, 250 at most.
 ///
 /// `Bad` has the number and the place of the fault that the definition tells: first 120 for a pattern that is longer and
-/// 195 for UTF, UCP and AUTO_CALLOUT, at 0; then the first fault from the left; last 115 at the leftmost reference to no
-/// group. Want of memory may come at any pattern.
+/// 195 for UTF, UCP and AUTO_CALLOUT, at 0; then the first fault from the left; then 161 at the first test of a call of
+/// a group past 65,535; last 115 at the leftmost reference or test that names no group. Want of memory may come at any
+/// pattern.
 pub fn read(alloc: Global, text: &[u8], options: Options) -> Result<Tree, ReadError>
     ensures ok { IfOk result (λ tree. read options text.now ≡ Ok (parsed_of tree)) }
     ensures under { IfOk result (λ tree. AllUnder tree.nodes tree.root) }

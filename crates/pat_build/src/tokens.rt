@@ -11,7 +11,7 @@ ghost use Rattle.pat_build.specs.Machine.{Means, Ready, IsNext, IsMore, IsAssert
 use crate::brackets::read_class;
 use crate::error::ReadError;
 use crate::machine::Machine;
-use crate::openings::PLAIN;
+use crate::nodes::plain;
 use crate::options::with_setting;
 use pat_lex::{OptionMask, Token};
 use pat_tree::{AnchorKind, ClassSpec, Item, Memory, Part, PartList, SetName};
@@ -92,7 +92,7 @@ impl<'a> Machine<'a> {
     {
         let options = with_setting(reset, on, off, self.options);
         if opens {
-            return self.plain_group(PLAIN, options, after);
+            return self.plain_group(plain(), options, after);
         }
         self.nothing(options, self.quoting, after);
         Ok(())
@@ -175,7 +175,8 @@ impl<'a> Machine<'a> {
                 off,
                 opens,
             } => self.option_set(reset, on, off, opens, after),
-            Token::Bar => Ok(self.bar(after)?),
+            Token::Bar => self.bar(after),
+            Token::CondStart { cond, from, to } => self.condition(cond, from, to, after),
             Token::Close => self.close(after),
             Token::Start(_) => Err(self.fault(160)),
             _ => Err(self.fault(195)),

@@ -1,4 +1,4 @@
--- The patterns that are told about and searched: without conditions, calls, verbs and callouts.
+-- The patterns that are told about and searched: without conditions on lookarounds, calls, verbs and callouts.
 -- No class asks for a property of Unicode, and `\b` and `\B` go by the word characters of ASCII.
 use Rattle.std.specs.Prelude.{Bool, true, false, not, IsTrue, All}
 use Rattle.pat_tree.specs.declared.nodes.AnchorKind.{AnchorKind}
@@ -8,7 +8,7 @@ use Rattle.pat_tree.specs.declared.nodes.Part.{Part}
 use Rattle.pat_tree.specs.declared.nodes.Part.TheVariants.{Range, Set}
 use Rattle.pat_tree.specs.declared.nodes.ClassSpec.{ClassSpec}
 use Rattle.pat_tree.specs.Nested as tree
-use Rattle.pat_tree.specs.Nested.{Nested, Row}
+use Rattle.pat_tree.specs.Nested.{Nested, Row, Test, Other}
 
 -- an assertion that asks for no property of Unicode
 abbrev pub is_plain_anchor : AnchorKind → Bool
@@ -27,7 +27,7 @@ abbrev mutual
   IsBuilt (tree.one_repeat item low high lazily) = Unit {0}
   IsBuilt (tree.atomic ts) = AreBuilt ts
   IsBuilt (tree.look ahead positive once ts) = AreBuilt ts
-  IsBuilt (tree.condition test first second) = ⊥
+  IsBuilt (tree.condition test first second) = IsBuiltTest test × IsBuilt first × IsBuiltOther second
   IsBuilt (tree.call n) = ⊥
   IsBuilt (tree.ref ns caseless) = Unit {0}
   IsBuilt (tree.anchor kind) = IsTrue (is_plain_anchor kind)
@@ -38,6 +38,18 @@ abbrev mutual
   pub AreBuilt : Row → Type 0
   AreBuilt tree.none = Unit {0}
   AreBuilt (tree.more t ts) = IsBuilt t × AreBuilt ts
+
+  pub IsBuiltTest : Test → Type 0
+  IsBuiltTest (tree.any_set ns) = Unit {0}
+  IsBuiltTest tree.in_call = Unit {0}
+  IsBuiltTest (tree.in_call_of ns) = Unit {0}
+  IsBuiltTest tree.never = Unit {0}
+  IsBuiltTest (tree.assert ahead positive once ts) = ⊥
+  IsBuiltTest (tree.called c test) = ⊥
+
+  pub IsBuiltOther : Other → Type 0
+  IsBuiltOther tree.no_other = Unit {0}
+  IsBuiltOther (tree.other t) = IsBuilt t
 
 -- a part that asks for no property of Unicode
 abbrev pub is_plain : Part → Bool

@@ -288,8 +288,8 @@ fn what_is_not_built(rt: HostRuntime) {
         (r"[a\p{Nd}]", 195, 2),
         ("(*UTF)a", 195, 0),
         ("(*CR)(*UCP)a", 195, 5),
-        ("(a)(?(1)b)", 195, 3),
-        ("(?(DEFINE)a)", 195, 0),
+        ("(?(?=a)b)", 195, 0),
+        ("a(?(*nla:a)b)", 195, 1),
         ("a(?|b)", 195, 1),
     ];
     are_refused(&rt, rt.alloc(), &ROWS);
@@ -345,6 +345,31 @@ fn faults_of_lookarounds_and_possessive_quantifiers(rt: HostRuntime) {
         ("(?!a))", 122, 5),
         (r"(?=\1)", 115, 3),
         ("(*pla a)", 160, 0),
+    ];
+    are_refused(&rt, rt.alloc(), &ROWS);
+}
+
+#[test]
+fn faults_of_conditions(rt: HostRuntime) {
+    static ROWS: [(&'static str, i32, usize); 18] = [
+        ("(a)(?(1)b|c|d)", 127, 11),
+        ("(?(1)|||)()", 127, 6),
+        ("(?(DEFINE)a|b)", 154, 11),
+        ("(?(DEFINE)(?(1)a|b|c))()", 127, 18),
+        ("(?(R70000)a)", 161, 0),
+        (r"(?(2)a)(?(R65536)b)\3", 161, 7),
+        ("a(?(+65535)a)", 115, 1),
+        ("()(?(+65535)a)", 161, 2),
+        ("(?(R70000)a", 114, 11),
+        ("(?(2)a)(b)", 115, 0),
+        ("a(?(<x>)a)", 115, 1),
+        ("(?(R5)a)", 115, 0),
+        ("(?(0)a)", 115, 0),
+        ("(?(R&x)a)", 115, 0),
+        ("(?(-1)a)()", 115, 0),
+        ("(?(1)a", 114, 6),
+        ("(?(1)a))", 122, 7),
+        ("(?(1)a)**()", 109, 8),
     ];
     are_refused(&rt, rt.alloc(), &ROWS);
 }

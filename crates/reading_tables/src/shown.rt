@@ -8,11 +8,15 @@
 //!   group.
 //! - `a{2,5}` is a repeat of what takes one character, `(a)*{2,5}` a repeat of another part. A lazy one has `?` at its end, one
 //!   without a maximum is `{2,}`.
+//! - `(>a|b)` is an atomic group, `(=a)` and `(!a)` are lookaheads, `(*a)` one that isn't atomic. `(?[1,2]a|b)` is a
+//!   conditional group on groups, `(?Ra)` one on any call, `(?R[1]a)` one on a call of a group, `(?nevera)` a DEFINE.
 //! - `=1` is a reference, `=1=2` one to the first set of two groups.
 //! - `^` and `$` have an `m` where they hold at lines, `$` an `e` where it holds at the subject's end alone. Other assertions,
 //!   `\R` and `\K` are written as in patterns.
 //! - After the tree stand the names, as `name=1`.
-use pat_tree::{AnchorKind, ClassSpec, GroupList, Item, Kids, NameTable, Node, NodeId, Part, Tree};
+use pat_tree::{
+    AnchorKind, ClassSpec, Cond, GroupList, Item, Kids, NameTable, Node, NodeId, Part, Tree,
+};
 use std::alloc::Global;
 use std::fmt::Write;
 use std::test::Fail;
@@ -44,6 +48,29 @@ fn text_of(texts: &[String], id: NodeId) -> &str {
         Some(text) => text.as_str(),
         None => "none",
     }
+}
+
+fn numbers(text: &mut String, groups: &GroupList) -> Result<(), Fail> {
+    for (i, group) in groups.as_slice().iter().enumerate() {
+        text.push(if i == 0 { '[' } else { ',' })?;
+        write!(text, "{group}")?;
+    }
+    text.push(']')?;
+    Ok(())
+}
+
+fn tested(text: &mut String, test: &Cond) -> Result<(), Fail> {
+    match test {
+        Cond::AnySet(groups) => numbers(text, groups)?,
+        Cond::InCall => text.push('R')?,
+        Cond::InCallOf(groups) => {
+            text.push('R')?;
+            numbers(text, groups)?;
+        }
+        Cond::Never => text.push_str("never")?,
+        Cond::Assert(_) => text.push_str("look")?,
+    }
+    Ok(())
 }
 
 // How a lookaround begins.
@@ -90,6 +117,16 @@ fn node_text(alloc: Global, tree: &Tree, node: &Node, texts: &[String]) -> Resul
         } => {
             text.push_str(look(*ahead, *positive, *atomic))?;
             joined(&mut text, texts, branches, '|')?;
+            text.push(')')?;
+        }
+        Node::Cond { test, yes, no } => {
+            text.push_str("(?")?;
+            tested(&mut text, test)?;
+            text.push_str(text_of(texts, *yes))?;
+            if let Some(no) = no {
+                text.push('|')?;
+                text.push_str(text_of(texts, *no))?;
+            }
             text.push(')')?;
         }
         Node::Repeat {

@@ -1,5 +1,6 @@
-//! What searches find with groups that keep their first way and with lookarounds (pcre2pattern, "Atomic grouping and
-//! possessive quantifiers", "Assertions", "Non-atomic assertions"). The answers are those of the C library, 10.42.
+//! What searches find with groups that keep their first way, with lookarounds and with conditional groups (pcre2pattern,
+//! "Atomic grouping and possessive quantifiers", "Assertions", "Non-atomic assertions", "Conditional groups"). The
+//! answers are those of the C library, 10.42.
 use super::searching::searched;
 use frame_machine::Scratch;
 use match_drive::MatchAnswer;
@@ -242,6 +243,80 @@ fn lookbehinds_stand_in_other_parts(rt: HostRuntime) -> Result<(), Fail> {
         (b"(?*a+?)aa(?<*a{2})b", b"aab", Some((0, 3)), None),
         (b"(?<*(a)b|a(b))(?<=\\2)c", b"abc", Some((2, 3)), None),
         (b"(?<=(a)b|a(b))(?<=\\2)c", b"abc", None, None),
+    ];
+    cases(&rt, rt.alloc(), &ROWS)
+}
+
+#[test]
+fn conditions_choose_a_branch(rt: HostRuntime) -> Result<(), Fail> {
+    static ROWS: [Row; 37] = [
+        (b"(a)?(?(1)b|c)", b"ac", Some((1, 2)), None),
+        (b"(a)?(?(1)b|c)", b"ab", Some((0, 2)), Some((0, 1))),
+        (b"(a)?(?(1)b)", b"ac", Some((0, 0)), None),
+        (b"^(a)?(?(1)b|c)$", b"c", Some((0, 1)), None),
+        (b"(?<n>a)?(?(<n>)b|c)d", b"abd", Some((0, 3)), Some((0, 1))),
+        (b"(?<n>a)?(?('n')b|c)d", b"acd", Some((1, 3)), None),
+        (b"(?<n>a)?(?(n)b|c)", b"cab", Some((0, 1)), None),
+        (b"(a)(b)?(?(-1)c|d)", b"ad", Some((0, 2)), Some((0, 1))),
+        (b"(a)(b)?(?(-2)c|d)", b"ac", Some((0, 2)), Some((0, 1))),
+        (b"(?(+1)a|b)(c)?", b"bc", Some((0, 2)), Some((1, 2))),
+        (b"(?:(?(+1)a|b)(c)?)+", b"bca", Some((0, 3)), Some((1, 2))),
+        (b"(?(R)a|b)", b"ab", Some((1, 2)), None),
+        (b"(a)(?(R1)b|c)", b"abac", Some((2, 4)), Some((2, 3))),
+        (b"(?<n>a)(?(R&n)b|c)", b"ac", Some((0, 2)), Some((0, 1))),
+        (b"(?(DEFINE)(a))b", b"ab", Some((1, 2)), None),
+        (
+            b"(?(DEFINE)(?<n>a|b))c(?(<n>)d|e)",
+            b"cdce",
+            Some((2, 4)),
+            None,
+        ),
+        (b"(?(1)a|b)(c)?", b"a", None, None),
+        (b"(?(1)a)(c)?", b"c", Some((0, 1)), Some((0, 1))),
+        (
+            b"(?J)(?:(?<n>a)|(?<n>b))(?(<n>)c|d)",
+            b"bc",
+            Some((0, 2)),
+            None,
+        ),
+        (
+            b"(?J)(?:(?<n>a)|(?<n>b)|e)(?(<n>)c|d)",
+            b"ed",
+            Some((0, 2)),
+            None,
+        ),
+        (
+            b"(?:(a)|b)(?(1)c|d)*e",
+            b"accce",
+            Some((0, 5)),
+            Some((0, 1)),
+        ),
+        (b"(?:(a)|b)(?(1)c|d)++e", b"bdde", Some((0, 4)), None),
+        (b"(a)?(?(1)b++|c)b", b"abbb", None, None),
+        (b"(?>(a)?)(?(1)b|a)", b"ab", Some((0, 2)), Some((0, 1))),
+        (b"(a)?(?(1)(?=b)|c)", b"ab", Some((0, 1)), Some((0, 1))),
+        (b"(?(1)|a)()", b"a", Some((0, 1)), Some((1, 1))),
+        (b"(?<R>a)?(?(R)b|c)", b"ab", Some((0, 2)), Some((0, 1))),
+        (b"(?<R1>a)?(?(R1)b|c)", b"cab", Some((0, 1)), None),
+        (b"(?i)(A)?(?(1)B|C)", b"ab", Some((0, 2)), Some((0, 1))),
+        (b"((?(1)a|b))+", b"baa", Some((0, 3)), Some((2, 3))),
+        (b"(?(1)(?-i)a|(?i)B)(c)?", b"b", Some((0, 1)), None),
+        (b"(a)?(?(1)b|c){2}", b"abb", Some((0, 3)), Some((0, 1))),
+        (b"(a)?(?(1)b|c){2}?d", b"ccd", Some((0, 3)), None),
+        (b"^((a)|b)*(?(2)c|d)$", b"abc", Some((0, 3)), Some((1, 2))),
+        (b"^((a)|b)*(?(2)c|d)$", b"bbd", Some((0, 3)), Some((1, 2))),
+        (
+            b"^(?:(a)|(b)|c)(?(1)x|(?(2)y|z))$",
+            b"by",
+            Some((0, 2)),
+            None,
+        ),
+        (
+            b"^(?:(a)|(b)|c)(?(1)x|(?(2)y|z))$",
+            b"cz",
+            Some((0, 2)),
+            None,
+        ),
     ];
     cases(&rt, rt.alloc(), &ROWS)
 }

@@ -1,12 +1,12 @@
 -- What is read is built of forms that can be searched.
-use Rattle.std.proofs.Common.{◌≡◌, ℕ, zero, suc, ◌+◌, ◌-◌, ◌*◌, Bool, true, false, ◌||◌, nat_lt, List, [], ◌∷◌, ◌++◌, length, map, not, Option, Some, None, Ok, refl, ap, All, slice_range}
+use Rattle.std.proofs.Common.{◌≡◌, ℕ, zero, suc, ◌+◌, ◌-◌, ◌*◌, Bool, true, false, ◌||◌, nat_lt, List, [], ◌∷◌, ◌++◌, length, map, not, Option, Some, None, Ok, refl, ap, All, slice_range, if◌then◌else◌}
 use Rattle.std.proofs.lemmas.List.Elements.{All-nil, All-cons, All-append}
 use Rattle.pat_tree.specs.declared.options.Options.{Options}
 use Rattle.pat_tree.specs.declared.nodes.Item.TheVariants as item
 use Rattle.pat_tree.specs.declared.nodes.ClassSpec.{ClassSpec}
 use Rattle.pat_tree.specs.declared.nodes.Part.TheVariants as part
 use Rattle.pat_tree.specs.declared.names.NameEntry.{NameEntry}
-use Rattle.pat_tree.specs.Nested.{Nested, Row, empty, one, group, anchor, row}
+use Rattle.pat_tree.specs.Nested.{Nested, Row, Test, empty, one, group, anchor, row}
 use Rattle.pat_tree.specs.Nested as tree
 use Rattle.token_parts.specs.declared.token.OptionMask.{OptionMask}
 use Rattle.token_parts.specs.declared.token.OpenKind.TheVariants as opening
@@ -17,11 +17,15 @@ use Rattle.token_parts.specs.declared.token.StartItem.TheVariants as start_item
 use Rattle.token_parts.specs.declared.token.Token.{Token}
 use Rattle.token_parts.specs.declared.token.Token.TheVariants as token
 use Rattle.token_parts.specs.Tell.{fault, ◌>>=◌}
-use Rattle.pat_tree.specs.Built.{IsBuilt, AreBuilt, IsPlain}
+use Rattle.pat_tree.specs.Built.{IsBuilt, AreBuilt, IsBuiltTest, IsPlain}
 use Rattle.pat_build.specs.State.{State, Reads, next, passed_over}
 use Rattle.pat_build.specs.Options.{with_setting, with_item}
-use Rattle.pat_build.specs.Groups.{Form, grouped, atomically, looks, built, noted, Opening, Opens, opened, captured, named, named_by, missing}
-use Rattle.pat_build.specs.Parts.{alternative, repeat_of, repeated, Beginning, atom, bare, inside, nothing, over, enters, of_class, type_class, any_or_line, boundary, beginning}
+use Rattle.std.specs.List.{list_any}
+use Rattle.token_parts.specs.declared.token.Target.TheVariants.{Number}
+use Rattle.token_parts.specs.declared.token.CondText.{CondText}
+use Rattle.token_parts.specs.declared.token.CondText.TheVariants as tested
+use Rattle.pat_build.specs.Groups.{Form, grouped, atomically, looks, conditional, defines, branched, barred, has_name, unless_named, called_by, form_in, beyond_after, built, noted, Opening, Opens, opened, captured, named, named_by, missing}
+use Rattle.pat_build.specs.Parts.{alternative, repeat_of, repeated, Beginning, atom, bare, inside, nothing, over, enters, of_class, type_class, any_or_line, boundary, conditions, beginning}
 use Rattle.pat_build.specs.Reading.{quantified, closed, part_then, parts_from, alternatives_from, sequence, alternatives, whole, started, start, reading, literally, checked, read_from, read}
 use Rattle.pat_build.specs.Searchable.{IsSearchable, SearchableLaw}
 use Rattle.pat_build.proofs.Holding.{Holds, holds_ok, holds_err, holds_then, holds_if, holds_where, holds_any, holds_of}
@@ -59,6 +63,7 @@ repeat_built low high lazily (tree.repeat t least most mode) h = h
 repeat_built low high lazily (tree.one_repeat i least most mode) h = h
 repeat_built low high lazily (tree.atomic ts) h = h
 repeat_built low high lazily (tree.look ahead positive once ts) h = h
+repeat_built low high lazily (tree.condition test first second) h = h
 repeat_built low high lazily (tree.ref ns caseless) h = h
 repeat_built low high lazily (tree.anchor kind) h = h
 repeat_built low high lazily tree.keep_out h = h
@@ -74,16 +79,25 @@ record IsWithout (options : Options) : Type 0 where
   pub utf : options.utf ≡ false
   pub ucp : options.ucp ≡ false
 
+branched_built : (test : Test) (ts : List Nested) → IsBuiltTest test → AllBuilt ts → IsBuilt (branched test ts)
+branched_built test [] b h = (b, tt, tt)
+branched_built test (yes' ∷ []) b h = (b, h.0, tt)
+branched_built test (yes' ∷ no' ∷ others) b h = (b, h.0, h.1.0)
+
 -- what is built
 abbrev IsBuiltForm : Form → Type 0
 IsBuiltForm (grouped number) = Unit {0}
 IsBuiltForm atomically = Unit {0}
 IsBuiltForm (looks ahead positive once) = Unit {0}
+IsBuiltForm (conditional test) = IsBuiltTest test
+IsBuiltForm defines = Unit {0}
 
 form_built : (form : Form) (ts : List Nested) → IsBuiltForm form → AllBuilt ts → IsBuilt (built form ts)
 form_built (grouped number) ts f h = row_built ts h
 form_built atomically ts f h = row_built ts h
 form_built (looks ahead positive once) ts f h = row_built ts h
+form_built (conditional test) ts f h = branched_built test ts f h
+form_built defines ts f h = branched_built tree.never ts tt h
 
 -- a group, whose end puts the options around it back
 abbrev IsOpening : Opening → Type 0
@@ -114,6 +128,26 @@ module _ (st : State) (h : Keeps st) where
       holds_then GroupKeeps GroupKeeps _ _ (captured_keeps _ k)
       (λ g l. holds_if GroupKeeps _ _ _ (holds_err GroupKeeps _) (holds_ok GroupKeeps g l))
 
+named_built : (b : Bool) (test other : Test) → IsBuiltTest test → IsBuiltTest other → IsBuiltTest (if b then test else other)
+named_built true test other h k = h
+named_built false test other h k = k
+
+called_built : (groups : List ℕ) → IsBuiltTest (called_by groups)
+called_built [] = tt
+called_built (zero ∷ ns) = tt
+called_built (suc n ∷ ns) = tt
+
+-- a test asks for no lookaround
+form_of_test : (known : List NameEntry) (text : List ℕ) (st : State) (cond : CondText) (word : List ℕ) → Holds IsBuiltForm (form_in known text st cond word)
+unfolding form_in unless_named
+form_of_test known text st (tested.Group target) word = holds_then (λ groups. Unit {0}) IsBuiltForm (named_by known text st target) _ (holds_any _) (λ groups _. holds_ok IsBuiltForm _ tt)
+form_of_test known text st tested.InCall word = holds_ok IsBuiltForm _ (named_built (list_any (has_name word) known) _ _ tt tt)
+form_of_test known text st (tested.InCallOf (Number n)) word = holds_ok IsBuiltForm _ (named_built (list_any (has_name word) known) _ _ tt tt)
+form_of_test known text st (tested.InCallOf target) word =
+    holds_then (λ groups. Unit {0}) IsBuiltForm (named_by known text st target) _ (holds_any _) (λ groups _. holds_ok IsBuiltForm _ (called_built groups))
+form_of_test known text st tested.Define word = holds_ok IsBuiltForm _ tt
+form_of_test known text st tested.Lookaround word = holds_err IsBuiltForm _
+
 -- what begins at a token
 abbrev Begins : Beginning → Type 0
 Begins (atom t after) = IsBuilt t × Keeps after
@@ -124,6 +158,14 @@ Begins over = Unit {0}
 
 enters_begins : (opens : Opens) → Holds GroupKeeps opens → Holds Begins (enters opens)
 enters_begins opens h = holds_then GroupKeeps Begins opens _ h (λ g k. holds_ok Begins (inside g.0 g.1) k)
+
+conditions_begin : (known : List NameEntry) (text : List ℕ) (st : State) → Keeps st → (cond : CondText) (word : List ℕ) (after : State) → Keeps after →
+    Holds Begins (conditions known text st cond word after)
+unfolding conditions
+conditions_begin known text st h cond word after k =
+    holds_if Begins _ _ _ (holds_err Begins _)
+    (holds_then IsBuiltForm Begins _ _ (form_of_test known text st cond word)
+    (λ form f. enters_begins _ (opened_keeps st h form (record after { beyond = beyond_after known st cond word }) f k)))
 
 any_built : (dotall : Bool) → IsBuilt (any_or_line dotall)
 any_built true = tt
@@ -172,6 +214,7 @@ module _ (known : List NameEntry) (text : List ℕ) where
   begins n st (token.Open opening.Plain) after h plain k = enters_begins _ (opened_keeps st h (grouped None) after tt k)
   begins n st (token.Open opening.Atomic) after h plain k = enters_begins _ (opened_keeps st h atomically after tt k)
   begins n st (token.Open (opening.Look ahead positive once)) after h plain k = enters_begins _ (opened_keeps st h (looks ahead positive once) after tt k)
+  begins n st (token.CondStart cond from to) after h plain k = conditions_begin known text st h cond (slice_range text from to) after k
   begins n st (token.Open (opening.Named from to)) after h plain k = enters_begins _ (named_keeps st h (slice_range text from to) after k)
   begins n st (token.OptionSet reset on off true) after h plain k =
       enters_begins _ (opened_keeps st h (grouped None) (record after { options = with_setting reset on off st.options }) tt
@@ -209,7 +252,7 @@ module _ (text : List ℕ) where
 
   -- the state after a group
   abbrev ended_in : Opening → State → State → State
-  ended_in opening st after = record after { options = opening.around; looking = opening.looking; depth = st.depth - 1; references = st.references ++ noted opening.form opening.at }
+  ended_in opening st after = record after { options = opening.around; looking = opening.looking; bars = opening.bars; depth = st.depth - 1; references = st.references ++ noted opening.form opening.at }
 
   closed_at : (opening : Opening) (branches : List Nested) (st : State) (found : Token) (after : State) → IsOpening opening → AllBuilt branches → Keeps after →
       Holds TreeKeeps (elim found [
@@ -254,12 +297,13 @@ module _ (text : List ℕ) where
 
   alternatives_at : (again : State → Reads (List Nested)) (parts : List Nested) (st : State) (found : Token) (after : State) → GoesOn again → AllBuilt parts → Keeps st → Keeps after →
       Holds TreesKeep (elim found [
-        | token.Bar ↦ again after >>= λ (others, end). Ok (alternative parts ∷ others, end)
+        | token.Bar ↦ barred st.bars st.at >>= λ bars. again (record after { bars = bars }) >>= λ (others, end). Ok (alternative parts ∷ others, end)
         | _ ↦ Ok (alternative parts ∷ [], st)
       ])
   alternatives_at again parts st token.Bar after goes built h k =
-      holds_then TreesKeep TreesKeep (again after) _ (goes after k)
-      (λ r l. holds_ok TreesKeep (alternative parts ∷ r.0, r.1) ((alternative_built parts built, l.0), l.1))
+      holds_then (λ bars. Unit {0}) TreesKeep (barred st.bars st.at) _ (holds_any _)
+      (λ bars _. holds_then TreesKeep TreesKeep (again (record after { bars = bars })) _ (goes (record after { bars = bars }) k)
+      (λ r l. holds_ok TreesKeep (alternative parts ∷ r.0, r.1) ((alternative_built parts built, l.0), l.1)))
   alternatives_at again parts st _ after goes built h k = holds_ok TreesKeep (alternative parts ∷ [], st) ((alternative_built parts built, tt), h)
 
   alternatives_from_keep : (again : State → Reads (List Nested)) (parts : List Nested) (st : State) → GoesOn again → AllBuilt parts → Keeps st →
@@ -334,10 +378,11 @@ started_keeps text (suc n) st h =
     holds_then KeepsAfter Keeps (next text false st) _ (next_keeps text false st h)
     (λ r k. started_at text n st r.0 r.1 h k.1 (started_keeps text n))
 
-checked_searchable : (options : Options) (bad : Option ℕ) (t : Nested) (last : State) → IsWithout options → IsBuilt t → Keeps last →
-    Holds IsSearchable (checked options bad t last)
-checked_searchable options (Some at) t last h built k = holds_err IsSearchable _
-checked_searchable options None t last h built k =
+checked_searchable : (options : Options) (beyond bad : Option ℕ) (t : Nested) (last : State) → IsWithout options → IsBuilt t → Keeps last →
+    Holds IsSearchable (checked options beyond bad t last)
+checked_searchable options (Some at) bad t last h built k = holds_err IsSearchable _
+checked_searchable options None (Some at) t last h built k = holds_err IsSearchable _
+checked_searchable options None None t last h built k =
     holds_ok IsSearchable _ (record { built = built; without_utf = h.utf; without_ucp = h.ucp; plain = k.plain })
 
 read_from_searchable : (text : List ℕ) (st : State) → Keeps st → Holds IsSearchable (read_from text st)
@@ -345,7 +390,7 @@ unfolding read_from
 read_from_searchable text st h =
     holds_then (λ r. Unit {0}) IsSearchable (reading [] text st) _ (holds_any _)
     (λ first _. holds_then TreeKeeps IsSearchable (reading first.1.names text st) _ (reading_keeps first.1.names text st h)
-    (λ r k. checked_searchable st.options (missing r.1.groups r.1.references) r.0 r.1 (without st.options st.classes h) k.0 k.1))
+    (λ r k. checked_searchable st.options r.1.beyond (missing r.1.groups r.1.references) r.0 r.1 (without st.options st.classes h) k.0 k.1))
 
 characters_built : (caseless : Bool) (text : List ℕ) → AllBuilt (map (λ c. one (item.Char c caseless)) text)
 characters_built caseless [] = tt

@@ -39,7 +39,7 @@ parsed_is d root o t options tree classes names references groups verb_names =
 pub unreachable-requires : goal.unreachable-requires
 unfolding refs
 unreachable-requires c =
-    let none : refs c.group.new.draft.nodes ≡ [] = c.in_ok-root.ensures.closes.refs_are ∙ c.in_ok-parts.ensures.adds.refs_are ∙ ap (λ d. refs d.nodes) c.new-draft.ensures in
+    let none : refs c.group.new.draft.nodes ≡ [] = (closes_plain (rw c.plain.ensures at c.in_ok-root.ensures.closes)).refs_are ∙ c.in_ok-parts.ensures.adds.refs_are ∙ ap (λ d. refs d.nodes) c.new-draft.ensures in
     no_bad (has_group c.group.new.draft.nodes) (refs c.group.new.draft.nodes) c.in-Err.field-0.at none c.in-Err.ensures
 
 pub returns-clause-under : goal.returns-clause-under
@@ -54,9 +54,9 @@ pub returns-clause-parsed : goal.returns-clause-parsed
 unfolding literally references_of
 returns-clause-parsed c =
     let d = c.group.new.draft in
-    let made = rw (c.new-branches.ensures, c.in_ok-parts.ensures.stand.trees_are) at c.in_ok-root.ensures.made in
+    let made = rw (c.new-branches.ensures, c.plain.ensures, c.in_ok-parts.ensures.stand.trees_are) at c.in_ok-root.ensures.made in
     let one = c.in_ok-parts.ensures.adds in
-    let two = closes_plain c.in_ok-root.ensures.closes in
+    let two = closes_plain (rw c.plain.ensures at c.in_ok-root.ensures.closes) in
     let start = c.new-draft.ensures in
     ap parsed_of c.in-Ok.ensures.0
     ∙ parsed_is d c.in_ok-root.root c.args.options _ (two.options ∙ one.options ∙ ap (λ v. v.options) start) made.is (two.classes ∙ one.classes ∙ ap (λ v. v.classes) start)

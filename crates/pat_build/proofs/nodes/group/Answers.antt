@@ -1,4 +1,4 @@
-use Rattle.std.proofs.Common.{append_assoc, ◌≡◌, ◌++◌, ◌∷◌, [], map, refl, List, ℕ, sym, ◌∙◌}
+use Rattle.std.proofs.Common.{length-append, append_assoc, ◌≡◌, ◌++◌, ◌∷◌, [], map, refl, List, ℕ, sym, ◌∙◌}
 use Rattle.pat_tree.specs.Nested.{tree_at, trees}
 use Rattle.pat_tree.specs.Growing.{loose, Stand}
 use Rattle.pat_tree.proofs.Growing.{stand_made, makes_then}
@@ -45,6 +45,9 @@ form_node-requires-clause-loose c =
 
 pub returns-clause-loose : goal.returns-clause-loose
 returns-clause-loose c front e = c.in_ok-id.ensures.loose front (after_last (goal.at.returns-clause-loose c).In_ok-push front e)
+
+pub form_node-requires-clause-few : goal.form_node-requires-clause-few
+form_node-requires-clause-few c = rw (c.in_ok-push.ensures.ok, length-append c.args.level.branches (c.in_ok-last.last ∷ [])) c.requires.few
 
 pub returns-clause-closes : goal.returns-clause-closes
 returns-clause-closes c = closes_then c.in_ok-last.ensures.adds c.in_ok-id.ensures.closes

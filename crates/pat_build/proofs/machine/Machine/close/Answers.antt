@@ -1,7 +1,9 @@
-use Rattle.std.proofs.Common.{◌≡◌, length, arith}
+use Rattle.std.proofs.Common.{◌≡◌, ◌∷◌, ◌∙◌, [], length, reverse, arith, sym, ap}
+use Rattle.std.proofs.lemmas.List.{reverse-append}
+use Rattle.pat_build.specs.Machine.{form_of}
 use Rattle.pat_build.proofs.States.{nothing_in}
 use Rattle.pat_build.proofs.Waiting.{ends_level}
-use Rattle.pat_build.proofs.Nesting.{close_means, unopened_means, frame_numbered}
+use Rattle.pat_build.proofs.Nesting.{close_means, unopened_means, frame_numbered, bars_last}
 use Rattle.pat_build.proofs.machine.Machine.close.Goals as goal
 
 pub returns-in_default-clause-bad : goal.returns-in_default-clause-bad
@@ -22,6 +24,12 @@ pub returns-clause-ok : goal.returns-clause-ok
 returns-clause-ok c =
     let m = c.args.self.now in
     let e = rw (c.replace-level.ensures.value) at c.in_ok-id.ensures in
-    rw (c.replace-level.ensures.after, c.atom_of.ensures)
+    rw (c.replace-level.ensures.after, c.atom_of.ensures, c.is_look-looks.ensures)
     (close_means m c.requires.means c.args.after c.in_ok-id.id c.in-Some.field-0 c.pop.new.self c.group.new.draft
     c.requires c.in-Some.ensures.items e.made e.closes (λ front h. e.loose front h) e.count)
+
+pub group-requires-clause-few : goal.group-requires-clause-few
+group-requires-clause-few c =
+    let m = c.args.self.now in
+    let turned : reverse m.stack.items ≡ c.in-Some.field-0 ∷ reverse c.pop.new.self.items = ap reverse c.in-Some.ensures.items ∙ reverse-append c.pop.new.self.items (c.in-Some.field-0 ∷ []) in
+    rw c.replace-level.ensures.value (bars_last (form_of c.in-Some.field-0.form) (length m.level.branches) m.bars (rw turned at c.requires.means.barred).0)

@@ -25,7 +25,7 @@ returns-clause-ok c =
     let f = c.in_ok-flush.ensures in
     let none : length m.stack.items ≡ 0 = omega (arith, m.stack.ok.0, true-eqb (vec_len m.stack) 0 c.if-not-is_empty.ensures) in
     let ends = whole_means m f.means c.args.self.now.at c.in_ok-id.id c.group.new.draft c.replace-level.new.dest f.idle (f.there ∙ c.requires.token) (nothing_in m.stack.items none)
-    (rw c.replace-level.ensures.value at c.in_ok-id.ensures.made) (closes_plain c.in_ok-id.ensures.closes) in record {
+    (rw (c.replace-level.ensures.value, c.plain.ensures) at c.in_ok-id.ensures.made) (closes_plain (rw c.plain.ensures at c.in_ok-id.ensures.closes)) in record {
       is = sym f.same.whole ∙ ends.is;
       groups = ends.groups;
       turns = ends.turns;
