@@ -36,8 +36,8 @@ use Rattle.pat_build.proofs.States.{state_kept, whole_kept, refs_kept, named_kep
 to_end : (h l x : List ℕ) → h ++ (l ++ x) ≡ (h ++ l) ++ x
 to_end h l x = sym (append_assoc h l x)
 
-two_more : {n : ℕ} → (n + 1) + 1 ≡ n + 2
-two_more {n} = omega arith
+two_more : (n : ℕ) → (n + 1) + 1 ≡ n + 2
+two_more n = omega arith
 
 pub as_part : (h b p x : List ℕ) → (h ++ (b ++ p)) ++ x ≡ h ++ ((b ++ (p ++ x)) ++ [])
 as_part h b p x = simp (append_assoc, append-nil)
@@ -189,7 +189,7 @@ module _ (m : Machine) (means : Means m) where
       pub assertion_begins : length m.stack.items + 1 < 250 → Begins m (CondStart Lookaround from to) after (Ok (asserting_from m a))
       assertion_begins fit n k =
           assertions_fit m.text.now n (state_of m) (record (state_of m) { at = after }) fits a.ahead a.positive (there a.here) (there a.after) (found_is n k) fit
-          ∙ ap (λ d. let x : Result Beginning Fault = Ok (asserts (testing (state_of m)) (record { form = asserted a.ahead a.positive; around = m.options; looking = m.looking; bars = First; at = a.here.at }) (record (there a.after) { depth = d; looking = true; bars = Free })) in x) two_more
+          ∙ ap (λ d. let x : Result Beginning Fault = Ok (asserts (testing (state_of m)) (record { form = asserted a.ahead a.positive; around = m.options; looking = m.looking; bars = First; at = a.here.at }) (record (there a.after) { depth = d; looking = true; bars = Free })) in x) (two_more (length m.stack.items))
 
   -- where a class begins, by what a cursor at that place tells of it
   module _ (negated : Bool) (after : ℕ) (text : List ℕ) (place : Place) (options : Options) (groups : ℕ)

@@ -9,6 +9,7 @@ use Rattle.pat_tree.specs.declared.nodes.ClassSpec.{ClassSpec}
 use Rattle.pat_tree.specs.declared.names.NameEntry.{NameEntry}
 use Rattle.pat_tree.specs.Nested.{Nested, empty, one, line_break, seq, repeat, one_repeat, atomic, look, ref, anchor, keep_out, row}
 use Rattle.token_parts.specs.declared.fault.Fault.{Fault}
+use Rattle.token_parts.specs.declared.token.OpenKind.{OpenKind}
 use Rattle.token_parts.specs.declared.token.OpenKind.TheVariants as opening
 use Rattle.token_parts.specs.declared.token.CondText.{CondText}
 use Rattle.token_parts.specs.declared.token.CondText.TheVariants as tested
@@ -106,9 +107,18 @@ conditions known text st cond word next =
 abbrev pub Assertion : Type 0
 Assertion = Bool × Bool × State × State
 
+-- what begins a lookaround that keeps its first way: ahead, positive
+abbrev pub kept_look : OpenKind → Option (Bool × Bool)
+kept_look (opening.Look ahead positive true) = Some (ahead, positive)
+kept_look _ = None
+
+abbrev pub asserted_if : ℕ → Option (Bool × Bool) → State → State → Result Assertion Fault
+asserted_if at (Some (ahead, positive)) here after = Ok (ahead, positive, here, after)
+asserted_if at None here after = fault 128 at
+
 -- by the token where the lookaround of the conditional group at this place has to be, with the states before and after it
 abbrev pub asserted_by : ℕ → Token → State → State → Result Assertion Fault
-asserted_by at (token.Open (opening.Look ahead positive true)) here after = Ok (ahead, positive, here, after)
+asserted_by at (token.Open kind) here after = asserted_if at (kept_look kind) here after
 asserted_by at (token.CalloutItem number from to) here after = fault 195 here.at
 asserted_by at _ here after = fault 128 at
 

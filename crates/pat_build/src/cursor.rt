@@ -4,7 +4,7 @@ ghost use Rattle.std.specs.Option.{option_map};
 ghost use Rattle.token_parts.specs.Tell.{IsWell, Moves, is_own};
 ghost use Rattle.pat_lex.specs.Tokens.{token_at};
 ghost use Rattle.pat_build.specs.State.{State, item, passed_over};
-ghost use Rattle.pat_build.specs.Parts.{assertion};
+ghost use Rattle.pat_build.specs.Parts.{kept_look, assertion};
 ghost use Rattle.pat_build.specs.Places.{Always, moved_to, flags_at};
 
 use pat_lex::{Fault, LexFlags, OpenKind, Token, next_token};
@@ -63,6 +63,25 @@ impl Place {
     }
 }
 
+/// What begins a lookaround that keeps its first way: whether it looks ahead, and whether it is positive.
+fn kept_look(kind: OpenKind) -> Option<(bool, bool)>
+    ensures { result ≡ kept_look kind }
+{
+    match kind {
+        OpenKind::Look {
+            ahead,
+            positive,
+            atomic: true,
+        } => Some((ahead, positive)),
+        OpenKind::Look { .. }
+        | OpenKind::Capture
+        | OpenKind::Plain
+        | OpenKind::Atomic
+        | OpenKind::BranchReset
+        | OpenKind::Named { .. } => None,
+    }
+}
+
 impl<'a> Cursor<'a> {
     /// What the token at a place depends on, in a class or outside.
     fn flags(&self, place: Place, in_class: bool) -> LexFlags
@@ -95,6 +114,7 @@ impl<'a> Cursor<'a> {
     {
         next_token(self.text, place.at, self.flags(place, in_class))
     }
+
     /// The next token that isn't passed over, in a class or outside.
     pub(crate) fn item(&self, place: Place, in_class: bool) -> Result<Spot, Fault>
         requires { place.at ≤ length self.now.text.now }
@@ -131,18 +151,15 @@ impl<'a> Cursor<'a> {
             return Err(Fault { number: 128, at });
         };
         match token {
-            Token::Open(
-                OpenKind::Look {
+            Token::Open(kind) => match kept_look(kind) {
+                Some((ahead, positive)) => Ok(Assertion {
                     ahead,
                     positive,
-                    atomic: true,
-                },
-            ) => Ok(Assertion {
-                ahead,
-                positive,
-                here,
-                after,
-            }),
+                    here,
+                    after,
+                }),
+                None => Err(Fault { number: 128, at }),
+            },
             Token::CalloutItem { .. } => Err(Fault {
                 number: 195,
                 at: here.at,

@@ -297,6 +297,7 @@ impl<'a> Machine<'a> {
     pub(crate) fn enter_assertion(&mut self, test: Assertion) -> Result<(), Memory>
         requires shallow { length self.old.stack.items + 1 < 250 }
         requires onward { self.old.at < test.after.at }
+        requires before { test.here.at < test.after.at }
         requires within { test.after.at ≤ length self.old.text.now }
         requires ready { (token : Token) × (after : ℕ) × Ready token after self.old × (after ≤ test.after.at) × Begins self.old token after (Ok (asserting_from self.old test)) }
         ensures { OnOk result (Took self.old self.new) }

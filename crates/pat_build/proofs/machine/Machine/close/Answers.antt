@@ -26,7 +26,7 @@ returns-then-tested-clause-ok c =
     let e = rw (c.replace-level.ensures.value) at c.in_ok-id.ensures in
     rw (c.replace-level.ensures.after)
     (close_test_means m c.requires.means c.args.after c.in_ok-id.id c.in-Some.field-0 c.pop.new.self c.group.new.draft c.push.new.self
-    c.requires (sym c.is_tested-tested.ensures ∙ c.if-tested.true) c.in-Some.ensures.items e.made e.closes (λ front h. e.loose front h) e.count c.in_ok-push.ensures.ok)
+    c.requires (sym c.is_tested-tested.ensures ∙ c.if-tested.true) c.in-Some.ensures.items e.made e.closes (λ front h. e.loose front h) e.count (rw c.replace-level.ensures.after at c.in_ok-push.ensures.ok))
 
 pub returns-clause-ok : goal.returns-clause-ok
 returns-clause-ok c =
