@@ -42,7 +42,7 @@ mutual
   built_test tree.in_call b = tt
   built_test (tree.in_call_of ns) b = tt
   built_test tree.never b = tt
-  built_test (tree.assert ahead positive once ts) b = absurd b
+  built_test (tree.assert ahead positive once ts) b = built_row ts b
   built_test (tree.called c test) b = absurd b
 
   built_other : (second : Other) → IsBuiltOther second → IsRunnableOther second

@@ -15,9 +15,9 @@ use Rattle.frame_store.specs.Captures.{capture}
 use Rattle.match_items.specs.Items.{one_less, is_none_left, after_item, item_reaches, run_places, longest_run, places_back, break_len, after_ref, ref_reaches, holds, anchor_reaches}
 use Rattle.match_items.proofs.Places.{item_forward, break_within, ref_within}
 use Rattle.ordered_search.specs.Stream.{State, reached, Stream, Search, nothing, gives, no_ending, is_next_branch, fails_alone, fails_inside, captured, and_then, go_on}
-use Rattle.ordered_search.specs.Setting.{Setting, branch_lengths, hold, reach_if}
+use Rattle.ordered_search.specs.Setting.{Setting, branch_lengths, held, hold, reach_if}
 use Rattle.ordered_search.specs.Tests.{move_to, goes_to, run_one, run_break, run_ref, run_anchor, offers, greedy, offer_and, reluctant, lazy_run, run_many}
-use Rattle.ordered_search.specs.Parts.{Searches, in_order, choices, branches, run_group, back_to, forget_passed, run_atomic, run_look, tests, some_set, is_called, is_called_of, begun_at, ends_at, one_try, tries, tries_within, run_behind, is_over, turn, run_repeat}
+use Rattle.ordered_search.specs.Parts.{Searches, in_order, choices, branches, run_group, back_to, forget_passed, run_atomic, run_look, asserts, tests, some_set, is_called, is_called_of, begun_at, ends_at, one_try, tries, tries_within, run_behind, is_over, turn, run_repeat}
 use Rattle.ordered_search.specs.Run.{level, levels, levels_behind, level_test, level_other, run}
 use Rattle.ordered_search.proofs.ForwardStreams.{IsOnWay, Forward, IsForward, forward_nothing, forward_gives, forward_step, forward_if, forward_less, forward_or_else, forward_each, forward_and_then, forward_catch, forward_decide, with_units, with_early, with_place, with_keep, with_capture, with_passed, loosened, with_return, each_inside, decide_inside, forward_held, forward_hold, forward_reach_if}
 
@@ -211,6 +211,18 @@ module _ (g : Setting) (low : Option ℕ) (bytes : g.options.utf ≡ false) (off
       (decide_inside g low s.place fails_inside _ (λ how u. nothing) (gives reached s) (h _ (with_units g None s _ (loosened g low s on))) (forward_gives g low s.place s (omega arith) on)
       (λ u on'. forward_nothing g low s.place))
 
+  -- a lookaround as a test
+  forward_asserts : (positive : Bool) (f yes' no' : Search) → ((s : State) → IsOnWay g None s → Forward g None 0 (f s)) → IsForward g low yes' → IsForward g low no' → IsForward g low (asserts g positive f yes' no')
+  unfolding asserts
+  forward_asserts true f yes' no' h y n s on =
+      forward_held g low s.place 1 s _
+      (decide_inside g low s.place fails_inside _ (λ how u. held g 1 (back_to s (forget_passed s u)) yes') (no' s) (h _ (with_units g None s _ (loosened g low s on))) (n s on)
+      (λ u on'. forward_held g low s.place 1 (back_to s (forget_passed s u)) yes' (y _ (with_units g low _ _ (with_return g low s _ on (with_passed g None u s.passed on'))))))
+  forward_asserts false f yes' no' h y n s on =
+      forward_held g low s.place 1 s _
+      (decide_inside g low s.place fails_inside _ (λ how u. held g 1 (back_to s (forget_passed s u)) no') (yes' s) (h _ (with_units g None s _ (loosened g low s on))) (y s on)
+      (λ u on'. forward_held g low s.place 1 (back_to s (forget_passed s u)) no' (n _ (with_units g low _ _ (with_return g low s _ on (with_passed g None u s.passed on'))))))
+
   forward_tests : (b : Bool) (f f' : Search) (s : State) → Forward g low s.place (f s) → Forward g low s.place (f' s) → Forward g low s.place (tests b f f' s)
   unfolding tests
   forward_tests true f f' s h k = h
@@ -329,7 +341,8 @@ module _ (g : Setting) (bytes : g.options.utf ≡ false) (off : g.matching.«par
       forward_test low tree.in_call f f' built h h' s on = forward_tests g low bytes off (is_called s.calls) f f' s (h s on) (h' s on)
       forward_test low (tree.in_call_of ns) f f' built h h' s on = forward_tests g low bytes off (is_called_of s.calls ns) f f' s (h s on) (h' s on)
       forward_test low tree.never f f' built h h' s on = h' s on
-      forward_test low (tree.assert ahead positive once ts) f f' built h h' s on = absurd built
+      forward_test low (tree.assert true positive once ts) f f' built h h' s on = forward_asserts g low bytes off positive _ f f' (forward_branches g None bytes off false _ (roam_ahead ts built)) h h' s on
+      forward_test low (tree.assert false positive once ts) f f' built h h' s on = forward_asserts g low bytes off positive _ f f' (forward_branches g None bytes off false _ (roam_back ts built)) h h' s on
       forward_test low (tree.called c test) f f' built h h' s on = absurd built
 
       forward_other : (low : Option ℕ) (second : Other) → IsBuiltOther second → IsForward g low (level_other g below second)

@@ -5,8 +5,8 @@ use Rattle.token_parts.specs.declared.fault.Fault.{Fault}
 use Rattle.token_parts.specs.declared.token.Token.{Token}
 use Rattle.token_parts.specs.declared.token.Token.TheVariants.{ClassEnd}
 use Rattle.token_parts.specs.Tell.{◌>>=◌}
-use Rattle.pat_build.specs.State.{State, Reads}
-use Rattle.pat_build.specs.Classes.{part_then, item, from_item, class_parts, class_spec}
+use Rattle.pat_build.specs.State.{State, Reads, item}
+use Rattle.pat_build.specs.Classes.{part_then, from_item, class_parts, class_spec}
 use Rattle.pat_build.specs.Places.{state_at, is_closing, Tells}
 use Rattle.pat_build.specs.declared.error.ReadError.{ReadError}
 use Rattle.pat_build.specs.declared.error.ReadError.TheVariants.{Bad, Memory}
@@ -23,7 +23,7 @@ module _ (text : List ℕ) (n : ℕ) where
   closed_by rest first _ here after closes = cc
 
   module _ (first : Bool) (st : State) where
-    module _ (token : Token) (here after : State) (found : item text n st ≡ Ok (token, here, after)) where
+    module _ (token : Token) (here after : State) (found : item text true n st ≡ Ok (token, here, after)) where
       pub parts_from : class_parts text (suc n) first st ≡ from_item text n (class_parts text n false) first token here after
       unfolding class_parts
       parts_from = rw found refl
@@ -31,7 +31,7 @@ module _ (text : List ℕ) (n : ℕ) where
       pub parts_closed : is_closing first here.options.allow_empty_class token ≡ true → class_parts text (suc n) first st ≡ Ok ([], after)
       parts_closed closes = parts_from ∙ closed_by (class_parts text n false) first token here after closes
 
-    pub parts_bad : (f : Fault) → item text n st ≡ Err f → class_parts text (suc n) first st ≡ Err f
+    pub parts_bad : (f : Fault) → item text true n st ≡ Err f → class_parts text (suc n) first st ≡ Err f
     unfolding class_parts
     parts_bad f bad = rw bad refl
 

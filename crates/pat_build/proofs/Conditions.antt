@@ -48,3 +48,10 @@ pub called_some : (ns : List ℕ) (n : ℕ) → slice_get ns 0 ≡ Some n → 0 
 called_some [] n is some = refl
 called_some (zero ∷ ns) n is some = let same : 0 ≡ n = cc in absurd (omega (arith, same))
 called_some (suc m ∷ ns) n is some = refl
+
+pub three_get : (xs : List ℕ) (x y z : ℕ) → length xs ≡ 3 → slice_get xs 0 ≡ Some x → slice_get xs 1 ≡ Some y → slice_get xs 2 ≡ Some z → xs ≡ x ∷ y ∷ z ∷ []
+three_get [] x y z h a b c = absurd (omega (arith, h))
+three_get (d ∷ []) x y z h a b c = absurd (omega (arith, h))
+three_get (d ∷ e ∷ []) x y z h a b c = absurd (omega (arith, h))
+three_get (d ∷ e ∷ f ∷ []) x y z h a b c = cc
+three_get (d ∷ e ∷ f ∷ g ∷ gs) x y z h a b c = absurd (omega (arith, h))

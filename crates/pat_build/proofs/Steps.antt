@@ -10,10 +10,10 @@ use Rattle.token_parts.specs.Tell.{fault, ◌>>=◌}
 use Rattle.pat_lex.specs.Tokens.{token_at}
 use Rattle.pat_build.specs.State.{State, Reads, flags_of, next, passed_over}
 use Rattle.pat_build.specs.declared.machine.Bars.{Bars}
-use Rattle.pat_build.specs.Groups.{Opening, barred, built, noted}
-use Rattle.pat_build.specs.Parts.{atom, bare, inside, nothing, over, alternative, repeated, beginning}
+use Rattle.pat_build.specs.Groups.{Opening, is_tested, barred, built, noted}
+use Rattle.pat_build.specs.Parts.{atom, bare, inside, asserts, nothing, over, alternative, repeated, beginning}
 use Rattle.pat_build.specs.Reading.{quantified, closed, part_then, alternatives_from, sequence, alternatives, whole, reading}
-use Rattle.pat_build.specs.Stack.{Layer, Opened, with_part, resumed, ended, resume, IsPlain}
+use Rattle.pat_build.specs.Stack.{Layer, Opened, with_part, with_branch, resumed, given, ended, resume, IsPlain}
 
 -- one part more in front is one part more behind those before
 module _ (before : List Nested) (k : List Nested → State → Reads Nested) where
@@ -38,6 +38,17 @@ module _ (known : List NameEntry) (text : List ℕ) where
   unfolding part_then
   through before k rest (Ok (part, end)) = prepend before k part (rest end)
   through before k rest (Err f) = refl
+
+  -- what a group that has ended is given to
+  is_part : (os : List Opened) (how : Opening) (layer : Layer) (found : Nested) (st : State) → is_tested how.form ≡ false →
+      given known text (ended known text os) (is_tested how.form) layer found st ≡ (quantified text layer.n found st >>= λ (part, end). resumed known text (ended known text os) (with_part layer part) end)
+  unfolding given
+  is_part os how layer found st is = rw is refl
+
+  is_branch : (os : List Opened) (how : Opening) (layer : Layer) (found : Nested) (st : State) → is_tested how.form ≡ true →
+      given known text (ended known text os) (is_tested how.form) layer found st ≡ resumed known text (ended known text os) (with_branch layer found) st
+  unfolding given
+  is_branch os how layer found st is = rw is refl
 
   module _ (st : State) (token : Token) (place : ℕ) (at : token_at text (flags_of false st) st.at ≡ Ok (token, place)) where
     pub next_is : next text false st ≡ Ok (token, record st { at = place })
@@ -87,12 +98,12 @@ module _ (known : List NameEntry) (text : List ℕ) where
     unfolding resume resumed sequence
     step_bad os layer n f e begins = rw (e, sequence, next_is, begins)
 
-    pub step_open : (os : List Opened) (layer : Layer) (n : ℕ) (how : Opening) (after : State) → layer.n ≡ suc (suc n) →
+    pub step_open : (os : List Opened) (layer : Layer) (n : ℕ) (how : Opening) (after : State) → is_tested how.form ≡ false → layer.n ≡ suc (suc n) →
         beginning known text (suc n) st token (record st { at = place }) ≡ Ok (inside how after) →
         resume known text os layer None st
         ≡ resume known text (record { how = how; outer = record layer { n = suc n } } ∷ os) (record { n = n; k = n; branches = []; parts = [] }) None after
-    unfolding resume resumed sequence alternatives ended
-    step_open os layer n how after e begins =
+    unfolding resume resumed sequence alternatives ended given
+    step_open os layer n how after part e begins =
         let k : List Nested → State → Reads Nested = λ parts end. alternatives_from text (alternatives known text layer.k) parts end >>= λ (branches, last). ended known text os (layer.branches ++ branches) last in
         let f : List Nested × State → Reads Nested = λ (branches, end). closed text how branches end >>= λ (found, last). quantified text (suc n) found last in
         let g : Nested × State → Reads Nested = λ (part, end). sequence known text (suc n) end >>= λ (parts, last). k ((layer.parts ++ part ∷ []) ++ parts) last in
@@ -101,7 +112,34 @@ module _ (known : List NameEntry) (text : List ℕ) where
         ∙ assoc (alternatives known text (suc n) after) f g
         ∙ assoc (sequence known text n after) (λ (parts, end). alternatives_from text (alternatives known text n) parts end) (λ x. f x >>= g)
         ∙ same (sequence known text n after) _ _ (λ (parts, end). same (alternatives_from text (alternatives known text n) parts end) _ _
-        (λ (branches, last). assoc (closed text how branches last) (λ (found, final). quantified text (suc n) found final) g)))
+        (λ (branches, last). assoc (closed text how branches last) (λ (found, final). quantified text (suc n) found final) g
+        ∙ same (closed text how branches last) _ _ (λ (found, final). sym (is_part os how (record layer { n = suc n }) found final part)))))
+
+    -- a conditional group begins, and the lookaround that it tests
+    pub step_asserts : (os : List Opened) (layer : Layer) (n : ℕ) (how test : Opening) (after : State) → is_tested how.form ≡ false → is_tested test.form ≡ true → layer.n ≡ suc (suc n) →
+        beginning known text (suc n) st token (record st { at = place }) ≡ Ok (asserts how test after) →
+        resume known text os layer None st
+        ≡ resume known text (record { how = test; outer = record { n = n; k = n; branches = []; parts = [] } } ∷ record { how = how; outer = record layer { n = suc n } } ∷ os) (record { n = n; k = n; branches = []; parts = [] }) None after
+    unfolding resume resumed sequence alternatives ended given
+    step_asserts os layer n how test after part tested e begins =
+        let k : List Nested → State → Reads Nested = λ parts end. alternatives_from text (alternatives known text layer.k) parts end >>= λ (branches, last). ended known text os (layer.branches ++ branches) last in
+        let whole : List Nested × State → Reads Nested = λ (branches, end). closed text how branches end >>= λ (found, last). quantified text (suc n) found last in
+        let others : Nested × State → Reads Nested = λ (found, middle). alternatives known text (suc n) middle >>= λ (branches, end). whole (found ∷ branches, end) in
+        let f : List Nested × State → Reads Nested = λ (branches, end). closed text test branches end >>= others in
+        let g : Nested × State → Reads Nested = λ (part, end). sequence known text (suc n) end >>= λ (parts, last). k ((layer.parts ++ part ∷ []) ++ parts) last in
+        rw (e, sequence, next_is, begins)
+        (through layer.parts k (sequence known text (suc n)) (alternatives known text (suc n) after >>= f)
+        ∙ assoc (alternatives known text (suc n) after) f g
+        ∙ assoc (sequence known text n after) (λ (parts, end). alternatives_from text (alternatives known text n) parts end) (λ x. f x >>= g)
+        ∙ same (sequence known text n after) _ _ (λ (parts, end). same (alternatives_from text (alternatives known text n) parts end) _ _
+        (λ (branches, last). assoc (closed text test branches last) others g
+        ∙ same (closed text test branches last) _ _ (λ (found, middle).
+        assoc (alternatives known text (suc n) middle) (λ (bs, end). whole (found ∷ bs, end)) g
+        ∙ assoc (sequence known text n middle) (λ (parts, end). alternatives_from text (alternatives known text n) parts end) (λ (bs, end). whole (found ∷ bs, end) >>= g)
+        ∙ same (sequence known text n middle) _ _ (λ (parts, end). same (alternatives_from text (alternatives known text n) parts end) _ _
+        (λ (bs, end). assoc (closed text how (found ∷ bs) end) (λ (closing, final). quantified text (suc n) closing final) g
+        ∙ same (closed text how (found ∷ bs) end) _ _ (λ (closing, final). sym (is_part os how (record layer { n = suc n }) closing final part))))
+        ∙ sym (is_branch (record { how = how; outer = record layer { n = suc n } } ∷ os) test (record { n = n; k = n; branches = []; parts = [] }) found middle tested)))))
 
     -- an alternative that ends here
     ends_here : (os : List Opened) (layer : Layer) (n : ℕ) → layer.n ≡ suc n → beginning known text n st token (record st { at = place }) ≡ Ok over →
@@ -136,12 +174,20 @@ module _ (known : List NameEntry) (text : List ℕ) where
     step_over (inr is) os layer n e = ends_here os layer n e (rw is refl) ∙ rw (alternatives_from, next_is, is)
 
     -- a group ends at its parenthesis, and a quantifier may follow
-    pub step_close : token ≡ Close → (o : Opened) (os : List Opened) (branches : List Nested) →
+    pub step_close : token ≡ Close → (o : Opened) (os : List Opened) (branches : List Nested) → is_tested o.how.form ≡ false →
         ended known text (o ∷ os) branches st
         ≡ resume known text os o.outer (Some (o.outer.n, built o.how.form branches))
         (record st { at = place; options = o.how.around; looking = o.how.looking; bars = o.how.bars; depth = st.depth - 1; references = st.references ++ noted o.how.form o.how.at })
     unfolding resume ended closed
-    step_close is o os branches = rw (closed, next_is, is)
+    step_close is o os branches part = rw (closed, next_is, is) (is_part os o.how o.outer _ _ part)
+
+    -- a lookaround that is tested ends
+    pub step_tested : token ≡ Close → (o : Opened) (os : List Opened) (branches : List Nested) → is_tested o.how.form ≡ true →
+        ended known text (o ∷ os) branches st
+        ≡ resume known text os (with_branch o.outer (built o.how.form branches)) None
+        (record st { at = place; options = o.how.around; looking = o.how.looking; bars = o.how.bars; depth = st.depth - 1; references = st.references ++ noted o.how.form o.how.at })
+    unfolding resume ended closed
+    step_tested is o os branches tested = rw (closed, next_is, is) (is_branch os o.how o.outer _ _ tested)
 
     pub step_unclosed : token ≡ End → (o : Opened) (os : List Opened) (branches : List Nested) → ended known text (o ∷ os) branches st ≡ fault 114 (length text)
     unfolding ended closed

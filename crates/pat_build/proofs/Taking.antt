@@ -50,6 +50,7 @@ module _ (m : Machine) (means : Means m) where
           level = record { branches = level.branches; parts = level.parts; n = above; k = level.k };
           pending = (is_atom, (n, above, refl));
           barred = means.barred;
+          tested = means.tested;
           value = sym step ∙ idle_value m means ready.idle ∙ sym whole;
           within = within;
           short = means.short;
@@ -92,6 +93,7 @@ module _ (m : Machine) (means : Means m) where
           level = record { branches = level.branches; parts = rw more (stand_made made means.level.parts); n = above; k = level.k };
           pending = rw (ready.idle) refl;
           barred = means.barred;
+          tested = means.tested;
           value = sym step ∙ idle_value m means ready.idle ∙ sym whole;
           within = there.within;
           short = means.short;
@@ -134,6 +136,7 @@ module _ (m : Machine) (means : Means m) where
           level = record { branches = level.branches; parts = level.parts; n = above; k = level.k };
           pending = rw (ready.idle) refl;
           barred = means.barred;
+          tested = means.tested;
           value = sym step ∙ idle_value m means ready.idle;
           within = there.within;
           short = means.short;
@@ -191,6 +194,7 @@ module _ (m : Machine) (means : Means m) where
           level = level_on (grows_not m.draft.nodes) (left m) u less means.level;
           pending = subst (λ x. AtomStands m.draft u x (Some (p, t))) (sym is) (waits.2, (p, above, refl));
           barred = means.barred;
+          tested = means.tested;
           value = sym step ∙ waits.3;
           within = there.within;
           short = means.short;
@@ -232,6 +236,7 @@ module _ (m : Machine) (means : Means m) where
           level = record { branches = level.branches; parts = rw more (stand_made makes means.level.parts); n = level.n; k = level.k };
           pending = refl;
           barred = means.barred;
+          tested = means.tested;
           value = ap (λ st. resume (known_of m) m.text.now means.opens (with_part means.layer t) None (record st { at = after })) (state_kept m draft adds) ∙ sym step ∙ waits.3 ∙ sym whole;
           within = there.within;
           short = means.short;

@@ -1,5 +1,5 @@
 -- Where an atom waits for a quantifier, and where none does.
-use Rattle.std.proofs.Common.{◌≡◌, ℕ, suc, ◌+◌, ◌-◌, ◌*◌, ◌<◌, ◌≤◌, List, [], ◌∷◌, ◌++◌, length, append_assoc, append-nil, reverse, Option, Some, None, Ok, Err, refl, sym, ap, ◌∙◌, arith, Bool, false, slice_range}
+use Rattle.std.proofs.Common.{◌≡◌, ℕ, suc, ◌+◌, ◌-◌, ◌*◌, ◌<◌, ◌≤◌, List, [], ◌∷◌, ◌++◌, length, append_assoc, append-nil, reverse, Option, Some, None, Result, Ok, Err, true, refl, sym, ap, ◌∙◌, arith, Bool, false, slice_range}
 use Rattle.pat_tree.specs.declared.options.Options.{Options}
 use Rattle.pat_tree.specs.declared.nodes.ClassSpec.{ClassSpec}
 use Rattle.pat_tree.specs.Parts.{DraftParts}
@@ -16,22 +16,28 @@ use Rattle.pat_lex.specs.Tokens.{token_at}
 use Rattle.pat_build.specs.declared.error.ReadError.{ReadError}
 use Rattle.pat_build.specs.declared.error.ReadError.TheVariants.{Bad, Memory}
 use Rattle.pat_build.specs.declared.machine.Atom.{Atom}
-use Rattle.pat_build.specs.declared.machine.Bars.TheVariants.{Free}
+use Rattle.pat_build.specs.declared.machine.Bars.TheVariants.{Free, First}
 use Rattle.pat_build.specs.declared.machine.Machine.{Machine}
 use Rattle.pat_build.specs.declared.cursor.Place.{Place}
-use Rattle.pat_build.specs.State.{Reads, flags_of}
+use Rattle.pat_build.specs.declared.cursor.Assertion as looked
+use Rattle.pat_build.specs.State.{State, Reads, flags_of}
 use Rattle.pat_build.specs.Classes.{class_spec}
-use Rattle.pat_build.specs.Groups.{named_by}
+use Rattle.pat_build.specs.Groups.{IsWorded, asserted, named_by}
 use Rattle.token_parts.specs.declared.token.CondText.{CondText}
-use Rattle.pat_build.specs.Parts.{of_class, conditions}
+use Rattle.token_parts.specs.declared.token.CondText.TheVariants.{Lookaround}
+use Rattle.pat_build.specs.Parts.{Assertion, Beginning, asserts, of_class, conditions, assertion}
 use Rattle.pat_build.specs.Stack.{with_part, resume, IsPlain}
-use Rattle.pat_build.specs.Machine.{Adds, Refuses, IsAtom, atom_tree, state_of, known_of, whole_of, left, Means, IsNext, Ready, Begins, ids_of, ids_waiting, ids_in, ids_held}
+use Rattle.pat_build.specs.Machine.{Adds, Refuses, IsAtom, atom_tree, state_of, known_of, whole_of, left, Means, IsNext, Ready, Begins, asserting_from, ids_of, ids_waiting, ids_in, ids_held}
 use Rattle.pat_build.proofs.Steps.{step_flush, step_bad, step_fault, step_fault_waiting}
+use Rattle.pat_build.proofs.Beginning.{worded_is, before_test, testing, assertions_bad, assertions_deeper, assertions_fit}
 use Rattle.pat_build.proofs.Standing.{positive, level_on, stack_on}
 use Rattle.pat_build.proofs.States.{state_kept, whole_kept, refs_kept, named_kept, numbers_kept}
 
 to_end : (h l x : List ℕ) → h ++ (l ++ x) ≡ (h ++ l) ++ x
 to_end h l x = sym (append_assoc h l x)
+
+two_more : (n : ℕ) → (n + 1) + 1 ≡ n + 2
+two_more n = omega arith
 
 pub as_part : (h b p x : List ℕ) → (h ++ (b ++ p)) ++ x ≡ h ++ ((b ++ (p ++ x)) ++ [])
 as_part h b p x = simp (append_assoc, append-nil)
@@ -89,6 +95,7 @@ module _ (m : Machine) (means : Means m) where
         };
         pending = refl;
         barred = means.barred;
+        tested = means.tested;
         value = ap (λ st. resume (known_of m) m.text.now means.opens (with_part means.layer t) None st) (state_kept m draft adds)
             ∙ sym (step_flush (known_of m) m.text.now (state_of m) token after there plain means.opens means.layer waits.0 t)
             ∙ waits.3 ∙ sym (whole_kept m draft adds);
@@ -132,10 +139,57 @@ module _ (m : Machine) (means : Means m) where
   refers_refuse target after Memory ready h = tt
 
   -- the fault of a conditional group's test
-  pub condition_refuses : (cond : CondText) (from to after : ℕ) (e : ReadError) → Ready (CondStart cond from to) after m →
+  pub condition_refuses : (cond : CondText) (from to after : ℕ) (e : ReadError) → IsWorded cond → Ready (CondStart cond from to) after m →
       Refuses (conditions (known_of m) m.text.now (state_of m) cond (slice_range m.text.now from to) (record (state_of m) { at = after })) e → Refuses (whole_of m) e
-  condition_refuses cond from to after (Bad number at) ready h = bad_means (CondStart cond from to) after _ ready (λ n k. h)
-  condition_refuses cond from to after Memory ready h = tt
+  condition_refuses cond from to after (Bad number at) worded ready h =
+      bad_means (CondStart cond from to) after _ ready (λ n k. worded_is (known_of m) m.text.now n (state_of m) cond from to (record (state_of m) { at = after }) worded ∙ h)
+  condition_refuses cond from to after Memory worded ready h = tt
+
+  -- where a lookaround is tested, by what a cursor at that place tells of it
+  module _ (from to after : ℕ) (text : List ℕ) (place : Place) (options : Options) (groups : ℕ)
+      (text_is : text ≡ m.text.now) (place_is : place ≡ record { at = after; quoting = m.quoting }) (options_is : options ≡ m.options) (groups_is : groups ≡ m.groups)
+      (ready : Ready (CondStart Lookaround from to) after m) (fits : length m.stack.items < 250) where
+    -- the state at a place
+    abbrev there : Place → State
+    there p = record (before_test (state_of m) (state_of m)) { at = p.at; quoting = p.quoting }
+
+    abbrev told : Place → State
+    told p = record (there p) { options = options; groups = groups }
+
+    told_is : (p : Place) → told p ≡ there p
+    told_is p = ap (λ o. record (there p) { options = o; groups = groups }) options_is ∙ ap (λ g. record (there p) { groups = g }) groups_is
+
+    assertion_same : (n : ℕ) → assertion m.text.now n m.at (before_test (state_of m) (record (state_of m) { at = after })) ≡ assertion text n m.at (told place)
+    assertion_same n =
+        ap (λ t. assertion t n m.at (before_test (state_of m) (record (state_of m) { at = after }))) (sym text_is)
+        ∙ ap (λ p. assertion text n m.at (there p)) (sym place_is)
+        ∙ ap (assertion text n m.at) (sym (told_is place))
+
+    enough_there : (n : ℕ) → 2 * (length m.text.now - after) + 1 < n → length text < n + place.at
+    enough_there n h = omega (arith, h, ap length text_is, ap (λ p. p.at) place_is)
+
+    pub assertion_refuses : (f : Fault) → ((n : ℕ) → length text < n + place.at → assertion text n m.at (told place) ≡ Err f) → whole_of m ≡ Err f
+    assertion_refuses f h =
+        bad_means (CondStart Lookaround from to) after f ready
+        (λ n k. assertions_bad m.text.now n (state_of m) (record (state_of m) { at = after }) fits f (assertion_same n ∙ h n (enough_there n k)))
+
+    module _ (a : looked.Assertion) (found : (n : ℕ) → length text < n + place.at → assertion text n m.at (told place) ≡ Ok (a.ahead, a.positive, told a.here, told a.after)) where
+      found_is : (n : ℕ) → 2 * (length m.text.now - after) + 1 < n →
+          assertion m.text.now n m.at (before_test (state_of m) (record (state_of m) { at = after })) ≡ Ok (a.ahead, a.positive, there a.here, there a.after)
+      found_is n k =
+          assertion_same n ∙ found n (enough_there n k)
+          ∙ ap (λ st. let x : Result Assertion Fault = Ok (a.ahead, a.positive, st, told a.after) in x) (told_is a.here)
+          ∙ ap (λ st. let x : Result Assertion Fault = Ok (a.ahead, a.positive, there a.here, st) in x) (told_is a.after)
+
+      pub assertion_deep : 250 ≤ length m.stack.items + 1 → whole_of m ≡ fault 119 a.here.at
+      assertion_deep deep =
+          bad_means (CondStart Lookaround from to) after _ ready
+          (λ n k. assertions_deeper m.text.now n (state_of m) (record (state_of m) { at = after }) fits a.ahead a.positive (there a.here) (there a.after) (found_is n k) deep)
+
+      pub assertion_begins : length m.stack.items + 1 < 250 → Begins m (CondStart Lookaround from to) after (Ok (asserting_from m a))
+      assertion_begins fit n k =
+          assertions_fit m.text.now n (state_of m) (record (state_of m) { at = after }) fits a.ahead a.positive (there a.here) (there a.after) (found_is n k) fit
+          ∙ ap (λ d. let x : Result Beginning Fault = Ok (asserts (testing (state_of m)) (record { form = asserted a.ahead a.positive; around = m.options; looking = m.looking; bars = First; at = a.here.at }) (record (there a.after) { depth = d; looking = true; bars = Free })) in x) (two_more (length m.stack.items))
 
   -- where a class begins, by what a cursor at that place tells of it
   module _ (negated : Bool) (after : ℕ) (text : List ℕ) (place : Place) (options : Options) (groups : ℕ)

@@ -8,7 +8,7 @@ use Rattle.token_parts.specs.declared.fault.Fault.{Fault}
 use Rattle.token_parts.specs.declared.token.Token.{Token}
 use Rattle.token_parts.specs.declared.token.Token.TheVariants.{End, Literal, Set, ClassEnd, Hyphen}
 use Rattle.token_parts.specs.Tell.{fault, ◌>>=◌}
-use Rattle.pat_build.specs.State.{State, Reads, next, passed_over}
+use Rattle.pat_build.specs.State.{State, Reads, Item, item}
 
 -- the character that a token stands for where a range may end
 abbrev pub character : Token → Option ℕ
@@ -26,10 +26,6 @@ is_last ClassEnd = true
 is_last End = true
 is_last _ = false
 
--- a token of a class, with the states before it and after it
-abbrev pub Item : Type 0
-Item = Token × State × State
-
 abbrev pub is_last_item : Result Item Fault → Bool
 is_last_item (Ok (token, here, after)) = is_last token
 is_last_item (Err f) = false
@@ -39,18 +35,10 @@ abbrev pub part_then : Part → Reads (List Part) → Reads (List Part)
 part_then p rest = rest >>= λ (parts, end). Ok (p ∷ parts, end)
 
 module _ (text : List ℕ) where
-  -- the next token that isn't passed over; the number bounds those that are
-  unfoldable pub item : ℕ → State → Result Item Fault
-  item zero st = fault 0 0
-  item (suc n) st = next text true st >>= λ (token, after). elim (passed_over token after) [
-    | Some beyond ↦ item n beyond
-    | None ↦ Ok (token, st, after)
-  ]
-
   -- What a character at `here` and a hyphen begin, the hyphen being between two states: with a character after it a range.
   -- The hyphen is a character where it is last, and may not stand before a set.
   unfoldable pub range_or_hyphen : ℕ → (State → Reads (List Part)) → ℕ → State → State → State → Reads (List Part)
-  range_or_hyphen n rest c here before after = item n after >>= λ (token, to, end). elim (character token) [
+  range_or_hyphen n rest c here before after = item text true n after >>= λ (token, to, end). elim (character token) [
     | Some d ↦ if nat_lt d c then fault 108 here.at else part_then (part.Range c d) (rest end)
     | None ↦ if is_last token then part_then (part.Range c c) (rest before) else fault 150 before.at
   ]
@@ -58,14 +46,14 @@ module _ (text : List ℕ) where
   -- a character at `here`
   unfoldable pub from_character : ℕ → (State → Reads (List Part)) → ℕ → State → State → Reads (List Part)
   from_character n rest c here after = do
-    (hyphen, before, beyond) ← item n after
+    (hyphen, before, beyond) ← item text true n after
     if is_hyphen hyphen then range_or_hyphen n rest c here before beyond else part_then (part.Range c c) (rest after)
 
   -- A set: a hyphen after it must be last.
   unfoldable pub from_set : ℕ → (State → Reads (List Part)) → Part → State → Reads (List Part)
   from_set n rest set after = do
-    (hyphen, before, beyond) ← item n after
-    if is_hyphen hyphen && not (is_last_item (item n beyond)) then fault 150 before.at else part_then set (rest after)
+    (hyphen, before, beyond) ← item text true n after
+    if is_hyphen hyphen && not (is_last_item (item text true n beyond)) then fault 150 before.at else part_then set (rest after)
 
   -- What begins at a token. A bracket that closes nothing yet is a character, unless a class may be empty. Properties are
   -- left out.
@@ -81,7 +69,7 @@ module _ (text : List ℕ) where
   -- the parts up to the closing bracket, from the first one on or from a later one
   unfoldable pub class_parts : ℕ → Bool → State → Reads (List Part)
   class_parts zero first st = fault 0 0
-  class_parts (suc n) first st = item n st >>= λ (token, here, after). from_item n (class_parts n false) first token here after
+  class_parts (suc n) first st = item text true n st >>= λ (token, here, after). from_item n (class_parts n false) first token here after
 
   -- a class from the place after its opening bracket on
   unfoldable pub class_spec : ℕ → Bool → State → Reads ClassSpec

@@ -4,7 +4,7 @@ use Rattle.std.specs.List.{list_any}
 use Rattle.std.specs.Str.{bytes_eq}
 use Rattle.pat_tree.specs.declared.options.Options.{Options}
 use Rattle.pat_tree.specs.declared.names.NameEntry.{NameEntry}
-use Rattle.pat_tree.specs.Nested.{Nested, Test, empty, group, atomic, look, condition, any_set, in_call, in_call_of, never, no_other, other, row}
+use Rattle.pat_tree.specs.Nested.{Nested, Test, empty, group, atomic, look, condition, any_set, in_call, in_call_of, never, no_other, other, row, test_of}
 use Rattle.pat_tree.specs.Names.{with_name}
 use Rattle.pat_tree.specs.Refs.{bad_ref, beside_whole}
 use Rattle.token_parts.specs.declared.fault.Fault.{Fault}
@@ -27,6 +27,9 @@ pub data Form : Type 0 where
   -- a conditional group, and one that only defines
   conditional : Test → Form
   defines : Form
+  -- a lookaround that a conditional group tests (ahead, positive), and that group, of whose branches it is the first
+  asserted : Bool → Bool → Form
+  asserting : Form
 
 abbrev pub number_of : Form → Option ℕ
 number_of (grouped number) = number
@@ -34,6 +37,8 @@ number_of atomically = None
 number_of (looks ahead positive once) = None
 number_of (conditional test) = None
 number_of defines = None
+number_of (asserted ahead positive) = None
+number_of asserting = None
 
 abbrev pub is_look : Form → Bool
 is_look (grouped number) = false
@@ -41,12 +46,24 @@ is_look atomically = false
 is_look (looks ahead positive once) = true
 is_look (conditional test) = false
 is_look defines = false
+is_look (asserted ahead positive) = true
+is_look asserting = false
+
+-- a lookaround that a conditional group tests
+abbrev pub is_tested : Form → Bool
+is_tested (asserted ahead positive) = true
+is_tested _ = false
 
 -- a conditional group of these branches
 abbrev pub branched : Test → List Nested → Nested
 branched test [] = condition test empty no_other
 branched test (yes' ∷ []) = condition test yes' no_other
 branched test (yes' ∷ no' ∷ others) = condition test yes' (other no')
+
+-- a conditional group of these branches, the first of which is its test
+abbrev pub tested_by : List Nested → Nested
+tested_by [] = branched never []
+tested_by (test ∷ branches) = branched (test_of test) branches
 
 -- a group of these branches
 abbrev pub built : Form → List Nested → Nested
@@ -55,6 +72,8 @@ built atomically branches = atomic (row branches)
 built (looks ahead positive once) branches = look ahead positive once (row branches)
 built (conditional test) branches = branched test branches
 built defines branches = branched never branches
+built (asserted ahead positive) branches = look ahead positive true (row branches)
+built asserting branches = tested_by branches
 
 -- the alternatives that a group may have: DEFINE has one, any other conditional group two
 abbrev pub bars_in : Form → Bars
@@ -63,6 +82,8 @@ bars_in atomically = bars.Free
 bars_in (looks ahead positive once) = bars.Free
 bars_in (conditional test) = bars.First
 bars_in defines = bars.Define
+bars_in (asserted ahead positive) = bars.Free
+bars_in asserting = bars.First
 
 -- what is so after a bar, if there may be one
 abbrev pub barred : Bars → ℕ → Result Bars Fault
@@ -93,6 +114,8 @@ noted atomically at = []
 noted (looks ahead positive once) at = record { at = at; groups = [] } ∷ []
 noted (conditional test) at = record { at = at; groups = groups_in test } ∷ []
 noted defines at = record { at = at; groups = [] } ∷ []
+noted (asserted ahead positive) at = record { at = at; groups = [] } ∷ []
+noted asserting at = record { at = at; groups = [] } ∷ []
 
 -- the group and the state in which its inside begins
 abbrev pub Opens : Type 0
@@ -152,6 +175,11 @@ called_by [] = in_call_of []
 called_by (zero ∷ ns) = any_set (zero ∷ ns)
 called_by (suc n ∷ ns) = in_call_of (suc n ∷ ns)
 
+-- the test is no lookaround
+abbrev pub IsWorded : CondText → Type 0
+IsWorded tested.Lookaround = ⊥
+IsWorded _ = Unit {0}
+
 -- a conditional group by the text of its test
 unfoldable pub form_in : List NameEntry → List ℕ → State → CondText → List ℕ → Result Form Fault
 form_in known text st (tested.Group target) word = named_by known text st target >>= λ groups. Ok (conditional (any_set groups))
@@ -159,7 +187,7 @@ form_in known text st tested.InCall word = Ok (conditional (unless_named known w
 form_in known text st (tested.InCallOf (Number n)) word = Ok (conditional (unless_named known word (in_call_of (called_number n ∷ []))))
 form_in known text st (tested.InCallOf target) word = named_by known text st target >>= λ groups. Ok (conditional (called_by groups))
 form_in known text st tested.Define word = Ok defines
-form_in known text st tested.Lookaround word = fault 195 st.at
+form_in known text st tested.Lookaround word = fault 128 st.at
 
 -- the test asks for a call of a group whose number is too big, and no group has that text as its name
 unfoldable pub is_beyond : List NameEntry → CondText → List ℕ → Bool

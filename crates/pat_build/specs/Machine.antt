@@ -1,17 +1,17 @@
 -- What the reader's state stands for: the rest of the reading.
 use Rattle.std.specs.List.{list_any}
-use Rattle.std.specs.Prelude.{true, false, ◌||◌, ◌==◌, ◌≡◌, ℕ, ◌+◌, ◌-◌, ◌*◌, ◌<◌, ◌≤◌, Bool, List, [], ◌∷◌, ◌++◌, length, map, reverse, Option, Some, None, Result, Ok, Err, All}
+use Rattle.std.specs.Prelude.{true, false, ◌||◌, ◌==◌, ◌≡◌, ℕ, ◌+◌, ◌-◌, ◌*◌, ◌<◌, ◌≤◌, Bool, List, [], ◌∷◌, ◌++◌, length, map, reverse, Option, Some, None, Result, Ok, Err, All, IsTrue}
 use Rattle.pat_tree.specs.declared.options.Options.{Options}
 use Rattle.pat_tree.specs.declared.nodes.Placed.{Placed}
 use Rattle.pat_tree.specs.declared.nodes.Cond.{Cond}
 use Rattle.pat_tree.specs.declared.nodes.Cond.TheVariants as cond
 use Rattle.pat_tree.specs.declared.nodes.Node.TheVariants as node
 use Rattle.pat_tree.specs.declared.names.NameEntry.{NameEntry}
-use Rattle.pat_tree.specs.Nested.{Nested, Test, one, repeat, any_set, in_call, in_call_of, tree_at, trees}
+use Rattle.pat_tree.specs.Nested.{Nested, Test, none, one, look, repeat, any_set, in_call, in_call_of, tree_at, trees}
 use Rattle.pat_tree.specs.Parts.{DraftParts, TreeParts}
 use Rattle.pat_tree.specs.Pattern.{pattern_of}
 use Rattle.pat_tree.specs.Refs.{refs, has_group, named_in}
-use Rattle.pat_tree.specs.Rules.{class_in}
+use Rattle.pat_tree.specs.Rules.{class_in, is_test}
 use Rattle.pat_tree.specs.Growing.{Stand, loose}
 use Rattle.pat_tree.specs.Closing.{StandInTurn}
 use Rattle.token_parts.specs.declared.fault.Fault.{Fault}
@@ -35,9 +35,10 @@ use Rattle.pat_build.specs.declared.machine.Bars.{Bars}
 use Rattle.pat_build.specs.declared.machine.Bars.TheVariants as barring
 use Rattle.pat_build.specs.declared.machine.Machine.{Machine}
 use Rattle.pat_build.specs.State.{State, Reads, Reference, flags_of}
-use Rattle.pat_build.specs.Groups.{Opening, Form, grouped, atomically, looks, conditional, defines, is_look, number_of, noted, is_opened, places_named, missing}
+use Rattle.pat_build.specs.Groups.{Opening, Form, grouped, atomically, looks, conditional, defines, asserted, asserting, is_look, is_tested, number_of, noted, is_opened, places_named, missing}
 use Rattle.pat_build.specs.Names.{IsKnown, Stands, table_of}
-use Rattle.pat_build.specs.Parts.{Beginning, once_more, repeat_of, beginning}
+use Rattle.pat_build.specs.declared.cursor.Assertion.{Assertion}
+use Rattle.pat_build.specs.Parts.{Beginning, asserts, once_more, repeat_of, beginning}
 use Rattle.pat_build.specs.Reading.{Parsed, reading, checked}
 use Rattle.pat_build.specs.Stack.{Layer, Opened, Waiting, resume}
 
@@ -151,6 +152,8 @@ form_of kept.Atomic = atomically
 form_of (kept.Look ahead positive once) = looks ahead positive once
 form_of (kept.Condition test) = conditional (test_of test)
 form_of kept.Define = defines
+form_of (kept.Asserted ahead positive) = asserted ahead positive
+form_of kept.Asserting = asserting
 
 abbrev pub opening_of : Frame → Opening
 opening_of f = record { form = form_of f.form; around = f.around; looking = f.looking; bars = f.bars; at = f.at }
@@ -195,6 +198,7 @@ pub record Named (text : List ℕ) (names : List Name) (table : List NameEntry) 
 abbrev pub CanHave : Form → ℕ → Type 0
 CanHave (conditional test) n = (0 < n) × (n ≤ 2)
 CanHave defines n = n ≡ 1
+CanHave asserting n = (1 < n) × (n ≤ 3)
 CanHave _ n = Unit {0}
 
 -- the group has so many alternatives before the one in progress, and may have those that this says
@@ -207,11 +211,50 @@ IsBarred (conditional test) n barring.Second = n ≡ 1
 IsBarred (conditional test) n barring.Free = ⊥
 IsBarred (conditional test) n barring.Define = ⊥
 IsBarred defines n bars = (n ≡ 0) × (bars ≡ barring.Define)
+IsBarred (asserted ahead positive) n bars = bars ≡ barring.Free
+IsBarred asserting n barring.First = n ≡ 1
+IsBarred asserting n barring.Second = n ≡ 2
+IsBarred asserting n barring.Free = ⊥
+IsBarred asserting n barring.Define = ⊥
+
+-- where the group ends, the group around it has so many: a lookaround that is tested is one
+abbrev pub count_around : Bool → ℕ → ℕ
+count_around true n = n + 1
+count_around false n = n
+
+-- before a lookaround that is tested the group around it has no parts
+abbrev pub BeginsAfter : Bool → List ℕ → Type 0
+BeginsAfter true parts = parts ≡ []
+BeginsAfter false parts = Unit {0}
 
 -- so it is in each group that is open, the innermost first
 abbrev pub AreBarred : List Frame → ℕ → Bars → Type 0
 AreBarred [] n bars = bars ≡ barring.Free
-AreBarred (f ∷ fs) n bars = IsBarred (form_of f.form) n bars × AreBarred fs (length f.outer.branches) f.bars
+AreBarred (f ∷ fs) n bars =
+    let tested = is_tested (form_of f.form) in
+    IsBarred (form_of f.form) n bars × AreBarred fs (count_around tested (length f.outer.branches)) f.bars × BeginsAfter tested f.outer.parts
+
+-- the first alternative of a group that tests a lookaround is that lookaround
+abbrev pub HasTest : Form → List Nested → Type 0
+HasTest asserting [] = ⊥
+HasTest asserting (t ∷ ts) = IsTrue (is_test t)
+HasTest _ ts = Unit {0}
+
+-- where the group ends, the group around it has these: some lookaround where it is one that is tested
+abbrev pub branches_around : Bool → List Nested → List Nested
+branches_around true ts = ts ++ look true true true none ∷ []
+branches_around false ts = ts
+
+-- so it is in each group that is open, the innermost first
+abbrev pub HaveTests : List Opened → List Nested → Type 0
+HaveTests [] ts = Unit {0}
+HaveTests (o ∷ os) ts = HasTest o.how.form ts × HaveTests os (branches_around (is_tested o.how.form) o.outer.branches)
+
+-- a group that has nothing to do with a lookaround that is tested
+abbrev pub TestsNone : Form → Type 0
+TestsNone (asserted ahead positive) = ⊥
+TestsNone asserting = ⊥
+TestsNone _ = Unit {0}
 
 -- how a group that begins is numbered
 abbrev pub Numbered : ℕ → Option ℕ → ℕ → Type 0
@@ -242,6 +285,19 @@ state_of m = record {
 abbrev pub state_from : ℕ → Options → State
 state_from at options = record { at = at; quoting = false; options = options; groups = 0; depth = 0; looking = false; bars = barring.Free; classes = []; names = []; references = []; beyond = None }
 
+-- what begins where a conditional group tests a lookaround
+abbrev pub asserting_from : Machine → Assertion → Beginning
+asserting_from m test = asserts
+    (record { form = asserting; around = m.options; looking = m.looking; bars = m.bars; at = m.at })
+    (record { form = asserted test.ahead test.positive; around = m.options; looking = m.looking; bars = barring.First; at = test.here.at })
+    (record (state_of m) {
+      at = test.after.at;
+      quoting = test.after.quoting;
+      depth = length m.stack.items + 2;
+      looking = true;
+      bars = barring.Free;
+    })
+
 abbrev pub known_of : Machine → List NameEntry
 known_of m = table_of m.text.now m.known.now
 
@@ -269,6 +325,7 @@ pub record Means (m : Machine) : Type 0 where
   pub level : LevelStands m.draft.nodes (left m) m.level layer
   pub pending : AtomStands m.draft (left m) m.waiting waiting
   pub barred : AreBarred (reverse m.stack.items) (length m.level.branches) m.bars
+  pub tested : HaveTests opens layer.branches
   pub value : resume (known_of m) m.text.now opens layer waiting (state_of m) ≡ whole_of m
   pub within : m.at ≤ length m.text.now
   pub short : length m.text.now ≤ 65536

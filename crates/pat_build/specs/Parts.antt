@@ -1,5 +1,5 @@
 -- What each token begins, outside classes.
-use Rattle.std.specs.Prelude.{ℕ, ◌+◌, min, Bool, true, false, not, List, [], ◌∷◌, ◌++◌, length, nat_le, Option, Some, None, Result, Ok, slice_range, if◌then◌else◌}
+use Rattle.std.specs.Prelude.{ℕ, ◌+◌, min, Bool, true, false, not, List, [], ◌∷◌, ◌++◌, length, nat_le, Option, Some, None, Result, Ok, Err, slice_range, if◌then◌else◌}
 use Rattle.pat_tree.specs.declared.nodes.Item.TheVariants as item
 use Rattle.pat_tree.specs.declared.nodes.AnchorKind.{AnchorKind}
 use Rattle.pat_tree.specs.declared.nodes.AnchorKind.TheVariants as kind
@@ -9,17 +9,19 @@ use Rattle.pat_tree.specs.declared.nodes.ClassSpec.{ClassSpec}
 use Rattle.pat_tree.specs.declared.names.NameEntry.{NameEntry}
 use Rattle.pat_tree.specs.Nested.{Nested, empty, one, line_break, seq, repeat, one_repeat, atomic, look, ref, anchor, keep_out, row}
 use Rattle.token_parts.specs.declared.fault.Fault.{Fault}
+use Rattle.token_parts.specs.declared.token.OpenKind.{OpenKind}
 use Rattle.token_parts.specs.declared.token.OpenKind.TheVariants as opening
 use Rattle.token_parts.specs.declared.token.CondText.{CondText}
+use Rattle.token_parts.specs.declared.token.CondText.TheVariants as tested
 use Rattle.token_parts.specs.declared.token.QuantMode.{QuantMode}
 use Rattle.token_parts.specs.declared.token.QuantMode.TheVariants.{Greedy, Lazy, Possessive}
 use Rattle.token_parts.specs.declared.token.Token.{Token}
 use Rattle.token_parts.specs.declared.token.Token.TheVariants as token
 use Rattle.token_parts.specs.Tell.{fault, ◌>>=◌}
-use Rattle.pat_build.specs.State.{State}
+use Rattle.pat_build.specs.State.{State, Item, item}
 use Rattle.pat_build.specs.Options.{with_setting}
 use Rattle.pat_build.specs.Classes.{class_spec}
-use Rattle.pat_build.specs.Groups.{Opening, Opens, grouped, atomically, looks, opened, captured, named, named_by, form_in, beyond_after}
+use Rattle.pat_build.specs.Groups.{Opening, Opens, grouped, atomically, looks, asserted, asserting, opened, captured, named, named_by, form_in, beyond_after}
 
 -- An alternative without parts is empty, one with one part is that part.
 abbrev pub alternative : List Nested → Nested
@@ -61,6 +63,8 @@ pub data Beginning : Type 0 where
   bare : Nested → State → Beginning
   -- the inside of a group
   inside : Opening → State → Beginning
+  -- a conditional group, and the inside of the lookaround that it tests
+  asserts : Opening → Opening → State → Beginning
   -- nothing that is a part
   nothing : State → Beginning
   -- the alternative ends before the token
@@ -99,6 +103,42 @@ conditions known text st cond word next =
     if nat_le 250 st.depth then fault 119 st.at
     else form_in known text st cond word >>= λ form. enters (opened st form (record next { beyond = beyond_after known st cond word }))
 
+-- what a lookaround that a conditional group tests says: ahead, positive, and the states before and after its parenthesis
+abbrev pub Assertion : Type 0
+Assertion = Bool × Bool × State × State
+
+-- what begins a lookaround that keeps its first way: ahead, positive
+abbrev pub kept_look : OpenKind → Option (Bool × Bool)
+kept_look (opening.Look ahead positive true) = Some (ahead, positive)
+kept_look _ = None
+
+abbrev pub asserted_if : ℕ → Option (Bool × Bool) → State → State → Result Assertion Fault
+asserted_if at (Some (ahead, positive)) here after = Ok (ahead, positive, here, after)
+asserted_if at None here after = fault 128 at
+
+-- by the token where the lookaround of the conditional group at this place has to be, with the states before and after it
+abbrev pub asserted_by : ℕ → Token → State → State → Result Assertion Fault
+asserted_by at (token.Open kind) here after = asserted_if at (kept_look kind) here after
+asserted_by at (token.CalloutItem number from to) here after = fault 195 here.at
+asserted_by at _ here after = fault 128 at
+
+-- No other fault is told of a token that isn't such a lookaround.
+abbrev pub settled : ℕ → Result Item Fault → Result Assertion Fault
+settled at (Ok (token, here, after)) = asserted_by at token here after
+settled at (Err f) = fault 128 at
+
+-- the lookaround that a conditional group at this place tests, past comments, ignored white space, `\Q` and `\E`
+unfoldable pub assertion : List ℕ → ℕ → ℕ → State → Result Assertion Fault
+assertion text n at st = settled at (item text false n st)
+
+-- a conditional group that tests a lookaround
+unfoldable pub assertions : List ℕ → ℕ → State → State → Result Beginning Fault
+assertions text n st next = do
+  (how, begun) ← opened st asserting next
+  (ahead, positive, here, after) ← assertion text n st.at begun
+  (test, start) ← opened here (asserted ahead positive) after
+  Ok (asserts how test start)
+
 module _ (known : List NameEntry) (text : List ℕ) where
   -- By the names of the whole pattern, since a name may be given later than it is used: what begins at a token, from the
   -- state before it and the state after it. The number bounds the items of a class.
@@ -132,6 +172,7 @@ module _ (known : List NameEntry) (text : List ℕ) where
   beginning n st (token.Open (opening.Look ahead positive once)) next = enters (opened st (looks ahead positive once) next)
   beginning n st (token.Open (opening.Named from to)) next = enters (named st (slice_range text from to) next)
   beginning n st (token.OptionSet reset on off true) next = enters (opened st (grouped None) (record next { options = with_setting reset on off st.options }))
+  beginning n st (token.CondStart tested.Lookaround from to) next = assertions text n st next
   beginning n st (token.CondStart cond from to) next = conditions known text st cond (slice_range text from to) next
   -- what is no part
   beginning n st (token.OptionSet reset on off false) next = Ok (nothing (record next { options = with_setting reset on off st.options }))
@@ -141,5 +182,5 @@ module _ (known : List NameEntry) (text : List ℕ) where
   -- a quantifier without an atom, and a start item that isn't at the start
   beginning n st (token.Quantifier low high mode) next = fault 109 st.at
   beginning n st (token.Start item) next = fault 160 st.at
-  -- Left out: properties; conditions on lookarounds and branch reset; calls and verbs; callouts.
+  -- Left out: properties; branch reset; calls and verbs; callouts.
   beginning n st _ next = fault 195 st.at

@@ -15,7 +15,7 @@ use Rattle.pat_build.specs.State.{State, Reads, next, passed_over}
 use Rattle.pat_build.specs.Options.{with_item}
 use Rattle.pat_build.specs.declared.machine.Bars.TheVariants.{Free}
 use Rattle.pat_build.specs.Groups.{Opening, barred, built, noted, missing}
-use Rattle.pat_build.specs.Parts.{Beginning, atom, bare, inside, nothing, over, alternative, repeated, beginning}
+use Rattle.pat_build.specs.Parts.{Beginning, atom, bare, inside, asserts, nothing, over, alternative, repeated, beginning}
 
 module _ (text : List ℕ) where
   -- the atom under the quantifier that may follow it, also past comments, ignored white space, `\Q` and `\E`
@@ -57,6 +57,12 @@ module _ (text : List ℕ) where
     (branches, end) ← inner start
     (whole, after) ← closed opening branches end
     quantified n whole after)
+  parts_from n inner rest st (asserts how test start) = part_then rest (do
+    (branches, end) ← inner start
+    (found, after) ← closed test branches end
+    (others, last) ← inner after
+    (whole, beyond) ← closed how (found ∷ others) last
+    quantified n whole beyond)
   parts_from n inner rest st (nothing after) = rest after
   parts_from n inner rest st over = Ok ([], st)
 

@@ -1,5 +1,5 @@
 -- What is handed on in reading a pattern from left to right (pcre2pattern).
-use Rattle.std.specs.Prelude.{ℕ, Bool, true, false, List, Option, Some, None, Result, Ok}
+use Rattle.std.specs.Prelude.{ℕ, zero, suc, Bool, true, false, List, Option, Some, None, Result, Ok}
 use Rattle.pat_tree.specs.declared.options.Options.{Options}
 use Rattle.pat_tree.specs.declared.nodes.ClassSpec.{ClassSpec}
 use Rattle.pat_tree.specs.declared.names.NameEntry.{NameEntry}
@@ -7,7 +7,7 @@ use Rattle.token_parts.specs.declared.fault.Fault.{Fault}
 use Rattle.token_parts.specs.declared.token.LexFlags.{LexFlags}
 use Rattle.token_parts.specs.declared.token.Token.{Token}
 use Rattle.token_parts.specs.declared.token.Token.TheVariants.{Passed, QuoteOn, QuoteOff}
-use Rattle.token_parts.specs.Tell.{◌>>=◌}
+use Rattle.token_parts.specs.Tell.{fault, ◌>>=◌}
 use Rattle.pat_lex.specs.Tokens.{token_at}
 use Rattle.pat_build.specs.declared.machine.Bars.{Bars}
 
@@ -66,3 +66,15 @@ passed_over Passed after = Some after
 passed_over QuoteOn after = Some (record after { quoting = true })
 passed_over QuoteOff after = Some (record after { quoting = false })
 passed_over _ after = None
+
+-- a token that isn't passed over, with the states before it and after it
+abbrev pub Item : Type 0
+Item = Token × State × State
+
+-- the next such token, in a class or outside; the number bounds those that are passed over
+unfoldable pub item : List ℕ → Bool → ℕ → State → Result Item Fault
+item text in_class zero st = fault 0 0
+item text in_class (suc n) st = next text in_class st >>= λ (token, after). elim (passed_over token after) [
+  | Some beyond ↦ item text in_class n beyond
+  | None ↦ Ok (token, st, after)
+]

@@ -2,10 +2,11 @@
 ghost use Rattle.std.specs.Prelude.{◌≡◌, Bool, false, true, ◌<◌, ◌≤◌, [], length, suc, Ok, Err, IfOk, IfErr, IfSome, IsTrue};
 ghost use Rattle.std.specs.Option.{option_map_or};
 ghost use Rattle.token_parts.specs.Tell.{Moves, is_own};
-ghost use Rattle.pat_build.specs.Classes.{character, is_hyphen, is_last, is_last_item, part_then, item, class_parts, class_spec};
+ghost use Rattle.pat_build.specs.Classes.{character, is_hyphen, is_last, is_last_item, part_then, class_parts, class_spec};
+ghost use Rattle.pat_build.specs.State.{item};
 ghost use Rattle.pat_build.specs.Places.{Always, AlwaysFromStart, GivesPart, GivesFault, range_between, character_between, set_before, item_between, is_closing, Tells, IfBad, IsClassFault};
 
-use crate::cursor::{Cursor, Place};
+use crate::cursor::{Cursor, Place, Spot};
 use crate::error::ReadError;
 use pat_lex::{Fault, Token};
 use pat_tree::{ClassSpec, Part, PartList};
@@ -22,14 +23,6 @@ const NO_RANGE: i32 = 150;
 
 /// A property, which is left out.
 const LEFT_OUT: i32 = 195;
-
-/// A token of a class that isn't passed over, and the places before it and after it.
-#[derive(Clone, Copy, Debug)]
-struct ClassItem {
-    token: Token,
-    here: Place,
-    after: Place,
-}
 
 /// The character that a token stands for where a range may end.
 fn character(token: Token) -> Option<u32>
@@ -56,29 +49,6 @@ fn is_last(token: Token) -> bool
 }
 
 impl<'a> Cursor<'a> {
-    /// The next token of a class that isn't passed over.
-    fn item(&self, place: Place) -> Result<ClassItem, Fault>
-        requires { place.at ≤ length self.now.text.now }
-        ensures found { IfOk result (λ i. Always self.now place (λ text n state. item text n (state place) ≡ Ok (i.token, state i.here, state i.after))) }
-        ensures bad { IfErr result (λ f. Always self.now place (λ text n state. item text n (state place) ≡ Err f)) }
-        ensures past { IfOk result (λ i. place.at ≤ i.here.at) }
-        ensures onward { IfOk result (λ i. i.here.at ≤ i.after.at) }
-        ensures within { IfOk result (λ i. i.after.at ≤ length self.now.text.now) }
-        ensures moves { IfOk result (λ i. Moves self.now.text.now i.here.at i.token i.after.at) }
-        ensures number { IfErr result (λ f. IsTrue (is_own f.number)) }
-        ensures place { IfErr result (λ f. f.at ≤ length self.now.text.now) }
-    {
-        let mut here = place;
-        'passing: loop {
-            let (token, at) = self.next(here, true)?;
-            let after = Place { at, ..here };
-            match after.passed_over(token) {
-                Some(beyond) => here = beyond,
-                None => return Ok(ClassItem { token, here, after }),
-            }
-        }
-    }
-
     /// What a character at `here` and a hyphen begin, the hyphen being between two places: with a character after it a range.
     /// The hyphen is a character where it is last, and may not stand before a set.
     fn range_or_hyphen(
@@ -98,7 +68,7 @@ impl<'a> Cursor<'a> {
         ensures number { IfErr result (λ f. IsClassFault f.number) }
         ensures place { IfErr result (λ f. f.at ≤ length self.now.text.now) }
     {
-        let item = self.item(after)?;
+        let item = self.item(after, true)?;
         match character(item.token) {
             Some(d) => {
                 if d < c {
@@ -132,7 +102,7 @@ impl<'a> Cursor<'a> {
         ensures number { IfErr result (λ f. IsClassFault f.number) }
         ensures place { IfErr result (λ f. f.at ≤ length self.now.text.now) }
     {
-        let hyphen = self.item(after)?;
+        let hyphen = self.item(after, true)?;
         if is_hyphen(hyphen.token) {
             let range = self.range_or_hyphen(c, here, hyphen.here, hyphen.after)?;
             return Ok(range);
@@ -143,9 +113,9 @@ impl<'a> Cursor<'a> {
     /// Whether nothing of the class follows a place. A faulty token is something.
     fn is_last_at(&self, place: Place) -> bool
         requires { place.at ≤ length self.now.text.now }
-        ensures { Always self.now place (λ text n state. is_last_item (item text n (state place)) ≡ result) }
+        ensures { Always self.now place (λ text n state. is_last_item (item text true n (state place)) ≡ result) }
     {
-        match self.item(place) {
+        match self.item(place, true) {
             Ok(item) => is_last(item.token),
             Err(_) => false,
         }
@@ -161,7 +131,7 @@ impl<'a> Cursor<'a> {
         ensures number { IfErr result (λ f. IsClassFault f.number) }
         ensures place { IfErr result (λ f. f.at ≤ length self.now.text.now) }
     {
-        let hyphen = self.item(after)?;
+        let hyphen = self.item(after, true)?;
         if is_hyphen(hyphen.token) && !self.is_last_at(hyphen.after) {
             return Err(Fault {
                 number: NO_RANGE,
@@ -179,7 +149,7 @@ impl<'a> Cursor<'a> {
     }
 
     /// The part that begins at an item of a class that doesn't close it, and the place after it.
-    fn part(&self, item: ClassItem) -> Result<(Part, Place), Fault>
+    fn part(&self, item: Spot) -> Result<(Part, Place), Fault>
         requires begins { item.here.at ≤ item.after.at }
         requires moves { Moves self.now.text.now item.here.at item.token item.after.at }
         requires within { item.after.at ≤ length self.now.text.now }
@@ -190,7 +160,7 @@ impl<'a> Cursor<'a> {
         ensures number { IfErr result (λ f. IsClassFault f.number) }
         ensures place { IfErr result (λ f. f.at ≤ length self.now.text.now) }
     {
-        let ClassItem { token, here, after } = item;
+        let Spot { token, here, after } = item;
         match token {
             Token::End => Err(Fault {
                 number: UNCLOSED_CLASS,
@@ -222,7 +192,7 @@ impl<'a> Cursor<'a> {
         ensures number { IfErr result (λ f. IsClassFault f.number) }
         ensures place { IfErr result (λ f. f.at ≤ length self.now.text.now) }
     {
-        let item = self.item(place)?;
+        let item = self.item(place, true)?;
         if self.closes(first, item.token) {
             return Ok((None, item.after));
         }

@@ -1,12 +1,13 @@
 //! Where the reader stands in the text.
-ghost use Rattle.std.specs.Prelude.{◌≡◌, ◌≤◌, length, IfOk, IfErr, IfSome, IsTrue};
+ghost use Rattle.std.specs.Prelude.{◌≡◌, ◌<◌, ◌≤◌, length, Ok, Err, IfOk, IfErr, IfSome, IsTrue};
 ghost use Rattle.std.specs.Option.{option_map};
 ghost use Rattle.token_parts.specs.Tell.{IsWell, Moves, is_own};
 ghost use Rattle.pat_lex.specs.Tokens.{token_at};
-ghost use Rattle.pat_build.specs.State.{State, passed_over};
-ghost use Rattle.pat_build.specs.Places.{moved_to, flags_at};
+ghost use Rattle.pat_build.specs.State.{State, item, passed_over};
+ghost use Rattle.pat_build.specs.Parts.{kept_look, assertion};
+ghost use Rattle.pat_build.specs.Places.{Always, moved_to, flags_at};
 
-use pat_lex::{Fault, LexFlags, Token, next_token};
+use pat_lex::{Fault, LexFlags, OpenKind, Token, next_token};
 use pat_tree::Options;
 
 /// A place in the text, and whether it is between `\Q` and `\E`.
@@ -15,6 +16,23 @@ pub(crate) struct Place {
     /// How many bytes are before it.
     pub(crate) at: usize,
     pub(crate) quoting: bool,
+}
+
+/// A token that isn't passed over, and the places before it and after it.
+#[derive(Clone, Copy, Debug)]
+pub(crate) struct Spot {
+    pub(crate) token: Token,
+    pub(crate) here: Place,
+    pub(crate) after: Place,
+}
+
+/// A lookaround that a conditional group tests, and the places before and after its parenthesis.
+#[derive(Clone, Copy, Debug)]
+pub(crate) struct Assertion {
+    pub(crate) ahead: bool,
+    pub(crate) positive: bool,
+    pub(crate) here: Place,
+    pub(crate) after: Place,
 }
 
 /// A place in a text, with what the tokens there depend on.
@@ -42,6 +60,25 @@ impl Place {
             _ => return None,
         };
         Some(Place { quoting, ..self })
+    }
+}
+
+/// What begins a lookaround that keeps its first way: whether it looks ahead, and whether it is positive.
+fn kept_look(kind: OpenKind) -> Option<(bool, bool)>
+    ensures { result ≡ kept_look kind }
+{
+    match kind {
+        OpenKind::Look {
+            ahead,
+            positive,
+            atomic: true,
+        } => Some((ahead, positive)),
+        OpenKind::Look { .. }
+        | OpenKind::Capture
+        | OpenKind::Plain
+        | OpenKind::Atomic
+        | OpenKind::BranchReset
+        | OpenKind::Named { .. } => None,
     }
 }
 
@@ -76,5 +113,58 @@ impl<'a> Cursor<'a> {
         ensures place { IfErr result (λ f. f.at ≤ length self.now.text.now) }
     {
         next_token(self.text, place.at, self.flags(place, in_class))
+    }
+
+    /// The next token that isn't passed over, in a class or outside.
+    pub(crate) fn item(&self, place: Place, in_class: bool) -> Result<Spot, Fault>
+        requires { place.at ≤ length self.now.text.now }
+        ensures found { IfOk result (λ i. Always self.now place (λ text n state. item text in_class n (state place) ≡ Ok (i.token, state i.here, state i.after))) }
+        ensures bad { IfErr result (λ f. Always self.now place (λ text n state. item text in_class n (state place) ≡ Err f)) }
+        ensures past { IfOk result (λ i. place.at ≤ i.here.at) }
+        ensures onward { IfOk result (λ i. i.here.at ≤ i.after.at) }
+        ensures within { IfOk result (λ i. i.after.at ≤ length self.now.text.now) }
+        ensures moves { IfOk result (λ i. Moves self.now.text.now i.here.at i.token i.after.at) }
+        ensures number { IfErr result (λ f. IsTrue (is_own f.number)) }
+        ensures place { IfErr result (λ f. f.at ≤ length self.now.text.now) }
+    {
+        let mut here = place;
+        'passing: loop {
+            let (token, at) = self.next(here, in_class)?;
+            let after = Place { at, ..here };
+            match after.passed_over(token) {
+                Some(beyond) => here = beyond,
+                None => return Ok(Spot { token, here, after }),
+            }
+        }
+    }
+
+    /// The lookaround that a conditional group at the place `at` tests, which may stand after comments.
+    pub(crate) fn assertion(&self, at: usize) -> Result<Assertion, Fault>
+        requires { self.now.place.at ≤ length self.now.text.now }
+        ensures found { IfOk result (λ a. Always self.now self.now.place (λ text n state. assertion text n at (state self.now.place) ≡ Ok (a.ahead, a.positive, state a.here, state a.after))) }
+        ensures bad { IfErr result (λ f. Always self.now self.now.place (λ text n state. assertion text n at (state self.now.place) ≡ Err f)) }
+        ensures past { IfOk result (λ a. self.now.place.at ≤ a.here.at) }
+        ensures onward { IfOk result (λ a. a.here.at < a.after.at) }
+        ensures within { IfOk result (λ a. a.after.at ≤ length self.now.text.now) }
+    {
+        let Ok(Spot { token, here, after }) = self.item(self.place, false) else {
+            return Err(Fault { number: 128, at });
+        };
+        match token {
+            Token::Open(kind) => match kept_look(kind) {
+                Some((ahead, positive)) => Ok(Assertion {
+                    ahead,
+                    positive,
+                    here,
+                    after,
+                }),
+                None => Err(Fault { number: 128, at }),
+            },
+            Token::CalloutItem { .. } => Err(Fault {
+                number: 195,
+                at: here.at,
+            }),
+            _ => Err(Fault { number: 128, at }),
+        }
     }
 }

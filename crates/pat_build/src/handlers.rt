@@ -8,11 +8,12 @@ ghost use Rattle.token_parts.specs.declared.token.Token.TheVariants.{Bar, Close,
 ghost use Rattle.pat_lex.specs.Tokens.{token_at};
 ghost use Rattle.pat_build.specs.State.{passed_over, flags_of};
 ghost use Rattle.pat_build.specs.Names.{with_given, given_after};
-ghost use Rattle.pat_build.specs.Groups.{number_of, is_look, bars_in, barred};
+ghost use Rattle.pat_build.specs.Groups.{number_of, is_look, is_tested, bars_in, barred};
 ghost use Rattle.pat_build.specs.Parts.{atom, bare, inside, nothing, of_class, with_reference};
 ghost use Rattle.pat_build.specs.Stack.{IsPlain};
-ghost use Rattle.pat_build.specs.Machine.{Means, Ready, IsNext, Begins, Took, Same, HasRoom, Refuses, Numbered, Gives, form_of, atom_where, state_of, whole_of};
+ghost use Rattle.pat_build.specs.Machine.{Means, Ready, IsNext, Begins, Took, Same, HasRoom, TestsNone, Refuses, Numbered, Gives, form_of, asserting_from, atom_where, state_of, whole_of};
 
+use crate::cursor::Assertion;
 use crate::error::ReadError;
 use crate::machine::{Atom, Bars, Form, Frame, Level, Machine};
 use crate::names::Name;
@@ -29,13 +30,20 @@ fn is_look(form: &Form) -> bool
     is_looking(form, false)
 }
 
+fn is_tested(form: &Form) -> bool
+    ensures { result ≡ is_tested (form_of form.now) }
+{
+    matches!(form, Form::Asserted { .. })
+}
+
 fn bars_in(form: &Form) -> Bars
     ensures { result ≡ bars_in (form_of form.now) }
 {
     match form {
         Form::Condition(_) => Bars::First,
         Form::Define => Bars::Define,
-        Form::Group { .. } | Form::Atomic | Form::Look { .. } => Bars::Free,
+        Form::Asserting => Bars::First,
+        Form::Group { .. } | Form::Atomic | Form::Look { .. } | Form::Asserted { .. } => Bars::Free,
     }
 }
 
@@ -44,8 +52,12 @@ fn is_looking(form: &Form, around: bool) -> bool
     ensures { result ≡ (is_look (form_of form.now) || around) }
 {
     match form {
-        Form::Look { .. } => true,
-        Form::Group { .. } | Form::Atomic | Form::Condition(_) | Form::Define => around,
+        Form::Look { .. } | Form::Asserted { .. } => true,
+        Form::Group { .. }
+        | Form::Atomic
+        | Form::Condition(_)
+        | Form::Define
+        | Form::Asserting => around,
     }
 }
 
@@ -249,6 +261,7 @@ impl<'a> Machine<'a> {
         after: usize,
     ) -> Result<(), Memory>
         requires shallow { length self.old.stack.items < 250 }
+        requires tests_none { TestsNone (form_of form) }
         requires numbered { Numbered self.old.groups (number_of (form_of form)) groups }
         requires gives { Gives self.old.text.now self.old.groups given groups }
         requires ready { (token : Token) × Ready token after self.old × Begins self.old token after (Ok (inside (record { form = form_of form; around = self.old.options; looking = self.old.looking; bars = self.old.bars; at = self.old.at }) (record (state_of self.old) { at = after; options = options; groups = groups; depth = length self.old.stack.items + 1; looking = is_look (form_of form) || self.old.looking; bars = bars_in (form_of form); names = with_given self.old.text.now given self.old.draft.names; beyond = beyond }))) }
@@ -280,7 +293,53 @@ impl<'a> Machine<'a> {
         Ok(())
     }
 
-    /// A group ends.
+    /// A conditional group begins, and the lookaround that it tests.
+    pub(crate) fn enter_assertion(&mut self, test: Assertion) -> Result<(), Memory>
+        requires shallow { length self.old.stack.items + 1 < 250 }
+        requires onward { self.old.at < test.after.at }
+        requires before { test.here.at < test.after.at }
+        requires within { test.after.at ≤ length self.old.text.now }
+        requires ready { (token : Token) × (after : ℕ) × Ready token after self.old × (after ≤ test.after.at) × Begins self.old token after (Ok (asserting_from self.old test)) }
+        ensures { OnOk result (Took self.old self.new) }
+    {
+        let inner = Level {
+            branches: Kids::new(self.alloc),
+            parts: Kids::new(self.alloc),
+        };
+        let outer = mem::replace(&mut self.level, inner);
+        let group = Frame {
+            form: Form::Asserting,
+            around: self.options,
+            looking: self.looking,
+            bars: self.bars,
+            at: self.at as u32,
+            outer,
+        };
+        push_frame(&mut self.stack, group)?;
+        let none = Level {
+            branches: Kids::new(self.alloc),
+            parts: Kids::new(self.alloc),
+        };
+        let looks = Frame {
+            form: Form::Asserted {
+                ahead: test.ahead,
+                positive: test.positive,
+            },
+            around: self.options,
+            looking: self.looking,
+            bars: Bars::First,
+            at: test.here.at as u32,
+            outer: none,
+        };
+        push_frame(&mut self.stack, looks)?;
+        self.looking = true;
+        self.bars = Bars::Free;
+        self.quoting = test.after.quoting;
+        self.at = test.after.at;
+        Ok(())
+    }
+
+    /// A group ends. A lookaround that is tested is an alternative, any other group waits for a quantifier.
     pub(crate) fn close(&mut self, after: usize) -> Result<(), ReadError>
         requires { Ready Close after self.old }
         ensures ok { OnOk result (Took self.old self.new) }
@@ -303,13 +362,18 @@ impl<'a> Machine<'a> {
             });
         };
         let level = mem::replace(&mut self.level, outer);
+        let tested = is_tested(&form);
         let looks = is_look(&form);
         let id = group(&mut self.draft, form, level, at)?;
-        self.waiting = Some(atom_of(looks, id, at));
         self.options = around;
         self.looking = looking;
         self.bars = bars;
         self.at = after;
+        if tested {
+            self.level.branches.push(id)?;
+            return Ok(());
+        }
+        self.waiting = Some(atom_of(looks, id, at));
         Ok(())
     }
 

@@ -54,6 +54,13 @@ pub(crate) enum Form {
     Condition(Test),
     /// A conditional group that only defines.
     Define,
+    /// A lookaround that a conditional group tests.
+    Asserted {
+        ahead: bool,
+        positive: bool,
+    },
+    /// A conditional group that tests a lookaround, which is the first of its alternatives.
+    Asserting,
 }
 
 /// An open group: what holds around it (the options, whether that is inside a lookaround, and which alternatives may

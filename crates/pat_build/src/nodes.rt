@@ -4,9 +4,9 @@ ghost use Rattle.pat_tree.specs.Nested.{tree_at, trees, row, atomic};
 ghost use Rattle.pat_tree.specs.Growing.{EndsIn, Replaces, Makes};
 ghost use Rattle.pat_tree.specs.Rules.{number_in, AtMost};
 ghost use Rattle.pat_build.specs.declared.machine.Form.TheVariants as kept;
-ghost use Rattle.pat_build.specs.Groups.{number_of, built, conditional};
+ghost use Rattle.pat_build.specs.Groups.{number_of, built, conditional, asserting};
 ghost use Rattle.pat_build.specs.Parts.{alternative, once_more, repeat_of, is_lazy, repeated};
-ghost use Rattle.pat_build.specs.Machine.{Adds, Closes, CanHave, IsAtom, atom_tree, ids_of, form_of, test_of, cond_in};
+ghost use Rattle.pat_build.specs.Machine.{Adds, Closes, CanHave, HasTest, IsAtom, atom_tree, ids_of, form_of, test_of, cond_in};
 
 use crate::machine::{Atom, Form, Level, Test};
 use pat_lex::QuantMode;
@@ -142,6 +142,70 @@ fn condition_node(draft: &mut Draft, test: Test, branches: Kids, at: u32) -> Res
     }
 }
 
+/// The node of a conditional group with a test and one branch.
+fn single_assertion(draft: &mut Draft, branches: Kids, at: u32) -> Result<NodeId, Memory>
+    requires room { length draft.old.nodes < 4294967295 }
+    requires branches { All (λ k. k < length draft.old.nodes) branches }
+    requires loose { EndsIn draft.old.nodes branches }
+    requires few { length branches ≡ 2 }
+    requires test { HasTest asserting (map (tree_at (trees draft.old.nodes)) branches) }
+    ensures made { IfOk result (λ id. Makes draft.old.nodes draft.new.nodes id (built asserting (map (tree_at (trees draft.old.nodes)) branches))) }
+    ensures loose { IfOk result (λ id. Replaces draft.old.nodes branches draft.new.nodes id) }
+    ensures count { OnOk result (length draft.new.nodes ≡ length draft.old.nodes + 1) }
+    ensures closes { OnOk result (Closes draft.old draft.new asserting at) }
+{
+    let yes = *branches.get(1);
+    let node = Node::Cond {
+        test: Cond::Assert(*branches.get(0)),
+        yes,
+        no: None,
+    };
+    let id = draft.add(node, at)?;
+    Ok(id)
+}
+
+/// The node of a conditional group with a test and two branches.
+fn double_assertion(draft: &mut Draft, branches: Kids, at: u32) -> Result<NodeId, Memory>
+    requires room { length draft.old.nodes < 4294967295 }
+    requires branches { All (λ k. k < length draft.old.nodes) branches }
+    requires loose { EndsIn draft.old.nodes branches }
+    requires few { length branches ≡ 3 }
+    requires test { HasTest asserting (map (tree_at (trees draft.old.nodes)) branches) }
+    ensures made { IfOk result (λ id. Makes draft.old.nodes draft.new.nodes id (built asserting (map (tree_at (trees draft.old.nodes)) branches))) }
+    ensures loose { IfOk result (λ id. Replaces draft.old.nodes branches draft.new.nodes id) }
+    ensures count { OnOk result (length draft.new.nodes ≡ length draft.old.nodes + 1) }
+    ensures closes { OnOk result (Closes draft.old draft.new asserting at) }
+{
+    let no = *branches.get(2);
+    let yes = *branches.get(1);
+    let node = Node::Cond {
+        test: Cond::Assert(*branches.get(0)),
+        yes,
+        no: Some(no),
+    };
+    let id = draft.add(node, at)?;
+    Ok(id)
+}
+
+/// The node of a conditional group with these branches, the first of which is its test.
+fn assertion_node(draft: &mut Draft, branches: Kids, at: u32) -> Result<NodeId, Memory>
+    requires room { length draft.old.nodes < 4294967295 }
+    requires branches { All (λ k. k < length draft.old.nodes) branches }
+    requires loose { EndsIn draft.old.nodes branches }
+    requires few { CanHave asserting (length branches) }
+    requires test { HasTest asserting (map (tree_at (trees draft.old.nodes)) branches) }
+    ensures made { IfOk result (λ id. Makes draft.old.nodes draft.new.nodes id (built asserting (map (tree_at (trees draft.old.nodes)) branches))) }
+    ensures loose { IfOk result (λ id. Replaces draft.old.nodes branches draft.new.nodes id) }
+    ensures count { OnOk result (length draft.new.nodes ≡ length draft.old.nodes + 1) }
+    ensures closes { OnOk result (Closes draft.old draft.new asserting at) }
+{
+    if branches.len() == 2 {
+        single_assertion(draft, branches, at)
+    } else {
+        double_assertion(draft, branches, at)
+    }
+}
+
 /// The node of a group with these branches.
 fn form_node(draft: &mut Draft, form: Form, branches: Kids, at: u32) -> Result<NodeId, Memory>
     requires room { length draft.old.nodes < 4294967295 }
@@ -149,6 +213,7 @@ fn form_node(draft: &mut Draft, form: Form, branches: Kids, at: u32) -> Result<N
     requires loose { EndsIn draft.old.nodes branches }
     requires numbered { All (λ n. 1 ≤ n) (number_in (number_of (form_of form))) }
     requires few { CanHave (form_of form) (length branches) }
+    requires test { HasTest (form_of form) (map (tree_at (trees draft.old.nodes)) branches) }
     ensures made { IfOk result (λ id. Makes draft.old.nodes draft.new.nodes id (built (form_of form) (map (tree_at (trees draft.old.nodes)) branches))) }
     ensures loose { IfOk result (λ id. Replaces draft.old.nodes branches draft.new.nodes id) }
     ensures count { OnOk result (length draft.new.nodes ≡ length draft.old.nodes + 1) }
@@ -177,7 +242,18 @@ fn form_node(draft: &mut Draft, form: Form, branches: Kids, at: u32) -> Result<N
             let id = draft.add(node, at)?;
             Ok(id)
         }
+        Form::Asserted { ahead, positive } => {
+            let node = Node::Look {
+                ahead,
+                positive,
+                atomic: true,
+                branches,
+            };
+            let id = draft.add(node, at)?;
+            Ok(id)
+        }
         Form::Condition(test) => condition_node(draft, test, branches, at),
+        Form::Asserting => assertion_node(draft, branches, at),
         Form::Define => {
             let node = Node::Cond {
                 test: Cond::Never,
@@ -198,6 +274,7 @@ pub(crate) fn group(draft: &mut Draft, form: Form, level: Level, at: u32) -> Res
     requires loose { EndsIn draft.old.nodes (level.branches ++ level.parts) }
     requires numbered { All (λ n. 1 ≤ n) (number_in (number_of (form_of form))) }
     requires few { CanHave (form_of form) (length level.branches + 1) }
+    requires test { HasTest (form_of form) (map (tree_at (trees draft.old.nodes)) level.branches) }
     ensures made { IfOk result (λ id. Makes draft.old.nodes draft.new.nodes id (built (form_of form) (map (tree_at (trees draft.old.nodes)) level.branches ++ alternative (map (tree_at (trees draft.old.nodes)) level.parts) ∷ []))) }
     ensures loose { IfOk result (λ id. Replaces draft.old.nodes (level.branches ++ level.parts) draft.new.nodes id) }
     ensures count { OnOk result (length draft.new.nodes ≤ length draft.old.nodes + 2) }

@@ -3,13 +3,14 @@ ghost use Rattle.std.specs.Prelude.{◌≡◌, ℕ, ◌<◌, not, ◌&&◌, [], 
 ghost use Rattle.token_parts.specs.declared.token.Token.{Token};
 ghost use Rattle.token_parts.specs.declared.token.Token.TheVariants.{Open, CondStart, Reference};
 ghost use Rattle.token_parts.specs.declared.token.OpenKind.TheVariants as opening;
+ghost use Rattle.token_parts.specs.declared.token.CondText.TheVariants as tested;
 ghost use Rattle.token_parts.specs.Tell.{IsTarget, IsPart, IsTest};
 ghost use Rattle.pat_tree.specs.Nested.{in_call_of};
 ghost use Rattle.pat_build.specs.Names.{IsKnown};
 ghost use Rattle.std.specs.List.{list_any};
-ghost use Rattle.pat_build.specs.Groups.{has_name, number_of, opened, conditional, unless_named, called_number, called_by, form_in, is_beyond, beyond_after, named_by};
+ghost use Rattle.pat_build.specs.Groups.{has_name, number_of, opened, conditional, unless_named, called_number, called_by, IsWorded, form_in, is_beyond, beyond_after, named_by};
 ghost use Rattle.pat_build.specs.Parts.{enters};
-ghost use Rattle.pat_build.specs.Machine.{Named, Ready, Begins, Took, Refuses, form_of, test_of, state_of, whole_of, known_of};
+ghost use Rattle.pat_build.specs.Machine.{Named, Ready, Begins, Took, TestsNone, Refuses, form_of, test_of, state_of, whole_of, known_of};
 
 use crate::error::ReadError;
 use crate::machine::{Form, Machine, Test};
@@ -45,6 +46,7 @@ impl<'a> Machine<'a> {
         after: usize,
     ) -> Result<(), ReadError>
         requires numberless { number_of (form_of form) ≡ None }
+        requires tests_none { TestsNone (form_of form) }
         requires ready { (token : Token) × Ready token after self.old × Begins self.old token after (enters (opened (state_of self.old) (form_of form) (record (state_of self.old) { at = after; options = options }))) }
         ensures ok { OnOk result (Took self.old self.new) }
         ensures bad { IfErr result (Refuses (whole_of self.old)) }
@@ -173,6 +175,7 @@ impl<'a> Machine<'a> {
         requires known { IsKnown self.now.text.now self.now.known.now }
         requires part { IsPart self.now.text.now from to }
         ensures numberless { IfOk result (λ form. number_of (form_of form) ≡ None) }
+        ensures tests_none { IfOk result (λ form. TestsNone (form_of form)) }
         ensures is { IfOk result (λ form. form_of form ≡ conditional (unless_named (known_of self.now) (slice_range self.now.text.now from to) (test_of test))) }
     {
         if self.is_named(from, to) {
@@ -203,6 +206,7 @@ impl<'a> Machine<'a> {
         requires part { IsPart self.now.text.now from to }
         ensures ok { IfOk result (λ form. form_in (known_of self.now) self.now.text.now (state_of self.now) cond (slice_range self.now.text.now from to) ≡ Ok (form_of form)) }
         ensures numberless { IfOk result (λ form. number_of (form_of form) ≡ None) }
+        ensures tests_none { IfOk result (λ form. TestsNone (form_of form)) }
         ensures bad { IfErr result (Refuses (form_in (known_of self.now) self.now.text.now (state_of self.now) cond (slice_range self.now.text.now from to))) }
     {
         match cond {
@@ -220,7 +224,7 @@ impl<'a> Machine<'a> {
                 Ok(Form::Condition(named_call(groups)))
             }
             CondText::Define => Ok(Form::Define),
-            CondText::Lookaround => Err(self.fault(195)),
+            CondText::Lookaround => Err(self.fault(128)),
         }
     }
 
@@ -251,7 +255,28 @@ impl<'a> Machine<'a> {
         }
     }
 
-    /// A conditional group begins, whose test stands between these places.
+    /// A conditional group begins that tests a lookaround.
+    fn tested_condition(&mut self, from: usize, to: usize, after: usize) -> Result<(), ReadError>
+        requires { Ready (CondStart tested.Lookaround from to) after self.old }
+        ensures ok { OnOk result (Took self.old self.new) }
+        ensures bad { IfErr result (Refuses (whole_of self.old)) }
+    {
+        if self.stack.len() >= DEEPEST {
+            return Err(self.fault(119));
+        }
+        let cursor = self.cursor(after);
+        let test = cursor.assertion(self.at)?;
+        if self.stack.len() + 1 >= DEEPEST {
+            return Err(ReadError::Bad {
+                number: 119,
+                at: test.here.at,
+            });
+        }
+        self.enter_assertion(test)?;
+        Ok(())
+    }
+
+    /// A conditional group begins.
     pub(crate) fn condition(
         &mut self,
         cond: CondText,
@@ -260,6 +285,27 @@ impl<'a> Machine<'a> {
         after: usize,
     ) -> Result<(), ReadError>
         requires { Ready (CondStart cond from to) after self.old }
+        ensures ok { OnOk result (Took self.old self.new) }
+        ensures bad { IfErr result (Refuses (whole_of self.old)) }
+    {
+        match cond {
+            CondText::Lookaround => self.tested_condition(from, to, after),
+            CondText::Group(_) | CondText::InCall | CondText::InCallOf(_) | CondText::Define => {
+                self.worded_condition(cond, from, to, after)
+            }
+        }
+    }
+
+    /// A conditional group begins, whose test stands between these places.
+    fn worded_condition(
+        &mut self,
+        cond: CondText,
+        from: usize,
+        to: usize,
+        after: usize,
+    ) -> Result<(), ReadError>
+        requires ready { Ready (CondStart cond from to) after self.old }
+        requires worded { IsWorded cond }
         ensures ok { OnOk result (Took self.old self.new) }
         ensures bad { IfErr result (Refuses (whole_of self.old)) }
     {

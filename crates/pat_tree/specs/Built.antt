@@ -1,4 +1,4 @@
--- The patterns that are told about and searched: without conditions on lookarounds, calls, verbs and callouts.
+-- The patterns that are told about and searched: without calls, verbs and callouts.
 -- No class asks for a property of Unicode, and `\b` and `\B` go by the word characters of ASCII.
 use Rattle.std.specs.Prelude.{Bool, true, false, not, IsTrue, All}
 use Rattle.pat_tree.specs.declared.nodes.AnchorKind.{AnchorKind}
@@ -44,7 +44,7 @@ abbrev mutual
   IsBuiltTest tree.in_call = Unit {0}
   IsBuiltTest (tree.in_call_of ns) = Unit {0}
   IsBuiltTest tree.never = Unit {0}
-  IsBuiltTest (tree.assert ahead positive once ts) = ⊥
+  IsBuiltTest (tree.assert ahead positive once ts) = AreBuilt ts
   IsBuiltTest (tree.called c test) = ⊥
 
   pub IsBuiltOther : Other → Type 0

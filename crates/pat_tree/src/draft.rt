@@ -11,7 +11,7 @@ ghost use Rattle.pat_tree.specs.Growing.{Makes, loose, without, is_fresh, Replac
 use crate::group_set::GroupSet;
 use crate::lists::Word;
 use crate::memory::Memory;
-use crate::names::NameTable;
+use crate::names::{NameEntry, NameTable};
 use crate::nodes::{ClassSpec, Cond, Node, NodeId, Placed};
 use crate::options::Options;
 use crate::tree::Tree;
@@ -124,6 +124,13 @@ impl Draft {
         ensures refused { OnErr result (self.new ≡ self.old) }
     {
         self.names.add(self.alloc, name, group)
+    }
+
+    /// The names that were given so far, by their bytes, then by the group.
+    pub fn names(&self) -> &[NameEntry]
+        ensures { result.now ≡ self.now.names }
+    {
+        self.names.entries()
     }
 
     /// The tree of a root, where each reference, condition and call of the nodes names groups that stand on a node.

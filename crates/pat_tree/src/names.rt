@@ -69,6 +69,13 @@ impl NameTable {
         self.entries[i].group
     }
 
+    /// The pairs, in order.
+    pub fn entries(&self) -> &[NameEntry]
+        ensures { result.now ≡ self.now }
+    {
+        &self.entries
+    }
+
     /// Puts a pair in its place; one that is there changes nothing. The table is unchanged after a refusal.
     pub(crate) fn add(&mut self, alloc: Global, name: &[u8], group: u16) -> Result<(), Memory>
         ensures ok { OnOk result (self.new ≡ with_name (record { name = name.now; group = group }) self.old) }

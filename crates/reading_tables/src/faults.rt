@@ -282,14 +282,12 @@ fn a_name_of_a_verb_has_255_bytes(rt: HostRuntime) -> Result<(), Fail> {
 
 #[test]
 fn what_is_not_built(rt: HostRuntime) {
-    static ROWS: [(&'static str, i32, usize); 8] = [
+    static ROWS: [(&'static str, i32, usize); 6] = [
         (r"\pL", 195, 0),
         (r"a\P{Greek}", 195, 1),
         (r"[a\p{Nd}]", 195, 2),
         ("(*UTF)a", 195, 0),
         ("(*CR)(*UCP)a", 195, 5),
-        ("(?(?=a)b)", 195, 0),
-        ("a(?(*nla:a)b)", 195, 1),
         ("a(?|b)", 195, 1),
     ];
     are_refused(&rt, rt.alloc(), &ROWS);
@@ -370,6 +368,33 @@ fn faults_of_conditions(rt: HostRuntime) {
         ("(?(1)a", 114, 6),
         ("(?(1)a))", 122, 7),
         ("(?(1)a)**()", 109, 8),
+    ];
+    are_refused(&rt, rt.alloc(), &ROWS);
+}
+
+#[test]
+fn faults_of_lookarounds_that_are_tested(rt: HostRuntime) {
+    static ROWS: [(&'static str, i32, usize); 20] = [
+        ("(?(?<n>a)b)", 128, 0),
+        ("x(?(?:a)b)", 128, 1),
+        ("(?(?*a)b)", 128, 0),
+        ("(?(?<*a)b)", 128, 0),
+        ("(?(*napla:a)b)", 128, 0),
+        ("(?(*foo:a)b)", 128, 0),
+        ("x(?(?#abc)a)b)", 128, 1),
+        ("(?(?#abc", 128, 0),
+        ("(?(?", 128, 0),
+        ("(?(*", 128, 0),
+        ("(?(?C1)(?=a)b)", 195, 2),
+        ("x(?(?=a)*b)", 109, 8),
+        ("(?(?=a)b|c|d)", 127, 10),
+        ("(?(?=a|b|c)d|e|f)", 127, 14),
+        ("(?(?=a)", 114, 7),
+        ("(?(?=a", 114, 6),
+        (r"(?(?=a\Kb)c)", 199, 6),
+        (r"(?(?=(a)\2)c)", 115, 8),
+        ("(?(?=a)b))", 122, 9),
+        ("(?(?=a)b)*+*", 109, 11),
     ];
     are_refused(&rt, rt.alloc(), &ROWS);
 }

@@ -9,7 +9,8 @@
 //! - `a{2,5}` is a repeat of what takes one character, `(a)*{2,5}` a repeat of another part. A lazy one has `?` at its end, one
 //!   without a maximum is `{2,}`.
 //! - `(>a|b)` is an atomic group, `(=a)` and `(!a)` are lookaheads, `(*a)` one that isn't atomic. `(?[1,2]a|b)` is a
-//!   conditional group on groups, `(?Ra)` one on any call, `(?R[1]a)` one on a call of a group, `(?nevera)` a DEFINE.
+//!   conditional group on groups, `(?Ra)` one on any call, `(?R[1]a)` one on a call of a group, `(?nevera)` a DEFINE, and
+//!   `(?(=a)b)` one on a lookaround.
 //! - `=1` is a reference, `=1=2` one to the first set of two groups.
 //! - `^` and `$` have an `m` where they hold at lines, `$` an `e` where it holds at the subject's end alone. Other assertions,
 //!   `\R` and `\K` are written as in patterns.
@@ -59,7 +60,7 @@ fn numbers(text: &mut String, groups: &GroupList) -> Result<(), Fail> {
     Ok(())
 }
 
-fn tested(text: &mut String, test: &Cond) -> Result<(), Fail> {
+fn tested(text: &mut String, test: &Cond, texts: &[String]) -> Result<(), Fail> {
     match test {
         Cond::AnySet(groups) => numbers(text, groups)?,
         Cond::InCall => text.push('R')?,
@@ -68,7 +69,7 @@ fn tested(text: &mut String, test: &Cond) -> Result<(), Fail> {
             numbers(text, groups)?;
         }
         Cond::Never => text.push_str("never")?,
-        Cond::Assert(_) => text.push_str("look")?,
+        Cond::Assert(id) => text.push_str(text_of(texts, *id))?,
     }
     Ok(())
 }
@@ -121,7 +122,7 @@ fn node_text(alloc: Global, tree: &Tree, node: &Node, texts: &[String]) -> Resul
         }
         Node::Cond { test, yes, no } => {
             text.push_str("(?")?;
-            tested(&mut text, test)?;
+            tested(&mut text, test, texts)?;
             text.push_str(text_of(texts, *yes))?;
             if let Some(no) = no {
                 text.push('|')?;

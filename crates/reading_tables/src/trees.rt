@@ -288,3 +288,19 @@ fn conditional_groups(rt: HostRuntime) -> Result<(), Fail> {
     ];
     are_read(&rt, rt.alloc(), &ROWS)
 }
+
+#[test]
+fn conditional_groups_that_test_lookarounds(rt: HostRuntime) -> Result<(), Fail> {
+    static ROWS: [(&'static str, &'static str); 9] = [
+        ("(?(?=a)b|c)", "((?(=a)b|c))"),
+        ("(?(?!a|b)c)", "((?(!a|b)c))"),
+        ("(?(?<=a)|bc)", "((?(<=a)-|<b c>))"),
+        (r"(?(?#x)\E(?<!(a))b)", "((?(<!(1:a))b))"),
+        ("(?(?=a)(?(?=b)c)|d)", "((?(=a)(?(=b)c)|d))"),
+        ("(?(*pla:a)b)*", "((?(=a)b)*{0,})"),
+        ("(?i)(?(?=a)(?-i)b|c)d", "(<(?(=~a)b|c) ~d>)"),
+        ("(?(?=(?i)a)b)", "((?(=~a)b))"),
+        ("x(?(?=a)(b)|(c))(d)", "(<x (?(=a)(1:b)|(2:c)) (3:d)>)"),
+    ];
+    are_read(&rt, rt.alloc(), &ROWS)
+}

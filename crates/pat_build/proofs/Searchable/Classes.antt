@@ -12,8 +12,8 @@ use Rattle.token_parts.specs.declared.token.Token.TheVariants as token
 use Rattle.token_parts.specs.Tell.{fault}
 use Rattle.pat_lex.specs.Tokens.{token_at}
 use Rattle.pat_tree.specs.Built.{is_plain, IsPlain}
-use Rattle.pat_build.specs.State.{State, Reads, flags_of, next, passed_over}
-use Rattle.pat_build.specs.Classes.{Item, character, is_last, part_then, item, range_or_hyphen, from_character, from_set, from_item, class_parts, class_spec}
+use Rattle.pat_build.specs.State.{State, Reads, flags_of, next, passed_over, Item, item}
+use Rattle.pat_build.specs.Classes.{character, is_last, part_then, range_or_hyphen, from_character, from_set, from_item, class_parts, class_spec}
 use Rattle.pat_build.proofs.Holding.{Holds, holds_ok, holds_err, holds_then, holds_if}
 use Rattle.pat_build.proofs.Searchable.Tokens.{NoProperty, AsksNoProperty, plain_token}
 
@@ -52,7 +52,7 @@ set_is_plain _ opposite true none off = cc
 set_is_plain _ opposite false none off = refl
 
 -- an item of a class, and the states before it and after it
-abbrev ItemKeeps : Item → Type 0
+abbrev pub ItemKeeps : Item → Type 0
 ItemKeeps i = AsksNoProperty i.0 × Keeps i.1 × Keeps i.2
 
 abbrev pub IsPlainPart : Part → Type 0
@@ -72,18 +72,18 @@ part_then_keeps p rest plain h =
     (λ r k. holds_ok PartsKeep (p ∷ r.0, r.1) (All-cons IsPlainPart p r.0 plain k.0, k.1))
 
 module _ (text : List ℕ) where
-  item_passed : (n : ℕ) (t : Token) (st after : State) (o : Option State) → AsksNoProperty t → Keeps st → Keeps after →
-      ((st : State) → Keeps st → Holds ItemKeeps (item text n st)) → KeepsSome o →
-      Holds ItemKeeps (elim o [ Some beyond ↦ item text n beyond | None ↦ Ok (t, st, after) ])
-  item_passed n t st after (Some beyond) plain h k again l = again beyond l
-  item_passed n t st after None plain h k again l = holds_ok ItemKeeps (t, st, after) (plain, h, k)
+  item_passed : (in_class : Bool) (n : ℕ) (t : Token) (st after : State) (o : Option State) → AsksNoProperty t → Keeps st → Keeps after →
+      ((st : State) → Keeps st → Holds ItemKeeps (item text in_class n st)) → KeepsSome o →
+      Holds ItemKeeps (elim o [ Some beyond ↦ item text in_class n beyond | None ↦ Ok (t, st, after) ])
+  item_passed in_class n t st after (Some beyond) plain h k again l = again beyond l
+  item_passed in_class n t st after None plain h k again l = holds_ok ItemKeeps (t, st, after) (plain, h, k)
 
-  item_keeps : (n : ℕ) (st : State) → Keeps st → Holds ItemKeeps (item text n st)
+  pub item_keeps : (in_class : Bool) (n : ℕ) (st : State) → Keeps st → Holds ItemKeeps (item text in_class n st)
   unfolding item
-  item_keeps zero st h = holds_err ItemKeeps _
-  item_keeps (suc n) st h =
-      holds_then KeepsAfter ItemKeeps (next text true st) _ (next_keeps text true st h)
-      (λ r k. item_passed n r.0 st r.1 (passed_over r.0 r.1) k.0 h k.1 (item_keeps n) (passed_keeps r.0 r.1 k.1))
+  item_keeps in_class zero st h = holds_err ItemKeeps _
+  item_keeps in_class (suc n) st h =
+      holds_then KeepsAfter ItemKeeps (next text in_class st) _ (next_keeps text in_class st h)
+      (λ r k. item_passed in_class n r.0 st r.1 (passed_over r.0 r.1) k.0 h k.1 (item_keeps in_class n) (passed_keeps r.0 r.1 k.1))
 
   module _ (n : ℕ) (rest : State → Reads (List Part)) (keeps : RestKeeps rest) where
     range_ends : (o : Option ℕ) (c : ℕ) (last : Bool) (here before end : State) → Keeps before → Keeps end →
@@ -100,19 +100,19 @@ module _ (text : List ℕ) where
         Holds PartsKeep (range_or_hyphen text n rest c here before after)
     unfolding range_or_hyphen
     range_keeps c here before after h k =
-        holds_then ItemKeeps PartsKeep (item text n after) _ (item_keeps n after k)
+        holds_then ItemKeeps PartsKeep (item text true n after) _ (item_keeps true n after k)
         (λ i l. range_ends (character i.0) c (is_last i.0) here before i.2 h l.2)
 
     from_character_keeps : (c : ℕ) (here after : State) → Keeps after → Holds PartsKeep (from_character text n rest c here after)
     unfolding from_character
     from_character_keeps c here after h =
-        holds_then ItemKeeps PartsKeep (item text n after) _ (item_keeps n after h)
+        holds_then ItemKeeps PartsKeep (item text true n after) _ (item_keeps true n after h)
         (λ i k. holds_if PartsKeep _ _ _ (range_keeps c here i.1 i.2 k.1 k.2) (part_then_keeps (part.Range c c) _ refl (keeps after h)))
 
     from_set_keeps : (set : Part) (after : State) → IsPlainPart set → Keeps after → Holds PartsKeep (from_set text n rest set after)
     unfolding from_set
     from_set_keeps set after plain h =
-        holds_then ItemKeeps PartsKeep (item text n after) _ (item_keeps n after h)
+        holds_then ItemKeeps PartsKeep (item text true n after) _ (item_keeps true n after h)
         (λ i k. holds_if PartsKeep _ _ _ (holds_err PartsKeep _) (part_then_keeps set _ plain (keeps after h)))
 
     from_item_keeps : (first : Bool) (t : Token) (here after : State) → AsksNoProperty t → Keeps here → Keeps after →
@@ -130,7 +130,7 @@ module _ (text : List ℕ) where
   unfolding class_parts
   class_parts_keep zero first st h = holds_err PartsKeep _
   class_parts_keep (suc n) first st h =
-      holds_then ItemKeeps PartsKeep (item text n st) _ (item_keeps n st h)
+      holds_then ItemKeeps PartsKeep (item text true n st) _ (item_keeps true n st h)
       (λ i k. from_item_keeps n (class_parts text n false) (class_parts_keep n false) first i.0 i.1 i.2 k.0 k.1 k.2)
 
   -- a class, and the state after it

@@ -1,5 +1,5 @@
 -- What is read is built of forms that can be searched.
-use Rattle.std.proofs.Common.{◌≡◌, ℕ, zero, suc, ◌+◌, ◌-◌, ◌*◌, Bool, true, false, ◌||◌, nat_lt, List, [], ◌∷◌, ◌++◌, length, map, not, Option, Some, None, Ok, refl, ap, All, slice_range, if◌then◌else◌}
+use Rattle.std.proofs.Common.{◌≡◌, ℕ, zero, suc, ◌+◌, ◌-◌, ◌*◌, Bool, true, false, ◌||◌, nat_lt, List, [], ◌∷◌, ◌++◌, length, map, not, Option, Some, None, Result, Ok, Err, refl, ap, All, slice_range, if◌then◌else◌}
 use Rattle.std.proofs.lemmas.List.Elements.{All-nil, All-cons, All-append}
 use Rattle.pat_tree.specs.declared.options.Options.{Options}
 use Rattle.pat_tree.specs.declared.nodes.Item.TheVariants as item
@@ -18,19 +18,19 @@ use Rattle.token_parts.specs.declared.token.Token.{Token}
 use Rattle.token_parts.specs.declared.token.Token.TheVariants as token
 use Rattle.token_parts.specs.Tell.{fault, ◌>>=◌}
 use Rattle.pat_tree.specs.Built.{IsBuilt, AreBuilt, IsBuiltTest, IsPlain}
-use Rattle.pat_build.specs.State.{State, Reads, next, passed_over}
+use Rattle.pat_build.specs.State.{State, Reads, Item, item, next, passed_over}
 use Rattle.pat_build.specs.Options.{with_setting, with_item}
 use Rattle.std.specs.List.{list_any}
 use Rattle.token_parts.specs.declared.token.Target.TheVariants.{Number}
 use Rattle.token_parts.specs.declared.token.CondText.{CondText}
 use Rattle.token_parts.specs.declared.token.CondText.TheVariants as tested
-use Rattle.pat_build.specs.Groups.{Form, grouped, atomically, looks, conditional, defines, branched, barred, has_name, unless_named, called_by, form_in, beyond_after, built, noted, Opening, Opens, opened, captured, named, named_by, missing}
-use Rattle.pat_build.specs.Parts.{alternative, repeat_of, repeated, Beginning, atom, bare, inside, nothing, over, enters, of_class, type_class, any_or_line, boundary, conditions, beginning}
+use Rattle.pat_build.specs.Groups.{Form, grouped, atomically, looks, conditional, defines, asserted, asserting, branched, barred, has_name, unless_named, called_by, form_in, beyond_after, built, noted, Opening, Opens, opened, captured, named, named_by, missing}
+use Rattle.pat_build.specs.Parts.{alternative, repeat_of, repeated, Beginning, atom, bare, inside, asserts, nothing, over, enters, Assertion, asserted_by, settled, assertion, assertions, of_class, type_class, any_or_line, boundary, conditions, beginning}
 use Rattle.pat_build.specs.Reading.{quantified, closed, part_then, parts_from, alternatives_from, sequence, alternatives, whole, started, start, reading, literally, checked, read_from, read}
 use Rattle.pat_build.specs.Searchable.{IsSearchable, SearchableLaw}
 use Rattle.pat_build.proofs.Holding.{Holds, holds_ok, holds_err, holds_then, holds_if, holds_where, holds_any, holds_of}
 use Rattle.pat_build.proofs.Searchable.Tokens.{AsksNoProperty}
-use Rattle.pat_build.proofs.Searchable.Classes.{IsPlainPart, Fits, Keeps, KeepsAfter, next_keeps, KeepsSome, passed_keeps, set_is_plain, ClassKeeps, class_keeps}
+use Rattle.pat_build.proofs.Searchable.Classes.{IsPlainPart, Fits, Keeps, KeepsAfter, next_keeps, KeepsSome, passed_keeps, set_is_plain, ClassKeeps, class_keeps, ItemKeeps, item_keeps}
 
 abbrev AllBuilt : List Nested → Type 0
 AllBuilt [] = Unit {0}
@@ -79,6 +79,11 @@ record IsWithout (options : Options) : Type 0 where
   pub utf : options.utf ≡ false
   pub ucp : options.ucp ≡ false
 
+test_built : (t : Nested) → IsBuilt t → IsBuiltTest (tree.test_of t)
+test_built (tree.look ahead positive once ts) h = h
+test_built (tree.seq (tree.more (tree.callout c) ts)) h = absurd h.0
+test_built _ h = tt
+
 branched_built : (test : Test) (ts : List Nested) → IsBuiltTest test → AllBuilt ts → IsBuilt (branched test ts)
 branched_built test [] b h = (b, tt, tt)
 branched_built test (yes' ∷ []) b h = (b, h.0, tt)
@@ -91,6 +96,8 @@ IsBuiltForm atomically = Unit {0}
 IsBuiltForm (looks ahead positive once) = Unit {0}
 IsBuiltForm (conditional test) = IsBuiltTest test
 IsBuiltForm defines = Unit {0}
+IsBuiltForm (asserted ahead positive) = Unit {0}
+IsBuiltForm asserting = Unit {0}
 
 form_built : (form : Form) (ts : List Nested) → IsBuiltForm form → AllBuilt ts → IsBuilt (built form ts)
 form_built (grouped number) ts f h = row_built ts h
@@ -98,6 +105,9 @@ form_built atomically ts f h = row_built ts h
 form_built (looks ahead positive once) ts f h = row_built ts h
 form_built (conditional test) ts f h = branched_built test ts f h
 form_built defines ts f h = branched_built tree.never ts tt h
+form_built (asserted ahead positive) ts f h = row_built ts h
+form_built asserting [] f h = branched_built tree.never [] tt h
+form_built asserting (t ∷ ts) f h = branched_built (tree.test_of t) ts (test_built t h.0) h.1
 
 -- a group, whose end puts the options around it back
 abbrev IsOpening : Opening → Type 0
@@ -153,6 +163,7 @@ abbrev Begins : Beginning → Type 0
 Begins (atom t after) = IsBuilt t × Keeps after
 Begins (bare t after) = IsBuilt t × Keeps after
 Begins (inside opening begun) = IsOpening opening × Keeps begun
+Begins (asserts how test begun) = IsOpening how × IsOpening test × Keeps begun
 Begins (nothing after) = Keeps after
 Begins over = Unit {0}
 
@@ -166,6 +177,26 @@ conditions_begin known text st h cond word after k =
     holds_if Begins _ _ _ (holds_err Begins _)
     (holds_then IsBuiltForm Begins _ _ (form_of_test known text st cond word)
     (λ form f. enters_begins _ (opened_keeps st h form (record after { beyond = beyond_after known st cond word }) f k)))
+
+-- the states around the lookaround that is tested
+abbrev TestKeeps : Assertion → Type 0
+TestKeeps a = Keeps a.2 × Keeps a.3
+
+asserted_keeps : (at : ℕ) (t : Token) (here after : State) → Keeps here → Keeps after → Holds TestKeeps (asserted_by at t here after)
+asserted_keeps at (token.Open (opening.Look ahead positive true)) here after h k = holds_ok TestKeeps (ahead, positive, here, after) (h, k)
+asserted_keeps at _ here after h k = holds_err TestKeeps _
+
+settled_keeps : (at : ℕ) (found : Result Item Fault) → Holds ItemKeeps found → Holds TestKeeps (settled at found)
+settled_keeps at (Ok (t, here, after)) h = let i = holds_of ItemKeeps (Ok (t, here, after)) (t, here, after) h refl in asserted_keeps at t here after i.1 i.2
+settled_keeps at (Err f) h = holds_err TestKeeps _
+
+assertions_begin : (text : List ℕ) (n : ℕ) (st : State) → Keeps st → (after : State) → Keeps after → Holds Begins (assertions text n st after)
+unfolding assertions assertion
+assertions_begin text n st h after k =
+    holds_then GroupKeeps Begins _ _ (opened_keeps st h asserting after tt k)
+    (λ g l. holds_then TestKeeps Begins _ _ (settled_keeps st.at (item text false n g.1) (item_keeps text false n g.1 l.1))
+    (λ a m. holds_then GroupKeeps Begins _ _ (opened_keeps a.2 m.0 (asserted a.0 a.1) a.3 tt m.1)
+    (λ t p. holds_ok Begins (asserts g.0 t.0 t.1) (l.0, p.0, p.1))))
 
 any_built : (dotall : Bool) → IsBuilt (any_or_line dotall)
 any_built true = tt
@@ -214,6 +245,7 @@ module _ (known : List NameEntry) (text : List ℕ) where
   begins n st (token.Open opening.Plain) after h plain k = enters_begins _ (opened_keeps st h (grouped None) after tt k)
   begins n st (token.Open opening.Atomic) after h plain k = enters_begins _ (opened_keeps st h atomically after tt k)
   begins n st (token.Open (opening.Look ahead positive once)) after h plain k = enters_begins _ (opened_keeps st h (looks ahead positive once) after tt k)
+  begins n st (token.CondStart tested.Lookaround from to) after h plain k = assertions_begin text n st h after k
   begins n st (token.CondStart cond from to) after h plain k = conditions_begin known text st h cond (slice_range text from to) after k
   begins n st (token.Open (opening.Named from to)) after h plain k = enters_begins _ (named_keeps st h (slice_range text from to) after k)
   begins n st (token.OptionSet reset on off true) after h plain k =
@@ -292,6 +324,13 @@ module _ (text : List ℕ) where
       (holds_then TreesKeep TreeKeeps (inner begun) _ (g begun k.1)
       (λ r l. holds_then TreeKeeps TreeKeeps _ _ (closed_keeps opening r.0 r.1 k.0 l.0 l.1)
       (λ s m. quantified_keeps n s.0 s.1 m.0 m.1)))
+  parts_keep n inner rest st (asserts how test begun) g goes h k =
+      part_then_keeps rest _ goes
+      (holds_then TreesKeep TreeKeeps (inner begun) _ (g begun k.2)
+      (λ r l. holds_then TreeKeeps TreeKeeps _ _ (closed_keeps test r.0 r.1 k.1 l.0 l.1)
+      (λ s m. holds_then TreesKeep TreeKeeps (inner s.1) _ (g s.1 m.1)
+      (λ q o. holds_then TreeKeeps TreeKeeps _ _ (closed_keeps how (s.0 ∷ q.0) q.1 k.0 (m.0, o.0) o.1)
+      (λ w v. quantified_keeps n w.0 w.1 v.0 v.1)))))
   parts_keep n inner rest st (nothing after) g goes h k = goes after k
   parts_keep n inner rest st over g goes h k = holds_ok TreesKeep ([], st) (tt, h)
 

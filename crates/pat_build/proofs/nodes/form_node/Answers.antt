@@ -3,7 +3,7 @@ use Rattle.pat_tree.specs.Rules.{number_in}
 use Rattle.pat_tree.specs.Refs.{is_in}
 use Rattle.pat_tree.proofs.Loose.{fresh_at_end}
 use Rattle.pat_tree.specs.Growing.{EndsIn, is_fresh, loose}
-use Rattle.pat_build.specs.Groups.{grouped, atomically, looks, defines, places_named}
+use Rattle.pat_build.specs.Groups.{grouped, atomically, looks, asserted, defines, places_named}
 use Rattle.pat_build.proofs.Conditions.{one_get}
 use Rattle.pat_build.specs.Machine.{is_number}
 use Rattle.pat_build.proofs.States.{or_false}
@@ -70,3 +70,12 @@ returns-in_ok-id-in-Define-clause-closes c =
     let few : length c.args.branches ≡ 1 = rw c.in-Define.is at c.requires.few in
     let last = subst (EndsIn c.args.draft.now.nodes) (one_get c.args.branches c.get.result.now few c.get.ensures) c.requires.loose in
     rw c.in-Define.is (closes_node c.args.draft.now c.add-in-Define.new.self _ defines e.grows e.refs refl refl e.groups (λ n. refl) last)
+
+pub add-requires-in-Asserted-clause-fresh : goal.add-requires-in-Asserted-clause-fresh
+add-requires-in-Asserted-clause-fresh c = fresh_at_end c.requires.loose
+
+pub returns-in_ok-id-in-Asserted-clause-closes : goal.returns-in_ok-id-in-Asserted-clause-closes
+unfolding places_named
+returns-in_ok-id-in-Asserted-clause-closes c =
+    let e = c.in_ok-id-in-Asserted.ensures in
+    rw c.in-Asserted.is (closes_node c.args.draft.now c.add-in-Asserted.new.self _ (asserted c.in-Asserted.ahead c.in-Asserted.positive) e.grows e.refs refl refl e.groups (λ n. refl) c.requires.loose)

@@ -3,6 +3,8 @@ use Rattle.pat_tree.specs.Nested.{tree_at, trees}
 use Rattle.pat_tree.specs.Growing.{loose, Stand}
 use Rattle.pat_tree.proofs.Growing.{stand_made, makes_then}
 use Rattle.pat_build.specs.Parts.{alternative}
+use Rattle.pat_build.specs.Machine.{form_of}
+use Rattle.pat_build.proofs.Nesting.{has_push}
 use Rattle.pat_build.proofs.Extending.{closes_then}
 use Rattle.pat_build.proofs.nodes.group.Goals as goal
 use Rattle.pat_build.proofs.nodes.group.Goals.{In_ok-push}
@@ -51,3 +53,8 @@ form_node-requires-clause-few c = rw (c.in_ok-push.ensures.ok, length-append c.a
 
 pub returns-clause-closes : goal.returns-clause-closes
 returns-clause-closes c = closes_then c.in_ok-last.ensures.adds c.in_ok-id.ensures.closes
+
+pub form_node-requires-clause-test : goal.form_node-requires-clause-test
+form_node-requires-clause-test c =
+    let s = stands (goal.at.form_node-requires-clause-test c).In_ok-push in
+    rw s.trees_are (has_push (form_of c.args.form) (map (tree_at (trees c.args.draft.now.nodes)) c.args.level.branches) _ c.requires.test)

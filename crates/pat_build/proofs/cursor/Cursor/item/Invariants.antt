@@ -3,7 +3,7 @@ use Rattle.pat_build.proofs.Spots.{Passes}
 use Rattle.pat_build.proofs.cursor.Cursor.item.Given as goal
 
 abbrev pub invariant-passing : goal.invariant-passing
-invariant-passing l = Passes l.self l.fn.place l.here
+invariant-passing l = Passes l.self l.fn.in_class l.fn.place l.here
 
 abbrev pub decreases-passing : goal.decreases-passing
 decreases-passing l = length l.self.text.now - l.here.at

@@ -3,7 +3,7 @@ use Rattle.std.proofs.lemmas.List.{reverse-append}
 use Rattle.pat_build.specs.Machine.{form_of}
 use Rattle.pat_build.proofs.States.{nothing_in}
 use Rattle.pat_build.proofs.Waiting.{ends_level}
-use Rattle.pat_build.proofs.Nesting.{close_means, unopened_means, frame_numbered, bars_last}
+use Rattle.pat_build.proofs.Nesting.{close_means, close_test_means, test_means, unopened_means, frame_numbered, bars_last}
 use Rattle.pat_build.proofs.machine.Machine.close.Goals as goal
 
 pub returns-in_default-clause-bad : goal.returns-in_default-clause-bad
@@ -20,13 +20,25 @@ group-requires-clause-numbered c =
 pub group-requires-clause-loose : goal.group-requires-clause-loose
 group-requires-clause-loose c = rw c.replace-level.ensures.value (ends_level c.args.self.now c.requires.means c.requires.idle)
 
+pub returns-then-tested-clause-ok : goal.returns-then-tested-clause-ok
+returns-then-tested-clause-ok c =
+    let m = c.args.self.now in
+    let e = rw (c.replace-level.ensures.value) at c.in_ok-id.ensures in
+    rw (c.replace-level.ensures.after)
+    (close_test_means m c.requires.means c.args.after c.in_ok-id.id c.in-Some.field-0 c.pop.new.self c.group.new.draft c.push.new.self
+    c.requires (sym c.is_tested-tested.ensures ∙ c.if-tested.true) c.in-Some.ensures.items e.made e.closes (λ front h. e.loose front h) e.count (rw c.replace-level.ensures.after at c.in_ok-push.ensures.ok))
+
 pub returns-clause-ok : goal.returns-clause-ok
 returns-clause-ok c =
     let m = c.args.self.now in
     let e = rw (c.replace-level.ensures.value) at c.in_ok-id.ensures in
     rw (c.replace-level.ensures.after, c.atom_of.ensures, c.is_look-looks.ensures)
     (close_means m c.requires.means c.args.after c.in_ok-id.id c.in-Some.field-0 c.pop.new.self c.group.new.draft
-    c.requires c.in-Some.ensures.items e.made e.closes (λ front h. e.loose front h) e.count)
+    c.requires (sym c.is_tested-tested.ensures ∙ c.if-tested.false) c.in-Some.ensures.items e.made e.closes (λ front h. e.loose front h) e.count)
+
+pub group-requires-clause-test : goal.group-requires-clause-test
+group-requires-clause-test c =
+    rw c.replace-level.ensures.value (test_means c.args.self.now c.requires.means c.in-Some.field-0 c.pop.new.self.items c.in-Some.ensures.items)
 
 pub group-requires-clause-few : goal.group-requires-clause-few
 group-requires-clause-few c =

@@ -27,6 +27,7 @@ returns-clause-means c =
       level = record { branches = stand_none []; parts = stand_none []; n = omega arith; k = omega arith };
       pending = refl;
       barred = rw c.new-5.ensures.items refl;
+      tested = tt;
       value = rw c.new-5.ensures.items (begins (table_of c.args.text.now c.args.known.now) c.args.text.now (state_from c.args.start c.args.options) n e);
       within = c.requires.within;
       short = c.requires.short;
