@@ -1,5 +1,5 @@
 -- The run of one item that a pattern begins with.
-use Rattle.std.specs.Prelude.{◌≡◌, ◌<◌, ℕ, Bool, true, false, [], ◌∷◌, All, length, Option, Some, None}
+use Rattle.std.specs.Prelude.{◌<◌, ℕ, Bool, true, false, [], ◌∷◌, All, length, Option, Some, None}
 use Rattle.pat_tree.specs.declared.nodes.Item.{Item}
 use Rattle.pat_tree.specs.declared.nodes.Cond.{Cond}
 use Rattle.pat_tree.specs.declared.nodes.Cond.TheVariants.{Never, Assert}

@@ -1,4 +1,4 @@
-use Rattle.std.proofs.Common.{◌≡◌, ◌≤◌, ◌<◌, ◌+◌, ℕ, length, Some, sym, ap, subst, ◌∙◌, arith}
+use Rattle.std.proofs.Common.{◌≡◌, ◌≤◌, ◌<◌, ℕ, length, Some, sym, ap, subst, ◌∙◌, arith}
 use Rattle.frame_machine.specs.declared.answer.Signal.TheVariants as told
 use Rattle.frame_machine.specs.Answer.{signal_of}
 use Rattle.ordered_search.specs.PlaceAnswer.{Signal, Exhausted, Failed, place_answer}
@@ -6,7 +6,7 @@ use Rattle.ordered_search.specs.Places.{last_place, place_after, up_to}
 use Rattle.ordered_search.proofs.StartPlaces.{last_within}
 use Rattle.match_drive.specs.Asked.{passed_over, replied}
 use Rattle.match_drive.specs.Rest.{found_from, behind}
-use Rattle.match_drive.proofs.PastRun.{next_past, past_later}
+use Rattle.match_drive.proofs.PastRun.{next_past}
 use Rattle.match_drive.proofs.places.place_past.Goals.{in-Exhausted, in_default}
 use Rattle.match_drive.proofs.places.place_past.Goals as goal
 
