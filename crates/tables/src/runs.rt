@@ -192,13 +192,13 @@ fn the_first_place_of_a_run_meets_the_limits(rt: HostRuntime) -> Result<(), Fail
     static ROWS: [LimitRow; 9] = [
         (b"\\w+@", b"abcd ef@", Some((5, 8)), 4, 1),
         (b"\\w+@", b"ab abcd", None, 4, 1),
-        (b"(\\w+)\\.(\\w+)\\(", b"ab.cd.ef(", Some((3, 9)), 5, 6),
-        (b".*\\.h", b"x.c\ny.h", Some((4, 7)), 5, 1),
-        (b"((a+)b?)c", b"aaabac", Some((4, 6)), 9, 9),
+        (b"(\\w+)\\.(\\w+)\\(", b"ab.cd.ef(", Some((3, 9)), 4, 6),
+        (b".*\\.h", b"x.c\ny.h", Some((4, 7)), 4, 1),
+        (b"((a+)b?)c", b"aaabac", Some((4, 6)), 7, 6),
         (b"(?:x*)\\b", b"--xx", Some((2, 4)), 1, 1),
-        (b"a+(?<=aaa)b", b"aab aaab", Some((4, 8)), 2, 2),
+        (b"a+(?<=aaa)b", b"aab aaab", Some((4, 8)), 2, 3),
         (b"a{2,}b", b"aaaac aab", Some((6, 9)), 3, 1),
-        (b"[^ ]+ [^ ]+ s", b"ab cd x ef s", Some((6, 12)), 9, 9),
+        (b"[^ ]+ [^ ]+ s", b"ab cd x ef s", Some((6, 12)), 4, 2),
     ];
     let mut scratch = Scratch::new(rt.alloc());
     for row in &ROWS {
