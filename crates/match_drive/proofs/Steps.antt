@@ -145,20 +145,26 @@ module _ (g : Setting) (not_utf : g.options.utf ≡ false) (begun : g.start ≤ 
   found_tried p h e =
       found_place p h ∙ ap (λ b. found_at p (elim b [ true ↦ answers (place.Failed Exhausted) | false ↦ place_answer g p ]) (λ signal. found_from g (place_after g p signal))) e
 
-  -- an excluded place tells nothing
+  -- a place that fails so tells nothing
   failed_silently : (p : ℕ) (later : Found) → failed_at p (answers (place.Failed Exhausted)) later ≡ later
   failed_silently p later = refl
 
-  pub found_excluded : (p : ℕ) → p ≤ last_place g → is_excluded g p ≡ true → found_from g (Some p) ≡ found_from g (within g (next_place g p))
-  found_excluded p h e =
+  pub found_failed : (p : ℕ) → p ≤ last_place g → tried g p ≡ answers (place.Failed Exhausted) → found_from g (Some p) ≡ found_from g (within g (next_place g p))
+  found_failed p h e =
       found_place p h
-      ∙ ap (λ b. found_at p (elim b [ true ↦ answers (place.Failed Exhausted) | false ↦ place_answer g p ]) (λ signal. found_from g (place_after g p signal))) e
+      ∙ ap (λ w. found_at p w (λ signal. found_from g (place_after g p signal))) e
       ∙ failed_silently p (found_from g (within g (next_place g p)))
+
+  excluded_fails : (p : ℕ) → is_excluded g p ≡ true → tried g p ≡ answers (place.Failed Exhausted)
+  excluded_fails p e = ap (λ b. elim b [ true ↦ answers (place.Failed Exhausted) | false ↦ place_answer g p ]) e
+
+  pub found_excluded : (p : ℕ) → p ≤ last_place g → is_excluded g p ≡ true → found_from g (Some p) ≡ found_from g (within g (next_place g p))
+  found_excluded p h e = found_failed p h (excluded_fails p e)
 
   pub match_found : match_answer g ≡ found_from g (Some g.start)
   match_found = ap (from_place g (length g.subject + 1 - g.start)) (up_to_is (last_place g) g.start (start_within g not_utf begun))
 
-  -- Places that are excluded, one after the other.
+  -- Places that fail silently, one after the other.
 
   behind_none : (p : ℕ) → behind g p p ≡ p
   behind_none p = ap (λ b. elim (b && passes_crlf g (p - 1)) [ true ↦ p + 1 | false ↦ p ]) (le-ltb p p (omega arith))
@@ -193,7 +199,7 @@ module _ (g : Setting) (not_utf : g.options.utf ≡ false) (begun : g.start ≤ 
       by_test false e = inl refl
 
   passed_by : (p n : ℕ) → p ≤ last_place g → p + n ≤ length g.subject → p + n ≤ last_place g + 1
-      → ((k : ℕ) → p ≤ k → k < p + n → is_excluded g k ≡ true)
+      → ((k : ℕ) → p ≤ k → k < p + n → tried g k ≡ answers (place.Failed Exhausted))
       → found_from g (up_to (last_place g) (Some (behind g p (p + n)))) ≡ found_from g (Some p)
   passed_by p zero low high most all =
       let e : p + 0 ≡ p = omega arith in
@@ -209,11 +215,11 @@ module _ (g : Setting) (not_utf : g.options.utf ≡ false) (begun : g.start ≤ 
       ∙ one_more k (behind_cases p k) before (omega (arith, high)) (omega (arith, most)) (all k (omega arith) (omega arith))
     where
       one_more : (k : ℕ) → (behind g p k ≡ k) ⊎ ((behind g p k ≡ k + 1) × (passes_crlf g k ≡ false))
-          → found_from g (up_to (last_place g) (Some (behind g p k))) ≡ found_from g (Some p) → k < length g.subject → k ≤ last_place g → is_excluded g k ≡ true
+          → found_from g (up_to (last_place g) (Some (behind g p k))) ≡ found_from g (Some p) → k < length g.subject → k ≤ last_place g → tried g k ≡ answers (place.Failed Exhausted)
           → found_from g (up_to (last_place g) (elim (passes_crlf g k) [ true ↦ Some (k + 2) | false ↦ Some (k + 1) ])) ≡ found_from g (Some p)
       one_more k (inl is) before inside within_last out =
           ap (λ o. found_from g (up_to (last_place g) o)) (sym (next_inside g not_utf begun k inside))
-          ∙ sym (found_excluded k within_last out)
+          ∙ sym (found_failed k within_last out)
           ∙ ap (found_from g) (sym (up_to_is (last_place g) k within_last))
           ∙ ap (λ q. found_from g (up_to (last_place g) (Some q))) (sym is)
           ∙ before
@@ -222,9 +228,9 @@ module _ (g : Setting) (not_utf : g.options.utf ≡ false) (begun : g.start ≤ 
           ∙ ap (λ q. found_from g (up_to (last_place g) (Some q))) (sym both.0)
           ∙ before
 
-  -- all places from one up to another are excluded
+  -- all places from one up to another fail silently
   pub passed : (p q : ℕ) → p ≤ last_place g → p ≤ q → q ≤ length g.subject → q ≤ last_place g + 1
-      → ((k : ℕ) → p ≤ k → k < q → is_excluded g k ≡ true)
+      → ((k : ℕ) → p ≤ k → k < q → tried g k ≡ answers (place.Failed Exhausted))
       → found_from g (up_to (last_place g) (Some (behind g p q))) ≡ found_from g (Some p)
   passed p q low ordered high most all =
       let e : p + (q - p) ≡ q = omega (arith, ordered) in
@@ -239,7 +245,7 @@ module _ (g : Setting) (not_utf : g.options.utf ≡ false) (begun : g.start ≤ 
   pub passed_bytes : (set : List Bool) (p q : ℕ) → g.options.no_start_optimize ≡ false → IsByteSet (Some set) (lead_set g) → p ≤ last_place g → p ≤ q
       → q ≤ length g.subject → q ≤ last_place g + 1 → ((k : ℕ) → p ≤ k → k < q → IsByteOutside set (slice_index g.subject k)) → IsPassed g p (behind g p q)
   passed_bytes set p q on lead low ordered high most all = record {
-    same = passed p q low ordered high most (λ k a b. excluded_by_byte g set k on lead (omega (arith, b, high)) (all k a b));
+    same = passed p q low ordered high most (λ k a b. excluded_fails k (excluded_by_byte g set k on lead (omega (arith, b, high)) (all k a b)));
     later = behind_later g p q ordered;
   }
 

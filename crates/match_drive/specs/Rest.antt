@@ -5,9 +5,9 @@ use Rattle.byte_lanes.specs.Sets.{has_byte}
 use Rattle.pat_check.specs.Known.{IsByteSet}
 use Rattle.ordered_search.specs.Stream.{Block}
 use Rattle.ordered_search.specs.Setting.{Setting, lead_set}
-use Rattle.ordered_search.specs.PlaceAnswer.{last_name}
+use Rattle.ordered_search.specs.PlaceAnswer.{Signal, Exhausted, Failed, answers, place_answer, last_name}
 use Rattle.match_drive.specs.Asked.{replied}
-use Rattle.ordered_search.specs.Places.{up_to, passes_crlf, last_place, is_excluded}
+use Rattle.ordered_search.specs.Places.{up_to, passes_crlf, last_place, place_after, is_excluded}
 use Rattle.ordered_search.specs.MatchAnswer.{MatchAnswer, Found, none_found, undecided, from_place}
 
 -- a byte that is not in the set
@@ -46,7 +46,23 @@ module _ (g : Setting) where
   IsNextTried from None = found_from from ≡ none_found
   IsNextTried from (Some q) = IsTried from q
 
+  -- where p fails and q is later, all places from p up to q fail and tell nothing
+  abbrev pub FailsTo : ℕ → ℕ → Type 0
+  FailsTo p q =
+      p < q → (place_answer g p).answer ≡ Failed Exhausted → (k : ℕ) → p ≤ k → k ≤ q
+      → place_answer g k ≡ answers (Failed Exhausted)
+
+  -- where p fails so, what is found from the next place on is what the places after p give
+  abbrev pub IsNext : ℕ → Signal → Option ℕ → Type 0
+  IsNext p signal next = (place_answer g p).answer ≡ Failed signal → found_from next ≡ found_from (place_after g p signal)
+
 -- The same whatever callouts answer.
+
+abbrev pub FailsToAlways : Setting → ℕ → ℕ → Type 0
+FailsToAlways g p q = (reply : Block → ℤ) → FailsTo (replied reply g) p q
+
+abbrev pub IsNextAlways : Setting → ℕ → Signal → Option ℕ → Type 0
+IsNextAlways g p signal next = (reply : Block → ℤ) → IsNext (replied reply g) p signal next
 
 abbrev pub IsPassedAlways : Setting → ℕ → ℕ → Type 0
 IsPassedAlways g p q = (reply : Block → ℤ) → IsPassed (replied reply g) p q

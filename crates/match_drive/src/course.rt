@@ -4,8 +4,8 @@ use crate::driven::Driven;
 use crate::prefix::item_refuses;
 use byte_lanes::ByteSet;
 use frame_machine::{PlaceAnswer, Ready, Scratch, Signal, run_at};
-use match_items::View;
-use pat_tree::{MatchOptions, NodeId, Options};
+use match_items::{View, item_run};
+use pat_tree::{Item, MatchOptions, NodeId, Options};
 use pcre_io::Callouts;
 
 /// A finished tree, made ready, and a subject.
@@ -17,6 +17,8 @@ pub(crate) struct Course<'a> {
     pub at_begin: bool,
     /// The parts of the pattern's only alternative, where it has one and that begins with a single item, else none.
     pub first: &'a [NodeId],
+    /// The item whose run the pattern begins with, where places in it fail with the first of them.
+    pub run: Option<Item>,
 }
 
 impl Driven for Course<'_> {
@@ -27,7 +29,7 @@ impl Driven for Course<'_> {
 
     ghost asked = { λ x. setting_for x.ready.now.tree.now x.view.now };
 
-    ghost fits = { λ x. IsByteCourse x.ready.now x.view.now x.at_begin x.first.now };
+    ghost fits = { λ x. IsByteCourse x.ready.now x.view.now x.at_begin x.first.now x.run };
 
     fn subject(&self) -> &[u8] {
         self.view.subject
@@ -55,6 +57,13 @@ impl Driven for Course<'_> {
 
     fn stands_at_begin(&self) -> bool {
         self.at_begin
+    }
+
+    fn fails_to(&self, place: usize) -> usize {
+        match &self.run {
+            Some(item) => item_run(self.view, self.ready.classes, item, place, u32::MAX).to,
+            None => place,
+        }
     }
 
     fn try_at<C: Callouts>(

@@ -12,8 +12,9 @@ use crate::answer::MatchAnswer;
 use crate::begin::stands_at_begin;
 use crate::course::Course;
 use crate::driven::Driven;
-use crate::places::{last_place, next_tried, place_after};
+use crate::places::{last_place, next_tried, place_past};
 use crate::prefix::first_parts;
+use crate::run::leading_run;
 use frame_machine::{PlaceAnswer, Ready, Scratch};
 use match_items::View;
 use pcre_io::Callouts;
@@ -93,7 +94,7 @@ pub fn search_on<S: Driven, C: Callouts>(
             return decided(answer, place, first, scratch.last_mark());
         };
         first = first_hit(first, hit_end, place);
-        next = next_tried(on, place_after(on, place, signal, last), last);
+        next = next_tried(on, place_past(on, place, signal, last), last);
     }
     undecided(first, scratch.last_mark())
 }
@@ -127,6 +128,7 @@ pub fn search<C: Callouts>(
         view,
         at_begin,
         first: first_parts(ready.tree),
+        run: leading_run(ready.tree, view),
     };
     search_on(&course, scratch, calls)
 }

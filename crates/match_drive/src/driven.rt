@@ -9,6 +9,7 @@ ghost use Rattle.ordered_search.specs.PlaceAnswer.{place_answer};
 ghost use Rattle.ordered_search.specs.Setting.{Setting, lead_set, names_cr_or_lf};
 ghost use Rattle.match_drive.specs.Asked.{passed_over, replied};
 ghost use Rattle.match_drive.specs.Begin.{StandsAtBegin};
+ghost use Rattle.match_drive.specs.Rest.{FailsToAlways};
 
 use byte_lanes::ByteSet;
 use frame_machine::{PlaceAnswer, Scratch};
@@ -54,6 +55,14 @@ pub trait Driven {
     fn stands_at_begin(&self) -> bool
         requires { fits self.now }
         ensures { IsTrue result → StandsAtBegin (asked self.now passed_over).whole };
+
+    /// The last place that is known to fail where this one fails, and all places between them with it.
+    fn fails_to(&self, place: usize) -> usize
+        requires fits { fits self.now }
+        requires place { IsPlace (asked self.now passed_over).options (asked self.now passed_over).subject place }
+        ensures low { place ≤ result }
+        ensures within { result ≤ length (asked self.now passed_over).subject }
+        ensures fails { FailsToAlways (asked self.now passed_over) place result };
 
     /// Searches at one place.
     fn try_at<C: Callouts>(&self, place: usize, scratch: &mut Scratch, calls: &mut C) -> PlaceAnswer

@@ -9,6 +9,7 @@ mod drive;
 mod driven;
 mod places;
 mod prefix;
+mod run;
 
 pub use answer::MatchAnswer;
 pub use drive::{search, search_on};

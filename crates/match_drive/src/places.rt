@@ -8,7 +8,7 @@ ghost use Rattle.frame_machine.specs.Answer.{signal_of};
 ghost use Rattle.match_drive.specs.Asked.{passed_over};
 ghost use Rattle.ordered_search.specs.Places as places;
 ghost use Rattle.ordered_search.specs.Places.{up_to};
-ghost use Rattle.match_drive.specs.Rest.{IsLeadUsed, IsByteOutside, IsPassedAlways, IsNextTriedAlways, behind};
+ghost use Rattle.match_drive.specs.Rest.{IsLeadUsed, IsByteOutside, IsPassedAlways, IsNextTriedAlways, IsNextAlways, behind};
 
 use crate::driven::Driven;
 use byte_lanes::{ByteSet, EndKind, find_in_set, find_line_end, newline_at};
@@ -195,4 +195,25 @@ pub(crate) fn next_tried<S: Driven>(on: &S, from: Option<usize>, last: usize) ->
         next = up_to(last, next_place(on, place));
     }
     None
+}
+
+/// The place that follows one that failed, past the places that fail with it.
+pub(crate) fn place_past<S: Driven>(on: &S, at: usize, signal: Signal, last: usize) -> Option<usize>
+    requires fits { S.fits on.now }
+    requires at { at ≤ last }
+    requires last { last ≡ places.last_place (S.asked on.now passed_over) }
+    ensures same { IsNextAlways (S.asked on.now passed_over) at (signal_of signal) result }
+    ensures later { IfSome result (λ to. at < to) }
+    ensures within { IfSome result (λ to. to ≤ last) }
+{
+    if !matches!(signal, Signal::Exhausted) {
+        return place_after(on, at, signal, last);
+    }
+    let to = on.fails_to(at);
+    if to == at {
+        return place_after(on, at, signal, last);
+    }
+    // The subject's end is left to a try of its own.
+    let end = bytes_end(to.min(last), on.subject().len());
+    up_to(last, Some(behind(on, at, end)))
 }

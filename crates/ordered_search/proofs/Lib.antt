@@ -13,3 +13,7 @@ pub mod ForwardLaw
 pub mod Before
 pub mod Free
 pub mod Classes
+pub mod FollowStreams
+pub mod FollowSearch
+pub mod LaterRuns
+pub mod FollowLaw

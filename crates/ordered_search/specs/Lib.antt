@@ -14,3 +14,5 @@ pub mod Forward
 pub mod Moves
 pub mod Paths
 pub mod Verbless
+pub mod Plain
+pub mod LaterPlaces

@@ -1,5 +1,6 @@
 //! Laws on the definitions, and worked rows.
 ghost use Rattle.ordered_search.specs.Forward.{ForwardLaw};
+ghost use Rattle.ordered_search.specs.LaterPlaces.{LaterPlacesLaw};
 ghost use Rattle.ordered_search.specs.Laws.{CutLaw, NoCutAnswer, NoPartialLaw, WalkLaw};
 ghost use Rattle.ordered_search.specs.MatchRows as over_places;
 ghost use Rattle.ordered_search.specs.PlaceRows as at_place;
@@ -30,6 +31,13 @@ pub fn no_partial_match()
 /// passed.
 pub fn searches_go_forward()
     ensures { ForwardLaw }
+{}
+
+/// In a search of bytes that goes by the place alone, where a pattern begins with a greedy repeat of one item without a
+/// maximum: a place that fails has all later ones fail up to the end of the item's run from there (pcre2pattern,
+/// "Repetition").
+pub fn later_places_fail()
+    ensures { LaterPlacesLaw }
 {}
 
 /// The definitions computed. At one place: both limits, with the last Step and the last unit that they leave. Over all

@@ -10,4 +10,6 @@ mod limits;
 #[cfg(test)]
 mod many;
 #[cfg(test)]
+mod runs;
+#[cfg(test)]
 mod searching;

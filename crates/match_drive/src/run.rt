@@ -1,0 +1,98 @@
+//! The run of one item that a pattern begins with: a start place that fails has those up to the run's end fail with it.
+ghost use Rattle.std.specs.Prelude.{◌≡◌, ◌<◌, ◌≤◌, All, IfSome, IsTrue, false, length};
+ghost use Rattle.pat_tree.specs.declared.options.PartialMode.TheVariants.{Off};
+ghost use Rattle.pat_tree.specs.Parts.{tree_of};
+ghost use Rattle.pat_tree.specs.Rules.{class_in};
+ghost use Rattle.match_items.specs.Subjects.{IsSubject};
+ghost use Rattle.ordered_search.specs.LaterPlaces as later;
+ghost use Rattle.ordered_search.specs.Plain.{IsPlain};
+ghost use Rattle.match_drive.specs.Run as run;
+ghost use Rattle.match_drive.specs.Run.{IsFirstRun};
+
+use match_items::View;
+use pat_tree::{Cond, Item, Node, NodeId, Tree};
+
+/// Whether what a node takes goes by the place alone, and not by captures and calls; and no verb and no callout stands
+/// there.
+fn is_plain_node(node: &Node) -> bool
+    ensures { result ≡ run.is_plain node.now }
+{
+    match node {
+        Node::Cond { test, .. } => matches!(test, Cond::Never | Cond::Assert(_)),
+        Node::Call { .. } | Node::Ref { .. } | Node::VerbNode(_) | Node::Callout { .. } => false,
+        _ => true,
+    }
+}
+
+/// Whether all nodes of a tree go by the place alone.
+fn is_plain(tree: &Tree) -> bool
+    ensures { IsTrue result → IsPlain (tree_of tree.now) }
+{
+    for id in 0..tree.root() {
+        if !is_plain_node(tree.node(id)) {
+            return false;
+        }
+    }
+    is_plain_node(tree.node(tree.root()))
+}
+
+/// The part that a node begins with: the first of a sequence, or a group's only branch.
+fn first_part(node: &Node) -> Option<NodeId>
+    ensures { result ≡ run.first_part node.now }
+{
+    match node {
+        Node::Seq(parts) => parts.as_slice().first().copied(),
+        Node::Group { branches, .. } => match branches.as_slice() {
+            [only] => Some(*only),
+            _ => None,
+        },
+        _ => None,
+    }
+}
+
+/// The item of a greedy repeat without a maximum.
+fn run_of(node: &Node) -> Option<Item>
+    ensures { result ≡ run.run_of node.now }
+{
+    match node {
+        Node::OneRepeat {
+            item,
+            max: None,
+            lazy: false,
+            ..
+        } => Some(*item),
+        _ => None,
+    }
+}
+
+/// The item that a pattern begins with where it begins with a greedy repeat of one without a maximum.
+fn first_run(tree: &Tree) -> Option<Item>
+    ensures is { result ≡ later.first_run (tree_of tree.now) }
+    ensures class { IfSome result (λ item. All (λ n. n < length tree.now.classes) (class_in item)) }
+{
+    let mut id = tree.root();
+    'parts: while let Some(part) = first_part(tree.node(id)) {
+        id = part;
+    }
+    run_of(tree.node(id))
+}
+
+/// The item whose run a pattern begins with, where a place that fails has all places in the run from there fail: nothing
+/// in the pattern goes by what was captured, and matches of the empty text count.
+pub(crate) fn leading_run(tree: &Tree, view: &View<'_>) -> Option<Item>
+    requires options { view.now.options.now ≡ tree.now.options }
+    requires subject { IsSubject view.now.options.now view.now.subject.now }
+    requires off { view.now.matching.now.partial ≡ Off }
+    ensures { IfSome result (IsFirstRun tree.now view.now) }
+{
+    let item = first_run(tree)?;
+    let (options, matching) = (view.options, view.matching);
+    if options.notempty
+        || options.notempty_atstart
+        || matching.notempty
+        || matching.notempty_atstart
+    {
+        return None;
+    }
+    if is_plain(tree) { Some(item) } else { None }
+}
