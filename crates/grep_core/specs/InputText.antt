@@ -76,12 +76,16 @@ module _ (plan : GrepPlan) (name : List ℕ) where
   shows_group show.Lines s = nat_lt 0 (length (shown_of s))
   shows_group _ s = false
 
-  abbrev pub state_after : Bool → State → Scan → State
-  state_after is_told before s = record {
+  -- what a scan leaves whose lines are shown so
+  abbrev pub state_by : Show → State → Scan → State
+  state_by show before s = record {
     errors = before.errors + length (errors_in s);
     total = before.total + length (selected_in plan s);
-    has_shown = before.has_shown || shows_group (show_in is_told (mode plan)) s;
+    has_shown = before.has_shown || shows_group show s;
   }
+
+  abbrev pub state_after : Bool → State → Scan → State
+  state_after is_told before s = state_by (show_in is_told (mode plan)) before s
 
   abbrev pub written_by : Bool → State → Scan → Written
   written_by is_told before s = record {
