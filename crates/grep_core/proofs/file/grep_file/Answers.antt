@@ -3,13 +3,14 @@ use Rattle.grep_core.specs.declared.ended.Stop.TheVariants.{TooManyErrors, SinkF
 use Rattle.grep_core.specs.Ends.{stop_of}
 use Rattle.grep_match.specs.Compiled.{patterns_in}
 use Rattle.grep_core.specs.OneInput.{ScansAs}
-use Rattle.grep_core.proofs.FileTexts.{Scanned, job-is, greps-all, greps-breaks, greps-many, greps-untold, greps-cut, fault-other, memory-other}
+use Rattle.grep_core.proofs.FileTexts.{Scanned, job-is, greps-all, greps-breaks, greps-many, greps-untold, greps-cut, greps-lacks, fault-other, memory-other}
 use Rattle.grep_core.proofs.file.grep_file.Given as given
+use Rattle.grep_core.proofs.file.grep_file.Goals.{After-scan_as}
 use Rattle.grep_core.proofs.file.grep_file.Goals as goal
 use Rattle.tool_out.specs.Printed.{printed}
 
 -- what each way after the scan knows of it
-scanned : (g : given.Over) (c : goal.After-scan_as g) → Scanned c.args.plan.now (patterns_in c.args.patterns.now) c.args.name.now c.args.state.now c.in_ok-treatment.treatment c.mode_of-mode.result c.tells_binary-is_told.result
+scanned : (g : given.Over) (c : After-scan_as g) → Scanned c.args.plan.now (patterns_in c.args.patterns.now) c.args.name.now c.args.state.now c.in_ok-treatment.treatment c.mode_of-mode.result c.tells_binary-is_told.result
     (g.S.Source.tells c.args.source.now) (g.S.Source.tells c.scan_as.new.source) c.scan_as.new.state (printed (g.O.Sink.tells c.args.out.now) (g.E.Sink.tells c.args.err.now)) (printed (g.O.Sink.tells c.scan_as.new.out) (g.E.Sink.tells c.scan_as.new.err)) c.scan_as.result
 scanned g c =
     let treats = c.in_ok-treatment.ensures in
@@ -45,3 +46,9 @@ returns-in-Err-SinkFault g c = greps-cut (scanned g (goal.at.returns-in-Err-Sink
 
 pub returns : goal.returns
 returns g c = greps-cut (scanned g (goal.at.returns g c).After-scan_as) Memory (c.in-Err-Memory.is ∙ ap Err c.in-Err-Memory.field-0-is) memory-other
+
+pub returns-in_err-treatment : goal.returns-in_err-treatment
+returns-in_err-treatment g c =
+    let stop = c.in_err-treatment.field-0.0 in
+    let same : c.from_residual.result ≡ Err stop = search rules in
+    greps-lacks (g.O.Sink.tells c.args.out.now) (g.E.Sink.tells c.args.err.now) stop c.from_residual.result same c.in_err-treatment.ensures.0 c.in_err-treatment.ensures.1
