@@ -1,15 +1,12 @@
 -- What is written of an input, piece by piece, to the output and to the messages.
-use Rattle.std.proofs.Common.{◌≡◌, ◌≢◌, ℕ, ◌+◌, ◌≤◌, Bool, true, false, ◌&&◌, not, ◌||◌, List, [], ◌++◌, length, take, flat_map, Option, None, Some, Result, Ok, Err, IsErrOf, refl, sym, ap, subst, ◌∙◌, arith, inl, inr, ◌⊎◌, ⊎_elim, append-nil, nat_eq, codes}
+use Rattle.std.proofs.Common.{◌≡◌, ◌≢◌, ℕ, ◌+◌, Bool, true, false, ◌&&◌, not, ◌||◌, List, [], ◌++◌, length, take, flat_map, Option, Result, Ok, Err, IsErrOf, refl, sym, ap, subst, ◌∙◌, arith, inl, inr, ◌⊎◌, append-nil, nat_eq, codes}
 use Rattle.std.specs.List.{list_any}
-use Rattle.std.proofs.KnownBytes.{Appends-nil, Appends-trans}
-use Rattle.std.specs.Io.KnownBytes.{Appends}
 use Rattle.pcre_io.specs.Told.{Told, Kept, AppendsPrefix}
-use Rattle.pcre_io.specs.Causes.{Rose}
 use Rattle.pcre_io.specs.declared.traits.IoError.{IoError}
 use Rattle.pcre_io.specs.declared.traits.IoError.TheVariants as io
 use Rattle.line_feed.specs.Rows.{Input, Rows, At, End}
 use Rattle.line_feed.specs.View.{Feed}
-use Rattle.line_feed.specs.Hears.{Hears, HasGiven, HasBegun, HasShown}
+use Rattle.line_feed.specs.Hears.{Hears}
 use Rattle.line_feed.proofs.Given.{HasGiven-none, HasGiven-lacks, HasBegun-given}
 use Rattle.line_feed.proofs.Shown.{HasShown-shows, HasShown-begun}
 use Rattle.line_feed.specs.Answers.{Shows, Lacks}
@@ -30,8 +27,8 @@ use Rattle.grep_match.specs.PatternTexts.{line_end}
 use Rattle.pat_tree.specs.Pattern.{Pattern}
 use Rattle.line_feed.specs.declared.phase.Phase.TheVariants.{Open, Closed}
 use Rattle.grep_match.specs.Modes.{mode}
-use Rattle.grep_core.specs.Shows.{is_told, tells_binary, show_in, most_selected, greatest_selected}
-use Rattle.grep_core.specs.Messages.{error_message, ended_message, messages, message}
+use Rattle.grep_core.specs.Shows.{is_told, tells_binary, show_in, most_selected}
+use Rattle.grep_core.specs.Messages.{error_message, ended_message, message}
 use Rattle.grep_core.specs.Scans as meant
 use Rattle.grep_core.specs.Scans.{Scan, at_finish, early, too_many_errors, scan, scan_of_rows, selected_in}
 use Rattle.grep_core.specs.InputText.{Written, input_text, written_by, out_text, shown_out, end_out, state_by}
@@ -41,7 +38,7 @@ use Rattle.grep_core.specs.Ends.{stop_of, ended_of}
 use Rattle.tool_out.specs.Writes.{Writes}
 use Rattle.tool_out.specs.Prints.{Wrote, Breaks}
 use Rattle.grep_core.specs.WholeScans.{Stood, StopsIn, ScansTo, ScansInput, left_by, AtLeastOne, IsJob}
-use Rattle.grep_core.specs.OneInput.{IsNew, is_skipped, WritesBoth, CountsPart, ScansAs, ScansSo, LeavesTo, GrepsInput, GrepsTo, Treats, TreatsTo}
+use Rattle.grep_core.specs.OneInput.{IsNew, is_skipped, WritesBoth, CountsPart, ScansAs, ScansSo, LeavesTo, GrepsInput, GrepsTo, Treats}
 use Rattle.tool_out.proofs.Writing.{prefix-front, prefix-more}
 use Rattle.tool_out.specs.Printed.{Printed, printed}
 use Rattle.tool_out.proofs.Printing as printing

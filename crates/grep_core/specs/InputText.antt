@@ -1,7 +1,7 @@
 -- What is written of one input after those before it: input → rows → tried lines → scan → shown lines → text and messages, and
 -- what is left to the next input.
-use Rattle.std.specs.Prelude.{ℕ, ◌+◌, Bool, true, false, ◌||◌, not, nat_lt, if◌then◌else◌, List, [], ◌++◌, length, take, flat_map, codes, decimal}
-use Rattle.line_feed.specs.Rows.{Rows, Input, At, End}
+use Rattle.std.specs.Prelude.{ℕ, ◌+◌, Bool, true, false, ◌||◌, not, nat_lt, List, [], ◌++◌, length, flat_map, codes, decimal}
+use Rattle.line_feed.specs.Rows.{Rows, Input}
 use Rattle.grep_args.specs.declared.plan.GrepPlan.{GrepPlan}
 use Rattle.pat_tree.specs.Pattern.{Pattern}
 use Rattle.grep_core.specs.declared.shows.Treatment.{Treatment}

@@ -3,7 +3,7 @@
 use Rattle.std.specs.Prelude.{[], ◌≡◌, ℕ, ◌+◌, ◌≤◌, ◌==◌, Bool, true, false, ◌&&◌, ◌||◌, nat_le, if◌then◌else◌, List, Option, Some, None, Result, Ok, Err, ◌⊎◌}
 use Rattle.pcre_io.specs.Told.{Told, Kept, AppendsPrefix}
 use Rattle.pcre_io.specs.Causes.{Rose}
-use Rattle.line_feed.specs.Rows.{Row, End}
+use Rattle.line_feed.specs.Rows.{Row}
 use Rattle.line_feed.specs.View.{Feed}
 use Rattle.line_feed.specs.Answers.{Gives, Ends, Refuses}
 use Rattle.line_feed.specs.declared.phase.FeedError.{FeedError}

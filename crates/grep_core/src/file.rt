@@ -144,9 +144,9 @@ fn write_end<O: Sink, E: Sink>(
 ///
 /// # Errors
 ///
-/// TooManyErrors at the 21st match error of the state, after which nothing more is shown; the state counts the lines
-/// up to it. SinkFault where a write was refused, and want of memory; then each sink holds a part of its text, and the
-/// state counts the input or a first part of its lines.
+/// TooManyErrors at the 21st match error of the state, after which nothing more is shown; the state
+/// counts the lines up to it. SinkFault where a write was refused, and want of memory; then each sink
+/// holds a part of its text, and the state counts the input or a first part of its lines.
 pub fn grep_file<S: Source, O: Sink, E: Sink>(
     patterns: &Patterns,
     plan: &GrepPlan,

@@ -1,8 +1,6 @@
-use Rattle.std.proofs.Common.{rules, ◌≡◌, Err, Ok, sym, ap, subst, ◌∙◌}
-use Rattle.grep_core.specs.declared.ended.Stop.TheVariants.{TooManyErrors, SinkFault, Memory}
-use Rattle.grep_core.specs.Ends.{stop_of}
+use Rattle.std.proofs.Common.{rules, ◌≡◌, Err, ap, ◌∙◌}
+use Rattle.grep_core.specs.declared.ended.Stop.TheVariants.{SinkFault, Memory}
 use Rattle.grep_match.specs.Compiled.{patterns_in}
-use Rattle.grep_core.specs.OneInput.{ScansAs}
 use Rattle.grep_core.proofs.FileTexts.{Scanned, job-is, greps-all, greps-breaks, greps-many, greps-untold, greps-cut, greps-lacks, fault-other, memory-other}
 use Rattle.grep_core.proofs.file.grep_file.Given as given
 use Rattle.grep_core.proofs.file.grep_file.Goals.{After-scan_as}

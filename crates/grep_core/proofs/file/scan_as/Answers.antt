@@ -3,7 +3,6 @@ use Rattle.grep_core.specs.declared.ended.Stop.TheVariants.{Memory}
 use Rattle.grep_match.specs.Compiled.{patterns_in}
 use Rattle.grep_core.proofs.FileTexts.{scans-skipped, scans-lacks, scans-whole, skipped-is, skipped-not}
 use Rattle.grep_core.proofs.file.scan_as.Goals as goal
-use Rattle.tool_out.specs.Printed.{printed}
 
 pub returns-then-is_skipped : goal.returns-then-is_skipped
 returns-then-is_skipped g c before job stood =
