@@ -25,8 +25,7 @@ fn search(
     mut source: MemSource,
     out: &mut MemSink,
     err: &mut MemSink,
-    state: &mut GrepState,
-) -> Result<Result<FileEnd, Stop>, Fail> {
+) -> Result<(Result<FileEnd, Stop>, GrepState), Fail> {
     let words = words_of(alloc, line)?;
     let Ok(plan) = read(alloc, words.as_slice()) else {
         panic!(rt; "{}", line);
@@ -38,7 +37,9 @@ fn search(
     let Ok(patterns) = Patterns::build(alloc, &plan, &texts) else {
         panic!(rt; "{}", line);
     };
-    Ok(grep_file(&patterns, &plan, "f", &mut source, out, err, state))
+    let mut state = GrepState::new(alloc);
+    let answer = grep_file(&patterns, &plan, "f", &mut source, out, err, &mut state);
+    Ok((answer, state))
 }
 
 fn check(rt: &impl Abort, alloc: Global, row: &Row, piece: u32) -> Result<(), Fail> {
@@ -46,8 +47,7 @@ fn check(rt: &impl Abort, alloc: Global, row: &Row, piece: u32) -> Result<(), Fa
     let source = MemSource::new(row.1.to_vec(alloc)?, None, piece);
     let mut out = MemSink::new(alloc, None, piece);
     let mut err = MemSink::new(alloc, None, piece);
-    let mut state = GrepState::new(alloc);
-    let answer = search(rt, alloc, row.0, source, &mut out, &mut err, &mut state)?;
+    let (answer, _) = search(rt, alloc, row.0, source, &mut out, &mut err)?;
     assert!(rt; answer.is_ok(), "{}", row.0);
     assert_eq!(rt; out.bytes(), row.2, "{}", row.0);
     assert_eq!(rt; err.bytes(), row.3, "{}", row.0);
@@ -127,8 +127,7 @@ fn lines_before_the_last_match_error_count(rt: HostRuntime) -> Result<(), Fail> 
         let source = MemSource::new(ERRORS.to_vec(alloc)?, None, 100);
         let mut out = MemSink::new(alloc, None, 100);
         let mut err = MemSink::new(alloc, None, 100);
-        let mut state = GrepState::new(alloc);
-        let answer = search(&rt, alloc, line, source, &mut out, &mut err, &mut state)?;
+        let (answer, state) = search(&rt, alloc, line, source, &mut out, &mut err)?;
         assert_eq!(rt; answer, Err(Stop::TooManyErrors), "{}", line);
         assert_eq!(rt; out.bytes(), b"".as_slice(), "{}", line);
         assert_eq!(rt; state.errors(), 21, "{}", line);
