@@ -33,12 +33,12 @@ abbrev pub follow_out : GrepPlan → List ℕ → Show → List Row → List ℕ
 follow_out plan name show.Lines fs = flat_map (line_as plan name false) fs
 follow_out plan name _ fs = []
 
--- the texts of a scan begin so
-pub record TextsBegin (plan : GrepPlan) (name : List ℕ) (shows : Show) (hs : Bool) (s : Scan) (out err : List ℕ) : Type 0 where
+-- a scan begins with these lines, and what is shown of it so
+pub record TextsBegin (plan : GrepPlan) (name : List ℕ) (shows : Show) (hs : Bool) (s : Scan) (out : List ℕ) (us : List Tried) : Type 0 where
   pub rest_out : List ℕ
-  pub rest_err : List ℕ
+  pub rest : List Tried
   pub out_is : shown_out plan name shows hs s ≡ out ++ rest_out
-  pub err_is : flat_map (error_message name) s.tried ≡ err ++ rest_err
+  pub tried_is : s.tried ≡ us ++ rest
 
 -- what is said of one more line
 pub said-more : (name : List ℕ) (us : List Tried) (t : Tried) → flat_map (error_message name) (us ++ t ∷ []) ≡ flat_map (error_message name) us ++ error_message name t
@@ -138,9 +138,6 @@ module _ (plan : GrepPlan) (name : List ℕ) (shows : Show) (hs : Bool) (left : 
   abbrev pub so_far : List Tried → List ℕ
   so_far ts = shown_out plan name shows hs (scan_so_far ts)
 
-  abbrev pub said : List Tried → List ℕ
-  said ts = flat_map (error_message name) ts
-
   abbrev pub next_out : List Tried → Course → Tried → List ℕ
   next_out us c t = row_out plan name shows (hs || shows_group plan name shows (scan_so_far us)) c t
 
@@ -195,18 +192,15 @@ module _ (plan : GrepPlan) (name : List ℕ) (shows : Show) (hs : Bool) (left : 
   abbrev out_of : List Tried → List ℕ
   out_of ts = so_far plan name shows hs left most finish ts
 
-  abbrev said_of : List Tried → List ℕ
-  said_of ts = flat_map (error_message name) ts
-
   -- the next line has the last match error
   pub row-broken : (us : List Tried) (c : Course) (t : Tried) (vs : List Tried) → Goes plan shows left most us c → LastError plan shows left most us t
-      → TextsBegin plan name shows hs (all_of (us ++ t ∷ vs)) (out_of us) (said_of us ++ error_message name t)
+      → TextsBegin plan name shows hs (all_of (us ++ t ∷ vs)) (out_of us) (us ++ t ∷ [])
   row-broken us c t vs goes last =
       let is = broken-is plan name shows hs left most finish us t vs c goes last in record {
         rest_out = [];
-        rest_err = [];
+        rest = [];
         out_is = ap (λ s. shown_out plan name shows hs s) is ∙ broken_out plan name shows hs us t vs last.error ∙ sym (append-nil (out_of us));
-        err_is = ap (λ s. said_of s.tried) is ∙ ap said_of (early-tried us t vs) ∙ said-more name us t ∙ sym (append-nil (said_of us ++ error_message name t));
+        tried_is = ap (λ s. s.tried) is ∙ early-tried us t vs ∙ sym (append-nil (us ++ t ∷ []));
       }
 
   out-of-more : (us : List Tried) (c : Course) (t : Tried) → Goes plan shows left most us c → AreNumbered 1 (rows_of (us ++ t ∷ []))
@@ -222,77 +216,77 @@ module _ (plan : GrepPlan) (name : List ℕ) (shows : Show) (hs : Bool) (left : 
   early-out us c t vs reached last numbered =
       ap (λ s. shown_out plan name shows hs s) (early-is plan name shows hs left most finish us t vs last) ∙ early_out plan name shows hs finish us c t vs reached last.selected numbered
 
-  pub early-said : (us : List Tried) (t : Tried) (vs : List Tried) → LastSelected plan shows left most us t → said_of ((all_of (us ++ t ∷ vs)).tried) ≡ said_of (us ++ t ∷ [])
-  early-said us t vs last = ap (λ s. said_of s.tried) (early-is plan name shows hs left most finish us t vs last) ∙ ap said_of (early-tried us t vs)
+  early-lines : (us : List Tried) (t : Tried) (vs : List Tried) → LastSelected plan shows left most us t → (all_of (us ++ t ∷ vs)).tried ≡ us ++ t ∷ []
+  early-lines us t vs last = ap (λ s. s.tried) (early-is plan name shows hs left most finish us t vs last) ∙ early-tried us t vs
 
   row-early : (us : List Tried) (c : Course) (t : Tried) (vs : List Tried) → Goes plan shows left most us c → LastSelected plan shows left most us t → AreNumbered 1 (rows_of (us ++ t ∷ vs))
-      → TextsBegin plan name shows hs (all_of (us ++ t ∷ vs)) (out_of us ++ next_out plan name shows hs left most finish us c t) (said_of us ++ error_message name t)
+      → TextsBegin plan name shows hs (all_of (us ++ t ∷ vs)) (out_of us ++ next_out plan name shows hs left most finish us c t) (us ++ t ∷ [])
   row-early us c t vs goes last numbered =
       let one = numbered-more us t vs numbered in
       let reached = reached-more plan shows us c t goes.reached (numbered-first us (t ∷ []) one) (number-of us t [] one) in
       let follow = follow_out plan name shows (take (lines_after shows plan.after_context) (rows_of vs)) in record {
         rest_out = follow;
-        rest_err = [];
+        rest = [];
         out_is = early-out us (course_after plan shows c t) t vs reached last numbered ∙ ap (λ l. l ++ follow) (out-of-more us c t goes one);
-        err_is = early-said us t vs last ∙ said-more name us t ∙ sym (append-nil (said_of us ++ error_message name t));
+        tried_is = early-lines us t vs last ∙ sym (append-nil (us ++ t ∷ []));
       }
 
   row-goes : (us : List Tried) (c : Course) (t : Tried) (vs : List Tried) → Goes plan shows left most us c → AreNumbered 1 (rows_of (us ++ t ∷ vs))
-      → TextsBegin plan name shows hs (all_of ((us ++ t ∷ []) ++ vs)) (out_of (us ++ t ∷ [])) (said_of (us ++ t ∷ []))
-      → TextsBegin plan name shows hs (all_of (us ++ t ∷ vs)) (out_of us ++ next_out plan name shows hs left most finish us c t) (said_of us ++ error_message name t)
+      → TextsBegin plan name shows hs (all_of ((us ++ t ∷ []) ++ vs)) (out_of (us ++ t ∷ [])) (us ++ t ∷ [])
+      → TextsBegin plan name shows hs (all_of (us ++ t ∷ vs)) (out_of us ++ next_out plan name shows hs left most finish us c t) (us ++ t ∷ [])
   row-goes us c t vs goes numbered ext =
       let same = append_assoc us (t ∷ []) vs in record {
         rest_out = ext.rest_out;
-        rest_err = ext.rest_err;
+        rest = ext.rest;
         out_is = ap (λ l. shown_out plan name shows hs (all_of l)) (sym same) ∙ ext.out_is ∙ ap (λ l. l ++ ext.rest_out) (out-of-more us c t goes (numbered-more us t vs numbered));
-        err_is = ap (λ l. said_of ((all_of l).tried)) (sym same) ∙ ext.err_is ∙ ap (λ l. l ++ ext.rest_err) (said-more name us t);
+        tried_is = ap (λ l. (all_of l).tried) (sym same) ∙ ext.tried_is;
       }
 
-  shorter : (s : Scan) (out more err said : List ℕ) → TextsBegin plan name shows hs s (out ++ more) (err ++ said) → TextsBegin plan name shows hs s out err
-  shorter s out more err said ext = record {
+  shorter : (s : Scan) (out more : List ℕ) (us : List Tried) (t : Tried) → TextsBegin plan name shows hs s (out ++ more) (us ++ t ∷ []) → TextsBegin plan name shows hs s out us
+  shorter s out more us t ext = record {
     rest_out = more ++ ext.rest_out;
-    rest_err = said ++ ext.rest_err;
+    rest = t ∷ ext.rest;
     out_is = ext.out_is ∙ append_assoc out more ext.rest_out;
-    err_is = ext.err_is ∙ append_assoc err said ext.rest_err;
+    tried_is = ext.tried_is ∙ append_assoc us (t ∷ []) ext.rest;
   }
 
-  barely : (s : Scan) (out err said : List ℕ) → TextsBegin plan name shows hs s out (err ++ said) → TextsBegin plan name shows hs s out err
-  barely s out err said ext = record {
+  barely : (s : Scan) (out : List ℕ) (us : List Tried) (t : Tried) → TextsBegin plan name shows hs s out (us ++ t ∷ []) → TextsBegin plan name shows hs s out us
+  barely s out us t ext = record {
     rest_out = ext.rest_out;
-    rest_err = said ++ ext.rest_err;
+    rest = t ∷ ext.rest;
     out_is = ext.out_is;
-    err_is = ext.err_is ∙ append_assoc err said ext.rest_err;
+    tried_is = ext.tried_is ∙ append_assoc us (t ∷ []) ext.rest;
   }
 
   numbered-moved : (us : List Tried) (t : Tried) (vs : List Tried) → AreNumbered 1 (rows_of (us ++ t ∷ vs)) → AreNumbered 1 (rows_of ((us ++ t ∷ []) ++ vs))
   numbered-moved us t vs numbered = subst (λ l. AreNumbered 1 (rows_of l)) (sym (append_assoc us (t ∷ []) vs)) numbered
 
   -- whatever lines follow
-  pub extends : (vs us : List Tried) (c : Course) → Goes plan shows left most us c → AreNumbered 1 (rows_of (us ++ vs)) → TextsBegin plan name shows hs (all_of (us ++ vs)) (out_of us) (said_of us)
+  pub extends : (vs us : List Tried) (c : Course) → Goes plan shows left most us c → AreNumbered 1 (rows_of (us ++ vs)) → TextsBegin plan name shows hs (all_of (us ++ vs)) (out_of us) us
   extends [] us c goes numbered =
       let is = ap (λ l. all_of l) (append-nil us) ∙ whole-is plan name shows hs left most finish us c goes in record {
         rest_out = [];
-        rest_err = [];
+        rest = [];
         out_is = ap (λ s. shown_out plan name shows hs s) is ∙ whole-out plan name shows hs us finish ∙ sym (append-nil (out_of us));
-        err_is = ap (λ s. said_of s.tried) is ∙ sym (append-nil (said_of us));
+        tried_is = ap (λ s. s.tried) is ∙ sym (append-nil us);
       }
   extends (t ∷ vs) us c goes numbered =
       let next = next_out plan name shows hs left most finish us c t in
       let all = all_of (us ++ t ∷ vs) in
       ⊎_elim
-      (λ (last : LastError plan shows left most us t). barely all (out_of us) (said_of us) (error_message name t) (row-broken us c t vs goes last))
+      (λ (last : LastError plan shows left most us t). barely all (out_of us) us t (row-broken us c t vs goes last))
       (λ (other : LastSelected plan shows left most us t ⊎ GoesOn plan shows left most us t).
       ⊎_elim
-      (λ (last : LastSelected plan shows left most us t). shorter all (out_of us) next (said_of us) (error_message name t) (row-early us c t vs goes last numbered))
+      (λ (last : LastSelected plan shows left most us t). shorter all (out_of us) next us t (row-early us c t vs goes last numbered))
       (λ (on : GoesOn plan shows left most us t).
-      shorter all (out_of us) next (said_of us) (error_message name t)
+      shorter all (out_of us) next us t
       (row-goes us c t vs goes numbered (extends vs (us ++ t ∷ []) (course_after plan shows c t) (goes-on plan shows left most us c t goes (numbered-more us t vs numbered) on) (numbered-moved us t vs numbered))))
       other)
       (next-step plan shows left most us c t goes)
 
   -- a line more that hasn't the last match error
   pub row-extends : (us : List Tried) (c : Course) (t : Tried) (vs : List Tried) → Goes plan shows left most us c → count has_error (us ++ t ∷ []) < left → AreNumbered 1 (rows_of (us ++ t ∷ vs))
-      → TextsBegin plan name shows hs (all_of (us ++ t ∷ vs)) (out_of us ++ next_out plan name shows hs left most finish us c t) (said_of us ++ error_message name t)
+      → TextsBegin plan name shows hs (all_of (us ++ t ∷ vs)) (out_of us ++ next_out plan name shows hs left most finish us c t) (us ++ t ∷ [])
   row-extends us c t vs goes few numbered = ⊎_elim
       (λ (last : LastError plan shows left most us t).
       let one : count has_error (us ++ t ∷ []) ≡ count has_error us + 1 = count-more has_error us t ∙ ap (λ n. count has_error us + n) (count-one has_error t last.error) in

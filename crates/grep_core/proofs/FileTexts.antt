@@ -1,15 +1,12 @@
 -- What is written of an input, piece by piece, to the output and to the messages.
-use Rattle.std.proofs.Common.{◌≡◌, ◌≢◌, ℕ, ◌+◌, ◌≤◌, Bool, true, false, ◌&&◌, not, ◌||◌, List, [], ◌++◌, length, take, flat_map, Option, None, Some, Result, Ok, Err, IsErrOf, refl, sym, ap, subst, ◌∙◌, arith, inl, inr, ◌⊎◌, ⊎_elim, append-nil, nat_eq, codes}
+use Rattle.std.proofs.Common.{◌≡◌, ◌≢◌, ℕ, ◌+◌, Bool, true, false, ◌&&◌, not, ◌||◌, List, [], ◌++◌, length, take, flat_map, Option, Result, Ok, Err, IsErrOf, refl, sym, ap, subst, ◌∙◌, arith, inl, inr, ◌⊎◌, append-nil, nat_eq, codes}
 use Rattle.std.specs.List.{list_any}
-use Rattle.std.proofs.KnownBytes.{Appends-nil, Appends-trans}
-use Rattle.std.specs.Io.KnownBytes.{Appends}
 use Rattle.pcre_io.specs.Told.{Told, Kept, AppendsPrefix}
-use Rattle.pcre_io.specs.Causes.{Rose}
 use Rattle.pcre_io.specs.declared.traits.IoError.{IoError}
 use Rattle.pcre_io.specs.declared.traits.IoError.TheVariants as io
-use Rattle.line_feed.specs.Rows.{Input, Rows}
+use Rattle.line_feed.specs.Rows.{Input, Rows, At, End}
 use Rattle.line_feed.specs.View.{Feed}
-use Rattle.line_feed.specs.Hears.{Hears, HasGiven, HasBegun, HasShown}
+use Rattle.line_feed.specs.Hears.{Hears}
 use Rattle.line_feed.proofs.Given.{HasGiven-none, HasGiven-lacks, HasBegun-given}
 use Rattle.line_feed.proofs.Shown.{HasShown-shows, HasShown-begun}
 use Rattle.line_feed.specs.Answers.{Shows, Lacks}
@@ -30,19 +27,20 @@ use Rattle.grep_match.specs.PatternTexts.{line_end}
 use Rattle.pat_tree.specs.Pattern.{Pattern}
 use Rattle.line_feed.specs.declared.phase.Phase.TheVariants.{Open, Closed}
 use Rattle.grep_match.specs.Modes.{mode}
-use Rattle.grep_core.specs.Shows.{is_told, tells_binary, show_in, most_selected, greatest_selected}
-use Rattle.grep_core.specs.Messages.{error_message, ended_message, messages, message}
+use Rattle.grep_core.specs.Shows.{is_told, tells_binary, show_in, most_selected}
+use Rattle.grep_core.specs.Messages.{error_message, ended_message, message}
 use Rattle.grep_core.specs.Scans as meant
 use Rattle.grep_core.specs.Scans.{Scan, at_finish, early, too_many_errors, scan, scan_of_rows, selected_in}
-use Rattle.grep_core.specs.InputText.{Written, input_text, written_by, out_text, shown_out, end_out, state_after}
+use Rattle.grep_core.specs.InputText.{Written, input_text, written_by, out_text, shown_out, end_out, state_by}
+use Rattle.grep_core.specs.Course.{scan_so_far}
 use Rattle.grep_core.specs.Lines.{is_nul, lines, treatment, treatment_by}
 use Rattle.grep_core.specs.Ends.{stop_of, ended_of}
 use Rattle.tool_out.specs.Writes.{Writes}
 use Rattle.tool_out.specs.Prints.{Wrote, Breaks}
-use Rattle.grep_core.specs.WholeScans.{Stood, Scans, ScansTo, ScansInput, left_by, AtLeastOne, IsJob}
-use Rattle.grep_core.specs.OneInput.{IsNew, is_skipped, WritesBoth, ScansAs, ScansSo, GrepsInput, GrepsTo, Treats, TreatsTo}
+use Rattle.grep_core.specs.WholeScans.{Stood, StopsIn, ScansTo, ScansInput, left_by, AtLeastOne, IsJob}
+use Rattle.grep_core.specs.OneInput.{IsNew, is_skipped, WritesBoth, CountsPart, ScansAs, ScansSo, LeavesTo, GrepsInput, GrepsTo, Treats}
 use Rattle.tool_out.proofs.Writing.{prefix-front, prefix-more}
-use Rattle.tool_out.specs.Printed.{printed}
+use Rattle.tool_out.specs.Printed.{Printed, printed}
 use Rattle.tool_out.proofs.Printing as printing
 use Rattle.tool_out.proofs.Printing.{prefix-none, wrote-none, wrote-more, wrote-breaks, wrote-err}
 
@@ -101,38 +99,37 @@ skipped-not treated e is = absurd (true-false (sym (ap is_skipped is) ∙ e))
     true-false : true ≢ false
     true-false h = cc
 
+-- no line was tried
+module _ (plan : GrepPlan) (name : List ℕ) (s : State) where
+  abbrev none : meant.Ended → Scan
+  none ended = record { tried = []; within = []; ended = ended }
+
+  none-wrote : (sh : Show) (ended : meant.Ended) (old : Printed) → Wrote (shown_out plan name sh s.has_shown (none ended)) [] old old
+  none-wrote show.Lines ended old = wrote-none old
+  none-wrote show.Parts ended old = wrote-none old
+  none-wrote show.Nothing ended old = wrote-none old
+
+  none-state : (sh : Show) (ended : meant.Ended) → s ≡ state_by plan name sh s (none ended)
+  none-state show.Lines ended = (λ i. record { errors = plus_zero s.errors i; total = plus_zero s.total i; has_shown = or_none s.has_shown i })
+  none-state show.Parts ended = (λ i. record { errors = plus_zero s.errors i; total = plus_zero s.total i; has_shown = or_none s.has_shown i })
+  none-state show.Nothing ended = (λ i. record { errors = plus_zero s.errors i; total = plus_zero s.total i; has_shown = or_none s.has_shown i })
+
+  none-counts : (sh : Show) (found : Scan) → CountsPart plan name sh s found s
+  none-counts sh found = record { tried = []; rest = found.tried; begins = refl; state = none-state sh (at_finish (At End)) }
+
 -- how an input is scanned
 module _ (plan : GrepPlan) (patterns : List Pattern) (name : List ℕ) (sh : Show) (s : State) where
   -- one that is skipped isn't
-  skipped : (before now : Told) (f : Feed) (out err : Kept) → Stood plan Skipped before now f []
-      → ScansAs plan patterns name sh Skipped s before now s (printed out err) (printed out err) (Ok (record { selected = 0; ended = told.Early }))
-  skipped before now f out err stood =
-      let h = treated-of plan Skipped before now f stood in
-      record {
+  pub scans-skipped : (treated : Treatment) (before now : Told) (f : Feed) (old : Printed) → treated ≡ Skipped → Stood plan treated before now f []
+      → ScansAs plan patterns name sh treated s before now s old old (Ok (record { selected = 0; ended = told.Early }))
+  scans-skipped treated before now f old is stood =
+      let h = treated-of plan treated before now f stood in record {
         heard = h.heard;
         hears = h.hears;
         treats = h.treats;
-        scans = (record { wrote = wrote sh; count = refl; state = same sh }, refl);
+        scans = subst (λ t. ScansSo plan name sh s (scan plan patterns s.errors t (lines plan h.heard)) s old old (Ok (record { selected = 0; ended = told.Early }))) (sym is)
+            (record { wrote = none-wrote plan name s sh early old; state = none-state plan name s sh early }, refl, refl);
       }
-    where
-      none : Scan
-      none = record { tried = []; within = []; ended = early }
-
-      wrote : (sh : Show) → Wrote (shown_out plan name sh s.has_shown none) [] (printed out err) (printed out err)
-      wrote show.Lines = wrote-none (printed out err)
-      wrote show.Parts = wrote-none (printed out err)
-      wrote show.Nothing = wrote-none (printed out err)
-
-      same : (sh : Show) → s ≡ left_by plan patterns name sh Skipped s none
-      same show.Lines = (λ i. record s { errors = plus_zero s.errors i; has_shown = or_none s.has_shown i })
-      same show.Parts = (λ i. record s { errors = plus_zero s.errors i; has_shown = or_none s.has_shown i })
-      same show.Nothing = (λ i. record s { errors = plus_zero s.errors i; has_shown = or_none s.has_shown i })
-
-  pub scans-skipped : (treated : Treatment) (before now : Told) (f : Feed) (out err : Kept) → treated ≡ Skipped → Stood plan treated before now f []
-      → ScansAs plan patterns name sh treated s before now s (printed out err) (printed out err) (Ok (record { selected = 0; ended = told.Early }))
-  scans-skipped treated before now f out err is stood =
-      subst (λ t. ScansAs plan patterns name sh t s before now s (printed out err) (printed out err) (Ok (record { selected = 0; ended = told.Early }))) (sym is)
-      (skipped before now f out err (subst (λ t. Stood plan t before now f []) is stood))
 
   -- memory lacked before the scan
   pub scans-lacks : (treated : Treatment) (before now : Told) (f : Feed) (out err : Kept) (result : Result FileEnd Stop) → result ≡ Err Memory → Stood plan treated before now f []
@@ -140,38 +137,45 @@ module _ (plan : GrepPlan) (patterns : List Pattern) (name : List ℕ) (sh : Sho
   scans-lacks treated before now f out err result is stood =
       let h = treated-of plan treated before now f stood in
       subst (ScansAs plan patterns name sh treated s before now s (printed out err) (printed out err)) (sym is)
-      (record { heard = h.heard; hears = h.hears; treats = h.treats; scans = breaks-none _ _ out err Memory refl })
+      (record { heard = h.heard; hears = h.hears; treats = h.treats; scans = (breaks-none _ _ out err Memory refl, none-counts plan name s sh (scan plan patterns s.errors treated (lines plan h.heard))) })
 
   scan-as : (treated : Treatment) → treated ≢ Skipped → (found : Rows) → scan_of_rows plan patterns s.errors treated found ≡ scan plan patterns s.errors treated found
   scan-as AsText other found = refl
   scan-as AsBinary other found = refl
   scan-as Skipped other found = absurd (other refl)
 
-  pub scans-all : (treated : Treatment) (before after : Told) (selected : ℕ) (s_new : State) (out_old out_new err_old err_new : Kept) (ended : Ended) → treated ≢ Skipped
-      → ScansInput plan patterns name sh treated s before after selected s_new (printed out_old err_old) (printed out_new err_new) (Ok ended)
-      → ScansAs plan patterns name sh treated s before after s_new (printed out_old err_old) (printed out_new err_new) (Ok (record { selected = selected; ended = ended }))
-  scans-all treated before after selected s_new out_old out_new err_old err_new ended other h = record {
-    heard = h.heard;
-    hears = h.hears;
-    treats = h.treats;
-    scans = subst (λ found. ScansSo plan patterns name sh treated s found s_new (printed out_old err_old) (printed out_new err_new) (Ok (record { selected = selected; ended = ended }))) (scan-as treated other (lines plan h.heard)) h.scans;
-  }
+  -- one that ended or was cut off
+  abbrev pub end_by : ℕ → Result Ended Stop → Result FileEnd Stop
+  end_by selected (Ok ended) = Ok (record { selected = selected; ended = ended })
+  end_by selected (Err stop) = Err stop
 
-  pub scans-halts : (treated : Treatment) (before after : Told) (selected : ℕ) (s_new : State) (out_old out_new err_old err_new : Kept) (stop : Stop) → treated ≢ Skipped
-      → ScansInput plan patterns name sh treated s before after selected s_new (printed out_old err_old) (printed out_new err_new) (Err stop)
-      → ScansAs plan patterns name sh treated s before after s_new (printed out_old err_old) (printed out_new err_new) (Err stop)
-  scans-halts treated before after selected s_new out_old out_new err_old err_new stop other h = record {
-    heard = h.heard;
-    hears = h.hears;
-    treats = h.treats;
-    scans = subst (λ found. ScansSo plan patterns name sh treated s found s_new (printed out_old err_old) (printed out_new err_new) (Err stop)) (scan-as treated other (lines plan h.heard)) (by_stop stop h.scans);
-  }
-    where
-      by_stop : (stop : Stop) → ScansTo plan patterns name sh treated s (scan_of_rows plan patterns s.errors treated (lines plan h.heard)) selected s_new (printed out_old err_old) (printed out_new err_new) (Err stop)
-          → ScansSo plan patterns name sh treated s (scan_of_rows plan patterns s.errors treated (lines plan h.heard)) s_new (printed out_old err_old) (printed out_new err_new) (Err stop)
-      by_stop TooManyErrors scans = (scans.0.wrote, scans.1)
-      by_stop SinkFault scans = scans
-      by_stop Memory scans = scans
+  -- what a scan leaves, with the lines that it selected
+  counted-state : (treated : Treatment) (found : Scan) (selected total : ℕ) (s_mid : State) → s_mid ≡ left_by plan patterns name sh treated s found → selected ≡ length (selected_in plan found) → total ≡ s.total + selected
+      → record s_mid { total = total } ≡ state_by plan name sh s found
+  counted-state treated found selected total s_mid state count sums = ap (λ n. record s_mid { total = n }) sums ∙ (λ i. record (state i) { total = s.total + count i })
+
+  module _ (treated : Treatment) (selected total : ℕ) (s_mid : State) (sums : total ≡ s.total + selected) where
+    part : (found : Scan) → StopsIn plan patterns name sh treated s found selected s_mid → CountsPart plan name sh s found (record s_mid { total = total })
+    part found h = record { tried = h.tried; rest = h.rest; begins = h.begins; state = counted-state treated (scan_so_far h.tried) selected total s_mid h.state h.count sums }
+
+    scans-so : (found : Scan) (old new : Printed) (result : Result Ended Stop) → ScansTo plan patterns name sh treated s found selected s_mid old new result
+        → ScansSo plan name sh s found (record s_mid { total = total }) old new (end_by selected result)
+    scans-so found old new (Ok ended) h = (record { wrote = h.0.wrote; state = counted-state treated found selected total s_mid h.0.state h.0.count sums }, h.0.count, h.1)
+    scans-so found old new (Err TooManyErrors) h = (record { wrote = h.0.wrote; state = counted-state treated found selected total s_mid h.0.state h.0.count sums }, h.1)
+    scans-so found old new (Err SinkFault) h = (h.0, part found h.1)
+    scans-so found old new (Err Memory) h = (h.0, part found h.1)
+
+    pub scans-whole : {before after : Told} {old new : Printed} {met : Result Ended Stop} (came : Result Ended Stop) → met ≡ came → (result : Result FileEnd Stop) → result ≡ end_by selected came → treated ≢ Skipped
+        → ScansInput plan patterns name sh treated s before after selected s_mid old new met → ScansAs plan patterns name sh treated s before after (record s_mid { total = total }) old new result
+    scans-whole {before} {after} {old} {new} {met} came is result so other h = record {
+      heard = h.heard;
+      hears = h.hears;
+      treats = h.treats;
+      scans = subst (λ found. ScansSo plan name sh s found (record s_mid { total = total }) old new result) (scan-as treated other (lines plan h.heard))
+          (subst (ScansSo plan name sh s (scan_of_rows plan patterns s.errors treated (lines plan h.heard)) (record s_mid { total = total }) old new) (sym so)
+          (scans-so (scan_of_rows plan patterns s.errors treated (lines plan h.heard)) old new came
+          (subst (ScansTo plan patterns name sh treated s (scan_of_rows plan patterns s.errors treated (lines plan h.heard)) selected s_mid old new) is h.scans)));
+    }
 
 -- the first bytes were looked at
 pub treats-shown : (plan : GrepPlan) (treated : Treatment) (is_zero : Bool) (before after : Told) (f g : Feed) (shown : List ℕ) → IsNew f → is_nul plan.newline ≡ false → Shows f g before after shown
@@ -227,162 +231,155 @@ some-most false mode_of.Total most some = some
 some-most false mode_of.Parts most some = some
 some-most false mode_of.WholeLines most some = some
 
+-- the job of a scan is made for the input
+pub job-is : {plan : GrepPlan} {treated : Treatment} {md : Mode} {tells : Bool} {sh : Show} {most : Option ℕ} {f : Feed} → md ≡ mode plan → tells ≡ tells_binary treated md → sh ≡ show_in tells md → most ≡ most_selected tells md plan.max_count
+    → AtLeastOne plan.max_count → f.kind ≡ line_end plan → f.max ≡ plan.max_buffer_size → treated ≢ Skipped → IsJob plan treated sh most f
+job-is {plan} {treated} {md} {tells} {sh} {most} {f} m t e is some kind max other =
+    let so : tells ≡ is_told plan treated = t ∙ ap (tells_binary treated) m in record {
+      show_is = e ∙ (λ i. show_in (so i) (m i));
+      most_is = is ∙ (λ i. most_selected (so i) (m i) plan.max_count);
+      some = subst AtLeastOne (sym is) (some-most tells md plan.max_count some);
+      scanned = other;
+      kind = kind;
+      max = max;
+    }
+
+-- an input was scanned as the plan asks
+pub record Scanned (plan : GrepPlan) (patterns : List Pattern) (name : List ℕ) (s : State) (treated : Treatment) (md : Mode) (tells : Bool) (before after : Told) (s_new : State) (old mid : Printed) (met : Result FileEnd Stop) : Type 0 where
+  pub mode_is : md ≡ mode plan
+  pub told_is : tells ≡ tells_binary treated md
+  pub shows : Show
+  pub shows_is : shows ≡ show_in tells md
+  pub state : State
+  pub state_is : state ≡ s
+  pub scans : ScansAs plan patterns name shows treated state before after s_new old mid met
+
+stop-other : (fault : IoError) → stop_of fault ≢ TooManyErrors
+stop-other io.Failed = λ e. cc
+stop-other io.Memory = λ e. cc
+
 -- what is written of the whole input
-module _ (plan : GrepPlan) (patterns : List Pattern) (name : List ℕ) (s : State) (treated : Treatment) (md : Mode) (tells : Bool) (sh : Show) (m : md ≡ mode plan) (t : tells ≡ tells_binary treated md) (e : sh ≡ show_in tells md) where
+module _ {plan : GrepPlan} {patterns : List Pattern} {name : List ℕ} {s : State} {treated : Treatment} {md : Mode} {tells : Bool} {before after : Told} {s_new : State} {old mid : Printed} {met : Result FileEnd Stop}
+    (h : Scanned plan patterns name s treated md tells before after s_new old mid met) where
   is_so : tells ≡ is_told plan treated
-  is_so = t ∙ ap (tells_binary treated) m
+  is_so = h.told_is ∙ ap (tells_binary treated) h.mode_is
 
-  shows_so : sh ≡ show_in (is_told plan treated) (mode plan)
-  shows_so = e ∙ (λ i. show_in (is_so i) (m i))
+  abbrev text_of : Scan → Written
+  text_of found = written_by plan name (is_told plan treated) s found
 
-  pub job-is : (most : Option ℕ) (f : Feed) → most ≡ most_selected tells md plan.max_count → AtLeastOne plan.max_count → f.kind ≡ line_end plan → f.max ≡ plan.max_buffer_size → treated ≢ Skipped → IsJob plan treated sh most f
-  job-is most f is some kind max other = record {
-    show_is = shows_so;
-    most_is = is ∙ (λ i. most_selected (is_so i) (m i) plan.max_count);
-    some = subst AtLeastOne (sym is) (some-most tells md plan.max_count some);
-    scanned = other;
-    kind = kind;
-    max = max;
-  }
+  abbrev shown_of : Scan → List ℕ
+  shown_of found = shown_out plan name (show_in (is_told plan treated) (mode plan)) s.has_shown found
 
-  text-of : (heard : Input) → treatment plan heard ≡ treated → input_text plan patterns name s heard ≡ written_by plan name (is_told plan treated) s (scan plan patterns s.errors treated (lines plan heard))
+  abbrev said_of : Scan → List ℕ
+  said_of found = flat_map (error_message name) found.tried
+
+  scanned-so : ScansAs plan patterns name (show_in (is_told plan treated) (mode plan)) treated s before after s_new old mid met
+  scanned-so =
+      subst (λ x. ScansAs plan patterns name (show_in (is_told plan treated) (mode plan)) treated x before after s_new old mid met) h.state_is
+      (subst (λ x. ScansAs plan patterns name x treated h.state before after s_new old mid met) (h.shows_is ∙ (λ i. show_in (is_so i) (h.mode_is i))) h.scans)
+
+  -- of this treatment
+  abbrev tells_so : Treatment → Written → Scan → Printed → Result FileEnd Stop → Type 0
+  tells_so t w found new result = GrepsTo w s_new old new result × LeavesTo plan name (show_in (is_told plan t) (mode plan)) s w found s_new result
+
+  -- a part of it was written, and this counts
+  stopped : (found : Scan) {new : Printed} (stop : Stop) → stop ≢ TooManyErrors → Breaks (text_of found).out (text_of found).err old new (stop ≡ SinkFault)
+      → (s_new ≡ (text_of found).state) ⊎ CountsPart plan name (show_in (is_told plan treated) (mode plan)) s found s_new → tells_so treated (text_of found) found new (Err stop)
+  stopped found SinkFault other b left = (b, left)
+  stopped found Memory other b left = (b, left)
+  stopped found TooManyErrors other b left = absurd (other refl)
+
+  grep-by : {new : Printed} (came : Result FileEnd Stop) → met ≡ came → (result : Result FileEnd Stop)
+      → ((found : Scan) → ScansSo plan name (show_in (is_told plan treated) (mode plan)) s found s_new old mid came → tells_so treated (text_of found) found new result)
+      → GrepsInput plan patterns name before after s s_new old new result
   unfolding input_text
-  text-of heard is = ap (λ t. written_by plan name (is_told plan t) s (scan plan patterns s.errors t (lines plan heard))) is
+  grep-by {new} came is result goes =
+      let so = scanned-so in
+      let found = scan plan patterns s.errors treated (lines plan so.heard) in
+      let both = subst (λ t. let x : Scan = scan plan patterns s.errors t (lines plan so.heard) in tells_so t (written_by plan name (is_told plan t) s x) x new result) (sym so.treats)
+      (goes found (subst (ScansSo plan name (show_in (is_told plan treated) (mode plan)) s found s_new old mid) is so.scans)) in
+      record { heard = so.heard; hears = so.hears; greps = both.0; left = both.1 }
 
-  -- a part of it was written
-  grep-by : {before after : Told} {s_mid s_new : State} {out_old out_mid out_new err_old err_mid err_new : Kept} {mid : Result FileEnd Stop} (result : Result FileEnd Stop)
-      → (h : ScansAs plan patterns name sh treated s before after s_mid (printed out_old err_old) (printed out_mid err_mid) mid)
-      → ((found : Scan) → ScansSo plan patterns name (show_in (is_told plan treated) (mode plan)) treated s found s_mid (printed out_old err_old) (printed out_mid err_mid) mid
-      → GrepsTo (written_by plan name (is_told plan treated) s found) s_new (printed out_old err_old) (printed out_new err_new) result)
-      → GrepsInput plan patterns name before after s s_new (printed out_old err_old) (printed out_new err_new) result
-  grep-by {before} {after} {s_mid} {s_new} {out_old} {out_mid} {out_new} {err_old} {err_mid} {err_new} {mid} result h goes =
-      let found = scan plan patterns s.errors treated (lines plan h.heard) in
-      record {
-        heard = h.heard;
-        hears = h.hears;
-        greps = subst (λ w. GrepsTo w s_new (printed out_old err_old) (printed out_new err_new) result) (sym (text-of h.heard h.treats))
-            (goes found (subst (λ x. ScansSo plan patterns name x treated s found s_mid (printed out_old err_old) (printed out_mid err_mid) mid) shows_so h.scans));
-      }
-
-  -- a part of a text is one that is told so
-  breaks-to : (w : Written) (s_new : State) {out_old out_new err_old err_new : Kept} (stop : Stop) → stop ≢ TooManyErrors → Breaks w.out w.err (printed out_old err_old) (printed out_new err_new) (stop ≡ SinkFault)
-      → GrepsTo w s_new (printed out_old err_old) (printed out_new err_new) (Err stop)
-  breaks-to w s_new SinkFault other b = b
-  breaks-to w s_new Memory other b = b
-  breaks-to w s_new TooManyErrors other b = absurd (other refl)
-
-  stop-other : (fault : IoError) → stop_of fault ≢ TooManyErrors
-  stop-other io.Failed = λ e. cc
-  stop-other io.Memory = λ e. cc
-
-  out-end : (found : Scan) (ended : Ended) → out_text plan name (is_told plan treated) s.has_shown found (ended_of ended)
-      ≡ shown_out plan name (show_in (is_told plan treated) (mode plan)) s.has_shown found ++ end_out plan name (mode plan) (is_told plan treated) (length (selected_in plan found))
+  out-end : (found : Scan) (ended : Ended) → out_text plan name (is_told plan treated) s.has_shown found (ended_of ended) ≡ shown_of found ++ end_out plan name (mode plan) (is_told plan treated) (length (selected_in plan found))
   out-end found told.End = refl
   out-end found told.Early = refl
   out-end found told.ReadFault = refl
   out-end found (told.TooLong line) = refl
   out-end found told.TooMuch = refl
 
-  -- the texts of a scan, and what is told after it
-  module _ {before after : Told} {s_mid : State} {out_old out_mid err_old err_mid : Kept} (end : FileEnd) (h : ScansAs plan patterns name sh treated s before after s_mid (printed out_old err_old) (printed out_mid err_mid) (Ok end)) where
-    ends : (found : Scan) → ScansSo plan patterns name (show_in (is_told plan treated) (mode plan)) treated s found s_mid (printed out_old err_old) (printed out_mid err_mid) (Ok end)
-        → (out_text plan name (is_told plan treated) s.has_shown found found.ended
-        ≡ shown_out plan name (show_in (is_told plan treated) (mode plan)) s.has_shown found ++ end_out plan name md tells end.selected)
-        × (messages plan name found ≡ flat_map (error_message name) found.tried ++ ended_message plan.no_messages name (ended_of end.ended))
-    ends found scans = (
-      ap (out_text plan name (is_told plan treated) s.has_shown found) scans.1 ∙ out-end found end.ended
-          ∙ (λ i. shown_out plan name (show_in (is_told plan treated) (mode plan)) s.has_shown found ++ end_out plan name (sym m i) (sym is_so i) (sym scans.0.count i)),
-      ap (λ x. flat_map (error_message name) found.tried ++ ended_message plan.no_messages name x) scans.1,
-    )
+  -- where the scan came to its end, what is told after it
+  module _ (end : FileEnd) (is : met ≡ Ok end) where
+    out-is : (found : Scan) → ScansSo plan name (show_in (is_told plan treated) (mode plan)) s found s_new old mid (Ok end) → shown_of found ++ end_out plan name md tells end.selected ≡ (text_of found).out
+    out-is found scans =
+        sym (ap (out_text plan name (is_told plan treated) s.has_shown found) scans.2 ∙ out-end found end.ended ∙ (λ i. shown_of found ++ end_out plan name (sym h.mode_is i) (sym is_so i) (sym scans.1 i)))
 
-    pub greps-all : {out_new err_new : Kept} (total : ℕ) → total ≡ s_mid.total + end.selected → Wrote (end_out plan name md tells end.selected) (ended_message plan.no_messages name (ended_of end.ended)) (printed out_mid err_mid) (printed out_new err_new)
-        → GrepsInput plan patterns name before after s (record s_mid { total = total }) (printed out_old err_old) (printed out_new err_new) (Ok end)
-    greps-all {out_new} {err_new} total sums next = grep-by (Ok end) h (λ found scans.
-        let is = ends found scans in
-        let w = wrote-more _ _ _ _ scans.0.wrote next in
-        record {
-          wrote = subst (λ x. Wrote x (messages plan name found) (printed out_old err_old) (printed out_new err_new)) (sym is.0)
-              (subst (λ x. Wrote (shown_out plan name (show_in (is_told plan treated) (mode plan)) s.has_shown found ++ end_out plan name md tells end.selected) x (printed out_old err_old) (printed out_new err_new)) (sym is.1) w);
-          selected = scans.0.count;
-          ended = scans.1;
-          state = ap (λ n. record s_mid { total = n }) sums ∙ (λ i. record (scans.0.state i) { total = (scans.0.state i).total + scans.0.count i });
-        })
+    said-is : (found : Scan) → ScansSo plan name (show_in (is_told plan treated) (mode plan)) s found s_new old mid (Ok end) → said_of found ++ ended_message plan.no_messages name (ended_of end.ended) ≡ (text_of found).err
+    said-is found scans = ap (λ x. said_of found ++ ended_message plan.no_messages name x) (sym scans.2)
 
-    pub greps-breaks : {out_new err_new : Kept} (fault : IoError) (result : Result FileEnd Stop) → result ≡ Err (stop_of fault)
-        → Breaks (end_out plan name md tells end.selected) (ended_message plan.no_messages name (ended_of end.ended)) (printed out_mid err_mid) (printed out_new err_new) ((stop_of fault) ≡ SinkFault)
-        → GrepsInput plan patterns name before after s s_mid (printed out_old err_old) (printed out_new err_new) result
-    greps-breaks {out_new} {err_new} fault result so next = subst (GrepsInput plan patterns name before after s s_mid (printed out_old err_old) (printed out_new err_new)) (sym so)
-        (grep-by (Err (stop_of fault)) h (λ found scans.
-        let is = ends found scans in
-        let b = wrote-breaks _ _ _ _ scans.0.wrote (stop_of fault ≡ SinkFault) next in
-        breaks-to (written_by plan name (is_told plan treated) s found) s_mid (stop_of fault) (stop-other fault) (subst (λ x. Breaks x (messages plan name found) (printed out_old err_old) (printed out_new err_new) ((stop_of fault) ≡ SinkFault)) (sym is.0)
-        (subst (λ x. Breaks (shown_out plan name (show_in (is_told plan treated) (mode plan)) s.has_shown found ++ end_out plan name md tells end.selected) x (printed out_old err_old) (printed out_new err_new) ((stop_of fault) ≡ SinkFault)) (sym is.1) b))))
+    pub greps-all : {new : Printed} → Wrote (end_out plan name md tells end.selected) (ended_message plan.no_messages name (ended_of end.ended)) mid new → GrepsInput plan patterns name before after s s_new old new (Ok end)
+    greps-all {new} next = grep-by (Ok end) is (Ok end) (λ found scans. (
+      record {
+        wrote = subst (λ x. Wrote x (text_of found).err old new) (out-is found scans)
+            (subst (λ x. Wrote (shown_of found ++ end_out plan name md tells end.selected) x old new) (said-is found scans) (wrote-more _ _ _ _ scans.0.wrote next));
+        selected = scans.1;
+        ended = scans.2;
+        state = scans.0.state;
+      },
+      tt,
+    ))
 
-    pub total-of : s_mid.total ≡ s.total
-    total-of = ap (λ x. x.total) h.scans.0.state
+    pub greps-breaks : {new : Printed} (fault : IoError) (result : Result FileEnd Stop) → result ≡ Err (stop_of fault)
+        → Breaks (end_out plan name md tells end.selected) (ended_message plan.no_messages name (ended_of end.ended)) mid new (stop_of fault ≡ SinkFault)
+        → GrepsInput plan patterns name before after s s_new old new result
+    greps-breaks {new} fault result so next = subst (GrepsInput plan patterns name before after s s_new old new) (sym so)
+        (grep-by (Ok end) is (Err (stop_of fault)) (λ found scans.
+        stopped found (stop_of fault) (stop-other fault)
+        (subst (λ x. Breaks x (text_of found).err old new (stop_of fault ≡ SinkFault)) (out-is found scans)
+        (subst (λ x. Breaks (shown_of found ++ end_out plan name md tells end.selected) x old new (stop_of fault ≡ SinkFault)) (said-is found scans) (wrote-breaks _ _ _ _ scans.0.wrote (stop_of fault ≡ SinkFault) next)))
+        (inl scans.0.state)))
 
-  -- there were too many match errors
-  module _ {before after : Told} {s_mid : State} {out_old out_mid err_old err_mid : Kept} (stop : Stop) (is_last : stop ≡ TooManyErrors) (scans_so : ScansAs plan patterns name sh treated s before after s_mid (printed out_old err_old) (printed out_mid err_mid) (Err stop)) where
-    h : ScansAs plan patterns name sh treated s before after s_mid (printed out_old err_old) (printed out_mid err_mid) (Err TooManyErrors)
-    h = subst (λ x. ScansAs plan patterns name sh treated s before after s_mid (printed out_old err_old) (printed out_mid err_mid) (Err x)) is_last scans_so
+  -- where there were too many match errors, the message that says so
+  module _ (is : met ≡ Err TooManyErrors) where
+    many-out : (found : Scan) → found.ended ≡ too_many_errors → shown_of found ++ [] ≡ (text_of found).out
+    many-out found ended = sym (ap (out_text plan name (is_told plan treated) s.has_shown found) ended ∙ sym (append-nil _))
 
-    many : (found : Scan) → found.ended ≡ too_many_errors
-        → (out_text plan name (is_told plan treated) s.has_shown found found.ended ≡ shown_out plan name (show_in (is_told plan treated) (mode plan)) s.has_shown found ++ [])
-        × (messages plan name found ≡ flat_map (error_message name) found.tried ++ message (codes "too many match errors"))
-    many found is = (
-      ap (out_text plan name (is_told plan treated) s.has_shown found) is ∙ sym (append-nil _),
-      ap (λ x. flat_map (error_message name) found.tried ++ ended_message plan.no_messages name x) is,
-    )
+    many-said : (found : Scan) → found.ended ≡ too_many_errors → said_of found ++ message (codes "too many match errors") ≡ (text_of found).err
+    many-said found ended = ap (λ x. said_of found ++ ended_message plan.no_messages name x) (sym ended)
 
-    pub greps-many : {s_new : State} {err_new : Kept} (u : Unit {0}) → Writes (message (codes "too many match errors")) err_mid err_new (Ok u)
-        → GrepsInput plan patterns name before after s s_new (printed out_old err_old) (printed out_mid err_new) (Err TooManyErrors)
-    greps-many {s_new} {err_new} u w = grep-by (Err TooManyErrors) h (λ found scans.
-        let is = many found scans.1 in (
-          subst (λ x. Wrote x (messages plan name found) (printed out_old err_old) (printed out_mid err_new)) (sym is.0)
-              (subst (λ x. Wrote (shown_out plan name (show_in (is_told plan treated) (mode plan)) s.has_shown found ++ []) x (printed out_old err_old) (printed out_mid err_new)) (sym is.1) (wrote-more _ _ _ _ scans.0 (wrote-err _ out_mid err_mid err_new u w))),
-          scans.1,
-        ))
+    pub greps-many : {err_new : Kept} (u : Unit {0}) → Writes (message (codes "too many match errors")) mid.err err_new (Ok u) → GrepsInput plan patterns name before after s s_new old (printed mid.out err_new) (Err TooManyErrors)
+    greps-many {err_new} u w = grep-by (Err TooManyErrors) is (Err TooManyErrors) (λ found scans. (
+      (
+        subst (λ x. Wrote x (text_of found).err old (printed mid.out err_new)) (many-out found scans.1)
+            (subst (λ x. Wrote (shown_of found ++ []) x old (printed mid.out err_new)) (many-said found scans.1) (wrote-more _ _ _ _ scans.0.wrote (wrote-err _ mid.out mid.err err_new u w))),
+        scans.1,
+        scans.0.state,
+      ),
+      tt,
+    ))
 
-    pub greps-untold : {s_new : State} {err_new : Kept} (fault : IoError) (result : Result FileEnd Stop) → result ≡ Err (stop_of fault) → Writes {T = Unit {0}} (message (codes "too many match errors")) err_mid err_new (Err fault)
-        → GrepsInput plan patterns name before after s s_new (printed out_old err_old) (printed out_mid err_new) result
-    greps-untold {s_new} {err_new} fault result so w = subst (GrepsInput plan patterns name before after s s_new (printed out_old err_old) (printed out_mid err_new)) (sym so)
-        (grep-by (Err (stop_of fault)) h (λ found scans.
-        let is = many found scans.1 in
-        breaks-to (written_by plan name (is_told plan treated) s found) s_new (stop_of fault) (stop-other fault) (subst (λ x. Breaks x (messages plan name found) (printed out_old err_old) (printed out_mid err_new) ((stop_of fault) ≡ SinkFault)) (sym is.0)
-        (subst (λ x. Breaks (shown_out plan name (show_in (is_told plan treated) (mode plan)) s.has_shown found ++ []) x (printed out_old err_old) (printed out_mid err_new) ((stop_of fault) ≡ SinkFault)) (sym is.1)
-        (wrote-breaks _ _ _ _ scans.0 (stop_of fault ≡ SinkFault) (breaks-err [] _ out_mid err_mid err_new fault w))))))
+    pub greps-untold : {err_new : Kept} (fault : IoError) (result : Result FileEnd Stop) → result ≡ Err (stop_of fault) → Writes {T = Unit {0}} (message (codes "too many match errors")) mid.err err_new (Err fault)
+        → GrepsInput plan patterns name before after s s_new old (printed mid.out err_new) result
+    greps-untold {err_new} fault result so w = subst (GrepsInput plan patterns name before after s s_new old (printed mid.out err_new)) (sym so)
+        (grep-by (Err TooManyErrors) is (Err (stop_of fault)) (λ found scans.
+        stopped found (stop_of fault) (stop-other fault)
+        (subst (λ x. Breaks x (text_of found).err old (printed mid.out err_new) (stop_of fault ≡ SinkFault)) (many-out found scans.1)
+        (subst (λ x. Breaks (shown_of found ++ []) x old (printed mid.out err_new) (stop_of fault ≡ SinkFault)) (many-said found scans.1)
+        (wrote-breaks _ _ _ _ scans.0.wrote (stop_of fault ≡ SinkFault) (breaks-err [] _ mid.out mid.err err_new fault w))))
+        (inl scans.0.state)))
 
   -- the scan was cut off
-  pub greps-cut : {before after : Told} {s_mid : State} {out_old out_mid err_old err_mid : Kept} (stop : Stop) → stop ≢ TooManyErrors
-      → ScansAs plan patterns name sh treated s before after s_mid (printed out_old err_old) (printed out_mid err_mid) (Err stop)
-      → GrepsInput plan patterns name before after s s_mid (printed out_old err_old) (printed out_mid err_mid) (Err stop)
-  greps-cut {before} {after} {s_mid} {out_old} {out_mid} {err_old} {err_mid} stop other h = grep-by (Err stop) h (λ found scans. breaks-to (written_by plan name (is_told plan treated) s found) s_mid stop other (cut-off stop other found scans))
-    where
-      part : (found : Scan) (stop : Stop) → Breaks (shown_out plan name (show_in (is_told plan treated) (mode plan)) s.has_shown found) (flat_map (error_message name) found.tried) (printed out_old err_old) (printed out_mid err_mid) (stop ≡ SinkFault)
-          → Breaks (out_text plan name (is_told plan treated) s.has_shown found found.ended) (messages plan name found) (printed out_old err_old) (printed out_mid err_mid) (stop ≡ SinkFault)
-      part found stop b = record {
-        out = longer found.ended;
-        err = prefix-front _ _ _ _ b.err;
-        cause = b.cause;
-      }
-        where
-          longer : (ended : meant.Ended) → AppendsPrefix out_old.held out_mid.held (out_text plan name (is_told plan treated) s.has_shown found ended)
-          longer (at_finish finish) = prefix-front _ _ _ _ b.out
-          longer early = prefix-front _ _ _ _ b.out
-          longer too_many_errors = b.out
+  longer : (found : Scan) (ended : meant.Ended) → AppendsPrefix old.out.held mid.out.held (shown_of found) → AppendsPrefix old.out.held mid.out.held (out_text plan name (is_told plan treated) s.has_shown found ended)
+  longer found (at_finish finish) part = prefix-front _ _ _ _ part
+  longer found early part = prefix-front _ _ _ _ part
+  longer found too_many_errors part = part
 
-      cut-off : (stop : Stop) → stop ≢ TooManyErrors → (found : Scan)
-          → ScansSo plan patterns name (show_in (is_told plan treated) (mode plan)) treated s found s_mid (printed out_old err_old) (printed out_mid err_mid) (Err stop)
-          → Breaks (out_text plan name (is_told plan treated) s.has_shown found found.ended) (messages plan name found) (printed out_old err_old) (printed out_mid err_mid) (stop ≡ SinkFault)
-      cut-off SinkFault other found b = part found SinkFault b
-      cut-off Memory other found b = part found Memory b
-      cut-off TooManyErrors other found b = absurd (other refl)
+  cut-off : (found : Scan) (stop : Stop) → stop ≢ TooManyErrors → ScansSo plan name (show_in (is_told plan treated) (mode plan)) s found s_new old mid (Err stop) → tells_so treated (text_of found) found mid (Err stop)
+  cut-off found SinkFault other b = (record { out = longer found found.ended b.0.out; err = prefix-front _ _ _ _ b.0.err; cause = b.0.cause }, inr b.1)
+  cut-off found Memory other b = (record { out = longer found found.ended b.0.out; err = prefix-front _ _ _ _ b.0.err; cause = b.0.cause }, inr b.1)
+  cut-off found TooManyErrors other b = absurd (other refl)
 
-  pub greps-cut-at : {before after : Told} {s_mid : State} {out_old out_mid err_old err_mid : Kept} (met stop : Stop) → met ≡ stop → stop ≢ TooManyErrors
-      → ScansAs plan patterns name sh treated s before after s_mid (printed out_old err_old) (printed out_mid err_mid) (Err met)
-      → GrepsInput plan patterns name before after s s_mid (printed out_old err_old) (printed out_mid err_mid) (Err stop)
-  greps-cut-at {before} {after} {s_mid} {out_old} {out_mid} {err_old} {err_mid} met stop is other h =
-      greps-cut stop other (subst (λ x. ScansAs plan patterns name sh treated s before after s_mid (printed out_old err_old) (printed out_mid err_mid) (Err x)) is h)
+  pub greps-cut : (stop : Stop) → met ≡ Err stop → stop ≢ TooManyErrors → GrepsInput plan patterns name before after s s_new old mid (Err stop)
+  greps-cut stop is other = grep-by (Err stop) is (Err stop) (λ found scans. cut-off found stop other scans)
 
 pub fault-other : SinkFault ≢ TooManyErrors
 fault-other e = cc
@@ -391,7 +388,8 @@ pub memory-other : Memory ≢ TooManyErrors
 memory-other e = cc
 
 -- memory lacked before the input was looked at
-pub greps-lacks : {plan : GrepPlan} {patterns : List Pattern} {name : List ℕ} {s s_new : State} {before after : Told} (out err : Kept) (stop : Stop) (result : Result FileEnd Stop) → result ≡ Err stop → stop ≡ Memory → (heard : Input) × Hears before after heard
-    → GrepsInput plan patterns name before after s s_new (printed out err) (printed out err) result
-greps-lacks {plan} {patterns} {name} {s} {s_new} {before} {after} out err stop result is lacks any =
-    subst (GrepsInput plan patterns name before after s s_new (printed out err) (printed out err)) (sym (is ∙ ap Err lacks)) (record { heard = any.0; hears = any.1; greps = breaks-none _ _ out err Memory refl })
+pub greps-lacks : {plan : GrepPlan} {patterns : List Pattern} {name : List ℕ} {s : State} {before after : Told} (out err : Kept) (stop : Stop) (result : Result FileEnd Stop) → result ≡ Err stop → stop ≡ Memory → (heard : Input) × Hears before after heard
+    → GrepsInput plan patterns name before after s s (printed out err) (printed out err) result
+greps-lacks {plan} {patterns} {name} {s} {before} {after} out err stop result is lacks any =
+    subst (GrepsInput plan patterns name before after s s (printed out err) (printed out err)) (sym (is ∙ ap Err lacks))
+    (record { heard = any.0; hears = any.1; greps = breaks-none _ _ out err Memory refl; left = inr (none-counts plan name s _ _) })

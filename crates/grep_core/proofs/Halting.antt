@@ -22,7 +22,7 @@ use Rattle.grep_core.specs.Messages.{error_message}
 use Rattle.grep_core.specs.Course.{line_as, passed_out, row_out, course_after, course_after_passed, state_after_line, is_lines}
 use Rattle.tool_out.specs.Texts.{text_if}
 use Rattle.grep_core.specs.Ends.{stop_of}
-use Rattle.grep_core.specs.Turns.{course_of, Halts, PassesOn, Takes, TakesLast, TakesLine, is_last, is_full}
+use Rattle.grep_core.specs.Turns.{course_of, Halts, Passes, PassesOn, Takes, TakesLast, TakesLine, is_last, is_full}
 use Rattle.tool_out.specs.Writes.{Writes, WritesAll}
 use Rattle.tool_out.specs.Prints.{Breaks}
 use Rattle.grep_core.proofs.Reached.{unselected-error}
@@ -128,9 +128,11 @@ error-takes plan name shows most c c_new s t e out_old out_new err_old err_new i
   errors = omega (arith, few);
 }
 
-pub error-refused : (plan : GrepPlan) (name : List ℕ) (shows : Show) (most : Option ℕ) (c c_new : Course) (s s_new : State) (t : Tried) (e : ℤ) (out_old out_new err_old err_new : Kept) (stop : Stop) → t.matches ≡ Err e → s.errors + 1 < 21
-    → WritesAll (error_message name t) err_old err_new → Halts (passed_out plan name shows (course_of c) t) out_old out_new stop
-    → TakesLine plan name shows most t c s c_new s_new (printed out_old err_old) (printed out_new err_new) (Err stop)
-error-refused plan name shows most c c_new s s_new t e out_old out_new err_old err_new SinkFault is few said halts = error-halts plan name shows c s t e out_old out_new err_old err_new SinkFault is few said halts
-error-refused plan name shows most c c_new s s_new t e out_old out_new err_old err_new Memory is few said halts = error-halts plan name shows c s t e out_old out_new err_old err_new Memory is few said halts
-error-refused plan name shows most c c_new s s_new t e out_old out_new err_old err_new TooManyErrors is few said halts = absurd halts
+pub error-refused : (plan : GrepPlan) (name : List ℕ) (shows : Show) (most : Option ℕ) (c c_new : Course) (s : State) (t : Tried) (e : ℤ) (out_old out_new err_old err_new : Kept) (stop : Stop) → t.matches ≡ Err e → s.errors + 1 < 21
+    → WritesAll (error_message name t) err_old err_new → Passes plan name shows t c c_new out_old out_new (Err stop)
+    → TakesLine plan name shows most t c s c_new (record { errors = s.errors + 1; total = s.total; has_shown = s.has_shown }) (printed out_old err_old) (printed out_new err_new) (Err stop)
+error-refused plan name shows most c c_new s t e out_old out_new err_old err_new SinkFault is few said halts =
+    (error-halts plan name shows c s t e out_old out_new err_old err_new SinkFault is few said halts.0, (halts.1, inr (error-of t e is, error-state plan shows s t e is)))
+error-refused plan name shows most c c_new s t e out_old out_new err_old err_new Memory is few said halts =
+    (error-halts plan name shows c s t e out_old out_new err_old err_new Memory is few said halts.0, (halts.1, inr (error-of t e is, error-state plan shows s t e is)))
+error-refused plan name shows most c c_new s t e out_old out_new err_old err_new TooManyErrors is few said halts = absurd halts.0

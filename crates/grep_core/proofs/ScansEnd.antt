@@ -28,16 +28,16 @@ use Rattle.grep_core.specs.Context.{shown_lines}
 use Rattle.grep_core.specs.Messages.{error_message}
 use Rattle.grep_core.specs.InputText.{shown_out, shows_group}
 use Rattle.grep_core.specs.Course.{AreNumbered, row_out, state_after_line, is_lines, scan_so_far}
-use Rattle.grep_core.specs.Turns.{course_of, TakesLine, TakesLast, is_last, EndsSo, Idles, Turns}
-use Rattle.grep_core.specs.WholeScans.{Stood, Scans, ScansTo, ScansInput, scan_of, left_by, IsJob, BeginsWith, EndsWith}
+use Rattle.grep_core.specs.Turns.{course_of, LeavesLine, TakesLine, TakesLast, is_last, EndsSo, Idles, Turns}
+use Rattle.grep_core.specs.WholeScans.{Stood, Scans, StopsIn, ScansTo, ScansInput, scan_of, left_by, IsJob, BeginsWith, EndsWith}
 use Rattle.tool_out.specs.Prints.{Wrote, Breaks}
 use Rattle.grep_core.proofs.Reached.{out-broken}
 use Rattle.grep_core.proofs.ScanEnds.{count, count-more, count-one, count-none, early-tried, broken-within}
-use Rattle.grep_core.proofs.Extends.{Goes, LastError, full, whole-is, whole-out, broken-is, broken_out, row-broken, row-extends, extends, said-more, error-unselected}
+use Rattle.grep_core.proofs.Extends.{TextsBegin, Goes, LastError, full, whole-is, whole-out, broken-is, broken_out, row-broken, row-extends, extends, said-more, error-unselected}
 use Rattle.grep_core.proofs.ScansRows.{stood-moves, stood-begins, stood-stops, begins-numbered}
 use Rattle.grep_core.proofs.ScansTexts.{breaks-more, breaks-memory, breaks-ext}
 use Rattle.tool_out.proofs.Printing.{wrote-more}
-use Rattle.grep_core.proofs.ScansTaken.{tries, tries-more, rows-tried, errors-more, Standing, next-stood, next-kind, next-max}
+use Rattle.grep_core.proofs.ScansTaken.{tries, tries-more, rows-tried, errors-more, stops-in, stops-error, Standing, next-stood, next-kind, next-max, next-numbered}
 use Rattle.tool_out.specs.Printed.{printed}
 
 -- how the feed ends is how the rows end
@@ -171,8 +171,10 @@ module _ (plan : GrepPlan) (patterns : List Pattern) (name : List ℕ) (shows : 
             heard = begins.heard;
             hears = begins.hears;
             treats = begins.treats;
-            scans = subst (λ x. ScansTo plan patterns name shows treated s0 x c1.selected s1 (printed out0 err0) (printed out1 err1) (Err Memory)) (sym is)
-                (breaks-ext plan name shows s0.has_shown (full_of finish (us ++ vs)) a b out0 out1 err0 err1 Memory ext breaks);
+            scans = subst (λ x. ScansTo plan patterns name shows treated s0 x c1.selected s1 (printed out0 err0) (printed out1 err1) (Err Memory)) (sym is) (
+              breaks-ext plan name shows s0.has_shown (full_of finish (us ++ vs)) a us out0 out1 err0 err1 Memory ext breaks,
+              subst (StopsIn plan patterns name shows treated s0 (full_of finish (us ++ vs)) c1.selected) (sym idles.state) (stops-in plan patterns name shows treated s0 ext.rest c1.selected (ap (λ (d : Course). d.selected) idles.course) ext.tried_is standing.taken),
+            );
           }
 
       module _ (row : Row) (gives : Gives f g now after row) where
@@ -262,38 +264,54 @@ module _ (plan : GrepPlan) (patterns : List Pattern) (name : List ℕ) (shows : 
             omega arith)
             (cases_Bool (has_error t))
 
-        next-breaks : (stop : Stop) → Breaks (cond (is_last s t) [] (row_out plan name shows s.has_shown (course_of c) t)) (error_message name t) (printed out err) (printed out1 err1) (stop ≡ SinkFault)
-            → Breaks (shown_out plan name shows s0.has_shown (full_of finish (us ++ t ∷ vs))) (flat_map (error_message name) (full_of finish (us ++ t ∷ vs)).tried) (printed out0 err0) (printed out1 err1) (stop ≡ SinkFault)
-        next-breaks stop breaks =
-            let a = shown_out plan name shows s0.has_shown (scan_so_far us) in
-            let b = flat_map (error_message name) us in
-            let all = full_of finish (us ++ t ∷ vs) in
-            let row_text = row_out plan name shows s.has_shown (course_of c) t in
+        abbrev row_text : List ℕ
+        row_text = row_out plan name shows s.has_shown (course_of c) t
+
+        abbrev so_far : List ℕ
+        so_far = shown_out plan name shows s0.has_shown (scan_so_far us)
+
+        next-begins : TextsBegin plan name shows s0.has_shown (full_of finish (us ++ t ∷ vs)) (so_far ++ cond (is_last s t) [] row_text) (us ++ t ∷ [])
+        next-begins =
             let few = standing.few in
             let had = had-errors in
-            let more = breaks-more a b (cond (is_last s t) [] row_text) (error_message name t) out0 out out1 err0 err err1 standing.taken.wrote stop breaks in
             ⊎_elim
             (λ (e : is_last s t ≡ true).
             let error : has_error t ≡ true = and-first (has_error t) (s.errors == 20) e in
             let twenty : s.errors ≡ 20 = eqb-true s.errors 20 (and-second (has_error t) (s.errors == 20) e) in
             let is : count has_error us + 1 ≡ left = omega arith in
-            let ext = row-broken plan name shows s0.has_shown left most finish us (course_of c) t vs goes (record { error = error; left_is = is }) in
-            let none : a ++ cond (is_last s t) [] row_text ≡ a = ap (λ l. a ++ l) (cond-true (is_last s t) [] row_text e) ∙ append-nil a in
-            breaks-ext plan name shows s0.has_shown all a (b ++ error_message name t) out0 out1 err0 err1 stop ext (subst (λ l. Breaks l (b ++ error_message name t) (printed out0 err0) (printed out1 err1) (stop ≡ SinkFault)) none more))
+            let none : so_far ++ cond (is_last s t) [] row_text ≡ so_far = ap (λ l. so_far ++ l) (cond-true (is_last s t) [] row_text e) ∙ append-nil so_far in
+            subst (λ l. TextsBegin plan name shows s0.has_shown (full_of finish (us ++ t ∷ vs)) l (us ++ t ∷ [])) (sym none)
+            (row-broken plan name shows s0.has_shown left most finish us (course_of c) t vs goes (record { error = error; left_is = is })))
             (λ (e : is_last s t ≡ false).
-            let within : count has_error (us ++ t ∷ []) < left = few-next e in
-            let ext = row-extends plan name shows s0.has_shown left most finish us (course_of c) t vs goes within numbered-row in
-            let whole : a ++ cond (is_last s t) [] row_text ≡ a ++ row_out plan name shows (s0.has_shown || shows_group plan name shows (scan_so_far us)) (course_of c) t =
-            ap (λ l. a ++ l) (cond-false (is_last s t) [] row_text e) ∙ ap (λ x. a ++ row_out plan name shows x (course_of c) t) had-shown in
-            breaks-ext plan name shows s0.has_shown all (a ++ row_out plan name shows (s0.has_shown || shows_group plan name shows (scan_so_far us)) (course_of c) t) (b ++ error_message name t)
-            out0 out1 err0 err1 stop ext (subst (λ l. Breaks l (b ++ error_message name t) (printed out0 err0) (printed out1 err1) (stop ≡ SinkFault)) whole more))
+            let whole : so_far ++ cond (is_last s t) [] row_text ≡ so_far ++ row_out plan name shows (s0.has_shown || shows_group plan name shows (scan_so_far us)) (course_of c) t =
+            ap (λ l. so_far ++ l) (cond-false (is_last s t) [] row_text e) ∙ ap (λ x. so_far ++ row_out plan name shows x (course_of c) t) had-shown in
+            subst (λ l. TextsBegin plan name shows s0.has_shown (full_of finish (us ++ t ∷ vs)) l (us ++ t ∷ [])) (sym whole)
+            (row-extends plan name shows s0.has_shown left most finish us (course_of c) t vs goes (few-next e) numbered-row))
             (cases_Bool (is_last s t))
+
+        next-breaks : (stop : Stop) → Breaks (cond (is_last s t) [] row_text) (error_message name t) (printed out err) (printed out1 err1) (stop ≡ SinkFault)
+            → Breaks (shown_out plan name shows s0.has_shown (full_of finish (us ++ t ∷ vs))) (flat_map (error_message name) (full_of finish (us ++ t ∷ vs)).tried) (printed out0 err0) (printed out1 err1) (stop ≡ SinkFault)
+        next-breaks stop breaks =
+            let a = so_far ++ cond (is_last s t) [] row_text in
+            let more = breaks-more so_far (flat_map (error_message name) us) (cond (is_last s t) [] row_text) (error_message name t) out0 out out1 err0 err err1 standing.taken.wrote stop breaks in
+            breaks-ext plan name shows s0.has_shown (full_of finish (us ++ t ∷ vs)) a (us ++ t ∷ []) out0 out1 err0 err1 stop next-begins
+            (subst (λ l. Breaks a l (printed out0 err0) (printed out1 err1) (stop ≡ SinkFault)) (sym (said-more name us t)) more)
+
+        next-stops : LeavesLine plan name shows most t c s c1 s1 → StopsIn plan patterns name shows treated s0 (full_of finish (us ++ t ∷ vs)) c1.selected s1
+        next-stops leaves = ⊎_elim
+            (λ (same : s1 ≡ s).
+            subst (StopsIn plan patterns name shows treated s0 (full_of finish (us ++ t ∷ vs)) c1.selected) (sym same)
+            (stops-in plan patterns name shows treated s0 (t ∷ next-begins.rest) c1.selected leaves.0 (next-begins.tried_is ∙ append_assoc us (t ∷ []) next-begins.rest) standing.taken))
+            (λ (h : (has_error t ≡ true) × (s1 ≡ state_after_line plan shows s t)).
+            stops-error plan patterns name shows treated s0 us t next-begins.rest c1.selected s1 leaves.0 next-begins.tried_is standing.taken
+            (next-numbered plan patterns name shows most treated s0 before now after f g row c s c1 s1 out0 out out1 err0 err err1 standing gives) h.0 h.1)
+            leaves.1
 
         -- it couldn't be taken
         pub scans-row : (stop : Stop) → TakesLine plan name shows most t c s c1 s1 (printed out err) (printed out1 err1) (Err stop) → Input (Err stop)
-        scans-row SinkFault takes = input-row (Err SinkFault) (next-breaks SinkFault takes)
+        scans-row SinkFault takes = input-row (Err SinkFault) (next-breaks SinkFault takes.0, next-stops takes.1)
         scans-row TooManyErrors takes = scans-last takes
-        scans-row Memory takes = input-row (Err Memory) (next-breaks Memory takes)
+        scans-row Memory takes = input-row (Err Memory) (next-breaks Memory takes.0, next-stops takes.1)
 
       -- a turn that stops
       pub scans-stops : (stop : Stop) → Turns plan patterns name shows most f g now after c s c1 s1 (printed out err) (printed out1 err1) (Err stop) → Input (Err stop)

@@ -1,8 +1,7 @@
 -- What was gathered is sent on between two lines.
-use Rattle.std.proofs.Common.{◌≡◌, ℕ, List, [], ◌++◌, Option, Result, Err, sym, subst, append-nil}
+use Rattle.std.proofs.Common.{◌≡◌, ℕ, List, [], ◌++◌, Option, Err, refl, sym, subst, append-nil}
 use Rattle.std.specs.Prelude.{flat_map}
 use Rattle.pcre_io.specs.Told.{Told, Kept}
-use Rattle.line_feed.specs.Rows.{Row}
 use Rattle.line_feed.specs.View.{Feed}
 use Rattle.grep_args.specs.declared.plan.GrepPlan.{GrepPlan}
 use Rattle.pat_tree.specs.Pattern.{Pattern}
@@ -14,18 +13,19 @@ use Rattle.grep_core.specs.declared.scan.Course.{Course}
 use Rattle.grep_core.specs.declared.state.State.{State}
 use Rattle.grep_match.specs.Matches.{Tried}
 use Rattle.grep_core.specs.Lines.{lines}
+use Rattle.grep_core.specs.Scans.{Scan}
 use Rattle.grep_core.specs.Messages.{error_message}
 use Rattle.grep_core.specs.InputText.{shown_out}
 use Rattle.grep_core.specs.Course.{scan_so_far}
 use Rattle.grep_core.specs.Turns.{course_of, Halts}
-use Rattle.grep_core.specs.WholeScans.{ScansInput, ScansTo, IsJob}
+use Rattle.grep_core.specs.WholeScans.{StopsIn, ScansInput, ScansTo, IsJob}
 use Rattle.tool_out.specs.Prints.{Wrote, Breaks}
 use Rattle.tool_out.specs.Printed.{printed}
 use Rattle.tool_out.specs.Writes.{WritesAll}
 use Rattle.grep_core.proofs.Extends.{extends}
 use Rattle.grep_core.proofs.ScansRows.{stood-begins}
 use Rattle.grep_core.proofs.ScansTexts.{wrote-out, breaks-out, breaks-ext}
-use Rattle.grep_core.proofs.ScansTaken.{tries, Standing}
+use Rattle.grep_core.proofs.ScansTaken.{tries, stops-in, Standing}
 use Rattle.grep_core.proofs.ScansEnd.{left, full_of, begins-scan, begins-tried, goes-of}
 
 module _ (plan : GrepPlan) (patterns : List Pattern) (name : List ℕ) (shows : Show) (most : Option ℕ) (treated : Treatment) (s0 : State) (before now : Told) (f : Feed) (c : Course) (s : State) (out0 out out1 err0 err : Kept)
@@ -59,11 +59,11 @@ module _ (plan : GrepPlan) (patterns : List Pattern) (name : List ℕ) (shows : 
   standing-sent g same sent = subst (λ (h : Feed). Standing plan patterns name shows most treated s0 before now h c s out0 out1 err0 err) (sym same) (sent-to sent)
 
   module _ (f0 : Feed) (job : IsJob plan treated shows most f0) where
-    unsent : (stop : Stop) → Halts [] out out1 stop → (c1 : ℕ) (s1 : State)
-        → ((x : _) → Breaks (shown_out plan name shows s0.has_shown x) (flat_map (error_message name) x.tried) (printed out0 err0) (printed out1 err) (stop ≡ SinkFault)
-        → ScansTo plan patterns name shows treated s0 x c1 s1 (printed out0 err0) (printed out1 err) (Err stop))
-        → ScansInput plan patterns name shows treated s0 before now c1 s1 (printed out0 err0) (printed out1 err) (Err stop)
-    unsent stop halts c1 s1 to =
+    unsent : (stop : Stop) → Halts [] out out1 stop
+        → ((x : Scan) → Breaks (shown_out plan name shows s0.has_shown x) (flat_map (error_message name) x.tried) (printed out0 err0) (printed out1 err) (stop ≡ SinkFault) × StopsIn plan patterns name shows treated s0 x c.selected s
+        → ScansTo plan patterns name shows treated s0 x c.selected s (printed out0 err0) (printed out1 err) (Err stop))
+        → ScansInput plan patterns name shows treated s0 before now c.selected s (printed out0 err0) (printed out1 err) (Err stop)
+    unsent stop halts to =
         let begins = stood-begins plan treated before now f standing.given standing.kind standing.max standing.stood in
         let finish = (lines plan begins.heard).finish in
         let vs = tries plan patterns begins.more in
@@ -75,11 +75,12 @@ module _ (plan : GrepPlan) (patterns : List Pattern) (name : List ℕ) (shows : 
           heard = begins.heard;
           hears = begins.hears;
           treats = begins.treats;
-          scans = subst (λ x. ScansTo plan patterns name shows treated s0 x c1 s1 (printed out0 err0) (printed out1 err) (Err stop)) (sym is) (to all (breaks-ext plan name shows s0.has_shown all a b out0 out1 err0 err stop ext breaks));
+          scans = subst (λ x. ScansTo plan patterns name shows treated s0 x c.selected s (printed out0 err0) (printed out1 err) (Err stop)) (sym is)
+              (to all (breaks-ext plan name shows s0.has_shown all a us out0 out1 err0 err stop ext breaks, stops-in plan patterns name shows treated s0 ext.rest c.selected refl ext.tried_is standing.taken));
         }
 
     -- it was refused: a part of the scan was written
     pub scans-unsent : (stop : Stop) → Halts [] out out1 stop → ScansInput plan patterns name shows treated s0 before now c.selected s (printed out0 err0) (printed out1 err) (Err stop)
-    scans-unsent SinkFault halts = unsent SinkFault halts c.selected s (λ x breaks. breaks)
-    scans-unsent Memory halts = unsent Memory halts c.selected s (λ x breaks. breaks)
+    scans-unsent SinkFault halts = unsent SinkFault halts (λ x both. both)
+    scans-unsent Memory halts = unsent Memory halts (λ x both. both)
     scans-unsent TooManyErrors halts = absurd halts

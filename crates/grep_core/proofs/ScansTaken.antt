@@ -18,18 +18,18 @@ use Rattle.grep_core.specs.declared.scan.Next.TheVariants.{Line, Context}
 use Rattle.grep_core.specs.declared.state.State.{State}
 use Rattle.grep_match.specs.PatternTexts.{line_end}
 use Rattle.grep_match.specs.Matches.{Tried, tried_row, is_selected, has_error}
-use Rattle.grep_core.specs.Scans.{rows_of, errors_left}
+use Rattle.grep_core.specs.Scans.{Scan, rows_of, errors_left}
 use Rattle.grep_core.specs.Messages.{error_message}
 use Rattle.grep_core.specs.InputText.{shown_out, shows_group}
 use Rattle.grep_core.specs.Course as course
 use Rattle.grep_core.specs.Course.{AreNumbered, row_out, course_after, state_after_line, is_lines, scan_so_far}
 use Rattle.grep_core.specs.Turns.{course_of, is_full, Takes}
-use Rattle.grep_core.specs.WholeScans.{Stood, left_by, Pauses}
+use Rattle.grep_core.specs.WholeScans.{Stood, StopsIn, left_by, Pauses}
 use Rattle.tool_out.specs.Prints.{Wrote}
 use Rattle.grep_core.proofs.ReachRows.{numbered-left}
 use Rattle.grep_core.proofs.Reached.{Reached, reached-more, out-more, group-more}
 use Rattle.grep_core.proofs.ScanEnds.{count, count-more, count-one, count-none, IsBelow}
-use Rattle.grep_core.proofs.Extends.{said-more, number-of, numbered-first, still-below}
+use Rattle.grep_core.proofs.Extends.{error-unselected, said-more, number-of, numbered-first, still-below}
 use Rattle.grep_core.proofs.ScansRows.{stood-gives, stood-begins, begins-numbered}
 use Rattle.tool_out.proofs.Printing.{wrote-more}
 use Rattle.tool_out.specs.Printed.{printed}
@@ -79,6 +79,24 @@ module _ (plan : GrepPlan) (patterns : List Pattern) (name : List ℕ) (shows : 
     pub reached : Reached plan shows ts (course_of c)
     pub wrote : Wrote (shown_out plan name shows s0.has_shown (scan_so_far ts)) (flat_map (error_message name) ts) (printed out0 err0) (printed out err)
     pub state : s ≡ left_so ts
+
+  -- a scan that begins with them stops after them
+  pub stops-in : {scan : Scan} {ts : List Tried} {c : Course} {s : State} {out0 out err0 err : Kept} (rest : List Tried) (selected : ℕ) → selected ≡ c.selected → scan.tried ≡ ts ++ rest → Taken ts c s out0 out err0 err → StopsIn plan patterns name shows treated s0 scan selected s
+  stops-in {scan} {ts} rest selected same begins taken = record { tried = ts; rest = rest; begins = begins; count = same ∙ taken.reached.selected; state = taken.state }
+
+  -- a line more that has a match error
+  pub stops-error : {scan : Scan} (ts : List Tried) (t : Tried) {c : Course} {s : State} {out0 out err0 err : Kept} (rest : List Tried) (selected : ℕ) (s1 : State) → selected ≡ c.selected → scan.tried ≡ (ts ++ t ∷ []) ++ rest → Taken ts c s out0 out err0 err
+      → AreNumbered 1 (rows_of (ts ++ t ∷ [])) → has_error t ≡ true → s1 ≡ state_after_line plan shows s t → StopsIn plan patterns name shows treated s0 scan selected s1
+  stops-error {scan} ts t {c} rest selected s1 same begins taken numbered error state =
+      let more = count-more (is_selected plan) ts t in
+      let none = count-none (is_selected plan) t (error-unselected plan t error) in
+      let had = taken.reached.selected in record {
+        tried = ts ++ t ∷ [];
+        rest = rest;
+        begins = begins;
+        count = let sum : selected ≡ count (is_selected plan) (ts ++ t ∷ []) = omega arith in sum;
+        state = state ∙ ap (λ (x : State). state_after_line plan shows x t) taken.state ∙ sym (left-more ts (course_of c) t taken.reached numbered);
+      }
 
   module _ (most : Option ℕ) (ts : List Tried) (t : Tried) (c : Course) (s : State) (c1 : Course) (s1 : State) (out0 out out1 err0 err err1 : Kept) (next : Next) (taken : Taken ts c s out0 out err0 err) (numbered : AreNumbered 1 (rows_of (ts ++ t ∷ []))) (takes : Takes plan name shows most t c s c1 s1 (printed out err) (printed out1 err1) next) where
     first : AreNumbered 1 (rows_of ts)

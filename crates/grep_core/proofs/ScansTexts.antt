@@ -1,6 +1,7 @@
 -- Texts of a scan that are written one after another.
-use Rattle.std.proofs.Common.{◌≡◌, ℕ, ◌≤◌, Bool, List, [], ◌++◌, sym, subst, inl, arith}
+use Rattle.std.proofs.Common.{◌≡◌, ℕ, ◌≤◌, Bool, List, [], ◌++◌, sym, ap, subst, ◌∙◌, inl, arith}
 use Rattle.std.specs.Prelude.{flat_map}
+use Rattle.std.proofs.lemmas.List.Concat.{flat_map-append}
 use Rattle.std.proofs.KnownBytes.{Appends-nil, Appends-trans}
 use Rattle.pcre_io.specs.Told.{Kept, AppendsPrefix}
 use Rattle.pcre_io.specs.Causes.{Rose}
@@ -8,6 +9,7 @@ use Rattle.grep_args.specs.declared.plan.GrepPlan.{GrepPlan}
 use Rattle.grep_core.specs.declared.shows.Show.{Show}
 use Rattle.grep_core.specs.declared.ended.Stop.{Stop}
 use Rattle.grep_core.specs.declared.ended.Stop.TheVariants.{SinkFault, TooManyErrors, Memory}
+use Rattle.grep_match.specs.Matches.{Tried}
 use Rattle.grep_core.specs.Scans.{Scan}
 use Rattle.grep_core.specs.Messages.{error_message}
 use Rattle.grep_core.specs.InputText.{shown_out}
@@ -56,13 +58,14 @@ breaks-memory a b out0 out err0 err wrote = record {
   cause = λ is. (absurd (cc));
 }
 
-pub breaks-ext : (plan : GrepPlan) (name : List ℕ) (shows : Show) (hs : Bool) (s : Scan) (a b : List ℕ) (out0 out err0 err : Kept) (stop : Stop) → TextsBegin plan name shows hs s a b → Breaks a b (printed out0 err0) (printed out err) (stop ≡ SinkFault)
-    → Breaks (shown_out plan name shows hs s) (flat_map (error_message name) s.tried) (printed out0 err0) (printed out err) (stop ≡ SinkFault)
-breaks-ext plan name shows hs s a b out0 out err0 err stop ext breaks = record {
-  out = subst (λ l. AppendsPrefix out0.held out.held l) (sym ext.out_is) (prefix-front out0.held out.held a ext.rest_out breaks.out);
-  err = subst (λ l. AppendsPrefix err0.held err.held l) (sym ext.err_is) (prefix-front err0.held err.held b ext.rest_err breaks.err);
-  cause = breaks.cause;
-}
+pub breaks-ext : (plan : GrepPlan) (name : List ℕ) (shows : Show) (hs : Bool) (s : Scan) (a : List ℕ) (us : List Tried) (out0 out err0 err : Kept) (stop : Stop) → TextsBegin plan name shows hs s a us
+    → Breaks a (flat_map (error_message name) us) (printed out0 err0) (printed out err) (stop ≡ SinkFault) → Breaks (shown_out plan name shows hs s) (flat_map (error_message name) s.tried) (printed out0 err0) (printed out err) (stop ≡ SinkFault)
+breaks-ext plan name shows hs s a us out0 out err0 err stop ext breaks =
+    let said = ap (λ l. flat_map (error_message name) l) ext.tried_is ∙ flat_map-append (error_message name) us ext.rest in record {
+      out = subst (λ l. AppendsPrefix out0.held out.held l) (sym ext.out_is) (prefix-front out0.held out.held a ext.rest_out breaks.out);
+      err = subst (λ l. AppendsPrefix err0.held err.held l) (sym said) (prefix-front err0.held err.held (flat_map (error_message name) us) (flat_map (error_message name) ext.rest) breaks.err);
+      cause = breaks.cause;
+    }
 
 pub writes-none : (out : Kept) → WritesAll [] out out
 writes-none out = record { all = Appends-nil out.held; later = omega arith }

@@ -31,7 +31,7 @@ use Rattle.grep_core.specs.Course.{AreNumbered, line_as, scan_so_far, begun, cou
 use Rattle.tool_out.specs.Prints.{Wrote, Breaks}
 use Rattle.tool_out.specs.Writes.{WritesAll}
 use Rattle.grep_core.specs.Turns.{Halts}
-use Rattle.grep_core.specs.WholeScans.{Scans, ScansTo, ScansInput, scan_of, IsJob, Pauses}
+use Rattle.grep_core.specs.WholeScans.{Scans, StopsIn, ScansTo, ScansInput, scan_of, left_by, IsJob, Pauses}
 use Rattle.grep_core.specs.Follows.{FollowsAll, FollowsSome, FollowsPart, Follows}
 use Rattle.grep_core.proofs.Reached.{Reached, reached-begun, reached-more, group-more}
 use Rattle.grep_core.proofs.ScanEnds.{count, early-tried, early-within}
@@ -166,17 +166,26 @@ module _ (plan : GrepPlan) (patterns : List Pattern) (name : List ℕ) (shows : 
         }
 
     early-breaks : (text rest : List ℕ) (stop : Stop) → follow_out plan name shows (take after_n (rows_of vs)) ≡ text ++ rest → Halts text out out1 stop
-        → Breaks (shown_out plan name shows s0.has_shown early_of) (flat_map (error_message name) early_of.tried) (printed out0 err0) (printed out1 err) (stop ≡ SinkFault)
+        → Breaks (shown_out plan name shows s0.has_shown early_of) (flat_map (error_message name) early_of.tried) (printed out0 err0) (printed out1 err) (stop ≡ SinkFault) × StopsIn plan patterns name shows treated s0 early_of selected s1
     early-breaks text rest stop is halts =
         let a = shown_out plan name shows s0.has_shown (scan_so_far (us ++ t ∷ [])) in
         let b = flat_map (error_message name) (us ++ t ∷ []) in
-        let ext : TextsBegin plan name shows s0.has_shown early_of (a ++ text) b = record {
+        let begins : early_of.tried ≡ (us ++ t ∷ []) ++ [] = early-tried us t vs ∙ sym (append-nil (us ++ t ∷ [])) in
+        let ext : TextsBegin plan name shows s0.has_shown early_of (a ++ text) (us ++ t ∷ []) = record {
           rest_out = rest;
-          rest_err = [];
+          rest = [];
           out_is = out-is ∙ ap (λ l. a ++ l) is ∙ sym (append_assoc a text rest);
-          err_is = said-is ∙ sym (append-nil b);
-        } in
-        breaks-ext plan name shows s0.has_shown early_of (a ++ text) b out0 out1 err0 err stop ext (breaks-out a b text out0 out out1 err0 err wrote-so stop halts)
+          tried_is = begins;
+        } in (
+          breaks-ext plan name shows s0.has_shown early_of (a ++ text) (us ++ t ∷ []) out0 out1 err0 err stop ext (breaks-out a b text out0 out out1 err0 err wrote-so stop halts),
+          record {
+            tried = us ++ t ∷ [];
+            rest = [];
+            begins = begins;
+            count = pauses.scans.count ∙ ap (λ l. count (is_selected plan) l) given-tries;
+            state = pauses.scans.state ∙ ap (λ l. left_by plan patterns name shows treated s0 (scan_so_far l)) given-tries;
+          },
+        )
 
     long-tries : length (us ++ t ∷ vs) ≡ length us + 1 + length vs
     long-tries =
@@ -252,8 +261,8 @@ module _ (plan : GrepPlan) (patterns : List Pattern) (name : List ℕ) (shows : 
       }
 
   -- a part of what follows was written
-  part-breaks : (after : Told) (out1 : Kept) (stop : Stop) (follows : FollowsPart plan name shows treated before after given out out1 stop)
-      → Breaks (shown_out plan name shows s0.has_shown (scan_of plan patterns name shows treated s0 (lines plan follows.begins.heard))) (flat_map (error_message name) (scan_of plan patterns name shows treated s0 (lines plan follows.begins.heard)).tried) (printed out0 err0) (printed out1 err) (stop ≡ SinkFault)
+  part-breaks : (after : Told) (out1 : Kept) (stop : Stop) (follows : FollowsPart plan name shows treated before after given out out1 stop) → let x : Scan = scan_of plan patterns name shows treated s0 (lines plan follows.begins.heard) in
+      Breaks (shown_out plan name shows s0.has_shown x) (flat_map (error_message name) x.tried) (printed out0 err0) (printed out1 err) (stop ≡ SinkFault) × StopsIn plan patterns name shows treated s0 x selected s1
   part-breaks after out1 stop follows =
       let fs = follows.rows in
       let begins = follows.begins in
@@ -263,7 +272,7 @@ module _ (plan : GrepPlan) (patterns : List Pattern) (name : List ℕ) (shows : 
       let is = begins-scan plan patterns name shows most treated s0 f0 job before after (given ++ fs) begins ∙ ap (λ l. full_of plan patterns name shows most treated s0 finish l) (begins-all fs begins.more) ∙ is-early vs finish numbered out1 in
       let part = follow-begins plan name shows fs begins.more follows.long in
       let text = ap (λ l. follow_out plan name shows (take after_n l)) (rows-all fs begins.more) ∙ part.1 in
-      subst (λ (x : Scan). Breaks (shown_out plan name shows s0.has_shown x) (flat_map (error_message name) x.tried) (printed out0 err0) (printed out1 err) (stop ≡ SinkFault)) (sym is)
+      subst (λ (x : Scan). Breaks (shown_out plan name shows s0.has_shown x) (flat_map (error_message name) x.tried) (printed out0 err0) (printed out1 err) (stop ≡ SinkFault) × StopsIn plan patterns name shows treated s0 x selected s1) (sym is)
       (early-breaks vs finish numbered out1 (flat_map (line_as plan name false) fs) part.0 stop text follows.wrote)
 
   scans-part : (after : Told) (out1 : Kept) (stop : Stop) → FollowsPart plan name shows treated before after given out out1 stop → Input after out1 (Err stop)

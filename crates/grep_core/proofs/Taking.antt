@@ -19,7 +19,7 @@ use Rattle.grep_match.specs.Matches.{Matches, Tried, is_selected, has_error, sel
 use Rattle.grep_core.specs.Messages.{error_message}
 use Rattle.grep_core.specs.Course.{selected_out, passed_out, row_out, state_after_line, is_lines}
 use Rattle.grep_match.specs.Found.{Listed, Lists, ListsMatches, IsVerdict}
-use Rattle.grep_core.specs.Turns.{course_of, Halts, PassesOn, Takes, TakesLine, Selects, is_last, is_full}
+use Rattle.grep_core.specs.Turns.{course_of, Halts, Passes, PassesOn, Takes, TakesLine, Selects, is_last, is_full}
 use Rattle.tool_out.specs.Prints.{Breaks}
 use Rattle.tool_out.proofs.Printing.{prefix-none}
 use Rattle.tool_out.specs.Printed.{printed}
@@ -63,15 +63,19 @@ module _ (plan : GrepPlan) (name : List ℕ) (shows : Show) (most : Option ℕ) 
   shown s c = ap (λ b. if b && s.errors == 20 then [] else row_out plan name shows s.has_shown (course_of c) t) (sym no_error)
 
   -- a part of it was written
-  pub line-refused : (c c_new : Course) (s s_new : State) (text : List ℕ) (out_old out_new err : Kept) (stop : Stop) → text ≡ row_out plan name shows s.has_shown (course_of c) t → Halts text out_old out_new stop
+  pub line-refused : (c c_new : Course) (s s_new : State) (text : List ℕ) (out_old out_new err : Kept) (stop : Stop) → text ≡ row_out plan name shows s.has_shown (course_of c) t → Halts text out_old out_new stop → c_new.selected ≡ c.selected → s_new ≡ s
       → TakesLine plan name shows most t c s c_new s_new (printed out_old err) (printed out_new err) (Err stop)
-  line-refused c c_new s s_new text out_old out_new err SinkFault same halts =
-      subst (λ l. Breaks l (error_message name t) (printed out_old err) (printed out_new err) (SinkFault ≡ SinkFault)) (same ∙ shown s c)
-      (record { out = halts.0; err = prefix-none err.held (error_message name t); cause = λ _. inl halts.1 })
-  line-refused c c_new s s_new text out_old out_new err Memory same halts =
-      subst (λ l. Breaks l (error_message name t) (printed out_old err) (printed out_new err) (Memory ≡ SinkFault)) (same ∙ shown s c)
-      (record { out = halts; err = prefix-none err.held (error_message name t); cause = λ is. absurd (cc) })
-  line-refused c c_new s s_new text out_old out_new err TooManyErrors same halts = absurd halts
+  line-refused c c_new s s_new text out_old out_new err SinkFault same halts count left = (
+    subst (λ l. Breaks l (error_message name t) (printed out_old err) (printed out_new err) (SinkFault ≡ SinkFault)) (same ∙ shown s c)
+        (record { out = halts.0; err = prefix-none err.held (error_message name t); cause = λ _. inl halts.1 }),
+    (count, inl left),
+  )
+  line-refused c c_new s s_new text out_old out_new err Memory same halts count left = (
+    subst (λ l. Breaks l (error_message name t) (printed out_old err) (printed out_new err) (Memory ≡ SinkFault)) (same ∙ shown s c)
+        (record { out = halts; err = prefix-none err.held (error_message name t); cause = λ is. absurd (cc) }),
+    (count, inl left),
+  )
+  line-refused c c_new s s_new text out_old out_new err TooManyErrors same halts count left = absurd halts
 
   and-or : (b l : Bool) → (b || (true && l)) ≡ (b || l)
   and-or true l = refl
@@ -101,7 +105,7 @@ module _ (plan : GrepPlan) (name : List ℕ) (shows : Show) (most : Option ℕ) 
     errors = let same = ap (λ (r : State). r.errors) sel.state in omega (arith, same, few);
   }
   selected-takes c c_new s s_new out_old out_new err (Err stop) yes_selected few sel =
-      line-refused c c_new s s_new (selected_out plan name shows s.has_shown (course_of c) t) out_old out_new err stop (sym (cond-true (is_selected plan t) _ _ yes_selected)) sel
+      line-refused c c_new s s_new (selected_out plan name shows s.has_shown (course_of c) t) out_old out_new err stop (sym (cond-true (is_selected plan t) _ _ yes_selected)) sel.0 sel.1 sel.2
 
   -- it is passed
   pub passed-takes : (c c_new : Course) (s : State) (out_old out_new err : Kept) → is_selected plan t ≡ false → s.errors ≤ 20 → PassesOn plan name shows t c c_new out_old out_new
@@ -120,10 +124,10 @@ module _ (plan : GrepPlan) (name : List ℕ) (shows : Show) (most : Option ℕ) 
     errors = few;
   }
 
-  pub passed-refused : (c c_new : Course) (s s_new : State) (out_old out_new err : Kept) (stop : Stop) → is_selected plan t ≡ false → Halts (passed_out plan name shows (course_of c) t) out_old out_new stop
-      → TakesLine plan name shows most t c s c_new s_new (printed out_old err) (printed out_new err) (Err stop)
-  passed-refused c c_new s s_new out_old out_new err stop not_selected halts =
-      line-refused c c_new s s_new (passed_out plan name shows (course_of c) t) out_old out_new err stop (sym (cond-false (is_selected plan t) _ _ not_selected)) halts
+  pub passed-refused : (c c_new : Course) (s : State) (out_old out_new err : Kept) (stop : Stop) → is_selected plan t ≡ false → Passes plan name shows t c c_new out_old out_new (Err stop)
+      → TakesLine plan name shows most t c s c_new s (printed out_old err) (printed out_new err) (Err stop)
+  passed-refused c c_new s out_old out_new err stop not_selected halts =
+      line-refused c c_new s s (passed_out plan name shows (course_of c) t) out_old out_new err stop (sym (cond-false (is_selected plan t) _ _ not_selected)) halts.0 halts.1 refl
 
 -- whether a line is selected
 pub chosen : (b i : Bool) → not (beq b i) ≡ true → (if b then not i else i) ≡ true

@@ -1,7 +1,7 @@
 -- What is written of one input after those before it: input → rows → tried lines → scan → shown lines → text and messages, and
 -- what is left to the next input.
-use Rattle.std.specs.Prelude.{ℕ, ◌+◌, Bool, true, false, ◌||◌, not, nat_lt, if◌then◌else◌, List, [], ◌++◌, length, take, flat_map, codes, decimal}
-use Rattle.line_feed.specs.Rows.{Rows, Input, At, End}
+use Rattle.std.specs.Prelude.{ℕ, ◌+◌, Bool, true, false, ◌||◌, not, nat_lt, List, [], ◌++◌, length, flat_map, codes, decimal}
+use Rattle.line_feed.specs.Rows.{Rows, Input}
 use Rattle.grep_args.specs.declared.plan.GrepPlan.{GrepPlan}
 use Rattle.pat_tree.specs.Pattern.{Pattern}
 use Rattle.grep_core.specs.declared.shows.Treatment.{Treatment}
@@ -76,12 +76,16 @@ module _ (plan : GrepPlan) (name : List ℕ) where
   shows_group show.Lines s = nat_lt 0 (length (shown_of s))
   shows_group _ s = false
 
-  abbrev pub state_after : Bool → State → Scan → State
-  state_after is_told before s = record {
+  -- what a scan leaves whose lines are shown so
+  abbrev pub state_by : Show → State → Scan → State
+  state_by show before s = record {
     errors = before.errors + length (errors_in s);
     total = before.total + length (selected_in plan s);
-    has_shown = before.has_shown || shows_group (show_in is_told (mode plan)) s;
+    has_shown = before.has_shown || shows_group show s;
   }
+
+  abbrev pub state_after : Bool → State → Scan → State
+  state_after is_told before s = state_by (show_in is_told (mode plan)) before s
 
   abbrev pub written_by : Bool → State → Scan → Written
   written_by is_told before s = record {

@@ -1,7 +1,7 @@
 -- What searching one input does: what the source told → the input that it stands for → how it is treated → its scan, its summary
 -- and its messages → what was written, told and left.
-use Rattle.std.specs.Prelude.{◌≡◌, ◌≢◌, ℕ, Bool, true, false, List, [], flat_map, Result, Ok, Err}
-use Rattle.pcre_io.specs.Told.{Told, Kept}
+use Rattle.std.specs.Prelude.{◌≡◌, ◌≢◌, ℕ, Bool, true, false, List, [], length, ◌++◌, flat_map, Result, Ok, Err, ◌⊎◌, ⊤}
+use Rattle.pcre_io.specs.Told.{Told}
 use Rattle.pcre_io.specs.declared.traits.IoError.{IoError}
 use Rattle.line_feed.specs.Rows.{Input}
 use Rattle.line_feed.specs.View.{Feed}
@@ -17,12 +17,16 @@ use Rattle.grep_core.specs.declared.state.State.{State}
 use Rattle.pat_tree.specs.Pattern.{Pattern}
 use Rattle.grep_core.specs.Lines.{lines, treatment}
 use Rattle.grep_core.specs.Messages.{error_message}
-use Rattle.grep_core.specs.Scans.{Scan, too_many_errors, scan}
-use Rattle.grep_core.specs.InputText.{Written, input_text, shown_out}
+use Rattle.grep_core.specs.Scans.{Scan, too_many_errors, scan, selected_in}
+use Rattle.grep_core.specs.InputText.{Written, input_text, shown_out, state_by}
 use Rattle.grep_core.specs.declared.shows.Show.{Show}
+use Rattle.grep_core.specs.Shows.{is_told, show_in}
+use Rattle.grep_match.specs.Modes.{mode}
+use Rattle.grep_match.specs.Matches.{Tried}
+use Rattle.grep_core.specs.Course.{scan_so_far}
 use Rattle.grep_core.specs.Ends.{ended_of, stop_of}
 use Rattle.tool_out.specs.Prints.{Wrote, Breaks}
-use Rattle.grep_core.specs.WholeScans.{Stood, Scans}
+use Rattle.grep_core.specs.WholeScans.{Stood}
 use Rattle.tool_out.specs.Printed.{Printed}
 
 abbrev pub is_skipped : Treatment → Bool
@@ -58,25 +62,45 @@ WritesBoth out_text err_text old new (Err fault) =
     Breaks out_text err_text old new (stop_of fault ≡ SinkFault)
 
 -- an input was scanned as it is treated
-module _ (plan : GrepPlan) (patterns : List Pattern) (name : List ℕ) (show : Show)
-    (treated : Treatment) (s : State) where
+module _ (plan : GrepPlan) (name : List ℕ) (show : Show) (s : State) where
+  -- the scan was written whole, and its lines count
+  pub record Counts (found : Scan) (s_new : State) (old new : Printed) : Type 0 where
+    pub wrote : Wrote (shown_out plan name show s.has_shown found)
+        (flat_map (error_message name) found.tried) old new
+    pub state : s_new ≡ state_by plan name show s found
+
+  -- a first part of its lines counts
+  pub record CountsPart (found : Scan) (s_new : State) : Type 0 where
+    pub tried : List Tried
+    pub rest : List Tried
+    pub begins : found.tried ≡ tried ++ rest
+    pub state : s_new ≡ state_by plan name show s (scan_so_far tried)
+
   abbrev pub ScansSo : Scan → State → Printed → Printed → Result FileEnd Stop → Type 0
   ScansSo found s_new old new (Ok end) =
-      Scans plan patterns name show treated s found end.selected s_new old new
+      Counts found s_new old new × (end.selected ≡ length (selected_in plan found))
       × (found.ended ≡ ended_of end.ended)
   ScansSo found s_new old new (Err TooManyErrors) =
-      Wrote (shown_out plan name show s.has_shown found) (flat_map (error_message name) found.tried)
-      old new × (found.ended ≡ too_many_errors)
+      Counts found s_new old new × (found.ended ≡ too_many_errors)
   ScansSo found s_new old new (Err stop) =
       Breaks (shown_out plan name show s.has_shown found)
       (flat_map (error_message name) found.tried) old new (stop ≡ SinkFault)
+      × CountsPart found s_new
 
+  -- what a run that can't go on leaves: the input counts whole, or a first part of its lines
+  abbrev pub LeavesTo : Written → Scan → State → Result FileEnd Stop → Type 0
+  LeavesTo w found s_new (Ok end) = ⊤
+  LeavesTo w found s_new (Err TooManyErrors) = ⊤
+  LeavesTo w found s_new (Err stop) = (s_new ≡ w.state) ⊎ CountsPart found s_new
+
+module _ (plan : GrepPlan) (patterns : List Pattern) (name : List ℕ) (show : Show)
+    (treated : Treatment) (s : State) where
   pub record ScansAs (before after : Told) (s_new : State) (old new : Printed)
       (result : Result FileEnd Stop) : Type 0 where
     pub heard : Input
     pub hears : Hears before after heard
     pub treats : treatment plan heard ≡ treated
-    pub scans : ScansSo (scan plan patterns s.errors treated (lines plan heard))
+    pub scans : ScansSo plan name show s (scan plan patterns s.errors treated (lines plan heard))
         s_new old new result
 
 -- all was written, and this is told and left
@@ -90,7 +114,7 @@ pub record GrepsAll (w : Written) (s_new : State) (old new : Printed) (end : Fil
 abbrev pub GrepsTo : Written → State → Printed → Printed → Result FileEnd Stop → Type 0
 GrepsTo w s_new old new (Ok end) = GrepsAll w s_new old new end
 GrepsTo w s_new old new (Err TooManyErrors) =
-    Wrote w.out w.err old new × (w.ended ≡ too_many_errors)
+    Wrote w.out w.err old new × (w.ended ≡ too_many_errors) × (s_new ≡ w.state)
 GrepsTo w s_new old new (Err stop) = Breaks w.out w.err old new (stop ≡ SinkFault)
 
 -- what is written is the text of the input that the source stands for, after what the inputs before left
@@ -100,6 +124,9 @@ pub record GrepsInput (plan : GrepPlan) (patterns : List Pattern) (name : List �
   pub heard : Input
   pub hears : Hears before after heard
   pub greps : GrepsTo (input_text plan patterns name s heard) s_new old new result
+  pub left : LeavesTo plan name (show_in (is_told plan (treatment plan heard)) (mode plan)) s
+      (input_text plan patterns name s heard)
+      (scan plan patterns s.errors (treatment plan heard) (lines plan heard)) s_new result
 
 -- how a run stands between two inputs: what the source tells, what the inputs so far leave, and what was written
 pub record Standing : Type 0 where

@@ -3,7 +3,7 @@
 use Rattle.std.specs.Prelude.{[], ◌≡◌, ℕ, ◌+◌, ◌≤◌, ◌==◌, Bool, true, false, ◌&&◌, ◌||◌, nat_le, if◌then◌else◌, List, Option, Some, None, Result, Ok, Err, ◌⊎◌}
 use Rattle.pcre_io.specs.Told.{Told, Kept, AppendsPrefix}
 use Rattle.pcre_io.specs.Causes.{Rose}
-use Rattle.line_feed.specs.Rows.{Row, End}
+use Rattle.line_feed.specs.Rows.{Row}
 use Rattle.line_feed.specs.View.{Feed}
 use Rattle.line_feed.specs.Answers.{Gives, Ends, Refuses}
 use Rattle.line_feed.specs.declared.phase.FeedError.{FeedError}
@@ -55,6 +55,7 @@ module _ (plan : GrepPlan) (name : List ℕ) (show : Show) where
   Passes t c c_new out_old out_new (Ok _) = PassesOn t c c_new out_old out_new
   Passes t c c_new out_old out_new (Err stop) =
       Halts (passed_out plan name show (course_of c) t) out_old out_new stop
+      × (c_new.selected ≡ c.selected)
 
 -- the match error of a line is the last one that there may be: nothing more is shown
 abbrev pub is_last : State → Tried → Bool
@@ -76,6 +77,7 @@ module _ (plan : GrepPlan) (name : List ℕ) (show : Show) (most : Option ℕ) w
       SelectsIt t c s c_new s_new out_old out_new next
   Selects t c s c_new s_new out_old out_new (Err stop) =
       Halts (selected_out plan name show s.has_shown (course_of c) t) out_old out_new stop
+      × (c_new.selected ≡ c.selected) × (s_new ≡ s)
 
   -- a line was scanned whole
   pub record Takes (t : Tried) (c : Course) (s : State) (c_new : Course) (s_new : State)
@@ -98,13 +100,19 @@ module _ (plan : GrepPlan) (name : List ℕ) (show : Show) (most : Option ℕ) w
     pub state : s_new ≡ state_after_line plan show s t
     pub wrote : Wrote [] (error_message name t) old new
 
+  -- nothing of it counts, or its match error alone
+  abbrev pub LeavesLine : Tried → Course → State → Course → State → Type 0
+  LeavesLine t c s c_new s_new =
+      (c_new.selected ≡ c.selected) × ((s_new ≡ s)
+      ⊎ ((has_error t ≡ true) × (s_new ≡ state_after_line plan show s t)))
+
   abbrev pub TakesLine : Tried → Course → State → Course → State → Printed → Printed
       → Result Next Stop → Type 0
   TakesLine t c s c_new s_new old new (Ok next) = Takes t c s c_new s_new old new next
   TakesLine t c s c_new s_new old new (Err TooManyErrors) = TakesLast t c c_new s s_new old new
   TakesLine t c s c_new s_new old new (Err stop) =
       Breaks (if is_last s t then [] else row_out plan name show s.has_shown (course_of c) t)
-      (error_message name t) old new (stop ≡ SinkFault)
+      (error_message name t) old new (stop ≡ SinkFault) × LeavesLine t c s c_new s_new
 
 -- the feed gives no row, and the scan ends so
 abbrev pub EndsSo : Feed → Feed → Told → Told → Ended → Type 0

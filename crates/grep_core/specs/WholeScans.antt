@@ -18,7 +18,7 @@ use Rattle.grep_core.specs.Shows.{is_told, show_in, greatest_selected}
 use Rattle.grep_match.specs.Modes.{mode}
 use Rattle.pat_tree.specs.Pattern.{Pattern}
 use Rattle.grep_core.specs.Lines.{is_nul, lines, treatment, treatment_by}
-use Rattle.grep_match.specs.Matches.{tried_row, is_selected}
+use Rattle.grep_match.specs.Matches.{Tried, tried_row, is_selected}
 use Rattle.grep_core.specs.Scans as meant
 use Rattle.grep_core.specs.Scans.{Scan, scan_of_rows, selected_in, errors_in, too_many_errors}
 use Rattle.grep_core.specs.Messages.{error_message}
@@ -58,6 +58,14 @@ module _ (plan : GrepPlan) (patterns : List Pattern) (name : List ℕ) (show : S
     pub count : selected ≡ length (selected_in plan scan)
     pub state : s_new ≡ left_by scan
 
+  -- it stopped after these of its lines, and they count
+  pub record StopsIn (scan : Scan) (selected : ℕ) (s_new : State) : Type 0 where
+    pub tried : List Tried
+    pub rest : List Tried
+    pub begins : scan.tried ≡ tried ++ rest
+    pub count : selected ≡ length (selected_in plan (scan_so_far tried))
+    pub state : s_new ≡ left_by (scan_so_far tried)
+
   abbrev pub ScansTo : Scan → ℕ → State → Printed → Printed → Result Ended Stop → Type 0
   ScansTo scan selected s_new old new (Ok ended) =
       Scans scan selected s_new old new × (scan.ended ≡ ended_of ended)
@@ -65,7 +73,7 @@ module _ (plan : GrepPlan) (patterns : List Pattern) (name : List ℕ) (show : S
       Scans scan selected s_new old new × (scan.ended ≡ too_many_errors)
   ScansTo scan selected s_new old new (Err stop) =
       Breaks (shown_out plan name show s.has_shown scan) (flat_map (error_message name) scan.tried)
-      old new (stop ≡ SinkFault)
+      old new (stop ≡ SinkFault) × StopsIn scan selected s_new
 
   -- the scan of the input that the source stands for was written, or a part of it
   pub record ScansInput (before after : Told) (selected : ℕ) (s_new : State) (old new : Printed)

@@ -65,7 +65,15 @@ fn is_skipped(treatment: Treatment) -> bool
     treatment == Treatment::Skipped
 }
 
-// Scans an input. One that counts as without any selected line isn't scanned.
+// The number of lines that were selected so far.
+fn counted(total: u128, selected: u64) -> u128
+    requires { total < 2 ^ 127 }
+    ensures { result ≡ total + selected }
+{
+    total + u128::from(selected)
+}
+
+// Scans an input, and counts its selected lines. One that counts as without any isn't scanned.
 fn scan_as<S: Source, O: Sink, E: Sink>(
     job: &Job<'_>,
     treatment: Treatment,
@@ -80,6 +88,7 @@ fn scan_as<S: Source, O: Sink, E: Sink>(
     requires max { feed.old.max ≤ 2 ^ 30 }
     requires first { feed.old.number ≡ 0 }
     requires errors { state.old.errors ≤ 20 }
+    requires total { state.old.total < 2 ^ 127 }
     ensures { (before : Told) → (treatment ≢ Skipped
         → IsJob job.now.plan.now treatment job.now.show job.now.most feed.old)
         → Stood job.now.plan.now treatment before (S.tells source.old) feed.old []
@@ -99,7 +108,10 @@ fn scan_as<S: Source, O: Sink, E: Sink>(
         context_to: 0,
         earlier: EarlierLines::new(job.alloc, job.plan.before_context as usize)?,
     };
-    let ended = scan(job, feed, source, out, err, work, state, &mut course)?;
+    let total = state.total;
+    let ended = scan(job, feed, source, out, err, work, state, &mut course);
+    state.total = counted(total, course.selected);
+    let ended = ended?;
     Ok(FileEnd {
         selected: course.selected,
         ended,
@@ -125,14 +137,6 @@ fn write_end<O: Sink, E: Sink>(
     Ok(())
 }
 
-// The number of lines that were selected so far.
-fn counted(total: u128, selected: u64) -> u128
-    requires { total < 2 ^ 127 }
-    ensures { result ≡ total + selected }
-{
-    total + u128::from(selected)
-}
-
 /// Writes what pcre2grep writes of an input of this name: its selected lines, or what the plan shows in place of them, to
 /// `out`, and messages about it to `err`. Under `Auto` no name is shown. Needs a plan whose `max_buffer_size` is from 1 to
 /// 1,073,741,824 and whose `max_count`, where given, is at least 1, and a state with at most 20 match errors and a total
@@ -140,8 +144,9 @@ fn counted(total: u128, selected: u64) -> u128
 ///
 /// # Errors
 ///
-/// TooManyErrors at the 21st match error of the state, after which nothing more is shown. SinkFault where a write was
-/// refused, and want of memory; then each sink holds a part of its text.
+/// TooManyErrors at the 21st match error of the state, after which nothing more is shown; the state
+/// counts the lines up to it. SinkFault where a write was refused, and want of memory; then each sink
+/// holds a part of its text, and the state counts the input or a first part of its lines.
 pub fn grep_file<S: Source, O: Sink, E: Sink>(
     patterns: &Patterns,
     plan: &GrepPlan,
@@ -185,7 +190,6 @@ pub fn grep_file<S: Source, O: Sink, E: Sink>(
     ) {
         Ok(end) => {
             write_end(&job, mode, is_told, end, out, err)?;
-            state.state.total = counted(state.state.total, end.selected);
             Ok(end)
         }
         Err(Stop::TooManyErrors) => {

@@ -1,5 +1,5 @@
 //! One input, and what is written of it.
-use crate::{Ended, GrepState, Patterns, Stop, grep_file};
+use crate::{FileEnd, GrepState, Patterns, Stop, grep_file};
 use grep_args::read;
 use pat_tree::{ByteList, TextList};
 use pcre_io::{MemSink, MemSource};
@@ -18,32 +18,36 @@ fn words_of(alloc: Global, line: &str) -> Result<Vec<String>, Fail> {
     Ok(words)
 }
 
-fn check(rt: &impl Abort, alloc: Global, row: &Row, piece: u32) -> Result<(), Fail> {
-    assert!(rt; piece > 0);
-    let words = words_of(alloc, row.0)?;
+fn search(
+    rt: &impl Abort,
+    alloc: Global,
+    line: &str,
+    mut source: MemSource,
+    out: &mut MemSink,
+    err: &mut MemSink,
+) -> Result<(Result<FileEnd, Stop>, GrepState), Fail> {
+    let words = words_of(alloc, line)?;
     let Ok(plan) = read(alloc, words.as_slice()) else {
-        panic!(rt; "{}", row.0);
+        panic!(rt; "{}", line);
     };
     let mut texts = TextList::new(alloc);
     for text in plan.patterns.as_slice() {
         texts.push(ByteList::from_vec(text.bytes().to_vec(alloc)?))?;
     }
     let Ok(patterns) = Patterns::build(alloc, &plan, &texts) else {
-        panic!(rt; "{}", row.0);
+        panic!(rt; "{}", line);
     };
-    let mut source = MemSource::new(row.1.to_vec(alloc)?, None, piece);
+    let mut state = GrepState::new(alloc);
+    let answer = grep_file(&patterns, &plan, "f", &mut source, out, err, &mut state);
+    Ok((answer, state))
+}
+
+fn check(rt: &impl Abort, alloc: Global, row: &Row, piece: u32) -> Result<(), Fail> {
+    assert!(rt; piece > 0);
+    let source = MemSource::new(row.1.to_vec(alloc)?, None, piece);
     let mut out = MemSink::new(alloc, None, piece);
     let mut err = MemSink::new(alloc, None, piece);
-    let mut state = GrepState::new(alloc);
-    let answer = grep_file(
-        &patterns,
-        &plan,
-        "f",
-        &mut source,
-        &mut out,
-        &mut err,
-        &mut state,
-    );
+    let (answer, _) = search(rt, alloc, row.0, source, &mut out, &mut err)?;
     assert!(rt; answer.is_ok(), "{}", row.0);
     assert_eq!(rt; out.bytes(), row.2, "{}", row.0);
     assert_eq!(rt; err.bytes(), row.3, "{}", row.0);
@@ -106,4 +110,28 @@ fn matches_are_shown(rt: HostRuntime) -> Result<(), Fail> {
         ),
     ];
     check_all(&rt, rt.alloc(), &ROWS)
+}
+
+/// Two lines without a match, and 21 at which the match limit is met.
+const ERRORS: &[u8] =
+    b"cb\ncb\nab\nab\nab\nab\nab\nab\nab\nab\nab\nab\nab\nab\nab\nab\nab\nab\nab\nab\nab\nab\nab\n";
+
+#[test]
+fn lines_before_the_last_match_error_count(rt: HostRuntime) -> Result<(), Fail> {
+    let alloc = rt.alloc();
+    static LINES: [&str; 2] = [
+        "--match-limit=0 -v -c a+b",
+        "--match-limit=0 -v --total-count a+b",
+    ];
+    for line in &LINES {
+        let source = MemSource::new(ERRORS.to_vec(alloc)?, None, 100);
+        let mut out = MemSink::new(alloc, None, 100);
+        let mut err = MemSink::new(alloc, None, 100);
+        let (answer, state) = search(&rt, alloc, line, source, &mut out, &mut err)?;
+        assert_eq!(rt; answer, Err(Stop::TooManyErrors), "{}", line);
+        assert_eq!(rt; out.bytes(), b"".as_slice(), "{}", line);
+        assert_eq!(rt; state.errors(), 21, "{}", line);
+        assert_eq!(rt; state.total(), 2, "{}", line);
+    }
+    Ok(())
 }

@@ -1,15 +1,13 @@
-use Rattle.std.proofs.Common.{rules, ◌≡◌, Err, subst, sym, ◌∙◌}
+use Rattle.std.proofs.Common.{rules, ◌≡◌, Err, Ok, refl, sym, ◌∙◌}
 use Rattle.grep_core.specs.declared.ended.Stop.TheVariants.{Memory}
 use Rattle.grep_match.specs.Compiled.{patterns_in}
-use Rattle.grep_core.specs.OneInput.{ScansAs}
-use Rattle.grep_core.proofs.FileTexts.{scans-skipped, scans-lacks, scans-all, scans-halts, skipped-is, skipped-not}
+use Rattle.grep_core.proofs.FileTexts.{scans-skipped, scans-lacks, scans-whole, skipped-is, skipped-not}
 use Rattle.grep_core.proofs.file.scan_as.Goals as goal
-use Rattle.tool_out.specs.Printed.{printed}
 
 pub returns-then-is_skipped : goal.returns-then-is_skipped
 returns-then-is_skipped g c before job stood =
     scans-skipped c.args.job.now.plan.now (patterns_in c.args.job.now.patterns.now) c.args.job.now.name.now c.args.job.now.show c.args.state.now c.args.treatment before (g.S.Source.tells c.args.source.now) c.args.feed.now
-    (g.O.Sink.tells c.args.out.now) (g.E.Sink.tells c.args.err.now) (skipped-is c.args.treatment (sym c.is_skipped.ensures ∙ c.if-is_skipped.true)) stood
+    _ (skipped-is c.args.treatment (sym c.is_skipped.ensures ∙ c.if-is_skipped.true)) stood
 
 pub returns-in_err-new : goal.returns-in_err-new
 returns-in_err-new g c before job stood =
@@ -19,16 +17,16 @@ returns-in_err-new g c before job stood =
 
 pub returns-in_err-ended : goal.returns-in_err-ended
 returns-in_err-ended g c before job stood =
+    let job_is = c.args.job.now in
     let other = skipped-not c.args.treatment (sym c.is_skipped.ensures ∙ c.if-is_skipped.false) in
     let stop = c.in_err-ended.field-0.0 in
     let same : c.from_residual-in_err-ended.result ≡ Err stop = search rules in
-    subst (ScansAs c.args.job.now.plan.now (patterns_in c.args.job.now.patterns.now) c.args.job.now.name.now c.args.job.now.show c.args.treatment c.args.state.now before (g.S.Source.tells c.scan.new.source)
-    c.scan.new.state (printed (g.O.Sink.tells c.args.out.now) (g.E.Sink.tells c.args.err.now)) (printed (g.O.Sink.tells c.scan.new.out) (g.E.Sink.tells c.scan.new.err))) (sym same)
-    (scans-halts c.args.job.now.plan.now (patterns_in c.args.job.now.patterns.now) c.args.job.now.name.now c.args.job.now.show c.args.state.now c.args.treatment before (g.S.Source.tells c.scan.new.source)
-    c.scan.new.course.selected c.scan.new.state (g.O.Sink.tells c.args.out.now) (g.O.Sink.tells c.scan.new.out) (g.E.Sink.tells c.args.err.now) (g.E.Sink.tells c.scan.new.err) stop other (c.in_err-ended.ensures before c.args.treatment (job other) stood))
+    scans-whole job_is.plan.now (patterns_in job_is.patterns.now) job_is.name.now job_is.show c.args.state.now c.args.treatment c.scan-ended.new.course.selected c.counted-state.result c.scan-ended.new.state c.counted-state.ensures (Err stop) c.in_err-ended.was
+    c.from_residual-in_err-ended.result same other (c.scan-ended.ensures before c.args.treatment (job other) stood)
 
 pub returns : goal.returns
 returns g c before job stood =
+    let job_is = c.args.job.now in
     let other = skipped-not c.args.treatment (sym c.is_skipped.ensures ∙ c.if-is_skipped.false) in
-    scans-all c.args.job.now.plan.now (patterns_in c.args.job.now.patterns.now) c.args.job.now.name.now c.args.job.now.show c.args.state.now c.args.treatment before (g.S.Source.tells c.scan.new.source)
-    c.scan.new.course.selected c.scan.new.state (g.O.Sink.tells c.args.out.now) (g.O.Sink.tells c.scan.new.out) (g.E.Sink.tells c.args.err.now) (g.E.Sink.tells c.scan.new.err) c.in_ok-ended.ended other (c.in_ok-ended.ensures before c.args.treatment (job other) stood)
+    scans-whole job_is.plan.now (patterns_in job_is.patterns.now) job_is.name.now job_is.show c.args.state.now c.args.treatment c.scan-ended.new.course.selected c.counted-state.result c.scan-ended.new.state c.counted-state.ensures (Ok c.in_ok-ended.ended)
+    c.in_ok-ended.was _ refl other (c.scan-ended.ensures before c.args.treatment (job other) stood)

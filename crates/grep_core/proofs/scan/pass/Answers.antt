@@ -19,7 +19,7 @@ returns-in_err-write_line g c t same =
     let lines : job.show ≡ Lines = search rules in
     let text = context-text job.plan.now job.name.now job.show c.args.course.now t row lines same c.if-line-course.true in
     subst (Passes job.plan.now job.name.now job.show t c.args.course.now c.args.course.now old new) (sym is)
-    (subst (λ l. Halts l old new (stop_of e)) text (halts-of _ old new e (c.in_err-write_line.ensures (record { row = row; is_selected = false; begins_group = false }) refl refl)))
+    (subst (λ l. Halts l old new (stop_of e)) text (halts-of _ old new e (c.in_err-write_line.ensures (record { row = row; is_selected = false; begins_group = false }) refl refl)), refl)
 
 pub returns-in_ok-write_line : goal.returns-in_ok-write_line
 returns-in_ok-write_line g c t same =

@@ -21,8 +21,7 @@ returns-in_err-pass g c t same is =
     (TakesLine job.plan.now job.name.now job.show job.most t c.args.course.now c.args.state.now c.pass.new.course
     (record { errors = c.args.state.now.errors + 1; total = c.args.state.now.total; has_shown = c.args.state.now.has_shown }) (printed (g.O.Sink.tells c.args.out.now) (g.E.Sink.tells c.args.err.now)) (printed (g.O.Sink.tells c.pass.new.out) (g.E.Sink.tells c.write_error.new.err)))
     (sym refused)
-    (error-refused job.plan.now job.name.now job.show job.most c.args.course.now c.pass.new.course c.args.state.now
-    (record { errors = c.args.state.now.errors + 1; total = c.args.state.now.total; has_shown = c.args.state.now.has_shown }) t c.args.error (g.O.Sink.tells c.args.out.now) (g.O.Sink.tells c.pass.new.out) (g.E.Sink.tells c.args.err.now)
+    (error-refused job.plan.now job.name.now job.show job.most c.args.course.now c.pass.new.course c.args.state.now t c.args.error (g.O.Sink.tells c.args.out.now) (g.O.Sink.tells c.pass.new.out) (g.E.Sink.tells c.args.err.now)
     (g.E.Sink.tells c.write_error.new.err) stop is (omega arith) (wrote-of _ _ _ _ (c.in_ok-write_error.ensures t (search rules) (is ∙ ap Err (sym (to_z-of_z w32 c.args.error fits))))) (c.in_err-pass.ensures t same))
 
 pub returns : goal.returns

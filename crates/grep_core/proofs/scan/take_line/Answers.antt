@@ -54,7 +54,7 @@ returns-in_err-pass g c =
     subst
     (TakesLine job.plan.now job.name.now job.show job.most t c.args.course.now c.args.state.now c.pass.new.course c.args.state.now (printed (g.O.Sink.tells c.args.out.now) (g.E.Sink.tells c.args.err.now)) (printed (g.O.Sink.tells c.pass.new.out) (g.E.Sink.tells c.args.err.now)))
     (sym refused)
-    (passed-refused job.plan.now job.name.now job.show job.most t tried.found tried.is c.args.course.now c.pass.new.course c.args.state.now c.args.state.now _ _ _ stop
+    (passed-refused job.plan.now job.name.now job.show job.most t tried.found tried.is c.args.course.now c.pass.new.course c.args.state.now _ _ _ stop
     (tried.selects_so job.plan.now.invert_match ∙ unchosen c.match-branch-2.is_match job.plan.now.invert_match c.if-is_match-job.false)
     (c.in_err-pass.ensures t refl))
 
