@@ -1,5 +1,5 @@
 -- Conditional groups as nodes.
-use Rattle.std.proofs.Common.{◌≡◌, ◌≤◌, ◌<◌, ℕ, zero, suc, List, [], ◌∷◌, length, slice_get, Option, Some, refl, arith}
+use Rattle.std.proofs.Common.{◌≡◌, ◌<◌, ℕ, zero, suc, List, [], ◌∷◌, length, slice_get, Option, Some, refl, arith}
 use Rattle.pat_tree.specs.Nested.{Nested, any_set, in_call_of, cond_of}
 use Rattle.pat_tree.specs.Rules.{tests_of, defines}
 use Rattle.pat_tree.specs.Refs.{named_in}

@@ -33,7 +33,7 @@ use Rattle.pat_build.specs.declared.error.ReadError.TheVariants.{Bad, Memory}
 use Rattle.pat_build.specs.State.{State, Reference, Reads, flags_of}
 use Rattle.pat_build.specs.Groups.{Form, grouped, atomically, looks, conditional, defines, asserted, asserting, Opening, is_look, is_tested, bars_in, barred, branched, tested_by, built, noted, is_opened}
 use Rattle.pat_build.specs.Names.{given_after, with_given}
-use Rattle.pat_build.specs.Parts.{inside, asserts, alternative}
+use Rattle.pat_build.specs.Parts.{inside, alternative}
 use Rattle.pat_build.specs.Stack.{Layer, Opened, with_branch, resume, ended}
 use Rattle.pat_build.specs.Machine.{Refuses, Adds, Closes, IsAtom, IsMany, IsBarred, AreBarred, CanHave, HasTest, HaveTests, TestsNone, Named, form_of, atom_of, atom_tree, ids_of, number_in_frame, references_of, state_of, known_of, whole_of, left, Means, Ready, Begins, Took, Numbered, Gives, Ends, asserting_from, opening_of, ids_waiting, ids_in, ids_held, is_open, is_number}
 use Rattle.pat_build.proofs.Naming.{named_push, length_table}

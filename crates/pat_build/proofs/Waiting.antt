@@ -3,7 +3,6 @@ use Rattle.std.proofs.Common.{◌≡◌, ℕ, suc, ◌+◌, ◌-◌, ◌*◌, �
 use Rattle.pat_tree.specs.declared.options.Options.{Options}
 use Rattle.pat_tree.specs.declared.nodes.ClassSpec.{ClassSpec}
 use Rattle.pat_tree.specs.Parts.{DraftParts}
-use Rattle.pat_tree.specs.Nested.{Nested}
 use Rattle.pat_tree.specs.Growing.{EndsIn, Replaces, Makes, loose}
 use Rattle.pat_tree.proofs.Growing.{stand_made}
 use Rattle.token_parts.specs.declared.fault.Fault.{Fault}

@@ -8,6 +8,7 @@ use Rattle.pat_tree.specs.declared.nodes.Part.TheVariants as part
 use Rattle.pat_tree.specs.declared.names.NameEntry.{NameEntry}
 use Rattle.pat_tree.specs.Nested.{Nested, Row, Test, empty, one, group, anchor, row}
 use Rattle.pat_tree.specs.Nested as tree
+use Rattle.token_parts.specs.declared.fault.Fault.{Fault}
 use Rattle.token_parts.specs.declared.token.OptionMask.{OptionMask}
 use Rattle.token_parts.specs.declared.token.OpenKind.TheVariants as opening
 use Rattle.token_parts.specs.declared.token.QuantMode.{QuantMode}

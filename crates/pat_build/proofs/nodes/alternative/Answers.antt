@@ -1,4 +1,4 @@
-use Rattle.std.proofs.Common.{refl, None, ◌≡◌, ℕ, ◌<◌, List, [], ◌∷◌, length, map, All, Some, slice_get, arith, sym, ◌∙◌, subst}
+use Rattle.std.proofs.Common.{refl, ◌≡◌, ℕ, ◌<◌, List, [], ◌∷◌, length, map, All, Some, slice_get, arith, sym, ◌∙◌, subst}
 use Rattle.std.proofs.lemmas.List.Elements.{All-head}
 use Rattle.pat_tree.specs.declared.nodes.Placed.{Placed}
 use Rattle.pat_tree.specs.Nested.{tree_at, trees}

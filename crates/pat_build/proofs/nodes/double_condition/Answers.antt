@@ -1,10 +1,10 @@
-use Rattle.std.proofs.Common.{◌≡◌, ◌<◌, ◌∙◌, ◌++◌, ◌∷◌, [], true, length, None, Some, All, append-nil, map, ap, refl, sym, subst}
+use Rattle.std.proofs.Common.{◌≡◌, ◌<◌, ◌∙◌, ◌++◌, true, length, Some, All, append-nil, map, ap, refl, sym, subst}
 use Rattle.std.proofs.lemmas.List.Elements.{All-nil}
 use Rattle.pat_tree.specs.Growing.{EndsIn, is_fresh, loose}
 use Rattle.pat_tree.specs.Nested.{trees}
 use Rattle.pat_tree.proofs.Loose.{fresh_at_end}
 use Rattle.pat_build.specs.Groups.{conditional, groups_in, places_named}
-use Rattle.pat_build.specs.Machine.{test_of, cond_in}
+use Rattle.pat_build.specs.Machine.{test_of}
 use Rattle.pat_build.proofs.Conditions.{tests_none, cond_same, named_same, defines_none, two_get}
 use Rattle.pat_build.proofs.Extending.{closes_node}
 use Rattle.pat_build.proofs.nodes.double_condition.Goals as goal

@@ -1,4 +1,4 @@
-use Rattle.std.proofs.Common.{◌≡◌, ◌<◌, ◌∙◌, ◌++◌, ◌∷◌, [], true, length, None, Some, All, map, ap, refl, subst}
+use Rattle.std.proofs.Common.{◌≡◌, ◌<◌, ◌∙◌, ◌++◌, [], true, length, All, map, ap, refl, subst}
 use Rattle.std.proofs.lemmas.List.Elements.{All-nil, All-cons}
 use Rattle.pat_tree.specs.Growing.{EndsIn, is_fresh, loose}
 use Rattle.pat_tree.specs.Nested.{tree_at, trees}

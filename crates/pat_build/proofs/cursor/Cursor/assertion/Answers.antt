@@ -1,4 +1,4 @@
-use Rattle.std.proofs.Common.{◌≡◌, ℕ, Ok, Err, refl, sym}
+use Rattle.std.proofs.Common.{◌≡◌, ℕ, refl, sym}
 use Rattle.token_parts.specs.declared.token.OpenKind.{OpenKind}
 use Rattle.token_parts.specs.declared.token.Token.{Token}
 use Rattle.token_parts.specs.declared.token.Token.TheVariants as token

@@ -1,9 +1,8 @@
-use Rattle.std.proofs.Common.{◌∙◌, ◌≤◌, ◌<◌, length, slice_range, arith, sym, ap, refl}
+use Rattle.std.proofs.Common.{◌∙◌, ◌≤◌, ◌<◌, length, slice_range, arith, refl}
 use Rattle.std.proofs.lemmas.Result.{err_from_is_err_and}
 use Rattle.token_parts.specs.declared.token.Token.TheVariants.{CondStart}
-use Rattle.pat_build.specs.Parts.{enters}
 use Rattle.pat_build.specs.Machine.{form_of, state_of, known_of}
-use Rattle.pat_build.proofs.Beginning.{begun, worded_is, conditions_deep, conditions_refuse, conditions_fit}
+use Rattle.pat_build.proofs.Beginning.{worded_is, conditions_deep, conditions_refuse, conditions_fit}
 use Rattle.pat_build.proofs.Waiting.{bad_means, condition_refuses}
 use Rattle.pat_build.proofs.machine.Machine.worded_condition.Goals as goal
 
