@@ -6,3 +6,4 @@ mod Walk
 mod Leads
 mod PastBegin
 mod PastPrefix
+mod Needless

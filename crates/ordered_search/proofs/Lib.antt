@@ -13,3 +13,8 @@ pub mod ForwardLaw
 pub mod Before
 pub mod Free
 pub mod Classes
+pub mod TameStreams
+pub mod Growing
+pub mod Bounded
+pub mod SilentStreams
+pub mod Needed

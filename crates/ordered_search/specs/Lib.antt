@@ -14,3 +14,4 @@ pub mod Forward
 pub mod Moves
 pub mod Paths
 pub mod Verbless
+pub mod Needed

@@ -1,0 +1,14 @@
+use Rattle.std.proofs.Common.{ap, sym, refl}
+use Rattle.ordered_search.specs.MatchAnswer.{Found}
+use Rattle.ordered_search.specs.PlaceAnswer.{last_name}
+use Rattle.match_drive.proofs.drive.search.Goals as goal
+
+pub returns-then-lacks_need-clause-answer : goal.returns-then-lacks_need-clause-answer
+returns-then-lacks_need-clause-answer g c =
+    let e = c.lacks_need.ensures c.if-lacks_need.true (g.C.Callouts.answers c.args.calls.now) in
+    (ap (λ (f : Found). f.answer) e, sym (ap (λ (f : Found). last_name f.notes) e))
+
+pub returns-then-lacks_need-clause-last_mark : goal.returns-then-lacks_need-clause-last_mark
+returns-then-lacks_need-clause-last_mark g c =
+    let e = c.lacks_need.ensures c.if-lacks_need.true (g.C.Callouts.answers c.args.calls.now) in
+    ?
