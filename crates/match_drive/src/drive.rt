@@ -12,7 +12,7 @@ use crate::answer::MatchAnswer;
 use crate::begin::stands_at_begin;
 use crate::course::Course;
 use crate::driven::Driven;
-use crate::need::lacks_need;
+use crate::need::{lacks_need, no_match};
 use crate::places::{last_place, next_tried, place_after};
 use crate::prefix::first_parts;
 use frame_machine::{PlaceAnswer, Ready, Scratch};
@@ -123,8 +123,7 @@ pub fn search<C: Callouts>(
     ensures seen { C.seen calls.new ≡ C.seen calls.old }
 {
     if lacks_need(ready, view) {
-        scratch.clear_mark();
-        return MatchAnswer::NoMatch { mark: None };
+        return no_match(scratch);
     }
     let at_begin = stands_at_begin(ready.tree);
     let course = Course {

@@ -1,5 +1,5 @@
 //! Subjects without a byte that every match needs.
-ghost use Rattle.std.specs.Prelude.{◌≡◌, ◌+◌, ◌<◌, ◌≤◌, ℕ, ℤ, IsTrue, length, slice_index};
+ghost use Rattle.std.specs.Prelude.{◌≡◌, ◌+◌, ◌<◌, ◌≤◌, ℕ, ℤ, None, IsTrue, length, slice_index};
 ghost use Rattle.match_items.specs.Subjects.{IsSubject};
 ghost use Rattle.pcre_io.specs.declared.callouts.Block.{Block};
 ghost use Rattle.pat_check.specs.Bounds.{at};
@@ -8,8 +8,9 @@ ghost use Rattle.ordered_search.specs.Setting.{lower_of};
 ghost use Rattle.ordered_search.specs.MatchAnswer.{none_found, match_answer};
 ghost use Rattle.match_drive.specs.Rest.{IsByteOutside};
 
+use crate::answer::MatchAnswer;
 use byte_lanes::{ByteSet, find_in_set};
-use frame_machine::Ready;
+use frame_machine::{Ready, Scratch};
 use match_items::View;
 use pat_check::Need;
 
@@ -60,4 +61,13 @@ pub(crate) fn lacks_need(ready: &Ready<'_>, view: &View<'_>) -> bool
         return false;
     }
     lacks(view.subject, &need.bytes)
+}
+
+/// The answer for such a subject, whose search met no name.
+pub(crate) fn no_match(scratch: &mut Scratch) -> MatchAnswer
+    ensures answer { result ≡ MatchAnswer.NoMatch None }
+    ensures mark { scratch.new ≡ record scratch.old { last_mark = None } }
+{
+    scratch.clear_mark();
+    MatchAnswer::NoMatch { mark: None }
 }

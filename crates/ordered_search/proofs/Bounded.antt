@@ -129,13 +129,13 @@ module _ (g : Setting) (off : g.matching.«partial» ≡ Off) where
   unfolding run_ref
   once_ref [] caseless s = within_if 0 1 _ g.options.match_unset_backref _ _ (within_gives 0 _ s (omega arith)) (within_nothing 0 1 _)
   once_ref (m ∷ ns) caseless s = elim (capture s.caps m)
-    as (λ o. Within 0 1 s.units (elim o [
-      | None ↦ run_ref g ns caseless s
-      | Some span ↦ reach_if g (ref_reaches g.scene span.from span.to caseless s.place) s (goes_to (after_ref g.scene span.from span.to caseless s.place) s)
-    ])) [
-      | None ↦ once_ref ns caseless s
-      | Some span ↦ reached_within 0 1 _ _ s _ (within_goes _ s)
-    ]
+      as (λ o. Within 0 1 s.units (elim o [
+        | None ↦ run_ref g ns caseless s
+        | Some span ↦ reach_if g (ref_reaches g.scene span.from span.to caseless s.place) s (goes_to (after_ref g.scene span.from span.to caseless s.place) s)
+      ])) [
+        | None ↦ once_ref ns caseless s
+        | Some span ↦ reached_within 0 1 _ _ s _ (within_goes _ s)
+      ]
 
   once_anchor : (kind : AnchorKind) → Once (run_anchor g kind)
   unfolding run_anchor

@@ -73,14 +73,13 @@ module _ (g : Setting) (has : ℕ → Bool) (off : g.matching.«partial» ≡ Of
       by_next (Some q) e = absurd cc
 
       by_left : (b : Bool) → ◌≡◌ {A = List ℕ} (elim b [
-          | true ↦ []
-          | false ↦ elim (after_item g.scene item p) [ None ↦ [] | Some q ↦ q ∷ run_places g.scene item n (one_less most) q ]
-        ]) []
+        | true ↦ []
+        | false ↦ elim (after_item g.scene item p) [ None ↦ [] | Some q ↦ q ∷ run_places g.scene item n (one_less most) q ]
+      ]) []
       by_left true = refl
       by_left false = by_next (after_item g.scene item p) (none_taken item h p)
 
   -- Searches without a state.
-
 
   abbrev SilentIn : Bound → Search → Type 0
   SilentIn b f = (s : State) → s.units + b.units ≤ g.matching.frame_limit → Silent (f s)

@@ -204,11 +204,7 @@ fn bound_of(node: &Node, bounds: &[Option<Bound>]) -> Option<Bound>
             atomic,
             branches,
             ..
-        } => bound_if(
-            *ahead,
-            *atomic,
-            closed(one_of(branches.as_slice(), bounds)),
-        ),
+        } => bound_if(*ahead, *atomic, closed(one_of(branches.as_slice(), bounds))),
         _ => None,
     }
 }
