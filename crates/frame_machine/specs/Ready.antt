@@ -1,5 +1,5 @@
 -- A finished tree made ready for searches, and what a search of it is about.
-use Rattle.std.specs.Prelude.{◌≡◌, ◌<◌, ◌≤◌, ℕ, ℤ, true, List, [], ◌∷◌, None, length, nat_le, slice_index_or}
+use Rattle.std.specs.Prelude.{◌≡◌, ◌<◌, ◌≤◌, ℕ, ℤ, true, List, [], ◌∷◌, None, IfSome, length, nat_le, slice_index_or}
 use Rattle.uni_text.specs.Ascii.{ascii_fold, is_word_char}
 use Rattle.pat_tree.specs.declared.options.MatchOptions.{MatchOptions}
 use Rattle.pat_tree.specs.declared.options.PartialMode.TheVariants.{Off}
@@ -20,6 +20,7 @@ use Rattle.frame_machine.specs.Forms.{IsRunnable}
 use Rattle.pat_check.specs.Known.{IsByteSet, lead_set_of}
 use Rattle.pat_lengths.specs.Backs.{AreBacks, first_fault, greatest_back}
 use Rattle.pat_lengths.specs.Lengths.{SomeLengths, branch_lengths, can_be_empty}
+use Rattle.pat_check.specs.NeedTables.{IsNeedOf}
 use Rattle.pat_check.specs.Size.{size}
 use Rattle.pat_check.specs.Support.{dfa_support}
 use Rattle.pat_lengths.specs.Nodes.{names_cr_or_lf, has_lookbehind, tests_before}
@@ -43,6 +44,7 @@ pub record AreFactsOf (tree : TreeParts) (facts : Facts) : Type 0 where
   pub backs : AreBacks tree facts.backs
   pub greatest : facts.greatest_back ≡ greatest_back tree
   pub flow : IsFlowOf tree.nodes tree.root facts.flow
+  pub need : IfSome facts.need (IsNeedOf tree)
 
 -- a callout's block as it is shown
 abbrev pub shown_as : search.Block → Block

@@ -7,3 +7,4 @@ mod Leads
 mod PastBegin
 mod PastPrefix
 mod PastRun
+mod Needless

@@ -12,6 +12,7 @@ use crate::answer::MatchAnswer;
 use crate::begin::stands_at_begin;
 use crate::course::Course;
 use crate::driven::Driven;
+use crate::need::{lacks_need, no_match};
 use crate::places::{last_place, next_tried, place_past};
 use crate::prefix::first_parts;
 use crate::run::leading_run;
@@ -122,6 +123,9 @@ pub fn search<C: Callouts>(
     ensures rule { (block : Block) → C.answers calls.new block ≡ C.answers calls.old block }
     ensures seen { C.seen calls.new ≡ C.seen calls.old }
 {
+    if lacks_need(ready, view) {
+        return no_match(scratch);
+    }
     let at_begin = stands_at_begin(ready.tree);
     let course = Course {
         ready,

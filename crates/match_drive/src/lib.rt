@@ -7,6 +7,7 @@ mod begin;
 mod course;
 mod drive;
 mod driven;
+mod need;
 mod places;
 mod prefix;
 mod run;

@@ -17,3 +17,8 @@ pub mod FollowStreams
 pub mod FollowSearch
 pub mod LaterRuns
 pub mod FollowLaw
+pub mod TameStreams
+pub mod Growing
+pub mod Bounded
+pub mod SilentStreams
+pub mod Needed

@@ -16,3 +16,4 @@ pub mod Paths
 pub mod Verbless
 pub mod Plain
 pub mod LaterPlaces
+pub mod Needed

@@ -10,3 +10,7 @@ pub mod Starts
 pub mod Support
 pub mod Survey
 pub mod Drafts
+pub mod Bounds
+pub mod BoundTables
+pub mod Needs
+pub mod NeedTables

@@ -1,5 +1,5 @@
 //! What is known of a pattern.
-ghost use Rattle.std.specs.Prelude.{◌≡◌, ◌<◌, ◌≤◌, ℕ, true, false, All, List, None, IfOk, IfErr, length, map};
+ghost use Rattle.std.specs.Prelude.{◌≡◌, ◌<◌, ◌≤◌, ℕ, true, false, All, List, None, IfOk, IfErr, IfSome, length, map};
 ghost use Rattle.pat_tree.specs.declared.nodes.Placed.{Placed};
 ghost use Rattle.pat_tree.specs.Nested.{trees, tree_at};
 ghost use Rattle.pat_tree.specs.Parts.{TreeParts, tree_of};
@@ -15,11 +15,13 @@ ghost use Rattle.pat_lengths.specs.Nodes as nodes;
 ghost use Rattle.pat_lengths.specs.Nodes.{all_nodes};
 ghost use Rattle.pat_lengths.specs.Passing.{IsGroupTable};
 ghost use Rattle.pat_check.specs.Known.{IsByteSet, IsCheckError, lead_set_of};
+ghost use Rattle.pat_check.specs.NeedTables.{IsNeedOf};
 ghost use Rattle.pat_check.specs.Size as sizes;
 ghost use Rattle.pat_check.specs.Starts.{FoldsIn, known_set, lead_in};
 ghost use Rattle.pat_check.specs.Support as support;
 
 use crate::leads::lead_set;
+use crate::needs::{Need, need_of_whole};
 use crate::size::size_of;
 use crate::support::DfaSupport;
 use crate::survey::survey_of;
@@ -57,6 +59,8 @@ pub struct Facts {
     pub greatest_back: u32,
     /// What runs when a part of the pattern is done.
     pub flow: Flow,
+    /// Bytes of which every match takes one, where such a set is known and worth a look.
+    pub need: Option<Need>,
 }
 
 impl Facts {
@@ -124,6 +128,7 @@ pub fn check(alloc: Global, tree: &Tree, classes: &ClassTable) -> Result<Facts, 
     ensures backs { IfOk result (λ facts. AreBacks tree.now facts.backs) }
     ensures greatest { IfOk result (λ facts. facts.greatest_back ≡ greatest_back tree.now) }
     ensures flow { IfOk result (λ facts. IsFlowOf tree.now.nodes tree.now.root facts.flow) }
+    ensures need { IfOk result (λ facts. IfSome facts.need (IsNeedOf tree.now)) }
     ensures fixed { IfOk result (λ facts. first_fault tree.now ≡ None) }
     ensures refused { IfErr result (IsCheckError (first_fault tree.now)) }
     ensures without { nodes.has_lookbehind (tree_of tree.now) ≡ false
@@ -150,6 +155,7 @@ pub fn check(alloc: Global, tree: &Tree, classes: &ClassTable) -> Result<Facts, 
         backs: Backs::of_spans(alloc, &spans)?,
         greatest_back: greatest_in(tree, &order, &spans),
         flow: Flow::build(alloc, tree)?,
+        need: need_of(alloc, tree, classes)?,
     })
 }
 
@@ -215,4 +221,29 @@ fn lead_of_whole<L: Ledger>(
 {
     let mut steps = Steps::<L>::new(blank);
     lead_set(alloc, tree, classes, &mut steps)
+}
+
+/// The bytes that every match needs, where they are known.
+fn need_of(alloc: Global, tree: &Tree, classes: &ClassTable) -> Result<Option<Need>, Memory>
+    requires table { IsTableOf tree.now classes.now }
+    ensures { IfOk result (λ need. IfSome need (IsNeedOf tree.now)) }
+{
+    need_with::<Brand>(alloc, tree, classes, Blank::new(1))
+}
+
+/// The same, by a counter of its own.
+fn need_with<L: Ledger>(
+    alloc: Global,
+    tree: &Tree,
+    classes: &ClassTable,
+    blank: Blank,
+) -> Result<Option<Need>, Memory>
+    requires name { blank.name ≡ L.name }
+    requires parts { blank.parts ≡ L.parts }
+    requires one { blank.parts ≡ 1 }
+    requires table { IsTableOf tree.now classes.now }
+    ensures { IfOk result (λ need. IfSome need (IsNeedOf tree.now)) }
+{
+    let mut steps = Steps::<L>::new(blank);
+    need_of_whole(alloc, tree, classes, &mut steps)
 }

@@ -37,7 +37,7 @@ pub(crate) fn begin(bytes: ByteSet) -> Option<Start>
 }
 
 /// Adds the bytes of another set.
-fn add_all(bytes: &mut ByteSet, more: &ByteSet)
+pub(crate) fn add_all(bytes: &mut ByteSet, more: &ByteSet)
     ensures { (b : ℕ) → b < 256
         → has_byte bytes.new b ≡ (has_byte bytes.old b || has_byte more.now b) }
 {

@@ -102,3 +102,20 @@ fn each_branch_is_a_step(rt: HostRuntime) -> Result<(), Fail> {
     ];
     cases(&rt, rt.alloc(), &ROWS)
 }
+
+#[test]
+fn a_missing_byte_is_no_match_within_the_limits(rt: HostRuntime) -> Result<(), Fail> {
+    static ROWS: [Row; 10] = [
+        (b"\\w+;", b"abcdefgh", None, 8, 1),
+        (b"(?i)\\w+k", b"abc", None, 3, 1),
+        (b"(?i)\\w+k", b"abK", Some((0, 3)), 2, 1),
+        (b"a*(?:;|=)", b"aa", None, 9, 2),
+        (b"a*(?:;|=)", b"aa=", Some((0, 3)), 3, 2),
+        (b"a+;?=", b"aa", None, 4, 1),
+        (b"a+;?=", b"aa=", Some((0, 3)), 2, 1),
+        (b"a+(?=;)", b"aa", None, 2, 2),
+        (b"a+(?!;)", b"aa", Some((0, 2)), 1, 2),
+        (b"(?>a+);", b"aa", None, 1, 3),
+    ];
+    cases(&rt, rt.alloc(), &ROWS)
+}

@@ -2,7 +2,8 @@
 ghost use Rattle.std.specs.Prelude.{◌≡◌, ◌<◌, false, length};
 
 use crate::tests::build::{Step, tree_of};
-use crate::{CheckError, DfaSupport, Facts, check};
+use crate::{CheckError, DfaSupport, Facts, Growth, check};
+use byte_lanes::ByteSet;
 use char_sets::ClassTable;
 use pat_tree::{AnchorKind, Options};
 use std::alloc::Global;
@@ -19,17 +20,20 @@ type Row = (
     DfaSupport,
 );
 
+/// Whether a set has these bytes and no other.
+fn is_set(set: &ByteSet, bytes: &[u8]) -> bool {
+    let mut all = true;
+    for b in 0..256u32 {
+        let b = b as u8;
+        all = all && set.has(b) == bytes.contains(&b);
+    }
+    all
+}
+
 fn begins_as(facts: &Facts, begins: Option<&'static [u8]>) -> bool {
     match (&facts.lead, begins) {
         (None, None) => true,
-        (Some(set), Some(bytes)) => {
-            let mut all = true;
-            for b in 0..256u32 {
-                let b = b as u8;
-                all = all && set.has(b) == bytes.contains(&b);
-            }
-            all
-        }
+        (Some(set), Some(bytes)) => is_set(set, bytes),
         _ => false,
     }
 }
@@ -606,5 +610,92 @@ fn lookbehinds_have_a_length_or_are_refused(rt: HostRuntime) -> Result<(), Fail>
         &[A, Capture(1, 1), Call(1), Seq(2), Behind(1)],
         Back(2),
     )?;
+    Ok(())
+}
+
+/// A tree by its steps, the bytes of which every match takes one if such a set is told, and the bounds of its Steps, as
+/// times and degree, and of its units.
+type NeedRow = (&'static [Step], Option<&'static [u8]>, u32, u32, u32);
+
+fn needs_as(facts: &Facts, row: &NeedRow) -> bool {
+    match (&facts.need, row.1) {
+        (None, None) => true,
+        (Some(need), Some(bytes)) => {
+            let steps = Growth {
+                times: row.2,
+                degree: row.3,
+            };
+            is_set(&need.bytes, bytes) && need.bound.steps == steps && need.bound.units == row.4
+        }
+        _ => false,
+    }
+}
+
+fn tells_need(rt: &impl Abort, alloc: Global, row: &NeedRow) -> Result<(), Fail> {
+    assert!(rt; row.0.len() < 1000);
+    match facts_of(alloc, Options::PLAIN, row.0)? {
+        Ok(facts) => assert!(rt; needs_as(&facts, row)),
+        Err(_) => assert!(rt; false),
+    }
+    Ok(())
+}
+
+#[test]
+fn the_rarest_byte_that_every_match_takes_is_told(rt: HostRuntime) -> Result<(), Fail> {
+    use Step::*;
+    static ROWS: [NeedRow; 20] = [
+        // `a`, `(?i)k`, a class, `a?b`, `a+b`, `a{2,3}`, `a*`, `.`
+        (&[A], Some(b"a"), 0, 0, 0),
+        (&[AnyCase(107)], Some(b"Kk"), 0, 0, 0),
+        (&[Class], Some(b"\n\x0B\x0C\r"), 0, 0, 0),
+        (&[MAYBE, B, Seq(2)], Some(b"b"), 2, 0, 1),
+        (&[Chars(97, 1, None), B, Seq(2)], Some(b"b"), 1, 1, 1),
+        (&[Chars(97, 2, Some(3))], Some(b"a"), 2, 0, 1),
+        (&[Chars(97, 0, None)], None, 0, 0, 0),
+        (&[AnyAll], None, 0, 0, 0),
+        // `ab|cb`, `a|`, `(a)`, `(?>a+)b`, `(?=b)a*`
+        (
+            &[A, B, Seq(2), C, B, Seq(2), Group(2)],
+            Some(b"bc"),
+            2,
+            0,
+            2,
+        ),
+        (&[A, Empty, Group(2)], None, 0, 0, 0),
+        (&[A, Capture(1, 1)], Some(b"a"), 0, 0, 2),
+        (
+            &[Chars(97, 1, None), Atomic(1), B, Seq(2)],
+            Some(b"b"),
+            1,
+            1,
+            3,
+        ),
+        (
+            &[B, Ahead(1), Chars(97, 0, None), Seq(2)],
+            Some(b"b"),
+            1,
+            1,
+            3,
+        ),
+        // `a+b+c`
+        (
+            &[Chars(97, 1, None), Chars(98, 1, None), C, Seq(3)],
+            Some(b"b"),
+            2,
+            2,
+            2,
+        ),
+        // forms without a bound: `(?:a){2,}`, `(?<=b)a`, `(?1)`, an accept, a callout
+        (&[A, Repeat(2, None)], None, 0, 0, 0),
+        (&[B, Behind(1), A, Seq(2)], None, 0, 0, 0),
+        (&[A, Call(0), Seq(2)], None, 0, 0, 0),
+        (&[A, Accept, Seq(2)], None, 0, 0, 0),
+        (&[A, Callout, Seq(2)], None, 0, 0, 0),
+        // a lookahead that is gone into again, `(?*b)a`
+        (&[B, AheadAnyWay(1), A, Seq(2)], None, 0, 0, 0),
+    ];
+    for row in &ROWS {
+        tells_need(&rt, rt.alloc(), row)?;
+    }
     Ok(())
 }

@@ -23,4 +23,5 @@ answer_of-answer-requires-clause-facts c =
       backs = told.backs;
       greatest = told.greatest;
       flow = told.flow;
+      need = told.need;
     }

@@ -25,6 +25,7 @@ invariant_of-result c =
         backs = told.backs;
         greatest = told.greatest;
         flow = told.flow;
+        need = told.need;
       };
       bytes = kept.without_utf;
       built = kept.built;
