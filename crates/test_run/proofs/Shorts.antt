@@ -1,0 +1,77 @@
+-- A subject of a script line isn't too long.
+use Rattle.std.proofs.Common.{◌≡◌, ℕ, ◌≤◌, ◌+◌, Bool, true, false, List, [], ◌∷◌, ◌++◌, length, take, drop, codes, Option, Some, None, Ok, Err, refl, sym, subst, arith}
+use Rattle.std.specs.Prelude.{nat_le}
+use Rattle.std.proofs.lemmas.Bool.{cond_both, leb-true}
+use Rattle.script_modifiers.specs.declared.modifiers.Modifiers.{Modifiers}
+use Rattle.script_modifiers.specs.Lists.{list_of}
+use Rattle.script_modifiers.specs.Refusals.{Reads}
+use Rattle.test_script.specs.declared.entries.Entry.{Entry}
+use Rattle.test_script.specs.declared.entries.Entry.TheVariants as entry
+use Rattle.test_script.specs.Script.{Script, Awaits, anything, closing, subject, skipped, last_backslash, after_backslash, closing_place, awaiting, pattern_with, pattern_closed, pattern_line, defaults_with, defaults_line, is_note, is_command, command_line, is_delimiter, begun_line, is_blank_line, first_line, is_subject_note, subject_with, subject_list, subject_read, subject_entry, is_nothing, subject_line, skipped_line, trimmed, line_in, line_of}
+use Rattle.test_script.specs.Subjects.{subject_text, greatest_subject, not_too_long, unless_too_long, written}
+use Rattle.test_run.specs.Runs.{IsShort}
+
+pattern-short : (script : Script) (text : List ℕ) (list : Reads Modifiers) → IsShort (pattern_with script text list).0
+pattern-short script text (Ok own) = tt
+pattern-short script text (Err refusal) = tt
+
+closed-short : (script : Script) (d : ℕ) (text line : List ℕ) (at : Option ℕ) → IsShort (pattern_closed script d text line at).0
+closed-short script d text line None = tt
+closed-short script d text line (Some n) =
+    let rest = drop (n + 1) line in
+    pattern-short script (text ++ take n line ++ last_backslash rest) (list_of true (after_backslash rest))
+
+defaults-short : (script : Script) (pattern : Bool) (list : Reads Modifiers) → IsShort (defaults_with script pattern list).0
+defaults-short script pattern (Ok list) = tt
+defaults-short script pattern (Err refusal) = tt
+
+command-short : (script : Script) (text : List ℕ) → IsShort (command_line script text).0
+command-short script text =
+    cond_both (is_note text) _ _ (λ x. IsShort x.0) (λ _. tt) (λ _.
+    cond_both (is_command (codes "pattern") text) _ _ (λ x. IsShort x.0) (λ _. defaults-short script true (list_of true (drop 7 text))) (λ _.
+    cond_both (is_command (codes "subject") text) _ _ (λ x. IsShort x.0) (λ _. defaults-short script false (list_of false (drop 7 text))) (λ _. tt)))
+
+begun-short : (script : Script) (c : ℕ) (rest : List ℕ) → IsShort (begun_line script c rest).0
+begun-short script c rest =
+    cond_both _ (command_line script rest) _ (λ x. IsShort x.0) (λ _. command-short script rest) (λ _.
+    cond_both (is_delimiter c) (pattern_line script c [] rest) _ (λ x. IsShort x.0) (λ _. closed-short script c [] rest (closing_place c rest)) (λ _. tt))
+
+first-short : (script : Script) (line : List ℕ) → IsShort (first_line script line).0
+first-short script [] = tt
+first-short script (c ∷ rest) =
+    cond_both (is_blank_line (c ∷ rest)) _ (begun_line script c rest) (λ x. IsShort x.0) (λ _. tt) (λ _. begun-short script c rest)
+
+found-short : (found : List ℕ × Option ℕ) (all : Option (List ℕ × Option ℕ)) → unless_too_long all ≡ Some found → length found.0 ≤ greatest_subject
+found-short found None is = absurd cc
+found-short found (Some other) is =
+    cond_both (nat_le (length other.0) greatest_subject) (Some other) None (λ o. o ≡ Some found → length found.0 ≤ greatest_subject)
+    (λ few same. let e : other ≡ found = cc in subst (λ (f : List ℕ × Option ℕ). length f.0 ≤ greatest_subject) e (leb-true (length other.0) greatest_subject few))
+    (λ _ no. absurd cc)
+    is
+
+list-short : (text : List ℕ) (list : Reads Modifiers) → length text ≤ greatest_subject → IsShort (subject_with text list)
+list-short text (Ok own) few = few
+list-short text (Err refusal) few = tt
+
+read-short : (line : List ℕ) (found : Option (List ℕ × Option ℕ)) → ((f : List ℕ × Option ℕ) → found ≡ Some f → length f.0 ≤ greatest_subject) → IsShort (subject_read line found)
+read-short line None few = tt
+read-short line (Some f) few = list-short f.0 (subject_list line f.1) (few f refl)
+
+text-short : (utf : Bool) (line : List ℕ) (f : List ℕ × Option ℕ) → subject_text utf line ≡ Some f → length f.0 ≤ greatest_subject
+unfolding subject_text
+text-short utf line f is = found-short f (written utf line (length line + 1) 0) is
+
+entry-short : (utf : Bool) (line : List ℕ) → IsShort (subject_entry utf line)
+entry-short utf line =
+    cond_both (is_subject_note line) entry.Note (subject_read line (subject_text utf line)) IsShort (λ _. tt) (λ _. read-short line (subject_text utf line) (text-short utf line))
+
+in-short : (script : Script) (awaits : Awaits) (line : List ℕ) → IsShort (line_in script awaits line).0
+in-short script anything line = first-short script line
+in-short script (closing d text) line = closed-short script d text line (closing_place d line)
+in-short script (subject utf) line =
+    cond_both (is_nothing (trimmed line)) _ _ (λ x. IsShort x.0) (λ _. tt) (λ _. entry-short utf (trimmed line))
+in-short script skipped line = cond_both (is_blank_line line) _ _ (λ x. IsShort x.0) (λ _. tt) (λ _. tt)
+
+pub line-short : (script : Script) (line : List ℕ) → IsShort (line_of script line).0
+unfolding line_of
+line-short script line = in-short script script.awaits line
