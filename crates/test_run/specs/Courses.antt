@@ -11,7 +11,7 @@ use Rattle.test_script.specs.declared.entries.Entry.TheVariants as entry
 use Rattle.test_script.specs.declared.entries.PatternEntry.{PatternEntry}
 use Rattle.test_script.specs.declared.entries.SubjectEntry.{SubjectEntry}
 use Rattle.pcre2_api.specs.Patterns.{compiled}
-use Rattle.test_run.specs.Informs.{info_in}
+use Rattle.pcre2_api.specs.Informs.{info_in}
 use Rattle.test_run.specs.Asked.{is_on, is_unbuilt, options_of, how_of}
 use Rattle.test_run.specs.declared.options.How.{How}
 use Rattle.test_run.specs.Matches.{matches_from}

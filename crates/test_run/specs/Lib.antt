@@ -1,6 +1,5 @@
 pub mod Shown
 pub mod Asked
-pub mod Informs
 pub mod Matches
 pub mod Lines
 pub mod Courses

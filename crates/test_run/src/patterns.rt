@@ -1,7 +1,7 @@
 //! The patterns of a script.
 ghost use Rattle.std.specs.Prelude.{◌≡◌, IfOk};
 ghost use Rattle.pat_tree.specs.Pattern.{pattern_of};
-ghost use Rattle.test_run.specs.Informs.{info_in};
+ghost use Rattle.pcre2_api.specs.Informs.{info_in};
 ghost use Rattle.test_run.specs.Courses.{pattern_course, pattern_text};
 ghost use Rattle.test_run.specs.Lines.{info_text};
 ghost use Rattle.test_run.specs.Searches.{course_of};
@@ -24,6 +24,8 @@ fn write_told<O: Sink>(out: &mut O, code: &Code, is_asked: bool) -> Result<(), I
     if !is_asked {
         return Ok(());
     }
+    // so what is told of the code is what the definition tells of the pattern
+    code.info_is_of_its_pattern();
     write_info(out, code.info())
 }
 
