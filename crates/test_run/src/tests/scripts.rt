@@ -1006,7 +1006,7 @@ No match
 >#subject offset=1
 >/a/
 >aba
-No match
+ 0: a
 >aba\\=offset=0
  0: a
 >
