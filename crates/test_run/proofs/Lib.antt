@@ -4,5 +4,7 @@ pub mod Saying
 pub mod Searching
 pub mod Listing
 pub mod Shorts
+pub mod Sending
+pub mod Compiling
 pub mod Scripts
 pub mod RowProofs

@@ -1,6 +1,7 @@
 -- The matches of a subject, as they are written one after another.
 use Rattle.std.proofs.Common.{◌≡◌, ◌∙◌, ℕ, zero, suc, ◌+◌, ◌-◌, ◌*◌, ◌<◌, ◌≤◌, Bool, true, false, ◌||◌, List, [], ◌∷◌, ◌++◌, length, flat_map, Option, Some, None, Result, Ok, Err, refl, sym, ap, subst, arith, append_assoc, append-nil}
-use Rattle.std.specs.Prelude.{◌==◌}
+use Rattle.std.specs.Prelude.{◌==◌, ◌&&◌, nat_lt, if◌then◌else◌}
+use Rattle.std.proofs.lemmas.Bool.{lt-ltb, le-ltb}
 use Rattle.pcre_io.specs.Told.{Kept}
 use Rattle.pcre_io.specs.declared.traits.IoError.{IoError}
 use Rattle.tool_out.specs.Writes.{Writes}
@@ -13,7 +14,7 @@ use Rattle.pcre2_api.specs.declared.error.MatchError.{MatchError}
 use Rattle.test_run.specs.declared.matches.Search.{Search}
 use Rattle.test_run.specs.declared.matches.Search.TheVariants as search
 use Rattle.test_run.specs.Lines.{end_text, failed_line, matches_text}
-use Rattle.test_run.specs.Matches.{Answer, found, none, failed, Matches, no_more, fails, with_match, answer, answer_at, goes_on, place_behind, all_from, first_from, matches_from}
+use Rattle.test_run.specs.Matches.{Answer, found, none, failed, Matches, no_more, fails, with_match, answer, answer_at, goes_on, is_crlf, place_behind, all_from, first_from, matches_from}
 use Rattle.test_run.specs.Searches.{answer_text, IsSearch, rest_text}
 use Rattle.test_run.specs.Shown.{match_text}
 
@@ -140,28 +141,57 @@ module _ (p : Pattern) (matching : MatchOptions) (subject : List ℕ) where
           by_answer none e w = left-refused [] _ fault on.left refl w
           by_answer (failed f) e w = left-refused (failed_line f) [] fault on.left (rest-is (fails f) (all-failed _ again at f e) ∙ sym (append-nil (failed_line f))) w
 
+    -- a search wrote nothing
+    pub on-quiet : (u : Unit {0}) → Writes [] mid new (Ok u) → IsOn from i at again is_shown old new
+    on-quiet u w = record { left = left-more [] (rest_text subject is_shown (all (most - i) again at)) u on.left refl w }
+
     -- no search is left
     pub on-last : (result : Result (Unit {0}) IoError) → most ≤ i → Writes (end_text is_shown None) mid new result → Writes (total from) old new result
-    on-last result no w =
+    on-last result past w =
         let e : most - i ≡ 0 = omega arith in
         left-last result on.left (ap (λ n. rest_text subject is_shown (all n again at)) e ∙ ap (rest_text subject is_shown) (all-zero again at) ∙ rest-none subject is_shown) w
+
+  pub on-as : (from i at at' : ℕ) (again again' is_shown is_shown' : Bool) (old new : Kept) → at ≡ at' → again ≡ again' → is_shown ≡ is_shown' → IsOn from i at' again' is_shown' old new
+      → IsOn from i at again is_shown old new
+  on-as from i at at' again again' is_shown is_shown' old new a b c on =
+      subst (λ n. IsOn from i n again is_shown old new) (sym a)
+      (subst (λ t. IsOn from i at' t is_shown old new) (sym b) (subst (λ t. IsOn from i at' again' t old new) (sym c) on))
+
+  -- Where a search goes on that found nothing.
+
+  pub goes-once : (again : Bool) (at : ℕ) → again ≡ false → goes_on p matching subject again at ≡ false
+  goes-once again at once = ap (λ b. b && nat_lt at (length subject)) once
+
+  pub goes-past : (again : Bool) (at : ℕ) → again ≡ true → length subject ≤ at → goes_on p matching subject again at ≡ false
+  goes-past again at twice past = ap (λ b. b && nat_lt at (length subject)) twice ∙ le-ltb at (length subject) past
+
+  pub goes-inside : (again : Bool) (at : ℕ) → again ≡ true → at < length subject → goes_on p matching subject again at ≡ true
+  goes-inside again at twice inside = ap (λ b. b && nat_lt at (length subject)) twice ∙ lt-ltb at (length subject) inside
+
+  pub behind-is : (at step : ℕ) → step ≡ (if is_crlf p subject at then 2 else 1) → at + step ≡ place_behind p subject at
+  behind-is at step is = ap (λ n. at + n) is ∙ by_test (is_crlf p subject at)
+    where
+      by_test : (b : Bool) → at + (if b then 2 else 1) ≡ (if b then at + 2 else at + 1)
+      by_test true = refl
+      by_test false = refl
 
   -- The first match alone.
 
   abbrev first : ℕ → List ℕ
   first from = matches_text subject (first_from p matching subject from)
 
-  pub first-text : (from : ℕ) (a : Answer) → answer_at p matching subject from ≡ a → (text : List ℕ) → first from ≡ answer_text subject a ++ text → first from ≡ answer_text subject (answer_at p matching subject from) ++ text
-  first-text from a e text h = h ∙ ap (λ x. answer_text subject x ++ text) (sym e)
+  -- by what the search gives
+  abbrev by_first : Answer → List ℕ
+  by_first a = matches_text subject (elim a [ found o ↦ with_match o no_more | none ↦ no_more | failed e ↦ fails e ])
 
   pub first-found : (from : ℕ) (o : Outcome) → answer_at p matching subject from ≡ found o → first from ≡ match_text subject o
-  first-found from o e = rw e (append-nil (match_text subject o ++ []) ∙ append-nil (match_text subject o))
+  first-found from o e = ap by_first e ∙ append-nil (match_text subject o ++ []) ∙ append-nil (match_text subject o)
 
   pub first-none : (from : ℕ) → answer_at p matching subject from ≡ none → first from ≡ end_text false None
-  first-none from e = rw e refl
+  first-none from e = ap by_first e
 
   pub first-failed : (from : ℕ) (f : MatchError) → answer_at p matching subject from ≡ failed f → first from ≡ failed_line f
-  first-failed from f e = rw e refl
+  first-failed from f e = ap by_first e
 
   pub first-refused : (from : ℕ) (old new : Kept) (fault : IoError) → Writes {T = Unit {0}} (answer_text subject (answer_at p matching subject from)) old new (Err fault) → Writes {T = Unit {0}} (first from) old new (Err fault)
   first-refused from old new fault w = by_answer (answer_at p matching subject from) refl w

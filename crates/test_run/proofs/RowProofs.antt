@@ -25,6 +25,7 @@ use Rattle.pat_build.specs.Reading.{quantified, closed, part_then, alternatives_
 use Rattle.pat_tree.specs.Nested.{trees_after, trees}
 use Rattle.pat_tree.specs.Sound.{group_numbers}
 use Rattle.pat_lengths.specs.Nodes.{nodes}
+use Rattle.pat_lengths.specs.Lookbehinds.{found_in}
 use Rattle.pat_lengths.specs.Lengths.{lengths, by_calls, lead_to, behind}
 use Rattle.pat_check.specs.Lead.{lead}
 use Rattle.match_items.specs.Items.{places_back, run_places, run_reaches}
@@ -49,7 +50,7 @@ unfolding stands run_end numeral name_end newline_at first_newline line_end comm
 reading_computes = tt
 
 searching_computes : Unit {0}
-unfolding trees_after trees group_numbers least_of nodes lengths by_calls lead_to behind lead places_back run_places run_reaches ◌or_else◌ each decide catch changes held hold reach reach_if run_one run_break run_ref run_anchor offers greedy reluctant lazy_run run_many in_order choices branches run_group one_try tries tries_within run_behind run_atomic run_look asserts tests follow run_callout parts.named backs run_verb turn run_repeat parts.returns run_tree run_call level run walk from_place
+unfolding trees_after trees group_numbers least_of nodes lengths by_calls lead_to behind found_in lead places_back run_places run_reaches ◌or_else◌ each decide catch changes held hold reach reach_if run_one run_break run_ref run_anchor offers greedy reluctant lazy_run run_many in_order choices branches run_group one_try tries tries_within run_behind run_atomic run_look asserts tests follow run_callout parts.named backs run_verb turn run_repeat parts.returns run_tree run_call level run walk from_place
 searching_computes = tt
 
 computing : Unit {0}

@@ -1,5 +1,6 @@
 -- A script that is run line by line: how far it has come, and what was written of it.
 use Rattle.std.proofs.Common.{◌≡◌, ◌≢◌, ◌∙◌, ℕ, ◌+◌, ◌-◌, ◌^◌, ◌<◌, ◌≤◌, List, [], ◌∷◌, ◌++◌, map, fold, Option, Result, Ok, Err, refl, sym, ap, subst, arith, append_assoc, append-nil}
+use Rattle.std.specs.Prelude.{IsErr, IsErrAnd}
 use Rattle.std.proofs.lemmas.List.{map-append}
 use Rattle.std.proofs.KnownBytes.{Appends-nil, Appends-trans}
 use Rattle.std.specs.Io.KnownBytes.{Appends}
@@ -28,7 +29,13 @@ use Rattle.test_run.specs.declared.stop.ScriptStop.{ScriptStop}
 use Rattle.test_run.specs.declared.stop.ScriptStop.TheVariants as stop
 use Rattle.test_run.specs.Courses.{Course, between, entry_text, course_after}
 use Rattle.test_run.specs.TestText.{Tested, told, text_of, bytes_of, greatest_line, test_text, tested_rows}
-use Rattle.test_run.specs.Runs.{RunsTo, RunsScript, stop_of, stop_at}
+use Rattle.test_run.specs.Runs.{RunsTo, RunsScript, Sends, stop_of, stop_at}
+use Rattle.test_run.proofs.Sending.{appends-keeps}
+
+-- what a refusal of a write is turned into
+pub stopped-so : (r : Result (Unit {0}) ScriptStop) (e : ScriptStop) → IsErr r → IsErrAnd r (λ told. told ≡ e) → r ≡ Err e
+stopped-so (Ok u) e is told = absurd told
+stopped-so (Err f) e is told = ap Err told
 
 -- A feed that gave a row has come further.
 
@@ -122,8 +129,8 @@ module _ (defaults : Modifiers) where
   }
 
   module _ (before now : Told) (f : Feed) (reader : Script) (course : Course) (old mid : Kept) (running : Running before now f reader course old mid) where
-    pub running-sent : (g : Feed) (new : Kept) (u : Unit {0}) → g ≡ f → Writes [] mid new (Ok u) → Running before now g reader course old new
-    running-sent g new u same w = record {
+    pub running-sent : (g : Feed) (new : Kept) (u : Unit {0}) → g ≡ f → Sends mid new (Ok u) → Running before now g reader course old new
+    running-sent g new u same sent = record {
       live = subst (λ (h : Feed). h.phase ≢ Closed) (sym same) running.live;
       kind = ap (λ (h : Feed). h.kind) same ∙ running.kind;
       most = ap (λ (h : Feed). h.max) same ∙ running.most;
@@ -132,8 +139,8 @@ module _ (defaults : Modifiers) where
       reader_is = running.reader_is;
       course_is = running.course_is;
       wrote = record {
-        all = subst (Appends old.held new.held) (append-nil (text running.given)) (Appends-trans old.held mid.held new.held (text running.given) [] running.wrote.all w.all);
-        later = omega (arith, running.wrote.later, w.cause.later);
+        all = appends-keeps old.held mid.held new.held (text running.given) running.wrote.all sent.kept;
+        later = omega (arith, running.wrote.later, sent.later);
       };
     }
 
@@ -228,11 +235,11 @@ module _ (defaults : Modifiers) where
     runs-lacks = runs-halted now running.given (begun-so now f running.given running.kind running.most running.has) mid kept-part io.Memory (λ is. absurd cc)
 
     -- what was gathered couldn't be sent on
-    pub runs-unsent : (new : Kept) (e : IoError) → Writes {T = Unit {0}} [] mid new (Err e) → RunsScript plan before now old new (Err (stop_of e))
-    runs-unsent new e w =
-        let part = subst (AppendsPrefix old.held new.held) (append-nil (text running.given)) (prefix-more old.held mid.held new.held (text running.given) [] running.wrote.all w.part) in
+    pub runs-unsent : (new : Kept) (e : IoError) → Sends mid new (Err e) → RunsScript plan before now old new (Err (stop_of e))
+    runs-unsent new e sent =
+        let part = prefix-of old.held new.held (text running.given) (appends-keeps old.held mid.held new.held (text running.given) running.wrote.all sent.kept) in
         runs-halted now running.given (begun-so now f running.given running.kind running.most running.has) new part e
-        (λ is. (let rose = w.cause.failed (ap Err is) in omega (arith, rose, running.wrote.later)))
+        (λ is. (let rose = sent.cause (ap Err is) in omega (arith, rose, running.wrote.later)))
 
     -- a part of what a line comes to was written
     pub runs-stopped : (after : Told) (g : Feed) (row : Row) (new : Kept) (e : IoError) → Gives f g now after row → Writes {T = Unit {0}} (line row.bytes ++ entry_text course (line_of reader row.bytes).0) mid new (Err e)

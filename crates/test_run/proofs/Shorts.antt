@@ -1,8 +1,10 @@
 -- A subject of a script line isn't too long.
-use Rattle.std.proofs.Common.{◌≡◌, ℕ, ◌≤◌, ◌+◌, Bool, true, false, List, [], ◌∷◌, ◌++◌, length, take, drop, codes, Option, Some, None, Ok, Err, refl, sym, subst, arith}
+use Rattle.std.proofs.Common.{◌≡◌, ℕ, ◌≤◌, ◌+◌, Bool, true, false, List, [], ◌∷◌, ◌++◌, length, take, drop, codes, Option, Some, None, Ok, Err, refl, sym, subst, arith, if◌then◌else◌}
 use Rattle.std.specs.Prelude.{nat_le}
 use Rattle.std.proofs.lemmas.Bool.{cond_both, leb-true}
+use Rattle.token_parts.specs.Bytes.{◌∈◌}
 use Rattle.script_modifiers.specs.declared.modifiers.Modifiers.{Modifiers}
+use Rattle.script_modifiers.specs.declared.refusal.Refusal.TheVariants.{BadLine}
 use Rattle.script_modifiers.specs.Lists.{list_of}
 use Rattle.script_modifiers.specs.Refusals.{Reads}
 use Rattle.test_script.specs.declared.entries.Entry.{Entry}
@@ -25,21 +27,33 @@ defaults-short : (script : Script) (pattern : Bool) (list : Reads Modifiers) →
 defaults-short script pattern (Ok list) = tt
 defaults-short script pattern (Err refusal) = tt
 
-command-short : (script : Script) (text : List ℕ) → IsShort (command_line script text).0
+abbrev Short : Entry × Script → Type 0
+Short found = IsShort found.0
+
+abbrev subject_part : Script → List ℕ → Entry × Script
+subject_part script text = if is_command (codes "subject") text then defaults_line script false (drop 7 text) else (entry.Refused BadLine, script)
+
+abbrev command_part : Script → List ℕ → Entry × Script
+command_part script text = if is_command (codes "pattern") text then defaults_line script true (drop 7 text) else subject_part script text
+
+command-short : (script : Script) (text : List ℕ) → Short (command_line script text)
 command-short script text =
-    cond_both (is_note text) _ _ (λ x. IsShort x.0) (λ _. tt) (λ _.
-    cond_both (is_command (codes "pattern") text) _ _ (λ x. IsShort x.0) (λ _. defaults-short script true (list_of true (drop 7 text))) (λ _.
-    cond_both (is_command (codes "subject") text) _ _ (λ x. IsShort x.0) (λ _. defaults-short script false (list_of false (drop 7 text))) (λ _. tt)))
+    cond_both (is_note text) (entry.Note, script) (command_part script text) Short (λ _. tt) (λ _.
+    cond_both (is_command (codes "pattern") text) (defaults_line script true (drop 7 text)) (subject_part script text) Short (λ _. defaults-short script true (list_of true (drop 7 text))) (λ _.
+    cond_both (is_command (codes "subject") text) (defaults_line script false (drop 7 text)) (entry.Refused BadLine, script) Short (λ _. defaults-short script false (list_of false (drop 7 text))) (λ _. tt)))
 
-begun-short : (script : Script) (c : ℕ) (rest : List ℕ) → IsShort (begun_line script c rest).0
+abbrev delimited_part : Script → ℕ → List ℕ → Entry × Script
+delimited_part script c rest = if is_delimiter c then pattern_line script c [] rest else (entry.Refused BadLine, script)
+
+begun-short : (script : Script) (c : ℕ) (rest : List ℕ) → Short (begun_line script c rest)
 begun-short script c rest =
-    cond_both _ (command_line script rest) _ (λ x. IsShort x.0) (λ _. command-short script rest) (λ _.
-    cond_both (is_delimiter c) (pattern_line script c [] rest) _ (λ x. IsShort x.0) (λ _. closed-short script c [] rest (closing_place c rest)) (λ _. tt))
+    cond_both (c ∈ "#") (command_line script rest) (delimited_part script c rest) Short (λ _. command-short script rest) (λ _.
+    cond_both (is_delimiter c) (pattern_line script c [] rest) (entry.Refused BadLine, script) Short (λ _. closed-short script c [] rest (closing_place c rest)) (λ _. tt))
 
-first-short : (script : Script) (line : List ℕ) → IsShort (first_line script line).0
+first-short : (script : Script) (line : List ℕ) → Short (first_line script line)
 first-short script [] = tt
 first-short script (c ∷ rest) =
-    cond_both (is_blank_line (c ∷ rest)) _ (begun_line script c rest) (λ x. IsShort x.0) (λ _. tt) (λ _. begun-short script c rest)
+    cond_both (is_blank_line (c ∷ rest)) (entry.Note, script) (begun_line script c rest) Short (λ _. tt) (λ _. begun-short script c rest)
 
 found-short : (found : List ℕ × Option ℕ) (all : Option (List ℕ × Option ℕ)) → unless_too_long all ≡ Some found → length found.0 ≤ greatest_subject
 found-short found None is = absurd cc
@@ -65,12 +79,12 @@ entry-short : (utf : Bool) (line : List ℕ) → IsShort (subject_entry utf line
 entry-short utf line =
     cond_both (is_subject_note line) entry.Note (subject_read line (subject_text utf line)) IsShort (λ _. tt) (λ _. read-short line (subject_text utf line) (text-short utf line))
 
-in-short : (script : Script) (awaits : Awaits) (line : List ℕ) → IsShort (line_in script awaits line).0
+in-short : (script : Script) (awaits : Awaits) (line : List ℕ) → Short (line_in script awaits line)
 in-short script anything line = first-short script line
 in-short script (closing d text) line = closed-short script d text line (closing_place d line)
 in-short script (subject utf) line =
-    cond_both (is_nothing (trimmed line)) _ _ (λ x. IsShort x.0) (λ _. tt) (λ _. entry-short utf (trimmed line))
-in-short script skipped line = cond_both (is_blank_line line) _ _ (λ x. IsShort x.0) (λ _. tt) (λ _. tt)
+    cond_both (is_nothing (trimmed line)) (entry.EndOfSubjects, awaiting anything script) (subject_entry utf (trimmed line), script) Short (λ _. tt) (λ _. entry-short utf (trimmed line))
+in-short script skipped line = cond_both (is_blank_line line) (entry.EndOfSubjects, awaiting anything script) (entry.Note, script) Short (λ _. tt) (λ _. tt)
 
 pub line-short : (script : Script) (line : List ℕ) → IsShort (line_of script line).0
 unfolding line_of

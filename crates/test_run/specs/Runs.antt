@@ -1,7 +1,7 @@
 -- What running a script does: what the source told → the input that it stands for → its text → what
 -- was written of it.
-use Rattle.std.specs.Prelude.{◌≡◌, ℕ, ◌≤◌, List, length, ⊤, Result, Ok, Err}
-use Rattle.std.specs.Io.KnownBytes.{Appends}
+use Rattle.std.specs.Prelude.{◌≡◌, ℕ, ◌≤◌, List, length, ⊤, Result, Ok, Err, OnOk, IsErrOf}
+use Rattle.std.specs.Io.KnownBytes.{Appends, Keeps}
 use Rattle.pcre_io.specs.Told.{Told, Kept, AppendsPrefix}
 use Rattle.pcre_io.specs.Causes.{Rose}
 use Rattle.pcre_io.specs.declared.traits.IoError.{IoError}
@@ -32,6 +32,12 @@ stop_at feed.Memory = Memory
 abbrev pub IsShort : Entry → Type 0
 IsShort (entry.Subject s) = length s.subject ≤ greatest_subject
 IsShort _ = ⊤
+
+-- What was gathered was sent on, and nothing is written. Where that was refused, a fault was counted.
+pub record Sends (old new : Kept) (result : Result (Unit {0}) IoError) : Type 0 where
+  pub kept : Keeps old.held new.held
+  pub later : OnOk result (old.faults ≤ new.faults)
+  pub cause : IsErrOf result io.Failed → Rose old.faults new.faults
 
 -- All of a script's text was written where its lines were read up to their end. Where a write was
 -- refused or memory lacked, a part of it was.

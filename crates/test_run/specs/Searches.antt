@@ -2,6 +2,7 @@
 -- search begins.
 use Rattle.std.specs.Prelude.{◌≡◌, ℕ, ◌≤◌, ◌==◌, ◌||◌, Bool, List, [], ◌++◌, flat_map, ⊤, Option, Some}
 use Rattle.pat_tree.specs.Pattern.{Pattern, pattern_of}
+use Rattle.ordered_search.specs.PlaceAnswer.{Outcome}
 use Rattle.pcre2_api.specs.declared.error.MatchError.{MatchError}
 use Rattle.pcre2_api.specs.declared.error.MatchError.TheVariants as told
 use Rattle.test_run.specs.declared.course.Course.{Course as Kept}
@@ -27,11 +28,21 @@ IsSearch len search.Nothing none = ⊤
 IsSearch len search.Failed (failed e) = ⊤
 IsSearch _ _ _ = ⊥
 
--- an error that is told of a search, want of memory aside
-abbrev pub IsFailure : MatchError → Answer → Type 0
-IsFailure told.Memory a = ⊤
-IsFailure (told.NoMatch mark) a = a ≡ none
-IsFailure e a = a ≡ failed e
+-- what is told of a match
+abbrev pub TellsMatch : Search → Outcome → Type 0
+TellsMatch (search.Found to is_empty) o = (to ≡ o.to) × (is_empty ≡ (o.keep == o.to))
+TellsMatch _ o = ⊥
+
+-- what is written of an error, and what is told of it; of want of memory nothing is
+abbrev pub error_text : MatchError → List ℕ
+error_text (told.NoMatch mark) = []
+error_text told.Memory = []
+error_text e = failed_line e
+
+abbrev pub TellsError : MatchError → Search → Type 0
+TellsError (told.NoMatch mark) s = s ≡ search.Nothing
+TellsError told.Memory s = ⊥
+TellsError e s = s ≡ search.Failed
 
 -- what matches write after others were shown
 abbrev pub rest_text : List ℕ → Bool → Matches → List ℕ

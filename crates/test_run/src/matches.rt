@@ -3,9 +3,10 @@ ghost use Rattle.std.specs.Prelude.{◌≡◌, ◌<◌, ◌≤◌, length, true,
 ghost use Rattle.std.specs.Option.{option_copied};
 ghost use Rattle.pat_tree.specs.declared.options.PartialMode.TheVariants.{Off};
 ghost use Rattle.pat_tree.specs.Pattern.{pattern_of};
-ghost use Rattle.test_run.specs.Lines.{end_text, matches_text};
-ghost use Rattle.test_run.specs.Matches.{found, answer_at, matching_at, is_crlf, first_from, matches_from};
-ghost use Rattle.test_run.specs.Searches.{answer_text, IsSearch};
+ghost use Rattle.test_run.specs.declared.matches.Search.TheVariants.{Failed};
+ghost use Rattle.test_run.specs.Lines.{end_text, failed_line, matches_text};
+ghost use Rattle.test_run.specs.Matches.{answer_at, matching_at, is_crlf, first_from, matches_from};
+ghost use Rattle.test_run.specs.Searches.{answer_text, error_text, IsSearch, TellsError, TellsMatch};
 ghost use Rattle.test_run.specs.Shown.{shown_or_unset, group_line, match_text};
 ghost use Rattle.tool_out.specs.Writes.{Writes};
 
@@ -28,7 +29,7 @@ enum Search {
 
 // Writes the text of a group, or that it is unset.
 fn write_text<O: Sink>(out: &mut O, text: Option<&[u8]>) -> Result<(), IoError>
-    ensures { Writes (shown_or_unset (option_copied text)) (O.tells out.old) (O.tells out.new)
+    ensures { Writes (shown_or_unset (option_copied text.entry)) (O.tells out.old) (O.tells out.new)
         result }
 {
     match text {
@@ -61,11 +62,32 @@ fn write_match<O: Sink>(out: &mut O, found: &Found<'_>) -> Result<(), IoError>
 
 // What a match comes to.
 fn found_at(matched: &Found<'_>) -> Search
-    ensures { IsSearch (length matched.now.subject) result (found matched.now.outcome) }
+    ensures { TellsMatch result matched.now.outcome }
 {
     Search::Found {
         to: matched.end(),
         is_empty: matched.start() == matched.end(),
+    }
+}
+
+// Writes why a search failed.
+fn fail<O: Sink>(out: &mut O, e: MatchError) -> Result<Search, IoError>
+    ensures wrote { Writes (failed_line e) (O.tells out.old) (O.tells out.new) result }
+    ensures comes { IfOk result (λ s. s ≡ Failed) }
+{
+    write_failed(out, e)?;
+    Ok(Search::Failed)
+}
+
+// Tells what an error of a search comes to, and writes why it failed.
+fn tell_error<O: Sink>(out: &mut O, e: MatchError) -> Result<Search, IoError>
+    ensures wrote { Writes (error_text e) (O.tells out.old) (O.tells out.new) result }
+    ensures comes { IfOk result (TellsError e) }
+{
+    match e {
+        MatchError::NoMatch { .. } => Ok(Search::Nothing),
+        MatchError::Memory => Err(IoError::Memory),
+        _ => fail(out, e),
     }
 }
 
@@ -90,12 +112,7 @@ fn search_from<O: Sink>(
             write_match(out, &found)?;
             Ok(found_at(&found))
         }
-        Err(MatchError::NoMatch { .. }) => Ok(Search::Nothing),
-        Err(MatchError::Memory) => Err(IoError::Memory),
-        Err(e) => {
-            write_failed(out, e)?;
-            Ok(Search::Failed)
-        }
+        Err(e) => tell_error(out, e),
     }
 }
 

@@ -1,10 +1,10 @@
 //! A script, line by line.
-ghost use Rattle.std.specs.Prelude.{◌≡◌, [], ◌++◌, IfOk, OnOk, OnErr, Err};
+ghost use Rattle.std.specs.Prelude.{◌≡◌, ◌++◌, IfOk, OnOk, OnErr, Err};
 ghost use Rattle.test_script.specs.Script.{beginning, line_of};
 ghost use Rattle.tool_out.specs.Texts.{line};
 ghost use Rattle.tool_out.specs.Writes.{Writes};
 ghost use Rattle.test_run.specs.Courses.{between, refused_text, entry_text, course_after};
-ghost use Rattle.test_run.specs.Runs.{IsShort, RunsScript};
+ghost use Rattle.test_run.specs.Runs.{IsShort, RunsScript, Sends};
 ghost use Rattle.test_run.specs.Searches.{course_of};
 
 use crate::course::Course;
@@ -94,7 +94,7 @@ fn take_line<O: Sink>(run: &mut Run, text: &[u8], out: &mut O) -> Result<(), IoE
 }
 
 fn flush<O: Sink>(out: &mut O) -> Result<(), IoError>
-    ensures { Writes [] (O.tells out.old) (O.tells out.new) result }
+    ensures { Sends (O.tells out.old) (O.tells out.new) result }
 {
     match out.flush() {
         Ok(()) => Ok(()),
@@ -103,13 +103,14 @@ fn flush<O: Sink>(out: &mut O) -> Result<(), IoError>
 }
 
 // Sends on what was gathered, before a read that may wait: who reads on need not wait with it.
+#[tactic(auto, using(crate::proofs::Sending::sends_none))]
 fn send_on<S: Source, O: Sink>(
     feed: &mut LineFeed,
     source: &S,
     out: &mut O,
 ) -> Result<(), IoError>
     ensures same { feed.new ≡ feed.old }
-    ensures sent { Writes [] (O.tells out.old) (O.tells out.new) result }
+    ensures sent { Sends (O.tells out.old) (O.tells out.new) result }
 {
     if source.may_wait() && !feed.holds_line() {
         return flush(out);

@@ -14,7 +14,7 @@ returns-in_err-write_number g c =
     let e = c.in_err-write_number.field-0.0 in
     let same : c.from_residual.result ≡ Err e = search rules in
     subst (λ r. Writes (group_line f.subject f.outcome n) (g.O.Sink.tells c.args.out.now) (g.O.Sink.tells c.write_number.new.out) r) (sym same)
-    (writes-first (a ++ b) (10 ∷ []) _ _ e (writes-first a b _ _ e c.in_err-write_number.ensures))
+    (writes-first {A = Unit {0}} (a ++ b) (10 ∷ []) _ _ e (writes-first a b _ _ e c.in_err-write_number.ensures))
 
 pub returns-in_err-write_text : goal.returns-in_err-write_text
 returns-in_err-write_text g c =
@@ -25,7 +25,7 @@ returns-in_err-write_text g c =
     let e = c.in_err-write_text.field-0.0 in
     let same : c.from_residual-in_err-write_text.result ≡ Err e = search rules in
     subst (λ r. Writes (group_line f.subject f.outcome n) (g.O.Sink.tells c.args.out.now) (g.O.Sink.tells c.write_text.new.out) r) (sym same)
-    (writes-first (a ++ b) (10 ∷ []) _ _ e
+    (writes-first {A = Unit {0}} (a ++ b) (10 ∷ []) _ _ e
     (writes-then a b _ _ _ _ (Err e) c.in_ok-write_number.ensures (writes-same (ap shown_or_unset c.group.ensures) c.in_err-write_text.ensures)))
 
 pub returns : goal.returns

@@ -5,7 +5,7 @@ use Rattle.line_feed.specs.declared.phase.Phase.TheVariants.{Closed}
 use Rattle.test_run.specs.declared.stop.ScriptStop.TheVariants.{Memory}
 use Rattle.test_run.specs.Runs.{RunsScript, stop_of}
 use Rattle.test_run.specs.Searches.{course_of}
-use Rattle.test_run.proofs.Scripts.{gives-further, running-none, running-sent, running-more, runs-end, runs-refused, runs-unsent, runs-stopped, runs-unbegun}
+use Rattle.test_run.proofs.Scripts.{gives-further, running-none, running-sent, running-more, runs-end, runs-refused, runs-unsent, runs-stopped, runs-unbegun, stopped-so}
 use Rattle.test_run.proofs.script.run_script.Goals as goal
 
 pub returns-in_err-run : goal.returns-in_err-run
@@ -23,12 +23,13 @@ line-init g c =
 pub returns-in_err-send_on : goal.returns-in_err-send_on
 returns-in_err-send_on g c =
     let e = c.in_err-send_on.field-0.0 in
-    let same : c.from_residual-in_err-send_on.result ≡ Err (stop_of e) = search rules in
+    let told = c.from_residual-in_err-send_on.ensures in
+    let same : c.from_residual-in_err-send_on.result ≡ Err (stop_of e) = stopped-so _ (stop_of e) told.0 told.1 in
     subst (RunsScript c.args.plan.now (g.S.Source.tells c.args.source.now) (g.S.Source.tells c.line.source) (g.O.Sink.tells c.args.out.now) (g.O.Sink.tells c.send_on.new.out)) (sym same)
     (runs-unsent c.args.plan.now.defaults c.args.plan.now refl _ _ _ _ _ _ _ c.line.invariant _ e c.in_err-send_on.ensures.sent)
 
 pub next-requires : goal.next-requires
-next-requires g c = subst (λ (f : Feed). f.phase ≢ Closed) (sym c.send_on.ensures.same) c.line.invariant.live
+next-requires g c = record { live = subst (λ (f : Feed). f.phase ≢ Closed) (sym c.send_on.ensures.same) c.line.invariant.live }
 
 pub line-smaller : goal.line-smaller
 line-smaller g c =
@@ -51,7 +52,8 @@ returns-in_err-take_line-in-Ok-Some g c =
     let gives = rw (c.in-Ok-Some.is, c.in-Ok-Some.field-0-is) at c.next.follows.holds-at-none in
     let sent = running-sent c.args.plan.now.defaults _ _ _ _ _ _ _ c.line.invariant c.send_on.new.feed _ _ c.send_on.ensures.same c.in_ok-send_on.ensures.sent in
     let e = c.in_err-take_line-in-Ok-Some.field-0.0 in
-    let same : c.from_residual-in_err-take_line-in-Ok-Some.result ≡ Err (stop_of e) = search rules in
+    let told = c.from_residual-in_err-take_line-in-Ok-Some.ensures in
+    let same : c.from_residual-in_err-take_line-in-Ok-Some.result ≡ Err (stop_of e) = stopped-so _ (stop_of e) told.0 told.1 in
     subst (RunsScript c.args.plan.now (g.S.Source.tells c.args.source.now) (g.S.Source.tells c.next.new.source) (g.O.Sink.tells c.args.out.now) (g.O.Sink.tells c.take_line.new.out)) (sym same)
     (runs-stopped c.args.plan.now.defaults c.args.plan.now refl _ _ _ _ _ _ _ sent _ _ (row_of c.in-Ok-Some.line) _ e gives c.in_err-take_line-in-Ok-Some.ensures.wrote)
 
