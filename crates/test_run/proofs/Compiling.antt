@@ -1,5 +1,5 @@
 -- What is written of a pattern, by what it is compiled to.
-use Rattle.std.proofs.Common.{◌≡◌, ◌∙◌, ℕ, Bool, true, false, if◌then◌else◌, List, ℤ, Result, Ok, Err, sym, ap, subst}
+use Rattle.std.proofs.Common.{◌≡◌, ◌∙◌, ℕ, Bool, false, if◌then◌else◌, List, ℤ, Result, Ok, Err, sym, ap, subst}
 use Rattle.pat_tree.specs.declared.options.Options.{Options}
 use Rattle.pat_tree.specs.Pattern.{Pattern}
 use Rattle.token_parts.specs.declared.fault.Fault.{Fault}
@@ -12,7 +12,7 @@ use Rattle.pcre2_api.specs.Patterns.{compiled}
 use Rattle.pcre2_api.specs.Informs.{info_in}
 use Rattle.test_run.specs.Asked.{is_on, is_unbuilt, options_of}
 use Rattle.test_run.specs.Lines.{fault_line, info_text, unbuilt_line}
-use Rattle.test_run.specs.Courses.{Course, tests, passed, told_of, course_by, pattern_text, pattern_course}
+use Rattle.test_run.specs.Courses.{told_of, pattern_text}
 
 module _ (entry : PatternEntry) (unbuilt : Bool) (options : Options) (text : List ℕ)
     (tested : unbuilt ≡ is_unbuilt entry.modifiers) (built : unbuilt ≡ false) (asked : options ≡ options_of entry.modifiers) (given : text ≡ entry.pattern) where

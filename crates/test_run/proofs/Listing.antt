@@ -1,5 +1,5 @@
 -- The matches of a subject, as they are written one after another.
-use Rattle.std.proofs.Common.{◌≡◌, ◌∙◌, ℕ, zero, suc, ◌+◌, ◌-◌, ◌*◌, ◌<◌, ◌≤◌, Bool, true, false, ◌||◌, List, [], ◌∷◌, ◌++◌, length, flat_map, Option, Some, None, Result, Ok, Err, refl, sym, ap, subst, arith, append_assoc, append-nil}
+use Rattle.std.proofs.Common.{◌≡◌, ◌∙◌, ℕ, zero, suc, ◌+◌, ◌-◌, ◌*◌, ◌<◌, ◌≤◌, Bool, true, false, ◌||◌, List, [], ◌∷◌, ◌++◌, length, flat_map, None, Result, Ok, Err, refl, sym, ap, subst, arith, append_assoc, append-nil}
 use Rattle.std.specs.Prelude.{◌==◌, ◌&&◌, nat_lt, if◌then◌else◌}
 use Rattle.std.proofs.lemmas.Bool.{lt-ltb, le-ltb}
 use Rattle.pcre_io.specs.Told.{Kept}
@@ -11,7 +11,6 @@ use Rattle.pat_tree.specs.declared.options.MatchOptions.{MatchOptions}
 use Rattle.pat_tree.specs.Pattern.{Pattern}
 use Rattle.ordered_search.specs.PlaceAnswer.{Outcome}
 use Rattle.pcre2_api.specs.declared.error.MatchError.{MatchError}
-use Rattle.test_run.specs.declared.matches.Search.{Search}
 use Rattle.test_run.specs.declared.matches.Search.TheVariants as search
 use Rattle.test_run.specs.Lines.{end_text, failed_line, matches_text}
 use Rattle.test_run.specs.Matches.{Answer, found, none, failed, Matches, no_more, fails, with_match, answer, answer_at, goes_on, is_crlf, place_behind, all_from, first_from, matches_from}

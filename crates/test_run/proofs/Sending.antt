@@ -1,5 +1,5 @@
 -- What was gathered is sent on, and nothing is written.
-use Rattle.std.proofs.Common.{◌≡◌, ◌∙◌, List, ℕ, Option, None, Some, Ok, Err, refl, arith}
+use Rattle.std.proofs.Common.{◌∙◌, List, ℕ, Option, None, Some, Ok, refl, arith}
 use Rattle.std.specs.Io.KnownBytes.{Appends, Keeps}
 use Rattle.pcre_io.specs.Told.{Kept}
 use Rattle.test_run.specs.Runs.{Sends}

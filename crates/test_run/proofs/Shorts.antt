@@ -1,5 +1,5 @@
 -- A subject of a script line isn't too long.
-use Rattle.std.proofs.Common.{◌≡◌, ℕ, ◌≤◌, ◌+◌, Bool, true, false, List, [], ◌∷◌, ◌++◌, length, take, drop, codes, Option, Some, None, Ok, Err, refl, sym, subst, arith, if◌then◌else◌}
+use Rattle.std.proofs.Common.{◌≡◌, ℕ, ◌≤◌, ◌+◌, Bool, true, false, List, [], ◌∷◌, ◌++◌, length, take, drop, codes, Option, Some, None, Ok, Err, refl, subst, if◌then◌else◌}
 use Rattle.std.specs.Prelude.{nat_le}
 use Rattle.std.proofs.lemmas.Bool.{cond_both, leb-true}
 use Rattle.token_parts.specs.Bytes.{◌∈◌}
@@ -9,8 +9,8 @@ use Rattle.script_modifiers.specs.Lists.{list_of}
 use Rattle.script_modifiers.specs.Refusals.{Reads}
 use Rattle.test_script.specs.declared.entries.Entry.{Entry}
 use Rattle.test_script.specs.declared.entries.Entry.TheVariants as entry
-use Rattle.test_script.specs.Script.{Script, Awaits, anything, closing, subject, skipped, last_backslash, after_backslash, closing_place, awaiting, pattern_with, pattern_closed, pattern_line, defaults_with, defaults_line, is_note, is_command, command_line, is_delimiter, begun_line, is_blank_line, first_line, is_subject_note, subject_with, subject_list, subject_read, subject_entry, is_nothing, subject_line, skipped_line, trimmed, line_in, line_of}
-use Rattle.test_script.specs.Subjects.{subject_text, greatest_subject, not_too_long, unless_too_long, written}
+use Rattle.test_script.specs.Script.{Script, Awaits, anything, closing, subject, skipped, last_backslash, after_backslash, closing_place, awaiting, pattern_with, pattern_closed, pattern_line, defaults_with, defaults_line, is_note, is_command, command_line, is_delimiter, begun_line, is_blank_line, first_line, is_subject_note, subject_with, subject_list, subject_read, subject_entry, is_nothing, trimmed, line_in, line_of}
+use Rattle.test_script.specs.Subjects.{subject_text, greatest_subject, unless_too_long, written}
 use Rattle.test_run.specs.Runs.{IsShort}
 
 pattern-short : (script : Script) (text : List ℕ) (list : Reads Modifiers) → IsShort (pattern_with script text list).0

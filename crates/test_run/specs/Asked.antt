@@ -1,5 +1,5 @@
 -- What modifiers ask for (pcre2test, "PATTERN MODIFIERS" and "SUBJECT MODIFIERS").
-use Rattle.std.specs.Prelude.{ℕ, Bool, true, false, ◌||◌, Option, Some, None, is_some, unwrap_or}
+use Rattle.std.specs.Prelude.{Bool, false, ◌||◌, Option, None, is_some, unwrap_or}
 use Rattle.pat_tree.specs.declared.options.Options.{Options}
 use Rattle.pat_tree.specs.declared.options.MatchOptions.{MatchOptions}
 use Rattle.pat_tree.specs.declared.options.Newline.TheVariants.{Lf}

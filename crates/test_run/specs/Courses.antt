@@ -1,6 +1,6 @@
 -- What each entry of a script comes to, after those before it: entries → the pattern in force →
 -- lines.
-use Rattle.std.specs.Prelude.{ℕ, if◌then◌else◌, List, [], ◌∷◌, ◌++◌, Result, Ok, Err}
+use Rattle.std.specs.Prelude.{ℕ, if◌then◌else◌, List, [], Result, Ok, Err}
 use Rattle.tool_out.specs.Texts.{text_if}
 use Rattle.token_parts.specs.declared.fault.Fault.{Fault}
 use Rattle.pat_tree.specs.Pattern.{Pattern}

@@ -1,6 +1,6 @@
 -- What running a script does: what the source told → the input that it stands for → its text → what
 -- was written of it.
-use Rattle.std.specs.Prelude.{◌≡◌, ℕ, ◌≤◌, List, length, ⊤, Result, Ok, Err, OnOk, IsErrOf}
+use Rattle.std.specs.Prelude.{◌≡◌, ◌≤◌, length, ⊤, Result, Ok, Err, OnOk, IsErrOf}
 use Rattle.std.specs.Io.KnownBytes.{Appends, Keeps}
 use Rattle.pcre_io.specs.Told.{Told, Kept, AppendsPrefix}
 use Rattle.pcre_io.specs.Causes.{Rose}

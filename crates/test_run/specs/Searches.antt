@@ -1,7 +1,7 @@
 -- What a search comes to, as the code says it: an answer → what is written, and where the next
 -- search begins.
-use Rattle.std.specs.Prelude.{◌≡◌, ℕ, ◌≤◌, ◌==◌, ◌||◌, Bool, List, [], ◌++◌, flat_map, ⊤, Option, Some}
-use Rattle.pat_tree.specs.Pattern.{Pattern, pattern_of}
+use Rattle.std.specs.Prelude.{◌≡◌, ℕ, ◌≤◌, ◌==◌, ◌||◌, Bool, List, [], ◌++◌, flat_map, ⊤}
+use Rattle.pat_tree.specs.Pattern.{pattern_of}
 use Rattle.ordered_search.specs.PlaceAnswer.{Outcome}
 use Rattle.pcre2_api.specs.declared.error.MatchError.{MatchError}
 use Rattle.pcre2_api.specs.declared.error.MatchError.TheVariants as told

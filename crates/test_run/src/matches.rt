@@ -169,7 +169,14 @@ fn write_first<O: Sink>(
     ensures { Writes (matches_text subject.now (first_from (pattern_of code.now.tree)
         how.now.matching subject.now how.now.start)) (O.tells out.old) (O.tells out.new) result }
 {
-    match search_from(out, code, subject, how.start as usize, &how.matching, scratch)? {
+    match search_from(
+        out,
+        code,
+        subject,
+        how.start as usize,
+        &how.matching,
+        scratch,
+    )? {
         Search::Nothing => write_end(out, false),
         Search::Found { .. } | Search::Failed => Ok(()),
     }

@@ -104,11 +104,7 @@ fn flush<O: Sink>(out: &mut O) -> Result<(), IoError>
 
 // Sends on what was gathered, before a read that may wait: who reads on need not wait with it.
 #[tactic(auto, using(crate::proofs::Sending::sends_none))]
-fn send_on<S: Source, O: Sink>(
-    feed: &mut LineFeed,
-    source: &S,
-    out: &mut O,
-) -> Result<(), IoError>
+fn send_on<S: Source, O: Sink>(feed: &mut LineFeed, source: &S, out: &mut O) -> Result<(), IoError>
     ensures same { feed.new ≡ feed.old }
     ensures sent { Sends (O.tells out.old) (O.tells out.new) result }
 {

@@ -58,10 +58,6 @@ pub fn write_number<O: Sink>(out: &mut O, n: u32) -> Result<(), IoError>
     let mut number = Buffer::new();
     write_texts(
         out,
-        &[
-            text_if(n < 10, b" "),
-            number.format(n).as_bytes(),
-            b": ",
-        ],
+        &[text_if(n < 10, b" "), number.format(n).as_bytes(), b": "],
     )
 }

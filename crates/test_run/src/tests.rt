@@ -45,7 +45,10 @@ fn check_script(rt: &impl Abort, alloc: Global, transcript: &str) -> Result<(), 
     let mut out = MemSink::new(alloc, None, 100);
     assert_eq!(rt; run_script(alloc, &plain(), &mut source, &mut out), Ok(()));
     let want = output_of(alloc, transcript)?;
-    assert_eq!(rt; str::from_utf8(out.bytes()), str::from_utf8(want.as_slice()));
+    assert_eq!(rt;
+        str::from_utf8(out.bytes()),
+        str::from_utf8(want.as_slice())
+    );
     Ok(())
 }
 
@@ -75,7 +78,10 @@ fn defaults_of_the_plan_come_first(rt: HostRuntime) -> Result<(), Fail> {
     };
     let mut source = MemSource::new(Vec::from_slice(rt.alloc(), b"/A/\na\n\n")?, None, 7);
     let mut out = MemSink::new(rt.alloc(), None, 100);
-    assert_eq!(rt; run_script(rt.alloc(), &plan, &mut source, &mut out), Ok(()));
+    assert_eq!(rt;
+        run_script(rt.alloc(), &plan, &mut source, &mut out),
+        Ok(())
+    );
     assert_eq!(rt; out.bytes(), b"/A/\na\n 0: a\n\n".as_slice());
     Ok(())
 }
@@ -91,10 +97,34 @@ const STOPS: [(
 ); 7] = [
     (b"", None, None, b"", Ok(())),
     (b"/a/\na", None, None, b"/a/\na\n 0: a\n", Ok(())),
-    (b"/a/\na\nb\n", Some(7), None, b"/a/\na\n 0: a\n", Err(ScriptStop::ReadFault)),
-    (b"/a/\na\nb\n", Some(0), None, b"", Err(ScriptStop::ReadFault)),
-    (b"/a/\na\nb\n", Some(9), None, b"/a/\na\n 0: a\nb\nNo match\n", Ok(())),
-    (b"/a/\na\nb\n", None, Some(8), b"/a/\na\n 0", Err(ScriptStop::SinkFault)),
+    (
+        b"/a/\na\nb\n",
+        Some(7),
+        None,
+        b"/a/\na\n 0: a\n",
+        Err(ScriptStop::ReadFault),
+    ),
+    (
+        b"/a/\na\nb\n",
+        Some(0),
+        None,
+        b"",
+        Err(ScriptStop::ReadFault),
+    ),
+    (
+        b"/a/\na\nb\n",
+        Some(9),
+        None,
+        b"/a/\na\n 0: a\nb\nNo match\n",
+        Ok(()),
+    ),
+    (
+        b"/a/\na\nb\n",
+        None,
+        Some(8),
+        b"/a/\na\n 0",
+        Err(ScriptStop::SinkFault),
+    ),
     (b"/a/\na\n", None, Some(0), b"", Err(ScriptStop::SinkFault)),
 ];
 

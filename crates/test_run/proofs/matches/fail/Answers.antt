@@ -1,4 +1,4 @@
-use Rattle.std.proofs.Common.{◌≡◌, Ok, Err, sym, subst, rules}
+use Rattle.std.proofs.Common.{◌≡◌, Err, sym, subst, rules}
 use Rattle.tool_out.specs.Writes.{Writes}
 use Rattle.test_run.specs.Lines.{failed_line}
 use Rattle.test_run.proofs.Writing.{writes-as, refused-as}

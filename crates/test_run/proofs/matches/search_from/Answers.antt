@@ -1,4 +1,4 @@
-use Rattle.std.proofs.Common.{◌≡◌, Ok, Err, sym, subst, rules}
+use Rattle.std.proofs.Common.{◌≡◌, Err, sym, subst, rules}
 use Rattle.pat_tree.specs.Pattern.{pattern_of}
 use Rattle.tool_out.specs.Writes.{Writes}
 use Rattle.test_run.specs.Matches.{answer_at}

@@ -1,12 +1,10 @@
-use Rattle.std.proofs.Common.{◌≡◌, Ok, Err, length, sym, subst, ap, ◌∙◌, rules}
+use Rattle.std.proofs.Common.{◌≡◌, Err, sym, subst, rules}
 use Rattle.tool_out.specs.Writes.{Writes}
-use Rattle.tool_out.proofs.Writing.{writes-same}
 use Rattle.pat_tree.specs.Pattern.{pattern_of}
 use Rattle.test_run.specs.Lines.{matches_text}
-use Rattle.test_run.specs.Matches.{answer_at, first_from}
-use Rattle.test_run.specs.Searches.{answer_text}
-use Rattle.test_run.proofs.Listing.{is-match, is-none, is-failed, first-found, first-none, first-failed, first-refused}
-use Rattle.test_run.proofs.Writing.{writes-as, refused-as}
+use Rattle.test_run.specs.Matches.{first_from}
+use Rattle.test_run.proofs.Listing.{first-refused}
+use Rattle.test_run.proofs.Writing.{refused-as}
 use Rattle.test_run.proofs.matches.write_first.Goals as goal
 
 pub returns-in_err-search_from : goal.returns-in_err-search_from

@@ -1,4 +1,4 @@
-use Rattle.std.proofs.Common.{◌≡◌, ◌+◌, ◌-◌, ◌<◌, flat_map, Err, sym, subst, ap, arith, rules}
+use Rattle.std.proofs.Common.{◌≡◌, ◌+◌, ◌-◌, ◌<◌, flat_map, Err, sym, subst, arith, rules}
 use Rattle.std.specs.List.{range_with_len}
 use Rattle.tool_out.specs.Writes.{Writes}
 use Rattle.tool_out.proofs.Writing.{IsLeft, left-all, left-more, left-refused, left-last}

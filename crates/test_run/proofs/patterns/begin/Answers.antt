@@ -1,4 +1,4 @@
-use Rattle.std.proofs.Common.{◌≡◌, ◌∙◌, Ok, Err, sym, ap, subst, rules, SFits, w32}
+use Rattle.std.proofs.Common.{◌≡◌, ◌∙◌, Err, sym, ap, subst, rules, SFits, w32}
 use Rattle.std.proofs.lemmas.Int.{to_z-of_z}
 use Rattle.pat_tree.specs.Pattern.{pattern_of}
 use Rattle.tool_out.specs.Writes.{Writes}

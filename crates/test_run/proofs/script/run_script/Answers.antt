@@ -1,10 +1,9 @@
-use Rattle.std.proofs.Common.{rules, ◌≡◌, ◌≢◌, ◌∙◌, Ok, Err, refl, subst, sym, ap, arith}
+use Rattle.std.proofs.Common.{rules, ◌≡◌, ◌≢◌, Err, refl, subst, sym, ap, arith}
 use Rattle.line_feed.specs.View.{Feed}
 use Rattle.line_feed.specs.Lines.{row_of}
 use Rattle.line_feed.specs.declared.phase.Phase.TheVariants.{Closed}
 use Rattle.test_run.specs.declared.stop.ScriptStop.TheVariants.{Memory}
 use Rattle.test_run.specs.Runs.{RunsScript, stop_of}
-use Rattle.test_run.specs.Searches.{course_of}
 use Rattle.test_run.proofs.Scripts.{gives-further, running-none, running-sent, running-more, runs-end, runs-refused, runs-unsent, runs-stopped, runs-unbegun, stopped-so}
 use Rattle.test_run.proofs.script.run_script.Goals as goal
 
