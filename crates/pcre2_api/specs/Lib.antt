@@ -5,3 +5,4 @@ pub mod FaultTexts
 pub mod Patterns
 pub mod Answers
 pub mod MatchErrors
+pub mod Informs

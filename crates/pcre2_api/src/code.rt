@@ -3,8 +3,10 @@ ghost use Rattle.std.specs.Prelude.{◌≡◌, ◌≤◌, ◌<◌, false, IfOk, 
 ghost use Rattle.std.specs.Option.{option_copied};
 ghost use Rattle.pat_tree.specs.declared.options.PartialMode.TheVariants.{Off};
 ghost use Rattle.pcre_io.specs.declared.callouts.Block.{Block};
+ghost use Rattle.pat_tree.specs.Pattern.{pattern_of};
 ghost use Rattle.pcre2_api.specs.Compiled.{Compiles, IsCompileError, info_of};
 ghost use Rattle.pcre2_api.specs.Patterns.{compiled};
+ghost use Rattle.pcre2_api.specs.Informs.{info_in};
 ghost use Rattle.match_drive.specs.Answer.{IsMatchAnswer};
 ghost use Rattle.ordered_search.specs.Forward.{IsPlainFound};
 ghost use Rattle.ordered_search.specs.MatchAnswer.{match_answer};
@@ -154,6 +156,13 @@ impl Code {
         ensures { self.now.tree.options.utf ≡ false }
     {
         let _tree = &self.tree;
+    }
+
+    /// A law: what is told of the code is told of what its pattern is read as.
+    pub fn info_is_of_its_pattern(&self)
+        ensures { info_of self.now ≡ info_in (pattern_of self.now.tree) }
+    {
+        self.tree.is_sound();
     }
 
     /// The names of groups.

@@ -1,0 +1,10 @@
+pub mod Writing
+pub mod Showing
+pub mod Saying
+pub mod Searching
+pub mod Listing
+pub mod Shorts
+pub mod Sending
+pub mod Compiling
+pub mod Scripts
+pub mod RowProofs

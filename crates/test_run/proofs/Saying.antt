@@ -1,0 +1,30 @@
+-- Lines about patterns and searches, as they are written piece by piece.
+use Rattle.std.proofs.Common.{◌≡◌, ◌∙◌, ℕ, ◌<◌, List, [], ◌++◌, ℤ, codes, decimal, sym, ap, arith, append_assoc, append-nil}
+use Rattle.std.proofs.lemmas.Bool.{lt-ltb}
+use Rattle.std.specs.Fmt.{signed_decimal}
+use Rattle.pcre2_api.specs.FaultTexts.{fault_text}
+use Rattle.pcre2_api.specs.MatchErrors.{number_of, text_of}
+use Rattle.pcre2_api.specs.declared.error.MatchError.{MatchError}
+use Rattle.script_modifiers.specs.declared.refusal.Refusal.TheVariants.{BadModifierValue}
+use Rattle.tool_out.specs.Texts.{line, text_if}
+use Rattle.test_run.specs.Lines.{fault_line, failed_line, groups_line, lookbehind_line, refusal_line}
+
+pub fault-text : (number : ℤ) (at : ℕ) (code place text : List ℕ) → code ≡ signed_decimal number → place ≡ decimal at → text ≡ fault_text number
+    → codes "Failed: error " ++ (code ++ (codes " at offset " ++ (place ++ (codes ": " ++ (text ++ (codes "\n" ++ [])))))) ≡ fault_line number at
+fault-text number at code place text c p t =
+    (λ i. codes "Failed: error " ++ (c i ++ (codes " at offset " ++ (p i ++ (codes ": " ++ (t i ++ (codes "\n" ++ []))))))) ∙ simp (append_assoc, append-nil)
+
+pub failed-text : (e : MatchError) (code text : List ℕ) → code ≡ signed_decimal (number_of e) → text ≡ text_of e
+    → codes "Failed: error " ++ (code ++ (codes ": " ++ (text ++ (codes "\n" ++ [])))) ≡ failed_line e
+failed-text e code text c t = (λ i. codes "Failed: error " ++ (c i ++ (codes ": " ++ (t i ++ (codes "\n" ++ []))))) ∙ simp (append_assoc, append-nil)
+
+pub groups-text : (groups : ℕ) (count : List ℕ) → count ≡ decimal groups → codes "Capture group count = " ++ (count ++ (codes "\n" ++ [])) ≡ groups_line groups
+groups-text groups count c = (λ i. codes "Capture group count = " ++ (c i ++ (codes "\n" ++ []))) ∙ simp (append_assoc, append-nil)
+
+pub lookbehind-text : (most : ℕ) (count : List ℕ) → (most ≡ 0 → ⊥) → count ≡ decimal most → codes "Max lookbehind = " ++ (count ++ (codes "\n" ++ [])) ≡ lookbehind_line most
+lookbehind-text most count some c =
+    let more : 0 < most = omega arith in
+    (λ i. codes "Max lookbehind = " ++ (c i ++ (codes "\n" ++ []))) ∙ sym (ap (λ t. text_if t (line (codes "Max lookbehind = " ++ decimal most))) (lt-ltb 0 most more))
+
+pub value-text : (name bytes : List ℕ) → bytes ≡ name → codes "** bad modifier value " ++ (bytes ++ (codes "\n" ++ [])) ≡ refusal_line (BadModifierValue name)
+value-text name bytes e = λ i. codes "** bad modifier value " ++ (e i ++ (codes "\n" ++ []))

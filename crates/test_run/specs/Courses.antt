@@ -1,0 +1,81 @@
+-- What each entry of a script comes to, after those before it: entries → the pattern in force →
+-- lines.
+use Rattle.std.specs.Prelude.{ℕ, if◌then◌else◌, List, [], Result, Ok, Err}
+use Rattle.tool_out.specs.Texts.{text_if}
+use Rattle.token_parts.specs.declared.fault.Fault.{Fault}
+use Rattle.pat_tree.specs.Pattern.{Pattern}
+use Rattle.script_modifiers.specs.declared.refusal.Refusal.{Refusal}
+use Rattle.script_modifiers.specs.declared.modifiers.Modifiers.{Modifiers}
+use Rattle.test_script.specs.declared.entries.Entry.{Entry}
+use Rattle.test_script.specs.declared.entries.Entry.TheVariants as entry
+use Rattle.test_script.specs.declared.entries.PatternEntry.{PatternEntry}
+use Rattle.test_script.specs.declared.entries.SubjectEntry.{SubjectEntry}
+use Rattle.pcre2_api.specs.Patterns.{compiled}
+use Rattle.pcre2_api.specs.Informs.{info_in}
+use Rattle.test_run.specs.Asked.{is_on, is_unbuilt, options_of, how_of}
+use Rattle.test_run.specs.declared.options.How.{How}
+use Rattle.test_run.specs.Matches.{matches_from}
+use Rattle.test_run.specs.Lines.{unbuilt_line, fault_line, info_text, refusal_line, matches_text}
+
+-- what subject lines are searched for
+pub data Course : Type 0 where
+  -- no pattern stands before
+  between : Course
+  -- a pattern with its modifiers
+  tests : Pattern → Modifiers → Course
+  -- nothing: the pattern before was refused, so its subject lines are passed over
+  passed : Course
+
+-- Patterns.
+
+abbrev pub course_by : Modifiers → Result Pattern Fault → Course
+course_by m (Ok p) = tests p m
+course_by m (Err fault) = passed
+
+abbrev pub told_of : Modifiers → Result Pattern Fault → List ℕ
+told_of m (Ok p) = text_if (is_on m.info) (info_text (info_in p))
+told_of m (Err fault) = fault_line fault.number fault.at
+
+-- a pattern that asks for what isn't built isn't compiled
+abbrev pub pattern_course : PatternEntry → Course
+pattern_course p =
+    if is_unbuilt p.modifiers then passed
+    else course_by p.modifiers (compiled (options_of p.modifiers) p.pattern)
+
+abbrev pub pattern_text : PatternEntry → List ℕ
+pattern_text p =
+    if is_unbuilt p.modifiers then unbuilt_line
+    else told_of p.modifiers (compiled (options_of p.modifiers) p.pattern)
+
+-- Subjects.
+
+abbrev pub searched : Pattern → List ℕ → How → List ℕ
+searched p subject how =
+    matches_text subject (matches_from p how.matching subject how.global how.start)
+
+abbrev pub tested_text : Pattern → Modifiers → SubjectEntry → List ℕ
+tested_text p m s =
+    if is_unbuilt s.modifiers then unbuilt_line
+    else searched p s.subject (how_of s.modifiers m)
+
+abbrev pub subject_text : Course → SubjectEntry → List ℕ
+subject_text (tests p m) s = tested_text p m s
+subject_text _ s = []
+
+-- Entries.
+
+abbrev pub refused_text : Course → Refusal → List ℕ
+refused_text passed refusal = []
+refused_text _ refusal = refusal_line refusal
+
+-- the result lines of an entry
+abbrev pub entry_text : Course → Entry → List ℕ
+entry_text course (entry.Pattern p) = pattern_text p
+entry_text course (entry.Subject s) = subject_text course s
+entry_text course (entry.Refused refusal) = refused_text course refusal
+entry_text course _ = []
+
+abbrev pub course_after : Course → Entry → Course
+course_after course (entry.Pattern p) = pattern_course p
+course_after course entry.EndOfSubjects = between
+course_after course _ = course

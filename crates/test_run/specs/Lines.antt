@@ -1,0 +1,63 @@
+-- Lines about patterns, searches and refused lines (pcre2test, "DEFAULT OUTPUT FROM pcre2test" and
+-- "PATTERN MODIFIERS").
+use Rattle.std.specs.Prelude.{ℕ, Bool, true, false, nat_lt, List, [], ◌∷◌, ◌++◌, flat_map, codes, decimal, ℤ, Option, Some, None}
+use Rattle.std.specs.Fmt.{signed_decimal}
+use Rattle.tool_out.specs.Texts.{line, text_if}
+use Rattle.script_modifiers.specs.declared.refusal.Refusal.{Refusal}
+use Rattle.script_modifiers.specs.declared.refusal.Refusal.TheVariants.{BadLine, UnknownModifier, BadModifierValue, BadSubject}
+use Rattle.pcre2_api.specs.declared.code.Info.{Info}
+use Rattle.pcre2_api.specs.declared.error.MatchError.{MatchError}
+use Rattle.pcre2_api.specs.MatchErrors.{number_of, text_of}
+use Rattle.pcre2_api.specs.FaultTexts.{fault_text}
+use Rattle.test_run.specs.Matches.{Matches}
+use Rattle.test_run.specs.Shown.{match_text}
+
+abbrev pub unbuilt_line : List ℕ
+unbuilt_line = line (codes "** not built")
+
+-- a pattern that is refused: the number of its fault and its place
+abbrev pub fault_line : ℤ → ℕ → List ℕ
+fault_line number at =
+    line (codes "Failed: error " ++ signed_decimal number ++ codes " at offset " ++ decimal at
+    ++ codes ": " ++ fault_text number)
+
+-- a search that fails
+abbrev pub failed_line : MatchError → List ℕ
+failed_line e =
+    line (codes "Failed: error " ++ signed_decimal (number_of e) ++ codes ": " ++ text_of e)
+
+abbrev pub groups_line : ℕ → List ℕ
+groups_line groups = line (codes "Capture group count = " ++ decimal groups)
+
+abbrev pub lookbehind_line : ℕ → List ℕ
+lookbehind_line most = text_if (nat_lt 0 most) (line (codes "Max lookbehind = " ++ decimal most))
+
+-- what is told of a pattern
+abbrev pub info_text : Info → List ℕ
+info_text info =
+    groups_line info.groups ++ lookbehind_line info.max_lookbehind
+    ++ text_if info.can_be_empty (line (codes "May match empty string"))
+
+abbrev pub refusal_text : Refusal → List ℕ
+refusal_text BadLine = codes "bad script line"
+refusal_text (UnknownModifier name) = codes "unknown modifier " ++ name
+refusal_text (BadModifierValue name) = codes "bad modifier value " ++ name
+refusal_text BadSubject = codes "bad subject"
+
+abbrev pub refusal_line : Refusal → List ℕ
+refusal_line refusal = line (codes "** " ++ refusal_text refusal)
+
+-- that there is no match is shown only where none was shown
+abbrev pub end_text : Bool → Option MatchError → List ℕ
+end_text is_shown (Some e) = failed_line e
+end_text true None = []
+end_text false None = line (codes "No match")
+
+abbrev pub is_any : {A : Type 0} → List A → Bool
+is_any [] = false
+is_any (x ∷ xs) = true
+
+-- the matches of a subject
+abbrev pub matches_text : List ℕ → Matches → List ℕ
+matches_text subject m =
+    flat_map (match_text subject) m.outcomes ++ end_text (is_any m.outcomes) m.ended

@@ -1,0 +1,19 @@
+//! What pcre2test writes of a script: its lines, and after each of them what it comes to.
+#![tactic(auto)]
+
+mod course;
+mod laws;
+mod lines;
+mod matches;
+mod options;
+mod patterns;
+mod script;
+mod shown;
+mod stop;
+mod subjects;
+#[cfg(test)]
+mod tests;
+
+pub use laws::worked_rows;
+pub use script::run_script;
+pub use stop::ScriptStop;

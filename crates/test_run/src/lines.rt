@@ -1,0 +1,111 @@
+//! Lines about patterns and script lines.
+ghost use Rattle.std.specs.Prelude.{◌≡◌};
+ghost use Rattle.test_run.specs.Lines.{failed_line, fault_line, groups_line, lookbehind_line, info_text, refusal_line, unbuilt_line};
+ghost use Rattle.tool_out.specs.Writes.{Writes};
+
+use itoa::Buffer;
+use pcre_io::{IoError, Sink};
+use pcre2_api::{Info, MatchError, fault_text};
+use script_modifiers::Refusal;
+use tool_out::write_texts;
+
+/// Writes why a pattern is refused.
+pub fn write_fault<O: Sink>(out: &mut O, number: i32, at: usize) -> Result<(), IoError>
+    ensures { Writes (fault_line number at) (O.tells out.old) (O.tells out.new) result }
+{
+    let mut shown = Buffer::new();
+    let mut place = Buffer::new();
+    write_texts(
+        out,
+        &[
+            b"Failed: error ",
+            shown.format(number).as_bytes(),
+            b" at offset ",
+            place.format(at).as_bytes(),
+            b": ",
+            fault_text(number),
+            b"\n",
+        ],
+    )
+}
+
+/// Writes why a search gives neither a match nor that there is none.
+pub fn write_failed<O: Sink>(out: &mut O, e: MatchError) -> Result<(), IoError>
+    ensures { Writes (failed_line e) (O.tells out.old) (O.tells out.new) result }
+{
+    let mut number = Buffer::new();
+    write_texts(
+        out,
+        &[
+            b"Failed: error ",
+            number.format(e.number()).as_bytes(),
+            b": ",
+            e.text(),
+            b"\n",
+        ],
+    )
+}
+
+// Writes how many groups a pattern has.
+fn write_groups<O: Sink>(out: &mut O, groups: u32) -> Result<(), IoError>
+    ensures { Writes (groups_line groups) (O.tells out.old) (O.tells out.new) result }
+{
+    let mut number = Buffer::new();
+    write_texts(
+        out,
+        &[
+            b"Capture group count = ",
+            number.format(groups).as_bytes(),
+            b"\n",
+        ],
+    )
+}
+
+// Writes how far a match looks before its start, where it does.
+fn write_lookbehind<O: Sink>(out: &mut O, most: u32) -> Result<(), IoError>
+    ensures { Writes (lookbehind_line most) (O.tells out.old) (O.tells out.new) result }
+{
+    if most == 0 {
+        return Ok(());
+    }
+    let mut number = Buffer::new();
+    write_texts(
+        out,
+        &[b"Max lookbehind = ", number.format(most).as_bytes(), b"\n"],
+    )
+}
+
+/// Writes what is told of a pattern.
+pub fn write_info<O: Sink>(out: &mut O, info: Info) -> Result<(), IoError>
+    ensures { Writes (info_text info) (O.tells out.old) (O.tells out.new) result }
+{
+    write_groups(out, info.groups)?;
+    write_lookbehind(out, info.max_lookbehind)?;
+    if info.can_be_empty {
+        write_texts(out, &[b"May match empty string\n"])?;
+    }
+    Ok(())
+}
+
+/// Writes why a line is refused.
+pub fn write_refusal<O: Sink>(out: &mut O, refusal: &Refusal) -> Result<(), IoError>
+    ensures { Writes (refusal_line refusal.now) (O.tells out.old) (O.tells out.new) result }
+{
+    match refusal {
+        Refusal::BadLine => write_texts(out, &[b"** bad script line\n"]),
+        Refusal::UnknownModifier(name) => {
+            write_texts(out, &[b"** unknown modifier ", name.bytes(), b"\n"])
+        }
+        Refusal::BadModifierValue(name) => {
+            write_texts(out, &[b"** bad modifier value ", name.bytes(), b"\n"])
+        }
+        Refusal::BadSubject => write_texts(out, &[b"** bad subject\n"]),
+    }
+}
+
+/// Writes that what a line asks for isn't built.
+pub fn write_unbuilt<O: Sink>(out: &mut O) -> Result<(), IoError>
+    ensures { Writes unbuilt_line (O.tells out.old) (O.tells out.new) result }
+{
+    write_texts(out, &[b"** not built\n"])
+}

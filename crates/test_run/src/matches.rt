@@ -1,0 +1,241 @@
+//! The matches of a subject.
+ghost use Rattle.std.specs.Prelude.{◌≡◌, ◌<◌, ◌≤◌, length, true, None, IfOk, if◌then◌else◌};
+ghost use Rattle.std.specs.Option.{option_copied};
+ghost use Rattle.pat_tree.specs.declared.options.PartialMode.TheVariants.{Off};
+ghost use Rattle.pat_tree.specs.Pattern.{pattern_of};
+ghost use Rattle.test_run.specs.declared.matches.Search.TheVariants.{Failed};
+ghost use Rattle.test_run.specs.Lines.{end_text, failed_line, matches_text};
+ghost use Rattle.test_run.specs.Matches.{answer_at, matching_at, is_crlf, first_from, matches_from};
+ghost use Rattle.test_run.specs.Searches.{answer_text, error_text, IsSearch, TellsError, TellsMatch};
+ghost use Rattle.test_run.specs.Shown.{shown_or_unset, group_line, match_text};
+ghost use Rattle.tool_out.specs.Writes.{Writes};
+
+use crate::lines::write_failed;
+use crate::options::How;
+use crate::shown::{write_number, write_shown};
+use byte_lanes::{EndKind, newline_at};
+use pcre_io::{IoError, Sink};
+use pcre2_api::{Code, Found, MatchError, MatchOptions, NoCallouts, Scratch};
+use tool_out::write_texts;
+
+/// What a search comes to.
+#[derive(Clone, Copy)]
+enum Search {
+    /// A match that ends here.
+    Found { to: usize, is_empty: bool },
+    Nothing,
+    Failed,
+}
+
+// Writes the text of a group, or that it is unset.
+fn write_text<O: Sink>(out: &mut O, text: Option<&[u8]>) -> Result<(), IoError>
+    ensures { Writes (shown_or_unset (option_copied text.entry)) (O.tells out.old) (O.tells out.new)
+        result }
+{
+    match text {
+        Some(text) => write_shown(out, text),
+        None => write_texts(out, &[b"<unset>"]),
+    }
+}
+
+// Writes a group of a match.
+fn write_group<O: Sink>(out: &mut O, found: &Found<'_>, n: u32) -> Result<(), IoError>
+    ensures { Writes (group_line found.now.subject found.now.outcome n) (O.tells out.old)
+        (O.tells out.new) result }
+{
+    write_number(out, n)?;
+    write_text(out, found.group(n))?;
+    write_texts(out, &[b"\n"])
+}
+
+// Writes a match: its text, and its groups up to the greatest that is set.
+fn write_match<O: Sink>(out: &mut O, found: &Found<'_>) -> Result<(), IoError>
+    ensures { Writes (match_text found.now.subject found.now.outcome) (O.tells out.old)
+        (O.tells out.new) result }
+{
+    let top = found.top();
+    for n in 0..top {
+        write_group(out, found, n)?;
+    }
+    write_group(out, found, top)
+}
+
+// What a match comes to.
+fn found_at(matched: &Found<'_>) -> Search
+    ensures { TellsMatch result matched.now.outcome }
+{
+    Search::Found {
+        to: matched.end(),
+        is_empty: matched.start() == matched.end(),
+    }
+}
+
+// Writes why a search failed.
+fn fail<O: Sink>(out: &mut O, e: MatchError) -> Result<Search, IoError>
+    ensures wrote { Writes (failed_line e) (O.tells out.old) (O.tells out.new) result }
+    ensures comes { IfOk result (λ s. s ≡ Failed) }
+{
+    write_failed(out, e)?;
+    Ok(Search::Failed)
+}
+
+// Tells what an error of a search comes to, and writes why it failed.
+fn tell_error<O: Sink>(out: &mut O, e: MatchError) -> Result<Search, IoError>
+    ensures wrote { Writes (error_text e) (O.tells out.old) (O.tells out.new) result }
+    ensures comes { IfOk result (TellsError e) }
+{
+    match e {
+        MatchError::NoMatch { .. } => Ok(Search::Nothing),
+        MatchError::Memory => Err(IoError::Memory),
+        _ => fail(out, e),
+    }
+}
+
+// Searches from a place on, and writes the match, or why the search failed.
+fn search_from<O: Sink>(
+    out: &mut O,
+    code: &Code,
+    subject: &[u8],
+    start: usize,
+    options: &MatchOptions,
+    scratch: &mut Scratch,
+) -> Result<Search, IoError>
+    requires short { length subject.now < 4294967295 }
+    requires off { options.now.«partial» ≡ Off }
+    ensures wrote { Writes (answer_text subject.now (answer_at (pattern_of code.now.tree)
+        options.now subject.now start)) (O.tells out.old) (O.tells out.new) result }
+    ensures comes { IfOk result (λ s. IsSearch (length subject.now) s
+        (answer_at (pattern_of code.now.tree) options.now subject.now start)) }
+{
+    match code.match_at(subject, start, options, scratch, &mut NoCallouts) {
+        Ok(found) => {
+            write_match(out, &found)?;
+            Ok(found_at(&found))
+        }
+        Err(e) => tell_error(out, e),
+    }
+}
+
+// The options of a search. Where an empty match was found, the same place is tried again for
+// another one.
+fn matching_at(matching: &MatchOptions, again: bool) -> MatchOptions
+    ensures { result ≡ matching_at matching.now again }
+{
+    if again {
+        MatchOptions {
+            anchored: true,
+            notempty_atstart: true,
+            ..*matching
+        }
+    } else {
+        *matching
+    }
+}
+
+// How far a place lies behind the one before it: a CRLF that is a newline is passed whole.
+fn step(code: &Code, subject: &[u8], at: usize) -> usize
+    requires { at ≤ length subject.now }
+    ensures { result ≡ (if is_crlf (pattern_of code.now.tree) subject.now at then 2 else 1) }
+{
+    let options = code.options();
+    let kind = options.newline.end_kind(options.utf);
+    if kind.has_crlf() && newline_at(subject, at, EndKind::CrLf) > 0 {
+        2
+    } else {
+        1
+    }
+}
+
+// Writes that there is no match, unless one was shown.
+fn write_end<O: Sink>(out: &mut O, is_shown: bool) -> Result<(), IoError>
+    ensures { Writes (end_text is_shown None) (O.tells out.old) (O.tells out.new) result }
+{
+    if is_shown {
+        return Ok(());
+    }
+    write_texts(out, &[b"No match\n"])
+}
+
+// Writes the first match of a subject.
+fn write_first<O: Sink>(
+    out: &mut O,
+    code: &Code,
+    subject: &[u8],
+    how: &How,
+    scratch: &mut Scratch,
+) -> Result<(), IoError>
+    requires short { length subject.now < 4294967295 }
+    requires off { how.now.matching.«partial» ≡ Off }
+    ensures { Writes (matches_text subject.now (first_from (pattern_of code.now.tree)
+        how.now.matching subject.now how.now.start)) (O.tells out.old) (O.tells out.new) result }
+{
+    match search_from(
+        out,
+        code,
+        subject,
+        how.start as usize,
+        &how.matching,
+        scratch,
+    )? {
+        Search::Nothing => write_end(out, false),
+        Search::Found { .. } | Search::Failed => Ok(()),
+    }
+}
+
+// Writes all matches of a subject.
+fn write_all_matches<O: Sink>(
+    out: &mut O,
+    code: &Code,
+    subject: &[u8],
+    how: &How,
+    scratch: &mut Scratch,
+) -> Result<(), IoError>
+    requires short { length subject.now < 4294967295 }
+    requires off { how.now.matching.«partial» ≡ Off }
+    ensures { Writes (matches_text subject.now (matches_from (pattern_of code.now.tree)
+        how.now.matching subject.now true how.now.start)) (O.tells out.old) (O.tells out.new)
+        result }
+{
+    let mut at = how.start as usize;
+    let mut again = false;
+    let mut is_shown = false;
+    for _turn in 0..2 * subject.len() + 2 {
+        let options = matching_at(&how.matching, again);
+        match search_from(out, code, subject, at, &options, scratch)? {
+            Search::Found { to, is_empty } => {
+                is_shown = true;
+                at = to;
+                again = is_empty;
+            }
+            Search::Nothing if again && at < subject.len() => {
+                at += step(code, subject, at);
+                again = false;
+            }
+            Search::Nothing => return write_end(out, is_shown),
+            Search::Failed => return Ok(()),
+        }
+    }
+    write_end(out, is_shown)
+}
+
+/// Searches a subject, and writes its first match or all of them (pcre2test, "Finding all matches
+/// in a string").
+pub fn write_matches<O: Sink>(
+    out: &mut O,
+    code: &Code,
+    subject: &[u8],
+    how: &How,
+    scratch: &mut Scratch,
+) -> Result<(), IoError>
+    requires short { length subject.now < 4294967295 }
+    requires off { how.now.matching.«partial» ≡ Off }
+    ensures { Writes (matches_text subject.now (matches_from (pattern_of code.now.tree)
+        how.now.matching subject.now how.now.global how.now.start)) (O.tells out.old)
+        (O.tells out.new) result }
+{
+    if how.global {
+        write_all_matches(out, code, subject, how, scratch)
+    } else {
+        write_first(out, code, subject, how, scratch)
+    }
+}

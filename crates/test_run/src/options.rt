@@ -1,0 +1,107 @@
+//! What modifiers ask for.
+ghost use Rattle.std.specs.Prelude.{◌≡◌};
+ghost use Rattle.test_run.specs.Asked.{is_on, options_of, matching_of, is_unbuilt, how_of};
+
+use pcre2_api::{Bsr, MatchOptions, Newline, Options};
+use script_modifiers::Modifiers;
+
+/// How a subject is searched.
+#[derive(Clone, Copy)]
+pub struct How {
+    pub matching: MatchOptions,
+    /// Where the first search begins, in bytes.
+    pub start: u32,
+    /// Whether all matches are shown.
+    pub global: bool,
+}
+
+fn is_on(flag: Option<bool>) -> bool
+    ensures { result ≡ is_on flag }
+{
+    flag.unwrap_or(false)
+}
+
+/// Whether a pattern's modifiers ask for what is told of it.
+pub fn is_info(modifiers: &Modifiers) -> bool
+    ensures { result ≡ is_on modifiers.now.info }
+{
+    is_on(modifiers.info)
+}
+
+/// Whether modifiers ask for partial matching, the DFA matcher or a replacement, which aren't
+/// built.
+pub fn is_unbuilt(modifiers: &Modifiers) -> bool
+    ensures { result ≡ is_unbuilt modifiers.now }
+{
+    is_on(modifiers.partial_soft)
+        || is_on(modifiers.partial_hard)
+        || is_on(modifiers.dfa)
+        || is_on(modifiers.dfa_shortest)
+        || modifiers.replace.is_some()
+}
+
+/// The options of a pattern with these modifiers (pcre2test, "PATTERN MODIFIERS").
+pub fn options_of(modifiers: &Modifiers) -> Options
+    ensures { result ≡ options_of modifiers.now }
+{
+    Options {
+        anchored: is_on(modifiers.anchored),
+        endanchored: is_on(modifiers.endanchored),
+        caseless: is_on(modifiers.caseless),
+        multiline: is_on(modifiers.multiline),
+        dotall: is_on(modifiers.dotall),
+        extended: is_on(modifiers.extended),
+        extended_more: is_on(modifiers.extended_more),
+        dollar_endonly: is_on(modifiers.dollar_endonly),
+        dupnames: is_on(modifiers.dupnames),
+        firstline: is_on(modifiers.firstline),
+        literal: is_on(modifiers.literal),
+        no_auto_capture: is_on(modifiers.no_auto_capture),
+        ungreedy: is_on(modifiers.ungreedy),
+        utf: is_on(modifiers.utf),
+        ucp: is_on(modifiers.ucp),
+        allow_empty_class: is_on(modifiers.allow_empty_class),
+        match_unset_backref: is_on(modifiers.match_unset_backref),
+        no_start_optimize: is_on(modifiers.no_start_optimize),
+        auto_callout: is_on(modifiers.auto_callout),
+        notempty: false,
+        notempty_atstart: false,
+        newline: modifiers.newline.unwrap_or(Newline::Lf),
+        bsr: modifiers.bsr.unwrap_or(Bsr::Unicode),
+        match_limit: None,
+    }
+}
+
+fn matching_of(own: &Modifiers, earlier: &Modifiers) -> MatchOptions
+    ensures { result ≡ matching_of own.now earlier.now }
+{
+    MatchOptions {
+        anchored: is_on(own.anchored),
+        endanchored: is_on(own.endanchored),
+        notbol: is_on(own.notbol.or(earlier.notbol)),
+        noteol: is_on(own.noteol.or(earlier.noteol)),
+        notempty: is_on(own.notempty.or(earlier.notempty)),
+        notempty_atstart: is_on(own.notempty_atstart.or(earlier.notempty_atstart)),
+        match_limit: own
+            .match_limit
+            .or(earlier.match_limit)
+            .unwrap_or(MatchOptions::PLAIN.match_limit),
+        frame_limit: own
+            .frame_limit
+            .or(earlier.frame_limit)
+            .unwrap_or(MatchOptions::PLAIN.frame_limit),
+        ..MatchOptions::PLAIN
+    }
+}
+
+/// How a subject with its own modifiers is searched for a pattern with these (pcre2test, "SUBJECT
+/// MODIFIERS").
+pub fn how_of(own: &Modifiers, earlier: &Modifiers) -> How
+    ensures { result ≡ how_of own.now earlier.now }
+{
+    How {
+        matching: matching_of(own, earlier),
+        start: own.offset.or(earlier.offset).unwrap_or(0),
+        global: is_on(own.global.or(earlier.global)),
+    }
+}
