@@ -602,11 +602,13 @@ module _ (m : Machine) (means : Means m) where
           waiting = None;
           stack = rw turned (
             record { how = refl; outer = record { branches = stand_none m.draft.nodes; parts = stand_none m.draft.nodes; n = above; k = above } },
-            (record {
+            (
+              record {
                 how = refl;
                 outer = rw same (record { branches = level.branches; parts = level.parts; n = enough; k = level.k });
               },
-              stack_on (grows_not m.draft.nodes) (left m) u less (reverse m.stack.items) means.opens means.stack),
+              stack_on (grows_not m.draft.nodes) (left m) u less (reverse m.stack.items) means.opens means.stack,
+            ),
           );
           level = record { branches = stand_none m.draft.nodes; parts = stand_none m.draft.nodes; n = above; k = above };
           pending = rw (ready.idle) refl;

@@ -53,11 +53,8 @@ fn is_looking(form: &Form, around: bool) -> bool
 {
     match form {
         Form::Look { .. } | Form::Asserted { .. } => true,
-        Form::Group { .. }
-        | Form::Atomic
-        | Form::Condition(_)
-        | Form::Define
-        | Form::Asserting => around,
+        Form::Group { .. } | Form::Atomic | Form::Condition(_) | Form::Define | Form::Asserting =>
+            around,
     }
 }
 
