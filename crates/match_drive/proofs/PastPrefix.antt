@@ -98,7 +98,8 @@ module _ (g : Setting) (off : g.matching.«partial» ≡ Off) where
       ∙ ap (walk g (match_limit g)) (whole_fails (match_limit g) ts (first_state g.groups p) h)
 
 -- a view of the tree's options shows what the search is about
-pub scene_same : (tree : TreeParts) (table : List CharSet) (view : View) (answers : Block → ℤ) → IsTableOf tree table → view.options.now ≡ tree.options →
+pub scene_same : (tree : TreeParts) (table : List CharSet) (view : View) (answers : Block → ℤ)
+    → IsTableOf tree table → view.options.now ≡ tree.options →
     scene_of view table ≡ (setting_for tree view answers).scene
 scene_same tree table view answers h e =
     ap (λ (has : ℕ → ℕ → Bool). record (scene_of view table) { class_has = has }) (fun_ext (λ n. fun_ext (λ c. h.answers n c)) ∙ class_told tree)

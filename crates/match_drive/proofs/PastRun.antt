@@ -1,5 +1,28 @@
 -- The places in the run that a pattern begins with fail with the first of them.
-use Rattle.std.proofs.Common.{◌≡◌, ℕ, ℤ, suc, ◌+◌, ◌<◌, ◌≤◌, Bool, true, false, List, [], ◌∷◌, length, map, Option, Some, None, refl, ap, ◌∙◌, arith}
+use Rattle.std.proofs.Common.{
+  ◌≡◌,
+  ℕ,
+  ℤ,
+  suc,
+  ◌+◌,
+  ◌<◌,
+  ◌≤◌,
+  Bool,
+  true,
+  false,
+  List,
+  [],
+  ◌∷◌,
+  length,
+  map,
+  Option,
+  Some,
+  None,
+  refl,
+  ap,
+  ◌∙◌,
+  arith,
+}
 use Rattle.std.specs.Prelude.{IfSome, All, nat_le}
 use Rattle.ordered_search.specs.Stream.{Block}
 use Rattle.pat_tree.specs.Parts.{TreeParts}
@@ -18,7 +41,19 @@ use Rattle.pat_tree.specs.declared.nodes.Cond.{Cond}
 use Rattle.pat_tree.specs.declared.nodes.Cond.TheVariants.{AnySet, InCall, InCallOf, Never, Assert}
 use Rattle.pat_tree.specs.declared.nodes.Node.{Node}
 use Rattle.pat_tree.specs.declared.nodes.Node.TheVariants as node
-use Rattle.pat_tree.specs.Nested.{Nested, row, seq, look, callout, none, more, test_of, tree_at, other_of, nest}
+use Rattle.pat_tree.specs.Nested.{
+  Nested,
+  row,
+  seq,
+  look,
+  callout,
+  none,
+  more,
+  test_of,
+  tree_at,
+  other_of,
+  nest,
+}
 use Rattle.pat_tree.specs.Rules.{kids_of, number_in}
 use Rattle.ordered_search.specs.Plain.{IsPlain, ArePlain, IsPlainTest, IsPlainOther}
 use Rattle.ordered_search.specs.LaterPlaces as later
@@ -43,21 +78,34 @@ plain_test t plain = tt
 module _ (trees : List Nested) (n : ℕ) (plain : (k : ℕ) → k < n → IsPlain (tree_at trees k)) where
   plain_row : (ks : List ℕ) → All (λ k. k < n) ks → ArePlain (row (map (tree_at trees) ks))
   plain_row [] low = tt
-  plain_row (k ∷ ks) low = (plain k (low 0 k (omega arith)), plain_row ks (λ i d h. low (suc i) d (omega arith)))
+  plain_row (k ∷ ks) low =
+      (plain k (low 0 k (omega arith)), plain_row ks (λ i d h. low (suc i) d (omega arith)))
 
   plain_other : (o : Option ℕ) → All (λ k. k < n) (number_in o) → IsPlainOther (other_of trees o)
   plain_other None low = tt
   plain_other (Some k) low = plain k (low 0 k (omega arith))
 
-  plain_cond : (test : Cond) (yes' : ℕ) (no' : Option ℕ) → is_plain_test test ≡ true → All (λ k. k < n) (kids_of (node.Cond test yes' no')) → IsPlain (nest trees (node.Cond test yes' no'))
-  plain_cond Never yes' no' e low = (tt, plain yes' (low 0 yes' (omega arith)), plain_other no' (λ i d h. low (suc i) d (omega arith)))
-  plain_cond (Assert k) yes' no' e low =
-      (plain_test (tree_at trees k) (plain k (low 0 k (omega arith))), plain yes' (low 1 yes' (omega arith)), plain_other no' (λ i d h. low (suc (suc i)) d (omega arith)))
+  plain_cond : (test : Cond) (yes' : ℕ) (no' : Option ℕ) → is_plain_test test ≡ true
+      → All (λ k. k < n) (kids_of (node.Cond test yes' no'))
+      → IsPlain (nest trees (node.Cond test yes' no'))
+  plain_cond Never yes' no' e low = (
+    tt,
+    plain yes' (low 0 yes' (omega arith)),
+    plain_other no'
+        (λ i d h. low (suc i) d (omega arith)),
+  )
+  plain_cond (Assert k) yes' no' e low = (
+    plain_test (tree_at trees k) (plain k (low 0 k (omega arith))),
+    plain yes'
+        (low 1 yes' (omega arith)),
+    plain_other no' (λ i d h. low (suc (suc i)) d (omega arith)),
+  )
   plain_cond (AnySet ns) yes' no' e low = absurd (cc e)
   plain_cond InCall yes' no' e low = absurd (cc e)
   plain_cond (InCallOf ns) yes' no' e low = absurd (cc e)
 
-  pub plain_node : (m : Node) → is_plain m ≡ true → All (λ k. k < n) (kids_of m) → IsPlain (nest trees m)
+  pub plain_node : (m : Node) → is_plain m ≡ true → All (λ k. k < n) (kids_of m)
+      → IsPlain (nest trees m)
   plain_node node.Empty e low = tt
   plain_node (node.One item) e low = tt
   plain_node node.Break e low = tt
@@ -78,9 +126,12 @@ module _ (trees : List Nested) (n : ℕ) (plain : (k : ℕ) → k < n → IsPlai
 -- The first run of a node: that of its first part, or its own.
 
 module _ (trees : List Nested) where
-  pub run_in_part : (m : Node) (k : ℕ) → first_part m ≡ Some k → later.first_run (nest trees m) ≡ later.first_run (tree_at trees k)
-  run_in_part (node.Seq (j ∷ ks)) k e = ap (λ i. later.first_run (tree_at trees i)) (let same : j ≡ k = cc in same)
-  run_in_part (node.Group number (j ∷ [])) k e = ap (λ i. later.first_run (tree_at trees i)) (let same : j ≡ k = cc in same)
+  pub run_in_part : (m : Node) (k : ℕ) → first_part m ≡ Some k
+      → later.first_run (nest trees m) ≡ later.first_run (tree_at trees k)
+  run_in_part (node.Seq (j ∷ ks)) k e = ap (λ i. later.first_run (tree_at trees i))
+      (let same : j ≡ k = cc in same)
+  run_in_part (node.Group number (j ∷ [])) k e = ap (λ i. later.first_run (tree_at trees i))
+      (let same : j ≡ k = cc in same)
   run_in_part m k e = absurd (cc e)
 
   pub run_here : (m : Node) → first_part m ≡ None → later.first_run (nest trees m) ≡ run_of m
@@ -89,9 +140,12 @@ module _ (trees : List Nested) where
   run_here (node.OneRepeat item least None false) e = refl
   run_here m e = refl
 
-  pub part_below : (n : ℕ) (m : Node) (k : ℕ) → first_part m ≡ Some k → All (λ j. j < n) (kids_of m) → k < n
-  part_below n (node.Seq (j ∷ ks)) k e low = let same : j ≡ k = cc in let h = low 0 j (omega arith) in omega arith
-  part_below n (node.Group number (j ∷ [])) k e low = let same : j ≡ k = cc in let h = low 0 j (omega arith) in omega arith
+  pub part_below : (n : ℕ) (m : Node) (k : ℕ) → first_part m ≡ Some k → All (λ j. j < n) (kids_of m)
+      → k < n
+  part_below n (node.Seq (j ∷ ks)) k e low = let same : j ≡ k = cc in let h =
+      low 0 j (omega arith) in omega arith
+  part_below n (node.Group number (j ∷ [])) k e low = let same : j ≡ k = cc in let h =
+      low 0 j (omega arith) in omega arith
   part_below n m k e low = absurd (cc e)
 
 -- Where the search goes on.
@@ -107,24 +161,33 @@ module _ (g : Setting) where
   pub past_later : (last p q : ℕ) → p < q → IfSome (up_to last (Some (behind g p q))) (λ to. p < to)
   past_later last p q less = by_test (nat_le (behind g p q) last)
     where
-      by_test : (b : Bool) → IfSome (elim b [ true ↦ Some (behind g p q) | false ↦ None ]) (λ to. p < to)
+      by_test : (b : Bool)
+          → IfSome (elim b [ true ↦ Some (behind g p q) | false ↦ None ]) (λ to. p < to)
       by_test true = let low = behind_past g p q in omega arith
       by_test false = tt
 
-  tried_fails : (p : ℕ) → place_answer g p ≡ answers (place.Failed Exhausted) → tried g p ≡ answers (place.Failed Exhausted)
+  tried_fails : (p : ℕ) → place_answer g p ≡ answers (place.Failed Exhausted)
+      → tried g p ≡ answers (place.Failed Exhausted)
   tried_fails p e = by_test (is_excluded g p)
     where
-      by_test : (b : Bool) → elim b [ true ↦ answers (place.Failed Exhausted) | false ↦ place_answer g p ] ≡ answers (place.Failed Exhausted)
+      by_test : (b : Bool)
+          → elim b [ true ↦ answers (place.Failed Exhausted) | false ↦ place_answer g p ]
+          ≡ answers (place.Failed Exhausted)
       by_test true = refl
       by_test false = e
 
   -- the places that fail with p are passed over
-  pub next_past : g.options.utf ≡ false → g.start ≤ length g.subject → (p to q : ℕ) → p ≤ last_place g → p < to → FailsTo g p to → p < q → q ≤ to + 1 → q ≤ length g.subject → q ≤ last_place g + 1
+  pub next_past : g.options.utf ≡ false → g.start ≤ length g.subject → (p to q : ℕ)
+      → p ≤ last_place g → p < to → FailsTo g p to → p < q → q ≤ to + 1 → q ≤ length g.subject
+      → q ≤ last_place g + 1
       → (place_answer g p).answer ≡ place.Failed Exhausted
-      → found_from g (up_to (last_place g) (Some (behind g p q))) ≡ found_from g (place_after g p Exhausted)
+      → found_from g (up_to (last_place g) (Some (behind g p q)))
+      ≡ found_from g (place_after g p Exhausted)
   next_past not_utf begun p to q low before fails less high within most failed =
-      passed g not_utf begun p q low (omega arith) within most (λ k a b. tried_fails k (fails before failed k a (omega arith)))
-      ∙ found_failed g not_utf begun p low (tried_fails p (fails before failed p (omega arith) (omega arith)))
+      passed g not_utf begun p q low (omega arith) within most
+      (λ k a b. tried_fails k (fails before failed k a (omega arith)))
+      ∙ found_failed g not_utf begun p low
+      (tried_fails p (fails before failed p (omega arith) (omega arith)))
 
 -- A run from p ends at q in the subject, and the places up to there fail with p.
 pub record RunFails (tree : TreeParts) (view : View) (p q : ℕ) : Type 0 where
@@ -132,23 +195,36 @@ pub record RunFails (tree : TreeParts) (view : View) (p q : ℕ) : Type 0 where
   pub within : q ≤ length view.subject.now
   pub fails : FailsToAlways (setting_for tree view passed_over) p q
 
-pub run_fails : (tree : TreeParts) (table : List CharSet) (view : View) (item : Item) (p q : ℕ) → IsTableOf tree table → view.options.now ≡ tree.options → IsFirstRun tree view item
+pub run_fails : (tree : TreeParts) (table : List CharSet) (view : View) (item : Item) (p q : ℕ)
+    → IsTableOf tree table → view.options.now ≡ tree.options → IsFirstRun tree view item
     → q ≡ end_of p (longest_run (scene_of view table) item None p) → p ≤ length view.subject.now
     → RunFails tree view p q
 run_fails tree table view item p q shown options first to within =
     let g = setting_for tree view passed_over in
-    let is : q ≡ run_end g item p = to ∙ ap (λ (s : Scene). end_of p (longest_run s item None p)) (scene_same tree table view passed_over shown options) in
+    let is : q ≡ run_end g item p = to
+    ∙ ap (λ (s : Scene). end_of p (longest_run s item None p))
+    (scene_same tree table view passed_over shown options) in
     let ends = end_within g.scene item first.begins.bytes (length g.subject) p within in
     let low = ends.0 in
     let high = ends.1 in
     record {
       low = omega arith;
       within = omega arith;
-      fails = λ reply before failed k a b. later_places (replied reply g) item (begins_always g item first.begins reply) p k a (omega arith) failed;
+      fails = λ reply before failed k a b. later_places (replied reply g) item
+          (begins_always g item first.begins reply) p k a (omega arith) failed;
     }
   where
-    begins_always : (g : Setting) (item : Item) → BeginsWithRun g item → (reply : Block → ℤ) → BeginsWithRun (replied reply g) item
-    begins_always g item h reply = record { plain = h.plain; first = h.first; bytes = h.bytes; off = h.off; any_length = h.any_length; any_start = h.any_start }
+    begins_always : (g : Setting) (item : Item) → BeginsWithRun g item → (reply : Block → ℤ)
+        → BeginsWithRun (replied reply g) item
+    begins_always g item h reply = record {
+      plain = h.plain;
+      first = h.first;
+      bytes = h.bytes;
+      off =
+          h.off;
+      any_length = h.any_length;
+      any_start = h.any_start;
+    }
 
 -- where no run is known
 pub none_fails : (g : Setting) (p : ℕ) → FailsToAlways g p p

@@ -149,16 +149,19 @@ module _ (g : Setting) (not_utf : g.options.utf ≡ false) (begun : g.start ≤ 
   failed_silently : (p : ℕ) (later : Found) → failed_at p (answers (place.Failed Exhausted)) later ≡ later
   failed_silently p later = refl
 
-  pub found_failed : (p : ℕ) → p ≤ last_place g → tried g p ≡ answers (place.Failed Exhausted) → found_from g (Some p) ≡ found_from g (within g (next_place g p))
+  pub found_failed : (p : ℕ) → p ≤ last_place g → tried g p ≡ answers (place.Failed Exhausted)
+      → found_from g (Some p) ≡ found_from g (within g (next_place g p))
   found_failed p h e =
       found_place p h
       ∙ ap (λ w. found_at p w (λ signal. found_from g (place_after g p signal))) e
       ∙ failed_silently p (found_from g (within g (next_place g p)))
 
   excluded_fails : (p : ℕ) → is_excluded g p ≡ true → tried g p ≡ answers (place.Failed Exhausted)
-  excluded_fails p e = ap (λ b. elim b [ true ↦ answers (place.Failed Exhausted) | false ↦ place_answer g p ]) e
+  excluded_fails p e =
+      ap (λ b. elim b [ true ↦ answers (place.Failed Exhausted) | false ↦ place_answer g p ]) e
 
-  pub found_excluded : (p : ℕ) → p ≤ last_place g → is_excluded g p ≡ true → found_from g (Some p) ≡ found_from g (within g (next_place g p))
+  pub found_excluded : (p : ℕ) → p ≤ last_place g → is_excluded g p ≡ true
+      → found_from g (Some p) ≡ found_from g (within g (next_place g p))
   found_excluded p h e = found_failed p h (excluded_fails p e)
 
   pub match_found : match_answer g ≡ found_from g (Some g.start)
@@ -215,7 +218,9 @@ module _ (g : Setting) (not_utf : g.options.utf ≡ false) (begun : g.start ≤ 
       ∙ one_more k (behind_cases p k) before (omega (arith, high)) (omega (arith, most)) (all k (omega arith) (omega arith))
     where
       one_more : (k : ℕ) → (behind g p k ≡ k) ⊎ ((behind g p k ≡ k + 1) × (passes_crlf g k ≡ false))
-          → found_from g (up_to (last_place g) (Some (behind g p k))) ≡ found_from g (Some p) → k < length g.subject → k ≤ last_place g → tried g k ≡ answers (place.Failed Exhausted)
+          → found_from g (up_to (last_place g) (Some (behind g p k))) ≡ found_from g (Some p)
+          → k < length g.subject → k ≤ last_place g
+          → tried g k ≡ answers (place.Failed Exhausted)
           → found_from g (up_to (last_place g) (elim (passes_crlf g k) [ true ↦ Some (k + 2) | false ↦ Some (k + 1) ])) ≡ found_from g (Some p)
       one_more k (inl is) before inside within_last out =
           ap (λ o. found_from g (up_to (last_place g) o)) (sym (next_inside g not_utf begun k inside))
@@ -245,7 +250,9 @@ module _ (g : Setting) (not_utf : g.options.utf ≡ false) (begun : g.start ≤ 
   pub passed_bytes : (set : List Bool) (p q : ℕ) → g.options.no_start_optimize ≡ false → IsByteSet (Some set) (lead_set g) → p ≤ last_place g → p ≤ q
       → q ≤ length g.subject → q ≤ last_place g + 1 → ((k : ℕ) → p ≤ k → k < q → IsByteOutside set (slice_index g.subject k)) → IsPassed g p (behind g p q)
   passed_bytes set p q on lead low ordered high most all = record {
-    same = passed p q low ordered high most (λ k a b. excluded_fails k (excluded_by_byte g set k on lead (omega (arith, b, high)) (all k a b)));
+    same = passed p q low ordered high most
+        (λ k a b. excluded_fails k (excluded_by_byte g set k on lead (omega (arith, b, high))
+        (all k a b)));
     later = behind_later g p q ordered;
   }
 

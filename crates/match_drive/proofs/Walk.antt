@@ -36,11 +36,13 @@ module _ (g : Setting) (not_utf : g.options.utf ≡ false) (begun : g.start ≤ 
   -- the place failed
   pub walk_on : (signal : Signal) (hit : Bool) (mark hits after later : Option ℕ) → IsAnswer (Failed signal hit) caps (place_answer g p)
       → IsMark (Failed signal hit) old mark (place_answer g p) → hits ≡ first_hit first hit p
-      → found_from g after ≡ found_from g (place_after g p (signal_of signal)) → IsNextTried g after later
+      → found_from g after ≡ found_from g (place_after g p (signal_of signal))
+      → IsNextTried g after later
       → IsLeft whole hits mark (found_from g later)
   walk_on signal hit mark hits after later answered marked same follows next_tried =
       subst (λ (o : Option ℕ). IsLeft whole o mark (found_from g later)) (sym same)
-      (subst (IsLeft whole (first_hit first hit p) mark) (sym follows ∙ sym (next_same g after later next_tried))
+      (subst (IsLeft whole (first_hit first hit p) mark) (sym follows
+      ∙ sym (next_same g after later next_tried))
       (left_failed signal hit caps (place_answer g p) p (λ (signal : place.Signal). found_from g (place_after g p signal)) first old mark whole answered marked
       (left_at g not_utf begun whole first old next p is left low tried)))
 

@@ -11,7 +11,8 @@ use Rattle.match_drive.specs.Run.{IsFirstRun}
 
 -- The search at one place runs. Where it is told so, the pattern stands at the subject's begin alone. The first parts are its
 -- own, and so is the run that it begins with, where one is known.
-pub record IsByteCourse (ready : Ready) (view : View) (at_begin : Bool) (first : List ℕ) (run : Option Item) : Type 0 where
+pub record IsByteCourse (ready : Ready) (view : View) (at_begin : Bool) (first : List ℕ)
+    (run : Option Item) : Type 0 where
   pub search : IsReadySearch ready view
   pub open search use *
   pub begin : IsTrue at_begin → StandsAtBegin (tree_of ready.tree.now)

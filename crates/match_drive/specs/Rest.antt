@@ -5,7 +5,14 @@ use Rattle.byte_lanes.specs.Sets.{has_byte}
 use Rattle.pat_check.specs.Known.{IsByteSet}
 use Rattle.ordered_search.specs.Stream.{Block}
 use Rattle.ordered_search.specs.Setting.{Setting, lead_set}
-use Rattle.ordered_search.specs.PlaceAnswer.{Signal, Exhausted, Failed, answers, place_answer, last_name}
+use Rattle.ordered_search.specs.PlaceAnswer.{
+  Signal,
+  Exhausted,
+  Failed,
+  answers,
+  place_answer,
+  last_name,
+}
 use Rattle.match_drive.specs.Asked.{replied}
 use Rattle.ordered_search.specs.Places.{up_to, passes_crlf, last_place, place_after, is_excluded}
 use Rattle.ordered_search.specs.MatchAnswer.{MatchAnswer, Found, none_found, undecided, from_place}
@@ -54,7 +61,8 @@ module _ (g : Setting) where
 
   -- where p fails so, what is found from the next place on is what the places after p give
   abbrev pub IsNext : ℕ → Signal → Option ℕ → Type 0
-  IsNext p signal next = (place_answer g p).answer ≡ Failed signal → found_from next ≡ found_from (place_after g p signal)
+  IsNext p signal next = (place_answer g p).answer ≡ Failed signal
+      → found_from next ≡ found_from (place_after g p signal)
 
 -- The same whatever callouts answer.
 

@@ -56,10 +56,11 @@ pub trait Driven {
         requires { fits self.now }
         ensures { IsTrue result → StandsAtBegin (asked self.now passed_over).whole };
 
-    /// The last place that is known to fail where this one fails, and all places between them with it.
+    /// The last place that is known to fail where this one fails, and all places between them with
+    /// it.
     fn fails_to(&self, place: usize) -> usize
         requires fits { fits self.now }
-        requires place { IsPlace (asked self.now passed_over).options (asked self.now passed_over).subject place }
+        requires place { let g = asked self.now passed_over in IsPlace g.options g.subject place }
         ensures low { place ≤ result }
         ensures within { result ≤ length (asked self.now passed_over).subject }
         ensures fails { FailsToAlways (asked self.now passed_over) place result };

@@ -8,7 +8,8 @@ ghost use Rattle.frame_machine.specs.Answer.{signal_of};
 ghost use Rattle.match_drive.specs.Asked.{passed_over};
 ghost use Rattle.ordered_search.specs.Places as places;
 ghost use Rattle.ordered_search.specs.Places.{up_to};
-ghost use Rattle.match_drive.specs.Rest.{IsLeadUsed, IsByteOutside, IsPassedAlways, IsNextTriedAlways, IsNextAlways, behind};
+ghost use Rattle.match_drive.specs.Rest.{IsLeadUsed, IsByteOutside, IsPassedAlways, IsNextTriedAlways, behind};
+ghost use Rattle.match_drive.specs.Rest.{IsNextAlways};
 
 use crate::driven::Driven;
 use byte_lanes::{ByteSet, EndKind, find_in_set, find_line_end, newline_at};

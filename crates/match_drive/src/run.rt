@@ -1,4 +1,5 @@
-//! The run of one item that a pattern begins with: a start place that fails has those up to the run's end fail with it.
+//! The run of one item that a pattern begins with: a start place that fails has those up to the
+//! run's end fail with it.
 ghost use Rattle.std.specs.Prelude.{◌≡◌, ◌<◌, ◌≤◌, All, IfSome, IsTrue, false, length};
 ghost use Rattle.pat_tree.specs.declared.options.PartialMode.TheVariants.{Off};
 ghost use Rattle.pat_tree.specs.Parts.{tree_of};
@@ -12,8 +13,8 @@ ghost use Rattle.match_drive.specs.Run.{IsFirstRun};
 use match_items::View;
 use pat_tree::{Cond, Item, Node, NodeId, Tree};
 
-/// Whether what a node takes goes by the place alone, and not by captures and calls; and no verb and no callout stands
-/// there.
+/// Whether what a node takes goes by the place alone, and not by captures and calls; and no verb
+/// and no callout stands there.
 fn is_plain_node(node: &Node) -> bool
     ensures { result ≡ run.is_plain node.now }
 {
@@ -65,7 +66,8 @@ fn run_of(node: &Node) -> Option<Item>
     }
 }
 
-/// The item that a pattern begins with where it begins with a greedy repeat of one without a maximum.
+/// The item that a pattern begins with where it begins with a greedy repeat of one without a
+/// maximum.
 fn first_run(tree: &Tree) -> Option<Item>
     ensures is { result ≡ later.first_run (tree_of tree.now) }
     ensures class { IfSome result (λ item. All (λ n. n < length tree.now.classes) (class_in item)) }
@@ -77,8 +79,9 @@ fn first_run(tree: &Tree) -> Option<Item>
     run_of(tree.node(id))
 }
 
-/// The item whose run a pattern begins with, where a place that fails has all places in the run from there fail: nothing
-/// in the pattern goes by what was captured, and matches of the empty text count.
+/// The item whose run a pattern begins with, where a place that fails has all places in the run
+/// from there fail: nothing in the pattern goes by what was captured, and matches of the empty text
+/// count.
 pub(crate) fn leading_run(tree: &Tree, view: &View<'_>) -> Option<Item>
     requires options { view.now.options.now ≡ tree.now.options }
     requires subject { IsSubject view.now.options.now view.now.subject.now }

@@ -9,7 +9,7 @@ use Rattle.pat_tree.specs.Nested.{Nested, Row, Test, Other}
 use Rattle.match_items.specs.Items.{one_less, is_none_left, after_item, item_reaches, longest_run, run_reaches, after_break, break_reaches, after_ref, ref_reaches, holds, anchor_reaches, earliest, places_back}
 use Rattle.pat_lengths.specs.Lengths.{SomeLengths}
 use Rattle.frame_store.specs.Captures.{capture}
-use Rattle.ordered_search.specs.Stream.{State, first_state, VerbEnding, next_branch, prune, skip, commit, is_partial, too_many_units, exhausted, by_verb, by_halt, hit_end, How, reached, accepted, note, state, step, Stream, Search, ends, ◌▸◌, nothing, gives, ◌or_else◌, each, go_on, and_then, catch, is_next_branch, captured, Ending, abort, shown, decide, no_ending, fails_alone, fails_inside}
+use Rattle.ordered_search.specs.Stream.{State, first_state, VerbEnding, next_branch, prune, skip, commit, is_partial, too_many_units, exhausted, by_verb, by_halt, hit_end, How, reached, accepted, note, state, step, Stream, Search, ends, ◌▸◌, nothing, gives, ◌or_else◌, each, go_on, and_then, catch, is_next_branch, captured, shown, decide, no_ending, fails_alone, fails_inside}
 use Rattle.ordered_search.specs.Setting.{Setting, held, hold, counts, reach, reach_if, match_limit, branch_lengths}
 use Rattle.ordered_search.specs.Tests.{move_to, goes_to, run_one, run_break, run_ref, run_anchor, offers, greedy, offer_and, reluctant, lazy_run, run_many}
 use Rattle.ordered_search.specs.Parts.{Searches, in_order, choices, branches, run_group, is_over, turn, run_repeat, begun_at, ends_at, one_try, tries, tries_within, run_behind, back_to, forget_passed, run_atomic, run_look, asserts, tests, some_set, is_called, is_called_of, block_of, follow, run_callout}

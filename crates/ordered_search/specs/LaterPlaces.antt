@@ -9,8 +9,8 @@ use Rattle.ordered_search.specs.Setting.{Setting, notempty, notempty_atstart}
 use Rattle.ordered_search.specs.PlaceAnswer.{Exhausted, Failed, answers, place_answer}
 use Rattle.ordered_search.specs.Plain.{IsPlain}
 
--- The item that a pattern begins with where it begins with a greedy repeat of one without a maximum, through sequences
--- and groups of one branch.
+-- The item that a pattern begins with where it begins with a greedy repeat of one without a
+-- maximum, through sequences and groups of one branch.
 abbrev mutual
   pub first_run : Nested → Option Item
   first_run (one_repeat item low None false) = Some item
@@ -26,7 +26,8 @@ abbrev mutual
   run_of_only (more t none) = first_run t
   run_of_only _ = None
 
--- A search of bytes whose pattern begins so: matches of the empty text count, and there is no partial matching.
+-- A search of bytes whose pattern begins so: matches of the empty text count, and there is no
+-- partial matching.
 pub record BeginsWithRun (g : Setting) (item : Item) : Type 0 where
   pub plain : IsPlain g.whole
   pub first : first_run g.whole ≡ Some item
@@ -39,8 +40,8 @@ pub record BeginsWithRun (g : Setting) (item : Item) : Type 0 where
 abbrev pub run_end : Setting → Item → ℕ → ℕ
 run_end g item p = end_of p (longest_run g.scene item None p)
 
--- Where p fails, so does each place up to the end of the run from p: what follows the run was tried at each place
--- that the later one offers.
+-- Where p fails, so does each place up to the end of the run from p: what follows the run was tried
+-- at each place that the later one offers.
 abbrev pub LaterPlacesLaw : Type 0
 LaterPlacesLaw =
     (g : Setting) (item : Item) → BeginsWithRun g item → (p q : ℕ) → p ≤ q → q ≤ run_end g item p

@@ -1,4 +1,5 @@
--- Patterns whose search goes by the place alone: what they look at is no captured text, no group that is set and no call.
+-- Patterns whose search goes by the place alone: what they look at is no captured text, no group
+-- that is set and no call.
 use Rattle.pat_tree.specs.Nested as tree
 use Rattle.pat_tree.specs.Nested.{Nested, Row, Test, Other}
 
@@ -13,7 +14,8 @@ abbrev mutual
   IsPlain (tree.one_repeat item low high lazily) = Unit {0}
   IsPlain (tree.atomic ts) = ArePlain ts
   IsPlain (tree.look ahead positive once ts) = ArePlain ts
-  IsPlain (tree.condition test first second) = IsPlainTest test × IsPlain first × IsPlainOther second
+  IsPlain (tree.condition test first second) = IsPlainTest test × IsPlain first
+      × IsPlainOther second
   IsPlain (tree.call n) = ⊥
   IsPlain (tree.ref ns caseless) = ⊥
   IsPlain (tree.anchor kind) = Unit {0}

@@ -34,9 +34,9 @@ pub fn searches_go_forward()
     ensures { ForwardLaw }
 {}
 
-/// In a search of bytes that goes by the place alone, where a pattern begins with a greedy repeat of one item without a
-/// maximum: a place that fails has all later ones fail up to the end of the item's run from there (pcre2pattern,
-/// "Repetition").
+/// In a search of bytes that goes by the place alone, where a pattern begins with a greedy repeat
+/// of one item without a maximum: a place that fails has all later ones fail up to the end of the
+/// item's run from there (pcre2pattern, "Repetition").
 pub fn later_places_fail()
     ensures { LaterPlacesLaw }
 {}

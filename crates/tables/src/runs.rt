@@ -1,6 +1,6 @@
-//! What searches find, and the least limits under which they do, where the pattern begins with a greedy run of one item:
-//! start places in the run are passed over where the first of them fails, and only there. The texts found are those of
-//! the C library, 10.42.
+//! What searches find, and the least limits under which they do, where the pattern begins with a
+//! greedy run of one item: start places in the run are passed over where the first of them fails,
+//! and only there. The texts found are those of the C library, 10.42.
 use super::searching::searched;
 use frame_machine::Scratch;
 use match_drive::MatchAnswer;
@@ -186,7 +186,8 @@ fn limit_case(
     Ok(())
 }
 
-// The first place of a run takes the most Steps and units. Where it passes a limit, no later one is asked.
+// The first place of a run takes the most Steps and units. Where it passes a limit, no later one is
+// asked.
 #[test]
 fn the_first_place_of_a_run_meets_the_limits(rt: HostRuntime) -> Result<(), Fail> {
     static ROWS: [LimitRow; 9] = [

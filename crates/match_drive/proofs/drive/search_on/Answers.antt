@@ -103,7 +103,8 @@ places-smaller g c =
     let high : last_place s ≤ length s.subject = last_within s (g.met.S.Driven.subject_is x c.requires).no_utf (g.met.S.Driven.start_is x c.requires).within in
     let low : c.in-Some.place ≤ last_place s = rw c.in-Some.is at c.places.invariant.within in
     left_less (length s.subject) c.in-Some.place c.places.next c.next_tried-next-in-Some.result c.in-Some.is (omega (arith, high, low))
-    (tried_later (replied s.reply s) c.place_past.result c.next_tried-next-in-Some.result c.in-Some.place (c.next_tried-next-in-Some.ensures s.reply) c.place_past.ensures.later)
+    (tried_later (replied s.reply s) c.place_past.result c.next_tried-next-in-Some.result
+    c.in-Some.place (c.next_tried-next-in-Some.ensures s.reply) c.place_past.ensures.later)
 
 pub places-preserved : goal.places-preserved
 places-preserved g c =
@@ -118,14 +119,19 @@ places-preserved g c =
       left =
           walk_on s (g.met.S.Driven.subject_is x c.requires).no_utf (g.met.S.Driven.start_is x c.requires).within (match_answer s) c.places.first c.places.scratch.last_mark c.places.next c.in-Some.place c.in-Some.is
           c.places.invariant.left c.places.invariant.within c.places.invariant.not_excluded c.try_at-answer.new.scratch.spans c.in-Failed.signal c.in-Failed.hit_end
-          c.try_at-answer.new.scratch.last_mark c.first_hit-first.result c.place_past.result c.next_tried-next-in-Some.result
+          c.try_at-answer.new.scratch.last_mark c.first_hit-first.result c.place_past.result
+          c.next_tried-next-in-Some.result
           (subst (λ (t : Setting). IsAnswer (Failed c.in-Failed.signal c.in-Failed.hit_end) c.try_at-answer.new.scratch.spans (place_answer t c.in-Some.place)) e c.in-Failed.ensures.answer)
           (subst (λ (t : Setting). IsMark (Failed c.in-Failed.signal c.in-Failed.hit_end) c.places.scratch.last_mark c.try_at-answer.new.scratch.last_mark (place_answer t c.in-Some.place)) e c.in-Failed.ensures.mark)
           c.first_hit-first.ensures
           (c.place_past.ensures.same (g.S.Driven.asked x first).reply
-          (subst (λ (t : Setting). IsAnswer (Failed c.in-Failed.signal c.in-Failed.hit_end) c.try_at-answer.new.scratch.spans (place_answer t c.in-Some.place)) e c.in-Failed.ensures.answer).0)
+          (subst (λ (t : Setting). IsAnswer (Failed c.in-Failed.signal c.in-Failed.hit_end)
+          c.try_at-answer.new.scratch.spans (place_answer t c.in-Some.place)) e
+          c.in-Failed.ensures.answer).0)
           next;
-      begun = IfSome_then c.next_tried-next-in-Some.result (tried_later s c.place_past.result c.next_tried-next-in-Some.result c.in-Some.place next c.place_past.ensures.later)
+      begun = IfSome_then c.next_tried-next-in-Some.result
+          (tried_later s c.place_past.result c.next_tried-next-in-Some.result c.in-Some.place next
+          c.place_past.ensures.later)
           (λ q later. omega (arith, begun, later));
       within = next_within s c.place_past.result c.next_tried-next-in-Some.result next;
       not_excluded = next_not_excluded s c.place_past.result c.next_tried-next-in-Some.result next;

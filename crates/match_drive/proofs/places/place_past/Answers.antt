@@ -14,14 +14,18 @@ pub place_after-requires-clause-at : goal.place_after-requires-clause-at
 place_after-requires-clause-at g c =
     let x = c.args.on.now in
     let s = g.S.Driven.asked x passed_over in
-    let high : last_place s ≤ length s.subject = last_within s (g.met.S.Driven.subject_is x c.requires.fits).no_utf (g.met.S.Driven.start_is x c.requires.fits).within in
+    let high : last_place s ≤ length s.subject =
+    last_within s (g.met.S.Driven.subject_is x c.requires.fits).no_utf
+    (g.met.S.Driven.start_is x c.requires.fits).within in
     omega (arith, high, c.requires.last, c.requires.at)
 
 pub fails_to-to-requires-clause-place : goal.fails_to-to-requires-clause-place
 fails_to-to-requires-clause-place g c =
     let x = c.args.on.now in
     let s = g.S.Driven.asked x passed_over in
-    let high : last_place s ≤ length s.subject = last_within s (g.met.S.Driven.subject_is x c.requires.fits).no_utf (g.met.S.Driven.start_is x c.requires.fits).within in
+    let high : last_place s ≤ length s.subject =
+    last_within s (g.met.S.Driven.subject_is x c.requires.fits).no_utf
+    (g.met.S.Driven.start_is x c.requires.fits).within in
     omega (arith, high, c.requires.last, c.requires.at)
 
 pub returns-clause-same : goal.returns-clause-same
@@ -39,15 +43,24 @@ returns-clause-same g c reply failed =
     ] in
     let high : last_place s ≤ length s.subject = last_within s not_utf begun in
     let low : p ≤ last_place s = omega (arith, c.requires.last, c.requires.at) in
-    let before : p < c.fails_to-to.result = omega (arith, c.fails_to-to.ensures.low, c.if-to-at.false) in
-    let same : length c.subject.result.now ≡ length s.subject = ap (length {A = ℕ}) c.subject.ensures in
+    let before : p < c.fails_to-to.result =
+    omega (arith, c.fails_to-to.ensures.low, c.if-to-at.false) in
+    let same : length c.subject.result.now ≡ length s.subject =
+    ap (length {A = ℕ}) c.subject.ensures in
     let to = c.fails_to-to.ensures.within in
     let end = c.bytes_end-end.ensures in
     let least = c.min.ensures in
     let next : c.up_to.result ≡ up_to (last_place s) (Some (behind s p q)) =
-    c.up_to.ensures.value ∙ ap (λ l. up_to l (Some c.behind.result)) c.requires.last ∙ ap (λ b. up_to (last_place s) (Some b)) c.behind.ensures in
-    let all : (place_answer t p).answer ≡ Failed Exhausted → found_from t c.up_to.result ≡ found_from t (place_after t p Exhausted) =
+    c.up_to.ensures.value ∙ ap (λ l. up_to l (Some c.behind.result)) c.requires.last
+    ∙ ap (λ b. up_to (last_place s) (Some b)) c.behind.ensures in
+    let all : (place_answer t p).answer ≡ Failed Exhausted
+    → found_from t c.up_to.result ≡ found_from t (place_after t p Exhausted) =
     λ f. ap (found_from t) next
-    ∙ next_past t not_utf begun p c.fails_to-to.result q low before (c.fails_to-to.ensures.fails reply) (omega (arith, end, least, low, before, same, to, c.requires.last, c.requires.at))
-    (omega (arith, end, least)) (omega (arith, end, same)) (omega (arith, end, least, c.requires.last)) f in
-    subst (λ (r : Signal). (place_answer t p).answer ≡ Failed r → found_from t c.up_to.result ≡ found_from t (place_after t p r)) (ap signal_of (sym is)) all failed
+    ∙ next_past t not_utf begun p c.fails_to-to.result q low before
+    (c.fails_to-to.ensures.fails reply)
+    (omega (arith, end, least, low, before, same, to, c.requires.last, c.requires.at))
+    (omega (arith, end, least)) (omega (arith, end, same))
+    (omega (arith, end, least, c.requires.last)) f in
+    subst (λ (r : Signal). (place_answer t p).answer ≡ Failed r
+    → found_from t c.up_to.result ≡ found_from t (place_after t p r)) (ap signal_of (sym is))
+    all failed

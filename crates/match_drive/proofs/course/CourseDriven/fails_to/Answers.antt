@@ -3,11 +3,14 @@ use Rattle.match_drive.specs.Asked.{passed_over}
 use Rattle.match_drive.proofs.PastRun.{RunFails, run_fails, none_fails}
 use Rattle.match_drive.proofs.course.CourseDriven.fails_to.Goals as goal
 
-found : (c : goal.After-item_run) → RunFails c.args.self.now.ready.now.tree.now c.args.self.now.view.now c.args.place c.item_run.result.to
+found : (c : goal.After-item_run)
+    → RunFails c.args.self.now.ready.now.tree.now c.args.self.now.view.now c.args.place
+    c.item_run.result.to
 found c =
     let x = c.args.self.now in
     let fits = c.requires.fits in
-    run_fails x.ready.now.tree.now x.ready.now.classes.now x.view.now c.in-Some.item c.args.place c.item_run.result.to fits.table fits.options (rw c.in-Some.is at fits.runs_first)
+    run_fails x.ready.now.tree.now x.ready.now.classes.now x.view.now c.in-Some.item c.args.place
+    c.item_run.result.to fits.table fits.options (rw c.in-Some.is at fits.runs_first)
     c.item_run.ensures.to c.requires.place.within
 
 pub returns-in-Some-clause-low : goal.returns-in-Some-clause-low
@@ -20,4 +23,6 @@ pub returns-in-Some-clause-fails : goal.returns-in-Some-clause-fails
 returns-in-Some-clause-fails c = (found c).fails
 
 pub returns-in-None-clause-fails : goal.returns-in-None-clause-fails
-returns-in-None-clause-fails c = none_fails (setting_for c.args.self.now.ready.now.tree.now c.args.self.now.view.now passed_over) c.args.place
+returns-in-None-clause-fails c =
+    none_fails (setting_for c.args.self.now.ready.now.tree.now c.args.self.now.view.now passed_over)
+    c.args.place
