@@ -1,6 +1,6 @@
 -- The tool that the first word names.
-use Rattle.std.proofs.Common.{◌≡◌, ℕ, ◌≤◌, ◌<◌, Bool, true, false, if◌then◌else◌, List, [], ◌∷◌, codes, ◌-◌, length, take, drop, map, get_or, Option, refl, sym, ap, subst, arith}
-use Rattle.std.proofs.lemmas.List.{take_all, length-drop}
+use Rattle.std.proofs.Common.{◌≡◌, ℕ, ◌≤◌, ◌<◌, Bool, true, false, List, [], ◌∷◌, codes, ◌-◌, length, take, drop, map, get_or, Option, refl, sym, ap, ◌∙◌, subst, arith}
+use Rattle.script_run.proofs.Wording.{first-word, no-word}
 use Rattle.pcre_io.specs.Told.{Told}
 use Rattle.pcre_io.specs.Files.{Contents}
 use Rattle.line_feed.specs.Rows.{Input}
@@ -9,18 +9,11 @@ use Rattle.dir_walk.specs.declared.lists.Target.{Target}
 use Rattle.tool_in.specs.Asked.{Asked, StandFor}
 use Rattle.tool_in.proofs.Taking.{hears-any}
 use Rattle.tool_out.specs.Printed.{Printed}
-use Rattle.tool_out.specs.Outcomes.{said, Runs}
+use Rattle.tool_out.specs.Outcomes.{RunOutcome, said, Runs}
 use Rattle.grep_run.specs.Asks.{AsksFor}
 use Rattle.grep_run.specs.ToolText.{text_of}
-use Rattle.pcre2_tools.specs.ToolText.{is_grep, is_test, tool_text, AsksIf, ToolAsks}
-
-first-of : {A B : Type 0} (f : A → B) (xs : List A) (x : A) → 1 ≤ length xs → x ≡ get_or xs 0 x → map f xs ≡ f x ∷ map f (drop 1 xs)
-first-of f [] x some is = absurd (omega arith)
-first-of f (y ∷ ys) x some is = ap (λ z. f z ∷ map f ys) (sym is)
-
-none-of : {A B : Type 0} (f : A → B) (xs : List A) → length xs < 1 → map f xs ≡ []
-none-of f [] few = refl
-none-of f (x ∷ xs) few = absurd (omega arith)
+use Rattle.script_run.specs.ToolText as script
+use Rattle.pcre2_tools.specs.ToolText.{is_grep, is_test, text_by, tool_text, AsksIf, ToolAsks}
 
 -- words that ask for nothing, and that this is said to
 pub record SaysTo (words : List (List ℕ)) (text : List ℕ) (status : ℕ) : Type 0 where
@@ -29,27 +22,16 @@ pub record SaysTo (words : List (List ℕ)) (text : List ℕ) (status : ℕ) : T
 
 pub says-none : {A : Type 0} (f : A → List ℕ) (words : List A) → length words < 1 → SaysTo (map f words) (codes "unknown tool") 2
 says-none f words few =
-    subst (λ ws. SaysTo ws (codes "unknown tool") 2) (sym (none-of f words few)) (record { asks = λ contents first last. refl; says = λ given. refl })
+    subst (λ ws. SaysTo ws (codes "unknown tool") 2) (sym (no-word f words few)) (record { asks = λ contents first last. refl; says = λ given. refl })
 
--- another tool asks for nothing
-other-asks : (tool : List ℕ) (rest : List (List ℕ)) → is_grep tool ≡ false → (contents : Option Contents) (first last : ℕ) → ToolAsks contents first last (tool ∷ rest) []
-other-asks tool rest other contents first last =
-    subst (λ t. AsksIf t contents first last rest []) (sym other) refl
-
-pub says-other : {A : Type 0} (f : A → List ℕ) (words : List A) (tool : A) (b : Bool) → 1 ≤ length words → tool ≡ get_or words 0 tool → is_grep (f tool) ≡ false → is_test (f tool) ≡ b
-    → SaysTo (map f words) (if b then codes "pcre2test: not built" else codes "unknown tool") (if b then 1 else 2)
-says-other f words tool b some is other test =
-    subst (λ ws. SaysTo ws (if b then codes "pcre2test: not built" else codes "unknown tool") (if b then 1 else 2)) (sym (first-of f words tool some is)) (by_test b test)
-  where
-    by_test : (b : Bool) → is_test (f tool) ≡ b → SaysTo (f tool ∷ map f (drop 1 words)) (if b then codes "pcre2test: not built" else codes "unknown tool") (if b then 1 else 2)
-    by_test true test = record {
-      asks = other-asks (f tool) (map f (drop 1 words)) other;
-      says = λ given. (λ i. if other i then text_of (map f (drop 1 words)) given else if test i then said (codes "pcre2test: not built") 1 else said (codes "unknown tool") 2);
-    }
-    by_test false test = record {
-      asks = other-asks (f tool) (map f (drop 1 words)) other;
-      says = λ given. (λ i. if other i then text_of (map f (drop 1 words)) given else if test i then said (codes "pcre2test: not built") 1 else said (codes "unknown tool") 2);
-    }
+pub says-other : {A : Type 0} (f : A → List ℕ) (words : List A) (tool : A) → 1 ≤ length words → tool ≡ get_or words 0 tool → is_grep (f tool) ≡ false → is_test (f tool) ≡ false
+    → SaysTo (map f words) (codes "unknown tool") 2
+says-other f words tool some is other test =
+    let rest = map f (take (length words - 1) (drop 1 words)) in
+    subst (λ ws. SaysTo ws (codes "unknown tool") 2) (sym (first-word f words tool some is)) (record {
+      asks = λ contents first last. subst (λ t. AsksIf t (is_test (f tool)) contents first last rest []) (sym other) (subst (λ t. AsksIf false t contents first last rest []) (sym test) refl);
+      says = λ given. (λ i. text_by (other i) (test i) rest given);
+    })
 
 -- it was written
 pub runs-said : (t : Told) (contents : Option Contents) (first last : ℕ) (words : List (List ℕ)) (text : List ℕ) (status result : ℕ) (old new : Printed)
@@ -61,24 +43,34 @@ runs-said t contents first last words text status result old new says runs = let
   ([], says.asks contents first last, ([], tt, subst (λ o. Runs o result old new) (sym (says.says [])) runs)),
 )
 
--- pcre2grep asks for what the words after its name ask for
-pub runs-grep : {A : Type 0} (f : A → List ℕ) (words : List A) (tool : A) (contents : Option Contents) (first last : ℕ) (before after : Told) (result : ℕ) (old new : Printed)
-    → 1 ≤ length words → tool ≡ get_or words 0 tool → is_grep (f tool) ≡ true
-    → (heard : Input) × Hears before after heard × ((asked : List Target) × AsksFor contents first last (map f (take (length words - 1) (drop 1 words))) asked
-    × ((given : List Asked) × StandFor contents heard asked given × Runs (text_of (map f (take (length words - 1) (drop 1 words))) given) result old new))
-    → (heard : Input) × Hears before after heard × ((asked : List Target) × ToolAsks contents first last (map f words) asked
-    × ((given : List Asked) × StandFor contents heard asked given × Runs (tool_text (map f words) given) result old new))
-runs-grep f words tool contents first last before after result old new some is named runs =
-    let after_name = map f (drop 1 words) in
-    let all : map f (take (length words - 1) (drop 1 words)) ≡ after_name = ap (map f) (take_all (length words - 1) (drop 1 words) (omega (arith, length-drop 1 words))) in
-    let asked = runs.2.0 in
-    let given = runs.2.2.0 in
-    let whole = sym (first-of f words tool some is) in
-    let asks = subst (λ t. AsksIf t contents first last after_name asked) (sym named) (subst (λ ws. AsksFor contents first last ws asked) all runs.2.1) in
-    let text =
-    subst (λ t. Runs (if t then text_of after_name given else if is_test (f tool) then said (codes "pcre2test: not built") 1 else said (codes "unknown tool") 2) result old new) (sym named)
-    (subst (λ ws. Runs (text_of ws given) result old new) all runs.2.2.2) in (
-      runs.0,
-      runs.1,
-      (asked, subst (λ ws. ToolAsks contents first last ws asked) whole asks, (given, runs.2.2.1, subst (λ ws. Runs (tool_text ws given) result old new) whole text)),
-    )
+-- The words after the tool's name.
+module _ {A : Type 0} (f : A → List ℕ) (words : List A) (tool : A) (some : 1 ≤ length words) (is : tool ≡ get_or words 0 tool) where
+  abbrev after_name : List (List ℕ)
+  after_name = map f (take (length words - 1) (drop 1 words))
+
+  whole : f tool ∷ after_name ≡ map f words
+  whole = sym (first-word f words tool some is)
+
+  module _ (contents : Option Contents) (first last : ℕ) (before after : Told) (result : ℕ) (old new : Printed) where
+    abbrev Found : (List Target → Type 0) → (List Asked → RunOutcome) → Type 0
+    Found asks text =
+        (heard : Input) × Hears before after heard × ((asked : List Target) × asks asked
+        × ((given : List Asked) × StandFor contents heard asked given × Runs (text given) result old new))
+
+    found-whole : Found (ToolAsks contents first last (f tool ∷ after_name)) (tool_text (f tool ∷ after_name)) → Found (ToolAsks contents first last (map f words)) (tool_text (map f words))
+    found-whole found = subst (λ ws. Found (ToolAsks contents first last ws) (tool_text ws)) whole found
+
+    -- pcre2grep asks for what the words after its name ask for
+    pub runs-grep : is_grep (f tool) ≡ true → Found (AsksFor contents first last after_name) (text_of after_name) → Found (ToolAsks contents first last (map f words)) (tool_text (map f words))
+    runs-grep named found =
+        found-whole (subst (λ t. Found (AsksIf t (is_test (f tool)) contents first last after_name) (text_by t (is_test (f tool)) after_name)) (sym named) found)
+
+    -- so does pcre2test
+    pub runs-test : is_grep (f tool) ≡ false → is_test (f tool) ≡ true
+        → (heard : Input) × Hears before after heard × ((given : List Asked) × StandFor contents heard (script.asked_targets after_name) given × Runs (script.text_of after_name given) result old new)
+        → Found (ToolAsks contents first last (map f words)) (tool_text (map f words))
+    runs-test other named found =
+        found-whole
+        (subst (λ t. Found (AsksIf t (is_test (f tool)) contents first last after_name) (text_by t (is_test (f tool)) after_name)) (sym other)
+        (subst (λ t. Found (AsksIf false t contents first last after_name) (text_by false t after_name)) (sym named)
+        (found.0, found.1, (script.asked_targets after_name, refl, found.2))))

@@ -10,6 +10,7 @@ ghost use Rattle.pcre2_tools.specs.ToolText.{is_grep, is_test, tool_text, ToolAs
 
 use grep_run::run_grep;
 use pcre_io::{FileSet, Sink, Source};
+use script_run::run_test;
 use std::alloc::Global;
 use tool_out::say;
 
@@ -56,7 +57,7 @@ pub fn run<F: FileSet, S: Source, O: Sink, E: Sink>(
         return run_grep(alloc, rest, files, input, out, err);
     }
     if is_test(tool.as_str()) {
-        return say(err, b"pcre2test: not built", 1);
+        return run_test(alloc, rest, files, input, out, err);
     }
     say(err, b"unknown tool", 2)
 }

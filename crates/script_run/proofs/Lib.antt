@@ -1,0 +1,4 @@
+pub mod Wording
+pub mod Said
+pub mod Running
+pub mod Ending

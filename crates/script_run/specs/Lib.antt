@@ -1,0 +1,5 @@
+pub mod Words
+pub mod ToolText
+pub mod RunsBy
+pub mod Laws
+pub mod Worked
