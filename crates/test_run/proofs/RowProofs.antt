@@ -17,9 +17,9 @@ use Rattle.token_parts.specs.Settings.{set_by, unset_by, setting_closed, setting
 use Rattle.pat_lex.specs.Verbs.{start_word, closed_word, limit, star_word}
 use Rattle.pat_lex.specs.Groups.{opened_by, named_group, angle, special, group}
 use Rattle.pat_lex.specs.Tokens.{quoted, rest, plain, token_at}
-use Rattle.pat_build.specs.State.{next}
+use Rattle.pat_build.specs.State.{next, item}
 use Rattle.pat_build.specs.Options.{with_setting, with_item}
-use Rattle.pat_build.specs.Classes.{item, range_or_hyphen, from_character, from_set, class_parts, class_spec}
+use Rattle.pat_build.specs.Classes.{range_or_hyphen, from_character, from_set, class_parts, class_spec}
 use Rattle.pat_build.specs.Groups.{opened, captured, named, groups_of, named_by, places_named, missing}
 use Rattle.pat_build.specs.Reading.{quantified, closed, part_then, alternatives_from, sequence, alternatives, whole, started, reading, read_from, read}
 use Rattle.pat_tree.specs.Nested.{trees_after, trees}
