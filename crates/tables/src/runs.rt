@@ -4,7 +4,7 @@
 use super::searching::searched;
 use frame_machine::Scratch;
 use match_drive::MatchAnswer;
-use pat_tree::{MatchOptions, Newline, Options};
+use pat_tree::{MatchOptions, Newline, Options, PartialMode};
 use std::alloc::Global;
 use std::process::Abort;
 use std::test::Fail;
@@ -81,9 +81,10 @@ fn answer(text: Option<(usize, usize)>) -> MatchAnswer {
 
 fn case(rt: &impl Abort, alloc: Global, row: &Row, scratch: &mut Scratch) -> Result<(), Fail> {
     let (pattern, subject, how, text) = *row;
-    assert!(rt; subject.len() < 100 && how.start <= subject.len());
+    assert!(rt; subject.len() < 100);
+    assert!(rt; how.start <= subject.len());
     let matching = MatchOptions {
-        partial: pat_tree::PartialMode::Off,
+        partial: PartialMode::Off,
         ..how.matching
     };
     let (found, _) = searched(
