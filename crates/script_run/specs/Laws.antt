@@ -8,7 +8,8 @@ use Rattle.script_run.specs.declared.words.TestWords.{TestWords}
 use Rattle.script_run.specs.Words.{words_of}
 use Rattle.script_run.specs.ToolText.{text_of}
 
--- The words are accepted, the script is there, it has no fault, and its lines are within the maximum.
+-- The words are accepted, the script is there, it has no fault, and its lines are within the
+-- maximum.
 pub record IsSound (words : List (List ℕ)) (a : Asked) : Type 0 where
   pub asked : TestWords
   pub accepted : words_of words ≡ Some asked

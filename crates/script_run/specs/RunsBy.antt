@@ -1,4 +1,5 @@
--- What a run of pcre2test does: its text → what the sinks grew by, and the status or why it stopped.
+-- What a run of pcre2test does: its text → what the sinks grew by, and the status or why it
+-- stopped.
 use Rattle.std.specs.Prelude.{◌≡◌, ℕ, ◌<◌, Result, Ok, Err, ◌⊎◌}
 use Rattle.std.specs.Io.KnownBytes.{Appends}
 use Rattle.pcre_io.specs.Told.{AppendsPrefix}
