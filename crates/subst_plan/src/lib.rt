@@ -1,0 +1,22 @@
+//! Replacements: what they are read as, and what they write for a match (pcre2api, "Creating a new string with
+//! substitutions").
+#![tactic(auto)]
+
+mod escapes;
+mod expanding;
+mod faults;
+mod forcing;
+mod groups;
+mod pieces;
+mod plan;
+mod reading;
+mod references;
+
+pub use expanding::{expand, expand_into};
+pub use faults::{ExpandError, PlanError};
+pub use groups::{Groups, Lookup};
+pub use pieces::{Case, Forcing, Key, Open, Piece};
+pub use plan::Plan;
+
+#[cfg(test)]
+mod tests;
