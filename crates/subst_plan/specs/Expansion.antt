@@ -55,13 +55,13 @@ group_written rules state None = if rules.unset_empty then Ok ([], state) else E
 
 -- the default of a set group is left out
 abbrev pub default_of : State → Option (List ℕ) → List ℕ × State
-default_of state (Some bytes) = (writing state bytes).0, leaving (writing state bytes).1 1
-default_of state None = [], state
+default_of state (Some bytes) = ((writing state bytes).0, leaving (writing state bytes).1 1)
+default_of state None = ([], state)
 
 -- the first text is left out where the group is unset
 abbrev pub choice_of : State → Option (List ℕ) → List ℕ × State
-choice_of state (Some bytes) = [], state
-choice_of state None = [], leaving state 1
+choice_of state (Some bytes) = ([], state)
+choice_of state None = ([], leaving state 1)
 
 module _ (rules : UnsetRules) (m : Matched) (whole : List ℕ) where
   -- what there is of the group of a piece
@@ -87,7 +87,7 @@ module _ (rules : UnsetRules) (m : Matched) (whole : List ℕ) where
   piece_written state piece.Close = Ok ([], state)
 
   -- what a piece writes, and how far the expansion has come after it
-  unfoldable pub piece_expanded : State → Piece → Result (List ℕ × State) ExpandError
+  abbrev pub piece_expanded : State → Piece → Result (List ℕ × State) ExpandError
   piece_expanded state p =
       if state.left_out == 0 then piece_written state p
       else Ok ([], leaving state (left_out_after p state.left_out))
@@ -101,6 +101,9 @@ module _ (rules : UnsetRules) (m : Matched) (whole : List ℕ) where
 -- no case is forced at the begin of an expansion
 abbrev pub beginning : State
 beginning = record { forcing = Off; left_out = 0 }
+
+abbrev pub rules_of : Bool → Bool → UnsetRules
+rules_of unset_empty unknown_unset = record { unset_empty = unset_empty; unknown_unset = unknown_unset }
 
 -- what a replacement writes for a match
 abbrev pub expansion : UnsetRules → Matched → Replacement → Result (List ℕ) ExpandError

@@ -1,13 +1,13 @@
 -- A replacement as a whole (pcre2api, "Creating a new string with substitutions").
-use Rattle.std.specs.Prelude.{ℕ, zero, suc, ◌+◌, ◌-◌, ◌<◌, ◌≤◌, ⊤, Bool, nat_lt, List, [], ◌∷◌, ◌++◌, length, take, Option, Result, Ok, Err, slice_get, ◌≡◌, if◌then◌else◌}
+use Rattle.std.specs.Prelude.{ℕ, zero, suc, ◌+◌, ◌-◌, ◌<◌, ◌≤◌, ⊤, Bool, nat_lt, List, [], ◌∷◌, ◌++◌, length, take, Option, Result, Ok, Err, slice_get, slice_index, ◌≡◌, if◌then◌else◌}
 use Rattle.token_parts.specs.Tell.{IsPart}
 use Rattle.subst_plan.specs.declared.faults.PlanError.{PlanError}
 use Rattle.subst_plan.specs.declared.faults.PlanError.TheVariants as fault
 use Rattle.subst_plan.specs.declared.faults.PlanError.TheVariants.{BadReplacement, BadEscape, MissingBrace, BadSyntax}
 use Rattle.subst_plan.specs.declared.pieces.Key.{Key}
 use Rattle.subst_plan.specs.declared.pieces.Key.TheVariants.{Name}
-use Rattle.subst_plan.specs.declared.pieces.Open.{Open}
-use Rattle.subst_plan.specs.declared.pieces.Open.TheVariants.{First, Last}
+use Rattle.subst_plan.specs.declared.pieces.Inner.{Inner}
+use Rattle.subst_plan.specs.declared.pieces.Inner.TheVariants.{First, Last}
 use Rattle.subst_plan.specs.declared.pieces.Piece.{Piece}
 use Rattle.subst_plan.specs.declared.pieces.Piece.TheVariants.{Text, Group, Default, Choice, Else, Close}
 use Rattle.subst_plan.specs.Reading.{◌>>=◌, piece_at}
@@ -18,26 +18,26 @@ pub record Replacement : Type 0 where
   pub pieces : List Piece
 
 -- the inner texts that are open, the innermost last
-abbrev pub innermost : List Open → Option Open
-innermost open = slice_get open (length open - 1)
+abbrev pub innermost : List Inner → Option Inner
+innermost nest = slice_get nest (length nest - 1)
 
-abbrev pub outer : List Open → List Open
-outer open = take (length open - 1) open
+abbrev pub outer : List Inner → List Inner
+outer nest = take (length nest - 1) nest
 
 -- one more text is opened, of at most 20
-abbrev pub opened : Open → List Open → Result (List Open) PlanError
-opened text open = if nat_lt (length open) 20 then Ok (open ++ text ∷ []) else Err BadSyntax
+abbrev pub opened : Inner → List Inner → Result (List Inner) PlanError
+opened text nest = if nat_lt (length nest) 20 then Ok (nest ++ text ∷ []) else Err BadSyntax
 
 -- the texts that are open after a piece
-abbrev pub open_after : Piece → List Open → Result (List Open) PlanError
-open_after (Default key) open = opened Last open
-open_after (Choice key) open = opened First open
-open_after Else open = Ok (outer open ++ Last ∷ [])
-open_after Close open = Ok (outer open)
-open_after _ open = Ok open
+abbrev pub nest_after : Piece → List Inner → Result (List Inner) PlanError
+nest_after (Default key) nest = opened Last nest
+nest_after (Choice key) nest = opened First nest
+nest_after Else nest = Ok (outer nest ++ Last ∷ [])
+nest_after Close nest = Ok (outer nest)
+nest_after _ nest = Ok nest
 
 -- where the text ends no inner text is open
-abbrev pub ended : List Open → Result (List Piece) PlanError
+abbrev pub ended : List Inner → Result (List Piece) PlanError
 ended [] = Ok []
 ended (_ ∷ _) = Err MissingBrace
 
@@ -48,19 +48,15 @@ before first (Err e) = Err e
 
 module _ (extended utf : Bool) (text : List ℕ) where
   -- what is read at a place where the text goes on
-  abbrev pub next_piece : List Open → ℕ → Result (Piece × ℕ) PlanError
-  next_piece open at = elim (slice_get text at) [
-    | None ↦ Err MissingBrace
-    | Some c ↦ piece_at text extended utf (innermost open) c at
-  ]
+  abbrev pub next_piece : List Inner → ℕ → Result (Piece × ℕ) PlanError
+  next_piece nest at = piece_at text extended utf (innermost nest) (slice_index text at) at
 
   -- The pieces from a place on, where these inner texts are open. At most so many are read, and each has a byte.
-  abbrev pub pieces_from : ℕ → List Open → ℕ → Result (List Piece) PlanError
-  pieces_from zero open at = Ok []
-  pieces_from (suc n) open at =
-      if nat_lt at (length text) then
-        next_piece open at >>= λ found. open_after found.0 open >>= λ inner. before (found.0 ∷ []) (pieces_from n inner found.1)
-      else ended open
+  abbrev pub pieces_from : ℕ → List Inner → ℕ → Result (List Piece) PlanError
+  pieces_from zero nest at = Ok []
+  pieces_from (suc n) nest at =
+      if nat_lt at (length text) then (next_piece nest at >>= λ found. nest_after found.0 nest >>= λ deeper. before (found.0 ∷ []) (pieces_from n deeper found.1))
+      else ended nest
 
   -- the pieces of a whole text
   unfoldable pub pieces_of : Result (List Piece) PlanError

@@ -1,8 +1,10 @@
 -- The pieces of a replacement (pcre2api, "Creating a new string with substitutions"). A place is a number of bytes from the
 -- replacement's begin. Each form is refused at its first byte, but a missing `}` where it is missing.
-use Rattle.std.specs.Prelude.{ℕ, zero, suc, ◌+◌, ◌-◌, min, Bool, true, false, not, ◌&&◌, ◌||◌, ◌==◌, nat_lt, nat_le, List, [], ◌∷◌, ◌++◌, length, take, drop, Option, Some, None, Result, Ok, Err, slice_get, IfSome, if◌then◌else◌}
+use Rattle.std.specs.Prelude.{ℕ, zero, suc, ◌+◌, ◌-◌, min, Bool, true, false, not, ◌&&◌, ◌||◌, ◌==◌, nat_lt, nat_le, List, [], ◌∷◌, ◌++◌, length, take, drop, Option, Some, None, Result, Ok, Err, slice_get, if◌then◌else◌}
+use Rattle.std.specs.Option.{option_and_then}
 use Rattle.std.specs.Int.{is_in_range}
 use Rattle.std.specs.Char.{is_ascii_alphanumeric}
+use Rattle.token_parts.specs.declared.token.Token.{Token}
 use Rattle.token_parts.specs.declared.token.Token.TheVariants.{Literal}
 use Rattle.token_parts.specs.declared.token.LexFlags.{LexFlags}
 use Rattle.pat_tree.specs.declared.options.Newline.TheVariants.{Lf}
@@ -16,8 +18,8 @@ use Rattle.subst_plan.specs.declared.pieces.Key.TheVariants.{Number, Name, NoGro
 use Rattle.subst_plan.specs.declared.pieces.Forcing.{Forcing}
 use Rattle.subst_plan.specs.declared.pieces.Forcing.TheVariants.{Off, All, Next}
 use Rattle.subst_plan.specs.declared.pieces.Case.TheVariants.{Upper, Lower}
-use Rattle.subst_plan.specs.declared.pieces.Open.{Open}
-use Rattle.subst_plan.specs.declared.pieces.Open.TheVariants.{First, Last}
+use Rattle.subst_plan.specs.declared.pieces.Inner.{Inner}
+use Rattle.subst_plan.specs.declared.pieces.Inner.TheVariants.{First, Last}
 use Rattle.subst_plan.specs.declared.pieces.Piece.{Piece}
 use Rattle.subst_plan.specs.declared.pieces.Piece.TheVariants.{Text, Byte, Char, Group, Mark, Force, Default, Choice, Else, Close}
 
@@ -61,15 +63,23 @@ abbrev pub is_scalar : ℕ → Bool
 is_scalar code = nat_lt code 0xD800 || is_in_range 0xE000 0x10_FFFF code
 
 -- a character by its code
-abbrev pub character : Bool → ℕ → ℕ → Read Piece
-character utf code to =
-    if utf then (if is_scalar code then Ok (Char code, to) else Err BadEscape)
-    else if nat_le code 255 then Ok (Byte code, to)
-    else Err BadEscape
+abbrev pub character : Bool → ℕ → Option Piece
+character utf code =
+    if utf then (if is_scalar code then Some (Char code) else None)
+    else if nat_le code 255 then Some (Byte code)
+    else None
 
+abbrev pub literal_of : Token → Option ℕ
+literal_of (Literal code) = Some code
+literal_of _ = None
+
+abbrev pub character_read : Option Piece → ℕ → Read Piece
+character_read (Some piece) to = Ok (piece, to)
+character_read None to = Err BadEscape
+
+-- a code that was read as in a pattern
 abbrev pub code_read : Bool → Lexed → Read Piece
-code_read utf (Ok (Literal code, to)) = character utf code to
-code_read utf (Ok (_, to)) = Err BadEscape
+code_read utf (Ok lexed) = character_read (option_and_then (character utf) (literal_of lexed.0)) lexed.1
 code_read utf (Err fault) = Err BadEscape
 
 -- how codes are read: as in a pattern
@@ -77,22 +87,22 @@ abbrev pub code_flags : Bool → LexFlags
 code_flags utf = record { utf = utf; extended = false; extended_more = false; quoting = false; in_class = false; newline = Lf; groups = 0 }
 
 -- what ends the text that is open
-abbrev pub closes : Option Open → ℕ → Bool
+abbrev pub closes : Option Inner → ℕ → Bool
 closes None c = false
-closes (Some open) c = c ∈ "}"
+closes (Some inner) c = c ∈ "}"
 
-abbrev pub parts : Option Open → ℕ → Bool
+abbrev pub parts : Option Inner → ℕ → Bool
 parts (Some First) c = c ∈ ":"
 parts _ c = false
 
 -- a byte that doesn't stand for itself
-abbrev pub is_special : Bool → Option Open → ℕ → Bool
-is_special extended open c = c ∈ "$" || (extended && c ∈ "\\" || (parts open c || closes open c))
+abbrev pub is_special : Bool → Option Inner → ℕ → Bool
+is_special extended inner c = c ∈ "$" || (extended && c ∈ "\\" || (parts inner c || closes inner c))
 
 -- how many bytes stand before `\E`
 abbrev pub quoted_len : List ℕ → ℕ
 quoted_len [] = 0
-quoted_len (c ∷ rest) = if c ∈ "\\" && is_at rest "E" 0 then 0 else suc (quoted_len rest)
+quoted_len (c ∷ rest) = if begins (c ∷ rest) "\\E" 0 then 0 else suc (quoted_len rest)
 
 module _ (text : List ℕ) where
   -- a number, with all its digits, or a name of at most 32 bytes
@@ -101,7 +111,7 @@ module _ (text : List ℕ) where
       let digits = digits_end text 10 at in
       let word = run_end text is_word_byte at in
       if nat_lt at digits then Ok (key_of (numeral text 10 at digits), digits)
-      else if nat_lt at word && nat_le word (at + 32) then Ok (Name at word, word)
+      else if nat_lt at word && nat_le (word - at) 32 then Ok (Name at word, word)
       else Err BadReplacement
 
   -- whether `*MARK` stands at a place, as a whole word
@@ -120,9 +130,9 @@ module _ (text : List ℕ) where
   unfoldable pub after_key : Bool → Key → ℕ → Read Piece
   after_key extended key to =
       if extended && is_at text ":" to then
-        if is_at text "-" (to + 1) then Ok (Default key, to + 2)
-        else if is_at text "+" (to + 1) then Ok (Choice key, to + 2)
-        else Err BadSyntax
+      if is_at text "-" (to + 1) then Ok (Default key, to + 2)
+      else if is_at text "+" (to + 1) then Ok (Choice key, to + 2)
+      else Err BadSyntax
       else closed (Group key) to
 
   -- `${x`, from the place after the brace
@@ -150,27 +160,27 @@ module _ (text : List ℕ) where
   escape utf at = elim (slice_get text (at + 1)) [
     | None ↦ Err BadEscape
     | Some c ↦ elim (control_of c) [
-        | Some b ↦ Ok (Byte b, at + 2)
-        | None ↦ elim (forcing_of c) [
-            | Some forcing ↦ Ok (Force forcing, at + 2)
-            | None ↦
-                if c ∈ "Q" then quoted (at + 2)
-                else if c ∈ "xo" then code_read utf (coded text (code_flags utf) c at)
-                else if is_ascii_alphanumeric c then Err BadEscape
-                else Ok (Text (at + 1) (at + 2), at + 2)
-          ]
+      | Some b ↦ Ok (Byte b, at + 2)
+      | None ↦ elim (forcing_of c) [
+        | Some forcing ↦ Ok (Force forcing, at + 2)
+        | None ↦
+            if c ∈ "Q" then quoted (at + 2)
+            else if c ∈ "xo" then code_read utf (coded text (code_flags utf) c at)
+            else if is_ascii_alphanumeric c then Err BadEscape
+            else Ok (Text (at + 1) (at + 2), at + 2)
       ]
+    ]
   ]
 
   -- the bytes up to the next one that doesn't stand for itself
-  abbrev pub plain_end : Bool → Option Open → ℕ → ℕ
-  plain_end extended open from = run_end text (λ c. not (is_special extended open c)) from
+  abbrev pub plain_end : Bool → Option Inner → ℕ → ℕ
+  plain_end extended inner from = run_end text (λ c. not (is_special extended inner c)) from
 
   -- the piece that begins with this byte at a place, in the text that is open
-  unfoldable pub piece_at : Bool → Bool → Option Open → ℕ → ℕ → Read Piece
-  piece_at extended utf open c at =
+  unfoldable pub piece_at : Bool → Bool → Option Inner → ℕ → ℕ → Read Piece
+  piece_at extended utf inner c at =
       if c ∈ "$" then reference extended at
       else if extended && c ∈ "\\" then escape utf at
-      else if parts open c then Ok (Else, at + 1)
-      else if closes open c then Ok (Close, at + 1)
-      else let to = plain_end extended open at in Ok (Text at to, to)
+      else if parts inner c then Ok (Else, at + 1)
+      else if closes inner c then Ok (Close, at + 1)
+      else let to = plain_end extended inner (at + 1) in Ok (Text at to, to)

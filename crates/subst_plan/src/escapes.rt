@@ -1,12 +1,14 @@
 //! What a backslash begins (pcre2api, "Creating a new string with substitutions"; pcre2pattern, "Backslash").
-ghost use Rattle.std.specs.Prelude.{◌≡◌, ◌+◌, ◌<◌, ◌≤◌, List, ℕ, length, IfOk, Ok};
-ghost use Rattle.subst_plan.specs.Reading.{control_of, forcing_of, character, code_read, code_flags, quote_end, quoted, escape};
+ghost use Rattle.std.specs.Prelude.{◌≡◌, ◌+◌, ◌<◌, ◌≤◌, List, ℕ, length, IfOk, IfSome, Ok};
+ghost use Rattle.token_parts.specs.Bytes.{begins};
+ghost use Rattle.token_parts.specs.Codes.{coded};
+ghost use Rattle.subst_plan.specs.Reading.{control_of, forcing_of, character, literal_of, code_read, code_flags, quote_end, quoted, escape};
 ghost use Rattle.subst_plan.specs.Plans.{IsIn, IsAfter};
 
 use crate::faults::PlanError;
 use crate::pieces::{Case, Forcing, Piece};
 use pat_tree::Newline;
-use token_parts::{LexFlags, Lexed, Token, byte, coded, stands};
+use token_parts::{LexFlags, Token, byte, coded};
 
 /// The control character that a letter writes.
 fn control_of(c: u8) -> Option<u8>
@@ -38,21 +40,30 @@ fn forcing_of(c: u8) -> Option<Forcing>
 }
 
 /// A character by its code, in UTF in its encoding.
-fn character(utf: bool, code: u32, to: usize) -> Result<(Piece, usize), PlanError>
-    ensures value { result ≡ character utf code to }
-    ensures place { IfOk result (λ found. found.1 ≡ to) }
-    ensures within { (text : List ℕ) → IfOk result (λ found. IsIn text found.0) }
+fn character(utf: bool, code: u32) -> Option<Piece>
+    ensures value { result ≡ character utf code }
+    ensures within { IfSome result (λ piece. (text : List ℕ) → IsIn text piece) }
 {
     if utf {
         match char::from_u32(code) {
-            Some(c) => Ok((Piece::Char(c), to)),
-            None => Err(PlanError::BadEscape),
+            Some(c) => Some(Piece::Char(c)),
+            None => None,
         }
     } else {
         match u8::try_from(code) {
-            Ok(b) => Ok((Piece::Byte(b), to)),
-            Err(_) => Err(PlanError::BadEscape),
+            Ok(b) => Some(Piece::Byte(b)),
+            Err(_) => None,
         }
+    }
+}
+
+/// The code of a token that is a character.
+fn literal_of(token: Token) -> Option<u32>
+    ensures { result ≡ literal_of token }
+{
+    match token {
+        Token::Literal(code) => Some(code),
+        _ => None,
     }
 }
 
@@ -71,17 +82,34 @@ fn code_flags(utf: bool) -> LexFlags
     }
 }
 
-/// A code that was read as in a pattern.
-fn code_read(utf: bool, lexed: Lexed) -> Result<(Piece, usize), PlanError>
-    ensures { result ≡ code_read utf lexed }
+/// `\x` or `\o` at a place, by its letter, as in a pattern.
+fn code_at(text: &[u8], utf: bool, c: u8, at: usize) -> Result<(Piece, usize), PlanError>
+    requires { at + 2 ≤ length text.now }
+    ensures value { result ≡ code_read utf (coded text.now (code_flags utf) c at) }
+    ensures place { IfOk result (IsAfter text.now at) }
 {
-    match lexed {
-        Ok((Token::Literal(code), to)) => character(utf, code, to),
-        _ => Err(PlanError::BadEscape),
+    let Ok((token, to)) = coded(text, code_flags(utf), c, at) else {
+        return Err(PlanError::BadEscape);
+    };
+    let Some(code) = literal_of(token) else {
+        return Err(PlanError::BadEscape);
+    };
+    match character(utf, code) {
+        Some(piece) => Ok((piece, to)),
+        None => Err(PlanError::BadEscape),
     }
 }
 
+/// Whether `\E` stands at a place.
+fn is_ending(text: &[u8], at: usize) -> bool
+    requires { at ≤ length text.now }
+    ensures { result ≡ begins text.now "\\E" at }
+{
+    text[at..].starts_with(b"\\E".as_slice())
+}
+
 /// Where a quoted text ends that begins at a place: at `\E` or at the end.
+#[tactic(auto, using(crate::proofs::Runs::quote_here, crate::proofs::Runs::quote_later, crate::proofs::Runs::quote_all))]
 fn quote_end(text: &[u8], from: usize) -> usize
     requires { from ≤ length text.now }
     ensures value { result ≡ quote_end text.now from }
@@ -89,7 +117,7 @@ fn quote_end(text: &[u8], from: usize) -> usize
     ensures within { result ≤ length text.now }
 {
     for i in from..text.len() {
-        if text[i] == b'\\' && stands(text, b'E', i + 1) {
+        if is_ending(text, i) {
             return i;
         }
     }
@@ -125,7 +153,7 @@ pub fn escape(text: &[u8], utf: bool, at: usize) -> Result<(Piece, usize), PlanE
     }
     match c {
         b'Q' => Ok(quoted(text, at + 2)),
-        b'x' | b'o' => code_read(utf, coded(text, code_flags(utf), c, at)),
+        b'x' | b'o' => code_at(text, utf, c, at),
         _ if c.is_ascii_alphanumeric() => Err(PlanError::BadEscape),
         _ => {
             let piece = Piece::Text {

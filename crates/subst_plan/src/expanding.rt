@@ -1,10 +1,11 @@
 //! What a replacement writes for a match.
-ghost use Rattle.std.specs.Prelude.{◌≡◌, ◌≢◌, ◌++◌, ◌+◌, ◌<◌, ◌^◌, encode_utf8, IfOk, IfErr, OnOk, Ok, Err};
+ghost use Rattle.std.specs.Prelude.{◌≡◌, ◌≢◌, ◌++◌, [], ◌+◌, ◌<◌, ◌≤◌, ◌^◌, encode_utf8, IfOk, IfErr, OnOk, Ok, Err};
+ghost use Rattle.std.specs.List.{All};
 ghost use Rattle.std.specs.Option.{option_copied};
 ghost use Rattle.subst_plan.specs.Matched.{Matched};
 ghost use Rattle.subst_plan.specs.Lookups.{seen};
 ghost use Rattle.subst_plan.specs.Plans.{IsIn, IsKeyIn};
-ghost use Rattle.subst_plan.specs.Expansion.{after, set_text, group_text, group_written, default_of, left_out_after, writing, piece_written, expansion, Expands, Refuses};
+ghost use Rattle.subst_plan.specs.Expansion.{after, set_text, group_text, group_written, default_of, choice_of, left_out_after, writing, piece_written, piece_expanded, beginning, expanded_from, rules_of, expansion, Expands, Refuses};
 
 use crate::faults::ExpandError;
 use crate::forcing::push_forced;
@@ -34,8 +35,8 @@ pub struct State {
 /// A group's text if it is set.
 fn set_text(rules: UnsetRules, lookup: Lookup<'_>) -> Result<Option<&[u8]>, ExpandError>
     ensures found { IfOk result (λ found.
-        set_text rules (seen lookup) ≡ Ok (option_copied found)) }
-    ensures refused { IfErr result (λ e. set_text rules (seen lookup) ≡ Err e) }
+        set_text rules (seen lookup.entry) ≡ Ok (option_copied found)) }
+    ensures refused { IfErr result (λ e. set_text rules (seen lookup.entry) ≡ Err e) }
 {
     match lookup {
         Lookup::Text(text) => Ok(Some(text)),
@@ -68,7 +69,8 @@ fn group_text<'a, G: Groups>(
 
 /// Adds bytes in the case that is forced.
 fn push_text(out: &mut Vec<u8>, state: State, bytes: &[u8]) -> Result<State, ExpandError>
-    ensures { Expands out.old.items out.new.items (Ok (writing state bytes.now)) result }
+    ensures value { Expands out.old.items out.new.items (Ok (writing state bytes.now)) result }
+    ensures open { IfOk result (λ after. after.left_out ≡ state.left_out) }
 {
     let forcing = push_forced(out, state.forcing, bytes)?;
     Ok(State { forcing, ..state })
@@ -76,7 +78,9 @@ fn push_text(out: &mut Vec<u8>, state: State, bytes: &[u8]) -> Result<State, Exp
 
 /// Adds a character in UTF-8.
 fn push_char(out: &mut Vec<u8>, state: State, c: char) -> Result<State, ExpandError>
-    ensures { Expands out.old.items out.new.items (Ok (writing state (encode_utf8 c))) result }
+    ensures value { Expands out.old.items out.new.items
+        (Ok (writing state (encode_utf8 c))) result }
+    ensures open { IfOk result (λ after. after.left_out ≡ state.left_out) }
 {
     let mut room = [0; 4];
     push_text(out, state, c.encode_utf8(&mut room).as_bytes())
@@ -89,8 +93,9 @@ fn push_group(
     state: State,
     found: Option<&[u8]>,
 ) -> Result<State, ExpandError>
-    ensures { Expands out.old.items out.new.items
-        (group_written rules state (option_copied found)) result }
+    ensures value { Expands out.old.items out.new.items
+        (group_written rules state (option_copied found.entry)) result }
+    ensures open { IfOk result (λ after. after.left_out ≡ state.left_out) }
 {
     match found {
         Some(bytes) => push_text(out, state, bytes),
@@ -101,18 +106,31 @@ fn push_group(
 
 /// Adds a group's text and leaves out its default, or comes to the default of an unset group.
 fn push_default(out: &mut Vec<u8>, state: State, found: Option<&[u8]>) -> Result<State, ExpandError>
-    ensures { Expands out.old.items out.new.items
-        (Ok (default_of state (option_copied found))) result }
+    ensures value { Expands out.old.items out.new.items
+        (Ok (default_of state (option_copied found.entry))) result }
+    ensures open { IfOk result (λ after. after.left_out ≤ state.left_out + 1) }
+{
+    let Some(bytes) = found else {
+        return Ok(state);
+    };
+    let written = push_text(out, state, bytes)?;
+    Ok(State {
+        left_out: 1,
+        ..written
+    })
+}
+
+/// Comes to the first of two texts where the group is set, else leaves it out.
+fn choose(state: State, found: Option<&[u8]>) -> State
+    ensures value { choice_of state (option_copied found.entry) ≡ ([], result) }
+    ensures open { result.left_out ≤ state.left_out + 1 }
 {
     match found {
-        Some(bytes) => {
-            let written = push_text(out, state, bytes)?;
-            Ok(State {
-                left_out: 1,
-                ..written
-            })
-        }
-        None => Ok(state),
+        Some(_) => state,
+        None => State {
+            left_out: 1,
+            ..state
+        },
     }
 }
 
@@ -126,22 +144,28 @@ fn push_piece<G: Groups>(
     piece: Piece,
 ) -> Result<State, ExpandError>
     requires { IsIn text.now piece }
-    ensures { Expands out.old.items out.new.items
+    ensures value { Expands out.old.items out.new.items
         (piece_written rules (G.means groups.now) text.now state piece) result }
+    ensures open { IfOk result (λ after. after.left_out ≤ state.left_out + 1) }
 {
     match piece {
         Piece::Text { from, to } => push_text(out, state, &text[from..to]),
         Piece::Byte(b) => push_text(out, state, [b].as_slice()),
         Piece::Char(c) => push_char(out, state, c),
-        Piece::Group(key) => push_group(out, rules, state, group_text(groups, rules, text, key)?),
         Piece::Mark => push_text(out, state, groups.mark()),
-        Piece::Force(forcing) => Ok(State { forcing, ..state }),
-        Piece::Default(key) => push_default(out, state, group_text(groups, rules, text, key)?),
+        Piece::Group(key) => {
+            let found = group_text(groups, rules, text, key)?;
+            push_group(out, rules, state, found)
+        }
+        Piece::Default(key) => {
+            let found = group_text(groups, rules, text, key)?;
+            push_default(out, state, found)
+        }
         Piece::Choice(key) => {
             let found = group_text(groups, rules, text, key)?;
-            let left_out = if found.is_some() { 0 } else { 1 };
-            Ok(State { left_out, ..state })
+            Ok(choose(state, found))
         }
+        Piece::Force(forcing) => Ok(State { forcing, ..state }),
         Piece::Else => Ok(State {
             left_out: 1,
             ..state
@@ -153,7 +177,8 @@ fn push_piece<G: Groups>(
 /// Where a text is left out, how many are open after a piece of it.
 fn left_out_after(piece: Piece, left_out: usize) -> usize
     requires { left_out + 1 < 2 ^ 64 }
-    ensures { result ≡ left_out_after piece left_out }
+    ensures value { result ≡ left_out_after piece left_out }
+    ensures open { result ≤ left_out + 1 }
 {
     match piece {
         Piece::Default(_) | Piece::Choice(_) => left_out + 1,
@@ -161,6 +186,54 @@ fn left_out_after(piece: Piece, left_out: usize) -> usize
         Piece::Close => left_out.saturating_sub(1),
         _ => left_out,
     }
+}
+
+/// Adds what a piece writes, unless it is left out.
+fn push_unless_left_out<G: Groups>(
+    out: &mut Vec<u8>,
+    groups: &G,
+    rules: UnsetRules,
+    text: &[u8],
+    state: State,
+    piece: Piece,
+) -> Result<State, ExpandError>
+    requires piece { IsIn text.now piece }
+    requires room { state.left_out + 1 < 2 ^ 64 }
+    ensures value { Expands out.old.items out.new.items
+        (piece_expanded rules (G.means groups.now) text.now state piece) result }
+    ensures open { IfOk result (λ after. after.left_out ≤ state.left_out + 1) }
+{
+    if state.left_out == 0 {
+        push_piece(out, groups, rules, text, state, piece)
+    } else {
+        let left_out = left_out_after(piece, state.left_out);
+        Ok(State { left_out, ..state })
+    }
+}
+
+/// Adds what pieces write.
+fn push_pieces<G: Groups>(
+    out: &mut Vec<u8>,
+    groups: &G,
+    rules: UnsetRules,
+    text: &[u8],
+    pieces: &[Piece],
+) -> Result<(), ExpandError>
+    requires { All (IsIn text.now) pieces.now }
+    ensures written { OnOk result (after out.old.items
+        (expanded_from rules (G.means groups.now) text.now beginning pieces.now)
+        ≡ Ok out.new.items) }
+    ensures refused { IfErr result (Refuses
+        (expanded_from rules (G.means groups.now) text.now beginning pieces.now)) }
+{
+    let mut state = State {
+        forcing: Forcing::Off,
+        left_out: 0,
+    };
+    for piece in pieces {
+        state = push_unless_left_out(out, groups, rules, text, state, *piece)?;
+    }
+    Ok(())
 }
 
 /// Adds what a replacement writes for a match (pcre2api, "Creating a new string with substitutions"). Refused is the
@@ -174,31 +247,16 @@ pub fn expand_into<G: Groups>(
     out: &mut Vec<u8>,
 ) -> Result<(), ExpandError>
     ensures written { OnOk result (after out.old.items
-        (expansion (record { unset_empty = unset_empty; unknown_unset = unknown_unset })
-        (G.means groups.now) plan.now) ≡ Ok out.new.items) }
+        (expansion (rules_of unset_empty unknown_unset) (G.means groups.now) plan.now)
+        ≡ Ok out.new.items) }
     ensures refused { IfErr result (Refuses
-        (expansion (record { unset_empty = unset_empty; unknown_unset = unknown_unset })
-        (G.means groups.now) plan.now)) }
+        (expansion (rules_of unset_empty unknown_unset) (G.means groups.now) plan.now)) }
 {
     let rules = UnsetRules {
         unset_empty,
         unknown_unset,
     };
-    let mut state = State {
-        forcing: Forcing::Off,
-        left_out: 0,
-    };
-    let text = plan.text();
-    let pieces = plan.pieces();
-    for i in 0..pieces.len() {
-        let piece = pieces[i];
-        if state.left_out > 0 {
-            state.left_out = left_out_after(piece, state.left_out);
-        } else {
-            state = push_piece(out, groups, rules, text, state, piece)?;
-        }
-    }
-    Ok(())
+    push_pieces(out, groups, rules, plan.text(), plan.pieces())
 }
 
 /// What a replacement writes for a match.
@@ -210,11 +268,10 @@ pub fn expand<G: Groups>(
     unknown_unset: bool,
 ) -> Result<Vec<u8>, ExpandError>
     ensures written { IfOk result (λ out.
-        expansion (record { unset_empty = unset_empty; unknown_unset = unknown_unset })
-        (G.means groups.now) plan.now ≡ Ok out.items) }
+        expansion (rules_of unset_empty unknown_unset) (G.means groups.now) plan.now
+        ≡ Ok out.items) }
     ensures refused { IfErr result (Refuses
-        (expansion (record { unset_empty = unset_empty; unknown_unset = unknown_unset })
-        (G.means groups.now) plan.now)) }
+        (expansion (rules_of unset_empty unknown_unset) (G.means groups.now) plan.now)) }
 {
     let mut out = Vec::new(alloc);
     expand_into(plan, groups, unset_empty, unknown_unset, &mut out)?;

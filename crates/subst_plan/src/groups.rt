@@ -32,5 +32,5 @@ pub trait Groups {
         ensures { result.now ≡ (means self.now).mark };
 
     /// Each name is one of a group.
-    ghost named: { (g : Self) → names_are_of_groups (means g) ≡ true };
+    ghost of_groups: { (g : Self) → names_are_of_groups (means g) ≡ true };
 }

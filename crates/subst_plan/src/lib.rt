@@ -15,7 +15,7 @@ mod references;
 pub use expanding::{expand, expand_into};
 pub use faults::{ExpandError, PlanError};
 pub use groups::{Groups, Lookup};
-pub use pieces::{Case, Forcing, Key, Open, Piece};
+pub use pieces::{Case, Forcing, Inner, Key, Piece};
 pub use plan::Plan;
 
 #[cfg(test)]

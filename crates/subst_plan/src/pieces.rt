@@ -31,7 +31,7 @@ pub enum Forcing {
 
 /// A text inside `${x:..}` that is open.
 #[derive(Clone, Copy, Debug, PartialEq, Eq)]
-pub enum Open {
+pub enum Inner {
     /// The first of two: `:` or `}` ends it.
     First,
     /// The last: `}` ends it.

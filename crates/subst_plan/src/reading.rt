@@ -2,11 +2,11 @@
 ghost use Rattle.std.specs.Prelude.{◌≡◌, ◌≢◌, ◌+◌, ◌<◌, ◌≤◌, true, false, length, slice_index, OnOk, IfOk, IfErr};
 ghost use Rattle.std.specs.List.{All};
 ghost use Rattle.subst_plan.specs.Reading.{parts, closes, is_special, plain_end, piece_at};
-ghost use Rattle.subst_plan.specs.Plans.{innermost, outer, opened, open_after, pieces_of, IsIn, IsAfter, Refuses};
+ghost use Rattle.subst_plan.specs.Plans.{innermost, outer, opened, nest_after, pieces_of, IsIn, IsAfter, Refuses};
 
 use crate::escapes::escape;
 use crate::faults::PlanError;
-use crate::pieces::{Open, Piece};
+use crate::pieces::{Inner, Piece};
 use crate::references::reference;
 use std::alloc::Global;
 
@@ -14,36 +14,36 @@ use std::alloc::Global;
 const DEEPEST: usize = 20;
 
 /// Whether a byte parts the open text from a second one.
-fn parts(open: Option<Open>, c: u8) -> bool
-    ensures { result ≡ parts open c }
+fn parts(inner: Option<Inner>, c: u8) -> bool
+    ensures { result ≡ parts inner c }
 {
-    matches!(open, Some(Open::First)) && c == b':'
+    matches!(inner, Some(Inner::First)) && c == b':'
 }
 
 /// Whether a byte closes the open text.
-fn closes(open: Option<Open>, c: u8) -> bool
-    ensures { result ≡ closes open c }
+fn closes(inner: Option<Inner>, c: u8) -> bool
+    ensures { result ≡ closes inner c }
 {
-    open.is_some() && c == b'}'
+    inner.is_some() && c == b'}'
 }
 
 /// Whether a byte doesn't stand for itself.
-fn is_special(extended: bool, open: Option<Open>, c: u8) -> bool
-    ensures { result ≡ is_special extended open c }
+fn is_special(extended: bool, inner: Option<Inner>, c: u8) -> bool
+    ensures { result ≡ is_special extended inner c }
 {
-    c == b'$' || (extended && c == b'\\') || parts(open, c) || closes(open, c)
+    c == b'$' || (extended && c == b'\\') || parts(inner, c) || closes(inner, c)
 }
 
 /// The place of the next byte that doesn't stand for itself, or the end.
-fn plain_end(text: &[u8], extended: bool, open: Option<Open>, from: usize) -> usize
-    requires { from < length text.now }
-    ensures value { result ≡ plain_end text.now extended open from }
-    ensures past { is_special extended open (slice_index text.now from) ≡ false → from < result }
+#[tactic(auto, using(crate::proofs::Runs::plain_yes, crate::proofs::Runs::plain_no, crate::proofs::Runs::plain_all))]
+fn plain_end(text: &[u8], extended: bool, inner: Option<Inner>, from: usize) -> usize
+    requires { from ≤ length text.now }
+    ensures value { result ≡ plain_end text.now extended inner from }
     ensures order { from ≤ result }
     ensures within { result ≤ length text.now }
 {
     for i in from..text.len() {
-        if is_special(extended, open, text[i]) {
+        if is_special(extended, inner, text[i]) {
             return i;
         }
     }
@@ -56,11 +56,11 @@ fn piece_at(
     text: &[u8],
     extended: bool,
     utf: bool,
-    open: Option<Open>,
+    inner: Option<Inner>,
     at: usize,
 ) -> Result<(Piece, usize), PlanError>
     requires { at < length text.now }
-    ensures value { result ≡ piece_at text.now extended utf open (slice_index text.now at) at }
+    ensures value { result ≡ piece_at text.now extended utf inner (slice_index text.now at) at }
     ensures place { IfOk result (IsAfter text.now at) }
 {
     let c = text[at];
@@ -68,43 +68,43 @@ fn piece_at(
         reference(text, extended, at)
     } else if extended && c == b'\\' {
         escape(text, utf, at)
-    } else if parts(open, c) {
+    } else if parts(inner, c) {
         Ok((Piece::Else, at + 1))
-    } else if closes(open, c) {
+    } else if closes(inner, c) {
         Ok((Piece::Close, at + 1))
     } else {
-        let to = plain_end(text, extended, open, at);
+        let to = plain_end(text, extended, inner, at + 1);
         Ok((Piece::Text { from: at, to }, to))
     }
 }
 
 /// Opens one more inner text.
-fn open_text(open: &mut Vec<Open>, text: Open) -> Result<(), PlanError>
-    ensures opened { OnOk result (opened text open.old.items ≡ Ok open.new.items) }
-    ensures refused { IfErr result (Refuses (opened text open.old.items)) }
+fn open_text(nest: &mut Vec<Inner>, text: Inner) -> Result<(), PlanError>
+    ensures opened { OnOk result (opened text nest.old.items ≡ Ok nest.new.items) }
+    ensures refused { IfErr result (Refuses (opened text nest.old.items)) }
 {
-    if open.len() >= DEEPEST {
+    if nest.len() >= DEEPEST {
         return Err(PlanError::BadSyntax);
     }
-    open.push(text)?;
+    nest.push(text)?;
     Ok(())
 }
 
 /// Opens and closes the inner texts that a piece opens and closes.
-fn nest(open: &mut Vec<Open>, piece: Piece) -> Result<(), PlanError>
-    ensures nested { OnOk result (open_after piece open.old.items ≡ Ok open.new.items) }
-    ensures refused { IfErr result (Refuses (open_after piece open.old.items)) }
+fn nest_piece(nest: &mut Vec<Inner>, piece: Piece) -> Result<(), PlanError>
+    ensures nested { OnOk result (nest_after piece nest.old.items ≡ Ok nest.new.items) }
+    ensures refused { IfErr result (Refuses (nest_after piece nest.old.items)) }
 {
     match piece {
-        Piece::Default(_) => open_text(open, Open::Last),
-        Piece::Choice(_) => open_text(open, Open::First),
+        Piece::Default(_) => open_text(nest, Inner::Last),
+        Piece::Choice(_) => open_text(nest, Inner::First),
         Piece::Else => {
-            let _first = open.pop();
-            open.push(Open::Last)?;
+            let _first = nest.pop();
+            nest.push(Inner::Last)?;
             Ok(())
         }
         Piece::Close => {
-            let _text = open.pop();
+            let _last = nest.pop();
             Ok(())
         }
         _ => Ok(()),
@@ -112,10 +112,10 @@ fn nest(open: &mut Vec<Open>, piece: Piece) -> Result<(), PlanError>
 }
 
 /// The inner text that is open.
-fn innermost(open: &[Open]) -> Option<Open>
-    ensures { result ≡ innermost open.now }
+fn innermost(nest: &[Inner]) -> Option<Inner>
+    ensures { result ≡ innermost nest.now }
 {
-    open.last().copied()
+    nest.last().copied()
 }
 
 /// The pieces of a replacement, or the first fault.
@@ -131,15 +131,16 @@ pub fn pieces_of(
     ensures refused { IfErr result (Refuses (pieces_of extended utf text.now)) }
 {
     let mut pieces = Vec::new(alloc);
-    let mut open = Vec::new(alloc);
+    let mut nest = Vec::new(alloc);
     let mut at = 0;
     while at < text.len() {
-        let (piece, to) = piece_at(text, extended, utf, innermost(open.as_slice()), at)?;
-        nest(&mut open, piece)?;
+        let inner = innermost(nest.as_slice());
+        let (piece, to) = piece_at(text, extended, utf, inner, at)?;
+        nest_piece(&mut nest, piece)?;
         pieces.push(piece)?;
         at = to;
     }
-    if open.is_empty() {
+    if nest.is_empty() {
         Ok(pieces)
     } else {
         Err(PlanError::MissingBrace)

@@ -1,7 +1,8 @@
 //! What a dollar begins (pcre2api, "Creating a new string with substitutions").
 ghost use Rattle.std.specs.Prelude.{◌≡◌, ◌+◌, ◌<◌, ◌≤◌, length, IsTrue, IfOk};
+ghost use Rattle.token_parts.specs.Bytes.{begins};
 ghost use Rattle.subst_plan.specs.Reading.{key_of, key_at, is_mark, bare, closed, after_key, braced, reference};
-ghost use Rattle.subst_plan.specs.Plans.{IsKeyIn, IsAfter};
+ghost use Rattle.subst_plan.specs.Plans.{IsKeyIn, IsIn, IsAfter};
 
 use crate::faults::PlanError;
 use crate::pieces::{Key, Piece};
@@ -42,6 +43,15 @@ fn key_at(text: &[u8], at: usize) -> Result<(Key, usize), PlanError>
     }
 }
 
+/// Whether `*MARK` begins at a place.
+fn begins_mark(text: &[u8], at: usize) -> bool
+    requires { at ≤ length text.now }
+    ensures value { result ≡ begins text.now "*MARK" at }
+    ensures within { IsTrue result → at + 5 ≤ length text.now }
+{
+    text[at..].starts_with(b"*MARK".as_slice())
+}
+
 /// Whether `*MARK` stands at a place, as a whole word.
 #[tactic(auto, unfolding(crate::specs::Reading::is_mark))]
 fn is_mark(text: &[u8], at: usize) -> bool
@@ -49,7 +59,7 @@ fn is_mark(text: &[u8], at: usize) -> bool
     ensures value { result ≡ is_mark text.now at }
     ensures within { IsTrue result → at + 5 ≤ length text.now }
 {
-    text[at..].starts_with(b"*MARK".as_slice()) && run_end(text, Run::Word, at + 1) == at + 5
+    begins_mark(text, at) && run_end(text, Run::Word, at + 1) == at + 5
 }
 
 /// `$x`, from the place after the dollar.
@@ -70,9 +80,9 @@ fn bare(text: &[u8], at: usize) -> Result<(Piece, usize), PlanError>
 
 /// A piece whose `}` stands at a place.
 fn closed(text: &[u8], piece: Piece, to: usize) -> Result<(Piece, usize), PlanError>
+    requires { IsIn text.now piece }
     ensures value { result ≡ closed text.now piece to }
-    ensures piece { IfOk result (λ found. found.0 ≡ piece) }
-    ensures place { IfOk result (λ found. (to < found.1) × (found.1 ≤ length text.now)) }
+    ensures place { IfOk result (IsAfter text.now to) }
 {
     if stands(text, b'}', to) {
         Ok((piece, to + 1))
@@ -101,7 +111,7 @@ fn after_key(text: &[u8], extended: bool, key: Key, to: usize) -> Result<(Piece,
 }
 
 /// `${x`, from the place after the brace.
-#[tactic(auto, unfolding(crate::specs::Reading::braced))]
+#[tactic(auto, using(crate::proofs::After::later), unfolding(crate::specs::Reading::braced))]
 fn braced(text: &[u8], extended: bool, at: usize) -> Result<(Piece, usize), PlanError>
     requires { at ≤ length text.now }
     ensures value { result ≡ braced text.now extended at }
@@ -117,7 +127,7 @@ fn braced(text: &[u8], extended: bool, at: usize) -> Result<(Piece, usize), Plan
 }
 
 /// A dollar at a place: what it begins, and the place after that.
-#[tactic(auto, unfolding(crate::specs::Reading::reference))]
+#[tactic(auto, using(crate::proofs::After::later), unfolding(crate::specs::Reading::reference))]
 pub fn reference(text: &[u8], extended: bool, at: usize) -> Result<(Piece, usize), PlanError>
     requires { at < length text.now }
     ensures value { result ≡ reference text.now extended at }

@@ -25,7 +25,7 @@ impl Groups for Sample {
       mark = codes "Tag";
     } };
 
-    ghost named = { λ _. refl };
+    ghost of_groups = { λ _. refl };
 
     fn by_number(&self, n: u32) -> Lookup<'_> {
         match n {
