@@ -270,3 +270,68 @@ fn writes_what_replacements_say_or_tells_the_fault(rt: HostRuntime) -> Result<()
     }
     Ok(())
 }
+
+/// The fault of a replacement of two bytes, by their kinds.
+fn fault_of(first: u8, second: u8, extended: bool) -> Option<PlanError> {
+    let is_word = second == b'_' || second.is_ascii_alphanumeric();
+    if first == b'$' {
+        (second != b'$' && !is_word).then_some(PlanError::BadReplacement)
+    } else if extended && first == b'\\' {
+        let is_escape = b"aefnrtULEulQx".contains(&second);
+        (second.is_ascii_alphanumeric() && !is_escape).then_some(PlanError::BadEscape)
+    } else if second == b'$' {
+        Some(PlanError::BadReplacement)
+    } else {
+        (extended && second == b'\\').then_some(PlanError::BadEscape)
+    }
+}
+
+#[test]
+fn reads_or_refuses_each_replacement_of_two_bytes(rt: HostRuntime) -> Result<(), Fail> {
+    for first in 0..=255u8 {
+        for second in 0..=255u8 {
+            for extended in [false, true] {
+                let text = [first, second];
+                let fault = Plan::read(rt.alloc(), text.as_slice(), extended, false).err();
+                assert!(rt;
+                    fault == fault_of(first, second, extended),
+                    "{first} {second} {extended}"
+                );
+            }
+        }
+    }
+    Ok(())
+}
+
+/// So many inner texts one in the other.
+fn nested(alloc: Global, depth: usize) -> Result<Vec<u8>, Fail> {
+    let mut text = Vec::new(alloc);
+    for _ in 0..depth {
+        text.extend_from_slice(b"${2:-")?;
+    }
+    text.push(b'x')?;
+    for _ in 0..depth {
+        text.push(b'}')?;
+    }
+    Ok(text)
+}
+
+#[test]
+fn nests_twenty_texts_and_no_more(rt: HostRuntime) -> Result<(), Fail> {
+    let alloc = rt.alloc();
+    let most = nested(alloc, 20)?;
+    assert!(rt; comes_out(alloc, (most.as_slice(), "x", Writes(b"x"))));
+    let more = nested(alloc, 21)?;
+    assert!(rt; comes_out(alloc, (more.as_slice(), "x", Unread(PlanError::BadSyntax))));
+    Ok(())
+}
+
+#[test]
+fn adds_a_literal_text_as_it_is(rt: HostRuntime) -> Result<(), Fail> {
+    let mut out = b"a".to_vec(rt.alloc())?;
+    let plan = Plan::literal(rt.alloc(), b"$1\\U${")?;
+    let added = expand_into(&plan, &Sample, false, false, &mut out);
+    assert!(rt; added.is_ok());
+    assert_eq!(rt; out.as_slice(), b"a$1\\U${".as_slice());
+    Ok(())
+}
