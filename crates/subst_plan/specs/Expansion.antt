@@ -26,7 +26,8 @@ abbrev pub after : List ℕ → Result (List ℕ) ExpandError → Result (List �
 after first (Ok rest) = Ok (first ++ rest)
 after first (Err e) = Err e
 
--- the text of a group if it is set; there must be such a group, unless unknown groups count as unset
+-- the text of a group if it is set; there must be such a group, unless unknown groups count as
+-- unset
 abbrev pub set_text : UnsetRules → Found → Result (Option (List ℕ)) ExpandError
 set_text rules (text bytes) = Ok (Some bytes)
 set_text rules unset = Ok None

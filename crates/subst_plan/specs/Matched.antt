@@ -2,7 +2,8 @@
 use Rattle.std.specs.List.{list_all}
 use Rattle.std.specs.Prelude.{ℕ, Bool, nat_lt, length, List, [], ◌∷◌, Option, Some, None, slice_get, bytes_eq, if◌then◌else◌}
 
--- The texts of the groups by number from 0, of which some are unset; names with the numbers of groups; the last name on the match's path.
+-- The texts of the groups by number from 0, of which some are unset; names with the numbers of
+-- groups; the last name on the match's path.
 pub record Matched : Type 0 where
   pub texts : List (Option (List ℕ))
   pub names : List (List ℕ × ℕ)

@@ -51,7 +51,8 @@ module _ (extended utf : Bool) (text : List ℕ) where
   abbrev pub next_piece : List Inner → ℕ → Result (Piece × ℕ) PlanError
   next_piece nest at = piece_at text extended utf (innermost nest) (slice_index text at) at
 
-  -- The pieces from a place on, where these inner texts are open. At most so many are read, and each has a byte.
+  -- The pieces from a place on, where these inner texts are open. At most so many are read, and
+  -- each has a byte.
   abbrev pub pieces_from : ℕ → List Inner → ℕ → Result (List Piece) PlanError
   pieces_from zero nest at = Ok []
   pieces_from (suc n) nest at =

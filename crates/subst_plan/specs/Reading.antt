@@ -1,5 +1,6 @@
--- The pieces of a replacement (pcre2api, "Creating a new string with substitutions"). A place is a number of bytes from the
--- replacement's begin. Each form is refused at its first byte, but a missing `}` where it is missing.
+-- The pieces of a replacement (pcre2api, "Creating a new string with substitutions"). A place is a
+-- number of bytes from the replacement's begin. Each form is refused at its first byte, but a
+-- missing `}` where it is missing.
 use Rattle.std.specs.Prelude.{ℕ, zero, suc, ◌+◌, ◌-◌, min, Bool, true, false, not, ◌&&◌, ◌||◌, ◌==◌, nat_lt, nat_le, List, [], ◌∷◌, ◌++◌, length, take, drop, Option, Some, None, Result, Ok, Err, slice_get, if◌then◌else◌}
 use Rattle.std.specs.Option.{option_and_then}
 use Rattle.std.specs.Int.{is_in_range}

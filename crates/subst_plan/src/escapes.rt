@@ -1,4 +1,5 @@
-//! What a backslash begins (pcre2api, "Creating a new string with substitutions"; pcre2pattern, "Backslash").
+//! What a backslash begins (pcre2api, "Creating a new string with substitutions"; pcre2pattern,
+//! "Backslash").
 ghost use Rattle.std.specs.Prelude.{◌≡◌, ◌+◌, ◌<◌, ◌≤◌, List, ℕ, length, IfOk, IfSome, Ok};
 ghost use Rattle.token_parts.specs.Bytes.{begins};
 ghost use Rattle.token_parts.specs.Codes.{coded};

@@ -236,9 +236,9 @@ fn push_pieces<G: Groups>(
     Ok(())
 }
 
-/// Adds what a replacement writes for a match (pcre2api, "Creating a new string with substitutions"). Refused is the
-/// first group in the replacement's order that there isn't, or that is unset; `out` is then longer by what was written
-/// before it.
+/// Adds what a replacement writes for a match (pcre2api, "Creating a new string with
+/// substitutions"). Refused is the first group in the replacement's order that there isn't, or that
+/// is unset; `out` is then longer by what was written before it.
 pub fn expand_into<G: Groups>(
     plan: &Plan,
     groups: &G,

@@ -14,8 +14,8 @@ pub enum Lookup<'a> {
     Unknown,
 }
 
-/// The groups of a match: their texts by number from 0, which is the whole match, names with the numbers of groups, and
-/// the last name on the match's path.
+/// The groups of a match: their texts by number from 0, which is the whole match, names with the
+/// numbers of groups, and the last name on the match's path.
 pub trait Groups {
     ghost means: { Self → Matched };
 
@@ -27,7 +27,8 @@ pub trait Groups {
     fn by_name(&self, name: &[u8]) -> Lookup<'_>
         ensures { seen result ≡ named (means self.now) name.now };
 
-    /// The last name on the match's path (pcre2pattern, "Recording which path was taken"); empty where there is none.
+    /// The last name on the match's path (pcre2pattern, "Recording which path was taken"); empty
+    /// where there is none.
     fn mark(&self) -> &[u8]
         ensures { result.now ≡ (means self.now).mark };
 

@@ -1,5 +1,5 @@
-//! Replacements: what they are read as, and what they write for a match (pcre2api, "Creating a new string with
-//! substitutions").
+//! Replacements: what they are read as, and what they write for a match (pcre2api, "Creating a new
+//! string with substitutions").
 #![tactic(auto)]
 
 mod escapes;
@@ -7,6 +7,7 @@ mod expanding;
 mod faults;
 mod forcing;
 mod groups;
+mod laws;
 mod pieces;
 mod plan;
 mod reading;
@@ -15,6 +16,7 @@ mod references;
 pub use expanding::{expand, expand_into};
 pub use faults::{ExpandError, PlanError};
 pub use groups::{Groups, Lookup};
+pub use laws::{worked_expansions, worked_replacements};
 pub use pieces::{Case, Forcing, Inner, Key, Piece};
 pub use plan::Plan;
 

@@ -38,7 +38,8 @@ pub enum Inner {
     Last,
 }
 
-/// A piece of a replacement. The pieces of an inner text stand between the piece that opens it and its `Close`.
+/// A piece of a replacement. The pieces of an inner text stand between the piece that opens it and
+/// its `Close`.
 #[derive(Clone, Copy, Debug, PartialEq, Eq)]
 pub enum Piece {
     /// The bytes of the replacement between two places.

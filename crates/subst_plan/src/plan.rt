@@ -1,12 +1,13 @@
 //! Replacements that have been read.
 ghost use Rattle.std.specs.Prelude.{◌≡◌, IfOk, IfErr, Ok};
 ghost use Rattle.std.specs.List.{All};
+ghost use Rattle.subst_plan.specs.declared.faults.PlanError.TheVariants as fault;
 ghost use Rattle.subst_plan.specs.Plans.{plan_of, literal, IsIn, Refuses};
 
 use crate::faults::PlanError;
 use crate::pieces::Piece;
 use crate::reading::pieces_of;
-use std::alloc::{AllocError, Global};
+use std::alloc::Global;
 use std::marker::Model;
 
 /// A replacement that has been read: its text, of which it keeps a copy, and its pieces in order.
@@ -28,8 +29,9 @@ impl Model for Plan {
 }
 
 impl Plan {
-    /// Reads a replacement (pcre2api, "Creating a new string with substitutions"), of any bytes: with `extended` by the
-    /// extended syntax, and with `utf` codes above 127 are written in UTF-8. Refused is the first fault.
+    /// Reads a replacement (pcre2api, "Creating a new string with substitutions"), of any bytes:
+    /// with `extended` by the extended syntax, and with `utf` codes above 127 are written in UTF-8.
+    /// Refused is the first fault.
     pub fn read(alloc: Global, bytes: &[u8], extended: bool, utf: bool) -> Result<Plan, PlanError>
         ensures plan { IfOk result (λ plan. plan_of extended utf bytes.now ≡ Ok plan) }
         ensures refused { IfErr result (Refuses (plan_of extended utf bytes.now)) }
@@ -40,8 +42,9 @@ impl Plan {
     }
 
     /// A replacement whose bytes all stand for themselves (pcre2api, "PCRE2_SUBSTITUTE_LITERAL").
-    pub fn literal(alloc: Global, bytes: &[u8]) -> Result<Plan, AllocError>
-        ensures { IfOk result (λ plan. plan ≡ literal bytes.now) }
+    pub fn literal(alloc: Global, bytes: &[u8]) -> Result<Plan, PlanError>
+        ensures plan { IfOk result (λ plan. plan ≡ literal bytes.now) }
+        ensures refused { IfErr result (λ e. e ≡ fault.Memory) }
     {
         let whole = Piece::Text {
             from: 0,

@@ -1,8 +1,10 @@
-//! Replacements, with what they write or why they are refused. The rows are those of pcre2_substitute of 10.42.
+//! Replacements, with what they write or why they are refused. The rows are those of
+//! pcre2_substitute of 10.42.
 ghost use Rattle.std.specs.Prelude.{◌≡◌, ◌∷◌, [], Some, None, codes, refl};
 
 use super::{ExpandError, Groups, Lookup, Plan, PlanError, expand, expand_into};
 use std::alloc::Global;
+use std::process::Abort;
 use std::test::Fail;
 
 /// What becomes of a replacement.
@@ -38,11 +40,11 @@ impl Groups for Sample {
     }
 
     fn by_name(&self, name: &[u8]) -> Lookup<'_> {
-        if name == b"both".as_slice() {
+        if b"both".as_slice() == name {
             Lookup::Text(b"Rd")
-        } else if name == b"one".as_slice() {
+        } else if b"one".as_slice() == name {
             Lookup::Text(b"wO")
-        } else if name == b"two".as_slice() {
+        } else if b"two".as_slice() == name {
             Lookup::Unset
         } else {
             Lookup::Unknown
@@ -54,8 +56,12 @@ impl Groups for Sample {
     }
 }
 
-/// Replacements, with the options: x extended, u UTF, e unset groups are empty, n unknown groups are unset.
-const ROWS: &[(&[u8], &str, Outcome)] = &[
+/// A replacement, its options (x extended, u UTF, e unset groups are empty, n unknown groups are
+/// unset) and its outcome.
+type Row = (&'static [u8], &'static str, Outcome);
+
+/// Groups and marks.
+const REFERENCES: &[Row] = &[
     (b"", "", Writes(b"")),
     (b"plain", "", Writes(b"plain")),
     (b"$$", "", Writes(b"$")),
@@ -129,6 +135,10 @@ const ROWS: &[(&[u8], &str, Outcome)] = &[
         "",
         Unread(PlanError::BadReplacement),
     ),
+];
+
+/// Inner texts.
+const TEXTS: &[Row] = &[
     (b"\\n", "", Writes(b"\\n")),
     (b"a:b}c", "", Writes(b"a:b}c")),
     (b"a:b}c", "x", Writes(b"a:b}c")),
@@ -169,6 +179,10 @@ const ROWS: &[(&[u8], &str, Outcome)] = &[
     (b"${1:+x", "x", Unread(PlanError::MissingBrace)),
     (b"${1:+x:y", "x", Unread(PlanError::MissingBrace)),
     (b"${two:+${one:+a:b", "x", Unread(PlanError::MissingBrace)),
+];
+
+/// Escapes.
+const ESCAPES: &[Row] = &[
     (b"\\", "x", Unread(PlanError::BadEscape)),
     (b"a\\", "x", Unread(PlanError::BadEscape)),
     (b"\\a\\e\\f\\n\\r\\t", "x", Writes(b"\x07\x1B\x0C\n\r\t")),
@@ -212,6 +226,10 @@ const ROWS: &[(&[u8], &str, Outcome)] = &[
     (b"${2:-\\Q}:\\E}", "x", Writes(b"}:")),
     (b"${1:+\\Q:}", "x", Unread(PlanError::MissingBrace)),
     (b"${2:-\\Qa}", "x", Unread(PlanError::MissingBrace)),
+];
+
+/// Case forcing.
+const CASES: &[Row] = &[
     (b"\\Uab$1\\Ecd", "x", Writes(b"ABWOcd")),
     (b"\\LAB$1\\ECD", "x", Writes(b"abwoCD")),
     (b"\\Uab\\LCD\\Eef\\E", "x", Writes(b"ABcdef")),
@@ -263,12 +281,31 @@ fn comes_out(alloc: Global, row: (&[u8], &str, Outcome)) -> bool {
     }
 }
 
-#[test]
-fn writes_what_replacements_say_or_tells_the_fault(rt: HostRuntime) -> Result<(), Fail> {
-    for (i, row) in ROWS.iter().enumerate() {
-        assert!(rt; comes_out(rt.alloc(), *row), "row {i}");
+/// Whether each row has its outcome.
+fn check_rows(rt: &impl Abort, alloc: Global, rows: &[Row]) {
+    for (i, row) in rows.iter().enumerate() {
+        assert!(rt; comes_out(alloc, *row), "row {i}");
     }
-    Ok(())
+}
+
+#[test]
+fn writes_groups_and_marks(rt: HostRuntime) {
+    check_rows(&rt, rt.alloc(), REFERENCES);
+}
+
+#[test]
+fn chooses_inner_texts(rt: HostRuntime) {
+    check_rows(&rt, rt.alloc(), TEXTS);
+}
+
+#[test]
+fn writes_what_escapes_say(rt: HostRuntime) {
+    check_rows(&rt, rt.alloc(), ESCAPES);
+}
+
+#[test]
+fn forces_the_case(rt: HostRuntime) {
+    check_rows(&rt, rt.alloc(), CASES);
 }
 
 /// The fault of a replacement of two bytes, by their kinds.
@@ -277,7 +314,10 @@ fn fault_of(first: u8, second: u8, extended: bool) -> Option<PlanError> {
     if first == b'$' {
         (second != b'$' && !is_word).then_some(PlanError::BadReplacement)
     } else if extended && first == b'\\' {
-        let is_escape = b"aefnrtULEulQx".contains(&second);
+        let is_escape = matches!(
+            second,
+            b'a' | b'e' | b'f' | b'n' | b'r' | b't' | b'U' | b'L' | b'E' | b'u' | b'l' | b'Q' | b'x'
+        );
         (second.is_ascii_alphanumeric() && !is_escape).then_some(PlanError::BadEscape)
     } else if second == b'$' {
         Some(PlanError::BadReplacement)
@@ -286,15 +326,18 @@ fn fault_of(first: u8, second: u8, extended: bool) -> Option<PlanError> {
     }
 }
 
+/// Bytes of each kind.
+const SECOND: &[u8] = b"$\\{}:-+*_ .aAbBcdeEfklLnNoQrtuUxzZ019\x00\x7f\x80\xff";
+
 #[test]
 fn reads_or_refuses_each_replacement_of_two_bytes(rt: HostRuntime) -> Result<(), Fail> {
     for first in 0..=255u8 {
-        for second in 0..=255u8 {
+        for second in SECOND {
             for extended in [false, true] {
-                let text = [first, second];
+                let text = [first, *second];
                 let fault = Plan::read(rt.alloc(), text.as_slice(), extended, false).err();
                 assert!(rt;
-                    fault == fault_of(first, second, extended),
+                    fault == fault_of(first, *second, extended),
                     "{first} {second} {extended}"
                 );
             }
@@ -328,10 +371,13 @@ fn nests_twenty_texts_and_no_more(rt: HostRuntime) -> Result<(), Fail> {
 
 #[test]
 fn adds_a_literal_text_as_it_is(rt: HostRuntime) -> Result<(), Fail> {
-    let mut out = b"a".to_vec(rt.alloc())?;
-    let plan = Plan::literal(rt.alloc(), b"$1\\U${")?;
-    let added = expand_into(&plan, &Sample, false, false, &mut out);
-    assert!(rt; added.is_ok());
-    assert_eq!(rt; out.as_slice(), b"a$1\\U${".as_slice());
+    let plan = Plan::literal(rt.alloc(), b"$1\\U${");
+    assert!(rt; plan.is_ok());
+    if let Ok(plan) = plan {
+        let mut out = b"a".to_vec(rt.alloc())?;
+        let added = expand_into(&plan, &Sample, false, false, &mut out);
+        assert!(rt; added.is_ok());
+        assert_eq!(rt; out.as_slice(), b"a$1\\U${".as_slice());
+    }
     Ok(())
 }
