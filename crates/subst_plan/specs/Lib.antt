@@ -4,3 +4,4 @@ pub mod Reading
 pub mod Plans
 pub mod Forcing
 pub mod Expansion
+pub mod Nested

@@ -16,7 +16,10 @@ mod references;
 pub use expanding::{expand, expand_into};
 pub use faults::{ExpandError, PlanError};
 pub use groups::{Groups, Lookup};
-pub use laws::{worked_expansions, worked_replacements};
+pub use laws::{
+    defaults_are_chosen_as_wholes, texts_are_chosen_as_wholes, worked_expansions,
+    worked_replacements,
+};
 pub use pieces::{Case, Forcing, Inner, Key, Piece};
 pub use plan::Plan;
 
