@@ -1131,7 +1131,7 @@ Failed: error 109 at offset 0: quantifier does not follow a repeatable item
  0: a
 >
 >/a(b/i,info
-Failed: error 114 at offset 4: missing closing parenthesis
+Failed: error 114 at offset 3: missing closing parenthesis
 >
 >/a
 ";
