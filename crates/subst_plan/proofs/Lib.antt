@@ -1,0 +1,4 @@
+pub mod After
+pub mod Runs
+pub mod Turns
+pub mod Wholes
