@@ -80,7 +80,8 @@ impl ByteSet {
 pub fn find_in_set(bytes: &[u8], from: usize, set: &ByteSet) -> usize
     requires { from ≤ length bytes.now }
     ensures least { IsLeast (IsIn set.now bytes.now) from (length bytes.now) result }
-    ensures value { result ≡ least_from (λ k. has_byte set.now (slice_index bytes.now k)) from (length bytes.now) }
+    ensures value { result
+        ≡ least_from (λ k. has_byte set.now (slice_index bytes.now k)) from (length bytes.now) }
 {
     scan::least(&InSet { bytes, set }, from, bytes.len())
 }

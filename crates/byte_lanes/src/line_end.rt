@@ -53,8 +53,10 @@ pub struct LineEnd {
 /// stand at that place the longest is taken, so CR and LF together are one newline where the kind has it.
 pub fn find_line_end(bytes: &[u8], from: usize, kind: EndKind) -> LineEnd
     requires { from ≤ length bytes.now }
-    ensures least { IsLeast (λ k. 0 < newline_len kind bytes.now k) from (length bytes.now) result.at }
-    ensures value { result.at ≡ least_from (λ k. nat_lt 0 (newline_len kind bytes.now k)) from (length bytes.now) }
+    ensures least { IsLeast (λ k. 0 < newline_len kind bytes.now k)
+        from (length bytes.now) result.at }
+    ensures value { result.at
+        ≡ least_from (λ k. nat_lt 0 (newline_len kind bytes.now k)) from (length bytes.now) }
     ensures len { result.len ≡ newline_len kind bytes.now result.at }
 {
     let at = place_of(bytes, from, kind);
@@ -84,7 +86,8 @@ fn place_of(bytes: &[u8], from: usize, kind: EndKind) -> usize
 // A search for the newlines that are one byte.
 fn one_byte(bytes: &[u8], from: usize, byte: u8) -> usize
     requires { from ≤ length bytes.now }
-    ensures { IsLeast (λ k. 0 < longest ((byte ∷ []) ∷ []) bytes.now k) from (length bytes.now) result }
+    ensures { IsLeast (λ k. 0 < longest ((byte ∷ []) ∷ []) bytes.now k)
+        from (length bytes.now) result }
 {
     match memchr(byte, &bytes[from..]) {
         Some(k) => from + k,

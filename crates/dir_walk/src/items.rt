@@ -61,7 +61,8 @@ fn add_entry(
 
 /// The files and directories among the entries of a directory.
 pub fn items_in(alloc: Global, path: &str, entries: &[DirEntry]) -> Result<BTreeSet<Item>, Memory>
-    ensures items { IfOk result (λ items. map item_parts items.keys ≡ items_in path.now entries.now) }
+    ensures items { IfOk result
+        (λ items. map item_parts items.keys ≡ items_in path.now entries.now) }
     ensures few { IfOk result (λ items. length items.keys < 18446744073709551616) }
 {
     let mut items = BTreeSet::new(alloc);

@@ -72,7 +72,8 @@ fn take_entries(
 ) -> Result<(), Memory>
     ensures steps { OnOk result ((filter : Filter) (contents : Option Contents)
         → Steps filter contents
-        (λ set. listed_targets filter (directory_targets filter set levels) path.now (Some entries.now))
+        (λ set. listed_targets filter (directory_targets filter set levels) path.now
+        (Some entries.now))
         (weight (suc levels)) (map pending_parts stack.old.items)
         (map pending_parts stack.new.items) told.old told.new) }
     ensures unfailed { OnOk result (has_failed told.new ≡ has_failed told.old) }
@@ -162,7 +163,8 @@ fn take<F: FileSet>(
 ) -> Result<(), Memory>
     ensures steps { OnOk result (Steps (filter_in filter.now) (F.tells files.old).contents
         (λ set. pending_targets (filter_in filter.now) set (pending_parts pending))
-        (weight pending.levels) (map pending_parts stack.old.items) (map pending_parts stack.new.items)
+        (weight pending.levels) (map pending_parts stack.old.items)
+        (map pending_parts stack.new.items)
         told.old told.new) }
     ensures causes { OnOk result (HasCauses told.old told.new
         (F.tells files.old).faults (F.tells files.new).faults) }
@@ -190,7 +192,8 @@ pub fn walk<F: FileSet>(
     told: &mut TargetList,
 ) -> Result<(), Memory>
     ensures grows { OnOk result (Grows (F.tells files.old).contents
-        (λ set. item_targets (filter_in filter.now) (directory_targets (filter_in filter.now) set levels)
+        (λ set. item_targets (filter_in filter.now)
+        (directory_targets (filter_in filter.now) set levels)
         (as_item (string_bytes path) true))
         told.old told.new) }
     ensures causes { OnOk result (HasCauses told.old told.new

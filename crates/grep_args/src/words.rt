@@ -29,7 +29,8 @@ pub enum Word<'a> {
 
 /// What stands after a hyphen at the front, if there is one.
 fn without_hyphen(text: &str) -> Option<&str>
-    ensures { MatchOption result ((rest : List ℕ) → text.now ≢ 45 ∷ rest) (λ rest. text.now ≡ 45 ∷ rest.now) }
+    ensures { MatchOption result ((rest : List ℕ) → text.now ≢ 45 ∷ rest)
+        (λ rest. text.now ≡ 45 ∷ rest.now) }
 {
     text.strip_prefix('-')
 }
@@ -92,7 +93,8 @@ fn long_with(
     option: Option<GrepOption>,
     value: &str,
 ) -> Result<Option<ValuedOption>, ArgError>
-    ensures ok { IfOk result (λ awaited. long word option (Some value.now) plan.old ≡ Ok (plan.new, awaited)) }
+    ensures ok { IfOk result
+        (λ awaited. long word option (Some value.now) plan.old ≡ Ok (plan.new, awaited)) }
     ensures fault { IfErr result (Refuses (long word option (Some value.now) plan.old)) }
 {
     match option {
@@ -115,7 +117,8 @@ fn long_option(
     word: usize,
     text: &str,
 ) -> Result<Option<ValuedOption>, ArgError>
-    ensures ok { IfOk result (λ awaited. long_option word text.now plan.old ≡ Ok (plan.new, awaited)) }
+    ensures ok { IfOk result
+        (λ awaited. long_option word text.now plan.old ≡ Ok (plan.new, awaited)) }
     ensures fault { IfErr result (Refuses (long_option word text.now plan.old)) }
 {
     let (name, value) = name_and_value(text);
@@ -166,7 +169,8 @@ fn next_word(
 ) -> Result<Outcome, ArgError>
     requires { n < usize.MAX }
     ensures ok { IfOk result (λ outcome. (words : List (List ℕ))
-        → options (text.now ∷ words) n awaited plan.old ≡ followed_by n outcome (options words) plan.new) }
+        → options (text.now ∷ words) n awaited plan.old
+        ≡ followed_by n outcome (options words) plan.new) }
     ensures fault { IfErr result (λ error. (words : List (List ℕ))
         → Refuses (options (text.now ∷ words) n awaited plan.old) error) }
 {
@@ -181,7 +185,8 @@ fn next_word(
 
 /// The options at the front of the words. Answers how many words they take.
 pub fn options(alloc: Global, plan: &mut GrepPlan, words: &[String]) -> Result<usize, ArgError>
-    ensures ok { IfOk result (λ n. options (map string_bytes words.now) 0 None plan.old ≡ Ok (plan.new, n)) }
+    ensures ok { IfOk result
+        (λ n. options (map string_bytes words.now) 0 None plan.old ≡ Ok (plan.new, n)) }
     ensures fault { IfErr result (Refuses (options (map string_bytes words.now) 0 None plan.old)) }
 {
     let mut awaited = None;

@@ -128,3 +128,24 @@ phase-cases n left p meets =
     let some : 0 < n = ⊎_elim (λ l. l) (λ z. absurd (other (omega arith))) (cases_lt 0 n) in
     ⊎_elim (λ all. inr (inl (some, all, meets.full some all))) (λ few. inr (inr (some, few, meets.goes_on some few))) (cases_eq n left))
     (cases_eq n 0)
+
+-- from a place on before which no newline begins
+pub whole-searched : (f : Inside) (n : ℕ) → IsWhole f → n ≤ length (held_of f) → IsSearched f.kind (held_of f) n → IsWhole (record f { searched = n })
+whole-searched f n i within none =
+    let long = held-long f i in
+    record {
+      row = i.row;
+      newline = i.newline;
+      held = i.held;
+      filled = i.filled;
+      stored = i.stored;
+      number = i.number;
+      taken = i.taken;
+      open_few = i.open_few;
+      ended_few = i.ended_few;
+      missed_few = i.missed_few;
+      full = i.full;
+      searched = omega (arith, long, within);
+      nothing = none;
+      near = i.near;
+    }

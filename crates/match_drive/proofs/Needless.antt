@@ -7,10 +7,10 @@ use Rattle.pat_tree.specs.declared.options.PartialMode.TheVariants.{Off}
 use Rattle.pat_tree.specs.Parts.{TreeParts, tree_of}
 use Rattle.match_items.specs.declared.view.View.{View}
 use Rattle.pcre_io.specs.declared.callouts.Block.{Block}
-use Rattle.pat_check.specs.Bounds.{at}
-use Rattle.pat_check.specs.Needs.{Needs}
-use Rattle.pat_check.specs.NeedTables.{IsNeedOf}
-use Rattle.pat_check.specs.declared.needs.Need.{Need}
+use Rattle.match_needs.specs.Bounds.{at}
+use Rattle.match_needs.specs.Needs.{Needs}
+use Rattle.match_needs.specs.NeedTables.{IsNeedOf}
+use Rattle.match_needs.specs.declared.needs.Need.{Need}
 use Rattle.ordered_search.specs.Setting.{lower_of}
 use Rattle.ordered_search.specs.MatchAnswer.{none_found, match_answer}
 use Rattle.ordered_search.proofs.Needed.{need_law}

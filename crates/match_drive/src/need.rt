@@ -2,7 +2,7 @@
 ghost use Rattle.std.specs.Prelude.{◌≡◌, ◌+◌, ◌<◌, ◌≤◌, ℕ, ℤ, None, IsTrue, length, slice_index};
 ghost use Rattle.match_items.specs.Subjects.{IsSubject};
 ghost use Rattle.pcre_io.specs.declared.callouts.Block.{Block};
-ghost use Rattle.pat_check.specs.Bounds.{at};
+ghost use Rattle.match_needs.specs.Bounds.{at};
 ghost use Rattle.frame_machine.specs.Ready.{IsReadySearch, setting_for};
 ghost use Rattle.ordered_search.specs.Setting.{lower_of};
 ghost use Rattle.ordered_search.specs.MatchAnswer.{none_found, match_answer};
@@ -12,7 +12,7 @@ use crate::answer::MatchAnswer;
 use byte_lanes::{ByteSet, find_in_set};
 use frame_machine::{Ready, Scratch};
 use match_items::View;
-use pat_check::Need;
+use match_needs::Need;
 
 /// The greatest number of Steps at a place: the pattern may lower that of the match.
 fn match_limit(view: &View<'_>) -> u32

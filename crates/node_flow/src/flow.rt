@@ -46,7 +46,8 @@ impl Flow {
     pub fn next(&self, part: NodeId) -> Option<NodeId>
         requires { part < length self.now }
         ensures is { result ≡ slice_index_or self.now part None }
-        ensures follows { (nodes : List Placed) (root : ℕ) → IsFlowOf nodes root self.now → result ≡ next_of nodes root part }
+        ensures follows { (nodes : List Placed) (root : ℕ) → IsFlowOf nodes root self.now
+            → result ≡ next_of nodes root part }
     {
         self.next[part as usize]
     }
@@ -64,7 +65,8 @@ fn nothing_told(alloc: Global, count: usize) -> Result<Vec<Option<NodeId>>, Memo
 fn link(next: &mut [Option<NodeId>], node: &Node, after: Option<NodeId>)
     requires below { All (λ k. k < length next.old) (kids_of node.now) }
     requires untold { All (λ k. slice_index_or next.old k None ≡ None) (kids_of node.now) }
-    ensures { (rest : List ℕ) → first_of rest ≡ after → (k : ℕ) → slice_index_or next.new k None ≡ next_by next.old node.now rest k }
+    ensures { (rest : List ℕ) → first_of rest ≡ after → (k : ℕ) → slice_index_or next.new k None
+        ≡ next_by next.old node.now rest k }
 {
     match node {
         Node::Seq(kids) => chain(next, kids.as_slice(), after),
@@ -87,7 +89,8 @@ fn tell_branches(
     after: Option<NodeId>,
 )
     requires { All (λ k. k < length next.old) (yes ∷ number_in no) }
-    ensures { (k : ℕ) → slice_index_or next.new k None ≡ (if is_in k (yes ∷ number_in no) then after else slice_index_or next.old k None) }
+    ensures { (k : ℕ) → slice_index_or next.new k None
+        ≡ (if is_in k (yes ∷ number_in no) then after else slice_index_or next.old k None) }
 {
     next[yes as usize] = after;
     if let Some(no) = no {
@@ -98,7 +101,9 @@ fn tell_branches(
 /// Tells each of these parts that the next of them follows, and the last that `after` does.
 fn chain(next: &mut [Option<NodeId>], kids: &[NodeId], after: Option<NodeId>)
     requires { All (λ k. k < length next.old) kids.now }
-    ensures { (rest : List ℕ) → first_of rest ≡ after → (k : ℕ) → slice_index_or next.new k None ≡ (if is_in k kids.now then first_of (later_than k kids.now ++ rest) else slice_index_or next.old k None) }
+    ensures { (rest : List ℕ) → first_of rest ≡ after → (k : ℕ) → slice_index_or next.new k None
+        ≡ (if is_in k kids.now then first_of (later_than k kids.now ++ rest)
+        else slice_index_or next.old k None) }
 {
     let mut i = kids.len();
     let mut follower = after;
@@ -112,7 +117,8 @@ fn chain(next: &mut [Option<NodeId>], kids: &[NodeId], after: Option<NodeId>)
 /// Tells each of these parts that `after` follows it.
 fn tell(next: &mut [Option<NodeId>], parts: &[NodeId], after: Option<NodeId>)
     requires { All (λ k. k < length next.old) parts.now }
-    ensures { (k : ℕ) → slice_index_or next.new k None ≡ (if is_in k parts.now then after else slice_index_or next.old k None) }
+    ensures { (k : ℕ) → slice_index_or next.new k None
+        ≡ (if is_in k parts.now then after else slice_index_or next.old k None) }
 {
     for part in parts {
         next[*part as usize] = after;

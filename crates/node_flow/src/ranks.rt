@@ -37,7 +37,8 @@ impl Ranks {
     pub fn of(&self, part: NodeId) -> u32
         requires { part < length self.now }
         ensures is { result ≡ slice_index self.now part }
-        ensures place { (nodes : List Placed) (root i : ℕ) → AreRanks nodes root self.now → i < length (order nodes root) → slice_index (order nodes root) i ≡ part → result ≡ i }
+        ensures place { (nodes : List Placed) (root i : ℕ) → AreRanks nodes root self.now
+            → i < length (order nodes root) → slice_index (order nodes root) i ≡ part → result ≡ i }
     {
         self.ranks[part as usize]
     }
@@ -49,7 +50,8 @@ fn places(alloc: Global, order: &[NodeId], count: usize) -> Result<Vec<u32>, Mem
     requires once { IsDistinct nat_eq order.now }
     requires few { count ≤ 4294967296 }
     ensures count { IfOk result (λ ranks. length ranks.items ≡ count) }
-    ensures each { IfOk result (λ ranks. (i : ℕ) → i < length order.now → slice_index ranks.items (slice_index order.now i) ≡ i) }
+    ensures each { IfOk result (λ ranks. (i : ℕ) → i < length order.now
+        → slice_index ranks.items (slice_index order.now i) ≡ i) }
 {
     let mut ranks = vec![in alloc; 0; count]?;
     for (rank, part) in order.iter().enumerate() {
@@ -96,7 +98,9 @@ fn push_condition(
     yes: NodeId,
     no: Option<NodeId>,
 ) -> Result<(), Memory>
-    ensures { OnOk result (waiting.new.items ≡ waiting.old.items ++ reverse (tests_of test.now ++ yes ∷ number_in no)) }
+    ensures { OnOk result
+        (waiting.new.items ≡ waiting.old.items
+        ++ reverse (tests_of test.now ++ yes ∷ number_in no)) }
 {
     if let Some(no) = no {
         waiting.push(no)?;

@@ -65,7 +65,8 @@ fn add_letter(draft: &mut Draft, c: u8) -> Result<NodeId, Memory>
     requires { length draft.old.nodes < 100 }
     ensures number { IfOk result (λ id. id ≡ length draft.old.nodes) }
     ensures count { OnOk result (length draft.new.nodes ≡ length draft.old.nodes + 1) }
-    ensures loose { OnOk result (loose draft.new.nodes ≡ loose draft.old.nodes ++ length draft.old.nodes ∷ []) }
+    ensures loose { OnOk result
+        (loose draft.new.nodes ≡ loose draft.old.nodes ++ length draft.old.nodes ∷ []) }
     ensures names { OnOk result (draft.new.names ≡ draft.old.names) }
 {
     let item = Item::Char {

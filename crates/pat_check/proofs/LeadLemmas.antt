@@ -1,6 +1,5 @@
 -- First bytes as they are kept, joined as the definition joins them.
-use Rattle.std.proofs.Common.{◌≡◌, ◌∙◌, ℕ, suc, ◌+◌, ◌-◌, ◌<◌, ◌≤◌, ◌||◌, ◌&&◌, ◌==◌, Bool, true, false, nat_lt, List, ◌∷◌, Option, Some, None, All, length, drop, get_or, refl, sym, ap, arith, drop-cons}
-use Rattle.std.proofs.lemmas.Bool.{eqb-true, false≢true}
+use Rattle.std.proofs.Common.{◌≡◌, ◌∙◌, ℕ, suc, ◌-◌, ◌<◌, ◌≤◌, ◌||◌, Bool, true, false, List, Option, Some, None, All, length, drop, get_or, refl, sym, arith}
 use Rattle.std.proofs.lemmas.List.{get_or_default}
 use Rattle.std.proofs.lemmas.List.Elements.{All-get_or}
 use Rattle.byte_lanes.specs.Sets.{has_byte}
@@ -9,6 +8,7 @@ use Rattle.pat_tree.specs.declared.nodes.Cond.{Cond}
 use Rattle.pat_tree.specs.declared.nodes.Cond.TheVariants.{AnySet, InCall, InCallOf, Never, Assert}
 use Rattle.pat_check.specs.Starts.{IsSomeLead, AreKept, lead_of_parts, lead_of_branches, lead_of_second, lead_of_condition}
 use Rattle.pat_check.specs.declared.starts.Start.{Start}
+use Rattle.match_needs.proofs.Backwards.{back}
 
 or_turned : (p q : Bool) → (p || q) ≡ (q || p)
 or_turned true true = refl
@@ -71,12 +71,6 @@ either_joins one other bytes passing (Some a) (Some b) e added h k = record {
 
 -- A list taken from its end.
 
-pub back : (xs : List ℕ) (i : ℕ) → 0 < i → i ≤ length xs → drop (i - 1) xs ≡ get_or xs (i - 1) 0 ∷ drop i xs
-back xs i p l =
-    let within : i - 1 < length xs = omega (arith, p, l) in
-    let one : suc (i - 1) ≡ i = omega (arith, p) in
-    drop-cons xs (i - 1) 0 within ∙ ap (λ j. get_or xs (i - 1) 0 ∷ drop j xs) one
-
 pub parts_back : (starts : List (Option Start)) (of : ℕ → SomeLead) (xs : List ℕ) (i : ℕ) (first whole next : Option Start) →
     0 < i → i ≤ length xs → first ≡ get_or starts (get_or xs (i - 1) 0) None →
     (AreKept starts of (drop i xs) → IsSomeLead whole (lead_of_parts of (drop i xs))) →
@@ -97,31 +91,6 @@ branches_back starts of xs i first whole next p l is rest join =
 pub read_at : (starts : List (Option Start)) (xs : List ℕ) (i : ℕ) (first : Option Start) → i < length xs → All (λ k. k < length starts) xs →
     first ≡ get_or starts (get_or xs i 0) first → first ≡ get_or starts (get_or xs i 0) None
 read_at starts xs i first l all is = is ∙ get_or_default starts (get_or xs i 0) first None (All-get_or (λ k. k < length starts) xs i 0 l all)
-
--- One more byte is added, or left out.
-
-lt_step : (k b : ℕ) → nat_lt k (b + 1) ≡ (nat_lt k b || k == b)
-lt_step k b = grind arith
-
-or_step : (p l e m : Bool) → (e ≡ true → m ≡ true) → ((p || (l && m)) || e) ≡ (p || ((l || e) && m))
-or_step true l e m h = refl
-or_step false true e true h = refl
-or_step false true false false h = refl
-or_step false true true false h = absurd (false≢true (h refl))
-or_step false false false m h = refl
-or_step false false true m h = sym (h refl)
-
-or_skip : (p l e m : Bool) → (e ≡ true → m ≡ false) → (p || (l && m)) ≡ (p || ((l || e) && m))
-or_skip true l e m h = refl
-or_skip false true e m h = refl
-or_skip false false false m h = refl
-or_skip false false true m h = sym (h refl)
-
-pub byte_added : (more : ℕ → Bool) (k b : ℕ) (p : Bool) → more b ≡ true → ((p || (nat_lt k b && more k)) || k == b) ≡ (p || (nat_lt k (b + 1) && more k))
-byte_added more k b p h = rw (lt_step k b) (or_step p (nat_lt k b) (k == b) (more k) (λ e. ap more (eqb-true k b e) ∙ h))
-
-pub byte_left : (more : ℕ → Bool) (k b : ℕ) (p : Bool) → more b ≡ false → (p || (nat_lt k b && more k)) ≡ (p || (nat_lt k (b + 1) && more k))
-byte_left more k b p h = rw (lt_step k b) (or_skip p (nat_lt k b) (k == b) (more k) (λ e. ap more (eqb-true k b e) ∙ h))
 
 pub no_definition : (of : ℕ → SomeLead) (test : Cond) (first : ℕ) (second : Option ℕ) → (test ≡ Never → ⊥) → either_lead (of first) (lead_of_second of second) ≡ lead_of_condition of test first second
 no_definition of Never first second h = absurd (h refl)

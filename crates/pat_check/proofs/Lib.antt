@@ -5,5 +5,3 @@ pub mod ByteLemmas
 pub mod SizeLemmas
 pub mod LookLemmas
 pub mod DraftLemmas
-pub mod BoundLemmas
-pub mod NeedLemmas

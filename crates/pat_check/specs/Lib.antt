@@ -2,6 +2,9 @@ pub use Rattle.pat_lengths.specs.Nodes
 pub use Rattle.pat_lengths.specs.Lengths
 pub use Rattle.pat_lengths.specs.HasLength
 pub use Rattle.pat_lengths.specs.Backs
+pub use Rattle.match_needs.specs.Bounds
+pub use Rattle.match_needs.specs.Needs
+pub use Rattle.match_needs.specs.NeedTables
 pub mod Lead
 pub mod Size
 pub mod Rows
@@ -10,7 +13,3 @@ pub mod Starts
 pub mod Support
 pub mod Survey
 pub mod Drafts
-pub mod Bounds
-pub mod BoundTables
-pub mod Needs
-pub mod NeedTables

@@ -14,19 +14,19 @@ ghost use Rattle.pat_lengths.specs.Lengths.{branch_fault, only};
 ghost use Rattle.pat_lengths.specs.Nodes as nodes;
 ghost use Rattle.pat_lengths.specs.Nodes.{all_nodes};
 ghost use Rattle.pat_lengths.specs.Passing.{IsGroupTable};
+ghost use Rattle.match_needs.specs.NeedTables.{IsNeedOf};
 ghost use Rattle.pat_check.specs.Known.{IsByteSet, IsCheckError, lead_set_of};
-ghost use Rattle.pat_check.specs.NeedTables.{IsNeedOf};
 ghost use Rattle.pat_check.specs.Size as sizes;
 ghost use Rattle.pat_check.specs.Starts.{FoldsIn, known_set, lead_in};
 ghost use Rattle.pat_check.specs.Support as support;
 
 use crate::leads::lead_set;
-use crate::needs::{Need, need_of_whole};
 use crate::size::size_of;
 use crate::support::DfaSupport;
 use crate::survey::survey_of;
 use byte_lanes::ByteSet;
 use char_sets::ClassTable;
+use match_needs::{Need, need_of};
 use node_flow::{Flow, preorder};
 use pat_lengths::{Backs, Groups, branch_spans, fault_in, greatest_in, group_table, passes_whole};
 use pat_tree::{Memory, NodeId, Steps, Tree};
@@ -221,29 +221,4 @@ fn lead_of_whole<L: Ledger>(
 {
     let mut steps = Steps::<L>::new(blank);
     lead_set(alloc, tree, classes, &mut steps)
-}
-
-/// The bytes that every match needs, where they are known.
-fn need_of(alloc: Global, tree: &Tree, classes: &ClassTable) -> Result<Option<Need>, Memory>
-    requires table { IsTableOf tree.now classes.now }
-    ensures { IfOk result (λ need. IfSome need (IsNeedOf tree.now)) }
-{
-    need_with::<Brand>(alloc, tree, classes, Blank::new(1))
-}
-
-/// The same, by a counter of its own.
-fn need_with<L: Ledger>(
-    alloc: Global,
-    tree: &Tree,
-    classes: &ClassTable,
-    blank: Blank,
-) -> Result<Option<Need>, Memory>
-    requires name { blank.name ≡ L.name }
-    requires parts { blank.parts ≡ L.parts }
-    requires one { blank.parts ≡ 1 }
-    requires table { IsTableOf tree.now classes.now }
-    ensures { IfOk result (λ need. IfSome need (IsNeedOf tree.now)) }
-{
-    let mut steps = Steps::<L>::new(blank);
-    need_of_whole(alloc, tree, classes, &mut steps)
 }

@@ -33,27 +33,6 @@ pub(crate) fn item_bytes<L: Ledger>(
     bytes
 }
 
-/// The bytes that an item takes as characters.
-pub(crate) fn taken_bytes<L: Ledger>(
-    tree: &Tree,
-    classes: &ClassTable,
-    item: &Item,
-    steps: &mut Steps<L>,
-) -> ByteSet
-    requires table { IsTableOf tree.now classes.now }
-    requires class { All (λ n. n < length classes.now) (class_in item.now) }
-    ensures { (fold : ℕ → ℕ) → FoldsIn tree.now.options.utf fold → (b : ℕ) → b < 256
-        → has_byte result b ≡ byte_taken tree.now fold item.now b }
-{
-    let mut bytes = ByteSet::empty();
-    for b in 0..256u32 {
-        if takes(tree, classes, item, b as u8, steps) {
-            bytes.insert(b as u8);
-        }
-    }
-    bytes
-}
-
 /// Whether a character that an item takes may begin with a byte.
 fn begins<L: Ledger>(
     tree: &Tree,

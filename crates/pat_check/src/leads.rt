@@ -9,9 +9,10 @@ ghost use Rattle.pat_check.specs.Lead.{SomeLead};
 ghost use Rattle.pat_check.specs.Starts.{FoldsIn, IsSomeLead, KeepLeads, known_set, lead_in};
 
 use crate::item_bytes::{break_bytes, item_bytes};
-use crate::starts::{Start, begin, copied, in_turn, one_of, one_of_condition, passed, repeated};
+use crate::starts::{Start, begin, in_turn, one_of, one_of_condition, passed, repeated};
 use byte_lanes::ByteSet;
 use char_sets::ClassTable;
+use match_needs::copied;
 use pat_tree::{Memory, Node, Steps, Tree};
 use std::alloc::Global;
 use std::sync::ledger::Ledger;

@@ -2,13 +2,11 @@
 //! bytes that it can begin with, and its size (pcre2pattern, "Lookbehind assertions"; pcre2api, "Information about a compiled pattern").
 #![tactic(auto)]
 
-mod bounds;
 mod facts;
 mod item_bytes;
 mod laws;
 mod leads;
 mod names;
-mod needs;
 mod size;
 mod starts;
 mod support;
@@ -16,9 +14,8 @@ mod survey;
 #[cfg(test)]
 mod tests;
 
-pub use bounds::{Bound, Growth};
 pub use facts::{CheckError, Facts, check};
 pub use laws::worked_rows;
-pub use needs::Need;
+pub use match_needs::{Bound, Growth, Need};
 pub use pat_lengths::{Backs, lengths_are_bounds};
 pub use support::DfaSupport;

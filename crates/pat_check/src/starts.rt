@@ -6,6 +6,7 @@ ghost use Rattle.pat_tree.specs.Rules.{number_in};
 ghost use Rattle.pat_check.specs.Starts.{IsSomeLead, AreKept, lead_of_parts, lead_of_branches, lead_of_condition};
 
 use byte_lanes::ByteSet;
+use match_needs::{add_all, copied};
 use pat_tree::{Cond, NodeId};
 
 /// The bytes that a part may begin with, and whether it may be passed without one.
@@ -34,26 +35,6 @@ pub(crate) fn begin(bytes: ByteSet) -> Option<Start>
         bytes,
         passing: false,
     })
-}
-
-/// Adds the bytes of another set.
-pub(crate) fn add_all(bytes: &mut ByteSet, more: &ByteSet)
-    ensures { (b : ℕ) → b < 256
-        → has_byte bytes.new b ≡ (has_byte bytes.old b || has_byte more.now b) }
-{
-    for b in 0..256u32 {
-        if more.has(b as u8) {
-            bytes.insert(b as u8);
-        }
-    }
-}
-
-pub(crate) fn copied(bytes: &ByteSet) -> ByteSet
-    ensures { (b : ℕ) → b < 256 → has_byte result b ≡ has_byte bytes.now b }
-{
-    let mut copy = ByteSet::empty();
-    add_all(&mut copy, bytes);
-    copy
 }
 
 /// A part, and what follows it.

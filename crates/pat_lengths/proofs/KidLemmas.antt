@@ -3,7 +3,6 @@ use Rattle.std.proofs.Common.{◌≡◌, ◌∙◌, ℕ, zero, suc, ◌<◌, ◌
 use Rattle.std.specs.List.{list_any, list_all}
 use Rattle.std.proofs.lemmas.Bool.{eq-eqb, le-leb}
 use Rattle.std.proofs.lemmas.List.Elements.{All-head, All-tail}
-use Rattle.pat_tree.specs.declared.nodes.Item.{Item}
 use Rattle.pat_tree.specs.declared.nodes.Cond.{Cond}
 use Rattle.pat_tree.specs.declared.nodes.Cond.TheVariants.{AnySet, InCall, InCallOf, Never, Assert}
 use Rattle.pat_tree.specs.declared.nodes.Node.{Node}
@@ -13,6 +12,7 @@ use Rattle.pat_tree.specs.Rules.{kids_of, tests_of, number_in, asserted_by, is_t
 use Rattle.pat_lengths.specs.Nodes.{nodes, all_nodes, named_by, named_in, is_accept}
 use Rattle.pat_lengths.specs.Passing.{is_at_most, passes, all_pass, some_passes, other_passes, test_passes, second_passes, condition_passes}
 use Rattle.pat_lengths.proofs.OrderLemmas.{by_test, nodes_at, IsOpen, node_first, any_flat, same_any}
+use Rattle.pat_lengths.proofs.OtherNodes.{IfOther, by_other}
 
 at_most_is : (low : ℕ) (high : Option ℕ) → AtMost low high → is_at_most low high ≡ true
 at_most_is low None h = refl
@@ -89,33 +89,11 @@ module _ (any : Bool) (can : ℕ → Bool) where
       by_kind (InCallOf groups) one two = rw (one, two) refl
       by_kind (Assert k) one two = rw (one, two) refl
 
-  pub other_passes_too : (trees : List Nested) (n : Node) →
-      ((x : Item) → n ≡ node.One x → ⊥) → (n ≡ node.Break → ⊥) → ((x : List ℕ) → n ≡ node.Seq x → ⊥) →
-      ((x : Option ℕ) (y : List ℕ) → n ≡ node.Group x y → ⊥) →
-      ((w x : ℕ) (y : Option ℕ) (z : Bool) → n ≡ node.Repeat w x y z → ⊥) →
-      ((w : Item) (x : ℕ) (y : Option ℕ) (z : Bool) → n ≡ node.OneRepeat w x y z → ⊥) →
-      ((x : List ℕ) → n ≡ node.Atomic x → ⊥) →
-      ((x : Cond) (y : ℕ) (z : Option ℕ) → n ≡ node.Cond x y z → ⊥) →
-      ((x : ℕ) → n ≡ node.Call x → ⊥) →
-      ((x : List ℕ) (y : Bool) → n ≡ node.Ref x y → ⊥) →
-      true ≡ passes any can (nest trees n)
+  pub other_passes_too : (trees : List Nested) (n : Node) → IfOther n (true ≡ passes any can (nest trees n))
   unfolding passes
-  other_passes_too trees node.Empty a b c d e f g h i j = refl
-  other_passes_too trees (node.One item) a b c d e f g h i j = absurd (a item refl)
-  other_passes_too trees node.Break a b c d e f g h i j = absurd (b refl)
-  other_passes_too trees (node.Seq kids) a b c d e f g h i j = absurd (c kids refl)
-  other_passes_too trees (node.Group number branches) a b c d e f g h i j = absurd (d number branches refl)
-  other_passes_too trees (node.Repeat body min max lazy) a b c d e f g h i j = absurd (e body min max lazy refl)
-  other_passes_too trees (node.OneRepeat item min max lazy) a b c d e f g h i j = absurd (f item min max lazy refl)
-  other_passes_too trees (node.Atomic branches) a b c d e f g h i j = absurd (g branches refl)
-  other_passes_too trees (node.Look ahead positive once branches) a b c d e f g h i j = refl
-  other_passes_too trees (node.Cond test first second) a b c d e f g h i j = absurd (h test first second refl)
-  other_passes_too trees (node.Call n) a b c d e f g h i j = absurd (i n refl)
-  other_passes_too trees (node.Ref groups caseless) a b c d e f g h i j = absurd (j groups caseless refl)
-  other_passes_too trees (node.Anchor kind) a b c d e f g h i j = refl
-  other_passes_too trees node.KeepOut a b c d e f g h i j = refl
-  other_passes_too trees (node.VerbNode v) a b c d e f g h i j = refl
-  other_passes_too trees (node.Callout number from to at len) a b c d e f g h i j = refl
+  other_passes_too trees =
+      by_other (λ n. true ≡ passes any can (nest trees n)) refl (λ ahead positive once branches. refl) (λ kind. refl) refl (λ v. refl)
+      (λ number from to at len. refl)
 
 -- what some node of a tree has: itself, or one under its children
 pub any_first : (q : Nested → Bool) (inside : Bool) (trees : List Nested) (n : Node) → IsOpen inside n → All (λ k. is_test (tree_at trees k) ≡ true) (asserted_by n) →

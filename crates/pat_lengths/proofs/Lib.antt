@@ -2,6 +2,7 @@ mod LengthLaw
 mod LeastLaw
 pub mod CountLemmas
 pub mod OrderLemmas
+pub mod OtherNodes
 pub mod PassLemmas
 pub mod GroupLemmas
 pub mod KeepLemmas

@@ -13,7 +13,7 @@ use Rattle.pat_lengths.specs.Lengths.{SomeLengths, lengths, lengths_of_group, by
 use Rattle.pat_lengths.specs.Passing.{has_zero, passes, flagged, IsAt, passes_at}
 use Rattle.pat_lengths.specs.Rounds.{answer, group_answer, rounds, KeepAnswers, AreRounds}
 use Rattle.pat_lengths.specs.declared.rounds.Question.{Question}
-use Rattle.pat_lengths.specs.declared.rounds.Question.TheVariants.{Passes, LeadsTo}
+use Rattle.pat_lengths.specs.declared.rounds.Question.TheVariants.{Passes, LeadsTo, Names}
 use Rattle.pat_lengths.proofs.PassLemmas.{zero_is}
 
 passes_next : (unset : Bool) (whole : Nested) (d : ℕ) → ((n : ℕ) → rounds (Passes (unset || has_shared_number whole)) whole d n ≡ has_zero (by_calls unset whole d n)) →
@@ -78,9 +78,22 @@ leads_rounds whole m (suc d) n = leads_next whole d m (leads_rounds whole m d) (
 pub lost : (whole : Nested) (m d n : ℕ) → group_of whole n ≡ None → lead_to whole d (names_of_group whole n) m ≡ false
 lost whole m d n h = ap (λ o. lead_to whole d (named_in_group o) m) h ∙ none_lead whole d m
 
+-- a group that names no other leads nowhere
+
+nothing_named : (ns : List ℕ) → list_any (λ n. true) ns ≡ false → ns ≡ []
+nothing_named [] h = refl
+nothing_named (n ∷ ns) h = absurd cc
+
+pub leads_nowhere : (whole : Nested) (names : ℕ → Bool) (m d n : ℕ) → group_answer Names names (group_of whole n) ≡ false → lead_to whole d (names_of_group whole n) m ≡ false
+leads_nowhere whole names m d n h = by_group (group_of whole n) h
+  where
+    by_group : (o : Option Nested) → group_answer Names names o ≡ false → lead_to whole d (named_in_group o) m ≡ false
+    by_group None h = none_lead whole d m
+    by_group (Some t) h = ap (λ ns. lead_to whole d ns m) (nothing_named (named_in t) h) ∙ none_lead whole d m
+
 -- One round over the groups' places.
 
-placed_answer : (q : Question) (trees : List Nested) (root : ℕ) (of answers : List Bool) (r : ℕ → Bool) (place : Option ℕ) (found : Option Nested) →
+pub placed_answer : (q : Question) (trees : List Nested) (root : ℕ) (of answers : List Bool) (r : ℕ → Bool) (place : Option ℕ) (found : Option Nested) →
     length answers ≡ root + 1 → KeepAnswers q of trees answers → ((n : ℕ) → flagged of n ≡ r n) → IsAt trees root place found →
     passes_at answers place ≡ group_answer q r found
 placed_answer q trees root of answers r None found count kept h at = sym (ap (group_answer q r) at)

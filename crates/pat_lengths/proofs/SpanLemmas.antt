@@ -2,7 +2,6 @@
 use Rattle.std.proofs.Common.{◌≡◌, ◌∙◌, ◌≢◌, ℕ, zero, suc, ◌+◌, ◌*◌, ◌<◌, ◌≤◌, ◌||◌, nat_le, if◌then◌else◌, Bool, true, false, List, [], ◌∷◌, map, length, get_or, Option, Some, None, All, inl, inr, refl, sym, ap, subst, arith}
 use Rattle.std.proofs.lemmas.Bool.{cases_lt, le-leb}
 use Rattle.std.proofs.lemmas.List.Elements.{All-head, All-tail}
-use Rattle.pat_tree.specs.declared.nodes.Item.{Item}
 use Rattle.pat_tree.specs.declared.nodes.Cond.{Cond}
 use Rattle.pat_tree.specs.declared.nodes.Cond.TheVariants.{AnySet, InCall, InCallOf, Never, Assert}
 use Rattle.pat_tree.specs.declared.nodes.Node.{Node}
@@ -18,6 +17,7 @@ use Rattle.pat_lengths.specs.Lengths.{SomeLengths, counted, only, any_length, be
 use Rattle.pat_lengths.specs.Spans.{counted_most, kept, span_at, span_in, KeepSpans, KeepGroups, lengths_of_parts, lengths_of_branches, lengths_of_second, lengths_of_condition}
 use Rattle.pat_lengths.specs.declared.spans.Span.{Span}
 use Rattle.pat_lengths.proofs.OrderLemmas.{by_test}
+use Rattle.pat_lengths.proofs.OtherNodes.{IfOther, by_other}
 use Rattle.pat_lengths.proofs.CountLemmas.{counted_times}
 
 in_bounds : (low : ℕ) (high : Option ℕ) (x : SomeLengths) → AtMost low high → in_turns low high x ≡ in_some_turns low high x
@@ -76,33 +76,11 @@ module _ (unset : Bool) (whole : Nested) (of_group : ℕ → SomeLengths) where
       ap (either (of (tree_at trees first))) (second_lengths trees second)
       ∙ sym (tested_lengths _ (tree_at trees k) (All-head (λ k. is_test (tree_at trees k) ≡ true) k [] h))
 
-  pub other_lengths : (trees : List Nested) (n : Node) →
-      ((x : Item) → n ≡ node.One x → ⊥) → (n ≡ node.Break → ⊥) → ((x : List ℕ) → n ≡ node.Seq x → ⊥) →
-      ((x : Option ℕ) (y : List ℕ) → n ≡ node.Group x y → ⊥) →
-      ((w x : ℕ) (y : Option ℕ) (z : Bool) → n ≡ node.Repeat w x y z → ⊥) →
-      ((w : Item) (x : ℕ) (y : Option ℕ) (z : Bool) → n ≡ node.OneRepeat w x y z → ⊥) →
-      ((x : List ℕ) → n ≡ node.Atomic x → ⊥) →
-      ((x : Cond) (y : ℕ) (z : Option ℕ) → n ≡ node.Cond x y z → ⊥) →
-      ((x : ℕ) → n ≡ node.Call x → ⊥) →
-      ((x : List ℕ) (y : Bool) → n ≡ node.Ref x y → ⊥) →
-      lengths unset whole of_group (nest trees n) ≡ only 0
+  pub other_lengths : (trees : List Nested) (n : Node) → IfOther n (lengths unset whole of_group (nest trees n) ≡ only 0)
   unfolding lengths
-  other_lengths trees node.Empty a b c d e f g h i j = refl
-  other_lengths trees (node.One item) a b c d e f g h i j = absurd (a item refl)
-  other_lengths trees node.Break a b c d e f g h i j = absurd (b refl)
-  other_lengths trees (node.Seq kids) a b c d e f g h i j = absurd (c kids refl)
-  other_lengths trees (node.Group number branches) a b c d e f g h i j = absurd (d number branches refl)
-  other_lengths trees (node.Repeat body min max lazy) a b c d e f g h i j = absurd (e body min max lazy refl)
-  other_lengths trees (node.OneRepeat item min max lazy) a b c d e f g h i j = absurd (f item min max lazy refl)
-  other_lengths trees (node.Atomic branches) a b c d e f g h i j = absurd (g branches refl)
-  other_lengths trees (node.Look ahead positive once branches) a b c d e f g h i j = refl
-  other_lengths trees (node.Cond test first second) a b c d e f g h i j = absurd (h test first second refl)
-  other_lengths trees (node.Call n) a b c d e f g h i j = absurd (i n refl)
-  other_lengths trees (node.Ref groups caseless) a b c d e f g h i j = absurd (j groups caseless refl)
-  other_lengths trees (node.Anchor kind) a b c d e f g h i j = refl
-  other_lengths trees node.KeepOut a b c d e f g h i j = refl
-  other_lengths trees (node.VerbNode v) a b c d e f g h i j = refl
-  other_lengths trees (node.Callout number from to at len) a b c d e f g h i j = refl
+  other_lengths trees =
+      by_other (λ n. lengths unset whole of_group (nest trees n) ≡ only 0) refl (λ ahead positive once branches. refl) (λ kind. refl) refl (λ v. refl)
+      (λ number from to at len. refl)
 
 -- two lists that agree place by place are one
 pub same_lists : {X : Type 0} (xs ys : List X) (d : X) → length xs ≡ length ys → ((i : ℕ) → i < length xs → get_or xs i d ≡ get_or ys i d) → xs ≡ ys

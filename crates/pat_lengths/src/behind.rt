@@ -1,5 +1,5 @@
 // The lengths of a pattern's parts as branches of lookbehinds.
-ghost use Rattle.std.specs.Prelude.{◌≡◌, ℕ, suc, ◌+◌, ◌<◌, ◌||◌, true, if◌then◌else◌, All, List, IfOk, length};
+ghost use Rattle.std.specs.Prelude.{◌≡◌, ℕ, suc, ◌+◌, ◌<◌, ◌||◌, true, if◌then◌else◌, All, List, [], IfOk, length};
 ghost use Rattle.std.specs.List.{list_any};
 ghost use Rattle.pat_tree.specs.Nested.{Nested, trees, tree_at, nest};
 ghost use Rattle.pat_tree.specs.Parts.{tree_of};
@@ -7,7 +7,8 @@ ghost use Rattle.pat_tree.specs.Rules.{kids_of, asserted_by, is_test};
 ghost use Rattle.pat_lengths.specs.Backs.{AreBranches};
 ghost use Rattle.pat_lengths.specs.Lengths as lengths;
 ghost use Rattle.pat_lengths.specs.Nodes.{is_accept, nodes_outside_lookarounds};
-ghost use Rattle.pat_lengths.specs.Passing.{IsGroupTable, flagged};
+ghost use Rattle.pat_lengths.specs.Passing.{IsGroupTable, flagged, place_of};
+ghost use Rattle.pat_lengths.specs.Rounds.{KeepAnswers};
 ghost use Rattle.pat_lengths.specs.Spans.{AreBehind, KeepAccepts, kept, span_at, span_in};
 
 use crate::accepts::is_accept;
@@ -15,7 +16,7 @@ use crate::groups::Groups;
 use crate::kids::{has_flag, some_kid};
 use crate::lengths::spans_of;
 use crate::passing::has_any_length;
-use crate::rounds::{Question, answers_of};
+use crate::rounds::{Question, answers_of, flag_at, node_answers};
 use crate::spans::{Span, any_length, is_same};
 use pat_tree::{Memory, Node, NodeId, Tree};
 use std::alloc::Global;
@@ -59,12 +60,43 @@ fn leads_back(alloc: Global, tree: &Tree, groups: &Groups) -> Result<Vec<bool>, 
     ensures { IfOk result (λ back.
         (n : ℕ) → flagged back.items n ≡ lengths.leads_back (tree_of tree.now) n) }
 {
+    let names = node_answers(alloc, tree, Question::Names, &[])?;
     let mut back = Vec::new(alloc);
     for target in 0..groups.places.len() {
-        let leads = answers_of(alloc, tree, groups, Question::LeadsTo { target })?;
-        back.push(has_flag(&leads, target))?;
+        back.push(leads_to_itself(alloc, tree, groups, &names, target)?)?;
     }
     Ok(back)
+}
+
+/// Whether a group leads back to itself, where it is known which nodes name groups. One that names no other leads nowhere,
+/// and needs no rounds.
+fn leads_to_itself(
+    alloc: Global,
+    tree: &Tree,
+    groups: &Groups,
+    names: &[bool],
+    target: usize,
+) -> Result<bool, Memory>
+    requires table { IsGroupTable (trees tree.now.nodes) tree.now.root (tree_of tree.now)
+        groups.now }
+    requires count { length names.now ≡ tree.now.root + 1 }
+    requires kept { KeepAnswers Question.Names [] (trees tree.now.nodes) names.now }
+    ensures { IfOk result (λ back. back ≡ lengths.leads_back (tree_of tree.now) target) }
+{
+    if !flag_at(names, place_at(&groups.places, target)) {
+        return Ok(false);
+    }
+    let leads = answers_of(alloc, tree, groups, Question::LeadsTo { target })?;
+    Ok(has_flag(&leads, target))
+}
+
+fn place_at(places: &[Option<NodeId>], n: usize) -> Option<NodeId>
+    ensures { result ≡ place_of places.now n }
+{
+    match places.get(n) {
+        Some(place) => *place,
+        None => None,
+    }
 }
 
 /// The lengths of each group in lookbehinds, where calls and references lead through as many groups as there are. A group

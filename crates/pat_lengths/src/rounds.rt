@@ -1,5 +1,5 @@
 // What is asked of each group, where its answer depends on those of the groups that it names.
-ghost use Rattle.std.specs.Prelude.{◌≡◌, ℕ, suc, ◌+◌, ◌<◌, ◌||◌, ◌==◌, true, All, List, IfOk, length};
+ghost use Rattle.std.specs.Prelude.{◌≡◌, ℕ, suc, ◌+◌, ◌<◌, ◌||◌, ◌==◌, true, All, List, [], IfOk, length};
 ghost use Rattle.std.specs.List.{list_all, list_any};
 ghost use Rattle.pat_tree.specs.Groups.{group_of};
 ghost use Rattle.pat_tree.specs.Nested.{Nested, trees, tree_at, nest};
@@ -20,6 +20,8 @@ pub(crate) enum Question {
     Passes { any: bool },
     /// Whether it leads to the group of this number by calls and references.
     LeadsTo { target: usize },
+    /// Whether it names some group in a call or a reference.
+    Names,
 }
 
 /// The answer of each group, where calls and references lead through as many groups as there are.
@@ -70,7 +72,7 @@ fn next_round(
     Ok(next)
 }
 
-fn flag_at(flags: &[bool], place: Option<NodeId>) -> bool
+pub(crate) fn flag_at(flags: &[bool], place: Option<NodeId>) -> bool
     ensures { result ≡ passes_at flags.now place }
 {
     match place {
@@ -110,6 +112,7 @@ fn node_answer(node: &Node, question: Question, of: &[bool], answers: &[bool]) -
     match question {
         Question::Passes { any } => node_passes(node, any, of, answers),
         Question::LeadsTo { target } => node_leads(node, target, of, answers),
+        Question::Names => node_names(node, answers),
     }
 }
 
@@ -189,4 +192,19 @@ fn is_or_leads(group: u16, target: usize, leads: &[bool]) -> bool
     ensures { result ≡ (group == target || flagged leads.now group) }
 {
     group as usize == target || has_flag(leads, group as usize)
+}
+
+/// Whether a call or a reference in a node names some group.
+fn node_names(node: &Node, naming: &[bool]) -> bool
+    requires below { All (λ k. k < length naming.now) (kids_of node.now) }
+    ensures { (trees : List Nested)
+        → All (λ k. is_test (tree_at trees k) ≡ true) (asserted_by node.now)
+        → KeepAnswers Question.Names [] trees naming.now
+        → result ≡ answer Question.Names (flagged []) (nest trees node.now) }
+{
+    match node {
+        Node::Call { .. } => true,
+        Node::Ref { groups, .. } => groups.len() > 0,
+        _ => some_kid(node, naming),
+    }
 }

@@ -7,10 +7,8 @@ use Rattle.pat_tree.specs.Parts.{tree_of}
 use Rattle.pat_lengths.specs.Lengths as lengths
 use Rattle.pat_lengths.specs.Nodes.{captures}
 use Rattle.pat_lengths.specs.Passing.{flagged, IsAt, place_of}
-use Rattle.pat_lengths.specs.Rounds.{rounds}
-use Rattle.pat_lengths.specs.declared.rounds.Question.TheVariants.{LeadsTo}
 use Rattle.pat_lengths.proofs.KeepLemmas.{keep_more}
-use Rattle.pat_lengths.proofs.RoundLemmas.{leads_rounds, lost}
+use Rattle.pat_lengths.proofs.RoundLemmas.{lost}
 use Rattle.pat_lengths.proofs.behind.leads_back.Goals as goal
 
 pub loop-target-preserved : goal.loop-target-preserved
@@ -18,13 +16,10 @@ loop-target-preserved c =
     let whole = tree_of c.args.tree.now in
     let target = c.loop-target.target in
     let old = c.loop-target.back.items in
-    let x = c.has_flag.result in
-    let leads = c.in_ok-leads.leads.items in
+    let x = c.in_ok-leads_to_itself.field-0 in
     let items : c.push.new.self.items ≡ old ++ x ∷ [] = c.in_ok-push.ensures.items in
     let count : length old ≡ target = c.loop-target.invariant.0 in
-    let here : x ≡ lengths.leads_back whole target =
-    c.has_flag.ensures ∙ ap (λ xs. flagged xs target) c.deref.ensures.value ∙ c.in_ok-leads.ensures target
-    ∙ ap (λ d. rounds (LeadsTo target) whole (suc d) target) c.requires.count ∙ leads_rounds whole target (suc (captures whole)) target in
+    let here : x ≡ lengths.leads_back whole target = c.in_ok-leads_to_itself.ensures in
     let more = keep_more (λ k b. b ≡ lengths.leads_back whole k) old x false (λ k l. c.loop-target.invariant.1 k (omega (arith, l, count))) (subst (λ k. x ≡ lengths.leads_back whole k) (sym count) here) in
     let grown : length (old ++ x ∷ []) ≡ target + 1 = omega (arith, count, length-append old (x ∷ [])) in
     (ap length items ∙ grown, λ n l. ap (λ xs. flagged xs n) items ∙ more n (omega (arith, l, grown)))

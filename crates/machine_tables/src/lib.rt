@@ -1,0 +1,7 @@
+//! Tables of what the machine answers at one place.
+#![tactic(auto)]
+
+#[cfg(test)]
+mod places;
+#[cfg(test)]
+mod rows;

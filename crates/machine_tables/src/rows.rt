@@ -1,0 +1,123 @@
+//! Patterns at the first place of a subject, each form by itself.
+use crate::places::{Change, Row, cases, placed};
+use Change::{Captured, Steps, Units};
+use frame_machine::{PlaceAnswer, Scratch, Signal};
+use pat_tree::MatchOptions;
+use std::test::Fail;
+
+const FAILED: PlaceAnswer = PlaceAnswer::Failed {
+    signal: Signal::Exhausted,
+    hit_end: false,
+};
+
+macro_rules! found {
+    ($keep:expr, $to:expr) => {
+        PlaceAnswer::Matched {
+            keep: $keep,
+            to: $to,
+            mark: None,
+        }
+    };
+}
+
+#[test]
+fn a_place_is_answered_by_any_workspace(rt: HostRuntime) -> Result<(), Fail> {
+    static ROWS: [Row; 8] = [
+        (b"(?:ab)*c", b"ababc", found!(0, 5), &[Steps(3)]),
+        (b"(?:ab)*c", b"ababc", PlaceAnswer::MatchLimit, &[Steps(2)]),
+        (b"(a)", b"a", found!(0, 1), &[Units(2), Captured(0, 1)]),
+        (b"(a)", b"a", PlaceAnswer::FrameLimit, &[Units(1)]),
+        (b"(a)", b"b", FAILED, &[]),
+        (b"(a*)*", b"aab", found!(0, 2), &[Captured(2, 2)]),
+        (b"foo\\Kbar", b"foobar", found!(3, 6), &[]),
+        (
+            b"(a+)*zz",
+            b"aaaaaaaaaaaaaaaaaaaaaaaaaaaaaa",
+            PlaceAnswer::MatchLimit,
+            &[Steps(1000)],
+        ),
+    ];
+    cases(&rt, rt.alloc(), &ROWS)
+}
+
+// To enter an atomic group and to leave it is a unit each, and each of its branches is a Step.
+#[test]
+fn an_atomic_group_keeps_its_first_outcome(rt: HostRuntime) -> Result<(), Fail> {
+    static ROWS: [Row; 10] = [
+        (b"(?>a*)a", b"aaa", FAILED, &[]),
+        (b"(?>a|ab)c", b"abc", FAILED, &[]),
+        (b"(?>a|ab)c", b"ac", found!(0, 2), &[]),
+        (b"(?:aa|a)(?>a)ab", b"aaab", found!(0, 4), &[]),
+        (b"(?>(a)b)c|a", b"abd", found!(0, 1), &[]),
+        (b"(?>(a)b)c|a", b"abc", found!(0, 3), &[Captured(0, 1)]),
+        (b"(?>a)", b"a", found!(0, 1), &[Units(2)]),
+        (b"(?>a)", b"a", PlaceAnswer::FrameLimit, &[Units(1)]),
+        (b"(?>a|b)", b"b", found!(0, 1), &[Steps(2)]),
+        (b"(?>a|b)", b"b", PlaceAnswer::MatchLimit, &[Steps(1)]),
+    ];
+    cases(&rt, rt.alloc(), &ROWS)
+}
+
+// To enter a lookahead and to leave it is a unit each. One that keeps all its outcomes is left without one, and a negative
+// one leaves the units as they were.
+#[test]
+fn a_lookahead_goes_back_to_its_place(rt: HostRuntime) -> Result<(), Fail> {
+    static ROWS: [Row; 9] = [
+        (b"(?=(a+))a", b"aab", found!(0, 1), &[Captured(0, 2)]),
+        (
+            b"(?=(a+))a",
+            b"ab",
+            found!(0, 1),
+            &[Units(4), Captured(0, 1)],
+        ),
+        (b"(?=(a+))a", b"ab", PlaceAnswer::FrameLimit, &[Units(3)]),
+        (b"(?*a)a", b"a", found!(0, 1), &[Units(1)]),
+        (b"(?*a)a", b"a", PlaceAnswer::FrameLimit, &[Units(0)]),
+        (b"(?!a)(?!a)b", b"b", found!(0, 1), &[Units(1)]),
+        (b"(?!a)(?!a)b", b"b", PlaceAnswer::FrameLimit, &[Units(0)]),
+        (b"(?!a)(?!a)b", b"a", FAILED, &[]),
+        (b"(?!(a)b)ac", b"ac", found!(0, 2), &[]),
+    ];
+    cases(&rt, rt.alloc(), &ROWS)
+}
+
+// To enter a lookbehind and to leave it is a unit each, and each of its branches is a Step. There is no character before
+// the first place.
+#[test]
+fn a_lookbehind_begins_before_its_place(rt: HostRuntime) -> Result<(), Fail> {
+    static ROWS: [Row; 11] = [
+        (b"a(?<=a)b", b"ab", found!(0, 2), &[]),
+        (b"a(?<=a)b", b"ab", found!(0, 2), &[Units(2)]),
+        (b"a(?<=a)b", b"ab", PlaceAnswer::FrameLimit, &[Units(1)]),
+        (b"a(?<*a)b", b"ab", found!(0, 2), &[Units(1)]),
+        (b"(?<=a)b", b"b", FAILED, &[]),
+        (b"(?<!a)b", b"b", found!(0, 1), &[]),
+        (b"a(?<!a)b", b"ab", FAILED, &[]),
+        (b"a(?<=x|(a))b", b"ab", found!(0, 2), &[Captured(0, 1)]),
+        (
+            b"a(?<=x|(a))b",
+            b"ab",
+            found!(0, 2),
+            &[Steps(2), Captured(0, 1)],
+        ),
+        (b"a(?<=x|(a))b", b"ab", PlaceAnswer::MatchLimit, &[Steps(1)]),
+        (b"ab(?<!x|ab)c", b"abc", FAILED, &[]),
+    ];
+    cases(&rt, rt.alloc(), &ROWS)
+}
+
+#[test]
+fn a_million_turns_take_two_steps_each(rt: HostRuntime) -> Result<(), Fail> {
+    let alloc = rt.alloc();
+    let mut subject = vec![in alloc; b'a'; 1_000_000]?;
+    subject.push(b'c')?;
+    let mut scratch = Scratch::new(alloc);
+    let mut matching = MatchOptions::PLAIN;
+    matching.match_limit = 2_000_003;
+    let enough = placed(alloc, b"(?:a|b)*c", &subject, &matching, &mut scratch)?;
+    assert_eq!(rt; enough.0, found!(0, 1_000_001));
+    matching.match_limit = 2_000_002;
+    let few = placed(alloc, b"(?:a|b)*c", &subject, &matching, &mut scratch)?;
+    assert_eq!(rt; few.0, PlaceAnswer::MatchLimit);
+    Ok(())
+}

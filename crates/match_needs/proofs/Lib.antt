@@ -1,0 +1,4 @@
+pub mod Backwards
+pub mod SetLemmas
+pub mod BoundLemmas
+pub mod NeedLemmas

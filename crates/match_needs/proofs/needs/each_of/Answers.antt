@@ -1,0 +1,20 @@
+use Rattle.std.proofs.Common.{arith, ◌≡◌, ◌<◌, ◌-◌, length}
+use Rattle.match_needs.proofs.NeedLemmas.{needs_back, need_read}
+use Rattle.match_needs.proofs.needs.each_of.Goals as goal
+
+pub loop-i-preserved : goal.loop-i-preserved
+loop-i-preserved c =
+    let xs = c.args.branches.now in
+    let i = c.loop-i.i in
+    let below : i - 1 < length xs = omega (arith, c.loop-i.invariant.within, c.loop-i-test.true) in
+    record {
+      within = omega (arith, c.loop-i.invariant.within);
+      is = λ has of.
+          needs_back has of c.args.needs.now xs i c.index-needs-branches.result c.loop-i.whole c.joined-whole.result
+          c.loop-i-test.true c.loop-i.invariant.within
+          (need_read c.args.needs.now xs (i - 1) c.index-needs-branches.result below c.requires c.index-needs-branches.is)
+          (c.loop-i.invariant.is has of) (c.joined-whole.ensures has);
+    }
+
+pub returns : goal.returns
+returns c has of = let done : c.loop-i.i ≡ 0 = omega (arith, c.loop-i-test.false) in rw done at (c.loop-i.invariant.is has of)

@@ -1,0 +1,19 @@
+use Rattle.std.proofs.Common.{◌≡◌, ◌∙◌, ◌+◌, ◌∷◌, ◌++◌, [], None, ap, sym, subst, length, length-append}
+use Rattle.pat_tree.specs.Nested.{trees, tree_at}
+use Rattle.char_sets.specs.Sets.{class_has}
+use Rattle.pat_lengths.proofs.KeepLemmas.{keep_more}
+use Rattle.match_needs.specs.NeedTables.{KeepNeeds, IsNeed}
+use Rattle.match_needs.proofs.needs.needs_of.Goals as goal
+
+pub loop-id-preserved : goal.loop-id-preserved
+loop-id-preserved g c =
+    let tree = c.args.tree.now in
+    let ts = trees tree.nodes in
+    let old = c.loop-id.needs.items in
+    let need = c.node_need-need.result in
+    let items : c.push.new.self.items ≡ old ++ need ∷ [] = c.in_ok-push.ensures.items in
+    let count : length old ≡ c.loop-id.id = c.loop-id.invariant.0 in (
+      ap length items ∙ length-append old (need ∷ []) ∙ ap (λ n. n + 1) count,
+      subst (KeepNeeds (class_has tree) ts) (sym items) (keep_more (λ k s. IsNeed (class_has tree) (tree_at ts k) s) old need None c.loop-id.invariant.1
+          (rw (count, ← c.node.ensures.is) (rw c.deref.ensures.value at (c.node_need-need.ensures tree c.requires ts) c.loop-id.invariant.1))),
+    )

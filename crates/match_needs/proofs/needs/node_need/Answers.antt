@@ -1,0 +1,54 @@
+use Rattle.std.proofs.Common.{◌<◌, All, None, length, subst}
+use Rattle.std.specs.Prelude.{slice_index_or}
+use Rattle.pat_tree.specs.Nested.{tree_at}
+use Rattle.pat_tree.specs.Rules.{kids_of}
+use Rattle.char_sets.specs.Sets.{class_has}
+use Rattle.pat_lengths.proofs.KeepLemmas.{all_kept}
+use Rattle.match_needs.specs.NeedTables.{IsNeed}
+use Rattle.match_needs.proofs.NeedLemmas.{needs_one, needs_turn, needs_group, needs_atomic, needs_look}
+use Rattle.match_needs.proofs.needs.node_need.Goals as goal
+
+pub returns-in-One : goal.returns-in-One
+returns-in-One g c tree table trees kept =
+    rw c.in-One.is (needs_one (class_has tree) c.in-One.item c.item_need.result (c.item_need.ensures tree table))
+
+pub returns-in-Seq : goal.returns-in-Seq
+returns-in-Seq g c tree table trees kept =
+    let has = class_has tree in
+    let needs = c.args.needs.now in
+    let kids = c.in-Seq.kids in
+    let below : All (λ k. k < length needs) kids = subst (λ n. All (λ k. k < length needs) (kids_of n)) c.in-Seq.is c.requires.below in
+    let all = all_kept (λ k. IsNeed has (tree_at trees k) (slice_index_or needs k None)) kids (length needs) kept below in
+    rw c.in-Seq.is (needs_turn has _ c.rarest.result
+    ((rw c.as_slice.ensures at (c.rarest.ensures has (tree_at trees))) all))
+
+pub returns-in-Group : goal.returns-in-Group
+returns-in-Group g c tree table trees kept =
+    let has = class_has tree in
+    let needs = c.args.needs.now in
+    let kids = c.in-Group.branches in
+    let below : All (λ k. k < length needs) kids = subst (λ n. All (λ k. k < length needs) (kids_of n)) c.in-Group.is c.requires.below in
+    let all = all_kept (λ k. IsNeed has (tree_at trees k) (slice_index_or needs k None)) kids (length needs) kept below in
+    rw c.in-Group.is (needs_group has c.in-Group.number _ c.each_of.result
+    ((rw c.as_slice-in-Group.ensures at (c.each_of.ensures has (tree_at trees))) all))
+
+pub returns-in-Atomic : goal.returns-in-Atomic
+returns-in-Atomic g c tree table trees kept =
+    let has = class_has tree in
+    let needs = c.args.needs.now in
+    let kids = c.in-Atomic.branches in
+    let below : All (λ k. k < length needs) kids = subst (λ n. All (λ k. k < length needs) (kids_of n)) c.in-Atomic.is c.requires.below in
+    let all = all_kept (λ k. IsNeed has (tree_at trees k) (slice_index_or needs k None)) kids (length needs) kept below in
+    rw c.in-Atomic.is (needs_atomic has _ c.each_of-in-Atomic.result
+    ((rw c.as_slice-in-Atomic.ensures at (c.each_of-in-Atomic.ensures has (tree_at trees))) all))
+
+pub returns-in-Look : goal.returns-in-Look
+returns-in-Look g c tree table trees kept =
+    let has = class_has tree in
+    let needs = c.args.needs.now in
+    let kids = c.in-Look.branches in
+    let below : All (λ k. k < length needs) kids = subst (λ n. All (λ k. k < length needs) (kids_of n)) c.in-Look.is c.requires.below in
+    let all = all_kept (λ k. IsNeed has (tree_at trees k) (slice_index_or needs k None)) kids (length needs) kept below in
+    rw c.in-Look.is
+    (needs_look has c.in-Look.ahead c.in-Look.positive c.in-Look.atomic _ c.each_of-in-Look.result c.wanted_if.result
+    ((rw c.as_slice-in-Look.ensures at (c.each_of-in-Look.ensures has (tree_at trees))) all) c.wanted_if.ensures)

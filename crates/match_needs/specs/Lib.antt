@@ -1,0 +1,4 @@
+pub mod Bounds
+pub mod BoundTables
+pub mod Needs
+pub mod NeedTables

@@ -1,0 +1,275 @@
+// Bytes of which every match of a part of a pattern takes one.
+ghost use Rattle.std.specs.Prelude.{◌≡◌, ℕ, ◌+◌, ◌<◌, ◌&&◌, if◌then◌else◌, Bool, false, None, All, List, map, IfOk, IfSome, length};
+ghost use Rattle.byte_lanes.specs.Sets.{has_byte};
+ghost use Rattle.pat_tree.specs.Nested.{Nested, Row, more, trees, nest, row};
+ghost use Rattle.pat_tree.specs.Parts.{TreeParts};
+ghost use Rattle.pat_tree.specs.Rules.{kids_of, classes_of, class_in};
+ghost use Rattle.char_sets.specs.Sets.{class_has};
+ghost use Rattle.char_sets.specs.Table.{IsTableOf};
+ghost use Rattle.match_needs.specs.Needs.{Needs, SomeNeeds};
+ghost use Rattle.match_needs.specs.NeedTables.{IsNeed, IsItemNeed, AreAllNeeds, KeepNeeds, AreNeeds, IsNeedOf};
+
+use crate::bounds::{Bound, bound_of_whole};
+use crate::sets::{add_all, copied};
+use crate::taken::taken_bytes;
+use byte_lanes::ByteSet;
+use char_sets::ClassTable;
+use pat_tree::{Item, Memory, Node, NodeId, Steps, Tree};
+use std::alloc::Global;
+use std::marker::Brand;
+use std::sync::ledger::{Blank, Ledger};
+
+/// A set of bytes of which every match takes one, and what a search takes at most. So a subject without such a byte has no
+/// match, and within the limits a search of it passes none.
+#[derive(Drop)]
+pub struct Need {
+    pub bytes: ByteSet,
+    pub bound: Bound,
+}
+
+/// A set of bytes of which every match of a part takes one, and how common they are.
+#[derive(Drop)]
+pub(crate) struct Wanted {
+    pub bytes: ByteSet,
+    pub weight: u32,
+}
+
+// A set that is more common than this is of no use, since most lines have one of its bytes.
+const COMMON: u32 = 100;
+
+/// The bytes that every match of a pattern needs with the pattern's bound, where both are known; none in UTF. Needs the
+/// table of the tree's own classes.
+pub fn need_of(alloc: Global, tree: &Tree, classes: &ClassTable) -> Result<Option<Need>, Memory>
+    requires table { IsTableOf tree.now classes.now }
+    ensures { IfOk result (λ need. IfSome need (IsNeedOf tree.now)) }
+{
+    need_with::<Brand>(alloc, tree, classes, Blank::new(1))
+}
+
+/// The same, by a counter of its own.
+fn need_with<L: Ledger>(
+    alloc: Global,
+    tree: &Tree,
+    classes: &ClassTable,
+    blank: Blank,
+) -> Result<Option<Need>, Memory>
+    requires name { blank.name ≡ L.name }
+    requires parts { blank.parts ≡ L.parts }
+    requires one { blank.parts ≡ 1 }
+    requires table { IsTableOf tree.now classes.now }
+    ensures { IfOk result (λ need. IfSome need (IsNeedOf tree.now)) }
+{
+    let mut steps = Steps::<L>::new(blank);
+    need_of_whole(alloc, tree, classes, &mut steps)
+}
+
+/// The same, with a counter for the tests of classes.
+fn need_of_whole<L: Ledger>(
+    alloc: Global,
+    tree: &Tree,
+    classes: &ClassTable,
+    steps: &mut Steps<L>,
+) -> Result<Option<Need>, Memory>
+    requires table { IsTableOf tree.now classes.now }
+    ensures { IfOk result (λ need. IfSome need (IsNeedOf tree.now)) }
+{
+    if tree.options().utf {
+        return Ok(None);
+    }
+    let Some(bound) = bound_of_whole(alloc, tree)? else {
+        return Ok(None);
+    };
+    let needs = needs_of(alloc, tree, classes, steps)?;
+    Ok(with_bound(&needs[tree.root() as usize], bound))
+}
+
+fn with_bound(need: &Option<Wanted>, bound: Bound) -> Option<Need>
+    ensures bytes { (has : ℕ → ℕ → Bool) → (t : Nested) → IsNeed has t need.now
+        → IfSome result (λ told. Needs has (has_byte told.bytes) t) }
+    ensures bound { IfSome result (λ told. told.bound ≡ bound) }
+{
+    match need {
+        Some(wanted) => Some(Need {
+            bytes: copied(&wanted.bytes),
+            bound,
+        }),
+        None => None,
+    }
+}
+
+/// What is needed of each node up to the root.
+fn needs_of<L: Ledger>(
+    alloc: Global,
+    tree: &Tree,
+    classes: &ClassTable,
+    steps: &mut Steps<L>,
+) -> Result<Vec<Option<Wanted>>, Memory>
+    requires { IsTableOf tree.now classes.now }
+    ensures count { IfOk result (λ needs. length needs.items ≡ tree.now.root + 1) }
+    ensures kept { IfOk result (λ needs.
+        KeepNeeds (class_has tree.now) (trees tree.now.nodes) needs.items) }
+{
+    let mut needs = Vec::new(alloc);
+    for id in 0..tree.root() as u64 + 1 {
+        let need = node_need(classes, tree.node(id as u32), &needs, steps);
+        needs.push(need)?;
+    }
+    Ok(needs)
+}
+
+/// What is needed of a node, by what is needed of its children.
+fn node_need<L: Ledger>(
+    classes: &ClassTable,
+    node: &Node,
+    needs: &[Option<Wanted>],
+    steps: &mut Steps<L>,
+) -> Option<Wanted>
+    requires classes { All (λ n. n < length classes.now) (classes_of node.now) }
+    requires below { All (λ k. k < length needs.now) (kids_of node.now) }
+    ensures { (tree : TreeParts) → IsTableOf tree classes.now → (trees : List Nested)
+        → KeepNeeds (class_has tree) trees needs.now
+        → IsNeed (class_has tree) (nest trees node.now) result }
+{
+    match node {
+        Node::One(item) => item_need(classes, item, steps),
+        Node::Seq(kids) => rarest(kids.as_slice(), needs),
+        Node::Group { branches, .. } => each_of(branches.as_slice(), needs),
+        Node::OneRepeat { item, min, .. } if *min > 0 => item_need(classes, item, steps),
+        Node::Atomic(branches) => each_of(branches.as_slice(), needs),
+        Node::Look {
+            ahead,
+            positive,
+            branches,
+            ..
+        } => wanted_if(*ahead, *positive, each_of(branches.as_slice(), needs)),
+        _ => None,
+    }
+}
+
+fn wanted_if(ahead: bool, positive: bool, wanted: Option<Wanted>) -> Option<Wanted>
+    ensures { result ≡ (if ahead && positive then wanted else None) }
+{
+    if ahead && positive { wanted } else { None }
+}
+
+/// The bytes that a character or a class takes, where they are rare.
+fn item_need<L: Ledger>(classes: &ClassTable, item: &Item, steps: &mut Steps<L>) -> Option<Wanted>
+    requires class { All (λ n. n < length classes.now) (class_in item.now) }
+    ensures { (tree : TreeParts) → IsTableOf tree classes.now
+        → IfSome result (IsItemNeed (class_has tree) item.now) }
+{
+    match item {
+        Item::Char { .. } => rare(taken_bytes(classes, item, steps)),
+        Item::Class(_) => rare(taken_bytes(classes, item, steps)),
+        _ => None,
+    }
+}
+
+/// A set, where it is rare enough.
+fn rare(bytes: ByteSet) -> Option<Wanted>
+    ensures { IfSome result (λ w. w.bytes ≡ bytes) }
+{
+    let weight = weight_of(&bytes);
+    if weight > COMMON {
+        return None;
+    }
+    Some(Wanted { bytes, weight })
+}
+
+/// How common the bytes of a set are in text and sources.
+fn weight_of(bytes: &ByteSet) -> u32 {
+    let mut weight = 0u32;
+    for b in 0..256u32 {
+        if bytes.has(b as u8) {
+            weight = weight.saturating_add(commonness(b as u8));
+        }
+    }
+    weight
+}
+
+/// How common a byte is: spaces most, then letters and digits, then signs.
+fn commonness(byte: u8) -> u32 {
+    match byte {
+        b' ' => 30,
+        b'e' | b't' | b'a' | b'o' | b'i' | b'n' | b's' | b'r' => 12,
+        b'a'..=b'z' | b'0'..=b'9' => 6,
+        b'A'..=b'Z' | b'.' | b',' | b'-' | b'_' | b':' | b'/' => 3,
+        _ => 2,
+    }
+}
+
+/// How common a set is, where there is one.
+fn weighed(need: &Option<Wanted>) -> u32 {
+    match need {
+        Some(wanted) => wanted.weight,
+        None => u32::MAX,
+    }
+}
+
+/// Of what is needed of these parts the rarest.
+fn rarest(parts: &[NodeId], needs: &[Option<Wanted>]) -> Option<Wanted>
+    requires { All (λ k. k < length needs.now) parts.now }
+    ensures { (has : ℕ → ℕ → Bool) → (of : ℕ → Nested) → AreNeeds has of needs.now parts.now
+        → IfSome result (λ w. SomeNeeds has (has_byte w.bytes) (row (map of parts.now))) }
+{
+    let mut least = u32::MAX;
+    let mut best = None;
+    for i in 0..parts.len() {
+        let weight = weighed(&needs[parts[i] as usize]);
+        if weight < least {
+            least = weight;
+            best = Some(i);
+        }
+    }
+    match best {
+        Some(i) => copy_of(&needs[parts[i] as usize]),
+        None => None,
+    }
+}
+
+fn copy_of(need: &Option<Wanted>) -> Option<Wanted>
+    ensures { (has : ℕ → ℕ → Bool) → (t : Nested) → IsNeed has t need.now → IsNeed has t result }
+{
+    match need {
+        Some(wanted) => Some(Wanted {
+            bytes: copied(&wanted.bytes),
+            weight: wanted.weight,
+        }),
+        None => None,
+    }
+}
+
+/// A byte that one of these branches needs, whichever it is.
+fn each_of(branches: &[NodeId], needs: &[Option<Wanted>]) -> Option<Wanted>
+    requires { All (λ k. k < length needs.now) branches.now }
+    ensures { (has : ℕ → ℕ → Bool) → (of : ℕ → Nested) → AreNeeds has of needs.now branches.now
+        → AreAllNeeds has (row (map of branches.now)) result }
+{
+    let mut whole = Some(Wanted {
+        bytes: ByteSet::empty(),
+        weight: 0,
+    });
+    let mut i = branches.len();
+    while i > 0 {
+        i -= 1;
+        whole = joined(&needs[branches[i] as usize], whole);
+    }
+    whole
+}
+
+/// What a branch needs or the others, where the bytes are still rare together.
+fn joined(one: &Option<Wanted>, others: Option<Wanted>) -> Option<Wanted>
+    ensures { (has : ℕ → ℕ → Bool) → (t : Nested) (ts : Row) → IsNeed has t one.now
+        → AreAllNeeds has ts others → AreAllNeeds has (more t ts) result }
+{
+    let Some(one) = one else {
+        return None;
+    };
+    let mut both = others?;
+    add_all(&mut both.bytes, &one.bytes);
+    both.weight = both.weight.saturating_add(one.weight);
+    if both.weight > COMMON {
+        return None;
+    }
+    Some(both)
+}

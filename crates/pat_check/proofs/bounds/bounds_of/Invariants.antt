@@ -1,7 +1,0 @@
-use Rattle.std.proofs.Common.{◌≡◌, length}
-use Rattle.pat_tree.specs.Nested.{trees}
-use Rattle.pat_check.specs.BoundTables.{KeepBounds}
-use Rattle.pat_check.proofs.bounds.bounds_of.Given as goal
-
-abbrev pub invariant-loop-id : goal.invariant-loop-id
-invariant-loop-id l = (length l.bounds.items ≡ l.id) × KeepBounds (trees l.tree.nodes) l.bounds.items

@@ -1,9 +1,0 @@
-use Rattle.pat_check.specs.NeedTables.{IsNeed, AreAllNeeds}
-use Rattle.std.proofs.Common.{subst}
-use Rattle.pat_check.proofs.NeedLemmas.{both_need}
-use Rattle.pat_check.proofs.needs.joined.Goals as goal
-
-pub returns : goal.returns
-returns c has t ts h k =
-    both_need has t ts c.in-Some.one.bytes c.in_ok-both.both.bytes c.add_all.new.bytes c.add_all.ensures
-    (subst (IsNeed has t) c.in-Some.is h) (subst (AreAllNeeds has ts) c.in_ok-both.was k)

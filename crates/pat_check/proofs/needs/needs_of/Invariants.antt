@@ -1,8 +1,0 @@
-use Rattle.std.proofs.Common.{◌≡◌, length}
-use Rattle.pat_tree.specs.Nested.{trees}
-use Rattle.char_sets.specs.Sets.{class_has}
-use Rattle.pat_check.specs.NeedTables.{KeepNeeds}
-use Rattle.pat_check.proofs.needs.needs_of.Given as goal
-
-abbrev pub invariant-loop-id : goal.invariant-loop-id
-invariant-loop-id g l = (length l.needs.items ≡ l.id) × KeepNeeds (class_has l.tree) (trees l.tree.nodes) l.needs.items
