@@ -9,6 +9,7 @@ use Rattle.token_parts.specs.declared.fault.Fault.{Fault}
 use Rattle.token_parts.specs.declared.token.Token.TheVariants.{Open, CondStart}
 use Rattle.token_parts.specs.declared.token.CondText.TheVariants as tested
 use Rattle.pat_build.specs.declared.machine.Bars.TheVariants.{Free, First}
+use Rattle.pat_build.specs.declared.machine.Numbering.TheVariants.{Onward, Reset}
 use Rattle.token_parts.specs.declared.token.OpenKind.TheVariants.{Capture}
 use Rattle.pat_build.specs.State.{State}
 use Rattle.token_parts.specs.declared.token.CondText.{CondText}
@@ -16,7 +17,7 @@ use Rattle.pat_build.specs.declared.error.ReadError.{ReadError}
 use Rattle.pat_build.specs.declared.error.ReadError.TheVariants.{Bad, Memory}
 use Rattle.pat_build.specs.Machine.{Refuses}
 use Rattle.pat_build.specs.Parts.{beginning, conditions, assertion, assertions, asserts, enters}
-use Rattle.pat_build.specs.Groups.{Opens, Opening, Form, grouped, asserted, asserting, IsWorded, is_look, bars_in, has_name, opened, captured, named, form_in, beyond_after}
+use Rattle.pat_build.specs.Groups.{Opens, Opening, Form, grouped, asserted, asserting, IsWorded, is_look, bars_in, is_elsewhere, is_other, opened, captured, named, reset, form_in, beyond_after}
 
 pub opened_deep : (st : State) (form : Form) (after : State) → 250 ≤ st.depth → opened st form after ≡ fault 119 st.at
 unfolding opened
@@ -25,7 +26,10 @@ opened_deep st form after h = grind (arith, nat_tests)
 -- the group, and the state in which its inside begins
 abbrev pub begun : State → Form → State → Opens
 begun st form after =
-    Ok (record { form = form; around = st.options; looking = st.looking; bars = st.bars; at = st.at }, record after { depth = st.depth + 1; looking = is_look form || st.looking; bars = bars_in form })
+    Ok (
+      record { form = form; around = st.options; looking = st.looking; bars = st.bars; numbering = st.numbering; at = st.at },
+      record after { depth = st.depth + 1; looking = is_look form || st.looking; bars = bars_in form; numbering = Onward },
+    )
 
 pub opened_fits : (st : State) (form : Form) (after : State) → st.depth < 250 → opened st form after ≡ begun st form after
 unfolding opened
@@ -57,15 +61,34 @@ module _ (st : State) (name : List ℕ) (after : State) where
   unfolding named
   named_many h k = rw (captured_many st (record after { names = with_name (record { name = name; group = st.groups + 1 }) st.names }) h k) refl
 
-  pub named_twice : st.depth < 250 → st.groups < 65535 → (not st.options.dupnames && list_any (has_name name) st.names) ≡ true → named st name after ≡ fault 143 st.at
+  pub named_twice : st.depth < 250 → st.groups < 65535 → (not st.options.dupnames && list_any (is_elsewhere name (st.groups + 1)) st.names) ≡ true → named st name after ≡ fault 143 st.at
   unfolding named
   named_twice h k twice = rw (captured_fits st (record after { names = with_name (record { name = name; group = st.groups + 1 }) st.names }) h k, twice) refl
 
-  pub named_fits : st.depth < 250 → st.groups < 65535 → (not st.options.dupnames && list_any (has_name name) st.names) ≡ false →
+  pub named_other : st.depth < 250 → st.groups < 65535 → (not st.options.dupnames && list_any (is_elsewhere name (st.groups + 1)) st.names) ≡ false →
+      list_any (is_other name (st.groups + 1)) st.names ≡ true → named st name after ≡ fault 165 st.at
+  unfolding named
+  named_other h k once other = rw (captured_fits st (record after { names = with_name (record { name = name; group = st.groups + 1 }) st.names }) h k, once, other) refl
+
+  pub named_fits : st.depth < 250 → st.groups < 65535 → (not st.options.dupnames && list_any (is_elsewhere name (st.groups + 1)) st.names) ≡ false → list_any (is_other name (st.groups + 1)) st.names ≡ false →
       named st name after
       ≡ begun st (grouped (Some (st.groups + 1))) (record after { names = with_name (record { name = name; group = st.groups + 1 }) st.names; groups = st.groups + 1 })
   unfolding named
-  named_fits h k once = rw (captured_fits st (record after { names = with_name (record { name = name; group = st.groups + 1 }) st.names }) h k, once) refl
+  named_fits h k once none = rw (captured_fits st (record after { names = with_name (record { name = name; group = st.groups + 1 }) st.names }) h k, once, none) refl
+
+-- a branch reset
+pub reset_deep : (st after : State) → 250 ≤ st.depth → reset st after ≡ fault 119 st.at
+unfolding reset
+reset_deep st after h = rw (opened_deep st (grouped None) after h) refl
+
+pub reset_fits : (st after : State) → st.depth < 250 →
+    reset st after
+    ≡ Ok (
+      record { form = grouped None; around = st.options; looking = st.looking; bars = st.bars; numbering = st.numbering; at = st.at },
+      record after { depth = st.depth + 1; looking = st.looking; bars = Free; numbering = Reset st.groups st.groups },
+    )
+unfolding reset
+reset_fits st after h = rw (opened_fits st (grouped None) after h) refl
 
 -- `(` captures, unless groups don't
 module _ (known : List NameEntry) (text : List ℕ) (n : ℕ) (st next : State) where
@@ -103,10 +126,10 @@ worded_is known text n st tested.Define from to next worded = refl
 
 -- the state where the lookaround is looked for
 abbrev pub before_test : State → State → State
-before_test st after = record after { depth = st.depth + 1; looking = st.looking; bars = First }
+before_test st after = record after { depth = st.depth + 1; looking = st.looking; bars = First; numbering = Onward }
 
 abbrev pub testing : State → Opening
-testing st = record { form = asserting; around = st.options; looking = st.looking; bars = st.bars; at = st.at }
+testing st = record { form = asserting; around = st.options; looking = st.looking; bars = st.bars; numbering = st.numbering; at = st.at }
 
 module _ (text : List ℕ) (n : ℕ) (st after : State) where
   pub assertions_deep : 250 ≤ st.depth → assertions text n st after ≡ fault 119 st.at
@@ -124,6 +147,7 @@ module _ (text : List ℕ) (n : ℕ) (st after : State) where
 
     pub assertions_fit : here.depth < 250 →
         assertions text n st after
-        ≡ Ok (asserts (testing st) (record { form = asserted ahead positive; around = here.options; looking = here.looking; bars = here.bars; at = here.at }) (record beyond { depth = here.depth + 1; looking = true; bars = Free }))
+        ≡ Ok (asserts (testing st) (record { form = asserted ahead positive; around = here.options; looking = here.looking; bars = here.bars; numbering = here.numbering; at = here.at })
+        (record beyond { depth = here.depth + 1; looking = true; bars = Free; numbering = Onward }))
     unfolding assertions
     assertions_fit h = rw (opened_fits st asserting after fits, found, opened_fits here (asserted ahead positive) beyond h) refl

@@ -1,7 +1,7 @@
 -- What ends a reading ends what goes on from it.
 use Rattle.std.proofs.Common.{◌≡◌, ℕ, List, [], ◌∷◌, ◌≤◌, ◌<◌, ◌||◌, nat_lt, Bool, true, false, length, Result, Ok, refl, ap, sym, ◌∙◌, arith, Option, All}
 use Rattle.std.proofs.lemmas.Bool.Decides.{nat_tests}
-use Rattle.std.proofs.lemmas.List.Elements.{All-weaker, All-nil, All-from_recursion, recursion_from_All}
+use Rattle.std.proofs.lemmas.List.Elements.{All-weaker}
 use Rattle.pat_tree.specs.declared.options.Options.{Options}
 use Rattle.pat_tree.specs.declared.nodes.Placed.{Placed}
 use Rattle.pat_tree.specs.declared.names.NameEntry.{NameEntry}
@@ -11,13 +11,10 @@ use Rattle.token_parts.specs.declared.fault.Fault.{Fault}
 use Rattle.token_parts.specs.Tell.{fault, ◌>>=◌}
 use Rattle.pat_build.specs.declared.error.ReadError.{ReadError}
 use Rattle.pat_build.specs.declared.error.ReadError.TheVariants.{Bad, Memory}
-use Rattle.pat_build.specs.declared.names.Name.{Name}
 use Rattle.pat_build.specs.State.{State}
 use Rattle.pat_build.specs.Groups.{is_opened, missing, places_named}
-use Rattle.pat_build.specs.Names.{IsRising, entries_of}
 use Rattle.pat_build.specs.Reading.{checked, reading, read, read_from, started, start, literally}
-use Rattle.pat_build.specs.Machine.{Refuses, Named, tree_with, references_of}
-use Rattle.pat_build.proofs.Naming.{all_table}
+use Rattle.pat_build.specs.Machine.{Refuses, IsGiven, tree_with, references_of}
 use Rattle.std.proofs.Common.{◌+◌}
 
 refuses_on : {A B : Type 0} (r : Result A Fault) (f : A → Result B Fault) (e : ReadError) → Refuses r e → Refuses (r >>= f) e
@@ -41,22 +38,12 @@ pub missing_is : (ps : List Placed) (groups : ℕ) (o : Option ℕ) → ((n : �
 unfolding missing
 missing_is ps groups o same are h = ap (bad_ref (is_opened groups)) (sym are) ∙ sym (bad_ref_same (has_group ps) (is_opened groups) (refs ps) same) ∙ h
 
-positive : (text : List ℕ) (least : ℕ) (names : List Name) → IsRising least (entries_of text names) → All (λ name. least < name.group) names
-positive text least [] r = All-nil (λ name. least < name.group)
-positive text least (n ∷ ns) r =
-    let P : Name → Type 0 = λ name. least < name.group in
-    All-from_recursion P (n ∷ ns) (r.0, recursion_from_All P ns (All-weaker (λ x. n.group < x.group) P (λ x h. omega (arith, r.0)) ns (positive text n.group ns r.1)))
-
 opened_is : (groups n : ℕ) → n ≤ groups → 0 < n → is_opened groups n ≡ true
 opened_is groups n h k = grind (arith, nat_tests)
 
 -- each name is of a group of the draft
-pub names_stand : (text : List ℕ) (names : List Name) (table : List NameEntry) (ps : List Placed) (groups : ℕ) → Named text names table groups → ((n : ℕ) → has_group ps n ≡ is_opened groups n) →
-    All (λ entry. has_group ps entry.group ≡ true) table
-names_stand text names table ps groups named same =
-    let some = positive text 0 names named.known.rising in
-    let all : All (λ name. has_group ps name.group ≡ true) names = λ k d h. same _ ∙ opened_is groups _ (named.few k d h) (some k d h) in
-    rw (named.is) (all_table (λ entry. has_group ps entry.group ≡ true) text names all)
+pub names_stand : (table : List NameEntry) (ps : List Placed) (groups : ℕ) → All (IsGiven groups) table → ((n : ℕ) → has_group ps n ≡ is_opened groups n) → All (λ entry. has_group ps entry.group ≡ true) table
+names_stand table ps groups given same = All-weaker (IsGiven groups) (λ entry. has_group ps entry.group ≡ true) (λ e h. same e.group ∙ opened_is groups e.group h.1 h.0) table given
 
 module _ (options : Options) (text : List ℕ) where
   pub read_long : 65536 < length text → read options text ≡ fault 120 0

@@ -9,6 +9,7 @@ pub mod Standing
 pub mod States
 pub mod Waiting
 pub mod Extending
+pub mod Numbers
 pub mod Naming
 pub mod Taking
 pub mod Nesting

@@ -1,19 +1,14 @@
 -- What a bar, and the begin and the end of a group, do to a machine keeps what the machine means.
-use Rattle.std.proofs.Common.{◌≡◌, ◌⊎◌, inl, inr, ℕ, zero, suc, ◌+◌, ◌-◌, ◌*◌, ◌^◌, ◌<◌, ◌≤◌, Bool, true, false, ◌||◌, ◌==◌, List, [], ◌∷◌, ◌++◌, length, length-append, append_assoc, append-nil, map, reverse, Option, Some, None, Ok, refl, sym, ap, ◌∙◌, arith, All, IsTrue}
+use Rattle.std.proofs.Common.{◌≡◌, ◌⊎◌, inl, inr, ℕ, suc, ◌+◌, ◌-◌, ◌*◌, ◌<◌, ◌≤◌, true, false, ◌||◌, List, [], ◌∷◌, ◌++◌, length, length-append, append_assoc, append-nil, map, reverse, Option, Some, None, Ok, refl, sym, ap, ◌∙◌, arith, IsTrue}
 use Rattle.std.specs.declared.vec.Vec.{Vec}
 use Rattle.std.specs.declared.alloc.Global.{Global}
 use Rattle.std.proofs.lemmas.List.{reverse-append}
-use Rattle.std.proofs.lemmas.List.Folds.{list_any-append}
-use Rattle.std.proofs.lemmas.List.Elements.{All-nil, All-push, All-weaker}
-use Rattle.std.proofs.lemmas.Bool.Decides.{nat_tests}
-use Rattle.pat_tree.specs.declared.options.Options.{Options}
 use Rattle.pat_tree.specs.declared.nodes.Placed.{Placed}
 use Rattle.pat_tree.specs.declared.names.NameEntry.{NameEntry}
 use Rattle.pat_tree.specs.Parts.{DraftParts}
 use Rattle.pat_tree.specs.Nested.{Nested, Test, row, group, never, test_of, tree_at, trees}
 use Rattle.pat_tree.specs.Nested as tree
-use Rattle.pat_tree.specs.Refs.{has_group}
-use Rattle.pat_tree.specs.Rules.{number_in, is_test}
+use Rattle.pat_tree.specs.Rules.{is_test}
 use Rattle.pat_tree.specs.Growing.{Replaces, Makes}
 use Rattle.pat_tree.proofs.Growing.{stand_made, stand_none, grows_not}
 use Rattle.token_parts.specs.declared.token.Token.{Token}
@@ -22,6 +17,9 @@ use Rattle.token_parts.specs.Tell.{fault}
 use Rattle.pat_lex.specs.Tokens.{token_at}
 use Rattle.pat_build.specs.declared.machine.Bars.{Bars}
 use Rattle.pat_build.specs.declared.machine.Bars.TheVariants.{Free, First, Second, Define}
+use Rattle.pat_build.specs.declared.machine.Numbering.TheVariants.{Onward}
+use Rattle.pat_build.specs.declared.machine.Inside.{Inside}
+use Rattle.pat_build.specs.declared.machine.Form as machine
 use Rattle.pat_build.specs.declared.machine.Frame.{Frame}
 use Rattle.pat_build.specs.declared.machine.Level.{Level}
 use Rattle.pat_build.specs.declared.machine.Machine.{Machine}
@@ -31,15 +29,16 @@ use Rattle.pat_build.specs.declared.names.Name.{Name}
 use Rattle.pat_build.specs.declared.error.ReadError.{ReadError}
 use Rattle.pat_build.specs.declared.error.ReadError.TheVariants.{Bad, Memory}
 use Rattle.pat_build.specs.State.{State, Reference, Reads, flags_of}
-use Rattle.pat_build.specs.Groups.{Form, grouped, atomically, looks, conditional, defines, asserted, asserting, Opening, is_look, is_tested, bars_in, barred, branched, tested_by, built, noted, is_opened}
-use Rattle.pat_build.specs.Names.{given_after, with_given}
-use Rattle.pat_build.specs.Parts.{inside, alternative}
+use Rattle.pat_build.specs.Groups.{Form, grouped, atomically, looks, conditional, defines, asserted, asserting, Opening, is_look, is_tested, bars_in, barred, number_of, next_numbering, groups_before, groups_after, branched, tested_by, built, noted}
+use Rattle.pat_build.specs.Names.{with_given}
+use Rattle.pat_build.specs.Parts.{alternative}
 use Rattle.pat_build.specs.Stack.{Layer, Opened, with_branch, resume, ended}
-use Rattle.pat_build.specs.Machine.{Refuses, Adds, Closes, IsAtom, IsMany, IsBarred, AreBarred, CanHave, HasTest, HaveTests, TestsNone, Named, form_of, atom_of, atom_tree, ids_of, number_in_frame, references_of, state_of, known_of, whole_of, left, Means, Ready, Begins, Took, Numbered, Gives, Ends, asserting_from, opening_of, ids_waiting, ids_in, ids_held, is_open, is_number}
-use Rattle.pat_build.proofs.Naming.{named_push, length_table}
+use Rattle.pat_build.specs.Machine.{Refuses, Adds, Closes, IsAtom, IsMany, IsBarred, AreBarred, CanHave, HasTest, HaveTests, TestsNone, Numbers, greatest_given, inside_from, form_of, atom_of, atom_tree, ids_of, references_of, state_of, known_of, whole_of, left, Means, Ready, Begins, Took, Numbered, Gives, Ends, asserting_from, opening_of, ids_waiting, ids_in, ids_held}
+use Rattle.pat_build.proofs.Numbers.{greatest_next, greatest_enter, greatest_close, greatest_end, given_on, numbers_kept, numbers_next, numbers_enter, numbers_close, numbers_end}
+use Rattle.pat_build.proofs.Naming.{count_given, given_names}
 use Rattle.pat_build.proofs.Steps.{step_open, step_asserts, step_tested, step_bar, step_barred, step_over, step_close, step_unclosed, step_unopened, step_whole}
 use Rattle.pat_build.proofs.Standing.{positive, level_on, stack_on, innermost, none_open}
-use Rattle.pat_build.proofs.States.{state_kept, whole_kept, refs_kept, named_kept, numbers_kept, state_closed, whole_closed, refs_closed, named_closed, held_push, or_false}
+use Rattle.pat_build.proofs.States.{state_kept, whole_kept, refs_kept, state_closed, whole_closed, refs_closed, held_push}
 use Rattle.pat_build.proofs.Waiting.{idle_value, loose_idle, to_parts}
 
 as_branch : (h b x : List ℕ) → (h ++ b) ++ x ≡ h ++ (((b ++ x) ++ []) ++ [])
@@ -48,85 +47,13 @@ as_branch h b x = simp (append_assoc, append-nil)
 as_test : (h b : List ℕ) (id : ℕ) → (h ++ (b ++ [])) ++ id ∷ [] ≡ h ++ (((b ++ id ∷ []) ++ []) ++ [])
 as_test h b id = simp (append_assoc, append-nil)
 
-or_assoc : (a b c : Bool) → ((a || b) || c) ≡ (a || (b || c))
-or_assoc true b c = refl
-or_assoc false b c = refl
-
-or_swap : (b c : Bool) → (b || c) ≡ (c || b)
-or_swap true true = refl
-or_swap true false = refl
-or_swap false true = refl
-or_swap false false = refl
-
-open_push : (fs : List Frame) (f : Frame) (n : ℕ) → is_open (fs ++ f ∷ []) n ≡ (is_open fs n || is_number (number_in_frame f) n)
-open_push fs f n = list_any-append (λ g. is_number (number_in_frame g) n) fs (f ∷ []) ∙ ap (λ b. is_open fs n || b) (or_false (is_number (number_in_frame f) n))
-
-opened_more : (g n : ℕ) → (is_opened g n || ((g + 1) == n)) ≡ is_opened (g + 1) n
-opened_more g n = grind (arith, nat_tests)
-
--- a group begins
-numbers_enter : (ps : List Placed) (fs : List Frame) (f : Frame) (groups after : ℕ) → Numbered groups (number_in_frame f) after →
-    ((n : ℕ) → (has_group ps n || is_open fs n) ≡ is_opened groups n) → (n : ℕ) → (has_group ps n || is_open (fs ++ f ∷ []) n) ≡ is_opened after n
-numbers_enter ps fs f groups after numbered h n =
-    ap (λ b. has_group ps n || b) (open_push fs f n) ∙ sym (or_assoc (has_group ps n) (is_open fs n) (is_number (number_in_frame f) n)) ∙ ap (λ b. b || is_number (number_in_frame f) n) (h n)
-    ∙ (elim (number_in_frame f) as (λ number. Numbered groups number after → (is_opened groups n || is_number number n) ≡ is_opened after n) [
-      | None ↦ λ e. or_false (is_opened groups n) ∙ ap (λ g. is_opened g n) (sym e)
-      | Some k ↦ λ e. ap (λ g. is_opened groups n || (g == n)) e.0 ∙ opened_more groups n ∙ ap (λ g. is_opened g n) (sym e.1)
-    ] numbered)
-
--- a group ends
-numbers_close : (ps qs : List Placed) (fs front : List Frame) (f : Frame) (groups : ℕ) → fs ≡ front ++ f ∷ [] →
-    ((n : ℕ) → has_group qs n ≡ (has_group ps n || is_number (number_in_frame f) n)) →
-    ((n : ℕ) → (has_group ps n || is_open fs n) ≡ is_opened groups n) → (n : ℕ) → (has_group qs n || is_open front n) ≡ is_opened groups n
-numbers_close ps qs fs front f groups popped grown h n =
-    ap (λ b. b || is_open front n) (grown n) ∙ or_assoc (has_group ps n) (is_number (number_in_frame f) n) (is_open front n)
-    ∙ ap (λ b. has_group ps n || b) (or_swap (is_number (number_in_frame f) n) (is_open front n) ∙ sym (open_push front f n))
-    ∙ ap (λ l. has_group ps n || is_open l n) (sym popped) ∙ h n
-
-not_both : (b : Bool) → b ≡ true → b ≡ false → ⊥
-not_both true h k = cc
-not_both false h k = cc
-
-or_true : (b : Bool) → (b || true) ≡ true
-or_true true = refl
-or_true false = refl
-
--- an open group that captures has a number from 1 on
-pub frame_numbered : (ps : List Placed) (fs front : List Frame) (f : Frame) (groups : ℕ) → fs ≡ front ++ f ∷ [] →
-    ((n : ℕ) → (has_group ps n || is_open fs n) ≡ is_opened groups n) → All (λ n. 1 ≤ n) (number_in (number_in_frame f))
-frame_numbered ps fs front f groups popped h = elim (number_in_frame f) as (λ number. number_in_frame f ≡ number → All (λ n. 1 ≤ n) (number_in number)) [
-  | None ↦ λ e. All-nil (λ n. 1 ≤ n)
-  | Some k ↦ λ e. All-push (λ n. 1 ≤ n) [] k (All-nil (λ n. 1 ≤ n)) (elim k as (λ j. number_in_frame f ≡ Some j → 1 ≤ j) [
-    | zero ↦ λ z. absurd (let open_at : is_open fs 0 ≡ true = ap (λ l. is_open l 0) popped ∙ open_push front f 0 ∙ ap (λ v. is_open front 0 || is_number v 0) z ∙ or_true (is_open front 0) in
-        not_both (has_group ps 0 || is_open fs 0) (ap (λ b. has_group ps 0 || b) open_at ∙ or_true (has_group ps 0)) (h 0))
-    | suc j ↦ λ z. omega arith
-  ] e)
-] refl
-
-more_groups : (groups : ℕ) (number : Option ℕ) (after : ℕ) → Numbered groups number after → groups ≤ after
-more_groups groups None after h = omega (arith, h)
-more_groups groups (Some k) after h = omega (arith, h.1)
-
--- the names with the one that a group gets
-pub named_given : (text : List ℕ) (names after_names : List Name) (table : List NameEntry) (groups after : ℕ) (number : Option ℕ) (given : Option Name) → Named text names table groups → Gives text groups given after → Numbered groups number after →
-    after_names ≡ given_after names given → Named text after_names (with_given text given table) after
-named_given text names after_names table groups after number None h gives numbered is =
-    let more : groups ≤ after = more_groups groups number after numbered in
-    rw is (record { known = h.known; is = h.is; few = All-weaker (λ n. n.group ≤ groups) (λ n. n.group ≤ after) (λ n below. omega arith) names h.few; count = omega (arith, h.count) })
-named_given text names after_names table groups after number (Some name) h gives numbered is =
-    rw (is, gives.2) (named_push text names table groups name h gives.0 gives.1)
-
-pub few_names : (text : List ℕ) (names : List Name) (table : List NameEntry) (groups after : ℕ) (number : Option ℕ) → Named text names table groups → Numbered groups number after → after < 2 ^ 16 → length table < 4294967295
-few_names text names table groups after number h numbered small =
-    let more : groups ≤ after = more_groups groups number after numbered in
-    omega (arith, ap length h.is, length_table text names, h.count)
-
 -- a group has ended
 state_eq : (st : State) (rs : List Reference) {o o' : Opening} {d d' : ℕ} → o ≡ o' → d ≡ d' →
-    record st { options = o.around; looking = o.looking; bars = o.bars; depth = d; references = rs ++ noted o.form o.at } ≡ record st { options = o'.around; looking = o'.looking; bars = o'.bars; depth = d'; references = rs ++ noted o'.form o'.at }
+    record st { options = o.around; looking = o.looking; bars = o.bars; numbering = o.numbering; depth = d; references = rs ++ noted o.form o.at }
+    ≡ record st { options = o'.around; looking = o'.looking; bars = o'.bars; numbering = o'.numbering; depth = d'; references = rs ++ noted o'.form o'.at }
 state_eq st rs {o} {o'} {d} {d'} p q =
-    ap (λ (v : Opening). record st { options = v.around; looking = v.looking; bars = v.bars; depth = d; references = rs ++ noted v.form v.at }) p
-    ∙ ap (λ v. record st { options = o'.around; looking = o'.looking; bars = o'.bars; depth = v; references = rs ++ noted o'.form o'.at }) q
+    ap (λ (v : Opening). record st { options = v.around; looking = v.looking; bars = v.bars; numbering = v.numbering; depth = d; references = rs ++ noted v.form v.at }) p
+    ∙ ap (λ v. record st { options = o'.around; looking = o'.looking; bars = o'.bars; numbering = o'.numbering; depth = v; references = rs ++ noted o'.form o'.at }) q
 
 -- no condition is an item or a lookaround
 branched_many : (test : Test) (branches : List Nested) → IsMany (branched test branches)
@@ -271,9 +198,19 @@ closed_ids asserting id at = refl
 resume_eq : (known : List NameEntry) (text : List ℕ) (os : List Opened) (layer : Layer) (n : ℕ) {t u : Nested} {st st' : State} → t ≡ u → st ≡ st' → resume known text os layer (Some (n, t)) st ≡ resume known text os layer (Some (n, u)) st'
 resume_eq known text os layer n {t} {u} {st} {st'} p q = ap (λ v. resume known text os layer (Some (n, v)) st) p ∙ ap (λ v. resume known text os layer (Some (n, u)) v) q
 
--- the frames of a conditional group and of the lookaround that it tests
-abbrev pub asserting_frame : Machine → Level → Frame
-asserting_frame m outer = record { form = kept.Asserting; around = m.options; looking = m.looking; bars = m.bars; at = m.at; outer = outer }
+-- the frame of a group that begins
+abbrev pub frame_from : Machine → machine.Form → Level → Frame
+frame_from m form outer = record {
+  form = form;
+  around = m.options;
+  looking = m.looking;
+  bars = m.bars;
+  numbering = m.numbering;
+  at = m.at;
+  outer = outer;
+}
+
+-- the frame of a lookaround that the conditional group tests that begins
 
 abbrev pub tested_frame : Machine → Assertion → Frame
 tested_frame m test = record {
@@ -281,6 +218,7 @@ tested_frame m test = record {
   around = m.options;
   looking = m.looking;
   bars = First;
+  numbering = Onward;
   at = test.here.at;
   outer = record { branches = []; parts = [] };
 }
@@ -290,7 +228,7 @@ module _ (m : Machine) (means : Means m) where
   pub bar_means : (id : ℕ) (draft : DraftParts) (branches : List ℕ) (bars : Bars) (after : ℕ) →
       Ready Bar after m → barred m.bars m.at ≡ Ok bars → Makes m.draft.nodes draft.nodes id (alternative (map (tree_at (trees m.draft.nodes)) m.level.parts)) → Adds m.draft draft → Replaces m.draft.nodes m.level.parts draft.nodes id →
       branches ≡ m.level.branches ++ id ∷ [] → length draft.nodes ≤ length m.draft.nodes + 1 →
-      Took m (record m { draft = draft; level = record { branches = branches; parts = [] }; bars = bars; at = after })
+      Took m (record m { draft = draft; level = record { branches = branches; parts = [] }; bars = bars; groups = groups_before m.numbering m.groups; numbering = next_numbering m.numbering m.groups; at = after })
   bar_means id draft branches bars after ready found makes adds replaces more count =
       let (n, n_is) = positive (left m) means.layer.n means.level.n in
       let (k, k_is) = positive (left m) means.layer.k means.level.k in
@@ -300,6 +238,9 @@ module _ (m : Machine) (means : Means m) where
       let less : u ≤ left m = omega arith in
       let layer : Layer = record { n = k; k = k; branches = means.layer.branches ++ alternative means.layer.parts ∷ []; parts = [] } in
       let step = step_bar (known_of m) m.text.now (state_of m) Bar after there.token_is refl means.opens means.layer n k bars n_is k_is found in
+      let given : ℕ = greatest_given m.stack.items m.numbering m.groups in
+      let next : ℕ = greatest_given m.stack.items (next_numbering m.numbering m.groups) (groups_before m.numbering m.groups) in
+      let same : given ≡ next = greatest_next m.stack.items m.numbering m.groups means.numbers.fair in
       let whole = whole_kept m draft adds in record {
         means = record {
           opens = means.opens;
@@ -315,18 +256,18 @@ module _ (m : Machine) (means : Means m) where
           pending = rw (ready.idle) refl;
           barred = rw more (bars_push (reverse m.stack.items) m.level.branches id m.bars bars m.at found means.barred);
           tested = tests_push means.opens means.layer.branches (alternative means.layer.parts) means.tested;
-          value = ap (λ st. resume (known_of m) m.text.now means.opens layer None (record st { at = after; bars = bars })) (state_kept m draft adds) ∙ sym step ∙ idle_value m means ready.idle ∙ sym whole;
+          value = ap (λ st. resume (known_of m) m.text.now means.opens layer None (record st { at = after; bars = bars; groups = groups_before m.numbering m.groups; numbering = next_numbering m.numbering m.groups })) (state_kept m draft adds) ∙ sym step ∙ idle_value m means ready.idle ∙ sym whole;
           within = there.within;
           short = means.short;
           depth = means.depth;
           classes = omega (arith, means.classes, there.goes, ap length adds.classes);
-          known = means.known;
-          named = named_kept m draft adds means.named;
+          named = rw (adds.names) (given_on given next m.draft.names (omega (arith, same)) means.named);
+          names = omega (arith, means.names, there.goes, ap length adds.names);
           verb_names = adds.verb_names ∙ means.verb_names;
           refs_are = refs_kept m draft adds means.refs_are;
           turns = adds.turns means.turns;
           loose_is = replaces (ids_held m.stack.items ++ m.level.branches) (loose_idle m means ready.idle ∙ to_parts (ids_held m.stack.items) m.level.branches m.level.parts) ∙ as_branch (ids_held m.stack.items) m.level.branches (id ∷ []) ∙ ap (λ l. ids_held m.stack.items ++ ((l ++ []) ++ [])) (sym more) ∙ ap (λ w. ids_held m.stack.items ++ ((branches ++ []) ++ ids_waiting w)) (sym ready.idle);
-          numbers = numbers_kept m.draft draft m.stack.items m.groups adds means.numbers;
+          numbers = numbers_next (numbers_kept adds means.numbers);
         };
         room = omega (arith, ready.room, there.goes, count);
         goes = there.goes;
@@ -334,14 +275,26 @@ module _ (m : Machine) (means : Means m) where
       }
 
   -- a group begins, which may get a name
-  pub enter_means : (token : Token) (after : ℕ) (f : Frame) (stack : Vec Frame Global) (options : Options) (groups : ℕ) (names : Vec Name Global) (table : List NameEntry) (beyond : Option ℕ) →
-      Ready token after m → TestsNone (form_of f.form) → f.bars ≡ m.bars → stack.items ≡ m.stack.items ++ f ∷ [] → f.outer ≡ m.level → length m.stack.items < 250 → Numbered m.groups (number_in_frame f) groups → Named m.text.now names.items table groups →
-      Begins m token after (Ok (inside (opening_of f) (record (state_of m) { at = after; options = options; groups = groups; depth = length m.stack.items + 1; looking = is_look (form_of f.form) || m.looking; bars = bars_in (form_of f.form); names = table; beyond = beyond }))) →
-      Took m (record m { draft = record (m.draft) { names = table }; names = names; stack = stack; level = record { branches = []; parts = [] }; options = options; groups = groups; looking = is_look (form_of f.form) || m.looking; bars = bars_in (form_of f.form); beyond = beyond; at = after })
-  enter_means token after f stack options groups names table beyond ready none same pushed outer fits numbered named begins =
+  pub enter_means : (token : Token) (form : machine.Form) (outer : Level) (stack : Vec Frame Global) (given : Option Name) (start : Inside) →
+      Ready token start.at m → TestsNone (form_of form) → outer ≡ m.level → stack.items ≡ m.stack.items ++ frame_from m form outer ∷ [] → length m.stack.items < 250 →
+      Numbered m.groups (number_of (form_of form)) start.numbering start.groups → Gives m.text.now m.groups given start.groups → Begins m token start.at (Ok (inside_from m (form_of form) given start)) →
+      Took m (record m {
+        draft = record (m.draft) { names = with_given m.text.now given m.draft.names };
+        stack = stack;
+        level = record { branches = []; parts = [] };
+        options = start.options;
+        groups = start.groups;
+        looking = is_look (form_of form) || m.looking;
+        bars = bars_in (form_of form);
+        numbering = start.numbering;
+        beyond = start.beyond;
+        at = start.at;
+      })
+  enter_means token form outer stack given start ready none same pushed fits numbered gives begins =
+      let f = frame_from m form outer in
       let (n, n_is) = positive (left m) means.layer.n means.level.n in
       let there = ready.there in
-      let u : ℕ = 2 * (length m.text.now - after) in
+      let u : ℕ = 2 * (length m.text.now - start.at) in
       let falls : u < left m - 1 = omega (arith, there.goes, there.within) in
       let less : u ≤ left m = omega arith in
       let (q, q_is) = positive (u + 1) n (omega (arith, n_is, means.level.n)) in
@@ -349,13 +302,25 @@ module _ (m : Machine) (means : Means m) where
       let enough : u < suc q = omega (arith, above) in
       let plenty : u + 1 < suc q = omega (arith, above) in
       let level = level_on (grows_not m.draft.nodes) (left m) u less means.level in
-      let new : Machine = record m { draft = record (m.draft) { names = table }; names = names; stack = stack; level = record { branches = []; parts = [] }; options = options; groups = groups; looking = is_look (form_of f.form) || m.looking; bars = bars_in (form_of f.form); beyond = beyond; at = after } in
+      let table = with_given m.text.now given m.draft.names in
+      let new : Machine = record m {
+        draft = record (m.draft) { names = table };
+        stack = stack;
+        level = record { branches = []; parts = [] };
+        options = start.options;
+        groups = start.groups;
+        looking = is_look (form_of form) || m.looking;
+        bars = bars_in (form_of form);
+        numbering = start.numbering;
+        beyond = start.beyond;
+        at = start.at;
+      } in
+      let begun : State = record (state_of new) { depth = length m.stack.items + 1 } in
       let o : Opened = record { how = opening_of f; outer = record (means.layer) { n = suc q } } in
       let inner : Layer = record { n = q; k = q; branches = []; parts = [] } in
       let turned : reverse stack.items ≡ f ∷ reverse m.stack.items = ap reverse pushed ∙ reverse-append m.stack.items (f ∷ []) in
       let deep : length stack.items ≡ length m.stack.items + 1 = omega (arith, ap length pushed, length-append m.stack.items (f ∷ [])) in
-      let step = step_open (known_of m) m.text.now (state_of m) token after there.token_is means.opens means.layer q (opening_of f)
-      (record (state_of m) { at = after; options = options; groups = groups; depth = length m.stack.items + 1; looking = is_look (form_of f.form) || m.looking; bars = bars_in (form_of f.form); names = table; beyond = beyond }) (is_untested (form_of f.form) none) (n_is ∙ ap suc q_is) (begins (suc q) plenty) in record {
+      let step = step_open (known_of m) m.text.now (state_of m) token start.at there.token_is means.opens means.layer q (opening_of f) begun (is_untested (form_of form) none) (n_is ∙ ap suc q_is) (begins (suc q) plenty) in record {
         means = record {
           opens = o ∷ means.opens;
           layer = inner;
@@ -363,26 +328,26 @@ module _ (m : Machine) (means : Means m) where
           stack = rw turned (
             record {
               how = refl;
-              outer = rw outer (record { branches = level.branches; parts = level.parts; n = enough; k = level.k });
+              outer = rw same (record { branches = level.branches; parts = level.parts; n = enough; k = level.k });
             },
             stack_on (grows_not m.draft.nodes) (left m) u less (reverse m.stack.items) means.opens means.stack,
           );
           level = record { branches = stand_none m.draft.nodes; parts = stand_none m.draft.nodes; n = above; k = above };
           pending = rw (ready.idle) refl;
-          barred = rw (turned, is_untested (form_of f.form) none) (bars_first (form_of f.form) none, rw (outer, same) means.barred, tt);
-          tested = rw (is_untested (form_of f.form) none) (untested (form_of f.form) none, means.tested);
+          barred = rw (turned, is_untested (form_of form) none) (bars_first (form_of form) none, rw same means.barred, tt);
+          tested = rw (is_untested (form_of form) none) (untested (form_of form) none, means.tested);
           value = ap (λ d. resume (known_of m) m.text.now (o ∷ means.opens) inner None (record (state_of new) { depth = d })) deep ∙ sym step ∙ idle_value m means ready.idle;
           within = there.within;
           short = means.short;
           depth = omega (arith, deep, fits);
           classes = omega (arith, means.classes, there.goes);
-          known = means.known;
-          named = named;
+          named = given_names m.text.now given m.draft.names m.groups start.groups (number_of (form_of form)) start.numbering m.stack.items stack.items f numbered gives pushed means.named;
+          names = omega (arith, means.names, there.goes, count_given m.text.now given m.draft.names);
           verb_names = means.verb_names;
           refs_are = means.refs_are;
           turns = means.turns;
-          loose_is = loose_idle m means ready.idle ∙ ap (λ l. ids_held m.stack.items ++ l) (append-nil (ids_in m.level)) ∙ ap (λ l. ids_held m.stack.items ++ ids_in l) (sym outer) ∙ sym (held_push m.stack.items f) ∙ ap ids_held (sym pushed) ∙ sym (append-nil (ids_held stack.items)) ∙ ap (λ w. ids_held stack.items ++ ids_waiting w) (sym ready.idle);
-          numbers = rw pushed (numbers_enter m.draft.nodes m.stack.items f m.groups groups numbered means.numbers);
+          loose_is = loose_idle m means ready.idle ∙ ap (λ l. ids_held m.stack.items ++ l) (append-nil (ids_in m.level)) ∙ ap (λ l. ids_held m.stack.items ++ ids_in l) (sym same) ∙ sym (held_push m.stack.items f) ∙ ap ids_held (sym pushed) ∙ sym (append-nil (ids_held stack.items)) ∙ ap (λ w. ids_held stack.items ++ ids_waiting w) (sym ready.idle);
+          numbers = rw pushed (numbers_enter f start.numbering start.groups numbered means.numbers);
         };
         room = omega (arith, ready.room, there.goes);
         goes = there.goes;
@@ -425,17 +390,19 @@ module _ (m : Machine) (means : Means m) where
       let opens : means.opens ≡ [] = none_open m.draft.nodes (left m) means.opens (rw none at means.stack) in
       let made = rw (means.level.branches.trees_are, means.level.parts.trees_are) at makes in
       let branches : List Nested = means.layer.branches ++ alternative means.layer.parts ∷ [] in
-      let numbers = numbers_kept m.draft draft m.stack.items m.groups adds means.numbers in record {
+      let numbers : Numbers draft.nodes [] m.numbering m.groups = rw none at (numbers_kept adds means.numbers) in
+      let given = rw none at means.named in
+      let last : greatest_given [] m.numbering m.groups ≡ m.groups = greatest_end m.numbering m.groups numbers.onward in record {
         is = sym (over_value End after (inr refl) idle token_is)
             ∙ ap (λ os. ended (known_of m) m.text.now os branches (state_of m)) opens
             ∙ step_whole (known_of m) m.text.now (state_of m) End after token_is refl branches
             ∙ ap (λ t. let x : Reads Nested = Ok (t, state_of m) in x) (sym made.is)
             ∙ ap (λ st. let x : Reads Nested = Ok (tree_at (trees draft.nodes) id, st) in x) (sym (state_kept m draft adds));
         turns = adds.turns means.turns;
-        groups = λ n. sym (or_false (has_group draft.nodes n)) ∙ ap (λ l. has_group draft.nodes n || is_open l n) (sym none) ∙ numbers n;
+        groups = λ n. numbers_end numbers n;
         refs_are = refs_kept m draft adds means.refs_are;
         text = refl;
-        named = named_kept m draft adds means.named;
+        named = rw (adds.names) (given_on (greatest_given [] m.numbering m.groups) m.groups m.draft.names (omega (arith, last)) given);
         verb_names = adds.verb_names ∙ means.verb_names;
         options = adds.options;
       }
@@ -444,7 +411,7 @@ module _ (m : Machine) (means : Means m) where
   pub close_means : (after id : ℕ) (f : Frame) (stack : Vec Frame Global) (draft : DraftParts) → Ready Close after m → is_tested (form_of f.form) ≡ false → m.stack.items ≡ stack.items ++ f ∷ [] →
       Makes m.draft.nodes draft.nodes id (built (form_of f.form) (map (tree_at (trees m.draft.nodes)) m.level.branches ++ alternative (map (tree_at (trees m.draft.nodes)) m.level.parts) ∷ [])) →
       Closes m.draft draft (form_of f.form) f.at → Replaces m.draft.nodes (m.level.branches ++ m.level.parts) draft.nodes id → length draft.nodes ≤ length m.draft.nodes + 2 →
-      Took m (record m { draft = draft; stack = stack; level = f.outer; waiting = Some (atom_of (form_of f.form) id f.at); options = f.around; looking = f.looking; bars = f.bars; at = after })
+      Took m (record m { draft = draft; stack = stack; level = f.outer; waiting = Some (atom_of (form_of f.form) id f.at); options = f.around; looking = f.looking; bars = f.bars; groups = groups_after m.numbering m.groups; numbering = f.numbering; at = after })
   close_means after id f stack draft ready part popped makes closes replaces count =
       let there = ready.there in
       let u : ℕ = 2 * (length m.text.now - after) in
@@ -461,15 +428,18 @@ module _ (m : Machine) (means : Means m) where
       let plain : is_tested i.o.how.form ≡ false = ap (λ h. is_tested h.form) i.frame.how ∙ part in
       let tree : tree_at (trees draft.nodes) id ≡ t = rw i.frame.how made.is in
       let step = step_close (known_of m) m.text.now (state_of m) Close after there.token_is refl i.o i.os branches plain in
-      let last : State = record (state_of m) { at = after; options = i.o.how.around; looking = i.o.how.looking; bars = i.o.how.bars; depth = length m.stack.items - 1; references = references_of m.draft.nodes ++ noted i.o.how.form i.o.how.at } in
+      let last : State = record (state_of m) { at = after; options = i.o.how.around; looking = i.o.how.looking; bars = i.o.how.bars; groups = groups_after m.numbering m.groups; numbering = i.o.how.numbering; depth = length m.stack.items - 1; references = references_of m.draft.nodes ++ noted i.o.how.form i.o.how.at } in
+      let given : ℕ = greatest_given m.stack.items m.numbering m.groups in
+      let next : ℕ = greatest_given stack.items f.numbering (groups_after m.numbering m.groups) in
+      let same : given ≡ next = greatest_close m.stack.items stack.items f m.numbering m.groups popped in
       let whole = whole_closed m draft closes in
       let value : resume (known_of m) m.text.now i.os i.o.outer (Some (i.o.outer.n, t)) last ≡ whole_of m =
       sym step ∙ ap (λ os. ended (known_of m) m.text.now os branches (state_of m)) (sym i.is)
       ∙ over_value Close after (inl refl) ready.idle there.token_is in
-      let new : Machine = record m { draft = draft; stack = stack; level = f.outer; waiting = Some (atom_of (form_of f.form) id f.at); options = f.around; looking = f.looking; bars = f.bars; at = after } in
+      let new : Machine = record m { draft = draft; stack = stack; level = f.outer; waiting = Some (atom_of (form_of f.form) id f.at); options = f.around; looking = f.looking; bars = f.bars; groups = groups_after m.numbering m.groups; numbering = f.numbering; at = after } in
       let state : state_of new ≡ last =
-      ap (λ (st : State). let x : State = record st { at = after; options = f.around; looking = f.looking; bars = f.bars; depth = length stack.items } in x) (state_closed m draft closes)
-      ∙ state_eq (record (state_of m) { at = after }) (references_of m.draft.nodes) (sym i.frame.how) (sym less_deep) in record {
+      ap (λ (st : State). let x : State = record st { at = after; options = f.around; looking = f.looking; bars = f.bars; groups = groups_after m.numbering m.groups; numbering = f.numbering; depth = length stack.items } in x) (state_closed m draft closes)
+      ∙ state_eq (record (state_of m) { at = after; groups = groups_after m.numbering m.groups }) (references_of m.draft.nodes) (sym i.frame.how) (sym less_deep) in record {
         means = record {
           opens = i.os;
           layer = i.o.outer;
@@ -484,14 +454,14 @@ module _ (m : Machine) (means : Means m) where
           short = means.short;
           depth = omega (arith, deep, means.depth);
           classes = omega (arith, means.classes, there.goes, ap length closes.classes);
-          known = means.known;
-          named = named_closed m draft closes means.named;
+          named = rw (closes.names) (given_on given next m.draft.names (omega (arith, same)) means.named);
+          names = omega (arith, means.names, there.goes, ap length closes.names);
           verb_names = closes.verb_names ∙ means.verb_names;
           refs_are = refs_closed m draft closes means.refs_are;
           turns = closes.turns means.turns;
           loose_is = replaces (ids_held m.stack.items) (loose_idle m means ready.idle ∙ ap (λ l. ids_held m.stack.items ++ l) (append-nil (ids_in m.level))) ∙ ap (λ l. l ++ id ∷ []) (ap ids_held popped ∙ held_push stack.items f) ∙ append_assoc (ids_held stack.items) (ids_in f.outer) (id ∷ [])
               ∙ ap (λ w. ids_held stack.items ++ (ids_in f.outer ++ w)) (sym (closed_ids (form_of f.form) id f.at));
-          numbers = numbers_close m.draft.nodes draft.nodes m.stack.items stack.items f m.groups popped closes.groups means.numbers;
+          numbers = numbers_close stack.items f popped closes.groups means.numbers;
         };
         room = omega (arith, ready.room, there.goes, count);
         goes = there.goes;
@@ -511,7 +481,7 @@ module _ (m : Machine) (means : Means m) where
       Makes m.draft.nodes draft.nodes id (built (form_of f.form) (map (tree_at (trees m.draft.nodes)) m.level.branches ++ alternative (map (tree_at (trees m.draft.nodes)) m.level.parts) ∷ [])) →
       Closes m.draft draft (form_of f.form) f.at → Replaces m.draft.nodes (m.level.branches ++ m.level.parts) draft.nodes id → length draft.nodes ≤ length m.draft.nodes + 2 →
       with_test ≡ f.outer.branches ++ id ∷ [] →
-      Took m (record m { draft = draft; stack = stack; level = record (f.outer) { branches = with_test }; options = f.around; looking = f.looking; bars = f.bars; at = after })
+      Took m (record m { draft = draft; stack = stack; level = record (f.outer) { branches = with_test }; options = f.around; looking = f.looking; bars = f.bars; groups = groups_after m.numbering m.groups; numbering = f.numbering; at = after })
   close_test_means after id f stack draft with_test ready tested popped makes closes replaces count more =
       let there = ready.there in
       let u : ℕ = 2 * (length m.text.now - after) in
@@ -527,15 +497,18 @@ module _ (m : Machine) (means : Means m) where
       let level = level_on makes.grows (left m) u less i.frame.outer in
       let is : is_tested i.o.how.form ≡ true = ap (λ h. is_tested h.form) i.frame.how ∙ tested in
       let step = step_tested (known_of m) m.text.now (state_of m) Close after there.token_is refl i.o i.os branches is in
-      let last : State = record (state_of m) { at = after; options = i.o.how.around; looking = i.o.how.looking; bars = i.o.how.bars; depth = length m.stack.items - 1; references = references_of m.draft.nodes ++ noted i.o.how.form i.o.how.at } in
+      let last : State = record (state_of m) { at = after; options = i.o.how.around; looking = i.o.how.looking; bars = i.o.how.bars; groups = groups_after m.numbering m.groups; numbering = i.o.how.numbering; depth = length m.stack.items - 1; references = references_of m.draft.nodes ++ noted i.o.how.form i.o.how.at } in
+      let given : ℕ = greatest_given m.stack.items m.numbering m.groups in
+      let next : ℕ = greatest_given stack.items f.numbering (groups_after m.numbering m.groups) in
+      let same : given ≡ next = greatest_close m.stack.items stack.items f m.numbering m.groups popped in
       let whole = whole_closed m draft closes in
       let value : resume (known_of m) m.text.now i.os (with_branch i.o.outer t) None last ≡ whole_of m =
       sym step ∙ ap (λ os. ended (known_of m) m.text.now os branches (state_of m)) (sym i.is)
       ∙ over_value Close after (inl refl) ready.idle there.token_is in
-      let new : Machine = record m { draft = draft; stack = stack; level = record (f.outer) { branches = with_test }; options = f.around; looking = f.looking; bars = f.bars; at = after } in
+      let new : Machine = record m { draft = draft; stack = stack; level = record (f.outer) { branches = with_test }; options = f.around; looking = f.looking; bars = f.bars; groups = groups_after m.numbering m.groups; numbering = f.numbering; at = after } in
       let state : state_of new ≡ last =
-      ap (λ (st : State). let x : State = record st { at = after; options = f.around; looking = f.looking; bars = f.bars; depth = length stack.items } in x) (state_closed m draft closes)
-      ∙ state_eq (record (state_of m) { at = after }) (references_of m.draft.nodes) (sym i.frame.how) (sym less_deep) in
+      ap (λ (st : State). let x : State = record st { at = after; options = f.around; looking = f.looking; bars = f.bars; groups = groups_after m.numbering m.groups; numbering = f.numbering; depth = length stack.items } in x) (state_closed m draft closes)
+      ∙ state_eq (record (state_of m) { at = after; groups = groups_after m.numbering m.groups }) (references_of m.draft.nodes) (sym i.frame.how) (sym less_deep) in
       let one_more : length with_test ≡ length f.outer.branches + 1 = omega (arith, ap length more, length-append f.outer.branches (id ∷ [])) in
       let around = rw tested at (rw turned at means.barred) in
       let others = rw is at (rw i.is at means.tested).1 in record {
@@ -553,8 +526,8 @@ module _ (m : Machine) (means : Means m) where
           short = means.short;
           depth = omega (arith, deep, means.depth);
           classes = omega (arith, means.classes, there.goes, ap length closes.classes);
-          known = means.known;
-          named = named_closed m draft closes means.named;
+          named = rw (closes.names) (given_on given next m.draft.names (omega (arith, same)) means.named);
+          names = omega (arith, means.names, there.goes, ap length closes.names);
           verb_names = closes.verb_names ∙ means.verb_names;
           refs_are = refs_closed m draft closes means.refs_are;
           turns = closes.turns means.turns;
@@ -562,7 +535,7 @@ module _ (m : Machine) (means : Means m) where
               ∙ ap (λ ps. (ids_held stack.items ++ (f.outer.branches ++ ps)) ++ id ∷ []) around.2 ∙ as_test (ids_held stack.items) f.outer.branches id
               ∙ ap (λ ps. ids_held stack.items ++ (((f.outer.branches ++ id ∷ []) ++ ps) ++ [])) (sym around.2) ∙ ap (λ l. ids_held stack.items ++ ((l ++ f.outer.parts) ++ [])) (sym more)
               ∙ ap (λ w. ids_held stack.items ++ ((with_test ++ f.outer.parts) ++ ids_waiting w)) (sym ready.idle);
-          numbers = numbers_close m.draft.nodes draft.nodes m.stack.items stack.items f m.groups popped closes.groups means.numbers;
+          numbers = numbers_close stack.items f popped closes.groups means.numbers;
         };
         room = omega (arith, ready.room, there.goes, count);
         goes = there.goes;
@@ -572,10 +545,10 @@ module _ (m : Machine) (means : Means m) where
   -- a conditional group begins, and the lookaround that it tests
   pub assert_means : (token : Token) (after : ℕ) (test : Assertion) (stack : Vec Frame Global) (outer : Level) →
       Ready token after m → after ≤ test.after.at → m.at < test.after.at → test.after.at ≤ length m.text.now → outer ≡ m.level →
-      stack.items ≡ (m.stack.items ++ asserting_frame m outer ∷ []) ++ tested_frame m test ∷ [] → length m.stack.items + 1 < 250 → Begins m token after (Ok (asserting_from m test)) →
-      Took m (record m { stack = stack; level = record { branches = []; parts = [] }; looking = true; bars = Free; quoting = test.after.quoting; at = test.after.at })
+      stack.items ≡ (m.stack.items ++ frame_from m kept.Asserting outer ∷ []) ++ tested_frame m test ∷ [] → length m.stack.items + 1 < 250 → Begins m token after (Ok (asserting_from m test)) →
+      Took m (record m { stack = stack; level = record { branches = []; parts = [] }; looking = true; bars = Free; numbering = Onward; quoting = test.after.quoting; at = test.after.at })
   assert_means token after test stack outer ready later onward within same pushed fits begins =
-      let around = asserting_frame m outer in
+      let around = frame_from m kept.Asserting outer in
       let looks = tested_frame m test in
       let (n, n_is) = positive (left m) means.layer.n means.level.n in
       let there = ready.there in
@@ -587,14 +560,19 @@ module _ (m : Machine) (means : Means m) where
       let enough : u < suc q = omega (arith, above) in
       let plenty : 2 * (length m.text.now - after) + 1 < suc q = omega (arith, q_is, n_is, means.level.n, there.goes, there.within) in
       let level = level_on (grows_not m.draft.nodes) (left m) u less means.level in
-      let new : Machine = record m { stack = stack; level = record { branches = []; parts = [] }; looking = true; bars = Free; quoting = test.after.quoting; at = test.after.at } in
+      let new : Machine = record m { stack = stack; level = record { branches = []; parts = [] }; looking = true; bars = Free; numbering = Onward; quoting = test.after.quoting; at = test.after.at } in
       let inner : Layer = record { n = q; k = q; branches = []; parts = [] } in
       let o : Opened = record { how = opening_of around; outer = record (means.layer) { n = suc q } } in
       let p : Opened = record { how = opening_of looks; outer = inner } in
       let turned : reverse stack.items ≡ looks ∷ around ∷ reverse m.stack.items =
       ap reverse pushed ∙ reverse-append (m.stack.items ++ around ∷ []) (looks ∷ []) ∙ ap (λ fs. looks ∷ fs) (reverse-append m.stack.items (around ∷ [])) in
       let deep : length stack.items ≡ length m.stack.items + 2 = omega (arith, ap length pushed, length-append (m.stack.items ++ around ∷ []) (looks ∷ []), length-append m.stack.items (around ∷ [])) in
-      let start : State = record (state_of m) { at = test.after.at; quoting = test.after.quoting; depth = length m.stack.items + 2; looking = true; bars = Free } in
+      let given : ℕ = greatest_given m.stack.items m.numbering m.groups in
+      let between : ℕ = greatest_given (m.stack.items ++ around ∷ []) Onward m.groups in
+      let next : ℕ = greatest_given stack.items Onward m.groups in
+      let first : given ≤ between = greatest_enter m.stack.items (m.stack.items ++ around ∷ []) around Onward m.groups m.groups None refl refl in
+      let second : between ≤ next = greatest_enter (m.stack.items ++ around ∷ []) stack.items looks Onward m.groups m.groups None pushed refl in
+      let start : State = record (state_of m) { at = test.after.at; quoting = test.after.quoting; depth = length m.stack.items + 2; looking = true; bars = Free; numbering = Onward } in
       let step = step_asserts (known_of m) m.text.now (state_of m) token after there.token_is means.opens means.layer q (opening_of around) (opening_of looks) start refl refl (n_is ∙ ap suc q_is) (begins (suc q) plenty) in record {
         means = record {
           opens = p ∷ o ∷ means.opens;
@@ -619,15 +597,15 @@ module _ (m : Machine) (means : Means m) where
           short = means.short;
           depth = omega (arith, deep, fits);
           classes = omega (arith, means.classes, onward);
-          known = means.known;
-          named = means.named;
+          named = given_on given next m.draft.names (omega (arith, first, second)) means.named;
+          names = omega (arith, means.names, onward);
           verb_names = means.verb_names;
           refs_are = means.refs_are;
           turns = means.turns;
           loose_is = loose_idle m means ready.idle ∙ ap (λ l. ids_held m.stack.items ++ l) (append-nil (ids_in m.level)) ∙ ap (λ l. ids_held m.stack.items ++ ids_in l) (sym same) ∙ sym (held_push m.stack.items around)
               ∙ sym (append-nil (ids_held (m.stack.items ++ around ∷ []))) ∙ sym (held_push (m.stack.items ++ around ∷ []) looks) ∙ ap ids_held (sym pushed)
               ∙ sym (append-nil (ids_held stack.items)) ∙ ap (λ w. ids_held stack.items ++ ids_waiting w) (sym ready.idle);
-          numbers = rw pushed (numbers_enter m.draft.nodes (m.stack.items ++ around ∷ []) looks m.groups m.groups refl (numbers_enter m.draft.nodes m.stack.items around m.groups m.groups refl means.numbers));
+          numbers = rw pushed (numbers_enter looks Onward m.groups refl (numbers_enter around Onward m.groups refl means.numbers));
         };
         room = omega (arith, ready.room, onward);
         goes = onward;

@@ -8,6 +8,7 @@ use Rattle.pat_lex.specs.Tokens.{token_at}
 use Rattle.pat_build.specs.State.{State, Item, item, flags_of, next, passed_over}
 use Rattle.pat_build.specs.Places.{state_at, flags_at}
 use Rattle.pat_build.specs.declared.machine.Bars.TheVariants.{Free}
+use Rattle.pat_build.specs.declared.machine.Numbering.TheVariants.{Onward}
 use Rattle.pat_build.specs.declared.cursor.Place.{Place}
 use Rattle.pat_build.specs.declared.cursor.Cursor.{Cursor}
 
@@ -68,7 +69,7 @@ module _ (cursor : Cursor) (in_class : Bool) (from here : Place) (token : Token)
       ((st : State) → passed_over token (record (state_at cursor st here) { at = at }) ≡ Some (state_at cursor st beyond)) → beyond.at ≡ at →
       Passes cursor in_class from beyond × (here.at < beyond.at)
   passes_on moves beyond over is =
-      let none : State = record { at = 0; quoting = false; options = cursor.options; groups = 0; depth = 0; looking = false; bars = Free; classes = []; names = []; references = []; beyond = None } in
+      let none : State = record { at = 0; quoting = false; options = cursor.options; groups = 0; depth = 0; looking = false; bars = Free; numbering = Onward; classes = []; names = []; references = []; beyond = None } in
       let goes : (here.at < at) × (at ≤ length cursor.text.now) = moves_over _ _ _ token _ _ moves (over none) in (
         record {
           past = omega (arith, passes.past);

@@ -3,21 +3,17 @@ use Rattle.std.proofs.Common.{◌≡◌, ℕ, ◌<◌, Bool, true, false, ◌||�
 use Rattle.std.proofs.lemmas.Grind.{flat_map-append}
 use Rattle.pat_tree.specs.declared.nodes.Placed.{Placed}
 use Rattle.pat_tree.specs.Parts.{DraftParts}
-use Rattle.pat_tree.specs.Refs.{refs, has_group}
+use Rattle.pat_tree.specs.Refs.{refs}
 use Rattle.pat_build.specs.declared.machine.Frame.{Frame}
 use Rattle.pat_build.specs.declared.machine.Machine.{Machine}
 use Rattle.pat_build.specs.State.{Reference}
-use Rattle.pat_build.specs.Groups.{Form, noted, places_named, is_opened}
-use Rattle.pat_build.specs.Machine.{Adds, Closes, Named, references_of, reference_in, state_of, state_from, known_of, whole_of, ids_held, ids_in, is_open}
+use Rattle.pat_build.specs.Groups.{Form, noted, places_named}
+use Rattle.pat_build.specs.Machine.{Adds, Closes, references_of, reference_in, state_of, state_from, known_of, whole_of, ids_held, ids_in}
 use Rattle.pat_build.specs.Reading.{reading}
 
 pub or_false : (a : Bool) → (a || false) ≡ a
 or_false true = refl
 or_false false = refl
-
-or_assoc : (a b c : Bool) → ((a || b) || c) ≡ (a || (b || c))
-or_assoc true b c = refl
-or_assoc false b c = refl
 
 pub nothing_in : {A : Type 0} (xs : List A) → length xs ≡ 0 → xs ≡ []
 nothing_in [] h = refl
@@ -61,9 +57,6 @@ module _ (m : Machine) (draft : DraftParts) (adds : Adds m.draft draft) where
   pub refs_kept : refs m.draft.nodes ≡ places_named (references_of m.draft.nodes) → refs draft.nodes ≡ places_named (references_of draft.nodes)
   refs_kept h = adds.refs_are ∙ h ∙ ap places_named (sym adds.references)
 
-  pub named_kept : Named m.text.now m.names.items m.draft.names m.groups → Named m.text.now m.names.items draft.names m.groups
-  named_kept h = record { known = h.known; is = adds.names ∙ h.is; few = h.few; count = h.count }
-
 -- the same where a group's node comes last
 module _ (m : Machine) (draft : DraftParts) {form : Form} {at : ℕ} (closes : Closes m.draft draft form at) where
   pub state_closed : state_of (record m { draft = draft }) ≡ record (state_of m) { references = references_of m.draft.nodes ++ noted form at }
@@ -79,11 +72,3 @@ module _ (m : Machine) (draft : DraftParts) {form : Form} {at : ℕ} (closes : C
   refs_closed h =
       closes.refs_are ∙ ap (λ v. v ++ places_named (noted form at)) h
       ∙ sym (places_append (references_of m.draft.nodes) (noted form at)) ∙ ap places_named (sym closes.references)
-
-  pub named_closed : Named m.text.now m.names.items m.draft.names m.groups → Named m.text.now m.names.items draft.names m.groups
-  named_closed h = record { known = h.known; is = closes.names ∙ h.is; few = h.few; count = h.count }
-
--- nodes that are no group leave the numbers as they are
-pub numbers_kept : (old new : DraftParts) (fs : List Frame) (groups : ℕ) → Adds old new →
-    ((n : ℕ) → (has_group old.nodes n || is_open fs n) ≡ is_opened groups n) → (n : ℕ) → (has_group new.nodes n || is_open fs n) ≡ is_opened groups n
-numbers_kept old new fs groups adds h n = ap (λ b. b || is_open fs n) (adds.groups n) ∙ h n

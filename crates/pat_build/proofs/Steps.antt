@@ -10,7 +10,7 @@ use Rattle.token_parts.specs.Tell.{fault, ◌>>=◌}
 use Rattle.pat_lex.specs.Tokens.{token_at}
 use Rattle.pat_build.specs.State.{State, Reads, flags_of, next, passed_over}
 use Rattle.pat_build.specs.declared.machine.Bars.{Bars}
-use Rattle.pat_build.specs.Groups.{Opening, is_tested, barred, built, noted}
+use Rattle.pat_build.specs.Groups.{Opening, is_tested, barred, restarted, groups_after, built, noted}
 use Rattle.pat_build.specs.Parts.{atom, bare, inside, asserts, nothing, over, alternative, repeated, beginning}
 use Rattle.pat_build.specs.Reading.{quantified, closed, part_then, alternatives_from, sequence, alternatives, whole, reading}
 use Rattle.pat_build.specs.Stack.{Layer, Opened, with_part, with_branch, resumed, given, ended, resume, IsPlain}
@@ -152,10 +152,10 @@ module _ (known : List NameEntry) (text : List ℕ) where
 
     pub step_bar : token ≡ Bar → (os : List Opened) (layer : Layer) (n k : ℕ) (bars : Bars) → layer.n ≡ suc n → layer.k ≡ suc k → barred st.bars st.at ≡ Ok bars →
         resume known text os layer None st
-        ≡ resume known text os (record { n = k; k = k; branches = layer.branches ++ alternative layer.parts ∷ []; parts = [] }) None (record st { at = place; bars = bars })
+        ≡ resume known text os (record { n = k; k = k; branches = layer.branches ++ alternative layer.parts ∷ []; parts = [] }) None (restarted st bars (record st { at = place }))
     unfolding resume resumed alternatives alternatives_from
     step_bar is os layer n k bars e e' found =
-        let after : State = record st { at = place; bars = bars } in
+        let after : State = restarted st bars (record st { at = place }) in
         ends_here os layer n e (rw is refl)
         ∙ rw (alternatives_from, next_is, is, found, e')
         (prepend layer.branches (ended known text os) (alternative layer.parts) (alternatives known text (suc k) after)
@@ -177,7 +177,7 @@ module _ (known : List NameEntry) (text : List ℕ) where
     pub step_close : token ≡ Close → (o : Opened) (os : List Opened) (branches : List Nested) → is_tested o.how.form ≡ false →
         ended known text (o ∷ os) branches st
         ≡ resume known text os o.outer (Some (o.outer.n, built o.how.form branches))
-        (record st { at = place; options = o.how.around; looking = o.how.looking; bars = o.how.bars; depth = st.depth - 1; references = st.references ++ noted o.how.form o.how.at })
+        (record st { at = place; options = o.how.around; looking = o.how.looking; bars = o.how.bars; numbering = o.how.numbering; groups = groups_after st.numbering st.groups; depth = st.depth - 1; references = st.references ++ noted o.how.form o.how.at })
     unfolding resume ended closed
     step_close is o os branches part = rw (closed, next_is, is) (is_part os o.how o.outer _ _ part)
 
@@ -185,7 +185,7 @@ module _ (known : List NameEntry) (text : List ℕ) where
     pub step_tested : token ≡ Close → (o : Opened) (os : List Opened) (branches : List Nested) → is_tested o.how.form ≡ true →
         ended known text (o ∷ os) branches st
         ≡ resume known text os (with_branch o.outer (built o.how.form branches)) None
-        (record st { at = place; options = o.how.around; looking = o.how.looking; bars = o.how.bars; depth = st.depth - 1; references = st.references ++ noted o.how.form o.how.at })
+        (record st { at = place; options = o.how.around; looking = o.how.looking; bars = o.how.bars; numbering = o.how.numbering; groups = groups_after st.numbering st.groups; depth = st.depth - 1; references = st.references ++ noted o.how.form o.how.at })
     unfolding resume ended closed
     step_tested is o os branches tested = rw (closed, next_is, is) (is_branch os o.how o.outer _ _ tested)
 

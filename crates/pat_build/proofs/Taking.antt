@@ -1,5 +1,5 @@
 -- What a token that begins no group does to a machine keeps what the machine means.
-use Rattle.std.proofs.Common.{◌≡◌, ℕ, suc, ◌+◌, ◌-◌, ◌*◌, ◌<◌, ◌≤◌, Bool, true, false, ◌||◌, List, [], ◌∷◌, ◌++◌, length, append_assoc, append-nil, reverse, Option, Some, None, Ok, refl, sym, ap, ◌∙◌, arith, subst}
+use Rattle.std.proofs.Common.{◌≡◌, ℕ, suc, ◌+◌, ◌-◌, ◌*◌, ◌<◌, ◌≤◌, Bool, true, false, List, [], ◌∷◌, ◌++◌, length, append_assoc, append-nil, reverse, Option, Some, None, Ok, refl, sym, ap, ◌∙◌, arith, subst}
 use Rattle.pat_tree.specs.declared.options.Options.{Options}
 use Rattle.pat_tree.specs.Parts.{DraftParts}
 use Rattle.pat_tree.specs.Nested.{Nested}
@@ -14,10 +14,11 @@ use Rattle.pat_build.specs.State.{State, passed_over}
 use Rattle.pat_build.specs.Parts.{atom, bare, nothing, repeated}
 use Rattle.pat_build.specs.Reading.{reading}
 use Rattle.pat_build.specs.Stack.{Layer, Opened, with_part, resume}
-use Rattle.pat_build.specs.Machine.{Adds, IsAtom, AtomStands, atom_tree, state_of, state_from, known_of, whole_of, left, Means, IsNext, Ready, Begins, Took, HasRoom, ids_of, ids_waiting, ids_in, ids_held, is_open}
+use Rattle.pat_build.specs.Machine.{Adds, IsAtom, AtomStands, atom_tree, state_of, state_from, known_of, whole_of, left, Means, IsNext, Ready, Begins, Took, HasRoom, ids_of, ids_waiting, ids_in, ids_held}
 use Rattle.pat_build.proofs.Steps.{step_atom, step_bare, step_nothing, step_quantifier, step_passed, step_quote_on, step_quote_off}
 use Rattle.pat_build.proofs.Standing.{positive, level_on, stack_on}
-use Rattle.pat_build.proofs.States.{state_kept, whole_kept, refs_kept, named_kept, numbers_kept}
+use Rattle.pat_build.proofs.States.{state_kept, whole_kept, refs_kept}
+use Rattle.pat_build.proofs.Numbers.{numbers_on, numbers_kept}
 use Rattle.pat_build.proofs.Waiting.{waits_for, idle_value, loose_waiting, loose_idle, as_part}
 use Rattle.pat_build.proofs.Extending.{Extends}
 
@@ -56,13 +57,13 @@ module _ (m : Machine) (means : Means m) where
           short = means.short;
           depth = means.depth;
           classes = omega (arith, means.classes, there.goes, later, extends.classes);
-          known = means.known;
           verb_names = extends.verb_names ∙ means.verb_names;
-          named = record { known = means.named.known; is = extends.names ∙ means.named.is; few = means.named.few; count = means.named.count };
+          named = rw (extends.names) means.named;
+          names = omega (arith, means.names, there.goes, later, ap length extends.names);
           refs_are = extends.refs_are;
           turns = extends.turns means.turns;
           loose_is = extends.loose_is ∙ ap (λ l. l ++ ids_of a) (loose_idle m means ready.idle ∙ ap (λ l. ids_held m.stack.items ++ l) (append-nil (ids_in m.level))) ∙ append_assoc (ids_held m.stack.items) (ids_in m.level) (ids_of a);
-          numbers = λ n. ap (λ b. b || is_open m.stack.items n) (extends.groups n) ∙ means.numbers n;
+          numbers = numbers_on extends.groups means.numbers;
         };
         room = omega (arith, ready.room, there.goes, later, extends.count);
         goes = omega (arith, there.goes, later);
@@ -99,15 +100,15 @@ module _ (m : Machine) (means : Means m) where
           short = means.short;
           depth = means.depth;
           classes = omega (arith, means.classes, there.goes, extends.classes);
-          known = means.known;
           verb_names = extends.verb_names ∙ means.verb_names;
-          named = record { known = means.named.known; is = extends.names ∙ means.named.is; few = means.named.few; count = means.named.count };
+          named = rw (extends.names) means.named;
+          names = omega (arith, means.names, there.goes, ap length extends.names);
           refs_are = extends.refs_are;
           turns = extends.turns means.turns;
           loose_is = extends.loose_is ∙ ap (λ l. l ++ id ∷ []) (loose_idle m means ready.idle ∙ ap (λ l. ids_held m.stack.items ++ l) (append-nil (ids_in m.level)))
               ∙ as_part (ids_held m.stack.items) m.level.branches m.level.parts (id ∷ [])
               ∙ ap (λ l. ids_held m.stack.items ++ ((m.level.branches ++ l) ++ [])) (sym more) ∙ ap (λ w. ids_held m.stack.items ++ ((m.level.branches ++ parts) ++ ids_waiting w)) (sym ready.idle);
-          numbers = λ n. ap (λ b. b || is_open m.stack.items n) (extends.groups n) ∙ means.numbers n;
+          numbers = numbers_on extends.groups means.numbers;
         };
         room = omega (arith, ready.room, there.goes, extends.count);
         goes = there.goes;
@@ -142,8 +143,8 @@ module _ (m : Machine) (means : Means m) where
           short = means.short;
           depth = means.depth;
           classes = omega (arith, means.classes, there.goes);
-          known = means.known;
           named = means.named;
+          names = omega (arith, means.names, there.goes);
           verb_names = means.verb_names;
           refs_are = means.refs_are;
           turns = means.turns;
@@ -200,8 +201,8 @@ module _ (m : Machine) (means : Means m) where
           short = means.short;
           depth = means.depth;
           classes = omega (arith, means.classes, there.goes);
-          known = means.known;
           named = means.named;
+          names = omega (arith, means.names, there.goes);
           verb_names = means.verb_names;
           refs_are = means.refs_are;
           turns = means.turns;
@@ -242,13 +243,13 @@ module _ (m : Machine) (means : Means m) where
           short = means.short;
           depth = means.depth;
           classes = omega (arith, means.classes, there.goes, ap length adds.classes);
-          known = means.known;
-          named = named_kept m draft adds means.named;
+          named = rw (adds.names) means.named;
+          names = omega (arith, means.names, there.goes, ap length adds.names);
           verb_names = adds.verb_names ∙ means.verb_names;
           refs_are = refs_kept m draft adds means.refs_are;
           turns = adds.turns means.turns;
           loose_is = replaces (ids_held m.stack.items ++ ids_in m.level) (loose_waiting m means a is) ∙ as_part (ids_held m.stack.items) m.level.branches m.level.parts (id ∷ []) ∙ ap (λ l. ids_held m.stack.items ++ ((m.level.branches ++ l) ++ [])) (sym more);
-          numbers = numbers_kept m.draft draft m.stack.items m.groups adds means.numbers;
+          numbers = numbers_kept adds means.numbers;
         };
         room = omega (arith, room, there.goes, count);
         goes = there.goes;

@@ -16,6 +16,7 @@ use Rattle.pat_build.specs.declared.error.ReadError.{ReadError}
 use Rattle.pat_build.specs.declared.error.ReadError.TheVariants.{Bad, Memory}
 use Rattle.pat_build.specs.declared.machine.Atom.{Atom}
 use Rattle.pat_build.specs.declared.machine.Bars.TheVariants.{Free, First}
+use Rattle.pat_build.specs.declared.machine.Numbering.TheVariants.{Onward}
 use Rattle.pat_build.specs.declared.machine.Machine.{Machine}
 use Rattle.pat_build.specs.declared.cursor.Place.{Place}
 use Rattle.pat_build.specs.declared.cursor.Assertion as looked
@@ -30,7 +31,8 @@ use Rattle.pat_build.specs.Machine.{Adds, Refuses, IsAtom, atom_tree, state_of, 
 use Rattle.pat_build.proofs.Steps.{step_flush, step_bad, step_fault, step_fault_waiting}
 use Rattle.pat_build.proofs.Beginning.{worded_is, before_test, testing, assertions_bad, assertions_deeper, assertions_fit}
 use Rattle.pat_build.proofs.Standing.{positive, level_on, stack_on}
-use Rattle.pat_build.proofs.States.{state_kept, whole_kept, refs_kept, named_kept, numbers_kept}
+use Rattle.pat_build.proofs.States.{state_kept, whole_kept, refs_kept}
+use Rattle.pat_build.proofs.Numbers.{numbers_kept}
 
 to_end : (h l x : List ℕ) → h ++ (l ++ x) ≡ (h ++ l) ++ x
 to_end h l x = sym (append_assoc h l x)
@@ -102,13 +104,13 @@ module _ (m : Machine) (means : Means m) where
         short = means.short;
         depth = means.depth;
         classes = rw (adds.classes) means.classes;
-        known = means.known;
-        named = named_kept m draft adds means.named;
+        named = rw (adds.names) means.named;
+        names = rw (adds.names) means.names;
         verb_names = adds.verb_names ∙ means.verb_names;
         refs_are = refs_kept m draft adds means.refs_are;
         turns = adds.turns means.turns;
         loose_is = replaces (ids_held m.stack.items ++ ids_in m.level) (loose_waiting a is) ∙ as_part (ids_held m.stack.items) m.level.branches m.level.parts (id ∷ []) ∙ ap (λ l. ids_held m.stack.items ++ ((m.level.branches ++ l) ++ [])) (sym more);
-        numbers = numbers_kept m.draft draft m.stack.items m.groups adds means.numbers;
+        numbers = numbers_kept adds means.numbers;
       }
 
   -- the place of a fault
@@ -188,7 +190,7 @@ module _ (m : Machine) (means : Means m) where
       pub assertion_begins : length m.stack.items + 1 < 250 → Begins m (CondStart Lookaround from to) after (Ok (asserting_from m a))
       assertion_begins fit n k =
           assertions_fit m.text.now n (state_of m) (record (state_of m) { at = after }) fits a.ahead a.positive (there a.here) (there a.after) (found_is n k) fit
-          ∙ ap (λ d. let x : Result Beginning Fault = Ok (asserts (testing (state_of m)) (record { form = asserted a.ahead a.positive; around = m.options; looking = m.looking; bars = First; at = a.here.at }) (record (there a.after) { depth = d; looking = true; bars = Free })) in x) (two_more (length m.stack.items))
+          ∙ ap (λ d. let x : Result Beginning Fault = Ok (asserts (testing (state_of m)) (record { form = asserted a.ahead a.positive; around = m.options; looking = m.looking; bars = First; numbering = Onward; at = a.here.at }) (record (there a.after) { depth = d; looking = true; bars = Free; numbering = Onward })) in x) (two_more (length m.stack.items))
 
   -- where a class begins, by what a cursor at that place tells of it
   module _ (negated : Bool) (after : ℕ) (text : List ℕ) (place : Place) (options : Options) (groups : ℕ)
@@ -221,9 +223,9 @@ module _ (m : Machine) (means : Means m) where
 -- a cursor at the machine's place has the machine's token
 pub token_same : (m : Machine) (text : List ℕ) (place : Place) (options : Options) (groups : ℕ) → text ≡ m.text.now → place ≡ record { at = m.at; quoting = m.quoting } → options ≡ m.options → groups ≡ m.groups →
     token_at m.text.now (flags_of false (state_of m)) m.at
-    ≡ token_at text (flags_of false (record { at = place.at; quoting = place.quoting; options = options; groups = groups; depth = 0; looking = false; bars = Free; classes = []; names = []; references = []; beyond = None })) place.at
+    ≡ token_at text (flags_of false (record { at = place.at; quoting = place.quoting; options = options; groups = groups; depth = 0; looking = false; bars = Free; numbering = Onward; classes = []; names = []; references = []; beyond = None })) place.at
 token_same m text place options groups text_is place_is options_is groups_is =
     ap (λ t. token_at t (flags_of false (state_of m)) m.at) (sym text_is)
-    ∙ ap (λ p. token_at text (flags_of false (record { at = p.at; quoting = p.quoting; options = m.options; groups = m.groups; depth = 0; looking = false; bars = Free; classes = []; names = []; references = []; beyond = None })) p.at) (sym place_is)
-    ∙ ap (λ o. token_at text (flags_of false (record { at = place.at; quoting = place.quoting; options = o; groups = m.groups; depth = 0; looking = false; bars = Free; classes = []; names = []; references = []; beyond = None })) place.at) (sym options_is)
-    ∙ ap (λ g. token_at text (flags_of false (record { at = place.at; quoting = place.quoting; options = options; groups = g; depth = 0; looking = false; bars = Free; classes = []; names = []; references = []; beyond = None })) place.at) (sym groups_is)
+    ∙ ap (λ p. token_at text (flags_of false (record { at = p.at; quoting = p.quoting; options = m.options; groups = m.groups; depth = 0; looking = false; bars = Free; numbering = Onward; classes = []; names = []; references = []; beyond = None })) p.at) (sym place_is)
+    ∙ ap (λ o. token_at text (flags_of false (record { at = place.at; quoting = place.quoting; options = o; groups = m.groups; depth = 0; looking = false; bars = Free; numbering = Onward; classes = []; names = []; references = []; beyond = None })) place.at) (sym options_is)
+    ∙ ap (λ g. token_at text (flags_of false (record { at = place.at; quoting = place.quoting; options = options; groups = g; depth = 0; looking = false; bars = Free; numbering = Onward; classes = []; names = []; references = []; beyond = None })) place.at) (sym groups_is)

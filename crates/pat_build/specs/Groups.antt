@@ -1,5 +1,5 @@
 -- Groups, their numbers and their names (pcre2pattern, "Groups", "Named capture groups", "Backreferences").
-use Rattle.std.specs.Prelude.{ℕ, zero, suc, ◌+◌, ◌-◌, Bool, true, false, not, ◌&&◌, ◌||◌, nat_le, nat_lt, List, [], ◌∷◌, map, filter, flat_map, Option, Some, None, Result, Ok, slice_range, if◌then◌else◌}
+use Rattle.std.specs.Prelude.{ℕ, zero, suc, ◌+◌, ◌-◌, Bool, true, false, not, ◌&&◌, ◌||◌, ◌==◌, max, nat_le, nat_lt, List, [], ◌∷◌, map, filter, flat_map, Option, Some, None, Result, Ok, slice_range, if◌then◌else◌}
 use Rattle.std.specs.List.{list_any}
 use Rattle.std.specs.Str.{bytes_eq}
 use Rattle.pat_tree.specs.declared.options.Options.{Options}
@@ -15,6 +15,8 @@ use Rattle.token_parts.specs.declared.token.CondText.{CondText}
 use Rattle.token_parts.specs.declared.token.CondText.TheVariants as tested
 use Rattle.pat_build.specs.declared.machine.Bars.{Bars}
 use Rattle.pat_build.specs.declared.machine.Bars.TheVariants as bars
+use Rattle.pat_build.specs.declared.machine.Numbering.{Numbering}
+use Rattle.pat_build.specs.declared.machine.Numbering.TheVariants.{Onward, Reset}
 use Rattle.pat_build.specs.State.{State, Reference}
 
 -- what a group is
@@ -92,13 +94,32 @@ barred bars.First at = Ok bars.Second
 barred bars.Second at = fault 127 at
 barred bars.Define at = fault 154 at
 
+-- How the next alternative numbers its groups, where so many are opened; and how many stand before it, and before what
+-- follows the last alternative. In a branch reset each begins at the same number, and after it the greatest goes on.
+abbrev pub next_numbering : Numbering → ℕ → Numbering
+next_numbering Onward groups = Onward
+next_numbering (Reset base greatest) groups = Reset base (max greatest groups)
+
+abbrev pub groups_before : Numbering → ℕ → ℕ
+groups_before Onward groups = groups
+groups_before (Reset base greatest) groups = base
+
+abbrev pub groups_after : Numbering → ℕ → ℕ
+groups_after Onward groups = groups
+groups_after (Reset base greatest) groups = max greatest groups
+
+-- the state after a bar, where the next alternative begins
+abbrev pub restarted : State → Bars → State → State
+restarted st bars after = record after { bars = bars; numbering = next_numbering st.numbering st.groups; groups = groups_before st.numbering st.groups }
+
 -- a group whose inside is read: what holds around it (the options, whether that is inside a lookaround, the alternatives
--- that the group around may still have), and its place
+-- that the group around may still have and how they number groups), and its place
 pub record Opening : Type 0 where
   pub form : Form
   pub around : Options
   pub looking : Bool
   pub bars : Bars
+  pub numbering : Numbering
   pub at : ℕ
 
 -- the groups that a test names
@@ -124,13 +145,21 @@ Opens = Result (Opening × State) Fault
 abbrev pub has_name : List ℕ → NameEntry → Bool
 has_name name entry = bytes_eq entry.name name
 
+-- a group of another number has the name
+abbrev pub is_elsewhere : List ℕ → ℕ → NameEntry → Bool
+is_elsewhere name number entry = has_name name entry && not (entry.group == number)
+
+-- a group of this number has another name
+abbrev pub is_other : List ℕ → ℕ → NameEntry → Bool
+is_other name number entry = entry.group == number && not (has_name name entry)
+
 -- One more parenthesis than `st` has open. The state after the parenthesis is given.
 unfoldable pub opened : State → Form → State → Opens
 opened st form after =
     if nat_le 250 st.depth then fault 119 st.at
     else Ok (
-      record { form = form; around = st.options; looking = st.looking; bars = st.bars; at = st.at },
-      record after { depth = st.depth + 1; looking = is_look form || st.looking; bars = bars_in form },
+      record { form = form; around = st.options; looking = st.looking; bars = st.bars; numbering = st.numbering; at = st.at },
+      record after { depth = st.depth + 1; looking = is_look form || st.looking; bars = bars_in form; numbering = Onward },
     )
 
 -- a capturing group has the next number
@@ -138,11 +167,17 @@ unfoldable pub captured : State → State → Opens
 captured st after = opened st (grouped (Some (st.groups + 1))) (record after { groups = st.groups + 1 }) >>= λ group.
     if nat_le 65535 st.groups then fault 161 st.at else Ok group
 
--- a name that another group has needs DUPNAMES
+-- A name that a group of another number has needs DUPNAMES, and groups of one number have one name.
 unfoldable pub named : State → List ℕ → State → Opens
 named st name after =
     captured st (record after { names = with_name (record { name = name; group = st.groups + 1 }) st.names }) >>= λ group.
-    if not st.options.dupnames && list_any (has_name name) st.names then fault 143 st.at else Ok group
+    if not st.options.dupnames && list_any (is_elsewhere name (st.groups + 1)) st.names then fault 143 st.at
+    else if list_any (is_other name (st.groups + 1)) st.names then fault 165 st.at
+    else Ok group
+
+-- a branch reset
+unfoldable pub reset : State → State → Opens
+reset st after = opened st (grouped None) after >>= λ (how, begun). Ok (how, record begun { numbering = Reset st.groups st.groups })
 
 -- No group has the number 0: it stands for what names no group.
 abbrev pub or_none : List ℕ → List ℕ

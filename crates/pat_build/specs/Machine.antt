@@ -1,6 +1,6 @@
 -- What the reader's state stands for: the rest of the reading.
 use Rattle.std.specs.List.{list_any}
-use Rattle.std.specs.Prelude.{true, false, ◌||◌, ◌==◌, ◌≡◌, ℕ, ◌+◌, ◌-◌, ◌*◌, ◌<◌, ◌≤◌, Bool, List, [], ◌∷◌, ◌++◌, length, map, reverse, Option, Some, None, Result, Ok, Err, All, IsTrue}
+use Rattle.std.specs.Prelude.{true, false, ◌||◌, ◌==◌, max, ◌≡◌, ℕ, ◌+◌, ◌-◌, ◌*◌, ◌<◌, ◌≤◌, Bool, List, [], ◌∷◌, ◌++◌, length, map, reverse, Option, Some, None, Result, Ok, Err, All, IsTrue}
 use Rattle.pat_tree.specs.declared.options.Options.{Options}
 use Rattle.pat_tree.specs.declared.nodes.Placed.{Placed}
 use Rattle.pat_tree.specs.declared.nodes.Cond.{Cond}
@@ -33,12 +33,15 @@ use Rattle.pat_build.specs.declared.machine.Test as machine_test
 use Rattle.pat_build.specs.declared.machine.Test.TheVariants as tested
 use Rattle.pat_build.specs.declared.machine.Bars.{Bars}
 use Rattle.pat_build.specs.declared.machine.Bars.TheVariants as barring
+use Rattle.pat_build.specs.declared.machine.Numbering.{Numbering}
+use Rattle.pat_build.specs.declared.machine.Numbering.TheVariants.{Onward, Reset}
+use Rattle.pat_build.specs.declared.machine.Inside.{Inside}
 use Rattle.pat_build.specs.declared.machine.Machine.{Machine}
 use Rattle.pat_build.specs.State.{State, Reads, Reference, flags_of}
-use Rattle.pat_build.specs.Groups.{Opening, Form, grouped, atomically, looks, conditional, defines, asserted, asserting, is_look, is_tested, number_of, noted, is_opened, places_named, missing}
-use Rattle.pat_build.specs.Names.{IsKnown, Stands, table_of}
+use Rattle.pat_build.specs.Groups.{Opening, Form, grouped, atomically, looks, conditional, defines, asserted, asserting, is_look, is_tested, bars_in, number_of, noted, is_opened, places_named, missing}
+use Rattle.pat_build.specs.Names.{Stands, with_given}
 use Rattle.pat_build.specs.declared.cursor.Assertion.{Assertion}
-use Rattle.pat_build.specs.Parts.{Beginning, asserts, once_more, repeat_of, beginning}
+use Rattle.pat_build.specs.Parts.{Beginning, inside, asserts, once_more, repeat_of, beginning}
 use Rattle.pat_build.specs.Reading.{Parsed, reading, checked}
 use Rattle.pat_build.specs.Stack.{Layer, Opened, Waiting, resume}
 
@@ -156,7 +159,7 @@ form_of (kept.Asserted ahead positive) = asserted ahead positive
 form_of kept.Asserting = asserting
 
 abbrev pub opening_of : Frame → Opening
-opening_of f = record { form = form_of f.form; around = f.around; looking = f.looking; bars = f.bars; at = f.at }
+opening_of f = record { form = form_of f.form; around = f.around; looking = f.looking; bars = f.bars; numbering = f.numbering; at = f.at }
 
 -- the number of the group, where it captures
 abbrev pub number_in_frame : Frame → Option ℕ
@@ -187,12 +190,39 @@ AtomStands d left (Some atom) waiting = IsAtom d atom × ((n : ℕ) × (left < n
 abbrev pub is_open : List Frame → ℕ → Bool
 is_open fs n = list_any (λ f. is_number (number_in_frame f) n) fs
 
--- The names that were given are those of the draft, each to a group that was opened.
-pub record Named (text : List ℕ) (names : List Name) (table : List NameEntry) (groups : ℕ) : Type 0 where
-  pub known : IsKnown text names
-  pub is : table ≡ table_of text names
-  pub few : All (λ name. name.group ≤ groups) names
-  pub count : length names ≤ groups
+-- the greatest number that the earlier alternatives of a branch reset have given
+abbrev pub greatest_of : Numbering → ℕ
+greatest_of Onward = 0
+greatest_of (Reset base greatest) = greatest
+
+abbrev pub greatest_in : List Frame → ℕ
+greatest_in [] = 0
+greatest_in (f ∷ fs) = max (greatest_of f.numbering) (greatest_in fs)
+
+-- the greatest number that was given
+abbrev pub greatest_given : List Frame → Numbering → ℕ → ℕ
+greatest_given fs numbering groups = max groups (max (greatest_of numbering) (greatest_in fs))
+
+-- no alternative of a branch reset begins past the greatest number of those before
+abbrev pub IsFair : Numbering → Type 0
+IsFair Onward = Unit {0}
+IsFair (Reset base greatest) = base ≤ greatest
+
+-- how the top alternatives number groups
+abbrev pub outermost : List Frame → Numbering → Numbering
+outermost [] numbering = numbering
+outermost (f ∷ fs) numbering = f.numbering
+
+-- The groups of the nodes and those that are open have the numbers up to the greatest that was given.
+pub record Numbers (ps : List Placed) (fs : List Frame) (numbering : Numbering) (groups : ℕ) : Type 0 where
+  pub each : (n : ℕ) → (has_group ps n || is_open fs n) ≡ is_opened (greatest_given fs numbering groups) n
+  pub fair : IsFair numbering
+  pub all_fair : All (λ f. IsFair f.numbering) fs
+  pub onward : outermost fs numbering ≡ Onward
+
+-- the name is of a group that was opened
+abbrev pub IsGiven : ℕ → NameEntry → Type 0
+IsGiven greatest entry = (1 ≤ entry.group) × (entry.group ≤ greatest)
 
 -- a group of this form can have so many alternatives
 abbrev pub CanHave : Form → ℕ → Type 0
@@ -257,9 +287,11 @@ TestsNone asserting = ⊥
 TestsNone _ = Unit {0}
 
 -- how a group that begins is numbered
-abbrev pub Numbered : ℕ → Option ℕ → ℕ → Type 0
-Numbered groups None after = after ≡ groups
-Numbered groups (Some m) after = (m ≡ groups + 1) × (after ≡ groups + 1)
+abbrev pub Numbered : ℕ → Option ℕ → Numbering → ℕ → Type 0
+Numbered groups None Onward after = after ≡ groups
+Numbered groups None (Reset base greatest) after = (base ≡ groups) × (greatest ≡ groups) × (after ≡ groups)
+Numbered groups (Some m) Onward after = (m ≡ groups + 1) × (after ≡ groups + 1)
+Numbered groups (Some m) (Reset base greatest) after = ⊥
 
 -- the name that a group gets
 abbrev pub Gives : List ℕ → ℕ → Option Name → ℕ → Type 0
@@ -275,6 +307,7 @@ state_of m = record {
   depth = length m.stack.items;
   looking = m.looking;
   bars = m.bars;
+  numbering = m.numbering;
   classes = m.draft.classes;
   names = m.draft.names;
   references = references_of m.draft.nodes;
@@ -283,23 +316,40 @@ state_of m = record {
 
 -- the state in which the reading begins, after the start items
 abbrev pub state_from : ℕ → Options → State
-state_from at options = record { at = at; quoting = false; options = options; groups = 0; depth = 0; looking = false; bars = barring.Free; classes = []; names = []; references = []; beyond = None }
+state_from at options = record { at = at; quoting = false; options = options; groups = 0; depth = 0; looking = false; bars = barring.Free; numbering = Onward; classes = []; names = []; references = []; beyond = None }
+
+-- what begins where a group of this form does, with this name, if it gets one
+abbrev pub inside_from : Machine → Form → Option Name → Inside → Beginning
+inside_from m form given start = inside
+    (record { form = form; around = m.options; looking = m.looking; bars = m.bars; numbering = m.numbering; at = m.at })
+    (record (state_of m) {
+      at = start.at;
+      options = start.options;
+      groups = start.groups;
+      depth = length m.stack.items + 1;
+      looking = is_look form || m.looking;
+      bars = bars_in form;
+      numbering = start.numbering;
+      names = with_given m.text.now given m.draft.names;
+      beyond = start.beyond;
+    })
 
 -- what begins where a conditional group tests a lookaround
 abbrev pub asserting_from : Machine → Assertion → Beginning
 asserting_from m test = asserts
-    (record { form = asserting; around = m.options; looking = m.looking; bars = m.bars; at = m.at })
-    (record { form = asserted test.ahead test.positive; around = m.options; looking = m.looking; bars = barring.First; at = test.here.at })
+    (record { form = asserting; around = m.options; looking = m.looking; bars = m.bars; numbering = m.numbering; at = m.at })
+    (record { form = asserted test.ahead test.positive; around = m.options; looking = m.looking; bars = barring.First; numbering = Onward; at = test.here.at })
     (record (state_of m) {
       at = test.after.at;
       quoting = test.after.quoting;
       depth = length m.stack.items + 2;
       looking = true;
       bars = barring.Free;
+      numbering = Onward;
     })
 
 abbrev pub known_of : Machine → List NameEntry
-known_of m = table_of m.text.now m.known.now
+known_of m = m.known.now
 
 -- the reading of the whole pattern
 abbrev pub whole_of : Machine → Reads Nested
@@ -331,13 +381,13 @@ pub record Means (m : Machine) : Type 0 where
   pub short : length m.text.now ≤ 65536
   pub depth : length m.stack.items ≤ 250
   pub classes : length m.draft.classes ≤ m.at
-  pub known : IsKnown m.text.now m.known.now
-  pub named : Named m.text.now m.names.items m.draft.names m.groups
+  pub named : All (IsGiven (greatest_given m.stack.items m.numbering m.groups)) m.draft.names
+  pub names : length m.draft.names ≤ m.at
   pub verb_names : m.draft.verb_names ≡ []
   pub refs_are : refs m.draft.nodes ≡ places_named (references_of m.draft.nodes)
   pub loose_is : loose m.draft.nodes ≡ ids_held m.stack.items ++ (ids_in m.level ++ ids_waiting m.waiting)
   pub turns : StandInTurn m.draft.nodes
-  pub numbers : (n : ℕ) → (has_group m.draft.nodes n || is_open m.stack.items n) ≡ is_opened m.groups n
+  pub numbers : Numbers m.draft.nodes m.stack.items m.numbering m.groups
 
 -- the draft has room for the nodes of the tokens that are left
 abbrev pub HasRoom : ℕ → Machine → Type 0
@@ -407,6 +457,6 @@ pub record Ends (old new : Machine) (id : ℕ) : Type 0 where
   pub turns : StandInTurn new.draft.nodes
   pub refs_are : refs new.draft.nodes ≡ places_named (references_of new.draft.nodes)
   pub text : new.text.now ≡ old.text.now
-  pub named : Named new.text.now new.names.items new.draft.names new.groups
+  pub named : All (IsGiven new.groups) new.draft.names
   pub verb_names : new.draft.verb_names ≡ []
   pub options : new.draft.options ≡ old.draft.options

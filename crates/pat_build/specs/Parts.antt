@@ -21,7 +21,7 @@ use Rattle.token_parts.specs.Tell.{fault, ◌>>=◌}
 use Rattle.pat_build.specs.State.{State, Item, item}
 use Rattle.pat_build.specs.Options.{with_setting}
 use Rattle.pat_build.specs.Classes.{class_spec}
-use Rattle.pat_build.specs.Groups.{Opening, Opens, grouped, atomically, looks, asserted, asserting, opened, captured, named, named_by, form_in, beyond_after}
+use Rattle.pat_build.specs.Groups.{Opening, Opens, grouped, atomically, looks, asserted, asserting, opened, captured, named, reset, named_by, form_in, beyond_after}
 
 -- An alternative without parts is empty, one with one part is that part.
 abbrev pub alternative : List Nested → Nested
@@ -168,6 +168,7 @@ module _ (known : List NameEntry) (text : List ℕ) where
   -- groups
   beginning n st (token.Open opening.Capture) next = enters (if st.options.no_auto_capture then opened st (grouped None) next else captured st next)
   beginning n st (token.Open opening.Plain) next = enters (opened st (grouped None) next)
+  beginning n st (token.Open opening.BranchReset) next = enters (reset st next)
   beginning n st (token.Open opening.Atomic) next = enters (opened st atomically next)
   beginning n st (token.Open (opening.Look ahead positive once)) next = enters (opened st (looks ahead positive once) next)
   beginning n st (token.Open (opening.Named from to)) next = enters (named st (slice_range text from to) next)
@@ -182,5 +183,5 @@ module _ (known : List NameEntry) (text : List ℕ) where
   -- a quantifier without an atom, and a start item that isn't at the start
   beginning n st (token.Quantifier low high mode) next = fault 109 st.at
   beginning n st (token.Start item) next = fault 160 st.at
-  -- Left out: properties; branch reset; calls and verbs; callouts.
+  -- Left out: properties; calls and verbs; callouts.
   beginning n st _ next = fault 195 st.at

@@ -9,6 +9,7 @@ use Rattle.token_parts.specs.Tell.{is_own}
 use Rattle.pat_build.specs.State.{State, Reads, flags_of}
 use Rattle.pat_build.specs.Classes.{part_then, range_or_hyphen, from_character, from_set, from_item}
 use Rattle.pat_build.specs.declared.machine.Bars.TheVariants.{Free}
+use Rattle.pat_build.specs.declared.machine.Numbering.TheVariants.{Onward}
 use Rattle.pat_build.specs.declared.cursor.Place.{Place}
 use Rattle.pat_build.specs.declared.cursor.Cursor.{Cursor}
 use Rattle.pat_build.specs.declared.error.ReadError.{ReadError}
@@ -25,7 +26,7 @@ state_at cursor st place = record st { at = place.at; quoting = place.quoting; o
 -- what the tokens depend on at a place, which is nothing else of the state
 abbrev pub flags_at : Cursor → Bool → Place → LexFlags
 flags_at cursor in_class place =
-    flags_of in_class (record { at = place.at; quoting = place.quoting; options = cursor.options; groups = cursor.groups; depth = 0; looking = false; bars = Free; classes = []; names = []; references = []; beyond = None })
+    flags_of in_class (record { at = place.at; quoting = place.quoting; options = cursor.options; groups = cursor.groups; depth = 0; looking = false; bars = Free; numbering = Onward; classes = []; names = []; references = []; beyond = None })
 
 -- What is said of a text, of a number that bounds the items of a class, and of the states at the places.
 abbrev pub Claim : Type 1

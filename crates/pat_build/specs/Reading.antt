@@ -14,7 +14,8 @@ use Rattle.token_parts.specs.Tell.{fault, ◌>>=◌}
 use Rattle.pat_build.specs.State.{State, Reads, next, passed_over}
 use Rattle.pat_build.specs.Options.{with_item}
 use Rattle.pat_build.specs.declared.machine.Bars.TheVariants.{Free}
-use Rattle.pat_build.specs.Groups.{Opening, barred, built, noted, missing}
+use Rattle.pat_build.specs.declared.machine.Numbering.TheVariants.{Onward}
+use Rattle.pat_build.specs.Groups.{Opening, barred, restarted, groups_after, built, noted, missing}
 use Rattle.pat_build.specs.Parts.{Beginning, atom, bare, inside, asserts, nothing, over, alternative, repeated, beginning}
 
 module _ (text : List ℕ) where
@@ -35,6 +36,8 @@ module _ (text : List ℕ) where
         options = opening.around;
         looking = opening.looking;
         bars = opening.bars;
+        numbering = opening.numbering;
+        groups = groups_after st.numbering st.groups;
         depth = st.depth - 1;
         references = st.references ++ noted opening.form opening.at;
       },
@@ -69,7 +72,7 @@ module _ (text : List ℕ) where
   -- an alternative of these parts, and those after a bar
   unfoldable pub alternatives_from : (State → Reads (List Nested)) → List Nested → State → Reads (List Nested)
   alternatives_from again parts st = next text false st >>= λ (token, after). elim token [
-    | Bar ↦ barred st.bars st.at >>= λ bars. again (record after { bars = bars }) >>= λ (others, end). Ok (alternative parts ∷ others, end)
+    | Bar ↦ barred st.bars st.at >>= λ bars. again (restarted st bars after) >>= λ (others, end). Ok (alternative parts ∷ others, end)
     | _ ↦ Ok (alternative parts ∷ [], st)
   ]
 
@@ -106,7 +109,7 @@ started text (suc n) st = next text false st >>= λ (token, after). elim token [
 ]
 
 abbrev pub start : Options → State
-start options = record { at = 0; quoting = false; options = options; groups = 0; depth = 0; looking = false; bars = Free; classes = []; names = []; references = []; beyond = None }
+start options = record { at = 0; quoting = false; options = options; groups = 0; depth = 0; looking = false; bars = Free; numbering = Onward; classes = []; names = []; references = []; beyond = None }
 
 -- the tree from a state on and the last state, where these are the names of the whole pattern
 unfoldable pub reading : List NameEntry → List ℕ → State → Reads Nested

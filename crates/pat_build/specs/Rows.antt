@@ -81,6 +81,13 @@ two_named = record (with (λ p. record p { groups = 2 })
       places = 4 ∷ [];
     }
 
+-- a branch reset, and a reference to the group after it
+abbrev pub some_numbers : Parsed
+some_numbers = record (with (λ p. record p { groups = 3 })
+    (branches (seq (row (group None (row (group_of 1 (letter "a") ∷ seq (row (group_of 1 (letter "b") ∷ group_of 2 (letter "c") ∷ [])) ∷ [])) ∷ group_of 3 (letter "d") ∷ ref (3 ∷ []) false ∷ [])) ∷ []))) {
+      places = 17 ∷ [];
+    }
+
 abbrev pub limited : Parsed
 limited =
     with (λ p. record p { options = record plain.PLAIN { newline = CrLf; match_limit = Some 5 } })
@@ -93,7 +100,8 @@ pub record WorkedRows : Type 0 where
   pub two_names : reads "(?<n>a)(?<n>b)" ≡ fault 143 7
   pub two_quantifiers : reads "a**" ≡ fault 109 2
   pub no_group : reads "(a)\\2" ≡ fault 115 3
-  pub left_out : reads "x(?|a)" ≡ fault 195 1
+  pub other_name : reads "(?|(?<n>a)|(?<m>b))" ≡ fault 165 11
+  pub renumbered : reads "(?|(a)|(b)(c))(d)\\3" ≡ Ok some_numbers
   pub keeping_out : reads "(?=a(b\\K))" ≡ fault 199 6
   pub held : reads "(?>a|)b++" ≡ Ok (branches (seq (row (atomic (row (letter "a" ∷ empty ∷ [])) ∷ possessive ∷ [])) ∷ []))
   pub looking : reads "(?U)(*nla:a)+" ≡ Ok (with_places (4 ∷ []) (branches (repeat denial 1 (Some 2) true ∷ [])))

@@ -10,6 +10,7 @@ use Rattle.token_parts.specs.declared.token.Token.TheVariants.{Passed, QuoteOn, 
 use Rattle.token_parts.specs.Tell.{fault, ◌>>=◌}
 use Rattle.pat_lex.specs.Tokens.{token_at}
 use Rattle.pat_build.specs.declared.machine.Bars.{Bars}
+use Rattle.pat_build.specs.declared.machine.Numbering.{Numbering}
 
 -- a reference, a lookaround or a condition: its place, and the groups that it names, which are none for a lookaround
 pub record Reference : Type 0 where
@@ -23,8 +24,10 @@ pub record State : Type 0 where
   pub quoting : Bool
   -- the options in force
   pub options : Options
-  -- how many groups were opened
+  -- the number of the last group that was opened, which goes back in a branch reset
   pub groups : ℕ
+  -- how the alternatives of the group number the groups in them
+  pub numbering : Numbering
   -- how many parentheses are open
   pub depth : ℕ
   -- the place is inside a lookaround

@@ -7,15 +7,15 @@ ghost use Rattle.token_parts.specs.declared.token.Token.{Token};
 ghost use Rattle.token_parts.specs.declared.token.Token.TheVariants.{Bar, Close, KeepOut, Quantifier};
 ghost use Rattle.pat_lex.specs.Tokens.{token_at};
 ghost use Rattle.pat_build.specs.State.{passed_over, flags_of};
-ghost use Rattle.pat_build.specs.Names.{with_given, given_after};
-ghost use Rattle.pat_build.specs.Groups.{number_of, is_look, is_tested, bars_in, barred};
-ghost use Rattle.pat_build.specs.Parts.{atom, bare, inside, nothing, of_class, with_reference};
+ghost use Rattle.pat_build.specs.Names.{with_given};
+ghost use Rattle.pat_build.specs.Groups.{number_of, is_look, is_tested, bars_in, barred, next_numbering, groups_before, groups_after};
+ghost use Rattle.pat_build.specs.Parts.{atom, bare, nothing, of_class, with_reference};
 ghost use Rattle.pat_build.specs.Stack.{IsPlain};
-ghost use Rattle.pat_build.specs.Machine.{Means, Ready, IsNext, Begins, Took, Same, HasRoom, TestsNone, Refuses, Numbered, Gives, form_of, asserting_from, atom_where, state_of, whole_of};
+ghost use Rattle.pat_build.specs.Machine.{Means, Ready, IsNext, Begins, Took, Same, HasRoom, TestsNone, Refuses, Numbered, Gives, form_of, inside_from, asserting_from, atom_where, state_of, whole_of};
 
 use crate::cursor::Assertion;
 use crate::error::ReadError;
-use crate::machine::{Atom, Bars, Form, Frame, Level, Machine};
+use crate::machine::{Atom, Bars, Form, Frame, Inside, Level, Machine, Numbering};
 use crate::names::Name;
 use crate::nodes::{alternative, group, place, repeated};
 use pat_lex::QuantMode;
@@ -77,22 +77,48 @@ fn push_frame(stack: &mut Vec<Frame>, frame: Frame) -> Result<(), Memory>
 }
 
 /// Gives a group its name, if it gets one.
-fn give(
-    text: &[u8],
-    draft: &mut Draft,
-    names: &mut Vec<Name>,
-    given: Option<Name>,
-) -> Result<(), Memory>
+fn give(text: &[u8], draft: &mut Draft, given: Option<Name>) -> Result<(), Memory>
     requires room { length draft.old.names < 4294967295 }
     requires stands { (name : Name) → given ≡ Some name → (name.from ≤ name.to) × (name.to ≤ length text.now) }
-    ensures draft { OnOk result (draft.new ≡ record draft.old { names = with_given text.now given draft.old.names }) }
-    ensures names { OnOk result (names.new.items ≡ given_after names.old.items given) }
+    ensures { OnOk result (draft.new ≡ record draft.old { names = with_given text.now given draft.old.names }) }
 {
     if let Some(name) = given {
         draft.add_name(&text[name.from..name.to], name.group)?;
-        names.push(name)?;
     }
     Ok(())
+}
+
+/// How the next alternative numbers its groups, where so many are opened.
+fn next_numbering(numbering: Numbering, groups: u16) -> Numbering
+    ensures { result ≡ next_numbering numbering groups }
+{
+    match numbering {
+        Numbering::Onward => Numbering::Onward,
+        Numbering::Reset { base, greatest } => Numbering::Reset {
+            base,
+            greatest: greatest.max(groups),
+        },
+    }
+}
+
+/// How many groups stand before the next alternative.
+fn groups_before(numbering: Numbering, groups: u16) -> u16
+    ensures { result ≡ groups_before numbering groups }
+{
+    match numbering {
+        Numbering::Onward => groups,
+        Numbering::Reset { base, .. } => base,
+    }
+}
+
+/// How many groups stand before what follows the last alternative.
+fn groups_after(numbering: Numbering, groups: u16) -> u16
+    ensures { result ≡ groups_after numbering groups }
+{
+    match numbering {
+        Numbering::Onward => groups,
+        Numbering::Reset { greatest, .. } => greatest.max(groups),
+    }
 }
 
 impl<'a> Machine<'a> {
@@ -137,10 +163,13 @@ impl<'a> Machine<'a> {
         ensures bad { IfErr result (Refuses (whole_of self.old)) }
     {
         let bars = self.barred()?;
+        let groups = self.groups;
         let parts = mem::replace(&mut self.level.parts, Kids::new(self.alloc));
         let id = alternative(&mut self.draft, parts, self.at as u32)?;
         self.level.branches.push(id)?;
         self.bars = bars;
+        self.groups = groups_before(self.numbering, groups);
+        self.numbering = next_numbering(self.numbering, groups);
         self.at = after;
         Ok(())
     }
@@ -247,21 +276,18 @@ impl<'a> Machine<'a> {
         self.at = after;
     }
 
-    /// A group begins inside which these options are in force.
+    /// A group begins, of whose inside this is told.
     pub(crate) fn enter(
         &mut self,
         form: Form,
         given: Option<Name>,
-        options: Options,
-        groups: u16,
-        beyond: Option<usize>,
-        after: usize,
+        inside: Inside,
     ) -> Result<(), Memory>
         requires shallow { length self.old.stack.items < 250 }
         requires tests_none { TestsNone (form_of form) }
-        requires numbered { Numbered self.old.groups (number_of (form_of form)) groups }
-        requires gives { Gives self.old.text.now self.old.groups given groups }
-        requires ready { (token : Token) × Ready token after self.old × Begins self.old token after (Ok (inside (record { form = form_of form; around = self.old.options; looking = self.old.looking; bars = self.old.bars; at = self.old.at }) (record (state_of self.old) { at = after; options = options; groups = groups; depth = length self.old.stack.items + 1; looking = is_look (form_of form) || self.old.looking; bars = bars_in (form_of form); names = with_given self.old.text.now given self.old.draft.names; beyond = beyond }))) }
+        requires numbered { Numbered self.old.groups (number_of (form_of form)) inside.numbering inside.groups }
+        requires gives { Gives self.old.text.now self.old.groups given inside.groups }
+        requires ready { (token : Token) × Ready token inside.at self.old × Begins self.old token inside.at (Ok (inside_from self.old (form_of form) given inside)) }
         ensures { OnOk result (Took self.old self.new) }
     {
         let looking = is_looking(&form, self.looking);
@@ -276,17 +302,19 @@ impl<'a> Machine<'a> {
             around: self.options,
             looking: self.looking,
             bars: self.bars,
+            numbering: self.numbering,
             at: self.at as u32,
             outer,
         };
-        give(self.text, &mut self.draft, &mut self.names, given)?;
+        give(self.text, &mut self.draft, given)?;
         push_frame(&mut self.stack, frame)?;
-        self.options = options;
-        self.groups = groups;
+        self.options = inside.options;
+        self.groups = inside.groups;
         self.looking = looking;
         self.bars = bars;
-        self.beyond = beyond;
-        self.at = after;
+        self.numbering = inside.numbering;
+        self.beyond = inside.beyond;
+        self.at = inside.at;
         Ok(())
     }
 
@@ -309,6 +337,7 @@ impl<'a> Machine<'a> {
             around: self.options,
             looking: self.looking,
             bars: self.bars,
+            numbering: self.numbering,
             at: self.at as u32,
             outer,
         };
@@ -325,12 +354,14 @@ impl<'a> Machine<'a> {
             around: self.options,
             looking: self.looking,
             bars: Bars::First,
+            numbering: Numbering::Onward,
             at: test.here.at as u32,
             outer: none,
         };
         push_frame(&mut self.stack, looks)?;
         self.looking = true;
         self.bars = Bars::Free;
+        self.numbering = Numbering::Onward;
         self.quoting = test.after.quoting;
         self.at = test.after.at;
         Ok(())
@@ -348,6 +379,7 @@ impl<'a> Machine<'a> {
                 around,
                 looking,
                 bars,
+                numbering,
                 at,
                 outer,
             },
@@ -365,6 +397,8 @@ impl<'a> Machine<'a> {
         self.options = around;
         self.looking = looking;
         self.bars = bars;
+        self.groups = groups_after(self.numbering, self.groups);
+        self.numbering = numbering;
         self.at = after;
         if tested {
             self.level.branches.push(id)?;

@@ -1,10 +1,10 @@
 //! What the reader holds.
 ghost use Rattle.std.specs.Prelude.{◌≡◌};
+ghost use Rattle.pat_build.specs.declared.machine.Numbering.TheVariants.{Onward};
 
 use crate::cursor::{Cursor, Place};
 use crate::error::ReadError;
-use crate::names::Name;
-use pat_tree::{Draft, GroupList, Item, Kids, NodeId, Options};
+use pat_tree::{Draft, GroupList, Item, Kids, NameEntry, NodeId, Options};
 use std::alloc::Global;
 
 /// The alternatives that were read of a group, and the parts of the one in progress.
@@ -38,6 +38,15 @@ pub(crate) enum Bars {
     Define,
 }
 
+/// How the alternatives of a group number the groups in them.
+#[derive(Clone, Copy)]
+pub(crate) enum Numbering {
+    /// Each goes on from the one before.
+    Onward,
+    /// Each begins again after `base` groups. The greatest number of those before is kept.
+    Reset { base: u16, greatest: u16 },
+}
+
 /// What a group is.
 #[derive(Drop)]
 pub(crate) enum Form {
@@ -63,16 +72,27 @@ pub(crate) enum Form {
     Asserting,
 }
 
-/// An open group: what holds around it (the options, whether that is inside a lookaround, and which alternatives may
-/// come there), its place, and what encloses it.
+/// An open group: what holds around it (the options, whether that is inside a lookaround, which alternatives may come
+/// there and how they number groups), its place, and what encloses it.
 #[derive(Drop)]
 pub(crate) struct Frame {
     pub form: Form,
     pub around: Options,
     pub looking: bool,
     pub bars: Bars,
+    pub numbering: Numbering,
     pub at: u32,
     pub outer: Level,
+}
+
+/// What is told of the inside of a group where it begins.
+#[derive(Clone, Copy)]
+pub(crate) struct Inside {
+    pub options: Options,
+    pub groups: u16,
+    pub numbering: Numbering,
+    pub beyond: Option<usize>,
+    pub at: usize,
 }
 
 /// The atom before the place, which a quantifier may follow.
@@ -100,10 +120,8 @@ impl Atom {
 pub(crate) struct Machine<'a> {
     pub alloc: Global,
     pub text: &'a [u8],
-    /// The names of the whole pattern, or none while they are looked for.
-    pub known: &'a [Name],
-    /// The names that were given so far. The draft has the same.
-    pub names: Vec<Name>,
+    /// The names of the whole pattern, or none while they are looked for. The draft has those that were given so far.
+    pub known: &'a [NameEntry],
     pub draft: Draft,
     pub stack: Vec<Frame>,
     pub level: Level,
@@ -115,12 +133,14 @@ pub(crate) struct Machine<'a> {
     pub quoting: bool,
     /// The options in force.
     pub options: Options,
-    /// How many capturing groups were opened.
+    /// The number of the last capturing group that was opened, which goes back in a branch reset.
     pub groups: u16,
     /// The place is inside a lookaround.
     pub looking: bool,
     /// Which alternatives the innermost group may still have.
     pub bars: Bars,
+    /// How the alternatives of the innermost group number the groups in them.
+    pub numbering: Numbering,
     /// The first test of a call whose number no group can have.
     pub beyond: Option<usize>,
 }
@@ -141,6 +161,19 @@ impl<'a> Machine<'a> {
             },
             options: self.options,
             groups: self.groups,
+        }
+    }
+
+    /// What holds where a group begins, unless it changes something.
+    pub(crate) fn inside(&self, at: usize) -> Inside
+        ensures { result ≡ record { options = self.now.options; groups = self.now.groups; numbering = Onward; beyond = self.now.beyond; at = at } }
+    {
+        Inside {
+            options: self.options,
+            groups: self.groups,
+            numbering: Numbering::Onward,
+            beyond: self.beyond,
+            at,
         }
     }
 

@@ -1,13 +1,12 @@
-//! The names of groups, as they were given.
-ghost use Rattle.std.specs.Prelude.{◌≡◌, ◌<◌, [], ◌∷◌, length, map, filter, IfOk, All};
+//! The names of groups.
+ghost use Rattle.std.specs.Prelude.{◌≡◌, ◌<◌, [], ◌∷◌, length, map, filter, IfOk};
 ghost use Rattle.std.specs.List.{list_any};
-ghost use Rattle.pat_build.specs.Groups.{has_name, groups_of};
-ghost use Rattle.pat_build.specs.Names.{Stands, IsKnown, entry_of, entries_of, table_of};
+ghost use Rattle.pat_build.specs.Groups.{has_name, is_elsewhere, is_other, groups_of};
 
-use pat_tree::{GroupList, Memory};
+use pat_tree::{GroupList, Memory, NameEntry};
 use std::alloc::Global;
 
-/// A group's name, as the places in the pattern between which it stands.
+/// The name that a group gets, as the places in the pattern between which it stands.
 #[derive(Clone, Copy, Debug)]
 pub(crate) struct Name {
     pub from: usize,
@@ -24,42 +23,71 @@ pub(crate) fn one_group(alloc: Global, group: u16) -> Result<GroupList, Memory>
     Ok(groups)
 }
 
-/// Whether a name is this one.
-fn is_called(text: &[u8], name: Name, wanted: &[u8]) -> bool
-    requires { Stands text.now name }
-    ensures { result ≡ has_name wanted.now (entry_of text.now name) }
+/// Whether an entry has this name.
+fn is_called(entry: &NameEntry, wanted: &[u8]) -> bool
+    ensures { result ≡ has_name wanted.now entry.now }
 {
-    let given = &text[name.from..name.to];
-    given == wanted
+    entry.name.bytes() == wanted
 }
 
 /// Whether a group has this name.
-pub(crate) fn is_given(text: &[u8], names: &[Name], wanted: &[u8]) -> bool
-    requires { All (Stands text.now) names.now }
-    ensures { result ≡ list_any (has_name wanted.now) (entries_of text.now names.now) }
+pub(crate) fn is_given(names: &[NameEntry], wanted: &[u8]) -> bool
+    ensures { result ≡ list_any (has_name wanted.now) names.now }
 {
-    for name in names {
-        if is_called(text, *name, wanted) {
+    for entry in names {
+        if is_called(entry, wanted) {
             return true;
         }
     }
     false
 }
 
-/// The groups of this name, in the order in which they were opened.
-fn groups_with(
-    alloc: Global,
-    text: &[u8],
-    names: &[Name],
-    wanted: &[u8],
-) -> Result<Vec<u16>, Memory>
-    requires { All (Stands text.now) names.now }
-    ensures { IfOk result (λ groups. groups.items ≡ map (λ entry. entry.group) (filter (has_name wanted.now) (entries_of text.now names.now))) }
+/// Whether an entry gives this name to a group of another number.
+fn gives_elsewhere(entry: &NameEntry, wanted: &[u8], group: u16) -> bool
+    ensures { result ≡ is_elsewhere wanted.now group entry.now }
+{
+    is_called(entry, wanted) && entry.group != group
+}
+
+/// Whether an entry gives another name to the group of this number.
+fn gives_other(entry: &NameEntry, wanted: &[u8], group: u16) -> bool
+    ensures { result ≡ is_other wanted.now group entry.now }
+{
+    entry.group == group && !is_called(entry, wanted)
+}
+
+/// Whether a group of another number has this name.
+pub(crate) fn is_elsewhere(names: &[NameEntry], wanted: &[u8], group: u16) -> bool
+    ensures { result ≡ list_any (is_elsewhere wanted.now group) names.now }
+{
+    for entry in names {
+        if gives_elsewhere(entry, wanted, group) {
+            return true;
+        }
+    }
+    false
+}
+
+/// Whether a group of this number has another name.
+pub(crate) fn is_other(names: &[NameEntry], wanted: &[u8], group: u16) -> bool
+    ensures { result ≡ list_any (is_other wanted.now group) names.now }
+{
+    for entry in names {
+        if gives_other(entry, wanted, group) {
+            return true;
+        }
+    }
+    false
+}
+
+/// The groups of this name, in the order of the table.
+fn groups_with(alloc: Global, names: &[NameEntry], wanted: &[u8]) -> Result<Vec<u16>, Memory>
+    ensures { IfOk result (λ groups. groups.items ≡ map (λ entry. entry.group) (filter (has_name wanted.now) names.now)) }
 {
     let mut groups = Vec::new(alloc);
-    for name in names {
-        if is_called(text, *name, wanted) {
-            groups.push(name.group)?;
+    for entry in names {
+        if is_called(entry, wanted) {
+            groups.push(entry.group)?;
         }
     }
     Ok(groups)
@@ -68,15 +96,13 @@ fn groups_with(
 /// The groups of this name, or 0, which is no group.
 pub(crate) fn groups_of(
     alloc: Global,
-    text: &[u8],
-    known: &[Name],
+    known: &[NameEntry],
     wanted: &[u8],
 ) -> Result<GroupList, Memory>
-    requires { IsKnown text.now known.now }
-    ensures is { IfOk result (λ groups. groups ≡ groups_of (table_of text.now known.now) wanted.now) }
+    ensures is { IfOk result (λ groups. groups ≡ groups_of known.now wanted.now) }
     ensures some { IfOk result (λ groups. 0 < length groups) }
 {
-    let groups = groups_with(alloc, text, known, wanted)?;
+    let groups = groups_with(alloc, known, wanted)?;
     if groups.is_empty() {
         let none = one_group(alloc, 0)?;
         return Ok(none);

@@ -6,15 +6,14 @@ ghost use Rattle.token_parts.specs.declared.token.OpenKind.TheVariants as openin
 ghost use Rattle.token_parts.specs.declared.token.CondText.TheVariants as tested;
 ghost use Rattle.token_parts.specs.Tell.{IsTarget, IsPart, IsTest};
 ghost use Rattle.pat_tree.specs.Nested.{in_call_of};
-ghost use Rattle.pat_build.specs.Names.{IsKnown};
 ghost use Rattle.std.specs.List.{list_any};
-ghost use Rattle.pat_build.specs.Groups.{has_name, number_of, opened, conditional, unless_named, called_number, called_by, IsWorded, form_in, is_beyond, beyond_after, named_by};
+ghost use Rattle.pat_build.specs.Groups.{has_name, is_elsewhere, number_of, opened, conditional, unless_named, called_number, called_by, IsWorded, form_in, is_beyond, beyond_after, named_by};
 ghost use Rattle.pat_build.specs.Parts.{enters};
-ghost use Rattle.pat_build.specs.Machine.{Named, Ready, Begins, Took, TestsNone, Refuses, form_of, test_of, state_of, whole_of, known_of};
+ghost use Rattle.pat_build.specs.Machine.{Ready, Begins, Took, TestsNone, Refuses, form_of, test_of, state_of, whole_of, known_of};
 
 use crate::error::ReadError;
-use crate::machine::{Form, Machine, Test};
-use crate::names::{Name, groups_of, is_given, one_group};
+use crate::machine::{Form, Inside, Machine, Numbering, Test};
+use crate::names::{Name, groups_of, is_elsewhere, is_given, is_other, one_group};
 use crate::nodes::plain;
 use pat_lex::{CondText, OpenKind, Target};
 use pat_tree::{GroupList, Memory, Options};
@@ -54,7 +53,11 @@ impl<'a> Machine<'a> {
         if self.stack.len() >= DEEPEST {
             return Err(self.fault(119));
         }
-        self.enter(form, None, options, self.groups, self.beyond, after)?;
+        let inside = Inside {
+            options,
+            ..self.inside(after)
+        };
+        self.enter(form, None, inside)?;
         Ok(())
     }
 
@@ -75,19 +78,23 @@ impl<'a> Machine<'a> {
         let form = Form::Group {
             number: Some(number),
         };
-        self.enter(form, None, self.options, number, self.beyond, after)?;
+        let inside = Inside {
+            groups: number,
+            ..self.inside(after)
+        };
+        self.enter(form, None, inside)?;
         Ok(())
     }
 
-    /// Whether another group has this name and DUPNAMES is not set.
-    fn is_taken(&self, name: &[u8]) -> bool
-        requires { Named self.now.text.now self.now.names.items self.now.draft.names self.now.groups }
-        ensures { result ≡ (not self.now.options.dupnames && list_any (has_name name.now) self.now.draft.names) }
+    /// Whether a group of another number has this name and DUPNAMES is not set.
+    fn is_taken(&self, name: &[u8], group: u16) -> bool
+        ensures { result ≡ (not self.now.options.dupnames && list_any (is_elsewhere name.now group) self.now.draft.names) }
     {
-        !self.options.dupnames && is_given(self.text, &self.names, name)
+        !self.options.dupnames && is_elsewhere(self.draft.names(), name, group)
     }
 
-    /// A group that has the next number and a name begins. Where another group has the name, DUPNAMES is needed.
+    /// A group that has the next number and a name begins. Where a group of another number has the name, DUPNAMES is
+    /// needed, and no group of this number may have another name.
     fn named_group(&mut self, from: usize, to: usize, after: usize) -> Result<(), ReadError>
         requires { Ready (Open (opening.Named from to)) after self.old }
         ensures ok { OnOk result (Took self.old self.new) }
@@ -99,10 +106,14 @@ impl<'a> Machine<'a> {
         if self.groups >= GREATEST {
             return Err(self.fault(161));
         }
-        if self.is_taken(&self.text[from..to]) {
+        let number = self.groups + 1;
+        let called = &self.text[from..to];
+        if self.is_taken(called, number) {
             return Err(self.fault(143));
         }
-        let number = self.groups + 1;
+        if is_other(self.draft.names(), called, number) {
+            return Err(self.fault(165));
+        }
         let name = Name {
             from,
             to,
@@ -111,7 +122,31 @@ impl<'a> Machine<'a> {
         let form = Form::Group {
             number: Some(number),
         };
-        self.enter(form, Some(name), self.options, number, self.beyond, after)?;
+        let inside = Inside {
+            groups: number,
+            ..self.inside(after)
+        };
+        self.enter(form, Some(name), inside)?;
+        Ok(())
+    }
+
+    /// A branch reset begins.
+    fn reset_group(&mut self, after: usize) -> Result<(), ReadError>
+        requires { Ready (Open opening.BranchReset) after self.old }
+        ensures ok { OnOk result (Took self.old self.new) }
+        ensures bad { IfErr result (Refuses (whole_of self.old)) }
+    {
+        if self.stack.len() >= DEEPEST {
+            return Err(self.fault(119));
+        }
+        let inside = Inside {
+            numbering: Numbering::Reset {
+                base: self.groups,
+                greatest: self.groups,
+            },
+            ..self.inside(after)
+        };
+        self.enter(plain(), None, inside)?;
         Ok(())
     }
 
@@ -135,7 +170,7 @@ impl<'a> Machine<'a> {
         self.plain_group(form, self.options, after)
     }
 
-    /// A group begins. Branch reset is left out.
+    /// A group begins.
     pub(crate) fn open(&mut self, kind: OpenKind, after: usize) -> Result<(), ReadError>
         requires { Ready (Open kind) after self.old }
         ensures ok { OnOk result (Took self.old self.new) }
@@ -157,22 +192,20 @@ impl<'a> Machine<'a> {
                 positive,
                 atomic,
             } => self.look(ahead, positive, atomic, after),
-            OpenKind::BranchReset => Err(self.fault(195)),
+            OpenKind::BranchReset => self.reset_group(after),
         }
     }
 
     /// Whether a group of the whole pattern has the name between these places.
     fn is_named(&self, from: usize, to: usize) -> bool
-        requires known { IsKnown self.now.text.now self.now.known.now }
         requires part { IsPart self.now.text.now from to }
         ensures { result ≡ list_any (has_name (slice_range self.now.text.now from to)) (known_of self.now) }
     {
-        is_given(self.text, self.known, &self.text[from..to])
+        is_given(self.known, &self.text[from..to])
     }
 
     /// The test of a call, unless a group has the text between these places as its name.
     fn unless_named(&self, test: Test, from: usize, to: usize) -> Result<Form, Memory>
-        requires known { IsKnown self.now.text.now self.now.known.now }
         requires part { IsPart self.now.text.now from to }
         ensures numberless { IfOk result (λ form. number_of (form_of form) ≡ None) }
         ensures tests_none { IfOk result (λ form. TestsNone (form_of form)) }
@@ -180,7 +213,7 @@ impl<'a> Machine<'a> {
     {
         if self.is_named(from, to) {
             let name = &self.text[from..to];
-            let groups = groups_of(self.alloc, self.text, self.known, name)?;
+            let groups = groups_of(self.alloc, self.known, name)?;
             return Ok(Form::Condition(Test::AnySet(groups)));
         }
         Ok(Form::Condition(test))
@@ -201,7 +234,6 @@ impl<'a> Machine<'a> {
     /// A conditional group by the text of its test, which stands between these places.
     #[tactic(auto, unfolding(crate::specs::Groups::form_in))]
     fn form(&self, cond: CondText, from: usize, to: usize) -> Result<Form, ReadError>
-        requires known { IsKnown self.now.text.now self.now.known.now }
         requires well { IsTest self.now.text.now cond }
         requires part { IsPart self.now.text.now from to }
         ensures ok { IfOk result (λ form. form_in (known_of self.now) self.now.text.now (state_of self.now) cond (slice_range self.now.text.now from to) ≡ Ok (form_of form)) }
@@ -231,7 +263,6 @@ impl<'a> Machine<'a> {
     /// Whether the test is of a call of a group whose number is too big, and no group has its text as a name.
     #[tactic(auto, unfolding(crate::specs::Groups::is_beyond))]
     fn is_beyond(&self, cond: CondText, from: usize, to: usize) -> bool
-        requires known { IsKnown self.now.text.now self.now.known.now }
         requires part { IsPart self.now.text.now from to }
         ensures { result ≡ is_beyond (known_of self.now) cond (slice_range self.now.text.now from to) }
     {
@@ -244,7 +275,6 @@ impl<'a> Machine<'a> {
 
     /// The first test of a call whose number no group can have, this one included.
     fn beyond_after(&self, cond: CondText, from: usize, to: usize) -> Option<usize>
-        requires known { IsKnown self.now.text.now self.now.known.now }
         requires part { IsPart self.now.text.now from to }
         ensures { result ≡ beyond_after (known_of self.now) (state_of self.now) cond (slice_range self.now.text.now from to) }
     {
@@ -314,14 +344,17 @@ impl<'a> Machine<'a> {
         }
         let form = self.form(cond, from, to)?;
         let beyond = self.beyond_after(cond, from, to);
-        self.enter(form, None, self.options, self.groups, beyond, after)?;
+        let inside = Inside {
+            beyond,
+            ..self.inside(after)
+        };
+        self.enter(form, None, inside)?;
         Ok(())
     }
 
     /// The groups that a reference names, by the names of the whole pattern.
     #[tactic(auto, unfolding(crate::specs::Groups::named_by))]
     fn named_by(&self, target: Target) -> Result<GroupList, ReadError>
-        requires known { IsKnown self.now.text.now self.now.known.now }
         requires target { IsTarget self.now.text.now target }
         ensures ok { IfOk result (λ groups. named_by (known_of self.now) self.now.text.now (state_of self.now) target ≡ Ok groups) }
         ensures some { IfOk result (λ groups. 0 < length groups) }
@@ -338,12 +371,9 @@ impl<'a> Machine<'a> {
                 Ok(one_group(self.alloc, group as u16)?)
             }
             Target::Minus(n) => Ok(one_group(self.alloc, (groups + 1).saturating_sub(n) as u16)?),
-            Target::Named { from, to } => Ok(groups_of(
-                self.alloc,
-                self.text,
-                self.known,
-                &self.text[from..to],
-            )?),
+            Target::Named { from, to } => {
+                Ok(groups_of(self.alloc, self.known, &self.text[from..to])?)
+            }
         }
     }
 

@@ -7,18 +7,16 @@ ghost use Rattle.token_parts.specs.declared.token.Token.TheVariants.{End};
 ghost use Rattle.token_parts.specs.Tell.{IsWell, Moves};
 ghost use Rattle.pat_lex.specs.Tokens.{token_at};
 ghost use Rattle.pat_build.specs.State.{State, flags_of};
-ghost use Rattle.pat_build.specs.Names.{IsKnown, table_of};
 ghost use Rattle.pat_build.specs.Reading.{read, reading};
 ghost use Rattle.pat_build.specs.Machine.{Means, HasRoom, Refuses, Ends, Same, state_of, state_from, whole_of, parsed_of, tree_with};
 
 use crate::error::ReadError;
 use crate::literal::literally;
-use crate::machine::{Bars, Level, Machine};
-use crate::names::Name;
+use crate::machine::{Bars, Level, Machine, Numbering};
 use crate::nodes::{group, plain};
 use crate::start::started;
 use pat_lex::Token;
-use pat_tree::{Draft, Kids, NodeId, Options, Tree};
+use pat_tree::{Draft, Kids, NameEntry, NodeId, Options, Tree};
 use std::alloc::Global;
 use std::mem;
 
@@ -26,18 +24,17 @@ impl<'a> Machine<'a> {
     /// A reading that begins at a place with these options.
     fn new(
         alloc: Global,
-        known: &'a [Name],
+        known: &'a [NameEntry],
         text: &'a [u8],
         start: usize,
         options: Options,
     ) -> Machine<'a>
         requires within { start ≤ length text.now }
         requires short { length text.now ≤ 65536 }
-        requires known { IsKnown text.now known.now }
         ensures means { Means result }
         ensures room { HasRoom 0 result }
         ensures text { result.text.now ≡ text.now }
-        ensures whole { whole_of result ≡ reading (table_of text.now known.now) text.now (state_from start options) }
+        ensures whole { whole_of result ≡ reading known.now text.now (state_from start options) }
         ensures options { result.draft.options ≡ options }
     {
         let level = Level {
@@ -48,7 +45,6 @@ impl<'a> Machine<'a> {
             alloc,
             text,
             known,
-            names: Vec::new(alloc),
             draft: Draft::new(alloc, options),
             stack: Vec::new(alloc),
             level,
@@ -60,6 +56,7 @@ impl<'a> Machine<'a> {
             groups: 0,
             looking: false,
             bars: Bars::Free,
+            numbering: Numbering::Onward,
             beyond: None,
         }
     }
@@ -125,25 +122,19 @@ impl<'a> Machine<'a> {
     }
 }
 
-/// The names of the pattern, in the order in which they are given.
-fn names_of(
-    alloc: Global,
-    text: &[u8],
-    start: usize,
-    options: Options,
-) -> Result<Vec<Name>, ReadError>
+/// A draft that has the names of the pattern.
+fn names_of(alloc: Global, text: &[u8], start: usize, options: Options) -> Result<Draft, ReadError>
     requires within { start ≤ length text.now }
     requires short { length text.now ≤ 65536 }
-    ensures ok { IfOk result (λ names. (first : Nested × State) × (reading [] text.now (state_from start options) ≡ Ok first) × (first.1.names ≡ table_of text.now names.items)) }
-    ensures known { IfOk result (λ names. IsKnown text.now names.items) }
+    ensures ok { IfOk result (λ draft. (first : Nested × State) × (reading [] text.now (state_from start options) ≡ Ok first) × (first.1.names ≡ draft.names)) }
     ensures bad { IfErr result (Refuses (reading [] text.now (state_from start options))) }
 {
-    let none: [Name; 0] = [];
+    let none: [NameEntry; 0] = [];
     let mut machine = Machine::new(alloc, &none, text, start, options);
     machine.run()?;
     let _root = machine.end()?;
-    let names = mem::replace(&mut machine.names, Vec::new(alloc));
-    Ok(names)
+    let draft = mem::replace(&mut machine.draft, Draft::new(alloc, options));
+    Ok(draft)
 }
 
 /// No test may ask for a call of a group whose number is too big.
@@ -160,18 +151,17 @@ fn none_beyond(beyond: Option<usize>) -> Result<(), ReadError>
 /// The tree of the pattern, whose names are known.
 fn tree_of(
     alloc: Global,
-    known: &[Name],
+    known: &[NameEntry],
     text: &[u8],
     start: usize,
     options: Options,
 ) -> Result<Tree, ReadError>
     requires within { start ≤ length text.now }
     requires short { length text.now ≤ 65536 }
-    requires known { IsKnown text.now known.now }
-    ensures ok { IfOk result (λ tree. tree_with (table_of text.now known.now) text.now (state_from start options) ≡ Ok (parsed_of tree)) }
+    ensures ok { IfOk result (λ tree. tree_with known.now text.now (state_from start options) ≡ Ok (parsed_of tree)) }
     ensures under { IfOk result (λ tree. AllUnder tree.nodes tree.root) }
     ensures turns { IfOk result (λ tree. StandInTurn tree.nodes) }
-    ensures bad { IfErr result (Refuses (tree_with (table_of text.now known.now) text.now (state_from start options))) }
+    ensures bad { IfErr result (Refuses (tree_with known.now text.now (state_from start options))) }
 {
     let mut machine = Machine::new(alloc, known, text, start, options);
     machine.run()?;
@@ -220,7 +210,7 @@ pub fn read(alloc: Global, text: &[u8], options: Options) -> Result<Tree, ReadEr
         return Ok(tree);
     }
     let (start, begun) = started(text, options)?;
-    let names = names_of(alloc, text, start, begun)?;
-    let tree = tree_of(alloc, &names, text, start, begun)?;
+    let first = names_of(alloc, text, start, begun)?;
+    let tree = tree_of(alloc, first.names(), text, start, begun)?;
     Ok(tree)
 }

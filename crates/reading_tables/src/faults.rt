@@ -282,13 +282,12 @@ fn a_name_of_a_verb_has_255_bytes(rt: HostRuntime) -> Result<(), Fail> {
 
 #[test]
 fn what_is_not_built(rt: HostRuntime) {
-    static ROWS: [(&'static str, i32, usize); 6] = [
+    static ROWS: [(&'static str, i32, usize); 5] = [
         (r"\pL", 195, 0),
         (r"a\P{Greek}", 195, 1),
         (r"[a\p{Nd}]", 195, 2),
         ("(*UTF)a", 195, 0),
         ("(*CR)(*UCP)a", 195, 5),
-        ("a(?|b)", 195, 1),
     ];
     are_refused(&rt, rt.alloc(), &ROWS);
 }
@@ -399,6 +398,33 @@ fn faults_of_lookarounds_that_are_tested(rt: HostRuntime) {
     are_refused(&rt, rt.alloc(), &ROWS);
 }
 
+#[test]
+fn faults_of_branch_resets(rt: HostRuntime) {
+    static ROWS: [(&'static str, i32, usize); 20] = [
+        ("(?|(?<n>a)|(?<m>b))", 165, 11),
+        ("(?|(?<n>a)|(?<n>b)|(?<m>c))x", 165, 19),
+        ("(?|(?<n>a)(?<m>b)|(?<m>c))", 143, 18),
+        ("(?J)(?|(?<n>a)(?<m>b)|(?<m>c))", 165, 22),
+        ("(?|(?<n>a)|(b))(?<n>c)", 143, 15),
+        ("(?|(?<n>a)|(?<n>b)(?<n>c))", 143, 18),
+        ("(?|(?<n>a)|(?<m>b)|", 165, 11),
+        ("(?J)(?|(?<n>a)(?<n>b)|(?-J)(c)(?<n>d))", 143, 30),
+        (r"(?|(a)|(b)(c))\3", 115, 14),
+        (r"\2(?|(a)|(b))", 115, 0),
+        (r"(?|(\d)|(.)())(\4)", 115, 15),
+        (r"(?|(a)(b)|(c)\g{+2})", 115, 13),
+        (r"(?|(a)(b)(c)|\g{-1})", 115, 13),
+        ("(?|(a)", 114, 6),
+        ("a(?|", 114, 4),
+        ("(?|a))", 122, 5),
+        ("(?|*a)", 109, 3),
+        ("(?|a|+)", 109, 5),
+        (r"(?=(?|a|\K))", 199, 8),
+        ("(?(1)(?|a|b|c)|d|e)()", 127, 16),
+    ];
+    are_refused(&rt, rt.alloc(), &ROWS);
+}
+
 // The first fault from the left is told, and a missing group only where there is no other fault.
 #[test]
 fn the_first_fault(rt: HostRuntime) {
@@ -417,7 +443,7 @@ fn the_first_fault(rt: HostRuntime) {
         ("(?#", 118, 3),
         ("((?#a", 118, 5),
         (r"a(?<=b)\1", 115, 7),
-        (r"\2(a)(?|a)", 195, 5),
+        (r"\2(a)(?|a)(?R)", 195, 10),
         (r"\y[z-a]", 103, 0),
     ];
     are_refused(&rt, rt.alloc(), &ROWS);

@@ -10,6 +10,10 @@ mod limits;
 #[cfg(test)]
 mod many;
 #[cfg(test)]
-mod runs;
+mod pairs;
+#[cfg(test)]
+mod resets;
 #[cfg(test)]
 mod searching;
+#[cfg(test)]
+mod shown;

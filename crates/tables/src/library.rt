@@ -5,7 +5,7 @@ ghost use Rattle.pat_tree.specs.declared.options.PartialMode.TheVariants.{Off};
 use frame_machine::Scratch;
 use pat_tree::{MatchOptions, Options};
 use pcre_io::NoCallouts;
-use pcre2_api::{Code, CompileError, MatchError};
+use pcre2_api::{Code, CompileError, MatchError, SubstError, SubstOptions, Substituted};
 use std::alloc::Global;
 use std::process::Abort;
 use std::test::Fail;
@@ -123,5 +123,116 @@ fn each_error_has_its_meaning(rt: HostRuntime) -> Result<(), Fail> {
     };
     let deep = refusal(&rt, rt.alloc(), b"(a|b)*c", 0, &few_units)?;
     assert_eq!(&rt; deep, MatchError::FrameLimit);
+    Ok(())
+}
+
+/// The text with its dates the other way round, and how many there are: `2026-11-28` becomes
+/// `28.11.2026`.
+fn turned_dates(alloc: Global, text: &[u8]) -> Result<Substituted, Fail>
+    requires { length text.now < 4294967295 }
+{
+    let pattern = b"(?<year>\\d{4})-(?<month>\\d\\d)-(?<day>\\d\\d)";
+    let code = Code::compile(alloc, pattern, Options::PLAIN)?;
+    let mut scratch = Scratch::new(alloc);
+    let how = SubstOptions {
+        global: true,
+        ..SubstOptions::PLAIN
+    };
+    Ok(code.substitute(
+        alloc,
+        text,
+        0,
+        &MatchOptions::PLAIN,
+        &how,
+        b"$day.$month.$year",
+        &mut scratch,
+    )?)
+}
+
+/// Names with their first letters in upper case. Where there is no first name it says so.
+fn proper_names(alloc: Global, text: &[u8]) -> Result<Substituted, Fail>
+    requires { length text.now < 4294967295 }
+{
+    let pattern = b"(?<last>\\w+),(?: (?<first>\\w+))?";
+    let code = Code::compile(alloc, pattern, Options::PLAIN)?;
+    let mut scratch = Scratch::new(alloc);
+    let how = SubstOptions {
+        global: true,
+        extended: true,
+        ..SubstOptions::PLAIN
+    };
+    Ok(code.substitute(
+        alloc,
+        text,
+        0,
+        &MatchOptions::PLAIN,
+        &how,
+        b"\\u${first:-N.N.} \\u$last",
+        &mut scratch,
+    )?)
+}
+
+#[test]
+fn texts_are_rewritten(rt: HostRuntime) -> Result<(), Fail> {
+    let done = turned_dates(rt.alloc(), b"from 2025-11-28 to 2026-11-28!")?;
+    assert_eq!(&rt;
+        done.text.bytes(),
+        b"from 28.11.2025 to 28.11.2026!".as_slice()
+    );
+    assert_eq!(&rt; done.count, 2);
+    let names = proper_names(rt.alloc(), b"lovelace, ada; turing,; hopper, grace")?;
+    assert_eq!(&rt;
+        names.text.bytes(),
+        b"Ada Lovelace; N.N. Turing; Grace Hopper".as_slice()
+    );
+    assert_eq!(&rt; names.count, 3);
+    Ok(())
+}
+
+/// Why a replacement of `(a)|b` in `ab` is refused.
+fn refused_replacement(
+    rt: &impl Abort,
+    alloc: Global,
+    replacement: &[u8],
+    how: &SubstOptions,
+) -> Result<SubstError, Fail> {
+    let code = Code::compile(alloc, b"(a)|b", Options::PLAIN)?;
+    let mut scratch = Scratch::new(alloc);
+    match code.substitute(
+        alloc,
+        b"ab",
+        0,
+        &MatchOptions::PLAIN,
+        how,
+        replacement,
+        &mut scratch,
+    ) {
+        Ok(_) => panic!(rt; "replaced"),
+        Err(e) => Ok(e),
+    }
+}
+
+#[test]
+fn each_refused_replacement_has_its_meaning(rt: HostRuntime) -> Result<(), Fail> {
+    let all = SubstOptions {
+        global: true,
+        ..SubstOptions::PLAIN
+    };
+    let extended = SubstOptions {
+        extended: true,
+        ..SubstOptions::PLAIN
+    };
+    let bare = refused_replacement(&rt, rt.alloc(), b"$", &all)?;
+    assert_eq!(&rt; bare, SubstError::BadReplacement);
+    let open = refused_replacement(&rt, rt.alloc(), b"${1", &all)?;
+    assert_eq!(&rt; open, SubstError::MissingBrace);
+    let escape = refused_replacement(&rt, rt.alloc(), b"\\i", &extended)?;
+    assert_eq!(&rt; escape, SubstError::BadEscape);
+    let colon = refused_replacement(&rt, rt.alloc(), b"${1:x}", &extended)?;
+    assert_eq!(&rt; colon, SubstError::BadSyntax);
+    let unknown = refused_replacement(&rt, rt.alloc(), b"$2", &all)?;
+    assert_eq!(&rt; unknown, SubstError::NoGroup);
+    let unset = refused_replacement(&rt, rt.alloc(), b"$1", &all)?;
+    assert_eq!(&rt; unset, SubstError::Unset);
     Ok(())
 }

@@ -119,3 +119,48 @@ fn a_missing_byte_is_no_match_within_the_limits(rt: HostRuntime) -> Result<(), F
     ];
     cases(&rt, rt.alloc(), &ROWS)
 }
+
+// The first place of a run takes the most Steps and units. Where it passes a limit, no later one is
+// asked.
+#[test]
+fn the_first_place_of_a_run_meets_the_limits(rt: HostRuntime) -> Result<(), Fail> {
+    static ROWS: [Row; 9] = [
+        (b"\\w+@", b"abcd ef@", Some((5, 8)), 4, 1),
+        (b"\\w+@", b"ab abcd", None, 4, 1),
+        (b"(\\w+)\\.(\\w+)\\(", b"ab.cd.ef(", Some((3, 9)), 4, 6),
+        (b".*\\.h", b"x.c\ny.h", Some((4, 7)), 4, 1),
+        (b"((a+)b?)c", b"aaabac", Some((4, 6)), 7, 6),
+        (b"(?:x*)\\b", b"--xx", Some((2, 4)), 1, 1),
+        (b"a+(?<=aaa)b", b"aab aaab", Some((4, 8)), 2, 3),
+        (b"a{2,}b", b"aaaac aab", Some((6, 9)), 3, 1),
+        (b"[^ ]+ [^ ]+ s", b"ab cd x ef s", Some((6, 12)), 4, 2),
+    ];
+    cases(&rt, rt.alloc(), &ROWS)
+}
+
+// A test of a condition that fails gives the unit of entering it back.
+#[test]
+fn forms_with_branches_hold_units(rt: HostRuntime) -> Result<(), Fail> {
+    static ROWS: [Row; 19] = [
+        (b"a++b", b"aab", Some((0, 3)), 1, 3),
+        (b"a++a", b"aaa", None, 1, 3),
+        (b"(?:ab)++c", b"ababc", Some((0, 5)), 3, 4),
+        (b"(?>a|ab)c", b"ac", Some((0, 2)), 1, 3),
+        (b"(?=ab|ac)a", b"ac", Some((0, 1)), 2, 2),
+        (b"(?!ab|ac)a", b"ad", Some((0, 1)), 2, 2),
+        (b"(?*a|ab)a", b"ab", Some((0, 1)), 1, 2),
+        (b"(?*(a)|(ab))ab\\2", b"abab", Some((0, 4)), 2, 4),
+        (b"(?<*a|b)c", b"bc", Some((1, 2)), 2, 2),
+        (b"(a)?(?(1)b|c)", b"ab", Some((0, 2)), 1, 3),
+        (b"(a)?(?(1)b|c)", b"c", Some((0, 1)), 1, 2),
+        (b"(?<n>a)?(?(<n>)b|c)", b"ab", Some((0, 2)), 1, 3),
+        (b"(?(?=a|b)b|c)", b"b", Some((0, 1)), 2, 2),
+        (b"(?(?=a|b)b|c)", b"c", Some((0, 1)), 2, 2),
+        (b"(?(?=a)b|(c+))", b"c", Some((0, 1)), 1, 2),
+        (b"(?(?!a)b|(a+))", b"a", Some((0, 1)), 1, 4),
+        (b"(?(?<!a|b)c|d)", b"c", Some((0, 1)), 2, 2),
+        (b"(?|(a)|(b))c", b"bc", Some((0, 2)), 2, 2),
+        (b"(?|(a)|(b)(c)|d)e", b"bce", Some((0, 3)), 2, 5),
+    ];
+    cases(&rt, rt.alloc(), &ROWS)
+}

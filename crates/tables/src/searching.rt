@@ -6,7 +6,7 @@ ghost use Rattle.pat_tree.specs.Built.{IsBuilt};
 ghost use Rattle.frame_machine.specs.Ready.{AreFactsOf};
 ghost use Rattle.pat_tree.specs.declared.options.PartialMode.TheVariants.{Off};
 
-use Change::{Captured, Compiled, Limited, Lines, Matching, Started};
+use Change::{Captured, Limited};
 use char_sets::ClassTable;
 use frame_machine::{Ready, Scratch};
 use frame_store::Span;
@@ -14,7 +14,7 @@ use match_drive::{MatchAnswer, search};
 use match_items::View;
 use pat_build::{read, what_is_read_can_be_searched};
 use pat_check::{Facts, check};
-use pat_tree::{MatchOptions, Newline, Options, PartialMode, Tree};
+use pat_tree::{MatchOptions, Options, PartialMode, Tree};
 use pcre_io::NoCallouts;
 use std::alloc::Global;
 use std::process::Abort;
@@ -23,70 +23,21 @@ use std::test::Fail;
 /// A pattern, a subject, the answer of the search, and what differs from a plain search.
 type Row = (&'static [u8], &'static [u8], MatchAnswer, &'static [Change]);
 
-/// What differs from a search from the subject's begin on, without options, after which group 1 is unset.
+/// What differs from a plain search after which group 1 is unset.
 #[derive(Clone, Copy)]
 enum Change {
     /// The greatest numbers of Steps and of units.
     Limited(u32, u32),
     /// What group 1 captured.
     Captured(u64, u64),
-    Started(usize),
-    Compiled(Options),
-    Matching(MatchOptions),
-    /// Lines end so.
-    Lines(Newline),
 }
 
 /// How a search is made, and what group 1 captured in its match.
 #[derive(Clone, Copy)]
 struct Search {
-    options: Options,
-    start: usize,
     matching: MatchOptions,
     group: Option<(u64, u64)>,
 }
-
-const NONE: MatchAnswer = MatchAnswer::NoMatch { mark: None };
-
-const FIRSTLINE: Options = Options {
-    firstline: true,
-    ..Options::PLAIN
-};
-
-const ANCHORED: Options = Options {
-    anchored: true,
-    ..Options::PLAIN
-};
-
-const ENDANCHORED: Options = Options {
-    endanchored: true,
-    ..Options::PLAIN
-};
-
-const NO_START_OPTIMIZE: Options = Options {
-    no_start_optimize: true,
-    ..Options::PLAIN
-};
-
-const MATCH_ANCHORED: MatchOptions = MatchOptions {
-    anchored: true,
-    ..MatchOptions::PLAIN
-};
-
-const MATCH_ENDANCHORED: MatchOptions = MatchOptions {
-    endanchored: true,
-    ..MatchOptions::PLAIN
-};
-
-const NOTEMPTY: MatchOptions = MatchOptions {
-    notempty: true,
-    ..MatchOptions::PLAIN
-};
-
-const NOTEMPTY_ATSTART: MatchOptions = MatchOptions {
-    notempty_atstart: true,
-    ..MatchOptions::PLAIN
-};
 
 macro_rules! found {
     ($keep:expr, $to:expr) => {
@@ -106,10 +57,6 @@ impl Search {
                 self.matching.frame_limit = frame_limit;
             }
             Captured(from, to) => self.group = Some((from, to)),
-            Started(start) => self.start = start,
-            Compiled(options) => self.options = options,
-            Matching(matching) => self.matching = matching,
-            Lines(newline) => self.options.newline = newline,
         }
     }
 }
@@ -117,8 +64,6 @@ impl Search {
 /// A plain search with these changes.
 fn search_with(changes: &[Change]) -> Search {
     let mut search = Search {
-        options: Options::PLAIN,
-        start: 0,
         matching: MatchOptions::PLAIN,
         group: None,
     };
@@ -192,13 +137,12 @@ fn case(rt: &impl Abort, alloc: Global, row: &Row, scratch: &mut Scratch) -> Res
         ..wanted.matching
     };
     assert!(rt; subject.len() < 100);
-    assert!(rt; wanted.start <= subject.len());
     let (answer, group) = searched(
         alloc,
         pattern,
-        wanted.options,
+        Options::PLAIN,
         subject,
-        wanted.start,
+        0,
         &matching,
         scratch,
     )?;
@@ -362,149 +306,6 @@ fn limits_of_a_lookbehind_are_exact(rt: HostRuntime) -> Result<(), Fail> {
             MatchAnswer::FrameLimit,
             &[Limited(99, 1)],
         ),
-    ];
-    cases(&rt, rt.alloc(), &ROWS)
-}
-
-// The answers of this table and the next ones are those of the C library, 10.42.
-#[test]
-fn a_search_goes_from_its_start(rt: HostRuntime) -> Result<(), Fail> {
-    static ROWS: [Row; 16] = [
-        (b"a", b"bba", found!(2, 3), &[]),
-        (b"a", b"aba", found!(2, 3), &[Started(1)]),
-        (b"a", b"ab", NONE, &[Started(2)]),
-        (b"", b"", found!(0, 0), &[]),
-        (b"x*", b"ab", found!(2, 2), &[Started(2)]),
-        (b"^b", b"ab", NONE, &[Started(1)]),
-        (b"\\Gb", b"ab", found!(1, 2), &[Started(1)]),
-        (b"\\Ga", b"ba", NONE, &[]),
-        (b"b", b"ab", NONE, &[Compiled(ANCHORED)]),
-        (b"b", b"ab", found!(1, 2), &[Compiled(ANCHORED), Started(1)]),
-        (b"b", b"ab", NONE, &[Matching(MATCH_ANCHORED)]),
-        (
-            b"b",
-            b"ab",
-            found!(1, 2),
-            &[Matching(MATCH_ANCHORED), Started(1)],
-        ),
-        (b"(a*)*", b"aab", found!(0, 2), &[Captured(2, 2)]),
-        (b"foo\\Kbar", b"foobar", found!(3, 6), &[]),
-        (b"(a)", b"a", found!(0, 1), &[Captured(0, 1)]),
-        (b"(a)|b", b"xb", found!(1, 2), &[]),
-    ];
-    cases(&rt, rt.alloc(), &ROWS)
-}
-
-#[test]
-fn some_matches_are_not_admitted(rt: HostRuntime) -> Result<(), Fail> {
-    static ROWS: [Row; 15] = [
-        (b"a", b"aba", found!(2, 3), &[Compiled(ENDANCHORED)]),
-        (b"a|ab", b"ab", found!(0, 2), &[Compiled(ENDANCHORED)]),
-        (b"a|ab", b"ab", found!(0, 2), &[Matching(MATCH_ENDANCHORED)]),
-        (b"ab?", b"abc", NONE, &[Matching(MATCH_ENDANCHORED)]),
-        (b"a|ab", b"ab", found!(0, 1), &[]),
-        (b"a*", b"baa", found!(0, 0), &[]),
-        (b"a*", b"baa", found!(1, 3), &[Matching(NOTEMPTY)]),
-        (b"a*?", b"baa", found!(1, 2), &[Matching(NOTEMPTY)]),
-        (b"a*", b"b", NONE, &[Matching(NOTEMPTY)]),
-        (b"(*NOTEMPTY)a*", b"baa", found!(1, 3), &[]),
-        (b"(*NOTEMPTY_ATSTART)x*", b"ab", found!(1, 1), &[]),
-        (b"a*", b"baa", found!(1, 3), &[Matching(NOTEMPTY_ATSTART)]),
-        (b"x*", b"ab", found!(1, 1), &[Matching(NOTEMPTY_ATSTART)]),
-        (
-            b"x*",
-            b"ab",
-            found!(2, 2),
-            &[Matching(NOTEMPTY_ATSTART), Started(1)],
-        ),
-        (
-            b"x*",
-            b"ab",
-            NONE,
-            &[Matching(NOTEMPTY_ATSTART), Started(2)],
-        ),
-    ];
-    cases(&rt, rt.alloc(), &ROWS)
-}
-
-#[test]
-fn firstline_ends_at_the_first_newline(rt: HostRuntime) -> Result<(), Fail> {
-    static ROWS: [Row; 10] = [
-        (b"b", b"a\nb", NONE, &[Compiled(FIRSTLINE)]),
-        (b"b", b"ab\nb", found!(1, 2), &[Compiled(FIRSTLINE)]),
-        (b"\\nb", b"a\nb", found!(1, 3), &[Compiled(FIRSTLINE)]),
-        (
-            b"b",
-            b"a\nb",
-            found!(2, 3),
-            &[Compiled(FIRSTLINE), Started(2)],
-        ),
-        (b"", b"\na", found!(0, 0), &[Compiled(FIRSTLINE)]),
-        (
-            b"b",
-            b"a\rb\r",
-            NONE,
-            &[Compiled(FIRSTLINE), Lines(Newline::Cr)],
-        ),
-        (
-            b"b",
-            b"a\nb\r",
-            found!(2, 3),
-            &[Compiled(FIRSTLINE), Lines(Newline::Cr)],
-        ),
-        (
-            b"b",
-            b"a\r\nb",
-            NONE,
-            &[Compiled(FIRSTLINE), Lines(Newline::CrLf)],
-        ),
-        (
-            b"\\Wb",
-            b"a\r\nb",
-            NONE,
-            &[Compiled(FIRSTLINE), Lines(Newline::CrLf)],
-        ),
-        (
-            b"\\W+b",
-            b"a\r\nb",
-            found!(1, 4),
-            &[Compiled(FIRSTLINE), Lines(Newline::CrLf)],
-        ),
-    ];
-    cases(&rt, rt.alloc(), &ROWS)
-}
-
-#[test]
-fn a_crlf_is_passed_whole(rt: HostRuntime) -> Result<(), Fail> {
-    static ROWS: [Row; 13] = [
-        (b"\\Wx", b"a\r\nx", found!(2, 4), &[Lines(Newline::Cr)]),
-        (b"\\Wx", b"a\r\nx", found!(2, 4), &[Lines(Newline::Lf)]),
-        (b"\\Wx", b"a\r\nx", NONE, &[Lines(Newline::CrLf)]),
-        (b"\\Wx", b"a\r\nx", NONE, &[Lines(Newline::Any)]),
-        (b"\\Wx", b"a\r\nx", NONE, &[Lines(Newline::AnyCrLf)]),
-        (b"\\Wx", b"a\r\nx", found!(2, 4), &[Lines(Newline::Nul)]),
-        (b"\\nx", b"a\r\nx", found!(2, 4), &[Lines(Newline::CrLf)]),
-        (
-            b"[\\r]?\\Wx",
-            b"a\r\nx",
-            found!(1, 4),
-            &[Lines(Newline::CrLf)],
-        ),
-        (
-            b"\\Wx",
-            b"a\r\nx",
-            found!(2, 4),
-            &[Lines(Newline::CrLf), Started(2)],
-        ),
-        (
-            b"\\Wx",
-            b"a\r\nx",
-            NONE,
-            &[Compiled(NO_START_OPTIMIZE), Lines(Newline::CrLf)],
-        ),
-        (b"$", b"a\r\n", found!(1, 1), &[Lines(Newline::CrLf)]),
-        (b"(?s).\\z", b"a\r\n", NONE, &[Lines(Newline::CrLf)]),
-        (b"(?s).\\z", b"a\r\n", found!(2, 3), &[Lines(Newline::Lf)]),
     ];
     cases(&rt, rt.alloc(), &ROWS)
 }

@@ -1,5 +1,5 @@
 -- What is read is built of forms that can be searched.
-use Rattle.std.proofs.Common.{◌≡◌, ℕ, zero, suc, ◌+◌, ◌-◌, ◌*◌, Bool, true, false, ◌||◌, nat_lt, List, [], ◌∷◌, ◌++◌, length, map, not, Option, Some, None, Result, Ok, Err, refl, ap, All, slice_range, if◌then◌else◌}
+use Rattle.std.proofs.Common.{◌≡◌, ℕ, zero, suc, ◌+◌, ◌-◌, ◌*◌, Bool, true, false, ◌&&◌, ◌||◌, nat_lt, List, [], ◌∷◌, ◌++◌, length, map, not, Option, Some, None, Result, Ok, Err, refl, ap, All, slice_range, if◌then◌else◌}
 use Rattle.std.proofs.lemmas.List.Elements.{All-nil, All-cons, All-append}
 use Rattle.pat_tree.specs.declared.options.Options.{Options}
 use Rattle.pat_tree.specs.declared.nodes.Item.TheVariants as item
@@ -21,11 +21,12 @@ use Rattle.token_parts.specs.Tell.{fault, ◌>>=◌}
 use Rattle.pat_tree.specs.Built.{IsBuilt, AreBuilt, IsBuiltTest, IsPlain}
 use Rattle.pat_build.specs.State.{State, Reads, Item, item, next, passed_over}
 use Rattle.pat_build.specs.Options.{with_setting, with_item}
+use Rattle.pat_build.specs.declared.machine.Numbering.TheVariants.{Reset}
 use Rattle.std.specs.List.{list_any}
 use Rattle.token_parts.specs.declared.token.Target.TheVariants.{Number}
 use Rattle.token_parts.specs.declared.token.CondText.{CondText}
 use Rattle.token_parts.specs.declared.token.CondText.TheVariants as tested
-use Rattle.pat_build.specs.Groups.{Form, grouped, atomically, looks, conditional, defines, asserted, asserting, branched, barred, has_name, unless_named, called_by, form_in, beyond_after, built, noted, Opening, Opens, opened, captured, named, named_by, missing}
+use Rattle.pat_build.specs.Groups.{Form, grouped, atomically, looks, conditional, defines, asserted, asserting, branched, barred, restarted, groups_after, has_name, is_elsewhere, is_other, unless_named, called_by, form_in, beyond_after, built, noted, Opening, Opens, opened, captured, named, reset, named_by, missing}
 use Rattle.pat_build.specs.Parts.{alternative, repeat_of, repeated, Beginning, atom, bare, inside, asserts, nothing, over, enters, Assertion, asserted_by, settled, assertion, assertions, of_class, type_class, any_or_line, boundary, conditions, beginning}
 use Rattle.pat_build.specs.Reading.{quantified, closed, part_then, parts_from, alternatives_from, sequence, alternatives, whole, started, start, reading, literally, checked, read_from, read}
 use Rattle.pat_build.specs.Searchable.{IsSearchable, SearchableLaw}
@@ -137,7 +138,13 @@ module _ (st : State) (h : Keeps st) where
   unfolding named
   named_keeps name after k =
       holds_then GroupKeeps GroupKeeps _ _ (captured_keeps _ k)
-      (λ g l. holds_if GroupKeeps _ _ _ (holds_err GroupKeeps _) (holds_ok GroupKeeps g l))
+      (λ g l. holds_if GroupKeeps (not st.options.dupnames && list_any (is_elsewhere name (st.groups + 1)) st.names) (fault 143 st.at) _ (holds_err GroupKeeps _)
+      (holds_if GroupKeeps (list_any (is_other name (st.groups + 1)) st.names) (fault 165 st.at) _ (holds_err GroupKeeps _) (holds_ok GroupKeeps g l)))
+
+  reset_keeps : (after : State) → Keeps after → Holds GroupKeeps (reset st after)
+  unfolding reset
+  reset_keeps after k =
+      holds_then GroupKeeps GroupKeeps _ _ (opened_keeps (grouped None) after tt k) (λ g l. holds_ok GroupKeeps (g.0, record g.1 { numbering = Reset st.groups st.groups }) l)
 
 named_built : (b : Bool) (test other : Test) → IsBuiltTest test → IsBuiltTest other → IsBuiltTest (if b then test else other)
 named_built true test other h k = h
@@ -244,6 +251,7 @@ module _ (known : List NameEntry) (text : List ℕ) where
   begins n st (token.Open opening.Capture) after h plain k =
       enters_begins _ (holds_if GroupKeeps _ _ _ (opened_keeps st h (grouped None) after tt k) (captured_keeps st h after k))
   begins n st (token.Open opening.Plain) after h plain k = enters_begins _ (opened_keeps st h (grouped None) after tt k)
+  begins n st (token.Open opening.BranchReset) after h plain k = enters_begins _ (reset_keeps st h after k)
   begins n st (token.Open opening.Atomic) after h plain k = enters_begins _ (opened_keeps st h atomically after tt k)
   begins n st (token.Open (opening.Look ahead positive once)) after h plain k = enters_begins _ (opened_keeps st h (looks ahead positive once) after tt k)
   begins n st (token.CondStart tested.Lookaround from to) after h plain k = assertions_begin text n st h after k
@@ -285,7 +293,7 @@ module _ (text : List ℕ) where
 
   -- the state after a group
   abbrev ended_in : Opening → State → State → State
-  ended_in opening st after = record after { options = opening.around; looking = opening.looking; bars = opening.bars; depth = st.depth - 1; references = st.references ++ noted opening.form opening.at }
+  ended_in opening st after = record after { options = opening.around; looking = opening.looking; bars = opening.bars; numbering = opening.numbering; groups = groups_after st.numbering st.groups; depth = st.depth - 1; references = st.references ++ noted opening.form opening.at }
 
   closed_at : (opening : Opening) (branches : List Nested) (st : State) (found : Token) (after : State) → IsOpening opening → AllBuilt branches → Keeps after →
       Holds TreeKeeps (elim found [
@@ -337,12 +345,12 @@ module _ (text : List ℕ) where
 
   alternatives_at : (again : State → Reads (List Nested)) (parts : List Nested) (st : State) (found : Token) (after : State) → GoesOn again → AllBuilt parts → Keeps st → Keeps after →
       Holds TreesKeep (elim found [
-        | token.Bar ↦ barred st.bars st.at >>= λ bars. again (record after { bars = bars }) >>= λ (others, end). Ok (alternative parts ∷ others, end)
+        | token.Bar ↦ barred st.bars st.at >>= λ bars. again (restarted st bars after) >>= λ (others, end). Ok (alternative parts ∷ others, end)
         | _ ↦ Ok (alternative parts ∷ [], st)
       ])
   alternatives_at again parts st token.Bar after goes built h k =
       holds_then (λ bars. Unit {0}) TreesKeep (barred st.bars st.at) _ (holds_any _)
-      (λ bars _. holds_then TreesKeep TreesKeep (again (record after { bars = bars })) _ (goes (record after { bars = bars }) k)
+      (λ bars _. holds_then TreesKeep TreesKeep (again (restarted st bars after)) _ (goes (restarted st bars after) k)
       (λ r l. holds_ok TreesKeep (alternative parts ∷ r.0, r.1) ((alternative_built parts built, l.0), l.1)))
   alternatives_at again parts st _ after goes built h k = holds_ok TreesKeep (alternative parts ∷ [], st) ((alternative_built parts built, tt), h)
 

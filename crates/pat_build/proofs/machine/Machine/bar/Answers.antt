@@ -7,7 +7,7 @@ pub returns-clause-ok : goal.returns-clause-ok
 returns-clause-ok c =
     let m = c.args.self.now in
     let e = rw c.replace-parts.ensures.value at c.in_ok-id.ensures in
-    rw (c.replace-parts.ensures.after, c.new.ensures)
+    rw (c.replace-parts.ensures.after, c.new.ensures, c.groups_before-self.ensures, c.next_numbering-self.ensures)
     (bar_means m c.requires.means c.in_ok-id.id c.alternative.new.draft c.push.new.self c.in_ok-bars.bars c.args.after c.requires c.in_ok-bars.ensures.ok e.made e.adds (λ front h. e.loose front h) c.in_ok-push.ensures.ok e.count)
 
 pub alternative-requires-clause-loose : goal.alternative-requires-clause-loose

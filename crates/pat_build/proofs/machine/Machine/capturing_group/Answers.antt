@@ -26,4 +26,4 @@ pub enter-requires-clause-ready : goal.enter-requires-clause-ready
 enter-requires-clause-ready c =
     let m = c.args.self.now in
     let fits : length m.stack.items < 250 = omega (arith, c.len.ensures, c.if-len-ge-DEEPEST.false, m.stack.ok.0) in
-    (Open Capture, c.requires.ready, λ n h. capture_is (known_of m) m.text.now n (state_of m) (record (state_of m) { at = c.args.after }) c.requires.captures _ (captured_fits (state_of m) (record (state_of m) { at = c.args.after }) fits c.if-self-ge-GREATEST.false))
+    rw c.inside.ensures (Open Capture, c.requires.ready, λ n h. capture_is (known_of m) m.text.now n (state_of m) (record (state_of m) { at = c.args.after }) c.requires.captures _ (captured_fits (state_of m) (record (state_of m) { at = c.args.after }) fits c.if-self-ge-GREATEST.false))

@@ -3,7 +3,8 @@ use Rattle.std.proofs.lemmas.List.{reverse-append}
 use Rattle.pat_build.specs.Machine.{form_of}
 use Rattle.pat_build.proofs.States.{nothing_in}
 use Rattle.pat_build.proofs.Waiting.{ends_level}
-use Rattle.pat_build.proofs.Nesting.{close_means, close_test_means, test_means, unopened_means, frame_numbered, bars_last}
+use Rattle.pat_build.proofs.Numbers.{frame_numbered}
+use Rattle.pat_build.proofs.Nesting.{close_means, close_test_means, test_means, unopened_means, bars_last}
 use Rattle.pat_build.proofs.machine.Machine.close.Goals as goal
 
 pub returns-in_default-clause-bad : goal.returns-in_default-clause-bad
@@ -14,8 +15,7 @@ returns-in_default-clause-bad c =
 
 pub group-requires-clause-numbered : goal.group-requires-clause-numbered
 group-requires-clause-numbered c =
-    let m = c.args.self.now in
-    frame_numbered m.draft.nodes m.stack.items c.pop.new.self.items c.in-Some.field-0 m.groups c.in-Some.ensures.items c.requires.means.numbers
+    frame_numbered c.pop.new.self.items c.in-Some.field-0 c.in-Some.ensures.items c.requires.means.numbers
 
 pub group-requires-clause-loose : goal.group-requires-clause-loose
 group-requires-clause-loose c = rw c.replace-level.ensures.value (ends_level c.args.self.now c.requires.means c.requires.idle)
@@ -24,7 +24,7 @@ pub returns-then-tested-clause-ok : goal.returns-then-tested-clause-ok
 returns-then-tested-clause-ok c =
     let m = c.args.self.now in
     let e = rw (c.replace-level.ensures.value) at c.in_ok-id.ensures in
-    rw (c.replace-level.ensures.after)
+    rw (c.replace-level.ensures.after, c.groups_after-self.ensures)
     (close_test_means m c.requires.means c.args.after c.in_ok-id.id c.in-Some.field-0 c.pop.new.self c.group.new.draft c.push.new.self
     c.requires (sym c.is_tested-tested.ensures ∙ c.if-tested.true) c.in-Some.ensures.items e.made e.closes (λ front h. e.loose front h) e.count (rw c.replace-level.ensures.after at c.in_ok-push.ensures.ok))
 
@@ -32,7 +32,7 @@ pub returns-clause-ok : goal.returns-clause-ok
 returns-clause-ok c =
     let m = c.args.self.now in
     let e = rw (c.replace-level.ensures.value) at c.in_ok-id.ensures in
-    rw (c.replace-level.ensures.after, c.atom_of.ensures, c.is_look-looks.ensures)
+    rw (c.replace-level.ensures.after, c.groups_after-self.ensures, c.atom_of.ensures, c.is_look-looks.ensures)
     (close_means m c.requires.means c.args.after c.in_ok-id.id c.in-Some.field-0 c.pop.new.self c.group.new.draft
     c.requires (sym c.is_tested-tested.ensures ∙ c.if-tested.false) c.in-Some.ensures.items e.made e.closes (λ front h. e.loose front h) e.count)
 

@@ -16,4 +16,4 @@ pub enter-requires-clause-ready : goal.enter-requires-clause-ready
 enter-requires-clause-ready c =
     let m = c.args.self.now in
     let fits : length m.stack.items < 250 = omega (arith, c.len.ensures, c.if-len-ge-DEEPEST.false, m.stack.ok.0) in
-    (c.requires.ready.0, c.requires.ready.1, λ n h. c.requires.ready.2 n h ∙ rw (opened_fits (state_of m) (form_of c.args.form) (record (state_of m) { at = c.args.after; options = c.args.options }) fits) refl)
+    rw c.inside.ensures (c.requires.ready.0, c.requires.ready.1, λ n h. c.requires.ready.2 n h ∙ rw (opened_fits (state_of m) (form_of c.args.form) (record (state_of m) { at = c.args.after; options = c.args.options }) fits) refl)

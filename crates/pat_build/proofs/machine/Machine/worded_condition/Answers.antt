@@ -29,7 +29,8 @@ pub enter-requires-clause-ready : goal.enter-requires-clause-ready
 enter-requires-clause-ready c =
     let m = c.args.self.now in
     let word = slice_range m.text.now c.args.from c.args.to in
-    let fits : length m.stack.items < 250 = omega (arith, c.len.ensures, c.if-len-ge-DEEPEST.false, m.stack.ok.0) in (
+    let fits : length m.stack.items < 250 = omega (arith, c.len.ensures, c.if-len-ge-DEEPEST.false, m.stack.ok.0) in
+    rw c.inside.ensures (
       CondStart c.args.cond c.args.from c.args.to,
       c.requires.ready,
       λ n h. worded_is (known_of m) m.text.now n (state_of m) c.args.cond c.args.from c.args.to (record (state_of m) { at = c.args.after }) c.requires.worded
@@ -37,4 +38,4 @@ enter-requires-clause-ready c =
     )
 
 pub enter-requires-clause-numbered : goal.enter-requires-clause-numbered
-enter-requires-clause-numbered c = rw c.in_ok-form.ensures.numberless refl
+enter-requires-clause-numbered c = rw (c.in_ok-form.ensures.numberless, c.inside.ensures) refl
