@@ -1,7 +1,13 @@
+pub mod ByteScenes
+pub mod Folds
 pub mod ItemRuns
 pub mod Longest
 pub mod Newlines
 pub mod OneItem
 pub mod Texts
+pub mod TextPlaces
+pub mod TextRefs
+pub mod TextRuns
 pub mod Places
+pub mod Words
 mod RowProofs

@@ -7,9 +7,10 @@ use Rattle.byte_lanes.specs.Places.{IsLeast}
 use Rattle.pat_tree.specs.declared.nodes.Item.{Item}
 use Rattle.pat_tree.specs.declared.nodes.Item.TheVariants.{Char, AnyAll, NotNewline, Class}
 use Rattle.match_items.specs.Scene.{Scene, is_crlf}
-use Rattle.match_items.specs.Items.{is_none_left, is_end, is_half_newline, takes, after_item, item_reaches, longest_run, run_reaches}
+use Rattle.match_items.specs.Items.{is_none_left, is_end, is_half_newline, takes, after_item, item_reaches, longest_run, place_before, run_reaches}
 use Rattle.match_items.specs.Views.{end_of, maximum, step_tests, run_tests, span_tests}
 use Rattle.match_items.proofs.OneItem.{is_end-before, is_end-at, after_item-before, after_item-end, item_reaches-no, if_taken}
+use Rattle.match_items.proofs.Places.{place_before-less}
 use Rattle.match_items.proofs.ItemRuns.{places_after, less, Allows, Stops, maximum_reached, not_taken, places_are, reaches_last, reaches_some, no_tests, tests_of_run, length-places, end-places, or_true, or_false, either_zero}
 
 -- a test that is not false
@@ -21,14 +22,14 @@ allows_if : (b : Bool) (max k : ℕ) → k ≤ max → Allows (if b then None el
 allows_if true max k h = tt
 allows_if false max k h = h
 
-left_if : (b : Bool) (max k : ℕ) → (max == 4294967295) ≡ b → max ≤ 4294967295 → k < 4294967295 → k ≤ max → is_none_left (less (if b then None else Some max) k) ≡ not (nat_lt k max)
+pub left_if : (b : Bool) (max k : ℕ) → (max == 4294967295) ≡ b → max ≤ 4294967295 → k < 4294967295 → k ≤ max → is_none_left (less (if b then None else Some max) k) ≡ not (nat_lt k max)
 left_if true max k e few short h =
     let below : nat_lt k max ≡ true = grind (arith, nat_tests) in
     sym (ap not below)
 left_if false max k e few short h = grind (arith, nat_tests)
 
 -- a byte before the last one reaches the end under no item
-early : (g : Scene) (item : Item) (q : ℕ) → q + 1 < length g.subject → item_reaches g item q ≡ false
+pub early : (g : Scene) (item : Item) (q : ℕ) → q + 1 < length g.subject → item_reaches g item q ≡ false
 early g (Char c caseless) q h = is_end-before g q (omega arith)
 early g AnyAll q h = is_end-before g q (omega arith)
 early g NotNewline q h =
@@ -38,7 +39,7 @@ early g NotNewline q h =
     ∙ and-false (is_crlf g.options.newline)
 early g (Class n) q h = is_end-before g q (omega arith)
 
-at_the_end : (g : Scene) (item : Item) (q : ℕ) → length g.subject ≤ q → item_reaches g item q ≡ true
+pub at_the_end : (g : Scene) (item : Item) (q : ℕ) → length g.subject ≤ q → item_reaches g item q ≡ true
 at_the_end g (Char c caseless) q h = is_end-at g q h
 at_the_end g AnyAll q h = is_end-at g q h
 at_the_end g NotNewline q h = ap (λ b. b || is_half_newline g q) (is_end-at g q h)
@@ -131,7 +132,7 @@ module _ (g : Scene) (item : Item) (max p limit to : ℕ) (f : Found g item max 
       reaches_last g item (to - p) (maximum max) p (λ j h. early g item (p + j) (omega arith))
       ∙ elim (cases_lt to limit) [
         | inl before ↦ (
-            ap (λ b. not (is_none_left (less (maximum max) (to - p))) && b) (reach_at false to (p + (to - p)) (sym whole) (item_reaches-no g item to inner (f.least.holds before)))
+            ap (λ b. not (is_none_left (less (maximum max) (to - p))) && b) (reach_at false to (p + (to - p)) (sym whole) (item_reaches-no g item to (get_or g.subject to 0) inner (f.least.holds before)))
             ∙ and-false (not (is_none_left (less (maximum max) (to - p))))
             )
         | inr at ↦ (
@@ -175,8 +176,8 @@ module _ (g : Scene) (item : Item) (max p limit to : ℕ) (f : Found g item max 
         )
   ]
 
-  pub at_end_is : (is_end g to && (nat_lt (to - p) max || nat_lt p to && item_reaches g item (to - 1))) ≡ run_reaches g item (maximum max) p (longest_run g item (maximum max) p)
-  at_end_is = elim (cases_lt to (length g.subject)) [
+  at_end_by_byte : (is_end g to && (nat_lt (to - p) max || nat_lt p to && item_reaches g item (to - 1))) ≡ run_reaches g item (maximum max) p (longest_run g item (maximum max) p)
+  at_end_by_byte = elim (cases_lt to (length g.subject)) [
     | inl inner ↦ (
         ap (λ b. b && (nat_lt (to - p) max || nat_lt p to && item_reaches g item (to - 1))) (is_end-before g to inner)
         ∙ sym (ap (run_reaches g item (maximum max) p) run_is ∙ inner_no inner)
@@ -186,6 +187,9 @@ module _ (g : Scene) (item : Item) (max p limit to : ℕ) (f : Found g item max 
         ∙ by_last ends ∙ sym (ap (run_reaches g item (maximum max) p) run_is)
         )
   ]
+
+  pub at_end_is : (is_end g to && (nat_lt (to - p) max || nat_lt p to && item_reaches g item (place_before g to))) ≡ run_reaches g item (maximum max) p (longest_run g item (maximum max) p)
+  at_end_is = ap (λ q. is_end g to && (nat_lt (to - p) max || nat_lt p to && item_reaches g item q)) (place_before-less g to f.bytes) ∙ at_end_by_byte
 
 -- the test at a place, which is made before the end alone, and the last one, where the maximum is not reached
 abbrev unless : Bool → ℕ → ℕ

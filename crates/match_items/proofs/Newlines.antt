@@ -1,5 +1,5 @@
 -- Newlines at the end of the bytes, and in a part of them.
-use Rattle.std.proofs.Common.{Bool, true, false, ◌&&◌, ◌==◌, ◌≡◌, ℕ, ◌+◌, ◌<◌, ◌≤◌, List, [], ◌∷◌, length, take, get_or, nat_lt, refl, sym, ap, ◌∙◌, arith, length-take, inl, inr, min, subst, take_all}
+use Rattle.std.proofs.Common.{Bool, true, false, ◌⊎◌, ◌&&◌, ◌==◌, ◌≡◌, ℕ, ◌+◌, ◌<◌, ◌≤◌, List, [], ◌∷◌, length, take, get_or, nat_lt, refl, sym, ap, ◌∙◌, arith, length-take, inl, inr, min, subst, take_all}
 use Rattle.std.proofs.Math.Bool.{and-false}
 use Rattle.std.proofs.lemmas.Bool.Decides.{nat_tests}
 use Rattle.std.proofs.lemmas.Bool.{cases_Bool, cases_lt, and_parts, eqb-true}
@@ -45,21 +45,58 @@ newline_past kind.Any bytes p h = simp (stands_past)
 newline_past kind.AnyUtf bytes p h = simp (stands_past)
 newline_past kind.Nul bytes p h = simp (stands_past)
 
+-- a byte from 14 to 127 begins none
+
+stands_other : (b : ℕ) (text bytes : List ℕ) (p : ℕ) → (get_or bytes p 0 == b) ≡ false → stands (b ∷ text) bytes p ≡ false
+unfolding stands
+stands_other b text bytes p e = rw e (and-false (nat_lt p (length bytes)))
+
+other_byte : (b c : ℕ) → 13 < b → b < 128 → ((c < 14) ⊎ (127 < c)) → (b == c) ≡ false
+other_byte b c low high other = grind (arith, nat_tests)
+
+pub newline_other : (k : EndKind) (bytes : List ℕ) (p : ℕ) → 13 < get_or bytes p 0 → get_or bytes p 0 < 128 → newline_len k bytes p ≡ 0
+newline_other k bytes p low high = by_kind k
+    (λ c. other_byte (get_or bytes p 0) c low high)
+  where
+    by_kind : (k : EndKind) → ((c : ℕ) → ((c < 14) ⊎ (127 < c)) → (get_or bytes p 0 == c) ≡ false) → newline_len k bytes p ≡ 0
+    by_kind k other =
+        let nul : (text : List ℕ) → stands (0 ∷ text) bytes p ≡ false = λ text. stands_other 0 text bytes p (other 0 (inl (omega arith))) in
+        let lf : (text : List ℕ) → stands (10 ∷ text) bytes p ≡ false = λ text. stands_other 10 text bytes p (other 10 (inl (omega arith))) in
+        let vt : (text : List ℕ) → stands (11 ∷ text) bytes p ≡ false = λ text. stands_other 11 text bytes p (other 11 (inl (omega arith))) in
+        let ff : (text : List ℕ) → stands (12 ∷ text) bytes p ≡ false = λ text. stands_other 12 text bytes p (other 12 (inl (omega arith))) in
+        let cr : (text : List ℕ) → stands (13 ∷ text) bytes p ≡ false = λ text. stands_other 13 text bytes p (other 13 (inl (omega arith))) in
+        let next_line : (text : List ℕ) → stands (133 ∷ text) bytes p ≡ false = λ text. stands_other 133 text bytes p (other 133 (inr (omega arith))) in
+        let two : (text : List ℕ) → stands (194 ∷ text) bytes p ≡ false = λ text. stands_other 194 text bytes p (other 194 (inr (omega arith))) in
+        let three : (text : List ℕ) → stands (226 ∷ text) bytes p ≡ false = λ text. stands_other 226 text bytes p (other 226 (inr (omega arith))) in
+        each k nul lf vt ff cr next_line two three
+      where
+        each : (k : EndKind) → ((text : List ℕ) → stands (0 ∷ text) bytes p ≡ false) → ((text : List ℕ) → stands (10 ∷ text) bytes p ≡ false) → ((text : List ℕ) → stands (11 ∷ text) bytes p ≡ false)
+            → ((text : List ℕ) → stands (12 ∷ text) bytes p ≡ false) → ((text : List ℕ) → stands (13 ∷ text) bytes p ≡ false) → ((text : List ℕ) → stands (133 ∷ text) bytes p ≡ false)
+            → ((text : List ℕ) → stands (194 ∷ text) bytes p ≡ false) → ((text : List ℕ) → stands (226 ∷ text) bytes p ≡ false) → newline_len k bytes p ≡ 0
+        each kind.Cr nul lf vt ff cr next_line two three = simp cr
+        each kind.Lf nul lf vt ff cr next_line two three = simp lf
+        each kind.CrLf nul lf vt ff cr next_line two three = simp cr
+        each kind.AnyCrLf nul lf vt ff cr next_line two three = simp (cr, lf)
+        each kind.Any nul lf vt ff cr next_line two three = simp (cr, lf, vt, ff, next_line)
+        each kind.AnyUtf nul lf vt ff cr next_line two three = simp (cr, lf, vt, ff, two, three)
+        each kind.Nul nul lf vt ff cr next_line two three = simp nul
+
 -- a last CR is a newline of `\R`
-pub break_at_cr : (b : Bsr) (bytes : List ℕ) (p : ℕ) → newline_len (break_kind b false) bytes p ≡ 0 → ((p + 1 == length bytes) && (get_or bytes p 0 == 13)) ≡ false
-break_at_cr b bytes p h = elim (cases_Bool ((p + 1 == length bytes) && (get_or bytes p 0 == 13))) [
+pub break_at_cr : (b : Bsr) (utf : Bool) (bytes : List ℕ) (p : ℕ) → newline_len (break_kind b utf) bytes p ≡ 0 → ((p + 1 == length bytes) && (get_or bytes p 0 == 13)) ≡ false
+break_at_cr b utf bytes p h = elim (cases_Bool ((p + 1 == length bytes) && (get_or bytes p 0 == 13))) [
   | inr e ↦ e
   | inl e ↦ (
       let parts = and_parts _ _ e in
       let last : p + 1 ≡ length bytes = eqb-true _ _ parts.0 in
       let here : stands (13 ∷ []) bytes p ≡ true = stands_here 13 bytes p (omega arith) parts.1 in
-      absurd (cr_counts b bytes p here (stands_last 13 10 bytes p (omega arith)) h)
+      absurd (cr_counts b utf bytes p here (stands_last 13 10 bytes p (omega arith)) h)
       )
 ]
   where
-    cr_counts : (b : Bsr) (bytes : List ℕ) (p : ℕ) → stands (13 ∷ []) bytes p ≡ true → stands (13 ∷ 10 ∷ []) bytes p ≡ false → newline_len (break_kind b false) bytes p ≡ 0 → ⊥
-    cr_counts bsr.AnyCrLf bytes p here two h = let n = rw (here, two) at h in absurd (omega arith)
-    cr_counts bsr.Unicode bytes p here two h = let n = rw (here, two) at h in absurd (omega arith)
+    cr_counts : (b : Bsr) (utf : Bool) (bytes : List ℕ) (p : ℕ) → stands (13 ∷ []) bytes p ≡ true → stands (13 ∷ 10 ∷ []) bytes p ≡ false → newline_len (break_kind b utf) bytes p ≡ 0 → ⊥
+    cr_counts bsr.AnyCrLf utf bytes p here two h = let n = rw (here, two) at h in absurd (omega arith)
+    cr_counts bsr.Unicode false bytes p here two h = let n = rw (here, two) at h in absurd (omega arith)
+    cr_counts bsr.Unicode true bytes p here two h = let n = rw (here, two) at h in absurd (omega arith)
 
 -- where the last byte may be a half of a newline, no newline begins
 pub no_newline_at_half : (n : Newline) (utf : Bool) (bytes : List ℕ) (p : ℕ) → (is_crlf n && ((p + 1 == length bytes) && (get_or bytes p 0 == 13))) ≡ true → newline_len (end_kind n utf) bytes p ≡ 0

@@ -1,18 +1,44 @@
 -- What a view shows, and how the answers of the tests are told.
-use Rattle.std.specs.Prelude.{ℕ, ◌+◌, ◌-◌, Bool, true, false, ◌==◌, nat_lt, if◌then◌else◌, List, [], ◌∷◌, Option, Some, None}
+use Rattle.std.specs.Prelude.{◌≡◌, ℕ, ◌+◌, ◌-◌, Bool, true, false, ◌==◌, ◌&&◌, ◌||◌, nat_lt, length, if◌then◌else◌, List, [], ◌∷◌, Option, Some, None}
 use Rattle.pat_tree.specs.declared.nodes.Item.{Item}
 use Rattle.pat_tree.specs.declared.nodes.Item.TheVariants.{Class}
 use Rattle.pat_tree.specs.declared.nodes.AnchorKind.{AnchorKind}
 use Rattle.pat_tree.specs.declared.nodes.AnchorKind.TheVariants.{Word, NotWord}
 use Rattle.uni_text.specs.Ascii.{ascii_fold, is_word_char}
+use Rattle.uni_text.specs.Folding as unicode
+use Rattle.uni_text.specs.Sets.{word}
 use Rattle.char_sets.specs.Table.{CharSet, table_has}
 use Rattle.match_items.specs.declared.view.View.{View}
+use Rattle.match_items.specs.declared.walks.Walk.{Walk}
 use Rattle.match_items.specs.declared.view.Taken.{Taken}
 use Rattle.match_items.specs.declared.view.Taken.TheVariants.{Took, No, AtEnd}
 use Rattle.match_items.specs.Scene.{Scene}
-use Rattle.match_items.specs.Items.{is_end, is_none_left, one_less}
+use Rattle.match_items.specs.Items.{is_end, is_none_left, one_less, item_reaches, longest_run, place_before, run_reaches}
+
+-- a character's folding: in UTF the simple one of Unicode, and outside it that of the letters of ASCII
+abbrev pub fold_in : Bool → ℕ → ℕ
+fold_in utf c = if utf then unicode.fold c else ascii_fold c
+
+abbrev pub agrees_in : Bool → Bool → ℕ → ℕ → Bool
+agrees_in utf caseless a b = if caseless then fold_in utf a == fold_in utf b else a == b
 
 -- what stands fixed while the view's subject is searched; a class holds of what its table takes
+abbrev pub text_scene : View → List CharSet → Scene
+text_scene view table = record {
+  options = view.options.now;
+  matching = view.matching.now;
+  subject = view.subject.now;
+  start = view.start;
+  class_has = table_has table;
+  fold = fold_in view.options.now.utf;
+  is_word = word true;
+}
+
+-- the same for a test that asks no class
+abbrev pub bare_text : View → Scene
+bare_text view = text_scene view []
+
+-- Where each character is a byte, folding and word characters are those of ASCII.
 abbrev pub scene_of : View → List CharSet → Scene
 scene_of view table = record {
   options = view.options.now;
@@ -24,7 +50,6 @@ scene_of view table = record {
   is_word = is_word_char;
 }
 
--- the same for a test that asks no class
 abbrev pub bare_scene : View → Scene
 bare_scene view = scene_of view []
 
@@ -42,6 +67,13 @@ maximum most = if most == 4294967295 then None else Some most
 abbrev pub end_of : ℕ → List ℕ → ℕ
 end_of p [] = p
 end_of p (q ∷ qs) = end_of q qs
+
+-- a run has as many characters as the longest one and ends where it ends, and these two tell whether it reaches the subject's end
+pub record IsWalk (g : Scene) (item : Item) (max p : ℕ) (walk : Walk) : Type 0 where
+  pub count : walk.count ≡ length (longest_run g item (maximum max) p)
+  pub to : walk.to ≡ end_of p (longest_run g item (maximum max) p)
+  pub at_end : (is_end g walk.to && (nat_lt walk.count max || nat_lt p walk.to && item_reaches g item (place_before g walk.to)))
+      ≡ run_reaches g item (maximum max) p (longest_run g item (maximum max) p)
 
 -- how many tests of classes the item makes at a place: one where it is a class and a character stands there
 abbrev pub step_tests : Scene → Item → ℕ → ℕ

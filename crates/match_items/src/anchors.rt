@@ -1,22 +1,23 @@
 //! Simple assertions, and `\R`.
 ghost use Rattle.std.specs.Prelude.{◌≡◌, ◌<◌, ◌≤◌, ◌||◌, true, false, length};
-ghost use Rattle.match_items.specs.Subjects.{IsSubject, IsPlace};
+ghost use Rattle.match_items.specs.Subjects.{IsText, IsTextPlace};
 ghost use Rattle.match_items.specs.Items as items;
-ghost use Rattle.match_items.specs.Items.{after_break, break_reaches, holds, anchor_reaches, is_close, is_boundary};
-ghost use Rattle.match_items.specs.Views.{bare_scene, told, asks_ucp};
+ghost use Rattle.match_items.specs.Items.{after_break, break_reaches, holds, anchor_reaches, is_close, is_boundary, is_word_at, next, previous};
+ghost use Rattle.match_items.specs.Views.{bare_text, told};
 
 use crate::view::{Held, Taken, View};
 use pat_tree::{AnchorKind, Newline, newline_at, newline_before};
-use uni_text::is_word;
+use uni_text::{char_at, char_before, is_word};
 
 /// Tests `\R` at a place (pcre2pattern, "Newline sequences"). It reaches the subject's end where it is tried there, and where it took
 /// a CR that is the last byte, which is told as taken (pcre2partial).
 ///
-/// Needs a subject of fewer than 4,294,967,295 bytes without UTF, and a place in it.
-pub fn break_step(view: &View<'_>, at: usize) -> Taken
-    requires subject { IsSubject view.now.options.now view.now.subject.now }
-    requires place { IsPlace view.now.options.now view.now.subject.now at }
-    ensures { let g = bare_scene view.now in result ≡ told (after_break g at) (break_reaches g at) }
+/// Needs a subject of fewer than 4,294,967,295 bytes and a place in it; in UTF the subject must be UTF-8, and a character must begin
+/// at the place.
+pub fn text_break_step(view: &View<'_>, at: usize) -> Taken
+    requires subject { IsText view.now.options.now view.now.subject.now }
+    requires place { IsTextPlace view.now.options.now view.now.subject.now at }
+    ensures { let g = bare_text view.now in result ≡ told (after_break g at) (break_reaches g at) }
 {
     if at == view.subject.len() {
         return Taken::AtEnd;
@@ -29,23 +30,27 @@ pub fn break_step(view: &View<'_>, at: usize) -> Taken
 
 /// The length of the newline sequence at a place, 0 where there is none.
 fn break_len(view: &View<'_>, at: usize) -> usize
-    requires subject { IsSubject view.now.options.now view.now.subject.now }
-    requires place { IsPlace view.now.options.now view.now.subject.now at }
-    ensures { result ≡ items.break_len (bare_scene view.now) at }
+    requires subject { IsText view.now.options.now view.now.subject.now }
+    requires place { IsTextPlace view.now.options.now view.now.subject.now at }
+    ensures { result ≡ items.break_len (bare_text view.now) at }
 {
-    byte_lanes::newline_at(view.subject, at, view.options.bsr.end_kind(false))
+    byte_lanes::newline_at(
+        view.subject,
+        at,
+        view.options.bsr.end_kind(view.options.utf),
+    )
 }
 
 /// Tests a simple assertion at a place, and tells whether it reaches the subject's end (pcre2pattern, "Simple assertions",
 /// "Circumflex and dollar"; pcre2partial).
 ///
-/// Needs a subject of fewer than 4,294,967,295 bytes without UTF, a place in it, and no word characters of Unicode.
-pub fn anchor(view: &View<'_>, kind: AnchorKind, at: usize) -> Held
-    requires subject { IsSubject view.now.options.now view.now.subject.now }
-    requires place { IsPlace view.now.options.now view.now.subject.now at }
-    requires ascii { asks_ucp kind ≡ false }
-    ensures holds { result.holds ≡ holds (bare_scene view.now) kind at }
-    ensures at_end { result.at_end ≡ anchor_reaches (bare_scene view.now) kind at }
+/// Needs a subject of fewer than 4,294,967,295 bytes and a place in it; in UTF the subject must be UTF-8, and a character must begin
+/// at the place.
+pub fn text_anchor(view: &View<'_>, kind: AnchorKind, at: usize) -> Held
+    requires subject { IsText view.now.options.now view.now.subject.now }
+    requires place { IsTextPlace view.now.options.now view.now.subject.now at }
+    ensures holds { result.holds ≡ holds (bare_text view.now) kind at }
+    ensures at_end { result.at_end ≡ anchor_reaches (bare_text view.now) kind at }
 {
     let end = at == view.subject.len();
     match kind {
@@ -58,12 +63,12 @@ pub fn anchor(view: &View<'_>, kind: AnchorKind, at: usize) -> Held
         },
         AnchorKind::EndOrNewline => close(view, at),
         AnchorKind::StartGiven => inside(at == view.start),
-        AnchorKind::Word { .. } => Held {
-            holds: is_boundary(view, at),
+        AnchorKind::Word { ucp } => Held {
+            holds: is_boundary(view, ucp, at),
             at_end: end,
         },
-        AnchorKind::NotWord { .. } => Held {
-            holds: !is_boundary(view, at),
+        AnchorKind::NotWord { ucp } => Held {
+            holds: !is_boundary(view, ucp, at),
             at_end: end,
         },
     }
@@ -82,26 +87,26 @@ fn inside(holds: bool) -> Held
 
 /// `^`
 fn caret(view: &View<'_>, multi: bool, at: usize) -> bool
-    requires subject { IsSubject view.now.options.now view.now.subject.now }
-    requires place { IsPlace view.now.options.now view.now.subject.now at }
-    ensures { result ≡ holds (bare_scene view.now) (AnchorKind.Caret multi) at }
+    requires subject { IsText view.now.options.now view.now.subject.now }
+    requires place { IsTextPlace view.now.options.now view.now.subject.now at }
+    ensures { result ≡ holds (bare_text view.now) (AnchorKind.Caret multi) at }
 {
     if at == 0 {
         return !view.matching.notbol;
     }
     multi
         && at < view.subject.len()
-        && newline_before(view.subject, at, view.options.newline, false) > 0
+        && newline_before(view.subject, at, view.options.newline, view.options.utf) > 0
 }
 
 /// `$` under MULTILINE
 fn line_end(view: &View<'_>, at: usize) -> Held
-    requires subject { IsSubject view.now.options.now view.now.subject.now }
-    requires place { IsPlace view.now.options.now view.now.subject.now at }
+    requires subject { IsText view.now.options.now view.now.subject.now }
+    requires place { IsTextPlace view.now.options.now view.now.subject.now at }
     ensures holds { (end_only : _)
-        → result.holds ≡ holds (bare_scene view.now) (AnchorKind.Dollar true end_only) at }
+        → result.holds ≡ holds (bare_text view.now) (AnchorKind.Dollar true end_only) at }
     ensures at_end { (end_only : _)
-        → result.at_end ≡ anchor_reaches (bare_scene view.now) (AnchorKind.Dollar true end_only) at }
+        → result.at_end ≡ anchor_reaches (bare_text view.now) (AnchorKind.Dollar true end_only) at }
 {
     if at == view.subject.len() {
         let holds = !view.matching.noteol;
@@ -111,19 +116,19 @@ fn line_end(view: &View<'_>, at: usize) -> Held
         };
     }
     Held {
-        holds: newline_at(view.subject, at, view.options.newline, false) > 0,
+        holds: newline_len(view, at) > 0,
         at_end: is_half_newline(view, at),
     }
 }
 
 /// `$`
 fn dollar(view: &View<'_>, multi: bool, end_only: bool, at: usize) -> Held
-    requires subject { IsSubject view.now.options.now view.now.subject.now }
-    requires place { IsPlace view.now.options.now view.now.subject.now at }
+    requires subject { IsText view.now.options.now view.now.subject.now }
+    requires place { IsTextPlace view.now.options.now view.now.subject.now at }
     ensures holds { let kind = AnchorKind.Dollar multi end_only
-        in result.holds ≡ holds (bare_scene view.now) kind at }
+        in result.holds ≡ holds (bare_text view.now) kind at }
     ensures at_end { let kind = AnchorKind.Dollar multi end_only
-        in result.at_end ≡ anchor_reaches (bare_scene view.now) kind at }
+        in result.at_end ≡ anchor_reaches (bare_text view.now) kind at }
 {
     if multi {
         return line_end(view, at);
@@ -142,10 +147,10 @@ fn dollar(view: &View<'_>, multi: bool, end_only: bool, at: usize) -> Held
 
 /// `\Z`
 fn close(view: &View<'_>, at: usize) -> Held
-    requires subject { IsSubject view.now.options.now view.now.subject.now }
-    requires place { IsPlace view.now.options.now view.now.subject.now at }
-    ensures holds { result.holds ≡ is_close (bare_scene view.now) at }
-    ensures at_end { let g = bare_scene view.now
+    requires subject { IsText view.now.options.now view.now.subject.now }
+    requires place { IsTextPlace view.now.options.now view.now.subject.now at }
+    ensures holds { result.holds ≡ is_close (bare_text view.now) at }
+    ensures at_end { let g = bare_text view.now
         in result.at_end ≡ (is_close g at || items.is_half_newline g at) }
 {
     let holds = is_close(view, at);
@@ -157,33 +162,65 @@ fn close(view: &View<'_>, at: usize) -> Held
 
 /// Whether the place is the end, or a newline stands there that ends at the end.
 fn is_close(view: &View<'_>, at: usize) -> bool
-    requires subject { IsSubject view.now.options.now view.now.subject.now }
-    requires place { IsPlace view.now.options.now view.now.subject.now at }
-    ensures { result ≡ is_close (bare_scene view.now) at }
+    requires subject { IsText view.now.options.now view.now.subject.now }
+    requires place { IsTextPlace view.now.options.now view.now.subject.now at }
+    ensures { result ≡ is_close (bare_text view.now) at }
 {
     if at == view.subject.len() {
         return true;
     }
-    let len = newline_at(view.subject, at, view.options.newline, false);
+    let len = newline_len(view, at);
     len > 0 && len == view.subject.len() - at
+}
+
+/// The length of the newline that begins at a place, 0 where none does.
+fn newline_len(view: &View<'_>, at: usize) -> usize
+    requires { at ≤ length view.now.subject.now }
+    ensures { result ≡ items.newline_at (bare_text view.now) at }
+{
+    newline_at(view.subject, at, view.options.newline, view.options.utf)
 }
 
 /// Whether the last byte stands there, and may be the first half of a newline CRLF.
 pub(crate) fn is_half_newline(view: &View<'_>, at: usize) -> bool
-    requires { IsPlace view.now.options.now view.now.subject.now at }
-    ensures { result ≡ items.is_half_newline (bare_scene view.now) at }
+    requires { IsTextPlace view.now.options.now view.now.subject.now at }
+    ensures { result ≡ items.is_half_newline (bare_text view.now) at }
 {
     let is_last = view.subject.len() - at == 1;
     is_last && view.subject[at] == b'\r' && matches!(view.options.newline, Newline::CrLf)
 }
 
-/// Whether a word character of ASCII stands on one side alone.
-fn is_boundary(view: &View<'_>, at: usize) -> bool
-    requires subject { IsSubject view.now.options.now view.now.subject.now }
-    requires place { IsPlace view.now.options.now view.now.subject.now at }
-    ensures { result ≡ is_boundary (bare_scene view.now) false at }
+/// Whether a word character stands on one side alone.
+fn is_boundary(view: &View<'_>, ucp: bool, at: usize) -> bool
+    requires subject { IsText view.now.options.now view.now.subject.now }
+    requires place { IsTextPlace view.now.options.now view.now.subject.now at }
+    ensures { result ≡ is_boundary (bare_text view.now) ucp at }
 {
-    let before = at > 0 && is_word(view.subject[at - 1] as u32, false);
-    let after = at < view.subject.len() && is_word(view.subject[at] as u32, false);
-    before != after
+    word_before(view, ucp, at) != word_at(view, ucp, at)
+}
+
+/// Whether a word character stands before a place.
+fn word_before(view: &View<'_>, ucp: bool, at: usize) -> bool
+    requires subject { IsText view.now.options.now view.now.subject.now }
+    requires place { IsTextPlace view.now.options.now view.now.subject.now at }
+    ensures { let g = bare_text view.now in result ≡ is_word_at g ucp (previous g at) }
+{
+    if at == 0 {
+        return false;
+    }
+    let (c, _) = char_before(view.subject, at, view.options.utf);
+    is_word(c, ucp)
+}
+
+/// Whether a word character stands at a place.
+fn word_at(view: &View<'_>, ucp: bool, at: usize) -> bool
+    requires subject { IsText view.now.options.now view.now.subject.now }
+    requires place { IsTextPlace view.now.options.now view.now.subject.now at }
+    ensures { let g = bare_text view.now in result ≡ is_word_at g ucp (next g at) }
+{
+    if at == view.subject.len() {
+        return false;
+    }
+    let (c, _) = char_at(view.subject, at, view.options.utf);
+    is_word(c, ucp)
 }

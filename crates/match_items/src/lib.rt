@@ -3,19 +3,24 @@
 #![tactic(auto)]
 
 mod anchors;
+mod bytes;
 mod items;
 mod laws;
 mod references;
 mod runs;
 #[cfg(test)]
 mod tests;
+#[cfg(test)]
+mod text_tests;
 mod uncounted;
 mod view;
+mod walks;
 
-pub use anchors::{anchor, break_step};
+pub use anchors::{text_anchor, text_break_step};
+pub use bytes::{anchor, break_step, ref_step};
 pub use items::step;
 pub use laws::{tables_show_classes, worked_rows};
-pub use references::ref_step;
+pub use references::text_ref_step;
 pub use runs::run_len;
 pub use uncounted::{item_run, item_step};
 pub use view::{Held, ItemRun, Taken, View};

@@ -6,24 +6,27 @@ ghost use Rattle.pat_tree.specs.Newlines.{end_kind};
 ghost use Rattle.pat_tree.specs.Rules.{class_in};
 ghost use Rattle.uni_text.specs.Ascii.{ascii_fold};
 ghost use Rattle.char_sets.specs.Table.{table_has};
-ghost use Rattle.match_items.specs.Subjects.{IsSubject, IsPlace};
-ghost use Rattle.match_items.specs.Items.{takes, is_end, item_reaches, longest_run, run_reaches};
-ghost use Rattle.match_items.specs.Views.{scene_of, bare_scene, maximum, end_of, run_tests, span_tests};
+ghost use Rattle.match_items.specs.Subjects.{IsText, IsTextPlace, IsSubject};
+ghost use Rattle.match_items.specs.Items.{takes, is_end, item_reaches, longest_run, place_before, run_reaches};
+ghost use Rattle.match_items.specs.Views.{text_scene, bare_text, maximum, IsWalk, run_tests, span_tests, end_of};
 
 use crate::anchors::is_half_newline;
 use crate::items::fold;
 use crate::view::{ItemRun, View};
+use crate::walks::{Walk, text_walk};
 use byte_lanes::find_line_end;
 use char_sets::ClassTable;
 use pat_tree::{Item, Steps};
 use std::sync::ledger::Ledger;
+use uni_text::char_before;
 
 /// The longest run of an item from a place on, of `max` characters at most; `u32::MAX` stands for no maximum (pcre2pattern,
 /// "Repetition"). It tells whether one of its tests reaches the subject's end: the one at the end, which is made where fewer than the
 /// maximum are taken, and that of a last CR that may be the first half of a newline (pcre2partial). A class counts one test at each
 /// place that is tried before the end: at most one more than the run has characters.
 ///
-/// Needs a subject of fewer than 4,294,967,295 bytes without UTF, a place in it, and a class of the table.
+/// Needs a subject of fewer than 4,294,967,295 bytes, a place in it, and a class of the table; in UTF the subject must be UTF-8,
+/// and a character must begin at the place.
 pub fn run_len<L: Ledger>(
     view: &View<'_>,
     classes: &ClassTable,
@@ -32,28 +35,57 @@ pub fn run_len<L: Ledger>(
     max: u32,
     steps: &mut Steps<L>,
 ) -> ItemRun
-    requires subject { IsSubject view.now.options.now view.now.subject.now }
-    requires place { IsPlace view.now.options.now view.now.subject.now at }
+    requires subject { IsText view.now.options.now view.now.subject.now }
+    requires place { IsTextPlace view.now.options.now view.now.subject.now at }
     requires class { All (λ n. n < length classes.now) (class_in item.now) }
-    ensures count { let g = scene_of view.now classes.now
+    ensures count { let g = text_scene view.now classes.now
         in result.count ≡ length (longest_run g item.now (maximum max) at) }
-    ensures to { let g = scene_of view.now classes.now
+    ensures to { let g = text_scene view.now classes.now
         in result.to ≡ end_of at (longest_run g item.now (maximum max) at) }
-    ensures at_end { let g = scene_of view.now classes.now
+    ensures at_end { let g = text_scene view.now classes.now
         in result.at_end ≡ run_reaches g item.now (maximum max) at
         (longest_run g item.now (maximum max) at) }
-    ensures tests { let g = scene_of view.now classes.now
+    ensures tests { let g = text_scene view.now classes.now
+        in steps.new ≡ steps.old + run_tests g item.now (maximum max) at
+        (longest_run g item.now (maximum max) at) }
+    ensures few { steps.new ≤ steps.old + (result.count + 1) }
+{
+    let walk = if view.options.utf {
+        text_walk(view, classes, item, at, max, steps)
+    } else {
+        byte_walk(view, classes, item, at, max, steps)
+    };
+    ItemRun {
+        count: walk.count,
+        to: walk.to,
+        at_end: reaches(view, item, at, walk.to, walk.count < max),
+    }
+}
+
+/// The longest run where each character is a byte.
+fn byte_walk<L: Ledger>(
+    view: &View<'_>,
+    classes: &ClassTable,
+    item: &Item,
+    at: usize,
+    max: u32,
+    steps: &mut Steps<L>,
+) -> Walk
+    requires subject { IsSubject view.now.options.now view.now.subject.now }
+    requires place { at ≤ length view.now.subject.now }
+    requires class { All (λ n. n < length classes.now) (class_in item.now) }
+    ensures walk { IsWalk (text_scene view.now classes.now) item.now max at result }
+    ensures place { IsTextPlace view.now.options.now view.now.subject.now result.to }
+    ensures tests { let g = text_scene view.now classes.now
         in steps.new ≡ steps.old + run_tests g item.now (maximum max) at
         (longest_run g item.now (maximum max) at) }
     ensures few { steps.new ≤ steps.old + (result.count + 1) }
 {
     let limit = view.subject.len().min(at + max as usize);
     let to = run_end(view, classes, item, at, limit, steps);
-    let count = (to - at) as u32;
-    ItemRun {
-        count,
+    Walk {
+        count: (to - at) as u32,
         to,
-        at_end: reaches(view, item, at, to, count < max),
     }
 }
 
@@ -70,7 +102,7 @@ fn run_end<L: Ledger>(
     requires ordered { from ≤ limit }
     requires within { limit ≤ length view.now.subject.now }
     requires class { All (λ n. n < length classes.now) (class_in item.now) }
-    ensures end { let g = scene_of view.now classes.now in IsLeast
+    ensures end { let g = text_scene view.now classes.now in IsLeast
         (λ k. takes g item.now k (slice_index view.now.subject.now k) ≡ false) from limit result }
     ensures tests { steps.new ≡ steps.old + span_tests item.now from result limit }
 {
@@ -91,7 +123,7 @@ fn char_run(bytes: &[u8], c: u32, caseless: bool, from: usize, limit: usize) -> 
         else c == slice_index bytes.now k) ≡ false) from limit result }
 {
     if caseless {
-        folded_run(bytes, fold(c), from, limit)
+        folded_run(bytes, fold(false, c), from, limit)
     } else {
         byte_run(bytes, c, from, limit)
     }
@@ -117,7 +149,7 @@ fn folded_run(bytes: &[u8], folded: u32, from: usize, limit: usize) -> usize
         from limit result }
 {
     for i in from..limit {
-        if folded != fold(bytes[i] as u32) {
+        if folded != fold(false, bytes[i] as u32) {
             return i;
         }
     }
@@ -169,12 +201,25 @@ fn line_run(view: &View<'_>, from: usize, limit: usize) -> usize
 
 /// Whether a run between two places reaches the subject's end. `fewer` says that it has fewer characters than its maximum.
 fn reaches(view: &View<'_>, item: &Item, from: usize, to: usize, fewer: bool) -> bool
-    requires { IsPlace view.now.options.now view.now.subject.now to }
-    ensures { let g = bare_scene view.now
-        in result ≡ (is_end g to && (fewer || nat_lt from to && item_reaches g item.now (to - 1))) }
+    requires subject { IsText view.now.options.now view.now.subject.now }
+    requires place { IsTextPlace view.now.options.now view.now.subject.now to }
+    ensures { let g = bare_text view.now in result ≡ (is_end g to
+        && (fewer || nat_lt from to && item_reaches g item.now (place_before g to))) }
 {
     if to < view.subject.len() {
         return false;
     }
-    fewer || from < to && matches!(item, Item::NotNewline) && is_half_newline(view, to - 1)
+    fewer
+        || from < to && matches!(item, Item::NotNewline) && is_half_newline(view, before(view, to))
+}
+
+/// The place of the character before a place that isn't the first.
+fn before(view: &View<'_>, at: usize) -> usize
+    requires subject { IsText view.now.options.now view.now.subject.now }
+    requires place { IsTextPlace view.now.options.now view.now.subject.now at }
+    requires some { 0 < at }
+    ensures value { result ≡ place_before (bare_text view.now) at }
+    ensures place { IsTextPlace view.now.options.now view.now.subject.now result }
+{
+    char_before(view.subject, at, view.options.utf).1
 }
