@@ -54,6 +54,18 @@ impl Registers {
         Ok(())
     }
 
+    /// Takes over what other registers hold, and how many they are. Want of memory alone refuses it, and leaves none.
+    pub fn copy_from(&mut self, other: &Registers) -> Result<(), Memory>
+        ensures copied { OnOk result (self.new ≡ other.now) }
+        ensures refused { OnErr result (self.new ≡ []) }
+    {
+        self.spans.clear();
+        if self.spans.extend_from_slice(&other.spans).is_err() {
+            return Err(Memory);
+        }
+        Ok(())
+    }
+
     /// Leaves no registers. The room that they had stays for the next.
     pub fn clear(&mut self)
         ensures { self.new ≡ [] }

@@ -142,6 +142,16 @@ impl Store {
         self.peak
     }
 
+    /// Gives each register the value that the undo records past the oldest `to` records keep, the newest first, and
+    /// leaves the records.
+    pub fn give_back(&self, to: usize, registers: &mut Registers)
+        requires within { to ≤ length self.now.records }
+        requires slots { All (HasSlot registers.old) (past to (entries self.now.records)) }
+        ensures { registers.new ≡ undone (past to (entries self.now.records)) registers.old }
+    {
+        put_back(&self.records[to..], registers);
+    }
+
     /// Goes back to the oldest `to` records: gives each register the value that the undo records past them keep, the
     /// newest first, and drops the later records.
     pub fn undo_to(&mut self, to: usize, registers: &mut Registers)
@@ -152,7 +162,7 @@ impl Store {
         ensures spare { self.new.spare ≡ self.old.spare + (length self.old.records - to) }
         ensures peak { self.new.peak ≡ self.old.peak }
     {
-        put_back(&self.records[to..], registers);
+        self.give_back(to, registers);
         self.cut(to);
     }
 }

@@ -6,17 +6,18 @@ use Rattle.pat_tree.specs.declared.nodes.Item.{Item}
 use Rattle.pat_tree.specs.declared.nodes.AnchorKind.{AnchorKind}
 use Rattle.pat_tree.specs.Nested as tree
 use Rattle.pat_tree.specs.Nested.{Nested, Row, Test, Other}
+use Rattle.pat_tree.specs.Groups.{group_of}
 use Rattle.match_items.specs.Items.{one_less, is_none_left, after_item, item_reaches, longest_run, run_reaches, after_break, break_reaches, after_ref, ref_reaches, holds, anchor_reaches, earliest, places_back}
 use Rattle.pat_lengths.specs.Lengths.{SomeLengths}
 use Rattle.frame_store.specs.Captures.{capture}
-use Rattle.ordered_search.specs.Stream.{State, first_state, VerbEnding, next_branch, prune, skip, commit, is_partial, too_many_units, exhausted, by_verb, by_halt, hit_end, How, reached, accepted, note, state, step, Stream, Search, ends, ◌▸◌, nothing, gives, ◌or_else◌, each, go_on, and_then, catch, is_next_branch, captured, shown, decide, no_ending, fails_alone, fails_inside}
+use Rattle.ordered_search.specs.Stream.{State, first_state, VerbEnding, next_branch, prune, skip, commit, is_partial, too_many_units, loop, exhausted, by_verb, by_halt, hit_end, How, reached, accepted, note, state, step, Stream, Search, ends, ◌▸◌, nothing, gives, ◌or_else◌, each, go_on, and_then, catch, is_next_branch, is_verb, captured, changes, shown, decide, no_ending, fails_alone, fails_inside}
 use Rattle.ordered_search.specs.Setting.{Setting, held, hold, counts, reach, reach_if, match_limit, branch_lengths}
 use Rattle.ordered_search.specs.Tests.{move_to, goes_to, run_one, run_break, run_ref, run_anchor, offers, greedy, offer_and, reluctant, lazy_run, run_many}
-use Rattle.ordered_search.specs.Parts.{Searches, in_order, choices, branches, run_group, is_over, turn, run_repeat, begun_at, ends_at, one_try, tries, tries_within, run_behind, back_to, forget_passed, run_atomic, run_look, asserts, tests, some_set, is_called, is_called_of, block_of, follow, run_callout}
+use Rattle.ordered_search.specs.Parts.{Searches, in_order, choices, branches, run_group, is_over, turn, run_repeat, begun_at, ends_at, one_try, tries, tries_within, run_behind, back_to, forget_passed, run_atomic, run_look, asserts, tests, some_set, is_called, is_called_of, block_of, follow, run_callout, run_tree, is_active, returns, run_call}
 use Rattle.ordered_search.specs.Run.{level, levels, run, levels_behind, level_test, level_other}
 use Rattle.ordered_search.specs.PlaceAnswer.{with_note, answers, decision, walk, place_answer}
 use Rattle.ordered_search.specs.Moves.{Moves, stops, pause, stepped, noted, found, exhaust, Follow, Handler, Path, before, catching, at_end, at_verbs, going, holding, reaching, tread}
-use Rattle.ordered_search.specs.Paths.{Paths, close, ref_path, anchor_path, offer_paths, offer_path, lazy_paths, many_paths, turned, turn_path, repeat_path, go_path, parts_path, choice_paths, branch_paths, path, row_paths, paths, try_path, ends_before, tries_path, behind_path, leave, atomic_path, look_path, tested_path, assert_path, choose_path, answered, behind_paths, test_path, other_path}
+use Rattle.ordered_search.specs.Paths.{Paths, close, ref_path, anchor_path, offer_paths, offer_path, lazy_paths, many_paths, turned, turn_path, repeat_path, go_path, parts_path, choice_paths, branch_paths, path, row_paths, paths, try_path, ends_before, tries_path, behind_path, leave, atomic_path, look_path, tested_path, assert_path, choose_path, answered, behind_paths, test_path, other_path, pauses, returned, called_path, call_path}
 
 unfoldable strip : Moves → Moves
 strip (stops e) = stops e
@@ -59,6 +60,16 @@ before_catch (ends (by_halt a)) k f h = refl
 before_catch (note n ▸ x) k f h = ap (noted n) (before_catch x k f h)
 before_catch (state how s ▸ x) k f h = ap (k how s) (before_catch x k f h)
 before_catch (step ▸ x) k f h = ap stepped (before_catch x k f h)
+
+-- each verb is caught
+before_catch_verb : (x : Stream) (k : Follow) (f : Moves) (h : Handler) → before (catch is_verb x) k f h ≡ before x k f (λ v. f)
+unfolding before catch
+before_catch_verb (ends exhausted) k f h = refl
+before_catch_verb (ends (by_verb v)) k f h = refl
+before_catch_verb (ends (by_halt a)) k f h = refl
+before_catch_verb (note n ▸ x) k f h = ap (noted n) (before_catch_verb x k f h)
+before_catch_verb (state how s ▸ x) k f h = ap (k how s) (before_catch_verb x k f h)
+before_catch_verb (step ▸ x) k f h = ap stepped (before_catch_verb x k f h)
 
 -- an ending that fails a lookaround
 before_catch_alone : (x : Stream) (k : Follow) (f : Moves) (h : Handler) →
@@ -562,6 +573,50 @@ module _ (g : Setting) where
   strip_answered (pos (suc n)) x f y l j e = refl
   strip_answered (negsuc n) x f y l j e = refl
 
+  -- Calls.
+
+  strip_pauses : (n : ℕ) (f : Moves) → strip (pauses n f) ≡ strip f
+  unfolding strip
+  strip_pauses zero f = refl
+  strip_pauses (suc n) f = strip_pauses n f
+
+  -- a call is left
+  returned_stripped : (s : State) (k l : Follow) (j : Handler) → IsStripped k l →
+      IsStripped (returned g s k) (λ how u m. before (returns g s how u) l m j)
+  unfolding before strip returns
+  returned_stripped s k l j e = record {
+    same = λ how u m.
+        let count : ℕ = changes u.caps s.caps in
+        strip_holding count (record u { caps = s.caps; calls = s.calls }) (λ t. k reached t (pauses count m)) (gives reached) l (strip m) j
+        (λ t. e.same reached t (pauses count m) ∙ ap (l reached t) (strip_pauses count m));
+  }
+
+  module _ (below : Paths) (under : Searches) (same : (t : Nested) → IsSearch (below t) (under t)) where
+    -- the group that is called, if it is there
+    strip_called : (o : Option Nested) (s t : State) (k l : Follow) (f : Moves) (j : Handler) → IsStripped k l →
+        strip (called_path o below t (returned g s k) (pause f) (λ v. pause f))
+        ≡ before (catch is_verb (each (run_tree o under t) (returns g s))) l (strip f) j
+    unfolding before strip run_tree each catch
+    strip_called None s t k l f j e = refl
+    strip_called (Some x) s t k l f j e =
+        (same x).is t (returned g s k) (λ how u m. before (returns g s how u) l m (λ v. strip f)) (pause f) (λ v. pause f) (λ v. strip f)
+        (returned_stripped s k l (λ v. strip f) e) (record { same = λ v. refl })
+        ∙ sym (before_each (under x t) (returns g s) l (strip f) (λ v. strip f))
+        ∙ sym (before_catch_verb (each (under x t) (returns g s)) l (strip f) j)
+
+    strip_call : (n : ℕ) → IsSearch (call_path g below n) (run_call g under n)
+    unfolding before strip call_path run_call
+    strip_call n = record {
+      is = λ s k l f h j e r.
+          let called : State → State = λ t. record t { calls = (n, s.place) ∷ s.calls } in
+          let o : Option Nested = group_of g.whole n in
+          let inside : State → Moves = λ t. called_path o below (called t) (returned g s k) (pause f) (λ v. pause f) in
+          let stream : Search = λ t. catch is_verb (each (run_tree o under (called t)) (returns g s)) in
+          ap stepped
+          (strip_if (is_active n s.place s.calls) (stops (by_halt loop)) (holding g 1 s inside) (ends (by_halt loop)) (held g 1 s stream) l (strip f) j refl
+          (strip_holding 1 s inside stream l (strip f) j (λ t. strip_called o s (called t) k l f j e)));
+    }
+
   -- The trees.
 
   module _ (d : ℕ) (same : (t : Nested) → IsSearch (paths g d t) (run g d t)) where
@@ -606,7 +661,7 @@ module _ (g : Setting) where
       strip_path (tree.condition test first second) s k l f h j e r =
           strip_test test (path g d (paths g d) first) (other_path g d (paths g d) second) (level g (run g d) first) (level_other g (run g d) second)
           (record { is = strip_path first }) (strip_other second) s k l f h j e r
-      strip_path (tree.call n) s k l f h j e r = strip_run (tree.call n) s k l f h j e r
+      strip_path (tree.call n) s k l f h j e r = (strip_call (paths g d) (run g d) same n).is s k l f h j e r
       strip_path (tree.verb v) s k l f h j e r = strip_run (tree.verb v) s k l f h j e r
       strip_path (tree.callout c) s k l f h j e r = strip_run (tree.callout c) s k l f h j e r
 

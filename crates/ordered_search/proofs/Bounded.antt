@@ -10,9 +10,9 @@ use Rattle.pat_tree.specs.declared.nodes.AnchorKind.{AnchorKind}
 use Rattle.pat_tree.specs.Nested as tree
 use Rattle.pat_tree.specs.Nested.{Nested, Row}
 use Rattle.match_items.specs.Items.{one_less, is_none_left, after_item, item_reaches, run_places, longest_run, run_reaches, after_break, break_reaches, after_ref, ref_reaches, holds, anchor_reaches}
-use Rattle.pat_check.specs.declared.bounds.Growth.{Growth}
-use Rattle.pat_check.specs.declared.bounds.Bound.{Bound}
-use Rattle.pat_check.specs.Bounds.{at, steady, plus, product, once, never, offered, turns, followed, or_later, closed, grouped, both, change, bound, bound_in_turn, bound_of_one, bound_of_choices}
+use Rattle.match_needs.specs.declared.bounds.Growth.{Growth}
+use Rattle.match_needs.specs.declared.bounds.Bound.{Bound}
+use Rattle.match_needs.specs.Bounds.{at, steady, plus, product, once, never, offered, turns, followed, or_later, closed, grouped, both, change, bound, bound_in_turn, bound_of_one, bound_of_choices}
 use Rattle.frame_store.specs.Captures.{capture}
 use Rattle.ordered_search.specs.Stream.{State, How, reached, by_halt, too_many_units, step, Stream, Search, ends, ◌▸◌, nothing, gives, ◌or_else◌, each, and_then, decide, catch, no_ending, is_next_branch, fails_alone, fails_inside, captured}
 use Rattle.ordered_search.specs.Setting.{Setting, held, hold, reach, reach_if}

@@ -9,7 +9,7 @@ use Rattle.ordered_search.specs.Stream.{State, How, reached, accepted}
 use Rattle.ordered_search.specs.Setting.{Setting, branch_lengths}
 use Rattle.ordered_search.specs.Parts.{is_over, begun_at, back_to, some_set, is_called, is_called_of}
 use Rattle.ordered_search.specs.Moves.{Moves, pause, stepped, Follow, Handler, Path, catching, holding}
-use Rattle.ordered_search.specs.Paths.{Paths, close, turned, turn_path, repeat_path, go_path, parts_path, choice_paths, branch_paths, path, row_paths, paths, try_path, ends_before, tries_path, behind_path, leave, atomic_path, look_path, tested_path, assert_path, choose_path, behind_paths, test_path, other_path}
+use Rattle.ordered_search.specs.Paths.{Paths, close, turned, turn_path, repeat_path, go_path, parts_path, choice_paths, branch_paths, path, row_paths, paths, try_path, ends_before, tries_path, behind_path, leave, atomic_path, look_path, tested_path, assert_path, choose_path, behind_paths, test_path, other_path, call_path}
 use Rattle.ordered_search.specs.Verbless.{IsVerbless, AreVerbless, IsVerblessTest, IsVerblessOther}
 
 pub record IsFree (p : Path) : Type 0 where
@@ -181,7 +181,7 @@ module _ (g : Setting) where
 
   module _ (d : ℕ) (under : (t : Nested) → IsVerbless t → IsFree (paths g d t)) where
     mutual
-      unfolding path
+      unfolding path call_path
 
       free_path : (t : Nested) → IsVerbless t → IsFree (path g d (paths g d) t)
       free_path tree.empty b = record { same = λ s k f h j. refl }
@@ -212,7 +212,7 @@ module _ (g : Setting) where
       free_path (tree.condition test first second) b = record {
         same = (free_test test b.0 (path g d (paths g d) first) (other_path g d (paths g d) second) (free_path first b.1) (free_other second b.2)).same;
       }
-      free_path (tree.call n) b = absurd b
+      free_path (tree.call n) b = record { same = λ s k f h j. refl }
       free_path (tree.ref ns caseless) b = record { same = λ s k f h j. refl }
       free_path (tree.anchor kind) b = record { same = λ s k f h j. refl }
       free_path tree.keep_out b = record { same = λ s k f h j. refl }

@@ -10,9 +10,9 @@ use Rattle.pat_tree.specs.declared.nodes.Item.TheVariants.{Char, AnyAll, NotNewl
 use Rattle.pat_tree.specs.Nested as tree
 use Rattle.pat_tree.specs.Nested.{Nested, Row}
 use Rattle.match_items.specs.Items.{is_end, takes, after_item, one_less, is_none_left, run_places, longest_run}
-use Rattle.pat_check.specs.declared.bounds.Bound.{Bound}
-use Rattle.pat_check.specs.Bounds.{at, followed, or_later, closed, grouped, both, change, offered, turns, once, bound, bound_in_turn, bound_of_one, bound_of_choices}
-use Rattle.pat_check.specs.Needs.{may_take, TakesOf, Needs, SomeNeeds, AllNeed}
+use Rattle.match_needs.specs.declared.bounds.Bound.{Bound}
+use Rattle.match_needs.specs.Bounds.{at, followed, or_later, closed, grouped, both, change, offered, turns, once, bound, bound_in_turn, bound_of_one, bound_of_choices}
+use Rattle.match_needs.specs.Needs.{may_take, TakesOf, Needs, SomeNeeds, AllNeed}
 use Rattle.ordered_search.specs.Stream.{State, first_state, exhausted, by_verb, by_halt, too_many_units, How, reached, accepted, note, state, step, Stream, Search, ends, ◌▸◌, nothing, gives, ◌or_else◌, each, go_on, and_then, decide, catch, no_ending, is_next_branch, fails_alone, captured}
 use Rattle.ordered_search.specs.Setting.{Setting, match_limit, held, hold, reach_if}
 use Rattle.ordered_search.specs.Tests.{goes_to, run_one, offers, greedy, reluctant, lazy_run, run_many}

@@ -13,6 +13,7 @@ pub mod Laws
 pub mod Forward
 pub mod Moves
 pub mod Paths
+pub mod PathLaw
 pub mod Verbless
 pub mod Plain
 pub mod LaterPlaces

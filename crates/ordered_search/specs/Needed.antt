@@ -1,9 +1,9 @@
 -- Searches that a byte which is missing in the subject answers (docs/SPEED.md, "A byte that every match needs").
 use Rattle.std.specs.Prelude.{◌≡◌, ◌<◌, ◌≤◌, ℕ, ◌+◌, Bool, false, length, Some, slice_index}
 use Rattle.pat_tree.specs.declared.options.PartialMode.TheVariants.{Off}
-use Rattle.pat_check.specs.declared.bounds.Bound.{Bound}
-use Rattle.pat_check.specs.Bounds.{at, bound}
-use Rattle.pat_check.specs.Needs.{Needs}
+use Rattle.match_needs.specs.declared.bounds.Bound.{Bound}
+use Rattle.match_needs.specs.Bounds.{at, bound}
+use Rattle.match_needs.specs.Needs.{Needs}
 use Rattle.ordered_search.specs.Setting.{Setting, match_limit}
 use Rattle.ordered_search.specs.MatchAnswer.{none_found, match_answer}
 

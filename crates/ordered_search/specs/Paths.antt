@@ -1,5 +1,5 @@
 -- The ordered search as a machine goes through it: each tree before what follows it. Without its pauses it is the search
--- of the definitions. Calls, verbs and callouts are that search itself.
+-- of the definitions. Verbs and callouts are that search itself.
 use Rattle.std.specs.Prelude.{ℕ, zero, suc, ◌-◌, Bool, true, false, List, [], ◌∷◌, drop, take, reverse, Option, Some, None, option_map, ℤ, pos, negsuc, ◌==◌}
 use Rattle.pat_tree.specs.declared.nodes.Item.{Item}
 use Rattle.pat_tree.specs.declared.nodes.AnchorKind.{AnchorKind}
@@ -8,10 +8,11 @@ use Rattle.pat_tree.specs.Nested.{Nested, Row, Test, Other}
 use Rattle.match_items.specs.Items.{one_less, is_none_left, after_item, item_reaches, longest_run, run_reaches, after_break, break_reaches, after_ref, ref_reaches, holds, anchor_reaches, earliest, places_back}
 use Rattle.pat_lengths.specs.Lengths.{SomeLengths}
 use Rattle.frame_store.specs.Captures.{capture}
-use Rattle.ordered_search.specs.Stream.{State, by_halt, cut, abort, shown, How, reached, accepted, captured}
+use Rattle.pat_tree.specs.Groups.{group_of}
+use Rattle.ordered_search.specs.Stream.{State, by_halt, cut, loop, abort, changes, shown, How, reached, accepted, captured}
 use Rattle.ordered_search.specs.Setting.{Setting, branch_lengths}
 use Rattle.ordered_search.specs.Tests.{move_to}
-use Rattle.ordered_search.specs.Parts.{is_over, begun_at, back_to, forget_passed, some_set, is_called, is_called_of, block_of}
+use Rattle.ordered_search.specs.Parts.{is_over, begun_at, back_to, forget_passed, some_set, is_called, is_called_of, is_active, block_of}
 use Rattle.ordered_search.specs.Run.{run}
 use Rattle.ordered_search.specs.Moves.{Moves, stops, pause, stepped, noted, Follow, Handler, Path, before, catching, going, holding, reaching}
 
@@ -50,12 +51,26 @@ unfoldable pub ends_before : ℕ → Follow → Follow
 ends_before place k reached u e = elim (u.place == place) [ true ↦ k reached u e | false ↦ e ]
 ends_before place k accepted u e = k accepted u e
 
--- Conditions and callouts.
+-- Conditions.
 
 -- a test that is no lookaround
 abbrev pub choose_path : Bool → Path → Path → Path
 choose_path true yes' no' s k f h = pause (yes' s k f h)
 choose_path false yes' no' s k f h = pause (no' s k f h)
+
+-- Calls.
+
+-- so many pauses: one for each register that is put back
+abbrev pub pauses : ℕ → Moves → Moves
+pauses zero m = m
+pauses (suc n) m = pause (pauses n m)
+
+-- the group that is called, if it is there
+abbrev pub called_path : Option Nested → Paths → Path
+called_path None below s k f h = f
+called_path (Some t) below s k f h = below t s k f h
+
+-- Callouts.
 
 -- what a callout's answer does
 abbrev pub answered : ℤ → Moves → Moves → Moves
@@ -189,6 +204,27 @@ module _ (g : Setting) where
   assert_path true p yes' no' = tested_path p yes' no'
   assert_path false p yes' no' = tested_path p no' yes'
 
+  -- Calls.
+
+  -- a call that began at s is left by each outcome: captures and active calls are those of s again
+  abbrev pub returned : State → Follow → Follow
+  returned s k how u f =
+      let count : ℕ = changes u.caps s.caps in
+      pause (holding g count (record u { caps = s.caps; calls = s.calls }) (λ t. k reached t (pauses count f)))
+
+  -- A verb in the group leads to f, as the group's failure does.
+  unfoldable pub call_path : Paths → ℕ → Path
+  call_path below n s k f h =
+      stepped
+      (elim (is_active n s.place s.calls) [
+        | true ↦ stops (by_halt loop)
+        | false ↦
+            holding g 1 s
+            (λ t.
+            called_path (group_of g.whole n) below (record t { calls = (n, s.place) ∷ s.calls }) (returned s k) (pause f)
+            (λ v. pause f))
+      ])
+
   -- The trees, where d is the depth below.
   module _ (d : ℕ) (below : Paths) where
     unfoldable mutual
@@ -212,7 +248,7 @@ module _ (g : Setting) where
       path (tree.look true positive once ts) s k f h = look_path positive once (branch_paths (row_paths ts)) s k f h
       path (tree.look false positive once ts) s k f h = look_path positive once (branch_paths (behind_paths ts)) s k f h
       path (tree.condition test first second) s k f h = test_path test (path first) (other_path second) s k f h
-      path (tree.call n) s k f h = pause (before (run g (suc d) (tree.call n) s) k f h)
+      path (tree.call n) s k f h = call_path below n s k f h
       path (tree.verb v) s k f h = pause (before (run g (suc d) (tree.verb v) s) k f h)
       path (tree.callout c) s k f h = pause (before (run g (suc d) (tree.callout c) s) k f h)
 

@@ -1,4 +1,4 @@
--- Patterns without verbs, calls and callouts.
+-- Patterns without verbs and callouts of their own. The verbs of a called group end with its call.
 use Rattle.pat_tree.specs.Nested as tree
 use Rattle.pat_tree.specs.Nested.{Nested, Row, Test, Other}
 
@@ -14,7 +14,7 @@ abbrev mutual
   IsVerbless (tree.atomic ts) = AreVerbless ts
   IsVerbless (tree.look ahead positive once ts) = AreVerbless ts
   IsVerbless (tree.condition test first second) = IsVerblessTest test × IsVerbless first × IsVerblessOther second
-  IsVerbless (tree.call n) = ⊥
+  IsVerbless (tree.call n) = Unit {0}
   IsVerbless (tree.ref ns caseless) = Unit {0}
   IsVerbless (tree.anchor kind) = Unit {0}
   IsVerbless tree.keep_out = Unit {0}

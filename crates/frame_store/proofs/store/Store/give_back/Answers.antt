@@ -5,7 +5,7 @@ use Rattle.frame_store.specs.Stack.{Stack, past}
 use Rattle.frame_store.specs.Entry.{Entry, entries}
 use Rattle.frame_store.specs.Undo.{undone, HasSlot}
 use Rattle.frame_store.proofs.UndoLemmas.{past-entries}
-use Rattle.frame_store.proofs.store.Store.undo_to.Goals as goal
+use Rattle.frame_store.proofs.store.Store.give_back.Goals as goal
 
 -- the records past a height, as the store keeps them
 later : (stack : Stack) (items read : List Record) (to : ℕ) → reverse items ≡ stack.records → read ≡ items → to ≤ length stack.records → past to (entries stack.records) ≡ entries (reverse (take (length read - to) (drop to read)))
@@ -21,8 +21,8 @@ put_back-requires c =
     (later c.args.self.now c.self.inside.records.items c.deref.result.now c.args.to view c.deref.ensures.value c.requires.within)
     c.requires.slots
 
-pub returns-clause-undone : goal.returns-clause-undone
-returns-clause-undone c =
+pub returns : goal.returns
+returns c =
     let view : reverse c.self.inside.records.items ≡ c.args.self.now.records = ap (λ (s : Stack). s.records) c.self.view_is in
     c.put_back.ensures
     ∙ ap (λ (es : List Entry). undone es c.args.registers.now)
