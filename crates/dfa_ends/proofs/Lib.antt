@@ -1,0 +1,11 @@
+pub mod Fits
+pub mod Steps
+pub mod FitItems
+pub mod FitForms
+pub mod Agree
+pub mod ListLemmas
+pub mod ListLaw
+pub mod EndsLaw
+pub mod ReachLaw
+pub mod AnswerLaw
+pub mod RowProofs

@@ -1,0 +1,51 @@
+use Rattle.std.proofs.Common.{◌≡◌, ◌∙◌, [], ◌∷◌, ◌++◌, ap, sym, length, arith}
+use Rattle.std.proofs.lemmas.Grind.{common_steps}
+use Rattle.dfa_lists.specs.declared.graph.Node.TheVariants.{Dead, Match}
+use Rattle.dfa_lists.specs.declared.build.Work.TheVariants as work
+use Rattle.dfa_lists.specs.Building.{task}
+use Rattle.dfa_lists.proofs.Building.{starts, ended, next_step, popped, two_more}
+use Rattle.dfa_lists.proofs.build.place_tree.Goals as goal
+
+pub tasks-init : goal.tasks-init
+tasks-init c =
+    let e : c.push-2.new.self.items ≡ Dead ∷ Match ∷ [] =
+    c.in_ok-push-2.ensures.items ∙ ap (λ ns. ns ++ Match ∷ [])
+    (c.in_ok-push.ensures.items ∙ ap (λ ns. ns ++ Dead ∷ []) c.new-nodes.ensures.items) in
+    let l = ap length e in
+    record {
+      building = starts _ _ _ _ _ e
+          (c.in_ok-push-3.ensures.items ∙ ap (λ ts. ts ++ task (work.Part c.root.result) 0 1 ∷ [])
+          c.new-tasks.ensures.items
+          ∙ ap (λ r. task (work.Part r) 0 1 ∷ []) c.root.ensures);
+      few = omega (arith, l);
+    }
+
+pub work_step-step-requires-clause-part : goal.work_step-step-requires-clause-part
+work_step-step-requires-clause-part c =
+    (popped _ _ _ _ _ _ _ c.tasks.invariant.building c.in-Some.ensures.items).1.inside
+
+pub work_step-step-requires-clause-range : goal.work_step-step-requires-clause-range
+work_step-step-requires-clause-range c =
+    (popped _ _ _ _ _ _ _ c.tasks.invariant.building c.in-Some.ensures.items).1.range
+
+pub do_step-requires-clause-at : goal.do_step-requires-clause-at
+do_step-requires-clause-at c =
+    (popped _ _ _ _ _ _ _ c.tasks.invariant.building c.in-Some.ensures.items).0.0
+
+pub tasks-preserved : goal.tasks-preserved
+tasks-preserved c =
+    let l = ap length c.in_ok-do_step.ensures.nodes in
+    let two = two_more c.args.tree.now.nodes c.args.tree.now.root (length c.args.tree.now.classes)
+    c.work_step-step.result c.in-Some.task.at c.in-Some.task.next c.tasks.nodes.items in
+    record {
+      building = next_step _ _ _ _ _ _ _ _ _ _ c.tasks.invariant.building c.in-Some.ensures.items
+          c.work_step-step.ensures.part
+          c.work_step-step.ensures.is (sym c.is_refused.ensures ∙ c.if-is_refused.false)
+          c.in_ok-do_step.ensures.nodes c.in_ok-do_step.ensures.tasks;
+      few = omega (arith, l, two, c.tasks.invariant.few, c.if-left-eq0.false);
+    }
+
+pub returns : goal.returns
+returns c =
+    let e : c.tasks.tasks.items ≡ [] = grind (arith, common_steps, c.in_default.ensures) in
+    ended _ _ _ _ _ c.tasks.invariant.building e (omega (arith, c.tasks.invariant.few))

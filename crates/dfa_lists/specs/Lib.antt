@@ -1,0 +1,4 @@
+pub mod Graph
+pub mod Lists
+pub mod Fragment
+pub mod Building

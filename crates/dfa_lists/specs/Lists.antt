@@ -1,0 +1,82 @@
+-- Lists of states, at one place and over places.
+use Rattle.std.specs.Prelude.{
+  ◌≡◌,
+  ℕ,
+  ◌<◌,
+  ◌≤◌,
+  ◌⊎◌,
+  Bool,
+  true,
+  false,
+  List,
+  [],
+  ◌∷◌,
+  ◌++◌,
+  length,
+  Option,
+  Some,
+  None,
+  ◌==◌,
+  slice_get,
+  slice_index_or,
+}
+use Rattle.match_items.specs.Scene.{Scene}
+use Rattle.dfa_ends.specs.Ends.{Among}
+use Rattle.dfa_lists.specs.declared.graph.Node.{Node}
+use Rattle.dfa_lists.specs.declared.graph.Node.TheVariants.{Dead}
+use Rattle.dfa_lists.specs.declared.lists.Seed.{Seed}
+use Rattle.dfa_lists.specs.Graph.{takes, is_match, lands, target, takers, Comes}
+
+abbrev pub IsTaking : List Node → ℕ → Type 0
+IsTaking nodes q = (n : Node) × (slice_get nodes q ≡ Some n) × (takes n ≡ true)
+
+abbrev pub IsMatching : List Node → ℕ → Type 0
+IsMatching nodes q = (n : Node) × (slice_get nodes q ≡ Some n) × (is_match n ≡ true)
+
+-- The leaves are the states that take something among those that follow the start at a place, and
+-- `hit` tells whether `Match` is among these.
+pub record IsClosed (g : Scene) (nodes : List Node) (i : ℕ) (start leaves : List ℕ) (hit : Bool) :
+    Type 0 where
+  pub each_comes : (q : ℕ) → Among q leaves → Comes g nodes i start q × IsTaking nodes q
+  pub all_are_kept : (q : ℕ) → Comes g nodes i start q → IsTaking nodes q → Among q leaves
+  pub hit_comes : hit ≡ true → (q : ℕ) × Comes g nodes i start q × IsMatching nodes q
+  pub comes_hit : (q : ℕ) → Comes g nodes i start q → IsMatching nodes q → hit ≡ true
+  pub few : length leaves ≤ takers nodes
+
+-- one more item
+abbrev pub kept : Bool → ℕ → List ℕ → List ℕ
+kept true q qs = qs ++ q ∷ []
+kept false q qs = qs
+
+-- the states that wait at a place, and what waits elsewhere
+abbrev pub waiting_at : ℕ → List Seed → List ℕ
+waiting_at i [] = []
+waiting_at i (s ∷ ss) =
+    elim (s.at == i) [ true ↦ s.state ∷ waiting_at i ss | false ↦ waiting_at i ss ]
+
+abbrev pub elsewhere : ℕ → List Seed → List Seed
+elsewhere i [] = []
+elsewhere i (s ∷ ss) = elim (s.at == i) [ true ↦ elsewhere i ss | false ↦ s ∷ elsewhere i ss ]
+
+unfoldable pub Waits : ℕ → ℕ → List Seed → Type 0
+Waits q i [] = ⊥
+Waits q i (s ∷ ss) = ((q ≡ s.state) × (i ≡ s.at)) ⊎ Waits q i ss
+
+-- what a leaf takes at a place, if it takes something, waits after it
+abbrev pub with_landing : Option ℕ → ℕ → List Seed → List Seed
+with_landing None q ss = ss
+with_landing (Some j) q ss = ss ++ record { at = j; state = q } ∷ []
+
+abbrev pub node_at : List Node → ℕ → Node
+node_at nodes q = slice_index_or nodes q Dead
+
+-- all leaves, one after the other
+unfoldable pub landed : Scene → List Node → ℕ → List ℕ → List Seed → List Seed
+landed g nodes i [] ss = ss
+landed g nodes i (q ∷ qs) ss =
+    landed g nodes i qs (with_landing (lands g (node_at nodes q) i) (target (node_at nodes q)) ss)
+
+-- each is below all that follow
+unfoldable pub Rising : List ℕ → Type 0
+Rising [] = Unit {0}
+Rising (x ∷ xs) = ((q : ℕ) → Among q xs → x < q) × Rising xs

@@ -1,0 +1,20 @@
+//! The states of a graph.
+use pat_tree::{AnchorKind, Item};
+
+/// A state, and the states that follow it.
+#[derive(Clone, Copy, Debug, PartialEq, Eq)]
+pub enum Node {
+    /// Takes what the item takes.
+    One { item: Item, next: u32 },
+    /// `\R`
+    Break { next: u32 },
+    /// Goes on where the assertion holds.
+    Anchor { kind: AnchorKind, next: u32 },
+    /// Goes on in both ways.
+    Split { first: u32, second: u32 },
+    Goto { next: u32 },
+    /// Goes on nowhere.
+    Dead,
+    /// The end of a path.
+    Match,
+}
