@@ -3,3 +3,8 @@ pub mod Matching
 pub mod Naming
 pub mod Behind
 pub mod Informing
+pub mod Taking
+pub mod Walking
+pub mod Replacing
+pub mod Rewriting
+pub mod SubstitutionRows

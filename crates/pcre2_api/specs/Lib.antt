@@ -6,3 +6,8 @@ pub mod Patterns
 pub mod Answers
 pub mod MatchErrors
 pub mod Informs
+pub mod Taken
+pub mod Walks
+pub mod Substituted
+pub mod WorkedSubstitutions
+pub mod SubstErrors

@@ -1,5 +1,7 @@
 //! A match.
-ghost use Rattle.std.specs.Prelude.{◌≡◌};
+ghost use Rattle.std.specs.Prelude.{◌≡◌, length, nat_le};
+ghost use Rattle.std.specs.List.{list_any};
+ghost use Rattle.std.specs.Str.{bytes_eq};
 ghost use Rattle.std.specs.Option.{option_copied};
 ghost use Rattle.pcre2_api.specs.Captured.{span_of, group_of, named_of, top_of, mark_of};
 ghost use Rattle.pcre2_api.specs.Matched.{AreParts};
@@ -97,6 +99,24 @@ impl<'a> Found<'a> {
     {
         let span = self.span(n)?;
         Some(&self.subject[span.from as usize..span.to as usize])
+    }
+
+    /// Whether there is a group of this number.
+    pub(crate) fn has_group(&self, n: u32) -> bool
+        ensures { result ≡ nat_le n (length self.now.outcome.caps) }
+    {
+        n <= self.code.info().groups
+    }
+
+    /// Whether there is a group of this name.
+    pub(crate) fn has_name(&self, name: &[u8]) -> bool
+        ensures { result ≡ list_any (λ e. bytes_eq e.name name.now) self.now.code.tree.names }
+    {
+        self.code
+            .names()
+            .entries()
+            .iter()
+            .any(|e| e.name.bytes() == name)
     }
 
     /// The text of the first set group of this name (pcre2_substring_get_byname). None where there is no such group, or

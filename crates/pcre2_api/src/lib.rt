@@ -5,15 +5,24 @@
 mod code;
 mod error;
 mod found;
+mod laws;
+mod subst_error;
+mod substitute;
+mod taken;
 #[cfg(test)]
 mod tests;
 mod texts;
+mod walk;
 
 pub use code::{Code, Info};
 pub use error::{CompileError, MatchError};
 pub use found::Found;
 pub use frame_machine::Scratch;
 pub use frame_store::Span;
+pub use laws::worked_substitutions;
 pub use pat_tree::{Bsr, MatchOptions, Newline, Options, PartialMode};
 pub use pcre_io::{Block, Callouts, NoCallouts};
+pub use subst_error::SubstError;
+pub use substitute::{SubstOptions, Substituted};
 pub use texts::fault_text;
+pub use walk::{matching_at, step};

@@ -1,6 +1,8 @@
 ghost use Rattle.pat_tree.specs.declared.options.PartialMode.TheVariants.{Off};
 ghost use Rattle.std.specs.Prelude.{◌≡◌};
 
+mod substitutions;
+
 use crate::{Code, CompileError, MatchError, fault_text};
 use frame_machine::Scratch;
 use frame_store::Span;

@@ -1,6 +1,5 @@
 -- What a replacement takes from a match (pcre2api, "Creating a new string with substitutions").
-use Rattle.std.specs.List.{list_all}
-use Rattle.std.specs.Prelude.{ℕ, Bool, nat_lt, length, List, [], ◌∷◌, Option, Some, None, slice_get, bytes_eq, if◌then◌else◌}
+use Rattle.std.specs.Prelude.{ℕ, List, [], ◌∷◌, Option, Some, None, slice_get, bytes_eq, if◌then◌else◌}
 
 -- The texts of the groups by number from 0, of which some are unset; names with the numbers of
 -- groups; the last name on the match's path.
@@ -8,10 +7,6 @@ pub record Matched : Type 0 where
   pub texts : List (Option (List ℕ))
   pub names : List (List ℕ × ℕ)
   pub mark : List ℕ
-
--- each name is one of a group
-abbrev pub names_are_of_groups : Matched → Bool
-names_are_of_groups m = list_all (λ pair. nat_lt pair.1 (length m.texts)) m.names
 
 -- what there is of a group
 pub data Found : Type 0 where

@@ -1,6 +1,6 @@
 //! What a match hands to a replacement.
-ghost use Rattle.std.specs.Prelude.{◌≡◌, true};
-ghost use Rattle.subst_plan.specs.Matched.{Matched, numbered, named, names_are_of_groups};
+ghost use Rattle.std.specs.Prelude.{◌≡◌};
+ghost use Rattle.subst_plan.specs.Matched.{Matched, numbered, named};
 ghost use Rattle.subst_plan.specs.Lookups.{seen};
 
 /// What there is of a group.
@@ -31,7 +31,4 @@ pub trait Groups {
     /// where there is none.
     fn mark(&self) -> &[u8]
         ensures { result.now ≡ (means self.now).mark };
-
-    /// Each name is one of a group.
-    ghost of_groups: { (g : Self) → names_are_of_groups (means g) ≡ true };
 }

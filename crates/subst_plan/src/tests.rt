@@ -1,6 +1,6 @@
 //! Replacements, with what they write or why they are refused. The rows are those of
 //! pcre2_substitute of 10.42.
-ghost use Rattle.std.specs.Prelude.{◌≡◌, ◌∷◌, [], Some, None, codes, refl};
+ghost use Rattle.std.specs.Prelude.{◌≡◌, ◌∷◌, [], Some, None, codes};
 
 use super::{ExpandError, Groups, Lookup, Plan, PlanError, expand, expand_into};
 use std::alloc::Global;
@@ -26,8 +26,6 @@ impl Groups for Sample {
       names = (codes "both", 3) ∷ (codes "both", 4) ∷ (codes "one", 1) ∷ (codes "two", 2) ∷ [];
       mark = codes "Tag";
     } };
-
-    ghost of_groups = { λ _. refl };
 
     fn by_number(&self, n: u32) -> Lookup<'_> {
         match n {
@@ -326,21 +324,63 @@ fn fault_of(first: u8, second: u8, extended: bool) -> Option<PlanError> {
     }
 }
 
-/// Bytes of each kind.
-const SECOND: &[u8] = b"$\\{}:-+*_ .aAbBcdeEfklLnNoQrtuUxzZ019\x00\x7f\x80\xff";
+#[test]
+fn reads_or_refuses_each_replacement_of_one_byte(rt: HostRuntime) {
+    for byte in 0..=255u8 {
+        for extended in [false, true] {
+            let fault = match byte {
+                b'$' => Some(PlanError::BadReplacement),
+                b'\\' if extended => Some(PlanError::BadEscape),
+                _ => None,
+            };
+            let text = [byte];
+            let told = Plan::read(rt.alloc(), text.as_slice(), extended, false).err();
+            assert!(rt; told == fault, "{byte} {extended}");
+        }
+    }
+}
 
 #[test]
-fn reads_or_refuses_each_replacement_of_two_bytes(rt: HostRuntime) -> Result<(), Fail> {
+fn reads_or_refuses_each_replacement_of_two_bytes(rt: HostRuntime) {
     for first in 0..=255u8 {
-        for second in SECOND {
+        for second in 0..=255u8 {
             for extended in [false, true] {
-                let text = [first, *second];
+                let text = [first, second];
                 let fault = Plan::read(rt.alloc(), text.as_slice(), extended, false).err();
                 assert!(rt;
-                    fault == fault_of(first, *second, extended),
+                    fault == fault_of(first, second, extended),
                     "{first} {second} {extended}"
                 );
             }
+        }
+    }
+}
+
+/// Bytes of each kind.
+const KINDS: &[u8] = b"$$$$\\\\\\\\{{{}}}}::--++*_ .aAbBcdeEfklLnNoQrtuUxzZ019\x00\x7f\x80\xff";
+
+/// The number after another in a row that looks random.
+fn after(x: u32) -> u32 {
+    x.wrapping_mul(1_664_525).wrapping_add(1_013_904_223)
+}
+
+#[test]
+fn reads_or_refuses_random_replacements(rt: HostRuntime) -> Result<(), Fail> {
+    let alloc = rt.alloc();
+    let mut x = 1;
+    for _ in 0..10_000 {
+        let mut text = Vec::new(alloc);
+        x = after(x);
+        for _ in 0..x / 134_217_728 {
+            x = after(x);
+            let place = (x / 67_108_864) as usize;
+            text.push(KINDS.get(place).copied().unwrap_or(b'1'))?;
+        }
+        let read = Plan::read(alloc, text.as_slice(), true, false);
+        assert!(rt; read.as_ref().err() != Some(&PlanError::Memory));
+        if let Ok(plan) = read {
+            let written = expand(alloc, &plan, &Sample, true, true);
+            assert!(rt; written.is_ok());
         }
     }
     Ok(())

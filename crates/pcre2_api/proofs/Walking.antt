@@ -1,0 +1,94 @@
+-- What a search answers, by what the library's call says.
+use Rattle.std.proofs.Common.{◌≡◌, ◌∙◌, ℕ, ◌++◌, ◌<◌, ◌≤◌, List, [], length, pos, Option, Result, Ok, Err, IfOk, IfErr, OnOk, refl, sym, ap, subst, if◌then◌else◌, append-nil}
+use Rattle.std.proofs.lemmas.Bool.{lt-ltb, le-ltb}
+use Rattle.pat_tree.specs.declared.options.MatchOptions.{MatchOptions}
+use Rattle.pat_tree.specs.Pattern.{pattern_of}
+use Rattle.ordered_search.specs.Setting.{Setting}
+use Rattle.ordered_search.specs.PlaceAnswer.{Outcome}
+use Rattle.ordered_search.specs.MatchAnswer.{match_answer}
+use Rattle.pcre2_api.specs.Compiled.{CodeParts}
+use Rattle.pcre2_api.specs.Matched.{MatchParts, search_of, IsFound, IsMatchError}
+use Rattle.pcre2_api.specs.declared.error.MatchError.{MatchError}
+use Rattle.pcre2_api.specs.declared.error.MatchError.TheVariants as told
+use Rattle.pcre2_api.specs.declared.substitute.Search.{Search}
+use Rattle.pcre2_api.specs.declared.substitute.Search.TheVariants as search
+use Rattle.pcre2_api.specs.declared.subst_error.SubstError.{SubstError}
+use Rattle.pcre2_api.specs.Walks.{Answer, found, none, failed, answer_of, answer_at}
+use Rattle.pcre2_api.specs.Substituted.{Work, added_by, search_refusal, IsAdded, IsSearch, Tells, TellsMatch, Refuses}
+
+-- what an error of a search says that it answers
+abbrev pub Says : MatchError → Answer → Type 0
+Says (told.NoMatch mark) a = a ≡ none
+Says told.Memory a = Unit {0}
+Says e a = a ≡ failed e
+
+module _ (code : CodeParts) (matching : MatchOptions) (subject : List ℕ) (start : ℕ) where
+  abbrev searching : Setting
+  searching = search_of code matching subject start (λ _. pos 0)
+
+  abbrev asked : Answer
+  asked = answer_of (match_answer searching).answer
+
+  abbrev here : Answer
+  here = answer_at (pattern_of code.tree) matching subject start
+
+  within : start ≤ length subject → here ≡ asked
+  unfolding answer_at
+  within h = ap (λ t. if t then failed told.BadOffset else asked) (le-ltb (length subject) start h)
+
+  past : length subject < start → here ≡ failed told.BadOffset
+  unfolding answer_at
+  past h = ap (λ t. if t then failed told.BadOffset else asked) (lt-ltb (length subject) start h)
+
+  pub answer-found : (f : MatchParts) → IsFound searching f → here ≡ found f.outcome
+  answer-found f is = within is.begun ∙ ap answer_of is.answer
+
+  pub answer-error : (e : MatchError) → IsMatchError searching e → Says e here
+  answer-error told.BadOffset is = past is
+  answer-error (told.BadUtf at) is = absurd is
+  answer-error told.BadUtfOffset is = absurd is
+  answer-error (told.NoMatch mark) is = within is.0 ∙ ap answer_of is.1
+  answer-error (told.Partial from to mark) is = absurd is
+  answer-error told.MatchLimit is = within is.0 ∙ ap answer_of is.1
+  answer-error told.FrameLimit is = within is.0 ∙ ap answer_of is.1
+  answer-error told.RecurseLoop is = absurd is
+  answer-error (told.Callout n) is = absurd is
+  answer-error told.Memory is = tt
+
+-- What is told of an error, after which nothing is added.
+pub record IsTold (w : Work) (from : ℕ) (old : List ℕ) (a : Answer) (result : Result Search SubstError) : Type 0 where
+  pub comes : IfOk result (λ s. IsSearch (length w.subject) s a)
+  pub added : OnOk result (IsAdded old old (added_by w from a))
+  pub refused : IfErr result (Refuses (added_by w from a))
+
+module _ (w : Work) (from : ℕ) (old : List ℕ) (a : Answer) (result : Result Search SubstError) where
+  nothing : a ≡ none → result ≡ Ok search.Nothing → IsTold w from old a result
+  nothing is same =
+      subst (λ b. IsTold w from old b result) (sym is)
+      (subst (IsTold w from old none) (sym same) (record { comes = tt; added = sym (append-nil old); refused = tt }))
+
+  fails : (e : MatchError) → a ≡ failed e → result ≡ Err (search_refusal e) → (let r : Result (List ℕ) SubstError = Err (search_refusal e) in Refuses r (search_refusal e)) → IsTold w from old a result
+  fails e is same refuses =
+      subst (λ b. IsTold w from old b result) (sym is)
+      (subst (IsTold w from old (failed e)) (sym same) (record { comes = tt; added = tt; refused = refuses }))
+
+  memory : result ≡ Err (search_refusal told.Memory) → IsTold w from old a result
+  memory same = subst (IsTold w from old a) (sym same) (record { comes = tt; added = tt; refused = tt })
+
+  pub told-as : (e : MatchError) → Says e a → Tells e result → IsTold w from old a result
+  told-as told.BadOffset is same = fails told.BadOffset is same refl
+  told-as (told.BadUtf at) is same = fails (told.BadUtf at) is same refl
+  told-as told.BadUtfOffset is same = fails told.BadUtfOffset is same refl
+  told-as (told.NoMatch mark) is same = nothing is same
+  told-as (told.Partial p q mark) is same = fails (told.Partial p q mark) is same tt
+  told-as told.MatchLimit is same = fails told.MatchLimit is same refl
+  told-as told.FrameLimit is same = fails told.FrameLimit is same refl
+  told-as told.RecurseLoop is same = fails told.RecurseLoop is same refl
+  told-as (told.Callout n) is same = fails (told.Callout n) is same tt
+  told-as told.Memory is same = memory same
+
+-- What is told of a match says what the search answers.
+pub told-match : (len : ℕ) (a : Answer) (o : Outcome) (s : Search) → a ≡ found o → TellsMatch s o → o.to ≤ len → IsSearch len s a
+told-match len a o (search.Replaced to is_empty) is h within =
+    subst (IsSearch len (search.Replaced to is_empty)) (sym is) (h.0, h.1, within)
+told-match len a o search.Nothing is h within = absurd h
