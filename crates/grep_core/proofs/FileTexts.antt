@@ -1,7 +1,8 @@
 -- What is written of an input, piece by piece, to the output and to the messages.
-use Rattle.std.proofs.Common.{◌≡◌, ◌≢◌, ℕ, ◌+◌, Bool, true, false, ◌&&◌, not, ◌||◌, List, [], ◌++◌, length, take, flat_map, Option, Result, Ok, Err, IsErrOf, refl, sym, ap, subst, ◌∙◌, arith, inl, inr, ◌⊎◌, append-nil, nat_eq, codes}
+use Rattle.std.proofs.Common.{◌≡◌, ◌≢◌, ℕ, ◌+◌, Bool, true, false, ◌&&◌, not, ◌||◌, List, [], ◌++◌, length, take, flat_map, Option, Result, Ok, Err, refl, sym, ap, subst, ◌∙◌, arith, inl, inr, ◌⊎◌, append-nil, nat_eq, codes}
 use Rattle.std.specs.List.{list_any}
 use Rattle.pcre_io.specs.Told.{Told, Kept, AppendsPrefix}
+use Rattle.pcre_io.specs.Causes.{CountsRefusals}
 use Rattle.pcre_io.specs.declared.traits.IoError.{IoError}
 use Rattle.pcre_io.specs.declared.traits.IoError.TheVariants as io
 use Rattle.line_feed.specs.Rows.{Input, Rows, At, End}
@@ -42,7 +43,7 @@ use Rattle.grep_core.specs.OneInput.{IsNew, is_skipped, WritesBoth, CountsPart, 
 use Rattle.tool_out.proofs.Writing.{prefix-front, prefix-more}
 use Rattle.tool_out.specs.Printed.{Printed, printed}
 use Rattle.tool_out.proofs.Printing as printing
-use Rattle.tool_out.proofs.Printing.{prefix-none, wrote-none, wrote-more, wrote-breaks, wrote-err}
+use Rattle.tool_out.proofs.Printing.{IsToldBy, prefix-none, wrote-none, wrote-more, wrote-breaks, wrote-err}
 
 plus_zero : (n : ℕ) → n ≡ n + 0
 plus_zero n = omega arith
@@ -58,16 +59,16 @@ memory-fault e = cc
 pub breaks-none : (out_text err_text : List ℕ) (out err : Kept) (stop : Stop) → stop ≡ Memory → Breaks out_text err_text (printed out err) (printed out err) (stop ≡ SinkFault)
 breaks-none out_text err_text out err stop is = printing.breaks-none out_text err_text (printed out err) (stop ≡ SinkFault) (λ other. memory-fault (sym is ∙ other))
 
-failed-of : (fault : IoError) → stop_of fault ≡ SinkFault → IsErrOf {T = Unit {0}} (Err fault) io.Failed
-failed-of io.Failed is = refl
-failed-of io.Memory is = absurd cc
+told-by : (fault : IoError) → IsToldBy fault (stop_of fault ≡ SinkFault)
+told-by io.Failed = (λ is. refl, λ other. absurd (other refl))
+told-by io.Memory = (λ is. absurd cc, λ other. refl)
 
 -- a text to the output, or to the messages, was refused
 pub breaks-out : (text err_text : List ℕ) (old new err : Kept) (fault : IoError) → Writes {T = Unit {0}} text old new (Err fault) → Breaks text err_text (printed old err) (printed new err) (stop_of fault ≡ SinkFault)
-breaks-out text err_text old new err fault w = printing.breaks-out text err_text old new err fault (stop_of fault ≡ SinkFault) (failed-of fault) w
+breaks-out text err_text old new err fault w = printing.breaks-out text err_text old new err fault (stop_of fault ≡ SinkFault) (told-by fault) w
 
 pub breaks-err : (out_text text : List ℕ) (out old new : Kept) (fault : IoError) → Writes {T = Unit {0}} text old new (Err fault) → Breaks out_text text (printed out old) (printed out new) (stop_of fault ≡ SinkFault)
-breaks-err out_text text out old new fault w = printing.breaks-err out_text text out old new fault (stop_of fault ≡ SinkFault) (failed-of fault) w
+breaks-err out_text text out old new fault w = printing.breaks-err out_text text out old new fault (stop_of fault ≡ SinkFault) (told-by fault) w
 
 -- what stood so for a feed that gave nothing stands for an input that is treated so
 pub record Treated (plan : GrepPlan) (before after : Told) (treated : Treatment) : Type 0 where
@@ -209,7 +210,7 @@ treats-none plan t f new is = record {
 -- texts after those of a scan
 pub both-all : {out_old out_mid err_old err_new : Kept} (out_text err_text : List ℕ) (u v : Unit {0}) → Writes out_text out_old out_mid (Ok u) → Writes err_text err_old err_new (Ok v)
     → Wrote out_text err_text (printed out_old err_old) (printed out_mid err_new)
-both-all out_text err_text u v out err = record { out = out.all; err = err.all; out_later = out.cause.later; err_later = err.cause.later }
+both-all out_text err_text u v out err = record { out = out.all; err = err.all; steady = (out.cause, err.cause) }
 
 pub both-refused : {out_old out_mid err_old err_new : Kept} (out_text err_text : List ℕ) (u : Unit {0}) (fault : IoError) (result : Result (Unit {0}) IoError) → result ≡ Err fault → Writes out_text out_old out_mid (Ok u)
     → Writes {T = Unit {0}} err_text err_old err_new (Err fault) → WritesBoth out_text err_text (printed out_old err_old) (printed out_mid err_new) result
@@ -218,7 +219,8 @@ both-refused {out_old} {out_mid} {err_old} {err_new} out_text err_text u fault r
     (record {
       out = subst (AppendsPrefix out_old.held out_mid.held) (append-nil out_text) (prefix-more out_old.held out_mid.held out_mid.held out_text [] out.all (prefix-none out_mid.held []));
       err = err.part;
-      cause = λ failed. inr (err.cause.failed (failed-of fault failed));
+      cause = λ failed. inr (subst (λ e. CountsRefusals {T = Unit {0}} err_old.faults err_new.faults (Err e)) ((told-by fault).0 failed) err.cause);
+      steady = λ other. (out.cause, subst (λ e. CountsRefusals {T = Unit {0}} err_old.faults err_new.faults (Err e)) ((told-by fault).1 other) err.cause);
     })
 
 pub some-most : (is_told : Bool) (md : Mode) (most : Option ℕ) → AtLeastOne most → AtLeastOne (most_selected is_told md most)
@@ -374,8 +376,8 @@ module _ {plan : GrepPlan} {patterns : List Pattern} {name : List ℕ} {s : Stat
   longer found too_many_errors part = part
 
   cut-off : (found : Scan) (stop : Stop) → stop ≢ TooManyErrors → ScansSo plan name (show_in (is_told plan treated) (mode plan)) s found s_new old mid (Err stop) → tells_so treated (text_of found) found mid (Err stop)
-  cut-off found SinkFault other b = (record { out = longer found found.ended b.0.out; err = prefix-front _ _ _ _ b.0.err; cause = b.0.cause }, inr b.1)
-  cut-off found Memory other b = (record { out = longer found found.ended b.0.out; err = prefix-front _ _ _ _ b.0.err; cause = b.0.cause }, inr b.1)
+  cut-off found SinkFault other b = (record { out = longer found found.ended b.0.out; err = prefix-front _ _ _ _ b.0.err; cause = b.0.cause; steady = b.0.steady }, inr b.1)
+  cut-off found Memory other b = (record { out = longer found found.ended b.0.out; err = prefix-front _ _ _ _ b.0.err; cause = b.0.cause; steady = b.0.steady }, inr b.1)
   cut-off found TooManyErrors other b = absurd (other refl)
 
   pub greps-cut : (stop : Stop) → met ≡ Err stop → stop ≢ TooManyErrors → GrepsInput plan patterns name before after s s_new old mid (Err stop)

@@ -31,8 +31,8 @@ use Rattle.tool_out.proofs.Printing.{prefix-of, prefix-none}
 
 -- a refused write
 pub halts-of : {T : Type 0} (text : List ℕ) (old new : Kept) (e : IoError) → Writes {T = T} text old new (Err e) → Halts text old new (stop_of e)
-halts-of text old new io.Failed w = (w.part, w.cause.failed refl)
-halts-of text old new io.Memory w = w.part
+halts-of text old new io.Failed w = (w.part, w.cause)
+halts-of text old new io.Memory w = (w.part, w.cause)
 
 -- a line that is context
 pub context-text : (plan : GrepPlan) (name : List ℕ) (shows : Show) (c : Course) (t : Tried) (row : Row) → shows ≡ show.Lines → t.row ≡ row → row.number ≤ c.context_to
@@ -78,7 +78,7 @@ takes-last plan name shows most c s t e out err_old err_new is few many said = r
   error = error-of t e is;
   errors = omega (arith, few, many);
   state = error-state plan shows s t e is;
-  wrote = record { out = Appends-nil out.held; err = said.all; out_later = omega arith; err_later = said.later };
+  wrote = record { out = Appends-nil out.held; err = said.all; steady = (refl, said.steady) };
 }
 
 not_last : (s : State) (t : Tried) → s.errors + 1 < 21 → is_last s t ≡ false
@@ -99,16 +99,16 @@ error-halts plan name shows c s t e out_old out_new err_old err_new stop is few 
   where
     by_stop : (stop : Stop) → Halts (passed_out plan name shows (course_of c) t) out_old out_new stop
         → Breaks (passed_out plan name shows (course_of c) t) (error_message name t) (printed out_old err_old) (printed out_new err_new) (stop ≡ SinkFault)
-    by_stop SinkFault h = record { out = h.0; err = prefix-of err_old.held err_new.held (error_message name t) said.all; cause = λ _. inl h.1 }
-    by_stop Memory h = record { out = h; err = prefix-of err_old.held err_new.held (error_message name t) said.all; cause = λ is. absurd (cc) }
+    by_stop SinkFault h = record { out = h.0; err = prefix-of err_old.held err_new.held (error_message name t) said.all; cause = λ _. inl h.1; steady = λ other. absurd (other refl) }
+    by_stop Memory h = record { out = h.0; err = prefix-of err_old.held err_new.held (error_message name t) said.all; cause = λ is. absurd (cc); steady = λ _. (h.1, said.steady) }
     by_stop TooManyErrors h = absurd h
 
 -- where a part of its message was written
 pub error-unsaid : (plan : GrepPlan) (name : List ℕ) (shows : Show) (c : Course) (s : State) (t : Tried) (out err_old err_new : Kept) (e : IoError)
     → Writes {T = Unit {0}} (error_message name t) err_old err_new (Err e)
     → Breaks (if is_last s t then [] else row_out plan name shows s.has_shown (course_of c) t) (error_message name t) (printed out err_old) (printed out err_new) ((stop_of e) ≡ SinkFault)
-error-unsaid plan name shows c s t out err_old err_new io.Failed w = record { out = prefix-none out.held _; err = w.part; cause = λ _. inr (w.cause.failed refl) }
-error-unsaid plan name shows c s t out err_old err_new io.Memory w = record { out = prefix-none out.held _; err = w.part; cause = λ is. absurd (cc) }
+error-unsaid plan name shows c s t out err_old err_new io.Failed w = record { out = prefix-none out.held _; err = w.part; cause = λ _. inr w.cause; steady = λ other. absurd (other refl) }
+error-unsaid plan name shows c s t out err_old err_new io.Memory w = record { out = prefix-none out.held _; err = w.part; cause = λ is. absurd (cc); steady = λ _. (refl, w.cause) }
 
 -- a line with a match error was scanned whole
 pub error-takes : (plan : GrepPlan) (name : List ℕ) (shows : Show) (most : Option ℕ) (c c_new : Course) (s : State) (t : Tried) (e : ℤ) (out_old out_new err_old err_new : Kept) → t.matches ≡ Err e → s.errors + 1 < 21
@@ -118,8 +118,7 @@ error-takes plan name shows most c c_new s t e out_old out_new err_old err_new i
   wrote = record {
     out = subst (Appends out_old.held out_new.held) (error-passed plan name shows s.has_shown c t e is) passes.wrote.all;
     err = said.all;
-    out_later = passes.wrote.later;
-    err_later = said.later;
+    steady = (passes.wrote.steady, said.steady);
   };
   stands = passes.stands ∙ error-after plan shows c t e is;
   limit = passes.limit;

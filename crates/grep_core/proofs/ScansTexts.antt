@@ -1,5 +1,5 @@
 -- Texts of a scan that are written one after another.
-use Rattle.std.proofs.Common.{◌≡◌, ℕ, ◌≤◌, Bool, List, [], ◌++◌, sym, ap, subst, ◌∙◌, inl, arith}
+use Rattle.std.proofs.Common.{◌≡◌, ℕ, Bool, List, [], ◌++◌, refl, sym, ap, subst, ◌∙◌, inl}
 use Rattle.std.specs.Prelude.{flat_map}
 use Rattle.std.proofs.lemmas.List.Concat.{flat_map-append}
 use Rattle.std.proofs.KnownBytes.{Appends-nil, Appends-trans}
@@ -21,9 +21,6 @@ use Rattle.tool_out.proofs.Printing.{prefix-of, wrote-breaks}
 use Rattle.grep_core.proofs.Extends.{TextsBegin}
 use Rattle.tool_out.specs.Printed.{printed}
 
-pub rose-later : (a b c : ℕ) → a ≤ b → Rose b c → Rose a c
-rose-later a b c le rose = omega arith
-
 module _ (a b c d : List ℕ) (out0 out out1 err0 err err1 : Kept) (wrote : Wrote a b (printed out0 err0) (printed out err)) where
   pub breaks-more : (stop : Stop) → Breaks c d (printed out err) (printed out1 err1) (stop ≡ SinkFault) → Breaks (a ++ c) (b ++ d) (printed out0 err0) (printed out1 err1) (stop ≡ SinkFault)
   breaks-more stop breaks = wrote-breaks a b c d wrote (stop ≡ SinkFault) breaks
@@ -34,20 +31,21 @@ module _ (a b c : List ℕ) (out0 out out1 err0 err : Kept) (wrote : Wrote a b (
   wrote-out more = record {
     out = Appends-trans out0.held out.held out1.held a c wrote.out more.all;
     err = wrote.err;
-    out_later = omega (arith, wrote.out_later, more.later);
-    err_later = wrote.err_later;
+    steady = (more.steady ∙ wrote.steady.0, wrote.steady.1);
   }
 
   pub breaks-out : (stop : Stop) → Halts c out out1 stop → Breaks (a ++ c) b (printed out0 err0) (printed out1 err) (stop ≡ SinkFault)
   breaks-out SinkFault halts = record {
     out = prefix-more out0.held out.held out1.held a c wrote.out halts.0;
     err = prefix-of err0.held err.held b wrote.err;
-    cause = λ is. inl (rose-later out0.faults out.faults out1.faults wrote.out_later halts.1);
+    cause = λ _. inl (subst (λ n. Rose n out1.faults) wrote.steady.0 halts.1);
+    steady = λ other. absurd (other refl);
   }
   breaks-out Memory halts = record {
-    out = prefix-more out0.held out.held out1.held a c wrote.out halts;
+    out = prefix-more out0.held out.held out1.held a c wrote.out halts.0;
     err = prefix-of err0.held err.held b wrote.err;
     cause = λ is. (absurd (cc));
+    steady = λ _. (halts.1 ∙ wrote.steady.0, wrote.steady.1);
   }
   breaks-out TooManyErrors halts = absurd halts
 
@@ -56,6 +54,7 @@ breaks-memory a b out0 out err0 err wrote = record {
   out = prefix-of out0.held out.held a wrote.out;
   err = prefix-of err0.held err.held b wrote.err;
   cause = λ is. (absurd (cc));
+  steady = λ _. wrote.steady;
 }
 
 pub breaks-ext : (plan : GrepPlan) (name : List ℕ) (shows : Show) (hs : Bool) (s : Scan) (a : List ℕ) (us : List Tried) (out0 out err0 err : Kept) (stop : Stop) → TextsBegin plan name shows hs s a us
@@ -65,18 +64,19 @@ breaks-ext plan name shows hs s a us out0 out err0 err stop ext breaks =
       out = subst (λ l. AppendsPrefix out0.held out.held l) (sym ext.out_is) (prefix-front out0.held out.held a ext.rest_out breaks.out);
       err = subst (λ l. AppendsPrefix err0.held err.held l) (sym said) (prefix-front err0.held err.held (flat_map (error_message name) us) (flat_map (error_message name) ext.rest) breaks.err);
       cause = breaks.cause;
+      steady = breaks.steady;
     }
 
 pub writes-none : (out : Kept) → WritesAll [] out out
-writes-none out = record { all = Appends-nil out.held; later = omega arith }
+writes-none out = record { all = Appends-nil out.held; steady = refl }
 
 pub writes-more : (a b : List ℕ) (out0 out out1 : Kept) → WritesAll a out0 out → WritesAll b out out1 → WritesAll (a ++ b) out0 out1
-writes-more a b out0 out out1 w more = record { all = Appends-trans out0.held out.held out1.held a b w.all more.all; later = omega (arith, w.later, more.later) }
+writes-more a b out0 out out1 w more = record { all = Appends-trans out0.held out.held out1.held a b w.all more.all; steady = more.steady ∙ w.steady }
 
 pub halts-more : (a b : List ℕ) (out0 out out1 : Kept) (stop : Stop) → WritesAll a out0 out → Halts b out out1 stop → Halts (a ++ b) out0 out1 stop
-halts-more a b out0 out out1 SinkFault w halts = (prefix-more out0.held out.held out1.held a b w.all halts.0, rose-later out0.faults out.faults out1.faults w.later halts.1)
-halts-more a b out0 out out1 Memory w halts = prefix-more out0.held out.held out1.held a b w.all halts
+halts-more a b out0 out out1 SinkFault w halts = (prefix-more out0.held out.held out1.held a b w.all halts.0, subst (λ n. Rose n out1.faults) w.steady halts.1)
+halts-more a b out0 out out1 Memory w halts = (prefix-more out0.held out.held out1.held a b w.all halts.0, halts.1 ∙ w.steady)
 halts-more a b out0 out out1 TooManyErrors w halts = halts
 
 pub halts-memory : (a : List ℕ) (out0 out : Kept) → WritesAll a out0 out → Halts a out0 out Memory
-halts-memory a out0 out w = prefix-of out0.held out.held a w.all
+halts-memory a out0 out w = (prefix-of out0.held out.held a w.all, w.steady)

@@ -65,7 +65,7 @@ or-false true = refl
 or-false false = refl
 
 written-out : {text : List ℕ} {old new : Kept} (u : Unit {0}) → Writes text old new (Ok u) → WritesAll text old new
-written-out u w = record { all = w.all; later = w.cause.later }
+written-out u w = record { all = w.all; steady = w.cause }
 
 module _ (plan : GrepPlan) (name : List ℕ) (most : Option ℕ) (t : Tried) (c : Course) (s : State) (c_new : Course) (s_new : State) (old new : Kept) (next : Next) (u : Unit {0}) where
   -- where lines are shown

@@ -67,12 +67,12 @@ module _ (plan : GrepPlan) (name : List ℕ) (shows : Show) (most : Option ℕ) 
       → TakesLine plan name shows most t c s c_new s_new (printed out_old err) (printed out_new err) (Err stop)
   line-refused c c_new s s_new text out_old out_new err SinkFault same halts count left = (
     subst (λ l. Breaks l (error_message name t) (printed out_old err) (printed out_new err) (SinkFault ≡ SinkFault)) (same ∙ shown s c)
-        (record { out = halts.0; err = prefix-none err.held (error_message name t); cause = λ _. inl halts.1 }),
+        (record { out = halts.0; err = prefix-none err.held (error_message name t); cause = λ _. inl halts.1; steady = λ other. absurd (other refl) }),
     (count, inl left),
   )
   line-refused c c_new s s_new text out_old out_new err Memory same halts count left = (
     subst (λ l. Breaks l (error_message name t) (printed out_old err) (printed out_new err) (Memory ≡ SinkFault)) (same ∙ shown s c)
-        (record { out = halts; err = prefix-none err.held (error_message name t); cause = λ is. absurd (cc) }),
+        (record { out = halts.0; err = prefix-none err.held (error_message name t); cause = λ is. absurd (cc); steady = λ _. (halts.1, refl) }),
     (count, inl left),
   )
   line-refused c c_new s s_new text out_old out_new err TooManyErrors same halts count left = absurd halts
@@ -95,8 +95,7 @@ module _ (plan : GrepPlan) (name : List ℕ) (shows : Show) (most : Option ℕ) 
     wrote = record {
       out = subst (Appends out_old.held out_new.held) (sym (cond-true (is_selected plan t) _ _ yes_selected)) sel.wrote.all;
       err = subst (Appends err.held err.held) (sym unsaid) (Appends-nil err.held);
-      out_later = sel.wrote.later;
-      err_later = omega arith;
+      steady = (sel.wrote.steady, refl);
     };
     stands = sel.stands ∙ sym (cond-true (is_selected plan t) _ _ yes_selected);
     limit = sel.limit;
@@ -114,8 +113,7 @@ module _ (plan : GrepPlan) (name : List ℕ) (shows : Show) (most : Option ℕ) 
     wrote = record {
       out = subst (Appends out_old.held out_new.held) (sym (cond-false (is_selected plan t) _ _ not_selected)) passes.wrote.all;
       err = subst (Appends err.held err.held) (sym unsaid) (Appends-nil err.held);
-      out_later = passes.wrote.later;
-      err_later = omega arith;
+      steady = (passes.wrote.steady, refl);
     };
     stands = passes.stands ∙ sym (cond-false (is_selected plan t) _ _ not_selected);
     limit = passes.limit;

@@ -1,16 +1,11 @@
 -- What was gathered is sent on before a read that may wait: the output holds what it held.
-use Rattle.std.specs.Prelude.{[], ◌≡◌, Result, Ok, Err}
+use Rattle.std.specs.Prelude.{[], Result, Ok, Err}
 use Rattle.pcre_io.specs.Told.{Kept}
 use Rattle.tool_out.specs.Writes.{WritesAll}
 use Rattle.grep_core.specs.declared.ended.Stop.{Stop}
 use Rattle.grep_core.specs.Turns.{Halts}
 
--- nothing was written, and no fault was counted
-pub record Sent (old new : Kept) : Type 0 where
-  pub wrote : WritesAll [] old new
-  pub steady : new.faults ≡ old.faults
-
--- where it is refused, a sink counted a fault
+-- nothing was written; where that is refused, a sink counted a fault
 abbrev pub SendsOn : Kept → Kept → Result (Unit {0}) Stop → Type 0
-SendsOn old new (Ok _) = Sent old new
+SendsOn old new (Ok _) = WritesAll [] old new
 SendsOn old new (Err stop) = Halts [] old new stop

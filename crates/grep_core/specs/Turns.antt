@@ -38,10 +38,11 @@ abbrev pub is_full : Option ℕ → ℕ → Bool
 is_full None selected = false
 is_full (Some most) selected = nat_le most selected
 
--- a part of a text was written, and there is a cause for it; no error of a match stops this
+-- a part of a text was written: it was refused and that was counted, or memory lacked; no error of a match stops this
 abbrev pub Halts : List ℕ → Kept → Kept → Stop → Type 0
 Halts text old new SinkFault = AppendsPrefix old.held new.held text × Rose old.faults new.faults
-Halts text old new Memory = AppendsPrefix old.held new.held text
+Halts text old new Memory =
+    AppendsPrefix old.held new.held text × (new.faults ≡ old.faults)
 Halts text old new TooManyErrors = ⊥
 
 module _ (plan : GrepPlan) (name : List ℕ) (show : Show) where

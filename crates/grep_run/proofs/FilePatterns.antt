@@ -131,7 +131,7 @@ module _ (max : ℕ) (before now after : Told) (f g : Feed) (old mid : List (Lis
 pub adds-lacks : (texts : FileTexts) (old new : List (List ℕ)) (err_old err_new : Kept) (stop : Stop) → stop ≡ Memory → err_new ≡ err_old → AddsTo texts old new err_old err_new (Err stop)
 adds-lacks (Ok more) old new err_old err_new stop is same = (is, same)
 adds-lacks (Err text) old new err_old err_new stop is same =
-    subst (Halts text err_old err_new) (sym is) (subst (λ e. Halts text err_old e Memory) (sym same) (prefix-none err_old.held text))
+    subst (Halts text err_old err_new) (sym is) (subst (λ e. Halts text err_old e Memory) (sym same) (prefix-none err_old.held text, refl))
 
 -- The lines of a source end before its end, which a message tells.
 

@@ -5,5 +5,6 @@ pub mod FilePatterns
 pub mod Reporting
 pub mod Saying
 pub mod Summing
+pub mod SoundInputs
 pub mod TextLaws
 pub mod RowProofs

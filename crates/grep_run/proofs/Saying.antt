@@ -1,12 +1,12 @@
 -- What is said in place of a search, and what a run comes to.
-use Rattle.std.proofs.Common.{◌≡◌, ℕ, ◌<◌, ◌≤◌, Bool, true, false, if◌then◌else◌, List, [], ◌∷◌, ◌++◌, codes, decimal, length, take, drop, map, get_or, Option, Some, None, Result, Ok, Err, refl, sym, ap, subst, ◌∙◌, arith, append_assoc, append-nil}
+use Rattle.std.proofs.Common.{◌≡◌, ℕ, ◌<◌, ◌≤◌, Bool, true, false, if◌then◌else◌, List, [], ◌∷◌, ◌++◌, codes, decimal, length, take, drop, map, get_or, Option, Some, None, Result, Ok, Err, refl, sym, ap, subst, ◌∙◌, arith, inl, inr, append_assoc, append-nil}
 use Rattle.std.proofs.lemmas.Bool.{lt-leb}
 use Rattle.std.specs.Fmt.{signed_decimal}
 use Rattle.pcre_io.specs.Told.{Told, Kept}
 use Rattle.grep_args.specs.declared.plan.GrepPlan.{GrepPlan}
 use Rattle.grep_args.specs.declared.plan.HelpKind.{HelpKind}
 use Rattle.grep_args.specs.Words.{Reads, plan_of}
-use Rattle.grep_core.specs.declared.ended.Stop.{Stop}
+use Rattle.grep_core.specs.declared.ended.Stop.TheVariants.{SinkFault, Memory}
 use Rattle.pat_tree.specs.Pattern.{Pattern}
 use Rattle.dir_walk.specs.Filters.{Filter, BadFilter, filter_of}
 use Rattle.tool_in.specs.Asked.{Asked}
@@ -20,7 +20,7 @@ use Rattle.grep_run.specs.Reports.{Report, reports}
 use Rattle.grep_run.specs.PatternFiles.{FileTexts, texts_in_files}
 use Rattle.grep_run.specs.ToolText.{status_of, with_names, targets_of, text_by_filter, text_by_patterns, text_by_texts, text_by_help, text_of}
 use Rattle.grep_run.specs.RunsBy.{RunsBy}
-use Rattle.tool_out.specs.Printed.{printed}
+use Rattle.tool_out.specs.Printed.{Printed, printed}
 
 -- The texts of messages, as they are written piece by piece.
 
@@ -90,4 +90,11 @@ runs-whole words given status out_old out_new err_old err_new runs =
     let text = text_of words given in
     let few : status < 3 = subst (λ n. n < 3) (sym runs.1) (few-grep words given) in
     subst (λ b. Stops b (RunsSome text status (printed out_old err_old) (printed out_new err_new)) (RunsAll text status (printed out_old err_old) (printed out_new err_new))) (sym (lt-leb 3 status few))
-    (record { out = runs.0.out; err = runs.0.err; answer = runs.1 })
+    (record { out = runs.0.out; err = runs.0.err; answer = runs.1; steady = runs.0.steady })
+
+-- a run that stopped: memory lacked, or a write was refused
+pub runs-lacked : (text : RunOutcome) (old new : Printed) → RunsBy text old new (Err Memory) → Runs text 3 old new
+runs-lacked text old new runs = record { out = runs.out; err = runs.err; cause = inl (refl, runs.steady (λ is. cc)) }
+
+pub runs-refused : (text : RunOutcome) (old new : Printed) → RunsBy text old new (Err SinkFault) → Runs text 4 old new
+runs-refused text old new runs = record { out = runs.out; err = runs.err; cause = inr (refl, runs.cause refl) }

@@ -299,6 +299,7 @@ breaks-longer {out_old} {out_new} {err_old} {err_new} a b c d stop h = record {
   out = prefix-front out_old.held out_new.held a c h.out;
   err = prefix-front err_old.held err_new.held b d h.err;
   cause = h.cause;
+  steady = h.steady;
 }
 
 -- The first targets of a run.
@@ -485,8 +486,8 @@ module _ (plan : GrepPlan) (rs : List Report) where
         (wrote-breaks outs errs last [] sums.0 (stop_of fault ≡ SinkFault) (breaks-out last [] out_mid out_new err fault w))))
 
     stopped : (stop : Stop) → SumsTo plan rs (printed out_old err_old) (printed out_mid err) (Err stop) → RunsBy (outcome_of plan rs) (printed out_old err_old) (printed out_mid err) (Err stop)
-    stopped SinkFault h = record { out = prefix-front out_old.held out_mid.held outs last h.out; err = h.err; cause = h.cause }
-    stopped Memory h = record { out = prefix-front out_old.held out_mid.held outs last h.out; err = h.err; cause = h.cause }
+    stopped SinkFault h = record { out = prefix-front out_old.held out_mid.held outs last h.out; err = h.err; cause = h.cause; steady = h.steady }
+    stopped Memory h = record { out = prefix-front out_old.held out_mid.held outs last h.out; err = h.err; cause = h.cause; steady = h.steady }
     stopped TooManyErrors h = (
       subst (λ l. Wrote l errs (printed out_old err_old) (printed out_mid err)) (sym (ap (λ l. outs ++ l) (last-none h.1) ∙ append-nil outs)) h.0,
       ap (λ b. if b then 2 else if nat_lt 0 (total_of rs) then 0 else 1) (failed-broken rs h.1),

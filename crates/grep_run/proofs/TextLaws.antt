@@ -10,10 +10,12 @@ use Rattle.dir_walk.specs.declared.lists.Target.{Target}
 use Rattle.dir_walk.specs.Filters.{Filter, BadFilter}
 use Rattle.tool_in.specs.Asked.{Asked}
 use Rattle.grep_run.specs.PatternFiles.{FileTexts}
-use Rattle.grep_run.specs.ToolText.{text_by_help, text_by_texts, text_by_patterns, text_by_filter, text_of}
+use Rattle.grep_core.specs.InputText.{first_state}
+use Rattle.grep_run.specs.ToolText.{with_names, targets_of, text_by_help, text_by_texts, text_by_patterns, text_by_filter, text_of}
 use Rattle.grep_run.specs.Asks.{AsksUnless, AsksBy, asked_unless, asked_by_plan, targets_by}
 use Rattle.grep_match.specs.Compiled.{Compiled}
 use Rattle.grep_run.specs.Laws.{SoundEndWell, ToldAskForOne}
+use Rattle.grep_run.proofs.SoundInputs.{all-well}
 
 -- no input has failed
 well-status : (failed selected : Bool) → failed ≡ false → (if failed then 2 else if selected then 0 else 1) < 2
@@ -45,7 +47,7 @@ sound-well words given sound =
     (subst (λ (t : FileTexts). EndsWell (text_by_texts file_words plan inputs t)) (sym sound.readable)
     (subst (λ (c : Compiled). EndsWell (text_by_patterns file_words plan inputs c)) (sym sound.compiled)
     (subst (λ (f : Result Filter BadFilter). EndsWell (text_by_filter file_words plan inputs sound.patterns f)) (sym sound.filtered)
-    (well-status _ _ sound.whole)))))
+    (well-status _ _ (all-well (with_names file_words (targets_of inputs) plan) sound.patterns inputs first_state sound.whole (omega (arith, sound.few))))))))
 
 -- Over files that are told.
 

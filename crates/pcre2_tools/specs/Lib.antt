@@ -1,1 +1,2 @@
 pub mod ToolText
+pub mod Start

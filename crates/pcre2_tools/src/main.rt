@@ -3,6 +3,7 @@
 #![tactic(auto)]
 
 mod real;
+mod start;
 #[cfg(test)]
 mod tests;
 mod top;

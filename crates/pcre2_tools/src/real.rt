@@ -1,4 +1,5 @@
 //! The tool on the program's words, the real files and the standard streams.
+use crate::start::{tool_of, words_of};
 use crate::top::run;
 use pcre_io::{StdFiles, StdSink, StdSource};
 use std::env::{self, Env, FillError};
@@ -18,36 +19,19 @@ const NO_WRITE: u8 = 4;
 // The words can't be read: one of them isn't UTF-8.
 const BAD_WORDS: u8 = 2;
 
+// Linux starts no program by a path of more bytes.
+const LONGEST_PATH: usize = 4096;
+
 // Linux hands on no word of more bytes.
 const LONGEST_WORD: usize = 131_072;
 
-fn is_tool(name: &str) -> bool {
-    name == "pcre2grep" || name == "pcre2test"
-}
-
-// The last component of a path.
-fn last_component(path: &str) -> &str {
-    match path.rsplit_once('/') {
-        Some((_, last)) => last,
-        None => path,
+// The program's path and the words after it.
+fn arguments(rt: &HostRuntime) -> io::Result<Vec<String>> {
+    let mut args = Vec::new(rt.alloc());
+    for arg in env::args(rt)? {
+        args.push(arg)?;
     }
-}
-
-// The words for the tool. Where the program was started by a tool's name, that name is the first of them; otherwise
-// its own name is left out, and the next word names the tool.
-fn words_of(rt: &HostRuntime) -> io::Result<Vec<String>> {
-    let mut args = env::args(rt)?;
-    let mut words = Vec::new(rt.alloc());
-    if let Some(path) = args.next() {
-        let name = last_component(path.as_str());
-        if is_tool(name) {
-            words.push(String::from_str(rt.alloc(), name)?)?;
-        }
-    }
-    for word in args {
-        words.push(word)?;
-    }
-    Ok(words)
+    Ok(args)
 }
 
 // The first word after the program's name that isn't UTF-8, counted from 1.
@@ -65,16 +49,34 @@ fn first_bad_word(rt: &HostRuntime) -> Option<usize> {
     None
 }
 
+// The tool that the program's path names, or else the word after it.
+fn asked_tool(rt: &HostRuntime) -> &'static str {
+    for i in 0..2 {
+        let mut word = [0u8; LONGEST_PATH];
+        if let Ok(len) = rt.arg(i, &mut word) {
+            let tool = tool_of(str::from_utf8(&word[..len]).unwrap_or(""));
+            if !tool.is_empty() {
+                return tool;
+            }
+        }
+    }
+    "pcre2grep"
+}
+
 // Says which word isn't UTF-8.
 fn say_bad_word(rt: &HostRuntime) {
+    let tool = asked_tool(rt);
     let number = first_bad_word(rt).unwrap_or(0);
-    if let Ok(line) = format!(in rt.alloc(); "pcre2grep: word {number} is not UTF-8\n") {
+    if let Ok(line) = format!(in rt.alloc(); "{tool}: word {number} is not UTF-8\n") {
         let _ = rt.stderr().write_all(line.as_bytes());
     }
 }
 
-// Runs the tool on these words, and writes what is still gathered.
-fn run_words(rt: &HostRuntime, words: &[String]) -> u8 {
+// Runs the tool on the words that it was started with, and writes what is still gathered.
+fn run_started(rt: &HostRuntime, args: Vec<String>) -> u8 {
+    let Ok(words) = words_of(rt.alloc(), args) else {
+        return NO_MEMORY;
+    };
     let Ok(mut writer) = BufWriter::with_capacity(rt.alloc(), BUFFER, rt.stdout()) else {
         return NO_MEMORY;
     };
@@ -84,7 +86,7 @@ fn run_words(rt: &HostRuntime, words: &[String]) -> u8 {
     let mut err = StdSink::new(rt.stderr());
     let status = run(
         rt.alloc(),
-        words,
+        words.as_slice(),
         &mut files,
         &mut input,
         &mut out,
@@ -99,8 +101,8 @@ fn run_words(rt: &HostRuntime, words: &[String]) -> u8 {
 
 /// Runs the tool on the program's words, and answers the program's exit code.
 pub fn run_real(rt: &HostRuntime) -> ExitCode {
-    match words_of(rt) {
-        Ok(words) => ExitCode::from(run_words(rt, words.as_slice())),
+    match arguments(rt) {
+        Ok(args) => ExitCode::from(run_started(rt, args)),
         Err(e) if e.kind() == io::ErrorKind::OutOfMemory => ExitCode::from(NO_MEMORY),
         Err(_) => {
             say_bad_word(rt);

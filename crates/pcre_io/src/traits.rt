@@ -1,9 +1,9 @@
 //! Sources and sinks.
-ghost use Rattle.std.specs.Prelude.{◌≡◌, ◌≤◌, ◌<◌, ℕ, length, IfOk, OnOk};
+ghost use Rattle.std.specs.Prelude.{◌≡◌, ◌≤◌, ◌<◌, ℕ, length, IfOk};
 ghost use Rattle.std.specs.Io.{ReadsAtMost, WritesAtMost};
 ghost use Rattle.std.specs.Io.KnownBytes.{Keeps, ReadConsumes, WriteAppends};
 ghost use Rattle.pcre_io.specs.Told.{StopsAt, LeavesRoom, TakesPiece, Told, Kept};
-ghost use Rattle.pcre_io.specs.Causes.{CountsFaults, HasCause};
+ghost use Rattle.pcre_io.specs.Causes.{CountsFaults, CountsRefusals};
 
 /// A read failed.
 #[derive(Debug, Clone, Copy, PartialEq, Eq)]
@@ -44,15 +44,14 @@ pub trait Sink {
     ghost tells: { Self → Kept };
 
     /// Takes the first bytes of a piece, at least one of a piece that isn't empty, and says how many. A write that was
-    /// refused took nothing; one that failed counted a fault.
+    /// refused took nothing. One that failed counted a fault, and no other does.
     fn write(&mut self, bytes: &[u8]) -> Result<usize, IoError>
         ensures bound { WritesAtMost result bytes.now }
         ensures some { IfOk result (λ n. 0 < length bytes.now → 0 < n) }
         ensures bytes { WriteAppends (tells self.old).held (tells self.new).held result bytes.now }
         ensures room { LeavesRoom (tells self.old).room (tells self.new).room result (length bytes.now) }
         ensures piece { TakesPiece (tells self.old).piece (tells self.new).piece result }
-        ensures cause { HasCause (tells self.old).faults (tells self.new).faults result }
-        ensures steady { OnOk result ((tells self.new).faults ≡ (tells self.old).faults) };
+        ensures cause { CountsRefusals (tells self.old).faults (tells self.new).faults result };
 
     /// Sends on what was gathered, as before a read that may wait. What the sink holds stays. It fails only where a fault
     /// was counted.

@@ -1,8 +1,8 @@
 //! Writing a text whole.
-ghost use Rattle.std.specs.Prelude.{◌≡◌, OnErr, OnOk};
+ghost use Rattle.std.specs.Prelude.{OnErr, OnOk};
 ghost use Rattle.std.specs.Io.KnownBytes.{Appends};
 ghost use Rattle.pcre_io.specs.Told.{AppendsPrefix};
-ghost use Rattle.pcre_io.specs.Causes.{HasCause};
+ghost use Rattle.pcre_io.specs.Causes.{CountsRefusals};
 
 use crate::traits::{IoError, Sink};
 
@@ -10,8 +10,7 @@ use crate::traits::{IoError, Sink};
 pub fn write_all<O: Sink>(out: &mut O, bytes: &[u8]) -> Result<(), IoError>
     ensures all { OnOk result (Appends (O.tells out.old).held (O.tells out.new).held bytes.now) }
     ensures prefix { OnErr result (AppendsPrefix (O.tells out.old).held (O.tells out.new).held bytes.now) }
-    ensures cause { HasCause (O.tells out.old).faults (O.tells out.new).faults result }
-    ensures steady { OnOk result ((O.tells out.new).faults ≡ (O.tells out.old).faults) }
+    ensures cause { CountsRefusals (O.tells out.old).faults (O.tells out.new).faults result }
 {
     let mut at = 0;
     while at < bytes.len() {

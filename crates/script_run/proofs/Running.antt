@@ -4,7 +4,7 @@ use Rattle.std.proofs.lemmas.Bool.{lt-leb}
 use Rattle.std.proofs.KnownBytes.{Appends-nil, Appends-trans}
 use Rattle.std.specs.Io.KnownBytes.{Appends}
 use Rattle.pcre_io.specs.Told.{Told, Kept, AppendsPrefix}
-use Rattle.pcre_io.specs.Causes.{Rose}
+use Rattle.pcre_io.specs.Causes.{Rose, CountsRefusals}
 use Rattle.pcre_io.specs.Files.{Contents, opened_file, IsMissing}
 use Rattle.pcre_io.specs.declared.traits.IoError.{IoError}
 use Rattle.pcre_io.specs.declared.traits.IoError.TheVariants.{Failed, Memory}
@@ -18,29 +18,39 @@ use Rattle.tool_out.specs.Outcomes.{RunOutcome, Runs, RunsSome, RunsAll, Stops, 
 use Rattle.tool_out.specs.Outcomes as outcomes
 use Rattle.tool_out.specs.Printed.{Printed, printed}
 use Rattle.tool_out.specs.Texts.{line}
-use Rattle.tool_out.specs.Writes.{Writes}
+use Rattle.tool_out.specs.Writes.{Writes, WritesAll}
 use Rattle.tool_out.proofs.Printing.{prefix-of, prefix-none}
 use Rattle.tool_out.proofs.Writing.{prefix-more, prefix-front}
 use Rattle.test_script.specs.declared.plan.TestPlan.{TestPlan}
 use Rattle.test_run.specs.TestText.{Tested}
-use Rattle.script_run.specs.RunsBy.{Ran, Stopped, RunsBy}
+use Rattle.script_run.specs.RunsBy.{Ran, Counts, Stopped, RunsBy}
 use Rattle.script_run.specs.declared.words.Script.{Script}
 use Rattle.script_run.specs.declared.words.Script.TheVariants.{Standard, File}
 use Rattle.script_run.specs.declared.words.TestWords.{TestWords}
 use Rattle.script_run.specs.Words.{words_of}
 use Rattle.script_run.specs.ToolText.{finish_message, status_of, banner, tested_outcome, name_of, target_of, text_on, text_by, text_of, asked_by, asked_targets}
 
+-- What the sinks count where a write was refused: of the output, after others that were taken, or of the messages.
+
+counts-out : (old mid new err : Kept) (e : IoError) → mid.faults ≡ old.faults → CountsRefusals {T = Unit {0}} mid.faults new.faults (Err e) → Counts e (printed old err) (printed new err)
+counts-out old mid new err Failed before rose = inl (subst (λ n. Rose n new.faults) before rose)
+counts-out old mid new err Memory before same = (same ∙ before, refl)
+
+counts-err : (out_old out_new err_old err_new : Kept) (e : IoError) → out_new.faults ≡ out_old.faults → CountsRefusals {T = Unit {0}} err_old.faults err_new.faults (Err e) → Counts e (printed out_old err_old) (printed out_new err_new)
+counts-err out_old out_new err_old err_new Failed before rose = inr rose
+counts-err out_old out_new err_old err_new Memory before same = (before, same)
+
 -- a run that only says something
 module _ (text : List ℕ) (status : ℕ) (few : status < 3) (out err_old err_new : Kept) where
   pub said-whole : (u : Unit {0}) → Writes (line text) err_old err_new (Ok u) → RunsBy (said text status) (printed out err_old) (printed out err_new) (Ok status)
-  said-whole u w = record { out = Appends-nil out.held; err = w.all; answer = refl; ends = few }
+  said-whole u w = record { out = Appends-nil out.held; err = w.all; answer = refl; ends = few; steady = (refl, w.cause) }
 
   pub said-part : (e : IoError) → Writes {T = Unit {0}} (line text) err_old err_new (Err e) → RunsBy (said text status) (printed out err_old) (printed out err_new) (Err e)
-  said-part e w = record { out = prefix-none out.held []; err = w.part; cause = λ is. inr (w.cause.failed (ap Err is)) }
+  said-part e w = record { out = prefix-none out.held []; err = w.part; cause = counts-err out out err_old err_new e refl w.cause }
 
 -- memory lacked before anything was written
 pub lacks : (text : RunOutcome) (p : Printed) → RunsBy text p p (Err Memory)
-lacks text p = record { out = prefix-none p.out.held text.out; err = prefix-none p.err.held text.err; cause = λ is. absurd (cc) }
+lacks text p = record { out = prefix-none p.out.held text.out; err = prefix-none p.err.held text.err; cause = (refl, refl) }
 
 -- the banner wasn't written
 pub unbegun : (plan : TestPlan) (name : List ℕ) (t : Tested) (out_old out_new err : Kept) (e : IoError) → Writes {T = Unit {0}} (banner plan) out_old out_new (Err e)
@@ -48,7 +58,7 @@ pub unbegun : (plan : TestPlan) (name : List ℕ) (t : Tested) (out_old out_new 
 unbegun plan name t out_old out_new err e w = record {
   out = prefix-front out_old.held out_new.held (banner plan) t.out w.part;
   err = prefix-none err.held (finish_message name t.finish);
-  cause = λ is. inl (w.cause.failed (ap Err is));
+  cause = counts-out out_old out_old out_new err e refl w.cause;
 }
 
 -- it was written, and then the script's text
@@ -62,50 +72,56 @@ module _ (plan : TestPlan) (name : List ℕ) (t : Tested) (out_old out_mid out_n
   part : AppendsPrefix out_mid.held out_new.held t.out → AppendsPrefix out_old.held out_new.held whole.out
   part h = prefix-more out_old.held out_mid.held out_new.held (banner plan) t.out begun.all h
 
-  pub ran-whole : (err : Kept) → Appends out_mid.held out_new.held t.out × (t.finish ≡ At End) → RunsBy whole (printed out_old err) (printed out_new err) (Ok 0)
+  pub ran-whole : (err : Kept) → WritesAll t.out out_mid out_new × (t.finish ≡ At End) → RunsBy whole (printed out_old err) (printed out_new err) (Ok 0)
   ran-whole err h = record {
-    out = all h.0;
+    out = all h.0.all;
     err = subst (λ f. Appends err.held err.held (finish_message name f)) (sym h.1) (Appends-nil err.held);
     answer = sym (ap status_of h.1);
     ends = omega arith;
+    steady = (h.0.steady ∙ begun.cause, refl);
   }
 
   pub ran-unsent : (err : Kept) → AppendsPrefix out_mid.held out_new.held t.out → Rose out_mid.faults out_new.faults → RunsBy whole (printed out_old err) (printed out_new err) (Err Failed)
   ran-unsent err h rose = record {
     out = part h;
     err = prefix-none err.held (finish_message name t.finish);
-    cause = λ is. inl (let r : Rose out_mid.faults out_new.faults = rose in omega (arith, r, begun.cause.later));
+    cause = counts-out out_old out_mid out_new err Failed begun.cause rose;
   }
 
-  pub ran-lacks : (err : Kept) → AppendsPrefix out_mid.held out_new.held t.out → RunsBy whole (printed out_old err) (printed out_new err) (Err Memory)
-  ran-lacks err h = record { out = part h; err = prefix-none err.held (finish_message name t.finish); cause = λ is. absurd (cc) }
+  pub ran-lacks : (err : Kept) → AppendsPrefix out_mid.held out_new.held t.out → out_new.faults ≡ out_mid.faults → RunsBy whole (printed out_old err) (printed out_new err) (Err Memory)
+  ran-lacks err h same = record {
+    out = part h;
+    err = prefix-none err.held (finish_message name t.finish);
+    cause = counts-out out_old out_mid out_new err Memory begun.cause same;
+  }
 
   -- its end is told
-  module _ (finish : Finish) (late : status_of finish ≡ 2) (h : Appends out_mid.held out_new.held t.out × (t.finish ≡ finish)) (err_old err_new : Kept) where
+  module _ (finish : Finish) (late : status_of finish ≡ 2) (h : WritesAll t.out out_mid out_new × (t.finish ≡ finish)) (err_old err_new : Kept) where
     pub ran-told : (v : Unit {0}) → Writes (finish_message name finish) err_old err_new (Ok v) → RunsBy whole (printed out_old err_old) (printed out_new err_new) (Ok 2)
     ran-told v w = record {
-      out = all h.0;
+      out = all h.0.all;
       err = subst (λ f. Appends err_old.held err_new.held (finish_message name f)) (sym h.1) w.all;
       answer = sym (ap status_of h.1 ∙ late);
       ends = omega arith;
+      steady = (h.0.steady ∙ begun.cause, w.cause);
     }
 
     pub ran-untold : (e : IoError) → Writes {T = Unit {0}} (finish_message name finish) err_old err_new (Err e) → RunsBy whole (printed out_old err_old) (printed out_new err_new) (Err e)
     ran-untold e w = record {
-      out = prefix-of out_old.held out_new.held whole.out (all h.0);
+      out = prefix-of out_old.held out_new.held whole.out (all h.0.all);
       err = subst (λ f. AppendsPrefix err_old.held err_new.held (finish_message name f)) (sym h.1) w.part;
-      cause = λ is. inr (w.cause.failed (ap Err is));
+      cause = counts-err out_old out_new err_old err_new e (h.0.steady ∙ begun.cause) w.cause;
     }
 
 -- The status of a run.
 
 pub runs-ran : (text : RunOutcome) (status : ℕ) (old new : Printed) → Ran text status old new → Runs text status old new
 runs-ran text status old new r =
-    subst (λ b. Stops b (RunsSome text status old new) (RunsAll text status old new)) (sym (lt-leb 3 status r.ends)) (record { out = r.out; err = r.err; answer = r.answer })
+    subst (λ b. Stops b (RunsSome text status old new) (RunsAll text status old new)) (sym (lt-leb 3 status r.ends)) (record { out = r.out; err = r.err; answer = r.answer; steady = r.steady })
 
 pub runs-stopped : (text : RunOutcome) (e : IoError) (old new : Printed) → Stopped text e old new → Runs text (outcomes.status_of e) old new
-runs-stopped text Memory old new s = record { out = s.out; err = s.err; cause = inl refl }
-runs-stopped text Failed old new s = record { out = s.out; err = s.err; cause = inr (refl, s.cause refl) }
+runs-stopped text Memory old new s = record { out = s.out; err = s.err; cause = inl (refl, s.cause) }
+runs-stopped text Failed old new s = record { out = s.out; err = s.err; cause = inr (refl, s.cause) }
 
 -- a file that is missing stands for nothing
 pub opened-missing : (contents : Option Contents) (name : List ℕ) → IsMissing contents name → Opened contents name None

@@ -5,7 +5,7 @@ use Rattle.std.specs.Fmt.{signed_decimal}
 use Rattle.pcre2_api.specs.FaultTexts.{fault_text}
 use Rattle.pcre2_api.specs.MatchErrors.{number_of, text_of}
 use Rattle.pcre2_api.specs.declared.error.MatchError.{MatchError}
-use Rattle.script_modifiers.specs.declared.refusal.Refusal.TheVariants.{BadModifierValue}
+use Rattle.script_modifiers.specs.declared.refusal.Refusal.TheVariants.{UnknownModifier, BadModifierValue}
 use Rattle.tool_out.specs.Texts.{line, text_if}
 use Rattle.test_run.specs.Lines.{fault_line, failed_line, groups_line, lookbehind_line, refusal_line}
 
@@ -25,6 +25,9 @@ pub lookbehind-text : (most : ℕ) (count : List ℕ) → (most ≡ 0 → ⊥) �
 lookbehind-text most count some c =
     let more : 0 < most = omega arith in
     (λ i. codes "Max lookbehind = " ++ (c i ++ (codes "\n" ++ []))) ∙ sym (ap (λ t. text_if t (line (codes "Max lookbehind = " ++ decimal most))) (lt-ltb 0 most more))
+
+pub modifier-text : (name bytes : List ℕ) → bytes ≡ name → codes "** unknown modifier " ++ (bytes ++ (codes "\n" ++ [])) ≡ refusal_line (UnknownModifier name)
+modifier-text name bytes e = λ i. codes "** unknown modifier " ++ (e i ++ (codes "\n" ++ []))
 
 pub value-text : (name bytes : List ℕ) → bytes ≡ name → codes "** bad modifier value " ++ (bytes ++ (codes "\n" ++ [])) ≡ refusal_line (BadModifierValue name)
 value-text name bytes e = λ i. codes "** bad modifier value " ++ (e i ++ (codes "\n" ++ []))

@@ -5,7 +5,7 @@ use Rattle.std.proofs.lemmas.List.{map-append}
 use Rattle.std.proofs.KnownBytes.{Appends-nil, Appends-trans}
 use Rattle.std.specs.Io.KnownBytes.{Appends}
 use Rattle.pcre_io.specs.Told.{Told, Kept, AppendsPrefix}
-use Rattle.pcre_io.specs.Causes.{Rose}
+use Rattle.pcre_io.specs.Causes.{CountsRefusals}
 use Rattle.pcre_io.specs.declared.traits.IoError.{IoError}
 use Rattle.pcre_io.specs.declared.traits.IoError.TheVariants as io
 use Rattle.byte_lanes.specs.declared.line_end.EndKind.TheVariants.{Lf}
@@ -125,7 +125,7 @@ module _ (defaults : Modifiers) where
     has = HasGiven-none t f held number offset phase;
     reader_is = reader_is;
     course_is = course_is;
-    wrote = record { all = Appends-nil old.held; later = omega arith };
+    wrote = record { all = Appends-nil old.held; steady = refl };
   }
 
   module _ (before now : Told) (f : Feed) (reader : Script) (course : Course) (old mid : Kept) (running : Running before now f reader course old mid) where
@@ -140,7 +140,7 @@ module _ (defaults : Modifiers) where
       course_is = running.course_is;
       wrote = record {
         all = appends-keeps old.held mid.held new.held (text running.given) running.wrote.all sent.kept;
-        later = omega (arith, running.wrote.later, sent.later);
+        steady = sent.cause ∙ running.wrote.steady;
       };
     }
 
@@ -169,7 +169,7 @@ module _ (defaults : Modifiers) where
           all =
               subst (Appends old.held new.held) (ap (λ t. text running.given ++ t) row-text ∙ sym (text-row running.given row))
               (Appends-trans old.held mid.held new.held (text running.given) (line row.bytes ++ entry_text course entry) running.wrote.all w.all);
-          later = omega (arith, running.wrote.later, w.cause.later);
+          steady = w.cause ∙ running.wrote.steady;
         };
       }
 
@@ -196,8 +196,8 @@ module _ (defaults : Modifiers) where
           runs = to (test_text plan lined.input) (all-text plan lined.input running.given finish same lined.all);
         }
 
-    whole : (t : Tested) (finish : Finish) → t ≡ record { out = text running.given; finish = finish } → Appends old.held mid.held t.out × (t.finish ≡ finish)
-    whole t finish is = (subst (λ (s : Tested). Appends old.held mid.held s.out) (sym is) running.wrote.all, ap (λ (s : Tested). s.finish) is)
+    whole : (t : Tested) (finish : Finish) → t ≡ record { out = text running.given; finish = finish } → WritesAll t.out old mid × (t.finish ≡ finish)
+    whole t finish is = (subst (λ (s : Tested). WritesAll s.out old mid) (sym is) running.wrote, ap (λ (s : Tested). s.finish) is)
 
     pub runs-end : (after : Told) (g : Feed) (u : Unit {0}) → Ends f g now after → RunsScript plan before after old mid (Ok u)
     runs-end after g u ends = heard-all after (At End) (Ok u) (HasHeard-ends before now after f g running.given running.has ends) (λ t is. whole t (At End) is)
@@ -213,9 +213,9 @@ module _ (defaults : Modifiers) where
           subst (AppendsPrefix old.held new.held) (sym (some-text plan begun.input given begun.more same begun.all))
           (prefix-front old.held new.held (text given) (told (course_in given) (bytes_of begun.more) (entries_of (script_of given) (bytes_of begun.more))) part)
 
-      runs-halted : (e : IoError) → (e ≡ io.Failed → Rose old.faults new.faults) → RunsScript plan before after old new (Err (stop_of e))
-      runs-halted io.Failed rose = record { heard = begun.input; hears = begun.hears; runs = (part-of, rose refl) }
-      runs-halted io.Memory rose = record { heard = begun.input; hears = begun.hears; runs = part-of }
+      runs-halted : (e : IoError) → CountsRefusals {T = Unit {0}} old.faults new.faults (Err e) → RunsScript plan before after old new (Err (stop_of e))
+      runs-halted io.Failed rose = record { heard = begun.input; hears = begun.hears; runs = (part-of, rose) }
+      runs-halted io.Memory steady = record { heard = begun.input; hears = begun.hears; runs = (part-of, steady) }
 
     kept-part : AppendsPrefix old.held mid.held (text running.given)
     kept-part = prefix-of old.held mid.held (text running.given) running.wrote.all
@@ -228,18 +228,18 @@ module _ (defaults : Modifiers) where
     runs-refused after g feed.Memory refuses =
         let lacks = refuses.0 in
         let begun = begun-so after g running.given (lacks.moves.kind ∙ running.kind) (lacks.moves.max ∙ running.most) (HasGiven-lacks before now after f g running.given running.has lacks) in
-        runs-halted after running.given begun mid kept-part io.Memory (λ is. absurd cc)
+        runs-halted after running.given begun mid kept-part io.Memory running.wrote.steady
 
     -- memory lacked
     pub runs-lacks : RunsScript plan before now old mid (Err stop.Memory)
-    runs-lacks = runs-halted now running.given (begun-so now f running.given running.kind running.most running.has) mid kept-part io.Memory (λ is. absurd cc)
+    runs-lacks = runs-halted now running.given (begun-so now f running.given running.kind running.most running.has) mid kept-part io.Memory running.wrote.steady
 
     -- what was gathered couldn't be sent on
     pub runs-unsent : (new : Kept) (e : IoError) → Sends mid new (Err e) → RunsScript plan before now old new (Err (stop_of e))
     runs-unsent new e sent =
         let part = prefix-of old.held new.held (text running.given) (appends-keeps old.held mid.held new.held (text running.given) running.wrote.all sent.kept) in
         runs-halted now running.given (begun-so now f running.given running.kind running.most running.has) new part e
-        (λ is. (let rose = sent.cause (ap Err is) in omega (arith, rose, running.wrote.later)))
+        (subst (λ n. CountsRefusals {T = Unit {0}} n new.faults (Err e)) running.wrote.steady sent.cause)
 
     -- a part of what a line comes to was written
     pub runs-stopped : (after : Told) (g : Feed) (row : Row) (new : Kept) (e : IoError) → Gives f g now after row → Writes {T = Unit {0}} (line row.bytes ++ entry_text course (line_of reader row.bytes).0) mid new (Err e)
@@ -249,7 +249,7 @@ module _ (defaults : Modifiers) where
         let is = ap (λ t. text running.given ++ t) (row-text before now f reader course old mid running after g row new gives) ∙ sym (text-row running.given row) in
         let part = subst (AppendsPrefix old.held new.held) is (prefix-more old.held mid.held new.held (text running.given) _ running.wrote.all w.part) in
         runs-halted after given (begun-so after g given (kind-gives f g now after row gives ∙ running.kind) (max-gives f g now after row gives ∙ running.most) (HasGiven-gives before now after f g running.given row running.has gives)) new part e
-        (λ is. (let rose = w.cause.failed (ap Err is) in omega (arith, rose, running.wrote.later)))
+        (subst (λ n. CountsRefusals {T = Unit {0}} n new.faults (Err e)) running.wrote.steady w.cause)
 
   -- memory lacked before the first line
   pub runs-unbegun : (plan : TestPlan) → plan.defaults ≡ defaults → (t : Told) (f : Feed) (old : Kept) → f.kind ≡ Lf → f.max ≡ greatest_line → f.held ≡ [] → f.number ≡ 0 → f.offset ≡ 0 → f.phase ≡ Open

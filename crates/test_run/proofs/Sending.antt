@@ -1,5 +1,5 @@
 -- What was gathered is sent on, and nothing is written.
-use Rattle.std.proofs.Common.{◌∙◌, List, ℕ, Option, None, Some, Ok, refl, arith}
+use Rattle.std.proofs.Common.{◌∙◌, List, ℕ, Option, None, Some, Ok, refl}
 use Rattle.std.specs.Io.KnownBytes.{Appends, Keeps}
 use Rattle.pcre_io.specs.Told.{Kept}
 use Rattle.test_run.specs.Runs.{Sends}
@@ -10,7 +10,7 @@ keeps-same (Some xs) = refl
 
 -- nothing was gathered, or it may stay
 pub sends_none : (old : Kept) (u : Unit {0}) → Sends old old (Ok u)
-sends_none old u = record { kept = keeps-same old.held; later = omega arith; cause = λ is. absurd (cc) }
+sends_none old u = record { kept = keeps-same old.held; cause = refl }
 
 pub appends-keeps : (a b c : Option (List ℕ)) (xs : List ℕ) → Appends a b xs → Keeps b c → Appends a c xs
 appends-keeps None b c xs h k = tt

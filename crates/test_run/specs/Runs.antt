@@ -1,15 +1,16 @@
 -- What running a script does: what the source told → the input that it stands for → its text → what
 -- was written of it.
-use Rattle.std.specs.Prelude.{◌≡◌, ◌≤◌, length, ⊤, Result, Ok, Err, OnOk, IsErrOf}
-use Rattle.std.specs.Io.KnownBytes.{Appends, Keeps}
+use Rattle.std.specs.Prelude.{◌≡◌, ◌≤◌, length, ⊤, Result, Ok, Err}
+use Rattle.std.specs.Io.KnownBytes.{Keeps}
 use Rattle.pcre_io.specs.Told.{Told, Kept, AppendsPrefix}
-use Rattle.pcre_io.specs.Causes.{Rose}
+use Rattle.pcre_io.specs.Causes.{Rose, CountsRefusals}
 use Rattle.pcre_io.specs.declared.traits.IoError.{IoError}
 use Rattle.pcre_io.specs.declared.traits.IoError.TheVariants as io
 use Rattle.line_feed.specs.Rows.{Input, At, Long, End, Fault, Limit}
 use Rattle.line_feed.specs.Hears.{Hears}
 use Rattle.line_feed.specs.declared.phase.FeedError.{FeedError}
 use Rattle.line_feed.specs.declared.phase.FeedError.TheVariants as feed
+use Rattle.tool_out.specs.Writes.{WritesAll}
 use Rattle.test_script.specs.declared.entries.Entry.{Entry}
 use Rattle.test_script.specs.declared.entries.Entry.TheVariants as entry
 use Rattle.test_script.specs.declared.plan.TestPlan.{TestPlan}
@@ -33,23 +34,23 @@ abbrev pub IsShort : Entry → Type 0
 IsShort (entry.Subject s) = length s.subject ≤ greatest_subject
 IsShort _ = ⊤
 
--- What was gathered was sent on, and nothing is written. Where that was refused, a fault was counted.
+-- What was gathered was sent on, and nothing is written. A fault was counted just where that failed.
 pub record Sends (old new : Kept) (result : Result (Unit {0}) IoError) : Type 0 where
   pub kept : Keeps old.held new.held
-  pub later : OnOk result (old.faults ≤ new.faults)
-  pub cause : IsErrOf result io.Failed → Rose old.faults new.faults
+  pub cause : CountsRefusals old.faults new.faults result
 
--- All of a script's text was written where its lines were read up to their end. Where a write was
--- refused or memory lacked, a part of it was.
+-- All of a script's text was written where its lines were read up to their end. Where a write
+-- failed, which is counted, or memory lacked, a part of it was.
 abbrev pub RunsTo : Tested → Kept → Kept → Result (Unit {0}) ScriptStop → Type 0
-RunsTo t old new (Ok _) = Appends old.held new.held t.out × (t.finish ≡ At End)
-RunsTo t old new (Err ReadFault) = Appends old.held new.held t.out × (t.finish ≡ At Fault)
+RunsTo t old new (Ok _) = WritesAll t.out old new × (t.finish ≡ At End)
+RunsTo t old new (Err ReadFault) = WritesAll t.out old new × (t.finish ≡ At Fault)
 RunsTo t old new (Err (TooLong line)) =
-    Appends old.held new.held t.out × (t.finish ≡ Long line)
-RunsTo t old new (Err TooMuch) = Appends old.held new.held t.out × (t.finish ≡ At Limit)
+    WritesAll t.out old new × (t.finish ≡ Long line)
+RunsTo t old new (Err TooMuch) = WritesAll t.out old new × (t.finish ≡ At Limit)
 RunsTo t old new (Err SinkFault) =
     AppendsPrefix old.held new.held t.out × Rose old.faults new.faults
-RunsTo t old new (Err Memory) = AppendsPrefix old.held new.held t.out
+RunsTo t old new (Err Memory) =
+    AppendsPrefix old.held new.held t.out × (new.faults ≡ old.faults)
 
 -- what is written is the text of the input that the source stands for
 pub record RunsScript (plan : TestPlan) (before after : Told) (old new : Kept)

@@ -1,36 +1,10 @@
-//! Scripts, and what is written of them.
-mod scripts;
-
+//! What is written of scripts by a plan, and where a run stops. Scripts with their whole output
+//! stand in `script_tables`.
 use crate::{ScriptStop, run_script};
 use pcre_io::{MemSink, MemSource};
 use script_modifiers::Modifiers;
-use std::alloc::{AllocError, Global};
-use std::process::Abort;
 use std::test::Fail;
 use test_script::TestPlan;
-
-// The lines of a script in a transcript.
-fn input_of(alloc: Global, transcript: &str) -> Result<Vec<u8>, AllocError> {
-    let mut text = Vec::new(alloc);
-    for line in transcript.lines() {
-        if let Some(line) = line.strip_prefix('>') {
-            text.extend_from_slice(line.as_bytes())?;
-            text.push(b'\n')?;
-        }
-    }
-    Ok(text)
-}
-
-// The whole output of a transcript.
-fn output_of(alloc: Global, transcript: &str) -> Result<Vec<u8>, AllocError> {
-    let mut text = Vec::new(alloc);
-    for line in transcript.lines() {
-        let line = line.strip_prefix('>').unwrap_or(line);
-        text.extend_from_slice(line.as_bytes())?;
-        text.push(b'\n')?;
-    }
-    Ok(text)
-}
 
 // The plan without words.
 fn plain() -> TestPlan {
@@ -38,34 +12,6 @@ fn plain() -> TestPlan {
         quiet: true,
         defaults: Modifiers::none(),
     }
-}
-
-fn check_script(rt: &impl Abort, alloc: Global, transcript: &str) -> Result<(), Fail> {
-    let mut source = MemSource::new(input_of(alloc, transcript)?, None, 7);
-    let mut out = MemSink::new(alloc, None, 100);
-    assert_eq!(rt; run_script(alloc, &plain(), &mut source, &mut out), Ok(()));
-    let want = output_of(alloc, transcript)?;
-    assert_eq!(rt;
-        str::from_utf8(out.bytes()),
-        str::from_utf8(want.as_slice())
-    );
-    Ok(())
-}
-
-#[test]
-fn scripts_are_run(rt: HostRuntime) -> Result<(), Fail> {
-    for transcript in [
-        scripts::ROWS,
-        scripts::PATTERNS,
-        scripts::GLOBAL,
-        scripts::SUBJECTS,
-        scripts::ESCAPES,
-        scripts::NOTES,
-        scripts::REFUSALS,
-    ] {
-        check_script(&rt, rt.alloc(), transcript)?;
-    }
-    Ok(())
 }
 
 #[test]

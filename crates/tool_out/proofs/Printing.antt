@@ -1,12 +1,12 @@
 -- What is written to both sinks, one text after another.
-use Rattle.std.proofs.Common.{ℕ, List, [], ◌++◌, length, Option, None, Some, Ok, Err, IsErrOf, sym, ap, subst, ◌∙◌, arith, inl, inr, ⊎_elim, append-nil}
+use Rattle.std.proofs.Common.{◌≡◌, ℕ, List, [], ◌++◌, length, Option, None, Some, Ok, Err, refl, sym, ap, subst, ◌∙◌, inl, inr, ⊎_elim, append-nil}
 use Rattle.std.proofs.Math.Seq.{take-append_seam}
 use Rattle.std.proofs.KnownBytes.{Appends-nil, Appends-trans}
 use Rattle.std.specs.Io.KnownBytes.{Appends}
 use Rattle.pcre_io.specs.Told.{Kept, AppendsPrefix}
-use Rattle.pcre_io.specs.Causes.{Rose}
+use Rattle.pcre_io.specs.Causes.{Rose, CountsRefusals}
 use Rattle.pcre_io.specs.declared.traits.IoError.{IoError}
-use Rattle.pcre_io.specs.declared.traits.IoError.TheVariants.{Failed}
+use Rattle.pcre_io.specs.declared.traits.IoError.TheVariants.{Failed, Memory}
 use Rattle.tool_out.specs.Printed.{Printed, printed}
 use Rattle.tool_out.specs.Writes.{Writes, WritesAll}
 use Rattle.tool_out.specs.Prints.{Wrote, Breaks}
@@ -27,17 +27,18 @@ prefix-none a xs = prefix-all a a [] xs (Appends-nil a)
 
 -- a text that was written without a refusal
 pub wrote-of : {T : Type 0} (text : List ℕ) (old new : Kept) (u : T) → Writes {T = T} text old new (Ok u) → WritesAll text old new
-wrote-of text old new u w = record { all = w.all; later = w.cause.later }
+wrote-of text old new u w = record { all = w.all; steady = w.cause }
 
 -- Nothing was written.
 pub wrote-none : (p : Printed) → Wrote [] [] p p
-wrote-none p = record { out = Appends-nil p.out.held; err = Appends-nil p.err.held; out_later = omega arith; err_later = omega arith }
+wrote-none p = record { out = Appends-nil p.out.held; err = Appends-nil p.err.held; steady = (refl, refl) }
 
 pub breaks-none : (out_text err_text : List ℕ) (p : Printed) (is_refused : Type 0) → (is_refused → ⊥) → Breaks out_text err_text p p is_refused
 breaks-none out_text err_text p is_refused other = record {
   out = prefix-none p.out.held out_text;
   err = prefix-none p.err.held err_text;
   cause = λ is. absurd (other is);
+  steady = λ _. (refl, refl);
 }
 
 -- Texts were written after others.
@@ -46,8 +47,7 @@ module _ {old mid new : Printed} (out_text err_text out_more err_more : List ℕ
   wrote-more next = record {
     out = Appends-trans old.out.held mid.out.held new.out.held out_text out_more first.out next.out;
     err = Appends-trans old.err.held mid.err.held new.err.held err_text err_more first.err next.err;
-    out_later = omega (arith, first.out_later, next.out_later);
-    err_later = omega (arith, first.err_later, next.err_later);
+    steady = (next.steady.0 ∙ first.steady.0, next.steady.1 ∙ first.steady.1);
   }
 
   pub wrote-breaks : (is_refused : Type 0) → Breaks out_more err_more mid new is_refused → Breaks (out_text ++ out_more) (err_text ++ err_more) old new is_refused
@@ -55,23 +55,38 @@ module _ {old mid new : Printed} (out_text err_text out_more err_more : List ℕ
     out = prefix-more old.out.held mid.out.held new.out.held out_text out_more first.out next.out;
     err = prefix-more old.err.held mid.err.held new.err.held err_text err_more first.err next.err;
     cause = λ is. ⊎_elim
-        (λ rose. inl (let r : Rose mid.out.faults new.out.faults = rose in omega (arith, r, first.out_later)))
-        (λ rose. inr (let r : Rose mid.err.faults new.err.faults = rose in omega (arith, r, first.err_later)))
+        (λ (rose : Rose mid.out.faults new.out.faults). inl (subst (λ n. Rose n new.out.faults) first.steady.0 rose))
+        (λ (rose : Rose mid.err.faults new.err.faults). inr (subst (λ n. Rose n new.err.faults) first.steady.1 rose))
         (next.cause is);
+    steady = λ other. (let same = next.steady other in (same.0 ∙ first.steady.0, same.1 ∙ first.steady.1));
   }
+
+-- whether a write was refused is told by its fault
+abbrev pub IsToldBy : IoError → Type 0 → Type 0
+IsToldBy fault is_refused = (is_refused → fault ≡ Failed) × ((is_refused → ⊥) → fault ≡ Memory)
 
 -- A text was written to the output alone.
 pub wrote-out : (text : List ℕ) (old new err : Kept) (u : Unit {0}) → Writes text old new (Ok u) → Wrote text [] (printed old err) (printed new err)
-wrote-out text old new err u w = record { out = w.all; err = Appends-nil err.held; out_later = w.cause.later; err_later = omega arith }
+wrote-out text old new err u w = record { out = w.all; err = Appends-nil err.held; steady = (w.cause, refl) }
 
-pub breaks-out : (text err_text : List ℕ) (old new err : Kept) (fault : IoError) (is_refused : Type 0) → (is_refused → IsErrOf {T = Unit {0}} (Err fault) Failed)
+pub breaks-out : (text err_text : List ℕ) (old new err : Kept) (fault : IoError) (is_refused : Type 0) → IsToldBy fault is_refused
     → Writes {T = Unit {0}} text old new (Err fault) → Breaks text err_text (printed old err) (printed new err) is_refused
-breaks-out text err_text old new err fault is_refused failed w = record { out = w.part; err = prefix-none err.held err_text; cause = λ is. inl (w.cause.failed (failed is)) }
+breaks-out text err_text old new err fault is_refused told w = record {
+  out = w.part;
+  err = prefix-none err.held err_text;
+  cause = λ is. inl (subst (λ e. CountsRefusals {T = Unit {0}} old.faults new.faults (Err e)) (told.0 is) w.cause);
+  steady = λ other. (subst (λ e. CountsRefusals {T = Unit {0}} old.faults new.faults (Err e)) (told.1 other) w.cause, refl);
+}
 
 -- To the messages alone.
 pub wrote-err : (text : List ℕ) (out old new : Kept) (u : Unit {0}) → Writes text old new (Ok u) → Wrote [] text (printed out old) (printed out new)
-wrote-err text out old new u w = record { out = Appends-nil out.held; err = w.all; out_later = omega arith; err_later = w.cause.later }
+wrote-err text out old new u w = record { out = Appends-nil out.held; err = w.all; steady = (refl, w.cause) }
 
-pub breaks-err : (out_text text : List ℕ) (out old new : Kept) (fault : IoError) (is_refused : Type 0) → (is_refused → IsErrOf {T = Unit {0}} (Err fault) Failed)
+pub breaks-err : (out_text text : List ℕ) (out old new : Kept) (fault : IoError) (is_refused : Type 0) → IsToldBy fault is_refused
     → Writes {T = Unit {0}} text old new (Err fault) → Breaks out_text text (printed out old) (printed out new) is_refused
-breaks-err out_text text out old new fault is_refused failed w = record { out = prefix-none out.held out_text; err = w.part; cause = λ is. inr (w.cause.failed (failed is)) }
+breaks-err out_text text out old new fault is_refused told w = record {
+  out = prefix-none out.held out_text;
+  err = w.part;
+  cause = λ is. inr (subst (λ e. CountsRefusals {T = Unit {0}} old.faults new.faults (Err e)) (told.0 is) w.cause);
+  steady = λ other. (refl, subst (λ e. CountsRefusals {T = Unit {0}} old.faults new.faults (Err e)) (told.1 other) w.cause);
+}

@@ -1,10 +1,11 @@
 -- Texts that are written one after another.
-use Rattle.std.proofs.Common.{◌≡◌, ℕ, ◌+◌, ◌≤◌, min, List, [], ◌++◌, length, take, Option, None, Some, Result, Ok, Err, refl, sym, ap, subst, ◌∙◌, arith, append_assoc, append-nil}
+use Rattle.std.proofs.Common.{◌≡◌, ℕ, ◌+◌, min, List, [], ◌++◌, length, take, Option, None, Some, Result, Ok, Err, refl, sym, ap, subst, ◌∙◌, arith, append_assoc, append-nil}
 use Rattle.std.proofs.lemmas.List.{take_all, take-append-le}
 use Rattle.std.proofs.Math.Seq.{take-append-add}
 use Rattle.std.proofs.KnownBytes.{Appends-nil, Appends-trans}
 use Rattle.std.specs.Io.KnownBytes.{Appends}
 use Rattle.pcre_io.specs.Told.{Kept, AppendsPrefix}
+use Rattle.pcre_io.specs.Causes.{CountsRefusals}
 use Rattle.pcre_io.specs.declared.traits.IoError.{IoError}
 use Rattle.tool_out.specs.Writes.{Writes}
 
@@ -31,10 +32,10 @@ pub record IsLeft (total rest : List ℕ) (old new : Kept) : Type 0 where
   pub front : List ℕ
   pub parted : front ++ rest ≡ total
   pub written : Appends old.held new.held front
-  pub later : old.faults ≤ new.faults
+  pub steady : new.faults ≡ old.faults
 
 pub left-all : (total : List ℕ) (old : Kept) → IsLeft total total old old
-left-all total old = record { front = []; parted = refl; written = Appends-nil old.held; later = omega arith }
+left-all total old = record { front = []; parted = refl; written = Appends-nil old.held; steady = refl }
 
 -- the next text of what is left was written
 pub left-more : {total rest : List ℕ} {old mid new : Kept} (text more : List ℕ) (u : Unit {0}) → IsLeft total rest old mid → rest ≡ text ++ more → Writes text mid new (Ok u)
@@ -43,7 +44,7 @@ left-more {total} {rest} {old} {mid} {new} text more u left e w = record {
   front = left.front ++ text;
   parted = append_assoc left.front text more ∙ ap (λ l. left.front ++ l) (sym e) ∙ left.parted;
   written = Appends-trans old.held mid.held new.held left.front text left.written w.all;
-  later = omega (arith, left.later, w.cause.later);
+  steady = w.cause ∙ left.steady;
 }
 
 -- it was refused
@@ -54,7 +55,7 @@ left-refused {total} {rest} {old} {mid} {new} text more fault left e w = record 
   part =
       subst (AppendsPrefix old.held new.held) (ap (λ l. left.front ++ l) (sym e) ∙ left.parted)
       (prefix-more old.held mid.held new.held left.front (text ++ more) left.written (prefix-front mid.held new.held text more w.part));
-  cause = record { later = omega (arith, left.later, w.cause.later); failed = λ is. (let rose = w.cause.failed is in omega (arith, rose, left.later)) };
+  cause = subst (λ n. CountsRefusals {T = Unit {0}} n new.faults (Err fault)) left.steady w.cause;
 }
 
 -- nothing is left
@@ -62,7 +63,7 @@ pub left-none : {total rest : List ℕ} {old new : Kept} (u : Unit {0}) → IsLe
 left-none {total} {rest} {old} {new} u left e = record {
   all = subst (Appends old.held new.held) (sym (append-nil left.front) ∙ ap (λ l. left.front ++ l) (sym e) ∙ left.parted) left.written;
   part = tt;
-  cause = record { later = left.later; failed = λ is. (absurd (cc)) };
+  cause = left.steady;
 }
 
 -- an equal text was written

@@ -2,10 +2,9 @@
 use Rattle.std.specs.Prelude.{◌≡◌, ℕ, List, [], nat_le, Bool, true, false, ◌⊎◌}
 use Rattle.std.specs.Io.KnownBytes.{Appends}
 use Rattle.pcre_io.specs.Told.{AppendsPrefix}
-use Rattle.pcre_io.specs.Causes.{Rose}
 use Rattle.pcre_io.specs.declared.traits.IoError.{IoError}
 use Rattle.pcre_io.specs.declared.traits.IoError.TheVariants.{Failed, Memory}
-use Rattle.tool_out.specs.Printed.{Printed}
+use Rattle.tool_out.specs.Printed.{Printed, NoFault, SomeFault}
 use Rattle.tool_out.specs.Texts.{line}
 
 -- what a run writes to each sink, and its status
@@ -27,14 +26,13 @@ pub record RunsAll (text : RunOutcome) (status : ℕ) (old new : Printed) : Type
   pub out : Appends old.out.held new.out.held text.out
   pub err : Appends old.err.held new.err.held text.err
   pub answer : status ≡ text.status
+  pub steady : NoFault old new
 
--- memory lacked, or a write was refused
+-- memory lacked, or a write was refused and counted
 pub record RunsSome (text : RunOutcome) (status : ℕ) (old new : Printed) : Type 0 where
   pub out : AppendsPrefix old.out.held new.out.held text.out
   pub err : AppendsPrefix old.err.held new.err.held text.err
-  pub cause :
-      (status ≡ 3)
-      ⊎ ((status ≡ 4) × (Rose old.out.faults new.out.faults ⊎ Rose old.err.faults new.err.faults))
+  pub cause : ((status ≡ 3) × NoFault old new) ⊎ ((status ≡ 4) × SomeFault old new)
 
 -- a status of 3 or more stops a run
 abbrev pub Stops : Bool → Type 0 → Type 0 → Type 0

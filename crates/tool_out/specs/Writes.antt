@@ -1,8 +1,8 @@
 -- What writing a text to one sink does: text → all of it, or a part of it and the cause.
-use Rattle.std.specs.Prelude.{ℕ, ◌≤◌, List, OnOk, OnErr, Result}
+use Rattle.std.specs.Prelude.{◌≡◌, ℕ, List, OnOk, OnErr, Result}
 use Rattle.std.specs.Io.KnownBytes.{Appends}
 use Rattle.pcre_io.specs.Told.{Kept, AppendsPrefix}
-use Rattle.pcre_io.specs.Causes.{HasCause}
+use Rattle.pcre_io.specs.Causes.{CountsRefusals}
 use Rattle.pcre_io.specs.declared.traits.IoError.{IoError}
 
 -- the text was written; or a part of it, where a write was refused
@@ -10,9 +10,9 @@ pub record Writes {T : Type 0} (text : List ℕ) (old new : Kept) (result : Resu
     : Type 0 where
   pub all : OnOk result (Appends old.held new.held text)
   pub part : OnErr result (AppendsPrefix old.held new.held text)
-  pub cause : HasCause old.faults new.faults result
+  pub cause : CountsRefusals old.faults new.faults result
 
 -- the text was written whole
 pub record WritesAll (text : List ℕ) (old new : Kept) : Type 0 where
   pub all : Appends old.held new.held text
-  pub later : old.faults ≤ new.faults
+  pub steady : new.faults ≡ old.faults

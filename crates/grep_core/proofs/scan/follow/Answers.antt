@@ -34,7 +34,7 @@ returns-in_err-ended g c = λ before treated given stood kind max.
     let less = c.line-test.true in
     let few : c.line.counter < lines_after job.show job.plan.now.after_context = omega arith in
     subst (Follows job.plan.now job.name.now job.show treated before (g.S.Source.tells c.follow_one.new.source) given (g.O.Sink.tells c.args.out.now) (g.O.Sink.tells c.follow_one.new.out)) (sym same)
-    (follows-stops job.plan.now job.name.now job.show treated before given _ _ _ _ _ _ _ _ (following-sent job.plan.now job.name.now job.show treated before given _ _ _ _ _ _ (c.line.invariant.following before treated given stood kind max) _ c.send_on.ensures.same c.in_ok-send_on.ensures.sent.wrote) stop few c.in_err-ended.ensures)
+    (follows-stops job.plan.now job.name.now job.show treated before given _ _ _ _ _ _ _ _ (following-sent job.plan.now job.name.now job.show treated before given _ _ _ _ _ _ (c.line.invariant.following before treated given stood kind max) _ c.send_on.ensures.same c.in_ok-send_on.ensures.sent) stop few c.in_err-ended.ensures)
 
 pub returns-in-Some : goal.returns-in-Some
 returns-in-Some g c = λ before treated given stood kind max.
@@ -44,7 +44,7 @@ returns-in-Some g c = λ before treated given stood kind max.
     let less = c.line-test.true in
     let few : c.line.counter < lines_after job.show job.plan.now.after_context = omega arith in
     let ends = rw c.in-Some.is at c.in_ok-ended.ensures in
-    follows-ends job.plan.now job.name.now job.show treated before given _ _ _ _ _ _ _ _ (following-sent job.plan.now job.name.now job.show treated before given _ _ _ _ _ _ (c.line.invariant.following before treated given stood kind max) _ c.send_on.ensures.same c.in_ok-send_on.ensures.sent.wrote) c.in-Some.ended few ends
+    follows-ends job.plan.now job.name.now job.show treated before given _ _ _ _ _ _ _ _ (following-sent job.plan.now job.name.now job.show treated before given _ _ _ _ _ _ (c.line.invariant.following before treated given stood kind max) _ c.send_on.ensures.same c.in_ok-send_on.ensures.sent) c.in-Some.ended few ends
 
 pub line-preserved : goal.line-preserved
 line-preserved g c =
@@ -54,7 +54,7 @@ line-preserved g c =
     record {
       live = live-gives _ _ _ _ shows.row shows.gives;
       within = let less = c.line-test.true in omega arith;
-      following = λ before treated given stood kind max. following-more job.plan.now job.name.now job.show treated before given _ _ _ _ _ _ _ _ (following-sent job.plan.now job.name.now job.show treated before given _ _ _ _ _ _ (c.line.invariant.following before treated given stood kind max) _ c.send_on.ensures.same c.in_ok-send_on.ensures.sent.wrote) shows;
+      following = λ before treated given stood kind max. following-more job.plan.now job.name.now job.show treated before given _ _ _ _ _ _ _ _ (following-sent job.plan.now job.name.now job.show treated before given _ _ _ _ _ _ (c.line.invariant.following before treated given stood kind max) _ c.send_on.ensures.same c.in_ok-send_on.ensures.sent) shows;
     }
 
 pub returns : goal.returns

@@ -64,7 +64,7 @@ returns-in_err-take_turn-clause-taken g c = λ before treated job stood.
     (TakesAll job_is.plan.now (patterns_in job_is.patterns.now) job_is.name.now job_is.show job_is.most treated c.args.state.now before (g.S.Source.tells c.take_turn.new.source) c.take_turn.new.feed
     c.take_turn.new.course.selected c.take_turn.new.state (printed (g.O.Sink.tells c.args.out.now) (g.E.Sink.tells c.args.err.now)) (printed (g.O.Sink.tells c.take_turn.new.out) (g.E.Sink.tells c.take_turn.new.err)))
     (sym same)
-    (scans-stops _ _ _ _ _ treated _ _ job before _ _ _ _ _ _ _ _ _ _ _ _ _ _ (standing-sent _ _ _ _ _ treated _ before _ _ _ _ _ _ _ _ _ (c.line.invariant.standing before treated job stood) _ c.send_on.ensures.same c.in_ok-send_on.ensures.sent.wrote) stop c.in_err-take_turn.ensures)
+    (scans-stops _ _ _ _ _ treated _ _ job before _ _ _ _ _ _ _ _ _ _ _ _ _ _ (standing-sent _ _ _ _ _ treated _ before _ _ _ _ _ _ _ _ _ (c.line.invariant.standing before treated job stood) _ c.send_on.ensures.same c.in_ok-send_on.ensures.sent) stop c.in_err-take_turn.ensures)
 
 pub line-smaller : goal.line-smaller
 line-smaller g c =
@@ -85,18 +85,18 @@ line-preserved g c =
       live = live-gives _ _ _ _ row.row row.gives;
       keeps = keeps-more c.args.job.now.plan.now c.args.job.now.name.now c.args.job.now.show c.args.job.now.most _ _ _ _ row.row _ _ _ _ _ _ _ _ _ _ few refl kept row.gives row.takes;
       limit = λ is. row.takes.limit ∙ had.limit is;
-      standing = λ before treated job stood. standing-line _ _ _ _ _ treated _ before _ _ _ _ row.row _ _ _ _ _ _ _ _ _ _ (standing-sent _ _ _ _ _ treated _ before _ _ _ _ _ _ _ _ _ (had.standing before treated job stood) _ c.send_on.ensures.same c.in_ok-send_on.ensures.sent.wrote) row.gives row.takes;
+      standing = λ before treated job stood. standing-line _ _ _ _ _ treated _ before _ _ _ _ row.row _ _ _ _ _ _ _ _ _ _ (standing-sent _ _ _ _ _ treated _ before _ _ _ _ _ _ _ _ _ (had.standing before treated job stood) _ c.send_on.ensures.same c.in_ok-send_on.ensures.sent) row.gives row.takes;
     }
 
 pub returns-in-Took-Context-clause-taken : goal.returns-in-Took-Context-clause-taken
 returns-in-Took-Context-clause-taken g c = λ before treated job stood.
     let row = rw c.in-Took-Context.field-0-is at (rw c.in-Took-Context.is at c.in_ok-take_turn.ensures) in
-    standing-pauses _ _ _ _ _ treated _ before _ _ _ _ row.row _ _ _ _ _ _ _ _ _ _ (standing-sent _ _ _ _ _ treated _ before _ _ _ _ _ _ _ _ _ (c.line.invariant.standing before treated job stood) _ c.send_on.ensures.same c.in_ok-send_on.ensures.sent.wrote) row.gives row.takes
+    standing-pauses _ _ _ _ _ treated _ before _ _ _ _ row.row _ _ _ _ _ _ _ _ _ _ (standing-sent _ _ _ _ _ treated _ before _ _ _ _ _ _ _ _ _ (c.line.invariant.standing before treated job stood) _ c.send_on.ensures.same c.in_ok-send_on.ensures.sent) row.gives row.takes
 
 pub returns-in-Finished-clause-taken : goal.returns-in-Finished-clause-taken
 returns-in-Finished-clause-taken g c = λ before treated job stood.
     let ends = rw c.in-Finished.is at c.in_ok-take_turn.ensures in
-    scans-ends _ _ _ _ _ treated _ _ job before _ _ _ _ _ _ _ _ _ _ _ _ _ _ (standing-sent _ _ _ _ _ treated _ before _ _ _ _ _ _ _ _ _ (c.line.invariant.standing before treated job stood) _ c.send_on.ensures.same c.in_ok-send_on.ensures.sent.wrote) c.in-Finished.ended ends.0 ends.1
+    scans-ends _ _ _ _ _ treated _ _ job before _ _ _ _ _ _ _ _ _ _ _ _ _ _ (standing-sent _ _ _ _ _ treated _ before _ _ _ _ _ _ _ _ _ (c.line.invariant.standing before treated job stood) _ c.send_on.ensures.same c.in_ok-send_on.ensures.sent) c.in-Finished.ended ends.0 ends.1
 
 pub returns-in_err-send_on-clause-taken : goal.returns-in_err-send_on-clause-taken
 returns-in_err-send_on-clause-taken g c = λ before treated job stood.

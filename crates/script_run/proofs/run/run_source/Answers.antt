@@ -52,7 +52,7 @@ returns-in-Err-Memory g c =
     let mid = g.O.Sink.tells c.write_banner.new.out in
     let new = g.O.Sink.tells c.run_script.new.out in
     let runs = subst (λ e. RunsTo t mid new (Err e)) c.in-Err-Memory.field-0-is r.runs in
-    (r.heard, r.hears, ran-lacks plan c.args.name.now t (g.O.Sink.tells c.args.out.now) mid new _ c.in_ok-write_banner.ensures (g.E.Sink.tells c.args.err.now) runs)
+    (r.heard, r.hears, ran-lacks plan c.args.name.now t (g.O.Sink.tells c.args.out.now) mid new _ c.in_ok-write_banner.ensures (g.E.Sink.tells c.args.err.now) runs.0 runs.1)
 
 pub returns-in_ok-write_message-in-Err-ReadFault : goal.returns-in_ok-write_message-in-Err-ReadFault
 returns-in_ok-write_message-in-Err-ReadFault g c =
