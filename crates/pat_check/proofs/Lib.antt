@@ -4,4 +4,3 @@ pub mod NodeLemmas
 pub mod ByteLemmas
 pub mod SizeLemmas
 pub mod LookLemmas
-pub mod DraftLemmas

@@ -12,4 +12,3 @@ pub mod Known
 pub mod Starts
 pub mod Support
 pub mod Survey
-pub mod Drafts

@@ -11,8 +11,6 @@ mod size;
 mod starts;
 mod support;
 mod survey;
-#[cfg(test)]
-mod tests;
 
 pub use facts::{CheckError, Facts, check};
 pub use laws::worked_rows;

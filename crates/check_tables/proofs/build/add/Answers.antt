@@ -1,9 +1,9 @@
 use Rattle.std.proofs.Common.{◌∷◌, ◌++◌, [], length}
 use Rattle.pat_tree.specs.Rules.{kids_of}
 use Rattle.pat_tree.specs.Parts.{with_node}
-use Rattle.pat_check.specs.Drafts.{IsDraft}
-use Rattle.pat_check.proofs.DraftLemmas.{last_below, last_free, draft_more}
-use Rattle.pat_check.proofs.tests.build.add.Goals as goal
+use Rattle.check_tables.specs.Drafts.{IsDraft}
+use Rattle.check_tables.proofs.DraftLemmas.{last_below, last_free, draft_more}
+use Rattle.check_tables.proofs.build.add.Goals as goal
 
 pub add-requires-clause-kids : goal.add-requires-clause-kids
 add-requires-clause-kids c = last_below c.args.draft.now c.args.waiting.now.items (kids_of c.args.node) c.requires.made

@@ -1,7 +1,7 @@
-// Trees made step by step.
+//! Trees made step by step.
 ghost use Rattle.std.specs.Prelude.{◌≡◌, ◌≤◌, ◌<◌, ◌+◌, ◌∷◌, ◌++◌, [], All, IfOk, OnOk, false, length};
 ghost use Rattle.pat_tree.specs.Rules.{kids_of, asserted_by, classes_of, verb_names_of, numbers_of, IsNamed, IsOrdered, IsDefine};
-ghost use Rattle.pat_check.specs.Drafts.{IsDraft, IsPlainTest};
+ghost use Rattle.check_tables.specs.Drafts.{IsDraft, IsPlainTest};
 
 use pat_tree::{
     AnchorKind, ClassSpec, Cond, Draft, GroupList, Item, Kids, ListOf, Node, NodeId, Options, Part,

@@ -8,7 +8,7 @@ use Rattle.pat_tree.specs.Growing.{loose, loose_after, is_fresh}
 use Rattle.pat_tree.specs.Parts.{DraftParts, with_node, with_class}
 use Rattle.pat_tree.proofs.Loose.{replaces_push, last_fresh}
 use Rattle.node_flow.proofs.Waiting.{all_front}
-use Rattle.pat_check.specs.Drafts.{IsDraft}
+use Rattle.check_tables.specs.Drafts.{IsDraft}
 
 all_back : (P : ℕ → Type 0) (xs ys : List ℕ) → All P (xs ++ ys) → All P ys
 all_back P [] ys a = a

@@ -1,7 +1,7 @@
 use Rattle.std.proofs.Common.{ap}
 use Rattle.pat_tree.specs.Parts.{DraftParts}
-use Rattle.pat_check.proofs.DraftLemmas.{draft_begun}
-use Rattle.pat_check.proofs.tests.build.begin.Goals as goal
+use Rattle.check_tables.proofs.DraftLemmas.{draft_begun}
+use Rattle.check_tables.proofs.build.begin.Goals as goal
 
 pub returns-clause-made : goal.returns-clause-made
 returns-clause-made c =

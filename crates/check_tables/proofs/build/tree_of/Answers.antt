@@ -1,9 +1,9 @@
 use Rattle.std.proofs.Common.{◌<◌, ◌∷◌, [], length, subst, arith}
 use Rattle.std.proofs.lemmas.List.Elements.{All-head}
-use Rattle.pat_check.specs.Drafts.{IsDraft}
-use Rattle.pat_check.proofs.DraftLemmas.{last_below}
-use Rattle.pat_check.proofs.tests.build.tree_of.Goals.{in-Some, in-None+in_ok-root-in-None}
-use Rattle.pat_check.proofs.tests.build.tree_of.Goals as goal
+use Rattle.check_tables.specs.Drafts.{IsDraft}
+use Rattle.check_tables.proofs.DraftLemmas.{last_below}
+use Rattle.check_tables.proofs.build.tree_of.Goals.{in-Some, in-None+in_ok-root-in-None}
+use Rattle.check_tables.proofs.build.tree_of.Goals as goal
 
 pub finish-requires-clause-root : goal.finish-requires-clause-root
 finish-requires-clause-root c = elim c.match-pop.branch [

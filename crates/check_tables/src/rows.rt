@@ -1,10 +1,10 @@
-// What is known of trees, worked by hand from the rules.
+//! What is known of trees, worked by hand from the rules.
 ghost use Rattle.std.specs.Prelude.{◌≡◌, ◌<◌, false, length};
 
-use crate::tests::build::{Step, tree_of};
-use crate::{CheckError, DfaSupport, Facts, Growth, check};
+use crate::build::{Step, tree_of};
 use byte_lanes::ByteSet;
 use char_sets::ClassTable;
+use pat_check::{CheckError, DfaSupport, Facts, Growth, check};
 use pat_tree::{AnchorKind, Options};
 use std::alloc::Global;
 use std::process::Abort;

@@ -1,6 +1,6 @@
 use Rattle.std.proofs.Common.{◌≤◌, length}
-use Rattle.pat_check.specs.Drafts.{IsDraft}
-use Rattle.pat_check.proofs.tests.build.tree_of.Given as goal
+use Rattle.check_tables.specs.Drafts.{IsDraft}
+use Rattle.check_tables.proofs.build.tree_of.Given as goal
 
 abbrev pub invariant-loop-at : goal.invariant-loop-at
 invariant-loop-at l = record {
