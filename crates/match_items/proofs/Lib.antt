@@ -5,6 +5,7 @@ pub mod Longest
 pub mod Newlines
 pub mod OneItem
 pub mod Texts
+pub mod TextGround
 pub mod TextPlaces
 pub mod TextRefs
 pub mod TextRuns

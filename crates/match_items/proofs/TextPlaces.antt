@@ -1,13 +1,14 @@
 -- The character before a place is the one that ends there.
-use Rattle.std.proofs.Common.{◌≡◌, ◌∙◌, ℕ, zero, suc, ◌+◌, ◌-◌, ◌<◌, ◌≤◌, Bool, true, false, List, ◌++◌, take, drop, refl, sym, ap, arith, take-append-drop}
+use Rattle.std.proofs.Common.{◌≡◌, ◌∙◌, ℕ, zero, suc, ◌+◌, ◌-◌, ◌<◌, ◌≤◌, Bool, true, false, List, ◌++◌, take, drop, refl, Some, None, sym, ap, arith, take-append-drop}
 use Rattle.std.proofs.Math.Utf8.{encode}
+use Rattle.std.specs.List.{slice_get}
 use Rattle.std.proofs.lemmas.List.{take-take, drop-take}
 use Rattle.std.proofs.lemmas.Str.{IsUtf8-encode, IsUtf8-take}
 use Rattle.std.specs.Char.{len_utf8}
 use Rattle.uni_text.specs.Characters.{char_at, char_before, first_char, last_char, IsChecked, IsPlace, IsCharSpan}
 use Rattle.uni_text.proofs.CharLemmas.{last_char-append}
 use Rattle.match_items.specs.Scene.{Scene}
-use Rattle.match_items.specs.Items.{place_before}
+use Rattle.match_items.specs.Items.{place_before, places_back}
 
 -- the text up to the end of a character that begins at a place
 up_to : (bytes : List ℕ) (at n c : ℕ) → at ≤ n → take (n - at) (drop at bytes) ≡ encode c → take n bytes ≡ take at bytes ++ encode c
@@ -37,3 +38,24 @@ pub place_before-next : (g : Scene) (p c q : ℕ) → IsChecked g.options.utf g.
     IsCharSpan g.options.utf g.subject c p q → p < q → place_before g q ≡ p
 place_before-next g p c q checked place value span forward =
     place_before-some g q (omega arith) ∙ char_before-char_at g.options.utf g.subject p c q checked place value span
+
+-- So many characters back: none at the start, one step at a time, and none left.
+
+pub back_none : (g : Scene) (n p : ℕ) → 0 < n → p ≡ 0 → slice_get (places_back g n p) n ≡ None
+unfolding places_back
+back_none g zero p some start = absurd (omega arith)
+back_none g (suc n) zero some start = refl
+back_none g (suc n) (suc p) some start = absurd (omega arith)
+
+one_back : (g : Scene) (m p : ℕ) → 0 < p → slice_get (places_back g (suc m) p) (suc m) ≡ slice_get (places_back g m (place_before g p)) m
+unfolding places_back
+one_back g m zero some = absurd (omega arith)
+one_back g m (suc p) some = refl
+
+pub back_more : (g : Scene) (m n p : ℕ) → n ≡ suc m → 0 < p → slice_get (places_back g n p) n ≡ slice_get (places_back g m (place_before g p)) m
+back_more g m n p is some = ap (λ k. slice_get (places_back g k p) k) is ∙ one_back g m p some
+
+pub back_done : (g : Scene) (n p : ℕ) → n ≤ 0 → slice_get (places_back g n p) n ≡ Some p
+unfolding places_back
+back_done g zero p none = refl
+back_done g (suc n) p none = absurd (omega arith)

@@ -50,7 +50,7 @@ module _ (g : Scene) (utf : g.options.utf ≡ true) where
   pub characters_are : (bytes : List ℕ) → characters g bytes ≡ chars bytes
   characters_are bytes = ap (λ (u : Bool). elim u as (λ _. List ℕ) [ true ↦ chars bytes | false ↦ bytes ]) utf
 
-  width_is : (cs : List ℕ) → width g cs ≡ sum_by len_utf8 cs
+  pub width_is : (cs : List ℕ) → width g cs ≡ sum_by len_utf8 cs
   width_is cs = ap (λ (u : Bool). elim u as (λ _. ℕ) [ true ↦ sum_by len_utf8 cs | false ↦ length cs ]) utf
 
   width_next : (c : ℕ) (cs : List ℕ) → width g (c ∷ cs) ≡ len_utf8 c + width g cs

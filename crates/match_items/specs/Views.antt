@@ -15,7 +15,7 @@ use Rattle.match_items.specs.declared.view.Taken.TheVariants.{Took, No, AtEnd}
 use Rattle.match_items.specs.Scene.{Scene}
 use Rattle.match_items.specs.Items.{is_end, is_none_left, one_less, item_reaches, longest_run, place_before, run_reaches}
 
--- a character's folding: in UTF the simple one of Unicode, and outside it that of the letters of ASCII
+-- a character's folding: in UTF the simple one of Unicode, and outside it that of ASCII's letters
 abbrev pub fold_in : Bool → ℕ → ℕ
 fold_in utf c = if utf then unicode.fold c else ascii_fold c
 
@@ -68,11 +68,13 @@ abbrev pub end_of : ℕ → List ℕ → ℕ
 end_of p [] = p
 end_of p (q ∷ qs) = end_of q qs
 
--- a run has as many characters as the longest one and ends where it ends, and these two tell whether it reaches the subject's end
+-- a run has as many characters as the longest one and ends where it ends, and both tell whether
+-- it reaches the subject's end
 pub record IsWalk (g : Scene) (item : Item) (max p : ℕ) (walk : Walk) : Type 0 where
   pub count : walk.count ≡ length (longest_run g item (maximum max) p)
   pub to : walk.to ≡ end_of p (longest_run g item (maximum max) p)
-  pub at_end : (is_end g walk.to && (nat_lt walk.count max || nat_lt p walk.to && item_reaches g item (place_before g walk.to)))
+  pub at_end : (is_end g walk.to
+      && (nat_lt walk.count max || nat_lt p walk.to && item_reaches g item (place_before g walk.to)))
       ≡ run_reaches g item (maximum max) p (longest_run g item (maximum max) p)
 
 -- how many tests of classes the item makes at a place: one where it is a class and a character stands there

@@ -9,11 +9,12 @@ use crate::view::{Held, Taken, View};
 use pat_tree::{AnchorKind, Newline, newline_at, newline_before};
 use uni_text::{char_at, char_before, is_word};
 
-/// Tests `\R` at a place (pcre2pattern, "Newline sequences"). It reaches the subject's end where it is tried there, and where it took
-/// a CR that is the last byte, which is told as taken (pcre2partial).
+/// Tests `\R` at a place (pcre2pattern, "Newline sequences"). It reaches the subject's end where it
+/// is tried there, and where it took a CR that is the last byte, which is told as taken
+/// (pcre2partial).
 ///
-/// Needs a subject of fewer than 4,294,967,295 bytes and a place in it; in UTF the subject must be UTF-8, and a character must begin
-/// at the place.
+/// Needs a subject of fewer than 4,294,967,295 bytes and a place in it; in UTF the subject must be
+/// UTF-8, and a character must begin at the place.
 pub fn text_break_step(view: &View<'_>, at: usize) -> Taken
     requires subject { IsText view.now.options.now view.now.subject.now }
     requires place { IsTextPlace view.now.options.now view.now.subject.now at }
@@ -41,11 +42,11 @@ fn break_len(view: &View<'_>, at: usize) -> usize
     )
 }
 
-/// Tests a simple assertion at a place, and tells whether it reaches the subject's end (pcre2pattern, "Simple assertions",
-/// "Circumflex and dollar"; pcre2partial).
+/// Tests a simple assertion at a place, and tells whether it reaches the subject's end
+/// (pcre2pattern, "Simple assertions", "Circumflex and dollar"; pcre2partial).
 ///
-/// Needs a subject of fewer than 4,294,967,295 bytes and a place in it; in UTF the subject must be UTF-8, and a character must begin
-/// at the place.
+/// Needs a subject of fewer than 4,294,967,295 bytes and a place in it; in UTF the subject must be
+/// UTF-8, and a character must begin at the place.
 pub fn text_anchor(view: &View<'_>, kind: AnchorKind, at: usize) -> Held
     requires subject { IsText view.now.options.now view.now.subject.now }
     requires place { IsTextPlace view.now.options.now view.now.subject.now at }

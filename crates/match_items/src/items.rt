@@ -13,12 +13,13 @@ use pat_tree::{Item, Steps, newline_at};
 use std::sync::ledger::Ledger;
 use uni_text::char_at;
 
-/// Tests one item at a place: it takes the character there or none (pcre2pattern, "Full stop (period, dot) and \N", "Square brackets
-/// and character classes"). It reaches the subject's end where it is tried there (pcre2partial); a CR that is the last byte
-/// and may be the first half of a newline is taken all the same. A class counts one test where a character stands there.
+/// Tests one item at a place: it takes the character there or none (pcre2pattern, "Full stop
+/// (period, dot) and \N", "Square brackets and character classes"). It reaches the subject's end
+/// where it is tried there (pcre2partial); a CR that is the last byte and may be the first half of
+/// a newline is taken all the same. A class counts one test where a character stands there.
 ///
-/// Needs a subject of fewer than 4,294,967,295 bytes, a place in it, and a class of the table; in UTF the subject must be UTF-8,
-/// and a character must begin at the place.
+/// Needs a subject of fewer than 4,294,967,295 bytes, a place in it, and a class of the table; in
+/// UTF the subject must be UTF-8, and a character must begin at the place.
 pub fn step<L: Ledger>(
     view: &View<'_>,
     classes: &ClassTable,
@@ -31,7 +32,8 @@ pub fn step<L: Ledger>(
     requires class { All (λ n. n < length classes.now) (class_in item.now) }
     ensures takes { let g = text_scene view.now classes.now
         in result ≡ told (after_item g item.now at) (item_reaches g item.now at) }
-    ensures tests { steps.new ≡ steps.old + step_tests (text_scene view.now classes.now) item.now at }
+    ensures tests { steps.new
+        ≡ steps.old + step_tests (text_scene view.now classes.now) item.now at }
 {
     if at == view.subject.len() {
         return Taken::AtEnd;
@@ -57,7 +59,8 @@ pub(crate) fn takes<L: Ledger>(
     requires place { at < length view.now.subject.now }
     requires class { All (λ n. n < length classes.now) (class_in item.now) }
     ensures value { result ≡ items.takes (text_scene view.now classes.now) item.now at c }
-    ensures tests { steps.new ≡ steps.old + step_tests (text_scene view.now classes.now) item.now at }
+    ensures tests { steps.new
+        ≡ steps.old + step_tests (text_scene view.now classes.now) item.now at }
 {
     match *item {
         Item::Char {

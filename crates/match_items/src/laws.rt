@@ -1,5 +1,5 @@
 //! Laws on the definitions, and worked rows.
-ghost use Rattle.match_items.specs.Laws.{TablesShowClasses};
+ghost use Rattle.match_items.specs.Laws.{PlacesStand, TablesShowClasses};
 ghost use Rattle.match_items.specs.Rows.{WorkedRows};
 
 /// Seen through a tree's table, a class holds of what the tree's class takes.
@@ -10,4 +10,10 @@ pub fn tables_show_classes()
 /// The definitions computed: items, runs of one item, `\R`, references and simple assertions.
 pub fn worked_rows()
     ensures { WorkedRows }
+{}
+
+/// In a subject that can be looked at, items, `\R` and references go from place to place, in UTF
+/// too.
+pub fn places_stand()
+    ensures { PlacesStand }
 {}

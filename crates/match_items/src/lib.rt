@@ -3,6 +3,7 @@
 #![tactic(auto)]
 
 mod anchors;
+mod backward;
 mod bytes;
 mod items;
 mod laws;
@@ -17,9 +18,10 @@ mod view;
 mod walks;
 
 pub use anchors::{text_anchor, text_break_step};
+pub use backward::{text_back, text_before};
 pub use bytes::{anchor, break_step, ref_step};
 pub use items::step;
-pub use laws::{tables_show_classes, worked_rows};
+pub use laws::{places_stand, tables_show_classes, worked_rows};
 pub use references::text_ref_step;
 pub use runs::run_len;
 pub use uncounted::{item_run, item_step};

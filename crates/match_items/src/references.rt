@@ -9,12 +9,13 @@ use crate::items::agrees;
 use crate::view::{Taken, View};
 use uni_text::char_at;
 
-/// Tests whether the text between two places stands again at a place, under `caseless` in any case: by the foldings of Unicode in UTF,
-/// and outside it by the letters of ASCII (pcre2pattern, "Backreferences"). It reaches the subject's end where fewer characters are
-/// left and all of them agree (pcre2partial).
+/// Tests whether the text between two places stands again at a place, under `caseless` in any case:
+/// by the foldings of Unicode in UTF, and outside it by the letters of ASCII (pcre2pattern,
+/// "Backreferences"). It reaches the subject's end where fewer characters are left and all of them
+/// agree (pcre2partial).
 ///
-/// Needs a subject of fewer than 4,294,967,295 bytes, and places in it of which `from` is at most `to`; in UTF the subject must be
-/// UTF-8, and a character must begin at each place.
+/// Needs a subject of fewer than 4,294,967,295 bytes, and places in it of which `from` is at most
+/// `to`; in UTF the subject must be UTF-8, and a character must begin at each place.
 pub fn text_ref_step(view: &View<'_>, from: usize, to: usize, caseless: bool, at: usize) -> Taken
     requires subject { IsText view.now.options.now view.now.subject.now }
     requires from { IsTextPlace view.now.options.now view.now.subject.now from }

@@ -11,6 +11,7 @@ ghost use Rattle.match_items.specs.Items.{takes, is_end, item_reaches, longest_r
 ghost use Rattle.match_items.specs.Views.{text_scene, bare_text, maximum, IsWalk, run_tests, span_tests, end_of};
 
 use crate::anchors::is_half_newline;
+use crate::backward::text_before;
 use crate::items::fold;
 use crate::view::{ItemRun, View};
 use crate::walks::{Walk, text_walk};
@@ -18,15 +19,15 @@ use byte_lanes::find_line_end;
 use char_sets::ClassTable;
 use pat_tree::{Item, Steps};
 use std::sync::ledger::Ledger;
-use uni_text::char_before;
 
-/// The longest run of an item from a place on, of `max` characters at most; `u32::MAX` stands for no maximum (pcre2pattern,
-/// "Repetition"). It tells whether one of its tests reaches the subject's end: the one at the end, which is made where fewer than the
-/// maximum are taken, and that of a last CR that may be the first half of a newline (pcre2partial). A class counts one test at each
+/// The longest run of an item from a place on, of `max` characters at most; `u32::MAX` stands for
+/// no maximum (pcre2pattern, "Repetition"). It tells whether one of its tests reaches the subject's
+/// end: the one at the end, which is made where fewer than the maximum are taken, and that of a
+/// last CR that may be the first half of a newline (pcre2partial). A class counts one test at each
 /// place that is tried before the end: at most one more than the run has characters.
 ///
-/// Needs a subject of fewer than 4,294,967,295 bytes, a place in it, and a class of the table; in UTF the subject must be UTF-8,
-/// and a character must begin at the place.
+/// Needs a subject of fewer than 4,294,967,295 bytes, a place in it, and a class of the table; in
+/// UTF the subject must be UTF-8, and a character must begin at the place.
 pub fn run_len<L: Ledger>(
     view: &View<'_>,
     classes: &ClassTable,
@@ -199,7 +200,8 @@ fn line_run(view: &View<'_>, from: usize, limit: usize) -> usize
     end.at.min(limit)
 }
 
-/// Whether a run between two places reaches the subject's end. `fewer` says that it has fewer characters than its maximum.
+/// Whether a run between two places reaches the subject's end. `fewer` says that it has fewer
+/// characters than its maximum.
 fn reaches(view: &View<'_>, item: &Item, from: usize, to: usize, fewer: bool) -> bool
     requires subject { IsText view.now.options.now view.now.subject.now }
     requires place { IsTextPlace view.now.options.now view.now.subject.now to }
@@ -210,16 +212,7 @@ fn reaches(view: &View<'_>, item: &Item, from: usize, to: usize, fewer: bool) ->
         return false;
     }
     fewer
-        || from < to && matches!(item, Item::NotNewline) && is_half_newline(view, before(view, to))
-}
-
-/// The place of the character before a place that isn't the first.
-fn before(view: &View<'_>, at: usize) -> usize
-    requires subject { IsText view.now.options.now view.now.subject.now }
-    requires place { IsTextPlace view.now.options.now view.now.subject.now at }
-    requires some { 0 < at }
-    ensures value { result ≡ place_before (bare_text view.now) at }
-    ensures place { IsTextPlace view.now.options.now view.now.subject.now result }
-{
-    char_before(view.subject, at, view.options.utf).1
+        || from < to
+            && matches!(item, Item::NotNewline)
+            && is_half_newline(view, text_before(view, to))
 }

@@ -139,8 +139,8 @@ const FOLDED: Item = Item::Char {
     caseless: true,
 };
 
-// A text of two characters in three bytes, and whether their run, where CRLF ends a line, reaches the
-// end.
+// A text of two characters in three bytes, and whether their run, where CRLF ends a line, reaches
+// the end.
 fn dots<L: Ledger>(
     rt: &impl Abort,
     table: &ClassTable,
@@ -337,4 +337,27 @@ fn words_and_lines_of_unicode_have_edges(rt: HostRuntime) {
         &places,
         b"...**",
     );
+}
+
+// Places of `TEXT`, so many characters back from them, and where that is.
+const BACK: [(usize, u32, Option<usize>); 6] = [
+    (17, 0, Some(17)),
+    (17, 1, Some(16)),
+    (17, 7, Some(0)),
+    (17, 8, None),
+    (6, 2, Some(1)),
+    (0, 1, None),
+];
+
+#[test]
+fn places_go_back_by_characters(rt: HostRuntime) {
+    let options = Options {
+        utf: true,
+        ..Options::PLAIN
+    };
+    let view = view_of(TEXT, &options);
+    for (at, count, place) in BACK {
+        assert!(rt; TEXT.is_char_boundary(at) && TEXT.len() < 100);
+        assert_eq!(rt; text_back(&view, at, count), place, "{count} before {at}");
+    }
 }

@@ -1,4 +1,5 @@
-//! The tests of items where each character is a byte and nobody counts the tests of classes: each has a counter of its own.
+//! The tests of items where each character is a byte and nobody counts the tests of classes: each
+//! has a counter of its own.
 ghost use Rattle.std.specs.Prelude.{◌≡◌, ◌<◌, All, length};
 ghost use Rattle.pat_tree.specs.Rules.{class_in};
 ghost use Rattle.match_items.specs.Subjects.{IsSubject, IsPlace};
