@@ -1,5 +1,5 @@
 // Sets of bytes, and the least place of a member.
-ghost use Rattle.std.specs.Prelude.{◌≡◌, ℕ, ◌+◌, ◌<◌, ◌≤◌, ◌==◌, ◌||◌, List, Bool, true, false, length, slice_index};
+ghost use Rattle.std.specs.Prelude.{◌≡◌, ℕ, ◌+◌, ◌<◌, ◌≤◌, ◌==◌, ◌||◌, List, Bool, true, false, length, slice_index, bit_or};
 ghost use Rattle.byte_lanes.specs.Places.{IsLeast, least_from};
 ghost use Rattle.byte_lanes.specs.Lanes.{HasLanes};
 ghost use Rattle.byte_lanes.specs.Sets.{flags, flag, has_byte, IsIn};
@@ -27,6 +27,19 @@ impl Model for ByteSet {
     ghost view = { λ s. flags s.low s.high };
 }
 
+// Each row with the bits of both tables.
+fn joined(one: &[u8; 16], other: &[u8; 16]) -> [u8; 16]
+    ensures long { length result ≡ 16 }
+    ensures rows { (i : ℕ) → i < 16
+        → slice_index result i ≡ bit_or (slice_index one.now i) (slice_index other.now i) }
+{
+    let mut rows = *one;
+    for i in 0..16 {
+        rows[i] |= other[i];
+    }
+    rows
+}
+
 impl ByteSet {
     /// The set without members.
     pub fn empty() -> ByteSet
@@ -47,6 +60,24 @@ impl ByteSet {
             self.low[row] |= 1 << (b / 16);
         } else {
             self.high[row] |= 1 << (b / 16 - 8);
+        }
+    }
+
+    /// Adds the members of another set.
+    pub fn add(&mut self, more: &ByteSet)
+        ensures { (k : ℕ) → has_byte self.new k ≡ (has_byte self.old k || has_byte more.now k) }
+    {
+        self.low = joined(&self.low, &more.low);
+        self.high = joined(&self.high, &more.high);
+    }
+
+    /// A set with the same members.
+    pub fn copied(&self) -> ByteSet
+        ensures { result ≡ self.now }
+    {
+        ByteSet {
+            low: self.low,
+            high: self.high,
         }
     }
 

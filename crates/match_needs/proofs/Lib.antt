@@ -1,4 +1,3 @@
 pub mod Backwards
-pub mod SetLemmas
 pub mod BoundLemmas
 pub mod NeedLemmas

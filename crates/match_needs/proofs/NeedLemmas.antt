@@ -9,7 +9,7 @@ use Rattle.pat_tree.specs.Nested as tree
 use Rattle.pat_tree.specs.Nested.{Nested, Row, row}
 use Rattle.pat_tree.specs.Parts.{TreeParts, tree_of}
 use Rattle.char_sets.specs.Sets.{class_has}
-use Rattle.match_needs.specs.Needs.{may_take, TakesOf, Needs, SomeNeeds, AllNeed}
+use Rattle.match_needs.specs.Needs.{Needs, SomeNeeds, AllNeed}
 use Rattle.match_needs.specs.NeedTables.{IsItemNeed, IsNeed, AreAllNeeds, AreNeeds, IsNeedOf}
 use Rattle.match_needs.specs.Bounds.{bound}
 use Rattle.match_needs.specs.declared.bounds.Bound.{Bound}
@@ -95,11 +95,6 @@ pub need_read : (needs : List (Option Wanted)) (xs : List ℕ) (i : ℕ) (first 
 need_read needs xs i first l all is = is ∙ get_or_default needs (get_or xs i 0) first None (All-get_or (λ k. k < length needs) xs i 0 l all)
 
 -- Of an item, and of what holds it.
-
-pub item_told : (t : TreeParts) (item : Item) (bytes : List Bool) (r : Option Wanted) → IfSome r (λ w. w.bytes ≡ bytes) →
-    ((b : ℕ) → b < 256 → may_take (class_has t) item b ≡ true → has_byte bytes b ≡ true) → IfSome r (IsItemNeed (class_has t) item)
-item_told t item bytes None h k = tt
-item_told t item bytes (Some w) h k = subst (λ bs. TakesOf (class_has t) (has_byte bs) item) (sym h) k
 
 pub needs_one : (classes : ℕ → ℕ → Bool) (item : Item) (r : Option Wanted) → IfSome r (IsItemNeed classes item) → IsNeed classes (tree.one item) r
 needs_one classes item None h = tt

@@ -4,9 +4,7 @@
 
 mod bounds;
 mod needs;
-mod sets;
 mod taken;
 
 pub use bounds::{Bound, Growth};
 pub use needs::{Need, need_of};
-pub use sets::{add_all, copied};

@@ -1,6 +1,7 @@
 // Bytes of which every match of a part of a pattern takes one.
 ghost use Rattle.std.specs.Prelude.{◌≡◌, ℕ, ◌+◌, ◌<◌, ◌&&◌, if◌then◌else◌, Bool, false, None, All, List, map, IfOk, IfSome, length};
 ghost use Rattle.byte_lanes.specs.Sets.{has_byte};
+ghost use Rattle.pat_tree.specs.declared.nodes.Item.TheVariants.{Char};
 ghost use Rattle.pat_tree.specs.Nested.{Nested, Row, more, trees, nest, row};
 ghost use Rattle.pat_tree.specs.Parts.{TreeParts};
 ghost use Rattle.pat_tree.specs.Rules.{kids_of, classes_of, class_in};
@@ -10,8 +11,7 @@ ghost use Rattle.match_needs.specs.Needs.{Needs, SomeNeeds};
 ghost use Rattle.match_needs.specs.NeedTables.{IsNeed, IsItemNeed, AreAllNeeds, KeepNeeds, AreNeeds, IsNeedOf};
 
 use crate::bounds::{Bound, bound_of_whole};
-use crate::sets::{add_all, copied};
-use crate::taken::taken_bytes;
+use crate::taken::may_take;
 use byte_lanes::ByteSet;
 use char_sets::ClassTable;
 use pat_tree::{Item, Memory, Node, NodeId, Steps, Tree};
@@ -90,7 +90,7 @@ fn with_bound(need: &Option<Wanted>, bound: Bound) -> Option<Need>
 {
     match need {
         Some(wanted) => Some(Need {
-            bytes: copied(&wanted.bytes),
+            bytes: wanted.bytes.copied(),
             bound,
         }),
         None => None,
@@ -159,32 +159,46 @@ fn item_need<L: Ledger>(classes: &ClassTable, item: &Item, steps: &mut Steps<L>)
         → IfSome result (IsItemNeed (class_has tree) item.now) }
 {
     match item {
-        Item::Char { .. } => rare(taken_bytes(classes, item, steps)),
-        Item::Class(_) => rare(taken_bytes(classes, item, steps)),
+        Item::Char { c, caseless: false } => one_byte(*c),
+        Item::Char { .. } => rare_bytes(classes, item, steps),
+        Item::Class(_) => rare_bytes(classes, item, steps),
         _ => None,
     }
 }
 
-/// A set, where it is rare enough.
-fn rare(bytes: ByteSet) -> Option<Wanted>
-    ensures { IfSome result (λ w. w.bytes ≡ bytes) }
+/// A character that is a byte, in its case alone.
+fn one_byte(c: u32) -> Option<Wanted>
+    ensures { (classes : ℕ → ℕ → Bool) → IfSome result (IsItemNeed classes (Char c false)) }
 {
-    let weight = weight_of(&bytes);
-    if weight > COMMON {
+    if c >= 256 {
         return None;
     }
-    Some(Wanted { bytes, weight })
+    let mut bytes = ByteSet::empty();
+    bytes.insert(c as u8);
+    Some(Wanted {
+        bytes,
+        weight: commonness(c as u8),
+    })
 }
 
-/// How common the bytes of a set are in text and sources.
-fn weight_of(bytes: &ByteSet) -> u32 {
+/// The bytes that an item may take, where they are rare enough.
+fn rare_bytes<L: Ledger>(classes: &ClassTable, item: &Item, steps: &mut Steps<L>) -> Option<Wanted>
+    requires class { All (λ n. n < length classes.now) (class_in item.now) }
+    ensures { (tree : TreeParts) → IsTableOf tree classes.now
+        → IfSome result (IsItemNeed (class_has tree) item.now) }
+{
+    let mut bytes = ByteSet::empty();
     let mut weight = 0u32;
     for b in 0..256u32 {
-        if bytes.has(b as u8) {
+        if may_take(classes, item, b as u8, steps) {
+            bytes.insert(b as u8);
             weight = weight.saturating_add(commonness(b as u8));
+            if weight > COMMON {
+                return None;
+            }
         }
     }
-    weight
+    Some(Wanted { bytes, weight })
 }
 
 /// How common a byte is: spaces most, then letters and digits, then signs.
@@ -232,7 +246,7 @@ fn copy_of(need: &Option<Wanted>) -> Option<Wanted>
 {
     match need {
         Some(wanted) => Some(Wanted {
-            bytes: copied(&wanted.bytes),
+            bytes: wanted.bytes.copied(),
             weight: wanted.weight,
         }),
         None => None,
@@ -266,7 +280,7 @@ fn joined(one: &Option<Wanted>, others: Option<Wanted>) -> Option<Wanted>
         return None;
     };
     let mut both = others?;
-    add_all(&mut both.bytes, &one.bytes);
+    both.bytes.add(&one.bytes);
     both.weight = both.weight.saturating_add(one.weight);
     if both.weight > COMMON {
         return None;

@@ -1,7 +1,6 @@
-// The bytes that an item may take, outside UTF.
+// Whether an item may take a byte, outside UTF.
 ghost use Rattle.std.specs.Prelude.{◌≡◌, ℕ, ◌<◌, All, Bool, length};
 ghost use Rattle.uni_text.specs.Ascii as ascii;
-ghost use Rattle.byte_lanes.specs.Sets.{has_byte};
 ghost use Rattle.pat_tree.specs.declared.nodes.Item.TheVariants.{Char};
 ghost use Rattle.pat_tree.specs.Parts.{TreeParts};
 ghost use Rattle.pat_tree.specs.Rules.{class_in};
@@ -9,32 +8,17 @@ ghost use Rattle.char_sets.specs.Sets.{class_has};
 ghost use Rattle.char_sets.specs.Table.{IsTableOf};
 ghost use Rattle.match_needs.specs.Needs.{may_take};
 
-use byte_lanes::ByteSet;
 use char_sets::ClassTable;
 use pat_tree::{Item, Steps};
 use std::sync::ledger::Ledger;
 
-/// The bytes that an item may take.
-pub(crate) fn taken_bytes<L: Ledger>(
+/// Whether an item may take a byte. A dot does, whatever newlines are.
+pub(crate) fn may_take<L: Ledger>(
     classes: &ClassTable,
     item: &Item,
+    byte: u8,
     steps: &mut Steps<L>,
-) -> ByteSet
-    requires class { All (λ n. n < length classes.now) (class_in item.now) }
-    ensures { (tree : TreeParts) → IsTableOf tree classes.now → (b : ℕ) → b < 256
-        → has_byte result b ≡ may_take (class_has tree) item.now b }
-{
-    let mut bytes = ByteSet::empty();
-    for b in 0..256u32 {
-        if may_take(classes, item, b as u8, steps) {
-            bytes.insert(b as u8);
-        }
-    }
-    bytes
-}
-
-/// Whether an item may take a byte. A dot does, whatever newlines are.
-fn may_take<L: Ledger>(classes: &ClassTable, item: &Item, byte: u8, steps: &mut Steps<L>) -> bool
+) -> bool
     requires class { All (λ n. n < length classes.now) (class_in item.now) }
     ensures { (tree : TreeParts) → IsTableOf tree classes.now
         → result ≡ may_take (class_has tree) item.now byte }

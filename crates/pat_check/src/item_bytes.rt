@@ -24,11 +24,25 @@ pub(crate) fn item_bytes<L: Ledger>(
     ensures { (fold : ℕ → ℕ) → FoldsIn tree.now.options.utf fold → (b : ℕ) → b < 256
         → has_byte result b ≡ item_lead_in tree.now fold item.now b }
 {
+    if let Item::Char { c, caseless: false } = *item {
+        return one_byte(first_byte(c, tree.options().utf));
+    }
     let mut bytes = ByteSet::empty();
     for b in 0..256u32 {
         if begins(tree, classes, item, b as u8, steps) {
             bytes.insert(b as u8);
         }
+    }
+    bytes
+}
+
+/// The set of this byte alone, where there is one.
+fn one_byte(byte: Option<u8>) -> ByteSet
+    ensures { (b : ℕ) → has_byte result b ≡ is_first byte b }
+{
+    let mut bytes = ByteSet::empty();
+    if let Some(byte) = byte {
+        bytes.insert(byte);
     }
     bytes
 }

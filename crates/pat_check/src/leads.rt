@@ -12,7 +12,6 @@ use crate::item_bytes::{break_bytes, item_bytes};
 use crate::starts::{Start, begin, in_turn, one_of, one_of_condition, passed, repeated};
 use byte_lanes::ByteSet;
 use char_sets::ClassTable;
-use match_needs::copied;
 use pat_tree::{Memory, Node, Steps, Tree};
 use std::alloc::Global;
 use std::sync::ledger::Ledger;
@@ -38,7 +37,7 @@ fn known_set(start: &Option<Start>) -> Option<ByteSet>
     ensures { (x : SomeLead) → IsSomeLead start.now x → IsByteSet result (known_set x) }
 {
     match start {
-        Some(start) if !start.passing => Some(copied(&start.bytes)),
+        Some(start) if !start.passing => Some(start.bytes.copied()),
         _ => None,
     }
 }

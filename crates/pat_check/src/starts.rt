@@ -6,7 +6,6 @@ ghost use Rattle.pat_tree.specs.Rules.{number_in};
 ghost use Rattle.pat_check.specs.Starts.{IsSomeLead, AreKept, lead_of_parts, lead_of_branches, lead_of_condition};
 
 use byte_lanes::ByteSet;
-use match_needs::{add_all, copied};
 use pat_tree::{Cond, NodeId};
 
 /// The bytes that a part may begin with, and whether it may be passed without one.
@@ -46,10 +45,10 @@ fn followed(first: &Option<Start>, rest: Option<Start>) -> Option<Start>
         return None;
     };
     if !first.passing {
-        return begin(copied(&first.bytes));
+        return begin(first.bytes.copied());
     }
     let mut rest = rest?;
-    add_all(&mut rest.bytes, &first.bytes);
+    rest.bytes.add(&first.bytes);
     Some(rest)
 }
 
@@ -62,7 +61,7 @@ fn either(one: &Option<Start>, other: Option<Start>) -> Option<Start>
         return None;
     };
     let mut other = other?;
-    add_all(&mut other.bytes, &one.bytes);
+    other.bytes.add(&one.bytes);
     other.passing = one.passing || other.passing;
     Some(other)
 }
@@ -106,7 +105,7 @@ pub(crate) fn repeated(part: &Option<Start>, min: u16, max: Option<u16>) -> Opti
     }
     match part {
         Some(start) => Some(Start {
-            bytes: copied(&start.bytes),
+            bytes: start.bytes.copied(),
             passing: start.passing || min == 0,
         }),
         None => None,
@@ -138,7 +137,7 @@ fn copy_of(start: &Option<Start>) -> Option<Start>
 {
     match start {
         Some(start) => Some(Start {
-            bytes: copied(&start.bytes),
+            bytes: start.bytes.copied(),
             passing: start.passing,
         }),
         None => None,

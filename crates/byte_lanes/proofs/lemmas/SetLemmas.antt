@@ -1,10 +1,10 @@
 -- The two tables of a set of bytes.
-use Rattle.std.proofs.Common.{replicate, ◌≢◌, ◌⊎◌, inl, inr, ◌||◌, set, bit_or, w8, ◌≡◌, ℕ, ◌-◌, ◌*◌, ◌/◌, ◌%◌, ◌^◌, ◌<◌, ◌≤◌, Bool, true, false, cond, eqb, leb, List, [], ◌∷◌, length, get_or, map, refl, sym, ap, ◌∙◌, arith, ⊎_elim, bit_and, pow_pos}
+use Rattle.std.proofs.Common.{zero, suc, max, replicate, ◌≢◌, ◌⊎◌, inl, inr, ◌||◌, set, bit_or, w8, ◌≡◌, ℕ, ◌-◌, ◌*◌, ◌/◌, ◌%◌, ◌^◌, ◌<◌, ◌≤◌, Bool, true, false, cond, eqb, leb, List, [], ◌∷◌, length, get_or, map, refl, sym, ap, ◌∙◌, arith, ⊎_elim, bit_and, pow_pos}
 use Rattle.std.specs.Int.{bit_at}
 use Rattle.std.specs.List.{range_with_len}
 use Rattle.std.proofs.lemmas.List.FromFn.{get_or-map-range_with_len, length-range_with_len}
 use Rattle.std.proofs.lemmas.Simd.{get_or-replicate}
-use Rattle.std.proofs.lemmas.Nat.Bits.{and_pow, bit_at-lt, bit_at-zero, bit_at_set_same, bit_at_set_other}
+use Rattle.std.proofs.lemmas.Nat.Bits.{and_pow, bit_at-lt, bit_at_or, bit_at-zero, bit_at_set_same, bit_at_set_other}
 use Rattle.std.proofs.lemmas.List.{get_or-set_same, get_or-set_other, get_or_past, length-map}
 use Rattle.std.proofs.lemmas.Bool.{cases_Bool, cases_lt, cases_eq, eq-eqb, ne_eqb, lt-ltb, le-ltb, leb-false, leb-true}
 use Rattle.byte_lanes.specs.Sets.{member, flags}
@@ -162,3 +162,40 @@ pub inserted-high : (low high : List ℕ) (b : ℕ) → length high ≡ 16 → 1
 inserted-high low high b long large small k =
     ⊎_elim (λ l. byte_inserted-high low high b long large small k l)
     (λ h. no_byte low high low (with_bit high (b % 16) (b / 16 - 8)) b small k h) (cases_lt k 256)
+
+-- The rows of two sets together.
+
+one_of : (x y : ℕ) → x < 2 → y < 2 → eqb (max x y) 1 ≡ (eqb x 1 || eqb y 1)
+one_of zero zero l m = refl
+one_of zero (suc zero) l m = refl
+one_of (suc zero) zero l m = refl
+one_of (suc zero) (suc zero) l m = refl
+one_of (suc (suc x)) y l m = absurd (omega arith)
+one_of zero (suc (suc y)) l m = absurd (omega arith)
+one_of (suc zero) (suc (suc y)) l m = absurd (omega arith)
+
+bit_of_both : (r a b j : ℕ) → r ≡ bit_or a b → eqb (bit_at r j) 1 ≡ (eqb (bit_at a j) 1 || eqb (bit_at b j) 1)
+bit_of_both r a b j e = ap (λ n. eqb (bit_at n j) 1) e ∙ ap (λ n. eqb n 1) (bit_at_or a b j) ∙ one_of (bit_at a j) (bit_at b j) (bit_at-lt a j) (bit_at-lt b j)
+
+abbrev pub AreJoined : List ℕ → List ℕ → List ℕ → Type 0
+AreJoined rows one other = (i : ℕ) → i < 16 → get_or rows i 0 ≡ bit_or (get_or one i 0) (get_or other i 0)
+
+module _ (low high low1 high1 low2 high2 : List ℕ) (lows : AreJoined low low1 low2) (highs : AreJoined high high1 high2) where
+  byte_joined : (k : ℕ) → k < 256 → get_or (flags low high) k false ≡ (get_or (flags low1 high1) k false || get_or (flags low2 high2) k false)
+  byte_joined k l =
+      flags-member low high k l
+      ∙ ⊎_elim
+      (λ below.
+      member-low low high k below ∙ bit_of_both _ _ _ (k / 16) (lows (k % 16) (omega arith))
+      ∙ sym ((λ i. (member-low low1 high1 k below i || member-low low2 high2 k below i))))
+      (λ above.
+      member-high low high k above ∙ bit_of_both _ _ _ (k / 16 - 8) (highs (k % 16) (omega arith))
+      ∙ sym ((λ i. (member-high low1 high1 k above i || member-high low2 high2 k above i))))
+      (cases_lt k 128)
+      ∙ sym (λ i. (flags-member low1 high1 k l i || flags-member low2 high2 k l i))
+
+  pub joined-flags : (k : ℕ) → get_or (flags low high) k false ≡ (get_or (flags low1 high1) k false || get_or (flags low2 high2) k false)
+  joined-flags k =
+      ⊎_elim (λ l. byte_joined k l)
+      (λ past. flags-past low high k past ∙ sym (λ i. (flags-past low1 high1 k past i || flags-past low2 high2 k past i)))
+      (cases_lt k 256)
