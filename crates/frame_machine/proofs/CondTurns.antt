@@ -16,7 +16,7 @@ use Rattle.frame_store.specs.Captures.{Captures, HasGroup, capture}
 use Rattle.frame_store.specs.Entry.{Site, Entry, LookTest, DenialTest, AtomicLeft, entry_site, entry_in, entry_of, entries, site_of, kept_of}
 use Rattle.frame_store.proofs.EntryLemmas.{entry_of-look_test, entry_of-denial_test}
 use Rattle.ordered_search.specs.Stream.{State}
-use Rattle.ordered_search.specs.Parts.{some_set}
+use Rattle.ordered_search.specs.Parts.{some_set, is_called, is_called_of}
 use Rattle.ordered_search.specs.PlaceAnswer.{answers, FrameLimit}
 use Rattle.ordered_search.specs.Moves.{Moves, pause, holding, Follow, Handler, tread}
 use Rattle.frame_store.specs.Undo.{taken_back}
@@ -34,8 +34,10 @@ use Rattle.frame_machine.specs.Conditions.{IsChoice, IsTest, IsLook, test_entry,
 use Rattle.frame_machine.specs.Stops.{record_at}
 use Rattle.frame_machine.proofs.KidParts.{kid_parts}
 use Rattle.frame_machine.proofs.PartPaths.{tree_by, kid_paths, branched_look, behind_look, fixed_look, enter_any_set, enter_never, enter_in_call, enter_in_call_of, enter_test}
-use Rattle.frame_machine.proofs.Frames.{hand_same, inside_of, no_calls, focus_towards, running_towards, framed}
+use Rattle.frame_machine.proofs.Frames.{hand_same, inside_of, focus_towards, running_towards, framed}
 use Rattle.frame_machine.proofs.Advance.{holding_full, advance_pause, over_units}
+use Rattle.frame_machine.specs.Calls.{calls_at}
+use Rattle.frame_machine.proofs.CallFrames.{around_calls}
 use Rattle.frame_machine.proofs.Turns.{deep, opens_as}
 use Rattle.frame_machine.proofs.LeaveTurns.{stop_leave, turn_leave}
 
@@ -131,8 +133,8 @@ set_slots c q test yes' no' ns caps i e same =
 
 -- a condition is entered
 module _ (c : Ground) (ok : IsGround c) (q : ℕ) (spot : Spot) (stack : List Entry) (caps : Captures) (v : IsValid c (conf (Enter q) spot stack caps)) where
-  calls_none : (spot_state c spot stack caps).calls ≡ []
-  calls_none = no_calls c spot.left (length caps) stack spot.frame v.records
+  calls_are : calls_at stack spot.frame ≡ (spot_state c spot stack caps).calls
+  calls_are = sym (around_calls c stack spot.frame)
 
   module _ (holds : Bool) (next : Next) (choice : IsChoice c q holds next) where
     chosen : ahead c (conf (Enter q) spot stack caps)
@@ -148,20 +150,27 @@ module _ (c : Ground) (ok : IsGround c) (q : ℕ) (spot : Spot) (stack : List En
       let n : Node = node.Cond test yes' no' in
       chosen (some_set caps ns) next choice (enter_any_set c ok q n i _ _ _ _ _ (deep c ok q spot stack caps v n i) ns yes' no' (ap (λ t. node.Cond t yes' no') e))
 
-  -- a test that holds nowhere yet
-  pub turn_unmet : (test : Cond) (yes' : ℕ) (no' : Option ℕ) → IsNode c q (node.Cond test yes' no') → ((ns : List ℕ) → test ≡ cond.AnySet ns → ⊥) → ((p : ℕ) → test ≡ cond.Assert p → ⊥) →
+  -- a test of the active calls
+  pub turn_in_call : (test : Cond) (yes' : ℕ) (no' : Option ℕ) → IsNode c q (node.Cond test yes' no') → test ≡ cond.InCall →
+      (next : Next) → IsChoice c q (is_called (calls_at stack spot.frame)) next → Advances c (conf (Enter q) spot stack caps) (conf next spot stack caps)
+  turn_in_call test yes' no' i e next choice =
+      let n : Node = node.Cond test yes' no' in
+      chosen (is_called (spot_state c spot stack caps).calls) next (subst (λ l. IsChoice c q (is_called l) next) calls_are choice)
+      (enter_in_call c ok q n i _ _ _ _ _ (deep c ok q spot stack caps v n i) yes' no' (ap (λ t. node.Cond t yes' no') e))
+
+  pub turn_in_call_of : (test : Cond) (ns : List ℕ) (yes' : ℕ) (no' : Option ℕ) → IsNode c q (node.Cond test yes' no') → test ≡ cond.InCallOf ns →
+      (next : Next) → IsChoice c q (is_called_of (calls_at stack spot.frame) ns) next → Advances c (conf (Enter q) spot stack caps) (conf next spot stack caps)
+  turn_in_call_of test ns yes' no' i e next choice =
+      let n : Node = node.Cond test yes' no' in
+      chosen (is_called_of (spot_state c spot stack caps).calls ns) next (subst (λ l. IsChoice c q (is_called_of l ns) next) calls_are choice)
+      (enter_in_call_of c ok q n i _ _ _ _ _ (deep c ok q spot stack caps v n i) ns yes' no' (ap (λ t. node.Cond t yes' no') e))
+
+  -- a definition
+  pub turn_never : (test : Cond) (yes' : ℕ) (no' : Option ℕ) → IsNode c q (node.Cond test yes' no') → test ≡ cond.Never →
       (next : Next) → IsChoice c q false next → Advances c (conf (Enter q) spot stack caps) (conf next spot stack caps)
-  turn_unmet (cond.AnySet ns) yes' no' i a b next choice = absurd (a ns refl)
-  turn_unmet (cond.Assert p) yes' no' i a b next choice = absurd (b p refl)
-  turn_unmet cond.InCall yes' no' i a b next choice =
-      let n : Node = node.Cond cond.InCall yes' no' in
-      chosen false next choice (enter_in_call c ok q n i _ _ _ _ _ (deep c ok q spot stack caps v n i) yes' no' refl calls_none)
-  turn_unmet (cond.InCallOf ns) yes' no' i a b next choice =
-      let n : Node = node.Cond (cond.InCallOf ns) yes' no' in
-      chosen false next choice (enter_in_call_of c ok q n i _ _ _ _ _ (deep c ok q spot stack caps v n i) ns yes' no' refl calls_none)
-  turn_unmet cond.Never yes' no' i a b next choice =
-      let n : Node = node.Cond cond.Never yes' no' in
-      chosen false next choice (enter_never c ok q n i _ _ _ _ _ (deep c ok q spot stack caps v n i) yes' no' refl)
+  turn_never test yes' no' i e next choice =
+      let n : Node = node.Cond test yes' no' in
+      chosen false next choice (enter_never c ok q n i _ _ _ _ _ (deep c ok q spot stack caps v n i) yes' no' (ap (λ t. node.Cond t yes' no') e))
 
   -- a lookaround as a test
   module _ (p : ℕ) (test : IsTest c q p) where

@@ -5,7 +5,7 @@ use Rattle.pat_tree.specs.Nested.{Nested, Row}
 use Rattle.match_items.specs.Items.{one_less}
 use Rattle.frame_store.specs.declared.records.Record.{Record}
 use Rattle.frame_store.specs.Captures.{Captures, capture, with_capture}
-use Rattle.frame_store.specs.Entry.{Site, Kept, Entry, Undo, GroupOpen, TurnOpen, TurnOrExit, AtomicOpen, LookOpen, LookAllOpen, LookTest, DenialOpen, DenialTest, CallOpen, entry_of, entries}
+use Rattle.frame_store.specs.Entry.{Site, Kept, Entry, Undo, GroupOpen, CalledGroup, TurnOpen, TurnOrExit, AtomicOpen, LookOpen, LookAllOpen, LookTest, DenialOpen, DenialTest, CallOpen, entry_of, entries}
 use Rattle.ordered_search.specs.Stream.{State, reached, captured}
 use Rattle.ordered_search.specs.Parts.{is_over}
 use Rattle.ordered_search.specs.PlaceAnswer.{answers, FrameLimit, PlaceAnswer, Matched, decision, outcome}
@@ -23,7 +23,7 @@ use Rattle.std.proofs.lemmas.List.{length-set, set-set, set-get_or}
 use Rattle.std.proofs.lemmas.List.Elements.{All-set}
 use Rattle.frame_store.specs.Undo.{taken_back}
 use Rattle.std.proofs.Common.{◌≢◌, ◌⊎◌, ◌&&◌, not}
-use Rattle.frame_store.specs.declared.kinds.TheConstants.{KIND_GROUP_OPEN, KIND_TURN_OPEN, KIND_TURN_OR_EXIT, KIND_ATOMIC_OPEN, KIND_LOOK_OPEN, KIND_LOOK_ALL_OPEN, KIND_DENIAL_OPEN, KIND_LOOK_TEST, KIND_DENIAL_TEST}
+use Rattle.frame_store.specs.declared.kinds.TheConstants.{KIND_GROUP_OPEN, KIND_TURN_OPEN, KIND_TURN_OR_EXIT, KIND_ATOMIC_OPEN, KIND_LOOK_OPEN, KIND_LOOK_ALL_OPEN, KIND_DENIAL_OPEN, KIND_LOOK_TEST, KIND_DENIAL_TEST, KIND_CALLED_GROUP, KIND_CALL_OPEN}
 use Rattle.frame_store.specs.Entry.{site_of, kept_of, entry_kind}
 use Rattle.frame_store.proofs.EntryLemmas.{entry_of-group_open, entry_of-turn_open, entry_of-turn_or_exit, entry_kind-not}
 use Rattle.frame_machine.specs.Stops.{spot_outcome, took_nothing, IsNumber, admitted}
@@ -48,7 +48,7 @@ less_more count j e (Some n) = let same : n - count - 1 ≡ n - j = omega (arith
 frame_less : (r : Entry) (a : Around) → (frame_around r a).depth ≤ a.depth
 frame_less (TurnOpen at kept count) a = omega arith
 frame_less (TurnOrExit at kept count) a = omega arith
-frame_less (CallOpen at kept group) a = omega arith
+frame_less (CallOpen at kept group last) a = omega arith
 frame_less _ a = omega arith
 
 around_le : (c : Ground) (stack : List Entry) (l : ℕ) → (around c stack l).depth ≤ match_limit c.setting + 1
@@ -91,28 +91,31 @@ module _ (c : Ground) (ok : IsGround c) (spot : Spot) (records : List Record) (c
   -- a record that is no frame
   stray_end : (r : Entry) → entry_kind r ≢ KIND_GROUP_OPEN → entry_kind r ≢ KIND_TURN_OPEN → entry_kind r ≢ KIND_TURN_OR_EXIT → entry_kind r ≢ KIND_ATOMIC_OPEN →
       entry_kind r ≢ KIND_LOOK_OPEN → entry_kind r ≢ KIND_LOOK_ALL_OPEN → entry_kind r ≢ KIND_DENIAL_OPEN →
-      entry_kind r ≢ KIND_LOOK_TEST → entry_kind r ≢ KIND_DENIAL_TEST → (a : Around) (k : Outside) (x : Captures) (out : Moves) (s : State) (f : Moves) →
+      entry_kind r ≢ KIND_LOOK_TEST → entry_kind r ≢ KIND_DENIAL_TEST → entry_kind r ≢ KIND_CALLED_GROUP → entry_kind r ≢ KIND_CALL_OPEN → (a : Around) (k : Outside) (x : Captures) (out : Moves) (s : State) (f : Moves) →
       frame_end c r a k x out reached s f ≡ pause f
-  stray_end (GroupOpen at' kept) o t e y l m d u w a k x out s f = absurd (o refl)
-  stray_end (TurnOpen at' kept count) o t e y l m d u w a k x out s f = absurd (t refl)
-  stray_end (TurnOrExit at' kept count) o t e y l m d u w a k x out s f = absurd (e refl)
-  stray_end (AtomicOpen at' kept) o t e y l m d u w a k x out s f = absurd (y refl)
-  stray_end (LookOpen at' kept) o t e y l m d u w a k x out s f = absurd (l refl)
-  stray_end (LookAllOpen at' kept) o t e y l m d u w a k x out s f = absurd (m refl)
-  stray_end (DenialOpen at' kept) o t e y l m d u w a k x out s f = absurd (d refl)
-  stray_end (LookTest at' kept) o t e y l m d u w a k x out s f = absurd (u refl)
-  stray_end (DenialTest at' kept) o t e y l m d u w a k x out s f = absurd (w refl)
-  stray_end _ o t e y l m d u w a k x out s f = refl
+  stray_end (GroupOpen at' kept) o t e y l m d u w g j a k x out s f = absurd (o refl)
+  stray_end (TurnOpen at' kept count) o t e y l m d u w g j a k x out s f = absurd (t refl)
+  stray_end (TurnOrExit at' kept count) o t e y l m d u w g j a k x out s f = absurd (e refl)
+  stray_end (AtomicOpen at' kept) o t e y l m d u w g j a k x out s f = absurd (y refl)
+  stray_end (LookOpen at' kept) o t e y l m d u w g j a k x out s f = absurd (l refl)
+  stray_end (LookAllOpen at' kept) o t e y l m d u w g j a k x out s f = absurd (m refl)
+  stray_end (DenialOpen at' kept) o t e y l m d u w g j a k x out s f = absurd (d refl)
+  stray_end (LookTest at' kept) o t e y l m d u w g j a k x out s f = absurd (u refl)
+  stray_end (DenialTest at' kept) o t e y l m d u w g j a k x out s f = absurd (w refl)
+  stray_end (CalledGroup at' kept) o t e y l m d u w g j a k x out s f = absurd (g refl)
+  stray_end (CallOpen at' kept group last) o t e y l m d u w g j a k x out s f = absurd (j refl)
+  stray_end _ o t e y l m d u w g j a k x out s f = refl
 
   pub turn_stray : p.kind ≢ KIND_GROUP_OPEN → p.kind ≢ KIND_TURN_OPEN → p.kind ≢ KIND_TURN_OR_EXIT → p.kind ≢ KIND_ATOMIC_OPEN → p.kind ≢ KIND_LOOK_OPEN →
-      p.kind ≢ KIND_LOOK_ALL_OPEN → p.kind ≢ KIND_DENIAL_OPEN → p.kind ≢ KIND_LOOK_TEST → p.kind ≢ KIND_DENIAL_TEST → Advances c (conf End spot (entries records) caps) (conf Back spot (entries records) caps)
-  turn_stray o t e y l m d u w =
+      p.kind ≢ KIND_LOOK_ALL_OPEN → p.kind ≢ KIND_DENIAL_OPEN → p.kind ≢ KIND_LOOK_TEST → p.kind ≢ KIND_DENIAL_TEST → p.kind ≢ KIND_CALLED_GROUP → p.kind ≢ KIND_CALL_OPEN → Advances c (conf End spot (entries records) caps) (conf Back spot (entries records) caps)
+  turn_stray o t e y l m d u w x j =
       let g = framed c spot.left (length caps) records caps h p (entry_of p) refl v.records at in
       goes_back c _ spot (entries records) caps v.records v.spans v.slots refl
       (ap (λ (k : Follow). k reached (spot_state c spot (entries records) caps) (fail c (entries records) caps)) (ap (cont c (entries records) caps) height ∙ g.ends)
       ∙ stray_end (entry_of p) (entry_kind-not p KIND_GROUP_OPEN (omega arith) o) (entry_kind-not p KIND_TURN_OPEN (omega arith) t) (entry_kind-not p KIND_TURN_OR_EXIT (omega arith) e)
       (entry_kind-not p KIND_ATOMIC_OPEN (omega arith) y) (entry_kind-not p KIND_LOOK_OPEN (omega arith) l) (entry_kind-not p KIND_LOOK_ALL_OPEN (omega arith) m) (entry_kind-not p KIND_DENIAL_OPEN (omega arith) d)
-      (entry_kind-not p KIND_LOOK_TEST (omega arith) u) (entry_kind-not p KIND_DENIAL_TEST (omega arith) w) _ _ _ _ _ _)
+      (entry_kind-not p KIND_LOOK_TEST (omega arith) u) (entry_kind-not p KIND_DENIAL_TEST (omega arith) w)
+      (entry_kind-not p KIND_CALLED_GROUP (omega arith) x) (entry_kind-not p KIND_CALL_OPEN (omega arith) j) _ _ _ _ _ _)
 
   -- a capturing group
   module _ (site : Site) (kept : Kept) (is : entry_of p ≡ GroupOpen site kept) where
@@ -251,8 +254,8 @@ module _ (c : Ground) (ok : IsGround c) (spot : Spot) (records : List Record) (c
   at_height = omega (arith, height)
 
   pub turn_no_frame : p.kind ≢ KIND_GROUP_OPEN → p.kind ≢ KIND_TURN_OPEN → p.kind ≢ KIND_TURN_OR_EXIT → p.kind ≢ KIND_ATOMIC_OPEN → p.kind ≢ KIND_LOOK_OPEN →
-      p.kind ≢ KIND_LOOK_ALL_OPEN → p.kind ≢ KIND_DENIAL_OPEN → p.kind ≢ KIND_LOOK_TEST → p.kind ≢ KIND_DENIAL_TEST → Advances c (conf End spot (entries records) caps) (conf Back spot (entries records) caps)
-  turn_no_frame o t e y l m d u w = turn_stray c ok spot records caps v h at_height p at o t e y l m d u w
+      p.kind ≢ KIND_LOOK_ALL_OPEN → p.kind ≢ KIND_DENIAL_OPEN → p.kind ≢ KIND_LOOK_TEST → p.kind ≢ KIND_DENIAL_TEST → p.kind ≢ KIND_CALLED_GROUP → p.kind ≢ KIND_CALL_OPEN → Advances c (conf End spot (entries records) caps) (conf Back spot (entries records) caps)
+  turn_no_frame o t e y l m d u w x j = turn_stray c ok spot records caps v h at_height p at o t e y l m d u w x j
 
   module _ (kind : p.kind ≡ KIND_GROUP_OPEN) where
     is_open : entry_of p ≡ GroupOpen (site_of p) (kept_of p)

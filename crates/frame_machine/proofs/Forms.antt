@@ -26,7 +26,7 @@ mutual
   built_runs (tree.atomic ts) b = built_row ts b
   built_runs (tree.look ahead positive once ts) b = built_row ts b
   built_runs (tree.condition test first second) b = (built_test test b.0, built_runs first b.1, built_other second b.2)
-  built_runs (tree.call n) b = absurd b
+  built_runs (tree.call n) b = tt
   built_runs (tree.ref ns caseless) b = tt
   built_runs (tree.anchor kind) b = tt
   built_runs tree.keep_out b = tt
@@ -62,7 +62,7 @@ mutual
   verbless (tree.atomic ts) b = verbless_row ts b
   verbless (tree.look ahead positive once ts) b = verbless_row ts b
   verbless (tree.condition test first second) b = (verbless_test test b.0, verbless first b.1, verbless_other second b.2)
-  verbless (tree.call n) b = absurd b
+  verbless (tree.call n) b = tt
   verbless (tree.ref ns caseless) b = tt
   verbless (tree.anchor kind) b = tt
   verbless tree.keep_out b = tt
@@ -125,7 +125,7 @@ module _ (trees : List Nested) where
   kids_runnable (node.Cond test yes' no') e h =
       All-append (λ k. IsRunnable (tree_at trees k)) (tests_of test) (yes' ∷ number_in no') (test_runs test e h.0)
       (All-cons (λ k. IsRunnable (tree_at trees k)) yes' (number_in no') h.1 (other_runs no' h.2))
-  kids_runnable (node.Call n) e h = absurd h
+  kids_runnable (node.Call n) e h = no_kid
   kids_runnable (node.Ref groups caseless) e h = no_kid
   kids_runnable (node.Anchor kind) e h = no_kid
   kids_runnable node.KeepOut e h = no_kid

@@ -7,7 +7,7 @@ use Rattle.std.proofs.lemmas.Option.{slice_get_within}
 use Rattle.frame_store.specs.declared.records.Record.{Record}
 use Rattle.frame_store.specs.declared.registers.Span.{Span}
 use Rattle.frame_store.specs.Captures.{Captures}
-use Rattle.frame_store.specs.Entry.{Kept, Entry, Undo, entry_of, entries, Other, CallOpen}
+use Rattle.frame_store.specs.Entry.{Kept, Entry, Undo, entry_of, entries, Other}
 use mathlib.Core.Path.{fun_ext}
 use Rattle.frame_store.specs.Stack as stack_of
 use Rattle.frame_store.specs.Undo.{taken_back, HasSlot, undone}
@@ -38,7 +38,7 @@ module _ (c : Ground) where
   pub around_push : (r : Entry) (below : List Entry) (l : ℕ) → l ≤ length below → around c (r ∷ below) l ≡ around c below l
   around_push r below l h = around_below r below l (λ e. omega (arith, e, h))
 
-  cont_here : (r : Entry) (below : List Entry) (caps : Captures) (l : ℕ) → l ≡ suc (length below) →
+  pub cont_here : (r : Entry) (below : List Entry) (caps : Captures) (l : ℕ) → l ≡ suc (length below) →
       cont c (r ∷ below) caps l ≡ frame_end c r (around c below (link_of r)) (outside c below (taken_back r caps) (link_of r)) (taken_back r caps) (fail c below (taken_back r caps))
   unfolding cont
   cont_here r below caps l e =
@@ -69,7 +69,7 @@ module _ (c : Ground) where
   abbrev around_with : Follow → (ℕ → Handler) → Outside
   around_with k h = record { follow = k; hand = h }
 
-  outside_push : (r : Entry) (below : List Entry) (caps : Captures) (l : ℕ) → l ≤ length below → outside c (r ∷ below) caps l ≡ outside c below (taken_back r caps) l
+  pub outside_push : (r : Entry) (below : List Entry) (caps : Captures) (l : ℕ) → l ≤ length below → outside c (r ∷ below) caps l ≡ outside c below (taken_back r caps) l
   outside_push r below caps l h =
       ap (λ (k : Follow). around_with k (hand c (r ∷ below) caps l)) (cont_push r below caps l h)
       ∙ ap (λ (z : ℕ → Handler). around_with (cont c below (taken_back r caps) l) z) (hands_same (r ∷ below) below caps (taken_back r caps) l l)
@@ -124,7 +124,7 @@ none_some a e = cc
 some_same : {A : Type 0} (a b : A) → Some a ≡ Some b → a ≡ b
 some_same a b e = cc
 
-split : (records : List Record) (i : ℕ) (r : Record) → slice_get (reverse records) i ≡ Some r → Split (entries records) (suc i) (entry_of r)
+pub split : (records : List Record) (i : ℕ) (r : Record) → slice_get (reverse records) i ≡ Some r → Split (entries records) (suc i) (entry_of r)
 split [] i r e = absurd (none_some r e)
 split (p ∷ older) i r e =
     elim (cases_eq i (length older)) [
@@ -190,7 +190,7 @@ module _ (c : Ground) where
     -- the frame's record is the oldest that is given up where the stack is cut just below it
     pub given_up : (h : ℕ) → l ≡ suc h → (stack_of.up_to h stack ≡ below) × (undone (stack_of.past h stack) caps ≡ inner)
 
-  link_sound : (left slots : ℕ) (below : List Entry) (r : Entry) → IsSound c left slots below r → link_of r ≤ length below
+  pub link_sound : (left slots : ℕ) (below : List Entry) (r : Entry) → IsSound c left slots below r → link_of r ≤ length below
   link_sound left slots below (Undo at slot old) s = s.3
   link_sound left slots below (Other at) s = s
   link_sound left slots below r s = s.1.inside
@@ -233,21 +233,6 @@ module _ (c : Ground) where
       subst (λ st. Framed left slots st caps (suc i) r) (sym is)
       (subst (λ h. Framed left slots (z.above ++ (r ∷ z.below)) caps h r) (sym z.height)
       (framed_split left slots z.above z.below caps r (link_sound left slots z.below r (sound_deep left slots z.above (r ∷ z.below) here).0) here))
-
-  -- no call is open
-  frame_calls : (left slots : ℕ) (below : List Entry) (r : Entry) (a : Around) → IsSound c left slots below r → (frame_around r a).calls ≡ a.calls
-  frame_calls left slots below (CallOpen at kept group) a s = absurd s.2
-  frame_calls left slots below _ a s = refl
-
-  pub no_calls : (left slots : ℕ) (stack : List Entry) (l : ℕ) → AreSound c left slots stack → (around c stack l).calls ≡ []
-  unfolding around
-  no_calls left slots [] l s = refl
-  no_calls left slots (r ∷ below) l s =
-      elim (cases_eq l (suc (length below))) [
-        | inl here ↦
-            ap (λ (a : Around). a.calls) (around_here c r below l here) ∙ frame_calls left slots below r (around c below (link_of r)) s.0 ∙ no_calls left slots below (link_of r) s.1
-        | inr not' ↦ ap (λ (a : Around). a.calls) (around_below c r below l not') ∙ no_calls left slots below l s.1
-      ]
 
   -- where the machine goes on after a part
   module _ (ok : IsGround c) (q : ℕ) (inside : IsPart c q) where

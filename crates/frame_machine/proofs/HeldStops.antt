@@ -11,5 +11,6 @@ pub held_stop : (s : Stop) (limit units : ℕ) (spot : Spot) (caps : Captures) (
 held_stop stop.Match limit units spot caps w h k = absurd h
 held_stop stop.NoMatch limit units spot caps w h k = absurd h
 held_stop stop.MatchLimit limit units spot caps w h k = absurd h
+held_stop stop.Loop limit units spot caps w h k = absurd h
 held_stop stop.FrameLimit limit units spot caps w h k = k h
 held_stop stop.Memory limit units spot caps w h k = tt

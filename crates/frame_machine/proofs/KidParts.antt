@@ -1,10 +1,10 @@
 -- The parts that the search comes to from a part.
-use Rattle.std.proofs.Common.{◌≡◌, ℕ, List, [], ◌∷◌, ◌++◌, All, Some, None, sym, subst, arith}
+use Rattle.std.proofs.Common.{◌≡◌, ℕ, ◌<◌, true, List, [], ◌∷◌, ◌++◌, All, Some, None, sym, subst, arith}
 use Rattle.std.proofs.lemmas.List.Elements.{All-nil, All-cons, All-head, All-tail, All-append}
 use Rattle.pat_tree.specs.declared.nodes.Node.{Node}
 use Rattle.pat_tree.specs.declared.nodes.Node.TheVariants as node
 use Rattle.pat_tree.specs.Nested.{Nested, nest}
-use Rattle.pat_tree.specs.Rules.{kids_of, tests_of, number_in}
+use Rattle.pat_tree.specs.Rules.{kids_of, tests_of, number_in, asserted_by, is_test}
 use Rattle.frame_machine.specs.Forms.{IsRunnable}
 use Rattle.frame_machine.proofs.Forms.{kids_runnable}
 use Rattle.node_flow.specs.Linked.{AreChained, AllFollowed, IsLinked}
@@ -55,7 +55,7 @@ module _ (c : Ground) where
       All-append (IsPart c) (tests_of test) (yes' ∷ number_in no')
       (followed_parts [] (tests_of test) l.0 (front_parts (tests_of test) (yes' ∷ number_in no') a) (All-nil (IsRunnablePart c)))
       (followed_parts after (yes' ∷ number_in no') l.1 (back_parts (tests_of test) (yes' ∷ number_in no') a) r)
-  parts_under after (node.Call m) b l a r = absurd b
+  parts_under after (node.Call m) b l a r = All-nil (IsPart c)
   parts_under after (node.Ref ns caseless) b l a r = All-nil (IsPart c)
   parts_under after (node.Anchor kind) b l a r = All-nil (IsPart c)
   parts_under after node.KeepOut b l a r = All-nil (IsPart c)
@@ -63,13 +63,17 @@ module _ (c : Ground) where
   parts_under after (node.Callout number from to at len) b l a r = absurd b
 
   -- the children of a part
-  pub kid_parts : (q : ℕ) (n : Node) → IsPart c q → IsNode c q n → All (IsPart c) (kids_of n)
-  kid_parts q n p i =
-      let runs : IsRunnable (nest c.trees n) = subst IsRunnable (sym i.is) p.runs in
-      let kids : All (λ k. IsRunnable (tree_of c k)) (kids_of n) = kids_runnable c.trees n i.tests runs in
+  pub kid_parts_of : (q : ℕ) (n : Node) → IsPart c q → nest c.trees n ≡ tree_of c q → All (λ k. k < q) (kids_of n) → IsLinked c.rest (c.rest q) n →
+      All (λ k. is_test (tree_of c k) ≡ true) (asserted_by n) → All (IsPart c) (kids_of n)
+  kid_parts_of q n p is below linked tests =
+      let runs : IsRunnable (nest c.trees n) = subst IsRunnable (sym is) p.runs in
+      let kids : All (λ k. IsRunnable (tree_of c k)) (kids_of n) = kids_runnable c.trees n tests runs in
       let P : Nested → Type 0 = HasFixed (branch_lengths c.setting) in
-      let measured : All (λ k. IsMeasuredIn c (tree_of c k)) (kids_of n) = all_below P c.trees n i.tests (subst (IsMeasuredIn c) (sym i.is) p.measured) in
-      parts_under (c.rest q) n runs i.linked (λ j d m. let lt = i.below j d m in (omega (arith, lt, p.within), kids j d m, measured j d m)) p.followed
+      let measured : All (λ k. IsMeasuredIn c (tree_of c k)) (kids_of n) = all_below P c.trees n tests (subst (IsMeasuredIn c) (sym is) p.measured) in
+      parts_under (c.rest q) n runs linked (λ j d m. let lt = below j d m in (omega (arith, lt, p.within), kids j d m, measured j d m)) p.followed
+
+  pub kid_parts : (q : ℕ) (n : Node) → IsPart c q → IsNode c q n → All (IsPart c) (kids_of n)
+  kid_parts q n p i = kid_parts_of q n p i.is i.below i.linked i.tests
 
   -- the part that follows
   pub next_part : IsGround c → (q p : ℕ) (ps : List ℕ) → IsPart c q → c.rest q ≡ p ∷ ps → IsPart c p

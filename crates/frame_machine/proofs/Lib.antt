@@ -14,11 +14,16 @@ mod BackTurns
 mod LeaveTurns
 mod AtomicTurns
 mod LookTurns
+mod CallFrames
 mod CondTurns
+mod CallTurns
+mod Restores
+mod ReturnTurns
 mod HeldStops
 mod MostOf
 mod BranchTurns
 mod PassTurns
 mod Start
 mod GroundLemmas
+mod GroupParts
 mod MadeLemmas

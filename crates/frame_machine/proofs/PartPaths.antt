@@ -21,7 +21,7 @@ use Rattle.frame_store.specs.Captures.{capture}
 use Rattle.ordered_search.specs.Stream.{State, reached, accepted, hit_end, by_halt, is_partial}
 use Rattle.ordered_search.specs.Setting.{counts, branch_lengths}
 use Rattle.ordered_search.specs.Moves.{Moves, stops, pause, stepped, noted, Follow, Handler, Path, catching, going, holding, reaching}
-use Rattle.ordered_search.specs.Paths.{close, ref_path, many_paths, turn_path, repeat_path, go_path, parts_path, choice_paths, branch_paths, leave, look_path, path, row_paths, behind_paths, try_path, tries_path, behind_path, paths, choose_path, other_path, test_path, assert_path, tested_path}
+use Rattle.ordered_search.specs.Paths.{close, ref_path, many_paths, turn_path, repeat_path, go_path, parts_path, choice_paths, branch_paths, leave, look_path, path, row_paths, behind_paths, try_path, tries_path, behind_path, paths, choose_path, other_path, test_path, assert_path, tested_path, call_path}
 use Rattle.frame_machine.specs.declared.machine.Next.TheVariants.{Branch, Offer, Begin}
 use Rattle.node_flow.specs.Followers.{first_of}
 use Rattle.node_flow.specs.Linked.{AreChained, AllFollowed, IsLinked}
@@ -101,7 +101,7 @@ module _ (c : Ground) where
   unfolding paths
   paths_deep d e t s k f h deep = ap (λ x. paths c.setting x t s k f h) deep
 
-  row_deep : (d e : ℕ) (ks : List ℕ) → d ≡ suc e → row_paths c.setting e (paths c.setting e) (row (map (tree_at c.trees) ks)) ≡ part_paths c d ks
+  pub row_deep : (d e : ℕ) (ks : List ℕ) → d ≡ suc e → row_paths c.setting e (paths c.setting e) (row (map (tree_at c.trees) ks)) ≡ part_paths c d ks
   row_deep d e ks deep = row_parts e ks ∙ ap (λ x. part_paths c x ks) (sym deep)
 
   -- a part with what follows it
@@ -261,7 +261,7 @@ module _ (c : Ground) where
   state_plain (p ∷ []) s = refl
   state_plain (p ∷ p' ∷ ps) s = refl
 
-  first_here : (q d : ℕ) (ks : List ℕ) → IsBranched c q ks → (k : Outside) → Alike k q ks → (s : State) (f : Moves) → is_behind (tree_of c q) ≡ false →
+  pub first_here : (q d : ℕ) (ks : List ℕ) → IsBranched c q ks → (k : Outside) → Alike k q ks → (s : State) (f : Moves) → is_behind (tree_of c q) ≡ false →
       focus c (first_next q ks) d k s f
       ≡ branch_paths c.setting (part_paths c d ks) s (after c d k (branch_rest c (tree_of c q) (c.rest q))) f (k.hand q)
   first_here q d ks b k a s f plain =
@@ -506,6 +506,11 @@ module _ (c : Ground) where
     enter_look ahead positive once ks e =
         by_node (node.Look ahead positive once ks) e ∙ look_kids ahead positive once ks (tree_of c q) (tree_by q n i (node.Look ahead positive once ks) e)
 
+    -- a call
+    pub enter_call : (m : ℕ) → n ≡ node.Call m → enter c d k q s f ≡ call_path c.setting (paths c.setting z) m s (past c d k q) f (k.hand q)
+    unfolding path
+    enter_call m e = by_node (node.Call m) e
+
     -- A condition.
 
     first_is : (p : ℕ) (u : State) (K : Follow) (m : Moves) (h : Handler) → path c.setting z (paths c.setting z) (tree_of c p) u K m h ≡ paths c.setting d (tree_of c p) u K m h
@@ -538,20 +543,15 @@ module _ (c : Ground) where
     unfolding path
     enter_never yes' no' e = by_node (node.Cond cond.Never yes' no') e ∙ enter_chosen cond.Never yes' no' e false
 
-    -- no call is active
-    pub enter_in_call : (yes' : ℕ) (no' : Option ℕ) → n ≡ node.Cond cond.InCall yes' no' → s.calls ≡ [] →
-        enter c d k q s f ≡ pause (chosen_from c (tree_of c q) false d s (past c d k q) f (k.hand q))
+    pub enter_in_call : (yes' : ℕ) (no' : Option ℕ) → n ≡ node.Cond cond.InCall yes' no' →
+        enter c d k q s f ≡ pause (chosen_from c (tree_of c q) (is_called s.calls) d s (past c d k q) f (k.hand q))
     unfolding path
-    enter_in_call yes' no' e none =
-        by_node (node.Cond cond.InCall yes' no') e ∙ enter_chosen cond.InCall yes' no' e (is_called s.calls)
-        ∙ ap (λ (l : List (ℕ × ℕ)). pause (chosen_from c (tree_of c q) (is_called l) d s (past c d k q) f (k.hand q))) none
+    enter_in_call yes' no' e = by_node (node.Cond cond.InCall yes' no') e ∙ enter_chosen cond.InCall yes' no' e (is_called s.calls)
 
-    pub enter_in_call_of : (ns : List ℕ) (yes' : ℕ) (no' : Option ℕ) → n ≡ node.Cond (cond.InCallOf ns) yes' no' → s.calls ≡ [] →
-        enter c d k q s f ≡ pause (chosen_from c (tree_of c q) false d s (past c d k q) f (k.hand q))
+    pub enter_in_call_of : (ns : List ℕ) (yes' : ℕ) (no' : Option ℕ) → n ≡ node.Cond (cond.InCallOf ns) yes' no' →
+        enter c d k q s f ≡ pause (chosen_from c (tree_of c q) (is_called_of s.calls ns) d s (past c d k q) f (k.hand q))
     unfolding path
-    enter_in_call_of ns yes' no' e none =
-        by_node (node.Cond (cond.InCallOf ns) yes' no') e ∙ enter_chosen (cond.InCallOf ns) yes' no' e (is_called_of s.calls ns)
-        ∙ ap (λ (l : List (ℕ × ℕ)). pause (chosen_from c (tree_of c q) (is_called_of l ns) d s (past c d k q) f (k.hand q))) none
+    enter_in_call_of ns yes' no' e = by_node (node.Cond (cond.InCallOf ns) yes' no') e ∙ enter_chosen (cond.InCallOf ns) yes' no' e (is_called_of s.calls ns)
 
     -- a lookaround as a test
     module _ (p : ℕ) (yes' : ℕ) (no' : Option ℕ) (e : n ≡ node.Cond (cond.Assert p) yes' no') where

@@ -473,20 +473,20 @@ pub stray_node : (ts : List Nested) (n : Node) → IsRunnable (nest ts n) → n 
     ((number : Option ℕ) (ks : List ℕ) → n ≢ node.Group number ks) → ((body low : ℕ) (high : Option ℕ) (lazily : Bool) → n ≢ node.Repeat body low high lazily) →
     ((item : Item) (low : ℕ) (high : Option ℕ) (lazily : Bool) → n ≢ node.OneRepeat item low high lazily) → ((ks : List ℕ) → n ≢ node.Atomic ks) →
     ((ahead positive once : Bool) (ks : List ℕ) → n ≢ node.Look ahead positive once ks) →
-    ((test : Cond) (yes' : ℕ) (no' : Option ℕ) → n ≢ node.Cond test yes' no') → ⊥
-stray_node ts node.Empty b n1 n2 n3 n4 n5 n6 n7 n8 n9 n10 n11 n12 n13 = n1 refl
-stray_node ts node.KeepOut b n1 n2 n3 n4 n5 n6 n7 n8 n9 n10 n11 n12 n13 = n2 refl
-stray_node ts (node.One item) b n1 n2 n3 n4 n5 n6 n7 n8 n9 n10 n11 n12 n13 = n3 item refl
-stray_node ts node.Break b n1 n2 n3 n4 n5 n6 n7 n8 n9 n10 n11 n12 n13 = n4 refl
-stray_node ts (node.Ref ns caseless) b n1 n2 n3 n4 n5 n6 n7 n8 n9 n10 n11 n12 n13 = n5 ns caseless refl
-stray_node ts (node.Anchor kind) b n1 n2 n3 n4 n5 n6 n7 n8 n9 n10 n11 n12 n13 = n6 kind refl
-stray_node ts (node.Seq ks) b n1 n2 n3 n4 n5 n6 n7 n8 n9 n10 n11 n12 n13 = n7 ks refl
-stray_node ts (node.Group number ks) b n1 n2 n3 n4 n5 n6 n7 n8 n9 n10 n11 n12 n13 = n8 number ks refl
-stray_node ts (node.Repeat body low high lazily) b n1 n2 n3 n4 n5 n6 n7 n8 n9 n10 n11 n12 n13 = n9 body low high lazily refl
-stray_node ts (node.OneRepeat item low high lazily) b n1 n2 n3 n4 n5 n6 n7 n8 n9 n10 n11 n12 n13 = n10 item low high lazily refl
-stray_node ts (node.Atomic ks) b n1 n2 n3 n4 n5 n6 n7 n8 n9 n10 n11 n12 n13 = n11 ks refl
-stray_node ts (node.Look ahead positive once ks) b n1 n2 n3 n4 n5 n6 n7 n8 n9 n10 n11 n12 n13 = n12 ahead positive once ks refl
-stray_node ts (node.Cond test first second) b n1 n2 n3 n4 n5 n6 n7 n8 n9 n10 n11 n12 n13 = n13 test first second refl
-stray_node ts (node.Call m) b n1 n2 n3 n4 n5 n6 n7 n8 n9 n10 n11 n12 n13 = b
-stray_node ts (node.VerbNode v) b n1 n2 n3 n4 n5 n6 n7 n8 n9 n10 n11 n12 n13 = b
-stray_node ts (node.Callout number from to at len) b n1 n2 n3 n4 n5 n6 n7 n8 n9 n10 n11 n12 n13 = b
+    ((test : Cond) (yes' : ℕ) (no' : Option ℕ) → n ≢ node.Cond test yes' no') → ((group : ℕ) → n ≢ node.Call group) → ⊥
+stray_node ts node.Empty b n1 n2 n3 n4 n5 n6 n7 n8 n9 n10 n11 n12 n13 n14 = n1 refl
+stray_node ts node.KeepOut b n1 n2 n3 n4 n5 n6 n7 n8 n9 n10 n11 n12 n13 n14 = n2 refl
+stray_node ts (node.One item) b n1 n2 n3 n4 n5 n6 n7 n8 n9 n10 n11 n12 n13 n14 = n3 item refl
+stray_node ts node.Break b n1 n2 n3 n4 n5 n6 n7 n8 n9 n10 n11 n12 n13 n14 = n4 refl
+stray_node ts (node.Ref ns caseless) b n1 n2 n3 n4 n5 n6 n7 n8 n9 n10 n11 n12 n13 n14 = n5 ns caseless refl
+stray_node ts (node.Anchor kind) b n1 n2 n3 n4 n5 n6 n7 n8 n9 n10 n11 n12 n13 n14 = n6 kind refl
+stray_node ts (node.Seq ks) b n1 n2 n3 n4 n5 n6 n7 n8 n9 n10 n11 n12 n13 n14 = n7 ks refl
+stray_node ts (node.Group number ks) b n1 n2 n3 n4 n5 n6 n7 n8 n9 n10 n11 n12 n13 n14 = n8 number ks refl
+stray_node ts (node.Repeat body low high lazily) b n1 n2 n3 n4 n5 n6 n7 n8 n9 n10 n11 n12 n13 n14 = n9 body low high lazily refl
+stray_node ts (node.OneRepeat item low high lazily) b n1 n2 n3 n4 n5 n6 n7 n8 n9 n10 n11 n12 n13 n14 = n10 item low high lazily refl
+stray_node ts (node.Atomic ks) b n1 n2 n3 n4 n5 n6 n7 n8 n9 n10 n11 n12 n13 n14 = n11 ks refl
+stray_node ts (node.Look ahead positive once ks) b n1 n2 n3 n4 n5 n6 n7 n8 n9 n10 n11 n12 n13 n14 = n12 ahead positive once ks refl
+stray_node ts (node.Cond test first second) b n1 n2 n3 n4 n5 n6 n7 n8 n9 n10 n11 n12 n13 n14 = n13 test first second refl
+stray_node ts (node.Call m) b n1 n2 n3 n4 n5 n6 n7 n8 n9 n10 n11 n12 n13 n14 = n14 m refl
+stray_node ts (node.VerbNode v) b n1 n2 n3 n4 n5 n6 n7 n8 n9 n10 n11 n12 n13 n14 = b
+stray_node ts (node.Callout number from to at len) b n1 n2 n3 n4 n5 n6 n7 n8 n9 n10 n11 n12 n13 n14 = b

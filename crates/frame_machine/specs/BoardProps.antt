@@ -17,6 +17,8 @@ use Rattle.frame_machine.specs.Behind.{AreFixed, HasFixed}
 use Rattle.frame_machine.specs.Ready.{IsByteSearch}
 use Rattle.pat_lengths.specs.Lengths.{SomeLengths}
 use Rattle.pat_lengths.specs.Backs.{AreBacks}
+use Rattle.pat_lengths.specs.Places.{ArePlaces}
+use Rattle.pat_lengths.specs.declared.groups.Groups.{Groups}
 
 ×_prop3 : {A B C : Type 0} → IsProp A → IsProp B → IsProp C → IsProp (A × B × C)
 ×_prop3 a b c = hlevel (a, b, c)
@@ -97,3 +99,6 @@ IsFlowOf-prop nodes root flow = hlevel props
 
 pub AreBacks-prop : (t : TreeParts) (backs : List ℕ) → IsProp (AreBacks t backs)
 AreBacks-prop t backs = hlevel props
+
+pub ArePlaces-prop : (t : TreeParts) (groups : Groups) → IsProp (ArePlaces t groups)
+ArePlaces-prop t groups = hlevel props

@@ -1,4 +1,4 @@
--- The forms of patterns that the machine runs: all but calls, verbs and callouts.
+-- The forms of patterns that the machine runs: all but verbs and callouts.
 use Rattle.pat_tree.specs.Nested as tree
 use Rattle.pat_tree.specs.Nested.{Nested, Row, Test, Other}
 
@@ -14,7 +14,7 @@ abbrev mutual
   IsRunnable (tree.atomic ts) = AreRunnable ts
   IsRunnable (tree.look ahead positive once ts) = AreRunnable ts
   IsRunnable (tree.condition test first second) = IsRunnableTest test × IsRunnable first × IsRunnableOther second
-  IsRunnable (tree.call n) = ⊥
+  IsRunnable (tree.call n) = Unit {0}
   IsRunnable (tree.ref ns caseless) = Unit {0}
   IsRunnable (tree.anchor kind) = Unit {0}
   IsRunnable tree.keep_out = Unit {0}

@@ -5,7 +5,7 @@ use Rattle.pat_tree.specs.Nested as tree
 use Rattle.pat_tree.specs.Nested.{Nested, Row, Other}
 use Rattle.match_items.specs.Items.{one_less, item_reaches, run_places, place_before}
 use Rattle.frame_store.specs.Captures.{Captures}
-use Rattle.frame_store.specs.Entry.{Entry, LaterBranch, GroupOpen, TurnOpen, TurnOrExit, LaterTurn, FewerItems, MoreItems, AtomicOpen, LookOpen, LookAllOpen, LookTest, DenialOpen, DenialTest, CallOpen, AtomicLeft}
+use Rattle.frame_store.specs.Entry.{Entry, LaterBranch, GroupOpen, CalledGroup, TurnOpen, TurnOrExit, LaterTurn, FewerItems, MoreItems, AtomicOpen, LookOpen, LookAllOpen, LookTest, DenialOpen, DenialTest, CallOpen, AtomicLeft}
 use Rattle.frame_store.specs.Undo.{taken_back}
 use Rattle.frame_machine.specs.declared.machine.Next.{Next}
 use Rattle.frame_machine.specs.declared.machine.Next.TheVariants.{Enter, Branch, Offer, Begin, Fewer, More, End, Back}
@@ -14,7 +14,7 @@ use Rattle.ordered_search.specs.Stream.{State, reached, accepted}
 use Rattle.ordered_search.specs.Setting.{match_limit, branch_lengths}
 use Rattle.ordered_search.specs.Parts.{back_to}
 use Rattle.ordered_search.specs.Moves.{Moves, pause, exhaust, Follow, Handler, Path, at_end, at_verbs, reaching}
-use Rattle.ordered_search.specs.Paths.{close, leave, offer_paths, lazy_paths, turned, turn_path, choice_paths, behind_path, paths}
+use Rattle.ordered_search.specs.Paths.{close, leave, returned, offer_paths, lazy_paths, turned, turn_path, choice_paths, behind_path, paths}
 use Rattle.frame_machine.specs.Ground.{Ground, tree_of}
 use Rattle.frame_machine.specs.Machine.{less, Around, state_at, kept_at, link_of, Outside, in_row, Conf}
 
@@ -22,7 +22,7 @@ use Rattle.frame_machine.specs.Machine.{less, Around, state_at, kept_at, link_of
 abbrev pub frame_around : Entry → Around → Around
 frame_around (TurnOpen at kept count) a = record a { depth = a.depth - suc count }
 frame_around (TurnOrExit at kept count) a = record a { depth = a.depth - suc count }
-frame_around (CallOpen at kept group) a = record { depth = a.depth - 1; calls = (group, kept.place) ∷ a.calls }
+frame_around (CallOpen at kept group last) a = record { depth = a.depth - 1; calls = (group, kept.place) ∷ a.calls }
 frame_around _ a = a
 
 module _ (c : Ground) where
@@ -144,6 +144,11 @@ module _ (c : Ground) where
   frame_end (DenialTest at kept) a k caps out how s f =
       leave c.setting (state_at a kept caps) reached (back_to (state_at a kept caps) s)
       (λ how' u m. chosen_from (tree_of c at.node) false a.depth u (past a.depth k at.node) m (k.hand at.node)) out
+  -- a called group writes its capture, and its call ends, whatever follows the group where it stands
+  frame_end (CalledGroup at kept) a k caps out how s f = close_from (tree_of c at.node) kept.place k.follow how s f
+  -- `caps` are the captures at the call, which is left by each outcome
+  frame_end (CallOpen at kept group last) a k caps out how s f =
+      returned c.setting (state_at a kept caps) (past a.depth k at.node) how s f
   frame_end _ a k caps out how s f = pause f
 
   -- What a record leaves for when the path fails, where k is around it, `out` is left below, and `to` at each height.

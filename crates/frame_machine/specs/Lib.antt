@@ -9,6 +9,7 @@ pub mod Branches
 pub mod Looks
 pub mod Passing
 pub mod Conditions
+pub mod Calls
 pub mod Stops
 pub mod Scratch
 pub mod Answer

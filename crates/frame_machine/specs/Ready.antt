@@ -19,6 +19,7 @@ use Rattle.pat_check.specs.declared.facts.Facts.{Facts}
 use Rattle.frame_machine.specs.Forms.{IsRunnable}
 use Rattle.pat_check.specs.Known.{IsByteSet, lead_set_of}
 use Rattle.pat_lengths.specs.Backs.{AreBacks, first_fault, greatest_back}
+use Rattle.pat_lengths.specs.Places.{ArePlaces}
 use Rattle.pat_lengths.specs.Lengths.{SomeLengths, branch_lengths, can_be_empty}
 use Rattle.pat_check.specs.NeedTables.{IsNeedOf}
 use Rattle.pat_check.specs.Size.{size}
@@ -42,6 +43,7 @@ pub record AreFactsOf (tree : TreeParts) (facts : Facts) : Type 0 where
   -- no lookbehind has a fault, and its branches begin so far before their place
   pub fixed : first_fault tree ≡ None
   pub backs : AreBacks tree facts.backs
+  pub places : ArePlaces tree facts.groups
   pub greatest : facts.greatest_back ≡ greatest_back tree
   pub flow : IsFlowOf tree.nodes tree.root facts.flow
   pub need : IfSome facts.need (IsNeedOf tree)

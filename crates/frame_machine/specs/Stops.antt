@@ -15,7 +15,7 @@ use Rattle.frame_machine.specs.declared.machine.Spot.{Spot}
 use Rattle.frame_machine.specs.declared.machine.Stop.{Stop}
 use Rattle.frame_machine.specs.declared.machine.Stop.TheVariants as stop
 use Rattle.ordered_search.specs.Setting.{Setting, notempty, notempty_atstart, endanchored}
-use Rattle.ordered_search.specs.PlaceAnswer.{Walked, Failed, Exhausted, Matched, MatchLimit, FrameLimit, answers, Outcome}
+use Rattle.ordered_search.specs.PlaceAnswer.{Walked, Failed, Exhausted, Matched, MatchLimit, FrameLimit, Loop, answers, Outcome}
 use Rattle.frame_machine.specs.Ground.{Ground, next_of}
 use Rattle.match_items.specs.Views.{end_of}
 use Rattle.frame_machine.specs.Machine.{mark_of, kept_at, less, towards}
@@ -30,6 +30,7 @@ IsStop stop.Match spot caps w = w ≡ answers (Matched (spot_outcome spot caps))
 IsStop stop.NoMatch spot caps w = w ≡ answers (Failed Exhausted)
 IsStop stop.MatchLimit spot caps w = w ≡ answers MatchLimit
 IsStop stop.FrameLimit spot caps w = w ≡ answers FrameLimit
+IsStop stop.Loop spot caps w = w ≡ answers Loop
 IsStop stop.Memory spot caps w = Unit {0}
 
 -- a turn that began at one place after so many took nothing, and no further turn is owed or bounded

@@ -5,7 +5,7 @@ use Rattle.pat_tree.specs.Nested.{Nested}
 use Rattle.match_items.specs.Items.{is_none_left}
 use Rattle.frame_store.specs.declared.registers.Span.{Span}
 use Rattle.frame_store.specs.Captures.{Captures}
-use Rattle.frame_store.specs.Entry.{Kept, Entry, Undo, LaterBranch, GroupOpen, TurnOpen, TurnOrExit, LaterTurn, FewerItems, MoreItems, LookTest, DenialTest, CallOpen, AtomicLeft, Other, entry_site}
+use Rattle.frame_store.specs.Entry.{Kept, Entry, Undo, LaterBranch, GroupOpen, CalledGroup, TurnOpen, TurnOrExit, LaterTurn, FewerItems, MoreItems, LookTest, DenialTest, CallOpen, AtomicLeft, Other, entry_site}
 use Rattle.frame_machine.specs.declared.machine.Next.{Next}
 use Rattle.frame_machine.specs.declared.machine.Next.TheVariants.{Enter, Branch, Offer, Begin, Fewer, More, End, Back}
 use Rattle.frame_machine.specs.declared.machine.Spot.{Spot}
@@ -55,7 +55,7 @@ module _ (c : Ground) where
   IsCondition (tree.condition test first second) = Unit {0}
   IsCondition _ = ⊥
 
-  -- What holds of a record's own values. No pattern that runs has calls, so none is open.
+  -- What holds of a record's own values.
   abbrev pub Suits : List Entry → Entry → Type 0
   Suits below (LaterBranch at kept next) = HasBranch (tree_of c at.node) next
   Suits below (GroupOpen at kept) = IsCapture (tree_of c at.node)
@@ -66,7 +66,10 @@ module _ (c : Ground) where
   Suits below (MoreItems at kept count last) = (count ≤ last) × (c.stands last ≡ true) × HasFurther (tree_of c at.node) count
   Suits below (LookTest at kept) = IsCondition (tree_of c at.node)
   Suits below (DenialTest at kept) = IsCondition (tree_of c at.node)
-  Suits below (CallOpen at kept group) = ⊥
+  Suits below (CalledGroup at kept) = IsCapture (tree_of c at.node)
+  -- no active call began past the last place
+  Suits below (CallOpen at kept group last) =
+      All (λ (x : ℕ × ℕ). x.1 ≤ last) ((group, kept.place) ∷ (around c below at.link).calls)
   Suits below (AtomicLeft at kept height) = height ≤ length below
   Suits below _ = Unit {0}
 

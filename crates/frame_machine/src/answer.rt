@@ -69,6 +69,7 @@ pub(crate) fn answer_of(stop: Stop, spot: &Spot) -> PlaceAnswer
         },
         Stop::MatchLimit => PlaceAnswer::MatchLimit,
         Stop::FrameLimit => PlaceAnswer::FrameLimit,
+        Stop::Loop => PlaceAnswer::Loop,
         Stop::Memory => PlaceAnswer::Memory,
     }
 }

@@ -4,9 +4,10 @@ ghost use Rattle.match_items.specs.Subjects.{IsSubject};
 ghost use Rattle.match_items.specs.Views.{scene_of};
 ghost use Rattle.node_flow.specs.Followers.{IsFlowOf};
 ghost use Rattle.pat_lengths.specs.Backs.{AreBacks};
+ghost use Rattle.pat_lengths.specs.Places.{ArePlaces};
 ghost use Rattle.frame_machine.specs.Ready.{IsByteSearch, setting_in};
 ghost use Rattle.frame_machine.specs.Told.{in_ascii};
-ghost use Rattle.frame_machine.specs.BoardProps.{IsByteSearch-prop, IsFlowOf-prop, AreBacks-prop};
+ghost use Rattle.frame_machine.specs.BoardProps.{IsByteSearch-prop, IsFlowOf-prop, AreBacks-prop, ArePlaces-prop};
 
 use crate::counted::{longest, place_of, taken};
 use crate::searchable::{Run, Searchable};
@@ -29,6 +30,7 @@ pub(crate) struct Board<'a, C: Callouts> {
     ghost runs: { IsByteSearch tree.now classes.now matching.now subject.now } by { IsByteSearch-prop tree.now classes.now matching.now subject.now },
     ghost flows: { IsFlowOf tree.now.nodes tree.now.root facts.now.flow } by { IsFlowOf-prop tree.now.nodes tree.now.root facts.now.flow },
     ghost backs: { AreBacks tree.now facts.now.backs } by { AreBacks-prop tree.now facts.now.backs },
+    ghost places: { ArePlaces tree.now facts.now.groups } by { ArePlaces-prop tree.now facts.now.groups },
 }
 
 impl<C: Callouts> Board<'_, C> {
@@ -80,6 +82,12 @@ impl<C: Callouts> Searchable for Board<'_, C> {
 
     fn next(&self, part: u32) -> Option<u32> {
         self.facts.next(part)
+    }
+
+    fn group(&self, number: u16) -> Option<u32> {
+        // This is read for what it is known to keep.
+        self.tree.is_sound();
+        self.facts.group(number)
     }
 
     fn options(&self) -> &Options {

@@ -13,6 +13,7 @@ ghost use Rattle.ordered_search.specs.Moves.{tread};
 ghost use Rattle.frame_machine.specs.Stops.{IsStop};
 
 use crate::behind::begin_branches;
+use crate::calls::{in_call, in_call_of};
 use crate::enter::{first_set, go_on};
 use crate::framing::{leave, open_frame};
 use crate::looks::go_back;
@@ -88,8 +89,16 @@ pub(crate) fn enter_condition<S: Searchable>(
             Ok(choose(on, at, holds))
         }
         Cond::Assert(look) => enter_test(on, at, *look, spot, store, registers),
-        // No call is active, and a definition is never run where it stands.
-        _ => Ok(choose(on, at, false)),
+        Cond::InCall => {
+            let holds = in_call(store, spot.frame);
+            Ok(choose(on, at, holds))
+        }
+        Cond::InCallOf(groups) => {
+            let holds = in_call_of(store, spot.frame, groups.as_slice());
+            Ok(choose(on, at, holds))
+        }
+        // A definition is never run where it stands.
+        Cond::Never => Ok(choose(on, at, false)),
     }
 }
 

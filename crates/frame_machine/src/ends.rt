@@ -14,10 +14,12 @@ use crate::enter::go_on;
 use crate::looks::{deny, leave_look, pass_look};
 use crate::machine::{Next, Spot, Stop, hold};
 use crate::repeats::turns_of;
+use crate::returns::{close_called, leave_call};
 use crate::searchable::Searchable;
 use frame_store::kinds::{
-    KIND_ATOMIC_OPEN, KIND_DENIAL_OPEN, KIND_DENIAL_TEST, KIND_GROUP_OPEN, KIND_LOOK_ALL_OPEN,
-    KIND_LOOK_OPEN, KIND_LOOK_TEST, KIND_TURN_OPEN, KIND_TURN_OR_EXIT, KIND_UNDO,
+    KIND_ATOMIC_OPEN, KIND_CALL_OPEN, KIND_CALLED_GROUP, KIND_DENIAL_OPEN, KIND_DENIAL_TEST,
+    KIND_GROUP_OPEN, KIND_LOOK_ALL_OPEN, KIND_LOOK_OPEN, KIND_LOOK_TEST, KIND_TURN_OPEN,
+    KIND_TURN_OR_EXIT, KIND_UNDO,
 };
 use frame_store::{Record, Registers, Span, Store};
 use pat_tree::Node;
@@ -46,7 +48,7 @@ fn is_over(min: u32, max: Option<u32>, count: u32, from: u64, to: u64) -> bool
 }
 
 /// The number of the capturing group that a part is.
-fn number_of<S: Searchable>(on: &S, part: u32) -> u16
+pub(crate) fn number_of<S: Searchable>(on: &S, part: u32) -> u16
     requires inside { IsPart (S.searched on.now) part }
     requires capture { IsCapture (S.searched on.now) (tree_of (S.searched on.now) part) }
     ensures is { IsNumber (tree_of (S.searched on.now) part) result }
@@ -63,7 +65,7 @@ fn number_of<S: Searchable>(on: &S, part: u32) -> u16
 }
 
 /// The record that keeps what a register holds before it is written.
-fn undo_record(spot: &Spot, link: u32, node: u32, slot: u16, old: Option<Span>) -> Record
+pub(crate) fn undo_record(spot: &Spot, link: u32, node: u32, slot: u16, old: Option<Span>) -> Record
     ensures { entry_of result ≡ Undo (record { node = node; link = link }) slot old }
 {
     let mut undo = spot.record(KIND_UNDO, node, 0, 0, 0);
@@ -139,12 +141,31 @@ fn turned<S: Searchable>(
     Ok(Next::Offer(frame.node, frame.count + 1))
 }
 
+/// Ends the pattern, where its outcome is admitted.
+fn end_pattern<S: Searchable>(
+    on: &S,
+    spot: &Spot,
+    store: &Store,
+    registers: &Registers,
+) -> Result<Next, Stop>
+    requires valid { IsValid (S.searched on.now) (conf Next.End spot.now (entries store.now.records) registers.now) }
+    requires whole { spot.now.frame ≡ 0 }
+    ensures on { IfOk result (λ next. Advances (S.searched on.now) (conf Next.End spot.now (entries store.now.records) registers.now) (conf next spot.now (entries store.now.records) registers.now)) }
+    ensures stop { IfErr result (λ stop. IsStop stop spot.now registers.now (tread (S.searched on.now).setting spot.now.left (ahead (S.searched on.now) (conf Next.End spot.now (entries store.now.records) registers.now)))) }
+{
+    if is_admitted(on, spot.keep, spot.place) {
+        return Err(Stop::Match);
+    }
+    Ok(Next::Back)
+}
+
 /// Goes on where the innermost frame, or the pattern, has ended.
 pub(crate) fn finish<S: Searchable>(
     on: &S,
     spot: &mut Spot,
     store: &mut Store,
     registers: &mut Registers,
+    bank: &mut Registers,
 ) -> Result<Next, Stop>
     requires valid { IsValid (S.searched on.now) (conf Next.End spot.old (entries store.old.records) registers.old) }
     ensures on { IfOk result (λ next. Advances (S.searched on.now) (conf Next.End spot.old (entries store.old.records) registers.old) (conf next spot.new (entries store.new.records) registers.new)) }
@@ -152,10 +173,7 @@ pub(crate) fn finish<S: Searchable>(
     ensures peak { store.new.peak ≤ max store.old.peak (S.searched on.now).setting.matching.frame_limit }
 {
     if spot.frame == 0 {
-        if is_admitted(on, spot.keep, spot.place) {
-            return Err(Stop::Match);
-        }
-        return Ok(Next::Back);
+        return end_pattern(on, spot, store, registers);
     }
     let height = spot.frame as usize - 1;
     let frame = *store.get(height);
@@ -185,6 +203,12 @@ pub(crate) fn finish<S: Searchable>(
     }
     if frame.kind == KIND_DENIAL_TEST {
         return leave_test(on, false, &frame, height, spot, store, registers);
+    }
+    if frame.kind == KIND_CALLED_GROUP {
+        return close_called(on, &frame, height, spot, store, registers);
+    }
+    if frame.kind == KIND_CALL_OPEN {
+        return leave_call(on, &frame, height, spot, store, registers, bank);
     }
     Ok(Next::Back)
 }

@@ -12,6 +12,7 @@ ghost use Rattle.match_items.specs.Items.{holds};
 ghost use Rattle.frame_machine.specs.Stops.{IsStop, referred, moved_next, moved_spot, held_next, held_early, part_next};
 
 use crate::atomic::enter_atomic;
+use crate::calls::enter_call;
 use crate::conds::enter_condition;
 use crate::items::many;
 use crate::looks::enter_look;
@@ -196,6 +197,7 @@ pub(crate) fn enter<S: Searchable>(
         Node::Cond { test, yes, no } => {
             enter_condition(on, at, test, *yes, *no, spot, store, registers)
         }
+        Node::Call { group } => enter_call(on, at, *group, spot, store, registers),
         _ => unreachable!(),
     }
 }

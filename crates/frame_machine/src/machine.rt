@@ -48,6 +48,8 @@ pub(crate) enum Stop {
     NoMatch,
     MatchLimit,
     FrameLimit,
+    /// A call at the place of an active call of the same group.
+    Loop,
     Memory,
 }
 

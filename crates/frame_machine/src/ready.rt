@@ -28,7 +28,7 @@ pub struct Ready<'a> {
 ///
 /// Needs the table and the facts of the tree, and a view with the tree's options; a start that is at most the place, and a
 /// place in the subject; a subject of fewer than 4,294,967,295 bytes without UTF; no partial matching; and a tree without
-/// calls, verbs and callouts, the branches of whose lookbehinds have one length each, as its facts say. So it calls at no
+/// verbs and callouts, the branches of whose lookbehinds have one length each, as its facts say. So it calls at no
 /// callout.
 pub fn run_at<C: Callouts>(
     ready: &Ready<'_>,

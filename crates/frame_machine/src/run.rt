@@ -18,13 +18,14 @@ use crate::repeats::{begin, branch, offer};
 use crate::searchable::Searchable;
 use frame_store::{Registers, Store};
 
-/// One turn of the machine's loop.
+/// One turn of the machine's loop. `bank` serves where registers are given back.
 fn turn<S: Searchable>(
     on: &S,
     next: Next,
     spot: &mut Spot,
     store: &mut Store,
     registers: &mut Registers,
+    bank: &mut Registers,
 ) -> Result<Next, Stop>
     requires valid { IsValid (S.searched on.now) (conf next spot.old (entries store.old.records) registers.old) }
     ensures on { IfOk result (λ to. Advances (S.searched on.now) (conf next spot.old (entries store.old.records) registers.old) (conf to spot.new (entries store.new.records) registers.new)) }
@@ -38,18 +39,20 @@ fn turn<S: Searchable>(
         Next::Begin(at, count, exits) => begin(on, at, count, exits, spot, store, registers),
         Next::Fewer(at, least, last) => fewer(on, at, least, last, spot, store, registers),
         Next::More(at, count, last) => more(on, at, count, last, spot, store, registers),
-        Next::End => finish(on, spot, store, registers),
+        Next::End => finish(on, spot, store, registers, bank),
         Next::Back => back(on, spot, store, registers),
     }
 }
 
-/// Searches at a place, from no records and no captures, and says with what the machine stops.
+/// Searches at a place, from no records and no captures, and says with what the machine stops. `bank` serves
+/// where registers are given back.
 pub(crate) fn run<S: Searchable>(
     on: &S,
     place: u64,
     spot: &mut Spot,
     store: &mut Store,
     registers: &mut Registers,
+    bank: &mut Registers,
 ) -> Stop
     requires place { (S.searched on.now).stands place ≡ true }
     requires empty { store.old.records ≡ [] }
@@ -69,7 +72,7 @@ pub(crate) fn run<S: Searchable>(
     };
     let mut next = Next::Enter(on.root());
     'turns: loop {
-        match turn(on, next, spot, store, registers) {
+        match turn(on, next, spot, store, registers, bank) {
             Ok(to) => next = to,
             Err(stop) => return stop,
         }

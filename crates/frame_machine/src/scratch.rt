@@ -18,6 +18,8 @@ use std::marker::Model;
 pub struct Scratch {
     store: Store,
     registers: Registers,
+    // A second set of registers, for the captures that a call gives back.
+    bank: Registers,
     groups: u32,
     frames: u32,
     last_mark: Option<u32>,
@@ -45,6 +47,7 @@ impl Scratch {
         Scratch {
             store: Store::new(alloc),
             registers: Registers::new(alloc),
+            bank: Registers::new(alloc),
             groups: 0,
             frames: 0,
             last_mark: None,
@@ -131,6 +134,7 @@ pub fn search_at<S: Searchable>(on: &S, place: u64, scratch: &mut Scratch) -> Pl
         &mut spot,
         &mut scratch.store,
         &mut scratch.registers,
+        &mut scratch.bank,
     );
     answer_of(stop, &spot)
 }

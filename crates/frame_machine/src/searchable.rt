@@ -8,6 +8,7 @@ ghost use Rattle.ordered_search.specs.Setting.{match_limit, branch_lengths};
 ghost use Rattle.frame_machine.specs.Ground.{Ground, IsPart, IsNode, IsGround, next_of, tree_of};
 ghost use Rattle.frame_machine.specs.Behind.{place_back};
 ghost use Rattle.frame_machine.specs.Begun.{IsFixedPart};
+ghost use Rattle.frame_machine.specs.Calls.{IsCalled};
 
 use pat_tree::{AnchorKind, Item, MatchOptions, Node, Options};
 
@@ -36,6 +37,10 @@ pub trait Searchable {
     fn next(&self, part: u32) -> Option<u32>
         requires { IsPart (searched self.now) part }
         ensures { result ≡ next_of (searched self.now) part };
+
+    /// The part that a call of this number runs, if there is one: a group, or for 0 the whole pattern.
+    fn group(&self, number: u16) -> Option<u32>
+        ensures { IsCalled (searched self.now) number result };
 
     fn options(&self) -> &Options
         ensures { result.now ≡ (searched self.now).setting.scene.options };

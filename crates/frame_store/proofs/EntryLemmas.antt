@@ -67,7 +67,7 @@ pub entry_of-denial_test : (r : Record) → r.kind ≡ KIND_DENIAL_TEST → entr
 unfolding entry_in
 entry_of-denial_test r e = ap (λ k. entry_in (entry_table r) k (Other (site_of r))) e
 
-pub entry_of-call_open : (r : Record) → r.kind ≡ KIND_CALL_OPEN → entry_of r ≡ CallOpen (site_of r) (kept_of r) r.slot
+pub entry_of-call_open : (r : Record) → r.kind ≡ KIND_CALL_OPEN → entry_of r ≡ CallOpen (site_of r) (kept_of r) r.slot r.from
 unfolding entry_in
 entry_of-call_open r e = ap (λ k. entry_in (entry_table r) k (Other (site_of r))) e
 

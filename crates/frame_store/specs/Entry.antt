@@ -45,8 +45,8 @@ pub data Entry : Type 0 where
   -- a negative lookaround was entered, on its own or in a condition
   DenialOpen : Site → Kept → Entry
   DenialTest : Site → Kept → Entry
-  -- a call of a group began
-  CallOpen : Site → Kept → (group : ℕ) → Entry
+  -- a call of a group began, and no active call began past the last place
+  CallOpen : Site → Kept → (group last : ℕ) → Entry
   -- an atomic group or lookaround was left with its first outcome, and what stands past the height is dropped at once
   AtomicLeft : Site → Kept → (height : ℕ) → Entry
   -- a verb was passed; where the path fails, it goes back to the height at once, or for THEN to the branch's end
@@ -87,7 +87,7 @@ entry_table r =
     ∷ (KIND_LOOK_TEST, LookTest (site_of r) (kept_of r))
     ∷ (KIND_DENIAL_OPEN, DenialOpen (site_of r) (kept_of r))
     ∷ (KIND_DENIAL_TEST, DenialTest (site_of r) (kept_of r))
-    ∷ (KIND_CALL_OPEN, CallOpen (site_of r) (kept_of r) r.slot)
+    ∷ (KIND_CALL_OPEN, CallOpen (site_of r) (kept_of r) r.slot r.from)
     ∷ (KIND_ATOMIC_LEFT, AtomicLeft (site_of r) (kept_of r) r.from)
     ∷ (KIND_MARK_PASSED, MarkPassed (site_of r) (kept_of r))
     ∷ (KIND_COMMIT_PASSED, CommitPassed (site_of r) (kept_of r) r.from)
@@ -125,7 +125,7 @@ entry_site (LookAllOpen at kept) = at
 entry_site (LookTest at kept) = at
 entry_site (DenialOpen at kept) = at
 entry_site (DenialTest at kept) = at
-entry_site (CallOpen at kept group) = at
+entry_site (CallOpen at kept group last) = at
 entry_site (AtomicLeft at kept height) = at
 entry_site (MarkPassed at kept) = at
 entry_site (CommitPassed at kept height) = at
@@ -151,7 +151,7 @@ entry_kind (LookAllOpen at kept) = KIND_LOOK_ALL_OPEN
 entry_kind (LookTest at kept) = KIND_LOOK_TEST
 entry_kind (DenialOpen at kept) = KIND_DENIAL_OPEN
 entry_kind (DenialTest at kept) = KIND_DENIAL_TEST
-entry_kind (CallOpen at kept group) = KIND_CALL_OPEN
+entry_kind (CallOpen at kept group last) = KIND_CALL_OPEN
 entry_kind (AtomicLeft at kept height) = KIND_ATOMIC_LEFT
 entry_kind (MarkPassed at kept) = KIND_MARK_PASSED
 entry_kind (CommitPassed at kept height) = KIND_COMMIT_PASSED

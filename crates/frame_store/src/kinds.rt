@@ -40,7 +40,7 @@ pub const KIND_LOOK_TEST: u8 = 12;
 pub const KIND_DENIAL_OPEN: u8 = 13;
 /// A negative lookaround was entered as a condition. Where it fails, the condition is true.
 pub const KIND_DENIAL_TEST: u8 = 14;
-/// A call of group number `slot` began at `place`.
+/// A call of group number `slot` began at `place`. No call that was active then, nor this one, began past `from`.
 pub const KIND_CALL_OPEN: u8 = 15;
 /// An atomic group or lookaround was left with its first outcome. What it left to try, all records past height `from`,
 /// is dropped together where the path fails.

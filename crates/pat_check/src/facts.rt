@@ -54,6 +54,8 @@ pub struct Facts {
     pub dfa: DfaSupport,
     /// How far each branch of a lookbehind begins before its place.
     pub backs: Backs,
+    /// Where the groups of the pattern stand, by their numbers. Group 0 is the whole pattern.
+    pub groups: Groups,
     /// The greatest length of a branch of a lookbehind in the pattern, in characters; 0 where it has none (pcre2api,
     /// "Information about a compiled pattern", PCRE2_INFO_MAXLOOKBEHIND).
     pub greatest_back: u32,
@@ -71,6 +73,13 @@ impl Facts {
             → result ≡ next_of nodes root id }
     {
         self.flow.next(id)
+    }
+
+    /// Where the group of a number stands, if there is one (pcre2pattern, "Groups as subroutines").
+    pub fn group(&self, number: u16) -> Option<NodeId>
+        ensures { result ≡ place_of self.now.groups.places.items number }
+    {
+        self.groups.place(number)
     }
 
     /// The length of a branch of a lookbehind, in characters: so far before its place it begins. Needs such a branch of
@@ -126,6 +135,7 @@ pub fn check(alloc: Global, tree: &Tree, classes: &ClassTable) -> Result<Facts, 
     ensures size { IfOk result (λ facts. facts.size ≡ sizes.size (tree_of tree.now)) }
     ensures dfa { IfOk result (λ facts. facts.dfa ≡ support.dfa_support (tree_of tree.now)) }
     ensures backs { IfOk result (λ facts. AreBacks tree.now facts.backs) }
+    ensures places { IfOk result (λ facts. ArePlaces tree.now facts.groups) }
     ensures greatest { IfOk result (λ facts. facts.greatest_back ≡ greatest_back tree.now) }
     ensures flow { IfOk result (λ facts. IsFlowOf tree.now.nodes tree.now.root facts.flow) }
     ensures need { IfOk result (λ facts. IfSome facts.need (IsNeedOf tree.now)) }
@@ -153,6 +163,7 @@ pub fn check(alloc: Global, tree: &Tree, classes: &ClassTable) -> Result<Facts, 
         size: size_of(alloc, tree)?,
         dfa: survey.dfa,
         backs: Backs::of_spans(alloc, &spans)?,
+        groups,
         greatest_back: greatest_in(tree, &order, &spans),
         flow: Flow::build(alloc, tree)?,
         need: need_of(alloc, tree, classes)?,

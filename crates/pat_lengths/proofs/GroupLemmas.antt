@@ -89,7 +89,7 @@ put_at trees root old new nodes m ts id e below room places count shared are =
         let read : place_of new.places.items n ≡ place_of old.places.items n = ap (λ xs. place_of xs n) places ∙ get_or-set_other old.places.items m n (Some id) None other in
         subst (λ p. IsAt trees root p (first_of n nodes)) (sym read) (are.places n)
 
-group_of_number : (t : Nested) (m : ℕ) → Some m ≡ capture_number t → (ts : Row) × (t ≡ tree.group (Some m) ts)
+pub group_of_number : (t : Nested) (m : ℕ) → Some m ≡ capture_number t → (ts : Row) × (t ≡ tree.group (Some m) ts)
 group_of_number (tree.group number ts) m h = (ts, ap (λ n. tree.group n ts) (sym h))
 group_of_number tree.empty m h = absurd cc
 group_of_number (tree.one item) m h = absurd cc

@@ -2,6 +2,7 @@ pub mod Nodes
 pub mod Lengths
 pub mod HasLength
 pub mod Passing
+pub mod Places
 pub mod Backs
 pub mod Spans
 pub mod Rounds

@@ -93,6 +93,19 @@ pub record AreGroups (trees : List Nested) (root : ℕ) (groups : Groups) (nodes
   pub count : groups.count ≡ length (filter is_capture nodes)
   pub shared : groups.shared ≡ number_twice nodes
 
+-- the first of these nodes, by their numbers, that is a capturing group of number n
+abbrev pub group_in : List Nested → ℕ → List ℕ → Option ℕ
+group_in trees n [] = None
+group_in trees n (k ∷ ks) = if is_capture_of n (tree_at trees k) then Some k else group_in trees n ks
+
+-- each group's place is that of the first
+abbrev pub ArePlaced : List Nested → List ℕ → List (Option ℕ) → Type 0
+ArePlaced trees ids places = (n : ℕ) → place_of places n ≡ group_in trees n ids
+
+-- where the group of number n stands, of which 0 is the whole pattern, whose nodes are these in their order
+abbrev pub called_place : List Nested → ℕ → List ℕ → ℕ → Option ℕ
+called_place trees root ids n = if n == 0 then Some root else group_in trees n ids
+
 -- whether the node at a place has a flag
 abbrev pub passes_at : List Bool → Option ℕ → Bool
 passes_at passing None = false

@@ -5,7 +5,7 @@ ghost use Rattle.pat_tree.specs.Rules.{number_in, numbers_of};
 ghost use Rattle.pat_tree.specs.Sound.{greatest, group_numbers};
 ghost use Rattle.pat_tree.specs.Parts.{tree_of};
 ghost use Rattle.pat_lengths.specs.Nodes.{all_nodes};
-ghost use Rattle.pat_lengths.specs.Passing.{AreGroups, IsGroupTable, place_of, capture_number};
+ghost use Rattle.pat_lengths.specs.Passing.{ArePlaced, AreGroups, IsGroupTable, called_place, place_of, capture_number};
 
 use pat_tree::{Memory, Node, NodeId, Tree};
 use std::alloc::Global;
@@ -20,6 +20,16 @@ pub struct Groups {
 }
 
 impl Groups {
+    /// Where the group of a number stands, if there is one.
+    pub fn place(&self, number: u16) -> Option<NodeId>
+        ensures { result ≡ place_of self.now.places.items number }
+    {
+        match self.places.get(number as usize) {
+            Some(place) => *place,
+            None => None,
+        }
+    }
+
     /// Takes in a node that stands before those seen.
     fn see(&mut self, tree: &Tree, id: NodeId)
         requires below { id ≤ tree.now.root }
@@ -29,6 +39,9 @@ impl Groups {
             → AreGroups (trees tree.now.nodes) tree.now.root self.old nodes
             → AreGroups (trees tree.now.nodes) tree.now.root self.new
             (tree_at (trees tree.now.nodes) id ∷ nodes) }
+        ensures placed { (ids : List ℕ)
+            → ArePlaced (trees tree.now.nodes) ids self.old.places.items
+            → ArePlaced (trees tree.now.nodes) (id ∷ ids) self.new.places.items }
         ensures room { length self.new.places.items ≡ length self.old.places.items }
         ensures one { self.new.count ≤ self.old.count + 1 }
     {
@@ -77,7 +90,10 @@ fn number_of(node: &Node) -> Option<u16>
 pub fn group_table(alloc: Global, tree: &Tree, order: &[NodeId]) -> Result<Groups, Memory>
     requires below { All (λ k. k ≤ tree.now.root) order.now }
     requires nodes { map (tree_at (trees tree.now.nodes)) order.now ≡ all_nodes (tree_of tree.now) }
-    ensures { IfOk result (IsGroupTable (trees tree.now.nodes) tree.now.root (tree_of tree.now)) }
+    ensures table { IfOk result (IsGroupTable (trees tree.now.nodes) tree.now.root (tree_of tree.now)) }
+    ensures places { IfOk result (λ groups. (n : ℕ)
+        → place_of groups.places.items n
+        ≡ called_place (trees tree.now.nodes) tree.now.root order.now n) }
 {
     let mut groups = groups_of(alloc, tree, order)?;
     groups.put_whole(tree.root());
@@ -90,6 +106,8 @@ fn groups_of(alloc: Global, tree: &Tree, order: &[NodeId]) -> Result<Groups, Mem
     ensures are { IfOk result (λ groups.
         AreGroups (trees tree.now.nodes) tree.now.root groups
         (map (tree_at (trees tree.now.nodes)) order.now)) }
+    ensures placed { IfOk result (λ groups.
+        ArePlaced (trees tree.now.nodes) order.now groups.places.items) }
     ensures room { IfOk result (λ groups.
         length groups.places.items ≡ greatest (group_numbers tree.now.nodes) + 1) }
 {

@@ -1,6 +1,7 @@
-use Rattle.std.proofs.Common.{refl}
+use Rattle.std.proofs.Common.{refl, length}
 use Rattle.frame_store.specs.Entry.{entries}
-use Rattle.frame_machine.proofs.CondTurns.{set_slots, turn_any_set, turn_unmet, condition_here, test_is}
+use Rattle.frame_machine.proofs.CondTurns.{set_slots, turn_any_set, turn_in_call, turn_in_call_of, turn_never, condition_here, test_is}
+use Rattle.frame_machine.proofs.CallFrames.{nested}
 use Rattle.frame_machine.proofs.conds.enter_condition.Goals as goal
 
 pub is_set-holds-requires : goal.is_set-holds-requires
@@ -19,11 +20,19 @@ returns-in-AnySet-clause-on g c =
 pub enter_test-requires-clause-test : goal.enter_test-requires-clause-test
 enter_test-requires-clause-test g c = test_is (g.S.Searchable.searched c.args.on.now) c.args.at c.args.test.now c.args.yes c.args.no c.requires.node _ c.in-Assert.is
 
-pub choose-requires-in_default-clause-inside : goal.choose-requires-in_default-clause-inside
-choose-requires-in_default-clause-inside g c = c.requires.valid.running.0
+pub in_call-holds-requires-clause-nested : goal.in_call-holds-requires-clause-nested
+in_call-holds-requires-clause-nested g c = nested (g.S.Searchable.searched c.args.on.now) c.args.spot.now.left (length c.args.registers.now) (entries c.args.store.now.records) c.requires.valid.records
 
-pub choose-requires-in_default-clause-condition : goal.choose-requires-in_default-clause-condition
-choose-requires-in_default-clause-condition g c = condition_here (g.S.Searchable.searched c.args.on.now) (g.met.S.Searchable.sound c.args.on.now) c.args.at c.requires.valid.running.0 _ c.requires.node _ _ _ refl
+pub in_call_of-holds-requires-clause-nested : goal.in_call_of-holds-requires-clause-nested
+in_call_of-holds-requires-clause-nested g c = nested (g.S.Searchable.searched c.args.on.now) c.args.spot.now.left (length c.args.registers.now) (entries c.args.store.now.records) c.requires.valid.records
 
-pub returns-in_default-clause-on : goal.returns-in_default-clause-on
-returns-in_default-clause-on g c = turn_unmet (g.S.Searchable.searched c.args.on.now) (g.met.S.Searchable.sound c.args.on.now) c.args.at c.args.spot.now (entries c.args.store.now.records) c.args.registers.now c.requires.valid c.args.test.now c.args.yes c.args.no c.requires.node c.in_default.not-AnySet c.in_default.not-Assert _ c.choose-in_default.ensures
+pub returns-in-InCall-clause-on : goal.returns-in-InCall-clause-on
+returns-in-InCall-clause-on g c =
+    turn_in_call (g.S.Searchable.searched c.args.on.now) (g.met.S.Searchable.sound c.args.on.now) c.args.at c.args.spot.now (entries c.args.store.now.records) c.args.registers.now c.requires.valid c.args.test.now c.args.yes c.args.no c.requires.node c.in-InCall.is _ (rw c.in_call-holds.ensures at c.choose-in-InCall.ensures)
+
+pub returns-in-InCallOf-clause-on : goal.returns-in-InCallOf-clause-on
+returns-in-InCallOf-clause-on g c =
+    turn_in_call_of (g.S.Searchable.searched c.args.on.now) (g.met.S.Searchable.sound c.args.on.now) c.args.at c.args.spot.now (entries c.args.store.now.records) c.args.registers.now c.requires.valid c.args.test.now _ c.args.yes c.args.no c.requires.node c.in-InCallOf.is _ (rw (c.in_call_of-holds.ensures, c.as_slice-in-InCallOf.ensures) at c.choose-in-InCallOf.ensures)
+
+pub returns-in-Never-clause-on : goal.returns-in-Never-clause-on
+returns-in-Never-clause-on g c = turn_never (g.S.Searchable.searched c.args.on.now) (g.met.S.Searchable.sound c.args.on.now) c.args.at c.args.spot.now (entries c.args.store.now.records) c.args.registers.now c.requires.valid c.args.test.now c.args.yes c.args.no c.requires.node c.in-Never.is _ c.choose-in-Never.ensures

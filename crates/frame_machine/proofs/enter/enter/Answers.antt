@@ -40,7 +40,7 @@ returns-in-Repeat-clause-on g c =
 pub unreachable-requires : goal.unreachable-requires
 unreachable-requires g c =
     stray_node (g.S.Searchable.searched c.args.on.now).trees _ (subst IsRunnable (sym c.node.ensures.is) c.requires.valid.running.0.runs) c.in_default.not-Empty c.in_default.not-KeepOut c.in_default.not-One c.in_default.not-Break
-    c.in_default.not-Ref c.in_default.not-Anchor c.in_default.not-Seq c.in_default.not-Group c.in_default.not-Repeat c.in_default.not-OneRepeat c.in_default.not-Atomic c.in_default.not-Look c.in_default.not-Cond
+    c.in_default.not-Ref c.in_default.not-Anchor c.in_default.not-Seq c.in_default.not-Group c.in_default.not-Repeat c.in_default.not-OneRepeat c.in_default.not-Atomic c.in_default.not-Look c.in_default.not-Cond c.in_default.not-Call
 
 pub enter_atomic-requires-clause-node : goal.enter_atomic-requires-clause-node
 enter_atomic-requires-clause-node g c = subst (IsNode (g.S.Searchable.searched c.args.on.now) c.args.at) c.in-Atomic.is c.node.ensures
@@ -53,3 +53,6 @@ enter_condition-requires-clause-node g c = subst (IsNode (g.S.Searchable.searche
 
 pub enter_group-requires-clause-node : goal.enter_group-requires-clause-node
 enter_group-requires-clause-node g c = subst (IsNode (g.S.Searchable.searched c.args.on.now) c.args.at) c.in-Group.is c.node.ensures
+
+pub enter_call-requires-clause-node : goal.enter_call-requires-clause-node
+enter_call-requires-clause-node g c = subst (IsNode (g.S.Searchable.searched c.args.on.now) c.args.at) c.in-Call.is c.node.ensures

@@ -15,4 +15,5 @@ invariant_of-board g c =
       runs = byte_search t c.args.ready.now.classes.now c.args.view.now.matching.now c.args.view.now.subject.now c.is_sound.ensures need.runs need.facts.fixed need.table searched need.off groups few;
       flows = need.facts.flow;
       backs = need.facts.backs;
+      places = need.facts.places;
     }

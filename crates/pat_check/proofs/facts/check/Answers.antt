@@ -24,3 +24,6 @@ returns-in-Some-clause-without c none =
     let clear : fault_in t order ≡ None =
     no_fault t c.in_ok-order.ensures.rules order c.in_ok-order.ensures.below (ap (list_any is_lookbehind) c.in_ok-order.ensures.nodes ∙ none) in
     absurd (none_some c.fault_in.result c.in-Some.fault (told ∙ clear) c.in-Some.is)
+
+pub returns-clause-places : goal.returns-clause-places
+returns-clause-places c n = rw (c.deref-2.ensures.value, c.in_ok-order.ensures.order) at (c.in_ok-groups.ensures.places n)

@@ -23,6 +23,7 @@ invariant_of-result c =
         dfa = told.dfa;
         fixed = told.fixed;
         backs = told.backs;
+        places = told.places;
         greatest = told.greatest;
         flow = told.flow;
         need = told.need;

@@ -1,0 +1,10 @@
+use Rattle.std.proofs.Common.{sym, refl}
+use Rattle.std.proofs.lemmas.List.{length-map}
+use Rattle.frame_store.specs.Entry.{entry_of}
+use Rattle.frame_machine.proofs.calls.open_call.Goals as goal
+
+pub returns-clause-spot : goal.returns-clause-spot
+returns-clause-spot c = rw (c.len.ensures, c.in_default.ensures.spot, c.in_default.ensures.pushed) refl
+
+pub returns-clause-pushed : goal.returns-clause-pushed
+returns-clause-pushed c = rw (c.in_default.ensures.pushed, c.call_record-event.ensures) refl
