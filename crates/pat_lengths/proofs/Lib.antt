@@ -5,6 +5,7 @@ pub mod OrderLemmas
 pub mod OtherNodes
 pub mod PassLemmas
 pub mod GroupLemmas
+mod PlacedLemmas
 pub mod KeepLemmas
 pub mod RoundLemmas
 pub mod KidLemmas

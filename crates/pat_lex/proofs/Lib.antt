@@ -1,3 +1,4 @@
+pub mod CharacterLemmas
 pub mod RowProofs
 pub mod LawProofs
 pub mod Moving

@@ -10,6 +10,7 @@ use Rattle.token_parts.specs.Bytes.{◌∈◌, is_at}
 use Rattle.token_parts.specs.Comments.{skip}
 use Rattle.token_parts.specs.Tell.{Lexed, fault}
 use Rattle.token_parts.specs.Codes.{octal, coded}
+use Rattle.pat_lex.specs.Characters.{literal}
 use Rattle.pat_lex.specs.Escapes.{everywhere, listed, property}
 
 -- the names between `[:` and `:]`
@@ -100,7 +101,7 @@ module _ (text : List ℕ) where
         else if c ∈ "BRNXAZzGKgk" then fault 107 at
         else if c ∈ "CLlUu" then fault 195 at
         else if is_ascii_alphanumeric c then fault 103 at
-        else Ok (Literal c, at + 2)
+        else literal text flags.utf c (at + 1)
 
     unfoldable pub class_escape : ℕ → Lexed
     class_escape at = elim (slice_get text (at + 1)) [
@@ -116,4 +117,4 @@ module _ (text : List ℕ) where
         else if c ∈ "[" then bracket at
         else if c ∈ "\\" then class_escape at
         else if flags.extended_more && c ∈ " \t" then Ok (Passed, at + 1)
-        else Ok (Literal c, at + 1)
+        else literal text flags.utf c at

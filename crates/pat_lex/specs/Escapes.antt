@@ -9,6 +9,7 @@ use Rattle.token_parts.specs.Bytes.{◌∈◌, passes_at, is_at, run_end}
 use Rattle.token_parts.specs.Tell.{Lexed, fault}
 use Rattle.token_parts.specs.Targets.{group_escape, name_escape, numbered_escape}
 use Rattle.token_parts.specs.Codes.{octal, coded}
+use Rattle.pat_lex.specs.Characters.{literal}
 use Rattle.pat_lex.specs.Quantifiers.{is_counted}
 
 -- the escapes of one letter that mean the same in a class
@@ -93,7 +94,7 @@ module _ (text : List ℕ) where
         else if c ∈ "N" then not_newline at
         else if c ∈ "CXLlUu" then fault 195 at
         else if is_ascii_alphabetic c then fault 103 at
-        else Ok (Literal c, at + 2)
+        else literal text flags.utf c (at + 1)
 
     unfoldable pub escape : ℕ → Lexed
     escape at = elim (slice_get text (at + 1)) [

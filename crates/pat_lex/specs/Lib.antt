@@ -7,6 +7,7 @@ pub use Rattle.token_parts.specs.Codes
 pub use Rattle.token_parts.specs.Settings
 pub use Rattle.token_parts.specs.Conditions
 pub use Rattle.token_parts.specs.Callouts
+pub mod Characters
 pub mod Quantifiers
 pub mod Escapes
 pub mod Classes

@@ -3,6 +3,7 @@ ghost use Rattle.std.specs.Prelude.{◌≡◌, ◌+◌, ◌<◌, ◌≤◌, leng
 ghost use Rattle.token_parts.specs.Tell.{IsSound};
 ghost use Rattle.pat_lex.specs.Classes.{posix_set, mark_again, posix_end, ignored_end, all_ignored_end, class_start, posix, bracket, longer_in_class, class_escape, in_class};
 
+use crate::characters::literal;
 use crate::escapes::{everywhere, property};
 use crate::faults::{
     BACKSLASH_AT_END, COLLATING_ELEMENT, NOT_IN_CLASS, POSIX_OUTSIDE, UNKNOWN_ESCAPE,
@@ -210,7 +211,7 @@ fn longer_in_class(text: &[u8], flags: LexFlags, c: u8, at: usize) -> Lexed
         }
         b'C' | b'L' | b'l' | b'U' | b'u' => Err(Fault::new(LEFT_OUT, at)),
         b'A'..=b'Z' | b'a'..=b'z' => Err(Fault::new(UNKNOWN_ESCAPE, at)),
-        _ => Ok((Token::Literal(u32::from(c)), at + 2)),
+        _ => literal(text, flags.utf, c, at + 1),
     }
 }
 
@@ -243,6 +244,6 @@ pub(crate) fn in_class(text: &[u8], flags: LexFlags, c: u8, at: usize) -> Lexed
         b'[' => bracket(text, at),
         b'\\' => class_escape(text, flags, at),
         b' ' | b'\t' if flags.extended_more => Ok((Token::Passed, at + 1)),
-        _ => Ok((Token::Literal(u32::from(c)), at + 1)),
+        _ => literal(text, flags.utf, c, at),
     }
 }

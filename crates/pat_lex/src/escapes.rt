@@ -3,6 +3,7 @@ ghost use Rattle.std.specs.Prelude.{◌≡◌, ◌+◌, ◌<◌, ◌≤◌, ℕ,
 ghost use Rattle.token_parts.specs.Tell.{IsSound, IsWell, is_end};
 ghost use Rattle.pat_lex.specs.Escapes.{everywhere, outside, property, property_named, not_newline, longer, escape};
 
+use crate::characters::literal;
 use crate::faults::{BACKSLASH_AT_END, MALFORMED_PROPERTY, UNKNOWN_ESCAPE};
 use crate::quantifiers::is_counted;
 use pat_tree::SetName;
@@ -145,7 +146,7 @@ fn longer(text: &[u8], flags: LexFlags, c: u8, at: usize) -> Lexed
         b'N' => not_newline(text, at),
         b'C' | b'X' | b'L' | b'l' | b'U' | b'u' => Err(Fault::new(LEFT_OUT, at)),
         b'A'..=b'Z' | b'a'..=b'z' => Err(Fault::new(UNKNOWN_ESCAPE, at)),
-        _ => Ok((Token::Literal(u32::from(c)), at + 2)),
+        _ => literal(text, flags.utf, c, at + 1),
     }
 }
 

@@ -1,5 +1,5 @@
 //! Laws on the definitions, and worked rows.
-ghost use Rattle.pat_lex.specs.Laws.{QuotedBytes, PlainBytes, ClassBytes};
+ghost use Rattle.pat_lex.specs.Laws.{QuotedBytes, PlainBytes, ClassBytes, LiteralsAreCharacters};
 ghost use Rattle.pat_lex.specs.Rows.{WorkedRows};
 
 /// Twelve tokens computed from the definition, each as pcre2pattern has it.
@@ -7,7 +7,7 @@ pub fn worked_rows()
     ensures { WorkedRows }
 {}
 
-/// Between `\Q` and `\E` every byte but a backslash stands for itself (pcre2pattern, "Backslash").
+/// Between `\Q` and `\E` every byte but a backslash stands for itself, in UTF every one of ASCII (pcre2pattern, "Backslash").
 pub fn quoted_bytes_stand_for_themselves()
     ensures { QuotedBytes }
 {}
@@ -22,4 +22,9 @@ pub fn plain_bytes_stand_for_themselves()
 /// brackets and character classes").
 pub fn class_bytes_stand_for_themselves()
     ensures { ClassBytes }
+{}
+
+/// In UTF the character that stands for itself is the one that begins there.
+pub fn literals_are_characters()
+    ensures { LiteralsAreCharacters }
 {}

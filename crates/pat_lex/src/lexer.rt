@@ -3,6 +3,7 @@ ghost use Rattle.std.specs.Prelude.{◌≡◌, ◌+◌, ◌<◌, ◌≤◌, leng
 ghost use Rattle.token_parts.specs.Tell.{IsSound, IsWell, Moves, is_own};
 ghost use Rattle.pat_lex.specs.Tokens.{quoted, rest, plain, token_at};
 
+use crate::characters::literal;
 use crate::classes::{class_start, in_class};
 use crate::escapes::escape;
 use crate::groups::group;
@@ -11,15 +12,15 @@ use token_parts::{Fault, LexFlags, Lexed, Token, blank_end, byte, is_extended, s
 
 /// The token between `\Q` and `\E` that begins with this byte.
 #[tactic(auto, unfolding(crate::specs::Tokens::quoted))]
-fn quoted(text: &[u8], c: u8, at: usize) -> Lexed
+fn quoted(text: &[u8], utf: bool, c: u8, at: usize) -> Lexed
     requires { at < length text.now }
-    ensures value { result ≡ quoted text.now c at }
+    ensures value { result ≡ quoted text.now utf c at }
     ensures sound { IsSound text.now at result }
 {
     if c == b'\\' && stands(text, b'E', at + 1) {
         Ok((Token::QuoteOff, at + 2))
     } else {
-        Ok((Token::Literal(u32::from(c)), at + 1))
+        literal(text, utf, c, at)
     }
 }
 
@@ -40,7 +41,7 @@ fn rest(text: &[u8], flags: LexFlags, c: u8, at: usize) -> Lexed
             if is_extended(flags) && at < after {
                 Ok((Token::Passed, after))
             } else {
-                Ok((Token::Literal(u32::from(c)), at + 1))
+                literal(text, flags.utf, c, at)
             }
         }
     }
@@ -66,9 +67,11 @@ fn plain(text: &[u8], flags: LexFlags, c: u8, at: usize) -> Lexed
     }
 }
 
-/// The token that begins at a place, and the place after it; or the fault of that token alone (pcre2pattern). What depends
-/// on the tokens before it, such as whether a quantifier may stand there, isn't tested. Every byte is a character of its own,
-/// also under `utf`. No memory is taken.
+/// The token that begins at a place, and the place after it; or the fault of that token alone
+/// (pcre2pattern). What depends on the tokens before it, such as whether a quantifier may stand
+/// there, isn't tested. A character that stands for itself is a byte, or under `utf` a code point
+/// of UTF-8; a byte that isn't followed by all that it says is then taken alone, which UTF-8 has
+/// nowhere. No memory is taken.
 #[tactic(auto, using(crate::proofs::Moving::moves_inside), unfolding(crate::specs::Tokens::token_at))]
 pub fn next_token(text: &[u8], at: usize, flags: LexFlags) -> Result<(Token, usize), Fault>
     requires { at ≤ length text.now }
@@ -90,7 +93,7 @@ pub fn next_token(text: &[u8], at: usize, flags: LexFlags) -> Result<(Token, usi
         return Ok((Token::End, at));
     };
     if flags.quoting {
-        quoted(text, c, at)
+        quoted(text, flags.utf, c, at)
     } else if flags.in_class {
         in_class(text, flags, c, at)
     } else {

@@ -1,6 +1,7 @@
 //! The tokens of a pattern.
 #![tactic(auto)]
 
+mod characters;
 mod classes;
 mod escapes;
 mod faults;
@@ -11,7 +12,7 @@ mod quantifiers;
 mod verbs;
 
 pub use laws::{
-    class_bytes_stand_for_themselves, plain_bytes_stand_for_themselves,
+    class_bytes_stand_for_themselves, literals_are_characters, plain_bytes_stand_for_themselves,
     quoted_bytes_stand_for_themselves, worked_rows,
 };
 pub use lexer::next_token;

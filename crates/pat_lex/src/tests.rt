@@ -447,3 +447,41 @@ fn tokens_in_classes(rt: HostRuntime) {
     begins(&rt, more, "\n", Token::Literal(10), 1);
     begins(&rt, more, "#", Token::Literal(35), 1);
 }
+
+const UTF: LexFlags = LexFlags { utf: true, ..PLAIN };
+
+#[test]
+fn characters_of_utf_8_are_whole(rt: HostRuntime) {
+    let rows = [
+        ("a", 0x61, 1),
+        ("\u{E9}a", 0xE9, 2),
+        ("\u{20AC}a", 0x20AC, 3),
+        ("\u{1F600}a", 0x1F600, 4),
+    ];
+    for (text, code, after) in rows {
+        let token = Token::Literal(code);
+        begins(&rt, UTF, text, token, after);
+        let quoting = LexFlags {
+            quoting: true,
+            ..UTF
+        };
+        begins(&rt, quoting, text, token, after);
+        let in_class = LexFlags {
+            in_class: true,
+            ..UTF
+        };
+        begins(&rt, in_class, text, token, after);
+    }
+    begins(&rt, UTF, "\\\u{E9}", Token::Literal(0xE9), 3);
+    begins(&rt, UTF, "\\x{10ffff}", Token::Literal(0x10_FFFF), 10);
+    refused(&rt, UTF, "\\x{110000}", 134, 0);
+    refused(&rt, UTF, "\\x{d800}", 173, 0);
+    assert_eq!(rt;
+        next_token(b"\xE2\x82", 0, UTF),
+        Ok((Token::Literal(0xE2), 1))
+    );
+    assert_eq!(rt;
+        next_token("\u{E9}".as_bytes(), 0, PLAIN),
+        Ok((Token::Literal(0xC3), 1))
+    );
+}

@@ -331,9 +331,9 @@ module _ (text : List ℕ) where
       (search (leaves, star_word_plain))
 
   -- tokens
-  quoted_plain : (c at : ℕ) → Lexes (quoted text c at)
+  quoted_plain : (utf : Bool) (c at : ℕ) → Lexes (quoted text utf c at)
   unfolding quoted
-  quoted_plain c at = search leaves
+  quoted_plain utf c at = search leaves
 
   module _ (flags : LexFlags) where
     with_mode_plain : (low : ℕ) (high : Option ℕ) (i : ℕ) → Lexes (with_mode text flags low high i)
@@ -356,7 +356,7 @@ module _ (text : List ℕ) where
     unfolding token_at
     token_plain at =
         lexes_option (slice_get text at) _ _ (search leaves)
-        (λ c. lexes_if _ _ _ (quoted_plain c at) (lexes_if _ _ _ (in_class_plain flags c at) (plain_plain c at)))
+        (λ c. lexes_if _ _ _ (quoted_plain flags.utf c at) (lexes_if _ _ _ (in_class_plain flags c at) (plain_plain c at)))
 
     pub plain_token : (at : ℕ) → Holds (λ r. AsksNoProperty r.0) (token_at text flags at)
     unfolding Lexes

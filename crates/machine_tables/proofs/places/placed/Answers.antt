@@ -22,6 +22,7 @@ answer_of-answer-requires-clause-facts c =
       dfa = told.dfa;
       fixed = told.fixed;
       backs = told.backs;
+      places = told.places;
       greatest = told.greatest;
       flow = told.flow;
       need = told.need;
