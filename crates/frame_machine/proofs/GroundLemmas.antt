@@ -1,10 +1,12 @@
--- What a finished tree and a subject of bytes owe to the machine.
-use Rattle.std.proofs.Common.{◌≡◌, ◌∙◌, ℕ, zero, suc, ◌-◌, ◌<◌, ◌≤◌, ℤ, Bool, true, false, ◌==◌, if◌then◌else◌, List, [], ◌∷◌, ◌++◌, Option, Some, None, All, length, get_or, refl, sym, ap, subst, arith, inl, inr}
+-- What a finished tree and a subject owe to the machine.
+use Rattle.std.proofs.Common.{◌≡◌, ◌∙◌, ℕ, zero, suc, ◌-◌, ◌<◌, ◌≤◌, ℤ, Bool, true, false, ◌==◌, if◌then◌else◌, List, [], ◌∷◌, ◌++◌, Option, Some, None, All, length, take, drop, get_or, chars, sum_by, ◌+◌, refl, sym, ap, subst, arith, inl, inr}
 use Rattle.std.specs.Prelude.{slice_get, slice_index_or, nat_eq}
 use Rattle.std.specs.List.{IsDistinct, list_any, AllByRecursion}
 use Rattle.std.specs.Option.{unwrap_or}
 use Rattle.std.proofs.Math.Path.{fun_ext}
-use Rattle.std.proofs.lemmas.Bool.{cases_Bool, cases_lt, eqb-true, false≢true}
+use Rattle.std.proofs.lemmas.Bool.{cases_Bool, cases_lt, eqb-true, le-leb, false≢true}
+use Rattle.std.proofs.lemmas.Str.{chars-nil}
+use Rattle.std.specs.Char.{len_utf8}
 use Rattle.std.proofs.lemmas.List.{get_or_past}
 use Rattle.std.proofs.lemmas.List.Elements.{All-head, All-tail}
 use Rattle.std.proofs.lemmas.Map.Steps.{length-le_from_distinct_below}
@@ -30,15 +32,16 @@ use Rattle.frame_machine.proofs.BehindLemmas.{measured_whole}
 use Rattle.char_sets.specs.Table.{CharSet, table_has, IsTableOf}
 use Rattle.pcre_io.specs.declared.callouts.Block.{Block}
 use Rattle.match_items.specs.declared.view.View.{View}
-use Rattle.match_items.specs.Subjects.{IsSubject}
+use Rattle.match_items.specs.Subjects.{IsText}
 use Rattle.match_items.specs.Scene.{Scene}
-use Rattle.match_items.specs.Items.{after_item, run_places, longest_run}
-use Rattle.match_items.specs.Views.{scene_of, told, maximum}
+use Rattle.match_items.specs.Items.{after_item, run_places, longest_run, characters, width, after_text, after_ref}
+use Rattle.match_items.specs.Views.{text_scene, told, maximum, fold_in}
+use Rattle.match_items.proofs.TextGround.{places_stand}
 use Rattle.frame_machine.specs.Told.{place_in}
 use Rattle.ordered_search.specs.Setting.{class_holds}
 use Rattle.ordered_search.proofs.Classes.{class_is}
 use Rattle.frame_machine.specs.Ground.{IsNode}
-use Rattle.frame_machine.specs.Ready.{setting_in, IsByteSearch, ground_in}
+use Rattle.frame_machine.specs.Ready.{setting_in, IsBoardSearch, ground_in}
 
 -- a node of no tree
 abbrev nowhere : Placed
@@ -80,6 +83,36 @@ module _ (g : Scene) (item : Item) (p : ℕ) (short : length g.subject < 4294967
   run_as None m e = ap (λ x. longest_run g item (maximum x) p) e
   run_as (Some k) m e = ap (λ x. longest_run g item (maximum x) p) e ∙ some_of k (k == 4294967295) refl
 
+-- An empty text stands everywhere.
+
+no_characters : (g : Scene) → characters g [] ≡ []
+no_characters g = by_utf g.options.utf
+  where
+    by_utf : (b : Bool) → elim b as (λ _. List ℕ) [ true ↦ chars [] | false ↦ [] ] ≡ []
+    by_utf true = chars-nil
+    by_utf false = refl
+
+no_width : (g : Scene) → width g [] ≡ 0
+no_width g = by_utf g.options.utf
+  where
+    by_utf : (b : Bool) → elim b as (λ _. ℕ) [ true ↦ sum_by len_utf8 [] | false ↦ length {A = ℕ} [] ] ≡ 0
+    by_utf true = refl
+    by_utf false = refl
+
+empty_text : (g : Scene) (caseless : Bool) (ys : List ℕ) (p : ℕ) → after_text g caseless [] ys p ≡ Some p
+empty_text g caseless ys p =
+    let same : p + 0 ≡ p = omega arith in
+    ap (λ b. elim b as (λ _. Option ℕ) [ true ↦ Some (p + width g []) | false ↦ None ]) (le-leb 0 (length ys) (omega arith))
+    ∙ ap (λ n. Some (p + n)) (no_width g)
+    ∙ ap Some same
+
+pub empty_ref : (g : Scene) (from to p : ℕ) (caseless : Bool) → to < from → after_ref g from to caseless p ≡ Some p
+empty_ref g from to p caseless less =
+    let none : to - from ≡ 0 = omega arith in
+    ap (λ n. after_text g caseless (characters g (take n (drop from g.subject))) (characters g (drop p g.subject)) p) none
+    ∙ ap (λ xs. after_text g caseless xs (characters g (drop p g.subject)) p) (no_characters g)
+    ∙ empty_text g caseless (characters g (drop p g.subject)) p
+
 -- Scenes.
 
 classes_same : (tree : TreeParts) (table : List CharSet) → IsTableOf tree table → table_has table ≡ (λ n c. class_holds tree.options.utf (slice_get tree.classes n) c)
@@ -87,10 +120,10 @@ classes_same tree table h = fun_ext (λ n. fun_ext (λ c. h.answers n c ∙ clas
 
 -- a view of the tree's options shows what the search is about
 pub scene_same : (tree : TreeParts) (table : List CharSet) (view : View) (answers : Block → ℤ) → IsTableOf tree table → view.options.now ≡ tree.options →
-    scene_of view table ≡ (setting_in tree view.matching.now view.subject.now view.start answers).scene
+    text_scene view table ≡ (setting_in tree view.matching.now view.subject.now view.start answers).scene
 scene_same tree table view answers h e =
-    ap (λ (has : ℕ → ℕ → Bool). record (scene_of view table) { class_has = has }) (classes_same tree table h)
-    ∙ ap (λ (o : Options). record (setting_in tree view.matching.now view.subject.now view.start answers).scene { options = o }) e
+    ap (λ (has : ℕ → ℕ → Bool). record (text_scene view table) { class_has = has }) (classes_same tree table h)
+    ∙ ap (λ (o : Options). record (setting_in tree view.matching.now view.subject.now view.start answers).scene { options = o; fold = fold_in o.utf }) e
 
 -- The children of a node are fewer than its number.
 
@@ -137,7 +170,7 @@ few_kids ps q n here few below once = elim (cases_lt q (length ps)) [
 -- The node of a part.
 
 module _ (t : TreeParts) (table : List CharSet) (matching : MatchOptions) (subject : List ℕ) (start : ℕ) (answers : Block → ℤ)
-    (h : IsByteSearch t table matching subject) where
+    (h : IsBoardSearch t table matching subject) where
   module _ (q : ℕ) (n : Node) (here : (other : Placed) → n ≡ (slice_index_or t.nodes q other).node) (le : q ≤ t.root) (few : q ≤ 4294967295)
       (is : nest (trees t.nodes) n ≡ tree_at (trees t.nodes) q) (below : All (λ k. k < q) (kids_of n)) (rules : NodeRules (length t.classes) (length t.verb_names) t.nodes n)
       (once : IsDistinct nat_eq (children t.nodes)) (grouped : All (λ k. k ≤ greatest (group_numbers t.nodes)) (numbers_of n))
@@ -184,10 +217,10 @@ numbered_from class_count name_count all (p ∷ ps) a n e = elim (cases_Bool (is
 ]
 
 -- what is known of a finished tree, and what is asked of a search of it
-pub byte_search : (t : TreeParts) (table : List CharSet) (matching : MatchOptions) (subject : List ℕ) → TreeRules t → IsRunnable (tree_of t) → first_fault t ≡ None →
-    IsTableOf t table → IsSubject t.options subject → matching.«partial» ≡ Off → greatest (group_numbers t.nodes) ≤ 65535 → matching.match_limit ≤ 4294967295 →
-    IsByteSearch t table matching subject
-byte_search t table matching subject rules runs fixed shown searched off groups few = record {
+pub board_search : (t : TreeParts) (table : List CharSet) (matching : MatchOptions) (subject : List ℕ) → TreeRules t → IsRunnable (tree_of t) → first_fault t ≡ None →
+    IsTableOf t table → IsText t.options subject → matching.«partial» ≡ Off → greatest (group_numbers t.nodes) ≤ 65535 → matching.match_limit ≤ 4294967295 →
+    IsBoardSearch t table matching subject
+board_search t table matching subject rules runs fixed shown searched off groups few = record {
   runs = runs;
   measured = measured_whole t rules fixed;
   shown = shown;
@@ -199,4 +232,5 @@ byte_search t table matching subject rules runs fixed shown searched off groups 
   chained = (followers_hang_together t rules).chained;
   linked = (followers_hang_together t rules).linked;
   numbered = numbered_from (length t.classes) (length t.verb_names) t.nodes t.nodes rules.nodes.each;
+  along = places_stand;
 }

@@ -23,7 +23,7 @@ use Rattle.char_sets.specs.Table.{CharSet}
 use Rattle.pcre_io.specs.declared.callouts.Block.{Block}
 use Rattle.frame_machine.specs.Ground.{Ground, tree_of, IsGround, IsPart}
 use Rattle.frame_machine.specs.Calls.{EndsAlone, IsCalled}
-use Rattle.frame_machine.specs.Ready.{IsByteSearch, ground_in}
+use Rattle.frame_machine.specs.Ready.{IsBoardSearch, ground_in}
 use Rattle.frame_machine.specs.GroundLaw.{ground_is}
 use Rattle.frame_machine.proofs.KidParts.{kid_parts_of, root_part}
 
@@ -72,7 +72,7 @@ last_alone c q (tree.group None ts) e = e
 last_alone c q _ e = e
 
 module _ (t : TreeParts) (table : List CharSet) (matching : MatchOptions) (subject : List ℕ) (start : ℕ) (answers : Block → ℤ)
-    (h : IsByteSearch t table matching subject) (rules : TreeRules t) where
+    (h : IsBoardSearch t table matching subject) (rules : TreeRules t) where
   abbrev board : Ground
   board = ground_in t matching subject start answers
 

@@ -1,4 +1,5 @@
 pub mod Forms
+pub mod ByteTexts
 mod BehindLemmas
 mod PartPaths
 mod KidParts

@@ -1,7 +1,9 @@
 -- What an answer says.
-use Rattle.std.specs.Prelude.{◌≡◌, ℕ, Option}
+use Rattle.std.specs.Prelude.{◌≡◌, ℕ, List, Option}
 use Rattle.std.specs.Option.{option_or}
 use Rattle.frame_store.specs.Captures.{Captures}
+use Rattle.pat_tree.specs.declared.options.Options.{Options}
+use Rattle.match_items.specs.Subjects.{IsTextPlace}
 use Rattle.frame_machine.specs.declared.answer.PlaceAnswer.{PlaceAnswer}
 use Rattle.frame_machine.specs.declared.answer.PlaceAnswer.TheVariants as told
 use Rattle.frame_machine.specs.declared.answer.Signal.{Signal}
@@ -33,6 +35,15 @@ IsAnswer told.Memory caps w = Unit {0}
 abbrev pub IsMark : PlaceAnswer → Option ℕ → Option ℕ → Walked → Type 0
 IsMark told.Memory old new w = Unit {0}
 IsMark _ old new w = new ≡ option_or (last_name w.notes) old
+
+-- where SKIP names the next start place, this is a place of the subject
+abbrev pub IsSkip : Options → List ℕ → Signal → Type 0
+IsSkip options subject (signal.Skip p) = IsTextPlace options subject p
+IsSkip options subject _ = Unit {0}
+
+abbrev pub SkipsToPlace : Options → List ℕ → PlaceAnswer → Type 0
+SkipsToPlace options subject (told.Failed signal hit) = IsSkip options subject signal
+SkipsToPlace options subject _ = Unit {0}
 
 -- the answer says with what the machine stops
 abbrev pub TellsStop : Stop → Spot → PlaceAnswer → Type 0

@@ -14,7 +14,7 @@ use Rattle.node_flow.specs.Followers.{IsFlowOf}
 use Rattle.node_flow.specs.Linked.{AreChained, IsLinked}
 use Rattle.frame_machine.specs.Forms.{IsRunnable, AreRunnable, IsRunnableTest, IsRunnableOther}
 use Rattle.frame_machine.specs.Behind.{AreFixed, HasFixed}
-use Rattle.frame_machine.specs.Ready.{IsByteSearch}
+use Rattle.frame_machine.specs.Ready.{IsBoardSearch}
 use Rattle.pat_lengths.specs.Lengths.{SomeLengths}
 use Rattle.pat_lengths.specs.Backs.{AreBacks}
 use Rattle.pat_lengths.specs.Places.{ArePlaces}
@@ -91,8 +91,8 @@ module _ (rest : ℕ → List ℕ) where
   IsLinked-prop after (node.VerbNode v) = hlevel props
   IsLinked-prop after (node.Callout number from to at len) = hlevel props
 
-pub IsByteSearch-prop : (t : TreeParts) (table : List CharSet) (matching : MatchOptions) (subject : List ℕ) → IsProp (IsByteSearch t table matching subject)
-IsByteSearch-prop t table matching subject = hlevel (props, IsRunnable-prop, HasFixed-prop, IsLinked-prop)
+pub IsBoardSearch-prop : (t : TreeParts) (table : List CharSet) (matching : MatchOptions) (subject : List ℕ) → IsProp (IsBoardSearch t table matching subject)
+IsBoardSearch-prop t table matching subject = hlevel (props, IsRunnable-prop, HasFixed-prop, IsLinked-prop)
 
 pub IsFlowOf-prop : (nodes : List Placed) (root : ℕ) (flow : List (Option ℕ)) → IsProp (IsFlowOf nodes root flow)
 IsFlowOf-prop nodes root flow = hlevel props

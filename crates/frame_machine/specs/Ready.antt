@@ -1,6 +1,6 @@
 -- A finished tree made ready for searches, and what a search of it is about.
 use Rattle.std.specs.Prelude.{◌≡◌, ◌<◌, ◌≤◌, ℕ, ℤ, true, List, [], ◌∷◌, None, IfSome, length, nat_le, slice_index_or}
-use Rattle.uni_text.specs.Ascii.{ascii_fold, is_word_char}
+use Rattle.uni_text.specs.Sets.{word}
 use Rattle.pat_tree.specs.declared.options.MatchOptions.{MatchOptions}
 use Rattle.pat_tree.specs.declared.options.PartialMode.TheVariants.{Off}
 use Rattle.pat_tree.specs.Nested.{Nested, trees}
@@ -13,7 +13,9 @@ use Rattle.node_flow.specs.Followers.{rest, IsFlowOf}
 use Rattle.node_flow.specs.Linked.{IsLinked}
 use Rattle.char_sets.specs.Table.{CharSet, IsTableOf}
 use Rattle.match_items.specs.declared.view.View.{View}
-use Rattle.match_items.specs.Subjects.{IsSubject, IsPlace}
+use Rattle.match_items.specs.Laws.{PlacesStand}
+use Rattle.match_items.specs.Subjects.{IsText, IsTextPlace}
+use Rattle.match_items.specs.Views.{fold_in}
 use Rattle.pcre_io.specs.declared.callouts.Block.{Block}
 use Rattle.pat_check.specs.declared.facts.Facts.{Facts}
 use Rattle.frame_machine.specs.Forms.{IsRunnable}
@@ -30,10 +32,11 @@ use Rattle.ordered_search.specs.Stream as search
 use Rattle.ordered_search.specs.Setting.{Setting, setting_of}
 use Rattle.frame_machine.specs.Ground.{Ground}
 use Rattle.frame_machine.specs.Behind.{IsMeasured}
+use Rattle.frame_machine.specs.Standing.{stands_in}
 
 -- what is known of a tree is known of this one
 pub record AreFactsOf (tree : TreeParts) (facts : Facts) : Type 0 where
-  pub lead : (fold : ℕ → ℕ) → IsByteSet facts.lead (lead_set_of tree fold)
+  pub lead : IsByteSet facts.lead (lead_set_of tree (fold_in tree.options.utf))
   pub empty : facts.can_be_empty ≡ can_be_empty tree.options.match_unset_backref (tree_of tree)
   pub names : facts.names_crlf ≡ names_cr_or_lf tree.classes (tree_of tree)
   pub lookbehind : facts.has_lookbehind ≡ has_lookbehind (tree_of tree)
@@ -61,10 +64,10 @@ shown_as b = record {
   mark = b.mark;
 }
 
--- What a search of a finished tree is about, without UTF: folding and word characters are those of ASCII. The blocks of
--- callouts are answered so.
+-- What a search of a finished tree is about: folding is that of Unicode in UTF and else that of ASCII, and where word
+-- characters are asked for by Unicode's properties, they are these. The blocks of callouts are answered so.
 abbrev pub setting_in : TreeParts → MatchOptions → List ℕ → ℕ → (Block → ℤ) → Setting
-setting_in tree matching subject start answers = setting_of (pattern_of tree) matching subject start ascii_fold is_word_char (λ b. answers (shown_as b))
+setting_in tree matching subject start answers = setting_of (pattern_of tree) matching subject start (fold_in tree.options.utf) (word true) (λ b. answers (shown_as b))
 
 -- the same of a view
 abbrev pub setting_for : TreeParts → View → (Block → ℤ) → Setting
@@ -75,12 +78,12 @@ abbrev pub lengths_in : TreeParts → Nested → SomeLengths
 lengths_in tree t = branch_lengths tree.options.match_unset_backref (tree_of tree) t
 
 -- The search is one that runs here: all forms of the tree run, the branches of its lookbehinds have one length each, and
--- the subject is one of bytes.
-pub record IsByteSearch (tree : TreeParts) (table : List CharSet) (matching : MatchOptions) (subject : List ℕ) : Type 0 where
+-- the subject can be looked at, in UTF as UTF-8.
+pub record IsBoardSearch (tree : TreeParts) (table : List CharSet) (matching : MatchOptions) (subject : List ℕ) : Type 0 where
   pub runs : IsRunnable (tree_of tree)
   pub measured : IsMeasured (lengths_in tree) (tree_of tree)
   pub shown : IsTableOf tree table
-  pub searched : IsSubject tree.options subject
+  pub searched : IsText tree.options subject
   pub off : matching.«partial» ≡ Off
   pub groups : greatest (group_numbers tree.nodes) ≤ 65535
   pub few : matching.match_limit ≤ 4294967295
@@ -91,6 +94,8 @@ pub record IsByteSearch (tree : TreeParts) (table : List CharSet) (matching : Ma
       IsLinked (rest tree.nodes tree.root) (rest tree.nodes tree.root q) (slice_index_or tree.nodes q other).node
   -- a group that stands is numbered from 1 on
   pub numbered : (n : ℕ) → has_group tree.nodes n ≡ true → (0 < n) × (n ≤ greatest (group_numbers tree.nodes))
+  -- what takes characters goes from place to place
+  pub along : PlacesStand
 
 -- What a search of a tree needs: its own table and facts, forms that run, and a view with its options, whose subject
 -- can be searched from the start on, without partial matching.
@@ -99,17 +104,17 @@ pub record IsReadySearch (ready : Ready) (view : View) : Type 0 where
   pub facts : AreFactsOf ready.tree.now ready.facts.now
   pub runs : IsRunnable (tree_of ready.tree.now)
   pub options : view.options.now ≡ ready.tree.now.options
-  pub subject : IsSubject view.options.now view.subject.now
-  pub start : IsPlace view.options.now view.subject.now view.start
+  pub subject : IsText view.options.now view.subject.now
+  pub start : IsTextPlace view.options.now view.subject.now view.start
   pub off : view.matching.now.«partial» ≡ Off
 
--- what the machine goes over there; each byte is a character
+-- what the machine goes over there
 abbrev pub ground_in : TreeParts → MatchOptions → List ℕ → ℕ → (Block → ℤ) → Ground
 ground_in tree matching subject start answers = record {
   setting = setting_in tree matching subject start answers;
   trees = trees tree.nodes;
   root = tree.root;
   rest = rest tree.nodes tree.root;
-  stands = λ p. nat_le p (length subject);
+  stands = stands_in tree.options.utf subject;
   class_count = length tree.classes;
 }

@@ -1,7 +1,5 @@
 -- What the tests of items tell the machine.
-use Rattle.std.specs.Prelude.{ℕ, false, Option, Some, None}
-use Rattle.pat_tree.specs.declared.nodes.AnchorKind.{AnchorKind}
-use Rattle.pat_tree.specs.declared.nodes.AnchorKind.TheVariants.{Word, NotWord}
+use Rattle.std.specs.Prelude.{ℕ, Option, Some, None}
 use Rattle.match_items.specs.declared.view.Taken.{Taken}
 use Rattle.match_items.specs.declared.view.Taken.TheVariants.{Took, No, AtEnd}
 
@@ -10,9 +8,3 @@ abbrev pub place_in : Taken → Option ℕ
 place_in (Took p) = Some p
 place_in No = None
 place_in AtEnd = None
-
--- the same assertion, by the word characters of ASCII
-abbrev pub in_ascii : AnchorKind → AnchorKind
-in_ascii (Word ucp) = Word false
-in_ascii (NotWord ucp) = NotWord false
-in_ascii kind = kind

@@ -1,6 +1,7 @@
 //! What a search at one place answers.
-ghost use Rattle.std.specs.Prelude.{◌≡◌};
-ghost use Rattle.frame_machine.specs.Answer.{IsAnswer, TellsStop};
+ghost use Rattle.std.specs.Prelude.{◌≡◌, ℕ, List};
+ghost use Rattle.pat_tree.specs.declared.options.Options.{Options};
+ghost use Rattle.frame_machine.specs.Answer.{SkipsToPlace, TellsStop};
 ghost use Rattle.frame_machine.specs.Machine.{mark_of};
 
 use crate::machine::{Spot, Stop};
@@ -55,7 +56,8 @@ fn mark_of(mark: u32) -> Option<u32>
 
 /// The answer where the machine stops so.
 pub(crate) fn answer_of(stop: Stop, spot: &Spot) -> PlaceAnswer
-    ensures { TellsStop stop spot.now result }
+    ensures tells { TellsStop stop spot.now result }
+    ensures skip { (options : Options) (subject : List ℕ) → SkipsToPlace options subject result }
 {
     match stop {
         Stop::Match => PlaceAnswer::Matched {

@@ -1,23 +1,23 @@
 //! A finished tree over a subject, as the machine goes over it.
-ghost use Rattle.std.specs.Prelude.{◌≡◌, ◌<◌, ◌≤◌, false, length};
-ghost use Rattle.match_items.specs.Subjects.{IsSubject};
-ghost use Rattle.match_items.specs.Views.{scene_of};
+ghost use Rattle.std.specs.Prelude.{◌≡◌, ℕ, true, length};
+ghost use Rattle.match_items.specs.Subjects.{IsText, IsTextPlace};
+ghost use Rattle.match_items.specs.Views.{text_scene};
 ghost use Rattle.node_flow.specs.Followers.{IsFlowOf};
 ghost use Rattle.pat_lengths.specs.Backs.{AreBacks};
 ghost use Rattle.pat_lengths.specs.Places.{ArePlaces};
-ghost use Rattle.frame_machine.specs.Ready.{IsByteSearch, setting_in};
-ghost use Rattle.frame_machine.specs.Told.{in_ascii};
-ghost use Rattle.frame_machine.specs.BoardProps.{IsByteSearch-prop, IsFlowOf-prop, AreBacks-prop, ArePlaces-prop};
+ghost use Rattle.frame_machine.specs.Ready.{IsBoardSearch, setting_in};
+ghost use Rattle.frame_machine.specs.Standing.{stands_in};
+ghost use Rattle.frame_machine.specs.BoardProps.{IsBoardSearch-prop, IsFlowOf-prop, AreBacks-prop, ArePlaces-prop};
 
-use crate::counted::{longest, place_of, taken};
+use crate::counted::{longest, place_of, taken, wide};
 use crate::searchable::{Run, Searchable};
 use char_sets::ClassTable;
-use match_items::{View, anchor, break_step, ref_step};
+use match_items::{View, text_anchor, text_back, text_before, text_break_step, text_ref_step};
 use pat_check::Facts;
 use pat_tree::{AnchorKind, Item, MatchOptions, Node, Options, Tree};
 use pcre_io::Callouts;
 
-/// A finished tree over a subject, both of bytes.
+/// A finished tree over a subject.
 #[derive(Drop)]
 pub(crate) struct Board<'a, C: Callouts> {
     pub tree: &'a Tree,
@@ -27,7 +27,7 @@ pub(crate) struct Board<'a, C: Callouts> {
     pub start: usize,
     pub matching: &'a MatchOptions,
     pub calls: &'a C,
-    ghost runs: { IsByteSearch tree.now classes.now matching.now subject.now } by { IsByteSearch-prop tree.now classes.now matching.now subject.now },
+    ghost runs: { IsBoardSearch tree.now classes.now matching.now subject.now } by { IsBoardSearch-prop tree.now classes.now matching.now subject.now },
     ghost flows: { IsFlowOf tree.now.nodes tree.now.root facts.now.flow } by { IsFlowOf-prop tree.now.nodes tree.now.root facts.now.flow },
     ghost backs: { AreBacks tree.now facts.now.backs } by { AreBacks-prop tree.now facts.now.backs },
     ghost places: { ArePlaces tree.now facts.now.groups } by { ArePlaces-prop tree.now facts.now.groups },
@@ -36,9 +36,9 @@ pub(crate) struct Board<'a, C: Callouts> {
 impl<C: Callouts> Board<'_, C> {
     /// The subject with the options of the tree and of the match.
     fn view(&self) -> View<'_>
-        ensures scene { scene_of result self.now.classes.now ≡ (setting_in self.now.tree.now self.now.matching.now self.now.subject.now self.now.start (C.answers self.now.calls.now)).scene }
-        ensures subject { IsSubject result.options.now result.subject.now }
-        ensures length { length result.subject.now ≡ length self.now.subject.now }
+        ensures scene { text_scene result self.now.classes.now ≡ (setting_in self.now.tree.now self.now.matching.now self.now.subject.now self.now.start (C.answers self.now.calls.now)).scene }
+        ensures subject { IsText result.options.now result.subject.now }
+        ensures place { (p : ℕ) → stands_in self.now.tree.now.options.utf self.now.subject.now p ≡ true → IsTextPlace result.options.now result.subject.now p }
     {
         View {
             subject: self.subject,
@@ -46,17 +46,6 @@ impl<C: Callouts> Board<'_, C> {
             options: self.tree.options(),
             matching: self.matching,
         }
-    }
-}
-
-/// The same assertion by the word characters of ASCII, which outside UTF are all that there are.
-fn in_ascii(kind: AnchorKind) -> AnchorKind
-    ensures { result ≡ in_ascii kind }
-{
-    match kind {
-        AnchorKind::Word { .. } => AnchorKind::Word { ucp: false },
-        AnchorKind::NotWord { .. } => AnchorKind::NotWord { ucp: false },
-        other => other,
     }
 }
 
@@ -119,7 +108,7 @@ impl<C: Callouts> Searchable for Board<'_, C> {
     }
 
     fn take_break(&self, at: u64) -> Option<u64> {
-        place_of(break_step(&self.view(), at as usize))
+        place_of(text_break_step(&self.view(), at as usize))
     }
 
     fn refer(&self, from: u64, to: u64, caseless: bool, at: u64) -> Option<u64> {
@@ -128,11 +117,11 @@ impl<C: Callouts> Searchable for Board<'_, C> {
             return Some(at);
         }
         let view = self.view();
-        place_of(ref_step(&view, from as usize, to as usize, caseless, at as usize))
+        place_of(text_ref_step(&view, from as usize, to as usize, caseless, at as usize))
     }
 
     fn holds(&self, kind: AnchorKind, at: u64) -> bool {
-        anchor(&self.view(), in_ascii(kind), at as usize).holds
+        text_anchor(&self.view(), kind, at as usize).holds
     }
 
     fn earliest(&self, kind: AnchorKind, at: u64, early: u64) -> u64 {
@@ -143,11 +132,15 @@ impl<C: Callouts> Searchable for Board<'_, C> {
     }
 
     fn before(&self, at: u64) -> u64 {
-        at.saturating_sub(1)
+        text_before(&self.view(), at as usize) as u64
     }
 
     fn step_back(&self, at: u64, count: u32) -> Option<u64> {
-        at.checked_sub(u64::from(count))
+        if self.tree.options().utf {
+            wide(text_back(&self.view(), at as usize, count))
+        } else {
+            at.checked_sub(u64::from(count))
+        }
     }
 
     fn back(&self, branch: u32) -> u32 {

@@ -1,9 +1,9 @@
 //! Tests of items whose counts nothing reads.
 ghost use Rattle.std.specs.Prelude.{◌≡◌, ◌<◌, ◌≤◌, ◌∷◌, [], All, Bool, ℕ, Option, false, length};
 ghost use Rattle.pat_tree.specs.Rules.{class_in};
-ghost use Rattle.match_items.specs.Subjects.{IsSubject, IsPlace};
+ghost use Rattle.match_items.specs.Subjects.{IsText, IsTextPlace};
 ghost use Rattle.match_items.specs.Items.{after_item, item_reaches, longest_run};
-ghost use Rattle.match_items.specs.Views.{scene_of, told, maximum, end_of};
+ghost use Rattle.match_items.specs.Views.{text_scene, told, maximum, end_of};
 ghost use Rattle.frame_machine.specs.Told.{place_in};
 
 use char_sets::ClassTable;
@@ -20,12 +20,22 @@ pub(crate) fn place_of(taken: Taken) -> Option<u64>
     }
 }
 
+/// A place as a wider number.
+pub(crate) fn wide(place: Option<usize>) -> Option<u64>
+    ensures { result ≡ place }
+{
+    match place {
+        Some(place) => Some(place as u64),
+        None => None,
+    }
+}
+
 /// The place after what one item takes.
 pub(crate) fn taken(view: &View<'_>, classes: &ClassTable, item: &Item, at: usize) -> Option<u64>
-    requires subject { IsSubject view.now.options.now view.now.subject.now }
-    requires place { IsPlace view.now.options.now view.now.subject.now at }
+    requires subject { IsText view.now.options.now view.now.subject.now }
+    requires place { IsTextPlace view.now.options.now view.now.subject.now at }
     requires class { All (λ n. n < length classes.now) (class_in item.now) }
-    ensures { result ≡ after_item (scene_of view.now classes.now) item.now at }
+    ensures { result ≡ after_item (text_scene view.now classes.now) item.now at }
 {
     place_of(item_step(view, classes, item, at))
 }
@@ -38,11 +48,11 @@ pub(crate) fn longest(
     at: usize,
     most: Option<u32>,
 ) -> ItemRun
-    requires subject { IsSubject view.now.options.now view.now.subject.now }
-    requires place { IsPlace view.now.options.now view.now.subject.now at }
+    requires subject { IsText view.now.options.now view.now.subject.now }
+    requires place { IsTextPlace view.now.options.now view.now.subject.now at }
     requires class { All (λ n. n < length classes.now) (class_in item.now) }
-    ensures count { result.count ≡ length (longest_run (scene_of view.now classes.now) item.now most at) }
-    ensures to { result.to ≡ end_of at (longest_run (scene_of view.now classes.now) item.now most at) }
+    ensures count { result.count ≡ length (longest_run (text_scene view.now classes.now) item.now most at) }
+    ensures to { result.to ≡ end_of at (longest_run (text_scene view.now classes.now) item.now most at) }
 {
     // No run has so many characters, so this maximum is none.
     let most = most.unwrap_or(u32::MAX);

@@ -1,8 +1,8 @@
 //! The search of a finished tree at one place.
 ghost use Rattle.std.specs.Prelude.{◌≡◌, ◌≤◌, max};
-ghost use Rattle.match_items.specs.Subjects.{IsPlace};
+ghost use Rattle.match_items.specs.Subjects.{IsTextPlace};
 ghost use Rattle.pcre_io.specs.declared.callouts.Block.{Block};
-ghost use Rattle.frame_machine.specs.Answer.{IsAnswer, IsMark};
+ghost use Rattle.frame_machine.specs.Answer.{IsAnswer, IsMark, SkipsToPlace};
 ghost use Rattle.ordered_search.specs.PlaceAnswer.{place_answer};
 ghost use Rattle.frame_machine.specs.Ready.{IsReadySearch, setting_for};
 
@@ -26,10 +26,10 @@ pub struct Ready<'a> {
 /// Searches a finished tree at one place, and leaves the captures of a match in the workspace (pcre2matching, "The standard
 /// matching algorithm"). Any workspace serves, new or used.
 ///
-/// Needs the table and the facts of the tree, and a view with the tree's options; a start that is at most the place, and a
-/// place in the subject; a subject of fewer than 4,294,967,295 bytes without UTF; no partial matching; and a tree without
-/// verbs and callouts, the branches of whose lookbehinds have one length each, as its facts say. So it calls at no
-/// callout.
+/// Needs the table and the facts of the tree, and a view with the tree's options; a subject of fewer than 4,294,967,295
+/// bytes, which in UTF is UTF-8; a start that is at most the place, and both in the subject, in UTF where characters begin;
+/// no partial matching; and a tree without verbs and callouts, the branches of whose lookbehinds have one length each, as
+/// its facts say. So it calls at no callout.
 pub fn run_at<C: Callouts>(
     ready: &Ready<'_>,
     view: &View<'_>,
@@ -39,9 +39,10 @@ pub fn run_at<C: Callouts>(
 ) -> PlaceAnswer
     requires search { IsReadySearch ready.now view.now }
     requires start { view.now.start ≤ place }
-    requires place { IsPlace view.now.options.now view.now.subject.now place }
+    requires place { IsTextPlace view.now.options.now view.now.subject.now place }
     ensures answer { IsAnswer result scratch.new.spans (place_answer (setting_for ready.now.tree.now view.now (C.answers calls.old)) place) }
     ensures mark { IsMark result scratch.old.last_mark scratch.new.last_mark (place_answer (setting_for ready.now.tree.now view.now (C.answers calls.old)) place) }
+    ensures skip { SkipsToPlace view.now.options.now view.now.subject.now result }
     ensures peak { scratch.new.peak ≤ max scratch.old.peak view.now.matching.now.frame_limit }
     ensures groups { scratch.new.groups ≡ scratch.old.groups }
     ensures frames { scratch.new.frames ≡ scratch.old.frames }

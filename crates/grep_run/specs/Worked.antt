@@ -2,7 +2,8 @@
 use Rattle.std.specs.Prelude.{◌≡◌, ℕ, List, [], ◌∷◌, ◌++◌, codes, None, pos}
 use Rattle.pat_tree.specs.declared.options.MatchOptions.{MatchOptions}
 use Rattle.pat_tree.specs.Parts.{TreeParts}
-use Rattle.uni_text.specs.Ascii.{ascii_fold, is_word_char}
+use Rattle.uni_text.specs.Sets.{word}
+use Rattle.match_items.specs.Views.{fold_in}
 use Rattle.ordered_search.specs.Setting.{setting_of}
 use Rattle.pat_tree.specs.Pattern.{pattern_of}
 use Rattle.pcre2_api.specs.Patterns.{setting}
@@ -69,4 +70,4 @@ pub record WorkedRows : Type 0 where
   -- what a search of a finished tree is about
   pub finished_tree : (t : TreeParts) (matching : MatchOptions) (subject : List ℕ) (start : ℕ)
       → setting (pattern_of t) matching subject start ≡ setting_of (pattern_of t)
-      matching subject start ascii_fold is_word_char (λ block. pos 0)
+      matching subject start (fold_in t.options.utf) (word true) (λ block. pos 0)

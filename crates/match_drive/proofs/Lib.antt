@@ -2,6 +2,7 @@ mod Left
 mod NoneTold
 mod Excluded
 mod Steps
+mod TextSteps
 mod Walk
 mod Leads
 mod PastBegin

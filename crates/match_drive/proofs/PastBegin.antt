@@ -72,15 +72,15 @@ module _ (g : Setting) where
       by_test true = refl
       by_test false = place_fails h p past
 
-  module _ (not_utf : g.options.utf ≡ false) (begun : g.start ≤ length g.subject) (only : StandsAtBegin g.whole) where
+  module _ (begun : g.start ≤ length g.subject) (only : StandsAtBegin g.whole) where
     none_later : (n : ℕ) (o : Option ℕ) → IfSome o (λ p. 0 < p) → from_place g n o ≡ none_found
     unfolding from_place
-    none_later n None low = none_left g not_utf begun n
+    none_later n None low = none_left g begun n
     none_later zero (Some p) low = refl
     none_later (suc n) (Some p) low =
-        from_is g not_utf begun n p
+        from_is g begun n p
         ∙ ap (λ (w : Walked). found_at p w (λ signal. from_place g n (place_after g p signal))) (tried_fails only p (not_zero p low))
-        ∙ none_later n (place_after g p Exhausted) (IfSome_then (place_after g p Exhausted) (after_later g not_utf begun p Exhausted) (λ q both. omega (arith, low, both.0)))
+        ∙ none_later n (place_after g p Exhausted) (IfSome_then (place_after g p Exhausted) (after_later g begun p Exhausted) (λ q both. omega (arith, low, both.0)))
 
     -- nothing is found past the subject's begin
     pub none_past : (p : ℕ) → 0 < p → found_from g (Some p) ≡ none_found

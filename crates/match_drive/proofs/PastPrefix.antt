@@ -14,7 +14,7 @@ use Rattle.pat_tree.specs.Parts.{TreeParts}
 use Rattle.char_sets.specs.Table.{CharSet, IsTableOf}
 use Rattle.match_items.specs.declared.view.View.{View}
 use Rattle.match_items.specs.Items.{after_item, item_reaches}
-use Rattle.match_items.specs.Views.{scene_of}
+use Rattle.match_items.specs.Views.{text_scene, fold_in}
 use Rattle.ordered_search.specs.Stream.{State, Stream, Search, first_state, nothing, each, and_then, ◌or_else◌}
 use Rattle.ordered_search.specs.Setting.{Setting, match_limit, reach, reach_if}
 use Rattle.frame_machine.specs.Ready.{setting_for}
@@ -100,14 +100,14 @@ module _ (g : Setting) (off : g.matching.«partial» ≡ Off) where
 -- a view of the tree's options shows what the search is about
 pub scene_same : (tree : TreeParts) (table : List CharSet) (view : View) (answers : Block → ℤ)
     → IsTableOf tree table → view.options.now ≡ tree.options →
-    scene_of view table ≡ (setting_for tree view answers).scene
+    text_scene view table ≡ (setting_for tree view answers).scene
 scene_same tree table view answers h e =
-    ap (λ (has : ℕ → ℕ → Bool). record (scene_of view table) { class_has = has }) (fun_ext (λ n. fun_ext (λ c. h.answers n c)) ∙ class_told tree)
-    ∙ ap (λ (o : Options). record (setting_for tree view answers).scene { options = o }) e
+    ap (λ (has : ℕ → ℕ → Bool). record (text_scene view table) { class_has = has }) (fun_ext (λ n. fun_ext (λ c. h.answers n c)) ∙ class_told tree)
+    ∙ ap (λ (o : Options). record (setting_for tree view answers).scene { options = o; fold = fold_in o.utf }) e
 
 -- a search fails at a place where a first item refuses what stands there
 pub refused : (tree : TreeParts) (table : List CharSet) (view : View) (answers : Block → ℤ) (parts : List ℕ) (p : ℕ) → IsTableOf tree table → view.options.now ≡ tree.options →
-    view.matching.now.«partial» ≡ Off → AreFirstParts tree parts → item_refuses (scene_of view table) (row_of tree parts) p ≡ true →
+    view.matching.now.«partial» ≡ Off → AreFirstParts tree parts → item_refuses (text_scene view table) (row_of tree parts) p ≡ true →
     place_answer (setting_for tree view answers) p ≡ answer.answers (Failed Exhausted)
 unfolding item_refuses
 refused tree table view answers [] p shown options off are h = absurd (cc h)

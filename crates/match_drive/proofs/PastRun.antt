@@ -30,7 +30,7 @@ use Rattle.char_sets.specs.Table.{CharSet, IsTableOf}
 use Rattle.match_items.specs.Scene.{Scene}
 use Rattle.match_items.specs.declared.view.View.{View}
 use Rattle.match_items.specs.Items.{longest_run}
-use Rattle.match_items.specs.Views.{scene_of, end_of}
+use Rattle.match_items.specs.Views.{text_scene, end_of}
 use Rattle.frame_machine.specs.Ready.{setting_for}
 use Rattle.ordered_search.proofs.LaterRuns.{end_within}
 use Rattle.ordered_search.proofs.FollowLaw.{later_places}
@@ -184,9 +184,9 @@ module _ (g : Setting) where
       → found_from g (up_to (last_place g) (Some (behind g p q)))
       ≡ found_from g (place_after g p Exhausted)
   next_past not_utf begun p to q low before fails less high within most failed =
-      passed g not_utf begun p q low (omega arith) within most
+      passed g begun not_utf p q low (omega arith) within most
       (λ k a b. tried_fails k (fails before failed k a (omega arith)))
-      ∙ found_failed g not_utf begun p low
+      ∙ found_failed g begun p low
       (tried_fails p (fails before failed p (omega arith) (omega arith)))
 
 -- A run from p ends at q in the subject, and the places up to there fail with p.
@@ -197,7 +197,7 @@ pub record RunFails (tree : TreeParts) (view : View) (p q : ℕ) : Type 0 where
 
 pub run_fails : (tree : TreeParts) (table : List CharSet) (view : View) (item : Item) (p q : ℕ)
     → IsTableOf tree table → view.options.now ≡ tree.options → IsFirstRun tree view item
-    → q ≡ end_of p (longest_run (scene_of view table) item None p) → p ≤ length view.subject.now
+    → q ≡ end_of p (longest_run (text_scene view table) item None p) → p ≤ length view.subject.now
     → RunFails tree view p q
 run_fails tree table view item p q shown options first to within =
     let g = setting_for tree view passed_over in

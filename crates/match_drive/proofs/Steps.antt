@@ -12,25 +12,10 @@ use Rattle.ordered_search.specs.Setting.{Setting, lead_set}
 use Rattle.ordered_search.specs.Places.{passes_crlf, next_place, last_place, within, place_after, is_excluded, up_to}
 use Rattle.ordered_search.specs.MatchAnswer.{Found, none_found, failed_at, tried, from_place, match_answer, found_by, found_at}
 use Rattle.match_drive.specs.Rest.{IsByteOutside, behind, found_from, IsLeft, IsPassed, IsTried, IsNextTried}
-use Rattle.ordered_search.proofs.StartPlaces.{up_to_is, up_to_past, up_to_keeps, last_within, start_within, next_inside, next_later, after_later}
+use Rattle.ordered_search.proofs.StartPlaces.{no_stand, crlf_then, up_to_is, up_to_past, up_to_keeps, last_within, start_within, next_inside, next_later, after_later}
 use Rattle.match_drive.proofs.Excluded.{excluded_by_byte}
 
 -- Bytes.
-
-no_stand : (b : ℕ) (t bytes : List ℕ) (p : ℕ) → stands (b ∷ t) bytes p ≡ true → (p < length bytes) × (slice_index bytes p ≡ b) × (stands t bytes (p + 1) ≡ true)
-unfolding stands
-no_stand b t bytes p h =
-    let parts = and_parts _ _ h in
-    let both = and_parts _ _ parts.1 in
-    (ltb-true _ _ parts.0, eqb-true _ _ both.0, both.1)
-
--- where a CRLF stands, a byte follows that isn't CR
-crlf_then : (bytes : List ℕ) (p : ℕ) → nat_lt 0 (newline_len CrLf bytes p) ≡ true → (p + 1 < length bytes) × (slice_index bytes (p + 1) ≡ 10)
-crlf_then bytes p h = by_stand (stands (13 ∷ (10 ∷ [])) bytes p) refl
-  where
-    by_stand : (b : Bool) → stands (13 ∷ (10 ∷ [])) bytes p ≡ b → (p + 1 < length bytes) × (slice_index bytes (p + 1) ≡ 10)
-    by_stand true e = let first = no_stand 13 (10 ∷ []) bytes p e in let second = no_stand 10 [] bytes (p + 1) first.2 in (second.0, second.1)
-    by_stand false e = absurd (cc (ap (λ b. nat_lt 0 (max (if b then 2 else 0) 0)) (sym e) ∙ h))
 
 no_crlf_after : (bytes : List ℕ) (p : ℕ) → nat_lt 0 (newline_len CrLf bytes p) ≡ true → nat_lt 0 (newline_len CrLf bytes (p + 1)) ≡ false
 no_crlf_after bytes p h = by_stand (stands (13 ∷ (10 ∷ [])) bytes (p + 1)) refl
@@ -72,12 +57,12 @@ behind_later g p q h = by_test (nat_lt p q && passes_crlf g (q - 1))
     by_test true = omega arith
     by_test false = h
 
-module _ (g : Setting) (not_utf : g.options.utf ≡ false) (begun : g.start ≤ length g.subject) where
+module _ (g : Setting) (begun : g.start ≤ length g.subject) where
   pub step_is : (p last : ℕ) (found next : Option ℕ) → last ≡ last_place g → found ≡ next_place g p → next ≡ up_to last found → next ≡ up_to (last_place g) (next_place g p)
   step_is p last found next e f h = h ∙ ap (λ l. up_to l found) e ∙ ap (up_to (last_place g)) f
 
   pub step_later : (at p : ℕ) → at ≤ p → IfSome (up_to (last_place g) (next_place g p)) (λ q. at < q)
-  step_later at p h = IfSome_then (up_to (last_place g) (next_place g p)) (up_to_keeps (λ q. p < q) (last_place g) (next_place g p) (next_later g not_utf begun p)) (λ q both. omega (arith, h, both.0))
+  step_later at p h = IfSome_then (up_to (last_place g) (next_place g p)) (up_to_keeps (λ q. p < q) (last_place g) (next_place g p) (next_later g begun p)) (λ q both. omega (arith, h, both.0))
 
   -- Enough room for the places that are left.
 
@@ -87,7 +72,7 @@ module _ (g : Setting) (not_utf : g.options.utf ≡ false) (begun : g.start ≤ 
 
   after_covers : (n p : ℕ) (signal : Signal) → length g.subject < suc n + p → Covers n (place_after g p signal)
   unfolding Covers
-  after_covers n p signal room = of_later (place_after g p signal) (after_later g not_utf begun p signal)
+  after_covers n p signal room = of_later (place_after g p signal) (after_later g begun p signal)
     where
       of_later : (o : Option ℕ) → IfSome o (λ q. (p < q) × (q ≤ last_place g)) → Covers n o
       of_later None h = tt
@@ -116,8 +101,8 @@ module _ (g : Setting) (not_utf : g.options.utf ≡ false) (begun : g.start ≤ 
   covered : (n m : ℕ) (o : Option ℕ) → Covers n o → Covers m o → from_place g n o ≡ from_place g m o
   unfolding Covers
   covered n m None h k = none_left n ∙ sym (none_left m)
-  covered zero m (Some p) h k = absurd (omega (arith, h.0, h.1, last_within g not_utf begun))
-  covered (suc n) zero (Some p) h k = absurd (omega (arith, k.0, k.1, last_within g not_utf begun))
+  covered zero m (Some p) h k = absurd (omega (arith, h.0, h.1, last_within g begun))
+  covered (suc n) zero (Some p) h k = absurd (omega (arith, k.0, k.1, last_within g begun))
   covered (suc n) (suc m) (Some p) h k =
       from_is n p
       ∙ by_place p (tried g p) (λ signal. from_place g n (place_after g p signal)) (λ signal. from_place g m (place_after g p signal))
@@ -127,14 +112,14 @@ module _ (g : Setting) (not_utf : g.options.utf ≡ false) (begun : g.start ≤ 
   from_covered : (n : ℕ) (o : Option ℕ) → Covers n o → from_place g n o ≡ found_from g o
   unfolding Covers
   from_covered n None h = none_left n
-  from_covered n (Some p) h = covered n (length g.subject + 1 - p) (Some p) h (h.0, omega (arith, h.0, last_within g not_utf begun))
+  from_covered n (Some p) h = covered n (length g.subject + 1 - p) (Some p) h (h.0, omega (arith, h.0, last_within g begun))
 
   -- What is found from a place on: what is found there, and from the place after it on.
 
   found_place : (p : ℕ) → p ≤ last_place g → found_from g (Some p) ≡ found_at p (tried g p) (λ signal. found_from g (place_after g p signal))
   found_place p h =
-      let left : length g.subject + 1 - p ≡ suc (length g.subject - p) = omega (arith, h, last_within g not_utf begun) in
-      let room : length g.subject < suc (length g.subject - p) + p = omega (arith, h, last_within g not_utf begun) in
+      let left : length g.subject + 1 - p ≡ suc (length g.subject - p) = omega (arith, h, last_within g begun) in
+      let room : length g.subject < suc (length g.subject - p) + p = omega (arith, h, last_within g begun) in
       ap (λ n. from_place g n (Some p)) left
       ∙ from_is (length g.subject - p) p
       ∙ by_place p (tried g p) (λ signal. from_place g (length g.subject - p) (place_after g p signal)) (λ signal. found_from g (place_after g p signal))
@@ -165,7 +150,7 @@ module _ (g : Setting) (not_utf : g.options.utf ≡ false) (begun : g.start ≤ 
   found_excluded p h e = found_failed p h (excluded_fails p e)
 
   pub match_found : match_answer g ≡ found_from g (Some g.start)
-  match_found = ap (from_place g (length g.subject + 1 - g.start)) (up_to_is (last_place g) g.start (start_within g not_utf begun))
+  match_found = ap (from_place g (length g.subject + 1 - g.start)) (up_to_is (last_place g) g.start (start_within g begun))
 
   -- Places that fail silently, one after the other.
 
@@ -201,18 +186,18 @@ module _ (g : Setting) (not_utf : g.options.utf ≡ false) (begun : g.start ≤ 
           inr (refl, subst (λ i. passes_crlf g i ≡ false) before (passed_once (k - 1) parts.1))
       by_test false e = inl refl
 
-  passed_by : (p n : ℕ) → p ≤ last_place g → p + n ≤ length g.subject → p + n ≤ last_place g + 1
+  passed_by : g.options.utf ≡ false → (p n : ℕ) → p ≤ last_place g → p + n ≤ length g.subject → p + n ≤ last_place g + 1
       → ((k : ℕ) → p ≤ k → k < p + n → tried g k ≡ answers (place.Failed Exhausted))
       → found_from g (up_to (last_place g) (Some (behind g p (p + n)))) ≡ found_from g (Some p)
-  passed_by p zero low high most all =
+  passed_by not_utf p zero low high most all =
       let e : p + 0 ≡ p = omega arith in
       ap (λ k. found_from g (up_to (last_place g) (Some (behind g p k)))) e
       ∙ ap (λ k. found_from g (up_to (last_place g) (Some k))) (behind_none p)
       ∙ ap (found_from g) (up_to_is (last_place g) p low)
-  passed_by p (suc n) low high most all =
+  passed_by not_utf p (suc n) low high most all =
       let k = p + n in
       let e : p + suc n ≡ k + 1 = omega arith in
-      let before = passed_by p n low (omega (arith, high)) (omega (arith, most)) (λ i a b. all i a (omega (arith, b))) in
+      let before = passed_by not_utf p n low (omega (arith, high)) (omega (arith, most)) (λ i a b. all i a (omega (arith, b))) in
       ap (λ q. found_from g (up_to (last_place g) (Some (behind g p q)))) e
       ∙ ap (λ o. found_from g (up_to (last_place g) o)) (behind_more p k (omega arith))
       ∙ one_more k (behind_cases p k) before (omega (arith, high)) (omega (arith, most)) (all k (omega arith) (omega arith))
@@ -223,7 +208,7 @@ module _ (g : Setting) (not_utf : g.options.utf ≡ false) (begun : g.start ≤ 
           → tried g k ≡ answers (place.Failed Exhausted)
           → found_from g (up_to (last_place g) (elim (passes_crlf g k) [ true ↦ Some (k + 2) | false ↦ Some (k + 1) ])) ≡ found_from g (Some p)
       one_more k (inl is) before inside within_last out =
-          ap (λ o. found_from g (up_to (last_place g) o)) (sym (next_inside g not_utf begun k inside))
+          ap (λ o. found_from g (up_to (last_place g) o)) (sym (next_inside g begun not_utf k inside))
           ∙ sym (found_failed k within_last out)
           ∙ ap (found_from g) (sym (up_to_is (last_place g) k within_last))
           ∙ ap (λ q. found_from g (up_to (last_place g) (Some q))) (sym is)
@@ -234,23 +219,23 @@ module _ (g : Setting) (not_utf : g.options.utf ≡ false) (begun : g.start ≤ 
           ∙ before
 
   -- all places from one up to another fail silently
-  pub passed : (p q : ℕ) → p ≤ last_place g → p ≤ q → q ≤ length g.subject → q ≤ last_place g + 1
+  pub passed : g.options.utf ≡ false → (p q : ℕ) → p ≤ last_place g → p ≤ q → q ≤ length g.subject → q ≤ last_place g + 1
       → ((k : ℕ) → p ≤ k → k < q → tried g k ≡ answers (place.Failed Exhausted))
       → found_from g (up_to (last_place g) (Some (behind g p q))) ≡ found_from g (Some p)
-  passed p q low ordered high most all =
+  passed not_utf p q low ordered high most all =
       let e : p + (q - p) ≡ q = omega (arith, ordered) in
       subst (λ k. found_from g (up_to (last_place g) (Some (behind g p k))) ≡ found_from g (Some p)) e
-      (passed_by p (q - p) low (omega (arith, e, high)) (omega (arith, e, most)) (λ k a b. all k a (omega (arith, e, b))))
+      (passed_by not_utf p (q - p) low (omega (arith, e, high)) (omega (arith, e, most)) (λ k a b. all k a (omega (arith, e, b))))
 
   -- The pieces of the walk.
 
   pub not_passed : (p : ℕ) → p ≤ last_place g → IsPassed g p p
   not_passed p h = record { same = ap (found_from g) (up_to_is (last_place g) p h); later = omega arith }
 
-  pub passed_bytes : (set : List Bool) (p q : ℕ) → g.options.no_start_optimize ≡ false → IsByteSet (Some set) (lead_set g) → p ≤ last_place g → p ≤ q
+  pub passed_bytes : g.options.utf ≡ false → (set : List Bool) (p q : ℕ) → g.options.no_start_optimize ≡ false → IsByteSet (Some set) (lead_set g) → p ≤ last_place g → p ≤ q
       → q ≤ length g.subject → q ≤ last_place g + 1 → ((k : ℕ) → p ≤ k → k < q → IsByteOutside set (slice_index g.subject k)) → IsPassed g p (behind g p q)
-  passed_bytes set p q on lead low ordered high most all = record {
-    same = passed p q low ordered high most
+  passed_bytes not_utf set p q on lead low ordered high most all = record {
+    same = passed not_utf p q low ordered high most
         (λ k a b. excluded_fails k (excluded_by_byte g set k on lead (omega (arith, b, high))
         (all k a b)));
     later = behind_later g p q ordered;
@@ -295,11 +280,11 @@ module _ (g : Setting) where
   tried_later (Some n) (Some q) p h low = omega (arith, h.later, low)
 
   -- what is left at a place that is tried
-  pub left_at : (not_utf : g.options.utf ≡ false) (begun : g.start ≤ length g.subject) (whole : Found) (first mark next : Option ℕ) (p : ℕ) → next ≡ Some p
+  pub left_at : (begun : g.start ≤ length g.subject) (whole : Found) (first mark next : Option ℕ) (p : ℕ) → next ≡ Some p
       → IsLeft whole first mark (found_from g next) → IfSome next (λ p. p ≤ last_place g) → IfSome next (λ p. is_excluded g p ≡ false)
       → IsLeft whole first mark (found_at p (place_answer g p) (λ signal. found_from g (place_after g p signal)))
-  left_at not_utf begun whole first mark next p is left low out =
-      subst (IsLeft whole first mark) (ap (found_from g) is ∙ found_tried g not_utf begun p (rw is at low) (rw is at out)) left
+  left_at begun whole first mark next p is left low out =
+      subst (IsLeft whole first mark) (ap (found_from g) is ∙ found_tried g begun p (rw is at low) (rw is at out)) left
 
   pub tried_from : (p : ℕ) (next : Option ℕ) → IsNextTried g (Some p) next → IfSome next (λ q. p ≤ q)
   tried_from p None h = tt

@@ -21,7 +21,7 @@ use Rattle.match_drive.specs.Rest.{found_from, first_hit, IsLeft, IsNextTried}
 use Rattle.match_drive.proofs.Steps.{left_at, next_same, match_found}
 use Rattle.match_drive.proofs.Left.{left_failed}
 
-module _ (g : Setting) (not_utf : g.options.utf ≡ false) (begun : g.start ≤ length g.subject) (whole : Found) (first old next : Option ℕ) (p : ℕ)
+module _ (g : Setting) (begun : g.start ≤ length g.subject) (whole : Found) (first old next : Option ℕ) (p : ℕ)
     (is : next ≡ Some p) (left : IsLeft whole first old (found_from g next)) (low : IfSome next (λ q. q ≤ last_place g))
     (tried : IfSome next (λ q. is_excluded g q ≡ false)) (caps : Captures) where
   -- the place decides
@@ -31,7 +31,7 @@ module _ (g : Setting) (not_utf : g.options.utf ≡ false) (begun : g.start ≤ 
       subst (λ (m : Option ℕ). IsMatchAnswer result caps whole × IsLastMark result m whole) same
       (tells caps (place_answer g p) (λ (signal : place.Signal). found_from g (place_after g p signal)) old whole answered
       (subst (λ (m : Option ℕ). IsMark answer old m (place_answer g p)) (sym same) marked)
-      (left_at g not_utf begun whole first old next p is left low tried))
+      (left_at g begun whole first old next p is left low tried))
 
   -- the place failed
   pub walk_on : (signal : Signal) (hit : Bool) (mark hits after later : Option ℕ) → IsAnswer (Failed signal hit) caps (place_answer g p)
@@ -44,17 +44,17 @@ module _ (g : Setting) (not_utf : g.options.utf ≡ false) (begun : g.start ≤ 
       (subst (IsLeft whole (first_hit first hit p) mark) (sym follows
       ∙ sym (next_same g after later next_tried))
       (left_failed signal hit caps (place_answer g p) p (λ (signal : place.Signal). found_from g (place_after g p signal)) first old mark whole answered marked
-      (left_at g not_utf begun whole first old next p is left low tried)))
+      (left_at g begun whole first old next p is left low tried)))
 
 or_none : (x : Option ℕ) → option_or x None ≡ x
 or_none None = refl
 or_none (Some n) = refl
 
 -- No place was tried yet.
-pub walk_begins : (g : Setting) (not_utf : g.options.utf ≡ false) (begun : g.start ≤ length g.subject) (mark next : Option ℕ) → mark ≡ None → IsNextTried g (Some g.start) next
+pub walk_begins : (g : Setting) (begun : g.start ≤ length g.subject) (mark next : Option ℕ) → mark ≡ None → IsNextTried g (Some g.start) next
     → IsLeft (match_answer g) None mark (found_from g next)
-walk_begins g not_utf begun mark next none next_tried =
-    let e : match_answer g ≡ found_from g next = match_found g not_utf begun ∙ sym (next_same g (Some g.start) next next_tried) in
+walk_begins g begun mark next none next_tried =
+    let e : match_answer g ≡ found_from g next = match_found g begun ∙ sym (next_same g (Some g.start) next next_tried) in
     record {
       answer = ap (λ (f : Found). f.answer) e;
       last_mark = ap (λ (f : Found). last_name f.notes) e ∙ sym (or_none _) ∙ ap (option_or (last_name (found_from g next).notes)) (sym none);

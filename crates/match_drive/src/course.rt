@@ -23,7 +23,7 @@ pub(crate) struct Course<'a> {
 
 impl Driven for Course<'_> {
     ghost use Rattle.std.proofs.Common.{refl, subst};
-    ghost use Rattle.match_items.specs.Subjects.{IsSubject, IsPlace};
+    ghost use Rattle.match_items.specs.Subjects.{IsText, IsTextPlace};
     ghost use Rattle.frame_machine.specs.Ready.{setting_for};
     ghost use Rattle.match_drive.specs.Course.{IsByteCourse};
 
@@ -82,9 +82,9 @@ impl Driven for Course<'_> {
         run_at(self.ready, self.view, place, scratch, calls)
     }
 
-    ghost subject_is = { λ x h. subst (λ o. IsSubject o x.view.now.subject.now) h.options h.subject };
+    ghost subject_is = { λ x h. subst (λ o. IsText o x.view.now.subject.now) h.options h.subject };
 
-    ghost start_is = { λ x h. subst (λ o. IsPlace o x.view.now.subject.now x.view.now.start) h.options h.start };
+    ghost start_is = { λ x h. subst (λ o. IsTextPlace o x.view.now.subject.now x.view.now.start) h.options h.start };
 
     ghost alike = { λ x answers. refl };
 }

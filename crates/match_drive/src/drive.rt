@@ -104,9 +104,9 @@ pub fn search_on<S: Driven, C: Callouts>(
 /// "Matching a pattern: the traditional function"). Any workspace serves, new or used, and it can be used again after every
 /// answer. Want of memory may be answered at any time.
 ///
-/// Needs the table and the facts of the tree, and a view with the tree's options; a start in the subject; a subject of fewer
-/// than 4,294,967,295 bytes without UTF; no partial matching; and a tree without calls, verbs and callouts. So it calls at no
-/// callout.
+/// Needs the table and the facts of the tree, and a view with the tree's options; a subject of fewer than 4,294,967,295
+/// bytes, which in UTF is UTF-8; a start in the subject, in UTF where a character begins; no partial matching; and a tree
+/// without verbs and callouts. So it calls at no callout.
 pub fn search<C: Callouts>(
     ready: &Ready<'_>,
     view: &View<'_>,

@@ -2,9 +2,9 @@
 ghost use Rattle.std.specs.Prelude.{◌≡◌, ◌≤◌, ◌<◌, ℤ, max, false, length, IsTrue};
 ghost use Rattle.std.specs.Option.{option_copied};
 ghost use Rattle.pcre_io.specs.declared.callouts.Block.{Block};
-ghost use Rattle.match_items.specs.Subjects.{IsSubject, IsPlace};
+ghost use Rattle.match_items.specs.Subjects.{IsText, IsTextPlace};
 ghost use Rattle.pat_check.specs.Known.{IsByteSet};
-ghost use Rattle.frame_machine.specs.Answer.{IsAnswer, IsMark};
+ghost use Rattle.frame_machine.specs.Answer.{IsAnswer, IsMark, SkipsToPlace};
 ghost use Rattle.ordered_search.specs.PlaceAnswer.{place_answer};
 ghost use Rattle.ordered_search.specs.Setting.{Setting, lead_set, names_cr_or_lf};
 ghost use Rattle.match_drive.specs.Asked.{passed_over, replied};
@@ -57,30 +57,32 @@ pub trait Driven {
         ensures { IsTrue result → StandsAtBegin (asked self.now passed_over).whole };
 
     /// The last place that is known to fail where this one fails, and all places between them with
-    /// it.
+    /// it. In UTF, where not each of them is one at which a character begins, the place itself.
     fn fails_to(&self, place: usize) -> usize
         requires fits { fits self.now }
-        requires place { let g = asked self.now passed_over in IsPlace g.options g.subject place }
+        requires place { let g = asked self.now passed_over in IsTextPlace g.options g.subject place }
         ensures low { place ≤ result }
         ensures within { result ≤ length (asked self.now passed_over).subject }
+        ensures alone { IsTrue (asked self.now passed_over).options.utf → result ≡ place }
         ensures fails { FailsToAlways (asked self.now passed_over) place result };
 
     /// Searches at one place.
     fn try_at<C: Callouts>(&self, place: usize, scratch: &mut Scratch, calls: &mut C) -> PlaceAnswer
         requires fits { fits self.now }
         requires start { (asked self.now passed_over).start ≤ place }
-        requires place { IsPlace (asked self.now passed_over).options (asked self.now passed_over).subject place }
+        requires place { IsTextPlace (asked self.now passed_over).options (asked self.now passed_over).subject place }
         ensures answer { IsAnswer result scratch.new.spans (place_answer (asked self.now (C.answers calls.old)) place) }
         ensures mark { IsMark result scratch.old.last_mark scratch.new.last_mark (place_answer (asked self.now (C.answers calls.old)) place) }
+        ensures skip { SkipsToPlace (asked self.now passed_over).options (asked self.now passed_over).subject result }
         ensures peak { scratch.new.peak ≤ max scratch.old.peak (asked self.now passed_over).matching.frame_limit }
         ensures groups { scratch.new.groups ≡ scratch.old.groups }
         ensures frames { scratch.new.frames ≡ scratch.old.frames }
         ensures rule { (block : Block) → C.answers calls.new block ≡ C.answers calls.old block }
         ensures seen { C.seen calls.new ≡ C.seen calls.old };
 
-    ghost subject_is: { (x : Self) → fits x → IsSubject (asked x passed_over).options (asked x passed_over).subject };
+    ghost subject_is: { (x : Self) → fits x → IsText (asked x passed_over).options (asked x passed_over).subject };
 
-    ghost start_is: { (x : Self) → fits x → IsPlace (asked x passed_over).options (asked x passed_over).subject (asked x passed_over).start };
+    ghost start_is: { (x : Self) → fits x → IsTextPlace (asked x passed_over).options (asked x passed_over).subject (asked x passed_over).start };
 
     ghost alike: { (x : Self) (answers : Block → ℤ) → asked x answers ≡ replied (asked x answers).reply (asked x passed_over) };
 }

@@ -1,6 +1,6 @@
 //! Subjects without a byte that every match needs.
 ghost use Rattle.std.specs.Prelude.{◌≡◌, ◌+◌, ◌<◌, ◌≤◌, ℕ, ℤ, None, IsTrue, length, slice_index};
-ghost use Rattle.match_items.specs.Subjects.{IsSubject};
+ghost use Rattle.match_items.specs.Subjects.{IsText};
 ghost use Rattle.pcre_io.specs.declared.callouts.Block.{Block};
 ghost use Rattle.match_needs.specs.Bounds.{at};
 ghost use Rattle.frame_machine.specs.Ready.{IsReadySearch, setting_for};
@@ -26,7 +26,7 @@ fn match_limit(view: &View<'_>) -> u32
 
 /// Whether a search of the subject passes no limit, whatever it finds.
 fn is_within(need: &Need, view: &View<'_>) -> bool
-    requires { IsSubject view.now.options.now view.now.subject.now }
+    requires { IsText view.now.options.now view.now.subject.now }
     ensures steps { IsTrue result → at need.now.bound.steps (length view.now.subject.now + 1)
         ≤ lower_of view.now.options.now.match_limit view.now.matching.now.match_limit }
     ensures units { IsTrue result → need.now.bound.units ≤ view.now.matching.now.frame_limit }
@@ -57,7 +57,8 @@ pub(crate) fn lacks_need(ready: &Ready<'_>, view: &View<'_>) -> bool
     let Some(need) = &ready.facts.need else {
         return false;
     };
-    if view.start > 0 || !is_within(need, view) {
+    // What matches need is told of bytes.
+    if view.options.utf || view.start > 0 || !is_within(need, view) {
         return false;
     }
     lacks(view.subject, &need.bytes)

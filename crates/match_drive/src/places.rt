@@ -1,10 +1,10 @@
 //! The start places of a search, in order (pcre2api, "Matching a pattern: the traditional function").
-ghost use Rattle.std.specs.Prelude.{◌≡◌, ◌≤◌, ◌<◌, ◌+◌, ◌&&◌, true, false, ℕ, min, nat_lt, length, slice_index, IfSome, None, Some};
+ghost use Rattle.std.specs.Prelude.{◌≡◌, ◌≤◌, ◌<◌, ◌+◌, ◌&&◌, true, false, ℕ, min, nat_lt, length, slice_index, IfSome, IsTrue, None, Some};
 ghost use Rattle.std.specs.Option.{option_copied};
 ghost use Rattle.byte_lanes.specs.Newlines.{newline_len};
 ghost use Rattle.byte_lanes.specs.Sets.{has_byte};
-ghost use Rattle.match_items.specs.Subjects.{IsPlace};
-ghost use Rattle.frame_machine.specs.Answer.{signal_of};
+ghost use Rattle.match_items.specs.Subjects.{IsPlace, IsTextPlace};
+ghost use Rattle.frame_machine.specs.Answer.{signal_of, IsSkip};
 ghost use Rattle.match_drive.specs.Asked.{passed_over};
 ghost use Rattle.ordered_search.specs.Places as places;
 ghost use Rattle.ordered_search.specs.Places.{up_to};
@@ -15,6 +15,7 @@ use crate::driven::Driven;
 use byte_lanes::{ByteSet, EndKind, find_in_set, find_line_end, newline_at};
 use frame_machine::Signal;
 use pat_tree::PartialMode;
+use uni_text::char_at;
 
 /// Whether a CRLF is passed whole at a place: where it is a newline, and the pattern names no half of it.
 fn passes_crlf<S: Driven>(on: &S, at: usize) -> bool
@@ -29,8 +30,9 @@ fn passes_crlf<S: Driven>(on: &S, at: usize) -> bool
 /// The place after another, if there is one.
 pub(crate) fn next_place<S: Driven>(on: &S, at: usize) -> Option<usize>
     requires fits { S.fits on.now }
-    requires at { IsPlace (S.asked on.now passed_over).options (S.asked on.now passed_over).subject at }
-    ensures { result ≡ places.next_place (S.asked on.now passed_over) at }
+    requires at { IsTextPlace (S.asked on.now passed_over).options (S.asked on.now passed_over).subject at }
+    ensures value { result ≡ places.next_place (S.asked on.now passed_over) at }
+    ensures place { IfSome result (IsTextPlace (S.asked on.now passed_over).options (S.asked on.now passed_over).subject) }
 {
     if at == on.subject().len() {
         return None;
@@ -38,7 +40,7 @@ pub(crate) fn next_place<S: Driven>(on: &S, at: usize) -> Option<usize>
     if passes_crlf(on, at) {
         Some(at + 2)
     } else {
-        Some(at + 1)
+        Some(char_at(on.subject(), at, on.options().utf).1)
     }
 }
 
@@ -57,7 +59,8 @@ pub(crate) fn last_place<S: Driven>(on: &S) -> usize
     if !on.options().firstline {
         return on.subject().len();
     }
-    find_line_end(on.subject(), start, on.options().newline.end_kind(false)).at
+    let kind = on.options().newline.end_kind(on.options().utf);
+    find_line_end(on.subject(), start, kind).at
 }
 
 /// A place that is not past the last one.
@@ -79,9 +82,11 @@ pub(crate) fn place_after<S: Driven>(
     last: usize,
 ) -> Option<usize>
     requires fits { S.fits on.now }
-    requires at { IsPlace (S.asked on.now passed_over).options (S.asked on.now passed_over).subject at }
+    requires at { IsTextPlace (S.asked on.now passed_over).options (S.asked on.now passed_over).subject at }
+    requires skip { IsSkip (S.asked on.now passed_over).options (S.asked on.now passed_over).subject signal }
     requires last { last ≡ places.last_place (S.asked on.now passed_over) }
     ensures value { result ≡ places.place_after (S.asked on.now passed_over) at (signal_of signal) }
+    ensures place { IfSome result (IsTextPlace (S.asked on.now passed_over).options (S.asked on.now passed_over).subject) }
     ensures later { IfSome result (λ to. at < to) }
     ensures within { IfSome result (λ to. to ≤ last) }
 {
@@ -164,11 +169,16 @@ fn pass<S: Driven>(on: &S, from: usize, last: usize) -> usize
     requires fits { S.fits on.now }
     requires from { from ≤ last }
     requires last { last ≡ places.last_place (S.asked on.now passed_over) }
-    ensures { IsPassedAlways (S.asked on.now passed_over) from result }
+    ensures passed { IsPassedAlways (S.asked on.now passed_over) from result }
+    ensures alone { IsTrue (S.asked on.now passed_over).options.utf → result ≡ from }
 {
     let Some(set) = lead_used(on) else {
         return from;
     };
+    // In UTF the set has bytes that stand inside characters.
+    if on.options().utf {
+        return from;
+    }
     let subject = on.subject();
     let end = bytes_end(last, subject.len());
     behind(on, from, first_in(subject, from, end, set))
@@ -178,8 +188,10 @@ fn pass<S: Driven>(on: &S, from: usize, last: usize) -> usize
 pub(crate) fn next_tried<S: Driven>(on: &S, from: Option<usize>, last: usize) -> Option<usize>
     requires fits { S.fits on.now }
     requires from { IfSome from (λ p. p ≤ last) }
+    requires place { IfSome from (IsTextPlace (S.asked on.now passed_over).options (S.asked on.now passed_over).subject) }
     requires last { last ≡ places.last_place (S.asked on.now passed_over) }
-    ensures { IsNextTriedAlways (S.asked on.now passed_over) from result }
+    ensures tried { IsNextTriedAlways (S.asked on.now passed_over) from result }
+    ensures place { IfSome result (IsTextPlace (S.asked on.now passed_over).options (S.asked on.now passed_over).subject) }
 {
     let mut next = from;
     'places: while let Some(at) = next {
@@ -202,8 +214,11 @@ pub(crate) fn next_tried<S: Driven>(on: &S, from: Option<usize>, last: usize) ->
 pub(crate) fn place_past<S: Driven>(on: &S, at: usize, signal: Signal, last: usize) -> Option<usize>
     requires fits { S.fits on.now }
     requires at { at ≤ last }
+    requires place { IsTextPlace (S.asked on.now passed_over).options (S.asked on.now passed_over).subject at }
+    requires skip { IsSkip (S.asked on.now passed_over).options (S.asked on.now passed_over).subject signal }
     requires last { last ≡ places.last_place (S.asked on.now passed_over) }
     ensures same { IsNextAlways (S.asked on.now passed_over) at (signal_of signal) result }
+    ensures place { IfSome result (IsTextPlace (S.asked on.now passed_over).options (S.asked on.now passed_over).subject) }
     ensures later { IfSome result (λ to. at < to) }
     ensures within { IfSome result (λ to. to ≤ last) }
 {

@@ -2,9 +2,9 @@
 ghost use Rattle.std.specs.Prelude.{◌≡◌, ◌<◌, ◌≤◌, All, IfSome, false, length};
 ghost use Rattle.pat_tree.specs.Rules.{class_in};
 ghost use Rattle.char_sets.specs.Table.{IsTableOf};
-ghost use Rattle.match_items.specs.Subjects.{IsSubject, IsPlace};
+ghost use Rattle.match_items.specs.Subjects.{IsText, IsTextPlace};
 ghost use Rattle.match_items.specs.Items.{after_item, item_reaches};
-ghost use Rattle.match_items.specs.Views.{scene_of, told};
+ghost use Rattle.match_items.specs.Views.{text_scene, told};
 ghost use Rattle.match_drive.specs.Prefix as prefix;
 ghost use Rattle.match_drive.specs.Prefix.{AreParts, AreFirstParts, row_of};
 
@@ -49,11 +49,11 @@ pub(crate) fn first_parts(tree: &Tree) -> &[NodeId]
 
 /// The place after what an item takes.
 fn taken(view: &View<'_>, classes: &ClassTable, item: &Item, at: usize) -> Option<usize>
-    requires subject { IsSubject view.now.options.now view.now.subject.now }
-    requires place { IsPlace view.now.options.now view.now.subject.now at }
+    requires subject { IsText view.now.options.now view.now.subject.now }
+    requires place { IsTextPlace view.now.options.now view.now.subject.now at }
     requires class { All (λ n. n < length classes.now) (class_in item.now) }
-    ensures value { result ≡ after_item (scene_of view.now classes.now) item.now at }
-    ensures within { IfSome result (λ to. to ≤ length view.now.subject.now) }
+    ensures value { result ≡ after_item (text_scene view.now classes.now) item.now at }
+    ensures place { IfSome result (λ to. IsTextPlace view.now.options.now view.now.subject.now to) }
 {
     match item_step(view, classes, item, at) {
         Taken::Took(to) => Some(to),
@@ -70,10 +70,10 @@ pub(crate) fn item_refuses(
     place: usize,
 ) -> bool
     requires table { IsTableOf ready.now.tree.now ready.now.classes.now }
-    requires subject { IsSubject view.now.options.now view.now.subject.now }
-    requires place { IsPlace view.now.options.now view.now.subject.now place }
+    requires subject { IsText view.now.options.now view.now.subject.now }
+    requires place { IsTextPlace view.now.options.now view.now.subject.now place }
     requires below { All (λ k. k ≤ ready.now.tree.now.root) parts.now }
-    ensures { result ≡ prefix.item_refuses (scene_of view.now ready.now.classes.now) (row_of ready.now.tree.now parts.now) place }
+    ensures { result ≡ prefix.item_refuses (text_scene view.now ready.now.classes.now) (row_of ready.now.tree.now parts.now) place }
 {
     let mut i = 0;
     let mut at = place;

@@ -4,7 +4,7 @@ ghost use Rattle.std.specs.Prelude.{◌≡◌, ◌<◌, ◌≤◌, All, IfSome, 
 ghost use Rattle.pat_tree.specs.declared.options.PartialMode.TheVariants.{Off};
 ghost use Rattle.pat_tree.specs.Parts.{tree_of};
 ghost use Rattle.pat_tree.specs.Rules.{class_in};
-ghost use Rattle.match_items.specs.Subjects.{IsSubject};
+ghost use Rattle.match_items.specs.Subjects.{IsText};
 ghost use Rattle.ordered_search.specs.LaterPlaces as later;
 ghost use Rattle.ordered_search.specs.Plain.{IsPlain};
 ghost use Rattle.match_drive.specs.Run as run;
@@ -81,16 +81,17 @@ fn first_run(tree: &Tree) -> Option<Item>
 
 /// The item whose run a pattern begins with, where a place that fails has all places in the run
 /// from there fail: nothing in the pattern goes by what was captured, and matches of the empty text
-/// count.
+/// count. None in UTF, where places go by characters.
 pub(crate) fn leading_run(tree: &Tree, view: &View<'_>) -> Option<Item>
     requires options { view.now.options.now ≡ tree.now.options }
-    requires subject { IsSubject view.now.options.now view.now.subject.now }
+    requires subject { IsText view.now.options.now view.now.subject.now }
     requires off { view.now.matching.now.partial ≡ Off }
     ensures { IfSome result (IsFirstRun tree.now view.now) }
 {
     let item = first_run(tree)?;
     let (options, matching) = (view.options, view.matching);
-    if options.notempty
+    if options.utf
+        || options.notempty
         || options.notempty_atstart
         || matching.notempty
         || matching.notempty_atstart

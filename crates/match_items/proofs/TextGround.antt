@@ -92,7 +92,7 @@ tail text u some = tail_by text u.0 u.1.0 u.1.1 some
 
 -- From a place to the next one, and to the one before.
 
-next_place : (utf : Bool) (bytes : List ℕ) (p : ℕ) → IsChecked utf bytes → IsPlace utf bytes p → p < length bytes →
+pub next_place : (utf : Bool) (bytes : List ℕ) (p : ℕ) → IsChecked utf bytes → IsPlace utf bytes p → p < length bytes →
     IsPlace utf bytes (char_at utf bytes p).1 × IsCharSpan utf bytes (char_at utf bytes p).0 p (char_at utf bytes p).1
 next_place false bytes p checked place inside =
     let one : (p + 1) - p ≡ 1 = omega arith in (

@@ -1,10 +1,9 @@
-//! The tests of items where each character is a byte and nobody counts the tests of classes: each
-//! has a counter of its own.
+//! The tests of items where nobody counts the tests of classes: each has a counter of its own.
 ghost use Rattle.std.specs.Prelude.{◌≡◌, ◌<◌, All, length};
 ghost use Rattle.pat_tree.specs.Rules.{class_in};
-ghost use Rattle.match_items.specs.Subjects.{IsSubject, IsPlace};
+ghost use Rattle.match_items.specs.Subjects.{IsText, IsTextPlace};
 ghost use Rattle.match_items.specs.Items.{after_item, item_reaches, longest_run, run_reaches};
-ghost use Rattle.match_items.specs.Views.{scene_of, told, maximum, end_of};
+ghost use Rattle.match_items.specs.Views.{text_scene, told, maximum, end_of};
 
 use crate::items::step;
 use crate::runs::run_len;
@@ -16,10 +15,10 @@ use std::sync::ledger::{Blank, Ledger};
 
 /// Tests one item at a place as `step` does, and needs what it needs.
 pub fn item_step(view: &View<'_>, classes: &ClassTable, item: &Item, at: usize) -> Taken
-    requires subject { IsSubject view.now.options.now view.now.subject.now }
-    requires place { IsPlace view.now.options.now view.now.subject.now at }
+    requires subject { IsText view.now.options.now view.now.subject.now }
+    requires place { IsTextPlace view.now.options.now view.now.subject.now at }
     requires class { All (λ n. n < length classes.now) (class_in item.now) }
-    ensures { let g = scene_of view.now classes.now
+    ensures { let g = text_scene view.now classes.now
         in result ≡ told (after_item g item.now at) (item_reaches g item.now at) }
 {
     counted_step::<Brand>(view, classes, item, at, Blank::new(1))
@@ -27,14 +26,14 @@ pub fn item_step(view: &View<'_>, classes: &ClassTable, item: &Item, at: usize) 
 
 /// The longest run of an item from a place on as `run_len` gives it, and needs what it needs.
 pub fn item_run(view: &View<'_>, classes: &ClassTable, item: &Item, at: usize, max: u32) -> ItemRun
-    requires subject { IsSubject view.now.options.now view.now.subject.now }
-    requires place { IsPlace view.now.options.now view.now.subject.now at }
+    requires subject { IsText view.now.options.now view.now.subject.now }
+    requires place { IsTextPlace view.now.options.now view.now.subject.now at }
     requires class { All (λ n. n < length classes.now) (class_in item.now) }
-    ensures count { let g = scene_of view.now classes.now
+    ensures count { let g = text_scene view.now classes.now
         in result.count ≡ length (longest_run g item.now (maximum max) at) }
-    ensures to { let g = scene_of view.now classes.now
+    ensures to { let g = text_scene view.now classes.now
         in result.to ≡ end_of at (longest_run g item.now (maximum max) at) }
-    ensures at_end { let g = scene_of view.now classes.now
+    ensures at_end { let g = text_scene view.now classes.now
         in result.at_end ≡ run_reaches g item.now (maximum max) at
         (longest_run g item.now (maximum max) at) }
 {
@@ -51,10 +50,10 @@ fn counted_step<L: Ledger>(
     requires name { blank.name ≡ L.name }
     requires parts { blank.parts ≡ L.parts }
     requires one { blank.parts ≡ 1 }
-    requires subject { IsSubject view.now.options.now view.now.subject.now }
-    requires place { IsPlace view.now.options.now view.now.subject.now at }
+    requires subject { IsText view.now.options.now view.now.subject.now }
+    requires place { IsTextPlace view.now.options.now view.now.subject.now at }
     requires class { All (λ n. n < length classes.now) (class_in item.now) }
-    ensures { let g = scene_of view.now classes.now
+    ensures { let g = text_scene view.now classes.now
         in result ≡ told (after_item g item.now at) (item_reaches g item.now at) }
 {
     let mut steps = Steps::<L>::new(blank);
@@ -72,14 +71,14 @@ fn counted_run<L: Ledger>(
     requires name { blank.name ≡ L.name }
     requires parts { blank.parts ≡ L.parts }
     requires one { blank.parts ≡ 1 }
-    requires subject { IsSubject view.now.options.now view.now.subject.now }
-    requires place { IsPlace view.now.options.now view.now.subject.now at }
+    requires subject { IsText view.now.options.now view.now.subject.now }
+    requires place { IsTextPlace view.now.options.now view.now.subject.now at }
     requires class { All (λ n. n < length classes.now) (class_in item.now) }
-    ensures count { let g = scene_of view.now classes.now
+    ensures count { let g = text_scene view.now classes.now
         in result.count ≡ length (longest_run g item.now (maximum max) at) }
-    ensures to { let g = scene_of view.now classes.now
+    ensures to { let g = text_scene view.now classes.now
         in result.to ≡ end_of at (longest_run g item.now (maximum max) at) }
-    ensures at_end { let g = scene_of view.now classes.now
+    ensures at_end { let g = text_scene view.now classes.now
         in result.at_end ≡ run_reaches g item.now (maximum max) at
         (longest_run g item.now (maximum max) at) }
 {

@@ -1,4 +1,4 @@
--- A search of bytes for a tree of the forms that are built gives a match in the subject, none, or a limit, and tells nothing else.
+-- A search for a tree of the forms that are built gives a match in the subject, none, or a limit, and tells nothing else.
 use Rattle.std.proofs.Common.{◌≡◌, ℕ, zero, suc, ◌+◌, ◌-◌, ◌<◌, ◌≤◌, ◌≢◌, Bool, true, false, List, [], ◌++◌, length, Option, Some, None, refl, sym, subst, arith}
 use Rattle.std.specs.Prelude.{nat_le, IfSome}
 use Rattle.std.proofs.lemmas.List.{length-replicate}
@@ -7,10 +7,11 @@ use Rattle.ordered_search.specs.Stream.{State, first_state, exhausted, by_verb, 
 use Rattle.ordered_search.specs.Setting.{Setting, match_limit}
 use Rattle.ordered_search.specs.PlaceAnswer.{outcome, Signal, Exhausted, Prune, Skip, Commit, PlaceAnswer, Matched, Failed, Partial, MatchLimit, FrameLimit, Loop, Abort, NoDepth, Walked, answers, has_hit, is_refused_by_end, is_refused_as_empty, walk, place_answer}
 use Rattle.ordered_search.proofs.WalkLaw.{no_cut}
-use Rattle.ordered_search.specs.Places.{last_place, within, place_after, is_excluded}
+use Rattle.ordered_search.specs.Places.{next_place, last_place, within, place_after, is_excluded}
 use Rattle.ordered_search.specs.MatchAnswer.{Match, PartialFrom, Error, Found, none_found, decided, undecided, failed_at, tried, from_place}
+use Rattle.match_items.specs.Subjects.{IsTextPlace}
 use Rattle.ordered_search.specs.Forward.{IsWithin, IsPlaced, IsPlainFound, IsBuiltSearch, ForwardLaw}
-use Rattle.ordered_search.proofs.StartPlaces.{last_within, start_within, after_later}
+use Rattle.ordered_search.proofs.StartPlaces.{up_to_keeps, start_within, after_later, next_stands}
 use Rattle.ordered_search.proofs.ForwardStreams.{IsOnWay, Forward}
 use Rattle.ordered_search.proofs.ForwardSearch.{forward_run}
 
@@ -30,7 +31,7 @@ module _ (g : Setting) (search : IsBuiltSearch g) where
   placed : (low : ℕ) (s : State) → g.start ≤ low → IsOnWay g (Some low) s → IsPlaced g (outcome s)
   placed low s le on =
       let begins : low ≤ s.keep = on.kept.0 in
-      record { begins = omega (arith, le, begins); ordered = on.kept.1; within = on.within; caps = on.caps; groups = on.groups; no_mark = on.no_mark }
+      record { begins = omega (arith, le, begins); ordered = on.kept.1; within = on.here.within; place = on.here; caps = on.caps; groups = on.groups; no_mark = on.no_mark }
 
   plain_state : (low : ℕ) (s : State) (empty by_end : Bool) (w : Walked) → g.start ≤ low → IsOnWay g (Some low) s → IsPlainWalk w →
       IsPlainWalk (elim (elim empty as (λ _. Option PlaceAnswer) [ true ↦ None | false ↦ elim by_end [ false ↦ Some (Matched (outcome s)) | true ↦ elim reached as (λ _. Option PlaceAnswer) [ reached ↦ None | accepted ↦ Some (Failed Exhausted) ] ] ]) [ None ↦ w | Some a ↦ answers a ])
@@ -54,24 +55,24 @@ module _ (g : Setting) (search : IsBuiltSearch g) where
   plain_walk low p zero (step ▸ x) le h = (tt, refl)
   plain_walk low p (suc n) (step ▸ x) le h = plain_walk low p n x le h
 
-  begun_at : (p : ℕ) → p ≤ length g.subject → IsOnWay g (Some p) (first_state g.groups p)
-  begun_at p within = record {
+  begun_at : (p : ℕ) → IsTextPlace g.options g.subject p → IsOnWay g (Some p) (first_state g.groups p)
+  begun_at p here = record {
     kept = (omega arith, omega arith);
-    within = within;
+    here = here;
     caps = All-replicate (IsWithin (length g.subject)) g.groups None tt;
     groups = length-replicate g.groups None;
     no_mark = refl;
   }
 
-  plain_place : (p : ℕ) → g.start ≤ p → p ≤ length g.subject → IsPlainWalk (place_answer g p)
-  plain_place p le within =
-      plain_walk p p (match_limit g) _ le (forward_run g search.bytes search.off (match_limit g + 1) (Some p) g.whole search.built (first_state g.groups p) (begun_at p within))
+  plain_place : (p : ℕ) → g.start ≤ p → IsTextPlace g.options g.subject p → IsPlainWalk (place_answer g p)
+  plain_place p le here =
+      plain_walk p p (match_limit g) _ le (forward_run g search.text search.off (match_limit g + 1) (Some p) g.whole search.built (first_state g.groups p) (begun_at p here))
 
   not_cut : (p : ℕ) (b : Bool) → (elim b as (λ _. Walked) [ true ↦ answers (Failed Exhausted) | false ↦ place_answer g p ]).answer ≢ NoDepth
   not_cut p true = λ e. cc
   not_cut p false = no_cut g p
 
-  plain_tried : (p : ℕ) (b : Bool) → g.start ≤ p → p ≤ length g.subject → IsPlainWalk (elim b [ true ↦ answers (Failed Exhausted) | false ↦ place_answer g p ])
+  plain_tried : (p : ℕ) (b : Bool) → g.start ≤ p → IsTextPlace g.options g.subject p → IsPlainWalk (elim b [ true ↦ answers (Failed Exhausted) | false ↦ place_answer g p ])
   plain_tried p true le in' = (tt, refl)
   plain_tried p false le in' = plain_place p le in'
 
@@ -81,10 +82,10 @@ module _ (g : Setting) (search : IsBuiltSearch g) where
   plain_failed : (p : ℕ) (ns : List Note) (later : Found) → ns ≡ [] → IsPlainFound g later → IsPlainFound g (record { answer = undecided (has_hit ns) p later.answer; notes = ns ++ later.notes })
   plain_failed p ns later e h = subst (λ ms. IsPlainFound g (record { answer = undecided (has_hit ms) p later.answer; notes = ms ++ later.notes })) (sym e) h
 
-  plain_answer : (p : ℕ) (w : Walked) (later : Signal → Found) (a : PlaceAnswer) → IsPlainPlace a → a ≢ NoDepth → w.notes ≡ [] → ((signal : Signal) → IsPlainFound g (later signal)) →
+  plain_answer : (p : ℕ) (w : Walked) (later : Signal → Found) (a : PlaceAnswer) → IsPlainPlace a → a ≢ NoDepth → w.notes ≡ [] → IsPlainFound g (later Exhausted) →
       IsPlainFound g (elim a [ Matched o ↦ decided w (Match o) | Failed signal ↦ failed_at p w (later signal) | Partial ↦ decided w (PartialFrom p) | b ↦ decided w (Error b) ])
   plain_answer p w later (Matched o) h n e k = record { answer = h; notes = e }
-  plain_answer p w later (Failed Exhausted) h n e k = plain_failed p w.notes (later Exhausted) e (k Exhausted)
+  plain_answer p w later (Failed Exhausted) h n e k = plain_failed p w.notes (later Exhausted) e k
   plain_answer p w later (Failed Prune) h n e k = absurd h
   plain_answer p w later (Failed (Skip q)) h n e k = absurd h
   plain_answer p w later (Failed Commit) h n e k = absurd h
@@ -96,28 +97,31 @@ module _ (g : Setting) (search : IsBuiltSearch g) where
   plain_answer p w later NoDepth h n e k = absurd (n refl)
 
   abbrev IsInside : Option ℕ → Type 0
-  IsInside next = IfSome next (λ p. (g.start ≤ p) × (p ≤ last_place g))
+  IsInside next = IfSome next (λ p. (g.start ≤ p) × (p ≤ last_place g) × IsTextPlace g.options g.subject p)
 
-  inside_after : (p : ℕ) (next : Option ℕ) → g.start ≤ p → IfSome next (λ q. (p < q) × (q ≤ last_place g)) → IsInside next
-  inside_after p None le h = tt
-  inside_after p (Some q) le h = let later : p < q = h.0 in (omega (arith, le, later), h.1)
+  inside_both : (p : ℕ) (next : Option ℕ) → g.start ≤ p → IfSome next (λ q. (p < q) × (q ≤ last_place g)) → IfSome next (λ q. IsTextPlace g.options g.subject q × (q ≤ last_place g)) → IsInside next
+  inside_both p None le h k = tt
+  inside_both p (Some q) le h k = let later : p < q = h.0 in (omega (arith, le, later), h.1, k.0)
+
+  inside_after : (p : ℕ) → g.start ≤ p → IsTextPlace g.options g.subject p → IsInside (place_after g p Exhausted)
+  inside_after p le here =
+      inside_both p (place_after g p Exhausted) le (after_later g search.begun.within p Exhausted)
+      (up_to_keeps (IsTextPlace g.options g.subject) (last_place g) (next_place g p) (next_stands g search.begun.within search.text p here))
 
   plain_from : (n : ℕ) (next : Option ℕ) → IsInside next → IsPlainFound g (from_place g n next)
   unfolding from_place
   plain_from zero next h = none_plain
   plain_from (suc n) None h = none_plain
   plain_from (suc n) (Some p) h =
-      let last : last_place g ≤ length g.subject = last_within g search.bytes search.begun.within in
-      let to : p ≤ last_place g = h.1 in
-      let walk = plain_tried p (is_excluded g p) h.0 (omega (arith, last, to)) in
+      let walk = plain_tried p (is_excluded g p) h.0 h.2 in
       plain_answer p (tried g p) (λ signal. from_place g n (place_after g p signal)) (tried g p).answer walk.0 (not_cut p (is_excluded g p)) walk.1
-      (λ signal. plain_from n (place_after g p signal) (inside_after p (place_after g p signal) h.0 (after_later g search.bytes search.begun.within p signal)))
+      (plain_from n (place_after g p Exhausted) (inside_after p h.0 h.2))
 
   first_inside : IsInside (within g (Some g.start))
   first_inside = by_test (nat_le g.start (last_place g)) refl
     where
       by_test : (b : Bool) → nat_le g.start (last_place g) ≡ b → IsInside (elim b [ true ↦ Some g.start | false ↦ None ])
-      by_test true e = (omega arith, start_within g search.bytes search.begun.within)
+      by_test true e = (omega arith, start_within g search.begun.within, search.begun)
       by_test false e = tt
 
 pub forward_law : ForwardLaw

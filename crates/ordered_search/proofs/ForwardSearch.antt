@@ -1,4 +1,4 @@
--- The search of a tree of the forms that are built goes forward, over bytes.
+-- The search of a tree of the forms that are built goes forward.
 use Rattle.std.proofs.Common.{◌≡◌, ℕ, zero, suc, ◌+◌, ◌-◌, ◌<◌, ◌≤◌, Bool, true, false, List, [], ◌∷◌, ◌++◌, length, drop, reverse, Option, Some, None, refl, sym, ap, ◌∙◌, subst, arith, ◌==◌}
 use Rattle.std.specs.Prelude.{nat_lt}
 use Rattle.std.proofs.lemmas.List.{reverse-append}
@@ -8,12 +8,12 @@ use Rattle.pat_tree.specs.declared.options.PartialMode.TheVariants.{Off}
 use Rattle.pat_tree.specs.Nested as tree
 use Rattle.pat_tree.specs.Nested.{Nested, Row, Test, Other, repeat}
 use Rattle.pat_tree.specs.Built.{IsBuilt, AreBuilt, IsBuiltTest, IsBuiltOther}
-use Rattle.uni_text.specs.Characters.{char_before}
 use Rattle.pat_lengths.specs.Lengths.{SomeLengths}
 use Rattle.frame_store.specs.declared.registers.Span.{Span}
 use Rattle.frame_store.specs.Captures.{capture}
-use Rattle.match_items.specs.Items.{one_less, is_none_left, after_item, item_reaches, run_places, longest_run, places_back, break_len, after_ref, ref_reaches, holds, anchor_reaches}
-use Rattle.match_items.proofs.Places.{item_forward, break_within, ref_within}
+use Rattle.match_items.specs.Items.{one_less, is_none_left, after_item, item_reaches, run_places, longest_run, place_before, places_back, break_len, after_ref, ref_reaches, holds, anchor_reaches}
+use Rattle.match_items.specs.Subjects.{IsText, IsTextPlace}
+use Rattle.match_items.proofs.TextGround.{places_stand}
 use Rattle.ordered_search.specs.Stream.{State, reached, Stream, Search, nothing, gives, no_ending, is_next_branch, fails_alone, fails_inside, captured, and_then, go_on}
 use Rattle.ordered_search.specs.Setting.{Setting, branch_lengths, held, hold, reach_if}
 use Rattle.ordered_search.specs.Tests.{move_to, goes_to, run_one, run_break, run_ref, run_anchor, offers, greedy, offer_and, reluctant, lazy_run, run_many}
@@ -26,29 +26,33 @@ told_far : (b : Bool) (p n q : ℕ) → elim b as (λ _. Option ℕ) [ true ↦ 
 told_far true p n q e = let same : p + n ≡ q = cc in omega (arith, same)
 told_far false p n q e = absurd (cc)
 
--- all of these places are at p or past it, and at n at most
-abbrev AreBetween : ℕ → ℕ → List ℕ → Type 0
-AreBetween p n [] = Unit {0}
-AreBetween p n (q ∷ qs) = ((p ≤ q) × (q ≤ n)) × AreBetween p n qs
+-- a place of the subject
+abbrev Stands : Setting → ℕ → Type 0
+Stands g p = IsTextPlace g.options g.subject p
 
-between_less : (p q n : ℕ) (qs : List ℕ) → p ≤ q → AreBetween q n qs → AreBetween p n qs
+-- all of these places are at p or past it, and n holds of them
+abbrev AreBetween : ℕ → (ℕ → Type 0) → List ℕ → Type 0
+AreBetween p n [] = Unit {0}
+AreBetween p n (q ∷ qs) = ((p ≤ q) × n q) × AreBetween p n qs
+
+between_less : (p q : ℕ) (n : ℕ → Type 0) (qs : List ℕ) → p ≤ q → AreBetween q n qs → AreBetween p n qs
 between_less p q n [] le h = tt
 between_less p q n (r ∷ rs) le h = let first : q ≤ r = h.0.0 in ((omega (arith, le, first), h.0.1), between_less p q n rs le h.1)
 
-between_append : (p n : ℕ) (qs rs : List ℕ) → AreBetween p n qs → AreBetween p n rs → AreBetween p n (qs ++ rs)
+between_append : (p : ℕ) (n : ℕ → Type 0) (qs rs : List ℕ) → AreBetween p n qs → AreBetween p n rs → AreBetween p n (qs ++ rs)
 between_append p n [] rs h k = k
 between_append p n (q ∷ qs) rs h k = (h.0, between_append p n qs rs h.1 k)
 
-between_reverse : (p n : ℕ) (qs : List ℕ) → AreBetween p n qs → AreBetween p n (reverse qs)
+between_reverse : (p : ℕ) (n : ℕ → Type 0) (qs : List ℕ) → AreBetween p n qs → AreBetween p n (reverse qs)
 between_reverse p n [] h = tt
 between_reverse p n (q ∷ qs) h = subst (AreBetween p n) (sym (reverse-append (q ∷ []) qs)) (between_append p n (reverse qs) (q ∷ []) (between_reverse p n qs h.1) (h.0, tt))
 
-between_drop : (p n k : ℕ) (qs : List ℕ) → AreBetween p n qs → AreBetween p n (drop k qs)
+between_drop : (p : ℕ) (n : ℕ → Type 0) (k : ℕ) (qs : List ℕ) → AreBetween p n qs → AreBetween p n (drop k qs)
 between_drop p n zero qs h = h
 between_drop p n (suc k) [] h = tt
 between_drop p n (suc k) (q ∷ qs) h = between_drop p n k qs h.1
 
-module _ (g : Setting) (low : Option ℕ) (bytes : g.options.utf ≡ false) (off : g.matching.«partial» ≡ Off) where
+module _ (g : Setting) (low : Option ℕ) (text : IsText g.options g.subject) (off : g.matching.«partial» ≡ Off) where
   abbrev Goes : Search → Type 0
   Goes = IsForward g low
 
@@ -56,7 +60,7 @@ module _ (g : Setting) (low : Option ℕ) (bytes : g.options.utf ≡ false) (off
   AllGo [] = Unit {0}
   AllGo (f ∷ fs) = Goes f × AllGo fs
 
-  forward_goes : (s : State) (o : Option ℕ) → IsOnWay g low s → ((q : ℕ) → o ≡ Some q → (s.place ≤ q) × (q ≤ length g.subject)) → Forward g low s.place (goes_to o s)
+  forward_goes : (s : State) (o : Option ℕ) → IsOnWay g low s → ((q : ℕ) → o ≡ Some q → (s.place ≤ q) × Stands g q) → Forward g low s.place (goes_to o s)
   forward_goes s None on h = forward_nothing g low s.place
   forward_goes s (Some q) on h = let far = h q refl in forward_gives g low s.place (move_to q s) far.0 (with_place g low s q far.0 far.1 on)
 
@@ -64,7 +68,7 @@ module _ (g : Setting) (low : Option ℕ) (bytes : g.options.utf ≡ false) (off
   unfolding run_one
   forward_one item s on =
       forward_reach_if g low off s.place _ s _ (forward_goes s _ on (λ q e.
-      let there = item_forward g.scene item s.place q bytes on.within e in
+      let there = (places_stand g.scene text).forward item s.place q on.here e in
       let later : s.place < q = there.0 in
       (omega (arith, later), there.1)))
 
@@ -72,7 +76,7 @@ module _ (g : Setting) (low : Option ℕ) (bytes : g.options.utf ≡ false) (off
   unfolding run_break
   forward_break s on =
       forward_reach_if g low off s.place _ s _ (forward_goes s _ on (λ q e.
-      (told_far (nat_lt 0 (break_len g.scene s.place)) s.place (break_len g.scene s.place) q e, break_within g.scene s.place q on.within e)))
+      (told_far (nat_lt 0 (break_len g.scene s.place)) s.place (break_len g.scene s.place) q e, (places_stand g.scene text).breaks s.place q on.here e)))
 
   forward_ref : (ns : List ℕ) (caseless : Bool) → Goes (run_ref g ns caseless)
   unfolding run_ref
@@ -86,7 +90,7 @@ module _ (g : Setting) (low : Option ℕ) (bytes : g.options.utf ≡ false) (off
       by_capture None h = h
       by_capture (Some span) h =
           forward_reach_if g low off s.place _ s _ (forward_goes s _ on (λ q e.
-          (told_far _ s.place _ q e, ref_within g.scene span.from span.to s.place q caseless bytes on.within e)))
+          (told_far _ s.place _ q e, (places_stand g.scene text).refers span.from span.to s.place q caseless on.here e)))
 
   forward_anchor : (kind : AnchorKind) → Goes (run_anchor g kind)
   unfolding run_anchor
@@ -95,7 +99,7 @@ module _ (g : Setting) (low : Option ℕ) (bytes : g.options.utf ≡ false) (off
       (forward_if g low s.place (holds g.scene kind s.place) _ _
       (forward_gives g low s.place _ (omega arith) (with_early g low s _ on)) (forward_nothing g low s.place))
 
-  forward_offers : (ps : List ℕ) (s : State) → IsOnWay g low s → AreBetween s.place (length g.subject) ps → Forward g low s.place (offers g ps s)
+  forward_offers : (ps : List ℕ) (s : State) → IsOnWay g low s → AreBetween s.place (Stands g) ps → Forward g low s.place (offers g ps s)
   unfolding offers
   forward_offers [] s on h = forward_nothing g low s.place
   forward_offers (p ∷ []) s on h =
@@ -109,7 +113,7 @@ module _ (g : Setting) (low : Option ℕ) (bytes : g.options.utf ≡ false) (off
   forward_offer_and true p s x le on h = forward_step g low p _ (forward_gives g low p s le on)
   forward_offer_and false p s x le on h = forward_step g low p _ (forward_or_else g low p _ _ (forward_hold g low p s le on) h)
 
-  forward_reluctant : (item : Item) (left : Option ℕ) (ps : List ℕ) (s : State) → IsOnWay g low s → AreBetween s.place (length g.subject) ps → Forward g low s.place (reluctant g item left ps s)
+  forward_reluctant : (item : Item) (left : Option ℕ) (ps : List ℕ) (s : State) → IsOnWay g low s → AreBetween s.place (Stands g) ps → Forward g low s.place (reluctant g item left ps s)
   unfolding reluctant
   forward_reluctant item left [] s on h = forward_nothing g low s.place
   forward_reluctant item left (p ∷ ps) s on h =
@@ -117,36 +121,36 @@ module _ (g : Setting) (low : Option ℕ) (bytes : g.options.utf ≡ false) (off
       (forward_reach_if g low off s.place (item_reaches g.scene item p) s _ (forward_reluctant item (one_less left) ps s on h.1))
 
   -- the places of a run lie between
-  places_between : (item : Item) (n : ℕ) (most : Option ℕ) (p : ℕ) → p ≤ length g.subject → AreBetween p (length g.subject) (run_places g.scene item n most p)
+  places_between : (item : Item) (n : ℕ) (most : Option ℕ) (p : ℕ) → Stands g p → AreBetween p (Stands g) (run_places g.scene item n most p)
   unfolding run_places
   places_between item zero most p within = tt
   places_between item (suc n) most p within = by_left (places_between item n (one_less most)) (is_none_left most)
     where
       Later : Type 0
-      Later = (q : ℕ) → q ≤ length g.subject → AreBetween q (length g.subject) (run_places g.scene item n (one_less most) q)
+      Later = (q : ℕ) → Stands g q → AreBetween q (Stands g) (run_places g.scene item n (one_less most) q)
 
-      by_item : (o : Option ℕ) → ((q : ℕ) → o ≡ Some q → (p ≤ q) × (q ≤ length g.subject)) → Later → AreBetween p (length g.subject) (elim o [ None ↦ [] | Some q ↦ q ∷ run_places g.scene item n (one_less most) q ])
+      by_item : (o : Option ℕ) → ((q : ℕ) → o ≡ Some q → (p ≤ q) × Stands g q) → Later → AreBetween p (Stands g) (elim o [ None ↦ [] | Some q ↦ q ∷ run_places g.scene item n (one_less most) q ])
       by_item None h k = tt
-      by_item (Some q) h k = let there = h q refl in (there, between_less p q (length g.subject) _ there.0 (k q there.1))
+      by_item (Some q) h k = let there = h q refl in (there, between_less p q (Stands g) _ there.0 (k q there.1))
 
-      later : (q : ℕ) → after_item g.scene item p ≡ Some q → (p ≤ q) × (q ≤ length g.subject)
-      later q e = let there = item_forward g.scene item p q bytes within e in let far : p < q = there.0 in (omega (arith, far), there.1)
+      later : (q : ℕ) → after_item g.scene item p ≡ Some q → (p ≤ q) × Stands g q
+      later q e = let there = (places_stand g.scene text).forward item p q within e in let far : p < q = there.0 in (omega (arith, far), there.1)
 
-      by_left : Later → (b : Bool) → AreBetween p (length g.subject) (elim b [ true ↦ [] | false ↦ elim (after_item g.scene item p) [ None ↦ [] | Some q ↦ q ∷ run_places g.scene item n (one_less most) q ] ])
+      by_left : Later → (b : Bool) → AreBetween p (Stands g) (elim b [ true ↦ [] | false ↦ elim (after_item g.scene item p) [ None ↦ [] | Some q ↦ q ∷ run_places g.scene item n (one_less most) q ] ])
       by_left k true = tt
       by_left k false = by_item (after_item g.scene item p) later k
 
-  run_between : (item : Item) (most : Option ℕ) (p : ℕ) → p ≤ length g.subject → AreBetween p (length g.subject) (p ∷ longest_run g.scene item most p)
+  run_between : (item : Item) (most : Option ℕ) (p : ℕ) → Stands g p → AreBetween p (Stands g) (p ∷ longest_run g.scene item most p)
   run_between item most p within = ((omega arith, within), places_between item (length g.subject) most p within)
 
   forward_many : (item : Item) (least : ℕ) (high : Option ℕ) (lazily : Bool) → Goes (run_many g item least high lazily)
   unfolding run_many greedy lazy_run
   forward_many item least high false s on =
       forward_reach_if g low off s.place _ s _ (forward_offers _ s on
-      (between_reverse s.place (length g.subject) _ (between_drop s.place (length g.subject) least _ (run_between item high s.place on.within))))
+      (between_reverse s.place (Stands g) _ (between_drop s.place (Stands g) least _ (run_between item high s.place on.here))))
   forward_many item least high true s on =
       forward_reach_if g low off s.place _ s _ (forward_reluctant item _ _ s on
-      (between_drop s.place (length g.subject) least _ (run_between item high s.place on.within)))
+      (between_drop s.place (Stands g) least _ (run_between item high s.place on.here)))
 
   forward_in_order : (fs : List Search) → AllGo fs → Goes (in_order fs)
   unfolding in_order
@@ -255,29 +259,28 @@ module _ (g : Setting) (low : Option ℕ) (bytes : g.options.utf ≡ false) (off
       forward_or_else g low s.place _ _ (forward_turn below body zero None false h built s on) (forward_gives g low s.place s (omega arith) on)
 
 -- Branches of a lookbehind, which begin before its place.
-module _ (g : Setting) (bytes : g.options.utf ≡ false) where
-  back_between : (n p : ℕ) → p ≤ length g.subject → AreBetween 0 (length g.subject) (places_back g.scene n p)
+module _ (g : Setting) (text : IsText g.options g.subject) where
+  back_between : (n p : ℕ) → Stands g p → AreBetween 0 (Stands g) (places_back g.scene n p)
   unfolding places_back
   back_between zero p h = ((omega arith, h), tt)
   back_between (suc n) zero h = ((omega arith, h), tt)
   back_between (suc n) (suc p) h =
-      let place : (char_before g.options.utf g.subject (suc p)).1 ≡ p = ap (λ (utf : Bool). (char_before utf g.subject (suc p)).1) bytes ∙ omega arith in
-      ((omega arith, h), subst (λ q. AreBetween 0 (length g.subject) (places_back g.scene n q)) (sym place) (back_between n p (omega (arith, h))))
+      ((omega arith, h), back_between n (place_before g.scene (suc p)) ((places_stand g.scene text).backward (suc p) h (omega arith)).1)
 
   abbrev Roams : Search → Type 0
   Roams f = (s : State) → IsOnWay g None s → Forward g None 0 (f s)
 
-  begun : (p : ℕ) (s : State) → p ≤ length g.subject → IsOnWay g None s → IsOnWay g None (begun_at p s)
-  begun p s h on = record { kept = tt; within = h; caps = on.caps; groups = on.groups; no_mark = on.no_mark }
+  begun : (p : ℕ) (s : State) → Stands g p → IsOnWay g None s → IsOnWay g None (begun_at p s)
+  begun p s h on = record { kept = tt; here = h; caps = on.caps; groups = on.groups; no_mark = on.no_mark }
 
-  begins_at : (p : ℕ) (f : Search) → IsForward g None f → (s : State) → p ≤ length g.subject → IsOnWay g None s → Forward g None 0 (f (begun_at p s))
+  begins_at : (p : ℕ) (f : Search) → IsForward g None f → (s : State) → Stands g p → IsOnWay g None s → Forward g None 0 (f (begun_at p s))
   begins_at p f h s within on = forward_less g None 0 p (f (begun_at p s)) (omega arith) (h (begun_at p s) (begun p s within on))
 
   ends_there : (p : ℕ) (x : Stream) → Forward g None 0 x → Forward g None 0 (and_then x (ends_at p))
   ends_there p x h =
       forward_each g None 0 x (go_on (ends_at p)) h (λ u le on. forward_if g None 0 (u.place == p) _ _ (forward_gives g None 0 u (omega arith) on) (forward_nothing g None 0))
 
-  roam_tries : (ps : List ℕ) (f : Search) → IsForward g None f → AreBetween 0 (length g.subject) ps → Roams (tries g ps f)
+  roam_tries : (ps : List ℕ) (f : Search) → IsForward g None f → AreBetween 0 (Stands g) ps → Roams (tries g ps f)
   unfolding tries
   roam_tries [] f h b s on = forward_nothing g None 0
   roam_tries (p ∷ []) f h b s on = forward_step g None 0 _ (ends_there s.place _ (begins_at p f h s b.0.1 on))
@@ -286,7 +289,7 @@ module _ (g : Setting) (bytes : g.options.utf ≡ false) where
       (forward_held g None 0 1 s _ (ends_there s.place _ (begins_at p f h _ b.0.1 (with_units g None s _ on))))
       (roam_tries (q ∷ ps) f h b.1 s on))
 
-  roam_once : (ps : List ℕ) (f : Search) → IsForward g None f → AreBetween 0 (length g.subject) ps → Roams (one_try ps f)
+  roam_once : (ps : List ℕ) (f : Search) → IsForward g None f → AreBetween 0 (Stands g) ps → Roams (one_try ps f)
   unfolding one_try
   roam_once [] f h b s on = forward_nothing g None 0
   roam_once (p ∷ ps) f h b s on = begins_at p f h s b.0.1 on
@@ -300,63 +303,63 @@ module _ (g : Setting) (bytes : g.options.utf ≡ false) where
       by_most None = forward_nothing g None 0
       by_most (Some most) =
           let places = reverse (drop a.least (places_back g.scene most s.place)) in
-          let between = between_reverse 0 (length g.subject) _ (between_drop 0 (length g.subject) a.least _ (back_between most s.place on.within)) in
+          let between = between_reverse 0 (Stands g) _ (between_drop 0 (Stands g) a.least _ (back_between most s.place on.here)) in
           forward_if g None 0 (a.least == most) (one_try places f s) (tries g places f s) (roam_once places f h between s on) (roam_tries places f h between s on)
 
-module _ (g : Setting) (bytes : g.options.utf ≡ false) (off : g.matching.«partial» ≡ Off) where
+module _ (g : Setting) (text : IsText g.options g.subject) (off : g.matching.«partial» ≡ Off) where
   module _ (below : Searches) (deeper : (low : Option ℕ) (t : Nested) → IsBuilt t → IsForward g low (below t)) where
     mutual
       unfolding level
 
       forward_level : (low : Option ℕ) (t : Nested) → IsBuilt t → IsForward g low (level g below t)
       forward_level low tree.empty built s on = forward_gives g low s.place s (omega arith) on
-      forward_level low (tree.one item) built s on = forward_one g low bytes off item s on
-      forward_level low tree.line_break built s on = forward_break g low bytes off s on
-      forward_level low (tree.seq ts) built s on = forward_in_order g low bytes off _ (forward_levels low ts built) s on
-      forward_level low (tree.group number ts) built s on = forward_group g low bytes off number _ (forward_branches g low bytes off true _ (forward_reach low ts built)) s on
-      forward_level low (tree.repeat body least high lazily) built s on = forward_repeat g low bytes off below body least high lazily (deeper low) built s on
-      forward_level low (tree.one_repeat item least high lazily) built s on = forward_many g low bytes off item least high lazily s on
-      forward_level low (tree.atomic ts) built s on = forward_atomic g low bytes off _ (forward_branches g low bytes off true _ (forward_reach low ts built)) s on
-      forward_level low (tree.look true positive once ts) built s on = forward_look g low bytes off positive once _ (forward_branches g None bytes off false _ (roam_ahead ts built)) s on
-      forward_level low (tree.look false positive once ts) built s on = forward_look g low bytes off positive once _ (forward_branches g None bytes off false _ (roam_back ts built)) s on
+      forward_level low (tree.one item) built s on = forward_one g low text off item s on
+      forward_level low tree.line_break built s on = forward_break g low text off s on
+      forward_level low (tree.seq ts) built s on = forward_in_order g low text off _ (forward_levels low ts built) s on
+      forward_level low (tree.group number ts) built s on = forward_group g low text off number _ (forward_branches g low text off true _ (forward_reach low ts built)) s on
+      forward_level low (tree.repeat body least high lazily) built s on = forward_repeat g low text off below body least high lazily (deeper low) built s on
+      forward_level low (tree.one_repeat item least high lazily) built s on = forward_many g low text off item least high lazily s on
+      forward_level low (tree.atomic ts) built s on = forward_atomic g low text off _ (forward_branches g low text off true _ (forward_reach low ts built)) s on
+      forward_level low (tree.look true positive once ts) built s on = forward_look g low text off positive once _ (forward_branches g None text off false _ (roam_ahead ts built)) s on
+      forward_level low (tree.look false positive once ts) built s on = forward_look g low text off positive once _ (forward_branches g None text off false _ (roam_back ts built)) s on
       forward_level low (tree.condition test first second) built s on =
           forward_test low test _ _ built.0 (forward_level low first built.1) (forward_other low second built.2) s on
       forward_level low (tree.call n) built s on = absurd built
-      forward_level low (tree.ref ns caseless) built s on = forward_ref g low bytes off ns caseless s on
-      forward_level low (tree.anchor kind) built s on = forward_anchor g low bytes off kind s on
+      forward_level low (tree.ref ns caseless) built s on = forward_ref g low text off ns caseless s on
+      forward_level low (tree.anchor kind) built s on = forward_anchor g low text off kind s on
       forward_level low tree.keep_out built s on = forward_gives g low s.place _ (omega arith) (with_keep g low s on)
       forward_level low (tree.verb v) built s on = absurd built
       forward_level low (tree.callout c) built s on = absurd built
 
-      forward_levels : (low : Option ℕ) (ts : Row) → AreBuilt ts → AllGo g low bytes off (levels g below ts)
+      forward_levels : (low : Option ℕ) (ts : Row) → AreBuilt ts → AllGo g low text off (levels g below ts)
       forward_levels low tree.none built = tt
       forward_levels low (tree.more t ts) built = (forward_level low t built.0, forward_levels low ts built.1)
 
-      forward_reach : (low : Option ℕ) (ts : Row) → AreBuilt ts → AllReach g low bytes off true (levels g below ts)
+      forward_reach : (low : Option ℕ) (ts : Row) → AreBuilt ts → AllReach g low text off true (levels g below ts)
       forward_reach low tree.none built = tt
       forward_reach low (tree.more t ts) built = (forward_level low t built.0, forward_reach low ts built.1)
 
       forward_test : (low : Option ℕ) (test : Test) (f f' : Search) → IsBuiltTest test → IsForward g low f → IsForward g low f' → IsForward g low (level_test g below test f f')
-      forward_test low (tree.any_set ns) f f' built h h' s on = forward_tests g low bytes off (some_set s.caps ns) f f' s (h s on) (h' s on)
-      forward_test low tree.in_call f f' built h h' s on = forward_tests g low bytes off (is_called s.calls) f f' s (h s on) (h' s on)
-      forward_test low (tree.in_call_of ns) f f' built h h' s on = forward_tests g low bytes off (is_called_of s.calls ns) f f' s (h s on) (h' s on)
+      forward_test low (tree.any_set ns) f f' built h h' s on = forward_tests g low text off (some_set s.caps ns) f f' s (h s on) (h' s on)
+      forward_test low tree.in_call f f' built h h' s on = forward_tests g low text off (is_called s.calls) f f' s (h s on) (h' s on)
+      forward_test low (tree.in_call_of ns) f f' built h h' s on = forward_tests g low text off (is_called_of s.calls ns) f f' s (h s on) (h' s on)
       forward_test low tree.never f f' built h h' s on = h' s on
-      forward_test low (tree.assert true positive once ts) f f' built h h' s on = forward_asserts g low bytes off positive _ f f' (forward_branches g None bytes off false _ (roam_ahead ts built)) h h' s on
-      forward_test low (tree.assert false positive once ts) f f' built h h' s on = forward_asserts g low bytes off positive _ f f' (forward_branches g None bytes off false _ (roam_back ts built)) h h' s on
+      forward_test low (tree.assert true positive once ts) f f' built h h' s on = forward_asserts g low text off positive _ f f' (forward_branches g None text off false _ (roam_ahead ts built)) h h' s on
+      forward_test low (tree.assert false positive once ts) f f' built h h' s on = forward_asserts g low text off positive _ f f' (forward_branches g None text off false _ (roam_back ts built)) h h' s on
       forward_test low (tree.called c test) f f' built h h' s on = absurd built
 
       forward_other : (low : Option ℕ) (second : Other) → IsBuiltOther second → IsForward g low (level_other g below second)
       forward_other low tree.no_other built s on = forward_gives g low s.place s (omega arith) on
       forward_other low (tree.other t) built s on = forward_level low t built s on
 
-      roam_ahead : (ts : Row) → AreBuilt ts → AllReach g None bytes off false (levels g below ts)
+      roam_ahead : (ts : Row) → AreBuilt ts → AllReach g None text off false (levels g below ts)
       roam_ahead tree.none built = tt
       roam_ahead (tree.more t ts) built =
           (λ s on. forward_less g None 0 s.place (level g below t s) (omega arith) (forward_level None t built.0 s on), roam_ahead ts built.1)
 
-      roam_back : (ts : Row) → AreBuilt ts → AllReach g None bytes off false (levels_behind g below ts)
+      roam_back : (ts : Row) → AreBuilt ts → AllReach g None text off false (levels_behind g below ts)
       roam_back tree.none built = tt
-      roam_back (tree.more t ts) built = (roam_behind g bytes (branch_lengths g t) (level g below t) (forward_level None t built.0), roam_back ts built.1)
+      roam_back (tree.more t ts) built = (roam_behind g text (branch_lengths g t) (level g below t) (forward_level None t built.0), roam_back ts built.1)
 
   pub forward_run : (d : ℕ) (low : Option ℕ) (t : Nested) → IsBuilt t → IsForward g low (run g d t)
   unfolding run Forward

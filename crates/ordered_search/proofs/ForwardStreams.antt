@@ -5,6 +5,7 @@ use Rattle.std.proofs.lemmas.List.{length-set}
 use Rattle.std.proofs.lemmas.List.Elements.{All-set}
 use Rattle.pat_tree.specs.declared.options.PartialMode.{PartialMode}
 use Rattle.pat_tree.specs.declared.options.PartialMode.TheVariants.{Off, Soft, Hard}
+use Rattle.match_items.specs.Subjects.{IsTextPlace}
 use Rattle.ordered_search.specs.Stream.{State, exhausted, by_verb, by_halt, is_partial, too_many_units, loop, abort, cut, Ending, How, reached, accepted, note, state, step, Stream, Search, ends, ◌▸◌, nothing, gives, ◌or_else◌, each, and_then, go_on, decide, catch, captured}
 use Rattle.ordered_search.specs.Setting.{Setting, held, hold, reach, reach_if}
 use Rattle.ordered_search.specs.Parts.{back_to}
@@ -28,7 +29,7 @@ module _ (g : Setting) (low : Option ℕ) where
   -- a state on a path that began at `low`
   pub record IsOnWay (s : State) : Type 0 where
     pub kept : IsKept low s.keep s.place
-    pub within : s.place ≤ length g.subject
+    pub here : IsTextPlace g.options g.subject s.place
     pub caps : All (IsWithin (length g.subject)) s.caps
     pub groups : length s.caps ≡ g.groups
     pub no_mark : s.mark ≡ None
@@ -122,28 +123,28 @@ module _ (g : Setting) (low : Option ℕ) where
   -- States that stay on the way.
 
   pub with_units : (s : State) (n : ℕ) → IsOnWay s → IsOnWay (record s { units = n })
-  with_units s n on = record { kept = on.kept; within = on.within; caps = on.caps; groups = on.groups; no_mark = on.no_mark }
+  with_units s n on = record { kept = on.kept; here = on.here; caps = on.caps; groups = on.groups; no_mark = on.no_mark }
 
   pub with_early : (s : State) (n : ℕ) → IsOnWay s → IsOnWay (record s { early = n })
-  with_early s n on = record { kept = on.kept; within = on.within; caps = on.caps; groups = on.groups; no_mark = on.no_mark }
+  with_early s n on = record { kept = on.kept; here = on.here; caps = on.caps; groups = on.groups; no_mark = on.no_mark }
 
-  pub with_place : (s : State) (q : ℕ) → s.place ≤ q → q ≤ length g.subject → IsOnWay s → IsOnWay (record s { place = q })
-  with_place s q le in' on = record { kept = kept_on low s.keep s.place q le on.kept; within = in'; caps = on.caps; groups = on.groups; no_mark = on.no_mark }
+  pub with_place : (s : State) (q : ℕ) → s.place ≤ q → IsTextPlace g.options g.subject q → IsOnWay s → IsOnWay (record s { place = q })
+  with_place s q le in' on = record { kept = kept_on low s.keep s.place q le on.kept; here = in'; caps = on.caps; groups = on.groups; no_mark = on.no_mark }
 
   pub with_keep : (s : State) → IsOnWay s → IsOnWay (record s { keep = s.place })
-  with_keep s on = record { kept = kept_here low s.keep s.place on.kept; within = on.within; caps = on.caps; groups = on.groups; no_mark = on.no_mark }
+  with_keep s on = record { kept = kept_here low s.keep s.place on.kept; here = on.here; caps = on.caps; groups = on.groups; no_mark = on.no_mark }
 
   pub with_capture : (s : State) (n p : ℕ) → p ≤ s.place → IsOnWay s → IsOnWay (captured n p s)
   with_capture s n p le on = record {
     kept = on.kept;
-    within = on.within;
-    caps = All-set (IsWithin (length g.subject)) s.caps _ (Some (record { from = p; to = s.place })) (le, on.within) on.caps;
+    here = on.here;
+    caps = All-set (IsWithin (length g.subject)) s.caps _ (Some (record { from = p; to = s.place })) (le, on.here.within) on.caps;
     groups = length-set s.caps _ _ ∙ on.groups;
     no_mark = on.no_mark;
   }
 
   pub with_passed : (s : State) (ps : List (ℕ × ℕ)) → IsOnWay s → IsOnWay (record s { passed = ps })
-  with_passed s ps on = record { kept = on.kept; within = on.within; caps = on.caps; groups = on.groups; no_mark = on.no_mark }
+  with_passed s ps on = record { kept = on.kept; here = on.here; caps = on.caps; groups = on.groups; no_mark = on.no_mark }
 
   -- Units and hits of the end.
 
@@ -168,11 +169,11 @@ module _ (g : Setting) (low : Option ℕ) where
 -- Lookarounds: what is inside goes its own way, and only its captures stay.
 module _ (g : Setting) (low : Option ℕ) where
   pub loosened : (s : State) → IsOnWay g low s → IsOnWay g None s
-  loosened s on = record { kept = tt; within = on.within; caps = on.caps; groups = on.groups; no_mark = on.no_mark }
+  loosened s on = record { kept = tt; here = on.here; caps = on.caps; groups = on.groups; no_mark = on.no_mark }
 
   -- back from a lookaround, with the captures of its body
   pub with_return : (s u : State) → IsOnWay g low s → IsOnWay g None u → IsOnWay g low (back_to s u)
-  with_return s u on on' = record { kept = on.kept; within = on.within; caps = on'.caps; groups = on'.groups; no_mark = on'.no_mark }
+  with_return s u on on' = record { kept = on.kept; here = on.here; caps = on'.caps; groups = on'.groups; no_mark = on'.no_mark }
 
   forward_ending : (p : ℕ) (e : Ending) → Forward g None 0 (ends e) → Forward g low p (ends e)
   unfolding Forward

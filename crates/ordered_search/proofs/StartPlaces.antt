@@ -1,10 +1,15 @@
--- The start places of a search of bytes: each is later than the one before, and none is past the last one.
-use Rattle.std.proofs.Common.{inl, inr, ◌≡◌, ℕ, zero, suc, ◌+◌, ◌-◌, ◌<◌, ◌≤◌, Bool, true, false, length, Option, Some, None, nat_le, nat_lt, if◌then◌else◌, refl, sym, ap, subst, ◌∙◌, arith}
-use Rattle.std.specs.Prelude.{IfSome}
-use Rattle.std.proofs.lemmas.Bool.{cases_lt, leb-true, le-leb, lt-leb, ltb-true}
+-- The start places of a search: each is later than the one before, and none is past the last one.
+use Rattle.std.proofs.Common.{inl, inr, ◌≡◌, ℕ, zero, suc, ◌+◌, ◌-◌, ◌<◌, ◌≤◌, Bool, true, false, ◌&&◌, max, List, [], ◌∷◌, length, drop, Option, Some, None, nat_le, nat_lt, if◌then◌else◌, refl, sym, ap, subst, ◌∙◌, arith}
+use Rattle.std.specs.Prelude.{IfSome, IsCharBoundary, slice_index}
+use Rattle.std.proofs.lemmas.Bool.{and_parts, cases_lt, eqb-true, leb-true, le-leb, lt-leb, ltb-true}
+use Rattle.std.proofs.lemmas.Str.{IsCharBoundary-after_ascii, len_utf8_bounds}
+use Rattle.byte_lanes.specs.declared.line_end.EndKind.TheVariants.{CrLf}
+use Rattle.byte_lanes.specs.Newlines.{stands, newline_len}
 use Rattle.byte_lanes.specs.Places.{least_of}
-use Rattle.uni_text.specs.Characters.{char_at}
+use Rattle.uni_text.specs.Characters.{first_char, char_at}
 use Rattle.match_items.specs.Items.{newline_at}
+use Rattle.match_items.specs.Subjects.{IsText, IsTextPlace}
+use Rattle.match_items.proofs.TextGround.{next_place as goes_to_place}
 use Rattle.ordered_search.specs.PlaceAnswer.{Signal, Exhausted, Prune, Skip, Commit}
 use Rattle.ordered_search.specs.Setting.{Setting, anchored}
 use Rattle.ordered_search.specs.Places.{up_to, passes_crlf, next_place, last_place, within, place_after}
@@ -44,7 +49,24 @@ least_low test i (suc n) = by_test (test i) (least_low test (i + 1) n)
     by_test true h = omega arith
     by_test false h = omega (arith, h)
 
-module _ (g : Setting) (not_utf : g.options.utf ≡ false) (begun : g.start ≤ length g.subject) where
+-- The place behind a CRLF.
+
+pub no_stand : (b : ℕ) (t bytes : List ℕ) (p : ℕ) → stands (b ∷ t) bytes p ≡ true → (p < length bytes) × (slice_index bytes p ≡ b) × (stands t bytes (p + 1) ≡ true)
+unfolding stands
+no_stand b t bytes p h =
+    let parts = and_parts _ _ h in
+    let both = and_parts _ _ parts.1 in
+    (ltb-true _ _ parts.0, eqb-true _ _ both.0, both.1)
+
+-- where a CRLF stands, a byte follows that isn't CR
+pub crlf_then : (bytes : List ℕ) (p : ℕ) → nat_lt 0 (newline_len CrLf bytes p) ≡ true → (p + 1 < length bytes) × (slice_index bytes (p + 1) ≡ 10)
+crlf_then bytes p h = by_stand (stands (13 ∷ (10 ∷ [])) bytes p) refl
+  where
+    by_stand : (b : Bool) → stands (13 ∷ (10 ∷ [])) bytes p ≡ b → (p + 1 < length bytes) × (slice_index bytes (p + 1) ≡ 10)
+    by_stand true e = let first = no_stand 13 (10 ∷ []) bytes p e in let second = no_stand 10 [] bytes (p + 1) first.2 in (second.0, second.1)
+    by_stand false e = absurd (cc (ap (λ b. nat_lt 0 (max (if b then 2 else 0) 0)) (sym e) ∙ h))
+
+module _ (g : Setting) (begun : g.start ≤ length g.subject) where
   pub last_within : last_place g ≤ length g.subject
   last_within = by_anchored (anchored g) g.options.firstline
     where
@@ -69,21 +91,29 @@ module _ (g : Setting) (not_utf : g.options.utf ≡ false) (begun : g.start ≤ 
   place_from p None = None
   place_from p (Some c) = elim (passes_crlf g p) [ true ↦ Some (p + 2) | false ↦ Some c.1 ]
 
-  pub next_inside : (p : ℕ) → p < length g.subject → next_place g p ≡ elim (passes_crlf g p) [ true ↦ Some (p + 2) | false ↦ Some (p + 1) ]
-  next_inside p h = ap (λ e. place_from p (char_from p e g.options.utf)) (lt-leb (length g.subject) p h) ∙ ap (λ u. place_from p (char_from p false u)) not_utf
+  pub next_char : (p : ℕ) → p < length g.subject →
+      next_place g p ≡ elim (passes_crlf g p) [ true ↦ Some (p + 2) | false ↦ Some (char_at g.options.utf g.subject p).1 ]
+  next_char p h = ap (λ e. place_from p (char_from p e g.options.utf)) (lt-leb (length g.subject) p h)
+
+  pub next_inside : g.options.utf ≡ false → (p : ℕ) → p < length g.subject → next_place g p ≡ elim (passes_crlf g p) [ true ↦ Some (p + 2) | false ↦ Some (p + 1) ]
+  next_inside not_utf p h = next_char p h ∙ ap (λ u. place_from p (char_from p false u)) not_utf
+
+  char_later : (utf : Bool) (p : ℕ) → p < (char_at utf g.subject p).1
+  char_later false p = omega arith
+  char_later true p = let bounds = len_utf8_bounds (first_char (drop p g.subject)) in omega (arith, bounds.0)
 
   pub next_past : (p : ℕ) → length g.subject ≤ p → next_place g p ≡ None
   next_past p h = ap (λ e. place_from p (char_from p e g.options.utf)) (le-leb (length g.subject) p h)
 
   pub next_later : (p : ℕ) → IfSome (next_place g p) (λ q. p < q)
   next_later p = elim (cases_lt p (length g.subject)) [
-    | inl inside ↦ subst (λ (o : Option ℕ). IfSome o (λ q. p < q)) (sym (next_inside p inside)) (by_crlf (passes_crlf g p))
+    | inl inside ↦ subst (λ (o : Option ℕ). IfSome o (λ q. p < q)) (sym (next_char p inside)) (by_crlf (passes_crlf g p))
     | inr past ↦ subst (λ (o : Option ℕ). IfSome o (λ q. p < q)) (sym (next_past p past)) tt
   ]
     where
-      by_crlf : (b : Bool) → IfSome (elim b [ true ↦ Some (p + 2) | false ↦ Some (p + 1) ]) (λ q. p < q)
+      by_crlf : (b : Bool) → IfSome (elim b [ true ↦ Some (p + 2) | false ↦ Some (char_at g.options.utf g.subject p).1 ]) (λ q. p < q)
       by_crlf true = omega arith
-      by_crlf false = omega arith
+      by_crlf false = char_later g.options.utf p
 
   -- the place after one that failed is later, and none is past the last one
   pub after_later : (p : ℕ) (signal : Signal) → IfSome (place_after g p signal) (λ q. (p < q) × (q ≤ last_place g))
@@ -95,3 +125,31 @@ module _ (g : Setting) (not_utf : g.options.utf ≡ false) (begun : g.start ≤ 
       by_test true e = up_to_keeps (λ q. p < q) (last_place g) (Some to) (ltb-true p to e)
       by_test false e = up_to_keeps (λ q. p < q) (last_place g) (next_place g p) (next_later p)
   after_later p Commit = tt
+
+  -- the next place is a place of the subject
+  module _ (text : IsText g.options g.subject) where
+    abbrev Stands : ℕ → Type 0
+    Stands p = IsTextPlace g.options g.subject p
+
+    pub crlf_stands : (p : ℕ) → passes_crlf g p ≡ true → Stands (p + 2)
+    crlf_stands p e =
+        let parts = and_parts _ _ (and_parts _ _ e).0 in
+        let lf = crlf_then g.subject p parts.1 in
+        let small : slice_index g.subject (p + 1) < 128 = omega (arith, lf.1) in
+        let two : (p + 1) + 1 ≡ p + 2 = omega arith in
+        record {
+          within = omega (arith, lf.0);
+          between = λ utf. subst (IsCharBoundary g.subject) two (IsCharBoundary-after_ascii g.subject (p + 1) (text.checked utf) lf.0 small);
+        }
+
+    pub next_stands : (p : ℕ) → Stands p → IfSome (next_place g p) Stands
+    next_stands p at = elim (cases_lt p (length g.subject)) [
+      | inl inside ↦ subst (λ (o : Option ℕ). IfSome o Stands) (sym (next_char p inside)) (by_crlf inside (passes_crlf g p) refl)
+      | inr past ↦ subst (λ (o : Option ℕ). IfSome o Stands) (sym (next_past p past)) tt
+    ]
+      where
+        by_crlf : p < length g.subject → (b : Bool) → passes_crlf g p ≡ b → IfSome (elim b [ true ↦ Some (p + 2) | false ↦ Some (char_at g.options.utf g.subject p).1 ]) Stands
+        by_crlf inside true e = crlf_stands p e
+        by_crlf inside false e =
+            let to = goes_to_place g.options.utf g.subject p text.checked (at.within, at.between) inside in
+            record { within = to.0.0; between = to.0.1 }

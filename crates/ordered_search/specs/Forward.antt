@@ -1,8 +1,8 @@
--- What a search of bytes gives for a tree of the forms that are built.
-use Rattle.std.specs.Prelude.{◌≡◌, ℕ, ◌≤◌, false, [], All, length, Option, Some, None}
+-- What a search gives for a tree of the forms that are built.
+use Rattle.std.specs.Prelude.{◌≡◌, ℕ, ◌≤◌, [], All, length, Option, Some, None}
 use Rattle.pat_tree.specs.declared.options.PartialMode.TheVariants.{Off}
 use Rattle.pat_tree.specs.Built.{IsBuilt}
-use Rattle.match_items.specs.Subjects.{IsPlace}
+use Rattle.match_items.specs.Subjects.{IsText, IsTextPlace}
 use Rattle.frame_store.specs.declared.registers.Span.{Span}
 use Rattle.ordered_search.specs.Setting.{Setting}
 use Rattle.ordered_search.specs.PlaceAnswer.{Outcome, MatchLimit, FrameLimit}
@@ -13,11 +13,13 @@ abbrev pub IsWithin : ℕ → Option Span → Type 0
 IsWithin n None = Unit {0}
 IsWithin n (Some span) = (span.from ≤ span.to) × (span.to ≤ n)
 
--- The text of a match begins at the start or past it, and it and the captures lie in the subject. There is no mark.
+-- The text of a match begins at the start or past it, and it and the captures lie in the subject; a character begins where
+-- it ends, or the subject ends there. There is no mark.
 pub record IsPlaced (g : Setting) (o : Outcome) : Type 0 where
   pub begins : g.start ≤ o.keep
   pub ordered : o.keep ≤ o.to
   pub within : o.to ≤ length g.subject
+  pub place : IsTextPlace g.options g.subject o.to
   pub caps : All (IsWithin (length g.subject)) o.caps
   pub groups : length o.caps ≡ g.groups
   pub no_mark : o.mark ≡ None
@@ -36,12 +38,12 @@ pub record IsPlainFound (g : Setting) (f : Found) : Type 0 where
   pub answer : IsPlain g f.answer
   pub notes : f.notes ≡ []
 
--- The search is one of bytes for a tree of the forms that are built, without partial matching.
+-- The search is one for a tree of the forms that are built, without partial matching.
 pub record IsBuiltSearch (g : Setting) : Type 0 where
   pub built : IsBuilt g.whole
-  pub bytes : g.options.utf ≡ false
+  pub text : IsText g.options g.subject
   pub off : g.matching.«partial» ≡ Off
-  pub begun : IsPlace g.options g.subject g.start
+  pub begun : IsTextPlace g.options g.subject g.start
 
 abbrev pub ForwardLaw : Type 0
 ForwardLaw = (g : Setting) → IsBuiltSearch g → IsPlainFound g (match_answer g)

@@ -34,7 +34,7 @@ pub fn no_partial_match()
     ensures { NoPartialLaw }
 {}
 
-/// A search of bytes, without partial matching, for a tree without conditions, calls, verbs and callouts: a
+/// A search without partial matching, in UTF or outside it, for a tree without conditions, calls, verbs and callouts: a
 /// match lies in the subject at the start or past it, with its captures, and has no mark; else there is none, or a limit is
 /// passed.
 pub fn searches_go_forward()

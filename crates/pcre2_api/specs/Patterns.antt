@@ -1,9 +1,10 @@
 -- Patterns as they are searched for: text → what is read → pattern, and with a subject and a start → what a search is about.
 use Rattle.std.specs.Prelude.{ℕ, List, pos, Option, Some, None, Result, Ok, Err}
-use Rattle.uni_text.specs.Ascii.{ascii_fold, is_word_char}
+use Rattle.uni_text.specs.Sets.{word}
 use Rattle.pat_tree.specs.declared.options.Options.{Options}
 use Rattle.pat_tree.specs.declared.options.MatchOptions.{MatchOptions}
 use Rattle.pat_tree.specs.Pattern.{Pattern}
+use Rattle.match_items.specs.Views.{fold_in}
 use Rattle.token_parts.specs.declared.fault.Fault.{Fault}
 use Rattle.token_parts.specs.Tell.{◌>>=◌}
 use Rattle.pat_build.specs.Reading.{Parsed, read}
@@ -11,10 +12,11 @@ use Rattle.pat_lengths.specs.Lookbehinds.{lookbehinds, first_refused}
 use Rattle.pat_lengths.specs.declared.backs.LengthFault.{LengthFault}
 use Rattle.ordered_search.specs.Setting.{Setting, setting_of}
 
--- What a search of a subject from a place on is about. Callouts are passed over.
+-- What a search of a subject from a place on is about: folding is that of Unicode in UTF and else that of ASCII, and word
+-- characters under UCP are those of Unicode. Callouts are passed over.
 abbrev pub setting : Pattern → MatchOptions → List ℕ → ℕ → Setting
 setting p matching subject start =
-    setting_of p matching subject start ascii_fold is_word_char (λ block. pos 0)
+    setting_of p matching subject start (fold_in p.options.utf) (word true) (λ block. pos 0)
 
 -- the first lookbehind of what was read that is refused, from left to right (pcre2pattern, "Lookbehind assertions")
 abbrev pub fault_behind : Parsed → Option LengthFault

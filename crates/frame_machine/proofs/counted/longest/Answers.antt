@@ -1,12 +1,12 @@
 use Rattle.std.proofs.Common.{◌∙◌, ap, length}
-use Rattle.match_items.specs.Views.{scene_of, end_of}
+use Rattle.match_items.specs.Views.{text_scene, end_of}
 use Rattle.frame_machine.proofs.GroundLemmas.{run_as}
 use Rattle.frame_machine.proofs.counted.longest.Goals as goal
 
 pub returns-clause-count : goal.returns-clause-count
 returns-clause-count c =
-    c.item_run.ensures.count ∙ ap length (run_as (scene_of c.args.view.now c.args.classes.now) c.args.item.now c.args.at c.requires.subject.short c.args.most c.unwrap_or-most.result c.unwrap_or-most.ensures)
+    c.item_run.ensures.count ∙ ap length (run_as (text_scene c.args.view.now c.args.classes.now) c.args.item.now c.args.at c.requires.subject.short c.args.most c.unwrap_or-most.result c.unwrap_or-most.ensures)
 
 pub returns-clause-to : goal.returns-clause-to
 returns-clause-to c =
-    c.item_run.ensures.to ∙ ap (end_of c.args.at) (run_as (scene_of c.args.view.now c.args.classes.now) c.args.item.now c.args.at c.requires.subject.short c.args.most c.unwrap_or-most.result c.unwrap_or-most.ensures)
+    c.item_run.ensures.to ∙ ap (end_of c.args.at) (run_as (text_scene c.args.view.now c.args.classes.now) c.args.item.now c.args.at c.requires.subject.short c.args.most c.unwrap_or-most.result c.unwrap_or-most.ensures)

@@ -5,10 +5,10 @@ use Rattle.frame_machine.specs.Scratch.{Workspace}
 use Rattle.frame_machine.proofs.scratch.search_at.Goals as goal
 
 pub returns-clause-answer : goal.returns-clause-answer
-returns-clause-answer g c = (c.answer_of.ensures _ _ c.args.scratch.now.last_mark c.run-stop.ensures.stop).0
+returns-clause-answer g c = (c.answer_of.ensures.tells _ _ c.args.scratch.now.last_mark c.run-stop.ensures.stop).0
 
 pub returns-clause-mark : goal.returns-clause-mark
 returns-clause-mark g c =
     subst (λ (old : Option ℕ). IsMark c.answer_of.result old c.scratch.inside.last_mark (place_answer (g.S.Searchable.searched c.args.on.now).setting c.args.place))
     (ap (λ (w : Workspace). w.last_mark) c.scratch.view_is)
-    (c.answer_of.ensures _ _ c.scratch.inside.last_mark c.run-stop.ensures.stop).1
+    (c.answer_of.ensures.tells _ _ c.scratch.inside.last_mark c.run-stop.ensures.stop).1

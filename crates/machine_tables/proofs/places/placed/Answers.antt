@@ -1,3 +1,4 @@
+use Rattle.match_items.specs.Views.{fold_in}
 use Rattle.pat_build.specs.Machine.{parsed_of}
 use Rattle.pat_tree.specs.declared.options.TheConstants.Options as plain
 use Rattle.machine_tables.proofs.places.placed.Goals as goal
@@ -13,7 +14,7 @@ answer_of-answer-requires-clause-facts c =
     let kept = c.what_is_read_can_be_searched.ensures plain.PLAIN c.args.pattern.now (parsed_of c.in_ok-tree.tree) c.in_ok-tree.ensures.ok in
     let told = c.in_ok-facts.ensures in
     record {
-      lead = told.lead kept.without_utf;
+      lead = told.lead kept.without_utf (fold_in c.in_ok-tree.tree.options.utf);
       empty = told.empty;
       names = told.names;
       lookbehind = told.lookbehind;

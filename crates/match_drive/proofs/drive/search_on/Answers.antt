@@ -19,11 +19,12 @@ pub places-init : goal.places-init
 places-init g c =
     let x = c.args.on.now in
     let s = replied (g.S.Driven.asked x (g.C.Callouts.answers c.args.calls.now)).reply (g.S.Driven.asked x passed_over) in
-    let next : IsNextTried s (Some s.start) c.next_tried-next.result = subst (λ p. IsNextTried s (Some p) c.next_tried-next.result) c.start.ensures (c.next_tried-next.ensures s.reply) in
+    let next : IsNextTried s (Some s.start) c.next_tried-next.result = subst (λ p. IsNextTried s (Some p) c.next_tried-next.result) c.start.ensures (c.next_tried-next.ensures.tried s.reply) in
     record {
-      left = walk_begins s (g.met.S.Driven.subject_is x c.requires).no_utf (g.met.S.Driven.start_is x c.requires).within _ c.next_tried-next.result (search rules) next;
+      left = walk_begins s (g.met.S.Driven.start_is x c.requires).within _ c.next_tried-next.result (search rules) next;
       begun = tried_from s s.start c.next_tried-next.result next;
       within = next_within s (Some s.start) c.next_tried-next.result next;
+      place = c.next_tried-next.ensures.place;
       not_excluded = next_not_excluded s (Some s.start) c.next_tried-next.result next;
       peak = search rules;
       groups = search rules;
@@ -40,7 +41,7 @@ returns-in_default-answer-clause-answer g c =
     let e : g.S.Driven.asked x (g.C.Callouts.answers c.places.calls) ≡ s =
     asked_alike (g.S.Driven.asked x) (g.S.Driven.asked x passed_over) first (g.C.Callouts.answers c.places.calls) c.places.invariant.rule (g.met.S.Driven.alike x first) in
     subst (λ (t : Setting). IsMatchAnswer c.decided.result c.try_at-answer.new.scratch.spans (match_answer t)) (sym (g.met.S.Driven.alike x first))
-    (walk_ends s (g.met.S.Driven.subject_is x c.requires).no_utf (g.met.S.Driven.start_is x c.requires).within (match_answer s) c.places.first c.places.scratch.last_mark c.places.next c.in-Some.place c.in-Some.is
+    (walk_ends s (g.met.S.Driven.start_is x c.requires).within (match_answer s) c.places.first c.places.scratch.last_mark c.places.next c.in-Some.place c.in-Some.is
     c.places.invariant.left c.places.invariant.within c.places.invariant.not_excluded c.try_at-answer.new.scratch.spans c.try_at-answer.result
     c.try_at-answer.new.scratch.last_mark c.last_mark.result c.decided.result
     (subst (λ (t : Setting). IsAnswer c.try_at-answer.result c.try_at-answer.new.scratch.spans (place_answer t c.in-Some.place)) e c.try_at-answer.ensures.answer)
@@ -55,7 +56,7 @@ returns-in_default-answer-clause-last_mark g c =
     let e : g.S.Driven.asked x (g.C.Callouts.answers c.places.calls) ≡ s =
     asked_alike (g.S.Driven.asked x) (g.S.Driven.asked x passed_over) first (g.C.Callouts.answers c.places.calls) c.places.invariant.rule (g.met.S.Driven.alike x first) in
     subst (λ (t : Setting). IsLastMark c.decided.result c.try_at-answer.new.scratch.last_mark (match_answer t)) (sym (g.met.S.Driven.alike x first))
-    (walk_ends s (g.met.S.Driven.subject_is x c.requires).no_utf (g.met.S.Driven.start_is x c.requires).within (match_answer s) c.places.first c.places.scratch.last_mark c.places.next c.in-Some.place c.in-Some.is
+    (walk_ends s (g.met.S.Driven.start_is x c.requires).within (match_answer s) c.places.first c.places.scratch.last_mark c.places.next c.in-Some.place c.in-Some.is
     c.places.invariant.left c.places.invariant.within c.places.invariant.not_excluded c.try_at-answer.new.scratch.spans c.try_at-answer.result
     c.try_at-answer.new.scratch.last_mark c.last_mark.result c.decided.result
     (subst (λ (t : Setting). IsAnswer c.try_at-answer.result c.try_at-answer.new.scratch.spans (place_answer t c.in-Some.place)) e c.try_at-answer.ensures.answer)
@@ -100,11 +101,11 @@ pub places-smaller : goal.places-smaller
 places-smaller g c =
     let x = c.args.on.now in
     let s = g.S.Driven.asked x passed_over in
-    let high : last_place s ≤ length s.subject = last_within s (g.met.S.Driven.subject_is x c.requires).no_utf (g.met.S.Driven.start_is x c.requires).within in
+    let high : last_place s ≤ length s.subject = last_within s (g.met.S.Driven.start_is x c.requires).within in
     let low : c.in-Some.place ≤ last_place s = rw c.in-Some.is at c.places.invariant.within in
     left_less (length s.subject) c.in-Some.place c.places.next c.next_tried-next-in-Some.result c.in-Some.is (omega (arith, high, low))
     (tried_later (replied s.reply s) c.place_past.result c.next_tried-next-in-Some.result
-    c.in-Some.place (c.next_tried-next-in-Some.ensures s.reply) c.place_past.ensures.later)
+    c.in-Some.place (c.next_tried-next-in-Some.ensures.tried s.reply) c.place_past.ensures.later)
 
 pub places-preserved : goal.places-preserved
 places-preserved g c =
@@ -113,11 +114,11 @@ places-preserved g c =
     let s = replied (g.S.Driven.asked x first).reply (g.S.Driven.asked x passed_over) in
     let e : g.S.Driven.asked x (g.C.Callouts.answers c.places.calls) ≡ s =
     asked_alike (g.S.Driven.asked x) (g.S.Driven.asked x passed_over) first (g.C.Callouts.answers c.places.calls) c.places.invariant.rule (g.met.S.Driven.alike x first) in
-    let next = c.next_tried-next-in-Some.ensures s.reply in
+    let next = c.next_tried-next-in-Some.ensures.tried s.reply in
     let begun : s.start ≤ c.in-Some.place = rw c.in-Some.is at c.places.invariant.begun in
     record {
       left =
-          walk_on s (g.met.S.Driven.subject_is x c.requires).no_utf (g.met.S.Driven.start_is x c.requires).within (match_answer s) c.places.first c.places.scratch.last_mark c.places.next c.in-Some.place c.in-Some.is
+          walk_on s (g.met.S.Driven.start_is x c.requires).within (match_answer s) c.places.first c.places.scratch.last_mark c.places.next c.in-Some.place c.in-Some.is
           c.places.invariant.left c.places.invariant.within c.places.invariant.not_excluded c.try_at-answer.new.scratch.spans c.in-Failed.signal c.in-Failed.hit_end
           c.try_at-answer.new.scratch.last_mark c.first_hit-first.result c.place_past.result
           c.next_tried-next-in-Some.result
@@ -134,6 +135,7 @@ places-preserved g c =
           c.place_past.ensures.later)
           (λ q later. omega (arith, begun, later));
       within = next_within s c.place_past.result c.next_tried-next-in-Some.result next;
+      place = c.next_tried-next-in-Some.ensures.place;
       not_excluded = next_not_excluded s c.place_past.result c.next_tried-next-in-Some.result next;
       peak = omega (arith, c.try_at-answer.ensures.peak, c.places.invariant.peak);
       groups = c.try_at-answer.ensures.groups ∙ c.places.invariant.groups;

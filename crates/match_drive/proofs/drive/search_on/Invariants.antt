@@ -1,6 +1,7 @@
 use Rattle.std.proofs.Common.{◌≡◌, ◌≤◌, false, max, length}
 use Rattle.std.specs.Prelude.{IfSome}
 use Rattle.pcre_io.specs.declared.callouts.Block.{Block}
+use Rattle.match_items.specs.Subjects.{IsTextPlace}
 use Rattle.match_drive.specs.Asked.{passed_over, replied}
 use Rattle.ordered_search.specs.Places.{last_place, is_excluded}
 use Rattle.ordered_search.specs.MatchAnswer.{match_answer}
@@ -15,6 +16,7 @@ invariant-places g l = record {
       IsLeft (match_answer s) l.first l.scratch.last_mark (found_from s l.next));
   begun : IfSome l.next (λ p. (g.S.Driven.asked l.on passed_over).start ≤ p);
   within : IfSome l.next (λ p. p ≤ last_place (g.S.Driven.asked l.on passed_over));
+  place : IfSome l.next (IsTextPlace (g.S.Driven.asked l.on passed_over).options (g.S.Driven.asked l.on passed_over).subject);
   not_excluded : IfSome l.next (λ p. is_excluded (g.S.Driven.asked l.on passed_over) p ≡ false);
   peak : l.scratch.peak ≤ max l.fn.scratch.peak (g.S.Driven.asked l.on passed_over).matching.frame_limit;
   groups : l.scratch.groups ≡ l.fn.scratch.groups;

@@ -1,78 +1,91 @@
 use Rattle.std.proofs.Common.{◌≡◌, ◌≤◌, ◌<◌, ℕ, Option, length, refl, sym, subst, ap, ◌∙◌, arith}
 use Rattle.std.specs.Prelude.{IfSome}
+use Rattle.match_items.specs.Subjects.{IsTextPlace}
 use Rattle.match_drive.specs.Asked.{passed_over, replied}
 use Rattle.ordered_search.specs.Places.{next_place, last_place, up_to}
 use Rattle.match_drive.specs.Rest.{found_from}
 use Rattle.match_drive.proofs.Steps.{left_less, none_earlier, step_is, step_later, tried_next, none_next, excluded_next}
 use Rattle.ordered_search.proofs.StartPlaces.{last_within}
 use Rattle.match_drive.proofs.PastBegin.{none_past}
+use Rattle.match_drive.proofs.TextSteps.{same_place, up_to_place}
 use Rattle.match_drive.proofs.places.next_tried.Goals as goal
 
 pub pass-place-requires-clause-from : goal.pass-place-requires-clause-from
 pass-place-requires-clause-from g c = rw c.in-Some.is at c.places.invariant.within
 
-pub returns-then-stands_at_begin : goal.returns-then-stands_at_begin
-returns-then-stands_at_begin g c reply =
+pub returns-then-stands_at_begin-clause-tried : goal.returns-then-stands_at_begin-clause-tried
+returns-then-stands_at_begin-clause-tried g c reply =
     let x = c.args.on.now in
     let s = replied reply (g.S.Driven.asked x passed_over) in
     sym (rw c.in-Some.is at (c.places.invariant.same reply))
-    ∙ none_past s (g.met.S.Driven.subject_is x c.requires.fits).no_utf (g.met.S.Driven.start_is x c.requires.fits).within (c.if-stands_at_begin.ensures refl) c.in-Some.at c.if-at-gt0.true
+    ∙ none_past s (g.met.S.Driven.start_is x c.requires.fits).within (c.if-stands_at_begin.ensures refl) c.in-Some.at c.if-at-gt0.true
 
-pub returns-then-place-last : goal.returns-then-place-last
-returns-then-place-last g c reply =
+pub returns-then-place-last-clause-tried : goal.returns-then-place-last-clause-tried
+returns-then-place-last-clause-tried g c reply =
     let x = c.args.on.now in
     let s = replied reply (g.S.Driven.asked x passed_over) in
-    none_next s (g.met.S.Driven.subject_is x c.requires.fits).no_utf (g.met.S.Driven.start_is x c.requires.fits).within c.args.from c.in-Some.at c.pass-place.result
-    (rw c.in-Some.is at (c.places.invariant.same reply)) (c.pass-place.ensures reply) (omega (arith, c.requires.last, c.if-place-last.true))
+    none_next s (g.met.S.Driven.start_is x c.requires.fits).within c.args.from c.in-Some.at c.pass-place.result
+    (rw c.in-Some.is at (c.places.invariant.same reply)) (c.pass-place.ensures.passed reply) (omega (arith, c.requires.last, c.if-place-last.true))
 
 pub is_excluded-requires-clause-at : goal.is_excluded-requires-clause-at
 is_excluded-requires-clause-at g c =
     let x = c.args.on.now in
     let s = g.S.Driven.asked x passed_over in
-    let high : last_place s ≤ length s.subject = last_within s (g.met.S.Driven.subject_is x c.requires.fits).no_utf (g.met.S.Driven.start_is x c.requires.fits).within in
+    let high : last_place s ≤ length s.subject = last_within s (g.met.S.Driven.start_is x c.requires.fits).within in
     omega (arith, high, c.requires.last, c.if-place-last.false)
 
-pub returns-then-not-is_excluded : goal.returns-then-not-is_excluded
-returns-then-not-is_excluded g c reply =
+pub returns-then-not-is_excluded-clause-tried : goal.returns-then-not-is_excluded-clause-tried
+returns-then-not-is_excluded-clause-tried g c reply =
     let x = c.args.on.now in
     let s = replied reply (g.S.Driven.asked x passed_over) in
-    tried_next s (g.met.S.Driven.subject_is x c.requires.fits).no_utf (g.met.S.Driven.start_is x c.requires.fits).within c.args.from c.in-Some.at c.pass-place.result
-    (rw c.in-Some.is at (c.places.invariant.same reply)) (rw c.in-Some.is at c.places.invariant.later) (c.pass-place.ensures reply)
+    tried_next s (g.met.S.Driven.start_is x c.requires.fits).within c.args.from c.in-Some.at c.pass-place.result
+    (rw c.in-Some.is at (c.places.invariant.same reply)) (rw c.in-Some.is at c.places.invariant.later) (c.pass-place.ensures.passed reply)
     (omega (arith, c.requires.last, c.if-place-last.false)) (sym c.is_excluded.ensures ∙ c.if-not-is_excluded.true)
+
+pub returns-then-not-is_excluded-clause-place : goal.returns-then-not-is_excluded-clause-place
+returns-then-not-is_excluded-clause-place g c =
+    let x = c.args.on.now in
+    let s = g.S.Driven.asked x passed_over in
+    let high : last_place s ≤ length s.subject = last_within s (g.met.S.Driven.start_is x c.requires.fits).within in
+    same_place s.options s.subject c.in-Some.at c.pass-place.result (rw c.in-Some.is at c.places.invariant.place) (omega (arith, high, c.requires.last, c.if-place-last.false))
+    c.pass-place.ensures.alone
 
 pub next_place-requires-clause-at : goal.next_place-requires-clause-at
 next_place-requires-clause-at g c =
     let x = c.args.on.now in
     let s = g.S.Driven.asked x passed_over in
-    let high : last_place s ≤ length s.subject = last_within s (g.met.S.Driven.subject_is x c.requires.fits).no_utf (g.met.S.Driven.start_is x c.requires.fits).within in
-    omega (arith, high, c.requires.last, c.if-place-last.false)
+    let high : last_place s ≤ length s.subject = last_within s (g.met.S.Driven.start_is x c.requires.fits).within in
+    same_place s.options s.subject c.in-Some.at c.pass-place.result (rw c.in-Some.is at c.places.invariant.place) (omega (arith, high, c.requires.last, c.if-place-last.false))
+    c.pass-place.ensures.alone
 
 pub places-smaller : goal.places-smaller
 places-smaller g c =
     let x = c.args.on.now in
     let s = g.S.Driven.asked x passed_over in
     let e : c.up_to-next.result ≡ up_to (last_place s) (next_place s c.pass-place.result) =
-    step_is s (g.met.S.Driven.subject_is x c.requires.fits).no_utf (g.met.S.Driven.start_is x c.requires.fits).within c.pass-place.result c.args.last c.next_place.result c.up_to-next.result c.requires.last c.next_place.ensures c.up_to-next.ensures.value in
-    let high : last_place s ≤ length s.subject = last_within s (g.met.S.Driven.subject_is x c.requires.fits).no_utf (g.met.S.Driven.start_is x c.requires.fits).within in
-    let later : c.in-Some.at ≤ c.pass-place.result = (c.pass-place.ensures s.reply).later in
+    step_is s (g.met.S.Driven.start_is x c.requires.fits).within c.pass-place.result c.args.last c.next_place.result c.up_to-next.result c.requires.last c.next_place.ensures.value c.up_to-next.ensures.value in
+    let high : last_place s ≤ length s.subject = last_within s (g.met.S.Driven.start_is x c.requires.fits).within in
+    let later : c.in-Some.at ≤ c.pass-place.result = (c.pass-place.ensures.passed s.reply).later in
     left_less (length s.subject) c.in-Some.at c.places.next c.up_to-next.result c.in-Some.is
     (omega (arith, high, c.requires.last, c.if-place-last.false, later))
     (subst (λ (o : Option ℕ). IfSome o (λ q. c.in-Some.at < q)) (sym e)
-    (step_later s (g.met.S.Driven.subject_is x c.requires.fits).no_utf (g.met.S.Driven.start_is x c.requires.fits).within c.in-Some.at c.pass-place.result later))
+    (step_later s (g.met.S.Driven.start_is x c.requires.fits).within c.in-Some.at c.pass-place.result later))
 
 pub places-preserved : goal.places-preserved
 places-preserved g c =
     let x = c.args.on.now in
     let s = g.S.Driven.asked x passed_over in
     let e : c.up_to-next.result ≡ up_to (last_place s) (next_place s c.pass-place.result) =
-    step_is s (g.met.S.Driven.subject_is x c.requires.fits).no_utf (g.met.S.Driven.start_is x c.requires.fits).within c.pass-place.result c.args.last c.next_place.result c.up_to-next.result c.requires.last c.next_place.ensures c.up_to-next.ensures.value in
+    step_is s (g.met.S.Driven.start_is x c.requires.fits).within c.pass-place.result c.args.last c.next_place.result c.up_to-next.result c.requires.last c.next_place.ensures.value c.up_to-next.ensures.value in
     record {
       same = λ reply.
           ap (found_from (replied reply s)) e
-          ∙ excluded_next (replied reply s) (g.met.S.Driven.subject_is x c.requires.fits).no_utf (g.met.S.Driven.start_is x c.requires.fits).within c.args.from c.in-Some.at c.pass-place.result
-          (rw c.in-Some.is at (c.places.invariant.same reply)) (c.pass-place.ensures reply) (omega (arith, c.requires.last, c.if-place-last.false)) (sym c.is_excluded.ensures ∙ c.if-not-is_excluded.false);
+          ∙ excluded_next (replied reply s) (g.met.S.Driven.start_is x c.requires.fits).within c.args.from c.in-Some.at c.pass-place.result
+          (rw c.in-Some.is at (c.places.invariant.same reply)) (c.pass-place.ensures.passed reply) (omega (arith, c.requires.last, c.if-place-last.false)) (sym c.is_excluded.ensures ∙ c.if-not-is_excluded.false);
       within = c.up_to-next.ensures.within;
+      place = subst (λ (o : Option ℕ). IfSome o (IsTextPlace s.options s.subject)) (sym c.up_to-next.ensures.value)
+          (up_to_place (IsTextPlace s.options s.subject) c.args.last c.next_place.result c.next_place.ensures.place);
       later = none_earlier c.args.from c.in-Some.at c.up_to-next.result (rw c.in-Some.is at c.places.invariant.later)
           (subst (λ (o : Option ℕ). IfSome o (λ q. c.in-Some.at < q)) (sym e)
-          (step_later s (g.met.S.Driven.subject_is x c.requires.fits).no_utf (g.met.S.Driven.start_is x c.requires.fits).within c.in-Some.at c.pass-place.result (c.pass-place.ensures s.reply).later));
+          (step_later s (g.met.S.Driven.start_is x c.requires.fits).within c.in-Some.at c.pass-place.result (c.pass-place.ensures.passed s.reply).later));
     }

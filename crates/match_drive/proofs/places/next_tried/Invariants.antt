@@ -1,6 +1,7 @@
 use Rattle.std.proofs.Common.{◌≡◌, ◌≤◌, ℤ, length}
 use Rattle.std.specs.Prelude.{IfSome}
 use Rattle.ordered_search.specs.Stream.{Block}
+use Rattle.match_items.specs.Subjects.{IsTextPlace}
 use Rattle.match_drive.specs.Asked.{passed_over, replied}
 use Rattle.match_drive.specs.Rest.{found_from}
 use Rattle.match_drive.proofs.Steps.{places_left, IsNoEarlier}
@@ -11,6 +12,7 @@ abbrev pub invariant-places : goal.invariant-places
 invariant-places g l = record {
   same : (reply : Block → ℤ) → found_from (replied reply (g.S.Driven.asked l.on passed_over)) l.next ≡ found_from (replied reply (g.S.Driven.asked l.on passed_over)) l.fn.from;
   within : IfSome l.next (λ p. p ≤ l.last);
+  place : IfSome l.next (IsTextPlace (g.S.Driven.asked l.on passed_over).options (g.S.Driven.asked l.on passed_over).subject);
   later : IfSome l.next (IsNoEarlier l.fn.from);
 }
 

@@ -1,13 +1,14 @@
 use Rattle.std.proofs.Common.{◌≡◌, ◌≤◌, ◌-◌, drop, length}
-use Rattle.match_items.specs.Views.{scene_of}
+use Rattle.match_items.specs.Subjects.{IsTextPlace}
+use Rattle.match_items.specs.Views.{text_scene}
 use Rattle.match_drive.specs.Prefix.{item_refuses, row_of}
 use Rattle.match_drive.proofs.prefix.item_refuses.Given as goal
 
 -- the parts that are left refuse where all of them do
 abbrev pub invariant-parts : goal.invariant-parts
 invariant-parts l = record {
-  same : item_refuses (scene_of l.view l.ready.classes.now) (row_of l.ready.tree.now (drop l.i l.parts)) l.at ≡ item_refuses (scene_of l.view l.ready.classes.now) (row_of l.ready.tree.now l.parts) l.place;
-  within : l.at ≤ length l.view.subject.now;
+  same : item_refuses (text_scene l.view l.ready.classes.now) (row_of l.ready.tree.now (drop l.i l.parts)) l.at ≡ item_refuses (text_scene l.view l.ready.classes.now) (row_of l.ready.tree.now l.parts) l.place;
+  place : IsTextPlace l.view.options.now l.view.subject.now l.at;
 }
 
 abbrev pub decreases-parts : goal.decreases-parts

@@ -1,3 +1,4 @@
+use Rattle.std.proofs.Common.{sym, ◌∙◌}
 use Rattle.frame_machine.specs.Ready.{setting_for}
 use Rattle.match_drive.specs.Asked.{passed_over}
 use Rattle.match_drive.proofs.PastRun.{RunFails, run_fails, none_fails}
@@ -26,3 +27,8 @@ pub returns-in-None-clause-fails : goal.returns-in-None-clause-fails
 returns-in-None-clause-fails c =
     none_fails (setting_for c.args.self.now.ready.now.tree.now c.args.self.now.view.now passed_over)
     c.args.place
+
+pub returns-in-Some-clause-alone : goal.returns-in-Some-clause-alone
+returns-in-Some-clause-alone c utf =
+    let fits = c.requires.fits in
+    absurd (let bytes = (rw c.in-Some.is at fits.runs_first).begins.bytes in cc (sym utf ∙ bytes))

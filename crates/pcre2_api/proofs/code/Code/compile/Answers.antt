@@ -1,5 +1,6 @@
 use Rattle.std.proofs.Common.{◌≡◌, ◌∙◌, Err, IfErr, subst, sym, ap, rules}
 use Rattle.pat_tree.specs.Pattern.{pattern_of}
+use Rattle.match_items.specs.Views.{fold_in}
 use Rattle.pat_build.specs.Machine.{parsed_of}
 use Rattle.pat_lengths.specs.Backs.{first_fault}
 use Rattle.pcre2_api.specs.Compiled.{IsCompileError, check_error_of, compile_error_of}
@@ -14,7 +15,7 @@ invariant_of-result c =
     record {
       table = c.in_ok-classes.ensures;
       facts = record {
-        lead = told.lead kept.without_utf;
+        lead = told.lead kept.without_utf (fold_in c.in_ok-tree.tree.options.utf);
         empty = told.empty;
         names = told.names;
         lookbehind = told.lookbehind;
