@@ -1,6 +1,8 @@
 -- The steps of the machine at an atomic group.
-use Rattle.std.proofs.Common.{◌≡◌, ℕ, suc, ◌+◌, ◌<◌, ◌≤◌, List, ◌∷◌, reverse, Some, length, slice_get, refl, sym, ap, arith}
+use Rattle.std.proofs.Common.{◌≡◌, ℕ, suc, ◌+◌, ◌<◌, ◌≤◌, List, ◌∷◌, map, reverse, None, Some, length, slice_get, refl, sym, ap, arith}
 use Rattle.pat_tree.specs.declared.nodes.Node.TheVariants as node
+use Rattle.pat_tree.specs.Nested.{row, tree_at}
+use Rattle.ordered_search.specs.Paths.{only_many}
 use Rattle.frame_store.specs.declared.records.Record.{Record}
 use Rattle.frame_store.specs.declared.kinds.TheConstants.{KIND_ATOMIC_OPEN}
 use Rattle.frame_store.specs.Captures.{Captures}
@@ -21,7 +23,8 @@ use Rattle.frame_machine.proofs.Turns.{deep, opens}
 use Rattle.frame_machine.proofs.LeaveTurns.{frame_inside, stop_leave, turn_left}
 use Rattle.frame_machine.proofs.KidParts.{kid_parts}
 
-module _ (c : Ground) (ok : IsGround c) (q : ℕ) (spot : Spot) (stack : List Entry) (caps : Captures) (v : IsValid c (conf (Enter q) spot stack caps)) (ks : List ℕ) (i : IsNode c q (node.Atomic ks)) where
+module _ (c : Ground) (ok : IsGround c) (q : ℕ) (spot : Spot) (stack : List Entry) (caps : Captures) (v : IsValid c (conf (Enter q) spot stack caps)) (ks : List ℕ) (i : IsNode c q (node.Atomic ks))
+    (none : only_many (row (map (tree_at c.trees) ks)) ≡ None) where
   pub turn_atomic : spot.units < c.setting.matching.frame_limit →
       Advances c (conf (Enter q) spot stack caps)
       (conf (first_next q ks) (record spot { frame = suc (length stack); units = spot.units + 1 }) (AtomicOpen (record { node = q; link = spot.frame }) (kept_at spot) ∷ stack) caps)
@@ -30,11 +33,11 @@ module _ (c : Ground) (ok : IsGround c) (q : ℕ) (spot : Spot) (stack : List En
       opens c ok q spot stack caps v (node.Atomic ks) i (AtomicOpen (record { node = q; link = spot.frame }) (kept_at spot)) refl refl refl (λ a. refl) room
       q v.running.0 ks (kid_parts c q (node.Atomic ks) v.running.0 i) (branched_atomic c q (node.Atomic ks) i ks refl) (ap (λ x. branch_rest c x (c.rest q)) (sym (tree_by c q (node.Atomic ks) i (node.Atomic ks) refl)))
       (v.running.0, v.running.1, tt) (hand c stack caps spot.frame q) (pause (fail c stack caps)) (ap is_behind (sym (tree_by c q (node.Atomic ks) i (node.Atomic ks) refl)))
-      (enter_atomic c ok q (node.Atomic ks) i _ _ _ _ _ (deep c ok q spot stack caps v (node.Atomic ks) i) ks refl) refl
+      (enter_atomic c ok q (node.Atomic ks) i _ _ _ _ _ (deep c ok q spot stack caps v (node.Atomic ks) i) ks refl none) refl
 
   pub stop_atomic : c.setting.matching.frame_limit ≤ spot.units → tread c.setting spot.left (ahead c (conf (Enter q) spot stack caps)) ≡ answers FrameLimit
   stop_atomic full =
-      over_units c spot.left _ _ (enter_atomic c ok q (node.Atomic ks) i _ _ _ _ _ (deep c ok q spot stack caps v (node.Atomic ks) i) ks refl) (holding_full c.setting _ _ full)
+      over_units c spot.left _ _ (enter_atomic c ok q (node.Atomic ks) i _ _ _ _ _ (deep c ok q spot stack caps v (node.Atomic ks) i) ks refl none) (holding_full c.setting _ _ full)
 
 -- it is left
 module _ (c : Ground) (ok : IsGround c) (spot : Spot) (records : List Record) (caps : Captures) (v : IsValid c (conf End spot (entries records) caps)) (h : ℕ) (height : spot.frame ≡ h + 1)

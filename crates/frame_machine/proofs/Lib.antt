@@ -14,6 +14,7 @@ mod ItemTurns
 mod BackTurns
 mod LeaveTurns
 mod AtomicTurns
+mod PossessiveTurns
 mod LookTurns
 mod CallFrames
 mod CondTurns

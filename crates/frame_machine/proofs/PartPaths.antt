@@ -21,7 +21,7 @@ use Rattle.frame_store.specs.Captures.{capture}
 use Rattle.ordered_search.specs.Stream.{State, reached, accepted, hit_end, by_halt, is_partial}
 use Rattle.ordered_search.specs.Setting.{counts, branch_lengths}
 use Rattle.ordered_search.specs.Moves.{Moves, stops, pause, stepped, noted, Follow, Handler, Path, catching, going, holding, reaching}
-use Rattle.ordered_search.specs.Paths.{close, ref_path, many_paths, turn_path, repeat_path, go_path, parts_path, choice_paths, branch_paths, leave, look_path, path, row_paths, behind_paths, try_path, tries_path, behind_path, paths, choose_path, other_path, test_path, assert_path, tested_path, call_path}
+use Rattle.ordered_search.specs.Paths.{close, ref_path, many_paths, turn_path, repeat_path, go_path, parts_path, choice_paths, branch_paths, leave, Many, only_many, possessive_path, atomic_over, look_path, path, row_paths, behind_paths, try_path, tries_path, behind_path, paths, choose_path, other_path, test_path, assert_path, tested_path, call_path}
 use Rattle.frame_machine.specs.declared.machine.Next.TheVariants.{Branch, Offer, Begin}
 use Rattle.node_flow.specs.Followers.{first_of}
 use Rattle.node_flow.specs.Linked.{AreChained, AllFollowed, IsLinked}
@@ -483,11 +483,21 @@ module _ (c : Ground) where
         ap (λ (xs : List Path). branch_paths c.setting xs u (λ how v x. close c.setting m s.place how v (past c d k q) x) (pause f) (k.hand q)) (row_deep d z ks deep)
         ∙ ap (λ (z : Follow). branch_paths c.setting (part_paths c d ks) u z (pause f) (k.hand q)) closes))
 
-    pub enter_atomic : (ks : List ℕ) → n ≡ node.Atomic ks → enter c d k q s f
-        ≡ pause (holding c.setting 1 s (λ t. branch_paths c.setting (part_paths c d ks) t (λ how u e. leave c.setting s how u (past c d k q) f) (pause f) (k.hand q)))
+    -- an atomic group over this repeat of one item, or over none
+    atomic_row : (ks : List ℕ) → n ≡ node.Atomic ks → (o : Option Many) → only_many (row (map (tree_at c.trees) ks)) ≡ o → enter c d k q s f
+        ≡ atomic_over c.setting o (branch_paths c.setting (row_paths c.setting z (paths c.setting z) (row (map (tree_at c.trees) ks)))) s (past c d k q) f (k.hand q)
     unfolding path
-    enter_atomic ks e =
+    atomic_row ks e o only =
         by_node (node.Atomic ks) e
+        ∙ ap (λ (m : Option Many). atomic_over c.setting m (branch_paths c.setting (row_paths c.setting z (paths c.setting z) (row (map (tree_at c.trees) ks)))) s (past c d k q) f (k.hand q)) only
+
+    pub enter_possessive : (ks : List ℕ) → n ≡ node.Atomic ks → (m : Many) → only_many (row (map (tree_at c.trees) ks)) ≡ Some m → enter c d k q s f ≡ possessive_path c.setting m s (past c d k q) f (k.hand q)
+    enter_possessive ks e m only = atomic_row ks e (Some m) only
+
+    pub enter_atomic : (ks : List ℕ) → n ≡ node.Atomic ks → only_many (row (map (tree_at c.trees) ks)) ≡ None → enter c d k q s f
+        ≡ pause (holding c.setting 1 s (λ t. branch_paths c.setting (part_paths c d ks) t (λ how u e. leave c.setting s how u (past c d k q) f) (pause f) (k.hand q)))
+    enter_atomic ks e none =
+        atomic_row ks e None none
         ∙ ap (λ (xs : List Path). pause (holding c.setting 1 s (λ t. branch_paths c.setting xs t (λ how u e. leave c.setting s how u (past c d k q) f) (pause f) (k.hand q)))) (row_deep d z ks deep)
 
     -- the branches of a lookaround

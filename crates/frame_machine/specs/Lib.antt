@@ -11,6 +11,7 @@ pub mod Passing
 pub mod Conditions
 pub mod Calls
 pub mod Stops
+pub mod Possessive
 pub mod Scratch
 pub mod Answer
 pub mod Ready

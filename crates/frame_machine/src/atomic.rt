@@ -1,17 +1,20 @@
 //! Atomic groups (pcre2pattern, "Atomic grouping and possessive quantifiers").
-ghost use Rattle.std.specs.Prelude.{◌≡◌, ◌≤◌, ◌+◌, max, IfOk, IfErr, Some, reverse, slice_get};
+ghost use Rattle.std.specs.Prelude.{◌≡◌, ◌≤◌, ◌+◌, max, IfOk, IfErr, None, Some, map, reverse, slice_get};
 ghost use Rattle.pat_tree.specs.declared.nodes.Node.TheVariants as node;
+ghost use Rattle.pat_tree.specs.Nested.{row, tree_at};
 ghost use Rattle.frame_store.specs.Entry.{entries};
 ghost use Rattle.frame_machine.specs.Ground.{IsNode};
 ghost use Rattle.frame_machine.specs.Machine.{conf};
 ghost use Rattle.frame_machine.specs.Frames.{ahead};
 ghost use Rattle.frame_machine.specs.Validity.{IsValid, Advances};
 ghost use Rattle.ordered_search.specs.Moves.{tread};
+ghost use Rattle.ordered_search.specs.Paths.{only_many};
 ghost use Rattle.frame_machine.specs.Stops.{IsStop};
 
 use crate::enter::{first_branch, go_on};
 use crate::framing::{leave, open_frame};
 use crate::machine::{Next, Spot, Stop};
+use crate::possessive::{only_repeat, pass_possessive};
 use crate::searchable::Searchable;
 use frame_store::kinds::KIND_ATOMIC_OPEN;
 use frame_store::{Record, Registers, Store};
@@ -31,6 +34,37 @@ pub(crate) fn enter_atomic<S: Searchable>(
     ensures on { IfOk result (λ next. Advances (S.searched on.now) (conf (Next.Enter at) spot.old (entries store.old.records) registers.now) (conf next spot.new (entries store.new.records) registers.now)) }
     ensures stop { IfErr result (λ stop. IsStop stop spot.new registers.now (tread (S.searched on.now).setting spot.old.left (ahead (S.searched on.now) (conf (Next.Enter at) spot.old (entries store.old.records) registers.now)))) }
     ensures peak { store.new.peak ≤ max store.old.peak (S.searched on.now).setting.matching.frame_limit }
+{
+    match only_repeat(on, branches) {
+        None => open_atomic(on, at, branches, spot, store, registers),
+        Some(repeat) => pass_possessive(on, at, branches, &repeat, spot, store, registers),
+    }
+}
+
+/// Opens the frame of an atomic group, whose branches are not a repeat of one item alone.
+fn open_atomic<S: Searchable>(
+    on: &S,
+    at: u32,
+    branches: &Kids,
+    spot: &mut Spot,
+    store: &mut Store,
+    registers: &Registers,
+) -> Result<Next, Stop>
+    requires valid { IsValid (S.searched on.now)
+        (conf (Next.Enter at) spot.old (entries store.old.records) registers.now) }
+    requires node { IsNode (S.searched on.now) at (node.Atomic branches.now) }
+    requires other { only_many (row (map (tree_at (S.searched on.now).trees) branches.now)) ≡ None }
+    ensures on { IfOk result
+        (λ next. Advances (S.searched on.now)
+        (conf (Next.Enter at) spot.old (entries store.old.records) registers.now)
+        (conf next spot.new (entries store.new.records) registers.now)) }
+    ensures stop { IfErr result
+        (λ stop. IsStop stop spot.new registers.now
+        (tread (S.searched on.now).setting spot.old.left
+        (ahead (S.searched on.now)
+        (conf (Next.Enter at) spot.old (entries store.old.records) registers.now)))) }
+    ensures peak { store.new.peak
+        ≤ max store.old.peak (S.searched on.now).setting.matching.frame_limit }
 {
     if let Err(stop) = open_frame(on.unit_limit(), KIND_ATOMIC_OPEN, at, spot, store) {
         return Err(stop);

@@ -21,7 +21,7 @@ use frame_store::{Registers, Store};
 use pat_tree::{Item, Node};
 
 /// A maximum after so many.
-fn less(max: Option<u32>, count: u32) -> Option<u32>
+pub(crate) fn less(max: Option<u32>, count: u32) -> Option<u32>
     ensures { result ≡ less count max }
 {
     match max {

@@ -16,6 +16,7 @@ mod items;
 mod looks;
 mod machine;
 mod passing;
+mod possessive;
 mod ready;
 mod repeats;
 mod returns;

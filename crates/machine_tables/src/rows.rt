@@ -58,6 +58,56 @@ fn an_atomic_group_keeps_its_first_outcome(rt: HostRuntime) -> Result<(), Fail> 
     cases(&rt, rt.alloc(), &ROWS)
 }
 
+// To enter an atomic group over a repeat of one item and to leave it is a unit each, and its shorter runs, if there are
+// some, are one more. The run that is handed on is a Step.
+#[test]
+fn a_possessive_run_gives_nothing_back(rt: HostRuntime) -> Result<(), Fail> {
+    static ROWS: [Row; 26] = [
+        (b"a++ab", b"aaab", FAILED, &[]),
+        (b"a{1,2}+ab", b"aaab", found!(0, 4), &[]),
+        (b"a{1,2}+ab", b"aab", FAILED, &[]),
+        (b"a?+a", b"a", FAILED, &[]),
+        (b"a?+a", b"aa", found!(0, 2), &[]),
+        (b"(?>a+?)ab", b"aab", found!(0, 3), &[]),
+        (b"(?>a+?)b", b"aab", FAILED, &[]),
+        (b"a*+b", b"aaab", found!(0, 4), &[Steps(1), Units(3)]),
+        (b"a*+b", b"aaab", PlaceAnswer::FrameLimit, &[Units(2)]),
+        (b"a*+b", b"aaab", PlaceAnswer::MatchLimit, &[Steps(0)]),
+        (b"a++b", b"ab", found!(0, 2), &[Steps(1), Units(2)]),
+        (b"a++b", b"ab", PlaceAnswer::FrameLimit, &[Units(1)]),
+        (
+            b"a++b",
+            b"ab",
+            PlaceAnswer::MatchLimit,
+            &[Steps(0), Units(1)],
+        ),
+        (
+            b"a++b",
+            b"ab",
+            PlaceAnswer::FrameLimit,
+            &[Steps(0), Units(0)],
+        ),
+        (b"a++b", b"b", FAILED, &[Steps(0), Units(1)]),
+        (b"a++b", b"b", PlaceAnswer::FrameLimit, &[Units(0)]),
+        (b"(?>a+?)b", b"ab", found!(0, 2), &[Units(3)]),
+        (b"(?>a+?)b", b"ab", PlaceAnswer::FrameLimit, &[Units(2)]),
+        (b"(?>a{2,2}?)b", b"aab", found!(0, 3), &[Units(2)]),
+        (b"(a++)b", b"aab", found!(0, 3), &[Captured(0, 2)]),
+        (b"(?:x|a++|aab)c", b"aabc", found!(0, 4), &[]),
+        (b"(?:a++b)+", b"aabab", found!(0, 5), &[]),
+        (b"(?:a++b)+a", b"aabab", found!(0, 4), &[]),
+        (b"aa(?<=a{2}+)b", b"aab", found!(0, 3), &[]),
+        (b"(?=a++b)a", b"aab", found!(0, 1), &[]),
+        (
+            b"\"(?>[^\"\\\\]++|\\\\.)*+\"",
+            b"\"ab\\\"c\"d\"",
+            found!(0, 7),
+            &[],
+        ),
+    ];
+    cases(&rt, rt.alloc(), &ROWS)
+}
+
 // To enter a lookahead and to leave it is a unit each. One that keeps all its outcomes is left without one, and a negative
 // one leaves the units as they were.
 #[test]

@@ -17,7 +17,8 @@ use Rattle.ordered_search.specs.Parts.{Searches, in_order, choices, branches, ru
 use Rattle.ordered_search.specs.Run.{level, levels, run, levels_behind, level_test, level_other}
 use Rattle.ordered_search.specs.PlaceAnswer.{with_note, answers, decision, walk, place_answer}
 use Rattle.ordered_search.specs.Moves.{Moves, stops, pause, stepped, noted, found, exhaust, Follow, Handler, Path, before, catching, at_end, at_verbs, going, holding, reaching, tread}
-use Rattle.ordered_search.specs.Paths.{Paths, close, ref_path, anchor_path, offer_paths, offer_path, lazy_paths, many_paths, turned, turn_path, repeat_path, go_path, parts_path, choice_paths, branch_paths, path, row_paths, paths, try_path, ends_before, tries_path, behind_path, leave, atomic_path, look_path, tested_path, assert_path, choose_path, answered, behind_paths, test_path, other_path, pauses, returned, called_path, call_path}
+use Rattle.ordered_search.specs.Paths.{Paths, close, ref_path, anchor_path, offer_paths, offer_path, lazy_paths, many_paths, turned, turn_path, repeat_path, go_path, parts_path, choice_paths, branch_paths, path, row_paths, paths, try_path, ends_before, tries_path, behind_path, leave, Many, only_many, possessive_path, atomic_path, atomic_over, look_path, tested_path, assert_path, choose_path, answered, behind_paths, test_path, other_path, pauses, returned, called_path, call_path}
+use Rattle.ordered_search.proofs.Possessive.{only_is}
 
 unfoldable strip : Moves → Moves
 strip (stops e) = stops e
@@ -500,6 +501,33 @@ module _ (g : Setting) where
         ∙ sym (before_first (x t) (λ how u. hold g how (forget_passed s u)) l (strip f) j));
   }
 
+  -- it hands on the first place of a run
+  strip_possessive : (m : Many) (x : Search) → ((t : State) → x t ≡ run_many g m.item m.low m.high m.lazily t) → IsSearch (possessive_path g m) (run_atomic g x)
+  unfolding strip run_atomic
+  strip_possessive m x same = record {
+    is = λ s k l f h j e r.
+        let ends : Follow = λ how u y. holding g 1 (forget_passed s u) (λ v. k how v f) in
+        let end : Follow = λ how u y. before (hold g how (forget_passed s u)) l (strip f) j in
+        strip_holding 1 s (λ t. many_paths g m.item m.low m.high m.lazily (longest_run g.scene m.item m.high t.place) t ends f)
+        (λ t. decide no_ending (x t) (λ how u. hold g how (forget_passed s u)) nothing) l (strip f) j
+        (λ t.
+        strip_many m.item m.low m.high m.lazily t ends end f j
+        (record { same = λ how u y. strip_hold how (forget_passed s u) (λ v. k how v f) l (strip f) j (λ v. e.same how v f) })
+        ∙ ap (λ y. before y end (strip f) j) (sym (same t))
+        ∙ sym (before_first (x t) (λ how u. hold g how (forget_passed s u)) l (strip f) j));
+  }
+
+  strip_over : (o : Option Many) (p : Path) (x : Search) → IsSearch p x →
+      ((m : Many) → o ≡ Some m → (t : State) → x t ≡ run_many g m.item m.low m.high m.lazily t) → IsSearch (atomic_over g o p) (run_atomic g x)
+  strip_over None p x i same = record { is = (strip_atomic p x i).is }
+  strip_over (Some m) p x i same = record { is = (strip_possessive m x (same m refl)).is }
+
+  -- the only branch is run
+  only_search : (below : Searches) (ts : Row) (m : Many) → only_many ts ≡ Some m → (t : State) →
+      branches g (levels g below ts) t ≡ run_many g m.item m.low m.high m.lazily t
+  unfolding branches level
+  only_search below ts m e t = ap (λ us. branches g (levels g below us) t) (sym (only_is ts m e))
+
   strip_look : (positive once : Bool) (p : Path) (x : Search) → IsSearch p x → IsSearch (look_path g positive once p) (run_look g positive once x)
   unfolding before strip run_look look_path
   strip_look true true p x i = record {
@@ -650,8 +678,8 @@ module _ (g : Setting) where
       strip_path (tree.anchor kind) s k l f h j e r = strip_anchor kind s k l f j e
       strip_path tree.keep_out s k l f h j e r = e.same reached (record s { keep = s.place }) f
       strip_path (tree.atomic ts) s k l f h j e r =
-          (strip_atomic (branch_paths g (row_paths g d (paths g d) ts)) (branches g (levels g (run g d) ts))
-          (strip_branches (row_paths g d (paths g d) ts) (levels g (run g d) ts) (strip_row ts))).is s k l f h j e r
+          (strip_over (only_many ts) (branch_paths g (row_paths g d (paths g d) ts)) (branches g (levels g (run g d) ts))
+          (strip_branches (row_paths g d (paths g d) ts) (levels g (run g d) ts) (strip_row ts)) (only_search (run g d) ts)).is s k l f h j e r
       strip_path (tree.look true positive once ts) s k l f h j e r =
           (strip_look positive once (branch_paths g (row_paths g d (paths g d) ts)) (branches g (levels g (run g d) ts))
           (strip_branches (row_paths g d (paths g d) ts) (levels g (run g d) ts) (strip_row ts))).is s k l f h j e r

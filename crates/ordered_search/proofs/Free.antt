@@ -9,7 +9,7 @@ use Rattle.ordered_search.specs.Stream.{State, How, reached, accepted}
 use Rattle.ordered_search.specs.Setting.{Setting, branch_lengths}
 use Rattle.ordered_search.specs.Parts.{is_over, begun_at, back_to, some_set, is_called, is_called_of}
 use Rattle.ordered_search.specs.Moves.{Moves, pause, stepped, Follow, Handler, Path, catching, holding}
-use Rattle.ordered_search.specs.Paths.{Paths, close, turned, turn_path, repeat_path, go_path, parts_path, choice_paths, branch_paths, path, row_paths, paths, try_path, ends_before, tries_path, behind_path, leave, atomic_path, look_path, tested_path, assert_path, choose_path, behind_paths, test_path, other_path, call_path}
+use Rattle.ordered_search.specs.Paths.{Paths, close, turned, turn_path, repeat_path, go_path, parts_path, choice_paths, branch_paths, path, row_paths, paths, try_path, ends_before, tries_path, behind_path, leave, Many, only_many, atomic_path, atomic_over, look_path, tested_path, assert_path, choose_path, behind_paths, test_path, other_path, call_path}
 use Rattle.ordered_search.specs.Verbless.{IsVerbless, AreVerbless, IsVerblessTest, IsVerblessOther}
 
 pub record IsFree (p : Path) : Type 0 where
@@ -145,6 +145,10 @@ module _ (g : Setting) where
   free_atomic : (p : Path) → IsFree p → IsFree (atomic_path g p)
   free_atomic p i = record { same = λ s k f h j. ap pause (holding_same 1 s _ _ (λ t. i.same t (λ how u e. leave g s how u k f) (pause f) h j)) }
 
+  free_over : (o : Option Many) (p : Path) → IsFree p → IsFree (atomic_over g o p)
+  free_over None p i = record { same = (free_atomic p i).same }
+  free_over (Some m) p i = record { same = λ s k f h j. refl }
+
   free_look : (positive once : Bool) (p : Path) → IsFree p → IsFree (look_path g positive once p)
   unfolding look_path
   free_look true true p i = record {
@@ -202,7 +206,7 @@ module _ (g : Setting) where
       free_path (tree.repeat body low high lazily) b =
           free_repeat (paths g d) body (under body b) (λ m n z. under (tree.repeat body m n z) b) low high lazily
       free_path (tree.one_repeat item low high lazily) b = record { same = λ s k f h j. refl }
-      free_path (tree.atomic ts) b = record { same = (free_atomic (branch_paths g (row_paths g d (paths g d) ts)) (free_branches (row_paths g d (paths g d) ts) (free_row ts b))).same }
+      free_path (tree.atomic ts) b = record { same = (free_over (only_many ts) (branch_paths g (row_paths g d (paths g d) ts)) (free_branches (row_paths g d (paths g d) ts) (free_row ts b))).same }
       free_path (tree.look true positive once ts) b = record {
         same = (free_look positive once (branch_paths g (row_paths g d (paths g d) ts)) (free_branches (row_paths g d (paths g d) ts) (free_row ts b))).same;
       }

@@ -10,6 +10,7 @@ pub mod StartPlaces
 pub mod ForwardStreams
 pub mod ForwardSearch
 pub mod ForwardLaw
+pub mod Possessive
 pub mod Before
 pub mod Free
 pub mod Classes

@@ -70,6 +70,24 @@ abbrev pub called_path : Option Nested → Paths → Path
 called_path None below s k f h = f
 called_path (Some t) below s k f h = below t s k f h
 
+-- Possessive repeats.
+
+-- A repeat of one item.
+pub record Many : Type 0 where
+  pub item : Item
+  pub low : ℕ
+  pub high : Option ℕ
+  pub lazily : Bool
+
+abbrev pub many_in : Nested → Option Many
+many_in (tree.one_repeat item low high lazily) = Some (record { item = item; low = low; high = high; lazily = lazily })
+many_in _ = None
+
+-- the repeat of one item that is the only branch
+abbrev pub only_many : Row → Option Many
+only_many (tree.more t tree.none) = many_in t
+only_many _ = None
+
 -- Callouts.
 
 -- what a callout's answer does
@@ -184,6 +202,18 @@ module _ (g : Setting) where
   abbrev pub atomic_path : Path → Path
   atomic_path p s k f h = pause (holding g 1 s (λ t. p t (λ how u e. leave s how u k f) (pause f) h))
 
+  -- Over a repeat of one item: a place of its run is handed on, and its others are never left.
+  abbrev pub possessive_path : Many → Path
+  possessive_path m s k f h =
+      pause
+      (holding g 1 s
+      (λ t. many_paths m.item m.low m.high m.lazily (longest_run g.scene m.item m.high t.place) t
+      (λ how u e. holding g 1 (forget_passed s u) (λ v. k how v f)) f))
+
+  abbrev pub atomic_over : Option Many → Path → Path
+  atomic_over None p s k f h = atomic_path p s k f h
+  atomic_over (Some m) p s k f h = possessive_path m s k f h
+
   -- positive or negative, atomic or not
   unfoldable pub look_path : Bool → Bool → Path → Path
   look_path true true p s k f h =
@@ -244,7 +274,7 @@ module _ (g : Setting) where
       path (tree.ref ns caseless) s k f h = pause (ref_path ns caseless s k f)
       path (tree.anchor kind) s k f h = pause (anchor_path kind s k f)
       path tree.keep_out s k f h = pause (k reached (record s { keep = s.place }) f)
-      path (tree.atomic ts) s k f h = atomic_path (branch_paths (row_paths ts)) s k f h
+      path (tree.atomic ts) s k f h = atomic_over (only_many ts) (branch_paths (row_paths ts)) s k f h
       path (tree.look true positive once ts) s k f h = look_path positive once (branch_paths (row_paths ts)) s k f h
       path (tree.look false positive once ts) s k f h = look_path positive once (branch_paths (behind_paths ts)) s k f h
       path (tree.condition test first second) s k f h = test_path test (path first) (other_path second) s k f h
