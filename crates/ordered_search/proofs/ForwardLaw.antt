@@ -1,4 +1,4 @@
--- A search for a tree of the forms that are built gives a match in the subject, none, or a limit, and tells nothing else.
+-- A search for a tree of the forms that are built gives a match in the subject, none, a limit or a loop, and tells nothing else.
 use Rattle.std.proofs.Common.{◌≡◌, ℕ, zero, suc, ◌+◌, ◌-◌, ◌<◌, ◌≤◌, ◌≢◌, Bool, true, false, List, [], ◌++◌, length, Option, Some, None, refl, sym, subst, arith}
 use Rattle.std.specs.Prelude.{nat_le, IfSome}
 use Rattle.std.proofs.lemmas.List.{length-replicate}
@@ -22,6 +22,7 @@ module _ (g : Setting) (search : IsBuiltSearch g) where
   IsPlainPlace (Failed Exhausted) = Unit {0}
   IsPlainPlace MatchLimit = Unit {0}
   IsPlainPlace FrameLimit = Unit {0}
+  IsPlainPlace Loop = Unit {0}
   IsPlainPlace NoDepth = Unit {0}
   IsPlainPlace _ = ⊥
 
@@ -45,7 +46,7 @@ module _ (g : Setting) (search : IsBuiltSearch g) where
   plain_walk low p n (ends (by_verb v)) le h = absurd h
   plain_walk low p n (ends (by_halt is_partial)) le h = absurd h
   plain_walk low p n (ends (by_halt too_many_units)) le h = (tt, refl)
-  plain_walk low p n (ends (by_halt loop)) le h = absurd h
+  plain_walk low p n (ends (by_halt loop)) le h = (tt, refl)
   plain_walk low p n (ends (by_halt (abort m))) le h = absurd h
   plain_walk low p n (ends (by_halt cut)) le h = (tt, refl)
   plain_walk low p n (note k ▸ x) le h = absurd h
@@ -66,7 +67,7 @@ module _ (g : Setting) (search : IsBuiltSearch g) where
 
   plain_place : (p : ℕ) → g.start ≤ p → IsTextPlace g.options g.subject p → IsPlainWalk (place_answer g p)
   plain_place p le here =
-      plain_walk p p (match_limit g) _ le (forward_run g search.text search.off (match_limit g + 1) (Some p) g.whole search.built (first_state g.groups p) (begun_at p here))
+      plain_walk p p (match_limit g) _ le (forward_run g search.text search.off search.built (match_limit g + 1) (Some p) g.whole search.built (first_state g.groups p) (begun_at p here))
 
   not_cut : (p : ℕ) (b : Bool) → (elim b as (λ _. Walked) [ true ↦ answers (Failed Exhausted) | false ↦ place_answer g p ]).answer ≢ NoDepth
   not_cut p true = λ e. cc
@@ -92,7 +93,7 @@ module _ (g : Setting) (search : IsBuiltSearch g) where
   plain_answer p w later Partial h n e k = absurd h
   plain_answer p w later MatchLimit h n e k = record { answer = tt; notes = e }
   plain_answer p w later FrameLimit h n e k = record { answer = tt; notes = e }
-  plain_answer p w later Loop h n e k = absurd h
+  plain_answer p w later Loop h n e k = record { answer = tt; notes = e }
   plain_answer p w later (Abort m) h n e k = absurd h
   plain_answer p w later NoDepth h n e k = absurd (n refl)
 

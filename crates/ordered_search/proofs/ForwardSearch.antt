@@ -8,18 +8,20 @@ use Rattle.pat_tree.specs.declared.options.PartialMode.TheVariants.{Off}
 use Rattle.pat_tree.specs.Nested as tree
 use Rattle.pat_tree.specs.Nested.{Nested, Row, Test, Other, repeat}
 use Rattle.pat_tree.specs.Built.{IsBuilt, AreBuilt, IsBuiltTest, IsBuiltOther}
+use Rattle.pat_tree.specs.Groups.{group_of}
 use Rattle.pat_lengths.specs.Lengths.{SomeLengths}
 use Rattle.frame_store.specs.declared.registers.Span.{Span}
 use Rattle.frame_store.specs.Captures.{capture}
 use Rattle.match_items.specs.Items.{one_less, is_none_left, after_item, item_reaches, run_places, longest_run, place_before, places_back, break_len, after_ref, ref_reaches, holds, anchor_reaches}
 use Rattle.match_items.specs.Subjects.{IsText, IsTextPlace}
 use Rattle.match_items.proofs.TextGround.{places_stand}
-use Rattle.ordered_search.specs.Stream.{State, reached, Stream, Search, nothing, gives, no_ending, is_next_branch, fails_alone, fails_inside, captured, and_then, go_on}
+use Rattle.ordered_search.specs.Stream.{State, reached, Stream, Search, nothing, gives, no_ending, is_verb, is_next_branch, fails_alone, fails_inside, captured, changes, and_then, go_on}
 use Rattle.ordered_search.specs.Setting.{Setting, branch_lengths, held, hold, reach_if}
 use Rattle.ordered_search.specs.Tests.{move_to, goes_to, run_one, run_break, run_ref, run_anchor, offers, greedy, offer_and, reluctant, lazy_run, run_many}
-use Rattle.ordered_search.specs.Parts.{Searches, in_order, choices, branches, run_group, back_to, forget_passed, run_atomic, run_look, asserts, tests, some_set, is_called, is_called_of, begun_at, ends_at, one_try, tries, tries_within, run_behind, is_over, turn, run_repeat}
+use Rattle.ordered_search.specs.Parts.{Searches, in_order, choices, branches, run_group, back_to, forget_passed, run_atomic, run_look, asserts, tests, some_set, is_called, is_called_of, begun_at, ends_at, one_try, tries, tries_within, run_behind, is_over, turn, run_repeat, run_tree, is_active, returns, run_call}
 use Rattle.ordered_search.specs.Run.{level, levels, levels_behind, level_test, level_other, run}
-use Rattle.ordered_search.proofs.ForwardStreams.{IsOnWay, Forward, IsForward, forward_nothing, forward_gives, forward_step, forward_if, forward_less, forward_or_else, forward_each, forward_and_then, forward_catch, forward_decide, with_units, with_early, with_place, with_keep, with_capture, with_passed, loosened, with_return, each_inside, decide_inside, forward_held, forward_hold, forward_reach_if}
+use Rattle.ordered_search.proofs.BuiltGroups.{IsBuiltFound, group_built}
+use Rattle.ordered_search.proofs.ForwardStreams.{IsOnWay, Forward, IsForward, forward_nothing, forward_loop, forward_gives, forward_step, forward_if, forward_less, forward_or_else, forward_each, forward_and_then, forward_catch, forward_decide, with_units, with_early, with_place, with_keep, with_capture, with_passed, with_calls, with_returned, loosened, with_return, each_inside, decide_inside, forward_held, forward_hold, forward_reach_if}
 
 -- a place that is told is as far as what was taken
 told_far : (b : Bool) (p n q : ℕ) → elim b as (λ _. Option ℕ) [ true ↦ Some (p + n) | false ↦ None ] ≡ Some q → p ≤ q
@@ -258,6 +260,28 @@ module _ (g : Setting) (low : Option ℕ) (text : IsText g.options g.subject) (o
   forward_repeat below body zero None false h built s on =
       forward_or_else g low s.place _ _ (forward_turn below body zero None false h built s on) (forward_gives g low s.place s (omega arith) on)
 
+  -- Calls, which go a level deeper too.
+
+  forward_tree : (below : Searches) (o : Option Nested) → GoesBelow below → IsBuiltFound o → Goes (run_tree o below)
+  unfolding run_tree
+  forward_tree below None h built s on = forward_nothing g low s.place
+  forward_tree below (Some t) h built s on = h t built s on
+
+  forward_returns : (s u : State) → s.place ≤ u.place → IsOnWay g low s → IsOnWay g low u → Forward g low s.place (returns g s reached u)
+  unfolding returns
+  forward_returns s u le on on' =
+      forward_held g low s.place (changes u.caps s.caps) (record u { caps = s.caps; calls = s.calls }) (gives reached)
+      (forward_gives g low s.place _ le (with_returned g low s u _ on on'))
+
+  forward_call : (below : Searches) (n : ℕ) → GoesBelow below → IsBuilt g.whole → Goes (run_call g below n)
+  unfolding run_call
+  forward_call below n h built s on =
+      forward_step g low s.place _ (forward_if g low s.place (is_active n s.place s.calls) _ _ (forward_loop g low s.place)
+      (forward_held g low s.place 1 s _ (forward_catch g low s.place is_verb _
+      (forward_each g low s.place _ _
+      (forward_tree below (group_of g.whole n) h (group_built n g.whole built) _ (with_calls g low _ _ (with_units g low s _ on)))
+      (λ u le on'. forward_returns s u le on on')))))
+
 -- Branches of a lookbehind, which begin before its place.
 module _ (g : Setting) (text : IsText g.options g.subject) where
   back_between : (n p : ℕ) → Stands g p → AreBetween 0 (Stands g) (places_back g.scene n p)
@@ -306,7 +330,7 @@ module _ (g : Setting) (text : IsText g.options g.subject) where
           let between = between_reverse 0 (Stands g) _ (between_drop 0 (Stands g) a.least _ (back_between most s.place on.here)) in
           forward_if g None 0 (a.least == most) (one_try places f s) (tries g places f s) (roam_once places f h between s on) (roam_tries places f h between s on)
 
-module _ (g : Setting) (text : IsText g.options g.subject) (off : g.matching.«partial» ≡ Off) where
+module _ (g : Setting) (text : IsText g.options g.subject) (off : g.matching.«partial» ≡ Off) (all_built : IsBuilt g.whole) where
   module _ (below : Searches) (deeper : (low : Option ℕ) (t : Nested) → IsBuilt t → IsForward g low (below t)) where
     mutual
       unfolding level
@@ -324,7 +348,7 @@ module _ (g : Setting) (text : IsText g.options g.subject) (off : g.matching.«p
       forward_level low (tree.look false positive once ts) built s on = forward_look g low text off positive once _ (forward_branches g None text off false _ (roam_back ts built)) s on
       forward_level low (tree.condition test first second) built s on =
           forward_test low test _ _ built.0 (forward_level low first built.1) (forward_other low second built.2) s on
-      forward_level low (tree.call n) built s on = absurd built
+      forward_level low (tree.call n) built s on = forward_call g low text off below n (deeper low) all_built s on
       forward_level low (tree.ref ns caseless) built s on = forward_ref g low text off ns caseless s on
       forward_level low (tree.anchor kind) built s on = forward_anchor g low text off kind s on
       forward_level low tree.keep_out built s on = forward_gives g low s.place _ (omega arith) (with_keep g low s on)

@@ -39,7 +39,7 @@ module _ (g : Setting) (low : Option ℕ) where
   Forward p (ends (by_verb v)) = ⊥
   Forward p (ends (by_halt is_partial)) = ⊥
   Forward p (ends (by_halt too_many_units)) = Unit {0}
-  Forward p (ends (by_halt loop)) = ⊥
+  Forward p (ends (by_halt loop)) = Unit {0}
   Forward p (ends (by_halt (abort n))) = ⊥
   Forward p (ends (by_halt cut)) = Unit {0}
   Forward p (note k ▸ x) = ⊥
@@ -54,6 +54,10 @@ module _ (g : Setting) (low : Option ℕ) where
   pub forward_nothing : (p : ℕ) → Forward p nothing
   unfolding Forward
   forward_nothing p = tt
+
+  pub forward_loop : (p : ℕ) → Forward p (ends (by_halt loop))
+  unfolding Forward
+  forward_loop p = tt
 
   pub forward_gives : (p : ℕ) (s : State) → p ≤ s.place → IsOnWay s → Forward p (gives reached s)
   unfolding Forward
@@ -73,7 +77,7 @@ module _ (g : Setting) (low : Option ℕ) where
   forward_less p q (ends (by_verb v)) le h = absurd h
   forward_less p q (ends (by_halt is_partial)) le h = absurd h
   forward_less p q (ends (by_halt too_many_units)) le h = tt
-  forward_less p q (ends (by_halt loop)) le h = absurd h
+  forward_less p q (ends (by_halt loop)) le h = tt
   forward_less p q (ends (by_halt (abort n))) le h = absurd h
   forward_less p q (ends (by_halt cut)) le h = tt
   forward_less p q (note k ▸ x) le h = absurd h
@@ -146,6 +150,13 @@ module _ (g : Setting) (low : Option ℕ) where
   pub with_passed : (s : State) (ps : List (ℕ × ℕ)) → IsOnWay s → IsOnWay (record s { passed = ps })
   with_passed s ps on = record { kept = on.kept; here = on.here; caps = on.caps; groups = on.groups; no_mark = on.no_mark }
 
+  pub with_calls : (s : State) (calls : List (ℕ × ℕ)) → IsOnWay s → IsOnWay (record s { calls = calls })
+  with_calls s calls on = record { kept = on.kept; here = on.here; caps = on.caps; groups = on.groups; no_mark = on.no_mark }
+
+  -- back from a call, with the captures and the calls from before it
+  pub with_returned : (s u : State) (n : ℕ) → IsOnWay s → IsOnWay u → IsOnWay (record u { caps = s.caps; calls = s.calls; units = n })
+  with_returned s u n on on' = record { kept = on'.kept; here = on'.here; caps = on.caps; groups = on.groups; no_mark = on'.no_mark }
+
   -- Units and hits of the end.
 
   pub forward_held : (p k : ℕ) (s : State) (f : Search) → Forward p (f (record s { units = s.units + k })) → Forward p (held g k s f)
@@ -181,7 +192,7 @@ module _ (g : Setting) (low : Option ℕ) where
   forward_ending p (by_verb v) h = absurd h
   forward_ending p (by_halt is_partial) h = absurd h
   forward_ending p (by_halt too_many_units) h = tt
-  forward_ending p (by_halt loop) h = absurd h
+  forward_ending p (by_halt loop) h = tt
   forward_ending p (by_halt (abort n)) h = absurd h
   forward_ending p (by_halt cut) h = tt
 

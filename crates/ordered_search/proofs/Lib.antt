@@ -7,6 +7,7 @@ pub mod HitlessStreams
 pub mod Hitless
 pub mod NoPartial
 pub mod StartPlaces
+pub mod BuiltGroups
 pub mod ForwardStreams
 pub mod ForwardSearch
 pub mod ForwardLaw

@@ -5,7 +5,7 @@ use Rattle.pat_tree.specs.Built.{IsBuilt}
 use Rattle.match_items.specs.Subjects.{IsText, IsTextPlace}
 use Rattle.frame_store.specs.declared.registers.Span.{Span}
 use Rattle.ordered_search.specs.Setting.{Setting}
-use Rattle.ordered_search.specs.PlaceAnswer.{Outcome, MatchLimit, FrameLimit}
+use Rattle.ordered_search.specs.PlaceAnswer.{Outcome, MatchLimit, FrameLimit, Loop}
 use Rattle.ordered_search.specs.MatchAnswer.{MatchAnswer, Match, NoMatch, PartialFrom, Error, Found, match_answer}
 
 -- what a group captured, if anything, lies in the first n bytes
@@ -24,13 +24,14 @@ pub record IsPlaced (g : Setting) (o : Outcome) : Type 0 where
   pub groups : length o.caps ≡ g.groups
   pub no_mark : o.mark ≡ None
 
--- a match, none, or a limit
+-- a match, none, a limit, or a recursion at the same place
 abbrev pub IsPlain : Setting → MatchAnswer → Type 0
 IsPlain g (Match o) = IsPlaced g o
 IsPlain g NoMatch = Unit {0}
 IsPlain g (PartialFrom p) = ⊥
 IsPlain g (Error MatchLimit) = Unit {0}
 IsPlain g (Error FrameLimit) = Unit {0}
+IsPlain g (Error Loop) = Unit {0}
 IsPlain g (Error a) = ⊥
 
 -- nothing is told beside it: no name, no callout, no hit of the subject's end

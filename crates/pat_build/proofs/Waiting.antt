@@ -8,9 +8,9 @@ use Rattle.pat_tree.proofs.Growing.{stand_made}
 use Rattle.token_parts.specs.declared.fault.Fault.{Fault}
 use Rattle.token_parts.specs.declared.token.Token.{Token}
 use Rattle.token_parts.specs.declared.token.Target.{Target}
-use Rattle.token_parts.specs.declared.token.Token.TheVariants.{Quantifier, Reference, ClassStart, CondStart}
+use Rattle.token_parts.specs.declared.token.Token.TheVariants.{Quantifier, Reference, CallTo, ClassStart, CondStart}
 use Rattle.token_parts.specs.declared.token.QuantMode.{QuantMode}
-use Rattle.token_parts.specs.Tell.{fault}
+use Rattle.token_parts.specs.Tell.{fault, ◌>>=◌}
 use Rattle.pat_lex.specs.Tokens.{token_at}
 use Rattle.pat_build.specs.declared.error.ReadError.{ReadError}
 use Rattle.pat_build.specs.declared.error.ReadError.TheVariants.{Bad, Memory}
@@ -25,7 +25,7 @@ use Rattle.pat_build.specs.Classes.{class_spec}
 use Rattle.pat_build.specs.Groups.{IsWorded, asserted, named_by}
 use Rattle.token_parts.specs.declared.token.CondText.{CondText}
 use Rattle.token_parts.specs.declared.token.CondText.TheVariants.{Lookaround}
-use Rattle.pat_build.specs.Parts.{Assertion, Beginning, asserts, of_class, conditions, assertion}
+use Rattle.pat_build.specs.Parts.{Assertion, Beginning, asserts, of_class, is_number, number_called, called, calls, conditions, assertion}
 use Rattle.pat_build.specs.Stack.{with_part, resume, IsPlain}
 use Rattle.pat_build.specs.Machine.{Adds, Refuses, IsAtom, atom_tree, state_of, known_of, whole_of, left, Means, IsNext, Ready, Begins, asserting_from, ids_of, ids_waiting, ids_in, ids_held}
 use Rattle.pat_build.proofs.Steps.{step_flush, step_bad, step_fault, step_fault_waiting}
@@ -138,6 +138,21 @@ module _ (m : Machine) (means : Means m) where
   pub refers_refuse : (target : Target) (after : ℕ) (e : ReadError) → Ready (Reference target) after m → Refuses (named_by (known_of m) m.text.now (state_of m) target) e → Refuses (whole_of m) e
   refers_refuse target after (Bad number at) ready h = bad_means (Reference target) after _ ready (λ n k. rw h refl)
   refers_refuse target after Memory ready h = tt
+
+  -- and a call's
+  pub calls_refuse : (target : Target) (after : ℕ) (e : ReadError) → Ready (CallTo target) after m → Refuses (named_by (known_of m) m.text.now (state_of m) target) e → Refuses (whole_of m) e
+  unfolding calls
+  calls_refuse target after (Bad number at) ready h = bad_means (CallTo target) after _ ready (λ n k. rw h refl)
+  calls_refuse target after Memory ready h = tt
+
+  -- what begins there
+  pub calls_fit : (target : Target) (after : ℕ) (groups : List ℕ) (number : Option ℕ) → named_by (known_of m) m.text.now (state_of m) target ≡ Ok groups →
+      number ≡ number_called (is_number target) groups →
+      Begins m (CallTo target) after (Ok (called (state_of m) (record (state_of m) { at = after }) groups number))
+  unfolding calls
+  calls_fit target after groups number h is n k =
+      let next = record (state_of m) { at = after } in
+      ap (λ r. r >>= λ gs. Ok (called (state_of m) next gs (number_called (is_number target) gs))) h ∙ ap (λ o. Ok (called (state_of m) next groups o)) (sym is)
 
   -- the fault of a conditional group's test
   pub condition_refuses : (cond : CondText) (from to after : ℕ) (e : ReadError) → IsWorded cond → Ready (CondStart cond from to) after m →

@@ -10,7 +10,7 @@ use Rattle.pat_tree.specs.declared.names.NameEntry.{NameEntry}
 use Rattle.pat_tree.specs.Nested.{Nested, Test, none, one, look, repeat, any_set, in_call, in_call_of, tree_at, trees}
 use Rattle.pat_tree.specs.Parts.{DraftParts, TreeParts}
 use Rattle.pat_tree.specs.Pattern.{pattern_of}
-use Rattle.pat_tree.specs.Refs.{refs, has_group, named_in}
+use Rattle.pat_tree.specs.Refs.{refs, has_group, beside_whole, named_in}
 use Rattle.pat_tree.specs.Rules.{class_in, is_test}
 use Rattle.pat_tree.specs.Growing.{Stand, loose}
 use Rattle.pat_tree.specs.Closing.{StandInTurn}
@@ -45,10 +45,11 @@ use Rattle.pat_build.specs.Parts.{Beginning, inside, asserts, once_more, repeat_
 use Rattle.pat_build.specs.Reading.{Parsed, reading, checked}
 use Rattle.pat_build.specs.Stack.{Layer, Opened, Waiting, resume}
 
--- the references, lookarounds and conditions among the nodes, in the order of adding
+-- the references, calls, lookarounds and conditions among the nodes, in the order of adding
 abbrev pub reference_in : Placed → List Reference
 reference_in p = elim (p.node) [
   | node.Ref groups caseless ↦ record { at = p.at; groups = groups } ∷ []
+  | node.Call n ↦ record { at = p.at; groups = beside_whole (n ∷ []) } ∷ []
   | node.Look ahead positive once branches ↦ record { at = p.at; groups = [] } ∷ []
   | node.Cond test yes' no' ↦ record { at = p.at; groups = named_in test } ∷ []
   | _ ↦ []
@@ -71,7 +72,7 @@ abbrev pub is_number : Option ℕ → ℕ → Bool
 is_number None n = false
 is_number (Some m) n = m == n
 
--- The draft has more nodes, among which no capturing group, reference, lookaround and condition is.
+-- The draft has more nodes, among which no capturing group, reference, call, lookaround and condition is.
 pub record Adds (old new : DraftParts) : Type 0 where
   pub options : new.options ≡ old.options
   pub classes : new.classes ≡ old.classes

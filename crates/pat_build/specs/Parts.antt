@@ -1,5 +1,5 @@
 -- What each token begins, outside classes.
-use Rattle.std.specs.Prelude.{ℕ, ◌+◌, min, Bool, true, false, not, List, [], ◌∷◌, ◌++◌, length, nat_le, Option, Some, None, Result, Ok, Err, slice_range, if◌then◌else◌}
+use Rattle.std.specs.Prelude.{ℕ, zero, suc, ◌+◌, min, Bool, true, false, not, List, [], ◌∷◌, ◌++◌, length, nat_le, Option, Some, None, Result, Ok, Err, slice_range, if◌then◌else◌}
 use Rattle.pat_tree.specs.declared.nodes.Item.TheVariants as item
 use Rattle.pat_tree.specs.declared.nodes.AnchorKind.{AnchorKind}
 use Rattle.pat_tree.specs.declared.nodes.AnchorKind.TheVariants as kind
@@ -7,7 +7,8 @@ use Rattle.pat_tree.specs.declared.nodes.Part.{Part}
 use Rattle.pat_tree.specs.declared.nodes.Part.TheVariants as part
 use Rattle.pat_tree.specs.declared.nodes.ClassSpec.{ClassSpec}
 use Rattle.pat_tree.specs.declared.names.NameEntry.{NameEntry}
-use Rattle.pat_tree.specs.Nested.{Nested, empty, one, line_break, seq, repeat, one_repeat, atomic, look, ref, anchor, keep_out, row}
+use Rattle.pat_tree.specs.Nested.{Nested, empty, one, line_break, seq, repeat, one_repeat, atomic, look, call, ref, anchor, keep_out, row}
+use Rattle.pat_tree.specs.Refs.{beside_whole}
 use Rattle.token_parts.specs.declared.fault.Fault.{Fault}
 use Rattle.token_parts.specs.declared.token.OpenKind.{OpenKind}
 use Rattle.token_parts.specs.declared.token.OpenKind.TheVariants as opening
@@ -15,6 +16,8 @@ use Rattle.token_parts.specs.declared.token.CondText.{CondText}
 use Rattle.token_parts.specs.declared.token.CondText.TheVariants as tested
 use Rattle.token_parts.specs.declared.token.QuantMode.{QuantMode}
 use Rattle.token_parts.specs.declared.token.QuantMode.TheVariants.{Greedy, Lazy, Possessive}
+use Rattle.token_parts.specs.declared.token.Target.{Target}
+use Rattle.token_parts.specs.declared.token.Target.TheVariants.{Number}
 use Rattle.token_parts.specs.declared.token.Token.{Token}
 use Rattle.token_parts.specs.declared.token.Token.TheVariants as token
 use Rattle.token_parts.specs.Tell.{fault, ◌>>=◌}
@@ -97,6 +100,32 @@ abbrev pub with_reference : State → State → List ℕ → Beginning
 with_reference st next groups =
     atom (ref groups st.options.caseless) (record next { references = st.references ++ record { at = st.at; groups = groups } ∷ [] })
 
+-- a call of a group ("Recursive patterns", "Groups as subroutines")
+abbrev pub with_call : State → State → ℕ → Beginning
+with_call st next n =
+    atom (call n) (record next { references = st.references ++ record { at = st.at; groups = beside_whole (n ∷ []) } ∷ [] })
+
+abbrev pub is_number : Target → Bool
+is_number (Number n) = true
+is_number _ = false
+
+-- The group that is called, the first of those of a name. The whole pattern is called by its number 0 alone: a name or a
+-- relative number that gives 0 names no group.
+abbrev pub number_called : Bool → List ℕ → Option ℕ
+number_called by_number [] = None
+number_called true (n ∷ ns) = Some n
+number_called false (zero ∷ ns) = None
+number_called false (suc n ∷ ns) = Some (suc n)
+
+-- A call that names no group is told as such a reference is.
+abbrev pub called : State → State → List ℕ → Option ℕ → Beginning
+called st next groups None = with_reference st next groups
+called st next groups (Some n) = with_call st next n
+
+unfoldable pub calls : List NameEntry → List ℕ → State → Target → State → Result Beginning Fault
+calls known text st target next =
+    named_by known text st target >>= λ groups. Ok (called st next groups (number_called (is_number target) groups))
+
 -- a conditional group, the text of whose test is given
 unfoldable pub conditions : List NameEntry → List ℕ → State → CondText → List ℕ → State → Result Beginning Fault
 conditions known text st cond word next =
@@ -165,6 +194,8 @@ module _ (known : List NameEntry) (text : List ℕ) where
   beginning n st token.KeepOut next = if st.looking then fault 199 st.at else Ok (bare keep_out next)
   -- references
   beginning n st (token.Reference target) next = named_by known text st target >>= λ groups. Ok (with_reference st next groups)
+  -- calls
+  beginning n st (token.CallTo target) next = calls known text st target next
   -- groups
   beginning n st (token.Open opening.Capture) next = enters (if st.options.no_auto_capture then opened st (grouped None) next else captured st next)
   beginning n st (token.Open opening.Plain) next = enters (opened st (grouped None) next)
@@ -183,5 +214,5 @@ module _ (known : List NameEntry) (text : List ℕ) where
   -- a quantifier without an atom, and a start item that isn't at the start
   beginning n st (token.Quantifier low high mode) next = fault 109 st.at
   beginning n st (token.Start item) next = fault 160 st.at
-  -- Left out: properties; calls and verbs; callouts.
+  -- Left out: properties; verbs; callouts.
   beginning n st _ next = fault 195 st.at

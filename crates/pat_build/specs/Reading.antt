@@ -124,7 +124,7 @@ pub record Parsed : Type 0 where
   pub open pattern use *
   -- in the order of the table
   pub names : List NameEntry
-  -- where the references, lookarounds and conditions stand, in the order in which they end
+  -- where the references, calls, lookarounds and conditions stand, in the order in which they end
   pub places : List ℕ
 
 -- under LITERAL each byte is a character
@@ -141,7 +141,7 @@ literally options text = record {
   places = [];
 }
 
--- No test may ask for a call of a group whose number is too big, and the references of what was read must name groups.
+-- No test may ask for a call of a group whose number is too big, and the references and calls of what was read must name groups.
 abbrev pub checked : Options → Option ℕ → Option ℕ → Nested → State → Result Parsed Fault
 checked options (Some beyond) bad tree last = fault 161 beyond
 checked options None (Some at) tree last = fault 115 at

@@ -4,7 +4,7 @@ use Rattle.pat_tree.specs.declared.options.Options.{Options}
 use Rattle.pat_tree.specs.Built.{IsBuilt, IsPlain}
 use Rattle.pat_build.specs.Reading.{Parsed, read}
 
--- The tree has no condition, call, verb and callout. Neither UTF nor UCP is set, and no set of a class asks for
+-- The tree has no verb and callout. Neither UTF nor UCP is set, and no set of a class asks for
 -- a property or goes by UCP.
 pub record IsSearchable (parsed : Parsed) : Type 0 where
   pub built : IsBuilt parsed.tree

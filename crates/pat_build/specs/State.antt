@@ -12,7 +12,7 @@ use Rattle.pat_lex.specs.Tokens.{token_at}
 use Rattle.pat_build.specs.declared.machine.Bars.{Bars}
 use Rattle.pat_build.specs.declared.machine.Numbering.{Numbering}
 
--- a reference, a lookaround or a condition: its place, and the groups that it names, which are none for a lookaround
+-- a reference, a call, a lookaround or a condition: its place, and the groups that it names, which are none for a lookaround
 pub record Reference : Type 0 where
   pub at : ℕ
   pub groups : List ℕ
@@ -38,7 +38,7 @@ pub record State : Type 0 where
   pub classes : List ClassSpec
   -- the names that were given, in the order of the table of names
   pub names : List NameEntry
-  -- the references, lookarounds and conditions that were read, in the order in which they end
+  -- the references, calls, lookarounds and conditions that were read, in the order in which they end
   pub references : List Reference
   -- the first test of a call whose number no group can have
   pub beyond : Option ℕ

@@ -2,6 +2,7 @@
 #![tactic(auto)]
 
 mod brackets;
+mod calls;
 mod cursor;
 mod error;
 mod handlers;

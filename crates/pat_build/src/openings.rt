@@ -352,9 +352,9 @@ impl<'a> Machine<'a> {
         Ok(())
     }
 
-    /// The groups that a reference names, by the names of the whole pattern.
+    /// The groups that a reference or a call names, by the names of the whole pattern.
     #[tactic(auto, unfolding(crate::specs::Groups::named_by))]
-    fn named_by(&self, target: Target) -> Result<GroupList, ReadError>
+    pub(crate) fn named_by(&self, target: Target) -> Result<GroupList, ReadError>
         requires target { IsTarget self.now.text.now target }
         ensures ok { IfOk result (λ groups. named_by (known_of self.now) self.now.text.now (state_of self.now) target ≡ Ok groups) }
         ensures some { IfOk result (λ groups. 0 < length groups) }

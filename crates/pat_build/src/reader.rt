@@ -191,8 +191,8 @@ fn is_left_out(options: &Options) -> bool
 ///
 /// `Bad` has the number and the place of the fault that the definition tells: first 120 for a pattern that is longer and
 /// 195 for UTF, UCP and AUTO_CALLOUT, at 0; then the first fault from the left; then 161 at the first test of a call of
-/// a group past 65,535; last 115 at the leftmost reference or test that names no group. Want of memory may come at any
-/// pattern.
+/// a group past 65,535; last 115 at the leftmost reference, call or test that names no group. Want of memory may come at
+/// any pattern.
 pub fn read(alloc: Global, text: &[u8], options: Options) -> Result<Tree, ReadError>
     ensures ok { IfOk result (λ tree. read options text.now ≡ Ok (parsed_of tree)) }
     ensures under { IfOk result (λ tree. AllUnder tree.nodes tree.root) }

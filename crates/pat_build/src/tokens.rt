@@ -168,6 +168,7 @@ impl<'a> Machine<'a> {
             | Token::Boundary { .. } => Ok(self.assertion(token, after)?),
             Token::ClassStart { negated } => self.class_start(negated, after),
             Token::Reference(target) => self.refer(target, after),
+            Token::CallTo(target) => self.call(target, after),
             Token::Open(kind) => self.open(kind, after),
             Token::OptionSet {
                 reset,

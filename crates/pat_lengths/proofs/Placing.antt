@@ -163,7 +163,7 @@ module _ (nodes : List Placed) where
   node_found (node.Atomic branches) at places c h later = row_found branches places c later
   node_found (node.Look ahead positive once branches) at places c h later = ap (looked ahead (row (map kid branches))) (row_found branches places c (at ∷ later))
   node_found (node.Cond test one second) at places c h later = condition_found test one second at places c h later
-  node_found (node.Call n) at places c h later = nothing at places later c
+  node_found (node.Call n) at places c h later = ap (λ (l : List ℕ). let f : Found = ([], others (l ++ at ∷ later)) in f) c
   node_found (node.Ref groups caseless) at places c h later = ap (λ (l : List ℕ). let f : Found = ([], others (l ++ at ∷ later)) in f) c
   node_found (node.Anchor kind) at places c h later = nothing at places later c
   node_found node.KeepOut at places c h later = nothing at places later c

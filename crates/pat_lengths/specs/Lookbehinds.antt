@@ -43,8 +43,8 @@ abbrev pub looked : Bool → Row → Found → Found
 looked ahead branches inner = (behind_at ahead (place_of inner.1) branches ++ inner.0, others inner.1)
 
 unfoldable mutual
-  -- The lookbehinds of a tree, where these are the places of its references, lookarounds and conditions, in the order in
-  -- which they end, and then those of what comes after it.
+  -- The lookbehinds of a tree, where these are the places of its references, calls, lookarounds and conditions, in the
+  -- order in which they end, and then those of what comes after it.
   pub found_in : Nested → List ℕ → Found
   found_in empty places = ([], places)
   found_in (one item) places = ([], places)
@@ -57,7 +57,7 @@ unfoldable mutual
   found_in (look ahead positive once ts) places = looked ahead ts (found_in_row ts places)
   found_in (condition test first second) places =
       and_then (and_then (and_then (found_in_test test places) (found_in first)) (found_in_other second)) (λ left. ([], others left))
-  found_in (call n) places = ([], places)
+  found_in (call n) places = ([], others places)
   found_in (ref ns caseless) places = ([], others places)
   found_in (anchor a) places = ([], places)
   found_in keep_out places = ([], places)
@@ -95,10 +95,11 @@ module _ (unset_matches : Bool) (whole : Nested) where
   first_refused [] = None
   first_refused (b ∷ bs) = option_or (fault_of_branches b.at b.branches) (first_refused bs)
 
--- the place of a node that is a reference, a lookaround or a condition
+-- the place of a node that is a reference, a call, a lookaround or a condition
 abbrev pub place_in : Placed → List ℕ
 place_in p = elim (p.node) [
   | node.Ref groups caseless ↦ p.at ∷ []
+  | node.Call n ↦ p.at ∷ []
   | node.Look ahead positive once branches ↦ p.at ∷ []
   | node.Cond test yes' no' ↦ p.at ∷ []
   | _ ↦ []

@@ -1,4 +1,4 @@
--- The patterns that are told about and searched: without calls, verbs and callouts.
+-- The patterns that are told about and searched: without verbs and callouts.
 -- No class asks for a property of Unicode, and `\b` and `\B` go by the word characters of ASCII.
 use Rattle.std.specs.Prelude.{Bool, true, false, not, IsTrue, All}
 use Rattle.pat_tree.specs.declared.nodes.AnchorKind.{AnchorKind}
@@ -28,7 +28,7 @@ abbrev mutual
   IsBuilt (tree.atomic ts) = AreBuilt ts
   IsBuilt (tree.look ahead positive once ts) = AreBuilt ts
   IsBuilt (tree.condition test first second) = IsBuiltTest test × IsBuilt first × IsBuiltOther second
-  IsBuilt (tree.call n) = ⊥
+  IsBuilt (tree.call n) = Unit {0}
   IsBuilt (tree.ref ns caseless) = Unit {0}
   IsBuilt (tree.anchor kind) = IsTrue (is_plain_anchor kind)
   IsBuilt tree.keep_out = Unit {0}

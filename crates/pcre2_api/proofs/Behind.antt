@@ -27,6 +27,7 @@ use Rattle.pcre2_api.specs.Patterns.{fault_behind, unless_refused, compiled}
 
 place_is : (n : Node) (at : ℕ) → map (λ r. r.at) (reference_in (record { node = n; at = at })) ≡ place_in (record { node = n; at = at })
 place_is (node.Ref groups caseless) at = refl
+place_is (node.Call n) at = refl
 place_is (node.Look ahead positive once branches) at = refl
 place_is (node.Cond test yes' no') at = refl
 place_is _ at = refl

@@ -51,7 +51,7 @@ module _ (code : CodeParts) (matching : MatchOptions) (subject : List ℕ) (star
   answer-error (told.Partial from to mark) is = absurd is
   answer-error told.MatchLimit is = within is.0 ∙ ap answer_of is.1
   answer-error told.FrameLimit is = within is.0 ∙ ap answer_of is.1
-  answer-error told.RecurseLoop is = absurd is
+  answer-error told.RecurseLoop is = within is.0 ∙ ap answer_of is.1
   answer-error (told.Callout n) is = absurd is
   answer-error told.Memory is = tt
 

@@ -46,8 +46,7 @@ pub record IsFound (g : Setting) (f : MatchParts) : Type 0 where
   pub admitted : IsAdmitted g f.outcome
 
 -- Why there is no match: each refusal has its cause. Of a subject of bytes, without partial matching, for the forms that are
--- built there is no fault of UTF, no partial match, no loop of calls, no callout and no mark. Want of memory may come at
--- any time.
+-- built there is no fault of UTF, no partial match, no callout and no mark. Want of memory may come at any time.
 abbrev pub IsMatchError : Setting → MatchError → Type 0
 IsMatchError g told.BadOffset = length g.subject < g.start
 IsMatchError g (told.BadUtf at) = ⊥
@@ -56,6 +55,6 @@ IsMatchError g (told.NoMatch mark) = (g.start ≤ length g.subject) × ((match_a
 IsMatchError g (told.Partial start end mark) = ⊥
 IsMatchError g told.MatchLimit = (g.start ≤ length g.subject) × ((match_answer g).answer ≡ meant.Error place.MatchLimit)
 IsMatchError g told.FrameLimit = (g.start ≤ length g.subject) × ((match_answer g).answer ≡ meant.Error place.FrameLimit)
-IsMatchError g told.RecurseLoop = ⊥
+IsMatchError g told.RecurseLoop = (g.start ≤ length g.subject) × ((match_answer g).answer ≡ meant.Error place.Loop)
 IsMatchError g (told.Callout n) = ⊥
 IsMatchError g told.Memory = Unit {0}

@@ -374,7 +374,7 @@ fn patterns_are_refused_at_their_faults(rt: HostRuntime) -> Result<(), Fail> {
         (b"(?<n>a)(?<n>b)", 143, 7),
         (b"a**", 109, 2),
         (b"(a)\\2", 115, 3),
-        (b"x(?R)", 195, 1),
+        (b"x(*F)", 195, 1),
         (b"a)", 122, 1),
         (b"[a", 106, 2),
     ];
@@ -384,7 +384,10 @@ fn patterns_are_refused_at_their_faults(rt: HostRuntime) -> Result<(), Fail> {
 // The answers of the C library, 10.42.
 #[test]
 fn lookbehinds_are_refused_at_their_parentheses(rt: HostRuntime) -> Result<(), Fail> {
-    static ROWS: [Refusal; 19] = [
+    static ROWS: [Refusal; 22] = [
+        (b"(?<=(?1))(a+)", 125, 0),
+        (b"a(?<!(?1))b(c|dd)", 125, 1),
+        (b"(a)(?1)\\1(?<=b+)c", 125, 9),
         (b"(?<=a+)b", 125, 0),
         (b"(?<=ab|c*)d", 125, 0),
         (b"(?<=a|b{2}|c?)d", 125, 0),

@@ -294,13 +294,7 @@ fn what_is_not_built(rt: HostRuntime) {
 
 #[test]
 fn what_is_not_built_or_left_out(rt: HostRuntime) {
-    static ROWS: [(&'static str, i32, usize); 24] = [
-        ("a(?R)", 195, 1),
-        ("(a)(?1)", 195, 3),
-        ("(?<n>a)(?&n)", 195, 7),
-        ("(?<n>a)(?P>n)", 195, 7),
-        (r"(a)\g<1>", 195, 3),
-        (r"\g'n'(?<n>a)", 195, 0),
+    static ROWS: [(&'static str, i32, usize); 18] = [
         ("a(*ACCEPT)", 195, 1),
         ("(*F)", 195, 0),
         ("(*:n)a", 195, 0),
@@ -443,7 +437,7 @@ fn the_first_fault(rt: HostRuntime) {
         ("(?#", 118, 3),
         ("((?#a", 118, 5),
         (r"a(?<=b)\1", 115, 7),
-        (r"\2(a)(?|a)(?R)", 195, 10),
+        (r"\2(a)(?|a)(*F)", 195, 10),
         (r"\y[z-a]", 103, 0),
     ];
     are_refused(&rt, rt.alloc(), &ROWS);

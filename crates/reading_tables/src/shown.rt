@@ -149,6 +149,7 @@ fn node_text(alloc: Global, tree: &Tree, node: &Node, texts: &[String]) -> Resul
             item_text(&mut text, tree, item)?;
             bounds(&mut text, *min, *max, *lazy)?;
         }
+        Node::Call { group } => write!(text, "@{group}")?,
         Node::Ref { groups, caseless } => reference(&mut text, groups, *caseless)?,
         Node::Anchor(kind) => text.push_str(anchor(*kind))?,
         Node::KeepOut => text.push_str("\\K")?,

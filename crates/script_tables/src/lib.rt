@@ -2,6 +2,8 @@
 #![tactic(auto)]
 
 #[cfg(test)]
+mod calls;
+#[cfg(test)]
 mod cut_off;
 #[cfg(test)]
 mod defaults;
@@ -9,6 +11,8 @@ mod defaults;
 mod escapes;
 #[cfg(test)]
 mod global;
+#[cfg(test)]
+mod grammars;
 #[cfg(test)]
 mod limits;
 #[cfg(test)]

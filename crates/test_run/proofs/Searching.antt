@@ -64,7 +64,7 @@ module _ (code : CodeParts) (matching : MatchOptions) (subject : List ℕ) (star
   text-error (told.Partial from to mark) r old new is comes w = absurd is
   text-error told.MatchLimit r old new is comes w = writes-equal (sym (ap (answer_text subject) (within code matching subject start is.0 ∙ ap answer_of is.1))) w
   text-error told.FrameLimit r old new is comes w = writes-equal (sym (ap (answer_text subject) (within code matching subject start is.0 ∙ ap answer_of is.1))) w
-  text-error told.RecurseLoop r old new is comes w = absurd is
+  text-error told.RecurseLoop r old new is comes w = writes-equal (sym (ap (answer_text subject) (within code matching subject start is.0 ∙ ap answer_of is.1))) w
   text-error (told.Callout n) r old new is comes w = absurd is
   text-error told.Memory (Ok s) old new is comes w = absurd comes
   text-error told.Memory (Err f) old new is comes w = writes-first {A = Search} [] said old new f w
@@ -86,7 +86,7 @@ module _ (code : CodeParts) (matching : MatchOptions) (subject : List ℕ) (star
   told-so (told.Partial from to mark) s is same = absurd is
   told-so told.MatchLimit s is same = told-failed s told.MatchLimit same (within code matching subject start is.0 ∙ ap answer_of is.1)
   told-so told.FrameLimit s is same = told-failed s told.FrameLimit same (within code matching subject start is.0 ∙ ap answer_of is.1)
-  told-so told.RecurseLoop s is same = absurd is
+  told-so told.RecurseLoop s is same = told-failed s told.RecurseLoop same (within code matching subject start is.0 ∙ ap answer_of is.1)
   told-so (told.Callout n) s is same = absurd is
   told-so told.Memory s is same = absurd same
 

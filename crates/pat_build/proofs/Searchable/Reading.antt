@@ -23,11 +23,12 @@ use Rattle.pat_build.specs.State.{State, Reads, Item, item, next, passed_over}
 use Rattle.pat_build.specs.Options.{with_setting, with_item}
 use Rattle.pat_build.specs.declared.machine.Numbering.TheVariants.{Reset}
 use Rattle.std.specs.List.{list_any}
+use Rattle.token_parts.specs.declared.token.Target.{Target}
 use Rattle.token_parts.specs.declared.token.Target.TheVariants.{Number}
 use Rattle.token_parts.specs.declared.token.CondText.{CondText}
 use Rattle.token_parts.specs.declared.token.CondText.TheVariants as tested
 use Rattle.pat_build.specs.Groups.{Form, grouped, atomically, looks, conditional, defines, asserted, asserting, branched, barred, restarted, groups_after, has_name, is_elsewhere, is_other, unless_named, called_by, form_in, beyond_after, built, noted, Opening, Opens, opened, captured, named, reset, named_by, missing}
-use Rattle.pat_build.specs.Parts.{alternative, repeat_of, repeated, Beginning, atom, bare, inside, asserts, nothing, over, enters, Assertion, asserted_by, settled, assertion, assertions, of_class, type_class, any_or_line, boundary, conditions, beginning}
+use Rattle.pat_build.specs.Parts.{alternative, repeat_of, repeated, Beginning, atom, bare, inside, asserts, nothing, over, enters, Assertion, asserted_by, settled, assertion, assertions, of_class, type_class, any_or_line, boundary, is_number, number_called, called, calls, conditions, beginning}
 use Rattle.pat_build.specs.Reading.{quantified, closed, part_then, parts_from, alternatives_from, sequence, alternatives, whole, started, start, reading, literally, checked, read_from, read}
 use Rattle.pat_build.specs.Searchable.{IsSearchable, SearchableLaw}
 use Rattle.pat_build.proofs.Holding.{Holds, holds_ok, holds_err, holds_then, holds_if, holds_where, holds_any, holds_of}
@@ -206,6 +207,16 @@ assertions_begin text n st h after k =
     (λ a m. holds_then GroupKeeps Begins _ _ (opened_keeps a.2 m.0 (asserted a.0 a.1) a.3 tt m.1)
     (λ t p. holds_ok Begins (asserts g.0 t.0 t.1) (l.0, p.0, p.1))))
 
+called_begins : (st after : State) (groups : List ℕ) (number : Option ℕ) → Keeps after → Begins (called st after groups number)
+called_begins st after groups None k = (tt, k)
+called_begins st after groups (Some n) k = (tt, k)
+
+calls_begin : (known : List NameEntry) (text : List ℕ) (st : State) (target : Target) (after : State) → Keeps after → Holds Begins (calls known text st target after)
+unfolding calls
+calls_begin known text st target after k =
+    holds_then (λ groups. Unit {0}) Begins (named_by known text st target) _ (holds_any _)
+    (λ groups _. holds_ok Begins _ (called_begins st after groups (number_called (is_number target) groups) k))
+
 any_built : (dotall : Bool) → IsBuilt (any_or_line dotall)
 any_built true = tt
 any_built false = tt
@@ -248,6 +259,7 @@ module _ (known : List NameEntry) (text : List ℕ) where
   begins n st token.KeepOut after h plain k = holds_if Begins _ _ _ (holds_err Begins _) (holds_ok Begins _ (tt, k))
   begins n st (token.Reference target) after h plain k =
       holds_then (λ groups. Unit {0}) Begins (named_by known text st target) _ (holds_any _) (λ groups _. holds_ok Begins _ (tt, k))
+  begins n st (token.CallTo target) after h plain k = calls_begin known text st target after k
   begins n st (token.Open opening.Capture) after h plain k =
       enters_begins _ (holds_if GroupKeeps _ _ _ (opened_keeps st h (grouped None) after tt k) (captured_keeps st h after k))
   begins n st (token.Open opening.Plain) after h plain k = enters_begins _ (opened_keeps st h (grouped None) after tt k)

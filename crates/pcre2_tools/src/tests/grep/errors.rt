@@ -1,10 +1,34 @@
-//! Searches that pass a limit.
+//! Searches that pass a limit, or in which a group would call itself for ever.
 use super::*;
 
 #[test]
 fn match_errors(rt: HostRuntime) -> Result<(), Fail> {
     static FILES: [File; 2] = [("a", b"x\nab\n", None), ("b", b"ab\nx\n", None)];
-    static ROWS: [Row; 25] = [
+    static ROWS: [Row; 28] = [
+        (
+            "(a|(?1)b)",
+            b"ab\ncb\n",
+            b"ab\n",
+            &["(standard input): line 2: error -52"],
+            0,
+        ),
+        (
+            "-v (a|(?1)b)",
+            b"ab\ncb\nxyz\n",
+            b"",
+            &[
+                "(standard input): line 2: error -52",
+                "(standard input): line 3: error -52",
+            ],
+            1,
+        ),
+        (
+            "-o ^(\\((?:[^()]|(?1))*\\))$",
+            b"(a(b)c)\n(a\n()\n",
+            b"(a(b)c)\n()\n",
+            &[],
+            0,
+        ),
         (
             "--match-limit=0 a+b",
             b"ab\ncb\n",

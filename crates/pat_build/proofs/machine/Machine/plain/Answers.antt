@@ -36,6 +36,7 @@ returns-in_default-clause-bad c =
       | token.Boundary opposite ↦ λ e p q. absurd (no.not-Boundary opposite e)
       | token.Set set outside ↦ λ e p q. absurd (no.not-Set set outside e)
       | token.Reference target ↦ λ e p q. absurd (no.not-Reference target e)
+      | token.CallTo target ↦ λ e p q. absurd (no.not-CallTo target e)
       | token.QuoteOn ↦ λ e p q. absurd p
       | token.QuoteOff ↦ λ e p q. absurd p
       | token.ClassStart negated ↦ λ e p q. absurd (no.not-ClassStart negated e)

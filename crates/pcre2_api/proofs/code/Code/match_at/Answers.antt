@@ -1,6 +1,6 @@
 use Rattle.std.proofs.Common.{sym, subst}
 use Rattle.ordered_search.specs.MatchAnswer.{match_answer, PartialFrom, Error}
-use Rattle.ordered_search.specs.PlaceAnswer.{Loop, Abort}
+use Rattle.ordered_search.specs.PlaceAnswer.{Abort}
 use Rattle.pcre2_api.specs.Matched.{search_of, IsFound}
 use Rattle.pcre2_api.proofs.Admission.{is_admitted}
 use Rattle.pcre2_api.proofs.Matching.{is_placed, is_plain, no_name}
@@ -34,9 +34,7 @@ returns-in-Partial-clause-refused g c =
     absurd (is_plain asked (match_answer asked) c.in-Partial.ensures.plain (PartialFrom c.in-Partial.start) c.in-Partial.ensures.answer.0)
 
 pub returns-in-RecurseLoop-clause-refused : goal.returns-in-RecurseLoop-clause-refused
-returns-in-RecurseLoop-clause-refused g c =
-    let asked = search_of c.args.self.now c.args.options.now c.args.subject.now c.args.start (g.C.Callouts.answers c.args.calls.now) in
-    absurd (is_plain asked (match_answer asked) c.in-RecurseLoop.ensures.plain (Error Loop) c.in-RecurseLoop.ensures.answer)
+returns-in-RecurseLoop-clause-refused g c = (c.if-start-subject.false, c.in-RecurseLoop.ensures.answer)
 
 pub returns-in-Callout-clause-refused : goal.returns-in-Callout-clause-refused
 returns-in-Callout-clause-refused g c =
