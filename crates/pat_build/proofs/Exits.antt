@@ -1,5 +1,5 @@
 -- What ends a reading ends what goes on from it.
-use Rattle.std.proofs.Common.{◌≡◌, ℕ, List, [], ◌∷◌, ◌≤◌, ◌<◌, ◌||◌, nat_lt, Bool, true, false, length, Result, Ok, refl, ap, sym, ◌∙◌, arith, Option, All}
+use Rattle.std.proofs.Common.{◌≡◌, ℕ, List, [], ◌∷◌, ◌≤◌, ◌<◌, ◌||◌, ◌&&◌, not, nat_lt, negsuc, Bool, true, false, length, Result, Ok, Err, refl, subst, ap, sym, ◌∙◌, arith, Option, All}
 use Rattle.std.proofs.lemmas.Bool.Decides.{nat_tests}
 use Rattle.std.proofs.lemmas.List.Elements.{All-weaker}
 use Rattle.pat_tree.specs.declared.options.Options.{Options}
@@ -13,7 +13,9 @@ use Rattle.pat_build.specs.declared.error.ReadError.{ReadError}
 use Rattle.pat_build.specs.declared.error.ReadError.TheVariants.{Bad, Memory}
 use Rattle.pat_build.specs.State.{State}
 use Rattle.pat_build.specs.Groups.{is_opened, missing, places_named}
-use Rattle.pat_build.specs.Reading.{checked, reading, read, read_from, started, start, literally}
+use Rattle.std.specs.Str.{is_utf8}
+use Rattle.std.specs.Str.Lossy.{utf8_valid_len}
+use Rattle.pat_build.specs.Reading.{Parsed, checked, reading, read, read_whole, unless_left_out, in_utf8, read_from, started, start, literally}
 use Rattle.pat_build.specs.Machine.{Refuses, IsGiven, tree_with, references_of}
 use Rattle.std.proofs.Common.{◌+◌}
 
@@ -45,9 +47,24 @@ opened_is groups n h k = grind (arith, nat_tests)
 pub names_stand : (table : List NameEntry) (ps : List Placed) (groups : ℕ) → All (IsGiven groups) table → ((n : ℕ) → has_group ps n ≡ is_opened groups n) → All (λ entry. has_group ps entry.group ≡ true) table
 names_stand table ps groups given same = All-weaker (IsGiven groups) (λ entry. has_group ps entry.group ≡ true) (λ e h. same e.group ∙ opened_is groups e.group h.1 h.0) table given
 
+-- what is read is refused where it isn't searched
 module _ (options : Options) (text : List ℕ) where
-  pub read_long : 65536 < length text → read options text ≡ fault 120 0
+  pub read_refuses : (e : ReadError) → Refuses (read_whole options text) e → Refuses (read options text) e
   unfolding read
+  read_refuses e h = refuses_on (read_whole options text) unless_left_out e h
+
+  module _ (parsed : Parsed) (is : read_whole options text ≡ Ok parsed) where
+    pub read_kept : (parsed.options.utf || parsed.options.ucp) ≡ false → read options text ≡ Ok parsed
+    unfolding read
+    read_kept none = ap (λ r. r >>= unless_left_out) is ∙ rw none refl
+
+    pub read_left_out : (parsed.options.utf || parsed.options.ucp) ≡ true → read options text ≡ fault 195 0
+    unfolding read
+    read_left_out out = ap (λ r. r >>= unless_left_out) is ∙ rw out refl
+
+-- the whole reading
+module _ (options : Options) (text : List ℕ) where
+  pub read_long : 65536 < length text → read_whole options text ≡ fault 120 0
   read_long long =
       let over : nat_lt 65536 (length text) ≡ true = grind (arith, nat_tests) in
       rw over refl
@@ -55,28 +72,48 @@ module _ (options : Options) (text : List ℕ) where
   fits_is : length text ≤ 65536 → nat_lt 65536 (length text) ≡ false
   fits_is short = grind (arith, nat_tests)
 
-  pub read_left_out : length text ≤ 65536 → (options.utf || (options.ucp || options.auto_callout)) ≡ true → read options text ≡ fault 195 0
-  unfolding read
-  read_left_out short out = let fits : nat_lt 65536 (length text) ≡ false = fits_is short in rw (fits, out) refl
+  -- text that isn't UTF-8
+  abbrev bad_utf : Result Parsed Fault
+  bad_utf = Err (record { number = negsuc 2; at = utf8_valid_len text })
 
-  pub read_literal : length text ≤ 65536 → (options.utf || (options.ucp || options.auto_callout)) ≡ false → options.literal ≡ true → read options text ≡ Ok (literally options text)
-  unfolding read
-  read_literal short out is = let fits : nat_lt 65536 (length text) ≡ false = fits_is short in rw (fits, out, is) refl
+  module _ (short : length text ≤ 65536) where
+    pub read_callout : options.auto_callout ≡ true → read_whole options text ≡ fault 195 0
+    read_callout on = let fits : nat_lt 65536 (length text) ≡ false = fits_is short in rw (fits, on) refl
 
-  pub read_started : length text ≤ 65536 → (options.utf || (options.ucp || options.auto_callout)) ≡ false → options.literal ≡ false →
-      read options text ≡ (started text (length text + 1) (start options) >>= read_from text)
-  unfolding read
-  read_started short out is = let fits : nat_lt 65536 (length text) ≡ false = fits_is short in rw (fits, out, is) refl
+    module _ (off : options.auto_callout ≡ false) where
+      read_literally : options.literal ≡ true → read_whole options text ≡ in_utf8 options.utf text (Ok (literally options text))
+      read_literally is = let fits : nat_lt 65536 (length text) ≡ false = fits_is short in rw (fits, off, is) refl
 
-  module _ (short : length text ≤ 65536) (out : (options.utf || (options.ucp || options.auto_callout)) ≡ false) (is : options.literal ≡ false) where
-    pub start_refuses : (e : ReadError) → Refuses (started text (length text + 1) (start options)) e → Refuses (read options text) e
-    start_refuses e h = rw (read_started short out is) (refuses_on (started text (length text + 1) (start options)) (read_from text) e h)
+      pub read_literal : options.literal ≡ true → (options.utf && not (is_utf8 text)) ≡ false → read_whole options text ≡ Ok (literally options text)
+      read_literal is good = read_literally is ∙ rw good refl
 
-    module _ (st : State) (begun : started text (length text + 1) (start options) ≡ Ok st) where
-      pub names_refuse : (e : ReadError) → Refuses (reading [] text st) e → Refuses (read options text) e
-      unfolding read_from
-      names_refuse e h = rw (read_started short out is, begun, read_from) (refuses_on (reading [] text st) _ e h)
+      pub read_literal_bad : options.literal ≡ true → (options.utf && not (is_utf8 text)) ≡ true → read_whole options text ≡ bad_utf
+      read_literal_bad is bad = read_literally is ∙ rw bad refl
 
-      pub read_is : (first : Nested × State) → reading [] text st ≡ Ok first → read options text ≡ tree_with first.1.names text st
-      unfolding read_from
-      read_is first h = rw (read_started short out is, begun, read_from, h) refl
+      module _ (is : options.literal ≡ false) where
+        read_started : read_whole options text ≡ (started text (length text + 1) (start options) >>= λ st. in_utf8 st.options.utf text (read_from text st))
+        read_started = let fits : nat_lt 65536 (length text) ≡ false = fits_is short in rw (fits, off, is) refl
+
+        pub start_refuses : (e : ReadError) → Refuses (started text (length text + 1) (start options)) e → Refuses (read_whole options text) e
+        start_refuses e h =
+            subst (λ r. Refuses r e) (sym read_started)
+            (refuses_on (started text (length text + 1) (start options)) (λ st. in_utf8 st.options.utf text (read_from text st)) e h)
+
+        module _ (st : State) (begun : started text (length text + 1) (start options) ≡ Ok st) where
+          read_begun : read_whole options text ≡ in_utf8 st.options.utf text (read_from text st)
+          read_begun = read_started ∙ ap (λ r. r >>= λ st. in_utf8 st.options.utf text (read_from text st)) begun
+
+          pub utf_refuses : (st.options.utf && not (is_utf8 text)) ≡ true → read_whole options text ≡ bad_utf
+          utf_refuses bad = read_begun ∙ rw bad refl
+
+          module _ (good : (st.options.utf && not (is_utf8 text)) ≡ false) where
+            read_good : read_whole options text ≡ read_from text st
+            read_good = read_begun ∙ rw good refl
+
+            pub names_refuse : (e : ReadError) → Refuses (reading [] text st) e → Refuses (read_whole options text) e
+            unfolding read_from
+            names_refuse e h = subst (λ r. Refuses r e) (sym read_good) (refuses_on (reading [] text st) _ e h)
+
+            pub read_is : (first : Nested × State) → reading [] text st ≡ Ok first → read_whole options text ≡ tree_with first.1.names text st
+            unfolding read_from
+            read_is first h = read_good ∙ rw (read_from, h) refl

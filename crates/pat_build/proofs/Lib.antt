@@ -16,6 +16,8 @@ pub mod Nesting
 pub mod Adding
 pub mod Beginning
 pub mod Starting
+pub mod Checked
 pub mod Exits
+pub mod Literally
 pub mod Numbering
 pub mod Conditions

@@ -1,12 +1,15 @@
 -- What stands between the brackets of a class (pcre2pattern, "Square brackets and character classes").
-use Rattle.std.specs.Prelude.{ℕ, zero, suc, Bool, true, false, not, ◌&&◌, nat_lt, List, [], ◌∷◌, length, Option, Some, None, Result, Ok, Err, if◌then◌else◌}
+use Rattle.std.specs.Prelude.{ℕ, zero, suc, Bool, true, false, not, ◌&&◌, nat_lt, List, [], ◌∷◌, length, Option, Some, None, Result, Ok, Err, slice_range, if◌then◌else◌}
 use Rattle.std.specs.Str.{byte}
 use Rattle.pat_tree.specs.declared.nodes.Part.{Part}
 use Rattle.pat_tree.specs.declared.nodes.Part.TheVariants as part
 use Rattle.pat_tree.specs.declared.nodes.ClassSpec.{ClassSpec}
+use Rattle.pat_tree.specs.declared.nodes.SetName.TheVariants as set
+use Rattle.uni_text.specs.declared.properties.Prop.{Prop}
+use Rattle.uni_text.specs.Properties.{prop_by_name, prop_number}
 use Rattle.token_parts.specs.declared.fault.Fault.{Fault}
 use Rattle.token_parts.specs.declared.token.Token.{Token}
-use Rattle.token_parts.specs.declared.token.Token.TheVariants.{End, Literal, Set, ClassEnd, Hyphen}
+use Rattle.token_parts.specs.declared.token.Token.TheVariants.{End, Literal, Set, Property, ClassEnd, Hyphen}
 use Rattle.token_parts.specs.Tell.{fault, ◌>>=◌}
 use Rattle.pat_build.specs.State.{State, Reads, Item, item}
 
@@ -29,6 +32,14 @@ is_last _ = false
 abbrev pub is_last_item : Result Item Fault → Bool
 is_last_item (Ok (token, here, after)) = is_last token
 is_last_item (Err f) = false
+
+-- a property at a place, if there is one ("Unicode character properties")
+abbrev pub property_if : Option Prop → Bool → Bool → ℕ → Result Part Fault
+property_if (Some p) outside ucp at = Ok (part.Set (set.Property (prop_number p)) outside ucp)
+property_if None outside ucp at = fault 147 at
+
+abbrev pub property_part : List ℕ → Bool → Bool → ℕ → Result Part Fault
+property_part name = property_if (prop_by_name name)
 
 -- one part, and the parts after it
 abbrev pub part_then : Part → Reads (List Part) → Reads (List Part)
@@ -55,8 +66,7 @@ module _ (text : List ℕ) where
     (hyphen, before, beyond) ← item text true n after
     if is_hyphen hyphen && not (is_last_item (item text true n beyond)) then fault 150 before.at else part_then set (rest after)
 
-  -- What begins at a token. A bracket that closes nothing yet is a character, unless a class may be empty. Properties are
-  -- left out.
+  -- What begins at a token. A bracket that closes nothing yet is a character, unless a class may be empty.
   abbrev pub from_item : ℕ → (State → Reads (List Part)) → Bool → Token → State → State → Reads (List Part)
   from_item n rest first End here after = fault 106 (length text)
   from_item n rest first ClassEnd here after =
@@ -64,6 +74,8 @@ module _ (text : List ℕ) where
   from_item n rest first Hyphen here after = from_character n rest (byte "-") here after
   from_item n rest first (Literal c) here after = from_character n rest c here after
   from_item n rest first (Set set outside) here after = from_set n rest (part.Set set outside here.options.ucp) after
+  from_item n rest first (Property from to outside) here after =
+      property_part (slice_range text from to) outside here.options.ucp here.at >>= λ p. from_set n rest p after
   from_item n rest first _ here after = fault 195 here.at
 
   -- the parts up to the closing bracket, from the first one on or from a later one

@@ -1,11 +1,9 @@
 -- What sets options inside a pattern.
-use Rattle.std.specs.Prelude.{ℕ, min, Bool, true, false, not, ◌&&◌, ◌||◌, Option, Some, None, Result, Ok}
+use Rattle.std.specs.Prelude.{ℕ, min, Bool, true, false, not, ◌&&◌, ◌||◌, Option, Some, None}
 use Rattle.pat_tree.specs.declared.options.Options.{Options}
-use Rattle.token_parts.specs.declared.fault.Fault.{Fault}
 use Rattle.token_parts.specs.declared.token.OptionMask.{OptionMask}
 use Rattle.token_parts.specs.declared.token.StartItem.{StartItem}
 use Rattle.token_parts.specs.declared.token.StartItem.TheVariants.{NewlineIs, BsrIs, Utf, Ucp, NotEmpty, NotEmptyAtStart, NoStartOpt, NoEffect, LimitMatch}
-use Rattle.token_parts.specs.Tell.{fault}
 
 -- an option that was on or off before: first it may be unset, then set, then unset
 abbrev pub turned : Bool → Bool → Bool → Bool → Bool
@@ -29,14 +27,14 @@ abbrev pub lowered : Option ℕ → ℕ → ℕ
 lowered None limit = limit
 lowered (Some before) limit = min before limit
 
--- The options under a start item that stands at a place ("Special start-of-pattern items"). UTF and UCP are left out.
-unfoldable pub with_item : StartItem → ℕ → Options → Result Options Fault
-with_item (NewlineIs newline) at o = Ok (record o { newline = newline })
-with_item (BsrIs bsr) at o = Ok (record o { bsr = bsr })
-with_item Utf at o = fault 195 at
-with_item Ucp at o = fault 195 at
-with_item NotEmpty at o = Ok (record o { notempty = true })
-with_item NotEmptyAtStart at o = Ok (record o { notempty_atstart = true })
-with_item NoStartOpt at o = Ok (record o { no_start_optimize = true })
-with_item NoEffect at o = Ok o
-with_item (LimitMatch limit) at o = Ok (record o { match_limit = Some (lowered o.match_limit limit) })
+-- the options under a start item ("Special start-of-pattern items")
+unfoldable pub with_item : StartItem → Options → Options
+with_item (NewlineIs newline) o = record o { newline = newline }
+with_item (BsrIs bsr) o = record o { bsr = bsr }
+with_item Utf o = record o { utf = true }
+with_item Ucp o = record o { ucp = true }
+with_item NotEmpty o = record o { notempty = true }
+with_item NotEmptyAtStart o = record o { notempty_atstart = true }
+with_item NoStartOpt o = record o { no_start_optimize = true }
+with_item NoEffect o = o
+with_item (LimitMatch limit) o = record o { match_limit = Some (lowered o.match_limit limit) }

@@ -23,7 +23,7 @@ use Rattle.token_parts.specs.declared.token.Token.TheVariants as token
 use Rattle.token_parts.specs.Tell.{fault, ◌>>=◌}
 use Rattle.pat_build.specs.State.{State, Item, item}
 use Rattle.pat_build.specs.Options.{with_setting}
-use Rattle.pat_build.specs.Classes.{class_spec}
+use Rattle.pat_build.specs.Classes.{class_spec, property_part}
 use Rattle.pat_build.specs.Groups.{Opening, Opens, grouped, atomically, looks, asserted, asserting, opened, captured, named, reset, named_by, form_in, beyond_after}
 
 -- An alternative without parts is empty, one with one part is that part.
@@ -182,6 +182,8 @@ module _ (known : List NameEntry) (text : List ℕ) where
   beginning n st token.NotNewline next = Ok (atom (one item.NotNewline) next)
   beginning n st token.LineBreak next = Ok (atom line_break next)
   beginning n st (token.Set set outside) next = Ok (of_class (type_class st (part.Set set outside st.options.ucp)) next)
+  beginning n st (token.Property from to outside) next =
+      property_part (slice_range text from to) outside st.options.ucp st.at >>= λ p. Ok (of_class (type_class st p) next)
   beginning n st (token.ClassStart negated) next = class_spec text n negated next >>= λ (spec, after). Ok (of_class spec after)
   -- simple assertions and `\K`
   beginning n st token.Caret next = simple (kind.Caret st.options.multiline) next
@@ -214,5 +216,5 @@ module _ (known : List NameEntry) (text : List ℕ) where
   -- a quantifier without an atom, and a start item that isn't at the start
   beginning n st (token.Quantifier low high mode) next = fault 109 st.at
   beginning n st (token.Start item) next = fault 160 st.at
-  -- Left out: properties; verbs; callouts.
+  -- Left out: verbs; callouts.
   beginning n st _ next = fault 195 st.at

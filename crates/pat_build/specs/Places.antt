@@ -82,6 +82,6 @@ Tells r e = elim e [ Bad number at ↦ r ≡ Err (record { number = number; at =
 abbrev pub IfBad : ReadError → (ℤ → ℕ → Type 0) → Type 0
 IfBad e claim = elim e [ Bad number at ↦ claim number at | Memory ↦ Unit {0} ]
 
--- the faults in a class: those of its tokens, and 106, 108 and 150
+-- the faults in a class: those of its tokens, and 106, 108, 147 and 150
 abbrev pub IsClassFault : ℤ → Type 0
-IsClassFault number = IsTrue (is_own number) ⊎ (number ≡ pos 106) ⊎ (number ≡ pos 108) ⊎ (number ≡ pos 150)
+IsClassFault number = IsTrue (is_own number) ⊎ (number ≡ pos 106) ⊎ (number ≡ pos 108) ⊎ (number ≡ pos 147) ⊎ (number ≡ pos 150)

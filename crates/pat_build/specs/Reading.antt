@@ -2,14 +2,18 @@
 --
 -- The grammar has alternatives, each a sequence of parts, a part being an atom under the quantifier that follows it. Where a
 -- number stands as a first argument it bounds how deep the calls go; twice the bytes that are left, and two, are enough.
-use Rattle.std.specs.Prelude.{ℕ, zero, suc, ◌+◌, ◌-◌, ◌*◌, false, ◌||◌, nat_lt, List, [], ◌∷◌, ◌++◌, length, map, Option, Some, None, Result, Ok, if◌then◌else◌}
+use Rattle.std.specs.Prelude.{ℕ, zero, suc, ◌+◌, ◌-◌, ◌*◌, negsuc, Bool, true, false, not, ◌&&◌, ◌||◌, nat_lt, List, [], ◌∷◌, ◌++◌, length, map, Option, Some, None, Result, Ok, Err, if◌then◌else◌, chars}
+use Rattle.std.specs.Str.{is_utf8}
+use Rattle.std.specs.Str.Lossy.{utf8_valid_len}
 use Rattle.pat_tree.specs.declared.nodes.Item.TheVariants.{Char}
 use Rattle.pat_tree.specs.declared.names.NameEntry.{NameEntry}
 use Rattle.pat_tree.specs.declared.options.Options.{Options}
 use Rattle.pat_tree.specs.Nested.{Nested, one, group, row}
 use Rattle.pat_tree.specs.Pattern.{Pattern}
 use Rattle.token_parts.specs.declared.fault.Fault.{Fault}
+use Rattle.token_parts.specs.declared.token.Token.{Token}
 use Rattle.token_parts.specs.declared.token.Token.TheVariants.{End, Bar, Close, Quantifier, Start}
+use Rattle.token_parts.specs.Bytes.{begins}
 use Rattle.token_parts.specs.Tell.{fault, ◌>>=◌}
 use Rattle.pat_build.specs.State.{State, Reads, next, passed_over}
 use Rattle.pat_build.specs.Options.{with_item}
@@ -100,13 +104,21 @@ whole text branches st = next text false st >>= λ (token, after). elim token [
   | _ ↦ fault 122 st.at
 ]
 
+-- `(*LIMIT_MATCH=` begins at a place
+abbrev pub begins_limit : List ℕ → ℕ → Bool
+begins_limit text at = begins text "(*LIMIT_MATCH=" at
+
+-- The start items go on past one of them, and end at any other token. Of faults that of a limit that isn't well written is
+-- told, any other one by the reading from there.
+abbrev pub started_by : List ℕ → State → (State → Result State Fault) → Reads Token → Result State Fault
+started_by text st again (Ok (Start item, after)) = again (record after { options = with_item item st.options })
+started_by text st again (Ok (token, after)) = Ok st
+started_by text st again (Err f) = if begins_limit text st.at then Err f else Ok st
+
 -- the state after the start items
 unfoldable pub started : List ℕ → ℕ → State → Result State Fault
 started text zero st = fault 0 0
-started text (suc n) st = next text false st >>= λ (token, after). elim token [
-  | Start item ↦ with_item item st.at st.options >>= λ options. started text n (record after { options = options })
-  | _ ↦ Ok st
-]
+started text (suc n) st = started_by text st (started text n) (next text false st)
 
 abbrev pub start : Options → State
 start options = record { at = 0; quoting = false; options = options; groups = 0; depth = 0; looking = false; bars = Free; numbering = Onward; classes = []; names = []; references = []; beyond = None }
@@ -127,12 +139,17 @@ pub record Parsed : Type 0 where
   -- where the references, calls, lookarounds and conditions stand, in the order in which they end
   pub places : List ℕ
 
--- under LITERAL each byte is a character
+-- the characters of a text: its bytes, or in UTF its code points
+abbrev pub characters : Bool → List ℕ → List ℕ
+characters false text = text
+characters true text = chars text
+
+-- under LITERAL each character stands for itself
 unfoldable pub literally : Options → List ℕ → Parsed
 literally options text = record {
   pattern = record {
     options = options;
-    tree = group None (row (alternative (map (λ c. one (Char c options.caseless)) text) ∷ []));
+    tree = group None (row (alternative (map (λ c. one (Char c options.caseless)) (characters options.utf text)) ∷ []));
     groups = 0;
     classes = [];
     verb_names = [];
@@ -158,11 +175,23 @@ read_from text st = do
   (tree, last) ← reading named.names text st
   checked st.options last.beyond (missing last.groups last.references) tree last
 
--- First the size is tested, then what is left out, then the start items; then the first fault from the left is told, and last
--- the leftmost reference to no group. UTF, UCP and AUTO_CALLOUT are left out.
-unfoldable pub read : Options → List ℕ → Result Parsed Fault
-read options text =
+-- in UTF the text must be UTF-8: fault -3 at the end of its longest part that is (pcre2unicode, "Validity of UTF strings")
+abbrev pub in_utf8 : Bool → List ℕ → Result Parsed Fault → Result Parsed Fault
+in_utf8 utf text r =
+    if utf && not (is_utf8 text) then Err (record { number = negsuc 2; at = utf8_valid_len text }) else r
+
+-- First the size is tested, then the start items are read, then UTF-8 is tested; then the first fault from the left is told,
+-- and last the leftmost reference to no group. AUTO_CALLOUT is left out.
+abbrev pub read_whole : Options → List ℕ → Result Parsed Fault
+read_whole options text =
     if nat_lt 65536 (length text) then fault 120 0
-    else if options.utf || (options.ucp || options.auto_callout) then fault 195 0
-    else if options.literal then Ok (literally options text)
-    else (started text (length text + 1) (start options) >>= read_from text)
+    else if options.auto_callout then fault 195 0
+    else if options.literal then in_utf8 options.utf text (Ok (literally options text))
+    else (started text (length text + 1) (start options) >>= λ st. in_utf8 st.options.utf text (read_from text st))
+
+-- Patterns in UTF and UCP are read, and then refused: they aren't searched yet.
+abbrev pub unless_left_out : Parsed → Result Parsed Fault
+unless_left_out parsed = if parsed.options.utf || parsed.options.ucp then fault 195 0 else Ok parsed
+
+unfoldable pub read : Options → List ℕ → Result Parsed Fault
+read options text = read_whole options text >>= unless_left_out

@@ -1,13 +1,14 @@
 //! What stands between the brackets of a class (pcre2pattern, "Square brackets and character classes").
 ghost use Rattle.std.specs.Prelude.{◌≡◌, Bool, false, true, ◌<◌, ◌≤◌, [], length, suc, Ok, Err, IfOk, IfErr, IfSome, IsTrue};
 ghost use Rattle.std.specs.Option.{option_map_or};
-ghost use Rattle.token_parts.specs.Tell.{Moves, is_own};
+ghost use Rattle.token_parts.specs.Tell.{IsWell, Moves, is_own};
 ghost use Rattle.pat_build.specs.Classes.{character, is_hyphen, is_last, is_last_item, part_then, class_parts, class_spec};
 ghost use Rattle.pat_build.specs.State.{item};
 ghost use Rattle.pat_build.specs.Places.{Always, AlwaysFromStart, GivesPart, GivesFault, range_between, character_between, set_before, item_between, is_closing, Tells, IfBad, IsClassFault};
 
 use crate::cursor::{Cursor, Place, Spot};
 use crate::error::ReadError;
+use crate::properties::property_part;
 use pat_lex::{Fault, Token};
 use pat_tree::{ClassSpec, Part, PartList};
 use std::alloc::Global;
@@ -21,7 +22,7 @@ const RANGE_OUT_OF_ORDER: i32 = 108;
 /// A hyphen stands beside a set and isn't last.
 const NO_RANGE: i32 = 150;
 
-/// A property, which is left out.
+/// What a class has nowhere.
 const LEFT_OUT: i32 = 195;
 
 /// The character that a token stands for where a range may end.
@@ -153,6 +154,7 @@ impl<'a> Cursor<'a> {
         requires begins { item.here.at ≤ item.after.at }
         requires moves { Moves self.now.text.now item.here.at item.token item.after.at }
         requires within { item.after.at ≤ length self.now.text.now }
+        requires well { IsWell self.now.text.now item.token }
         ensures part { IfOk result (λ r. (first : Bool) → is_closing first self.now.options.allow_empty_class item.token ≡ false → GivesPart self.now item.after (item_between first item.token item.here item.after) r.0 r.1) }
         ensures bad { IfErr result (λ f. (first : Bool) → is_closing first self.now.options.allow_empty_class item.token ≡ false → GivesFault self.now item.after (item_between first item.token item.here item.after) f) }
         ensures past { IfOk result (λ r. item.here.at < r.1.at) }
@@ -172,6 +174,11 @@ impl<'a> Cursor<'a> {
             Token::Set { set, not } => {
                 let ucp = self.options.ucp;
                 self.from_set(Part::Set { set, not, ucp }, after)
+            }
+            Token::Property { from, to, not } => {
+                let name = &self.text[from..to];
+                let part = property_part(name, not, self.options.ucp, here.at)?;
+                self.from_set(part, after)
             }
             _ => Err(Fault {
                 number: LEFT_OUT,
@@ -228,7 +235,7 @@ impl<'a> Cursor<'a> {
 /// A class from the place after its opening bracket on, which is the cursor's, and the place after the closing one. A
 /// closing bracket that comes first is a character, unless ALLOW_EMPTY_CLASS is set. Of faults the first from the left is
 /// told: 106 at the text's end where the class isn't closed, 108 at the first character of a range that is out of order,
-/// 150 at a hyphen beside a set, 195 at a property, which is left out, and the faults of the tokens.
+/// 147 at a property of an unknown name, 150 at a hyphen beside a set, and the faults of the tokens.
 pub(crate) fn read_class(
     alloc: Global,
     cursor: &Cursor,

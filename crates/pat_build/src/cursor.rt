@@ -124,6 +124,7 @@ impl<'a> Cursor<'a> {
         ensures onward { IfOk result (λ i. i.here.at ≤ i.after.at) }
         ensures within { IfOk result (λ i. i.after.at ≤ length self.now.text.now) }
         ensures moves { IfOk result (λ i. Moves self.now.text.now i.here.at i.token i.after.at) }
+        ensures well { IfOk result (λ i. IsWell self.now.text.now i.token) }
         ensures number { IfErr result (λ f. IsTrue (is_own f.number)) }
         ensures place { IfErr result (λ f. f.at ≤ length self.now.text.now) }
     {

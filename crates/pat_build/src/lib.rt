@@ -15,6 +15,7 @@ mod openings;
 mod options;
 #[cfg(test)]
 mod pattern_tests;
+mod properties;
 mod reader;
 mod start;
 #[cfg(test)]
@@ -23,4 +24,4 @@ mod tokens;
 
 pub use error::ReadError;
 pub use laws::{what_is_read_can_be_searched, worked_rows};
-pub use reader::read;
+pub use reader::{read, read_whole};

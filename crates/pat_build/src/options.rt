@@ -2,7 +2,7 @@
 ghost use Rattle.std.specs.Prelude.{◌≡◌};
 ghost use Rattle.pat_build.specs.Options.{turned, with_setting, lowered, with_item};
 
-use pat_lex::{Fault, OptionMask, StartItem};
+use pat_lex::{OptionMask, StartItem};
 use pat_tree::Options;
 
 /// An option that was on or off before: under `reset` it is first unset, then it may be set, then unset.
@@ -45,32 +45,38 @@ fn lowered(before: Option<u32>, limit: u32) -> u32
     }
 }
 
-/// The options under a start item that stands at a place (pcre2pattern, "Special start-of-pattern items"). UTF and UCP are
-/// left out.
+/// The options under a start item (pcre2pattern, "Special start-of-pattern items").
 #[tactic(auto, unfolding(crate::specs::Options::with_item))]
-pub(crate) fn with_item(item: StartItem, at: usize, options: Options) -> Result<Options, Fault>
-    ensures { result ≡ with_item item at options }
+pub(crate) fn with_item(item: StartItem, options: Options) -> Options
+    ensures { result ≡ with_item item options }
 {
     match item {
-        StartItem::NewlineIs(newline) => Ok(Options { newline, ..options }),
-        StartItem::BsrIs(bsr) => Ok(Options { bsr, ..options }),
-        StartItem::Utf | StartItem::Ucp => Err(Fault { number: 195, at }),
-        StartItem::NotEmpty => Ok(Options {
+        StartItem::NewlineIs(newline) => Options { newline, ..options },
+        StartItem::BsrIs(bsr) => Options { bsr, ..options },
+        StartItem::Utf => Options {
+            utf: true,
+            ..options
+        },
+        StartItem::Ucp => Options {
+            ucp: true,
+            ..options
+        },
+        StartItem::NotEmpty => Options {
             notempty: true,
             ..options
-        }),
-        StartItem::NotEmptyAtStart => Ok(Options {
+        },
+        StartItem::NotEmptyAtStart => Options {
             notempty_atstart: true,
             ..options
-        }),
-        StartItem::NoStartOpt => Ok(Options {
+        },
+        StartItem::NoStartOpt => Options {
             no_start_optimize: true,
             ..options
-        }),
-        StartItem::NoEffect => Ok(options),
-        StartItem::LimitMatch(limit) => Ok(Options {
+        },
+        StartItem::NoEffect => options,
+        StartItem::LimitMatch(limit) => Options {
             match_limit: Some(lowered(options.match_limit, limit)),
             ..options
-        }),
+        },
     }
 }

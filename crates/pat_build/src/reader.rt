@@ -1,5 +1,7 @@
 //! The reader of a pattern.
-ghost use Rattle.std.specs.Prelude.{◌≡◌, ◌||◌, ℕ, pos, ◌<◌, ◌≤◌, false, [], length, Some, None, Ok, OnOk, IfOk, IfErr};
+ghost use Rattle.std.specs.Prelude.{◌≡◌, ◌||◌, ◌&&◌, not, ℕ, pos, negsuc, ◌<◌, ◌≤◌, false, true, [], length, Some, None, Ok, OnOk, IfOk, IfErr};
+ghost use Rattle.std.specs.Str.{is_utf8};
+ghost use Rattle.std.specs.Str.Lossy.{utf8_valid_len};
 ghost use Rattle.pat_tree.specs.Nested.{Nested};
 ghost use Rattle.pat_tree.specs.Growing.{AllUnder};
 ghost use Rattle.pat_tree.specs.Closing.{StandInTurn};
@@ -7,7 +9,8 @@ ghost use Rattle.token_parts.specs.declared.token.Token.TheVariants.{End};
 ghost use Rattle.token_parts.specs.Tell.{IsWell, Moves};
 ghost use Rattle.pat_lex.specs.Tokens.{token_at};
 ghost use Rattle.pat_build.specs.State.{State, flags_of};
-ghost use Rattle.pat_build.specs.Reading.{read, reading};
+ghost use Rattle.uni_text.specs.Characters.{IsChecked};
+ghost use Rattle.pat_build.specs.Reading.{read, read_whole, reading};
 ghost use Rattle.pat_build.specs.Machine.{Means, HasRoom, Refuses, Ends, Same, state_of, state_from, whole_of, parsed_of, tree_with};
 
 use crate::error::ReadError;
@@ -19,6 +22,7 @@ use pat_lex::Token;
 use pat_tree::{Draft, Kids, NameEntry, NodeId, Options, Tree};
 use std::alloc::Global;
 use std::mem;
+use uni_text::check;
 
 impl<'a> Machine<'a> {
     /// A reading that begins at a place with these options.
@@ -177,39 +181,75 @@ fn tree_of(
     }
 }
 
-/// Whether an option is set that is left out.
-fn is_left_out(options: &Options) -> bool
-    ensures { result ≡ (options.now.utf || (options.now.ucp || options.now.auto_callout)) }
+/// In UTF the text must be UTF-8 (pcre2unicode, "Validity of UTF strings"): fault -3 where the longest part of it that is ends.
+fn in_utf8(text: &[u8], utf: bool) -> Result<(), ReadError>
+    ensures ok { OnOk result ((utf && not (is_utf8 text.now)) ≡ false) }
+    ensures checked { OnOk result (IsChecked utf text.now) }
+    ensures why { IfErr result (λ e. (utf && not (is_utf8 text.now)) ≡ true) }
+    ensures bad { IfErr result (λ e. e ≡ ReadError.Bad (negsuc 2) (utf8_valid_len text.now)) }
 {
-    options.utf || options.ucp || options.auto_callout
+    if !utf {
+        return Ok(());
+    }
+    match check(text) {
+        Ok(()) => Ok(()),
+        Err(bad) => Err(ReadError::Bad {
+            number: -3,
+            at: bad.at,
+        }),
+    }
+}
+
+/// Whether an option is set under which nothing is searched yet.
+fn is_left_out(options: &Options) -> bool
+    ensures { result ≡ (options.now.utf || options.now.ucp) }
+{
+    options.utf || options.ucp
 }
 
 /// Reads a pattern of at most 65,536 bytes (pcre2pattern): the tree has its nested value, its classes in the order of
 /// reading, its names in the order of the table, and the options with those that the start items set. Under LITERAL each
-/// byte is a character. Each node lies under the root, and stands behind those under it. No call is nested deeper for a
-/// pattern that is: open groups stand in a vector, 250 at most.
+/// character stands for itself. Each node lies under the root, and stands behind those under it. No call is nested deeper
+/// for a pattern that is: open groups stand in a vector, 250 at most.
 ///
-/// `Bad` has the number and the place of the fault that the definition tells: first 120 for a pattern that is longer and
-/// 195 for UTF, UCP and AUTO_CALLOUT, at 0; then the first fault from the left; then 161 at the first test of a call of
-/// a group past 65,535; last 115 at the leftmost reference, call or test that names no group. Want of memory may come at
-/// any pattern.
+/// `Bad` has the number and the place of the fault that the definition tells: first 120 for a pattern that is longer, at
+/// 0; then 160 at a start item that isn't well written; then under UTF -3 where the longest part that is UTF-8 ends; then
+/// the first fault from the left; then 161 at the first test of a call of a group past 65,535; last 115 at the leftmost
+/// reference, call or test that names no group. A pattern under UTF or UCP is then refused with 195 at 0, since it isn't
+/// searched yet, and AUTO_CALLOUT with 195 after 120. Want of memory may come at any pattern.
 pub fn read(alloc: Global, text: &[u8], options: Options) -> Result<Tree, ReadError>
     ensures ok { IfOk result (λ tree. read options text.now ≡ Ok (parsed_of tree)) }
     ensures under { IfOk result (λ tree. AllUnder tree.nodes tree.root) }
     ensures turns { IfOk result (λ tree. StandInTurn tree.nodes) }
     ensures bad { IfErr result (Refuses (read options text.now)) }
 {
+    let tree = read_whole(alloc, text, options)?;
+    if is_left_out(tree.options()) {
+        return Err(ReadError::Bad { number: 195, at: 0 });
+    }
+    Ok(tree)
+}
+
+/// Reads a pattern as [`read`] does, also under UTF and UCP.
+pub fn read_whole(alloc: Global, text: &[u8], options: Options) -> Result<Tree, ReadError>
+    ensures ok { IfOk result (λ tree. read_whole options text.now ≡ Ok (parsed_of tree)) }
+    ensures under { IfOk result (λ tree. AllUnder tree.nodes tree.root) }
+    ensures turns { IfOk result (λ tree. StandInTurn tree.nodes) }
+    ensures bad { IfErr result (Refuses (read_whole options text.now)) }
+{
     if text.len() > 65536 {
         return Err(ReadError::Bad { number: 120, at: 0 });
     }
-    if is_left_out(&options) {
+    if options.auto_callout {
         return Err(ReadError::Bad { number: 195, at: 0 });
     }
     if options.literal {
+        in_utf8(text, options.utf)?;
         let tree = literally(alloc, text, options)?;
         return Ok(tree);
     }
     let (start, begun) = started(text, options)?;
+    in_utf8(text, begun.utf)?;
     let first = names_of(alloc, text, start, begun)?;
     let tree = tree_of(alloc, first.names(), text, start, begun)?;
     Ok(tree)

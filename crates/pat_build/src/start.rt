@@ -1,6 +1,6 @@
 //! The start items of a pattern (pcre2pattern, "Special start-of-pattern items").
 ghost use Rattle.std.specs.Prelude.{◌≡◌, ◌+◌, ◌≤◌, length, Ok, IfOk, IfErr};
-ghost use Rattle.pat_build.specs.Reading.{started, start};
+ghost use Rattle.pat_build.specs.Reading.{begins_limit, started, start};
 ghost use Rattle.pat_build.specs.Machine.{Refuses, state_from};
 
 use crate::cursor::{Cursor, Place};
@@ -8,6 +8,14 @@ use crate::error::ReadError;
 use crate::options::with_item;
 use pat_lex::Token;
 use pat_tree::Options;
+
+/// Whether `(*LIMIT_MATCH=` begins at a place.
+fn begins_limit(text: &[u8], at: usize) -> bool
+    requires { at ≤ length text.now }
+    ensures { result ≡ begins_limit text.now at }
+{
+    text[at..].starts_with(b"(*LIMIT_MATCH=".as_slice())
+}
 
 /// The place after the start items, and the options under them.
 pub(crate) fn started(text: &[u8], options: Options) -> Result<(usize, Options), ReadError>
@@ -17,7 +25,7 @@ pub(crate) fn started(text: &[u8], options: Options) -> Result<(usize, Options),
 {
     let mut at = 0;
     let mut options = options;
-    loop {
+    'items: loop {
         let place = Place { at, quoting: false };
         let cursor = Cursor {
             text,
@@ -25,11 +33,20 @@ pub(crate) fn started(text: &[u8], options: Options) -> Result<(usize, Options),
             options,
             groups: 0,
         };
-        let (token, after) = cursor.next(place, false)?;
-        let Token::Start(item) = token else {
-            return Ok((at, options));
-        };
-        options = with_item(item, at, options)?;
-        at = after;
+        match cursor.next(place, false) {
+            Ok((token, after)) => {
+                let Token::Start(item) = token else {
+                    return Ok((at, options));
+                };
+                options = with_item(item, options);
+                at = after;
+            }
+            Err(fault) => {
+                if begins_limit(text, at) {
+                    return Err(ReadError::from(fault));
+                }
+                return Ok((at, options));
+            }
+        }
     }
 }

@@ -13,6 +13,7 @@ use crate::error::ReadError;
 use crate::machine::Machine;
 use crate::nodes::plain;
 use crate::options::with_setting;
+use crate::properties::property_part;
 use pat_lex::{OptionMask, Token};
 use pat_tree::{AnchorKind, ClassSpec, Item, Memory, Part, PartList, SetName};
 use std::alloc::Global;
@@ -63,6 +64,19 @@ impl<'a> Machine<'a> {
         let part = Part::Set { set, not, ucp };
         let spec = class_of(self.alloc, part, self.options.caseless)?;
         self.class(spec, after, self.quoting)
+    }
+
+    /// A property outside a class is a class of its own.
+    fn property(&mut self, from: usize, to: usize, not: bool, after: usize) -> Result<(), ReadError>
+        requires { Ready (token.Property from to not) after self.old }
+        ensures ok { OnOk result (Took self.old self.new) }
+        ensures bad { IfErr result (Refuses (whole_of self.old)) }
+    {
+        let name = &self.text[from..to];
+        let part = property_part(name, not, self.options.ucp, self.at)?;
+        let spec = class_of(self.alloc, part, self.options.caseless)?;
+        self.class(spec, after, self.quoting)?;
+        Ok(())
     }
 
     /// A class from its opening bracket on.
@@ -158,6 +172,7 @@ impl<'a> Machine<'a> {
             | Token::NotNewline
             | Token::LineBreak
             | Token::Set { .. } => Ok(self.character(token, after)?),
+            Token::Property { from, to, not } => self.property(from, to, not, after),
             Token::KeepOut => self.keep_out(after),
             Token::Caret
             | Token::Dollar

@@ -68,6 +68,28 @@ fn escapes_in_classes(rt: HostRuntime) -> Result<(), Fail> {
     are_read(&rt, rt.alloc(), &ROWS)
 }
 
+// A property is shown by its number: that of Any is 0, of Xan 1, of L 6, of L& 7, of Lu 13, and of Nd 21.
+#[test]
+fn properties(rt: HostRuntime) -> Result<(), Fail> {
+    static ROWS: [(&'static str, &'static str); 14] = [
+        (r"\pL", "([Property(6)])"),
+        (r"\p{Lu}", "([Property(13)])"),
+        (r"\P{Lu}", "([!Property(13)])"),
+        (r"\p{^Lu}", "([!Property(13)])"),
+        (r"\P{^Lu}", "([Property(13)])"),
+        (r"\p{L&}", "([Property(7)])"),
+        (r"\p{any}", "([Property(0)])"),
+        (r"\p{ X_a-N }", "([Property(1)])"),
+        (r"\p{greek}", "([Property(88)])"),
+        (r"[a\p{Nd}_]", "([a Property(21) '_'])"),
+        (r"[^\P{Nd}]", "([^!Property(21)])"),
+        (r"[\p{Lu}-]", "([Property(13) '-'])"),
+        (r"(?i)[\p{Lu}]", "(~[Property(13)])"),
+        (r"\pL{2}\pL", "(<[Property(6)]{2,2} [Property(6)]>)"),
+    ];
+    are_read(&rt, rt.alloc(), &ROWS)
+}
+
 #[test]
 fn named_sets_and_types(rt: HostRuntime) -> Result<(), Fail> {
     static ROWS: [(&'static str, &'static str); 22] = [

@@ -281,14 +281,27 @@ fn a_name_of_a_verb_has_255_bytes(rt: HostRuntime) -> Result<(), Fail> {
 }
 
 #[test]
-fn what_is_not_built(rt: HostRuntime) {
-    static ROWS: [(&'static str, i32, usize); 5] = [
-        (r"\pL", 195, 0),
-        (r"a\P{Greek}", 195, 1),
-        (r"[a\p{Nd}]", 195, 2),
-        ("(*UTF)a", 195, 0),
-        ("(*CR)(*UCP)a", 195, 5),
+fn faults_of_properties(rt: HostRuntime) {
+    static ROWS: [(&'static str, i32, usize); 12] = [
+        (r"\p{Nosuch}", 147, 0),
+        (r"a\P{^Lx}", 147, 1),
+        (r"\pQ", 147, 0),
+        (r"a\p{}", 147, 1),
+        (r"[a\p{Lx}b]", 147, 2),
+        ("\\p{Greek\u{e9}}", 147, 0),
+        (r"\p{Alphabetic}", 147, 0),
+        (r"\p{bidiclass:L}", 147, 0),
+        (r"\p{Grek}", 147, 0),
+        (r"[a-\p{Lu}]", 150, 2),
+        (r"[\p{Lu}-z]", 150, 7),
+        (r"[\p{Lu}", 106, 7),
     ];
+    are_refused(&rt, rt.alloc(), &ROWS);
+}
+
+#[test]
+fn what_is_not_built(rt: HostRuntime) {
+    static ROWS: [(&'static str, i32, usize); 2] = [("(*UTF)a", 195, 0), ("(*CR)(*UCP)a", 195, 0)];
     are_refused(&rt, rt.alloc(), &ROWS);
 }
 
@@ -465,7 +478,8 @@ fn options_that_are_not_built(rt: HostRuntime) {
     is_refused(&rt, rt.alloc(), utf, "a", 195, 0);
     let mut ucp = PLAIN;
     ucp.ucp = true;
-    is_refused(&rt, rt.alloc(), ucp, "a(", 195, 0);
+    is_refused(&rt, rt.alloc(), ucp, "a", 195, 0);
+    is_refused(&rt, rt.alloc(), ucp, "a(", 114, 2);
     let mut auto_callout = PLAIN;
     auto_callout.auto_callout = true;
     is_refused(&rt, rt.alloc(), auto_callout, "(*FOO)", 195, 0);

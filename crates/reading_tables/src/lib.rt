@@ -19,3 +19,5 @@ mod shown;
 mod sweeps;
 #[cfg(test)]
 mod trees;
+#[cfg(test)]
+mod unicode;

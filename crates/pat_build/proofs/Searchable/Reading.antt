@@ -1,6 +1,5 @@
 -- What is read is built of forms that can be searched.
-use Rattle.std.proofs.Common.{◌≡◌, ℕ, zero, suc, ◌+◌, ◌-◌, ◌*◌, Bool, true, false, ◌&&◌, ◌||◌, nat_lt, List, [], ◌∷◌, ◌++◌, length, map, not, Option, Some, None, Result, Ok, Err, refl, ap, All, slice_range, if◌then◌else◌}
-use Rattle.std.proofs.lemmas.List.Elements.{All-nil, All-cons, All-append}
+use Rattle.std.proofs.Common.{◌≡◌, ℕ, zero, suc, ◌+◌, ◌-◌, ◌*◌, Bool, true, false, ◌&&◌, ◌||◌, nat_lt, List, [], ◌∷◌, ◌++◌, length, map, not, Option, Some, None, Result, Ok, Err, refl, ap, slice_range, if◌then◌else◌}
 use Rattle.pat_tree.specs.declared.options.Options.{Options}
 use Rattle.pat_tree.specs.declared.nodes.Item.TheVariants as item
 use Rattle.pat_tree.specs.declared.nodes.ClassSpec.{ClassSpec}
@@ -13,14 +12,12 @@ use Rattle.token_parts.specs.declared.token.OptionMask.{OptionMask}
 use Rattle.token_parts.specs.declared.token.OpenKind.TheVariants as opening
 use Rattle.token_parts.specs.declared.token.QuantMode.{QuantMode}
 use Rattle.token_parts.specs.declared.token.QuantMode.TheVariants.{Greedy, Lazy, Possessive}
-use Rattle.token_parts.specs.declared.token.StartItem.{StartItem}
-use Rattle.token_parts.specs.declared.token.StartItem.TheVariants as start_item
 use Rattle.token_parts.specs.declared.token.Token.{Token}
 use Rattle.token_parts.specs.declared.token.Token.TheVariants as token
 use Rattle.token_parts.specs.Tell.{fault, ◌>>=◌}
-use Rattle.pat_tree.specs.Built.{IsBuilt, AreBuilt, IsBuiltTest, IsPlain}
+use Rattle.pat_tree.specs.Built.{IsBuilt, AreBuilt, IsBuiltTest}
 use Rattle.pat_build.specs.State.{State, Reads, Item, item, next, passed_over}
-use Rattle.pat_build.specs.Options.{with_setting, with_item}
+use Rattle.pat_build.specs.Options.{with_setting}
 use Rattle.pat_build.specs.declared.machine.Numbering.TheVariants.{Reset}
 use Rattle.std.specs.List.{list_any}
 use Rattle.token_parts.specs.declared.token.Target.{Target}
@@ -29,11 +26,12 @@ use Rattle.token_parts.specs.declared.token.CondText.{CondText}
 use Rattle.token_parts.specs.declared.token.CondText.TheVariants as tested
 use Rattle.pat_build.specs.Groups.{Form, grouped, atomically, looks, conditional, defines, asserted, asserting, branched, barred, restarted, groups_after, has_name, is_elsewhere, is_other, unless_named, called_by, form_in, beyond_after, built, noted, Opening, Opens, opened, captured, named, reset, named_by, missing}
 use Rattle.pat_build.specs.Parts.{alternative, repeat_of, repeated, Beginning, atom, bare, inside, asserts, nothing, over, enters, Assertion, asserted_by, settled, assertion, assertions, of_class, type_class, any_or_line, boundary, is_number, number_called, called, calls, conditions, beginning}
-use Rattle.pat_build.specs.Reading.{quantified, closed, part_then, parts_from, alternatives_from, sequence, alternatives, whole, started, start, reading, literally, checked, read_from, read}
+use Rattle.std.specs.Str.{is_utf8}
+use Rattle.pat_build.specs.Reading.{Parsed, quantified, closed, part_then, parts_from, alternatives_from, sequence, alternatives, whole, started, start, reading, characters, literally, checked, read_from, read_whole, unless_left_out, read}
 use Rattle.pat_build.specs.Searchable.{IsSearchable, SearchableLaw}
 use Rattle.pat_build.proofs.Holding.{Holds, holds_ok, holds_err, holds_then, holds_if, holds_where, holds_any, holds_of}
-use Rattle.pat_build.proofs.Searchable.Tokens.{AsksNoProperty}
-use Rattle.pat_build.proofs.Searchable.Classes.{IsPlainPart, Fits, Keeps, KeepsAfter, next_keeps, KeepsSome, passed_keeps, set_is_plain, ClassKeeps, class_keeps, ItemKeeps, item_keeps}
+use Rattle.pat_build.specs.Classes.{property_part}
+use Rattle.pat_build.proofs.Searchable.Classes.{Fits, Keeps, KeepsAfter, next_keeps, KeepsSome, passed_keeps, ClassKeeps, class_keeps, ItemKeeps, item_keeps}
 
 abbrev AllBuilt : List Nested → Type 0
 AllBuilt [] = Unit {0}
@@ -77,11 +75,6 @@ repeated_built low high Greedy ungreedy t h = repeat_built low high _ t h
 repeated_built low high Lazy ungreedy t h = repeat_built low high _ t h
 repeated_built low high Possessive ungreedy t h = (repeat_built low high _ t h, tt)
 
--- options without UTF and UCP, whatever the classes are
-record IsWithout (options : Options) : Type 0 where
-  pub utf : options.utf ≡ false
-  pub ucp : options.ucp ≡ false
-
 test_built : (t : Nested) → IsBuilt t → IsBuiltTest (tree.test_of t)
 test_built (tree.look ahead positive once ts) h = h
 test_built (tree.seq (tree.more (tree.callout c) ts)) h = absurd h.0
@@ -114,20 +107,17 @@ form_built asserting (t ∷ ts) f h = branched_built (tree.test_of t) ts (test_b
 
 -- a group, whose end puts the options around it back
 abbrev IsOpening : Opening → Type 0
-IsOpening o = IsBuiltForm o.form × IsWithout o.around
+IsOpening o = IsBuiltForm o.form × Fits o.around
 
 -- and the state in which its inside begins
 abbrev GroupKeeps : Opening × State → Type 0
 GroupKeeps r = IsOpening r.0 × Keeps r.1
 
-without : (options : Options) (classes : List ClassSpec) → Fits options classes → IsWithout options
-without options classes h = record { utf = h.utf; ucp = h.ucp }
-
 module _ (st : State) (h : Keeps st) where
   opened_keeps : (form : Form) (after : State) → IsBuiltForm form → Keeps after → Holds GroupKeeps (opened st form after)
   unfolding opened
   opened_keeps form after f k =
-      holds_if GroupKeeps _ _ _ (holds_err GroupKeeps _) (holds_ok GroupKeeps _ ((f, without st.options st.classes h), k))
+      holds_if GroupKeeps _ _ _ (holds_err GroupKeeps _) (holds_ok GroupKeeps _ ((f, h), k))
 
   captured_keeps : (after : State) → Keeps after → Holds GroupKeeps (captured st after)
   unfolding captured
@@ -196,7 +186,7 @@ asserted_keeps at (token.Open (opening.Look ahead positive true)) here after h k
 asserted_keeps at _ here after h k = holds_err TestKeeps _
 
 settled_keeps : (at : ℕ) (found : Result Item Fault) → Holds ItemKeeps found → Holds TestKeeps (settled at found)
-settled_keeps at (Ok (t, here, after)) h = let i = holds_of ItemKeeps (Ok (t, here, after)) (t, here, after) h refl in asserted_keeps at t here after i.1 i.2
+settled_keeps at (Ok (t, here, after)) h = let i = holds_of ItemKeeps (Ok (t, here, after)) (t, here, after) h refl in asserted_keeps at t here after i.0 i.1
 settled_keeps at (Err f) h = holds_err TestKeeps _
 
 assertions_begin : (text : List ℕ) (n : ℕ) (st : State) → Keeps st → (after : State) → Keeps after → Holds Begins (assertions text n st after)
@@ -225,59 +215,59 @@ boundary_built : (opposite ucp : Bool) → ucp ≡ false → IsBuilt (anchor (bo
 boundary_built true ucp off = ap not off
 boundary_built false ucp off = ap not off
 
-with_class : (spec : ClassSpec) (after : State) → IsPlain spec → Keeps after → Begins (of_class spec after)
-with_class spec after plain h =
-    (tt, record { utf = h.utf; ucp = h.ucp; plain = All-append IsPlain after.classes (spec ∷ []) h.plain (All-cons IsPlain spec [] plain (All-nil IsPlain)) })
+with_class : (spec : ClassSpec) (after : State) → Keeps after → Begins (of_class spec after)
+with_class spec after h = (tt, h)
 
-setting_keeps : (reset : Bool) (on off : OptionMask) (options : Options) (classes : List ClassSpec) → IsWithout options → All IsPlain classes →
-    Fits (with_setting reset on off options) classes
+setting_keeps : (reset : Bool) (on off : OptionMask) (options : Options) → Fits options → Fits (with_setting reset on off options)
 unfolding with_setting
-setting_keeps reset on off options classes h plain = record { utf = h.utf; ucp = h.ucp; plain = plain }
+setting_keeps reset on off options h = h
 
 module _ (known : List NameEntry) (text : List ℕ) where
-  begins : (n : ℕ) (st : State) (t : Token) (after : State) → Keeps st → AsksNoProperty t → Keeps after → Holds Begins (beginning known text n st t after)
-  begins n st token.End after h plain k = holds_ok Begins _ tt
-  begins n st token.Bar after h plain k = holds_ok Begins _ tt
-  begins n st token.Close after h plain k = holds_ok Begins _ tt
-  begins n st (token.Literal c) after h plain k = holds_ok Begins _ (tt, k)
-  begins n st token.Dot after h plain k = holds_ok Begins _ (any_built st.options.dotall, k)
-  begins n st token.NotNewline after h plain k = holds_ok Begins _ (tt, k)
-  begins n st token.LineBreak after h plain k = holds_ok Begins _ (tt, k)
-  begins n st (token.Set set opposite) after h plain k =
-      holds_ok Begins _ (with_class (type_class st (part.Set set opposite st.options.ucp)) after
-      (All-cons IsPlainPart (part.Set set opposite st.options.ucp) [] (set_is_plain set opposite st.options.ucp plain h.ucp) (All-nil IsPlainPart)) k)
-  begins n st (token.ClassStart negated) after h plain k =
+  begins : (n : ℕ) (st : State) (t : Token) (after : State) → Keeps st → Keeps after → Holds Begins (beginning known text n st t after)
+  begins n st token.End after h k = holds_ok Begins _ tt
+  begins n st token.Bar after h k = holds_ok Begins _ tt
+  begins n st token.Close after h k = holds_ok Begins _ tt
+  begins n st (token.Literal c) after h k = holds_ok Begins _ (tt, k)
+  begins n st token.Dot after h k = holds_ok Begins _ (any_built st.options.dotall, k)
+  begins n st token.NotNewline after h k = holds_ok Begins _ (tt, k)
+  begins n st token.LineBreak after h k = holds_ok Begins _ (tt, k)
+  begins n st (token.Set set opposite) after h k =
+      holds_ok Begins _ (with_class (type_class st (part.Set set opposite st.options.ucp)) after k)
+  begins n st (token.Property from to opposite) after h k =
+      holds_then (λ p. Unit {0}) Begins (property_part (slice_range text from to) opposite st.options.ucp st.at) _ (holds_any _)
+      (λ p _. holds_ok Begins _ (with_class (type_class st p) after k))
+  begins n st (token.ClassStart negated) after h k =
       holds_then (ClassKeeps text) Begins _ _ (class_keeps text n negated after k)
-      (λ r l. holds_ok Begins _ (with_class r.0 r.1 l.0 l.1))
-  begins n st token.Caret after h plain k = holds_ok Begins _ (refl, k)
-  begins n st token.Dollar after h plain k = holds_ok Begins _ (refl, k)
-  begins n st token.SubjectStart after h plain k = holds_ok Begins _ (refl, k)
-  begins n st token.SubjectEnd after h plain k = holds_ok Begins _ (refl, k)
-  begins n st token.EndOrNewline after h plain k = holds_ok Begins _ (refl, k)
-  begins n st token.StartGiven after h plain k = holds_ok Begins _ (refl, k)
-  begins n st (token.Boundary opposite) after h plain k = holds_ok Begins _ (boundary_built opposite st.options.ucp h.ucp, k)
-  begins n st token.KeepOut after h plain k = holds_if Begins _ _ _ (holds_err Begins _) (holds_ok Begins _ (tt, k))
-  begins n st (token.Reference target) after h plain k =
+      (λ r l. holds_ok Begins _ (with_class r.0 r.1 l))
+  begins n st token.Caret after h k = holds_ok Begins _ (refl, k)
+  begins n st token.Dollar after h k = holds_ok Begins _ (refl, k)
+  begins n st token.SubjectStart after h k = holds_ok Begins _ (refl, k)
+  begins n st token.SubjectEnd after h k = holds_ok Begins _ (refl, k)
+  begins n st token.EndOrNewline after h k = holds_ok Begins _ (refl, k)
+  begins n st token.StartGiven after h k = holds_ok Begins _ (refl, k)
+  begins n st (token.Boundary opposite) after h k = holds_ok Begins _ (boundary_built opposite st.options.ucp h, k)
+  begins n st token.KeepOut after h k = holds_if Begins _ _ _ (holds_err Begins _) (holds_ok Begins _ (tt, k))
+  begins n st (token.Reference target) after h k =
       holds_then (λ groups. Unit {0}) Begins (named_by known text st target) _ (holds_any _) (λ groups _. holds_ok Begins _ (tt, k))
-  begins n st (token.CallTo target) after h plain k = calls_begin known text st target after k
-  begins n st (token.Open opening.Capture) after h plain k =
+  begins n st (token.CallTo target) after h k = calls_begin known text st target after k
+  begins n st (token.Open opening.Capture) after h k =
       enters_begins _ (holds_if GroupKeeps _ _ _ (opened_keeps st h (grouped None) after tt k) (captured_keeps st h after k))
-  begins n st (token.Open opening.Plain) after h plain k = enters_begins _ (opened_keeps st h (grouped None) after tt k)
-  begins n st (token.Open opening.BranchReset) after h plain k = enters_begins _ (reset_keeps st h after k)
-  begins n st (token.Open opening.Atomic) after h plain k = enters_begins _ (opened_keeps st h atomically after tt k)
-  begins n st (token.Open (opening.Look ahead positive once)) after h plain k = enters_begins _ (opened_keeps st h (looks ahead positive once) after tt k)
-  begins n st (token.CondStart tested.Lookaround from to) after h plain k = assertions_begin text n st h after k
-  begins n st (token.CondStart cond from to) after h plain k = conditions_begin known text st h cond (slice_range text from to) after k
-  begins n st (token.Open (opening.Named from to)) after h plain k = enters_begins _ (named_keeps st h (slice_range text from to) after k)
-  begins n st (token.OptionSet reset on off true) after h plain k =
+  begins n st (token.Open opening.Plain) after h k = enters_begins _ (opened_keeps st h (grouped None) after tt k)
+  begins n st (token.Open opening.BranchReset) after h k = enters_begins _ (reset_keeps st h after k)
+  begins n st (token.Open opening.Atomic) after h k = enters_begins _ (opened_keeps st h atomically after tt k)
+  begins n st (token.Open (opening.Look ahead positive once)) after h k = enters_begins _ (opened_keeps st h (looks ahead positive once) after tt k)
+  begins n st (token.CondStart tested.Lookaround from to) after h k = assertions_begin text n st h after k
+  begins n st (token.CondStart cond from to) after h k = conditions_begin known text st h cond (slice_range text from to) after k
+  begins n st (token.Open (opening.Named from to)) after h k = enters_begins _ (named_keeps st h (slice_range text from to) after k)
+  begins n st (token.OptionSet reset on off true) after h k =
       enters_begins _ (opened_keeps st h (grouped None) (record after { options = with_setting reset on off st.options }) tt
-      (setting_keeps reset on off st.options after.classes (without st.options st.classes h) k.plain))
-  begins n st (token.OptionSet reset on off false) after h plain k =
-      holds_ok Begins _ (setting_keeps reset on off st.options after.classes (without st.options st.classes h) k.plain)
-  begins n st token.Passed after h plain k = holds_ok Begins _ k
-  begins n st token.QuoteOn after h plain k = holds_ok Begins _ k
-  begins n st token.QuoteOff after h plain k = holds_ok Begins _ k
-  begins n st _ after h plain k = holds_err Begins _
+      (setting_keeps reset on off st.options h))
+  begins n st (token.OptionSet reset on off false) after h k =
+      holds_ok Begins _ (setting_keeps reset on off st.options h)
+  begins n st token.Passed after h k = holds_ok Begins _ k
+  begins n st token.QuoteOn after h k = holds_ok Begins _ k
+  begins n st token.QuoteOff after h k = holds_ok Begins _ k
+  begins n st _ after h k = holds_err Begins _
 
 module _ (text : List ℕ) where
   after_atom : (n : ℕ) (t : Nested) (st : State) (o : Option State) → IsBuilt t → Keeps st →
@@ -301,7 +291,7 @@ module _ (text : List ℕ) where
   quantified_keeps zero t st built h = holds_err TreeKeeps _
   quantified_keeps (suc n) t st built h =
       holds_then KeepsAfter TreeKeeps (next text false st) _ (next_keeps text false st h)
-      (λ r k. after_token n t st r.0 r.1 built h (λ st l. quantified_keeps n t st built l) k.1)
+      (λ r k. after_token n t st r.0 r.1 built h (λ st l. quantified_keeps n t st built l) k)
 
   -- the state after a group
   abbrev ended_in : Opening → State → State → State
@@ -314,7 +304,7 @@ module _ (text : List ℕ) where
       ])
   closed_at opening branches st token.Close after h all k =
       holds_ok TreeKeeps (built opening.form branches, ended_in opening st after)
-      (form_built opening.form branches h.0 all, record { utf = h.1.utf; ucp = h.1.ucp; plain = k.plain })
+      (form_built opening.form branches h.0 all, h.1)
   closed_at opening branches st _ after h built k = holds_err TreeKeeps _
 
   closed_keeps : (opening : Opening) (branches : List Nested) (st : State) → IsOpening opening → AllBuilt branches → Keeps st →
@@ -322,7 +312,7 @@ module _ (text : List ℕ) where
   unfolding closed
   closed_keeps opening branches st h built k =
       holds_then KeepsAfter TreeKeeps (next text false st) _ (next_keeps text false st k)
-      (λ r l. closed_at opening branches st r.0 r.1 h built l.1)
+      (λ r l. closed_at opening branches st r.0 r.1 h built l)
 
   -- what goes on from any such state
   abbrev GoesOn : (State → Reads (List Nested)) → Type 0
@@ -371,7 +361,7 @@ module _ (text : List ℕ) where
   unfolding alternatives_from
   alternatives_from_keep again parts st goes built h =
       holds_then KeepsAfter TreesKeep (next text false st) _ (next_keeps text false st h)
-      (λ r k. alternatives_at again parts st r.0 r.1 goes built h k.1)
+      (λ r k. alternatives_at again parts st r.0 r.1 goes built h k)
 
 module _ (known : List NameEntry) (text : List ℕ) where
   mutual
@@ -381,7 +371,7 @@ module _ (known : List NameEntry) (text : List ℕ) where
     sequence_keeps zero st h = holds_err TreesKeep _
     sequence_keeps (suc n) st h =
         holds_then KeepsAfter TreesKeep (next text false st) _ (next_keeps text false st h)
-        (λ r k. holds_then Begins TreesKeep _ _ (begins known text n st r.0 r.1 h k.0 k.1)
+        (λ r k. holds_then Begins TreesKeep _ _ (begins known text n st r.0 r.1 h k)
         (λ what l. parts_keep text n (alternatives known text n) (sequence known text n) st what (alternatives_keep n) (sequence_keeps n) h l))
 
     alternatives_keep : (n : ℕ) (st : State) → Keeps st → Holds TreesKeep (alternatives known text n st)
@@ -407,86 +397,63 @@ reading_keeps known text st h =
     holds_then TreesKeep TreeKeeps (alternatives known text (2 * length text + 2) st) _ (alternatives_keep known text (2 * length text + 2) st h)
     (λ r k. whole_keeps text r.0 r.1 k.0 k.1)
 
--- no start item sets UTF or UCP
-item_without : (i : StartItem) (at : ℕ) (options : Options) → IsWithout options → Holds IsWithout (with_item i at options)
-unfolding with_item
-item_without (start_item.NewlineIs newline) at o h = holds_ok IsWithout _ (record { utf = h.utf; ucp = h.ucp })
-item_without (start_item.BsrIs bsr) at o h = holds_ok IsWithout _ (record { utf = h.utf; ucp = h.ucp })
-item_without start_item.Utf at o h = holds_err IsWithout _
-item_without start_item.Ucp at o h = holds_err IsWithout _
-item_without start_item.NotEmpty at o h = holds_ok IsWithout _ (record { utf = h.utf; ucp = h.ucp })
-item_without start_item.NotEmptyAtStart at o h = holds_ok IsWithout _ (record { utf = h.utf; ucp = h.ucp })
-item_without start_item.NoStartOpt at o h = holds_ok IsWithout _ (record { utf = h.utf; ucp = h.ucp })
-item_without start_item.NoEffect at o h = holds_ok IsWithout _ (record { utf = h.utf; ucp = h.ucp })
-item_without (start_item.LimitMatch limit) at o h = holds_ok IsWithout _ (record { utf = h.utf; ucp = h.ucp })
+-- what is read without UCP is built
+abbrev BuiltWithout : Parsed → Type 0
+BuiltWithout parsed = Fits parsed.options → IsBuilt parsed.tree
 
-started_at : (text : List ℕ) (n : ℕ) (st : State) (found : Token) (after : State) → Keeps st → Keeps after →
-    ((st : State) → Keeps st → Holds Keeps (started text n st)) →
-    Holds Keeps (elim found [
-      | token.Start i ↦ with_item i st.at st.options >>= λ options. started text n (record after { options = options })
-      | _ ↦ Ok st
-    ])
-started_at text n st (token.Start i) after h k again =
-    holds_then IsWithout Keeps _ _ (item_without i st.at st.options (without st.options st.classes h))
-    (λ options l. again (record after { options = options }) (record { utf = l.utf; ucp = l.ucp; plain = k.plain }))
-started_at text n st _ after h k again = holds_ok Keeps st h
+checked_built : (options : Options) (beyond bad : Option ℕ) (t : Nested) (last : State) → (Fits options → IsBuilt t) →
+    Holds BuiltWithout (checked options beyond bad t last)
+checked_built options (Some at) bad t last h = holds_err BuiltWithout _
+checked_built options None (Some at) t last h = holds_err BuiltWithout _
+checked_built options None None t last h = holds_ok BuiltWithout _ h
 
-started_keeps : (text : List ℕ) (n : ℕ) (st : State) → Keeps st → Holds Keeps (started text n st)
-unfolding started
-started_keeps text zero st h = holds_err Keeps _
-started_keeps text (suc n) st h =
-    holds_then KeepsAfter Keeps (next text false st) _ (next_keeps text false st h)
-    (λ r k. started_at text n st r.0 r.1 h k.1 (started_keeps text n))
+-- the tree of a reading from a state without UCP
+abbrev TreeBuilt : State → Nested × State → Type 0
+TreeBuilt st r = Keeps st → IsBuilt r.0
 
-checked_searchable : (options : Options) (beyond bad : Option ℕ) (t : Nested) (last : State) → IsWithout options → IsBuilt t → Keeps last →
-    Holds IsSearchable (checked options beyond bad t last)
-checked_searchable options (Some at) bad t last h built k = holds_err IsSearchable _
-checked_searchable options None (Some at) t last h built k = holds_err IsSearchable _
-checked_searchable options None None t last h built k =
-    holds_ok IsSearchable _ (record { built = built; without_utf = h.utf; without_ucp = h.ucp; plain = k.plain })
+tree_built : (st : State) (r : Reads Nested) → (Keeps st → Holds TreeKeeps r) → Holds (TreeBuilt st) r
+unfolding Holds
+tree_built st (Ok r) h = λ off. (h off).0
+tree_built st (Err f) h = tt
 
-read_from_searchable : (text : List ℕ) (st : State) → Keeps st → Holds IsSearchable (read_from text st)
+read_from_built : (text : List ℕ) (st : State) → Holds BuiltWithout (read_from text st)
 unfolding read_from
-read_from_searchable text st h =
-    holds_then (λ r. Unit {0}) IsSearchable (reading [] text st) _ (holds_any _)
-    (λ first _. holds_then TreeKeeps IsSearchable (reading first.1.names text st) _ (reading_keeps first.1.names text st h)
-    (λ r k. checked_searchable st.options r.1.beyond (missing r.1.groups r.1.references) r.0 r.1 (without st.options st.classes h) k.0 k.1))
+read_from_built text st =
+    holds_then (λ r. Unit {0}) BuiltWithout (reading [] text st) _ (holds_any _)
+    (λ first _. holds_then (TreeBuilt st) BuiltWithout (reading first.1.names text st) _ (tree_built st (reading first.1.names text st) (reading_keeps first.1.names text st))
+    (λ r k. checked_built st.options r.1.beyond (missing r.1.groups r.1.references) r.0 r.1 k))
 
 characters_built : (caseless : Bool) (text : List ℕ) → AllBuilt (map (λ c. one (item.Char c caseless)) text)
 characters_built caseless [] = tt
 characters_built caseless (c ∷ cs) = (tt, characters_built caseless cs)
 
-literally_searchable : (options : Options) (text : List ℕ) → IsWithout options → IsSearchable (literally options text)
+literally_built : (options : Options) (text : List ℕ) → BuiltWithout (literally options text)
 unfolding literally
-literally_searchable options text h = record {
-  built = (alternative_built _ (characters_built options.caseless text), tt);
-  without_utf = h.utf;
-  without_ucp = h.ucp;
-  plain = All-nil IsPlain;
-}
+literally_built options text off = (alternative_built _ (characters_built options.caseless (characters options.utf text)), tt)
+
+whole_built : (options : Options) (text : List ℕ) → Holds BuiltWithout (read_whole options text)
+whole_built options text =
+    holds_if BuiltWithout (nat_lt 65536 (length text)) _ _ (holds_err BuiltWithout _)
+    (holds_if BuiltWithout options.auto_callout _ _ (holds_err BuiltWithout _)
+    (holds_if BuiltWithout options.literal _ _
+    (holds_if BuiltWithout (options.utf && not (is_utf8 text)) _ _ (holds_err BuiltWithout _) (holds_ok BuiltWithout _ (literally_built options text)))
+    (holds_then (λ st. Unit {0}) BuiltWithout (started text (length text + 1) (start options)) _ (holds_any _)
+    (λ st _. holds_if BuiltWithout (st.options.utf && not (is_utf8 text)) _ _ (holds_err BuiltWithout _) (read_from_built text st)))))
 
 neither : (a b : Bool) → (a || b) ≡ false → (a ≡ false) × (b ≡ false)
 neither true b none = cc
 neither false b none = (refl, none)
 
-without_both : (options : Options) → (options.utf || (options.ucp || options.auto_callout)) ≡ false → IsWithout options
-without_both options none =
-    let first = neither options.utf (options.ucp || options.auto_callout) none in
-    let second = neither options.ucp options.auto_callout first.1 in
-    record { utf = first.0; ucp = second.0 }
-
-starts_without : (options : Options) → IsWithout options → Keeps (start options)
-starts_without options h = record { utf = h.utf; ucp = h.ucp; plain = All-nil IsPlain }
+within_searchable : (parsed : Parsed) → BuiltWithout parsed → Holds IsSearchable (unless_left_out parsed)
+within_searchable parsed built =
+    holds_where IsSearchable (parsed.options.utf || parsed.options.ucp) _ _ (holds_err IsSearchable _) (λ none.
+    let off = neither parsed.options.utf parsed.options.ucp none in
+    holds_ok IsSearchable parsed (record { built = built off.1; without_utf = off.0; without_ucp = off.1 }))
 
 read_searchable : (options : Options) (text : List ℕ) → Holds IsSearchable (read options text)
 unfolding read
 read_searchable options text =
-    holds_if IsSearchable (nat_lt 65536 (length text)) _ _ (holds_err IsSearchable _)
-    (holds_where IsSearchable (options.utf || (options.ucp || options.auto_callout)) _ _ (holds_err IsSearchable _) (λ none.
-    holds_if IsSearchable options.literal _ _ (holds_ok IsSearchable _ (literally_searchable options text (without_both options none)))
-    (holds_then Keeps IsSearchable (started text (length text + 1) (start options)) _
-    (started_keeps text (length text + 1) (start options) (starts_without options (without_both options none)))
-    (read_from_searchable text))))
+    holds_then BuiltWithout IsSearchable (read_whole options text) unless_left_out (whole_built options text) within_searchable
 
 pub searchable_law : SearchableLaw
 searchable_law options text parsed is = holds_of IsSearchable (read options text) parsed (read_searchable options text) is

@@ -1,14 +1,18 @@
-use Rattle.std.proofs.Common.{◌≡◌, length, map, take}
-use Rattle.pat_tree.specs.declared.nodes.Item.TheVariants.{Char}
-use Rattle.pat_tree.specs.Nested.{one}
-use Rattle.pat_tree.specs.Growing.{Stand, loose}
+use Rattle.std.proofs.Common.{◌≡◌, ◌-◌, ◌≤◌, length}
+use Rattle.uni_text.specs.Characters.{IsPlace}
+use Rattle.pat_tree.specs.Growing.{loose}
 use Rattle.pat_build.specs.Machine.{Adds}
+use Rattle.pat_build.proofs.Literally.{Reached}
 use Rattle.pat_build.proofs.literal.characters.Given as goal
 
-abbrev pub invariant-loop-i : goal.invariant-loop-i
-invariant-loop-i l = record {
-  stand : Stand l.draft.nodes l.kids (map (λ c. one (Char c l.caseless)) (take l.i l.text));
+abbrev pub invariant-texts : goal.invariant-texts
+invariant-texts l = record {
+  stand : Reached l.draft.nodes l.utf l.caseless l.text l.kids l.at;
+  place : IsPlace l.utf l.text l.at;
   loose : loose l.draft.nodes ≡ l.kids;
   adds : Adds l.fn.draft l.draft;
-  count : length l.draft.nodes ≡ l.i;
+  count : length l.draft.nodes ≤ l.at;
 }
+
+abbrev pub decreases-texts : goal.decreases-texts
+decreases-texts l = length l.text - l.at

@@ -3,11 +3,11 @@ use Rattle.pat_build.specs.Reading.{started, start}
 use Rattle.pat_build.specs.Machine.{state_from}
 use Rattle.pat_build.proofs.start.started.Given as goal
 
-abbrev pub invariant-loop-token : goal.invariant-loop-token
-invariant-loop-token l = record {
+abbrev pub invariant-items : goal.invariant-items
+invariant-items l = record {
   within : l.at ≤ length l.text;
   value : (n : ℕ) × (length l.text < n + l.at) × (started l.text (length l.text + 1) (start l.fn.options) ≡ started l.text n (state_from l.at l.options));
 }
 
-abbrev pub decreases-loop-token : goal.decreases-loop-token
-decreases-loop-token l = length l.text - l.at
+abbrev pub decreases-items : goal.decreases-items
+decreases-items l = length l.text - l.at

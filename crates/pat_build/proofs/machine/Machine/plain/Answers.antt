@@ -35,6 +35,7 @@ returns-in_default-clause-bad c =
       | token.StartGiven ↦ λ e p q. absurd (no.not-StartGiven e)
       | token.Boundary opposite ↦ λ e p q. absurd (no.not-Boundary opposite e)
       | token.Set set outside ↦ λ e p q. absurd (no.not-Set set outside e)
+      | token.Property from to outside ↦ λ e p q. absurd (no.not-Property from to outside e)
       | token.Reference target ↦ λ e p q. absurd (no.not-Reference target e)
       | token.CallTo target ↦ λ e p q. absurd (no.not-CallTo target e)
       | token.QuoteOn ↦ λ e p q. absurd p

@@ -1,0 +1,17 @@
+use Rattle.std.proofs.Common.{refl, sym}
+use Rattle.std.proofs.lemmas.Result.{err_from_is_err_and}
+use Rattle.token_parts.specs.declared.token.Token.TheVariants.{Property}
+use Rattle.pat_build.proofs.Waiting.{bad_means}
+use Rattle.pat_build.proofs.machine.Machine.property.Goals as goal
+
+pub returns-in_err-part-clause-bad : goal.returns-in_err-part-clause-bad
+returns-in_err-part-clause-bad c =
+    let p = err_from_is_err_and c.from_residual.result c.from_residual.ensures.1 in
+    let m = c.args.self.now in
+    rw (p.1, p.2)
+    (bad_means m c.requires.means (Property c.args.from c.args.to c.args.not) c.args.after c.in_err-part.field-0.0 c.requires
+    (λ n h. rw (sym c.in_err-part.ensures) refl))
+
+pub class-requires-clause-ready : goal.class-requires-clause-ready
+class-requires-clause-ready c =
+    (Property c.args.from c.args.to c.args.not, c.args.after, c.requires, refl, λ n h. rw (sym c.in_ok-part.ensures) refl)
