@@ -13,7 +13,8 @@ use Rattle.pat_tree.specs.declared.nodes.ClassSpec.{ClassSpec}
 use Rattle.char_sets.specs.declared.edges.Edge.{Edge}
 use Rattle.char_sets.specs.Places.{splits, IsSteady, AllSteady}
 use Rattle.char_sets.specs.Sets.{part_has, takes}
-use Rattle.char_sets.specs.Table.{edge_at, answer_at, has_byte, char_in, IsEdges}
+use Rattle.byte_lanes.specs.Sets.{has_byte}
+use Rattle.char_sets.specs.Table.{edge_at, answer_at, char_in, IsEdges}
 
 -- the edges rise
 abbrev Rise : List Edge → Type 0

@@ -1,5 +1,5 @@
 pub mod AlikeLemmas
-pub mod BitLemmas
+pub mod ByteLemmas
 pub mod EdgeLemmas
 pub mod FoldLemmas
 pub mod PairLemmas

@@ -8,7 +8,8 @@ use Rattle.std.proofs.lemmas.Option.{get_or_from_slice_get}
 use Rattle.pat_tree.specs.declared.nodes.ClassSpec.{ClassSpec}
 use Rattle.pat_tree.specs.Parts.{TreeParts}
 use Rattle.char_sets.specs.Sets.{takes, class_has, no_class}
-use Rattle.char_sets.specs.Table.{CharSet, char_in, has_byte, answer_at, table_has, no_chars, IsTableOf}
+use Rattle.byte_lanes.specs.Sets.{has_byte}
+use Rattle.char_sets.specs.Table.{CharSet, char_in, answer_at, table_has, no_chars, IsTableOf}
 
 -- a class that was there is found as before
 pub table_has-before : (old : List CharSet) (e : CharSet) (class c : ℕ) → class < length old → table_has (old ++ e ∷ []) class c ≡ table_has old class c

@@ -1,23 +1,10 @@
 -- What a table of classes keeps.
-use Rattle.std.specs.Prelude.{◌≡◌, ℕ, ◌<◌, ◌/◌, ◌%◌, Bool, false, ◌==◌, nat_lt, nat_le, if◌then◌else◌, List, [], ◌∷◌, length, map, slice_index, slice_index_or}
-use Rattle.std.specs.Int.{bit_at}
-use Rattle.std.specs.List.{range_with_len}
+use Rattle.std.specs.Prelude.{◌≡◌, ℕ, ◌<◌, Bool, false, nat_lt, nat_le, if◌then◌else◌, List, [], ◌∷◌, length, slice_index_or}
 use Rattle.std.specs.List.Sorted.{IsNonDecreasingBy}
+use Rattle.byte_lanes.specs.Sets.{has_byte}
 use Rattle.pat_tree.specs.Parts.{TreeParts}
 use Rattle.char_sets.specs.Sets.{class_has}
 use Rattle.char_sets.specs.declared.edges.Edge.{Edge}
-
--- bit b % 64 of word b / 64 is set
-abbrev pub has_bit : List ℕ → ℕ → Bool
-has_bit words b = bit_at (slice_index words (b / 64)) (b % 64) == 1
-
--- the flag of each byte
-unfoldable pub flags : List ℕ → List Bool
-flags words = map (has_bit words) (range_with_len 0 256)
-
--- whether the byte is in the set
-abbrev pub has_byte : List Bool → ℕ → Bool
-has_byte set b = slice_index_or set b false
 
 -- the answer of the last edge that is not past c, or the earlier answer
 abbrev pub answer_at : Bool → List Edge → ℕ → Bool

@@ -4,10 +4,11 @@ ghost use Rattle.char_sets.specs.Sets as spec;
 ghost use Rattle.char_sets.specs.Table.{answer_at, char_in, edge_at, IsEdges};
 ghost use Rattle.char_sets.specs.Places.{AllSteady};
 
-use crate::bytes::ByteBits;
+use crate::bytes::bytes_of;
 use crate::edges::{Edge, add_places};
 use crate::sets::takes;
 use crate::unicode::add_asked_places;
+use byte_lanes::ByteSet;
 use pat_tree::{ClassSpec, Memory, Part};
 use std::alloc::Global;
 use std::marker::Model;
@@ -15,7 +16,7 @@ use std::marker::Model;
 /// The characters that one class takes.
 #[derive(Drop)]
 pub(crate) struct Entry {
-    bytes: ByteBits,
+    bytes: ByteSet,
     edges: Vec<Edge>,
 }
 
@@ -37,8 +38,15 @@ impl Entry {
         let mut places = places_of(alloc, class.parts.as_slice(), class.caseless, utf)?;
         places.sort_unstable();
         let edges = edges_at(alloc, class, utf, &places)?;
-        let bytes = ByteBits::of(class, utf);
+        let bytes = bytes_of(class, utf);
         Ok(Entry { bytes, edges })
+    }
+
+    /// The bytes that the class takes.
+    pub(crate) fn bytes(&self) -> &ByteSet
+        ensures { result.now ≡ self.now.bytes }
+    {
+        &self.bytes
     }
 
     /// Whether the class takes `c`.

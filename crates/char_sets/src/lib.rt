@@ -12,5 +12,6 @@ mod table;
 mod tests;
 mod unicode;
 
+pub use bytes::{add_range, both_cases};
 pub use laws::{ranges_fold, worked_rows, worked_unicode};
 pub use table::ClassTable;

@@ -27,7 +27,7 @@ fn some_part_has(parts: &[Part], caseless: bool, utf: bool, c: u64) -> bool
 }
 
 /// Whether a part of a class takes `c`.
-fn part_has(part: &Part, caseless: bool, utf: bool, c: u64) -> bool
+pub(crate) fn part_has(part: &Part, caseless: bool, utf: bool, c: u64) -> bool
     ensures { result ≡ spec.part_has utf caseless part.now c }
 {
     match *part {
@@ -174,7 +174,7 @@ fn is_digit(c: u64) -> bool
     matches!(c, 0x30..=0x39)
 }
 
-fn is_letter(c: u64) -> bool
+pub(crate) fn is_letter(c: u64) -> bool
     ensures { result ≡ ascii.is_letter c }
 {
     matches!(c, 0x41..=0x5A | 0x61..=0x7A)

@@ -1,10 +1,12 @@
 //! The classes of a tree as tables.
-ghost use Rattle.std.specs.Prelude.{◌≡◌, ◌+◌, ◌<◌, IfOk, length};
+ghost use Rattle.std.specs.Prelude.{◌≡◌, ℕ, ◌+◌, ◌<◌, IfOk, length};
+ghost use Rattle.byte_lanes.specs.Sets.{has_byte};
 ghost use Rattle.pat_tree.specs.Parts.{TreeParts};
 ghost use Rattle.char_sets.specs.Sets.{class_has};
 ghost use Rattle.char_sets.specs.Table.{table_has, IsTableOf};
 
 use crate::entry::Entry;
+use byte_lanes::ByteSet;
 use pat_tree::{Memory, Steps, Tree};
 use std::alloc::Global;
 use std::marker::Model;
@@ -47,6 +49,17 @@ impl ClassTable {
         ensures { result ≡ length self.now }
     {
         self.entries.len() as u32
+    }
+
+    /// The bytes that the class takes, as characters.
+    #[inline]
+    #[tactic(auto, unfolding(crate::specs::Table::table_has))]
+    pub fn bytes(&self, class: u32) -> &ByteSet
+        requires { class < length self.now }
+        ensures { (tree : TreeParts) → IsTableOf tree self.now
+            → (b : ℕ) → b < 256 → has_byte result.now b ≡ class_has tree class b }
+    {
+        self.entries[class as usize].bytes()
     }
 
     /// Whether the class takes the character of number `c`. It is one look-up where `c` is below 256. Counts one test.

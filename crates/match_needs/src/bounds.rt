@@ -173,7 +173,7 @@ fn bounds_of(alloc: Global, tree: &Tree) -> Result<Vec<Option<Bound>>, Memory>
     ensures count { IfOk result (λ bounds. length bounds.items ≡ tree.now.root + 1) }
     ensures kept { IfOk result (λ bounds. KeepBounds (trees tree.now.nodes) bounds.items) }
 {
-    let mut bounds = Vec::new(alloc);
+    let mut bounds = Vec::with_capacity(alloc, tree.root() as usize + 1)?;
     for id in 0..tree.root() as u64 + 1 {
         let bound = bound_of(tree.node(id as u32), &bounds);
         bounds.push(bound)?;

@@ -4,7 +4,6 @@
 
 mod bounds;
 mod needs;
-mod taken;
 
 pub use bounds::{Bound, Growth};
 pub use needs::{Need, need_of};

@@ -11,13 +11,10 @@ ghost use Rattle.match_needs.specs.Needs.{Needs, SomeNeeds};
 ghost use Rattle.match_needs.specs.NeedTables.{IsNeed, IsItemNeed, AreAllNeeds, KeepNeeds, AreNeeds, IsNeedOf};
 
 use crate::bounds::{Bound, bound_of_whole};
-use crate::taken::may_take;
 use byte_lanes::ByteSet;
-use char_sets::ClassTable;
-use pat_tree::{Item, Memory, Node, NodeId, Steps, Tree};
+use char_sets::{ClassTable, both_cases};
+use pat_tree::{Item, Memory, Node, NodeId, Tree};
 use std::alloc::Global;
-use std::marker::Brand;
-use std::sync::ledger::{Blank, Ledger};
 
 /// A set of bytes of which every match takes one, and what a search takes at most. So a subject without such a byte has no
 /// match, and within the limits a search of it passes none.
@@ -43,43 +40,13 @@ pub fn need_of(alloc: Global, tree: &Tree, classes: &ClassTable) -> Result<Optio
     requires table { IsTableOf tree.now classes.now }
     ensures { IfOk result (λ need. IfSome need (IsNeedOf tree.now)) }
 {
-    need_with::<Brand>(alloc, tree, classes, Blank::new(1))
-}
-
-/// The same, by a counter of its own.
-fn need_with<L: Ledger>(
-    alloc: Global,
-    tree: &Tree,
-    classes: &ClassTable,
-    blank: Blank,
-) -> Result<Option<Need>, Memory>
-    requires name { blank.name ≡ L.name }
-    requires parts { blank.parts ≡ L.parts }
-    requires one { blank.parts ≡ 1 }
-    requires table { IsTableOf tree.now classes.now }
-    ensures { IfOk result (λ need. IfSome need (IsNeedOf tree.now)) }
-{
-    let mut steps = Steps::<L>::new(blank);
-    need_of_whole(alloc, tree, classes, &mut steps)
-}
-
-/// The same, with a counter for the tests of classes.
-fn need_of_whole<L: Ledger>(
-    alloc: Global,
-    tree: &Tree,
-    classes: &ClassTable,
-    steps: &mut Steps<L>,
-) -> Result<Option<Need>, Memory>
-    requires table { IsTableOf tree.now classes.now }
-    ensures { IfOk result (λ need. IfSome need (IsNeedOf tree.now)) }
-{
     if tree.options().utf {
         return Ok(None);
     }
     let Some(bound) = bound_of_whole(alloc, tree)? else {
         return Ok(None);
     };
-    let needs = needs_of(alloc, tree, classes, steps)?;
+    let needs = needs_of(alloc, tree, classes)?;
     Ok(with_bound(&needs[tree.root() as usize], bound))
 }
 
@@ -98,32 +65,22 @@ fn with_bound(need: &Option<Wanted>, bound: Bound) -> Option<Need>
 }
 
 /// What is needed of each node up to the root.
-fn needs_of<L: Ledger>(
-    alloc: Global,
-    tree: &Tree,
-    classes: &ClassTable,
-    steps: &mut Steps<L>,
-) -> Result<Vec<Option<Wanted>>, Memory>
+fn needs_of(alloc: Global, tree: &Tree, classes: &ClassTable) -> Result<Vec<Option<Wanted>>, Memory>
     requires { IsTableOf tree.now classes.now }
     ensures count { IfOk result (λ needs. length needs.items ≡ tree.now.root + 1) }
     ensures kept { IfOk result (λ needs.
         KeepNeeds (class_has tree.now) (trees tree.now.nodes) needs.items) }
 {
-    let mut needs = Vec::new(alloc);
+    let mut needs = Vec::with_capacity(alloc, tree.root() as usize + 1)?;
     for id in 0..tree.root() as u64 + 1 {
-        let need = node_need(classes, tree.node(id as u32), &needs, steps);
+        let need = node_need(classes, tree.node(id as u32), &needs);
         needs.push(need)?;
     }
     Ok(needs)
 }
 
 /// What is needed of a node, by what is needed of its children.
-fn node_need<L: Ledger>(
-    classes: &ClassTable,
-    node: &Node,
-    needs: &[Option<Wanted>],
-    steps: &mut Steps<L>,
-) -> Option<Wanted>
+fn node_need(classes: &ClassTable, node: &Node, needs: &[Option<Wanted>]) -> Option<Wanted>
     requires classes { All (λ n. n < length classes.now) (classes_of node.now) }
     requires below { All (λ k. k < length needs.now) (kids_of node.now) }
     ensures { (tree : TreeParts) → IsTableOf tree classes.now → (trees : List Nested)
@@ -131,10 +88,10 @@ fn node_need<L: Ledger>(
         → IsNeed (class_has tree) (nest trees node.now) result }
 {
     match node {
-        Node::One(item) => item_need(classes, item, steps),
+        Node::One(item) => item_need(classes, item),
         Node::Seq(kids) => rarest(kids.as_slice(), needs),
         Node::Group { branches, .. } => each_of(branches.as_slice(), needs),
-        Node::OneRepeat { item, min, .. } if *min > 0 => item_need(classes, item, steps),
+        Node::OneRepeat { item, min, .. } if *min > 0 => item_need(classes, item),
         Node::Atomic(branches) => each_of(branches.as_slice(), needs),
         Node::Look {
             ahead,
@@ -153,15 +110,15 @@ fn wanted_if(ahead: bool, positive: bool, wanted: Option<Wanted>) -> Option<Want
 }
 
 /// The bytes that a character or a class takes, where they are rare.
-fn item_need<L: Ledger>(classes: &ClassTable, item: &Item, steps: &mut Steps<L>) -> Option<Wanted>
+fn item_need(classes: &ClassTable, item: &Item) -> Option<Wanted>
     requires class { All (λ n. n < length classes.now) (class_in item.now) }
     ensures { (tree : TreeParts) → IsTableOf tree classes.now
         → IfSome result (IsItemNeed (class_has tree) item.now) }
 {
     match item {
         Item::Char { c, caseless: false } => one_byte(*c),
-        Item::Char { .. } => rare_bytes(classes, item, steps),
-        Item::Class(_) => rare_bytes(classes, item, steps),
+        Item::Char { c, caseless: true } => if_rare(both_cases(*c)),
+        Item::Class(class) => if_rare(classes.bytes(*class).copied()),
         _ => None,
     }
 }
@@ -181,24 +138,26 @@ fn one_byte(c: u32) -> Option<Wanted>
     })
 }
 
-/// The bytes that an item may take, where they are rare enough.
-fn rare_bytes<L: Ledger>(classes: &ClassTable, item: &Item, steps: &mut Steps<L>) -> Option<Wanted>
-    requires class { All (λ n. n < length classes.now) (class_in item.now) }
-    ensures { (tree : TreeParts) → IsTableOf tree classes.now
-        → IfSome result (IsItemNeed (class_has tree) item.now) }
+/// These bytes, where they are rare enough.
+fn if_rare(bytes: ByteSet) -> Option<Wanted>
+    ensures { IfSome result (λ w. w.bytes ≡ bytes) }
 {
-    let mut bytes = ByteSet::empty();
+    let weight = weight_of(&bytes)?;
+    Some(Wanted { bytes, weight })
+}
+
+/// How common the bytes of a set are, where they are rare enough.
+fn weight_of(bytes: &ByteSet) -> Option<u32> {
     let mut weight = 0u32;
     for b in 0..256u32 {
-        if may_take(classes, item, b as u8, steps) {
-            bytes.insert(b as u8);
+        if bytes.has(b as u8) {
             weight = weight.saturating_add(commonness(b as u8));
             if weight > COMMON {
                 return None;
             }
         }
     }
-    Some(Wanted { bytes, weight })
+    Some(weight)
 }
 
 /// How common a byte is: spaces most, then letters and digits, then signs.

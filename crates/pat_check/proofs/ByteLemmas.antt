@@ -5,11 +5,9 @@ use Rattle.std.specs.Int.{is_in_range}
 use Rattle.std.proofs.Math.Bool.{or-true}
 use Rattle.std.proofs.lemmas.Bool.{cases_lt, eqb-true, eqb-false}
 use Rattle.std.proofs.lemmas.Bool.Decides.{nat_tests}
-use Rattle.uni_text.specs.Ascii.{ascii_fold}
 use Rattle.byte_lanes.specs.declared.line_end.EndKind.TheVariants as kind
 use Rattle.pat_check.specs.Lead.{begins_with}
-use Rattle.uni_text.specs.Folding.{fold}
-use Rattle.pat_check.specs.Starts.{FoldsIn, char_lead, folded}
+use Rattle.pat_check.specs.Starts.{char_lead}
 
 -- the first byte in UTF by the tests of the encoding
 lead_by : (low high one two three : Bool) → ℕ → ℕ → Bool
@@ -71,13 +69,10 @@ break_bytes b =
     rw (flip b 13, flip b 10, flip b 11, flip b 12, flip b 194, flip b 226)
     (reordered (226 == b) (13 == b) (194 == b) (10 == b) (11 == b) (12 == b))
 
--- Folding.
+-- in UTF the bytes past ASCII begin characters besides
+pub begun_is : (b : ℕ) (x : Bool) → b < 256 → (x || is_in_range 128 255 b) ≡ (nat_le 128 b || x)
+begun_is b true l = sym (or-true _)
+begun_is b false l = grind (arith, nat_tests)
 
-same_eq : (x y z w : ℕ) → x ≡ z → y ≡ w → nat_eq x y ≡ (z == w)
-same_eq x y z w e f = grind (arith, nat_tests)
-
--- two characters fold to one
-pub folds_same : (utf : Bool) (folding : ℕ → ℕ) (c b : ℕ) → FoldsIn utf folding →
-    nat_eq (folded utf c) (folded utf b) ≡ (elim utf [ true ↦ folding c | false ↦ ascii_fold c ] == elim utf [ true ↦ folding b | false ↦ ascii_fold b ])
-folds_same false folding c b f = same_eq (ascii_fold c) (ascii_fold b) (ascii_fold c) (ascii_fold b) refl refl
-folds_same true folding c b f = same_eq (fold c) (fold b) (folding c) (folding b) (sym (f c)) (sym (f b))
+pub all_is : (b : ℕ) → b < 256 → (false || is_in_range 0 255 b) ≡ true
+all_is b l = grind (arith, nat_tests)

@@ -60,12 +60,7 @@ item_lead_in tree folding item b =
     let utf = tree.options.utf in
     item_lead utf (end_kind tree.options.newline utf) (break_kind tree.options.bsr utf) (class_has tree) folding item b
 
--- the item takes a byte as a character
-abbrev pub byte_taken : TreeParts → (ℕ → ℕ) → Item → ℕ → Bool
-byte_taken tree folding item b =
-    let utf = tree.options.utf in
-    takes_byte utf (end_kind tree.options.newline utf) (break_kind tree.options.bsr utf) (class_has tree) folding item b
-
+-- the character takes a byte as a character
 abbrev pub char_taken : Bool → (ℕ → ℕ) → ℕ → Bool → ℕ → Bool
 char_taken utf folding c caseless b = takes_byte utf kind.Lf kind.Lf (λ n d. false) folding (Char c caseless) b
 
@@ -76,11 +71,6 @@ char_lead utf c b = item_lead utf kind.Lf kind.Lf (λ n d. false) (λ d. d) (Cha
 abbrev pub is_first : Option ℕ → ℕ → Bool
 is_first None b = false
 is_first (Some c) b = c == b
-
--- a character as it is folded
-abbrev pub folded : Bool → ℕ → ℕ
-folded true c = fold c
-folded false c = ascii_fold c
 
 -- the bytes that `\R` begins with
 abbrev pub break_lead_in : Bsr → Bool → ℕ → Bool

@@ -18,7 +18,7 @@ ghost use Rattle.pat_lengths.specs.Places.{ArePlaces};
 ghost use Rattle.match_needs.specs.NeedTables.{IsNeedOf};
 ghost use Rattle.pat_check.specs.Known.{IsByteSet, IsCheckError, lead_set_of};
 ghost use Rattle.pat_check.specs.Size as sizes;
-ghost use Rattle.pat_check.specs.Starts.{FoldsIn, known_set, lead_in};
+ghost use Rattle.pat_check.specs.Starts.{FoldsIn};
 ghost use Rattle.pat_check.specs.Support as support;
 
 use crate::leads::lead_set;
@@ -30,10 +30,8 @@ use char_sets::ClassTable;
 use match_needs::{Need, need_of};
 use node_flow::{Flow, preorder};
 use pat_lengths::{Backs, Groups, branch_spans, fault_in, greatest_in, group_table, passes_whole};
-use pat_tree::{Memory, NodeId, Steps, Tree};
+use pat_tree::{Memory, NodeId, Tree};
 use std::alloc::Global;
-use std::marker::Brand;
-use std::sync::ledger::{Blank, Ledger};
 
 /// What is known of a pattern before any search.
 #[derive(Drop)]
@@ -213,24 +211,5 @@ fn lead_unless(
     if has_accept {
         return Ok(None);
     }
-    lead_of_whole::<Brand>(alloc, tree, classes, Blank::new(1))
-}
-
-/// The bytes that every match begins with, apart from ACCEPT, by a counter of its own.
-fn lead_of_whole<L: Ledger>(
-    alloc: Global,
-    tree: &Tree,
-    classes: &ClassTable,
-    blank: Blank,
-) -> Result<Option<ByteSet>, Memory>
-    requires name { blank.name ≡ L.name }
-    requires parts { blank.parts ≡ L.parts }
-    requires one { blank.parts ≡ 1 }
-    requires table { IsTableOf tree.now classes.now }
-    ensures { (fold : ℕ → ℕ) → FoldsIn tree.now.options.utf fold
-        → IfOk result (λ set.
-        IsByteSet set (known_set (lead_in tree.now fold (tree_of tree.now)))) }
-{
-    let mut steps = Steps::<L>::new(blank);
-    lead_set(alloc, tree, classes, &mut steps)
+    lead_set(alloc, tree, classes)
 }

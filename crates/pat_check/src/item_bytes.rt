@@ -1,35 +1,87 @@
 // The bytes that an item or `\R` may begin with.
-ghost use Rattle.std.specs.Prelude.{◌≡◌, ℕ, ◌<◌, true, All, length};
+ghost use Rattle.std.specs.Prelude.{◌≡◌, ℕ, ◌<◌, ◌||◌, ◌&&◌, ◌==◌, ◌∷◌, [], nat_le, true, All, length};
 ghost use Rattle.byte_lanes.specs.Sets.{has_byte};
+ghost use Rattle.byte_lanes.specs.Newlines.{newline_len};
+ghost use Rattle.uni_text.specs.Folding as unicode;
+ghost use Rattle.pat_tree.specs.Newlines.{end_kind};
 ghost use Rattle.pat_tree.specs.Rules.{class_in};
 ghost use Rattle.char_sets.specs.Table.{IsTableOf};
-ghost use Rattle.pat_check.specs.Starts.{FoldsIn, item_lead_in, byte_taken, char_taken, char_lead, is_first, folded, break_lead_in};
+ghost use Rattle.pat_check.specs.Starts.{FoldsIn, item_lead_in, char_taken, char_lead, is_first, break_lead_in};
 
 use byte_lanes::ByteSet;
-use char_sets::ClassTable;
-use pat_tree::{Bsr, Item, Steps, Tree, newline_at};
-use std::sync::ledger::Ledger;
+use char_sets::{ClassTable, add_range, both_cases};
+use pat_tree::{Bsr, Item, Newline, Tree, newline_at};
 use uni_text::fold;
 
 /// The bytes that the characters begin with that an item takes. In UTF these are all bytes past ASCII, where the item isn't
 /// one caseful character.
-pub(crate) fn item_bytes<L: Ledger>(
-    tree: &Tree,
-    classes: &ClassTable,
-    item: &Item,
-    steps: &mut Steps<L>,
-) -> ByteSet
+pub(crate) fn item_bytes(tree: &Tree, classes: &ClassTable, item: &Item) -> ByteSet
     requires table { IsTableOf tree.now classes.now }
     requires class { All (λ n. n < length classes.now) (class_in item.now) }
     ensures { (fold : ℕ → ℕ) → FoldsIn tree.now.options.utf fold → (b : ℕ) → b < 256
         → has_byte result b ≡ item_lead_in tree.now fold item.now b }
 {
-    if let Item::Char { c, caseless: false } = *item {
-        return one_byte(first_byte(c, tree.options().utf));
+    let options = tree.options();
+    let utf = options.utf;
+    match *item {
+        Item::Char { c, caseless: false } => one_byte(first_byte(c, utf)),
+        Item::Char { c, caseless: true } => begun(cased_bytes(c, utf), utf),
+        Item::AnyAll => begun(all_bytes(), utf),
+        Item::NotNewline => begun(bytes_within_lines(options.newline, utf), utf),
+        Item::Class(class) => begun(classes.bytes(class).copied(), utf),
+    }
+}
+
+/// The bytes that characters begin with, by those that are taken as characters.
+fn begun(taken: ByteSet, utf: bool) -> ByteSet
+    ensures { (b : ℕ) → b < 256 → has_byte result b ≡ (utf && nat_le 128 b || has_byte taken b) }
+{
+    let mut bytes = taken;
+    if utf {
+        add_range(&mut bytes, 128, 255);
+    }
+    bytes
+}
+
+fn all_bytes() -> ByteSet
+    ensures { (b : ℕ) → b < 256 → has_byte result b ≡ true }
+{
+    let mut bytes = ByteSet::empty();
+    add_range(&mut bytes, 0, 255);
+    bytes
+}
+
+/// The bytes that a character takes as characters, in any case.
+fn cased_bytes(c: u32, utf: bool) -> ByteSet
+    ensures { (folding : ℕ → ℕ) → FoldsIn utf folding → (b : ℕ) → b < 256
+        → has_byte result b ≡ char_taken utf folding c true b }
+{
+    if !utf {
+        return both_cases(c);
     }
     let mut bytes = ByteSet::empty();
     for b in 0..256u32 {
-        if begins(tree, classes, item, b as u8, steps) {
+        if folds_alike(c, b) {
+            bytes.insert(b as u8);
+        }
+    }
+    bytes
+}
+
+fn folds_alike(c: u32, b: u32) -> bool
+    ensures { result ≡ (unicode.fold c == unicode.fold b) }
+{
+    fold(c) == fold(b)
+}
+
+/// The bytes that are no newline.
+fn bytes_within_lines(newline: Newline, utf: bool) -> ByteSet
+    ensures { (b : ℕ) → b < 256
+        → has_byte result b ≡ (newline_len (end_kind newline utf) (b ∷ []) 0 == 0) }
+{
+    let mut bytes = ByteSet::empty();
+    for b in 0..256u32 {
+        if newline_at(&[b as u8], 0, newline, utf) == 0 {
             bytes.insert(b as u8);
         }
     }
@@ -45,71 +97,6 @@ fn one_byte(byte: Option<u8>) -> ByteSet
         bytes.insert(byte);
     }
     bytes
-}
-
-/// Whether a character that an item takes may begin with a byte.
-fn begins<L: Ledger>(
-    tree: &Tree,
-    classes: &ClassTable,
-    item: &Item,
-    byte: u8,
-    steps: &mut Steps<L>,
-) -> bool
-    requires table { IsTableOf tree.now classes.now }
-    requires class { All (λ n. n < length classes.now) (class_in item.now) }
-    ensures { (fold : ℕ → ℕ) → FoldsIn tree.now.options.utf fold
-        → result ≡ item_lead_in tree.now fold item.now byte }
-{
-    let utf = tree.options().utf;
-    if let Item::Char { c, caseless: false } = *item {
-        return begins_with(first_byte(c, utf), byte);
-    }
-    if utf && byte >= 128 {
-        return true;
-    }
-    takes(tree, classes, item, byte, steps)
-}
-
-/// Whether an item takes a byte as a character.
-fn takes<L: Ledger>(
-    tree: &Tree,
-    classes: &ClassTable,
-    item: &Item,
-    byte: u8,
-    steps: &mut Steps<L>,
-) -> bool
-    requires table { IsTableOf tree.now classes.now }
-    requires class { All (λ n. n < length classes.now) (class_in item.now) }
-    ensures { (fold : ℕ → ℕ) → FoldsIn tree.now.options.utf fold
-        → result ≡ byte_taken tree.now fold item.now byte }
-{
-    let options = tree.options();
-    match *item {
-        Item::Char { c, caseless } => is_char(c, caseless, byte, options.utf),
-        Item::AnyAll => true,
-        Item::NotNewline => newline_at(&[byte], 0, options.newline, options.utf) == 0,
-        Item::Class(class) => classes.has(class, byte as u32, steps),
-    }
-}
-
-/// Whether a character is this one, or in any case.
-fn is_char(c: u32, caseless: bool, byte: u8, utf: bool) -> bool
-    ensures { (folding : ℕ → ℕ) → FoldsIn utf folding
-        → result ≡ char_taken utf folding c caseless byte }
-{
-    if caseless {
-        return folded(c, utf) == folded(byte as u32, utf);
-    }
-    c == byte as u32
-}
-
-fn begins_with(first: Option<u8>, byte: u8) -> bool
-    ensures { result ≡ is_first first byte }
-{
-    match first {
-        Some(first) => first == byte,
-        None => false,
-    }
 }
 
 /// The first byte of a character's encoding, where it has one.
@@ -139,16 +126,6 @@ fn first_byte(c: u32, utf: bool) -> Option<u8>
         return Some((0xF0 + c / 262144) as u8);
     }
     None
-}
-
-/// A character as it is folded. Outside UTF only ASCII letters fold.
-fn folded(c: u32, utf: bool) -> u32
-    ensures { result ≡ folded utf c }
-{
-    if utf {
-        return fold(c);
-    }
-    if matches!(c, 0x41..=0x5A) { c + 32 } else { c }
 }
 
 /// The bytes that `\R` may begin with.

@@ -12,23 +12,21 @@ use crate::item_bytes::{break_bytes, item_bytes};
 use crate::starts::{Start, begin, in_turn, one_of, one_of_condition, passed, repeated};
 use byte_lanes::ByteSet;
 use char_sets::ClassTable;
-use pat_tree::{Memory, Node, Steps, Tree};
+use pat_tree::{Memory, Node, Tree};
 use std::alloc::Global;
-use std::sync::ledger::Ledger;
 
 /// The bytes that every match begins with, where they are known and each match takes one, apart from ACCEPT.
-pub(crate) fn lead_set<L: Ledger>(
+pub(crate) fn lead_set(
     alloc: Global,
     tree: &Tree,
     classes: &ClassTable,
-    steps: &mut Steps<L>,
 ) -> Result<Option<ByteSet>, Memory>
     requires table { IsTableOf tree.now classes.now }
     ensures { (fold : ℕ → ℕ) → FoldsIn tree.now.options.utf fold
         → IfOk result (λ set.
         IsByteSet set (known_set (lead_in tree.now fold (tree_of tree.now)))) }
 {
-    let starts = leads(alloc, tree, classes, steps)?;
+    let starts = leads(alloc, tree, classes)?;
     Ok(known_set(&starts[tree.root() as usize]))
 }
 
@@ -43,32 +41,26 @@ fn known_set(start: &Option<Start>) -> Option<ByteSet>
 }
 
 /// The first bytes of each node up to the root.
-fn leads<L: Ledger>(
-    alloc: Global,
-    tree: &Tree,
-    classes: &ClassTable,
-    steps: &mut Steps<L>,
-) -> Result<Vec<Option<Start>>, Memory>
+fn leads(alloc: Global, tree: &Tree, classes: &ClassTable) -> Result<Vec<Option<Start>>, Memory>
     requires table { IsTableOf tree.now classes.now }
     ensures count { IfOk result (λ starts. length starts.items ≡ tree.now.root + 1) }
     ensures kept { (fold : ℕ → ℕ) → FoldsIn tree.now.options.utf fold
         → IfOk result (λ starts. KeepLeads tree.now fold (trees tree.now.nodes) starts.items) }
 {
-    let mut starts = Vec::new(alloc);
+    let mut starts = Vec::with_capacity(alloc, tree.root() as usize + 1)?;
     for id in 0..tree.root() as u64 + 1 {
-        let start = lead_of(tree, classes, tree.node(id as u32), &starts, steps);
+        let start = lead_of(tree, classes, tree.node(id as u32), &starts);
         starts.push(start)?;
     }
     Ok(starts)
 }
 
 /// The first bytes of a node, by those of its children.
-fn lead_of<L: Ledger>(
+fn lead_of(
     tree: &Tree,
     classes: &ClassTable,
     node: &Node,
     starts: &[Option<Start>],
-    steps: &mut Steps<L>,
 ) -> Option<Start>
     requires table { IsTableOf tree.now classes.now }
     requires classes { All (λ n. n < length classes.now) (classes_of node.now) }
@@ -79,13 +71,13 @@ fn lead_of<L: Ledger>(
         → IsSomeLead result (lead_in tree.now fold (nest trees node.now)) }
 {
     match node {
-        Node::One(item) => begin(item_bytes(tree, classes, item, steps)),
+        Node::One(item) => begin(item_bytes(tree, classes, item)),
         Node::Break => begin(break_bytes(tree.options().bsr, tree.options().utf)),
         Node::Seq(kids) => in_turn(kids.as_slice(), starts),
         Node::Group { branches, .. } => one_of(branches.as_slice(), starts),
         Node::Repeat { body, min, max, .. } => repeated(&starts[*body as usize], *min, *max),
         Node::OneRepeat { item, min, max, .. } => {
-            let once = begin(item_bytes(tree, classes, item, steps));
+            let once = begin(item_bytes(tree, classes, item));
             repeated(&once, *min, *max)
         }
         Node::Atomic(branches) => one_of(branches.as_slice(), starts),

@@ -24,7 +24,7 @@ fn sizes_of(alloc: Global, tree: &Tree) -> Result<Vec<u32>, Memory>
     ensures count { IfOk result (λ sizes. length sizes.items ≡ tree.now.root + 1) }
     ensures kept { IfOk result (λ sizes. KeepSizes (trees tree.now.nodes) sizes.items) }
 {
-    let mut sizes = Vec::new(alloc);
+    let mut sizes = Vec::with_capacity(alloc, tree.root() as usize + 1)?;
     for id in 0..tree.root() as u64 + 1 {
         let size = node_size(tree.node(id as u32), &sizes);
         sizes.push(size)?;

@@ -6,7 +6,7 @@ use Rattle.match_needs.specs.NeedTables.{KeepNeeds, IsNeed}
 use Rattle.match_needs.proofs.needs.needs_of.Goals as goal
 
 pub loop-id-preserved : goal.loop-id-preserved
-loop-id-preserved g c =
+loop-id-preserved c =
     let tree = c.args.tree.now in
     let ts = trees tree.nodes in
     let old = c.loop-id.needs.items in

@@ -5,4 +5,4 @@ use Rattle.match_needs.specs.NeedTables.{KeepNeeds}
 use Rattle.match_needs.proofs.needs.needs_of.Given as goal
 
 abbrev pub invariant-loop-id : goal.invariant-loop-id
-invariant-loop-id g l = (length l.needs.items ≡ l.id) × KeepNeeds (class_has l.tree) (trees l.tree.nodes) l.needs.items
+invariant-loop-id l = (length l.needs.items ≡ l.id) × KeepNeeds (class_has l.tree) (trees l.tree.nodes) l.needs.items

@@ -9,11 +9,11 @@ use Rattle.match_needs.proofs.NeedLemmas.{needs_one, needs_turn, needs_group, ne
 use Rattle.match_needs.proofs.needs.node_need.Goals as goal
 
 pub returns-in-One : goal.returns-in-One
-returns-in-One g c tree table trees kept =
+returns-in-One c tree table trees kept =
     rw c.in-One.is (needs_one (class_has tree) c.in-One.item c.item_need.result (c.item_need.ensures tree table))
 
 pub returns-in-Seq : goal.returns-in-Seq
-returns-in-Seq g c tree table trees kept =
+returns-in-Seq c tree table trees kept =
     let has = class_has tree in
     let needs = c.args.needs.now in
     let kids = c.in-Seq.kids in
@@ -23,7 +23,7 @@ returns-in-Seq g c tree table trees kept =
     ((rw c.as_slice.ensures at (c.rarest.ensures has (tree_at trees))) all))
 
 pub returns-in-Group : goal.returns-in-Group
-returns-in-Group g c tree table trees kept =
+returns-in-Group c tree table trees kept =
     let has = class_has tree in
     let needs = c.args.needs.now in
     let kids = c.in-Group.branches in
@@ -33,7 +33,7 @@ returns-in-Group g c tree table trees kept =
     ((rw c.as_slice-in-Group.ensures at (c.each_of.ensures has (tree_at trees))) all))
 
 pub returns-in-Atomic : goal.returns-in-Atomic
-returns-in-Atomic g c tree table trees kept =
+returns-in-Atomic c tree table trees kept =
     let has = class_has tree in
     let needs = c.args.needs.now in
     let kids = c.in-Atomic.branches in
@@ -43,7 +43,7 @@ returns-in-Atomic g c tree table trees kept =
     ((rw c.as_slice-in-Atomic.ensures at (c.each_of-in-Atomic.ensures has (tree_at trees))) all))
 
 pub returns-in-Look : goal.returns-in-Look
-returns-in-Look g c tree table trees kept =
+returns-in-Look c tree table trees kept =
     let has = class_has tree in
     let needs = c.args.needs.now in
     let kids = c.in-Look.branches in

@@ -11,24 +11,24 @@ use Rattle.pat_check.proofs.NodeLemmas.{parts_lead, branches_lead, condition_lea
 use Rattle.pat_check.proofs.leads.lead_of.Goals as goal
 
 pub one_of_condition-requires : goal.one_of_condition-requires
-one_of_condition-requires g c =
+one_of_condition-requires c =
     let starts = c.args.starts.now in
     branches_all (λ k. k < length starts) c.in-Cond.test c.in-Cond.yes c.in-Cond.no (subst (λ n. All (λ k. k < length starts) (kids_of n)) c.in-Cond.is c.requires.below)
 
 pub returns-in-One : goal.returns-in-One
 unfolding lead
-returns-in-One g c fold folds trees tests kept =
+returns-in-One c fold folds trees tests kept =
     rw c.in-One.is (c.begin.ensures (item_lead_in c.args.tree.now fold c.in-One.item) (c.item_bytes.ensures fold folds))
 
 pub returns-in-Break : goal.returns-in-Break
 unfolding lead
-returns-in-Break g c fold folds trees tests kept =
+returns-in-Break c fold folds trees tests kept =
     let options = c.args.tree.now.options in
     rw c.in-Break.is (c.begin-in-Break.ensures (break_lead_in options.bsr options.utf) (rw (c.options.ensures, c.options-in-Break.ensures) at c.break_bytes.ensures))
 
 pub returns-in-Seq : goal.returns-in-Seq
 unfolding lead
-returns-in-Seq g c fold folds trees tests kept =
+returns-in-Seq c fold folds trees tests kept =
     let t = c.args.tree.now in
     let utf = t.options.utf in
     let starts = c.args.starts.now in
@@ -41,7 +41,7 @@ returns-in-Seq g c fold folds trees tests kept =
 
 pub returns-in-Group : goal.returns-in-Group
 unfolding lead
-returns-in-Group g c fold folds trees tests kept =
+returns-in-Group c fold folds trees tests kept =
     let t = c.args.tree.now in
     let utf = t.options.utf in
     let starts = c.args.starts.now in
@@ -54,7 +54,7 @@ returns-in-Group g c fold folds trees tests kept =
 
 pub returns-in-Atomic : goal.returns-in-Atomic
 unfolding lead
-returns-in-Atomic g c fold folds trees tests kept =
+returns-in-Atomic c fold folds trees tests kept =
     let t = c.args.tree.now in
     let utf = t.options.utf in
     let starts = c.args.starts.now in
@@ -67,7 +67,7 @@ returns-in-Atomic g c fold folds trees tests kept =
 
 pub returns-in-Repeat : goal.returns-in-Repeat
 unfolding lead
-returns-in-Repeat g c fold folds trees tests kept =
+returns-in-Repeat c fold folds trees tests kept =
     let t = c.args.tree.now in
     let starts = c.args.starts.now in
     let body = c.in-Repeat.body in
@@ -80,12 +80,12 @@ returns-in-Repeat g c fold folds trees tests kept =
 
 pub returns-in-OneRepeat : goal.returns-in-OneRepeat
 unfolding lead
-returns-in-OneRepeat g c fold folds trees tests kept =
+returns-in-OneRepeat c fold folds trees tests kept =
     rw c.in-OneRepeat.is
     (c.repeated-in-OneRepeat.ensures _ (c.begin-once.ensures (item_lead_in c.args.tree.now fold c.in-OneRepeat.item) (c.item_bytes-in-OneRepeat.ensures fold folds)))
 
 pub returns-in-Cond : goal.returns-in-Cond
-returns-in-Cond g c fold folds trees tests kept =
+returns-in-Cond c fold folds trees tests kept =
     let t = c.args.tree.now in
     let utf = t.options.utf in
     let starts = c.args.starts.now in
@@ -101,13 +101,13 @@ returns-in-Cond g c fold folds trees tests kept =
 
 pub returns-in-Call : goal.returns-in-Call
 unfolding lead
-returns-in-Call g c fold folds trees tests kept = rw c.in-Call.is tt
+returns-in-Call c fold folds trees tests kept = rw c.in-Call.is tt
 
 pub returns-in-Ref : goal.returns-in-Ref
 unfolding lead
-returns-in-Ref g c fold folds trees tests kept = rw c.in-Ref.is tt
+returns-in-Ref c fold folds trees tests kept = rw c.in-Ref.is tt
 
 pub returns-in_default : goal.returns-in_default
-returns-in_default g c fold folds trees tests kept =
+returns-in_default c fold folds trees tests kept =
     let n = c.in_default in
     subst (IsSomeLead c.passed.result) (sym (other_lead c.args.tree.now fold trees c.args.node.now n.not-One n.not-Break n.not-Seq n.not-Group n.not-Repeat n.not-OneRepeat n.not-Atomic n.not-Cond n.not-Call n.not-Ref)) c.passed.ensures

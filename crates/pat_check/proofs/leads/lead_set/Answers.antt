@@ -5,7 +5,7 @@ use Rattle.pat_check.specs.Starts.{lead_in, IsSomeLead}
 use Rattle.pat_check.proofs.leads.lead_set.Goals as goal
 
 pub returns : goal.returns
-returns g c fold folds =
+returns c fold folds =
     let t = c.args.tree.now in
     let starts = c.in_ok-starts.starts.items in
     let start = c.index.result.now in

@@ -5,7 +5,7 @@ use Rattle.pat_check.specs.Starts.{KeepLeads, IsSomeLead, lead_in}
 use Rattle.pat_check.proofs.leads.leads.Goals as goal
 
 pub loop-id-preserved : goal.loop-id-preserved
-loop-id-preserved g c =
+loop-id-preserved c =
     let tree = c.args.tree.now in
     let ts = trees tree.nodes in
     let old = c.loop-id.starts.items in

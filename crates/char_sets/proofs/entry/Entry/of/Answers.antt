@@ -29,5 +29,5 @@ returns c =
     let items : c.in_ok-edges.edges.items ≡ edge_at test 256 ∷ map (edge_at test) sorted = c.in_ok-edges.ensures ∙ ap (λ ps. edge_at test 256 ∷ map (edge_at test) ps) c.deref.ensures.value in
     let steady : AllSteady utf class.caseless class.parts sorted =
     all_steady_sorted utf class.caseless class.parts places sorted c.sort_unstable.ensures.permutation (subst (λ parts. AllSteady utf class.caseless parts places) c.as_slice.ensures c.in_ok-places.ensures.steady) in
-    char_in-class utf class c.of-bytes.result c.in_ok-edges.edges.items c.of-bytes.ensures
+    char_in-class utf class c.bytes_of-bytes.result c.in_ok-edges.edges.items c.bytes_of-bytes.ensures
     (λ x over. ap (λ es. answer_at false es x) items ∙ answer_at-class utf class sorted x over past rise steady)

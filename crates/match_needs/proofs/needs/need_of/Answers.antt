@@ -5,10 +5,10 @@ use Rattle.char_sets.specs.Sets.{class_has}
 use Rattle.match_needs.specs.Bounds.{bound}
 use Rattle.match_needs.specs.NeedTables.{IsNeed}
 use Rattle.match_needs.proofs.NeedLemmas.{need_whole}
-use Rattle.match_needs.proofs.needs.need_of_whole.Goals as goal
+use Rattle.match_needs.proofs.needs.need_of.Goals as goal
 
 pub returns : goal.returns
-returns g c =
+returns c =
     let t = c.args.tree.now in
     let bounded : bound (tree_of t) ≡ Some c.in-Some.bound = rw c.in-Some.is at c.in_ok-bound.ensures in
     let needs = c.in_ok-needs.needs.items in
