@@ -137,12 +137,12 @@ falls_insert p [] f = ((λ r h. absurd h), tt)
 falls_insert p (q ∷ qs) f =
     falls_insert_case p q qs (p == q) (nat_lt q p) refl refl f.0 f.1 (falls_insert p qs f.1)
 
-falls_falling : (xs : List Spot) → Falls (falling xs)
+pub falls_falling : (xs : List Spot) → Falls (falling xs)
 unfolding falling Falls
 falls_falling [] = tt
 falls_falling (x ∷ xs) = falls_insert x.place (falling xs) (falls_falling xs)
 
-from_falling : (xs : List Spot) (q : ℕ) → Among q (falling xs) → (e : ℕ) × In (spot q e) xs
+pub from_falling : (xs : List Spot) (q : ℕ) → Among q (falling xs) → (e : ℕ) × In (spot q e) xs
 unfolding falling Among In
 from_falling [] q h = absurd h
 from_falling (x ∷ xs) q h =
@@ -151,7 +151,7 @@ from_falling (x ∷ xs) q h =
       | inr b ↦ let r = from_falling xs q b in (r.0, inr r.1)
     ]
 
-to_falling : (xs : List Spot) (y : Spot) → In y xs → Among y.place (falling xs)
+pub to_falling : (xs : List Spot) (y : Spot) → In y xs → Among y.place (falling xs)
 unfolding falling In
 to_falling [] y h = absurd h
 to_falling (x ∷ xs) y h =

@@ -5,3 +5,5 @@ pub mod Running
 pub mod Fragments
 pub mod Steps
 pub mod Building
+pub mod Costs
+pub mod Having

@@ -34,7 +34,7 @@ use Rattle.pat_tree.specs.declared.nodes.Node as parts
 use Rattle.pat_tree.specs.declared.nodes.Node.TheVariants as part
 use Rattle.pat_tree.specs.declared.nodes.Verb.{Verb}
 use Rattle.pat_tree.specs.declared.nodes.Verb.TheVariants.{Fail}
-use Rattle.pat_tree.specs.Rules.{kids_of, classes_of, IsOrdered}
+use Rattle.pat_tree.specs.Rules.{kids_of, asserted_by, classes_of, IsOrdered, is_test}
 use Rattle.pat_tree.specs.Nested as tree
 use Rattle.pat_tree.specs.Nested.{Nested, Row, Test, Other, row, tree_at, nest, trees}
 use Rattle.pat_tree.specs.declared.nodes.AnchorKind.{AnchorKind}
@@ -214,3 +214,4 @@ pub record IsPart (ps : List placed.Placed) (classes p : ℕ) : Type 0 where
   pub below : list.All (λ k. k < p) (kids_of (node_of ps p))
   pub classes_in : list.All (λ n. n < classes) (classes_of (node_of ps p))
   pub ordered : IsOrdered (node_of ps p)
+  pub tested : list.All (λ k. is_test (tree_at (trees ps) k) ≡ true) (asserted_by (node_of ps p))

@@ -2,3 +2,4 @@ pub mod Graph
 pub mod Lists
 pub mod Fragment
 pub mod Building
+pub mod Served

@@ -1,10 +1,12 @@
 //! A graph of a tree: tasks, each of which places a part from a state that is there on to a state
 //! that follows.
-ghost use Rattle.std.specs.Prelude.{◌≡◌, List, IfSome, ◌+◌, ◌<◌, ◌≤◌, ◌==◌, ◌++◌, ◌∷◌, [], IfOk, length, slice_get};
+ghost use Rattle.std.specs.Prelude.{◌≡◌, List, true, None, IfSome, ◌+◌, ◌<◌, ◌≤◌, ◌==◌, ◌++◌, ◌∷◌, [], IfOk, length, slice_get};
 ghost use Rattle.pat_tree.specs.declared.nodes.Placed.{Placed};
 ghost use Rattle.dfa_lists.specs.Building.{part_of, ids_of, IsRange, IsTurnRange, part_step, all_step, any_step, turn_step, turns_step, step_of, node_of, IsPart, tree_of, anchor_step, cond_step, verb_step, is_refused, states_after, task, tasks_after};
 ghost use Rattle.dfa_lists.specs.declared.graph.Node.TheVariants.{Dead};
 ghost use Rattle.dfa_lists.specs.Fragment.{IsGraphOf};
+ghost use Rattle.dfa_lists.specs.Served.{has_graph};
+ghost use Rattle.pat_check.specs.Size.{whole_size};
 
 use crate::graph::Node;
 use pat_tree::{AnchorKind, Cond, Memory, Node as Part, NodeId, Tree, Verb};
@@ -403,11 +405,15 @@ fn is_refused(step: Step) -> bool
 /// How many steps are made at most: each makes two states at most.
 const STEPS: u32 = 524_000;
 
-/// The states of a tree: paths begin at state 0, and state 1 ends them. None where there is no
-/// fragment for a part, or where there would be more than 524,000 steps.
+/// The states of a tree: paths begin at state 0, and state 1 ends them. None only where there is no
+/// fragment for a part, or where the tree is too large, as a step is made at most four times as often
+/// as there are nodes.
 pub(crate) fn place_tree(alloc: Global, tree: &Tree) -> Result<Option<Vec<Node>>, Memory>
-    ensures { IfOk result (λ some. IfSome some (λ nodes. IsGraphOf (length tree.now.classes)
+    ensures some { IfOk result (λ some. IfSome some (λ nodes. IsGraphOf (length tree.now.classes)
         nodes.items (tree_of tree.now.nodes tree.now.root))) }
+    ensures none { whole_size (tree_of tree.now.nodes tree.now.root) ≤ 65536
+        → has_graph (tree_of tree.now.nodes tree.now.root) ≡ true
+        → IfOk result (λ some. some ≡ None → ⊥) }
 {
     let mut nodes: Vec<Node> = Vec::new(alloc);
     nodes.push(Node::Dead)?;

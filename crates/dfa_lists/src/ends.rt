@@ -1,17 +1,21 @@
 //! The graph of a tree, and its ends from a place.
-ghost use Rattle.std.specs.Prelude.{◌≡◌, ◌+◌, ◌-◌, ◌*◌, ◌≤◌, IfOk, IfSome, length};
+ghost use Rattle.std.specs.Prelude.{◌≡◌, ◌+◌, ◌-◌, ◌*◌, ◌≤◌, None, IfOk, IfErr, length};
 ghost use Rattle.pat_tree.specs.Nested.{Nested};
 ghost use Rattle.match_items.specs.Subjects.{IsSubject, IsPlace};
 ghost use Rattle.match_items.specs.Views.{scene_of};
 ghost use Rattle.dfa_lists.specs.Graph.{takers};
 ghost use Rattle.dfa_lists.specs.Fragment.{IsGraphOf, AreEnds};
 ghost use Rattle.dfa_lists.specs.Building.{tree_of};
+ghost use Rattle.dfa_lists.specs.Served.{refusal, IsRefused};
+ghost use Rattle.pat_check.specs.Size.{size};
+ghost use Rattle.pat_check.specs.Support.{dfa_support};
 
 use crate::build::place_tree;
 use crate::graph::Node;
 use crate::lists::{EndList, ends_of};
 use char_sets::ClassTable;
 use match_items::View;
+use pat_check::{DfaSupport, Facts};
 use pat_tree::{Memory, Steps, Tree};
 use std::alloc::Global;
 use std::marker::Model;
@@ -32,21 +36,65 @@ impl Model for Graph {
     ghost view = { λ graph. graph.nodes.items };
 }
 
+/// Why there is no graph of a tree.
+#[derive(Clone, Copy, Debug, PartialEq, Eq)]
+pub enum GraphError {
+    /// The pattern holds an item that isn't supported: a reference, a call, `\K`, a verb but FAIL, or a
+    /// lookaround that isn't atomic (PCRE2_ERROR_DFA_UITEM).
+    Item,
+    /// The pattern holds a condition that isn't supported: on a group, or on the recursion of a group
+    /// (PCRE2_ERROR_DFA_UCOND).
+    Cond,
+    /// The pattern has more than 65,536 nodes with its repeats written out.
+    TooLarge,
+    /// The pattern holds an atomic group, a lookaround, or an assertion that asks for word characters
+    /// of Unicode: no graph is made of these yet.
+    NotBuilt,
+    /// Want of memory.
+    Memory,
+}
+
+impl From<Memory> for GraphError {
+    ghost use Rattle.std.specs.Prelude.{◌≡◌};
+    ghost use Rattle.dfa_lists.specs.declared.ends.GraphError.TheVariants as told;
+
+    ghost from_gives = { λ _ e. e ≡ told.Memory };
+
+    fn from(_e: Memory) -> GraphError {
+        GraphError::Memory
+    }
+}
+
 impl Graph {
-    /// The graph of a tree. None where the tree has a part without a fragment, which is a lookaround,
-    /// an atomic group, a condition on one of these or on a group, a reference, a call, `\K`, a verb
-    /// but FAIL, or an assertion that asks for word characters of Unicode; and where placing it takes
-    /// more than 524,000 steps. Fails for want of memory alone.
-    pub fn place(alloc: Global, tree: &Tree) -> Result<Option<Graph>, Memory>
-        ensures { IfOk result (λ some. IfSome some (λ graph. IsGraphOf (length tree.now.classes) graph
-            (tree_of tree.now.nodes tree.now.root))) }
+    /// The graph of a tree. What isn't supported is refused, the leftmost item deciding; then a tree
+    /// that is too large; then one that holds a form of which no graph is made yet.
+    ///
+    /// Needs the facts of the tree.
+    pub fn build(alloc: Global, tree: &Tree, facts: &Facts) -> Result<Graph, GraphError>
+        requires size { facts.now.size ≡ size (tree_of tree.now.nodes tree.now.root) }
+        requires dfa { facts.now.dfa ≡ dfa_support (tree_of tree.now.nodes tree.now.root) }
+        ensures graph { IfOk result (λ graph. IsGraphOf (length tree.now.classes) graph
+            (tree_of tree.now.nodes tree.now.root)) }
+        ensures served { IfOk result (λ _. refusal (tree_of tree.now.nodes tree.now.root) ≡ None) }
+        ensures refused { IfErr result (IsRefused (tree_of tree.now.nodes tree.now.root)) }
     {
+        match facts.dfa {
+            DfaSupport::Item => return Err(GraphError::Item),
+            DfaSupport::Cond => return Err(GraphError::Cond),
+            DfaSupport::Yes => {}
+        }
+        if facts.size > MOST_NODES {
+            return Err(GraphError::TooLarge);
+        }
         match place_tree(alloc, tree)? {
-            Some(nodes) => Ok(Some(Graph { nodes })),
-            None => Ok(None),
+            Some(nodes) => Ok(Graph { nodes }),
+            None => Err(GraphError::NotBuilt),
         }
     }
 }
+
+/// How many nodes a tree has at most, with its repeats written out.
+const MOST_NODES: u32 = 65_536;
 
 /// All places where the tree of a graph can end from a place, rising (pcre2matching, "The alternative
 /// matching algorithm"). Each place costs at most one test of each state that takes something. Fails

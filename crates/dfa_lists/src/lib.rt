@@ -7,7 +7,7 @@ mod graph;
 mod laws;
 mod lists;
 
-pub use ends::{Graph, graph_ends};
+pub use ends::{Graph, GraphError, graph_ends};
 pub use graph::Node;
 pub use laws::{fragments_mean, paths_end};
 pub use lists::EndList;

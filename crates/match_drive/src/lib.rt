@@ -11,7 +11,9 @@ mod need;
 mod places;
 mod prefix;
 mod run;
+mod starts;
 
 pub use answer::MatchAnswer;
 pub use drive::{search, search_on};
 pub use driven::Driven;
+pub use starts::{is_left_out, last_start, start_after};

@@ -111,7 +111,7 @@ fn lead_used<S: Driven>(on: &S) -> Option<&ByteSet>
 }
 
 /// Whether a place is left out, as no match begins with the byte there.
-fn is_excluded<S: Driven>(on: &S, at: usize) -> bool
+pub(crate) fn is_excluded<S: Driven>(on: &S, at: usize) -> bool
     requires fits { S.fits on.now }
     requires at { IsPlace (S.asked on.now passed_over).options (S.asked on.now passed_over).subject at }
     ensures { result ≡ places.is_excluded (S.asked on.now passed_over) at }

@@ -1,8 +1,10 @@
 use Rattle.std.proofs.Common.{◌≡◌, ◌∙◌, [], ◌∷◌, ◌++◌, ap, sym, length, arith}
+use Rattle.std.proofs.lemmas.Bool.{false≢true}
 use Rattle.std.proofs.lemmas.Grind.{common_steps}
 use Rattle.dfa_lists.specs.declared.graph.Node.TheVariants.{Dead, Match}
 use Rattle.dfa_lists.specs.declared.build.Work.TheVariants as work
 use Rattle.dfa_lists.specs.Building.{task}
+use Rattle.dfa_lists.proofs.Costs.{first_can, can_step, none_left, not_refused}
 use Rattle.dfa_lists.proofs.Building.{starts, ended, next_step, popped, two_more}
 use Rattle.dfa_lists.proofs.build.place_tree.Goals as goal
 
@@ -12,12 +14,13 @@ tasks-init c =
     c.in_ok-push-2.ensures.items ∙ ap (λ ns. ns ++ Match ∷ [])
     (c.in_ok-push.ensures.items ∙ ap (λ ns. ns ++ Dead ∷ []) c.new-nodes.ensures.items) in
     let l = ap length e in
+    let one = c.in_ok-push-3.ensures.items
+    ∙ ap (λ ts. ts ++ task (work.Part c.root.result) 0 1 ∷ []) c.new-tasks.ensures.items
+    ∙ ap (λ r. task (work.Part r) 0 1 ∷ []) c.root.ensures in
     record {
-      building = starts _ _ _ _ _ e
-          (c.in_ok-push-3.ensures.items ∙ ap (λ ts. ts ++ task (work.Part c.root.result) 0 1 ∷ [])
-          c.new-tasks.ensures.items
-          ∙ ap (λ r. task (work.Part r) 0 1 ∷ []) c.root.ensures);
+      building = starts _ _ _ _ _ e one;
       few = omega (arith, l);
+      can = λ small has. first_can c.args.tree.now.nodes c.args.tree.now.root _ one small has;
     }
 
 pub work_step-step-requires-clause-part : goal.work_step-step-requires-clause-part
@@ -37,15 +40,35 @@ tasks-preserved c =
     let l = ap length c.in_ok-do_step.ensures.nodes in
     let two = two_more c.args.tree.now.nodes c.args.tree.now.root (length c.args.tree.now.classes)
     c.work_step-step.result c.in-Some.task.at c.in-Some.task.next c.tasks.nodes.items in
+    let range = (popped _ _ _ _ _ _ _ c.tasks.invariant.building c.in-Some.ensures.items).1.range in
     record {
       building = next_step _ _ _ _ _ _ _ _ _ _ c.tasks.invariant.building c.in-Some.ensures.items
           c.work_step-step.ensures.part
           c.work_step-step.ensures.is (sym c.is_refused.ensures ∙ c.if-is_refused.false)
           c.in_ok-do_step.ensures.nodes c.in_ok-do_step.ensures.tasks;
       few = omega (arith, l, two, c.tasks.invariant.few, c.if-left-eq0.false);
+      can = λ small has.
+          can_step c.args.tree.now.nodes (length c.args.tree.now.classes) c.tasks.left
+          c.tasks.tasks.items _ c.in-Some.task (c.tasks.invariant.can small has)
+          c.in-Some.ensures.items range _ c.work_step-step.ensures.part c.work_step-step.ensures.is
+          _ _ c.in_ok-do_step.ensures.tasks;
     }
 
-pub returns : goal.returns
-returns c =
+pub returns-then-left-eq0-clause-none : goal.returns-then-left-eq0-clause-none
+returns-then-left-eq0-clause-none c small has e =
+    none_left c.args.tree.now.nodes c.tasks.left c.tasks.tasks.items _ c.in-Some.task
+    (c.tasks.invariant.can small has) c.in-Some.ensures.items c.if-left-eq0.true
+
+pub returns-then-is_refused-clause-none : goal.returns-then-is_refused-clause-none
+returns-then-is_refused-clause-none c small has e =
+    false≢true
+    (sym (not_refused c.args.tree.now.nodes (length c.args.tree.now.classes) c.tasks.left
+    c.tasks.tasks.items _ c.in-Some.task (c.tasks.invariant.can small has) c.in-Some.ensures.items
+    (popped _ _ _ _ _ _ _ c.tasks.invariant.building c.in-Some.ensures.items).1.range
+    _ c.work_step-step.ensures.part c.work_step-step.ensures.is)
+    ∙ sym c.is_refused.ensures ∙ c.if-is_refused.true)
+
+pub returns-clause-some : goal.returns-clause-some
+returns-clause-some c =
     let e : c.tasks.tasks.items ≡ [] = grind (arith, common_steps, c.in_default.ensures) in
     ended _ _ _ _ _ c.tasks.invariant.building e (omega (arith, c.tasks.invariant.few))
