@@ -1,6 +1,6 @@
 //! The start places of a search of a finished tree, for a matcher that goes over them itself.
 ghost use Rattle.std.specs.Prelude.{◌≡◌, ◌≤◌, ◌<◌, length, IfSome};
-ghost use Rattle.match_items.specs.Subjects.{IsPlace};
+ghost use Rattle.match_items.specs.Subjects.{IsPlace, IsTextPlace};
 ghost use Rattle.frame_machine.specs.Ready.{IsReadySearch, setting_for};
 ghost use Rattle.ordered_search.specs.Places as places;
 ghost use Rattle.ordered_search.specs.PlaceAnswer.{Exhausted};
@@ -51,10 +51,11 @@ pub fn is_left_out(ready: &Ready<'_>, view: &View<'_>, at: usize) -> bool
 /// The place after one where no match begins, up to the last one.
 pub fn start_after(ready: &Ready<'_>, view: &View<'_>, at: usize, last: usize) -> Option<usize>
     requires ready { IsReadySearch ready.now view.now }
-    requires at { at ≤ length view.now.subject.now }
+    requires at { IsTextPlace view.now.options.now view.now.subject.now at }
     requires last { last ≡ places.last_place (setting_for ready.now.tree.now view.now passed_over) }
     ensures value { result
         ≡ places.place_after (setting_for ready.now.tree.now view.now passed_over) at Exhausted }
+    ensures place { IfSome result (IsTextPlace view.now.options.now view.now.subject.now) }
     ensures later { IfSome result (λ to. at < to) }
     ensures within { IfSome result (λ to. to ≤ last) }
 {

@@ -28,6 +28,8 @@ mod patterns;
 #[cfg(test)]
 mod refusals;
 #[cfg(test)]
+mod replaced;
+#[cfg(test)]
 mod running;
 #[cfg(test)]
 mod runs;

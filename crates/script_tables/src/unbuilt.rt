@@ -1,4 +1,4 @@
-//! What isn't built yet: the DFA matcher, partial matching and replacements.
+//! What isn't built yet: the DFA matcher and partial matching.
 use crate::running::check_script;
 use std::test::Fail;
 
@@ -24,12 +24,9 @@ const UNBUILT: &str = "\
 >/a/ph
 ** not built
 >
->/(/replace=b,info
+>/(/dfa,info
 ** not built
 >a
->
->/a/replace=
-** not built
 >
 >/a/-dfa,-ps
 >a
@@ -52,9 +49,7 @@ const UNBUILT: &str = "\
 ** not built
 >a\\=ph,offset=9
 ** not built
->a\\=replace=b
-** not built
->a\\=replace=
+>a\\=replace=b,dfa
 ** not built
 >a\\=-ps
  0: a
@@ -96,13 +91,6 @@ const UNBUILT: &str = "\
 >/a/
 >a
  0: a
->
->#subject replace=x
->/a/
-** not built
->
->/a/replace=y
-** not built
 >
 ";
 

@@ -1,7 +1,7 @@
 -- What is written of a pattern, by what it is compiled to.
 use Rattle.std.proofs.Common.{◌≡◌, ◌∙◌, ℕ, Bool, false, if◌then◌else◌, List, ℤ, Result, Ok, Err, sym, ap, subst}
 use Rattle.pat_tree.specs.declared.options.Options.{Options}
-use Rattle.pat_tree.specs.Pattern.{Pattern}
+use Rattle.pat_tree.specs.Pattern.{Pattern, pattern_of}
 use Rattle.token_parts.specs.declared.fault.Fault.{Fault}
 use Rattle.tool_out.specs.Texts.{text_if}
 use Rattle.test_script.specs.declared.entries.PatternEntry.{PatternEntry}
@@ -12,7 +12,10 @@ use Rattle.pcre2_api.specs.Patterns.{compiled}
 use Rattle.pcre2_api.specs.Informs.{info_in}
 use Rattle.test_run.specs.Asked.{is_on, is_unbuilt, options_of}
 use Rattle.test_run.specs.Lines.{fault_line, info_text, unbuilt_line}
-use Rattle.test_run.specs.Courses.{told_of, pattern_text}
+use Rattle.pat_build.specs.Reading.{Parsed, read}
+use Rattle.pat_build.specs.Machine.{parsed_of}
+use Rattle.pat_tree.specs.Parts.{TreeParts}
+use Rattle.test_run.specs.Courses.{Course, tests, passed, names_of, course_by, pattern_course, told_of, pattern_text}
 
 module _ (entry : PatternEntry) (unbuilt : Bool) (options : Options) (text : List ℕ)
     (tested : unbuilt ≡ is_unbuilt entry.modifiers) (built : unbuilt ≡ false) (asked : options ≡ options_of entry.modifiers) (given : text ≡ entry.pattern) where
@@ -32,3 +35,16 @@ module _ (entry : PatternEntry) (unbuilt : Bool) (options : Options) (text : Lis
   pub text-fault : (e : CompileError) (number : ℤ) (at : ℕ) → e ≡ Bad number at → IsCompileError (compiled options text) e → fault_line number at ≡ pattern_text entry
   text-fault e number at named is =
       text-is (Err (record { number = number; at = at })) (subst (IsCompileError (compiled options text)) named is)
+
+  read-so : (r : Result Parsed Fault) → read options text ≡ r → read (options_of entry.modifiers) entry.pattern ≡ r
+  read-so r is = sym (λ i. read (asked i) (given i)) ∙ is
+
+  -- its subject lines are searched for it
+  pub course-told : (t : TreeParts) → read options text ≡ Ok (parsed_of t) → compiled options text ≡ Ok (pattern_of t)
+      → tests (pattern_of t) t.names entry.modifiers ≡ pattern_course entry
+  course-told t is compiles =
+      let reads = read-so (Ok (parsed_of t)) is in
+      let takes = compiled-so (Ok (pattern_of t)) compiles in
+      sym
+      (ap (λ b. if b then passed else course_by entry.modifiers (names_of (read (options_of entry.modifiers) entry.pattern)) (compiled (options_of entry.modifiers) entry.pattern)) (sym tested ∙ built)
+      ∙ (λ i. course_by entry.modifiers (names_of (reads i)) (takes i)))

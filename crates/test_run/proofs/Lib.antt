@@ -8,3 +8,4 @@ pub mod Sending
 pub mod Compiling
 pub mod Scripts
 pub mod RowProofs
+pub mod Rewriting

@@ -13,7 +13,7 @@ use Rattle.ordered_search.specs.PlaceAnswer.{Outcome}
 use Rattle.pcre2_api.specs.declared.error.MatchError.{MatchError}
 use Rattle.test_run.specs.declared.matches.Search.TheVariants as search
 use Rattle.test_run.specs.Lines.{end_text, failed_line, matches_text}
-use Rattle.test_run.specs.Matches.{Answer, found, none, failed, Matches, no_more, fails, with_match, answer, answer_at, goes_on, is_crlf, place_behind, all_from, first_from, matches_from}
+use Rattle.pcre2_api.specs.Walks.{Answer, found, none, failed, Matches, no_more, fails, with_match, answer, answer_at, goes_on, is_crlf, place_behind, all_from, first_from, matches_from}
 use Rattle.test_run.specs.Searches.{answer_text, IsSearch, rest_text}
 use Rattle.test_run.specs.Shown.{match_text}
 

@@ -41,7 +41,7 @@ use Rattle.script_modifiers.specs.Lists.{list_of}
 use Rattle.test_script.specs.Subjects.{octal as octal_escape, hexadecimal, braced_octal, times, escape as subject_escape, piece_at, subject_text}
 use Rattle.test_script.specs.Script.{line_of}
 use Rattle.pcre2_api.specs.Captured.{top_within}
-use Rattle.test_run.specs.Matches.{answer_at, all_from}
+use Rattle.pcre2_api.specs.Walks.{answer_at, all_from}
 use Rattle.test_run.specs.TestText.{told}
 use Rattle.test_run.specs.Worked.{WorkedRows}
 

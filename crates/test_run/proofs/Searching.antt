@@ -12,7 +12,7 @@ use Rattle.pcre2_api.specs.Compiled.{CodeParts}
 use Rattle.pcre2_api.specs.Matched.{MatchParts, search_of, IsFound, IsMatchError}
 use Rattle.pcre2_api.specs.declared.error.MatchError.{MatchError}
 use Rattle.pcre2_api.specs.declared.error.MatchError.TheVariants as told
-use Rattle.test_run.specs.Matches.{Answer, found, none, failed, answer_of, answer_at}
+use Rattle.pcre2_api.specs.Walks.{Answer, found, none, failed, answer_of, answer_at}
 use Rattle.test_run.specs.declared.matches.Search.{Search}
 use Rattle.test_run.specs.declared.matches.Search.TheVariants as search
 use Rattle.test_run.specs.Lines.{failed_line}

@@ -1,5 +1,5 @@
 -- What modifiers ask for (pcre2test, "PATTERN MODIFIERS" and "SUBJECT MODIFIERS").
-use Rattle.std.specs.Prelude.{Bool, false, ◌||◌, Option, None, is_some, unwrap_or}
+use Rattle.std.specs.Prelude.{ℕ, Bool, false, ◌||◌, List, Option, None, unwrap_or}
 use Rattle.pat_tree.specs.declared.options.Options.{Options}
 use Rattle.pat_tree.specs.declared.options.MatchOptions.{MatchOptions}
 use Rattle.pat_tree.specs.declared.options.Newline.TheVariants.{Lf}
@@ -7,17 +7,17 @@ use Rattle.pat_tree.specs.declared.options.Bsr.TheVariants.{Unicode}
 use Rattle.pat_tree.specs.declared.options.TheConstants.MatchOptions as plain_match
 use Rattle.script_modifiers.specs.declared.modifiers.Modifiers.{Modifiers}
 use Rattle.script_modifiers.specs.Modifiers.{over}
+use Rattle.pcre2_api.specs.declared.substitute.SubstOptions.{SubstOptions}
 use Rattle.test_run.specs.declared.options.How.{How}
 
 -- an on-off modifier is on where it is given without `-`
 abbrev pub is_on : Option Bool → Bool
 is_on flag = unwrap_or flag false
 
--- partial matching, the DFA matcher and replacements aren't built
+-- partial matching and the DFA matcher aren't built
 abbrev pub is_unbuilt : Modifiers → Bool
 is_unbuilt m =
-    is_on m.partial_soft || (is_on m.partial_hard
-    || (is_on m.dfa || (is_on m.dfa_shortest || is_some m.replace)))
+    is_on m.partial_soft || (is_on m.partial_hard || (is_on m.dfa || is_on m.dfa_shortest))
 
 -- the options of a pattern
 abbrev pub options_of : Modifiers → Options
@@ -71,3 +71,19 @@ module _ (own earlier : Modifiers) where
     start = unwrap_or (over own earlier).offset 0;
     global = is_on (over own earlier).global;
   }
+
+  -- the text by which matches are replaced
+  abbrev pub replacement_of : Option (List ℕ)
+  replacement_of = (over own earlier).replace
+
+  abbrev pub subst_of : SubstOptions
+  subst_of =
+      let m = over own earlier in
+      record {
+        global = is_on m.global;
+        extended = is_on m.substitute_extended;
+        literal = is_on m.substitute_literal;
+        unset_empty = is_on m.substitute_unset_empty;
+        unknown_unset = is_on m.substitute_unknown_unset;
+        replacement_only = is_on m.substitute_replacement_only;
+      }

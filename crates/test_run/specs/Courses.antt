@@ -1,36 +1,44 @@
 -- What each entry of a script comes to, after those before it: entries → the pattern in force →
 -- lines.
-use Rattle.std.specs.Prelude.{ℕ, if◌then◌else◌, List, [], Result, Ok, Err}
+use Rattle.std.specs.Prelude.{ℕ, if◌then◌else◌, List, [], Option, Some, None, Result, Ok, Err}
 use Rattle.tool_out.specs.Texts.{text_if}
 use Rattle.token_parts.specs.declared.fault.Fault.{Fault}
 use Rattle.pat_tree.specs.Pattern.{Pattern}
+use Rattle.pat_tree.specs.declared.names.NameEntry.{NameEntry}
+use Rattle.pat_build.specs.Reading.{Parsed, read}
 use Rattle.script_modifiers.specs.declared.refusal.Refusal.{Refusal}
 use Rattle.script_modifiers.specs.declared.modifiers.Modifiers.{Modifiers}
+use Rattle.pcre2_api.specs.declared.substitute.SubstOptions.{SubstOptions}
+use Rattle.pcre2_api.specs.Substituted.{substituted}
 use Rattle.test_script.specs.declared.entries.Entry.{Entry}
 use Rattle.test_script.specs.declared.entries.Entry.TheVariants as entry
 use Rattle.test_script.specs.declared.entries.PatternEntry.{PatternEntry}
 use Rattle.test_script.specs.declared.entries.SubjectEntry.{SubjectEntry}
 use Rattle.pcre2_api.specs.Patterns.{compiled}
 use Rattle.pcre2_api.specs.Informs.{info_in}
-use Rattle.test_run.specs.Asked.{is_on, is_unbuilt, options_of, how_of}
+use Rattle.test_run.specs.Asked.{is_on, is_unbuilt, options_of, how_of, subst_of, replacement_of}
 use Rattle.test_run.specs.declared.options.How.{How}
-use Rattle.test_run.specs.Matches.{matches_from}
-use Rattle.test_run.specs.Lines.{unbuilt_line, fault_line, info_text, refusal_line, matches_text}
+use Rattle.pcre2_api.specs.Walks.{matches_from}
+use Rattle.test_run.specs.Lines.{unbuilt_line, fault_line, info_text, refusal_line, matches_text, replaced_text}
 
 -- what subject lines are searched for
 pub data Course : Type 0 where
   -- no pattern stands before
   between : Course
-  -- a pattern with its modifiers
-  tests : Pattern → Modifiers → Course
+  -- a pattern with the names of its groups and its modifiers
+  tests : Pattern → List NameEntry → Modifiers → Course
   -- nothing: the pattern before was refused, so its subject lines are passed over
   passed : Course
 
 -- Patterns.
 
-abbrev pub course_by : Modifiers → Result Pattern Fault → Course
-course_by m (Ok p) = tests p m
-course_by m (Err fault) = passed
+abbrev pub names_of : Result Parsed Fault → List NameEntry
+names_of (Ok parsed) = parsed.names
+names_of (Err fault) = []
+
+abbrev pub course_by : Modifiers → List NameEntry → Result Pattern Fault → Course
+course_by m names (Ok p) = tests p names m
+course_by m names (Err fault) = passed
 
 abbrev pub told_of : Modifiers → Result Pattern Fault → List ℕ
 told_of m (Ok p) = text_if (is_on m.info) (info_text (info_in p))
@@ -40,7 +48,8 @@ told_of m (Err fault) = fault_line fault.number fault.at
 abbrev pub pattern_course : PatternEntry → Course
 pattern_course p =
     if is_unbuilt p.modifiers then passed
-    else course_by p.modifiers (compiled (options_of p.modifiers) p.pattern)
+    else course_by p.modifiers (names_of (read (options_of p.modifiers) p.pattern))
+    (compiled (options_of p.modifiers) p.pattern)
 
 abbrev pub pattern_text : PatternEntry → List ℕ
 pattern_text p =
@@ -53,13 +62,21 @@ abbrev pub searched : Pattern → List ℕ → How → List ℕ
 searched p subject how =
     matches_text subject (matches_from p how.matching subject how.global how.start)
 
-abbrev pub tested_text : Pattern → Modifiers → SubjectEntry → List ℕ
-tested_text p m s =
+abbrev pub rewritten : Pattern → List NameEntry → List ℕ → How → SubstOptions → List ℕ → List ℕ
+rewritten p names subject how subst replacement =
+    replaced_text (substituted p names how.matching subst subject how.start replacement)
+
+-- where a replacement is given the matches are replaced, else they are shown
+abbrev pub tested_text : Pattern → List NameEntry → Modifiers → SubjectEntry → List ℕ
+tested_text p names m s =
     if is_unbuilt s.modifiers then unbuilt_line
-    else searched p s.subject (how_of s.modifiers m)
+    else elim (replacement_of s.modifiers m) [
+      | Some text ↦ rewritten p names s.subject (how_of s.modifiers m) (subst_of s.modifiers m) text
+      | None ↦ searched p s.subject (how_of s.modifiers m)
+    ]
 
 abbrev pub subject_text : Course → SubjectEntry → List ℕ
-subject_text (tests p m) s = tested_text p m s
+subject_text (tests p names m) s = tested_text p names m s
 subject_text _ s = []
 
 -- Entries.

@@ -1,6 +1,5 @@
 pub mod Shown
 pub mod Asked
-pub mod Matches
 pub mod Lines
 pub mod Courses
 pub mod TestText

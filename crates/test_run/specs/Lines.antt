@@ -1,6 +1,6 @@
 -- Lines about patterns, searches and refused lines (pcre2test, "DEFAULT OUTPUT FROM pcre2test" and
 -- "PATTERN MODIFIERS").
-use Rattle.std.specs.Prelude.{ℕ, Bool, true, false, nat_lt, List, [], ◌∷◌, ◌++◌, flat_map, codes, decimal, ℤ, Option, Some, None}
+use Rattle.std.specs.Prelude.{ℕ, Bool, true, false, nat_lt, List, [], ◌∷◌, ◌++◌, flat_map, codes, decimal, ℤ, Option, Some, None, Result, Ok, Err}
 use Rattle.std.specs.Fmt.{signed_decimal}
 use Rattle.tool_out.specs.Texts.{line, text_if}
 use Rattle.script_modifiers.specs.declared.refusal.Refusal.{Refusal}
@@ -8,9 +8,12 @@ use Rattle.script_modifiers.specs.declared.refusal.Refusal.TheVariants.{BadLine,
 use Rattle.pcre2_api.specs.declared.code.Info.{Info}
 use Rattle.pcre2_api.specs.declared.error.MatchError.{MatchError}
 use Rattle.pcre2_api.specs.MatchErrors.{number_of, text_of}
+use Rattle.pcre2_api.specs.SubstErrors as subst
+use Rattle.pcre2_api.specs.declared.subst_error.SubstError.{SubstError}
+use Rattle.pcre2_api.specs.declared.substitute.Substituted.{Substituted}
 use Rattle.pcre2_api.specs.FaultTexts.{fault_text}
-use Rattle.test_run.specs.Matches.{Matches}
-use Rattle.test_run.specs.Shown.{match_text}
+use Rattle.pcre2_api.specs.Walks.{Matches}
+use Rattle.test_run.specs.Shown.{shown, number_before, match_text}
 
 abbrev pub unbuilt_line : List ℕ
 unbuilt_line = line (codes "** not built")
@@ -61,3 +64,17 @@ is_any (x ∷ xs) = true
 abbrev pub matches_text : List ℕ → Matches → List ℕ
 matches_text subject m =
     flat_map (match_text subject) m.outcomes ++ end_text (is_any m.outcomes) m.ended
+
+-- Substitutions.
+
+abbrev pub done_line : Substituted → List ℕ
+done_line s = line (number_before s.count ++ shown s.text)
+
+abbrev pub unreplaced_line : SubstError → List ℕ
+unreplaced_line e =
+    line (codes "Failed: error " ++ signed_decimal (subst.number_of e) ++ codes ": " ++ subst.text_of e)
+
+-- the number of replacements and the text, or why there is none
+abbrev pub replaced_text : Result Substituted SubstError → List ℕ
+replaced_text (Ok s) = done_line s
+replaced_text (Err e) = unreplaced_line e

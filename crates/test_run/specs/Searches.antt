@@ -11,7 +11,7 @@ use Rattle.test_run.specs.declared.matches.Search.{Search}
 use Rattle.test_run.specs.declared.matches.Search.TheVariants as search
 use Rattle.test_run.specs.Courses.{Course, between, tests, passed}
 use Rattle.test_run.specs.Lines.{failed_line, end_text, is_any}
-use Rattle.test_run.specs.Matches.{Answer, found, none, failed, Matches}
+use Rattle.pcre2_api.specs.Walks.{Answer, found, none, failed, Matches}
 use Rattle.test_run.specs.Shown.{match_text}
 
 -- what a search writes
@@ -52,5 +52,6 @@ rest_text subject is_shown m =
 -- what subject lines are searched for, where the pattern is compiled
 abbrev pub course_of : Kept → Course
 course_of kept.Between = between
-course_of (kept.Tests tested) = tests (pattern_of tested.code.tree) tested.modifiers
+course_of (kept.Tests tested) =
+    tests (pattern_of tested.code.tree) tested.code.tree.names tested.modifiers
 course_of kept.Passed = passed

@@ -7,6 +7,7 @@ mod lines;
 mod matches;
 mod options;
 mod patterns;
+mod replacing;
 mod script;
 mod shown;
 mod stop;

@@ -1,11 +1,11 @@
 //! Lines about patterns and script lines.
 ghost use Rattle.std.specs.Prelude.{◌≡◌};
-ghost use Rattle.test_run.specs.Lines.{failed_line, fault_line, groups_line, lookbehind_line, info_text, refusal_line, unbuilt_line};
+ghost use Rattle.test_run.specs.Lines.{failed_line, fault_line, groups_line, lookbehind_line, info_text, refusal_line, unbuilt_line, unreplaced_line};
 ghost use Rattle.tool_out.specs.Writes.{Writes};
 
 use itoa::Buffer;
 use pcre_io::{IoError, Sink};
-use pcre2_api::{Info, MatchError, fault_text};
+use pcre2_api::{Info, MatchError, SubstError, fault_text};
 use script_modifiers::Refusal;
 use tool_out::write_texts;
 
@@ -32,6 +32,23 @@ pub fn write_fault<O: Sink>(out: &mut O, number: i32, at: usize) -> Result<(), I
 /// Writes why a search gives neither a match nor that there is none.
 pub fn write_failed<O: Sink>(out: &mut O, e: MatchError) -> Result<(), IoError>
     ensures { Writes (failed_line e) (O.tells out.old) (O.tells out.new) result }
+{
+    let mut number = Buffer::new();
+    write_texts(
+        out,
+        &[
+            b"Failed: error ",
+            number.format(e.number()).as_bytes(),
+            b": ",
+            e.text(),
+            b"\n",
+        ],
+    )
+}
+
+/// Writes why a subject isn't rewritten.
+pub fn write_unreplaced<O: Sink>(out: &mut O, e: SubstError) -> Result<(), IoError>
+    ensures { Writes (unreplaced_line e) (O.tells out.old) (O.tells out.new) result }
 {
     let mut number = Buffer::new();
     write_texts(

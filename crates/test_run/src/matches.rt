@@ -5,7 +5,7 @@ ghost use Rattle.pat_tree.specs.declared.options.PartialMode.TheVariants.{Off};
 ghost use Rattle.pat_tree.specs.Pattern.{pattern_of};
 ghost use Rattle.test_run.specs.declared.matches.Search.TheVariants.{Failed};
 ghost use Rattle.test_run.specs.Lines.{end_text, failed_line, matches_text};
-ghost use Rattle.test_run.specs.Matches.{answer_at, matching_at, is_crlf, first_from, matches_from};
+ghost use Rattle.pcre2_api.specs.Walks.{answer_at, matching_at, is_crlf, first_from, matches_from};
 ghost use Rattle.test_run.specs.Searches.{answer_text, error_text, IsSearch, TellsError, TellsMatch};
 ghost use Rattle.test_run.specs.Shown.{shown_or_unset, group_line, match_text};
 ghost use Rattle.tool_out.specs.Writes.{Writes};
@@ -13,9 +13,8 @@ ghost use Rattle.tool_out.specs.Writes.{Writes};
 use crate::lines::write_failed;
 use crate::options::How;
 use crate::shown::{write_number, write_shown};
-use byte_lanes::{EndKind, newline_at};
 use pcre_io::{IoError, Sink};
-use pcre2_api::{Code, Found, MatchError, MatchOptions, NoCallouts, Scratch};
+use pcre2_api::{Code, Found, MatchError, MatchOptions, NoCallouts, Scratch, matching_at, step};
 use tool_out::write_texts;
 
 /// What a search comes to.
@@ -113,36 +112,6 @@ fn search_from<O: Sink>(
             Ok(found_at(&found))
         }
         Err(e) => tell_error(out, e),
-    }
-}
-
-// The options of a search. Where an empty match was found, the same place is tried again for
-// another one.
-fn matching_at(matching: &MatchOptions, again: bool) -> MatchOptions
-    ensures { result ≡ matching_at matching.now again }
-{
-    if again {
-        MatchOptions {
-            anchored: true,
-            notempty_atstart: true,
-            ..*matching
-        }
-    } else {
-        *matching
-    }
-}
-
-// How far a place lies behind the one before it: a CRLF that is a newline is passed whole.
-fn step(code: &Code, subject: &[u8], at: usize) -> usize
-    requires { at ≤ length subject.now }
-    ensures { result ≡ (if is_crlf (pattern_of code.now.tree) subject.now at then 2 else 1) }
-{
-    let options = code.options();
-    let kind = options.newline.end_kind(options.utf);
-    if kind.has_crlf() && newline_at(subject, at, EndKind::CrLf) > 0 {
-        2
-    } else {
-        1
     }
 }
 

@@ -1,8 +1,9 @@
 //! What modifiers ask for.
 ghost use Rattle.std.specs.Prelude.{◌≡◌};
-ghost use Rattle.test_run.specs.Asked.{is_on, options_of, matching_of, is_unbuilt, how_of};
+ghost use Rattle.std.specs.Option.{option_copied};
+ghost use Rattle.test_run.specs.Asked.{is_on, options_of, matching_of, is_unbuilt, how_of, replacement_of, subst_of};
 
-use pcre2_api::{Bsr, MatchOptions, Newline, Options};
+use pcre2_api::{Bsr, MatchOptions, Newline, Options, SubstOptions};
 use script_modifiers::Modifiers;
 
 /// How a subject is searched.
@@ -28,8 +29,7 @@ pub fn is_info(modifiers: &Modifiers) -> bool
     is_on(modifiers.info)
 }
 
-/// Whether modifiers ask for partial matching, the DFA matcher or a replacement, which aren't
-/// built.
+/// Whether modifiers ask for partial matching or the DFA matcher, which aren't built.
 pub fn is_unbuilt(modifiers: &Modifiers) -> bool
     ensures { result ≡ is_unbuilt modifiers.now }
 {
@@ -37,7 +37,6 @@ pub fn is_unbuilt(modifiers: &Modifiers) -> bool
         || is_on(modifiers.partial_hard)
         || is_on(modifiers.dfa)
         || is_on(modifiers.dfa_shortest)
-        || modifiers.replace.is_some()
 }
 
 /// The options of a pattern with these modifiers (pcre2test, "PATTERN MODIFIERS").
@@ -103,5 +102,39 @@ pub fn how_of(own: &Modifiers, earlier: &Modifiers) -> How
         matching: matching_of(own, earlier),
         start: own.offset.or(earlier.offset).unwrap_or(0),
         global: is_on(own.global.or(earlier.global)),
+    }
+}
+
+/// The text by which the matches of a subject are replaced, if any is given (pcre2test, "Testing the
+/// substitution function").
+pub fn replacement_of<'a>(own: &'a Modifiers, earlier: &'a Modifiers) -> Option<&'a [u8]>
+    ensures { option_copied result ≡ replacement_of own.now earlier.now }
+{
+    match (&own.replace, &earlier.replace) {
+        (Some(text), _) | (None, Some(text)) => Some(text.bytes()),
+        (None, None) => None,
+    }
+}
+
+/// How they are replaced.
+pub fn subst_of(own: &Modifiers, earlier: &Modifiers) -> SubstOptions
+    ensures { result ≡ subst_of own.now earlier.now }
+{
+    SubstOptions {
+        global: is_on(own.global.or(earlier.global)),
+        extended: is_on(own.substitute_extended.or(earlier.substitute_extended)),
+        literal: is_on(own.substitute_literal.or(earlier.substitute_literal)),
+        unset_empty: is_on(
+            own.substitute_unset_empty
+                .or(earlier.substitute_unset_empty),
+        ),
+        unknown_unset: is_on(
+            own.substitute_unknown_unset
+                .or(earlier.substitute_unknown_unset),
+        ),
+        replacement_only: is_on(
+            own.substitute_replacement_only
+                .or(earlier.substitute_replacement_only),
+        ),
     }
 }

@@ -59,7 +59,9 @@ fn take_entry<O: Sink>(run: &mut Run, entry: Entry, out: &mut O) -> Result<(), I
             run.course = begin(run.alloc, pattern, out)?;
             Ok(())
         }
-        Entry::Subject(subject) => write_subject(out, &run.course, &subject, &mut run.scratch),
+        Entry::Subject(subject) => {
+            write_subject(run.alloc, out, &run.course, &subject, &mut run.scratch)
+        }
         Entry::Refused(refusal) => refuse(out, &run.course, &refusal),
         Entry::EndOfSubjects => {
             run.course = Course::Between;

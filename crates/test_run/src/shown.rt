@@ -55,6 +55,13 @@ pub fn write_shown<O: Sink>(out: &mut O, text: &[u8]) -> Result<(), IoError>
 pub fn write_number<O: Sink>(out: &mut O, n: u32) -> Result<(), IoError>
     ensures { Writes (number_before n) (O.tells out.old) (O.tells out.new) result }
 {
+    write_count(out, u64::from(n))
+}
+
+/// Writes a number of replacements in the same way.
+pub fn write_count<O: Sink>(out: &mut O, n: u64) -> Result<(), IoError>
+    ensures { Writes (number_before n) (O.tells out.old) (O.tells out.new) result }
+{
     let mut number = Buffer::new();
     write_texts(
         out,

@@ -65,6 +65,7 @@ repeat_built low high lazily (tree.one_repeat i least most mode) h = h
 repeat_built low high lazily (tree.atomic ts) h = h
 repeat_built low high lazily (tree.look ahead positive once ts) h = h
 repeat_built low high lazily (tree.condition test first second) h = h
+repeat_built low high lazily (tree.call n) h = h
 repeat_built low high lazily (tree.ref ns caseless) h = h
 repeat_built low high lazily (tree.anchor kind) h = h
 repeat_built low high lazily tree.keep_out h = h

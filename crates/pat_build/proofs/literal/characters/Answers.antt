@@ -33,8 +33,8 @@ texts-preserved c =
 pub texts-smaller : goal.texts-smaller
 texts-smaller c =
     let goes = goes_on c.args.utf c.args.text.now c.texts.at c.char_at-code.result.0 c.char_at-code.result.1 c.char_at-code.ensures.value in
-    omega (arith, goes, c.if-at-lt-text.true)
+    omega (arith, goes, c.texts-test.true)
 
 pub returns-clause-stand : goal.returns-clause-stand
 returns-clause-stand c =
-    reached_all _ c.args.utf c.args.caseless c.args.text.now _ c.texts.at (omega (arith, c.if-at-lt-text.false)) c.texts.invariant.stand
+    reached_all _ c.args.utf c.args.caseless c.args.text.now _ c.texts.at (omega (arith, c.texts-test.false)) c.texts.invariant.stand

@@ -42,6 +42,6 @@ items-preserved c =
         omega (arith, v.1, p.1, moves.0),
         v.2 ∙ ap (λ k. started c.args.text.now k (state_from c.items.at c.items.options)) p.1
             ∙ start_item c.args.text.now (state_from c.items.at c.items.options) p.0 c.in-Ok.token c.in-Ok.after (sym c.in-Ok.ensures.value) c.in-Start.item c.in-Start.is
-            ∙ ap (λ o. started c.args.text.now p.0 (state_from c.in-Ok.after o)) (sym c.with_item.ensures),
+            ∙ ap (λ o. started c.args.text.now p.0 (state_from c.in-Ok.after o)) (sym c.with_item-options.ensures),
       );
     }

@@ -1,7 +1,7 @@
 use Rattle.std.proofs.Common.{◌≡◌, Err, sym, subst, rules}
 use Rattle.pat_tree.specs.Pattern.{pattern_of}
 use Rattle.tool_out.specs.Writes.{Writes}
-use Rattle.test_run.specs.Matches.{answer_at}
+use Rattle.pcre2_api.specs.Walks.{answer_at}
 use Rattle.test_run.specs.Searches.{answer_text}
 use Rattle.test_run.proofs.Searching.{text-found, told-found, text-error, told-error}
 use Rattle.test_run.proofs.Writing.{writes-as, refused-as, writes-equal}

@@ -4,7 +4,7 @@ use Rattle.tool_out.specs.Writes.{Writes}
 use Rattle.pat_tree.specs.Pattern.{pattern_of}
 use Rattle.test_run.specs.declared.matches.Search.{Search}
 use Rattle.test_run.specs.Lines.{matches_text}
-use Rattle.test_run.specs.Matches.{answer_at, goes_on, place_behind, matches_from}
+use Rattle.pcre2_api.specs.Walks.{answer_at, goes_on, place_behind, matches_from}
 use Rattle.test_run.specs.Searches.{answer_text, IsSearch}
 use Rattle.test_run.proofs.Listing.{on-first, on-found, on-next, on-end, on-failed, on-refused, on-quiet, on-last, on-as, is-match, is-none, is-failed, goes-once, goes-past, goes-inside, behind-is}
 use Rattle.test_run.proofs.Writing.{writes-as, writes-equal, refused-as}

@@ -2,7 +2,7 @@ use Rattle.std.proofs.Common.{◌≡◌, Err, sym, subst, rules}
 use Rattle.tool_out.specs.Writes.{Writes}
 use Rattle.pat_tree.specs.Pattern.{pattern_of}
 use Rattle.test_run.specs.Lines.{matches_text}
-use Rattle.test_run.specs.Matches.{first_from}
+use Rattle.pcre2_api.specs.Walks.{first_from}
 use Rattle.test_run.proofs.Listing.{first-refused}
 use Rattle.test_run.proofs.Writing.{refused-as}
 use Rattle.test_run.proofs.matches.write_first.Goals as goal

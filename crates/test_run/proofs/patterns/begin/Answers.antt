@@ -4,7 +4,7 @@ use Rattle.pat_tree.specs.Pattern.{pattern_of}
 use Rattle.tool_out.specs.Writes.{Writes}
 use Rattle.test_run.specs.Courses.{pattern_text}
 use Rattle.test_run.specs.Lines.{fault_line}
-use Rattle.test_run.proofs.Compiling.{text-told, text-fault}
+use Rattle.test_run.proofs.Compiling.{text-told, text-fault, course-told}
 use Rattle.test_run.proofs.Writing.{writes-as, refused-as, writes-equal, lacks-first}
 use Rattle.test_run.proofs.patterns.begin.Goals as goal
 
@@ -43,6 +43,11 @@ returns-in-Err-Bad-clause-wrote g c =
     writes-equal
     (ap (λ n. fault_line n c.in-Err-Bad.at) (to_z-of_z w32 c.in-Err-Bad.number fits) ∙ text-fault entry c.is_unbuilt.result c.options_of.result c.bytes.result.now c.is_unbuilt.ensures c.if-is_unbuilt.false c.options_of.ensures c.bytes.ensures c.in-Err-Bad.field-0 c.in-Err-Bad.number c.in-Err-Bad.at c.in-Err-Bad.field-0-is c.in-Err-Bad.ensures.refused)
     (writes-as {A = Unit {0}} _ _ c.in_ok-write_fault-in-Err-Bad.ensures)
+
+pub returns-in-Ok-clause-course : goal.returns-in-Ok-clause-course
+returns-in-Ok-clause-course g c =
+    course-told c.args.entry c.is_unbuilt.result c.options_of.result c.bytes.result.now c.is_unbuilt.ensures c.if-is_unbuilt.false c.options_of.ensures c.bytes.ensures c.in-Ok.code.tree
+    c.in-Ok.ensures.compiled.1 c.in-Ok.ensures.compiled.2
 
 pub returns-clause-wrote : goal.returns-clause-wrote
 returns-clause-wrote g c = lacks-first (pattern_text c.args.entry) (g.O.Sink.tells c.args.out.now)

@@ -1,4 +1,6 @@
-use Rattle.std.proofs.Common.{sym, ◌∙◌}
+use Rattle.std.proofs.Common.{sym, subst, ◌∙◌}
+use Rattle.pat_tree.specs.declared.options.Options.{Options}
+use Rattle.match_items.specs.Subjects.{IsTextPlace}
 use Rattle.frame_machine.specs.Ready.{setting_for}
 use Rattle.match_drive.specs.Asked.{passed_over}
 use Rattle.match_drive.proofs.PastRun.{RunFails, run_fails, none_fails}
@@ -32,3 +34,7 @@ pub returns-in-Some-clause-alone : goal.returns-in-Some-clause-alone
 returns-in-Some-clause-alone c utf =
     let fits = c.requires.fits in
     absurd (let bytes = (rw c.in-Some.is at fits.runs_first).begins.bytes in cc (sym utf ∙ bytes))
+
+pub item_run-requires-clause-place : goal.item_run-requires-clause-place
+item_run-requires-clause-place c =
+    subst (λ (o : Options). IsTextPlace o c.args.self.now.view.now.subject.now c.args.place) (sym c.requires.fits.options) c.requires.place

@@ -1,4 +1,4 @@
-use Rattle.std.proofs.Common.{refl, sym, append-nil, map, []}
+use Rattle.std.proofs.Common.{refl, sym, append-nil, map, [], ◌∷◌}
 use Rattle.pat_tree.specs.Nested.{call}
 use Rattle.pat_tree.specs.Refs.{beside_whole}
 use Rattle.pat_build.specs.Groups.{places_named}

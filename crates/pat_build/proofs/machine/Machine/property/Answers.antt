@@ -1,6 +1,9 @@
-use Rattle.std.proofs.Common.{refl, sym}
+use Rattle.std.proofs.Common.{Result, Ok, refl, sym, ap, arith}
 use Rattle.std.proofs.lemmas.Result.{err_from_is_err_and}
+use Rattle.token_parts.specs.declared.fault.Fault.{Fault}
 use Rattle.token_parts.specs.declared.token.Token.TheVariants.{Property}
+use Rattle.pat_build.specs.Parts.{Beginning, of_class}
+use Rattle.pat_build.specs.Machine.{state_of}
 use Rattle.pat_build.proofs.Waiting.{bad_means}
 use Rattle.pat_build.proofs.machine.Machine.property.Goals as goal
 
@@ -14,4 +17,11 @@ returns-in_err-part-clause-bad c =
 
 pub class-requires-clause-ready : goal.class-requires-clause-ready
 class-requires-clause-ready c =
-    (Property c.args.from c.args.to c.args.not, c.args.after, c.requires, refl, λ n h. rw (sym c.in_ok-part.ensures) refl)
+    let m = c.args.self.now in (
+      Property c.args.from c.args.to c.args.not,
+      c.args.after,
+      c.requires,
+      omega arith,
+      λ n h. rw (sym c.in_ok-part.ensures)
+          (ap (λ spec. let x : Result Beginning Fault = Ok (of_class spec (record (state_of m) { at = c.args.after })) in x) (sym c.in_ok-spec.ensures)),
+    )

@@ -1,7 +1,7 @@
 use Rattle.std.proofs.Common.{◌∙◌}
 use Rattle.tool_out.proofs.Writing.{writes-same}
 use Rattle.test_run.proofs.Showing.{number-text}
-use Rattle.test_run.proofs.shown.write_number.Goals as goal
+use Rattle.test_run.proofs.shown.write_count.Goals as goal
 
 pub returns : goal.returns
 returns g c =
