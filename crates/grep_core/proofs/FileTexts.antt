@@ -1,5 +1,5 @@
 -- What is written of an input, piece by piece, to the output and to the messages.
-use Rattle.std.proofs.Common.{◌≡◌, ◌≢◌, ℕ, ◌+◌, Bool, true, false, ◌&&◌, not, ◌||◌, List, [], ◌++◌, length, take, flat_map, Option, Result, Ok, Err, refl, sym, ap, subst, ◌∙◌, arith, inl, inr, ◌⊎◌, append-nil, nat_eq, codes}
+use Rattle.std.proofs.Common.{◌≡◌, ◌≢◌, ℕ, ◌+◌, ◌≤◌, Bool, true, false, ◌&&◌, not, ◌||◌, List, [], ◌++◌, length, take, flat_map, Option, Result, Ok, Err, refl, sym, ap, subst, ◌∙◌, arith, inl, inr, ◌⊎◌, append-nil, nat_eq, codes}
 use Rattle.std.specs.List.{list_any}
 use Rattle.pcre_io.specs.Told.{Told, Kept, AppendsPrefix}
 use Rattle.pcre_io.specs.Causes.{CountsRefusals}
@@ -38,8 +38,9 @@ use Rattle.grep_core.specs.Lines.{is_nul, lines, treatment, treatment_by}
 use Rattle.grep_core.specs.Ends.{stop_of, ended_of}
 use Rattle.tool_out.specs.Writes.{Writes}
 use Rattle.tool_out.specs.Prints.{Wrote, Breaks}
-use Rattle.grep_core.specs.WholeScans.{Stood, StopsIn, ScansTo, ScansInput, left_by, AtLeastOne, IsJob}
+use Rattle.grep_core.specs.WholeScans.{Stood, StopsIn, ScansTo, ScansInput, left_by, AtLeastOne, IsJob, LeavesRest}
 use Rattle.grep_core.specs.OneInput.{IsNew, is_skipped, WritesBoth, CountsPart, ScansAs, ScansSo, LeavesTo, GrepsInput, GrepsTo, Treats}
+use Rattle.grep_core.proofs.ScansRows.{stood-little}
 use Rattle.tool_out.proofs.Writing.{prefix-front, prefix-more}
 use Rattle.tool_out.specs.Printed.{Printed, printed}
 use Rattle.tool_out.proofs.Printing as printing
@@ -121,15 +122,17 @@ module _ (plan : GrepPlan) (name : List ℕ) (s : State) where
 -- how an input is scanned
 module _ (plan : GrepPlan) (patterns : List Pattern) (name : List ℕ) (sh : Show) (s : State) where
   -- one that is skipped isn't
-  pub scans-skipped : (treated : Treatment) (before now : Told) (f : Feed) (old : Printed) → treated ≡ Skipped → Stood plan treated before now f []
+  pub scans-skipped : (treated : Treatment) (before now : Told) (f : Feed) (old : Printed) → treated ≡ Skipped → Stood plan treated before now f [] → length f.held ≤ 65536 → f.offset ≡ 0
       → ScansAs plan patterns name sh treated s before now s old old (Ok (record { selected = 0; ended = told.Early }))
-  scans-skipped treated before now f old is stood =
+  scans-skipped treated before now f old is stood near begun =
       let h = treated-of plan treated before now f stood in record {
         heard = h.heard;
         hears = h.hears;
         treats = h.treats;
         scans = subst (λ t. ScansSo plan name sh s (scan plan patterns s.errors t (lines plan h.heard)) s old old (Ok (record { selected = 0; ended = told.Early }))) (sym is)
             (record { wrote = none-wrote plan name s sh early old; state = none-state plan name s sh early }, refl, refl);
+        rest = subst (λ t. let x : Scan = scan plan patterns s.errors t (lines plan h.heard) in LeavesRest {T = FileEnd} x.ended x.within before now (Ok (record { selected = 0; ended = told.Early }))) (sym is)
+            (λ _. stood-little plan treated before now f [] stood near begun);
       }
 
   -- memory lacked before the scan
@@ -138,7 +141,7 @@ module _ (plan : GrepPlan) (patterns : List Pattern) (name : List ℕ) (sh : Sho
   scans-lacks treated before now f out err result is stood =
       let h = treated-of plan treated before now f stood in
       subst (ScansAs plan patterns name sh treated s before now s (printed out err) (printed out err)) (sym is)
-      (record { heard = h.heard; hears = h.hears; treats = h.treats; scans = (breaks-none _ _ out err Memory refl, none-counts plan name s sh (scan plan patterns s.errors treated (lines plan h.heard))) })
+      (record { heard = h.heard; hears = h.hears; treats = h.treats; scans = (breaks-none _ _ out err Memory refl, none-counts plan name s sh (scan plan patterns s.errors treated (lines plan h.heard))); rest = tt })
 
   scan-as : (treated : Treatment) → treated ≢ Skipped → (found : Rows) → scan_of_rows plan patterns s.errors treated found ≡ scan plan patterns s.errors treated found
   scan-as AsText other found = refl
@@ -154,6 +157,11 @@ module _ (plan : GrepPlan) (patterns : List Pattern) (name : List ℕ) (sh : Sho
   counted-state : (treated : Treatment) (found : Scan) (selected total : ℕ) (s_mid : State) → s_mid ≡ left_by plan patterns name sh treated s found → selected ≡ length (selected_in plan found) → total ≡ s.total + selected
       → record s_mid { total = total } ≡ state_by plan name sh s found
   counted-state treated found selected total s_mid state count sums = ap (λ n. record s_mid { total = n }) sums ∙ (λ i. record (state i) { total = s.total + count i })
+
+  -- what it leaves of the input
+  rest-end : (selected : ℕ) (x : Scan) (before after : Told) (came : Result Ended Stop) → LeavesRest x.ended x.within before after came → LeavesRest x.ended x.within before after (end_by selected came)
+  rest-end selected x before after (Ok ended) h = h
+  rest-end selected x before after (Err stop) h = tt
 
   module _ (treated : Treatment) (selected total : ℕ) (s_mid : State) (sums : total ≡ s.total + selected) where
     part : (found : Scan) → StopsIn plan patterns name sh treated s found selected s_mid → CountsPart plan name sh s found (record s_mid { total = total })
@@ -176,6 +184,10 @@ module _ (plan : GrepPlan) (patterns : List Pattern) (name : List ℕ) (sh : Sho
           (subst (ScansSo plan name sh s (scan_of_rows plan patterns s.errors treated (lines plan h.heard)) (record s_mid { total = total }) old new) (sym so)
           (scans-so (scan_of_rows plan patterns s.errors treated (lines plan h.heard)) old new came
           (subst (ScansTo plan patterns name sh treated s (scan_of_rows plan patterns s.errors treated (lines plan h.heard)) selected s_mid old new) is h.scans)));
+      rest =
+          let x = scan_of_rows plan patterns s.errors treated (lines plan h.heard) in
+          subst (λ found. LeavesRest {T = FileEnd} found.ended found.within before after result) (scan-as treated other (lines plan h.heard))
+          (subst (LeavesRest {T = FileEnd} x.ended x.within before after) (sym so) (rest-end selected x before after came (subst (LeavesRest {T = Ended} x.ended x.within before after) is h.rest)));
     }
 
 -- the first bytes were looked at
@@ -185,6 +197,8 @@ treats-shown plan treated is_zero before after f g shown new other shows zero by
   stood = inr (other, (shown, HasShown-shows before before after f g shown (HasGiven-none before f new.held new.number new.offset new.phase) new.offset shows, ap (λ b. treatment_by b plan.binary) (sym zero) ∙ sym by));
   live = shows.live;
   number = shows.moves.number ∙ new.number;
+  near = let few = shows.few in let none = ap length new.held in omega arith;
+  begun = shows.moves.offset ∙ new.offset;
   kind = shows.moves.kind;
   max = shows.moves.max;
 }
@@ -200,6 +214,8 @@ treats-none plan t f new is = record {
   stood = inl (is, refl, HasGiven-none t f new.held new.number new.offset new.phase);
   live = λ shut. absurd (open-closed (sym new.phase ∙ shut));
   number = new.number;
+  near = let none = ap length new.held in omega arith;
+  begun = new.offset;
   kind = refl;
   max = refl;
 }
@@ -235,13 +251,14 @@ some-most false mode_of.WholeLines most some = some
 
 -- the job of a scan is made for the input
 pub job-is : {plan : GrepPlan} {treated : Treatment} {md : Mode} {tells : Bool} {sh : Show} {most : Option ℕ} {f : Feed} → md ≡ mode plan → tells ≡ tells_binary treated md → sh ≡ show_in tells md → most ≡ most_selected tells md plan.max_count
-    → AtLeastOne plan.max_count → f.kind ≡ line_end plan → f.max ≡ plan.max_buffer_size → treated ≢ Skipped → IsJob plan treated sh most f
-job-is {plan} {treated} {md} {tells} {sh} {most} {f} m t e is some kind max other =
+    → AtLeastOne plan.max_count → f.kind ≡ line_end plan → f.max ≡ plan.max_buffer_size → f.offset ≡ 0 → treated ≢ Skipped → IsJob plan treated sh most f
+job-is {plan} {treated} {md} {tells} {sh} {most} {f} m t e is some kind max begun other =
     let so : tells ≡ is_told plan treated = t ∙ ap (tells_binary treated) m in record {
       show_is = e ∙ (λ i. show_in (so i) (m i));
       most_is = is ∙ (λ i. most_selected (so i) (m i) plan.max_count);
       some = subst AtLeastOne (sym is) (some-most tells md plan.max_count some);
       scanned = other;
+      begun = begun;
       kind = kind;
       max = max;
     }
@@ -282,25 +299,26 @@ module _ {plan : GrepPlan} {patterns : List Pattern} {name : List ℕ} {s : Stat
 
   -- of this treatment
   abbrev tells_so : Treatment → Written → Scan → Printed → Result FileEnd Stop → Type 0
-  tells_so t w found new result = GrepsTo w s_new old new result × LeavesTo plan name (show_in (is_told plan t) (mode plan)) s w found s_new result
+  tells_so t w found new result =
+      GrepsTo w s_new old new result × LeavesTo plan name (show_in (is_told plan t) (mode plan)) s w found s_new result × LeavesRest w.ended w.within before after result
 
   -- a part of it was written, and this counts
   stopped : (found : Scan) {new : Printed} (stop : Stop) → stop ≢ TooManyErrors → Breaks (text_of found).out (text_of found).err old new (stop ≡ SinkFault)
       → (s_new ≡ (text_of found).state) ⊎ CountsPart plan name (show_in (is_told plan treated) (mode plan)) s found s_new → tells_so treated (text_of found) found new (Err stop)
-  stopped found SinkFault other b left = (b, left)
-  stopped found Memory other b left = (b, left)
+  stopped found SinkFault other b left = (b, left, tt)
+  stopped found Memory other b left = (b, left, tt)
   stopped found TooManyErrors other b left = absurd (other refl)
 
   grep-by : {new : Printed} (came : Result FileEnd Stop) → met ≡ came → (result : Result FileEnd Stop)
-      → ((found : Scan) → ScansSo plan name (show_in (is_told plan treated) (mode plan)) s found s_new old mid came → tells_so treated (text_of found) found new result)
+      → ((found : Scan) → ScansSo plan name (show_in (is_told plan treated) (mode plan)) s found s_new old mid came → LeavesRest found.ended found.within before after came → tells_so treated (text_of found) found new result)
       → GrepsInput plan patterns name before after s s_new old new result
   unfolding input_text
   grep-by {new} came is result goes =
       let so = scanned-so in
       let found = scan plan patterns s.errors treated (lines plan so.heard) in
       let both = subst (λ t. let x : Scan = scan plan patterns s.errors t (lines plan so.heard) in tells_so t (written_by plan name (is_told plan t) s x) x new result) (sym so.treats)
-      (goes found (subst (ScansSo plan name (show_in (is_told plan treated) (mode plan)) s found s_new old mid) is so.scans)) in
-      record { heard = so.heard; hears = so.hears; greps = both.0; left = both.1 }
+      (goes found (subst (ScansSo plan name (show_in (is_told plan treated) (mode plan)) s found s_new old mid) is so.scans) (subst (LeavesRest {T = FileEnd} found.ended found.within before after) is so.rest)) in
+      record { heard = so.heard; hears = so.hears; greps = both.0; left = both.1; rest = both.2 }
 
   out-end : (found : Scan) (ended : Ended) → out_text plan name (is_told plan treated) s.has_shown found (ended_of ended) ≡ shown_of found ++ end_out plan name (mode plan) (is_told plan treated) (length (selected_in plan found))
   out-end found told.End = refl
@@ -319,7 +337,7 @@ module _ {plan : GrepPlan} {patterns : List Pattern} {name : List ℕ} {s : Stat
     said-is found scans = ap (λ x. said_of found ++ ended_message plan.no_messages name x) (sym scans.2)
 
     pub greps-all : {new : Printed} → Wrote (end_out plan name md tells end.selected) (ended_message plan.no_messages name (ended_of end.ended)) mid new → GrepsInput plan patterns name before after s s_new old new (Ok end)
-    greps-all {new} next = grep-by (Ok end) is (Ok end) (λ found scans. (
+    greps-all {new} next = grep-by (Ok end) is (Ok end) (λ found scans rest. (
       record {
         wrote = subst (λ x. Wrote x (text_of found).err old new) (out-is found scans)
             (subst (λ x. Wrote (shown_of found ++ end_out plan name md tells end.selected) x old new) (said-is found scans) (wrote-more _ _ _ _ scans.0.wrote next));
@@ -328,13 +346,14 @@ module _ {plan : GrepPlan} {patterns : List Pattern} {name : List ℕ} {s : Stat
         state = scans.0.state;
       },
       tt,
+      rest,
     ))
 
     pub greps-breaks : {new : Printed} (fault : IoError) (result : Result FileEnd Stop) → result ≡ Err (stop_of fault)
         → Breaks (end_out plan name md tells end.selected) (ended_message plan.no_messages name (ended_of end.ended)) mid new (stop_of fault ≡ SinkFault)
         → GrepsInput plan patterns name before after s s_new old new result
     greps-breaks {new} fault result so next = subst (GrepsInput plan patterns name before after s s_new old new) (sym so)
-        (grep-by (Ok end) is (Err (stop_of fault)) (λ found scans.
+        (grep-by (Ok end) is (Err (stop_of fault)) (λ found scans rest.
         stopped found (stop_of fault) (stop-other fault)
         (subst (λ x. Breaks x (text_of found).err old new (stop_of fault ≡ SinkFault)) (out-is found scans)
         (subst (λ x. Breaks (shown_of found ++ end_out plan name md tells end.selected) x old new (stop_of fault ≡ SinkFault)) (said-is found scans) (wrote-breaks _ _ _ _ scans.0.wrote (stop_of fault ≡ SinkFault) next)))
@@ -349,7 +368,7 @@ module _ {plan : GrepPlan} {patterns : List Pattern} {name : List ℕ} {s : Stat
     many-said found ended = ap (λ x. said_of found ++ ended_message plan.no_messages name x) (sym ended)
 
     pub greps-many : {err_new : Kept} (u : Unit {0}) → Writes (message (codes "too many match errors")) mid.err err_new (Ok u) → GrepsInput plan patterns name before after s s_new old (printed mid.out err_new) (Err TooManyErrors)
-    greps-many {err_new} u w = grep-by (Err TooManyErrors) is (Err TooManyErrors) (λ found scans. (
+    greps-many {err_new} u w = grep-by (Err TooManyErrors) is (Err TooManyErrors) (λ found scans rest. (
       (
         subst (λ x. Wrote x (text_of found).err old (printed mid.out err_new)) (many-out found scans.1)
             (subst (λ x. Wrote (shown_of found ++ []) x old (printed mid.out err_new)) (many-said found scans.1) (wrote-more _ _ _ _ scans.0.wrote (wrote-err _ mid.out mid.err err_new u w))),
@@ -357,12 +376,13 @@ module _ {plan : GrepPlan} {patterns : List Pattern} {name : List ℕ} {s : Stat
         scans.0.state,
       ),
       tt,
+      tt,
     ))
 
     pub greps-untold : {err_new : Kept} (fault : IoError) (result : Result FileEnd Stop) → result ≡ Err (stop_of fault) → Writes {T = Unit {0}} (message (codes "too many match errors")) mid.err err_new (Err fault)
         → GrepsInput plan patterns name before after s s_new old (printed mid.out err_new) result
     greps-untold {err_new} fault result so w = subst (GrepsInput plan patterns name before after s s_new old (printed mid.out err_new)) (sym so)
-        (grep-by (Err TooManyErrors) is (Err (stop_of fault)) (λ found scans.
+        (grep-by (Err TooManyErrors) is (Err (stop_of fault)) (λ found scans rest.
         stopped found (stop_of fault) (stop-other fault)
         (subst (λ x. Breaks x (text_of found).err old (printed mid.out err_new) (stop_of fault ≡ SinkFault)) (many-out found scans.1)
         (subst (λ x. Breaks (shown_of found ++ []) x old (printed mid.out err_new) (stop_of fault ≡ SinkFault)) (many-said found scans.1)
@@ -376,12 +396,12 @@ module _ {plan : GrepPlan} {patterns : List Pattern} {name : List ℕ} {s : Stat
   longer found too_many_errors part = part
 
   cut-off : (found : Scan) (stop : Stop) → stop ≢ TooManyErrors → ScansSo plan name (show_in (is_told plan treated) (mode plan)) s found s_new old mid (Err stop) → tells_so treated (text_of found) found mid (Err stop)
-  cut-off found SinkFault other b = (record { out = longer found found.ended b.0.out; err = prefix-front _ _ _ _ b.0.err; cause = b.0.cause; steady = b.0.steady }, inr b.1)
-  cut-off found Memory other b = (record { out = longer found found.ended b.0.out; err = prefix-front _ _ _ _ b.0.err; cause = b.0.cause; steady = b.0.steady }, inr b.1)
+  cut-off found SinkFault other b = (record { out = longer found found.ended b.0.out; err = prefix-front _ _ _ _ b.0.err; cause = b.0.cause; steady = b.0.steady }, inr b.1, tt)
+  cut-off found Memory other b = (record { out = longer found found.ended b.0.out; err = prefix-front _ _ _ _ b.0.err; cause = b.0.cause; steady = b.0.steady }, inr b.1, tt)
   cut-off found TooManyErrors other b = absurd (other refl)
 
   pub greps-cut : (stop : Stop) → met ≡ Err stop → stop ≢ TooManyErrors → GrepsInput plan patterns name before after s s_new old mid (Err stop)
-  greps-cut stop is other = grep-by (Err stop) is (Err stop) (λ found scans. cut-off found stop other scans)
+  greps-cut stop is other = grep-by (Err stop) is (Err stop) (λ found scans rest. cut-off found stop other scans)
 
 pub fault-other : SinkFault ≢ TooManyErrors
 fault-other e = cc
@@ -390,8 +410,18 @@ pub memory-other : Memory ≢ TooManyErrors
 memory-other e = cc
 
 -- memory lacked before the input was looked at
-pub greps-lacks : {plan : GrepPlan} {patterns : List Pattern} {name : List ℕ} {s : State} {before after : Told} (out err : Kept) (stop : Stop) (result : Result FileEnd Stop) → result ≡ Err stop → stop ≡ Memory → (heard : Input) × Hears before after heard
-    → GrepsInput plan patterns name before after s s (printed out err) (printed out err) result
-greps-lacks {plan} {patterns} {name} {s} {before} {after} out err stop result is lacks any =
-    subst (GrepsInput plan patterns name before after s s (printed out err) (printed out err)) (sym (is ∙ ap Err lacks))
-    (record { heard = any.0; hears = any.1; greps = breaks-none _ _ out err Memory refl; left = inr (none-counts plan name s _ _) })
+pub greps-lacks : {plan : GrepPlan} {patterns : List Pattern} {name : List ℕ} {s s_new : State} {before after : Told} (out err : Kept) (stop : Stop) (result : Result FileEnd Stop) → s_new ≡ s → result ≡ Err stop → stop ≡ Memory
+    → (heard : Input) × Hears before after heard → GrepsInput plan patterns name before after s s_new (printed out err) (printed out err) result
+greps-lacks {plan} {patterns} {name} {s} {s_new} {before} {after} out err stop result kept is lacks any =
+    subst (λ (now : State). GrepsInput plan patterns name before after s now (printed out err) (printed out err) result) (sym kept)
+    (subst (GrepsInput plan patterns name before after s s (printed out err) (printed out err)) (sym (is ∙ ap Err lacks))
+    (record { heard = any.0; hears = any.1; greps = breaks-none _ _ out err Memory refl; left = inr (none-counts plan name s _ _); rest = tt }))
+
+-- the same of equal texts and an equal answer
+pub greps-moved : {plan : GrepPlan} {patterns : List Pattern} {name : List ℕ} {before after : Told} {s s_new : State} {old : Printed} (out out_then err err_then : Kept) (result result_then : Result FileEnd Stop)
+    → out ≡ out_then → err ≡ err_then → result ≡ result_then → GrepsInput plan patterns name before after s s_new old (printed out_then err_then) result_then
+    → GrepsInput plan patterns name before after s s_new old (printed out err) result
+greps-moved {plan} {patterns} {name} {before} {after} {s} {s_new} {old} out out_then err err_then result result_then same_out same_err same h =
+    subst (λ (o : Kept). GrepsInput plan patterns name before after s s_new old (printed o err) result) (sym same_out)
+    (subst (λ (e : Kept). GrepsInput plan patterns name before after s s_new old (printed out_then e) result) (sym same_err)
+    (subst (λ (r : Result FileEnd Stop). GrepsInput plan patterns name before after s s_new old (printed out_then err_then) r) (sym same) h))

@@ -23,13 +23,13 @@ use Rattle.grep_core.specs.Lines.{lines}
 use Rattle.grep_core.specs.Shows.{is_told, show_in, greatest_selected, lines_after}
 use Rattle.grep_match.specs.Modes.{mode}
 use Rattle.grep_match.specs.Matches.{Tried, tried_row, is_selected, has_error}
-use Rattle.grep_core.specs.Scans.{Scan, rows_of, errors_left, nth_place, place_of_most, scan_to, whole_scan, broken_scan, errors_in, selected_in}
+use Rattle.grep_core.specs.Scans.{Scan, rows_of, errors_left, nth_place, place_of_most, scan_to, whole_scan, broken_scan, errors_in, selected_in, at_finish, early}
 use Rattle.grep_core.specs.Context.{shown_lines}
 use Rattle.grep_core.specs.Messages.{error_message}
 use Rattle.grep_core.specs.InputText.{shown_out, shows_group}
 use Rattle.grep_core.specs.Course.{AreNumbered, row_out, state_after_line, is_lines, scan_so_far}
 use Rattle.grep_core.specs.Turns.{course_of, LeavesLine, TakesLine, TakesLast, is_last, EndsSo, Idles, Turns}
-use Rattle.grep_core.specs.WholeScans.{Stood, Scans, StopsIn, ScansTo, ScansInput, scan_of, left_by, IsJob, BeginsWith, EndsWith}
+use Rattle.grep_core.specs.WholeScans.{Stood, Scans, StopsIn, ScansTo, ScansInput, scan_of, left_by, IsJob, BeginsWith, EndsWith, LeavesRest}
 use Rattle.tool_out.specs.Prints.{Wrote, Breaks}
 use Rattle.grep_core.proofs.Reached.{out-broken}
 use Rattle.grep_core.proofs.ScanEnds.{count, count-more, count-one, count-none, early-tried, broken-within}
@@ -63,6 +63,13 @@ pub lacks-so : (plan : GrepPlan) (treated : Treatment) (before now after : Told)
 lacks-so plan treated before now after f g given stood kind max lacks =
     let moves = lacks.0.moves in
     stood-begins plan treated before after g given (moves.kind ∙ kind) (moves.max ∙ max) (stood-moves plan treated before now after f g given stood moves)
+
+-- a scan that came to the end of the lines didn't end early
+finish-early : (finish : Finish) → at_finish finish ≢ early
+finish-early finish e = cc
+
+pub rest-late : (x : Scan) (finish : Finish) (before after : Told) (ended : Ended) → x.ended ≡ at_finish finish → LeavesRest {T = Ended} x.ended x.within before after (Ok ended)
+rest-late x finish before after ended is = λ e. absurd (finish-early finish (sym is ∙ e))
 
 whole-group : (plan : GrepPlan) (name : List ℕ) (shows : Show) (us : List Tried) (finish : Finish) → shows_group plan name shows (whole_scan us finish) ≡ shows_group plan name shows (scan_so_far us)
 whole-group plan name show.Lines us finish = refl
@@ -154,6 +161,7 @@ module _ (plan : GrepPlan) (patterns : List Pattern) (name : List ℕ) (shows : 
             hears = ends.hears;
             treats = ends.treats;
             scans = subst (λ x. ScansTo plan patterns name shows treated s0 x c1.selected s1 (printed out0 err0) (printed out1 err1) (Ok ended)) (sym is) (whole-scans ends.finish idles, sym ends.ended_so);
+            rest = rest-late (scan_in (lines plan ends.heard)) ends.finish before after ended (ap (λ (x : Scan). x.ended) is);
           }
 
       -- the feed lacks memory
@@ -175,6 +183,7 @@ module _ (plan : GrepPlan) (patterns : List Pattern) (name : List ℕ) (shows : 
               breaks-ext plan name shows s0.has_shown (full_of finish (us ++ vs)) a us out0 out1 err0 err1 Memory ext breaks,
               subst (StopsIn plan patterns name shows treated s0 (full_of finish (us ++ vs)) c1.selected) (sym idles.state) (stops-in plan patterns name shows treated s0 ext.rest c1.selected (ap (λ (d : Course). d.selected) idles.course) ext.tried_is standing.taken),
             );
+            rest = tt;
           }
 
       module _ (row : Row) (gives : Gives f g now after row) where
@@ -203,12 +212,13 @@ module _ (plan : GrepPlan) (patterns : List Pattern) (name : List ℕ) (shows : 
         numbered-row : AreNumbered 1 (rows_of (us ++ t ∷ vs))
         numbered-row = subst (λ l. AreNumbered 1 (rows_of l)) all-tries (begins-tried before after (standing.given ++ row ∷ []) begins-row)
 
-        input-row : (result : Result Ended Stop) → ScansTo plan patterns name shows treated s0 (full_of finish (us ++ t ∷ vs)) c1.selected s1 (printed out0 err0) (printed out1 err1) result → Input result
-        input-row result scans = record {
+        input-row : (stop : Stop) → ScansTo plan patterns name shows treated s0 (full_of finish (us ++ t ∷ vs)) c1.selected s1 (printed out0 err0) (printed out1 err1) (Err stop) → Input (Err stop)
+        input-row stop scans = record {
           heard = begins-row.heard;
           hears = begins-row.hears;
           treats = begins-row.treats;
-          scans = subst (λ x. ScansTo plan patterns name shows treated s0 x c1.selected s1 (printed out0 err0) (printed out1 err1) result) (sym scan-row) scans;
+          scans = subst (λ x. ScansTo plan patterns name shows treated s0 x c1.selected s1 (printed out0 err0) (printed out1 err1) (Err stop)) (sym scan-row) scans;
+          rest = tt;
         }
 
         had-errors : s.errors ≡ s0.errors + count has_error us
@@ -246,7 +256,7 @@ module _ (plan : GrepPlan) (patterns : List Pattern) (name : List ℕ) (shows : 
               count = counted;
               state = last.state ∙ state;
             } in
-            input-row (Err TooManyErrors)
+            input-row TooManyErrors
             (subst (λ x. ScansTo plan patterns name shows treated s0 x c1.selected s1 (printed out0 err0) (printed out1 err1) (Err TooManyErrors)) (sym same) (scans, refl))
 
         few-next : is_last s t ≡ false → count has_error (us ++ t ∷ []) < left
@@ -309,9 +319,9 @@ module _ (plan : GrepPlan) (patterns : List Pattern) (name : List ℕ) (shows : 
 
         -- it couldn't be taken
         pub scans-row : (stop : Stop) → TakesLine plan name shows most t c s c1 s1 (printed out err) (printed out1 err1) (Err stop) → Input (Err stop)
-        scans-row SinkFault takes = input-row (Err SinkFault) (next-breaks SinkFault takes.0, next-stops takes.1)
+        scans-row SinkFault takes = input-row SinkFault (next-breaks SinkFault takes.0, next-stops takes.1)
         scans-row TooManyErrors takes = scans-last takes
-        scans-row Memory takes = input-row (Err Memory) (next-breaks Memory takes.0, next-stops takes.1)
+        scans-row Memory takes = input-row Memory (next-breaks Memory takes.0, next-stops takes.1)
 
       -- a turn that stops
       pub scans-stops : (stop : Stop) → Turns plan patterns name shows most f g now after c s c1 s1 (printed out err) (printed out1 err1) (Err stop) → Input (Err stop)

@@ -1,5 +1,5 @@
 -- The rows after the last line that is selected, shown as its context.
-use Rattle.std.proofs.Common.{◌≡◌, ◌≢◌, ℕ, ◌+◌, ◌<◌, false, List, [], ◌∷◌, ◌++◌, length, Ok, Err, refl, sym, ap, subst, ◌∙◌, inl, inr, arith, append_assoc, append-nil, length-append}
+use Rattle.std.proofs.Common.{◌≡◌, ◌≢◌, ℕ, ◌+◌, ◌<◌, ◌≤◌, false, List, [], ◌∷◌, ◌++◌, length, Ok, Err, refl, sym, ap, subst, ◌∙◌, inl, inr, arith, append_assoc, append-nil, length-append}
 use Rattle.std.specs.Prelude.{flat_map}
 use Rattle.std.proofs.lemmas.List.Concat.{flat_map-append}
 use Rattle.pcre_io.specs.Told.{Told, Kept}
@@ -21,7 +21,8 @@ use Rattle.tool_out.specs.Writes.{WritesAll}
 use Rattle.grep_core.specs.Turns.{Halts, EndsSo}
 use Rattle.grep_core.specs.WholeScans.{Stood}
 use Rattle.grep_core.specs.Follows.{ShowsRow, FollowsOne, FollowsAll, FollowsSome, FollowsPart, Follows}
-use Rattle.grep_core.proofs.ScansRows.{stood-gives, stood-begins}
+use Rattle.grep_core.proofs.ScansRows.{stood-gives, stood-begins, stood-little, whole-gives}
+use Rattle.grep_core.specs.LittlePast.{bytes_in}
 use Rattle.grep_core.proofs.ScansTexts.{writes-none, writes-more, halts-more, halts-memory}
 use Rattle.grep_core.proofs.ScansEnd.{ends-so, lacks-so}
 
@@ -46,15 +47,19 @@ module _ (plan : GrepPlan) (name : List ℕ) (shows : Show) (treated : Treatment
     pub stood : Stood plan treated before now f (given ++ rows)
     pub kind : f.kind ≡ line_end plan
     pub max : f.max ≡ plan.max_buffer_size
+    pub near : length f.held ≤ 65536
+    pub whole : f.offset ≡ bytes_in (given ++ rows)
     pub long : length rows ≡ n
     pub wrote : WritesAll (texts rows) out0 out
 
-  pub following-none : (now : Told) (f : Feed) (out : Kept) → Stood plan treated before now f given → f.kind ≡ line_end plan → f.max ≡ plan.max_buffer_size → Following now f out out 0
-  following-none now f out stood kind max = record {
+  pub following-none : (now : Told) (f : Feed) (out : Kept) → Stood plan treated before now f given → f.kind ≡ line_end plan → f.max ≡ plan.max_buffer_size → length f.held ≤ 65536 → f.offset ≡ bytes_in given → Following now f out out 0
+  following-none now f out stood kind max near whole = record {
     rows = [];
     stood = subst (λ l. Stood plan treated before now f l) (sym (append-nil given)) stood;
     kind = kind;
     max = max;
+    near = near;
+    whole = whole ∙ ap bytes_in (sym (append-nil given));
     long = refl;
     wrote = writes-none out;
   }
@@ -68,6 +73,8 @@ module _ (plan : GrepPlan) (name : List ℕ) (shows : Show) (treated : Treatment
           stood = subst (λ l. Stood plan treated before after g l) (append_assoc given had.rows (shows.row ∷ [])) (stood-gives plan treated before now after f g (given ++ had.rows) shows.row had.stood shows.gives);
           kind = kind-gives f g now after shows.row shows.gives ∙ had.kind;
           max = max-gives f g now after shows.row shows.gives ∙ had.max;
+          near = shows.gives.cuts.near;
+          whole = whole-gives now after f g (given ++ had.rows) shows.row had.whole shows.gives ∙ ap bytes_in (append_assoc given had.rows (shows.row ∷ []));
           long = omega arith;
           wrote = subst (λ l. WritesAll l out0 out1) (sym (texts-more had.rows shows.row)) (writes-more (texts had.rows) (line_as plan name false shows.row) out0 out out1 had.wrote shows.wrote);
         }
@@ -111,6 +118,7 @@ module _ (plan : GrepPlan) (name : List ℕ) (shows : Show) (treated : Treatment
   follows-all now f out0 out n had is = record {
     rows = had.rows;
     begins = stood-begins plan treated before now f (given ++ had.rows) had.kind had.max had.stood;
+    little = stood-little plan treated before now f (given ++ had.rows) had.stood had.near had.whole;
     long = had.long ∙ is;
     wrote = had.wrote;
   }
@@ -122,6 +130,8 @@ module _ (plan : GrepPlan) (name : List ℕ) (shows : Show) (treated : Treatment
       stood = had.stood;
       kind = had.kind;
       max = had.max;
+      near = had.near;
+      whole = had.whole;
       long = had.long;
       wrote = subst (λ l. WritesAll l out0 out1) (append-nil (texts had.rows)) (writes-more (texts had.rows) [] out0 out out1 had.wrote sent);
     }

@@ -58,6 +58,7 @@ standing-begun plan patterns name shows most treated s0 before now f0 c out err 
       stood = stood;
       kind = job.kind;
       max = job.max;
+      whole = job.begun;
       few = omega arith;
       below = below-none most job.some;
       taken = record {

@@ -1,5 +1,5 @@
 -- The rows of an input are numbered, and what a feed has given of the input that its source stands for.
-use Rattle.std.proofs.Common.{◌≡◌, ℕ, zero, suc, ◌+◌, true, false, ◌&&◌, not, List, [], ◌∷◌, ◌++◌, length, take, drop, cond, slice_range, refl, sym, ap, subst, ◌∙◌, inl, inr}
+use Rattle.std.proofs.Common.{◌≡◌, ℕ, zero, suc, ◌+◌, ◌≤◌, true, false, ◌&&◌, not, List, [], ◌∷◌, ◌++◌, length, take, drop, cond, slice_range, refl, sym, ap, subst, arith, length-append, ◌∙◌, inl, inr}
 use Rattle.std.specs.Prelude.{nat_lt, nat_eq}
 use Rattle.std.specs.List.{list_any}
 use Rattle.std.proofs.lemmas.Bool.{cond_both}
@@ -10,6 +10,9 @@ use Rattle.line_feed.specs.Rows.{Row, Rows, Input, Ending, End, Fault, Limit, Fi
 use Rattle.line_feed.specs.View.{Feed, HasNoMore}
 use Rattle.line_feed.specs.Steps.{Moves}
 use Rattle.line_feed.specs.Answers.{Gives}
+use Rattle.line_feed.specs.Hears.{HasGiven}
+use Rattle.grep_core.specs.LittlePast.{bytes_in, TakesLittlePast}
+use Rattle.std.proofs.lemmas.List.Sums.{fold-append}
 use Rattle.line_feed.proofs.Given.{HasGiven-gives, HasGiven-moves, HasHeard-stops, HasBegun-given}
 use Rattle.line_feed.proofs.Shown.{HasShown-gives, HasShown-moves, HasShown-stops, HasShown-begun}
 use Rattle.grep_args.specs.declared.plan.GrepPlan.{GrepPlan}
@@ -55,6 +58,25 @@ numbered-within (suc most) kind max number offset bytes ending =
 pub rows-numbered : (kind : EndKind) (max : ℕ) (input : Input) → AreNumbered 1 (rows kind max input).rows
 rows-numbered kind max input = numbered-within (length input.bytes) kind max 1 0 input.bytes input.ending
 
+-- the bytes of one row more
+bytes-more : (given : List Row) (row : Row) → bytes_in (given ++ row ∷ []) ≡ bytes_in given + (length row.bytes + length row.newline)
+bytes-more given row = fold-append (λ (n : ℕ) (r : Row). n + (length r.bytes + length r.newline)) 0 given (row ∷ [])
+
+-- a feed that gave one row more has given the bytes of all of them
+pub whole-gives : (now after : Told) (f g : Feed) (given : List Row) (row : Row) → f.offset ≡ bytes_in given → Gives f g now after row → g.offset ≡ bytes_in (given ++ row ∷ [])
+whole-gives now after f g given row whole gives =
+    let more = bytes-more given row in
+    let next_offset = gives.cuts.next_offset in
+    let row_offset = gives.cuts.offset in
+    let moved = gives.reads.moves.offset in
+    omega (arith, more, whole, next_offset, row_offset, moved)
+
+little-past : (before now : Told) (f : Feed) (given : List Row) → HasGiven before now f given → length f.held ≤ 65536 → f.offset ≡ bytes_in given → TakesLittlePast given before now
+little-past before now f given has near whole =
+    let offset = has.offset in
+    let long = length-append has.gone f.held in
+    (has.gone ++ f.held, has.taken, omega (arith, offset, whole, near, long))
+
 -- What a feed has given.
 module _ (plan : GrepPlan) (treated : Treatment) (before : Told) where
   pub stood-moves : (now after : Told) (f g : Feed) (given : List Row) → Stood plan treated before now f given → Moves f g now after → Stood plan treated before after g given
@@ -64,6 +86,11 @@ module _ (plan : GrepPlan) (treated : Treatment) (before : Told) where
   pub stood-gives : (now after : Told) (f g : Feed) (given : List Row) (row : Row) → Stood plan treated before now f given → Gives f g now after row → Stood plan treated before after g (given ++ row ∷ [])
   stood-gives now after f g given row (inl h) gives = inl (h.0, h.1, HasGiven-gives before now after f g given row h.2 gives)
   stood-gives now after f g given row (inr h) gives = inr (h.0, (h.1.0, HasShown-gives before now after f g given row h.1.0 h.1.1 gives, h.1.2))
+
+  -- few bytes are held: little past the rows was taken
+  pub stood-little : (now : Told) (f : Feed) (given : List Row) → Stood plan treated before now f given → length f.held ≤ 65536 → f.offset ≡ bytes_in given → TakesLittlePast given before now
+  stood-little now f given (inl h) near whole = little-past before now f given h.2 near whole
+  stood-little now f given (inr h) near whole = little-past before now f given h.1.1.given_so near whole
 
   treats-nul : (input : Input) → is_nul plan.newline ≡ true → treated ≡ AsText → treatment plan input ≡ treated
   treats-nul input nul is = ap (λ b. treatment_by (not b && list_any (nat_eq 0) (take 1024 input.bytes)) plan.binary) nul ∙ sym is

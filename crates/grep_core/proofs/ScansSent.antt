@@ -45,6 +45,7 @@ module _ (plan : GrepPlan) (patterns : List Pattern) (name : List ℕ) (shows : 
     stood = standing.stood;
     kind = standing.kind;
     max = standing.max;
+    whole = standing.whole;
     few = standing.few;
     below = standing.below;
     taken = record {
@@ -77,6 +78,7 @@ module _ (plan : GrepPlan) (patterns : List Pattern) (name : List ℕ) (shows : 
           treats = begins.treats;
           scans = subst (λ x. ScansTo plan patterns name shows treated s0 x c.selected s (printed out0 err0) (printed out1 err) (Err stop)) (sym is)
               (to all (breaks-ext plan name shows s0.has_shown all a us out0 out1 err0 err stop ext breaks, stops-in plan patterns name shows treated s0 ext.rest c.selected refl ext.tried_is standing.taken));
+          rest = tt;
         }
 
     -- it was refused: a part of the scan was written

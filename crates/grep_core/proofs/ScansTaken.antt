@@ -30,7 +30,8 @@ use Rattle.grep_core.proofs.ReachRows.{numbered-left}
 use Rattle.grep_core.proofs.Reached.{Reached, reached-more, out-more, group-more}
 use Rattle.grep_core.proofs.ScanEnds.{count, count-more, count-one, count-none, IsBelow}
 use Rattle.grep_core.proofs.Extends.{error-unselected, said-more, number-of, numbered-first, still-below}
-use Rattle.grep_core.proofs.ScansRows.{stood-gives, stood-begins, begins-numbered}
+use Rattle.grep_core.specs.LittlePast.{bytes_in}
+use Rattle.grep_core.proofs.ScansRows.{stood-gives, stood-begins, begins-numbered, whole-gives}
 use Rattle.tool_out.proofs.Printing.{wrote-more}
 use Rattle.tool_out.specs.Printed.{printed}
 
@@ -172,6 +173,7 @@ module _ (plan : GrepPlan) (patterns : List Pattern) (name : List ℕ) (shows : 
     pub stood : Stood plan treated before now f given
     pub kind : f.kind ≡ line_end plan
     pub max : f.max ≡ plan.max_buffer_size
+    pub whole : f.offset ≡ bytes_in given
     pub few : count has_error (tries plan patterns given) < errors_left s0.errors
     pub below : IsBelow most (count (is_selected plan) (tries plan patterns given))
     pub taken : Taken plan patterns name shows treated s0 (tries plan patterns given) c s out0 out err0 err
@@ -196,6 +198,9 @@ module _ (plan : GrepPlan) (patterns : List Pattern) (name : List ℕ) (shows : 
     pub next-max : g.max ≡ plan.max_buffer_size
     next-max = max-gives f g now after row gives ∙ standing.max
 
+    pub next-whole : g.offset ≡ bytes_in more
+    next-whole = whole-gives now after f g standing.given row standing.whole gives
+
     pub same-tries : tries plan patterns more ≡ ts ++ t ∷ []
     same-tries = tries-more plan patterns standing.given (row ∷ [])
 
@@ -212,6 +217,7 @@ module _ (plan : GrepPlan) (patterns : List Pattern) (name : List ℕ) (shows : 
           stood = next-stood;
           kind = next-kind;
           max = next-max;
+          whole = next-whole;
           few = subst (λ l. count has_error l < errors_left s0.errors) (sym same-tries) (few-line plan patterns name shows treated s0 most ts t c s c1 s1 out0 out out1 err0 err err1 Line standing.taken next-numbered takes);
           below = subst (λ l. IsBelow most (count (is_selected plan) l)) (sym same-tries) (below-line plan most ts t standing.below is);
           taken = subst (λ l. Taken plan patterns name shows treated s0 l c1 s1 out0 out1 err0 err1) (sym same-tries) (taken-line plan patterns name shows treated s0 most ts t c s c1 s1 out0 out out1 err0 err err1 Line standing.taken next-numbered takes);
@@ -227,6 +233,8 @@ module _ (plan : GrepPlan) (patterns : List Pattern) (name : List ℕ) (shows : 
           stood = next-stood;
           kind = next-kind;
           max = next-max;
+          near = gives.cuts.near;
+          whole = next-whole;
           few = takes.errors;
           last = last.1;
           selects = last.0;

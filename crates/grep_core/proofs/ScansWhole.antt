@@ -9,6 +9,7 @@ use Rattle.std.proofs.Math.Seq.{take-append_seam, take-append-add}
 use Rattle.pcre_io.specs.Told.{Told, Kept}
 use Rattle.line_feed.specs.Rows.{Row, Finish}
 use Rattle.line_feed.specs.View.{Feed}
+use Rattle.grep_core.specs.LittlePast.{TakesLittlePast}
 use Rattle.grep_args.specs.declared.plan.GrepPlan.{GrepPlan}
 use Rattle.pat_tree.specs.Pattern.{Pattern}
 use Rattle.grep_core.specs.declared.shows.Show.{Show}
@@ -39,7 +40,7 @@ use Rattle.grep_core.proofs.Extends.{LastSelected, follow_out, early-is, early_o
 use Rattle.grep_core.proofs.ScansRows.{ends-numbered}
 use Rattle.grep_core.proofs.ScansTexts.{wrote-out, breaks-out, breaks-ext}
 use Rattle.grep_core.proofs.ScansTaken.{tries, tries-more, rows-tried}
-use Rattle.grep_core.proofs.ScansEnd.{full_of, begins-scan, begins-tried, ends-scan}
+use Rattle.grep_core.proofs.ScansEnd.{full_of, begins-scan, begins-tried, ends-scan, rest-late}
 use Rattle.tool_out.specs.Printed.{printed}
 
 -- some course is reached by any lines
@@ -115,6 +116,9 @@ module _ (plan : GrepPlan) (patterns : List Pattern) (name : List ℕ) (shows : 
 
   given-tries : tries plan patterns given ≡ us ++ t ∷ []
   given-tries = tries-more plan patterns pauses.rows (pauses.row ∷ [])
+
+  given-rows : rows_of (us ++ t ∷ []) ≡ given
+  given-rows = ap rows_of (sym given-tries) ∙ rows-tried plan patterns given
 
   errors-are : s1.errors ≡ s0.errors + count has_error (us ++ t ∷ [])
   errors-are = ap (λ (x : State). x.errors) pauses.scans.state ∙ ap (λ l. s0.errors + count has_error l) given-tries
@@ -237,6 +241,7 @@ module _ (plan : GrepPlan) (patterns : List Pattern) (name : List ℕ) (shows : 
         treats = begins.treats;
         scans = subst (λ x. ScansTo plan patterns name shows treated s0 x selected s1 (printed out0 err0) (printed out1 err) (Ok told.Early)) (sym is)
             (early-scans vs finish numbered out1 (flat_map (line_as plan name false) fs) text follows.wrote, ended-early vs finish numbered out1 (omega arith));
+        rest = λ _. subst (λ l. TakesLittlePast l before after) (sym (ap (λ (x : Scan). x.within) is ∙ early-within us t vs after_n ∙ (λ i. given-rows i ++ first i))) follows.little;
       }
 
   -- the rows ended before
@@ -258,6 +263,7 @@ module _ (plan : GrepPlan) (patterns : List Pattern) (name : List ℕ) (shows : 
         treats = ends.treats;
         scans = subst (λ x. ScansTo plan patterns name shows treated s0 x selected s1 (printed out0 err0) (printed out1 err) (Ok ended)) (sym is)
             (early-scans vs ends.finish numbered out1 (flat_map (line_as plan name false) fs) text follows.wrote, ended-late vs ends.finish numbered out1 (omega arith) ∙ sym ends.ended_so);
+        rest = rest-late (scan_of plan patterns name shows treated s0 (lines plan ends.heard)) ends.finish before after ended (ap (λ (x : Scan). x.ended) is ∙ ended-late vs ends.finish numbered out1 (omega arith));
       }
 
   -- a part of what follows was written
@@ -276,8 +282,8 @@ module _ (plan : GrepPlan) (patterns : List Pattern) (name : List ℕ) (shows : 
       (early-breaks vs finish numbered out1 (flat_map (line_as plan name false) fs) part.0 stop text follows.wrote)
 
   scans-part : (after : Told) (out1 : Kept) (stop : Stop) → FollowsPart plan name shows treated before after given out out1 stop → Input after out1 (Err stop)
-  scans-part after out1 SinkFault follows = record { heard = follows.begins.heard; hears = follows.begins.hears; treats = follows.begins.treats; scans = part-breaks after out1 SinkFault follows }
-  scans-part after out1 Memory follows = record { heard = follows.begins.heard; hears = follows.begins.hears; treats = follows.begins.treats; scans = part-breaks after out1 Memory follows }
+  scans-part after out1 SinkFault follows = record { heard = follows.begins.heard; hears = follows.begins.hears; treats = follows.begins.treats; scans = part-breaks after out1 SinkFault follows; rest = tt }
+  scans-part after out1 Memory follows = record { heard = follows.begins.heard; hears = follows.begins.hears; treats = follows.begins.treats; scans = part-breaks after out1 Memory follows; rest = tt }
   scans-part after out1 TooManyErrors follows = absurd follows.wrote
 
   pub scans-follow : (after : Told) (out1 : Kept) (result : Result Ended Stop) → Follows plan name shows treated before after given out out1 result → Input after out1 result

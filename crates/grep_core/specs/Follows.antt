@@ -3,6 +3,7 @@ use Rattle.std.specs.Prelude.{◌≡◌, ℕ, ◌≤◌, ◌<◌, false, List, �
 use Rattle.pcre_io.specs.Told.{Told, Kept}
 use Rattle.line_feed.specs.Rows.{Row}
 use Rattle.line_feed.specs.View.{Feed}
+use Rattle.grep_core.specs.LittlePast.{TakesLittlePast}
 use Rattle.line_feed.specs.Answers.{Gives, Refuses}
 use Rattle.line_feed.specs.declared.phase.FeedError.TheVariants as feed
 use Rattle.grep_args.specs.declared.plan.GrepPlan.{GrepPlan}
@@ -46,6 +47,7 @@ module _ (plan : GrepPlan) (name : List ℕ) (show : Show) (treated : Treatment)
   pub record FollowsAll : Type 0 where
     pub rows : List Row
     pub begins : BeginsWith plan treated before after (given ++ rows)
+    pub little : TakesLittlePast (given ++ rows) before after
     pub long : length rows ≡ lines_after show plan.after_context
     pub wrote : WritesAll (flat_map (line_as plan name false) rows) out_old out_new
 

@@ -14,6 +14,7 @@ pub mod Earlier
 pub mod Ends
 pub mod Course
 pub mod Turns
+pub mod LittlePast
 pub mod WholeScans
 pub mod Follows
 pub mod Sending

@@ -1,6 +1,6 @@
 -- What searching one input does: what the source told → the input that it stands for → how it is treated → its scan, its summary
 -- and its messages → what was written, told and left.
-use Rattle.std.specs.Prelude.{◌≡◌, ◌≢◌, ℕ, Bool, true, false, List, [], length, ◌++◌, flat_map, Result, Ok, Err, ◌⊎◌, ⊤}
+use Rattle.std.specs.Prelude.{◌≡◌, ◌≢◌, ℕ, ◌≤◌, Bool, true, false, List, [], length, ◌++◌, flat_map, Result, Ok, Err, ◌⊎◌, ⊤}
 use Rattle.pcre_io.specs.Told.{Told}
 use Rattle.pcre_io.specs.declared.traits.IoError.{IoError}
 use Rattle.line_feed.specs.Rows.{Input}
@@ -26,7 +26,7 @@ use Rattle.grep_match.specs.Matches.{Tried}
 use Rattle.grep_core.specs.Course.{scan_so_far}
 use Rattle.grep_core.specs.Ends.{ended_of, stop_of}
 use Rattle.tool_out.specs.Prints.{Wrote, Breaks}
-use Rattle.grep_core.specs.WholeScans.{Stood}
+use Rattle.grep_core.specs.WholeScans.{Stood, LeavesRest}
 use Rattle.tool_out.specs.Printed.{Printed}
 
 abbrev pub is_skipped : Treatment → Bool
@@ -46,6 +46,8 @@ pub record Treats (plan : GrepPlan) (f g : Feed) (before after : Told) (treated 
   pub stood : Stood plan treated before after g []
   pub live : g.phase ≢ Closed
   pub number : g.number ≡ 0
+  pub near : length g.held ≤ 65536
+  pub begun : g.offset ≡ 0
   pub kind : g.kind ≡ f.kind
   pub max : g.max ≡ f.max
 
@@ -102,6 +104,9 @@ module _ (plan : GrepPlan) (patterns : List Pattern) (name : List ℕ) (show : S
     pub treats : treatment plan heard ≡ treated
     pub scans : ScansSo plan name show s (scan plan patterns s.errors treated (lines plan heard))
         s_new old new result
+    pub rest :
+        let found = scan plan patterns s.errors treated (lines plan heard) in
+        LeavesRest found.ended found.within before after result
 
 -- all was written, and this is told and left
 pub record GrepsAll (w : Written) (s_new : State) (old new : Printed) (end : FileEnd) : Type 0 where
@@ -127,6 +132,9 @@ pub record GrepsInput (plan : GrepPlan) (patterns : List Pattern) (name : List �
   pub left : LeavesTo plan name (show_in (is_told plan (treatment plan heard)) (mode plan)) s
       (input_text plan patterns name s heard)
       (scan plan patterns s.errors (treatment plan heard) (lines plan heard)) s_new result
+  pub rest :
+      let w = input_text plan patterns name s heard in
+      LeavesRest w.ended w.within before after result
 
 -- how a run stands between two inputs: what the source tells, what the inputs so far leave, and what was written
 pub record Standing : Type 0 where

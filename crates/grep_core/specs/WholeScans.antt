@@ -25,6 +25,7 @@ use Rattle.grep_core.specs.Messages.{error_message}
 use Rattle.grep_core.specs.declared.state.State.{State}
 use Rattle.grep_core.specs.InputText.{shown_out, shows_group}
 use Rattle.grep_core.specs.Course.{scan_so_far}
+use Rattle.grep_core.specs.LittlePast.{bytes_in, TakesLittlePast}
 use Rattle.grep_core.specs.Ends.{ended_of}
 use Rattle.tool_out.specs.Printed.{Printed}
 use Rattle.tool_out.specs.Prints.{Wrote, Breaks}
@@ -35,6 +36,13 @@ Stood plan treated before now f given =
     ((is_nul plan.newline ≡ true) × (treated ≡ AsText) × HasGiven before now f given)
     ⊎ ((is_nul plan.newline ≡ false) × ((shown : List ℕ) × HasShown before now f given shown
     × (treatment_by (list_any (nat_eq 0) shown) plan.binary ≡ treated)))
+
+-- A scan that ends before its input does leaves the rest: at most 65,536 bytes past its last line, or its last line of
+-- context, were taken.
+abbrev pub LeavesRest : {T : Type 0} → meant.Ended → List Row → Told → Told → Result T Stop → Type 0
+LeavesRest ended within before after (Ok _) =
+    ended ≡ meant.early → TakesLittlePast within before after
+LeavesRest ended within before after (Err _) = ⊤
 
 module _ (plan : GrepPlan) (patterns : List Pattern) (name : List ℕ) (show : Show)
     (treated : Treatment) (s : State) where
@@ -82,6 +90,9 @@ module _ (plan : GrepPlan) (patterns : List Pattern) (name : List ℕ) (show : S
     pub hears : Hears before after heard
     pub treats : treatment plan heard ≡ treated
     pub scans : ScansTo (scan_of (lines plan heard)) selected s_new old new result
+    pub rest :
+        let scan = scan_of (lines plan heard) in
+        LeavesRest scan.ended scan.within before after result
 
 -- one line at least may be selected
 abbrev pub AtLeastOne : Option ℕ → Type 0
@@ -95,6 +106,7 @@ pub record IsJob (plan : GrepPlan) (treated : Treatment) (show : Show) (most : O
   pub most_is : most ≡ greatest_selected plan treated
   pub some : AtLeastOne most
   pub scanned : treated ≢ Skipped
+  pub begun : f.offset ≡ 0
   pub kind : f.kind ≡ line_end plan
   pub max : f.max ≡ plan.max_buffer_size
 
@@ -129,6 +141,8 @@ module _ (plan : GrepPlan) (patterns : List Pattern) (name : List ℕ) (show : S
     pub stood : Stood plan treated before after g (rows ++ row ∷ [])
     pub kind : g.kind ≡ line_end plan
     pub max : g.max ≡ plan.max_buffer_size
+    pub near : length g.held ≤ 65536
+    pub whole : g.offset ≡ bytes_in (rows ++ row ∷ [])
     pub few : s_new.errors ≤ 20
     pub last : most ≡ Some (length (filter (is_selected plan) (map (tried_row plan patterns) rows))
         + 1)

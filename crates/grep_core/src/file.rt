@@ -1,5 +1,5 @@
 //! One input.
-ghost use Rattle.std.specs.Prelude.{◌≡◌, ◌≢◌, ◌+◌, ◌≤◌, ◌<◌, ◌^◌, [], nat_eq};
+ghost use Rattle.std.specs.Prelude.{◌≡◌, ◌≢◌, ◌+◌, ◌≤◌, ◌<◌, ◌^◌, [], length, nat_eq};
 ghost use Rattle.std.specs.List.{list_any};
 ghost use Rattle.pcre_io.specs.Told.{Told};
 ghost use Rattle.line_feed.specs.declared.phase.Phase.TheVariants.{Closed};
@@ -87,6 +87,8 @@ fn scan_as<S: Source, O: Sink, E: Sink>(
     requires live { feed.old.phase ≢ Closed }
     requires max { feed.old.max ≤ 2 ^ 30 }
     requires first { feed.old.number ≡ 0 }
+    requires near { length feed.old.held ≤ 65536 }
+    requires begun { feed.old.offset ≡ 0 }
     requires errors { state.old.errors ≤ 20 }
     requires total { state.old.total < 2 ^ 127 }
     ensures { (before : Told) → (treatment ≢ Skipped
@@ -166,8 +168,8 @@ pub fn grep_file<S: Source, O: Sink, E: Sink>(
         result }
 {
     let kind = line_end(plan);
-    let mut feed = LineFeed::new(state.alloc, kind, plan.max_buffer_size as usize);
-    let treatment = treatment_of(plan, &mut feed, source)?;
+    state.feed.restart(kind, plan.max_buffer_size as usize);
+    let treatment = treatment_of(plan, &mut state.feed, source)?;
     let mode = mode_of(plan);
     let is_told = tells_binary(treatment, mode);
     let job = Job {
@@ -181,7 +183,7 @@ pub fn grep_file<S: Source, O: Sink, E: Sink>(
     match scan_as(
         &job,
         treatment,
-        &mut feed,
+        &mut state.feed,
         source,
         out,
         err,

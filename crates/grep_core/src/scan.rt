@@ -17,6 +17,7 @@ ghost use Rattle.grep_core.specs.declared.shows.Treatment.{Treatment};
 ghost use Rattle.grep_core.specs.Turns.{course_of, is_full, TakesLine, Passes, Selects, Turns, ended_by};
 ghost use Rattle.grep_core.specs.Follows.{FollowsOne, Follows};
 ghost use Rattle.grep_core.specs.Sending.{SendsOn};
+ghost use Rattle.grep_core.specs.LittlePast.{bytes_in};
 ghost use Rattle.grep_core.specs.WholeScans.{Stood, IsJob, ScansInput, TakesAll};
 ghost use Rattle.tool_out.specs.Printed.{printed};
 
@@ -384,7 +385,8 @@ fn follow<S: Source, O: Sink>(
     ensures { (before : Told) (treated : Treatment) (given : List Row)
         → Stood job.now.plan.now treated before (S.tells source.old) feed.old given
         → feed.old.kind ≡ line_end job.now.plan.now
-        → feed.old.max ≡ job.now.plan.now.max_buffer_size
+        → feed.old.max ≡ job.now.plan.now.max_buffer_size → length feed.old.held ≤ 65536
+        → feed.old.offset ≡ bytes_in given
         → Follows job.now.plan.now job.now.name.now job.now.show treated before (S.tells source.new)
         given (O.tells out.old) (O.tells out.new) result }
 {

@@ -2,7 +2,9 @@
 ghost use Rattle.std.specs.Prelude.{◌≡◌};
 ghost use Rattle.grep_core.specs.InputText.{first_state};
 
+use byte_lanes::EndKind;
 use grep_match::Workspace;
+use line_feed::LineFeed;
 use std::alloc::Global;
 use std::marker::Model;
 
@@ -17,10 +19,11 @@ pub struct State {
     pub has_shown: bool,
 }
 
-/// What one input leaves to the next, and the workspace of the searches, which keeps its room.
+/// What one input leaves to the next, and the feed and the workspace of the searches, which keep their room.
 #[derive(Drop)]
 pub struct GrepState {
     pub(crate) alloc: Global,
+    pub(crate) feed: LineFeed,
     pub(crate) work: Workspace,
     pub(crate) state: State,
 }
@@ -40,6 +43,7 @@ impl GrepState {
     {
         GrepState {
             alloc,
+            feed: LineFeed::new(alloc, EndKind::Lf, 1),
             work: Workspace::new(alloc),
             state: State {
                 errors: 0,

@@ -2,7 +2,7 @@
 use crate::{FileEnd, GrepState, Patterns, Stop, grep_file};
 use grep_args::read;
 use pat_tree::{ByteList, TextList};
-use pcre_io::{MemSink, MemSource};
+use pcre_io::{MemSink, MemSource, Source};
 use std::alloc::Global;
 use std::process::Abort;
 use std::test::Fail;
@@ -22,7 +22,7 @@ fn search(
     rt: &impl Abort,
     alloc: Global,
     line: &str,
-    mut source: MemSource,
+    source: &mut MemSource,
     out: &mut MemSink,
     err: &mut MemSink,
 ) -> Result<(Result<FileEnd, Stop>, GrepState), Fail> {
@@ -38,16 +38,16 @@ fn search(
         panic!(rt; "{}", line);
     };
     let mut state = GrepState::new(alloc);
-    let answer = grep_file(&patterns, &plan, "f", &mut source, out, err, &mut state);
+    let answer = grep_file(&patterns, &plan, "f", source, out, err, &mut state);
     Ok((answer, state))
 }
 
 fn check(rt: &impl Abort, alloc: Global, row: &Row, piece: u32) -> Result<(), Fail> {
     assert!(rt; piece > 0);
-    let source = MemSource::new(row.1.to_vec(alloc)?, None, piece);
+    let mut source = MemSource::new(row.1.to_vec(alloc)?, None, piece);
     let mut out = MemSink::new(alloc, None, piece);
     let mut err = MemSink::new(alloc, None, piece);
-    let (answer, _) = search(rt, alloc, row.0, source, &mut out, &mut err)?;
+    let (answer, _) = search(rt, alloc, row.0, &mut source, &mut out, &mut err)?;
     assert!(rt; answer.is_ok(), "{}", row.0);
     assert_eq!(rt; out.bytes(), row.2, "{}", row.0);
     assert_eq!(rt; err.bytes(), row.3, "{}", row.0);
@@ -124,14 +124,69 @@ fn lines_before_the_last_match_error_count(rt: HostRuntime) -> Result<(), Fail> 
         "--match-limit=0 -v --total-count a+b",
     ];
     for line in &LINES {
-        let source = MemSource::new(ERRORS.to_vec(alloc)?, None, 100);
+        let mut source = MemSource::new(ERRORS.to_vec(alloc)?, None, 100);
         let mut out = MemSink::new(alloc, None, 100);
         let mut err = MemSink::new(alloc, None, 100);
-        let (answer, state) = search(&rt, alloc, line, source, &mut out, &mut err)?;
+        let (answer, state) = search(&rt, alloc, line, &mut source, &mut out, &mut err)?;
         assert_eq!(rt; answer, Err(Stop::TooManyErrors), "{}", line);
         assert_eq!(rt; out.bytes(), b"".as_slice(), "{}", line);
         assert_eq!(rt; state.errors(), 21, "{}", line);
         assert_eq!(rt; state.total(), 2, "{}", line);
+    }
+    Ok(())
+}
+
+/// How many bytes the long inputs have.
+const LONG: usize = 300_000;
+
+// How many bytes are left of a source.
+fn left_of(rt: &impl Abort, source: &mut MemSource) -> Result<usize, Fail> {
+    let mut piece = [0; 4096];
+    let mut left: usize = 0;
+    for _ in 0..LONG {
+        let Ok(n) = source.read(&mut piece) else {
+            panic!(rt; "a read failed");
+        };
+        if n == 0 {
+            return Ok(left);
+        }
+        left = left.saturating_add(n);
+    }
+    Ok(left)
+}
+
+#[test]
+fn the_rest_of_an_input_is_left(rt: HostRuntime) -> Result<(), Fail> {
+    let alloc = rt.alloc();
+    // Words, the first lines of a long input of empty ones, and where the scan of it ends.
+    static ROWS: [(&str, &[u8], usize); 12] = [
+        ("-q x", b"b\nx\nc\n", 4),
+        ("-l x", b"b\nx\nc\n", 4),
+        ("-L x", b"b\nx\nc\n", 4),
+        ("-m 1 x", b"b\nx\nx\n", 4),
+        ("-m 2 x", b"b\nx\nx\n", 6),
+        ("-m 1 -A 2 x", b"b\nx\nx\nd\n", 8),
+        ("-m 1 -B 2 x", b"b\nx\nx\nd\n", 4),
+        ("-c -m 1 x", b"b\nx\nx\nd\n", 4),
+        ("-o -m 1 -A 2 x", b"b\nx\nx\nd\n", 4),
+        ("-q -v x", b"x\nx\nb\n", 6),
+        ("-I x", b"x\n\0\n", 0),
+        ("x", b"x\n\0\n", 2),
+    ];
+    for row in &ROWS {
+        let mut bytes = row.1.to_vec(alloc)?;
+        bytes.resize(LONG, b'\n')?;
+        let mut source = MemSource::new(bytes, None, 1_000_000);
+        let mut out = MemSink::new(alloc, None, 100);
+        let mut err = MemSink::new(alloc, None, 100);
+        let (answer, _) = search(&rt, alloc, row.0, &mut source, &mut out, &mut err)?;
+        assert!(rt; answer.is_ok(), "{}", row.0);
+        let left = left_of(&rt, &mut source)?;
+        assert!(rt;
+            left.saturating_add(row.2).saturating_add(65_536) >= LONG,
+            "{}",
+            row.0
+        );
     }
     Ok(())
 }

@@ -1,5 +1,5 @@
 -- Patterns as they are searched for: text → what is read → pattern, and with a subject and a start → what a search is about.
-use Rattle.std.specs.Prelude.{ℕ, List, pos, Option, Some, None, Result, Ok, Err}
+use Rattle.std.specs.Prelude.{ℕ, true, List, pos, Option, Some, None, Result, Ok, Err}
 use Rattle.uni_text.specs.Sets.{word}
 use Rattle.pat_tree.specs.declared.options.Options.{Options}
 use Rattle.pat_tree.specs.declared.options.MatchOptions.{MatchOptions}

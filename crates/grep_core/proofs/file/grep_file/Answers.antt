@@ -1,9 +1,9 @@
 use Rattle.std.proofs.Common.{rules, ◌≡◌, Err, ap, ◌∙◌}
 use Rattle.grep_core.specs.declared.ended.Stop.TheVariants.{SinkFault, Memory}
 use Rattle.grep_match.specs.Compiled.{patterns_in}
-use Rattle.grep_core.proofs.FileTexts.{Scanned, job-is, greps-all, greps-breaks, greps-many, greps-untold, greps-cut, greps-lacks, fault-other, memory-other}
+use Rattle.grep_core.proofs.FileTexts.{Scanned, job-is, greps-all, greps-moved, greps-breaks, greps-many, greps-untold, greps-cut, greps-lacks, fault-other, memory-other}
 use Rattle.grep_core.proofs.file.grep_file.Given as given
-use Rattle.grep_core.proofs.file.grep_file.Goals.{After-scan_as}
+use Rattle.grep_core.proofs.file.grep_file.Goals.{After-scan_as, in-Ok+in_ok-write_end-in-Ok, in-Err-TooManyErrors+in_ok-write_too_many-in-Err-TooManyErrors, in-Err-SinkFault, in-Err-Memory}
 use Rattle.grep_core.proofs.file.grep_file.Goals as goal
 use Rattle.tool_out.specs.Printed.{printed}
 
@@ -20,33 +20,38 @@ scanned g c =
       state = c.state.inside.state;
       state_is = c.state.view_is;
       scans = c.scan_as.ensures (g.S.Source.tells c.args.source.now)
-          (job-is c.mode_of-mode.ensures c.tells_binary-is_told.ensures c.show_in.ensures c.most_selected.ensures c.requires.most (treats.kind ∙ c.new-feed.ensures.kind ∙ c.line_end-kind.ensures) (treats.max ∙ c.new-feed.ensures.max)) treats.stood;
+          (job-is c.mode_of-mode.ensures c.tells_binary-is_told.ensures c.show_in.ensures c.most_selected.ensures c.requires.most (treats.kind ∙ c.restart.ensures.kind ∙ c.line_end-kind.ensures) (treats.max ∙ c.restart.ensures.max) treats.begun) treats.stood;
     }
 
 pub returns-in_err-write_end-in-Ok : goal.returns-in_err-write_end-in-Ok
 returns-in_err-write_end-in-Ok g c =
     greps-breaks (scanned g (goal.at.returns-in_err-write_end-in-Ok g c).After-scan_as) c.in-Ok.end c.in-Ok.is c.in_err-write_end-in-Ok.field-0.0 c.from_residual-in_err-write_end-in-Ok.result (search rules) c.in_err-write_end-in-Ok.ensures
 
-pub returns-in-Ok : goal.returns-in-Ok
-returns-in-Ok g c = greps-all (scanned g (goal.at.returns-in-Ok g c).After-scan_as) c.in-Ok.end c.in-Ok.is c.in_ok-write_end-in-Ok.ensures
-
 pub returns-in_err-write_too_many-in-Err-TooManyErrors : goal.returns-in_err-write_too_many-in-Err-TooManyErrors
 returns-in_err-write_too_many-in-Err-TooManyErrors g c =
     greps-untold (scanned g (goal.at.returns-in_err-write_too_many-in-Err-TooManyErrors g c).After-scan_as) (c.in-Err-TooManyErrors.is ∙ ap Err c.in-Err-TooManyErrors.field-0-is)
     c.in_err-write_too_many-in-Err-TooManyErrors.field-0.0 c.from_residual-in_err-write_too_many-in-Err-TooManyErrors.result (search rules) c.in_err-write_too_many-in-Err-TooManyErrors.ensures
 
-pub returns-in-Err-TooManyErrors : goal.returns-in-Err-TooManyErrors
-returns-in-Err-TooManyErrors g c =
-    greps-many (scanned g (goal.at.returns-in-Err-TooManyErrors g c).After-scan_as) (c.in-Err-TooManyErrors.is ∙ ap Err c.in-Err-TooManyErrors.field-0-is) c.in_ok-write_too_many-in-Err-TooManyErrors.field-0 c.in_ok-write_too_many-in-Err-TooManyErrors.ensures
-
-pub returns-in-Err-SinkFault : goal.returns-in-Err-SinkFault
-returns-in-Err-SinkFault g c = greps-cut (scanned g (goal.at.returns-in-Err-SinkFault g c).After-scan_as) SinkFault (c.in-Err-SinkFault.is ∙ ap Err c.in-Err-SinkFault.field-0-is) fault-other
-
 pub returns : goal.returns
-returns g c = greps-cut (scanned g (goal.at.returns g c).After-scan_as) Memory (c.in-Err-Memory.is ∙ ap Err c.in-Err-Memory.field-0-is) memory-other
+returns g c =
+    let said = scanned g (goal.at.returns g c).After-scan_as in
+    elim c.match-scan_as.branch [
+      | in-Ok+in_ok-write_end-in-Ok w ↦
+          greps-moved _ _ _ _ _ _ (ap (λ o. g.O.Sink.tells o) w.out-is) (ap (λ e. g.E.Sink.tells e) w.err-is) w.result-is
+          (greps-all said w.in-Ok.end w.in-Ok.is w.in_ok-write_end-in-Ok.ensures)
+      | in-Err-TooManyErrors+in_ok-write_too_many-in-Err-TooManyErrors w ↦
+          greps-moved _ _ _ _ _ _ (ap (λ o. g.O.Sink.tells o) w.out-is) (ap (λ e. g.E.Sink.tells e) w.err-is) w.result-is
+          (greps-many said (w.in-Err-TooManyErrors.is ∙ ap Err w.in-Err-TooManyErrors.field-0-is) w.in_ok-write_too_many-in-Err-TooManyErrors.field-0 w.in_ok-write_too_many-in-Err-TooManyErrors.ensures)
+      | in-Err-SinkFault w ↦
+          greps-moved _ _ _ _ _ _ (ap (λ o. g.O.Sink.tells o) w.out-is) (ap (λ e. g.E.Sink.tells e) w.err-is) w.result-is
+          (greps-cut said SinkFault (w.in-Err-SinkFault.is ∙ ap Err w.in-Err-SinkFault.field-0-is) fault-other)
+      | in-Err-Memory w ↦
+          greps-moved _ _ _ _ _ _ (ap (λ o. g.O.Sink.tells o) w.out-is) (ap (λ e. g.E.Sink.tells e) w.err-is) w.result-is
+          (greps-cut said Memory (w.in-Err-Memory.is ∙ ap Err w.in-Err-Memory.field-0-is) memory-other)
+    ]
 
 pub returns-in_err-treatment : goal.returns-in_err-treatment
 returns-in_err-treatment g c =
     let stop = c.in_err-treatment.field-0.0 in
     let same : c.from_residual.result ≡ Err stop = search rules in
-    greps-lacks (g.O.Sink.tells c.args.out.now) (g.E.Sink.tells c.args.err.now) stop c.from_residual.result same c.in_err-treatment.ensures.0 c.in_err-treatment.ensures.1
+    greps-lacks (g.O.Sink.tells c.args.out.now) (g.E.Sink.tells c.args.err.now) stop c.from_residual.result c.state.view_is same c.in_err-treatment.ensures.0 c.in_err-treatment.ensures.1

@@ -7,7 +7,7 @@ use Rattle.grep_core.proofs.file.scan_as.Goals as goal
 pub returns-then-is_skipped : goal.returns-then-is_skipped
 returns-then-is_skipped g c before job stood =
     scans-skipped c.args.job.now.plan.now (patterns_in c.args.job.now.patterns.now) c.args.job.now.name.now c.args.job.now.show c.args.state.now c.args.treatment before (g.S.Source.tells c.args.source.now) c.args.feed.now
-    _ (skipped-is c.args.treatment (sym c.is_skipped.ensures ∙ c.if-is_skipped.true)) stood
+    _ (skipped-is c.args.treatment (sym c.is_skipped.ensures ∙ c.if-is_skipped.true)) stood c.requires.near c.requires.begun
 
 pub returns-in_err-new : goal.returns-in_err-new
 returns-in_err-new g c before job stood =

@@ -9,23 +9,23 @@ use Rattle.grep_core.proofs.ScansFollow.{after-lines, after-others, following-no
 use Rattle.grep_core.proofs.scan.follow.Goals as goal
 
 pub returns-then-ne : goal.returns-then-ne
-returns-then-ne g c = λ before treated given stood kind max.
+returns-then-ne g c = λ before treated given stood kind max near whole.
     let job = c.args.job.now in
     let other : job.show ≢ Lines = λ is. (let e = rw is at c.if-ne.ensures in cc) in
-    follows-all job.plan.now job.name.now job.show treated before given _ _ _ _ _ (following-none job.plan.now job.name.now job.show treated before given _ _ _ stood kind max) (sym (after-others job.show job.plan.now.after_context other))
+    follows-all job.plan.now job.name.now job.show treated before given _ _ _ _ _ (following-none job.plan.now job.name.now job.show treated before given _ _ _ stood kind max near whole) (sym (after-others job.show job.plan.now.after_context other))
 
 pub line-init : goal.line-init
 line-init g c = record {
   live = c.requires;
   within = omega arith;
-  following = λ before treated given stood kind max. following-none c.args.job.now.plan.now c.args.job.now.name.now c.args.job.now.show treated before given _ _ _ stood kind max;
+  following = λ before treated given stood kind max near whole. following-none c.args.job.now.plan.now c.args.job.now.name.now c.args.job.now.show treated before given _ _ _ stood kind max near whole;
 }
 
 pub follow_one-requires : goal.follow_one-requires
 follow_one-requires g c = subst (λ (f : Feed). f.phase ≢ Closed) (sym c.send_on.ensures.same) c.line.invariant.live
 
 pub returns-in_err-ended : goal.returns-in_err-ended
-returns-in_err-ended g c = λ before treated given stood kind max.
+returns-in_err-ended g c = λ before treated given stood kind max near whole.
     let job = c.args.job.now in
     let stop = c.in_err-ended.field-0.0 in
     let same : c.from_residual-in_err-ended.result ≡ Err stop = search rules in
@@ -34,17 +34,17 @@ returns-in_err-ended g c = λ before treated given stood kind max.
     let less = c.line-test.true in
     let few : c.line.counter < lines_after job.show job.plan.now.after_context = omega arith in
     subst (Follows job.plan.now job.name.now job.show treated before (g.S.Source.tells c.follow_one.new.source) given (g.O.Sink.tells c.args.out.now) (g.O.Sink.tells c.follow_one.new.out)) (sym same)
-    (follows-stops job.plan.now job.name.now job.show treated before given _ _ _ _ _ _ _ _ (following-sent job.plan.now job.name.now job.show treated before given _ _ _ _ _ _ (c.line.invariant.following before treated given stood kind max) _ c.send_on.ensures.same c.in_ok-send_on.ensures.sent) stop few c.in_err-ended.ensures)
+    (follows-stops job.plan.now job.name.now job.show treated before given _ _ _ _ _ _ _ _ (following-sent job.plan.now job.name.now job.show treated before given _ _ _ _ _ _ (c.line.invariant.following before treated given stood kind max near whole) _ c.send_on.ensures.same c.in_ok-send_on.ensures.sent) stop few c.in_err-ended.ensures)
 
 pub returns-in-Some : goal.returns-in-Some
-returns-in-Some g c = λ before treated given stood kind max.
+returns-in-Some g c = λ before treated given stood kind max near whole.
     let job = c.args.job.now in
     let lines : job.show ≡ Lines = search rules in
     let after = after-lines job.show job.plan.now.after_context lines in
     let less = c.line-test.true in
     let few : c.line.counter < lines_after job.show job.plan.now.after_context = omega arith in
     let ends = rw c.in-Some.is at c.in_ok-ended.ensures in
-    follows-ends job.plan.now job.name.now job.show treated before given _ _ _ _ _ _ _ _ (following-sent job.plan.now job.name.now job.show treated before given _ _ _ _ _ _ (c.line.invariant.following before treated given stood kind max) _ c.send_on.ensures.same c.in_ok-send_on.ensures.sent) c.in-Some.ended few ends
+    follows-ends job.plan.now job.name.now job.show treated before given _ _ _ _ _ _ _ _ (following-sent job.plan.now job.name.now job.show treated before given _ _ _ _ _ _ (c.line.invariant.following before treated given stood kind max near whole) _ c.send_on.ensures.same c.in_ok-send_on.ensures.sent) c.in-Some.ended few ends
 
 pub line-preserved : goal.line-preserved
 line-preserved g c =
@@ -54,21 +54,21 @@ line-preserved g c =
     record {
       live = live-gives _ _ _ _ shows.row shows.gives;
       within = let less = c.line-test.true in omega arith;
-      following = λ before treated given stood kind max. following-more job.plan.now job.name.now job.show treated before given _ _ _ _ _ _ _ _ (following-sent job.plan.now job.name.now job.show treated before given _ _ _ _ _ _ (c.line.invariant.following before treated given stood kind max) _ c.send_on.ensures.same c.in_ok-send_on.ensures.sent) shows;
+      following = λ before treated given stood kind max near whole. following-more job.plan.now job.name.now job.show treated before given _ _ _ _ _ _ _ _ (following-sent job.plan.now job.name.now job.show treated before given _ _ _ _ _ _ (c.line.invariant.following before treated given stood kind max near whole) _ c.send_on.ensures.same c.in_ok-send_on.ensures.sent) shows;
     }
 
 pub returns : goal.returns
-returns g c = λ before treated given stood kind max.
+returns g c = λ before treated given stood kind max near whole.
     let job = c.args.job.now in
     let lines : job.show ≡ Lines = search rules in
     let after = after-lines job.show job.plan.now.after_context lines in
     let most = c.line-test.false in
     let within = c.line.invariant.within in
     let all : c.line.counter ≡ lines_after job.show job.plan.now.after_context = omega arith in
-    follows-all job.plan.now job.name.now job.show treated before given _ _ _ _ _ (c.line.invariant.following before treated given stood kind max) all
+    follows-all job.plan.now job.name.now job.show treated before given _ _ _ _ _ (c.line.invariant.following before treated given stood kind max near whole) all
 
 pub returns-in_err-send_on : goal.returns-in_err-send_on
-returns-in_err-send_on g c = λ before treated given stood kind max.
+returns-in_err-send_on g c = λ before treated given stood kind max near whole.
     let job = c.args.job.now in
     let stop = c.in_err-send_on.field-0.0 in
     let same : c.from_residual.result ≡ Err stop = search rules in
@@ -77,4 +77,4 @@ returns-in_err-send_on g c = λ before treated given stood kind max.
     let less = c.line-test.true in
     let few : c.line.counter < lines_after job.show job.plan.now.after_context = omega arith in
     subst (Follows job.plan.now job.name.now job.show treated before (g.S.Source.tells c.line.source) given (g.O.Sink.tells c.args.out.now) (g.O.Sink.tells c.send_on.new.out)) (sym same)
-    (follows-unsent job.plan.now job.name.now job.show treated before given _ _ _ _ _ _ (c.line.invariant.following before treated given stood kind max) stop few c.in_err-send_on.ensures.sent)
+    (follows-unsent job.plan.now job.name.now job.show treated before given _ _ _ _ _ _ (c.line.invariant.following before treated given stood kind max near whole) stop few c.in_err-send_on.ensures.sent)
