@@ -11,3 +11,5 @@ pub mod RoundLemmas
 pub mod KidLemmas
 pub mod SpanLemmas
 pub mod Placing
+pub mod LeadingStable
+pub mod LeadingLemmas

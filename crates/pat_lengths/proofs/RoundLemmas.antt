@@ -1,5 +1,5 @@
 -- What rounds over the groups come to.
-use Rattle.std.proofs.Common.{◌≡◌, ◌∙◌, ℕ, zero, suc, ◌+◌, ◌<◌, ◌||◌, ◌&&◌, ◌==◌, Bool, true, false, List, [], ◌∷◌, ◌++◌, flat_map, length, Option, Some, None, refl, sym, ap, arith}
+use Rattle.std.proofs.Common.{◌≡◌, ◌∙◌, ℕ, zero, suc, ◌+◌, ◌||◌, ◌&&◌, ◌==◌, Bool, true, false, List, [], ◌∷◌, ◌++◌, flat_map, length, Option, Some, None, refl, sym, ap, arith}
 use Rattle.std.proofs.Math.Bool.{beq}
 use lib.Pointwise.{pointwise}
 use Rattle.std.proofs.Math.Path.{fun_ext}
@@ -9,11 +9,11 @@ use Rattle.std.proofs.lemmas.List.Folds.{list_any-append}
 use Rattle.pat_tree.specs.Groups.{group_of}
 use Rattle.pat_tree.specs.Nested.{Nested, tree_at}
 use Rattle.pat_lengths.specs.Nodes.{has_shared_number, named_in}
-use Rattle.pat_lengths.specs.Lengths.{SomeLengths, lengths, lengths_of_group, by_calls, named_in_group, names_of_group, lead_to}
+use Rattle.pat_lengths.specs.Lengths.{lengths, lengths_of_group, by_calls, named_in_group, names_of_group, lead_to}
 use Rattle.pat_lengths.specs.Passing.{has_zero, passes, flagged, IsAt, passes_at}
 use Rattle.pat_lengths.specs.Rounds.{answer, group_answer, rounds, KeepAnswers, AreRounds}
 use Rattle.pat_lengths.specs.declared.rounds.Question.{Question}
-use Rattle.pat_lengths.specs.declared.rounds.Question.TheVariants.{Passes, LeadsTo, Names}
+use Rattle.pat_lengths.specs.declared.rounds.Question.TheVariants.{Passes, Names}
 use Rattle.pat_lengths.proofs.PassLemmas.{zero_is}
 
 passes_next : (unset : Bool) (whole : Nested) (d : ℕ) → ((n : ℕ) → rounds (Passes (unset || has_shared_number whole)) whole d n ≡ has_zero (by_calls unset whole d n)) →
@@ -53,7 +53,7 @@ lead_append whole (suc d) m xs ys =
     rw (list_any-append t xs ys, flat_map-append f xs ys, lead_append whole d m (flat_map f xs) (flat_map f ys))
     (swapped (list_any t xs) (list_any t ys) (lead_to whole d (flat_map f xs) m) (lead_to whole d (flat_map f ys) m))
 
-some_lead : (whole : Nested) (d m : ℕ) (ns : List ℕ) →
+pub some_lead : (whole : Nested) (d m : ℕ) (ns : List ℕ) →
     list_any (λ n. n == m || lead_to whole d (names_of_group whole n) m) ns ≡ (list_any (λ n. n == m) ns || lead_to whole d (flat_map (names_of_group whole) ns) m)
 some_lead whole d m [] = sym (none_lead whole d m)
 some_lead whole d m (n ∷ ns) =
@@ -61,18 +61,6 @@ some_lead whole d m (n ∷ ns) =
     ap (λ b. (n == m || lead_to whole d (f n) m) || b) (some_lead whole d m ns)
     ∙ swapped (n == m) (lead_to whole d (f n) m) (list_any (λ n. n == m) ns) (lead_to whole d (flat_map f ns) m)
     ∙ ap (λ b. (n == m || list_any (λ n. n == m) ns) || b) (sym (lead_append whole d m (f n) (flat_map f ns)))
-
-leads_next : (whole : Nested) (d m : ℕ) → ((n : ℕ) → rounds (LeadsTo m) whole d n ≡ lead_to whole d (names_of_group whole n) m) →
-    (o : Option Nested) → group_answer (LeadsTo m) (rounds (LeadsTo m) whole d) o ≡ lead_to whole (suc d) (named_in_group o) m
-unfolding lead_to
-leads_next whole d m h None = sym (none_lead whole d m)
-leads_next whole d m h (Some t) =
-    ap (λ f. list_any (λ n. n == m || f n) (named_in t)) (fun_ext h) ∙ some_lead whole d m (named_in t)
-
-pub leads_rounds : (whole : Nested) (m d n : ℕ) → rounds (LeadsTo m) whole d n ≡ lead_to whole d (names_of_group whole n) m
-unfolding rounds lead_to
-leads_rounds whole m zero n = refl
-leads_rounds whole m (suc d) n = leads_next whole d m (leads_rounds whole m d) (group_of whole n)
 
 -- a group that isn't there leads nowhere
 pub lost : (whole : Nested) (m d n : ℕ) → group_of whole n ≡ None → lead_to whole d (names_of_group whole n) m ≡ false

@@ -7,3 +7,4 @@ pub mod Backs
 pub mod Spans
 pub mod Rounds
 pub mod Lookbehinds
+pub mod Leading

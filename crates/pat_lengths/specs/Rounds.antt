@@ -1,17 +1,16 @@
 -- What is asked of each group by rounds, each of which lets calls and references go one group further.
-use Rattle.std.specs.Prelude.{◌≡◌, ℕ, zero, suc, ◌<◌, Bool, true, false, ◌||◌, ◌==◌, List, length, Option, Some, None}
+use Rattle.std.specs.Prelude.{◌≡◌, ℕ, zero, suc, ◌<◌, Bool, true, false, List, length, Option, Some, None}
 use Rattle.std.specs.List.{list_any}
 use Rattle.pat_tree.specs.Nested.{Nested, tree_at}
 use Rattle.pat_tree.specs.Groups.{group_of}
 use Rattle.pat_lengths.specs.Nodes.{named_in}
 use Rattle.pat_lengths.specs.Passing.{flagged, passes}
 use Rattle.pat_lengths.specs.declared.rounds.Question.{Question}
-use Rattle.pat_lengths.specs.declared.rounds.Question.TheVariants.{Passes, LeadsTo, Names}
+use Rattle.pat_lengths.specs.declared.rounds.Question.TheVariants.{Passes, Names}
 
 -- of a tree, by the answers of the groups
 abbrev pub answer : Question → (ℕ → Bool) → Nested → Bool
 answer (Passes any) can t = passes any can t
-answer (LeadsTo target) leads t = list_any (λ n. n == target || leads n) (named_in t)
 answer Names names t = list_any (λ n. true) (named_in t)
 
 abbrev pub group_answer : Question → (ℕ → Bool) → Option Nested → Bool

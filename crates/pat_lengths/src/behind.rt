@@ -14,9 +14,10 @@ ghost use Rattle.pat_lengths.specs.Spans.{AreBehind, KeepAccepts, kept, span_at,
 use crate::accepts::is_accept;
 use crate::groups::Groups;
 use crate::kids::{has_flag, some_kid};
+use crate::leading::comes_back;
 use crate::lengths::spans_of;
 use crate::passing::has_any_length;
-use crate::rounds::{Question, answers_of, flag_at, node_answers};
+use crate::rounds::{Question, flag_at, node_answers};
 use crate::spans::{Span, any_length, is_same};
 use pat_tree::{Memory, Node, NodeId, Tree};
 use std::alloc::Global;
@@ -69,7 +70,7 @@ fn leads_back(alloc: Global, tree: &Tree, groups: &Groups) -> Result<Vec<bool>, 
 }
 
 /// Whether a group leads back to itself, where it is known which nodes name groups. One that names no other leads nowhere,
-/// and needs no rounds.
+/// and needs no search.
 fn leads_to_itself(
     alloc: Global,
     tree: &Tree,
@@ -86,11 +87,10 @@ fn leads_to_itself(
     if !flag_at(names, place_at(&groups.places, target)) {
         return Ok(false);
     }
-    let leads = answers_of(alloc, tree, groups, Question::LeadsTo { target })?;
-    Ok(has_flag(&leads, target))
+    comes_back(alloc, tree, groups, target)
 }
 
-fn place_at(places: &[Option<NodeId>], n: usize) -> Option<NodeId>
+pub(crate) fn place_at(places: &[Option<NodeId>], n: usize) -> Option<NodeId>
     ensures { result ≡ place_of places.now n }
 {
     match places.get(n) {

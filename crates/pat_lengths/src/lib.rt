@@ -9,6 +9,7 @@ mod counts;
 mod groups;
 mod kids;
 mod laws;
+mod leading;
 mod lengths;
 mod passing;
 mod rounds;

@@ -1,6 +1,6 @@
 // What is asked of each group, where its answer depends on those of the groups that it names.
-ghost use Rattle.std.specs.Prelude.{◌≡◌, ℕ, suc, ◌+◌, ◌<◌, ◌||◌, ◌==◌, true, All, List, [], IfOk, length};
-ghost use Rattle.std.specs.List.{list_all, list_any};
+ghost use Rattle.std.specs.Prelude.{◌≡◌, ℕ, suc, ◌+◌, ◌<◌, ◌||◌, true, All, List, [], IfOk, length};
+ghost use Rattle.std.specs.List.{list_all};
 ghost use Rattle.pat_tree.specs.Groups.{group_of};
 ghost use Rattle.pat_tree.specs.Nested.{Nested, trees, tree_at, nest};
 ghost use Rattle.pat_tree.specs.Parts.{tree_of};
@@ -18,8 +18,6 @@ use std::alloc::Global;
 pub(crate) enum Question {
     /// Whether it can match an empty text. Under `any` a reference can.
     Passes { any: bool },
-    /// Whether it leads to the group of this number by calls and references.
-    LeadsTo { target: usize },
     /// Whether it names some group in a call or a reference.
     Names,
 }
@@ -111,7 +109,6 @@ fn node_answer(node: &Node, question: Question, of: &[bool], answers: &[bool]) -
 {
     match question {
         Question::Passes { any } => node_passes(node, any, of, answers),
-        Question::LeadsTo { target } => node_leads(node, target, of, answers),
         Question::Names => node_names(node, answers),
     }
 }
@@ -163,35 +160,6 @@ fn ref_passes(groups: &[u16], any: bool, can: &[bool]) -> bool
     ensures { result ≡ ref_passes any (flagged can.now) groups.now }
 {
     groups.len() != 1 || any || has_flag(can, groups[0] as usize)
-}
-
-/// Whether some group that is named in a node is the target or leads to it.
-fn node_leads(node: &Node, target: usize, leads: &[bool], leading: &[bool]) -> bool
-    requires below { All (λ k. k < length leading.now) (kids_of node.now) }
-    ensures { (trees : List Nested)
-        → All (λ k. is_test (tree_at trees k) ≡ true) (asserted_by node.now)
-        → KeepAnswers (Question.LeadsTo target) leads.now trees leading.now
-        → result ≡ answer (Question.LeadsTo target) (flagged leads.now) (nest trees node.now) }
-{
-    match node {
-        Node::Call { group } => is_or_leads(*group, target, leads),
-        Node::Ref { groups, .. } => some_leads(groups.as_slice(), target, leads),
-        _ => some_kid(node, leading),
-    }
-}
-
-fn some_leads(groups: &[u16], target: usize, leads: &[bool]) -> bool
-    ensures { result ≡ list_any (λ n. n == target || flagged leads.now n) groups.now }
-{
-    groups
-        .iter()
-        .any(|group| is_or_leads(*group, target, leads))
-}
-
-fn is_or_leads(group: u16, target: usize, leads: &[bool]) -> bool
-    ensures { result ≡ (group == target || flagged leads.now group) }
-{
-    group as usize == target || has_flag(leads, group as usize)
 }
 
 /// Whether a call or a reference in a node names some group.

@@ -3,10 +3,9 @@ use Rattle.pat_tree.specs.Groups.{group_of}
 use Rattle.pat_tree.specs.Nested.{trees}
 use Rattle.pat_tree.specs.Parts.{tree_of}
 use Rattle.pat_lengths.specs.Nodes.{captures}
-use Rattle.pat_lengths.specs.Passing.{flagged, passes_at, place_of}
-use Rattle.pat_lengths.specs.Rounds.{rounds}
-use Rattle.pat_lengths.specs.declared.rounds.Question.TheVariants.{LeadsTo, Names}
-use Rattle.pat_lengths.proofs.RoundLemmas.{leads_rounds, leads_nowhere, placed_answer}
+use Rattle.pat_lengths.specs.Passing.{passes_at, place_of}
+use Rattle.pat_lengths.specs.declared.rounds.Question.TheVariants.{Names}
+use Rattle.pat_lengths.proofs.RoundLemmas.{leads_nowhere, placed_answer}
 use Rattle.pat_lengths.proofs.behind.leads_to_itself.Goals as goal
 
 pub returns-then-not-flag_at : goal.returns-then-not-flag_at
@@ -20,11 +19,3 @@ returns-then-not-flag_at c =
     ap (λ p. passes_at names p) (sym (c.place_at.ensures ∙ ap (λ xs. place_of xs target) c.deref.ensures.value)) ∙ sym c.flag_at.ensures ∙ c.if-not-flag_at.true in
     let answered = placed_answer Names (trees t.nodes) t.root [] names (λ n. false) place (group_of whole target) c.requires.count c.requires.kept (λ n. refl) (c.requires.table.places target) in
     sym (leads_nowhere whole (λ n. false) target (suc (captures whole)) target (sym answered ∙ told))
-
-pub returns : goal.returns
-returns c =
-    let whole = tree_of c.args.tree.now in
-    let target = c.args.target in
-    c.has_flag.ensures ∙ ap (λ xs. flagged xs target) c.deref-2.ensures.value ∙ c.in_ok-leads.ensures target
-    ∙ ap (λ d. rounds (LeadsTo target) whole (suc d) target) c.requires.table.count
-    ∙ leads_rounds whole target (suc (captures whole)) target
