@@ -1,30 +1,15 @@
--- Patterns that are compiled one after the other, and what they find.
-use Rattle.std.proofs.Common.{◌≡◌, ℕ, ◌+◌, Bool, true, false, ◌&&◌, not, List, [], ◌∷◌, ◌++◌, length, length-append, Result, Ok, Err, pos, refl, ap, sym, subst, ◌∙◌, append_assoc, arith}
-use Rattle.std.specs.Str.{is_utf8}
+-- Patterns that are compiled one after the other.
+use Rattle.std.proofs.Common.{◌≡◌, ℕ, ◌+◌, List, [], ◌∷◌, ◌++◌, length, length-append, Result, Ok, Err, refl, ap, sym, subst, ◌∙◌, append_assoc, arith}
 use Rattle.std.proofs.lemmas.List.{map-append}
-use Rattle.pat_tree.specs.declared.options.MatchOptions.{MatchOptions}
 use Rattle.pat_tree.specs.declared.options.TheConstants.Options as plain
 use Rattle.pat_tree.specs.Pattern.{Pattern, pattern_of}
 use Rattle.token_parts.specs.declared.fault.Fault.{Fault}
-use Rattle.ordered_search.specs.MatchAnswer.{MatchAnswer, match_answer}
 use Rattle.pcre2_api.specs.Compiled.{CodeParts}
-use Rattle.pcre2_api.specs.Matched.{search_of}
 use Rattle.pcre2_api.specs.Patterns.{compiled}
-use Rattle.pcre2_api.specs.Answers.{Answer, error, answer_of, pattern_answer, minus, is_place}
 use Rattle.grep_args.specs.declared.options.FilterOption.{FilterOption}
 use Rattle.dir_walk.specs.declared.filters.FilterError.{FilterError}
 use Rattle.dir_walk.specs.declared.filters.FilterError.TheVariants as refused
 use Rattle.dir_walk.specs.Filters.{BadFilter, Compiled, compiled_from, patterns_in, with_compiled, with_patterns, IsFilterError}
-
-past_faults : (utf a b : Bool) (x y z : Answer) → utf ≡ false → (elim (utf && a) [ true ↦ x | false ↦ elim (utf && b) [ true ↦ y | false ↦ z ] ]) ≡ z
-past_faults false a b x y z e = refl
-past_faults true a b x y z e = cc
-
--- a pattern of bytes meets no fault of UTF
-pub answered : (code : CodeParts) (matching : MatchOptions) (line : List ℕ) (start : ℕ) (a : MatchAnswer) → code.tree.options.utf ≡ false
-    → (match_answer (search_of code matching line start (λ _. pos 0))).answer ≡ a → pattern_answer matching line start (pattern_of code.tree) ≡ answer_of a
-answered code matching line start a bytes e =
-    past_faults code.tree.options.utf (not (is_utf8 line)) (not (is_place line start)) (error (minus 3)) (error (minus 36)) _ bytes ∙ ap answer_of e
 
 with-twice : (ps qs : List Pattern) (more : Compiled) → with_patterns ps (with_patterns qs more) ≡ with_patterns (ps ++ qs) more
 with-twice ps qs (Ok rs) = ap Ok (sym (append_assoc ps qs rs))

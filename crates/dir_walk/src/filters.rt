@@ -125,8 +125,6 @@ fn finds(code: &Code, name: &[u8], scratch: &mut Scratch) -> Result<bool, Memory
     ensures { IfOk result (λ b. b ≡ is_found (pattern_answer plain_match.PLAIN name.now 0
         (pattern_of code.now.tree))) }
 {
-    // so the name needn't be UTF-8
-    code.is_of_bytes();
     match code.match_at(name, 0, &MatchOptions::PLAIN, scratch, &mut NoCallouts) {
         Ok(_) => Ok(true),
         Err(MatchError::Memory) => Err(Memory),

@@ -1,12 +1,14 @@
 -- What the searches on a line answer, and the list of its matches.
-use Rattle.std.proofs.Common.{◌≡◌, ◌∙◌, ℕ, zero, suc, ◌+◌, ◌-◌, ◌<◌, ◌≤◌, List, [], ◌∷◌, ◌++◌, flat_map, length, Bool, true, false, ◌&&◌, not, ℤ, pos, Ok, Err, refl, sym, ap, subst, arith, append-nil}
+use Rattle.std.proofs.Common.{◌≡◌, ◌∙◌, ℕ, zero, suc, ◌+◌, ◌-◌, ◌<◌, ◌≤◌, List, [], ◌∷◌, ◌++◌, flat_map, drop, get_or, length, Bool, true, false, ◌||◌, not, ℤ, pos, Option, Some, None, Ok, Err, refl, sym, ap, subst, arith, append-nil}
 use Rattle.std.specs.Str.{is_utf8}
-use Rattle.std.proofs.lemmas.List.{map-append}
+use Rattle.std.proofs.lemmas.Str.{IsUtf8-from_is_utf8}
+use Rattle.uni_text.specs.Characters.{IsChecked}
+use Rattle.std.proofs.lemmas.List.{at_drop_more, map-append}
 use Rattle.std.proofs.lemmas.List.Concat.{flat_map-append}
 use Rattle.std.proofs.lemmas.List.Elements.{All-nil, All-push}
 use Rattle.pat_tree.specs.declared.options.MatchOptions.{MatchOptions}
 use Rattle.ordered_search.specs.PlaceAnswer.{Outcome}
-use Rattle.ordered_search.specs.MatchAnswer.{MatchAnswer, match_answer}
+use Rattle.ordered_search.specs.MatchAnswer.{match_answer}
 use Rattle.pcre2_api.specs.Compiled.{CodeParts}
 use Rattle.pcre2_api.specs.Matched.{search_of}
 use Rattle.grep_args.specs.declared.plan.GrepPlan.{GrepPlan}
@@ -16,19 +18,31 @@ use Rattle.grep_match.specs.declared.search.Answer.TheVariants as told
 use Rattle.grep_match.specs.declared.search.Verdict.{Verdict}
 use Rattle.grep_match.specs.declared.search.Verdict.TheVariants as verdict
 use Rattle.pat_tree.specs.Pattern.{Pattern, pattern_of}
-use Rattle.pcre2_api.specs.Answers.{Answer, found, none, error, answer_of, pattern_answer, minus, is_place}
+use Rattle.pcre2_api.specs.declared.error.MatchError.{MatchError}
+use Rattle.pcre2_api.specs.MatchErrors.{minus, number_of}
+use Rattle.pcre2_api.specs.Answers.{Answer, found, none, error, answer_of, pattern_answer, search_answer}
+use Rattle.pcre2_api.proofs.Starting.{bad-text}
+use Rattle.grep_match.specs.Compiled.{patterns_in}
 use Rattle.grep_match.specs.Matches.{first_answer, Matches, with_match, limits, not_empty, later, shows_each, matches}
 use Rattle.grep_match.specs.Found.{Listed, Lists, place_of, groups_of, IsInLine, IsAdded, IsUnfound, IsAnswer, IsVerdict}
 
-past_faults : (utf a b : Bool) (x y z : Answer) → utf ≡ false → (elim (utf && a) [ true ↦ x | false ↦ elim (utf && b) [ true ↦ y | false ↦ z ] ]) ≡ z
-past_faults false a b x y z e = refl
-past_faults true a b x y z e = cc
+-- what it means that a line can be searched
+pub searchable : (utf : Bool) (line : List ℕ) → (not utf || is_utf8 line) ≡ true → IsChecked utf line
+searchable true line e = λ _. IsUtf8-from_is_utf8 line e
+searchable false line e = λ asked. absurd (let both : false ≡ true = asked in cc)
 
--- a pattern of bytes meets no fault of UTF
-pub answered : (code : CodeParts) (matching : MatchOptions) (line : List ℕ) (start : ℕ) (a : MatchAnswer) → code.tree.options.utf ≡ false
-    → (match_answer (search_of code matching line start (λ _. pos 0))).answer ≡ a → pattern_answer matching line start (pattern_of code.tree) ≡ answer_of a
-answered code matching line start a bytes e =
-    past_faults code.tree.options.utf (not (is_utf8 line)) (not (is_place line start)) (error (minus 3)) (error (minus 36)) _ bytes ∙ ap answer_of e
+unsearchable : (utf text : Bool) → (not utf || text) ≡ false → (utf ≡ true) × (text ≡ false)
+unsearchable true false e = (refl, refl)
+unsearchable true true e = absurd cc
+unsearchable false text e = absurd cc
+
+-- a line that isn't UTF-8 is answered so by a pattern in UTF
+pub not_text : (code : CodeParts) (matching : MatchOptions) (line : List ℕ) (start : ℕ) → start ≤ length line → (not code.tree.options.utf || is_utf8 line) ≡ false
+    → pattern_answer matching line start (pattern_of code.tree) ≡ error (minus 3)
+not_text code matching line start begun bad =
+    let both = unsearchable code.tree.options.utf (is_utf8 line) bad in
+    ap (λ (f : Option MatchError). elim f as (λ _. Answer) [ Some e ↦ error (number_of e) | None ↦ answer_of (match_answer (search_of code matching line start (λ _. pos 0))).answer ])
+    (bad-text code.tree.options.utf line start begun both.0 both.1)
 
 unfound : (wanted : List ℕ) (len : ℕ) (list : Listed) (a : Told) (x : Answer) → IsUnfound a x → IsAnswer wanted len list list a x
 unfound wanted len list told.Nothing none h = refl
@@ -40,11 +54,10 @@ unfound wanted len list (told.Error n) (found o) h = absurd h
 unfound wanted len list (told.Found p) x h = absurd h
 
 -- a search without a match leaves the list
-pub not_added : (wanted : List ℕ) (list : Listed) (a : Told) (code : CodeParts) (matching : MatchOptions) (line : List ℕ) (start : ℕ) → code.tree.options.utf ≡ false
-    → IsUnfound a (answer_of (match_answer (search_of code matching line start (λ _. pos 0))).answer)
+pub not_added : (wanted : List ℕ) (list : Listed) (a : Told) (code : CodeParts) (matching : MatchOptions) (line : List ℕ) (start : ℕ)
+    → IsUnfound a (search_answer (search_of code matching line start (λ _. pos 0)))
     → IsAnswer wanted (length line) list list a (pattern_answer matching line start (pattern_of code.tree))
-not_added wanted list a code matching line start bytes h =
-    subst (IsAnswer wanted (length line) list list a) (sym (answered code matching line start _ bytes refl)) (unfound wanted (length line) list a _ h)
+not_added wanted list a code matching line start h = unfound wanted (length line) list a _ h
 
 -- what an answer says of the one that is meant
 
@@ -57,6 +70,44 @@ is_error : (wanted : List ℕ) (len : ℕ) (before after : Listed) (n : ℤ) (x 
 is_error wanted len before after n (error e) h = ap error (sym h)
 is_error wanted len before after n none h = absurd h
 is_error wanted len before after n (found o) h = absurd h
+
+-- Patterns that are tried in order.
+
+abbrev by_first : Answer → Answer → Answer
+by_first rest x = elim x [ none ↦ rest | other ↦ other ]
+
+ends_trying : (wanted : List ℕ) (len : ℕ) (before after : Listed) (a : Told) (x rest : Answer) → (a ≡ told.Nothing → ⊥) → IsAnswer wanted len before after a x → IsAnswer wanted len before after a (by_first rest x)
+ends_trying wanted len before after told.Nothing x rest other h = absurd (other refl)
+ends_trying wanted len before after (told.Found p) (found o) rest other h = h
+ends_trying wanted len before after (told.Found p) none rest other h = absurd h
+ends_trying wanted len before after (told.Found p) (error e) rest other h = absurd h
+ends_trying wanted len before after (told.Error n) (error e) rest other h = h
+ends_trying wanted len before after (told.Error n) none rest other h = absurd h
+ends_trying wanted len before after (told.Error n) (found o) rest other h = absurd h
+
+module _ (matching : MatchOptions) (line : List ℕ) (start : ℕ) where
+  abbrev tried : List CodeParts → Answer
+  tried codes = first_answer matching line start (patterns_in codes)
+
+  abbrev here : CodeParts → Answer
+  here code = pattern_answer matching line start (pattern_of code.tree)
+
+  module _ (codes : List CodeParts) (i : ℕ) (code : CodeParts) (inside : i < length codes) (is : code ≡ get_or codes i code) (rest : tried (drop i codes) ≡ tried codes) where
+    step : tried (drop i codes) ≡ by_first (tried (drop (i + 1) codes)) (here code)
+    step = at_drop_more tried codes i code inside ∙ ap (λ d. tried (d ∷ drop (i + 1) codes)) (sym is)
+
+    module _ (wanted : List ℕ) (len : ℕ) (first before after : Listed) (same : before ≡ first) (a : Told) where
+      -- the first pattern that finds something, or fails, ends the trying
+      pub last_tried : (a ≡ told.Nothing → ⊥) → IsAnswer wanted len before after a (here code) → IsAnswer wanted len first after a (tried codes)
+      last_tried other h =
+          subst (λ l. IsAnswer wanted len l after a (tried codes)) same
+          (subst (IsAnswer wanted len before after a) (sym step ∙ rest) (ends_trying wanted len before after a (here code) (tried (drop (i + 1) codes)) other h))
+
+      -- after the others the next one is tried
+      pub next_tried : a ≡ told.Nothing → IsAnswer wanted len before after a (here code) → (tried (drop (i + 1) codes) ≡ tried codes) × (after ≡ first)
+      next_tried nothing h =
+          let quiet = is_none wanted len before after (here code) (subst (λ t. IsAnswer wanted len before after t (here code)) nothing h) in
+          (sym (step ∙ ap (by_first (tried (drop (i + 1) codes))) quiet.0) ∙ rest, quiet.1 ∙ same)
 
 -- the same answer, by other words for what is searched
 pub restated : (wanted wanted' : List ℕ) (len : ℕ) (before after : Listed) (a a' : Told) (matching matching' : MatchOptions) (line : List ℕ) (start : ℕ) (patterns : List Pattern)

@@ -1,14 +1,14 @@
 //! What the patterns find in a line.
-ghost use Rattle.std.specs.Prelude.{◌≡◌, ◌<◌, ◌≤◌, ◌+◌, [], ◌∷◌, length, IfOk};
+ghost use Rattle.std.specs.Prelude.{◌≡◌, ◌<◌, ◌≤◌, ◌+◌, ◌||◌, not, [], ◌∷◌, length, Some, IfOk, IfSome};
+ghost use Rattle.std.specs.Str.{is_utf8};
 ghost use Rattle.pat_tree.specs.declared.options.PartialMode.TheVariants.{Off};
 ghost use Rattle.ordered_search.specs.Setting.{Setting};
 ghost use Rattle.ordered_search.specs.PlaceAnswer.{Outcome};
-ghost use Rattle.ordered_search.specs.MatchAnswer.{match_answer};
 ghost use Rattle.pcre2_api.specs.Matched.{IsMatchError};
 ghost use Rattle.pat_tree.specs.Pattern.{pattern_of};
 ghost use Rattle.grep_match.specs.Compiled.{patterns_in};
 ghost use Rattle.grep_match.specs.Matches.{matches, first_answer, limits, later, with_match, shows_each};
-ghost use Rattle.pcre2_api.specs.Answers.{pattern_answer, answer_of};
+ghost use Rattle.pcre2_api.specs.Answers.{pattern_answer, search_answer};
 ghost use Rattle.grep_match.specs.Found.{Lists, IsAdded, IsUnfound, IsAnswer, IsVerdict};
 
 use crate::found::{MatchList, Place};
@@ -16,8 +16,11 @@ use crate::modes::{Mode, mode_of};
 use crate::patterns::Patterns;
 use grep_args::GrepPlan;
 use pcre_io::Memory;
-use pcre2_api::{Code, Found, MatchError, MatchOptions, NoCallouts, Scratch};
+use pcre2_api::{Code, Found, MatchError, MatchOptions, NoCallouts, Scratch, is_text};
 use std::alloc::Global;
+
+/// The number of the match error that a subject isn't UTF-8.
+const NOT_UTF8: i32 = -3;
 
 /// What the searches on a line answer.
 #[derive(Clone, Copy, Debug, PartialEq, Eq)]
@@ -42,6 +45,8 @@ enum Answer {
 pub struct Workspace {
     pub scratch: Scratch,
     pub found: MatchList,
+    /// Whether the line is UTF-8, once a pattern has asked for it.
+    utf8: Option<bool>,
 }
 
 impl Workspace {
@@ -50,14 +55,43 @@ impl Workspace {
         Workspace {
             scratch: Scratch::new(alloc),
             found: MatchList::new(alloc),
+            utf8: None,
         }
     }
 }
 
+// Whether a line is UTF-8. It is looked at once for all searches on it.
+fn is_utf8(line: &[u8], known: &mut Option<bool>) -> bool
+    requires known { IfSome known.old (λ b. b ≡ is_utf8 line.now) }
+    ensures value { result ≡ is_utf8 line.now }
+    ensures known { known.new ≡ Some result }
+{
+    match *known {
+        Some(utf8) => utf8,
+        None => {
+            let utf8 = is_text(line);
+            *known = Some(utf8);
+            utf8
+        }
+    }
+}
+
+// Whether a line can be searched for a pattern: in UTF it must be UTF-8.
+fn is_searchable(utf: bool, line: &[u8], known: &mut Option<bool>) -> bool
+    requires known { IfSome known.old (λ b. b ≡ is_utf8 line.now) }
+    ensures value { result ≡ (not utf || is_utf8 line.now) }
+    ensures known { IfSome known.new (λ b. b ≡ is_utf8 line.now) }
+{
+    if !utf {
+        return true;
+    }
+    is_utf8(line, known)
+}
+
 // What a search answers that finds no match: nothing, or the number of its error.
 fn error_number(e: MatchError) -> Result<Answer, Memory>
-    ensures { (g : Setting) → g.start ≤ length g.subject → IsMatchError g e
-        → IfOk result (λ a. IsUnfound a (answer_of (match_answer g).answer)) }
+    ensures { (g : Setting) → IsMatchError g e
+        → IfOk result (λ a. IsUnfound a (search_answer g)) }
 {
     match e {
         MatchError::NoMatch { .. } => Ok(Answer::Nothing),
@@ -93,13 +127,17 @@ fn try_pattern(
     requires begun { start ≤ length line.now }
     requires short { length line.now < 4294967295 }
     requires off { options.now.«partial» ≡ Off }
-    ensures { IfOk result (λ a. IsAnswer wanted.now (length line.now)
+    requires known { IfSome work.old.utf8 (λ b. b ≡ is_utf8 line.now) }
+    ensures known { IfSome work.new.utf8 (λ b. b ≡ is_utf8 line.now) }
+    ensures answer { IfOk result (λ a. IsAnswer wanted.now (length line.now)
         work.old.found work.new.found a (pattern_answer options.now line.now start
         (pattern_of code.now.tree))) }
 {
-    // so no line and no start place is at fault
-    code.is_of_bytes();
-    match code.match_at(line, start, options, &mut work.scratch, &mut NoCallouts) {
+    let utf = code.options().utf;
+    if !is_searchable(utf, line, &mut work.utf8) {
+        return Ok(Answer::Error(NOT_UTF8));
+    }
+    match code.match_again(line, start, options, &mut work.scratch, &mut NoCallouts) {
         Ok(found) => Ok(Answer::Found(note(&found, wanted, &mut work.found)?)),
         Err(e) => error_number(e),
     }
@@ -117,7 +155,9 @@ fn first_answer(
     requires begun { start ≤ length line.now }
     requires short { length line.now < 4294967295 }
     requires off { options.now.«partial» ≡ Off }
-    ensures { IfOk result (λ a. IsAnswer wanted.now (length line.now)
+    requires known { IfSome work.old.utf8 (λ b. b ≡ is_utf8 line.now) }
+    ensures known { IfSome work.new.utf8 (λ b. b ≡ is_utf8 line.now) }
+    ensures answer { IfOk result (λ a. IsAnswer wanted.now (length line.now)
         work.old.found work.new.found a (first_answer options.now line.now start
         (patterns_in codes.now))) }
 {
@@ -151,6 +191,7 @@ fn later(
 ) -> Result<Verdict, Memory>
     requires begun { start ≤ length line.now }
     requires short { length line.now < 4294967295 }
+    requires known { IfSome work.old.utf8 (λ b. b ≡ is_utf8 line.now) }
     ensures { IfOk result (λ v. (o : Outcome) → Lists plan.now.only_matching (length line.now)
         work.old.found (o ∷ [])
         → IsVerdict plan.now.only_matching (length line.now) work.new.found v
@@ -194,6 +235,7 @@ pub fn search_line(
     let codes = patterns.codes();
     let wanted = plan.only_matching.as_slice();
     work.found.clear();
+    work.utf8 = None;
     match first_answer(codes, line, 0, &limits(plan), wanted, work)? {
         Answer::Nothing => Ok(Verdict::NoMatch),
         Answer::Error(n) => Ok(Verdict::Error(n)),

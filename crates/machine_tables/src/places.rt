@@ -105,6 +105,10 @@ pub(crate) fn placed(
     let tree = read(alloc, pattern, Options::PLAIN)?;
     // so the tree has the forms that run
     what_is_read_can_be_searched();
+    // the rows are run byte by byte
+    if tree.options().utf {
+        return Ok((PlaceAnswer::Memory, None));
+    }
     let classes = ClassTable::build(alloc, &tree)?;
     let facts = check(alloc, &tree, &classes)?;
     let answer = answer_of(&tree, &classes, &facts, subject, matching, scratch);

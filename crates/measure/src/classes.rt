@@ -1,6 +1,5 @@
 //! How many bytes of a text a class has, by its table and by a plain array.
-ghost use Rattle.std.specs.Prelude.{◌≡◌, ◌<◌, ◌∷◌, [], false, All, IsTrue, length, IfOk};
-ghost use Rattle.pat_tree.specs.Built.{is_plain};
+ghost use Rattle.std.specs.Prelude.{◌≡◌, ◌<◌, ◌∷◌, [], length, IfOk};
 
 use char_sets::ClassTable;
 use pat_tree::{BadRef, ClassSpec, Draft, Item, ListOf, Memory, Node, Options, Part, Steps, Tree};
@@ -87,9 +86,7 @@ impl From<BadRef> for NoTable {
     }
 }
 
-fn class_of(alloc: Global, negated: bool, parts: &[Part]) -> Result<ClassSpec, AllocError>
-    ensures { IfOk result (λ spec. spec.parts ≡ parts.now) }
-{
+fn class_of(alloc: Global, negated: bool, parts: &[Part]) -> Result<ClassSpec, AllocError> {
     let parts = ListOf::from_vec(Vec::from_slice(alloc, parts)?);
     Ok(ClassSpec {
         negated,
@@ -99,8 +96,7 @@ fn class_of(alloc: Global, negated: bool, parts: &[Part]) -> Result<ClassSpec, A
 }
 
 fn tree_of(alloc: Global, class: ClassSpec) -> Result<Tree, NoTable>
-    ensures classes { IfOk result (λ t. t.classes ≡ class ∷ []) }
-    ensures bytes { IfOk result (λ t. t.options.utf ≡ false) }
+    ensures { IfOk result (λ t. t.classes ≡ class ∷ []) }
 {
     let mut draft = Draft::new(alloc, Options::PLAIN);
     let id = draft.add_class(class)?;
@@ -110,7 +106,6 @@ fn tree_of(alloc: Global, class: ClassSpec) -> Result<Tree, NoTable>
 }
 
 fn table_of(alloc: Global, negated: bool, parts: &[Part]) -> Result<ClassTable, NoTable>
-    requires { All (λ part. IsTrue (is_plain part)) parts.now }
     ensures { IfOk result (λ t. length t ≡ 1) }
 {
     let class = class_of(alloc, negated, parts)?;

@@ -15,7 +15,7 @@ use Rattle.pat_build.specs.State.{State}
 use Rattle.pat_build.specs.Groups.{is_opened, missing, places_named}
 use Rattle.std.specs.Str.{is_utf8}
 use Rattle.std.specs.Str.Lossy.{utf8_valid_len}
-use Rattle.pat_build.specs.Reading.{Parsed, checked, reading, read, read_whole, unless_left_out, in_utf8, read_from, started, start, literally}
+use Rattle.pat_build.specs.Reading.{Parsed, checked, reading, read, in_utf8, read_from, started, start, literally}
 use Rattle.pat_build.specs.Machine.{Refuses, IsGiven, tree_with, references_of}
 use Rattle.std.proofs.Common.{◌+◌}
 
@@ -47,27 +47,13 @@ opened_is groups n h k = grind (arith, nat_tests)
 pub names_stand : (table : List NameEntry) (ps : List Placed) (groups : ℕ) → All (IsGiven groups) table → ((n : ℕ) → has_group ps n ≡ is_opened groups n) → All (λ entry. has_group ps entry.group ≡ true) table
 names_stand table ps groups given same = All-weaker (IsGiven groups) (λ entry. has_group ps entry.group ≡ true) (λ e h. same e.group ∙ opened_is groups e.group h.1 h.0) table given
 
--- what is read is refused where it isn't searched
-module _ (options : Options) (text : List ℕ) where
-  pub read_refuses : (e : ReadError) → Refuses (read_whole options text) e → Refuses (read options text) e
-  unfolding read
-  read_refuses e h = refuses_on (read_whole options text) unless_left_out e h
-
-  module _ (parsed : Parsed) (is : read_whole options text ≡ Ok parsed) where
-    pub read_kept : (parsed.options.utf || parsed.options.ucp) ≡ false → read options text ≡ Ok parsed
-    unfolding read
-    read_kept none = ap (λ r. r >>= unless_left_out) is ∙ rw none refl
-
-    pub read_left_out : (parsed.options.utf || parsed.options.ucp) ≡ true → read options text ≡ fault 195 0
-    unfolding read
-    read_left_out out = ap (λ r. r >>= unless_left_out) is ∙ rw out refl
-
 -- the whole reading
 module _ (options : Options) (text : List ℕ) where
-  pub read_long : 65536 < length text → read_whole options text ≡ fault 120 0
+  pub read_long : 65536 < length text → read options text ≡ fault 120 0
+  unfolding read
   read_long long =
       let over : nat_lt 65536 (length text) ≡ true = grind (arith, nat_tests) in
-      rw over refl
+      rw (read, over) refl
 
   fits_is : length text ≤ 65536 → nat_lt 65536 (length text) ≡ false
   fits_is short = grind (arith, nat_tests)
@@ -77,43 +63,46 @@ module _ (options : Options) (text : List ℕ) where
   bad_utf = Err (record { number = negsuc 2; at = utf8_valid_len text })
 
   module _ (short : length text ≤ 65536) where
-    pub read_callout : options.auto_callout ≡ true → read_whole options text ≡ fault 195 0
-    read_callout on = let fits : nat_lt 65536 (length text) ≡ false = fits_is short in rw (fits, on) refl
+    pub read_callout : options.auto_callout ≡ true → read options text ≡ fault 195 0
+    unfolding read
+    read_callout on = let fits : nat_lt 65536 (length text) ≡ false = fits_is short in rw (read, fits, on) refl
 
     module _ (off : options.auto_callout ≡ false) where
-      read_literally : options.literal ≡ true → read_whole options text ≡ in_utf8 options.utf text (Ok (literally options text))
-      read_literally is = let fits : nat_lt 65536 (length text) ≡ false = fits_is short in rw (fits, off, is) refl
+      read_literally : options.literal ≡ true → read options text ≡ in_utf8 options.utf text (Ok (literally options text))
+      unfolding read
+      read_literally is = let fits : nat_lt 65536 (length text) ≡ false = fits_is short in rw (read, fits, off, is) refl
 
-      pub read_literal : options.literal ≡ true → (options.utf && not (is_utf8 text)) ≡ false → read_whole options text ≡ Ok (literally options text)
+      pub read_literal : options.literal ≡ true → (options.utf && not (is_utf8 text)) ≡ false → read options text ≡ Ok (literally options text)
       read_literal is good = read_literally is ∙ rw good refl
 
-      pub read_literal_bad : options.literal ≡ true → (options.utf && not (is_utf8 text)) ≡ true → read_whole options text ≡ bad_utf
+      pub read_literal_bad : options.literal ≡ true → (options.utf && not (is_utf8 text)) ≡ true → read options text ≡ bad_utf
       read_literal_bad is bad = read_literally is ∙ rw bad refl
 
       module _ (is : options.literal ≡ false) where
-        read_started : read_whole options text ≡ (started text (length text + 1) (start options) >>= λ st. in_utf8 st.options.utf text (read_from text st))
-        read_started = let fits : nat_lt 65536 (length text) ≡ false = fits_is short in rw (fits, off, is) refl
+        read_started : read options text ≡ (started text (length text + 1) (start options) >>= λ st. in_utf8 st.options.utf text (read_from text st))
+        unfolding read
+        read_started = let fits : nat_lt 65536 (length text) ≡ false = fits_is short in rw (read, fits, off, is) refl
 
-        pub start_refuses : (e : ReadError) → Refuses (started text (length text + 1) (start options)) e → Refuses (read_whole options text) e
+        pub start_refuses : (e : ReadError) → Refuses (started text (length text + 1) (start options)) e → Refuses (read options text) e
         start_refuses e h =
             subst (λ r. Refuses r e) (sym read_started)
             (refuses_on (started text (length text + 1) (start options)) (λ st. in_utf8 st.options.utf text (read_from text st)) e h)
 
         module _ (st : State) (begun : started text (length text + 1) (start options) ≡ Ok st) where
-          read_begun : read_whole options text ≡ in_utf8 st.options.utf text (read_from text st)
+          read_begun : read options text ≡ in_utf8 st.options.utf text (read_from text st)
           read_begun = read_started ∙ ap (λ r. r >>= λ st. in_utf8 st.options.utf text (read_from text st)) begun
 
-          pub utf_refuses : (st.options.utf && not (is_utf8 text)) ≡ true → read_whole options text ≡ bad_utf
+          pub utf_refuses : (st.options.utf && not (is_utf8 text)) ≡ true → read options text ≡ bad_utf
           utf_refuses bad = read_begun ∙ rw bad refl
 
           module _ (good : (st.options.utf && not (is_utf8 text)) ≡ false) where
-            read_good : read_whole options text ≡ read_from text st
+            read_good : read options text ≡ read_from text st
             read_good = read_begun ∙ rw good refl
 
-            pub names_refuse : (e : ReadError) → Refuses (reading [] text st) e → Refuses (read_whole options text) e
+            pub names_refuse : (e : ReadError) → Refuses (reading [] text st) e → Refuses (read options text) e
             unfolding read_from
             names_refuse e h = subst (λ r. Refuses r e) (sym read_good) (refuses_on (reading [] text st) _ e h)
 
-            pub read_is : (first : Nested × State) → reading [] text st ≡ Ok first → read_whole options text ≡ tree_with first.1.names text st
+            pub read_is : (first : Nested × State) → reading [] text st ≡ Ok first → read options text ≡ tree_with first.1.names text st
             unfolding read_from
             read_is first h = read_good ∙ rw (read_from, h) refl

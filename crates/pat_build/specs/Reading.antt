@@ -182,16 +182,9 @@ in_utf8 utf text r =
 
 -- First the size is tested, then the start items are read, then UTF-8 is tested; then the first fault from the left is told,
 -- and last the leftmost reference to no group. AUTO_CALLOUT is left out.
-abbrev pub read_whole : Options → List ℕ → Result Parsed Fault
-read_whole options text =
+unfoldable pub read : Options → List ℕ → Result Parsed Fault
+read options text =
     if nat_lt 65536 (length text) then fault 120 0
     else if options.auto_callout then fault 195 0
     else if options.literal then in_utf8 options.utf text (Ok (literally options text))
     else (started text (length text + 1) (start options) >>= λ st. in_utf8 st.options.utf text (read_from text st))
-
--- Patterns in UTF and UCP are read, and then refused: they aren't searched yet.
-abbrev pub unless_left_out : Parsed → Result Parsed Fault
-unless_left_out parsed = if parsed.options.utf || parsed.options.ucp then fault 195 0 else Ok parsed
-
-unfoldable pub read : Options → List ℕ → Result Parsed Fault
-read options text = read_whole options text >>= unless_left_out

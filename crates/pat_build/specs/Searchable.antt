@@ -1,14 +1,12 @@
 -- What is read can be searched (pcre2pattern): the reader refuses what a search doesn't have.
-use Rattle.std.specs.Prelude.{◌≡◌, ℕ, false, List, Ok}
+use Rattle.std.specs.Prelude.{◌≡◌, ℕ, List, Ok}
 use Rattle.pat_tree.specs.declared.options.Options.{Options}
 use Rattle.pat_tree.specs.Built.{IsBuilt}
 use Rattle.pat_build.specs.Reading.{Parsed, read}
 
--- The tree has no verb and callout. Neither UTF nor UCP is set.
+-- The tree has no verb and callout.
 pub record IsSearchable (parsed : Parsed) : Type 0 where
   pub built : IsBuilt parsed.tree
-  pub without_utf : parsed.options.utf ≡ false
-  pub without_ucp : parsed.options.ucp ≡ false
 
 -- So is everything that is read, with any options.
 abbrev pub SearchableLaw : Type 0

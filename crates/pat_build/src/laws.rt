@@ -2,8 +2,7 @@
 ghost use Rattle.pat_build.specs.Searchable.{SearchableLaw};
 ghost use Rattle.pat_build.specs.Rows.{WorkedRows};
 
-/// Whatever is read can be searched: its tree has no verb and callout, neither UTF nor UCP
-/// is set, by a start item either (pcre2pattern, "Special start-of-pattern items"), and no class asks for a property.
+/// Whatever is read can be searched: its tree has no verb and callout.
 pub fn what_is_read_can_be_searched()
     ensures { SearchableLaw }
 {}

@@ -24,4 +24,4 @@ mod tokens;
 
 pub use error::ReadError;
 pub use laws::{what_is_read_can_be_searched, worked_rows};
-pub use reader::{read, read_whole};
+pub use reader::read;

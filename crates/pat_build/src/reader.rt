@@ -10,7 +10,7 @@ ghost use Rattle.token_parts.specs.Tell.{IsWell, Moves};
 ghost use Rattle.pat_lex.specs.Tokens.{token_at};
 ghost use Rattle.pat_build.specs.State.{State, flags_of};
 ghost use Rattle.uni_text.specs.Characters.{IsChecked};
-ghost use Rattle.pat_build.specs.Reading.{read, read_whole, reading};
+ghost use Rattle.pat_build.specs.Reading.{read, reading};
 ghost use Rattle.pat_build.specs.Machine.{Means, HasRoom, Refuses, Ends, Same, state_of, state_from, whole_of, parsed_of, tree_with};
 
 use crate::error::ReadError;
@@ -200,13 +200,6 @@ fn in_utf8(text: &[u8], utf: bool) -> Result<(), ReadError>
     }
 }
 
-/// Whether an option is set under which nothing is searched yet.
-fn is_left_out(options: &Options) -> bool
-    ensures { result ≡ (options.now.utf || options.now.ucp) }
-{
-    options.utf || options.ucp
-}
-
 /// Reads a pattern of at most 65,536 bytes (pcre2pattern): the tree has its nested value, its classes in the order of
 /// reading, its names in the order of the table, and the options with those that the start items set. Under LITERAL each
 /// character stands for itself. Each node lies under the root, and stands behind those under it. No call is nested deeper
@@ -215,27 +208,13 @@ fn is_left_out(options: &Options) -> bool
 /// `Bad` has the number and the place of the fault that the definition tells: first 120 for a pattern that is longer, at
 /// 0; then 160 at a start item that isn't well written; then under UTF -3 where the longest part that is UTF-8 ends; then
 /// the first fault from the left; then 161 at the first test of a call of a group past 65,535; last 115 at the leftmost
-/// reference, call or test that names no group. A pattern under UTF or UCP is then refused with 195 at 0, since it isn't
-/// searched yet, and AUTO_CALLOUT with 195 after 120. Want of memory may come at any pattern.
+/// reference, call or test that names no group. AUTO_CALLOUT is refused with 195 after 120. Want of memory may come at
+/// any pattern.
 pub fn read(alloc: Global, text: &[u8], options: Options) -> Result<Tree, ReadError>
     ensures ok { IfOk result (λ tree. read options text.now ≡ Ok (parsed_of tree)) }
     ensures under { IfOk result (λ tree. AllUnder tree.nodes tree.root) }
     ensures turns { IfOk result (λ tree. StandInTurn tree.nodes) }
     ensures bad { IfErr result (Refuses (read options text.now)) }
-{
-    let tree = read_whole(alloc, text, options)?;
-    if is_left_out(tree.options()) {
-        return Err(ReadError::Bad { number: 195, at: 0 });
-    }
-    Ok(tree)
-}
-
-/// Reads a pattern as [`read`] does, also under UTF and UCP.
-pub fn read_whole(alloc: Global, text: &[u8], options: Options) -> Result<Tree, ReadError>
-    ensures ok { IfOk result (λ tree. read_whole options text.now ≡ Ok (parsed_of tree)) }
-    ensures under { IfOk result (λ tree. AllUnder tree.nodes tree.root) }
-    ensures turns { IfOk result (λ tree. StandInTurn tree.nodes) }
-    ensures bad { IfErr result (Refuses (read_whole options text.now)) }
 {
     if text.len() > 65536 {
         return Err(ReadError::Bad { number: 120, at: 0 });

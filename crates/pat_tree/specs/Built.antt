@@ -1,20 +1,6 @@
 -- The patterns that are told about and searched: without verbs and callouts.
--- No class asks for a property of Unicode, and `\b` and `\B` go by the word characters of ASCII.
-use Rattle.std.specs.Prelude.{Bool, true, false, not, IsTrue, All}
-use Rattle.pat_tree.specs.declared.nodes.AnchorKind.{AnchorKind}
-use Rattle.pat_tree.specs.declared.nodes.AnchorKind.TheVariants.{Word, NotWord}
-use Rattle.pat_tree.specs.declared.nodes.SetName.TheVariants.{Property}
-use Rattle.pat_tree.specs.declared.nodes.Part.{Part}
-use Rattle.pat_tree.specs.declared.nodes.Part.TheVariants.{Range, Set}
-use Rattle.pat_tree.specs.declared.nodes.ClassSpec.{ClassSpec}
 use Rattle.pat_tree.specs.Nested as tree
 use Rattle.pat_tree.specs.Nested.{Nested, Row, Test, Other}
-
--- an assertion that asks for no property of Unicode
-abbrev pub is_plain_anchor : AnchorKind → Bool
-is_plain_anchor (Word ucp) = not ucp
-is_plain_anchor (NotWord ucp) = not ucp
-is_plain_anchor _ = true
 
 abbrev mutual
   pub IsBuilt : Nested → Type 0
@@ -30,7 +16,7 @@ abbrev mutual
   IsBuilt (tree.condition test first second) = IsBuiltTest test × IsBuilt first × IsBuiltOther second
   IsBuilt (tree.call n) = Unit {0}
   IsBuilt (tree.ref ns caseless) = Unit {0}
-  IsBuilt (tree.anchor kind) = IsTrue (is_plain_anchor kind)
+  IsBuilt (tree.anchor kind) = Unit {0}
   IsBuilt tree.keep_out = Unit {0}
   IsBuilt (tree.verb v) = ⊥
   IsBuilt (tree.callout c) = ⊥
@@ -50,12 +36,3 @@ abbrev mutual
   pub IsBuiltOther : Other → Type 0
   IsBuiltOther tree.no_other = Unit {0}
   IsBuiltOther (tree.other t) = IsBuilt t
-
--- a part that asks for no property of Unicode
-abbrev pub is_plain : Part → Bool
-is_plain (Range from to) = true
-is_plain (Set (Property n) reversed ucp) = false
-is_plain (Set set reversed ucp) = not ucp
-
-abbrev pub IsPlain : ClassSpec → Type 0
-IsPlain class = All (λ part. IsTrue (is_plain part)) class.parts

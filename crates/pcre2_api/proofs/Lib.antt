@@ -1,3 +1,5 @@
+pub mod Starting
+pub mod Searched
 pub mod Admission
 pub mod Matching
 pub mod Naming

@@ -4,6 +4,7 @@ use Rattle.std.specs.Prelude.{◌==◌, ◌&&◌, nat_lt, if◌then◌else◌}
 use Rattle.std.proofs.lemmas.Bool.{lt-ltb, le-ltb}
 use Rattle.pat_tree.specs.declared.options.MatchOptions.{MatchOptions}
 use Rattle.pat_tree.specs.Pattern.{Pattern}
+use Rattle.uni_text.specs.Characters.{char_at}
 use Rattle.ordered_search.specs.PlaceAnswer.{Outcome}
 use Rattle.pcre2_api.specs.declared.error.MatchError.{MatchError}
 use Rattle.pcre2_api.specs.declared.substitute.Substituted.{Substituted}
@@ -194,14 +195,15 @@ module _ (w : Work) (matching : MatchOptions) where
         left =
             on-end (all (n - (i + 1)) false (place_behind w.pattern subject at)) (next-is _ (all-next _ again at e goes))
             ∙ ap (λ t. adding t count (rest from (all (n - (i + 1)) false (place_behind w.pattern subject at)))) (sym is);
-        reached = further (is_crlf w.pattern subject at);
+        reached = further (is_crlf w.pattern subject at) w.pattern.options.utf;
         inside = on.inside;
         few = omega (arith, on.few);
       }
         where
-          further : (b : Bool) → from ≤ (if b then at + 2 else at + 1)
-          further true = omega (arith, on.reached)
-          further false = omega (arith, on.reached)
+          further : (b utf : Bool) → from ≤ (if b then at + 2 else (char_at utf subject at).1)
+          further true utf = omega (arith, on.reached)
+          further false true = omega (arith, on.reached)
+          further false false = omega (arith, on.reached)
 
       pub on-refused : (e : SubstError) → Refuses (added_by w from (asked again at)) e → Refuses (all_replaced w matching start) e
       on-refused e = refuses-whole (added_by w from (asked again at)) (all_replaced w matching start) (λ f. by_answer (asked again at) f refl) e
@@ -250,10 +252,3 @@ module _ (p : Pattern) (matching : MatchOptions) (subject : List ℕ) where
 
   pub goes-inside : (again : Bool) (at : ℕ) → again ≡ true → at < length subject → goes_on p matching subject again at ≡ true
   goes-inside again at twice inside = ap (λ b. b && nat_lt at (length subject)) twice ∙ lt-ltb at (length subject) inside
-
-  pub behind-is : (at step : ℕ) → step ≡ (if is_crlf p subject at then 2 else 1) → at + step ≡ place_behind p subject at
-  behind-is at step is = ap (λ n. at + n) is ∙ by_test (is_crlf p subject at)
-    where
-      by_test : (b : Bool) → at + (if b then 2 else 1) ≡ (if b then at + 2 else at + 1)
-      by_test true = refl
-      by_test false = refl

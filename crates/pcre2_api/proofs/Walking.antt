@@ -1,13 +1,14 @@
 -- What a search answers, by what the library's call says.
-use Rattle.std.proofs.Common.{◌≡◌, ◌∙◌, ℕ, ◌++◌, ◌<◌, ◌≤◌, List, [], length, pos, Option, Result, Ok, Err, IfOk, IfErr, OnOk, refl, sym, ap, subst, if◌then◌else◌, append-nil}
-use Rattle.std.proofs.lemmas.Bool.{lt-ltb, le-ltb}
+use Rattle.std.proofs.Common.{◌≡◌, ◌∙◌, ℕ, ◌++◌, ◌≤◌, List, [], length, pos, Option, Some, None, Result, Ok, Err, IfOk, IfErr, OnOk, refl, sym, ap, subst, append-nil}
 use Rattle.pat_tree.specs.declared.options.MatchOptions.{MatchOptions}
-use Rattle.pat_tree.specs.Pattern.{pattern_of}
+use Rattle.pat_tree.specs.Pattern.{Pattern, pattern_of}
 use Rattle.ordered_search.specs.Setting.{Setting}
 use Rattle.ordered_search.specs.PlaceAnswer.{Outcome}
 use Rattle.ordered_search.specs.MatchAnswer.{match_answer}
 use Rattle.pcre2_api.specs.Compiled.{CodeParts}
-use Rattle.pcre2_api.specs.Matched.{MatchParts, search_of, IsFound, IsMatchError}
+use Rattle.pcre2_api.specs.Matched.{MatchParts, search_of, fault_in, IsFound, IsMatchError}
+use Rattle.pcre2_api.specs.Patterns.{setting}
+use Rattle.pcre2_api.specs.Starts.{start_fault}
 use Rattle.pcre2_api.specs.declared.error.MatchError.{MatchError}
 use Rattle.pcre2_api.specs.declared.error.MatchError.TheVariants as told
 use Rattle.pcre2_api.specs.declared.substitute.Search.{Search}
@@ -32,28 +33,45 @@ module _ (code : CodeParts) (matching : MatchOptions) (subject : List ℕ) (star
   abbrev here : Answer
   here = answer_at (pattern_of code.tree) matching subject start
 
-  within : start ≤ length subject → here ≡ asked
-  unfolding answer_at
-  within h = ap (λ t. if t then failed told.BadOffset else asked) (le-ltb (length subject) start h)
+  abbrev by_fault : Option MatchError → Answer
+  by_fault f = elim f [ Some e ↦ failed e | None ↦ asked ]
 
-  past : length subject < start → here ≡ failed told.BadOffset
+  begun : fault_in searching ≡ None → here ≡ asked
   unfolding answer_at
-  past h = ap (λ t. if t then failed told.BadOffset else asked) (lt-ltb (length subject) start h)
+  begun h = ap by_fault h
+
+  unbegun : (e : MatchError) → fault_in searching ≡ Some e → here ≡ failed e
+  unfolding answer_at
+  unbegun e h = ap by_fault h
 
   pub answer-found : (f : MatchParts) → IsFound searching f → here ≡ found f.outcome
-  answer-found f is = within is.begun ∙ ap answer_of is.answer
+  answer-found f is = begun is.begun ∙ ap answer_of is.answer
 
   pub answer-error : (e : MatchError) → IsMatchError searching e → Says e here
-  answer-error told.BadOffset is = past is
-  answer-error (told.BadUtf at) is = absurd is
-  answer-error told.BadUtfOffset is = absurd is
-  answer-error (told.NoMatch mark) is = within is.0 ∙ ap answer_of is.1
+  answer-error told.BadOffset is = unbegun told.BadOffset is
+  answer-error (told.BadUtf at) is = unbegun (told.BadUtf at) is
+  answer-error told.BadUtfOffset is = unbegun told.BadUtfOffset is
+  answer-error (told.NoMatch mark) is = begun is.0 ∙ ap answer_of is.1
   answer-error (told.Partial from to mark) is = absurd is
-  answer-error told.MatchLimit is = within is.0 ∙ ap answer_of is.1
-  answer-error told.FrameLimit is = within is.0 ∙ ap answer_of is.1
-  answer-error told.RecurseLoop is = within is.0 ∙ ap answer_of is.1
+  answer-error told.MatchLimit is = begun is.0 ∙ ap answer_of is.1
+  answer-error told.FrameLimit is = begun is.0 ∙ ap answer_of is.1
+  answer-error told.RecurseLoop is = begun is.0 ∙ ap answer_of is.1
   answer-error (told.Callout n) is = absurd is
   answer-error told.Memory is = tt
+
+-- A search that finds nothing can begin, and one that can't begin fails.
+module _ (p : Pattern) (matching : MatchOptions) (subject : List ℕ) (at : ℕ) where
+  none-begun : (f : Option MatchError) (a : Answer) → (elim f [ Some e ↦ failed e | None ↦ a ]) ≡ none → f ≡ None
+  none-begun None a is = refl
+  none-begun (Some e) a is = cc
+
+  pub begun-at-none : answer_at p matching subject at ≡ none → start_fault p.options.utf subject at ≡ None
+  unfolding answer_at
+  begun-at-none is = none-begun (start_fault p.options.utf subject at) (answer_of (match_answer (setting p matching subject at)).answer) is
+
+  pub fails-at : (e : MatchError) → start_fault p.options.utf subject at ≡ Some e → answer_at p matching subject at ≡ failed e
+  unfolding answer_at
+  fails-at e is = ap (λ (f : Option MatchError). elim f [ Some e ↦ failed e | None ↦ answer_of (match_answer (setting p matching subject at)).answer ]) is
 
 -- What is told of an error, after which nothing is added.
 pub record IsTold (w : Work) (from : ℕ) (old : List ℕ) (a : Answer) (result : Result Search SubstError) : Type 0 where

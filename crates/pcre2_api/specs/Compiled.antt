@@ -1,5 +1,5 @@
 -- A compiled pattern, and what a pattern is compiled to (pcre2api, "Compiling a pattern").
-use Rattle.std.specs.Prelude.{◌≡◌, ℕ, false, max, if◌then◌else◌, List, Result, Ok, Err}
+use Rattle.std.specs.Prelude.{◌≡◌, ℕ, max, if◌then◌else◌, List, Result, Ok, Err}
 use Rattle.pat_tree.specs.declared.options.Options.{Options}
 use Rattle.pat_tree.specs.Parts.{TreeParts, tree_of}
 use Rattle.pat_tree.specs.Pattern.{Pattern, pattern_of}
@@ -30,11 +30,10 @@ pub record CodeParts : Type 0 where
   pub classes : List CharSet
   pub facts : Facts
 
--- The table and the facts are those of the tree, which has the forms that are searched, over bytes.
+-- The table and the facts are those of the tree, which has the forms that are searched.
 pub record IsCode (code : CodeParts) : Type 0 where
   pub table : IsTableOf code.tree code.classes
   pub facts : AreFactsOf code.tree code.facts
-  pub bytes : code.tree.options.utf ≡ false
   pub built : IsBuilt (tree_of code.tree)
 
 -- what the text is read as is the code's tree, and no lookbehind of it is refused

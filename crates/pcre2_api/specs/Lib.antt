@@ -3,6 +3,7 @@ pub mod Matched
 pub mod Captured
 pub mod FaultTexts
 pub mod Patterns
+pub mod Starts
 pub mod Answers
 pub mod MatchErrors
 pub mod Informs

@@ -1,8 +1,10 @@
 -- The numbers and the texts of match errors (pcre2api, "Error return values from pcre2_match()"): error → number, text.
-use Rattle.std.specs.Prelude.{ℕ, List, codes, ℤ}
-use Rattle.pcre2_api.specs.Answers.{minus}
+use Rattle.std.specs.Prelude.{ℕ, List, codes, ℤ, pos, neg_ℤ}
 use Rattle.pcre2_api.specs.declared.error.MatchError.{MatchError}
 use Rattle.pcre2_api.specs.declared.error.MatchError.TheVariants as told
+
+abbrev pub minus : ℕ → ℤ
+minus n = neg_ℤ (pos n)
 
 abbrev pub number_of : MatchError → ℤ
 number_of (told.NoMatch mark) = minus 1

@@ -1,5 +1,5 @@
 -- What a match of a compiled pattern answers (pcre2api, "Matching a pattern: the traditional function").
-use Rattle.std.specs.Prelude.{◌≡◌, ℕ, ◌<◌, ◌≤◌, ◌==◌, ◌&&◌, ◌||◌, not, false, ℤ, List, All, length, None}
+use Rattle.std.specs.Prelude.{◌≡◌, ℕ, ◌≤◌, ◌==◌, ◌&&◌, ◌||◌, not, false, ℤ, List, All, length, Option, Some, None}
 use Rattle.pat_tree.specs.declared.options.MatchOptions.{MatchOptions}
 use Rattle.pat_tree.specs.Sound.{greatest, group_numbers}
 use Rattle.pcre_io.specs.declared.callouts.Block.{Block}
@@ -11,6 +11,7 @@ use Rattle.ordered_search.specs.MatchAnswer as meant
 use Rattle.ordered_search.specs.MatchAnswer.{match_answer}
 use Rattle.ordered_search.specs.Forward.{IsPlaced, IsWithin}
 use Rattle.pcre2_api.specs.Compiled.{CodeParts}
+use Rattle.pcre2_api.specs.Starts.{start_fault}
 use Rattle.pcre2_api.specs.declared.error.MatchError.{MatchError}
 use Rattle.pcre2_api.specs.declared.error.MatchError.TheVariants as told
 
@@ -38,23 +39,27 @@ pub record IsAdmitted (g : Setting) (o : Outcome) : Type 0 where
   pub not_empty : ((o.keep == o.to) && (notempty g || notempty_atstart g && (o.keep == g.start))) ≡ false
   pub at_end : (endanchored g && not (o.to == length g.subject)) ≡ false
 
--- it is what the search answers, it lies in the subject, and the options admit it
+-- why the search can't begin, if it can't
+abbrev pub fault_in : Setting → Option MatchError
+fault_in g = start_fault g.options.utf g.subject g.start
+
+-- the search can begin, it is what the search answers, it lies in the subject, and the options admit it
 pub record IsFound (g : Setting) (f : MatchParts) : Type 0 where
-  pub begun : g.start ≤ length g.subject
+  pub begun : fault_in g ≡ None
   pub answer : (match_answer g).answer ≡ meant.Match f.outcome
   pub placed : IsPlaced g f.outcome
   pub admitted : IsAdmitted g f.outcome
 
--- Why there is no match: each refusal has its cause. Of a subject of bytes, without partial matching, for the forms that are
--- built there is no fault of UTF, no partial match, no callout and no mark. Want of memory may come at any time.
+-- Why there is no match: each refusal has its cause. Without partial matching, for the forms that are built there is no
+-- partial match, no callout and no mark. Want of memory may come at any time.
 abbrev pub IsMatchError : Setting → MatchError → Type 0
-IsMatchError g told.BadOffset = length g.subject < g.start
-IsMatchError g (told.BadUtf at) = ⊥
-IsMatchError g told.BadUtfOffset = ⊥
-IsMatchError g (told.NoMatch mark) = (g.start ≤ length g.subject) × ((match_answer g).answer ≡ meant.NoMatch) × (mark ≡ None)
+IsMatchError g told.BadOffset = fault_in g ≡ Some told.BadOffset
+IsMatchError g (told.BadUtf at) = fault_in g ≡ Some (told.BadUtf at)
+IsMatchError g told.BadUtfOffset = fault_in g ≡ Some told.BadUtfOffset
+IsMatchError g (told.NoMatch mark) = (fault_in g ≡ None) × ((match_answer g).answer ≡ meant.NoMatch) × (mark ≡ None)
 IsMatchError g (told.Partial start end mark) = ⊥
-IsMatchError g told.MatchLimit = (g.start ≤ length g.subject) × ((match_answer g).answer ≡ meant.Error place.MatchLimit)
-IsMatchError g told.FrameLimit = (g.start ≤ length g.subject) × ((match_answer g).answer ≡ meant.Error place.FrameLimit)
-IsMatchError g told.RecurseLoop = (g.start ≤ length g.subject) × ((match_answer g).answer ≡ meant.Error place.Loop)
+IsMatchError g told.MatchLimit = (fault_in g ≡ None) × ((match_answer g).answer ≡ meant.Error place.MatchLimit)
+IsMatchError g told.FrameLimit = (fault_in g ≡ None) × ((match_answer g).answer ≡ meant.Error place.FrameLimit)
+IsMatchError g told.RecurseLoop = (fault_in g ≡ None) × ((match_answer g).answer ≡ meant.Error place.Loop)
 IsMatchError g (told.Callout n) = ⊥
 IsMatchError g told.Memory = Unit {0}

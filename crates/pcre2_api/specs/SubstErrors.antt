@@ -1,7 +1,7 @@
 -- The numbers and the texts of the refusals of substitutions (pcre2api, "Creating a new string with
 -- substitutions"): refusal → number, text.
 use Rattle.std.specs.Prelude.{ℕ, List, codes, ℤ}
-use Rattle.pcre2_api.specs.Answers.{minus}
+use Rattle.pcre2_api.specs.MatchErrors.{minus}
 use Rattle.pcre2_api.specs.declared.subst_error.SubstError.{SubstError}
 use Rattle.pcre2_api.specs.declared.subst_error.SubstError.TheVariants as refusal
 

@@ -1,6 +1,8 @@
 -- What replacing the matches of a subject gives (pcre2api, "Creating a new string with
 -- substitutions"): the matches, what replaces each, and the text between them.
-use Rattle.std.specs.Prelude.{◌≡◌, ⊤, ℕ, suc, ◌+◌, ◌*◌, ◌==◌, ◌≤◌, Bool, if◌then◌else◌, nat_lt, List, [], ◌∷◌, ◌++◌, length, drop, slice_range, Option, Some, None, Result, Ok, Err}
+use Rattle.std.specs.Prelude.{◌≡◌, ⊤, ℕ, suc, ◌+◌, ◌*◌, ◌==◌, ◌≤◌, ◌&&◌, not, Bool, if◌then◌else◌, List, [], ◌∷◌, ◌++◌, drop, slice_range, Option, Some, None, Result, Ok, Err}
+use Rattle.std.specs.Str.{is_utf8}
+use Rattle.std.specs.Str.Lossy.{utf8_valid_len}
 use Rattle.pat_tree.specs.declared.options.MatchOptions.{MatchOptions}
 use Rattle.pat_tree.specs.declared.options.PartialMode.TheVariants.{Off}
 use Rattle.pat_tree.specs.declared.names.NameEntry.{NameEntry}
@@ -21,6 +23,7 @@ use Rattle.pcre2_api.specs.declared.subst_error.SubstError.TheVariants as refusa
 use Rattle.pcre2_api.specs.declared.substitute.Rewriting.{Rewriting}
 use Rattle.pcre2_api.specs.declared.substitute.Search.{Search}
 use Rattle.pcre2_api.specs.declared.substitute.Search.TheVariants as search
+use Rattle.pcre2_api.specs.Starts.{start_fault}
 use Rattle.pcre2_api.specs.Taken.{taken}
 use Rattle.pcre2_api.specs.Walks.{Answer, found, none, failed, Matches, matches_from}
 
@@ -53,10 +56,11 @@ abbrev pub refused_as : {A E : Type 0} → (E → SubstError) → Result A E →
 refused_as refusal_of (Ok a) = Ok a
 refused_as refusal_of (Err e) = Err (refusal_of e)
 
--- a replacement that is read
+-- a replacement that is read; in UTF it must be UTF-8
 abbrev pub reading : Bool → SubstOptions → List ℕ → Result Replacement SubstError
 reading utf how text =
-    if how.literal then Ok (literal text)
+    if utf && not (is_utf8 text) then Err (refusal.ReplacementUtf (utf8_valid_len text))
+    else if how.literal then Ok (literal text)
     else refused_as plan_refusal (plan_of how.extended utf text)
 
 -- text that isn't matched
@@ -108,16 +112,18 @@ module _ (w : Work) where
 abbrev pub without_partial : MatchOptions → MatchOptions
 without_partial matching = record matching { «partial» = Off }
 
--- The subject with its matches replaced, and their number, or the first refusal: that of the start,
--- that of the replacement, and those of the matches in turn.
+-- The subject with its matches replaced, and their number, or the first refusal: that of the subject
+-- and the start, that of the replacement, and those of the matches in turn.
 abbrev pub substituted : Pattern → List NameEntry → MatchOptions → SubstOptions → List ℕ → ℕ → List ℕ → Result Substituted SubstError
 substituted p names matching how subject start replacement =
-    if nat_lt (length subject) start then Err refusal.BadOffset
-    else elim (reading p.options.utf how replacement) [
-      | Ok plan ↦
-          all_replaced (record { pattern = p; names = names; how = how; subject = subject; plan = plan })
-          (without_partial matching) start
-      | Err e ↦ Err e
+    elim (start_fault p.options.utf subject start) [
+      | Some e ↦ Err (search_refusal e)
+      | None ↦ elim (reading p.options.utf how replacement) [
+        | Ok plan ↦
+            all_replaced (record { pattern = p; names = names; how = how; subject = subject; plan = plan })
+            (without_partial matching) start
+        | Err e ↦ Err e
+      ]
     ]
 
 -- what a call answers at a refusal, where it doesn't want memory

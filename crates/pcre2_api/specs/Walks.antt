@@ -3,6 +3,7 @@
 use Rattle.std.specs.Prelude.{ℕ, zero, suc, ◌+◌, ◌*◌, ◌==◌, ◌&&◌, Bool, true, false, if◌then◌else◌, nat_lt, List, [], ◌∷◌, length, Option, Some, None}
 use Rattle.byte_lanes.specs.declared.line_end.EndKind.TheVariants.{CrLf}
 use Rattle.byte_lanes.specs.Newlines.{newline_len, has_crlf}
+use Rattle.uni_text.specs.Characters.{char_at}
 use Rattle.pat_tree.specs.declared.options.MatchOptions.{MatchOptions}
 use Rattle.pat_tree.specs.Newlines.{end_kind}
 use Rattle.pat_tree.specs.Pattern.{Pattern}
@@ -11,6 +12,7 @@ use Rattle.ordered_search.specs.PlaceAnswer.{Outcome, PlaceAnswer}
 use Rattle.ordered_search.specs.MatchAnswer as meant
 use Rattle.ordered_search.specs.MatchAnswer.{MatchAnswer, match_answer}
 use Rattle.pcre2_api.specs.Patterns.{setting}
+use Rattle.pcre2_api.specs.Starts.{start_fault}
 use Rattle.pcre2_api.specs.declared.error.MatchError.{MatchError}
 use Rattle.pcre2_api.specs.declared.error.MatchError.TheVariants as told
 
@@ -54,20 +56,22 @@ fails e = record { outcomes = []; ended = Some e }
 abbrev pub with_match : Outcome → Matches → Matches
 with_match o m = record m { outcomes = o ∷ m.outcomes }
 
--- a search from a place on; no pattern in UTF is compiled yet
+-- a search from a place on, which may not be able to begin
 unfoldable pub answer_at : Pattern → MatchOptions → List ℕ → ℕ → Answer
-answer_at p matching subject at =
-    if nat_lt (length subject) at then failed told.BadOffset
-    else answer_of (match_answer (setting p matching subject at)).answer
+answer_at p matching subject at = elim (start_fault p.options.utf subject at) [
+  | Some e ↦ failed e
+  | None ↦ answer_of (match_answer (setting p matching subject at)).answer
+]
 
 -- whether a CRLF that is a newline stands at a place
 abbrev pub is_crlf : Pattern → List ℕ → ℕ → Bool
 is_crlf p subject at =
     has_crlf (end_kind p.options.newline p.options.utf) && nat_lt 0 (newline_len CrLf subject at)
 
--- the place after another: such a CRLF is passed whole
+-- the place after another, one character on: such a CRLF is passed whole
 abbrev pub place_behind : Pattern → List ℕ → ℕ → ℕ
-place_behind p subject at = if is_crlf p subject at then at + 2 else at + 1
+place_behind p subject at =
+    if is_crlf p subject at then at + 2 else (char_at p.options.utf subject at).1
 
 module _ (p : Pattern) (matching : MatchOptions) (subject : List ℕ) where
   abbrev pub answer : Bool → ℕ → Answer

@@ -1,5 +1,5 @@
 //! A compiled pattern.
-ghost use Rattle.std.specs.Prelude.{◌≡◌, ◌≤◌, ◌<◌, false, IfOk, IfErr, length, max, slice_get};
+ghost use Rattle.std.specs.Prelude.{◌≡◌, ◌≤◌, ◌<◌, IfOk, IfErr, OnOk, Some, None, length, max, slice_get};
 ghost use Rattle.std.specs.Option.{option_copied};
 ghost use Rattle.pat_tree.specs.declared.options.PartialMode.TheVariants.{Off};
 ghost use Rattle.pcre_io.specs.declared.callouts.Block.{Block};
@@ -10,10 +10,13 @@ ghost use Rattle.pcre2_api.specs.Informs.{info_in};
 ghost use Rattle.match_drive.specs.Answer.{IsMatchAnswer};
 ghost use Rattle.ordered_search.specs.Forward.{IsPlainFound};
 ghost use Rattle.ordered_search.specs.MatchAnswer.{match_answer};
+ghost use Rattle.uni_text.specs.Characters.{IsChecked};
 ghost use Rattle.pcre2_api.specs.Matched.{search_of, IsFound, IsMatchError};
+ghost use Rattle.pcre2_api.specs.Starts.{start_fault};
 
 use crate::error::{CompileError, MatchError};
 use crate::found::{Found, Text};
+use crate::starts::{test_place, test_start};
 use char_sets::ClassTable;
 use frame_machine::{Ready, Scratch};
 use match_drive::{MatchAnswer, search};
@@ -80,8 +83,9 @@ impl Code {
     }
 
     /// Looks for a match from a start on (pcre2_match). Places are in bytes. Any workspace serves, new or used; the
-    /// captures of the match are read there as long as it is borrowed. Needs a subject of fewer than 4,294,967,295 bytes,
-    /// and no partial matching.
+    /// captures of the match are read there as long as it is borrowed. In UTF the whole subject is looked at first
+    /// (pcre2unicode, "Validity of UTF strings"), also that before the start. Needs a subject of fewer than 4,294,967,295
+    /// bytes, and no partial matching.
     pub fn match_at<'a, C: Callouts>(
         &'a self,
         subject: &'a [u8],
@@ -98,9 +102,65 @@ impl Code {
         ensures rule { (block : Block) → C.answers calls.new block ≡ C.answers calls.old block }
         ensures seen { C.seen calls.new ≡ C.seen calls.old }
     {
-        if start > subject.len() {
-            return Err(MatchError::BadOffset);
+        match self.test_start(subject, start) {
+            Ok(()) => self.match_from(subject, start, options, scratch, calls),
+            Err(e) => Err(e),
         }
+    }
+
+    /// Looks for a further match as [`Code::match_at`] does, in a subject that was looked at before: in UTF it must be
+    /// UTF-8, as it is once a search of this code began in it (pcre2api, PCRE2_NO_UTF_CHECK).
+    pub fn match_again<'a, C: Callouts>(
+        &'a self,
+        subject: &'a [u8],
+        start: usize,
+        options: &MatchOptions,
+        scratch: &'a mut Scratch,
+        calls: &mut C,
+    ) -> Result<Found<'a>, MatchError>
+        requires checked { IsChecked self.now.tree.options.utf subject.now }
+        requires short { length subject.now < 4294967295 }
+        requires off { options.now.«partial» ≡ Off }
+        ensures found { IfOk result (IsFound (search_of self.now options.now subject.now start (C.answers calls.old))) }
+        ensures code { IfOk result (λ f. (f.code ≡ self.now) × (f.subject ≡ subject.now)) }
+        ensures refused { IfErr result (IsMatchError (search_of self.now options.now subject.now start (C.answers calls.old))) }
+        ensures rule { (block : Block) → C.answers calls.new block ≡ C.answers calls.old block }
+        ensures seen { C.seen calls.new ≡ C.seen calls.old }
+    {
+        match test_place(self.options().utf, subject, start) {
+            Ok(()) => self.match_from(subject, start, options, scratch, calls),
+            Err(e) => Err(e),
+        }
+    }
+
+    /// Tests whether a search can begin: the start lies in the subject, and in UTF the subject is UTF-8 and a character
+    /// begins at the start. The first of these that fails is told, as [`Code::match_at`] tells it.
+    pub fn test_start(&self, subject: &[u8], start: usize) -> Result<(), MatchError>
+        ensures ok { OnOk result (start_fault self.now.tree.options.utf subject.now start ≡ None) }
+        ensures checked { OnOk result (IsChecked self.now.tree.options.utf subject.now) }
+        ensures refused { IfErr result (λ e. start_fault self.now.tree.options.utf subject.now start ≡ Some e) }
+    {
+        test_start(self.options().utf, subject, start)
+    }
+
+    /// A match from a start at which a search can begin.
+    fn match_from<'a, C: Callouts>(
+        &'a self,
+        subject: &'a [u8],
+        start: usize,
+        options: &MatchOptions,
+        scratch: &'a mut Scratch,
+        calls: &mut C,
+    ) -> Result<Found<'a>, MatchError>
+        requires begun { start_fault self.now.tree.options.utf subject.now start ≡ None }
+        requires short { length subject.now < 4294967295 }
+        requires off { options.now.«partial» ≡ Off }
+        ensures found { IfOk result (IsFound (search_of self.now options.now subject.now start (C.answers calls.old))) }
+        ensures code { IfOk result (λ f. (f.code ≡ self.now) × (f.subject ≡ subject.now)) }
+        ensures refused { IfErr result (IsMatchError (search_of self.now options.now subject.now start (C.answers calls.old))) }
+        ensures rule { (block : Block) → C.answers calls.new block ≡ C.answers calls.old block }
+        ensures seen { C.seen calls.new ≡ C.seen calls.old }
+    {
         match self.search(subject, start, options, scratch, calls) {
             MatchAnswer::Match { keep, to, mark } => {
                 Ok(Found::of(self, subject, scratch, Text { keep, to, mark }))
@@ -119,7 +179,7 @@ impl Code {
         }
     }
 
-    /// The search of a match whose start lies in the subject.
+    /// The search of a match whose start is a place of the subject.
     fn search<C: Callouts>(
         &self,
         subject: &[u8],
@@ -128,7 +188,7 @@ impl Code {
         scratch: &mut Scratch,
         calls: &mut C,
     ) -> MatchAnswer
-        requires start { start ≤ length subject.now }
+        requires begun { start_fault self.now.tree.options.utf subject.now start ≡ None }
         requires short { length subject.now < 4294967295 }
         requires off { options.now.«partial» ≡ Off }
         ensures answer { IsMatchAnswer result scratch.new.spans (match_answer (search_of self.now options.now subject.now start (C.answers calls.old))) }
@@ -149,13 +209,6 @@ impl Code {
             matching: options,
         };
         search(&ready, &view, scratch, calls)
-    }
-
-    /// A law: a compiled pattern is one of bytes, since none in UTF is compiled yet.
-    pub fn is_of_bytes(&self)
-        ensures { self.now.tree.options.utf ≡ false }
-    {
-        let _tree = &self.tree;
     }
 
     /// A law: what is told of the code is told of what its pattern is read as.

@@ -66,6 +66,13 @@ impl<'a> Found<'a> {
         }
     }
 
+    /// Whether the subject is one in UTF.
+    pub fn is_utf(&self) -> bool
+        ensures { result ≡ self.now.code.tree.options.utf }
+    {
+        self.code.options().utf
+    }
+
     /// Where the match begins: at its start place, or where `\K` was met last.
     pub fn start(&self) -> usize
         ensures { result ≡ self.now.outcome.keep }

@@ -1,21 +1,25 @@
 //! Replacing what is found (pcre2api, "Creating a new string with substitutions").
-ghost use Rattle.std.specs.Prelude.{◌≡◌, ◌≤◌, ◌<◌, ◌++◌, Ok, IfOk, IfErr, OnOk, drop, length};
+ghost use Rattle.std.specs.Prelude.{◌≡◌, ◌≤◌, ◌<◌, ◌++◌, ◌&&◌, not, true, false, Ok, IfOk, IfErr, OnOk, drop, length};
+ghost use Rattle.std.specs.Str.{is_utf8};
+ghost use Rattle.std.specs.Str.Lossy.{utf8_valid_len};
+ghost use Rattle.uni_text.specs.Characters.{IsChecked};
 ghost use Rattle.pat_tree.specs.declared.options.PartialMode.TheVariants.{Off};
 ghost use Rattle.pat_tree.specs.Pattern.{pattern_of};
 ghost use Rattle.pcre2_api.specs.declared.subst_error.SubstError.TheVariants as refusal;
 ghost use Rattle.pcre2_api.specs.Walks.{answer};
-ghost use Rattle.pcre2_api.specs.Substituted.{kept, reading, written_for, all_replaced, searches, substituted, work_of, added_by, IsAdded, IsSearch, Tells, TellsMatch, Refuses};
+ghost use Rattle.pcre2_api.specs.Substituted.{kept, reading, written_for, all_replaced, searches, substituted, work_of, added_by, search_refusal, IsAdded, IsSearch, Tells, TellsMatch, Refuses};
 
 use crate::code::Code;
 use crate::error::MatchError;
 use crate::found::Found;
 use crate::subst_error::SubstError;
-use crate::walk::{matching_at, step};
+use crate::walk::{matching_at, place_behind};
 use frame_machine::Scratch;
 use pat_tree::{ByteList, MatchOptions, PartialMode};
 use pcre_io::NoCallouts;
 use std::alloc::{AllocError, Global};
 use subst_plan::{Plan, expand_into};
+use uni_text::check;
 
 /// How matches are replaced (pcre2api, "Creating a new string with substitutions").
 #[derive(Clone, Copy, Debug, PartialEq, Eq)]
@@ -92,8 +96,8 @@ impl Code {
         ensures refused { IfErr result (Refuses (substituted (pattern_of self.now.tree)
             self.now.tree.names options.now how.now subject.now start replacement.now)) }
     {
-        if start > subject.len() {
-            return Err(SubstError::BadOffset);
+        if let Err(e) = self.test_start(subject, start) {
+            return Err(refusal_of(e));
         }
         let plan = self.plan(alloc, how, replacement)?;
         let rewriting = Rewriting {
@@ -116,11 +120,28 @@ impl Code {
         ensures refused { IfErr result
             (Refuses (reading self.now.tree.options.utf how.now text.now)) }
     {
+        let utf = self.options().utf;
+        test_replacement(utf, text)?;
         if how.literal {
             return Ok(Plan::literal(alloc, text)?);
         }
-        let utf = self.options().utf;
         Ok(Plan::read(alloc, text, how.extended, utf)?)
+    }
+}
+
+/// Refuses a replacement in UTF that isn't UTF-8.
+fn test_replacement(utf: bool, text: &[u8]) -> Result<(), SubstError>
+    ensures ok { OnOk result ((utf && not (is_utf8 text.now)) ≡ false) }
+    ensures why { IfErr result (λ e. (utf && not (is_utf8 text.now)) ≡ true) }
+    ensures refused { IfErr result (λ e.
+        e ≡ refusal.ReplacementUtf (utf8_valid_len text.now)) }
+{
+    if !utf {
+        return Ok(());
+    }
+    match check(text) {
+        Ok(()) => Ok(()),
+        Err(bad) => Err(SubstError::ReplacementUtf { at: bad.at }),
     }
 }
 
@@ -166,6 +187,7 @@ impl Rewriting<'_> {
         again: bool,
         scratch: &mut Scratch,
     ) -> Result<Search, SubstError>
+        requires checked { IsChecked self.now.code.now.tree.options.utf self.now.subject.now }
         requires short { length self.now.subject.now < 4294967295 }
         requires off { self.now.options.«partial» ≡ Off }
         requires from { from ≤ at }
@@ -181,7 +203,7 @@ impl Rewriting<'_> {
         let options = matching_at(&self.options, again);
         match self
             .code
-            .match_at(self.subject, at, &options, scratch, &mut NoCallouts)
+            .match_again(self.subject, at, &options, scratch, &mut NoCallouts)
         {
             Ok(found) => {
                 self.add(out, from, &found)?;
@@ -226,9 +248,9 @@ impl Rewriting<'_> {
         start: usize,
         scratch: &mut Scratch,
     ) -> Result<Substituted, SubstError>
+        requires checked { IsChecked self.now.code.now.tree.options.utf self.now.subject.now }
         requires short { length self.now.subject.now < 4294967295 }
         requires off { self.now.options.«partial» ≡ Off }
-        requires start { start ≤ length self.now.subject.now }
         ensures replaced { IfOk result (λ s.
             all_replaced (work_of self.now) self.now.options start ≡ Ok s) }
         ensures refused { IfErr result (Refuses
@@ -249,7 +271,7 @@ impl Rewriting<'_> {
                     again = is_empty;
                 }
                 Search::Nothing if again && at < self.subject.len() => {
-                    at += step(self.code, self.subject, at);
+                    at = place_behind(self.code, self.subject, at);
                     again = false;
                 }
                 Search::Nothing => return self.finish(text, from, count),
@@ -275,14 +297,24 @@ fn tell(e: MatchError) -> Result<Search, SubstError>
 {
     match e {
         MatchError::NoMatch { .. } => Ok(Search::Nothing),
-        MatchError::BadOffset => Err(SubstError::BadOffset),
-        MatchError::BadUtf { at } => Err(SubstError::BadUtf { at }),
-        MatchError::BadUtfOffset => Err(SubstError::BadUtfOffset),
-        MatchError::MatchLimit => Err(SubstError::MatchLimit),
-        MatchError::FrameLimit => Err(SubstError::FrameLimit),
-        MatchError::RecurseLoop => Err(SubstError::RecurseLoop),
-        MatchError::Partial { .. } | MatchError::Callout(_) | MatchError::Memory => {
-            Err(SubstError::Memory)
-        }
+        _ => Err(refusal_of(e)),
+    }
+}
+
+/// The refusal for an error of a search that isn't that there is no match.
+fn refusal_of(e: MatchError) -> SubstError
+    ensures { result ≡ search_refusal e }
+{
+    match e {
+        MatchError::BadOffset => SubstError::BadOffset,
+        MatchError::BadUtf { at } => SubstError::BadUtf { at },
+        MatchError::BadUtfOffset => SubstError::BadUtfOffset,
+        MatchError::MatchLimit => SubstError::MatchLimit,
+        MatchError::FrameLimit => SubstError::FrameLimit,
+        MatchError::RecurseLoop => SubstError::RecurseLoop,
+        MatchError::NoMatch { .. }
+        | MatchError::Partial { .. }
+        | MatchError::Callout(_)
+        | MatchError::Memory => SubstError::Memory,
     }
 }

@@ -2,6 +2,7 @@ ghost use Rattle.pat_tree.specs.declared.options.PartialMode.TheVariants.{Off};
 ghost use Rattle.std.specs.Prelude.{◌≡◌};
 
 mod substitutions;
+mod utf;
 
 use crate::{Code, CompileError, MatchError, fault_text};
 use frame_machine::Scratch;

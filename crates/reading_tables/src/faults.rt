@@ -300,12 +300,6 @@ fn faults_of_properties(rt: HostRuntime) {
 }
 
 #[test]
-fn what_is_not_built(rt: HostRuntime) {
-    static ROWS: [(&'static str, i32, usize); 2] = [("(*UTF)a", 195, 0), ("(*CR)(*UCP)a", 195, 0)];
-    are_refused(&rt, rt.alloc(), &ROWS);
-}
-
-#[test]
 fn what_is_not_built_or_left_out(rt: HostRuntime) {
     static ROWS: [(&'static str, i32, usize); 18] = [
         ("a(*ACCEPT)", 195, 1),
@@ -471,15 +465,6 @@ fn is_refused(
 
 #[test]
 fn options_that_are_not_built(rt: HostRuntime) {
-    let mut utf = PLAIN;
-    utf.utf = true;
-    is_refused(&rt, rt.alloc(), utf, "a", 195, 0);
-    utf.literal = true;
-    is_refused(&rt, rt.alloc(), utf, "a", 195, 0);
-    let mut ucp = PLAIN;
-    ucp.ucp = true;
-    is_refused(&rt, rt.alloc(), ucp, "a", 195, 0);
-    is_refused(&rt, rt.alloc(), ucp, "a(", 114, 2);
     let mut auto_callout = PLAIN;
     auto_callout.auto_callout = true;
     is_refused(&rt, rt.alloc(), auto_callout, "(*FOO)", 195, 0);

@@ -1,7 +1,7 @@
 //! Patterns in UTF and UCP (pcre2unicode).
 use crate::answers::fault_of;
 use crate::shown::shown;
-use pat_build::read_whole;
+use pat_build::read;
 use pat_tree::Options;
 use std::alloc::Global;
 use std::process::Abort;
@@ -20,7 +20,7 @@ fn are_read(
     rows: &[(&str, &str)],
 ) -> Result<(), Fail> {
     for (pattern, expected) in rows {
-        let tree = read_whole(alloc, pattern.as_bytes(), options)?;
+        let tree = read(alloc, pattern.as_bytes(), options)?;
         let text = shown(alloc, &tree)?;
         assert_eq!(rt; text.as_str(), *expected, "{pattern}");
     }

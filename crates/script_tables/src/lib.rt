@@ -46,4 +46,6 @@ mod unbuilt;
 #[cfg(test)]
 mod unknown;
 #[cfg(test)]
+mod utf;
+#[cfg(test)]
 mod worked;

@@ -122,6 +122,10 @@ pub(crate) fn searched(
     let tree = read(alloc, pattern, options)?;
     // so the tree has the forms that are searched
     what_is_read_can_be_searched();
+    // the rows are searched byte by byte
+    if tree.options().utf {
+        return Ok((MatchAnswer::NoMatch { mark: None }, None));
+    }
     let classes = ClassTable::build(alloc, &tree)?;
     let facts = check(alloc, &tree, &classes)?;
     let answer = answer_of(&tree, &classes, &facts, subject, start, matching, scratch);

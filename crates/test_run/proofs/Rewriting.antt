@@ -29,12 +29,12 @@ is-refused r refusal.NoGroup some h = h
 is-refused r refusal.Unset some h = h
 is-refused r refusal.Memory some h = absurd (some refl)
 
-module _ (r : Result Substituted SubstError) where
-  pub text-done : (s : Substituted) → r ≡ Ok s → done_line s ≡ replaced_text r
-  text-done s e = sym (ap replaced_text e)
+module _ (utf : Bool) (r : Result Substituted SubstError) where
+  pub text-done : (s : Substituted) → r ≡ Ok s → done_line utf s ≡ replaced_text utf r
+  text-done s e = sym (ap (replaced_text utf) e)
 
-  pub text-refused : (e : SubstError) → (e ≡ refusal.Memory → ⊥) → Refuses r e → unreplaced_line e ≡ replaced_text r
-  text-refused e some h = sym (ap replaced_text (is-refused r e some h))
+  pub text-refused : (e : SubstError) → (e ≡ refusal.Memory → ⊥) → Refuses r e → unreplaced_line e ≡ replaced_text utf r
+  text-refused e some h = sym (ap (replaced_text utf) (is-refused r e some h))
 
 -- What becomes of a subject line, by whether a replacement is given.
 module _ (p : Pattern) (names : List NameEntry) (m : Modifiers) (s : SubjectEntry) (built : is_unbuilt s.modifiers ≡ false) where

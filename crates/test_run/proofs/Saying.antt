@@ -9,24 +9,25 @@ use Rattle.pcre2_api.specs.declared.subst_error.SubstError.{SubstError}
 use Rattle.pcre2_api.specs.declared.error.MatchError.{MatchError}
 use Rattle.script_modifiers.specs.declared.refusal.Refusal.TheVariants.{UnknownModifier, BadModifierValue}
 use Rattle.tool_out.specs.Texts.{line, text_if}
-use Rattle.test_run.specs.Lines.{fault_line, failed_line, groups_line, lookbehind_line, refusal_line, unreplaced_line}
+use Rattle.test_run.specs.Lines.{fault_line, failed_line, place_text, groups_line, lookbehind_line, refusal_line, refusal_place, unreplaced_line}
 
 pub fault-text : (number : ℤ) (at : ℕ) (code place text : List ℕ) → code ≡ signed_decimal number → place ≡ decimal at → text ≡ fault_text number
     → codes "Failed: error " ++ (code ++ (codes " at offset " ++ (place ++ (codes ": " ++ (text ++ (codes "\n" ++ [])))))) ≡ fault_line number at
 fault-text number at code place text c p t =
     (λ i. codes "Failed: error " ++ (c i ++ (codes " at offset " ++ (p i ++ (codes ": " ++ (t i ++ (codes "\n" ++ []))))))) ∙ simp (append_assoc, append-nil)
 
-error-text : (number : ℤ) (said code text : List ℕ) → code ≡ signed_decimal number → text ≡ said
-    → codes "Failed: error " ++ (code ++ (codes ": " ++ (text ++ (codes "\n" ++ [])))) ≡ line (codes "Failed: error " ++ signed_decimal number ++ codes ": " ++ said)
-error-text number said code text c t = (λ i. codes "Failed: error " ++ (c i ++ (codes ": " ++ (t i ++ (codes "\n" ++ []))))) ∙ simp (append_assoc, append-nil)
+error-text : (number : ℤ) (said more code text place : List ℕ) → code ≡ signed_decimal number → text ≡ said → place ≡ more
+    → codes "Failed: error " ++ (code ++ (codes ": " ++ (text ++ (place ++ (codes "\n" ++ []))))) ≡ line (codes "Failed: error " ++ signed_decimal number ++ codes ": " ++ said ++ more)
+error-text number said more code text place c t p =
+    (λ i. codes "Failed: error " ++ (c i ++ (codes ": " ++ (t i ++ (p i ++ (codes "\n" ++ [])))))) ∙ simp (append_assoc, append-nil)
 
-pub failed-text : (e : MatchError) (code text : List ℕ) → code ≡ signed_decimal (number_of e) → text ≡ text_of e
-    → codes "Failed: error " ++ (code ++ (codes ": " ++ (text ++ (codes "\n" ++ [])))) ≡ failed_line e
-failed-text e code text c t = error-text (number_of e) (text_of e) code text c t
+pub failed-text : (e : MatchError) (code text place : List ℕ) → code ≡ signed_decimal (number_of e) → text ≡ text_of e → place ≡ place_text e
+    → codes "Failed: error " ++ (code ++ (codes ": " ++ (text ++ (place ++ (codes "\n" ++ []))))) ≡ failed_line e
+failed-text e code text place c t p = error-text (number_of e) (text_of e) (place_text e) code text place c t p
 
-pub unreplaced-text : (e : SubstError) (code text : List ℕ) → code ≡ signed_decimal (subst.number_of e) → text ≡ subst.text_of e
-    → codes "Failed: error " ++ (code ++ (codes ": " ++ (text ++ (codes "\n" ++ [])))) ≡ unreplaced_line e
-unreplaced-text e code text c t = error-text (subst.number_of e) (subst.text_of e) code text c t
+pub unreplaced-text : (e : SubstError) (code text place : List ℕ) → code ≡ signed_decimal (subst.number_of e) → text ≡ subst.text_of e → place ≡ refusal_place e
+    → codes "Failed: error " ++ (code ++ (codes ": " ++ (text ++ (place ++ (codes "\n" ++ []))))) ≡ unreplaced_line e
+unreplaced-text e code text place c t p = error-text (subst.number_of e) (subst.text_of e) (refusal_place e) code text place c t p
 
 pub groups-text : (groups : ℕ) (count : List ℕ) → count ≡ decimal groups → codes "Capture group count = " ++ (count ++ (codes "\n" ++ [])) ≡ groups_line groups
 groups-text groups count c = (λ i. codes "Capture group count = " ++ (c i ++ (codes "\n" ++ []))) ∙ simp (append_assoc, append-nil)

@@ -60,11 +60,12 @@ pattern_text p =
 
 abbrev pub searched : Pattern → List ℕ → How → List ℕ
 searched p subject how =
-    matches_text subject (matches_from p how.matching subject how.global how.start)
+    matches_text p.options.utf subject (matches_from p how.matching subject how.global how.start)
 
 abbrev pub rewritten : Pattern → List NameEntry → List ℕ → How → SubstOptions → List ℕ → List ℕ
 rewritten p names subject how subst replacement =
-    replaced_text (substituted p names how.matching subst subject how.start replacement)
+    replaced_text p.options.utf
+    (substituted p names how.matching subst subject how.start replacement)
 
 -- where a replacement is given the matches are replaced, else they are shown
 abbrev pub tested_text : Pattern → List NameEntry → Modifiers → SubjectEntry → List ℕ

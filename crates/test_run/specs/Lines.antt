@@ -7,9 +7,11 @@ use Rattle.script_modifiers.specs.declared.refusal.Refusal.{Refusal}
 use Rattle.script_modifiers.specs.declared.refusal.Refusal.TheVariants.{BadLine, UnknownModifier, BadModifierValue, BadSubject}
 use Rattle.pcre2_api.specs.declared.code.Info.{Info}
 use Rattle.pcre2_api.specs.declared.error.MatchError.{MatchError}
+use Rattle.pcre2_api.specs.declared.error.MatchError.TheVariants as told
 use Rattle.pcre2_api.specs.MatchErrors.{number_of, text_of}
 use Rattle.pcre2_api.specs.SubstErrors as subst
 use Rattle.pcre2_api.specs.declared.subst_error.SubstError.{SubstError}
+use Rattle.pcre2_api.specs.declared.subst_error.SubstError.TheVariants as refusal
 use Rattle.pcre2_api.specs.declared.substitute.Substituted.{Substituted}
 use Rattle.pcre2_api.specs.FaultTexts.{fault_text}
 use Rattle.pcre2_api.specs.Walks.{Matches}
@@ -24,10 +26,16 @@ fault_line number at =
     line (codes "Failed: error " ++ signed_decimal number ++ codes " at offset " ++ decimal at
     ++ codes ": " ++ fault_text number)
 
+-- the place of a fault of UTF-8 in the subject
+abbrev pub place_text : MatchError → List ℕ
+place_text (told.BadUtf at) = decimal at
+place_text _ = []
+
 -- a search that fails
 abbrev pub failed_line : MatchError → List ℕ
 failed_line e =
-    line (codes "Failed: error " ++ signed_decimal (number_of e) ++ codes ": " ++ text_of e)
+    line (codes "Failed: error " ++ signed_decimal (number_of e) ++ codes ": " ++ text_of e
+    ++ place_text e)
 
 abbrev pub groups_line : ℕ → List ℕ
 groups_line groups = line (codes "Capture group count = " ++ decimal groups)
@@ -60,21 +68,28 @@ abbrev pub is_any : {A : Type 0} → List A → Bool
 is_any [] = false
 is_any (x ∷ xs) = true
 
--- the matches of a subject
-abbrev pub matches_text : List ℕ → Matches → List ℕ
-matches_text subject m =
-    flat_map (match_text subject) m.outcomes ++ end_text (is_any m.outcomes) m.ended
+-- the matches of a subject, in UTF or outside it
+abbrev pub matches_text : Bool → List ℕ → Matches → List ℕ
+matches_text utf subject m =
+    flat_map (match_text utf subject) m.outcomes ++ end_text (is_any m.outcomes) m.ended
 
--- Substitutions.
+-- Substitutions, in UTF or outside it.
 
-abbrev pub done_line : Substituted → List ℕ
-done_line s = line (number_before s.count ++ shown s.text)
+abbrev pub done_line : Bool → Substituted → List ℕ
+done_line utf s = line (number_before s.count ++ shown utf s.text)
+
+-- the place of a fault of UTF-8 in the subject or in the replacement
+abbrev pub refusal_place : SubstError → List ℕ
+refusal_place (refusal.BadUtf at) = decimal at
+refusal_place (refusal.ReplacementUtf at) = decimal at
+refusal_place _ = []
 
 abbrev pub unreplaced_line : SubstError → List ℕ
 unreplaced_line e =
-    line (codes "Failed: error " ++ signed_decimal (subst.number_of e) ++ codes ": " ++ subst.text_of e)
+    line (codes "Failed: error " ++ signed_decimal (subst.number_of e) ++ codes ": "
+    ++ subst.text_of e ++ refusal_place e)
 
 -- the number of replacements and the text, or why there is none
-abbrev pub replaced_text : Result Substituted SubstError → List ℕ
-replaced_text (Ok s) = done_line s
-replaced_text (Err e) = unreplaced_line e
+abbrev pub replaced_text : Bool → Result Substituted SubstError → List ℕ
+replaced_text utf (Ok s) = done_line utf s
+replaced_text utf (Err e) = unreplaced_line e

@@ -15,10 +15,10 @@ use Rattle.pcre2_api.specs.Walks.{Answer, found, none, failed, Matches}
 use Rattle.test_run.specs.Shown.{match_text}
 
 -- what a search writes
-abbrev pub answer_text : List ℕ → Answer → List ℕ
-answer_text subject (found o) = match_text subject o
-answer_text subject none = []
-answer_text subject (failed e) = failed_line e
+abbrev pub answer_text : Bool → List ℕ → Answer → List ℕ
+answer_text utf subject (found o) = match_text utf subject o
+answer_text utf subject none = []
+answer_text utf subject (failed e) = failed_line e
 
 -- what is told of a search in a subject of this length
 abbrev pub IsSearch : ℕ → Search → Answer → Type 0
@@ -45,9 +45,9 @@ TellsError told.Memory s = ⊥
 TellsError e s = s ≡ search.Failed
 
 -- what matches write after others were shown
-abbrev pub rest_text : List ℕ → Bool → Matches → List ℕ
-rest_text subject is_shown m =
-    flat_map (match_text subject) m.outcomes ++ end_text (is_shown || is_any m.outcomes) m.ended
+abbrev pub rest_text : Bool → List ℕ → Bool → Matches → List ℕ
+rest_text utf subject is_shown m =
+    flat_map (match_text utf subject) m.outcomes ++ end_text (is_shown || is_any m.outcomes) m.ended
 
 -- what subject lines are searched for, where the pattern is compiled
 abbrev pub course_of : Kept → Course

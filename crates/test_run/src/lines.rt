@@ -1,6 +1,6 @@
 //! Lines about patterns and script lines.
 ghost use Rattle.std.specs.Prelude.{◌≡◌};
-ghost use Rattle.test_run.specs.Lines.{failed_line, fault_line, groups_line, lookbehind_line, info_text, refusal_line, unbuilt_line, unreplaced_line};
+ghost use Rattle.test_run.specs.Lines.{failed_line, fault_line, groups_line, lookbehind_line, info_text, place_text, refusal_line, refusal_place, unbuilt_line, unreplaced_line};
 ghost use Rattle.tool_out.specs.Writes.{Writes};
 
 use itoa::Buffer;
@@ -29,11 +29,22 @@ pub fn write_fault<O: Sink>(out: &mut O, number: i32, at: usize) -> Result<(), I
     )
 }
 
+// The place of a fault of UTF-8 in the subject.
+fn place_text(e: MatchError, room: &mut Buffer) -> &[u8]
+    ensures { result.now ≡ place_text e }
+{
+    match e {
+        MatchError::BadUtf { at } => room.format(at).as_bytes(),
+        _ => b"",
+    }
+}
+
 /// Writes why a search gives neither a match nor that there is none.
 pub fn write_failed<O: Sink>(out: &mut O, e: MatchError) -> Result<(), IoError>
     ensures { Writes (failed_line e) (O.tells out.old) (O.tells out.new) result }
 {
     let mut number = Buffer::new();
+    let mut place = Buffer::new();
     write_texts(
         out,
         &[
@@ -41,9 +52,20 @@ pub fn write_failed<O: Sink>(out: &mut O, e: MatchError) -> Result<(), IoError>
             number.format(e.number()).as_bytes(),
             b": ",
             e.text(),
+            place_text(e, &mut place),
             b"\n",
         ],
     )
+}
+
+// The place of a fault of UTF-8 in the subject or in the replacement.
+fn refusal_place(e: SubstError, room: &mut Buffer) -> &[u8]
+    ensures { result.now ≡ refusal_place e }
+{
+    match e {
+        SubstError::BadUtf { at } | SubstError::ReplacementUtf { at } => room.format(at).as_bytes(),
+        _ => b"",
+    }
 }
 
 /// Writes why a subject isn't rewritten.
@@ -51,6 +73,7 @@ pub fn write_unreplaced<O: Sink>(out: &mut O, e: SubstError) -> Result<(), IoErr
     ensures { Writes (unreplaced_line e) (O.tells out.old) (O.tells out.new) result }
 {
     let mut number = Buffer::new();
+    let mut place = Buffer::new();
     write_texts(
         out,
         &[
@@ -58,6 +81,7 @@ pub fn write_unreplaced<O: Sink>(out: &mut O, e: SubstError) -> Result<(), IoErr
             number.format(e.number()).as_bytes(),
             b": ",
             e.text(),
+            refusal_place(e, &mut place),
             b"\n",
         ],
     )

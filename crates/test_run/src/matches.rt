@@ -1,11 +1,12 @@
 //! The matches of a subject.
-ghost use Rattle.std.specs.Prelude.{◌≡◌, ◌<◌, ◌≤◌, length, true, None, IfOk, if◌then◌else◌};
+ghost use Rattle.std.specs.Prelude.{◌≡◌, ◌<◌, length, true, None, IfOk};
 ghost use Rattle.std.specs.Option.{option_copied};
 ghost use Rattle.pat_tree.specs.declared.options.PartialMode.TheVariants.{Off};
 ghost use Rattle.pat_tree.specs.Pattern.{pattern_of};
 ghost use Rattle.test_run.specs.declared.matches.Search.TheVariants.{Failed};
 ghost use Rattle.test_run.specs.Lines.{end_text, failed_line, matches_text};
-ghost use Rattle.pcre2_api.specs.Walks.{answer_at, matching_at, is_crlf, first_from, matches_from};
+ghost use Rattle.uni_text.specs.Characters.{IsChecked};
+ghost use Rattle.pcre2_api.specs.Walks.{answer_at, first_from, matches_from};
 ghost use Rattle.test_run.specs.Searches.{answer_text, error_text, IsSearch, TellsError, TellsMatch};
 ghost use Rattle.test_run.specs.Shown.{shown_or_unset, group_line, match_text};
 ghost use Rattle.tool_out.specs.Writes.{Writes};
@@ -14,7 +15,9 @@ use crate::lines::write_failed;
 use crate::options::How;
 use crate::shown::{write_number, write_shown};
 use pcre_io::{IoError, Sink};
-use pcre2_api::{Code, Found, MatchError, MatchOptions, NoCallouts, Scratch, matching_at, step};
+use pcre2_api::{
+    Code, Found, MatchError, MatchOptions, NoCallouts, Scratch, matching_at, place_behind,
+};
 use tool_out::write_texts;
 
 /// What a search comes to.
@@ -27,30 +30,30 @@ enum Search {
 }
 
 // Writes the text of a group, or that it is unset.
-fn write_text<O: Sink>(out: &mut O, text: Option<&[u8]>) -> Result<(), IoError>
-    ensures { Writes (shown_or_unset (option_copied text.entry)) (O.tells out.old) (O.tells out.new)
-        result }
+fn write_text<O: Sink>(out: &mut O, text: Option<&[u8]>, utf: bool) -> Result<(), IoError>
+    ensures { Writes (shown_or_unset utf (option_copied text.entry)) (O.tells out.old)
+        (O.tells out.new) result }
 {
     match text {
-        Some(text) => write_shown(out, text),
+        Some(text) => write_shown(out, text, utf),
         None => write_texts(out, &[b"<unset>"]),
     }
 }
 
 // Writes a group of a match.
 fn write_group<O: Sink>(out: &mut O, found: &Found<'_>, n: u32) -> Result<(), IoError>
-    ensures { Writes (group_line found.now.subject found.now.outcome n) (O.tells out.old)
-        (O.tells out.new) result }
+    ensures { Writes (group_line found.now.code.tree.options.utf found.now.subject
+        found.now.outcome n) (O.tells out.old) (O.tells out.new) result }
 {
     write_number(out, n)?;
-    write_text(out, found.group(n))?;
+    write_text(out, found.group(n), found.is_utf())?;
     write_texts(out, &[b"\n"])
 }
 
 // Writes a match: its text, and its groups up to the greatest that is set.
 fn write_match<O: Sink>(out: &mut O, found: &Found<'_>) -> Result<(), IoError>
-    ensures { Writes (match_text found.now.subject found.now.outcome) (O.tells out.old)
-        (O.tells out.new) result }
+    ensures { Writes (match_text found.now.code.tree.options.utf found.now.subject
+        found.now.outcome) (O.tells out.old) (O.tells out.new) result }
 {
     let top = found.top();
     for n in 0..top {
@@ -90,7 +93,8 @@ fn tell_error<O: Sink>(out: &mut O, e: MatchError) -> Result<Search, IoError>
     }
 }
 
-// Searches from a place on, and writes the match, or why the search failed.
+// Searches a subject that was tested from a place on, and writes the match, or why the search
+// failed.
 fn search_from<O: Sink>(
     out: &mut O,
     code: &Code,
@@ -99,14 +103,16 @@ fn search_from<O: Sink>(
     options: &MatchOptions,
     scratch: &mut Scratch,
 ) -> Result<Search, IoError>
+    requires checked { IsChecked code.now.tree.options.utf subject.now }
     requires short { length subject.now < 4294967295 }
     requires off { options.now.«partial» ≡ Off }
-    ensures wrote { Writes (answer_text subject.now (answer_at (pattern_of code.now.tree)
-        options.now subject.now start)) (O.tells out.old) (O.tells out.new) result }
+    ensures wrote { Writes (answer_text code.now.tree.options.utf subject.now
+        (answer_at (pattern_of code.now.tree) options.now subject.now start))
+        (O.tells out.old) (O.tells out.new) result }
     ensures comes { IfOk result (λ s. IsSearch (length subject.now) s
         (answer_at (pattern_of code.now.tree) options.now subject.now start)) }
 {
-    match code.match_at(subject, start, options, scratch, &mut NoCallouts) {
+    match code.match_again(subject, start, options, scratch, &mut NoCallouts) {
         Ok(found) => {
             write_match(out, &found)?;
             Ok(found_at(&found))
@@ -133,10 +139,12 @@ fn write_first<O: Sink>(
     how: &How,
     scratch: &mut Scratch,
 ) -> Result<(), IoError>
+    requires checked { IsChecked code.now.tree.options.utf subject.now }
     requires short { length subject.now < 4294967295 }
     requires off { how.now.matching.«partial» ≡ Off }
-    ensures { Writes (matches_text subject.now (first_from (pattern_of code.now.tree)
-        how.now.matching subject.now how.now.start)) (O.tells out.old) (O.tells out.new) result }
+    ensures { Writes (matches_text code.now.tree.options.utf subject.now (first_from
+        (pattern_of code.now.tree) how.now.matching subject.now how.now.start)) (O.tells out.old)
+        (O.tells out.new) result }
 {
     match search_from(
         out,
@@ -159,11 +167,12 @@ fn write_all_matches<O: Sink>(
     how: &How,
     scratch: &mut Scratch,
 ) -> Result<(), IoError>
+    requires checked { IsChecked code.now.tree.options.utf subject.now }
     requires short { length subject.now < 4294967295 }
     requires off { how.now.matching.«partial» ≡ Off }
-    ensures { Writes (matches_text subject.now (matches_from (pattern_of code.now.tree)
-        how.now.matching subject.now true how.now.start)) (O.tells out.old) (O.tells out.new)
-        result }
+    ensures { Writes (matches_text code.now.tree.options.utf subject.now (matches_from
+        (pattern_of code.now.tree) how.now.matching subject.now true how.now.start))
+        (O.tells out.old) (O.tells out.new) result }
 {
     let mut at = how.start as usize;
     let mut again = false;
@@ -177,7 +186,7 @@ fn write_all_matches<O: Sink>(
                 again = is_empty;
             }
             Search::Nothing if again && at < subject.len() => {
-                at += step(code, subject, at);
+                at = place_behind(code, subject, at);
                 again = false;
             }
             Search::Nothing => return write_end(out, is_shown),
@@ -188,7 +197,7 @@ fn write_all_matches<O: Sink>(
 }
 
 /// Searches a subject, and writes its first match or all of them (pcre2test, "Finding all matches
-/// in a string").
+/// in a string"), or why the first search can't begin.
 pub fn write_matches<O: Sink>(
     out: &mut O,
     code: &Code,
@@ -198,10 +207,13 @@ pub fn write_matches<O: Sink>(
 ) -> Result<(), IoError>
     requires short { length subject.now < 4294967295 }
     requires off { how.now.matching.«partial» ≡ Off }
-    ensures { Writes (matches_text subject.now (matches_from (pattern_of code.now.tree)
-        how.now.matching subject.now how.now.global how.now.start)) (O.tells out.old)
-        (O.tells out.new) result }
+    ensures { Writes (matches_text code.now.tree.options.utf subject.now (matches_from
+        (pattern_of code.now.tree) how.now.matching subject.now how.now.global how.now.start))
+        (O.tells out.old) (O.tells out.new) result }
 {
+    if let Err(e) = code.test_start(subject, how.start as usize) {
+        return write_failed(out, e);
+    }
     if how.global {
         write_all_matches(out, code, subject, how, scratch)
     } else {

@@ -1,5 +1,5 @@
 //! Subjects whose matches are replaced.
-ghost use Rattle.std.specs.Prelude.{◌<◌, length, Result};
+ghost use Rattle.std.specs.Prelude.{◌<◌, Bool, length, Result};
 ghost use Rattle.pat_tree.specs.Pattern.{pattern_of};
 ghost use Rattle.pcre2_api.specs.Substituted.{Refuses};
 ghost use Rattle.pcre2_api.specs.declared.subst_error.SubstError.{SubstError};
@@ -17,18 +17,18 @@ use std::alloc::Global;
 use tool_out::write_texts;
 
 // Writes a subject that was rewritten.
-fn write_done<O: Sink>(out: &mut O, done: &Substituted) -> Result<(), IoError>
-    ensures { Writes (done_line done.now) (O.tells out.old) (O.tells out.new) result }
+fn write_done<O: Sink>(out: &mut O, done: &Substituted, utf: bool) -> Result<(), IoError>
+    ensures { Writes (done_line utf done.now) (O.tells out.old) (O.tells out.new) result }
 {
     write_count(out, done.count)?;
-    write_shown(out, done.text.bytes())?;
+    write_shown(out, done.text.bytes(), utf)?;
     write_texts(out, &[b"\n"])
 }
 
 // Writes why a subject isn't rewritten. Of want of memory nothing is written.
 fn write_refused<O: Sink>(out: &mut O, e: SubstError) -> Result<(), IoError>
-    ensures { (given : Result Substituted SubstError) → Refuses given e
-        → Writes (replaced_text given) (O.tells out.old) (O.tells out.new) result }
+    ensures { (utf : Bool) (given : Result Substituted SubstError) → Refuses given e
+        → Writes (replaced_text utf given) (O.tells out.old) (O.tells out.new) result }
 {
     match e {
         SubstError::Memory => Err(IoError::Memory),
@@ -61,7 +61,7 @@ pub fn write_replaced<O: Sink>(
         replacement,
         scratch,
     ) {
-        Ok(done) => write_done(out, &done),
+        Ok(done) => write_done(out, &done, code.options().utf),
         Err(e) => write_refused(out, e),
     }
 }

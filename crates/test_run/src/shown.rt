@@ -1,16 +1,19 @@
 //! Texts of subjects, as they are shown.
-ghost use Rattle.std.specs.Prelude.{◌≡◌, ◌<◌};
-ghost use Rattle.test_run.specs.Shown.{is_plain, hex_digit, code_of, shown_byte, shown, number_before};
+ghost use Rattle.std.specs.Prelude.{◌≡◌, ◌<◌, ◌%◌, true, IsTrue, IsUtf8};
+ghost use Rattle.test_run.specs.Shown.{is_plain, hex_digit, code_of, char_code_of, shown_byte, shown_bytes, shown_char, shown_chars, shown, number_before};
 ghost use Rattle.tool_out.specs.Writes.{Writes};
 
 use itoa::Buffer;
 use pcre_io::{IoError, Sink};
+use pcre2_api::is_text;
 use tool_out::{text_if, write_texts};
+use uni_text::char_at;
 
-fn is_plain(byte: u8) -> bool
-    ensures { result ≡ is_plain byte }
+fn is_plain(code: u32) -> bool
+    ensures plain { result ≡ is_plain code }
+    ensures small { IsTrue result → code < 127 }
 {
-    matches!(byte, b' '..=b'~')
+    matches!(code, 32..=126)
 }
 
 // A digit of a number below 16.
@@ -33,22 +36,91 @@ fn write_code<O: Sink>(out: &mut O, byte: u8) -> Result<(), IoError>
 fn write_byte<O: Sink>(out: &mut O, byte: u8) -> Result<(), IoError>
     ensures { Writes (shown_byte byte) (O.tells out.old) (O.tells out.new) result }
 {
-    if is_plain(byte) {
+    if is_plain(byte as u32) {
         write_texts(out, &[&[byte]])
     } else {
         write_code(out, byte)
     }
 }
 
-/// Writes a text: bytes from 32 to 126 as they are, and others by their codes (pcre2test, "DEFAULT
-/// OUTPUT FROM pcre2test").
-pub fn write_shown<O: Sink>(out: &mut O, text: &[u8]) -> Result<(), IoError>
-    ensures { Writes (shown text.now) (O.tells out.old) (O.tells out.new) result }
+// The last digit of a number in base 16.
+fn last_digit(n: u32) -> u8
+    ensures { result ≡ hex_digit (n % 16) }
+{
+    hex_digit((n % 16) as u8)
+}
+
+// Writes a character that isn't shown as it is, by its code.
+fn write_char_code<O: Sink>(out: &mut O, code: u32) -> Result<(), IoError>
+    ensures { Writes (char_code_of code) (O.tells out.old) (O.tells out.new) result }
+{
+    write_texts(
+        out,
+        &[
+            b"\\x{",
+            text_if(1_048_575 < code, &[last_digit(code / 1_048_576)]),
+            text_if(65_535 < code, &[last_digit(code / 65_536)]),
+            text_if(4_095 < code, &[last_digit(code / 4_096)]),
+            text_if(255 < code, &[last_digit(code / 256)]),
+            &[last_digit(code / 16), last_digit(code)],
+            b"}",
+        ],
+    )
+}
+
+fn write_char<O: Sink>(out: &mut O, code: u32) -> Result<(), IoError>
+    ensures { Writes (shown_char code) (O.tells out.old) (O.tells out.new) result }
+{
+    if is_plain(code) {
+        write_texts(out, &[&[code as u8]])
+    } else {
+        write_char_code(out, code)
+    }
+}
+
+fn write_bytes<O: Sink>(out: &mut O, text: &[u8]) -> Result<(), IoError>
+    ensures { Writes (shown_bytes text.now) (O.tells out.old) (O.tells out.new) result }
 {
     for byte in text {
         write_byte(out, *byte)?;
     }
     Ok(())
+}
+
+fn write_chars<O: Sink>(out: &mut O, text: &[u8]) -> Result<(), IoError>
+    requires { IsUtf8 text.now }
+    ensures { Writes (shown_chars text.now) (O.tells out.old) (O.tells out.new) result }
+{
+    let mut at = 0;
+    'chars: while at < text.len() {
+        let (code, after) = char_at(text, at, true);
+        write_char(out, code)?;
+        at = after;
+    }
+    Ok(())
+}
+
+// Writes a text in UTF.
+fn write_in_utf<O: Sink>(out: &mut O, text: &[u8]) -> Result<(), IoError>
+    ensures { Writes (shown true text.now) (O.tells out.old) (O.tells out.new) result }
+{
+    if is_text(text) {
+        write_chars(out, text)
+    } else {
+        write_bytes(out, text)
+    }
+}
+
+/// Writes a text: characters from 32 to 126 as they are, and others by their codes (pcre2test,
+/// "DEFAULT OUTPUT FROM pcre2test"). Outside UTF each byte is a character.
+pub fn write_shown<O: Sink>(out: &mut O, text: &[u8], utf: bool) -> Result<(), IoError>
+    ensures { Writes (shown utf text.now) (O.tells out.old) (O.tells out.new) result }
+{
+    if utf {
+        write_in_utf(out, text)
+    } else {
+        write_bytes(out, text)
+    }
 }
 
 /// Writes the number of a group, right in two places, and what stands after it.

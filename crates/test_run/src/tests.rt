@@ -87,6 +87,22 @@ fn runs_stop_at_faults(rt: HostRuntime) -> Result<(), Fail> {
 }
 
 #[test]
+fn a_replacement_in_utf_is_utf8(rt: HostRuntime) -> Result<(), Fail> {
+    let script = b"/a/utf,replace=b\xff\na\n";
+    let mut source = MemSource::new(Vec::from_slice(rt.alloc(), script)?, None, 7);
+    let mut out = MemSink::new(rt.alloc(), None, 100);
+    assert_eq!(rt;
+        run_script(rt.alloc(), &plain(), &mut source, &mut out),
+        Ok(())
+    );
+    assert_eq!(rt;
+        out.bytes(),
+        b"/a/utf,replace=b\xff\na\nFailed: error -3: invalid UTF-8 at offset 1\n".as_slice()
+    );
+    Ok(())
+}
+
+#[test]
 fn a_line_may_be_too_long(rt: HostRuntime) -> Result<(), Fail> {
     let mut input = Vec::from_slice(rt.alloc(), b"# a\n")?;
     for _ in 0..1_048_577 {

@@ -1,4 +1,4 @@
--- What is kept from state to state: UCP isn't set.
+-- What is kept from state to state: nothing yet.
 use Rattle.std.proofs.Common.{◌≡◌, ℕ, zero, suc, Bool, true, false, List, [], ◌∷◌, Option, Some, None, Ok, nat_lt, slice_range, if◌then◌else◌}
 use Rattle.pat_tree.specs.declared.options.Options.{Options}
 use Rattle.pat_tree.specs.declared.nodes.Part.{Part}
@@ -13,7 +13,7 @@ use Rattle.pat_build.specs.Classes.{character, is_last, property_part, part_then
 use Rattle.pat_build.proofs.Holding.{Holds, holds_ok, holds_err, holds_then, holds_if, holds_any}
 
 abbrev pub Fits : Options → Type 0
-Fits options = options.ucp ≡ false
+Fits options = Unit {0}
 
 abbrev pub Keeps : State → Type 0
 Keeps st = Fits st.options

@@ -27,8 +27,8 @@ use Rattle.token_parts.specs.declared.token.CondText.TheVariants as tested
 use Rattle.pat_build.specs.Groups.{Form, grouped, atomically, looks, conditional, defines, asserted, asserting, branched, barred, restarted, groups_after, has_name, is_elsewhere, is_other, unless_named, called_by, form_in, beyond_after, built, noted, Opening, Opens, opened, captured, named, reset, named_by, missing}
 use Rattle.pat_build.specs.Parts.{alternative, repeat_of, repeated, Beginning, atom, bare, inside, asserts, nothing, over, enters, Assertion, asserted_by, settled, assertion, assertions, of_class, type_class, any_or_line, boundary, is_number, number_called, called, calls, conditions, beginning}
 use Rattle.std.specs.Str.{is_utf8}
-use Rattle.pat_build.specs.Reading.{Parsed, quantified, closed, part_then, parts_from, alternatives_from, sequence, alternatives, whole, started, start, reading, characters, literally, checked, read_from, read_whole, unless_left_out, read}
-use Rattle.pat_build.specs.Searchable.{IsSearchable, SearchableLaw}
+use Rattle.pat_build.specs.Reading.{Parsed, quantified, closed, part_then, parts_from, alternatives_from, sequence, alternatives, whole, started, start, reading, characters, literally, checked, read_from, read}
+use Rattle.pat_build.specs.Searchable.{SearchableLaw}
 use Rattle.pat_build.proofs.Holding.{Holds, holds_ok, holds_err, holds_then, holds_if, holds_where, holds_any, holds_of}
 use Rattle.pat_build.specs.Classes.{property_part}
 use Rattle.pat_build.proofs.Searchable.Classes.{Fits, Keeps, KeepsAfter, next_keeps, KeepsSome, passed_keeps, ClassKeeps, class_keeps, ItemKeeps, item_keeps}
@@ -212,10 +212,6 @@ any_built : (dotall : Bool) → IsBuilt (any_or_line dotall)
 any_built true = tt
 any_built false = tt
 
-boundary_built : (opposite ucp : Bool) → ucp ≡ false → IsBuilt (anchor (boundary opposite ucp))
-boundary_built true ucp off = ap not off
-boundary_built false ucp off = ap not off
-
 with_class : (spec : ClassSpec) (after : State) → Keeps after → Begins (of_class spec after)
 with_class spec after h = (tt, h)
 
@@ -240,13 +236,13 @@ module _ (known : List NameEntry) (text : List ℕ) where
   begins n st (token.ClassStart negated) after h k =
       holds_then (ClassKeeps text) Begins _ _ (class_keeps text n negated after k)
       (λ r l. holds_ok Begins _ (with_class r.0 r.1 l))
-  begins n st token.Caret after h k = holds_ok Begins _ (refl, k)
-  begins n st token.Dollar after h k = holds_ok Begins _ (refl, k)
-  begins n st token.SubjectStart after h k = holds_ok Begins _ (refl, k)
-  begins n st token.SubjectEnd after h k = holds_ok Begins _ (refl, k)
-  begins n st token.EndOrNewline after h k = holds_ok Begins _ (refl, k)
-  begins n st token.StartGiven after h k = holds_ok Begins _ (refl, k)
-  begins n st (token.Boundary opposite) after h k = holds_ok Begins _ (boundary_built opposite st.options.ucp h, k)
+  begins n st token.Caret after h k = holds_ok Begins _ (tt, k)
+  begins n st token.Dollar after h k = holds_ok Begins _ (tt, k)
+  begins n st token.SubjectStart after h k = holds_ok Begins _ (tt, k)
+  begins n st token.SubjectEnd after h k = holds_ok Begins _ (tt, k)
+  begins n st token.EndOrNewline after h k = holds_ok Begins _ (tt, k)
+  begins n st token.StartGiven after h k = holds_ok Begins _ (tt, k)
+  begins n st (token.Boundary opposite) after h k = holds_ok Begins _ (tt, k)
   begins n st token.KeepOut after h k = holds_if Begins _ _ _ (holds_err Begins _) (holds_ok Begins _ (tt, k))
   begins n st (token.Reference target) after h k =
       holds_then (λ groups. Unit {0}) Begins (named_by known text st target) _ (holds_any _) (λ groups _. holds_ok Begins _ (tt, k))
@@ -398,63 +394,39 @@ reading_keeps known text st h =
     holds_then TreesKeep TreeKeeps (alternatives known text (2 * length text + 2) st) _ (alternatives_keep known text (2 * length text + 2) st h)
     (λ r k. whole_keeps text r.0 r.1 k.0 k.1)
 
--- what is read without UCP is built
-abbrev BuiltWithout : Parsed → Type 0
-BuiltWithout parsed = Fits parsed.options → IsBuilt parsed.tree
+-- what is read is built
+abbrev ParsedBuilt : Parsed → Type 0
+ParsedBuilt parsed = IsBuilt parsed.tree
 
-checked_built : (options : Options) (beyond bad : Option ℕ) (t : Nested) (last : State) → (Fits options → IsBuilt t) →
-    Holds BuiltWithout (checked options beyond bad t last)
-checked_built options (Some at) bad t last h = holds_err BuiltWithout _
-checked_built options None (Some at) t last h = holds_err BuiltWithout _
-checked_built options None None t last h = holds_ok BuiltWithout _ h
+checked_built : (options : Options) (beyond bad : Option ℕ) (t : Nested) (last : State) → IsBuilt t → Holds ParsedBuilt (checked options beyond bad t last)
+checked_built options (Some at) bad t last h = holds_err ParsedBuilt _
+checked_built options None (Some at) t last h = holds_err ParsedBuilt _
+checked_built options None None t last h = holds_ok ParsedBuilt _ h
 
--- the tree of a reading from a state without UCP
-abbrev TreeBuilt : State → Nested × State → Type 0
-TreeBuilt st r = Keeps st → IsBuilt r.0
-
-tree_built : (st : State) (r : Reads Nested) → (Keeps st → Holds TreeKeeps r) → Holds (TreeBuilt st) r
-unfolding Holds
-tree_built st (Ok r) h = λ off. (h off).0
-tree_built st (Err f) h = tt
-
-read_from_built : (text : List ℕ) (st : State) → Holds BuiltWithout (read_from text st)
+read_from_built : (text : List ℕ) (st : State) → Holds ParsedBuilt (read_from text st)
 unfolding read_from
 read_from_built text st =
-    holds_then (λ r. Unit {0}) BuiltWithout (reading [] text st) _ (holds_any _)
-    (λ first _. holds_then (TreeBuilt st) BuiltWithout (reading first.1.names text st) _ (tree_built st (reading first.1.names text st) (reading_keeps first.1.names text st))
-    (λ r k. checked_built st.options r.1.beyond (missing r.1.groups r.1.references) r.0 r.1 k))
+    holds_then (λ r. Unit {0}) ParsedBuilt (reading [] text st) _ (holds_any _)
+    (λ first _. holds_then TreeKeeps ParsedBuilt (reading first.1.names text st) _ (reading_keeps first.1.names text st tt)
+    (λ r k. checked_built st.options r.1.beyond (missing r.1.groups r.1.references) r.0 r.1 k.0))
 
 characters_built : (caseless : Bool) (text : List ℕ) → AllBuilt (map (λ c. one (item.Char c caseless)) text)
 characters_built caseless [] = tt
 characters_built caseless (c ∷ cs) = (tt, characters_built caseless cs)
 
-literally_built : (options : Options) (text : List ℕ) → BuiltWithout (literally options text)
+literally_built : (options : Options) (text : List ℕ) → ParsedBuilt (literally options text)
 unfolding literally
-literally_built options text off = (alternative_built _ (characters_built options.caseless (characters options.utf text)), tt)
+literally_built options text = (alternative_built _ (characters_built options.caseless (characters options.utf text)), tt)
 
-whole_built : (options : Options) (text : List ℕ) → Holds BuiltWithout (read_whole options text)
-whole_built options text =
-    holds_if BuiltWithout (nat_lt 65536 (length text)) _ _ (holds_err BuiltWithout _)
-    (holds_if BuiltWithout options.auto_callout _ _ (holds_err BuiltWithout _)
-    (holds_if BuiltWithout options.literal _ _
-    (holds_if BuiltWithout (options.utf && not (is_utf8 text)) _ _ (holds_err BuiltWithout _) (holds_ok BuiltWithout _ (literally_built options text)))
-    (holds_then (λ st. Unit {0}) BuiltWithout (started text (length text + 1) (start options)) _ (holds_any _)
-    (λ st _. holds_if BuiltWithout (st.options.utf && not (is_utf8 text)) _ _ (holds_err BuiltWithout _) (read_from_built text st)))))
-
-neither : (a b : Bool) → (a || b) ≡ false → (a ≡ false) × (b ≡ false)
-neither true b none = cc
-neither false b none = (refl, none)
-
-within_searchable : (parsed : Parsed) → BuiltWithout parsed → Holds IsSearchable (unless_left_out parsed)
-within_searchable parsed built =
-    holds_where IsSearchable (parsed.options.utf || parsed.options.ucp) _ _ (holds_err IsSearchable _) (λ none.
-    let off = neither parsed.options.utf parsed.options.ucp none in
-    holds_ok IsSearchable parsed (record { built = built off.1; without_utf = off.0; without_ucp = off.1 }))
-
-read_searchable : (options : Options) (text : List ℕ) → Holds IsSearchable (read options text)
+read_built : (options : Options) (text : List ℕ) → Holds ParsedBuilt (read options text)
 unfolding read
-read_searchable options text =
-    holds_then BuiltWithout IsSearchable (read_whole options text) unless_left_out (whole_built options text) within_searchable
+read_built options text =
+    holds_if ParsedBuilt (nat_lt 65536 (length text)) _ _ (holds_err ParsedBuilt _)
+    (holds_if ParsedBuilt options.auto_callout _ _ (holds_err ParsedBuilt _)
+    (holds_if ParsedBuilt options.literal _ _
+    (holds_if ParsedBuilt (options.utf && not (is_utf8 text)) _ _ (holds_err ParsedBuilt _) (holds_ok ParsedBuilt _ (literally_built options text)))
+    (holds_then (λ st. Unit {0}) ParsedBuilt (started text (length text + 1) (start options)) _ (holds_any _)
+    (λ st _. holds_if ParsedBuilt (st.options.utf && not (is_utf8 text)) _ _ (holds_err ParsedBuilt _) (read_from_built text st)))))
 
 pub searchable_law : SearchableLaw
-searchable_law options text parsed is = holds_of IsSearchable (read options text) parsed (read_searchable options text) is
+searchable_law options text parsed is = record { built = holds_of ParsedBuilt (read options text) parsed (read_built options text) is }

@@ -356,6 +356,67 @@ fn text_before_the_start_is_kept(rt: HostRuntime) -> Result<(), Fail> {
 }
 
 /// Replacements where the second search meets the limit.
+/// Characters, and bytes that aren't UTF-8: those of the subject are told before those of the
+/// replacement, and these before the faults of its syntax.
+const IN_UTF: &[Row] = &[
+    (
+        b"(*UTF)x*",
+        "g",
+        b"-",
+        b"\xc3\xa9x\xe2\x82\xac",
+        Gives(4, b"-\xc3\xa9--\xe2\x82\xac-"),
+    ),
+    (
+        b"(*UTF).",
+        "g",
+        b"<$0>",
+        b"\xc3\xa9x",
+        Gives(2, b"<\xc3\xa9><x>"),
+    ),
+    (b"x*", "g", b"-", b"\xc3\xa9", Gives(3, b"-\xc3-\xa9-")),
+    (
+        b"(*UTF).",
+        "",
+        b"x",
+        b"a\xff",
+        Refused(SubstError::BadUtf { at: 1 }),
+    ),
+    (
+        b"(*UTF)a",
+        "",
+        b"\xff$",
+        b"\xff",
+        Refused(SubstError::BadUtf { at: 0 }),
+    ),
+    (
+        b"(*UTF)a",
+        "",
+        b"b\xff$",
+        b"a",
+        Refused(SubstError::ReplacementUtf { at: 1 }),
+    ),
+    (
+        b"(*UTF)a",
+        "l",
+        b"\xc3",
+        b"b",
+        Refused(SubstError::ReplacementUtf { at: 0 }),
+    ),
+    (
+        b"(*UTF)a",
+        "",
+        b"$",
+        b"a",
+        Refused(SubstError::BadReplacement),
+    ),
+    (b"a", "", b"\xff", b"a\xfe", Gives(1, b"\xff\xfe")),
+];
+
+#[test]
+fn characters_are_replaced_in_utf(rt: HostRuntime) -> Result<(), Fail> {
+    check_all(&rt, rt.alloc(), IN_UTF)
+}
+
 const LIMITED: &[Row] = &[
     (
         b"a|(x+x+)+y",

@@ -12,6 +12,7 @@ mod rooms;
 mod selection;
 mod sizes;
 mod usage;
+mod utf;
 
 use super::{File, Streams, Told, add_word, check, unfailing};
 use std::alloc::Global;

@@ -161,7 +161,7 @@ fn the_first_fault_is_told(rt: HostRuntime) -> Result<(), Fail> {
 #[test]
 fn patterns_that_are_refused(rt: HostRuntime) -> Result<(), Fail> {
     static FILES: [File; 1] = [("p", b"x\n*\n", None)];
-    static REFUSED: [Refused; 26] = [
+    static REFUSED: [Refused; 24] = [
         (
             "a(",
             "pattern 1: error 114 at offset 2: missing closing parenthesis",
@@ -195,16 +195,8 @@ fn patterns_that_are_refused(rt: HostRuntime) -> Result<(), Fail> {
             "pattern 3: error 109 at offset 0: quantifier does not follow a repeatable item",
         ),
         (
-            "-u x",
-            "pattern 1: error 195 at offset 0: not in this profile",
-        ),
-        (
-            "-uF x",
-            "pattern 1: error 195 at offset 0: not in this profile",
-        ),
-        (
-            "--utf -e x -e y",
-            "pattern 1: error 195 at offset 0: not in this profile",
+            "-u -e x -e \\C",
+            "pattern 2: error 195 at offset 0: not in this profile",
         ),
         (
             "x[a",

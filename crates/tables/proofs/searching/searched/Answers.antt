@@ -1,19 +1,23 @@
+use Rattle.std.proofs.Common.{subst, sym, inl, inr}
+use Rattle.std.proofs.lemmas.Bool.{cases_Bool}
 use Rattle.match_items.specs.Views.{fold_in}
+use Rattle.pat_check.specs.Known.{IsByteSet, lead_set_of}
 use Rattle.pat_build.specs.Machine.{parsed_of}
 use Rattle.tables.proofs.searching.searched.Goals as goal
-
-pub answer_of-answer-requires-clause-bytes : goal.answer_of-answer-requires-clause-bytes
-answer_of-answer-requires-clause-bytes c = (c.what_is_read_can_be_searched.ensures c.args.options c.args.pattern.now (parsed_of c.in_ok-tree.tree) c.in_ok-tree.ensures.ok).without_utf
 
 pub answer_of-answer-requires-clause-built : goal.answer_of-answer-requires-clause-built
 answer_of-answer-requires-clause-built c = (c.what_is_read_can_be_searched.ensures c.args.options c.args.pattern.now (parsed_of c.in_ok-tree.tree) c.in_ok-tree.ensures.ok).built
 
 pub answer_of-answer-requires-clause-facts : goal.answer_of-answer-requires-clause-facts
 answer_of-answer-requires-clause-facts c =
-    let kept = c.what_is_read_can_be_searched.ensures c.args.options c.args.pattern.now (parsed_of c.in_ok-tree.tree) c.in_ok-tree.ensures.ok in
     let told = c.in_ok-facts.ensures in
+    let t = c.in_ok-tree.tree in
+    let begins : IsByteSet c.in_ok-facts.facts.lead (lead_set_of t (fold_in t.options.utf)) = elim (cases_Bool t.options.utf) [
+      | inl on ↦ subst (λ utf. IsByteSet c.in_ok-facts.facts.lead (lead_set_of t (fold_in utf))) (sym on) (told.lead_in_utf on)
+      | inr off ↦ told.lead off (fold_in t.options.utf)
+    ] in
     record {
-      lead = told.lead kept.without_utf (fold_in c.in_ok-tree.tree.options.utf);
+      lead = begins;
       empty = told.empty;
       names = told.names;
       lookbehind = told.lookbehind;

@@ -9,5 +9,5 @@ pub returns : goal.returns
 returns g c =
     let fits : SFits w32 c.number.result = search rules in
     writes-same
-    (unreplaced-text c.args.e c.as_bytes.result.now c.text.result.now (c.as_bytes.ensures.value ∙ c.format.ensures.text ∙ ap signed_decimal (to_z-of_z w32 c.number.result fits ∙ c.number.ensures)) c.text.ensures)
+    (unreplaced-text c.args.e c.as_bytes.result.now c.text.result.now c.refusal_place.result.now (c.as_bytes.ensures.value ∙ c.format.ensures.text ∙ ap signed_decimal (to_z-of_z w32 c.number.result fits ∙ c.number.ensures)) c.text.ensures c.refusal_place.ensures)
     c.write_texts.ensures

@@ -15,13 +15,13 @@ returns-in_err-write_match-in-Ok-clause-wrote g c =
     let f = c.in-Ok.found in
     let e = c.in_err-write_match-in-Ok.field-0.0 in
     let same : c.from_residual.result ≡ Err e = search rules in
-    subst (λ r. Writes (answer_text subject (answer_at (pattern_of code.tree) matching subject c.args.start)) (g.O.Sink.tells c.args.out.now) (g.O.Sink.tells c.write_match.new.out) r) (sym same)
-    (writes-equal (text-found code matching subject c.args.start f c.in-Ok.ensures.found c.in-Ok.ensures.code.1) (refused-as {A = Unit {0}} e c.in_err-write_match-in-Ok.ensures))
+    subst (λ r. Writes (answer_text code.tree.options.utf subject (answer_at (pattern_of code.tree) matching subject c.args.start)) (g.O.Sink.tells c.args.out.now) (g.O.Sink.tells c.write_match.new.out) r) (sym same)
+    (writes-equal (text-found code matching subject c.args.start f c.in-Ok.ensures.found c.in-Ok.ensures.code.0 c.in-Ok.ensures.code.1) (refused-as {A = Unit {0}} e c.in_err-write_match-in-Ok.ensures))
 
 pub returns-in_ok-write_match-in-Ok-clause-wrote : goal.returns-in_ok-write_match-in-Ok-clause-wrote
 returns-in_ok-write_match-in-Ok-clause-wrote g c =
     let f = c.in-Ok.found in
-    writes-equal (text-found c.args.code.now c.args.options.now c.args.subject.now c.args.start f c.in-Ok.ensures.found c.in-Ok.ensures.code.1)
+    writes-equal (text-found c.args.code.now c.args.options.now c.args.subject.now c.args.start f c.in-Ok.ensures.found c.in-Ok.ensures.code.0 c.in-Ok.ensures.code.1)
     (writes-as {A = Unit {0}} _ c.found_at.result c.in_ok-write_match-in-Ok.ensures)
 
 pub returns-in_ok-write_match-in-Ok-clause-comes : goal.returns-in_ok-write_match-in-Ok-clause-comes

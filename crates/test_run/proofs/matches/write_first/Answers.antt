@@ -14,5 +14,5 @@ returns-in_err-search_from g c =
     let subject = c.args.subject.now in
     let e = c.in_err-search_from.field-0.0 in
     let same : c.from_residual.result ≡ Err e = search rules in
-    subst (λ r. Writes (matches_text subject (first_from p how.matching subject how.start)) (g.O.Sink.tells c.args.out.now) (g.O.Sink.tells c.search_from.new.out) r) (sym same)
+    subst (λ r. Writes (matches_text p.options.utf subject (first_from p how.matching subject how.start)) (g.O.Sink.tells c.args.out.now) (g.O.Sink.tells c.search_from.new.out) r) (sym same)
     (first-refused p how.matching subject how.start _ _ e (refused-as e c.in_err-search_from.ensures.wrote))

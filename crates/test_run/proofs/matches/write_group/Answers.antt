@@ -1,4 +1,4 @@
-use Rattle.std.proofs.Common.{◌≡◌, ◌++◌, [], ◌∷◌, Err, ap, sym, subst, rules}
+use Rattle.std.proofs.Common.{◌≡◌, ◌++◌, [], ◌∷◌, Err, sym, subst, rules}
 use Rattle.tool_out.specs.Writes.{Writes}
 use Rattle.tool_out.proofs.Writing.{writes-same}
 use Rattle.test_run.specs.Shown.{number_before, shown_or_unset, group_text, group_line}
@@ -10,10 +10,10 @@ returns-in_err-write_number g c =
     let f = c.args.found.now in
     let n = c.args.n in
     let a = number_before n in
-    let b = shown_or_unset (group_text f.subject f.outcome n) in
+    let b = shown_or_unset f.code.tree.options.utf (group_text f.subject f.outcome n) in
     let e = c.in_err-write_number.field-0.0 in
     let same : c.from_residual.result ≡ Err e = search rules in
-    subst (λ r. Writes (group_line f.subject f.outcome n) (g.O.Sink.tells c.args.out.now) (g.O.Sink.tells c.write_number.new.out) r) (sym same)
+    subst (λ r. Writes (group_line f.code.tree.options.utf f.subject f.outcome n) (g.O.Sink.tells c.args.out.now) (g.O.Sink.tells c.write_number.new.out) r) (sym same)
     (writes-first {A = Unit {0}} (a ++ b) (10 ∷ []) _ _ e (writes-first a b _ _ e c.in_err-write_number.ensures))
 
 pub returns-in_err-write_text : goal.returns-in_err-write_text
@@ -21,19 +21,19 @@ returns-in_err-write_text g c =
     let f = c.args.found.now in
     let n = c.args.n in
     let a = number_before n in
-    let b = shown_or_unset (group_text f.subject f.outcome n) in
+    let b = shown_or_unset f.code.tree.options.utf (group_text f.subject f.outcome n) in
     let e = c.in_err-write_text.field-0.0 in
     let same : c.from_residual-in_err-write_text.result ≡ Err e = search rules in
-    subst (λ r. Writes (group_line f.subject f.outcome n) (g.O.Sink.tells c.args.out.now) (g.O.Sink.tells c.write_text.new.out) r) (sym same)
+    subst (λ r. Writes (group_line f.code.tree.options.utf f.subject f.outcome n) (g.O.Sink.tells c.args.out.now) (g.O.Sink.tells c.write_text.new.out) r) (sym same)
     (writes-first {A = Unit {0}} (a ++ b) (10 ∷ []) _ _ e
-    (writes-then a b _ _ _ _ (Err e) c.in_ok-write_number.ensures (writes-same (ap shown_or_unset c.group.ensures) c.in_err-write_text.ensures)))
+    (writes-then a b _ _ _ _ (Err e) c.in_ok-write_number.ensures (writes-same (λ i. shown_or_unset (c.is_utf.ensures i) (c.group.ensures i)) c.in_err-write_text.ensures)))
 
 pub returns : goal.returns
 returns g c =
     let f = c.args.found.now in
     let n = c.args.n in
     let a = number_before n in
-    let b = shown_or_unset (group_text f.subject f.outcome n) in
+    let b = shown_or_unset f.code.tree.options.utf (group_text f.subject f.outcome n) in
     writes-then (a ++ b) (10 ∷ []) _ _ _ _ c.write_texts.result
-    (writes-then a b _ _ _ _ _ c.in_ok-write_number.ensures (writes-same (ap shown_or_unset c.group.ensures) c.in_ok-write_text.ensures))
+    (writes-then a b _ _ _ _ _ c.in_ok-write_number.ensures (writes-same (λ i. shown_or_unset (c.is_utf.ensures i) (c.group.ensures i)) c.in_ok-write_text.ensures))
     c.write_texts.ensures

@@ -10,15 +10,15 @@ use Rattle.test_run.proofs.matches.write_match.Goals as goal
 pub loop-n-init : goal.loop-n-init
 loop-n-init g c =
     let f = c.args.found.now in
-    let total = match_text f.subject f.outcome in
+    let total = match_text f.code.tree.options.utf f.subject f.outcome in
     let out = g.O.Sink.tells c.args.out.now in
     let e : top_of f.outcome + 1 ≡ top_of f.outcome + 1 - 0 = omega arith in
-    subst (λ m. IsLeft total (flat_map (group_line f.subject f.outcome) (range_with_len 0 m)) out out) e (left-all total out)
+    subst (λ m. IsLeft total (flat_map (group_line f.code.tree.options.utf f.subject f.outcome) (range_with_len 0 m)) out out) e (left-all total out)
 
 pub loop-n-preserved : goal.loop-n-preserved
 loop-n-preserved g c =
     let f = c.args.found.now in
-    let line = group_line f.subject f.outcome in
+    let line = group_line f.code.tree.options.utf f.subject f.outcome in
     let n = c.loop-n.n in
     let most = top_of f.outcome + 1 in
     let top = c.top-top.ensures in
@@ -28,20 +28,20 @@ loop-n-preserved g c =
 pub returns-in_err-write_group : goal.returns-in_err-write_group
 returns-in_err-write_group g c =
     let f = c.args.found.now in
-    let line = group_line f.subject f.outcome in
+    let line = group_line f.code.tree.options.utf f.subject f.outcome in
     let n = c.loop-n.n in
     let most = top_of f.outcome + 1 in
     let top = c.top-top.ensures in
     let less : n < most = omega arith in
     let e = c.in_err-write_group.field-0.0 in
     let same : c.from_residual.result ≡ Err e = search rules in
-    subst (λ r. Writes (match_text f.subject f.outcome) (g.O.Sink.tells c.args.out.now) (g.O.Sink.tells c.write_group.new.out) r) (sym same)
+    subst (λ r. Writes (match_text f.code.tree.options.utf f.subject f.outcome) (g.O.Sink.tells c.args.out.now) (g.O.Sink.tells c.write_group.new.out) r) (sym same)
     (left-refused (line n) (flat_map line (range_with_len (n + 1) (most - (n + 1)))) e c.loop-n.invariant (flat-range line n most less) c.in_err-write_group.ensures)
 
 pub returns : goal.returns
 returns g c =
     let f = c.args.found.now in
-    let line = group_line f.subject f.outcome in
+    let line = group_line f.code.tree.options.utf f.subject f.outcome in
     let n = c.loop-n.n in
     let most = top_of f.outcome + 1 in
     let top = c.top-top.ensures in

@@ -1,4 +1,6 @@
-use Rattle.std.proofs.Common.{◌≡◌, ◌∙◌, Err, IfErr, subst, sym, ap, rules}
+use Rattle.std.proofs.Common.{◌≡◌, ◌∙◌, Err, IfErr, subst, sym, ap, inl, inr, rules}
+use Rattle.std.proofs.lemmas.Bool.{cases_Bool}
+use Rattle.pat_check.specs.Known.{IsByteSet, lead_set_of}
 use Rattle.pat_tree.specs.Pattern.{pattern_of}
 use Rattle.match_items.specs.Views.{fold_in}
 use Rattle.pat_build.specs.Machine.{parsed_of}
@@ -12,10 +14,15 @@ pub invariant_of-result : goal.invariant_of-result
 invariant_of-result c =
     let kept = c.what_is_read_can_be_searched.ensures c.args.options c.args.pattern.now (parsed_of c.in_ok-tree.tree) c.in_ok-tree.ensures.ok in
     let told = c.in_ok-facts.ensures in
+    let t = c.in_ok-tree.tree in
+    let begins : IsByteSet c.in_ok-facts.facts.lead (lead_set_of t (fold_in t.options.utf)) = elim (cases_Bool t.options.utf) [
+      | inl on ↦ subst (λ utf. IsByteSet c.in_ok-facts.facts.lead (lead_set_of t (fold_in utf))) (sym on) (told.lead_in_utf on)
+      | inr off ↦ told.lead off (fold_in t.options.utf)
+    ] in
     record {
       table = c.in_ok-classes.ensures;
       facts = record {
-        lead = told.lead kept.without_utf (fold_in c.in_ok-tree.tree.options.utf);
+        lead = begins;
         empty = told.empty;
         names = told.names;
         lookbehind = told.lookbehind;
@@ -29,7 +36,6 @@ invariant_of-result c =
         flow = told.flow;
         need = told.need;
       };
-      bytes = kept.without_utf;
       built = kept.built;
     }
 

@@ -2,9 +2,12 @@ use Rattle.std.proofs.Common.{◌≡◌, ◌∙◌, ◌+◌, ◌<◌, ◌≤◌,
 use Rattle.std.specs.Prelude.{◌==◌}
 use Rattle.std.proofs.lemmas.Result.{IfOk-weaker}
 use Rattle.pcre2_api.specs.declared.substitute.Substituted.{Substituted}
-use Rattle.pcre2_api.specs.Walks.{answer, goes_on, place_behind}
+use Rattle.pat_tree.specs.Pattern.{pattern_of}
+use Rattle.pcre2_api.specs.Walks.{answer, matching_at, goes_on, place_behind}
 use Rattle.pcre2_api.specs.Substituted.{work_of, all_replaced, added_by, IsAdded, IsSearch, Refuses}
-use Rattle.pcre2_api.proofs.Replacing.{IsOn, on-first, on-last, on-none, on-found, on-next, on-refused, on-as, is-match, is-none, found-added, none-added, goes-once, goes-past, goes-inside, behind-is}
+use Rattle.pcre2_api.proofs.Replacing.{IsOn, on-first, on-last, on-none, on-found, on-next, on-refused, on-as, is-match, is-none, found-added, none-added, goes-once, goes-past, goes-inside}
+use Rattle.pcre2_api.proofs.Starting.{begun-at}
+use Rattle.pcre2_api.proofs.Walking.{begun-at-none}
 use Rattle.pcre2_api.proofs.substitute.Rewriting.replace.Goals as goal
 use Rattle.pcre2_api.proofs.substitute.Rewriting.replace.Goals.{then-again+else-at-self, else-again, in-Replaced, in-Nothing}
 
@@ -50,6 +53,16 @@ returns-in-Nothing-2-clause-replaced c =
     (on-none w r.options c.searches-searches.result c.args.start t._turn t.at t.from t.count t.again c.replace_next.new.out.items on c.loop-turn-test.true nothing goes)
     c.finish.ensures.finished
 
+pub place_behind-at-requires-clause-place : goal.place_behind-at-requires-clause-place
+place_behind-at-requires-clause-place c =
+    let r = c.args.self.now in
+    let t = c.loop-turn in
+    let len = length r.subject.now in
+    let p = pattern_of r.code.now.tree in
+    let here = answer p r.options r.subject.now t.again t.at in
+    let nothing = is-none len here (subst (λ s. IsSearch len s here) c.in-Nothing.is c.in_ok-to.ensures.comes) in
+    begun-at r.code.now.tree.options r.subject.now t.at (begun-at-none p (matching_at r.options t.again) r.subject.now t.at nothing)
+
 pub loop-turn-preserved : goal.loop-turn-preserved
 loop-turn-preserved c =
     let r = c.args.self.now in
@@ -73,6 +86,6 @@ loop-turn-preserved c =
           let same = none-added w t.from t.text.items new here nothing c.in_ok-to.ensures.added in
           let goes = goes-inside w.pattern r.options r.subject.now t.again t.at b.if-again.true b.if-at-self.true in
           on-as w r.options n start (t._turn + 1) c.match-branch-2.at (place_behind w.pattern r.subject.now t.at) c.match-branch-2.from t.from c.match-branch-2.count t.count c.match-branch-2.again false new
-          (b.at-is ∙ behind-is w.pattern r.options r.subject.now t.at b.step-at.result b.step-at.ensures) b.from-is b.count-is b.again-is
+          (b.at-is ∙ b.place_behind-at.ensures) b.from-is b.count-is b.again-is
           (on-next w r.options n start t._turn t.at t.from t.count t.again t.text.items t.invariant c.loop-turn-test.true new nothing goes same)
     ]
