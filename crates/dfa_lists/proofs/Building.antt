@@ -141,8 +141,7 @@ wider_node : (n states states' classes : ℕ) (m : Node) → states ≤ states' 
 wider_node n states states' classes (One item next) l h = let a : next < states = h.0 in
     (omega (arith, a, l), h.1)
 wider_node n states states' classes (Break next) l h = omega (arith, h, l)
-wider_node n states states' classes (Anchor kind next) l h = let a : next < states = h.0 in
-    (omega (arith, a, l), h.1)
+wider_node n states states' classes (Anchor kind next) l h = omega (arith, h, l)
 wider_node n states states' classes (Split a b) l h = (omega (arith, h.0, l), omega (arith, h.1, l))
 wider_node n states states' classes (Goto next) l h = omega (arith, h, l)
 wider_node n states states' classes Dead l h = tt

@@ -207,7 +207,7 @@ unfolding Among
 moves_in g i states classes (One item next) a ok h = absurd h
 moves_in g i states classes (Break next) a ok h = absurd h
 moves_in g i states classes (Anchor kind next) a ok h =
-    moves_if (holds g kind i) next states a ok.0 h
+    moves_if (holds g kind i) next states a ok h
 moves_in g i states classes (Split first second) a ok h =
     elim h [
       | inl e ↦ subst (λ k. k < states) (sym e) ok.0

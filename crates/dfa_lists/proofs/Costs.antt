@@ -9,9 +9,7 @@ use Rattle.std.proofs.Common.{
   ◌+◌,
   ◌-◌,
   ◌*◌,
-  ◌<◌,
   ◌≤◌,
-  ◌⊎◌,
   Bool,
   true,
   false,
@@ -29,32 +27,19 @@ use Rattle.std.proofs.Common.{
   sym,
   ap,
   subst,
-  inl,
-  inr,
   arith,
 }
 use Rattle.std.proofs.lemmas.Nat.{mul-le}
 use Rattle.std.proofs.Math.Nat.{add-mul, suc-mul, mul_left_comm}
 use Rattle.std.proofs.lemmas.Bool.{false≢true}
 use Rattle.std.specs.Prelude as list
-use Rattle.std.specs.Prelude.{◌==◌, ◌&&◌, ◌||◌, not, slice_get}
+use Rattle.std.specs.Prelude.{◌==◌, ◌&&◌, ◌||◌, slice_get}
 use Rattle.pat_tree.specs.Rules.{asserted_by, tests_of, is_test}
 use Rattle.pat_tree.specs.declared.nodes.Placed as placed
 use Rattle.pat_tree.specs.declared.nodes.Node as parts
 use Rattle.pat_tree.specs.declared.nodes.Node.TheVariants as part
 use Rattle.pat_tree.specs.declared.nodes.Cond.{Cond}
 use Rattle.pat_tree.specs.declared.nodes.Cond.TheVariants as cond
-use Rattle.pat_tree.specs.declared.nodes.AnchorKind.{AnchorKind}
-use Rattle.pat_tree.specs.declared.nodes.AnchorKind.TheVariants.{
-  Caret,
-  Dollar,
-  SubjectStart,
-  SubjectEnd,
-  EndOrNewline,
-  StartGiven,
-  Word,
-  NotWord,
-}
 use Rattle.pat_tree.specs.declared.nodes.Verb.{Verb}
 use Rattle.pat_tree.specs.declared.nodes.Verb.TheVariants.{
   Accept,
@@ -69,7 +54,6 @@ use Rattle.pat_tree.specs.Nested as tree
 use Rattle.pat_tree.specs.Nested.{
   Nested,
   Row,
-  Test,
   Other,
   row,
   tree_at,
@@ -92,7 +76,6 @@ use Rattle.dfa_lists.specs.Building.{
   ids_of,
   one_less,
   part_step,
-  anchor_step,
   second_step,
   cond_step,
   verb_step,
@@ -109,7 +92,6 @@ use Rattle.dfa_lists.specs.Building.{
   row_from,
   IsPart,
 }
-use Rattle.match_items.specs.Views.{asks_ucp}
 use Rattle.dfa_lists.specs.Served.{is_never, is_fail, has_graph, all_have, test_has, other_has}
 use Rattle.dfa_lists.proofs.Steps.{drop_some, drop_none}
 
@@ -344,19 +326,6 @@ module _ (ps : List placed.Placed) where
     let c = ap (λ k. turns_cost (turn_cost k) low high) e in omega (arith, c),
   )
 
-  anchor_leaves : (kind : AnchorKind) (next : ℕ) → not (asks_ucp kind) ≡ true →
-      Leaves 1 (anchor_step kind next)
-  anchor_leaves (Word true) next e = absurd (false≢true e)
-  anchor_leaves (Word false) next e = omega arith
-  anchor_leaves (NotWord true) next e = absurd (false≢true e)
-  anchor_leaves (NotWord false) next e = omega arith
-  anchor_leaves (Caret multi) next e = omega arith
-  anchor_leaves (Dollar multi only) next e = omega arith
-  anchor_leaves SubjectStart next e = omega arith
-  anchor_leaves SubjectEnd next e = omega arith
-  anchor_leaves EndOrNewline next e = omega arith
-  anchor_leaves StartGiven next e = omega arith
-
   part_leaves : (p next : ℕ) (m : parts.Node) → node_of ps p ≡ m →
       nest (trees ps) m ≡ tree_of ps p →
       list.All (λ k. is_test (f k) ≡ true) (asserted_by m) →
@@ -379,7 +348,7 @@ module _ (ps : List placed.Placed) where
   part_leaves p next (part.Cond test yes' no') e is ok h = cond_leaves next test no' ok h
   part_leaves p next (part.Call n) e is ok h = absurd (false≢true h)
   part_leaves p next (part.Ref groups caseless) e is ok h = absurd (false≢true h)
-  part_leaves p next (part.Anchor kind) e is ok h = anchor_leaves kind next h
+  part_leaves p next (part.Anchor kind) e is ok h = omega arith
   part_leaves p next part.KeepOut e is ok h = absurd (false≢true h)
   part_leaves p next (part.VerbNode v) e is ok h = verb_leaves v h
   part_leaves p next (part.Callout number from to pos len) e is ok h = omega arith

@@ -26,7 +26,7 @@ use Rattle.std.proofs.Common.{
   inr,
 }
 use Rattle.std.proofs.lemmas.Bool.{false≢true}
-use Rattle.std.specs.Prelude.{◌&&◌, ◌||◌, not, nat_lt}
+use Rattle.std.specs.Prelude.{◌&&◌, ◌||◌, nat_lt}
 use Rattle.pat_tree.specs.declared.nodes.Verb.{Verb}
 use Rattle.pat_tree.specs.declared.nodes.Verb.TheVariants.{
   Accept,
@@ -39,17 +39,14 @@ use Rattle.pat_tree.specs.declared.nodes.Verb.TheVariants.{
 }
 use Rattle.pat_tree.specs.Nested as tree
 use Rattle.pat_tree.specs.Nested.{Nested, Row, Test, Other}
-use Rattle.match_items.specs.Views.{asks_ucp}
 use Rattle.pat_lengths.specs.Lengths.{counted}
 use Rattle.pat_check.specs.Size.{size, whole_size}
 use Rattle.pat_check.specs.Support.{dfa_support}
 use Rattle.pat_check.specs.declared.support.DfaSupport.{DfaSupport}
 use Rattle.pat_check.specs.declared.support.DfaSupport.TheVariants as support
 use Rattle.dfa_lists.specs.declared.graph.Node.{Node}
-use Rattle.dfa_lists.specs.declared.graph.Node.TheVariants.{Anchor}
 use Rattle.dfa_lists.specs.declared.ends.GraphError.{GraphError}
 use Rattle.dfa_lists.specs.declared.ends.GraphError.TheVariants.{Item, Cond, TooLarge, NotBuilt}
-use Rattle.dfa_lists.specs.Graph.{IsGraph}
 use Rattle.dfa_lists.specs.Fragment.{
   Part,
   Copies,
@@ -71,7 +68,6 @@ use Rattle.dfa_lists.specs.Served.{
   all_have,
   test_has,
   other_has,
-  unless_built,
   unless_small,
   unless_supported,
   refusal,
@@ -81,7 +77,7 @@ both : (a b : Bool) → a ≡ true → b ≡ true → (a && b) ≡ true
 both true b e k = k
 both false b e k = absurd (false≢true e)
 
-module _ (classes : ℕ) (nodes : List Node) (graph : IsGraph classes nodes) where
+module _ (nodes : List Node) where
   none_less : (n : ℕ) → n - 0 ≡ n
   none_less n = omega arith
 
@@ -141,7 +137,7 @@ module _ (classes : ℕ) (nodes : List Node) (graph : IsGraph classes nodes) whe
         (λ k. other_placed_has second e next k) h
     placed_has (tree.call n) e next h = absurd h
     placed_has (tree.ref ns caseless) e next h = absurd h
-    placed_has (tree.anchor kind) e next h = ap not (graph e (Anchor kind next) h).1
+    placed_has (tree.anchor kind) e next h = refl
     placed_has tree.keep_out e next h = absurd h
     placed_has (tree.verb v) e next h = verb_has v e next h
     placed_has (tree.callout c) e next h = refl
@@ -166,7 +162,7 @@ module _ (classes : ℕ) (nodes : List Node) (graph : IsGraph classes nodes) whe
 
 graph_has : (classes : ℕ) (nodes : List Node) (t : Nested) → IsGraphOf classes nodes t →
     has_graph t ≡ true
-graph_has classes nodes t g = placed_has classes nodes g.graph t 0 1 g.placed
+graph_has classes nodes t g = placed_has nodes t 0 1 g.placed
 
 -- Why there is no graph.
 

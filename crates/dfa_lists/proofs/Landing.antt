@@ -128,6 +128,12 @@ with_cases None q ss p k h = inl h
 with_cases (Some j) q ss p k h =
     elim (waits_push p k q j ss h) [ inl a ↦ inl a | inr b ↦ inr (b.0, ap Some (sym b.1)) ]
 
+-- no leaf takes anything
+pub landed_none : (g : Scene) (nodes : List Node) (i : ℕ) (ss : List Seed) →
+    landed g nodes i [] ss ≡ ss
+unfolding landed
+landed_none g nodes i ss = refl
+
 module _ (g : Scene) (nodes : List Node) (i : ℕ) where
   pub landed_old : (qs : List ℕ) (ss : List Seed) (p k : ℕ) → Waits p k ss →
       Waits p k (landed g nodes i qs ss)

@@ -28,13 +28,14 @@ use Rattle.std.proofs.Common.{
   inr,
   arith,
 }
+use Rattle.std.proofs.lemmas.Bool.{false≢true}
 use Rattle.std.specs.Prelude.{slice_get}
 use Rattle.pat_tree.specs.declared.nodes.Item.TheVariants.{AnyAll}
 use Rattle.match_items.specs.Scene.{Scene}
 use Rattle.match_items.specs.declared.view.View.{View}
-use Rattle.match_items.specs.Views.{bare_scene, scene_of}
+use Rattle.match_items.specs.Views.{bare_text, text_scene}
+use Rattle.match_items.specs.Laws.{Stands, StandsAlong}
 use Rattle.char_sets.specs.Table.{CharSet}
-use Rattle.match_items.proofs.Places.{item_forward, break_within}
 use Rattle.dfa_ends.specs.Ends.{Among}
 use Rattle.dfa_ends.proofs.Steps.{break_steps}
 use Rattle.dfa_lists.specs.declared.graph.Node.{Node}
@@ -71,6 +72,7 @@ use Rattle.dfa_lists.specs.Lists.{
   IsTaking,
   IsMatching,
   IsClosed,
+  IsTakenAt,
   kept,
   waiting_at,
   elsewhere,
@@ -79,6 +81,7 @@ use Rattle.dfa_lists.specs.Lists.{
 }
 use Rattle.dfa_lists.proofs.Places.{among_push, kept_old, kept_new, kept_cases, get_in}
 use Rattle.dfa_lists.proofs.Landing.{
+  landed_none,
   landed_old,
   landed_new,
   Landing,
@@ -98,6 +101,7 @@ pub record Running (g : Scene) (nodes : List Node) (entry place at : ℕ) (pendi
   pub within : at ≤ length g.subject + 1
   pub pending_in : (q j : ℕ) → Waits q j pending →
       (at ≤ j) × (j ≤ length g.subject) × (q < length nodes)
+  pub standing : (q j : ℕ) → Waits q j pending → Stands g j
   pub sound : (end : ℕ) → Among end found → Accepts g nodes end entry place
   pub pending_sound : (q j end : ℕ) → Waits q j pending → Accepts g nodes end q j →
       Accepts g nodes end entry place
@@ -145,19 +149,18 @@ lands_takes g i j (Goto next) e = absurd (none_not j e)
 lands_takes g i j Dead e = absurd (none_not j e)
 lands_takes g i j Match e = absurd (none_not j e)
 
--- what is taken ends past its place, in the subject
-lands_past : (g : Scene) (i j : ℕ) (n : Node) → g.options.utf ≡ false → i ≤ length g.subject →
-    lands g n i ≡ Some j →
-    (i < j) × (j ≤ length g.subject)
-lands_past g i j (One item next) bytes l e =
-    let f = item_forward g item i j bytes l e in (f.0, f.1)
-lands_past g i j (Break next) bytes l e =
-    ((break_steps g AnyAll i j e).0, break_within g i j l e)
-lands_past g i j (Anchor kind next) bytes l e = absurd (none_not j e)
-lands_past g i j (Split first second) bytes l e = absurd (none_not j e)
-lands_past g i j (Goto next) bytes l e = absurd (none_not j e)
-lands_past g i j Dead bytes l e = absurd (none_not j e)
-lands_past g i j Match bytes l e = absurd (none_not j e)
+-- what is taken ends past its place, at a place
+lands_past : (g : Scene) (i j : ℕ) (n : Node) → StandsAlong g → Stands g i →
+    lands g n i ≡ Some j → (i < j) × Stands g j
+lands_past g i j (One item next) along stands e =
+    let f = along.forward item i j stands e in (f.0, f.1)
+lands_past g i j (Break next) along stands e =
+    ((break_steps g AnyAll i j e).0, along.breaks i j stands e)
+lands_past g i j (Anchor kind next) along stands e = absurd (none_not j e)
+lands_past g i j (Split first second) along stands e = absurd (none_not j e)
+lands_past g i j (Goto next) along stands e = absurd (none_not j e)
+lands_past g i j Dead along stands e = absurd (none_not j e)
+lands_past g i j Match along stands e = absurd (none_not j e)
 
 target_in : (g : Scene) (i j states classes : ℕ) (n : Node) → IsNodeIn states classes n →
     lands g n i ≡ Some j →
@@ -194,6 +197,26 @@ module _ (g : Scene) (nodes : List Node) (end : ℕ) where
   enter i start _ (here q m) a = (q, m, a)
   enter i start _ (on q a n c e m) t = enter i start q c (moved q i a n e m t)
 
+-- what is accepted lies between the place and the subject's end
+pub accepts_within : (g : Scene) (nodes : List Node) (end q i : ℕ) → StandsAlong g →
+    Accepts g nodes end q i → Stands g i → (i ≤ end) × (end ≤ length g.subject)
+accepts_within g nodes end _ _ along (matched q i e same) stands =
+    let l = stands.within in (omega (arith, same), omega (arith, same, l))
+accepts_within g nodes end _ _ along (moved q i a n e m t) stands =
+    accepts_within g nodes end a i along t stands
+accepts_within g nodes end _ _ along (landed q i j n e k t) stands =
+    let f = lands_past g i j n along stands k in
+    let w = accepts_within g nodes end (target n) j along t f.1 in
+    let a = f.0 in
+    let b = w.0 in
+    (omega (arith, a, b), w.1)
+
+-- what comes at a place comes from one of the first states
+comes_from : (g : Scene) (nodes : List Node) (i : ℕ) (start : List ℕ) (q : ℕ) →
+    Comes g nodes i start q → (s : ℕ) × Among s start
+comes_from g nodes i start _ (here q a) = (q, a)
+comes_from g nodes i start _ (on q a n c e m) = comes_from g nodes i start q c
+
 mul_more : (n k : ℕ) → n * (k + 1) ≡ n * k + n
 mul_more n k = omega arith
 
@@ -209,7 +232,7 @@ more n old tests tests' k at place l t e f =
 -- One place is done: what waits there is closed, its leaves take what stands there.
 module _ (g : Scene) (nodes : List Node) (classes entry place at : ℕ) (pending : List Seed)
     (found leaves : List ℕ)
-    (hit : Bool) (old tests tests' : ℕ) (bytes : g.options.utf ≡ false) (ok : IsGraph classes nodes)
+    (hit : Bool) (old tests tests' : ℕ) (along : StandsAlong g) (ok : IsGraph classes nodes)
     (h : Running g nodes entry place at pending found old tests) (some : at ≤ length g.subject)
     (c : IsClosed g nodes at (waiting_at at pending) leaves hit)
     (t : tests' ≤ tests + length leaves) where
@@ -218,6 +241,12 @@ module _ (g : Scene) (nodes : List Node) (classes entry place at : ℕ) (pending
 
   leaves_below : AllBelow (length nodes) leaves
   leaves_below q a = let k = (c.each_comes q a).1 in get_in nodes q k.0 k.1
+
+  -- where something comes, something waited
+  leaf_stands : (q : ℕ) → Among q leaves → Stands g at
+  leaf_stands q a =
+      let s = comes_from g nodes at (waiting_at at pending) q (c.each_comes q a).0 in
+      h.standing s.0 at (waits_here s.0 at pending s.1)
 
   -- what comes at this place goes on from the entry
   comes_sound : (q end : ℕ) → Comes g nodes at (waiting_at at pending) q →
@@ -248,9 +277,10 @@ module _ (g : Scene) (nodes : List Node) (classes entry place at : ℕ) (pending
             let k = h.pending_in q j b.0 in
             (past at j k.0 b.1, k.1, k.2)
         | inr b ↦
-            let f = lands_past g at j b.1 bytes some b.4 in (
-              omega (arith, f.0),
-              f.1,
+            let f = lands_past g at j b.1 along (leaf_stands b.0 b.2) b.4 in
+            let later = f.0 in (
+              omega (arith, later),
+              f.1.within,
               subst (λ p. p < length nodes) (sym b.5)
                   (target_in g at j (length nodes) classes b.1 (ok b.0 b.1 b.3) b.4),
             )
@@ -258,6 +288,14 @@ module _ (g : Scene) (nodes : List Node) (classes entry place at : ℕ) (pending
     where
       past : (a b : ℕ) → a ≤ b → (b ≡ a → ⊥) → a + 1 ≤ b
       past a b l ne = grind (arith, l, ne)
+
+  later_stands : (q j : ℕ) → Waits q j Later → Stands g j
+  unfolding Later Landing
+  later_stands q j w =
+      elim (landed_cases g nodes at leaves (elsewhere at pending) q j leaves_below w) [
+        | inl a ↦ h.standing q j (waits_elsewhere q j at pending a).0
+        | inr b ↦ (lands_past g at j b.1 along (leaf_stands b.0 b.2) b.4).1
+      ]
 
   later_sound : (q j end : ℕ) → Waits q j Later → Accepts g nodes end q j →
       Accepts g nodes end entry place
@@ -311,6 +349,7 @@ module _ (g : Scene) (nodes : List Node) (classes entry place at : ℕ) (pending
         from = omega (arith, h.from);
         within = omega (arith, some);
         pending_in = later_in;
+        standing = later_stands;
         sound = found_sound;
         pending_sound = later_sound;
         full = later_full;
@@ -324,11 +363,12 @@ module _ (g : Scene) (nodes : List Node) (classes entry place at : ℕ) (pending
 
 pub starts : (g : Scene) (nodes : List Node) (entry place : ℕ) (pending : List Seed)
     (found : List ℕ) (tests : ℕ) →
-    place ≤ length g.subject → entry < length nodes →
+    Stands g place → entry < length nodes →
     pending ≡ record { at = place; state = entry } ∷ [] → found ≡ [] →
     Running g nodes entry place place pending found tests tests
 unfolding Among Waits Rising
-starts g nodes entry place pending found tests l m e f =
+starts g nodes entry place pending found tests stands m e f =
+    let l = stands.within in
     subst (λ ss. Running g nodes entry place place ss found tests tests) (sym e)
     (subst (λ xs. Running g nodes entry place place (record { at = place; state = entry } ∷ []) xs
     tests tests) (sym f) (record {
@@ -338,6 +378,10 @@ starts g nodes entry place pending found tests l m e f =
         | inl a ↦
             let same = a.1 in
             (omega (arith, same), omega (arith, same, l), subst (λ k. k < length nodes) (sym a.0) m)
+        | inr b ↦ absurd b
+      ]);
+      standing = λ q j w. (elim w [
+        | inl a ↦ subst (Stands g) (sym a.1) stands
         | inr b ↦ absurd b
       ]);
       sound = λ end a. absurd a;
@@ -379,6 +423,20 @@ goes_on g nodes entry place at pending found old tests h l =
     let k = h.pending_in w.0 w.1 w.2 in
     omega (arith, k.0, k.1)
 
+some_here : (start : List ℕ) → 0 < length start → (q : ℕ) × Among q start
+unfolding Among
+some_here [] l = absurd (omega (arith, l))
+some_here (q ∷ qs) l = (q, inl refl)
+
+-- something waits at the place
+pub stands_here : (g : Scene) (nodes : List Node) (entry place at : ℕ) (pending : List Seed)
+    (found : List ℕ) (old tests : ℕ) →
+    Running g nodes entry place at pending found old tests → (start : List ℕ) →
+    start ≡ waiting_at at pending → 0 < length start → Stands g at
+stands_here g nodes entry place at pending found old tests h start e l =
+    let s = some_here start l in
+    h.standing s.0 at (waits_here s.0 at pending (subst (Among s.0) e s.1))
+
 pub waiting_below : (g : Scene) (nodes : List Node) (entry place at : ℕ) (pending : List Seed)
     (found : List ℕ) (old tests : ℕ) →
     Running g nodes entry place at pending found old tests →
@@ -396,19 +454,19 @@ below_like n xs ys e h = subst (AllBelow n) (sym e) h
 
 -- what follows at a place asks no class
 module _ (view : View) (table : List CharSet) (nodes : List Node) (i : ℕ) (start : List ℕ) where
-  with_classes : (q : ℕ) → Comes (bare_scene view) nodes i start q →
-      Comes (scene_of view table) nodes i start q
+  with_classes : (q : ℕ) → Comes (bare_text view) nodes i start q →
+      Comes (text_scene view table) nodes i start q
   with_classes _ (here q a) = here q a
   with_classes _ (on q a n c e m) = on q a n (with_classes q c) e m
 
-  without_classes : (q : ℕ) → Comes (scene_of view table) nodes i start q →
-      Comes (bare_scene view) nodes i start q
+  without_classes : (q : ℕ) → Comes (text_scene view table) nodes i start q →
+      Comes (bare_text view) nodes i start q
   without_classes _ (here q a) = here q a
   without_classes _ (on q a n c e m) = on q a n (without_classes q c) e m
 
-  closed_with_classes : (leaves : List ℕ) (hit : Bool) →
-      IsClosed (bare_scene view) nodes i start leaves hit →
-      IsClosed (scene_of view table) nodes i start leaves hit
+  pub closed_with_classes : (leaves : List ℕ) (hit : Bool) →
+      IsClosed (bare_text view) nodes i start leaves hit →
+      IsClosed (text_scene view table) nodes i start leaves hit
   closed_with_classes leaves hit h = record {
     each_comes = λ q a. (let k = h.each_comes q a in (with_classes q k.0, k.1));
     all_are_kept = λ q c t. h.all_are_kept q (without_classes q c) t;
@@ -418,28 +476,48 @@ module _ (view : View) (table : List CharSet) (nodes : List Node) (i : ℕ) (sta
   }
 
 -- the place is done, as the code does it
-pub place_follows : (view : View) (table : List CharSet) (nodes : List Node) (entry place at : ℕ)
-    (pending read : List Seed) (seeds leaves leaves_read found found' : List ℕ)
-    (others later : List Seed) (hit : Bool) (old tests tests' : ℕ) →
-    view.options.now.utf ≡ false → IsGraph (length table) nodes →
-    Running (scene_of view table) nodes entry place at pending found old tests →
+pub place_follows : (g : Scene) (nodes : List Node) (classes entry place at : ℕ)
+    (pending read : List Seed) (seeds found found' : List ℕ)
+    (others later : List Seed) (old tests tests' : ℕ) →
+    StandsAlong g → IsGraph classes nodes →
+    Running g nodes entry place at pending found old tests →
     0 < length pending →
     read ≡ pending → seeds ≡ waiting_at at read → others ≡ elsewhere at read →
-    IsClosed (bare_scene view) nodes at seeds leaves hit → leaves_read ≡ leaves →
-    found' ≡ kept hit at found →
-    later ≡ lists.landed (scene_of view table) nodes at leaves_read others →
-    tests' ≤ tests + length leaves_read →
-    Running (scene_of view table) nodes entry place (at + 1) later found' old tests'
-place_follows view table nodes entry place at pending read seeds leaves leaves_read found found'
-    others later hit old tests tests'
-    bytes ok h some er es eo c el ef et t =
+    IsTakenAt g nodes at seeds others later found found' tests tests' →
+    Running g nodes entry place (at + 1) later found' old tests'
+place_follows g nodes classes entry place at pending read seeds found found' others later old tests
+    tests' along ok h some er es eo t =
     let start = es ∙ ap (λ ss. waiting_at at ss) er in
     let rest = eo ∙ ap (λ ss. elsewhere at ss) er in
-    let few = subst (λ xs. tests' ≤ tests + length xs) el t in
-    place_done (scene_of view table) nodes (length table) entry place at pending found leaves hit
-    old tests tests' bytes ok h
-    (goes_on (scene_of view table) nodes entry place at pending found old tests h some)
-    (closed_with_classes view table nodes at (waiting_at at pending) leaves hit
-    (subst (λ xs. IsClosed (bare_scene view) nodes at xs leaves hit) start c)) few later found'
-    (et ∙ ap (λ xs. lists.landed (scene_of view table) nodes at xs others) el
-    ∙ ap (λ ss. lists.landed (scene_of view table) nodes at leaves ss) rest) ef
+    place_done g nodes classes entry place at pending found t.leaves t.hit old tests tests' along ok
+    h (goes_on g nodes entry place at pending found old tests h some)
+    (subst (λ xs. IsClosed g nodes at xs t.leaves t.hit) start t.closed) t.few later found'
+    (t.later_is ∙ ap (λ ss. lists.landed g nodes at t.leaves ss) rest) t.found_is
+
+from_none : (g : Scene) (nodes : List Node) (i q : ℕ) → Comes g nodes i [] q → ⊥
+unfolding Among
+from_none g nodes i q c = let s = comes_from g nodes i [] q c in s.1
+
+none_closed : (g : Scene) (nodes : List Node) (i : ℕ) → IsClosed g nodes i [] [] false
+unfolding Among
+none_closed g nodes i = record {
+  each_comes = λ q a. absurd a;
+  all_are_kept = λ q c t. absurd (from_none g nodes i q c);
+  hit_comes = λ e. absurd (false≢true e);
+  comes_hit = λ q c t. absurd (from_none g nodes i q c);
+  few = omega arith;
+}
+
+-- where nothing waits at the place, nothing is taken there
+pub none_taken : (g : Scene) (nodes : List Node) (i : ℕ) (start found : List ℕ)
+    (others : List Seed) (tests : ℕ) → length start ≡ 0 →
+    IsTakenAt g nodes i start others others found found tests tests
+none_taken g nodes i [] found others tests e = record {
+  leaves = [];
+  hit = false;
+  closed = none_closed g nodes i;
+  found_is = refl;
+  later_is = sym (landed_none g nodes i others);
+  few = omega arith;
+}
+none_taken g nodes i (q ∷ qs) found others tests e = absurd (omega (arith, e))

@@ -7,17 +7,6 @@ use Rattle.pat_tree.specs.declared.nodes.Node as parts
 use Rattle.pat_tree.specs.declared.nodes.Node.TheVariants as part
 use Rattle.pat_tree.specs.declared.nodes.Cond.{Cond}
 use Rattle.pat_tree.specs.declared.nodes.Cond.TheVariants as cond
-use Rattle.pat_tree.specs.declared.nodes.AnchorKind.{AnchorKind}
-use Rattle.pat_tree.specs.declared.nodes.AnchorKind.TheVariants.{
-  Caret,
-  Dollar,
-  SubjectStart,
-  SubjectEnd,
-  EndOrNewline,
-  StartGiven,
-  Word,
-  NotWord,
-}
 use Rattle.pat_tree.specs.declared.nodes.Verb.{Verb}
 use Rattle.pat_tree.specs.declared.nodes.Verb.TheVariants.{
   Accept,
@@ -31,7 +20,7 @@ use Rattle.pat_tree.specs.declared.nodes.Verb.TheVariants.{
 use Rattle.pat_tree.specs.Rules.{kids_of, classes_of, tests_of, IsOrdered, AtMost}
 use Rattle.pat_tree.specs.Nested.{Nested, Row, row, tree_at, nest, trees, cond_of, other_of}
 use Rattle.dfa_lists.specs.declared.graph.Node.{Node}
-use Rattle.dfa_lists.specs.declared.graph.Node.TheVariants.{Anchor, Split}
+use Rattle.dfa_lists.specs.declared.graph.Node.TheVariants.{Split}
 use Rattle.dfa_lists.specs.declared.build.Work.{Work}
 use Rattle.dfa_lists.specs.declared.build.Work.TheVariants as work
 use Rattle.dfa_lists.specs.declared.build.Work.TheVariants.{All, Any, Turn}
@@ -61,7 +50,6 @@ use Rattle.dfa_lists.specs.Building.{
   ids_of,
   one_less,
   part_step,
-  anchor_step,
   second_step,
   cond_step,
   verb_step,
@@ -195,20 +183,6 @@ module _ (ps : List placed.Placed) where
   verb_placed final (Then name) e next h = absurd h
   verb_placed final (Mark name) e next h = absurd h
 
-  anchor_placed : (final : List Node) (kind : AnchorKind) (e next : ℕ) →
-      StepPlaced final (anchor_step kind next) e next →
-      IsNode final (Anchor kind next) e
-  anchor_placed final (Word true) e next h = absurd h
-  anchor_placed final (Word false) e next h = h
-  anchor_placed final (NotWord true) e next h = absurd h
-  anchor_placed final (NotWord false) e next h = h
-  anchor_placed final (Caret multi) e next h = h
-  anchor_placed final (Dollar multi only) e next h = h
-  anchor_placed final SubjectStart e next h = h
-  anchor_placed final SubjectEnd e next h = h
-  anchor_placed final EndOrNewline e next h = h
-  anchor_placed final StartGiven e next h = h
-
   module _ (p next : ℕ) (m : parts.Node) (e : node_of ps p ≡ m)
       (is : nest (trees ps) m ≡ tree_of ps p) where
     -- a row that begins with the first part is the part's whole row
@@ -240,7 +214,7 @@ module _ (ps : List placed.Placed) where
   part_core p next (part.Cond test yes' no') e is final at h = cond_placed final test no' at next h
   part_core p next (part.Call n) e is final at h = absurd h
   part_core p next (part.Ref groups caseless) e is final at h = absurd h
-  part_core p next (part.Anchor kind) e is final at h = anchor_placed final kind at next h
+  part_core p next (part.Anchor kind) e is final at h = h
   part_core p next part.KeepOut e is final at h = absurd h
   part_core p next (part.VerbNode v) e is final at h = verb_placed final v at next h
   part_core p next (part.Callout number from to pos len) e is final at h = inr h
@@ -394,18 +368,6 @@ module _ (ps : List placed.Placed) where
     verb_ok (Then name) = tt
     verb_ok (Mark name) = tt
 
-    anchor_ok : (kind : AnchorKind) → IsStep root states classes (anchor_step kind next)
-    anchor_ok (Word true) = tt
-    anchor_ok (Word false) = (l, refl)
-    anchor_ok (NotWord true) = tt
-    anchor_ok (NotWord false) = (l, refl)
-    anchor_ok (Caret multi) = (l, refl)
-    anchor_ok (Dollar multi only) = (l, refl)
-    anchor_ok SubjectStart = (l, refl)
-    anchor_ok SubjectEnd = (l, refl)
-    anchor_ok EndOrNewline = (l, refl)
-    anchor_ok StartGiven = (l, refl)
-
     part_ok : (m : parts.Node) → list.All (λ k. k < p) (kids_of m) →
         list.All (λ n. n < classes) (classes_of m) → IsOrdered m →
         IsStep root states classes (part_step p next m)
@@ -423,7 +385,7 @@ module _ (ps : List placed.Placed) where
     part_ok (part.Cond test yes' no') below inner ord = cond_ok test yes' no' below
     part_ok (part.Call n) below inner ord = tt
     part_ok (part.Ref groups caseless) below inner ord = tt
-    part_ok (part.Anchor kind) below inner ord = anchor_ok kind
+    part_ok (part.Anchor kind) below inner ord = l
     part_ok part.KeepOut below inner ord = tt
     part_ok (part.VerbNode v) below inner ord = verb_ok v
     part_ok (part.Callout number from to pos len) below inner ord = l

@@ -37,8 +37,6 @@ use Rattle.pat_tree.specs.declared.nodes.Verb.TheVariants.{Fail}
 use Rattle.pat_tree.specs.Rules.{kids_of, asserted_by, classes_of, IsOrdered, is_test}
 use Rattle.pat_tree.specs.Nested as tree
 use Rattle.pat_tree.specs.Nested.{Nested, Row, Test, Other, row, tree_at, nest, trees}
-use Rattle.pat_tree.specs.declared.nodes.AnchorKind.{AnchorKind}
-use Rattle.pat_tree.specs.declared.nodes.AnchorKind.TheVariants.{Word, NotWord}
 use Rattle.pat_tree.specs.declared.nodes.Cond.{Cond}
 use Rattle.pat_tree.specs.declared.nodes.Cond.TheVariants as cond
 use Rattle.dfa_lists.specs.declared.graph.Node.{Node}
@@ -83,12 +81,6 @@ ids_of (part.Seq kids) = kids
 ids_of (part.Group number branches) = branches
 ids_of _ = []
 
--- an assertion that asks for word characters of Unicode is refused
-abbrev pub anchor_step : AnchorKind → ℕ → Step
-anchor_step (Word true) next = Refuse
-anchor_step (NotWord true) next = Refuse
-anchor_step kind next = Write (Anchor kind next)
-
 abbrev pub second_step : ℕ → Option ℕ → Step
 second_step next None = Write (Goto next)
 second_step next (Some q) = Hand (work.Part q)
@@ -112,7 +104,7 @@ part_step p next (part.Group number branches) = Hand (Any p 0)
 part_step p next (part.Repeat body min max lazy) = Hand (work.Turns p min max)
 part_step p next (part.OneRepeat item min max lazy) = Hand (work.Turns p min max)
 part_step p next (part.Cond test yes' no') = cond_step next test no'
-part_step p next (part.Anchor kind) = anchor_step kind next
+part_step p next (part.Anchor kind) = Write (Anchor kind next)
 part_step p next (part.VerbNode v) = verb_step v
 part_step p next (part.Callout number from to at len) = Write (Goto next)
 part_step p next _ = Refuse

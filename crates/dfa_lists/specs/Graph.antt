@@ -20,7 +20,6 @@ use Rattle.std.specs.Prelude.{
 use Rattle.pat_tree.specs.Rules.{class_in}
 use Rattle.match_items.specs.Scene.{Scene}
 use Rattle.match_items.specs.Items.{after_item, after_break, holds}
-use Rattle.match_items.specs.Views.{asks_ucp}
 use Rattle.dfa_ends.specs.Ends.{Among}
 use Rattle.dfa_lists.specs.declared.graph.Node.{Node}
 use Rattle.dfa_lists.specs.declared.graph.Node.TheVariants.{
@@ -89,7 +88,7 @@ AllBelow n qs = (q : ℕ) → Among q qs → q < n
 abbrev pub IsNodeIn : ℕ → ℕ → Node → Type 0
 IsNodeIn states classes (One item next) = (next < states) × All (λ n. n < classes) (class_in item)
 IsNodeIn states classes (Break next) = next < states
-IsNodeIn states classes (Anchor kind next) = (next < states) × (asks_ucp kind ≡ false)
+IsNodeIn states classes (Anchor kind next) = next < states
 IsNodeIn states classes (Split first second) = (first < states) × (second < states)
 IsNodeIn states classes (Goto next) = next < states
 IsNodeIn states classes Dead = Unit {0}

@@ -3,6 +3,7 @@ use Rattle.std.specs.Prelude.{
   ◌≡◌,
   ℕ,
   ◌<◌,
+  ◌+◌,
   ◌≤◌,
   ◌⊎◌,
   Bool,
@@ -80,3 +81,13 @@ landed g nodes i (q ∷ qs) ss =
 unfoldable pub Rising : List ℕ → Type 0
 Rising [] = Unit {0}
 Rising (x ∷ xs) = ((q : ℕ) → Among q xs → x < q) × Rising xs
+
+-- A place is taken: its leaves take what stands there, and it is kept where the end of a path is met.
+pub record IsTakenAt (g : Scene) (nodes : List Node) (i : ℕ) (start : List ℕ)
+    (others later : List Seed) (found found' : List ℕ) (old tests : ℕ) : Type 0 where
+  pub leaves : List ℕ
+  pub hit : Bool
+  pub closed : IsClosed g nodes i start leaves hit
+  pub found_is : found' ≡ kept hit i found
+  pub later_is : later ≡ landed g nodes i leaves others
+  pub few : tests ≤ old + length leaves

@@ -10,7 +10,6 @@ use Rattle.std.specs.Prelude.{
   false,
   ◌&&◌,
   ◌||◌,
-  not,
   Option,
   Some,
   None,
@@ -20,7 +19,6 @@ use Rattle.pat_tree.specs.declared.nodes.Verb.{Verb}
 use Rattle.pat_tree.specs.declared.nodes.Verb.TheVariants.{Fail}
 use Rattle.pat_tree.specs.Nested as tree
 use Rattle.pat_tree.specs.Nested.{Nested, Row, Test, Other}
-use Rattle.match_items.specs.Views.{asks_ucp}
 use Rattle.pat_check.specs.Size.{size}
 use Rattle.pat_check.specs.Support.{dfa_support}
 use Rattle.pat_check.specs.declared.support.DfaSupport.{DfaSupport}
@@ -44,8 +42,8 @@ abbrev pub is_fail : Verb → Bool
 is_fail (Fail name) = true
 is_fail _ = false
 
--- The forms of which a graph is made: all that are supported but atomic groups, lookarounds,
--- conditions on lookarounds, and assertions that ask for word characters of Unicode.
+-- The forms of which a graph is made: all that are supported but atomic groups, lookarounds, and
+-- conditions on lookarounds.
 unfoldable mutual
   pub has_graph : Nested → Bool
   has_graph tree.empty = true
@@ -60,7 +58,7 @@ unfoldable mutual
   has_graph (tree.condition test first second) = test_has test (other_has second)
   has_graph (tree.call n) = false
   has_graph (tree.ref ns caseless) = false
-  has_graph (tree.anchor kind) = not (asks_ucp kind)
+  has_graph (tree.anchor kind) = true
   has_graph tree.keep_out = false
   has_graph (tree.verb v) = is_fail v
   has_graph (tree.callout c) = true

@@ -2,14 +2,14 @@
 //! that follows.
 ghost use Rattle.std.specs.Prelude.{◌≡◌, List, true, None, IfSome, ◌+◌, ◌<◌, ◌≤◌, ◌==◌, ◌++◌, ◌∷◌, [], IfOk, length, slice_get};
 ghost use Rattle.pat_tree.specs.declared.nodes.Placed.{Placed};
-ghost use Rattle.dfa_lists.specs.Building.{part_of, ids_of, IsRange, IsTurnRange, part_step, all_step, any_step, turn_step, turns_step, step_of, node_of, IsPart, tree_of, anchor_step, cond_step, verb_step, is_refused, states_after, task, tasks_after};
+ghost use Rattle.dfa_lists.specs.Building.{part_of, ids_of, IsRange, IsTurnRange, part_step, all_step, any_step, turn_step, turns_step, step_of, node_of, IsPart, tree_of, cond_step, verb_step, is_refused, states_after, task, tasks_after};
 ghost use Rattle.dfa_lists.specs.declared.graph.Node.TheVariants.{Dead};
 ghost use Rattle.dfa_lists.specs.Fragment.{IsGraphOf};
 ghost use Rattle.dfa_lists.specs.Served.{has_graph};
 ghost use Rattle.pat_check.specs.Size.{whole_size};
 
 use crate::graph::Node;
-use pat_tree::{AnchorKind, Cond, Memory, Node as Part, NodeId, Tree, Verb};
+use pat_tree::{Cond, Memory, Node as Part, NodeId, Tree, Verb};
 use std::alloc::Global;
 
 /// What is to be placed.
@@ -102,7 +102,9 @@ fn part_work(node: &Part, part: NodeId, next: u32) -> Step
         Part::Break => Step::Write {
             node: Node::Break { next },
         },
-        Part::Anchor(kind) => anchor_work(*kind, next),
+        Part::Anchor(kind) => Step::Write {
+            node: Node::Anchor { kind: *kind, next },
+        },
         Part::Seq(_) => Step::Hand {
             work: Work::All { part, from: 0 },
         },
@@ -119,18 +121,6 @@ fn part_work(node: &Part, part: NodeId, next: u32) -> Step
         Part::Cond { test, no, .. } => cond_work(test, *no, next),
         Part::VerbNode(verb) => verb_work(verb),
         _ => Step::Refuse,
-    }
-}
-
-/// What an assertion comes to: one that asks for word characters of Unicode is refused.
-fn anchor_work(kind: AnchorKind, next: u32) -> Step
-    ensures { result ≡ anchor_step kind next }
-{
-    match kind {
-        AnchorKind::Word { ucp: true } | AnchorKind::NotWord { ucp: true } => Step::Refuse,
-        _ => Step::Write {
-            node: Node::Anchor { kind, next },
-        },
     }
 }
 

@@ -1,8 +1,9 @@
 //! The graph of a tree, and its ends from a place.
-ghost use Rattle.std.specs.Prelude.{◌≡◌, ◌+◌, ◌-◌, ◌*◌, ◌≤◌, None, IfOk, IfErr, length};
+ghost use Rattle.std.specs.Prelude.{◌≡◌, ℕ, ◌+◌, ◌-◌, ◌*◌, ◌≤◌, None, IfOk, IfErr, length};
 ghost use Rattle.pat_tree.specs.Nested.{Nested};
-ghost use Rattle.match_items.specs.Subjects.{IsSubject, IsPlace};
-ghost use Rattle.match_items.specs.Views.{scene_of};
+ghost use Rattle.match_items.specs.Subjects.{IsText, IsTextPlace};
+ghost use Rattle.match_items.specs.Views.{text_scene};
+ghost use Rattle.dfa_ends.specs.Ends.{Among};
 ghost use Rattle.dfa_lists.specs.Graph.{takers};
 ghost use Rattle.dfa_lists.specs.Fragment.{IsGraphOf, AreEnds};
 ghost use Rattle.dfa_lists.specs.Building.{tree_of};
@@ -14,7 +15,7 @@ use crate::build::place_tree;
 use crate::graph::Node;
 use crate::lists::{EndList, ends_of};
 use char_sets::ClassTable;
-use match_items::View;
+use match_items::{View, places_stand};
 use pat_check::{DfaSupport, Facts};
 use pat_tree::{Memory, Steps, Tree};
 use std::alloc::Global;
@@ -47,8 +48,7 @@ pub enum GraphError {
     Cond,
     /// The pattern has more than 65,536 nodes with its repeats written out.
     TooLarge,
-    /// The pattern holds an atomic group, a lookaround, or an assertion that asks for word characters
-    /// of Unicode: no graph is made of these yet.
+    /// The pattern holds an atomic group or a lookaround: no graph is made of these yet.
     NotBuilt,
     /// Want of memory.
     Memory,
@@ -109,13 +109,17 @@ pub fn graph_ends<L: Ledger>(
     place: usize,
     steps: &mut Steps<L>,
 ) -> Result<EndList, Memory>
-    requires subject { IsSubject view.now.options.now view.now.subject.now }
-    requires place { IsPlace view.now.options.now view.now.subject.now place }
+    requires subject { IsText view.now.options.now view.now.subject.now }
+    requires place { IsTextPlace view.now.options.now view.now.subject.now place }
     requires graph { (t : Nested) × IsGraphOf (length classes.now) graph.now t }
-    ensures ends { IfOk result (λ found. AreEnds (scene_of view.now classes.now) graph.now place found) }
+    ensures ends { IfOk result (λ found. AreEnds (text_scene view.now classes.now) graph.now place found) }
+    ensures within { IfOk result (λ found. (end : ℕ) → Among end found
+        → (place ≤ end) × (end ≤ length view.now.subject.now)) }
     ensures tests { IfOk result (λ _. steps.new
         ≤ steps.old + takers graph.now * (length view.now.subject.now + 1 - place)) }
 {
+    // so what a state takes ends at a place
+    places_stand();
     let found = ends_of(alloc, &graph.nodes, 0, classes, view, place, steps)?;
     Ok(found)
 }

@@ -1,15 +1,15 @@
 //! All ends of a graph at one place, by lists of states, one character at a time (pcre2matching, "The
 //! alternative matching algorithm").
 ghost use Rattle.std.specs.Prelude.{◌≡◌, ℕ, ◌+◌, ◌-◌, ◌*◌, ◌<◌, ◌≤◌, ◌++◌, List, [], IfOk, length, replicate, false};
-ghost use Rattle.match_items.specs.Subjects.{IsSubject, IsPlace};
-ghost use Rattle.match_items.specs.Views.{bare_scene, scene_of};
+ghost use Rattle.match_items.specs.Subjects.{IsText, IsTextPlace};
+ghost use Rattle.match_items.specs.Views.{bare_text, text_scene};
 ghost use Rattle.dfa_ends.specs.Ends.{Among};
 ghost use Rattle.dfa_lists.specs.Graph.{takes, is_match, moves, lands, target, takers, Accepts, AllBelow, IsNodeIn, IsGraph};
-ghost use Rattle.dfa_lists.specs.Lists.{IsClosed, kept, waiting_at, elsewhere, landed, Rising};
+ghost use Rattle.dfa_lists.specs.Lists.{IsClosed, IsTakenAt, kept, waiting_at, elsewhere, landed, Rising};
 
 use crate::graph::Node;
 use char_sets::ClassTable;
-use match_items::{Taken, View, anchor, break_step, step};
+use match_items::{Taken, View, places_stand, step, text_anchor, text_break_step};
 use pat_tree::{ListOf, Memory, Steps};
 use std::alloc::Global;
 use std::sync::ledger::Ledger;
@@ -34,18 +34,17 @@ fn visit(
     seeds: &mut Vec<u32>,
     leaves: &mut Vec<u32>,
 ) -> Result<bool, Memory>
-    requires subject { IsSubject view.now.options.now view.now.subject.now }
-    requires place { IsPlace view.now.options.now view.now.subject.now at }
-    requires node { (states : ℕ) × (classes : ℕ) × IsNodeIn states classes node }
+    requires subject { IsText view.now.options.now view.now.subject.now }
+    requires place { IsTextPlace view.now.options.now view.now.subject.now at }
     ensures seeds { IfOk result (λ hit. seeds.new.items ≡ seeds.old.items
-        ++ moves (bare_scene view.now) node at) }
+        ++ moves (bare_text view.now) node at) }
     ensures leaves { IfOk result (λ hit. leaves.new.items ≡ kept (takes node) state leaves.old.items) }
     ensures hit { IfOk result (λ hit. hit ≡ is_match node) }
 {
     match node {
         Node::One { .. } | Node::Break { .. } => leaves.push(state)?,
         Node::Anchor { kind, next } => {
-            if anchor(view, kind, at).holds {
+            if text_anchor(view, kind, at).holds {
                 seeds.push(next)?;
             }
         }
@@ -70,14 +69,14 @@ fn close(
     marks: &mut Vec<bool>,
     leaves: &mut Vec<u32>,
 ) -> Result<bool, Memory>
-    requires subject { IsSubject view.now.options.now view.now.subject.now }
-    requires place { IsPlace view.now.options.now view.now.subject.now at }
+    requires subject { IsText view.now.options.now view.now.subject.now }
+    requires place { IsTextPlace view.now.options.now view.now.subject.now at }
     requires few { length nodes.now ≤ 1048576 }
     requires graph { (classes : ℕ) × IsGraph classes nodes.now }
     requires seeds { AllBelow (length nodes.now) seeds.old.items }
     requires marks { marks.old.items ≡ replicate (length nodes.now) false }
     requires leaves { leaves.old.items ≡ [] }
-    ensures { IfOk result (λ hit. IsClosed (bare_scene view.now) nodes.now at seeds.old.items
+    ensures { IfOk result (λ hit. IsClosed (bare_text view.now) nodes.now at seeds.old.items
         leaves.new.items hit) }
 {
     let mut hit = false;
@@ -125,15 +124,15 @@ fn land<L: Ledger>(
     at: usize,
     steps: &mut Steps<L>,
 ) -> Option<usize>
-    requires subject { IsSubject view.now.options.now view.now.subject.now }
-    requires place { IsPlace view.now.options.now view.now.subject.now at }
+    requires subject { IsText view.now.options.now view.now.subject.now }
+    requires place { IsTextPlace view.now.options.now view.now.subject.now at }
     requires node { (states : ℕ) × IsNodeIn states (length classes.now) node }
-    ensures value { result ≡ lands (scene_of view.now classes.now) node at }
+    ensures value { result ≡ lands (text_scene view.now classes.now) node at }
     ensures tests { steps.new ≤ steps.old + 1 }
 {
     let taken = match node {
         Node::One { item, .. } => step(view, classes, &item, at, steps),
-        Node::Break { .. } => break_step(view, at),
+        Node::Break { .. } => text_break_step(view, at),
         _ => Taken::No,
     };
     match taken {
@@ -162,12 +161,12 @@ fn advance<L: Ledger>(
     later: &mut Vec<Seed>,
     steps: &mut Steps<L>,
 ) -> Result<(), Memory>
-    requires subject { IsSubject view.now.options.now view.now.subject.now }
-    requires place { IsPlace view.now.options.now view.now.subject.now at }
+    requires subject { IsText view.now.options.now view.now.subject.now }
+    requires place { IsTextPlace view.now.options.now view.now.subject.now at }
     requires few { length nodes.now ≤ 1048576 }
     requires graph { IsGraph (length classes.now) nodes.now }
     requires leaves { AllBelow (length nodes.now) leaves.now }
-    ensures later { IfOk result (λ _. later.new.items ≡ landed (scene_of view.now classes.now)
+    ensures later { IfOk result (λ _. later.new.items ≡ landed (text_scene view.now classes.now)
         nodes.now at leaves.now later.old.items) }
     ensures tests { steps.new ≤ steps.old + length leaves.now }
 {
@@ -195,6 +194,35 @@ fn note(found: &mut EndList, at: usize, hit: bool) -> Result<(), Memory>
     Ok(())
 }
 
+/// Takes the states that wait at a place: what follows them there, what these take, and whether the
+/// end of a path is among them.
+fn take_place<L: Ledger>(
+    alloc: Global,
+    view: &View<'_>,
+    classes: &ClassTable,
+    nodes: &[Node],
+    at: usize,
+    seeds: &mut Vec<u32>,
+    later: &mut Vec<Seed>,
+    found: &mut EndList,
+    steps: &mut Steps<L>,
+) -> Result<(), Memory>
+    requires subject { IsText view.now.options.now view.now.subject.now }
+    requires place { IsTextPlace view.now.options.now view.now.subject.now at }
+    requires few { length nodes.now ≤ 1048576 }
+    requires graph { IsGraph (length classes.now) nodes.now }
+    requires seeds { AllBelow (length nodes.now) seeds.old.items }
+    ensures { IfOk result (λ _. IsTakenAt (text_scene view.now classes.now) nodes.now at
+        seeds.old.items later.old.items later.new.items found.old found.new steps.old steps.new) }
+{
+    let mut marks = vec![in alloc; false; nodes.len()]?;
+    let mut leaves: Vec<u32> = Vec::new(alloc);
+    let hit = close(view, nodes, at, seeds, &mut marks, &mut leaves)?;
+    note(found, at, hit)?;
+    advance(view, classes, nodes, &leaves, at, later, steps)?;
+    Ok(())
+}
+
 /// The places where a path from a state and a place can end, rising. Each place costs at most one
 /// test of each state that takes something.
 pub(crate) fn ends_of<L: Ledger>(
@@ -206,19 +234,21 @@ pub(crate) fn ends_of<L: Ledger>(
     place: usize,
     steps: &mut Steps<L>,
 ) -> Result<EndList, Memory>
-    requires subject { IsSubject view.now.options.now view.now.subject.now }
-    requires place { IsPlace view.now.options.now view.now.subject.now place }
+    requires subject { IsText view.now.options.now view.now.subject.now }
+    requires place { IsTextPlace view.now.options.now view.now.subject.now place }
     requires few { length nodes.now ≤ 1048576 }
     requires graph { IsGraph (length classes.now) nodes.now }
     requires entry { entry < length nodes.now }
     ensures sound { IfOk result (λ found. (end : ℕ) → Among end found
-        → Accepts (scene_of view.now classes.now) nodes.now end entry place) }
+        → Accepts (text_scene view.now classes.now) nodes.now end entry place) }
     ensures full { IfOk result (λ found. (end : ℕ)
-        → Accepts (scene_of view.now classes.now) nodes.now end entry place → Among end found) }
+        → Accepts (text_scene view.now classes.now) nodes.now end entry place → Among end found) }
     ensures rising { IfOk result (λ found. Rising found) }
     ensures tests { IfOk result (λ _. steps.new
         ≤ steps.old + takers nodes.now * (length view.now.subject.now + 1 - place)) }
 {
+    // so what a state takes ends at a place
+    places_stand();
     let mut found: EndList = ListOf::new(alloc);
     let mut pending: Vec<Seed> = Vec::new(alloc);
     pending.push(Seed {
@@ -230,11 +260,11 @@ pub(crate) fn ends_of<L: Ledger>(
         let mut seeds: Vec<u32> = Vec::new(alloc);
         let mut later: Vec<Seed> = Vec::new(alloc);
         part(&pending, at, &mut seeds, &mut later)?;
-        let mut marks = vec![in alloc; false; nodes.len()]?;
-        let mut leaves: Vec<u32> = Vec::new(alloc);
-        let hit = close(view, nodes, at, &mut seeds, &mut marks, &mut leaves)?;
-        note(&mut found, at, hit)?;
-        advance(view, classes, nodes, &leaves, at, &mut later, steps)?;
+        if !seeds.is_empty() {
+            take_place(
+                alloc, view, classes, nodes, at, &mut seeds, &mut later, &mut found, steps,
+            )?;
+        }
         pending = later;
         at += 1;
     }

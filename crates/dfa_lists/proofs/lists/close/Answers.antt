@@ -1,6 +1,5 @@
-use Rattle.std.proofs.Common.{false, length, arith}
+use Rattle.std.proofs.Common.{false, arith}
 use Rattle.std.proofs.lemmas.Grind.{common_steps}
-use Rattle.dfa_lists.proofs.Places.{get_of}
 use Rattle.dfa_lists.proofs.Closing.{
   begin,
   closed,
@@ -30,15 +29,6 @@ index_mut-requires c =
 
 pub bounds-nodes-q : goal.bounds-nodes-q
 bounds-nodes-q c = popped_in _ _ _ _ _ _ _ _ _ _ c.in-Some.ensures.items c.seeds.invariant
-
-pub visit-requires-clause-node : goal.visit-requires-clause-node
-visit-requires-clause-node c =
-    let l = popped_in _ _ _ _ _ _ _ _ _ _ c.in-Some.ensures.items c.seeds.invariant in (
-      length c.args.nodes.now,
-      c.requires.graph.0,
-      c.requires.graph.1 c.in-Some.state _
-          (get_of c.args.nodes.now c.in-Some.state _ l),
-    )
 
 pub seeds-smaller-then-hit : goal.seeds-smaller-then-hit
 seeds-smaller-then-hit c =

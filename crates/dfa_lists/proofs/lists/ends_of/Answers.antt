@@ -1,44 +1,40 @@
 use Rattle.std.proofs.Common.{◌≡◌, ◌<◌, [], ◌∷◌, ◌++◌, ◌∙◌, ap, length, arith}
 use Rattle.std.proofs.lemmas.Grind.{common_steps}
+use Rattle.match_items.specs.Views.{text_scene}
 use Rattle.dfa_lists.specs.Lists.{waiting_at}
 use Rattle.dfa_lists.proofs.Running.{
   starts,
   goes_on,
+  stands_here,
   waiting_below,
-  leaves_in,
   below_like,
   place_follows,
+  none_taken,
   ended,
 }
 use Rattle.dfa_lists.proofs.lists.ends_of.Goals as goal
+use Rattle.dfa_lists.proofs.lists.ends_of.Goals.{then-not-is_empty+in_ok-take_place, else-not-is_empty}
 
 pub places-init : goal.places-init
 places-init g c =
-    starts _ _ _ _ _ _ _ c.requires.place.within c.requires.entry
+    starts _ _ _ _ _ _ _ c.requires.place c.requires.entry
     (c.in_ok-push.ensures.items ∙ ap
     (λ xs. xs ++ record { at = c.args.place; state = c.args.entry } ∷ [])
     c.new-pending.ensures.items)
     c.new-found.ensures
 
-pub close-requires-clause-place : goal.close-requires-clause-place
-close-requires-clause-place g c =
-    let l : 0 < length c.places.pending.items = grind (arith, common_steps, c.is_empty.ensures) in
-    record { within = goes_on _ _ _ _ _ _ _ _ _ c.places.invariant l }
+pub take_place-requires-clause-place : goal.take_place-requires-clause-place
+take_place-requires-clause-place g c =
+    let l : 0 < length c.part.new.seeds.items = grind
+    (arith, common_steps, c.is_empty-in-places.ensures, c.if-not-is_empty.true) in
+    stands_here _ _ _ _ _ _ _ _ _ c.places.invariant c.part.new.seeds.items
+    (c.in_ok-part.ensures.seeds ∙ ap (λ ss. waiting_at c.places.at ss) c.deref.ensures.value) l
 
-pub close-requires-clause-seeds : goal.close-requires-clause-seeds
-close-requires-clause-seeds g c =
+pub take_place-requires-clause-seeds : goal.take_place-requires-clause-seeds
+take_place-requires-clause-seeds g c =
     below_like _ _ _ (c.in_ok-part.ensures.seeds ∙ ap (λ ss. waiting_at c.places.at ss)
     c.deref.ensures.value)
     (waiting_below _ _ _ _ _ _ _ _ _ c.places.invariant)
-
-pub advance-requires-clause-place : goal.advance-requires-clause-place
-advance-requires-clause-place g c =
-    let l : 0 < length c.places.pending.items = grind (arith, common_steps, c.is_empty.ensures) in
-    record { within = goes_on _ _ _ _ _ _ _ _ _ c.places.invariant l }
-
-pub advance-requires-clause-leaves : goal.advance-requires-clause-leaves
-advance-requires-clause-leaves g c =
-    below_like _ _ _ c.deref-in-places.ensures.value (leaves_in _ _ _ _ _ _ c.in_ok-hit.ensures)
 
 pub places-smaller : goal.places-smaller
 places-smaller g c =
@@ -49,11 +45,25 @@ places-smaller g c =
 pub places-preserved : goal.places-preserved
 places-preserved g c =
     let l : 0 < length c.places.pending.items = grind (arith, common_steps, c.is_empty.ensures) in
-    place_follows c.args.view.now _ _ _ _ _ _ _ _ _ _ _ _ _ _ _ _ _ _ c.requires.subject.no_utf
-    c.requires.graph c.places.invariant l
-    c.deref.ensures.value c.in_ok-part.ensures.seeds c.in_ok-part.ensures.later
-    c.in_ok-hit.ensures c.deref-in-places.ensures.value
-    c.in_ok-note.ensures c.in_ok-advance.ensures.later c.in_ok-advance.ensures.tests
+    let scene = text_scene c.args.view.now c.args.classes.now in
+    let along = c.places_stand.ensures scene c.requires.subject in
+    elim c.if-not-is_empty.branch [
+      | then-not-is_empty+in_ok-take_place w ↦
+          rw (w.later-is, w.found-is, w.steps-is)
+          (place_follows scene _ _ _ _ _ _ _ _ _ _ _ _ _ _ _ along c.requires.graph
+          c.places.invariant l
+          c.deref.ensures.value c.in_ok-part.ensures.seeds c.in_ok-part.ensures.later
+          w.in_ok-take_place.ensures)
+      | else-not-is_empty w ↦
+          let e : length c.part.new.seeds.items ≡ 0 = grind
+          (arith, common_steps, c.is_empty-in-places.ensures, w.if-not-is_empty.false) in
+          rw (w.later-is, w.found-is, w.steps-is)
+          (place_follows scene _ _ _ _ _ _ _ _ _ _ _ _ _ _ _ along c.requires.graph
+          c.places.invariant l
+          c.deref.ensures.value c.in_ok-part.ensures.seeds c.in_ok-part.ensures.later
+          (none_taken scene _ c.places.at c.part.new.seeds.items c.places.found
+          c.part.new.later.items c.places.steps e))
+    ]
 
 pub returns-clause-full : goal.returns-clause-full
 returns-clause-full g c =

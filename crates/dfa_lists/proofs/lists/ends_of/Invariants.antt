@@ -1,11 +1,11 @@
 use Rattle.std.proofs.Common.{◌+◌, ◌-◌, length}
-use Rattle.match_items.specs.Views.{scene_of}
+use Rattle.match_items.specs.Views.{text_scene}
 use Rattle.dfa_lists.proofs.Running.{Running}
 use Rattle.dfa_lists.proofs.lists.ends_of.Given as goal
 
 abbrev pub invariant-places : goal.invariant-places
 invariant-places g l =
-    Running (scene_of l.view l.classes) l.nodes l.entry l.place l.at l.pending.items l.found
+    Running (text_scene l.view l.classes) l.nodes l.entry l.place l.at l.pending.items l.found
     l.fn.steps l.steps
 
 abbrev pub decreases-places : goal.decreases-places

@@ -1,0 +1,4 @@
+pub mod Downward
+pub mod Scenes
+pub mod Ending
+pub mod Walking

@@ -1,0 +1,10 @@
+//! Which ends a pattern has at the first start place that decides (pcre2matching, "The alternative
+//! matching algorithm").
+#![tactic(auto)]
+
+mod answer;
+mod drive;
+mod ends;
+
+pub use answer::DfaAnswer;
+pub use drive::dfa_search;
