@@ -10,3 +10,4 @@ pub mod Walking
 pub mod Replacing
 pub mod Rewriting
 pub mod SubstitutionRows
+pub mod DfaMatching

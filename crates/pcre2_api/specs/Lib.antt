@@ -12,3 +12,5 @@ pub mod Walks
 pub mod Substituted
 pub mod WorkedSubstitutions
 pub mod SubstErrors
+pub mod DfaMatched
+pub mod DfaErrors

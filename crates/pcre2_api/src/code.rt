@@ -4,6 +4,10 @@ ghost use Rattle.std.specs.Option.{option_copied};
 ghost use Rattle.pat_tree.specs.declared.options.PartialMode.TheVariants.{Off};
 ghost use Rattle.pcre_io.specs.declared.callouts.Block.{Block};
 ghost use Rattle.pat_tree.specs.Pattern.{pattern_of};
+ghost use Rattle.pat_tree.specs.Built.{IsBuilt};
+ghost use Rattle.pat_tree.specs.Parts.{tree_of};
+ghost use Rattle.char_sets.specs.Table.{IsTableOf};
+ghost use Rattle.frame_machine.specs.Ready.{AreFactsOf};
 ghost use Rattle.pcre2_api.specs.Compiled.{Compiles, IsCompileError, info_of};
 ghost use Rattle.pcre2_api.specs.Patterns.{compiled};
 ghost use Rattle.pcre2_api.specs.Informs.{info_in};
@@ -216,6 +220,20 @@ impl Code {
         ensures { info_of self.now ≡ info_in (pattern_of self.now.tree) }
     {
         self.tree.is_sound();
+    }
+
+    /// The pattern, made ready for searches.
+    pub(crate) fn ready(&self) -> Ready<'_>
+        ensures tree { result.tree.now ≡ self.now.tree }
+        ensures table { IsTableOf result.tree.now result.classes.now }
+        ensures facts { AreFactsOf result.tree.now result.facts.now }
+        ensures built { IsBuilt (tree_of result.tree.now) }
+    {
+        Ready {
+            tree: &self.tree,
+            classes: &self.classes,
+            facts: &self.facts,
+        }
     }
 
     /// The names of groups.

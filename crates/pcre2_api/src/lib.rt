@@ -3,6 +3,7 @@
 #![tactic(auto)]
 
 mod code;
+mod dfa;
 mod error;
 mod found;
 mod laws;
@@ -16,12 +17,14 @@ mod texts;
 mod walk;
 
 pub use code::{Code, Info};
+pub use dfa::{DfaError, DfaFound};
+pub use dfa_lists::EndList;
 pub use error::{CompileError, MatchError};
 pub use found::Found;
 pub use frame_machine::Scratch;
 pub use frame_store::Span;
 pub use laws::worked_substitutions;
-pub use pat_tree::{Bsr, MatchOptions, Newline, Options, PartialMode};
+pub use pat_tree::{Bsr, MatchOptions, Newline, Options, PartialMode, Steps};
 pub use pcre_io::{Block, Callouts, NoCallouts};
 pub use starts::is_text;
 pub use subst_error::SubstError;

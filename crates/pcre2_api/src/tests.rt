@@ -1,6 +1,7 @@
 ghost use Rattle.pat_tree.specs.declared.options.PartialMode.TheVariants.{Off};
 ghost use Rattle.std.specs.Prelude.{◌≡◌};
 
+mod dfa;
 mod substitutions;
 mod utf;
 

@@ -1,0 +1,59 @@
+use Rattle.std.proofs.Common.{rules, ◌≡◌, ◌∙◌, Err, IfErr, sym, ap, subst}
+use Rattle.pat_tree.specs.Parts.{TreeParts, tree_of}
+use Rattle.pat_tree.specs.declared.options.Options.{Options}
+use Rattle.match_items.specs.Subjects.{IsText, IsTextPlace}
+use Rattle.frame_machine.specs.Ready.{setting_in}
+use Rattle.frame_machine.proofs.Forms.{built_runs}
+use Rattle.match_drive.specs.Asked.{passed_over}
+use Rattle.dfa_ends.specs.DfaAnswer.{EndsFrom, NoMatch, dfa_answer}
+use Rattle.pcre2_api.specs.Matched.{search_of}
+use Rattle.pcre2_api.specs.DfaMatched.{IsDfaError, error_of}
+use Rattle.pcre2_api.proofs.Starting.{begun-text, begun-place}
+use Rattle.pcre2_api.proofs.DfaMatching.{barred, answered}
+use Rattle.pcre2_api.proofs.code.Code.ends_from.Goals as goal
+
+pub returns-in_err-graph-clause-refused : goal.returns-in_err-graph-clause-refused
+returns-in_err-graph-clause-refused g c =
+    let asked = search_of c.args.self.now c.args.options.now c.args.subject.now c.args.start passed_over in
+    let e = c.in_err-graph.field-0.0 in
+    let same : c.from_residual.result ≡ Err (error_of e) = search rules in
+    subst (λ r. IfErr r (IsDfaError asked)) (sym same)
+    (barred asked c.requires.begun e (rw c.ready-ready.ensures.tree at c.in_err-graph.ensures.refused))
+
+pub dfa_search-requires-clause-ready : goal.dfa_search-requires-clause-ready
+dfa_search-requires-clause-ready g c =
+    let subject = c.args.subject.now in
+    let same : c.options-compiled.result.now ≡ c.args.self.now.tree.options = c.options-compiled.ensures
+    ∙ ap (λ (t : TreeParts). t.options) c.ready-ready.ensures.tree in
+    record {
+      table = c.ready-ready.ensures.table;
+      facts = c.ready-ready.ensures.facts;
+      runs = built_runs (tree_of c.ready-ready.result.tree.now) c.ready-ready.ensures.built;
+      options = c.options-compiled.ensures;
+      subject = subst (λ (o : Options). IsText o subject) (sym same) (begun-text _ _ _ c.requires.begun c.requires.short);
+      start = subst (λ (o : Options). IsTextPlace o subject c.args.start) (sym same) (begun-place _ _ _ c.requires.begun);
+      off = c.requires.off;
+    }
+
+pub returns-in-Ends-clause-found : goal.returns-in-Ends-clause-found
+returns-in-Ends-clause-found g c =
+    let matching = c.args.options.now in
+    let subject = c.args.subject.now in
+    let asked = search_of c.args.self.now matching subject c.args.start passed_over in
+    let answer = EndsFrom c.in-Ends.start c.in-Ends.ends in
+    let served = rw c.ready-ready.ensures.tree at c.in_ok-graph.ensures.served in
+    let is : dfa_answer asked matching.dfa_shortest ≡ answer = subst
+    (λ (t : TreeParts). dfa_answer (setting_in t matching subject c.args.start passed_over) matching.dfa_shortest ≡ answer)
+    c.ready-ready.ensures.tree (rw c.in-Ends.is at c.in_ok-answer.ensures.answer) in
+    (answered asked c.requires.begun answer served is, rw c.in-Ends.is at c.in_ok-answer.ensures.placed)
+
+pub returns-in-NoMatch-clause-refused : goal.returns-in-NoMatch-clause-refused
+returns-in-NoMatch-clause-refused g c =
+    let matching = c.args.options.now in
+    let subject = c.args.subject.now in
+    let asked = search_of c.args.self.now matching subject c.args.start passed_over in
+    let served = rw c.ready-ready.ensures.tree at c.in_ok-graph.ensures.served in
+    let is : dfa_answer asked matching.dfa_shortest ≡ NoMatch = subst
+    (λ (t : TreeParts). dfa_answer (setting_in t matching subject c.args.start passed_over) matching.dfa_shortest ≡ NoMatch)
+    c.ready-ready.ensures.tree (rw c.in-NoMatch.is at c.in_ok-answer.ensures.answer) in
+    answered asked c.requires.begun NoMatch served is

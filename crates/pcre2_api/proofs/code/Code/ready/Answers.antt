@@ -1,0 +1,10 @@
+use Rattle.pcre2_api.proofs.code.Code.ready.Goals as goal
+
+pub returns-clause-table : goal.returns-clause-table
+returns-clause-table c = c.self.invariant.table
+
+pub returns-clause-facts : goal.returns-clause-facts
+returns-clause-facts c = c.self.invariant.facts
+
+pub returns-clause-built : goal.returns-clause-built
+returns-clause-built c = c.self.invariant.built

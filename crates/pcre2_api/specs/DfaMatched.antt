@@ -1,0 +1,58 @@
+-- What a match by all ends answers (pcre2api, "Matching a pattern: the alternative function").
+use Rattle.std.specs.Prelude.{◌≡◌, length, Some, None}
+use Rattle.ordered_search.specs.Setting.{Setting}
+use Rattle.dfa_ends.specs.DfaAnswer as meant
+use Rattle.dfa_ends.specs.DfaAnswer.{EndsFrom, dfa_answer}
+use Rattle.dfa_lists.specs.declared.ends.GraphError.{GraphError}
+use Rattle.dfa_lists.specs.declared.ends.GraphError.TheVariants as graph
+use Rattle.dfa_lists.specs.Served.{refusal}
+use Rattle.dfa_drive.specs.Answer.{AreWithin}
+use Rattle.pcre2_api.specs.Matched.{fault_in}
+use Rattle.pcre2_api.specs.declared.error.MatchError.{MatchError}
+use Rattle.pcre2_api.specs.declared.error.MatchError.TheVariants as beginning
+use Rattle.pcre2_api.specs.declared.dfa.DfaFound.{DfaFound}
+use Rattle.pcre2_api.specs.declared.dfa.DfaError.{DfaError}
+use Rattle.pcre2_api.specs.declared.dfa.DfaError.TheVariants as told
+
+-- The pattern is refused for this; no match is looked for.
+pub record IsBarred (g : Setting) (e : GraphError) : Type 0 where
+  pub begun : fault_in g ≡ None
+  pub refused : refusal g.whole ≡ Some e
+
+-- a match is looked for, and this is the answer
+pub record IsAnswered (g : Setting) (a : meant.DfaAnswer) : Type 0 where
+  pub begun : fault_in g ≡ None
+  pub served : refusal g.whole ≡ None
+  pub answer : dfa_answer g g.matching.dfa_shortest ≡ a
+
+-- and the ends lie in the subject
+abbrev pub IsDfaFound : Setting → DfaFound → Type 0
+IsDfaFound g f =
+    IsAnswered g (EndsFrom f.start f.ends) × AreWithin f.start (length g.subject) f.ends
+
+-- Why there is no match: each refusal has its cause. Without partial matching there is no partial
+-- match. Want of memory may come at any time.
+abbrev pub IsDfaError : Setting → DfaError → Type 0
+IsDfaError g told.BadOffset = fault_in g ≡ Some beginning.BadOffset
+IsDfaError g (told.BadUtf at) = fault_in g ≡ Some (beginning.BadUtf at)
+IsDfaError g told.BadUtfOffset = fault_in g ≡ Some beginning.BadUtfOffset
+IsDfaError g told.Item = IsBarred g graph.Item
+IsDfaError g told.Cond = IsBarred g graph.Cond
+IsDfaError g told.TooLarge = IsBarred g graph.TooLarge
+IsDfaError g told.NotBuilt = IsBarred g graph.NotBuilt
+IsDfaError g told.NoMatch = IsAnswered g meant.NoMatch
+IsDfaError g (told.Partial start end) = ⊥
+IsDfaError g told.Memory = Unit {0}
+
+abbrev pub error_of : GraphError → DfaError
+error_of graph.Item = told.Item
+error_of graph.Cond = told.Cond
+error_of graph.TooLarge = told.TooLarge
+error_of graph.NotBuilt = told.NotBuilt
+error_of graph.Memory = told.Memory
+
+-- why a match can't begin at a start
+abbrev pub start_error_of : MatchError → DfaError
+start_error_of (beginning.BadUtf at) = told.BadUtf at
+start_error_of beginning.BadUtfOffset = told.BadUtfOffset
+start_error_of _ = told.BadOffset
