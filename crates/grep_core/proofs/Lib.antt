@@ -18,3 +18,4 @@ pub mod Steps
 pub mod Halting
 pub mod Taking
 pub mod FileTexts
+pub mod Watching

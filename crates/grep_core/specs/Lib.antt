@@ -19,3 +19,4 @@ pub mod WholeScans
 pub mod Follows
 pub mod Sending
 pub mod OneInput
+pub mod Watched

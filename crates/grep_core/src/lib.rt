@@ -13,6 +13,7 @@ mod state;
 mod summary;
 #[cfg(test)]
 mod tests;
+mod watch;
 
 pub use ended::{Ended, FileEnd, Stop};
 pub use file::grep_file;

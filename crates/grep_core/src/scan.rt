@@ -1,22 +1,24 @@
 //! The scan of an input, line by line.
-ghost use Rattle.std.specs.Prelude.{◌≡◌, ◌≢◌, List, ◌<◌, ◌≤◌, ◌+◌, ◌^◌, ◌||◌, ◌&&◌, true, false, [], length, flat_map, IfOk, OnOk, Ok, Err, None};
+ghost use Rattle.std.specs.Prelude.{◌≡◌, ◌≢◌, List, ◌<◌, ◌≤◌, ◌+◌, ◌^◌, ◌||◌, ◌&&◌, true, false, [], length, flat_map, IfOk, OnOk, Ok, Err, None, IsTrue};
 ghost use Rattle.pcre_io.specs.Told.{Told};
 ghost use Rattle.line_feed.specs.Rows.{Row};
 ghost use Rattle.line_feed.specs.Lines.{row_of};
 ghost use Rattle.line_feed.specs.declared.phase.Phase.TheVariants.{Closed};
 ghost use Rattle.grep_core.specs.declared.shows.Show.TheVariants.{Lines, Parts, Nothing};
+ghost use Rattle.grep_core.specs.declared.scan.Next.{Next};
 ghost use Rattle.grep_match.specs.Compiled.{patterns_in};
 ghost use Rattle.grep_match.specs.PatternTexts.{line_end};
 ghost use Rattle.grep_match.specs.Matches.{Tried, tried_row, is_selected, matches};
 ghost use Rattle.grep_core.specs.Context.{parts_groups};
 ghost use Rattle.grep_core.specs.Course.{begins_group, line_as, selected_out, passed_out, course_after_selected, course_after_passed, is_lines};
 ghost use Rattle.ordered_search.specs.PlaceAnswer.{Outcome};
-ghost use Rattle.grep_match.specs.Found.{Lists, ListsMatches};
+ghost use Rattle.grep_match.specs.Found.{Lists, ListsMatches, IsVerdict};
 ghost use Rattle.tool_out.specs.Writes.{Writes};
 ghost use Rattle.grep_core.specs.declared.shows.Treatment.{Treatment};
 ghost use Rattle.grep_core.specs.Turns.{course_of, is_full, TakesLine, Passes, Selects, Turns, ended_by};
 ghost use Rattle.grep_core.specs.Follows.{FollowsOne, Follows};
 ghost use Rattle.grep_core.specs.Sending.{SendsOn};
+ghost use Rattle.grep_core.specs.Watched.{Watches};
 ghost use Rattle.grep_core.specs.LittlePast.{bytes_in};
 ghost use Rattle.grep_core.specs.WholeScans.{Stood, IsJob, ScansInput, TakesAll};
 ghost use Rattle.tool_out.specs.Printed.{printed};
@@ -28,10 +30,11 @@ use crate::messages::write_error;
 use crate::parts::write_matches;
 use crate::shows::Show;
 use crate::state::State;
+use crate::watch::Watch;
 use grep_args::GrepPlan;
 use grep_match::{MatchList, Patterns, Verdict, Workspace, search_line};
 use line_feed::{FeedError, Line, LineFeed};
-use pcre_io::{IoError, Sink, Source};
+use pcre_io::{IoError, Memory, Sink, Source};
 use std::alloc::Global;
 use tool_out::{text_if, write_texts};
 
@@ -259,10 +262,32 @@ fn take_error<O: Sink, E: Sink>(
     Ok(Next::Line)
 }
 
+// What the searches on a line answer; none is made where the line is known to have no match.
+fn verdict_on(
+    job: &Job<'_>,
+    line: &[u8],
+    is_quiet: bool,
+    work: &mut Workspace,
+) -> Result<Verdict, Memory>
+    requires short { length line.now < 4294967295 }
+    requires quiet { IsTrue is_quiet
+        → matches job.now.plan.now (patterns_in job.now.patterns.now) line.now ≡ Ok [] }
+    ensures { IfOk result (λ v. IsVerdict job.now.plan.now.only_matching (length line.now)
+        work.new.found v
+        (matches job.now.plan.now (patterns_in job.now.patterns.now) line.now)) }
+{
+    if is_quiet {
+        work.found.clear();
+        return Ok(Verdict::NoMatch);
+    }
+    search_line(job.plan, job.patterns, line, work)
+}
+
 // Takes a line.
 fn take_line<O: Sink, E: Sink>(
     job: &Job<'_>,
     line: &Line<'_>,
+    is_quiet: bool,
     out: &mut O,
     err: &mut E,
     work: &mut Workspace,
@@ -270,6 +295,8 @@ fn take_line<O: Sink, E: Sink>(
     course: &mut Course,
 ) -> Result<Next, Stop>
     requires short { length line.now.bytes.now < 4294967295 }
+    requires quiet { IsTrue is_quiet
+        → matches job.now.plan.now (patterns_in job.now.patterns.now) line.now.bytes.now ≡ Ok [] }
     requires earlier { length course.old.earlier.rows < line.now.number }
     requires context { course.old.context_to ≤ 2 ^ 62 }
     requires offset { line.now.offset ≤ 2 ^ 40 }
@@ -283,7 +310,7 @@ fn take_line<O: Sink, E: Sink>(
         course.old state.old course.new state.new (printed (O.tells out.old) (E.tells err.old))
         (printed (O.tells out.new) (E.tells err.new)) result }
 {
-    let is_match = match search_line(job.plan, job.patterns, line.bytes, work)? {
+    let is_match = match verdict_on(job, line.bytes, is_quiet, work)? {
         Verdict::Match => true,
         Verdict::NoMatch => false,
         Verdict::Error(error) => {
@@ -321,6 +348,7 @@ fn send_on<S: Source, O: Sink>(feed: &mut LineFeed, source: &S, out: &mut O) -> 
 }
 
 // Takes the next line, where there is one.
+#[tactic(auto, using(crate::proofs::Watching::watches_gives))]
 fn take_turn<S: Source, O: Sink, E: Sink>(
     job: &Job<'_>,
     feed: &mut LineFeed,
@@ -330,6 +358,7 @@ fn take_turn<S: Source, O: Sink, E: Sink>(
     work: &mut Workspace,
     state: &mut State,
     course: &mut Course,
+    watch: &mut Watch,
 ) -> Result<Turn, Stop>
     requires live { feed.old.phase ≢ Closed }
     requires max { feed.old.max ≤ 2 ^ 30 }
@@ -340,14 +369,23 @@ fn take_turn<S: Source, O: Sink, E: Sink>(
     requires errors { state.old.errors ≤ 20 }
     requires limit { job.now.show ≡ Lines → course.old.earlier.limit ≡
         job.now.plan.now.before_context }
-    ensures { Turns job.now.plan.now (patterns_in job.now.patterns.now)
+    requires watch { Watches job.now.plan.now (patterns_in job.now.patterns.now) watch.old
+        feed.old.held }
+    ensures turns { Turns job.now.plan.now (patterns_in job.now.patterns.now)
         job.now.name.now job.now.show job.now.most feed.old feed.new (S.tells source.old)
         (S.tells source.new)
         course.old state.old course.new state.new (printed (O.tells out.old) (E.tells err.old))
         (printed (O.tells out.new) (E.tells err.new)) result }
+    ensures watch { (next : Next) → result ≡ Ok (Turn.Took next)
+        → Watches job.now.plan.now (patterns_in job.now.patterns.now) watch.new feed.new.held }
 {
+    watch.look(feed);
     match feed.next(source) {
-        Ok(Some(line)) => Ok(Turn::Took(take_line(job, &line, out, err, work, state, course)?)),
+        Ok(Some(line)) => {
+            let is_quiet = watch.passes(line.bytes);
+            watch.leave(&line);
+            Ok(Turn::Took(take_line(job, &line, is_quiet, out, err, work, state, course)?))
+        }
         Ok(None) => Ok(Turn::Finished(Ended::End)),
         Err(e) => Ok(Turn::Finished(ended_by(e)?)),
     }
@@ -432,9 +470,10 @@ fn take_lines<S: Source, O: Sink, E: Sink>(
         (printed (O.tells out.new) (E.tells err.new)) result }
 {
     prove!(job.plan.after_context <= u32::MAX);
+    let mut watch = Watch::new(job.plan, job.patterns);
     'line: loop {
         send_on(feed, source, out)?;
-        match take_turn(job, feed, source, out, err, work, state, course)? {
+        match take_turn(job, feed, source, out, err, work, state, course, &mut watch)? {
             Turn::Took(Next::Line) => {}
             Turn::Took(Next::Context) => return Ok(None),
             Turn::Finished(ended) => return Ok(Some(ended)),

@@ -66,9 +66,12 @@ fn check_all(rt: &impl Abort, alloc: Global, rows: &[Row]) -> Result<(), Fail> {
 /// Six lines, of which the second and the last are `x`.
 const TEXT: &[u8] = b"a\nx\nb\nc\nd\nx\n";
 
+/// Lines of which some lack each byte that a match needs.
+const RARE: &[u8] = b"a\nxz\n\nbb\nyq\nxy\n";
+
 #[test]
 fn lines_are_shown_with_context(rt: HostRuntime) -> Result<(), Fail> {
-    static ROWS: [Row; 12] = [
+    static ROWS: [Row; 16] = [
         ("-n -C 1 x", TEXT, b"1-a\n2:x\n3-b\n--\n5-d\n6:x\n", b""),
         ("-n -C 2 x", TEXT, b"1-a\n2:x\n3-b\n4-c\n5-d\n6:x\n", b""),
         ("-B 1 x", TEXT, b"a\nx\n--\nd\nx\n", b""),
@@ -81,6 +84,15 @@ fn lines_are_shown_with_context(rt: HostRuntime) -> Result<(), Fail> {
         ("-L x", TEXT, b"", b""),
         ("-L y", TEXT, b"f\n", b""),
         ("-q x", TEXT, b"", b""),
+        ("-n -e xz -e yq", RARE, b"2:xz\n5:yq\n", b""),
+        ("-v -n -e xz -e yq", RARE, b"1:a\n3:\n4:bb\n6:xy\n", b""),
+        ("-C 1 yq", RARE, b"bb\nyq\nxy\n", b""),
+        (
+            "-n -N CRLF z",
+            b"a\r\nz\r\n\r\nz\r\n",
+            b"2:z\r\n4:z\r\n",
+            b"",
+        ),
     ];
     check_all(&rt, rt.alloc(), &ROWS)
 }

@@ -1,3 +1,4 @@
 pub mod Searching
 pub mod PatternTrees
 pub mod PatternLines
+pub mod Lacking

@@ -147,7 +147,7 @@ lists_more wanted len before after place os o had adds within = record {
   within = All-push (IsInLine len) os o had.within within;
 }
 
-lists_none : (wanted : List ℕ) (len : ℕ) (list : Listed) → list ≡ record { places = []; groups = [] } → Lists wanted len list []
+pub lists_none : (wanted : List ℕ) (len : ℕ) (list : Listed) → list ≡ record { places = []; groups = [] } → Lists wanted len list []
 lists_none wanted len list e = record { places = ap (λ l. l.places) e; groups = ap (λ l. l.groups) e; within = All-nil (IsInLine len) }
 
 -- some matches before others
@@ -262,7 +262,7 @@ module _ (plan : GrepPlan) (patterns : List Pattern) (line : List ℕ) where
 
   -- a line
 
-  line_none : first_answer (limits plan) line 0 patterns ≡ none → matches plan patterns line ≡ Ok []
+  pub line_none : first_answer (limits plan) line 0 patterns ≡ none → matches plan patterns line ≡ Ok []
   unfolding matches
   line_none e = rw (e, matches) refl
 

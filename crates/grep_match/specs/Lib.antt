@@ -3,3 +3,4 @@ pub mod Compiled
 pub mod Modes
 pub mod Matches
 pub mod Found
+pub mod Needed

@@ -6,9 +6,11 @@ mod found;
 mod modes;
 mod patterns;
 mod search;
+mod unsearched;
 
 pub use ending::line_end;
 pub use found::{MatchList, Place};
 pub use modes::{Mode, is_matching, is_named, mode_of};
 pub use patterns::{PatternError, Patterns};
 pub use search::{Verdict, Workspace, search_line};
+pub use unsearched::{Needed, needed_bytes};

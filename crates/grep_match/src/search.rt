@@ -170,8 +170,8 @@ fn first_answer(
     Ok(Answer::Nothing)
 }
 
-// The limits of a plan.
-fn limits(plan: &GrepPlan) -> MatchOptions
+/// The limits of a plan.
+pub(crate) fn limits(plan: &GrepPlan) -> MatchOptions
     ensures { result ≡ limits plan.now }
 {
     MatchOptions {

@@ -11,3 +11,4 @@ pub mod Replacing
 pub mod Rewriting
 pub mod SubstitutionRows
 pub mod DfaMatching
+pub mod Needing

@@ -18,7 +18,7 @@ module _ (g : Setting) where
   abbrev by_fault : Option MatchError → Answer
   by_fault f = elim f [ Some e ↦ error (number_of e) | None ↦ answer_of (match_answer g).answer ]
 
-  begun : fault_in g ≡ None → search_answer g ≡ answer_of (match_answer g).answer
+  pub begun : fault_in g ≡ None → search_answer g ≡ answer_of (match_answer g).answer
   begun is = ap by_fault is
 
   unbegun : (e : MatchError) → fault_in g ≡ Some e → search_answer g ≡ error (number_of e)

@@ -14,3 +14,4 @@ pub mod WorkedSubstitutions
 pub mod SubstErrors
 pub mod DfaMatched
 pub mod DfaErrors
+pub mod Needed

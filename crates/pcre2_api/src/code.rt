@@ -1,5 +1,5 @@
 //! A compiled pattern.
-ghost use Rattle.std.specs.Prelude.{◌≡◌, ◌≤◌, ◌<◌, IfOk, IfErr, OnOk, Some, None, length, max, slice_get};
+ghost use Rattle.std.specs.Prelude.{◌≡◌, ◌≤◌, ◌<◌, IfOk, IfErr, IfSome, OnOk, Some, None, length, max, slice_get};
 ghost use Rattle.std.specs.Option.{option_copied};
 ghost use Rattle.pat_tree.specs.declared.options.PartialMode.TheVariants.{Off};
 ghost use Rattle.pcre_io.specs.declared.callouts.Block.{Block};
@@ -16,11 +16,14 @@ ghost use Rattle.ordered_search.specs.Forward.{IsPlainFound};
 ghost use Rattle.ordered_search.specs.MatchAnswer.{match_answer};
 ghost use Rattle.uni_text.specs.Characters.{IsChecked};
 ghost use Rattle.pcre2_api.specs.Matched.{search_of, IsFound, IsMatchError};
+ghost use Rattle.pcre2_api.specs.Needed.{FindsNone};
 ghost use Rattle.pcre2_api.specs.Starts.{start_fault};
 
 use crate::error::{CompileError, MatchError};
 use crate::found::{Found, Text};
+use crate::need::is_within;
 use crate::starts::{test_place, test_start};
+use byte_lanes::ByteSet;
 use char_sets::ClassTable;
 use frame_machine::{Ready, Scratch};
 use match_drive::{MatchAnswer, search};
@@ -213,6 +216,24 @@ impl Code {
             matching: options,
         };
         search(&ready, &view, scratch, calls)
+    }
+
+    /// A set of bytes of which every match takes one: a subject of at most `most` bytes without any has no match, and a
+    /// search of it from its begin passes no limit of `options`. Who has many subjects need not search such ones. None where
+    /// no such set is known.
+    pub fn needed(&self, most: u32, options: &MatchOptions) -> Option<&ByteSet>
+        requires { options.now.«partial» ≡ Off }
+        ensures { IfSome result (λ set. FindsNone self.now options.now most set.now) }
+    {
+        let Some(need) = &self.facts.need else {
+            return None;
+        };
+        let own = self.tree.options();
+        // In UTF a subject that isn't UTF-8 is told, whatever it lacks.
+        if own.utf || !is_within(need, most, own, options) {
+            return None;
+        }
+        Some(&need.bytes)
     }
 
     /// A law: what is told of the code is told of what its pattern is read as.

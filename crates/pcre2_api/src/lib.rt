@@ -7,6 +7,7 @@ mod dfa;
 mod error;
 mod found;
 mod laws;
+mod need;
 mod starts;
 mod subst_error;
 mod substitute;

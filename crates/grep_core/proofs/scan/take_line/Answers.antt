@@ -16,7 +16,7 @@ returns-in-Error g c =
     let t = tried_row job.plan.now (patterns_in job.patterns.now) row in
     let fits : SFits w32 c.in-Error.error = search rules in
     c.take_error.ensures t refl
-    (verdict-error job.plan.now.only_matching (length c.args.line.now.bytes.now) c.search_line.new.work.found c.in-Error.error t.matches (rw c.in-Error.is at c.in_ok-search_line.ensures) ∙ ap Err (sym (to_z-of_z w32 c.in-Error.error fits)))
+    (verdict-error job.plan.now.only_matching (length c.args.line.now.bytes.now) c.verdict_on.new.work.found c.in-Error.error t.matches (rw c.in-Error.is at c.in_ok-verdict_on.ensures) ∙ ap Err (sym (to_z-of_z w32 c.in-Error.error fits)))
 
 pub returns-then-is_match-job : goal.returns-then-is_match-job
 returns-then-is_match-job g c =
@@ -25,11 +25,11 @@ returns-then-is_match-job g c =
     let t = tried_row job.plan.now (patterns_in job.patterns.now) row in
     let wanted = job.plan.now.only_matching in
     let len = length c.args.line.now.bytes.now in
-    let list = c.search_line.new.work.found in
+    let list = c.verdict_on.new.work.found in
     let tried : IsTried wanted len list c.match-branch-2.is_match t.matches =
     elim c.match-branch-2.branch [
-      | in-Match w ↦ subst (λ b. IsTried wanted len list b t.matches) (sym w.is_match-is) (verdict-match wanted len list t.matches (rw w.in-Match.is at c.in_ok-search_line.ensures))
-      | in-NoMatch w ↦ subst (λ b. IsTried wanted len list b t.matches) (sym w.is_match-is) (verdict-none wanted len list t.matches (rw w.in-NoMatch.is at c.in_ok-search_line.ensures))
+      | in-Match w ↦ subst (λ b. IsTried wanted len list b t.matches) (sym w.is_match-is) (verdict-match wanted len list t.matches (rw w.in-Match.is at c.in_ok-verdict_on.ensures))
+      | in-NoMatch w ↦ subst (λ b. IsTried wanted len list b t.matches) (sym w.is_match-is) (verdict-none wanted len list t.matches (rw w.in-NoMatch.is at c.in_ok-verdict_on.ensures))
     ] in
     selected-takes job.plan.now job.name.now job.show job.most t tried.found tried.is _ _ _ _ _ _ _ _
     (tried.selects_so job.plan.now.invert_match ∙ chosen c.match-branch-2.is_match job.plan.now.invert_match c.if-is_match-job.true)
@@ -43,11 +43,11 @@ returns-in_err-pass g c =
     let t = tried_row job.plan.now (patterns_in job.patterns.now) row in
     let wanted = job.plan.now.only_matching in
     let len = length c.args.line.now.bytes.now in
-    let list = c.search_line.new.work.found in
+    let list = c.verdict_on.new.work.found in
     let tried : IsTried wanted len list c.match-branch-2.is_match t.matches =
     elim c.match-branch-2.branch [
-      | in-Match w ↦ subst (λ b. IsTried wanted len list b t.matches) (sym w.is_match-is) (verdict-match wanted len list t.matches (rw w.in-Match.is at c.in_ok-search_line.ensures))
-      | in-NoMatch w ↦ subst (λ b. IsTried wanted len list b t.matches) (sym w.is_match-is) (verdict-none wanted len list t.matches (rw w.in-NoMatch.is at c.in_ok-search_line.ensures))
+      | in-Match w ↦ subst (λ b. IsTried wanted len list b t.matches) (sym w.is_match-is) (verdict-match wanted len list t.matches (rw w.in-Match.is at c.in_ok-verdict_on.ensures))
+      | in-NoMatch w ↦ subst (λ b. IsTried wanted len list b t.matches) (sym w.is_match-is) (verdict-none wanted len list t.matches (rw w.in-NoMatch.is at c.in_ok-verdict_on.ensures))
     ] in
     let stop = c.in_err-pass.field-0.0 in
     let refused : c.from_residual-in_err-pass.result ≡ Err stop = search rules in
@@ -65,11 +65,11 @@ returns g c =
     let t = tried_row job.plan.now (patterns_in job.patterns.now) row in
     let wanted = job.plan.now.only_matching in
     let len = length c.args.line.now.bytes.now in
-    let list = c.search_line.new.work.found in
+    let list = c.verdict_on.new.work.found in
     let tried : IsTried wanted len list c.match-branch-2.is_match t.matches =
     elim c.match-branch-2.branch [
-      | in-Match w ↦ subst (λ b. IsTried wanted len list b t.matches) (sym w.is_match-is) (verdict-match wanted len list t.matches (rw w.in-Match.is at c.in_ok-search_line.ensures))
-      | in-NoMatch w ↦ subst (λ b. IsTried wanted len list b t.matches) (sym w.is_match-is) (verdict-none wanted len list t.matches (rw w.in-NoMatch.is at c.in_ok-search_line.ensures))
+      | in-Match w ↦ subst (λ b. IsTried wanted len list b t.matches) (sym w.is_match-is) (verdict-match wanted len list t.matches (rw w.in-Match.is at c.in_ok-verdict_on.ensures))
+      | in-NoMatch w ↦ subst (λ b. IsTried wanted len list b t.matches) (sym w.is_match-is) (verdict-none wanted len list t.matches (rw w.in-NoMatch.is at c.in_ok-verdict_on.ensures))
     ] in
     passed-takes job.plan.now job.name.now job.show job.most t tried.found tried.is _ _ _ _ _ _
     (tried.selects_so job.plan.now.invert_match ∙ unchosen c.match-branch-2.is_match job.plan.now.invert_match c.if-is_match-job.false)

@@ -1,6 +1,9 @@
-use Rattle.std.proofs.Common.{rules, ◌≢◌, ◌≡◌, subst, ◌<◌, ◌^◌, length, Err, arith, refl, sym, ap, ◌∙◌}
+use Rattle.std.proofs.Common.{rules, ◌≢◌, ◌≡◌, subst, ◌<◌, ◌^◌, length, Ok, Err, arith, refl, sym, ap, ◌∙◌}
 use Rattle.grep_core.proofs.scan.take_lines.Goals as goal
 use Rattle.grep_match.specs.Compiled.{patterns_in}
+use Rattle.grep_core.specs.declared.scan.Next.TheVariants.{Line}
+use Rattle.grep_core.specs.declared.scan.Turn.TheVariants.{Took}
+use Rattle.grep_core.specs.Watched.{Watches}
 use Rattle.grep_core.specs.WholeScans.{TakesAll}
 use Rattle.line_feed.proofs.Given.{live-gives}
 use Rattle.grep_core.proofs.ScansTaken.{standing-line, standing-pauses}
@@ -27,6 +30,7 @@ line-init g c = record {
         selected = omega arith;
         errors = c.requires.errors;
       };
+  watch = c.new-watch.ensures c.args.feed.now.held;
   limit = λ is. c.requires.limit;
   standing = λ before treated job stood. standing-begun _ _ _ _ _ treated _ before _ _ _ _ _ job stood c.requires.selected c.requires.context c.requires.earlier c.requires.errors;
 }
@@ -55,6 +59,10 @@ take_turn-requires-clause-errors g c = c.line.invariant.keeps.errors
 pub take_turn-requires-clause-limit : goal.take_turn-requires-clause-limit
 take_turn-requires-clause-limit g c = c.line.invariant.limit
 
+pub take_turn-requires-clause-watch : goal.take_turn-requires-clause-watch
+take_turn-requires-clause-watch g c =
+    subst (λ (f : Feed). Watches c.args.job.now.plan.now (patterns_in c.args.job.now.patterns.now) c.line.watch f.held) (sym c.send_on.ensures.same) c.line.invariant.watch
+
 pub returns-in_err-take_turn-clause-taken : goal.returns-in_err-take_turn-clause-taken
 returns-in_err-take_turn-clause-taken g c = λ before treated job stood.
     let job_is = c.args.job.now in
@@ -64,11 +72,11 @@ returns-in_err-take_turn-clause-taken g c = λ before treated job stood.
     (TakesAll job_is.plan.now (patterns_in job_is.patterns.now) job_is.name.now job_is.show job_is.most treated c.args.state.now before (g.S.Source.tells c.take_turn.new.source) c.take_turn.new.feed
     c.take_turn.new.course.selected c.take_turn.new.state (printed (g.O.Sink.tells c.args.out.now) (g.E.Sink.tells c.args.err.now)) (printed (g.O.Sink.tells c.take_turn.new.out) (g.E.Sink.tells c.take_turn.new.err)))
     (sym same)
-    (scans-stops _ _ _ _ _ treated _ _ job before _ _ _ _ _ _ _ _ _ _ _ _ _ _ (standing-sent _ _ _ _ _ treated _ before _ _ _ _ _ _ _ _ _ (c.line.invariant.standing before treated job stood) _ c.send_on.ensures.same c.in_ok-send_on.ensures.sent) stop c.in_err-take_turn.ensures)
+    (scans-stops _ _ _ _ _ treated _ _ job before _ _ _ _ _ _ _ _ _ _ _ _ _ _ (standing-sent _ _ _ _ _ treated _ before _ _ _ _ _ _ _ _ _ (c.line.invariant.standing before treated job stood) _ c.send_on.ensures.same c.in_ok-send_on.ensures.sent) stop c.in_err-take_turn.ensures.turns)
 
 pub line-smaller : goal.line-smaller
 line-smaller g c =
-    let row = rw c.in-Took-Line.field-0-is at (rw c.in-Took-Line.is at c.in_ok-take_turn.ensures) in
+    let row = rw c.in-Took-Line.field-0-is at (rw c.in-Took-Line.is at c.in_ok-take_turn.ensures.turns) in
     let grew = gave _ _ _ _ row.row row.gives in
     let more = grew.offset in
     let limit = grew.limit in
@@ -77,25 +85,26 @@ line-smaller g c =
 
 pub line-preserved : goal.line-preserved
 line-preserved g c =
-    let row = rw c.in-Took-Line.field-0-is at (rw c.in-Took-Line.is at c.in_ok-take_turn.ensures) in
+    let row = rw c.in-Took-Line.field-0-is at (rw c.in-Took-Line.is at c.in_ok-take_turn.ensures.turns) in
     let few : c.args.job.now.plan.now.after_context < 2 ^ 32 = let most = c.if-prove.false in omega arith in
     let had = c.line.invariant in
     let kept = subst (λ (f : Feed). Keeps f c.line.course c.line.state) (sym c.send_on.ensures.same) c.line.invariant.keeps in
     record {
       live = live-gives _ _ _ _ row.row row.gives;
       keeps = keeps-more c.args.job.now.plan.now c.args.job.now.name.now c.args.job.now.show c.args.job.now.most _ _ _ _ row.row _ _ _ _ _ _ _ _ _ _ few refl kept row.gives row.takes;
+      watch = c.in_ok-take_turn.ensures.watch Line (ap (λ t. Ok t) (c.in-Took-Line.is ∙ ap Took c.in-Took-Line.field-0-is));
       limit = λ is. row.takes.limit ∙ had.limit is;
       standing = λ before treated job stood. standing-line _ _ _ _ _ treated _ before _ _ _ _ row.row _ _ _ _ _ _ _ _ _ _ (standing-sent _ _ _ _ _ treated _ before _ _ _ _ _ _ _ _ _ (had.standing before treated job stood) _ c.send_on.ensures.same c.in_ok-send_on.ensures.sent) row.gives row.takes;
     }
 
 pub returns-in-Took-Context-clause-taken : goal.returns-in-Took-Context-clause-taken
 returns-in-Took-Context-clause-taken g c = λ before treated job stood.
-    let row = rw c.in-Took-Context.field-0-is at (rw c.in-Took-Context.is at c.in_ok-take_turn.ensures) in
+    let row = rw c.in-Took-Context.field-0-is at (rw c.in-Took-Context.is at c.in_ok-take_turn.ensures.turns) in
     standing-pauses _ _ _ _ _ treated _ before _ _ _ _ row.row _ _ _ _ _ _ _ _ _ _ (standing-sent _ _ _ _ _ treated _ before _ _ _ _ _ _ _ _ _ (c.line.invariant.standing before treated job stood) _ c.send_on.ensures.same c.in_ok-send_on.ensures.sent) row.gives row.takes
 
 pub returns-in-Finished-clause-taken : goal.returns-in-Finished-clause-taken
 returns-in-Finished-clause-taken g c = λ before treated job stood.
-    let ends = rw c.in-Finished.is at c.in_ok-take_turn.ensures in
+    let ends = rw c.in-Finished.is at c.in_ok-take_turn.ensures.turns in
     scans-ends _ _ _ _ _ treated _ _ job before _ _ _ _ _ _ _ _ _ _ _ _ _ _ (standing-sent _ _ _ _ _ treated _ before _ _ _ _ _ _ _ _ _ (c.line.invariant.standing before treated job stood) _ c.send_on.ensures.same c.in_ok-send_on.ensures.sent) c.in-Finished.ended ends.0 ends.1
 
 pub returns-in_err-send_on-clause-taken : goal.returns-in_err-send_on-clause-taken

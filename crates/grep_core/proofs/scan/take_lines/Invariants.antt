@@ -5,6 +5,7 @@ use Rattle.grep_core.specs.declared.shows.Show.TheVariants.{Lines}
 use Rattle.grep_match.specs.Compiled.{patterns_in}
 use Rattle.grep_core.specs.declared.shows.Treatment.{Treatment}
 use Rattle.grep_core.specs.WholeScans.{Stood, IsJob}
+use Rattle.grep_core.specs.Watched.{Watches}
 use Rattle.grep_core.proofs.ScansTaken.{Standing}
 use Rattle.grep_core.proofs.ScansLoop.{Keeps}
 use Rattle.grep_core.proofs.scan.take_lines.Given as goal
@@ -13,6 +14,7 @@ abbrev pub invariant-line : goal.invariant-line
 invariant-line g l = record {
   live : l.feed.phase ≢ Closed;
   keeps : Keeps l.feed l.course l.state;
+  watch : Watches l.job.plan.now (patterns_in l.job.patterns.now) l.watch l.feed.held;
   limit : l.job.show ≡ Lines → l.course.earlier.limit ≡ l.job.plan.now.before_context;
   standing : (before : Told) (treated : Treatment) → IsJob l.job.plan.now treated l.job.show l.job.most l.initial.feed
       → Stood l.job.plan.now treated before (g.S.Source.tells l.initial.source) l.initial.feed []

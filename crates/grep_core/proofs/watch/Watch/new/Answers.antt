@@ -1,0 +1,6 @@
+use Rattle.grep_match.specs.Compiled.{patterns_in}
+use Rattle.grep_core.proofs.Watching.{watches_new}
+use Rattle.grep_core.proofs.watch.Watch.new.Goals as goal
+
+pub returns : goal.returns
+returns c held = watches_new c.args.plan.now (patterns_in c.args.patterns.now) c.needed_bytes.result c.needed_bytes.ensures held

@@ -1,0 +1,81 @@
+//! Lines that are passed over without a search.
+ghost use Rattle.std.specs.Prelude.{◌≡◌, ◌++◌, ℕ, ◌<◌, List, [], length, IsTrue, Ok, slice_index};
+ghost use Rattle.pat_tree.specs.Pattern.{Pattern};
+ghost use Rattle.grep_args.specs.declared.plan.GrepPlan.{GrepPlan};
+ghost use Rattle.grep_match.specs.Compiled.{patterns_in};
+ghost use Rattle.grep_match.specs.Matches.{matches};
+ghost use Rattle.grep_core.specs.Watched.{Watches};
+
+use grep_args::GrepPlan;
+use grep_match::{Needed, Patterns, needed_bytes};
+use line_feed::{Line, LineFeed};
+
+/// What is known of the bytes that a feed holds.
+#[derive(Drop)]
+pub struct Watch {
+    /// Bytes of which every match takes one, where some are known.
+    pub needed: Option<Needed>,
+    /// So many bytes stand before the first of them, or are known to.
+    pub quiet: usize,
+}
+
+// So each of them is a byte.
+fn are_bytes(bytes: &[u8])
+    ensures { (k : ℕ) → k < length bytes.now → slice_index bytes.now k < 256 }
+{
+    let _bytes = bytes;
+}
+
+impl Watch {
+    /// Nothing is known yet.
+    pub fn new(plan: &GrepPlan, patterns: &Patterns) -> Watch
+        ensures { (held : List ℕ) → Watches plan.now (patterns_in patterns.now) result held }
+    {
+        Watch {
+            needed: needed_bytes(plan, patterns),
+            quiet: 0,
+        }
+    }
+
+    /// Looks for the first needed byte, where the next byte may be one.
+    #[tactic(auto, using(crate::proofs::Watching::watches_found))]
+    pub fn look(&mut self, feed: &LineFeed)
+        ensures { (plan : GrepPlan) (patterns : List Pattern)
+            → Watches plan patterns self.old feed.now.held
+            → Watches plan patterns self.new feed.now.held }
+    {
+        if self.quiet > 0 {
+            return;
+        }
+        if let Some(needed) = &self.needed {
+            self.quiet = feed.first_held(0, &needed.bytes);
+        }
+    }
+
+    /// Whether a line with which the bytes begin need not be searched.
+    #[tactic(auto, using(crate::proofs::Watching::watches_none))]
+    pub fn passes(&self, line: &[u8]) -> bool
+        ensures { IsTrue result
+            → (plan : GrepPlan) (patterns : List Pattern) (behind : List ℕ)
+            → Watches plan patterns self.now (line.now ++ behind)
+            → matches plan patterns line.now ≡ Ok [] }
+    {
+        are_bytes(line);
+        let Some(needed) = &self.needed else {
+            return false;
+        };
+        line.len() <= self.quiet && line.len() <= needed.most as usize
+    }
+
+    /// Goes on behind a line.
+    #[tactic(auto, using(crate::proofs::Watching::watches_behind))]
+    pub fn leave(&mut self, line: &Line<'_>)
+        ensures { (plan : GrepPlan) (patterns : List Pattern) (behind : List ℕ)
+            → Watches plan patterns self.old
+            (line.now.bytes.now ++ line.now.end.now ++ behind)
+            → Watches plan patterns self.new behind }
+    {
+        let quiet = self.quiet.saturating_sub(line.bytes.len());
+        self.quiet = quiet.saturating_sub(line.end.len());
+    }
+}

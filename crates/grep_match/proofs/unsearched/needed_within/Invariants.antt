@@ -1,0 +1,5 @@
+use Rattle.grep_match.proofs.Lacking.{FirstFindNone}
+use Rattle.grep_match.proofs.unsearched.needed_within.Given as goal
+
+abbrev pub invariant-loop-code : goal.invariant-loop-code
+invariant-loop-code l = FirstFindNone l.matching l.codes l.most l.bytes l.code-index

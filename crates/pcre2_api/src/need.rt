@@ -1,0 +1,32 @@
+//! Searches that need not be made.
+ghost use Rattle.std.specs.Prelude.{◌≡◌, ◌+◌, ◌<◌, ◌≤◌, IsTrue};
+ghost use Rattle.match_needs.specs.Bounds.{at};
+ghost use Rattle.ordered_search.specs.Setting.{lower_of};
+
+use match_needs::Need;
+use pat_tree::{MatchOptions, Options};
+
+/// The greatest number of Steps at a place: the pattern may lower that of the match.
+fn match_limit(options: &Options, matching: &MatchOptions) -> u32
+    ensures { result ≡ lower_of options.now.match_limit matching.now.match_limit }
+{
+    match options.match_limit {
+        Some(limit) => limit.min(matching.match_limit),
+        None => matching.match_limit,
+    }
+}
+
+/// Whether a search of a subject of at most so many bytes passes no limit, whatever it finds.
+pub(crate) fn is_within(need: &Need, most: u32, options: &Options, matching: &MatchOptions) -> bool
+    ensures steps { IsTrue result → at need.now.bound.steps (most + 1)
+        ≤ lower_of options.now.match_limit matching.now.match_limit }
+    ensures units { IsTrue result → need.now.bound.units ≤ matching.now.frame_limit }
+{
+    if need.bound.units > matching.frame_limit {
+        return false;
+    }
+    let size = u64::from(most) + 1;
+    need.bound
+        .steps
+        .is_within(size, match_limit(options, matching))
+}
