@@ -16,7 +16,8 @@ use Rattle.dir_walk.specs.Targets.{targets}
 use Rattle.dir_walk.specs.Walks.{has_failed}
 use Rattle.grep_core.specs.declared.ended.Stop.{Stop}
 use Rattle.grep_core.specs.declared.ended.Stop.TheVariants.{Memory}
-use Rattle.tool_in.specs.Asked.{Asked, StandFor, named_target, standard_after}
+use Rattle.tool_in.specs.Absent.{AbsentBy}
+use Rattle.tool_in.specs.Asked.{Asked, StandFor, named_target, nothing, standard_after}
 use Rattle.pat_tree.specs.Pattern.{Pattern}
 use Rattle.grep_match.specs.Compiled.{BadPattern, Compiled, patterns_of}
 use Rattle.grep_core.specs.InputText.{first_state}
@@ -32,6 +33,10 @@ use Rattle.grep_run.specs.Adds.{AddsTo, AddsAllFrom}
 use Rattle.grep_run.specs.RunsBy.{RunsBy}
 use Rattle.grep_run.specs.Stages.{Streams, SearchesFor, SearchesBy, RunsOn, streams}
 use Rattle.tool_in.proofs.Taking.{hears-any, stand-any, stand-length, takes-any, takes-rest, takes-then}
+use Rattle.tool_in.proofs.Absence.{absent-none, absent-before, absent-join, absent-then, any-there, stand-there, rest-there}
+use Rattle.grep_run.specs.Leaves.{LeavesAll, LeavesBy, LeavesTexts, LeavesPlan, LeavesHelp, LeavesReads, LeavesInput, Ties, Unless, WhereEnded}
+use Rattle.grep_run.proofs.Summing.{leaves-unread}
+use Rattle.grep_run.proofs.Tying.{leaves-nothing, unless-any, where-any, where-map}
 use Rattle.grep_run.proofs.Outcomes.{runs-lacks, said-whole, said-halts}
 
 -- Faults that were counted before or after.
@@ -76,18 +81,21 @@ takes-targets false before after contents list given h = stand-targets contents 
 module _ (plan : GrepPlan) (found : Compiled) (words : List (List ℕ)) (was_used : Bool) (files files_new : Filed) where
   -- no target is looked at
   for-any : (t : Told) (old new : Printed) (result : Result ℕ Stop) → ((given : List Asked) → RunsBy (text_by_patterns words plan given found) old new result)
+      → ((given : List Asked) → WhereEnded result (Unless was_used (LeavesBy t t words plan given found)))
       → SearchesFor plan found words was_used (streams files t old) (streams files_new t new) result
-  for-any t old new result runs =
+  for-any t old new result runs leaves =
       let list = lists-any files.contents files.faults files_new.faults plan words in
-      let any = takes-any was_used t files.contents list.0 in (list.0, list.1, (any.0, any.1, runs any.0))
+      let any = takes-any was_used t files.contents list.0 in
+      (list.0, list.1, (any.0, any.1, runs any.0, record { absent = any-there files.contents files.faults files_new.faults was_used t list.0; leaves = leaves any.0 }))
 
   pub for-lacks : (t : Told) (out err : Kept) → SearchesFor plan found words was_used (streams files t (printed out err)) (streams files_new t (printed out err)) (Err Memory)
-  for-lacks t out err = for-any t (printed out err) (printed out err) (Err Memory) (λ given. runs-lacks (text_by_patterns words plan given found) out err)
+  for-lacks t out err = for-any t (printed out err) (printed out err) (Err Memory) (λ given. runs-lacks (text_by_patterns words plan given found) out err) (λ given. tt)
 
   pub for-refused : (bad : BadPattern) (t : Told) (old new : Printed) (result : Result ℕ Stop) → found ≡ Err bad → RunsBy (refusal (pattern_message bad)) old new result
       → SearchesFor plan found words was_used (streams files t old) (streams files_new t new) result
   for-refused bad t old new result is h =
       for-any t old new result (λ given. subst (λ f. RunsBy (text_by_patterns words plan given f) old new result) (sym is) h)
+      (λ given. where-any result (Unless was_used (LeavesBy t t words plan given found)) (unless-any was_used (LeavesBy t t words plan given found) (subst (λ f. LeavesBy t t words plan given f) (sym is) tt)))
 
 pub for-found : (plan : GrepPlan) (found : Compiled) (patterns : List Pattern) (words : List (List ℕ)) (was_used : Bool) (old new : Streams) (result : Result ℕ Stop) → found ≡ Ok patterns
     → SearchesFor plan (Ok patterns) words was_used old new result → SearchesFor plan found words was_used old new result
@@ -98,12 +106,16 @@ module _ (plan : GrepPlan) (patterns : List Pattern) (words : List (List ℕ)) (
       → SearchesFor plan (Ok patterns) words was_used (streams files t old) (streams files_new t new) result
   for-unfiltered bad t old new result is h =
       for-any plan (Ok patterns) words was_used files files_new t old new result (λ given. subst (λ f. RunsBy (text_by_filter words plan given patterns f) old new result) (sym is) h)
+      (λ given.
+      let fact = LeavesBy t t words plan given (Ok patterns) in
+      where-any result (Unless was_used fact) (unless-any was_used fact (leaves-unread (with_names words (targets_of given) plan) patterns t given first_state)))
 
-  pub for-listed : (filter : Filter) (list : List Target) (named : GrepPlan) (before after : Told) (old new : Printed) (result : Result ℕ Stop) → filter_of plan ≡ Ok filter
+  pub for-listed : (mid_faults : ℕ) (filter : Filter) (list : List Target) (named : GrepPlan) (before after : Told) (old new : Printed) (result : Result ℕ Stop) → files.faults ≤ mid_faults → filter_of plan ≡ Ok filter
       → Lists files.contents files.faults files_new.faults plan words list → named ≡ with_names words list plan
-      → ((given : List Asked) × TakesAll was_used before after files.contents list given × RunsBy (outcome_of named (reports named patterns given first_state)) old new result)
+      → ((given : List Asked) × TakesAll was_used before after files.contents list given × RunsBy (outcome_of named (reports named patterns given first_state)) old new result
+      × Ties files.contents mid_faults files_new.faults given result (Unless was_used (LeavesAll before after named patterns given first_state)))
       → SearchesFor plan (Ok patterns) words was_used (streams files before old) (streams files_new after new) result
-  for-listed filter list named before after old new result is lists names h =
+  for-listed mid_faults filter list named before after old new result later is lists names h =
       let same = takes-targets was_used before after files.contents list h.0 h.1 in
       let named_so : named ≡ with_names words (targets_of h.0) plan = names ∙ ap (λ l. with_names words l plan) (sym same) in (
         list,
@@ -113,6 +125,10 @@ module _ (plan : GrepPlan) (patterns : List Pattern) (words : List (List ℕ)) (
           h.1,
           subst (λ f. RunsBy (text_by_filter words plan h.0 patterns f) old new result) (sym is)
               (subst (λ p. RunsBy (outcome_of p (reports p patterns h.0 first_state)) old new result) named_so h.2),
+          record {
+            absent = absent-before files.contents files.faults mid_faults files_new.faults h.0 later h.3.absent;
+            leaves = subst (λ p. WhereEnded result (Unless was_used (LeavesAll before after p patterns h.0 first_state))) named_so h.3.leaves;
+          },
         ),
       )
 
@@ -136,6 +152,32 @@ module _ (words : List (List ℕ)) (plan : GrepPlan) (given : List Asked) (old n
       (subst (λ k. RunsBy (text_by_patterns words plan given (patterns_of plan new)) (printed out_old k) printed_new result) h.1 i)
   read-text (Err text) out_old err_old err_mid printed_new result own h i = absurd h
 
+-- What is left of standard input, by what the files of patterns gave.
+module _ (words : List (List ℕ)) (plan : GrepPlan) (given : List Asked) (old new : List (List ℕ)) (before after : Told) where
+  unread-leaves : (found : FileTexts) (err_old err_new : Kept) → AddsTo found old new err_old err_new (Ok false) → LeavesTexts before after words plan given found
+  unread-leaves (Ok more) err_old err_new h = absurd h
+  unread-leaves (Err text) err_old err_new h = tt
+
+  stopped-leaves : (found : FileTexts) (err_old err_new : Kept) (stop : Stop) → AddsTo found old new err_old err_new (Err stop) → WhereEnded {T = ℕ} (Err stop) (LeavesTexts before after words plan given found)
+  stopped-leaves (Ok more) err_old err_new stop h = subst (λ x. WhereEnded {T = ℕ} (Err x) (LeavesTexts before after words plan given (Ok more))) (sym h.0) tt
+  stopped-leaves (Err text) err_old err_new stop h = where-any {T = ℕ} (Err stop) (LeavesTexts before after words plan given (Err text)) tt
+
+  read-leaves : (found : FileTexts) (err_old err_mid : Kept) → old ≡ plan.patterns → AddsTo found old new err_old err_mid (Ok true) → LeavesBy before after words plan given (patterns_of plan new)
+      → LeavesTexts before after words plan given found
+  read-leaves (Ok more) err_old err_mid own h i = subst (λ ts. LeavesBy before after words plan given (patterns_of plan ts)) (h.0 ∙ ap (λ ts. ts ++ more) own) i
+  read-leaves (Err text) err_old err_mid own h i = absurd h
+
+module _ (words : List (List ℕ)) (plan : GrepPlan) (given : List Asked) (before mid after : Told) (contents : Option Contents) where
+  -- nothing is left of it for the targets
+  used-leaves : (list : List Target) (found : Compiled) → StandFor contents nothing list given → LeavesBy before after words plan given found
+  used-leaves list (Err bad) stand = tt
+  used-leaves list (Ok patterns) stand = leaves-nothing (with_names words (targets_of given) plan) patterns contents before after list given first_state stand
+
+  begun-leaves : (named list : List Target) (pattern_files : List Asked) (found : Compiled) (result : Result ℕ Stop) (used : Bool) → Takes false used before mid contents named pattern_files → TakesAll used mid after contents list given
+      → WhereEnded result (Unless used (LeavesBy mid after words plan given found)) → WhereEnded result (LeavesBy before after words plan given found)
+  begun-leaves named list pattern_files found result true takes all leaves = where-any result (LeavesBy before after words plan given found) (used-leaves list found all.1)
+  begun-leaves named list pattern_files found result false takes all leaves = subst (λ t. WhereEnded result (LeavesBy t after words plan given found)) takes.0 leaves
+
 -- A search by a plan.
 module _ (plan : GrepPlan) (words : List (List ℕ)) (files files_new : Filed) (before after : Told) where
   abbrev named : List Target
@@ -146,35 +188,48 @@ module _ (plan : GrepPlan) (words : List (List ℕ)) (files files_new : Filed) (
 
   -- the words for files aren't looked at
   by-files : (pattern_files : List Asked) (old new : Printed) (result : Result ℕ Stop) → TakesAll false before after files.contents named pattern_files
-      → ((given : List Asked) → RunsBy (text_by_plan words plan pattern_files given) old new result) → SearchesBy plan words (streams files before old) (streams files_new after new) result
-  by-files pattern_files old new result h runs =
+      → AbsentBy files.contents files.faults files_new.faults pattern_files → ((given : List Asked) → RunsBy (text_by_plan words plan pattern_files given) old new result)
+      → ((given : List Asked) → WhereEnded result (LeavesPlan before after words plan pattern_files given)) → SearchesBy plan words (streams files before old) (streams files_new after new) result
+  by-files pattern_files old new result h absent runs leaves =
       let list = lists-any files.contents files.faults files_new.faults plan words in
       let rest = takes-rest false before after files.contents named list.0 pattern_files h in
-      (rest.1.0, rest.1.1, (list.0, list.1, (pattern_files, rest.0, named-length pattern_files (stand-length files.contents h.0 named pattern_files h.2), rest.1.2, runs rest.0)))
+      let there = rest-there files.contents files.faults files_new.faults false before after named list.0 pattern_files h in
+      let ties : Ties files.contents files.faults files_new.faults (pattern_files ++ rest.0) result (LeavesPlan before after words plan pattern_files rest.0) = record {
+        absent = absent-join files.contents files.faults files_new.faults pattern_files rest.0 absent there;
+        leaves = leaves rest.0;
+      } in
+      (rest.1.0, rest.1.1, (list.0, list.1, (pattern_files, rest.0, named-length pattern_files (stand-length files.contents h.0 named pattern_files h.2), rest.1.2, runs rest.0, ties)))
 
-  pub by-unread : (old new : List (List ℕ)) (used : Bool) (out err_old err_new : Kept) → AddsAllFrom plan files.contents false used before after old new err_old err_new (Ok false)
+  pub by-unread : (old new : List (List ℕ)) (used : Bool) (out err_old err_new : Kept) → AddsAllFrom plan files.contents files.faults files_new.faults false used before after old new err_old err_new (Ok false)
       → SearchesBy plan words (streams files before (printed out err_old)) (streams files_new after (printed out err_new)) (Ok 2)
   by-unread old new used out err_old err_new h =
-      by-files h.0 (printed out err_old) (printed out err_new) (Ok 2) h.1 (λ given. unread-text words plan given old new (texts_in_files plan h.0) out err_old err_new h.2)
+      by-files h.0 (printed out err_old) (printed out err_new) (Ok 2) h.1 h.3 (λ given. unread-text words plan given old new (texts_in_files plan h.0) out err_old err_new h.2)
+      (λ given. unread-leaves words plan given old new before after (texts_in_files plan h.0) err_old err_new h.2)
 
-  pub by-stopped : (old new : List (List ℕ)) (used : Bool) (out err_old err_new : Kept) (stop : Stop) → AddsAllFrom plan files.contents false used before after old new err_old err_new (Err stop)
+  pub by-stopped : (old new : List (List ℕ)) (used : Bool) (out err_old err_new : Kept) (stop : Stop) → AddsAllFrom plan files.contents files.faults files_new.faults false used before after old new err_old err_new (Err stop)
       → SearchesBy plan words (streams files before (printed out err_old)) (streams files_new after (printed out err_new)) (Err stop)
   by-stopped old new used out err_old err_new stop h =
-      by-files h.0 (printed out err_old) (printed out err_new) (Err stop) h.1 (λ given. stopped-text words plan given old new (texts_in_files plan h.0) out err_old err_new stop h.2)
+      by-files h.0 (printed out err_old) (printed out err_new) (Err stop) h.1 h.3 (λ given. stopped-text words plan given old new (texts_in_files plan h.0) out err_old err_new stop h.2)
+      (λ given. stopped-leaves words plan given old new before after (texts_in_files plan h.0) err_old err_new stop h.2)
 
   pub by-search : (files_mid : Filed) (mid : Told) (old new : List (List ℕ)) (used : Bool) (out_old err_old err_mid : Kept) (printed_new : Printed) (result : Result ℕ Stop) → old ≡ plan.patterns
-      → files_mid.contents ≡ files.contents → files.faults ≤ files_mid.faults
-      → AddsAllFrom plan files.contents false used before mid old new err_old err_mid (Ok true)
+      → files_mid.contents ≡ files.contents → files.faults ≤ files_mid.faults → files_mid.faults ≤ files_new.faults
+      → AddsAllFrom plan files.contents files.faults files_mid.faults false used before mid old new err_old err_mid (Ok true)
       → SearchesFor plan (patterns_of plan new) words used (streams files_mid mid (printed out_old err_mid)) (streams files_new after printed_new) result
       → SearchesBy plan words (streams files before (printed out_old err_old)) (streams files_new after printed_new) result
-  by-search files_mid mid old new used out_old err_old err_mid printed_new result own same later h i =
+  by-search files_mid mid old new used out_old err_old err_mid printed_new result own same later rest_later h i =
       let list = i.0 in
       let given = i.2.0 in
       let lists = lists-before files.contents files.faults files_mid.faults files_new.faults plan words list later (subst (λ x. Lists x files_mid.faults files_new.faults plan words list) same i.1) in
       let taken = subst (λ x. TakesAll used mid after x list given) same i.2.1 in
       let all = takes-then false used before mid after files.contents named list h.0 given h.1 taken in
       let front = named-length h.0 (takes-length used mid h.0 h.1) in
-      (all.0, all.1, (list, lists, (h.0, given, front, all.2, read-text words plan given old new (texts_in_files plan h.0) out_old err_old err_mid printed_new result own h.2 i.2.2)))
+      let ties : Ties files.contents files.faults files_new.faults (h.0 ++ given) result (LeavesPlan before after words plan h.0 given) = record {
+        absent = absent-then files.contents files.faults files_mid.faults files_new.faults h.0 given later rest_later h.3 (subst (λ x. AbsentBy x files_mid.faults files_new.faults given) same i.2.3.absent);
+        leaves = where-map result (LeavesBy before after words plan given (patterns_of plan new)) (LeavesPlan before after words plan h.0 given) (read-leaves words plan given old new before after (texts_in_files plan h.0) err_old err_mid own h.2)
+            (begun-leaves words plan given before mid after files.contents named list h.0 (patterns_of plan new) result used h.1 taken i.2.3.leaves);
+      } in
+      (all.0, all.1, (list, lists, (h.0, given, front, all.2, read-text words plan given old new (texts_in_files plan h.0) out_old err_old err_mid printed_new result own h.2 i.2.2, ties)))
     where
       takes-length : (used : Bool) (mid : Told) (given : List Asked) → Takes false used before mid files.contents named given → length given ≡ length named
       takes-length false mid given t = stand-length files.contents (hears-any before).0 named given (t.1 (hears-any before).0).0
@@ -183,7 +238,7 @@ module _ (plan : GrepPlan) (words : List (List ℕ)) (files files_new : Filed) (
 pub by-lacks : (plan : GrepPlan) (words : List (List ℕ)) (files : Filed) (t : Told) (out err : Kept) → SearchesBy plan words (streams files t (printed out err)) (streams files t (printed out err)) (Err Memory)
 by-lacks plan words files t out err =
     let any = takes-any false t files.contents (map named_target plan.pattern_files) in
-    by-files plan words files files t t any.0 (printed out err) (printed out err) (Err Memory) any.1 (λ given. runs-lacks (text_by_plan words plan any.0 given) out err)
+    by-files plan words files files t t any.0 (printed out err) (printed out err) (Err Memory) any.1 (any-there files.contents files.faults files.faults false t (map named_target plan.pattern_files)) (λ given. runs-lacks (text_by_plan words plan any.0 given) out err) (λ given. tt)
 
 -- the words from the first that names an input, or none
 pub by-rest : {X : Type 0} (bytes : X → List ℕ) (ws : List X) (from start : ℕ) (holds : List (List ℕ) → Type 0) → start ≡ min from (length ws)
@@ -213,6 +268,22 @@ text-by : (words : List (List ℕ)) (read : Reads GrepPlan) (given : List Asked)
 unfolding text_of
 text-by words read given is = ap (λ (r : Reads GrepPlan). elim r [ Err fault ↦ refusal (usage_message words fault) | Ok plan ↦ text_by_help (drop plan.files_from words) plan given plan.help ]) is
 
+-- of the words
+module _ (words : List (List ℕ)) (before after : Told) where
+  input-by : (read : Reads GrepPlan) (given : List Asked) → plan_of words ≡ read → LeavesReads before after given words read → LeavesInput words given before after
+  unfolding LeavesInput
+  input-by read given is h = subst (λ (r : Reads GrepPlan). LeavesReads before after given words r) (sym is) h
+
+  input-of : (plan : GrepPlan) (front given : List Asked) → plan_of words ≡ Ok plan → plan.help ≡ None → length front ≡ length plan.pattern_files → LeavesPlan before after (drop plan.files_from words) plan front given
+      → LeavesInput words (front ++ given) before after
+  input-of plan front given is search long h =
+      let names = drop plan.files_from words in
+      let n = length plan.pattern_files in
+      input-by (Ok plan) (front ++ given) is
+      (subst (λ k. LeavesHelp before after names plan (front ++ given) k) (sym search)
+      (subst (λ l. LeavesPlan before after names plan l (drop n (front ++ given))) (sym (take_at front given n long))
+      (subst (λ l. LeavesPlan before after names plan front l) (sym (drop_at front given n long)) h)))
+
 module _ (words : List (List ℕ)) (files files_new : Filed) where
   pub on-plan : (before after : Told) (old new : Printed) (result : Result ℕ Stop) (plan : GrepPlan) → plan_of words ≡ Ok plan → plan.help ≡ None
       → SearchesBy plan (drop plan.files_from words) (streams files before old) (streams files_new after new) result → RunsOn words (streams files before old) (streams files_new after new) result
@@ -228,7 +299,12 @@ module _ (words : List (List ℕ)) (files files_new : Filed) where
       let parted = ap (λ l. text_by_plan names plan l (drop (length plan.pattern_files) (front ++ given))) (take_at front given (length plan.pattern_files) h.2.2.2)
       ∙ ap (λ l. text_by_plan names plan front l) (drop_at front given (length plan.pattern_files) h.2.2.2) in
       let text = text-by words (Ok plan) (front ++ given) is ∙ ap (text_by_help names plan (front ++ given)) search ∙ parted in
-      (h.0, h.1, (asked, asks, (front ++ given, h.2.2.3, subst (λ t. RunsBy t old new result) (sym text) h.2.2.4)))
+      let ties = h.2.2.5 in
+      let tied : Ties files.contents files.faults files_new.faults (front ++ given) result (LeavesInput words (front ++ given) before after) = record {
+        absent = ties.absent;
+        leaves = where-map result (LeavesPlan before after names plan front given) (LeavesInput words (front ++ given) before after) (input-of words before after plan front given is search h.2.2.2) ties.leaves;
+      } in
+      (h.0, h.1, (asked, asks, (front ++ given, h.2.2.3, subst (λ t. RunsBy t old new result) (sym text) h.2.2.4, tied)))
 
 -- Where nothing is searched.
 module _ (words : List (List ℕ)) (files : Filed) (t : Told) where
@@ -237,18 +313,18 @@ module _ (words : List (List ℕ)) (files : Filed) (t : Told) where
       let any = hears-any t in
       let asked = asks-any words files.contents files.faults files.faults in
       let given = stand-any files.contents any.0 asked.0 in
-      (any.0, any.1, (asked.0, asked.1, (given.0, given.1, runs-lacks (text_of words given.0) out err)))
+      (any.0, any.1, (asked.0, asked.1, (given.0, given.1, runs-lacks (text_of words given.0) out err, record { absent = stand-there files.contents files.faults files.faults any.0 asked.0; leaves = tt })))
 
-  unasked : (text : RunOutcome) (old new : Printed) (result : Result ℕ Stop) → AsksFor files.contents files.faults files.faults words [] → text_of words [] ≡ text → RunsBy text old new result
+  unasked : (text : RunOutcome) (old new : Printed) (result : Result ℕ Stop) → AsksFor files.contents files.faults files.faults words [] → text_of words [] ≡ text → RunsBy text old new result → LeavesInput words [] t t
       → RunsOn words (streams files t old) (streams files t new) result
-  unasked text old new result asks is h =
+  unasked text old new result asks is h leaves =
       let any = hears-any t in
-      (any.0, any.1, ([], asks, ([], tt, subst (λ o. RunsBy o old new result) (sym is) h)))
+      (any.0, any.1, ([], asks, ([], tt, subst (λ o. RunsBy o old new result) (sym is) h, record { absent = absent-none files.contents files.faults files.faults; leaves = where-any result (LeavesInput words [] t t) leaves })))
 
   pub on-fault : (fault : Fault) (old new : Printed) (result : Result ℕ Stop) → plan_of words ≡ Err fault → RunsBy (refusal (usage_message words fault)) old new result
       → RunsOn words (streams files t old) (streams files t new) result
   on-fault fault old new result is h =
-      unasked (refusal (usage_message words fault)) old new result (asks-by words files.contents files.faults files.faults (Err fault) [] is refl) (text-by words (Err fault) [] is) h
+      unasked (refusal (usage_message words fault)) old new result (asks-by words files.contents files.faults files.faults (Err fault) [] is refl) (text-by words (Err fault) [] is) h (input-by words t t (Err fault) [] is tt)
 
   pub on-help : (plan : GrepPlan) (kind : HelpKind) (old new : Printed) (result : Result ℕ Stop) → plan_of words ≡ Ok plan → plan.help ≡ Some kind
       → RunsBy (record { out = help_text kind; err = []; status = 0 }) old new result
@@ -258,3 +334,4 @@ module _ (words : List (List ℕ)) (files : Filed) (t : Told) where
       unasked (record { out = help_text kind; err = []; status = 0 }) old new result
       (asks-by words files.contents files.faults files.faults (Ok plan) [] is (subst (λ k. AsksUnless k files.contents files.faults files.faults plan names []) (sym help) refl))
       (text-by words (Ok plan) [] is ∙ ap (text_by_help names plan []) help) h
+      (input-by words t t (Ok plan) [] is (subst (λ k. LeavesHelp t t names plan [] k) (sym help) tt))

@@ -34,7 +34,9 @@ use Rattle.grep_core.proofs.Halting.{halts-of}
 use Rattle.tool_out.proofs.Printing.{wrote-of, prefix-none}
 use Rattle.tool_in.specs.Takes.{IsLeft, Takes, TakesAll}
 use Rattle.grep_run.specs.Adds.{AddsLines, AddsTo, AddsWordFrom, AddsAllFrom}
-use Rattle.tool_in.proofs.Taking.{takes-more, takes-then, takes-end, takes-rest, takes-standard, takes-opened}
+use Rattle.tool_in.proofs.Taking.{takes-none, takes-more, takes-then, takes-end, takes-rest, takes-standard, takes-opened}
+use Rattle.tool_in.proofs.Absence.{absent-none, absent-then, absent-join, absent-there, rest-there}
+use Rattle.tool_in.specs.Absent.{AbsentBy}
 
 -- White space at the end of a line: its last byte is white, or it isn't.
 
@@ -205,10 +207,19 @@ adds-halted (Ok more) rest old new err_old err_new stop h = adds-lacks (texts_th
 adds-halted (Err text) rest old new err_old err_new stop h = h
 
 -- the patterns of the files that these words name were added
-pub record AddsFiles (plan : GrepPlan) (contents : Option Contents) (was_used is_used : Bool) (before now : Told) (words : List (List ℕ)) (old new : List (List ℕ)) (err_old err_new : Kept) : Type 0 where
+pub record AddsFiles (plan : GrepPlan) (contents : Option Contents) (first last : ℕ) (was_used is_used : Bool) (before now : Told) (words : List (List ℕ)) (old new : List (List ℕ)) (err_old err_new : Kept) : Type 0 where
   pub given : List Asked
   pub takes : Takes was_used is_used before now contents (map named_target words) given
   pub adds : AddsTo (texts_in_files plan given) old new err_old err_new (Ok true)
+  pub absent : AbsentBy contents first last given
+
+pub adds-none : (plan : GrepPlan) (contents : Option Contents) (first : ℕ) (was_used : Bool) (t : Told) (texts : List (List ℕ)) (err : Kept) → AddsFiles plan contents first first was_used was_used t t [] texts texts err err
+adds-none plan contents first was_used t texts err = record {
+  given = [];
+  takes = takes-none was_used t contents;
+  adds = (sym (append-nil texts), refl);
+  absent = absent-none contents first first;
+}
 
 -- the targets of words up to one of them, and of those after it
 named-more : (words : List (List ℕ)) (i : ℕ) (word : List ℕ) → slice_get words i ≡ Some word → map named_target (take i words) ++ named_target word ∷ [] ≡ map named_target (take (i + 1) words)
@@ -224,43 +235,54 @@ named-all words i word at =
     ∙ ap (map named_target) (take-append-drop (i + 1) words)
 
 -- the patterns of the files before this one were added, and then it was read
-module _ (plan : GrepPlan) (contents contents_now : Option Contents) (was_used mid_used is_used : Bool) (before now after : Told) (i : ℕ) (word : List ℕ) (old mid new : List (List ℕ)) (err_old err_mid err_new : Kept)
-    (at : slice_get plan.pattern_files i ≡ Some word) (same : contents_now ≡ contents) (files : AddsFiles plan contents was_used mid_used before now (take i plan.pattern_files) old mid err_old err_mid) where
+module _ (plan : GrepPlan) (contents contents_now : Option Contents) (first mid_faults last : ℕ) (was_used mid_used is_used : Bool) (before now after : Told) (i : ℕ) (word : List ℕ) (old mid new : List (List ℕ)) (err_old err_mid err_new : Kept)
+    (at : slice_get plan.pattern_files i ≡ Some word) (same : contents_now ≡ contents) (earlier : first ≤ mid_faults) (later : mid_faults ≤ last) (files : AddsFiles plan contents first mid_faults was_used mid_used before now (take i plan.pattern_files) old mid err_old err_mid) where
   abbrev named : List Target
   named = map named_target (take i plan.pattern_files)
 
   abbrev target_here : Target
   target_here = named_target word
 
-  after_words : (result : Result Bool Stop) → (w : AddsWordFrom plan word contents_now mid_used is_used now after mid new err_mid err_new result)
+  after_words : (result : Result Bool Stop) → (w : AddsWordFrom plan word contents_now mid_faults last mid_used is_used now after mid new err_mid err_new result)
       → AddsTo (texts_in_files plan (files.given ++ asked target_here w.given ∷ [])) old new err_old err_new result
   after_words result w =
       subst (λ t. AddsTo t old new err_old err_new result) (files-one plan files.given (asked target_here w.given))
       (adds-then (texts_in_files plan files.given) (texts_of plan (shown_name plan target_here) w.given) old mid new err_old err_mid err_new result files.adds w.adds)
 
-  pub adds-more : AddsWordFrom plan word contents_now mid_used is_used now after mid new err_mid err_new (Ok true)
-      → AddsFiles plan contents was_used is_used before after (take (i + 1) plan.pattern_files) old new err_old err_new
+  -- a file that is absent has its cause
+  absent_words : (result : Result Bool Stop) → (w : AddsWordFrom plan word contents_now mid_faults last mid_used is_used now after mid new err_mid err_new result) → AbsentBy contents first last (files.given ++ asked target_here w.given ∷ [])
+  absent_words result w =
+      absent-then contents first mid_faults last files.given (asked target_here w.given ∷ []) earlier later files.absent
+      (subst (λ c. AbsentBy c mid_faults last (asked target_here w.given ∷ [])) same w.absent)
+
+  pub adds-more : AddsWordFrom plan word contents_now mid_faults last mid_used is_used now after mid new err_mid err_new (Ok true)
+      → AddsFiles plan contents first last was_used is_used before after (take (i + 1) plan.pattern_files) old new err_old err_new
   adds-more w = record {
     given = files.given ++ asked target_here w.given ∷ [];
     takes = subst (λ l. Takes was_used is_used before after contents l (files.given ++ asked target_here w.given ∷ [])) (named-more plan.pattern_files i word at)
         (takes-more was_used mid_used is_used before now after contents named (target_here ∷ []) files.given (asked target_here w.given ∷ []) files.takes
         (subst (λ c. Takes mid_used is_used now after c (target_here ∷ []) (asked target_here w.given ∷ [])) same w.takes));
     adds = after_words (Ok true) w;
+    absent = absent_words (Ok true) w;
   }
 
   -- what all files stand for, where it stops at this one
-  all-taken : (result : Result Bool Stop) (w : AddsWordFrom plan word contents_now mid_used is_used now after mid new err_mid err_new result)
+  all-taken : (result : Result Bool Stop) (w : AddsWordFrom plan word contents_now mid_faults last mid_used is_used now after mid new err_mid err_new result)
       → (more : List Asked) × TakesAll was_used before after contents (map named_target plan.pattern_files) ((files.given ++ asked target_here w.given ∷ []) ++ more)
+      × AbsentBy contents first last more
   all-taken result w =
       let one = subst (λ c. Takes mid_used is_used now after c (target_here ∷ []) (asked target_here w.given ∷ [])) same w.takes in
-      let last = takes-end mid_used is_used now after contents (target_here ∷ []) (asked target_here w.given ∷ []) one in
-      let taken =
-      takes-rest was_used before after contents (named ++ target_here ∷ []) (map named_target (drop (i + 1) plan.pattern_files)) (files.given ++ asked target_here w.given ∷ [])
-      (takes-then was_used mid_used before now after contents named (target_here ∷ []) files.given (asked target_here w.given ∷ []) files.takes last) in
-      (taken.0, subst (λ l. TakesAll was_used before after contents l ((files.given ++ asked target_here w.given ∷ []) ++ taken.0)) (named-all plan.pattern_files i word at) taken.1)
+      let ended = takes-end mid_used is_used now after contents (target_here ∷ []) (asked target_here w.given ∷ []) one in
+      let here = takes-then was_used mid_used before now after contents named (target_here ∷ []) files.given (asked target_here w.given ∷ []) files.takes ended in
+      let others = map named_target (drop (i + 1) plan.pattern_files) in
+      let taken = takes-rest was_used before after contents (named ++ target_here ∷ []) others (files.given ++ asked target_here w.given ∷ []) here in (
+        taken.0,
+        subst (λ l. TakesAll was_used before after contents l ((files.given ++ asked target_here w.given ∷ []) ++ taken.0)) (named-all plan.pattern_files i word at) taken.1,
+        rest-there contents first last was_used before after (named ++ target_here ∷ []) others (files.given ++ asked target_here w.given ∷ []) here,
+      )
 
-  pub adds-stops : AddsWordFrom plan word contents_now mid_used is_used now after mid new err_mid err_new (Ok false)
-      → AddsAllFrom plan contents was_used is_used before after old new err_old err_new (Ok false)
+  pub adds-stops : AddsWordFrom plan word contents_now mid_faults last mid_used is_used now after mid new err_mid err_new (Ok false)
+      → AddsAllFrom plan contents first last was_used is_used before after old new err_old err_new (Ok false)
   adds-stops w =
       let taken = all-taken (Ok false) w in
       let given = files.given ++ asked target_here w.given ∷ [] in (
@@ -268,10 +290,11 @@ module _ (plan : GrepPlan) (contents contents_now : Option Contents) (was_used m
         taken.1,
         subst (λ t. AddsTo t old new err_old err_new (Ok false)) (sym (files-more plan given taken.0))
             (adds-cut (texts_in_files plan given) (texts_in_files plan taken.0) old new err_old err_new (after_words (Ok false) w)),
+        absent-join contents first last given taken.0 (absent_words (Ok false) w) taken.2,
       )
 
-  pub adds-halts : (stop : Stop) → AddsWordFrom plan word contents_now mid_used is_used now after mid new err_mid err_new (Err stop)
-      → AddsAllFrom plan contents was_used is_used before after old new err_old err_new (Err stop)
+  pub adds-halts : (stop : Stop) → AddsWordFrom plan word contents_now mid_faults last mid_used is_used now after mid new err_mid err_new (Err stop)
+      → AddsAllFrom plan contents first last was_used is_used before after old new err_old err_new (Err stop)
   adds-halts stop w =
       let taken = all-taken (Err stop) w in
       let given = files.given ++ asked target_here w.given ∷ [] in (
@@ -279,27 +302,31 @@ module _ (plan : GrepPlan) (contents contents_now : Option Contents) (was_used m
         taken.1,
         subst (λ t. AddsTo t old new err_old err_new (Err stop)) (sym (files-more plan given taken.0))
             (adds-halted (texts_in_files plan given) (texts_in_files plan taken.0) old new err_old err_new stop (after_words (Err stop) w)),
+        absent-join contents first last given taken.0 (absent_words (Err stop) w) taken.2,
       )
 
 -- One file of patterns: standard input, or a file by its name.
-module _ (plan : GrepPlan) (word : List ℕ) (contents : Option Contents) (old new : List (List ℕ)) (err_old err_new : Kept) (result : Result Bool Stop) where
+module _ (plan : GrepPlan) (word : List ℕ) (contents : Option Contents) (first last : ℕ) (old new : List (List ℕ)) (err_old err_new : Kept) (result : Result Bool Stop) where
   word_adds : (target : Target) (was_used is_used : Bool) (before after : Told) (given : Option Input) → named_target word ≡ target → Takes was_used is_used before after contents (target ∷ []) (asked target given ∷ [])
-      → AddsTo (texts_of plan (shown_name plan target) given) old new err_old err_new result → AddsWordFrom plan word contents was_used is_used before after old new err_old err_new result
-  word_adds target was_used is_used before after given is takes adds = record {
+      → AddsTo (texts_of plan (shown_name plan target) given) old new err_old err_new result → AbsentBy contents first last (asked target given ∷ [])
+      → AddsWordFrom plan word contents first last was_used is_used before after old new err_old err_new result
+  word_adds target was_used is_used before after given is takes adds absent = record {
     given = given;
     takes = subst (λ t. Takes was_used is_used before after contents (t ∷ []) (asked t given ∷ [])) (sym is) takes;
     adds = subst (λ t. AddsTo (texts_of plan (shown_name plan t) given) old new err_old err_new result) (sym is) adds;
+    absent = subst (λ t. AbsentBy contents first last (asked t given ∷ [])) (sym is) absent;
   }
 
   named-is : (b : Bool) → bytes_eq word (codes "-") ≡ b → named_target word ≡ (if b then targets.Input else targets.File word)
   named-is b is = ap (λ x. if x then targets.Input else targets.File word) is
 
   pub adds-standard : (was_used is_used : Bool) (before after : Told) (left : Input) → bytes_eq word (codes "-") ≡ true → IsLeft was_used is_used before after left
-      → AddsTo (texts_of plan plan.label (Some left)) old new err_old err_new result → AddsWordFrom plan word contents was_used is_used before after old new err_old err_new result
+      → AddsTo (texts_of plan plan.label (Some left)) old new err_old err_new result → AddsWordFrom plan word contents first last was_used is_used before after old new err_old err_new result
   adds-standard was_used is_used before after left is taken adds =
-      word_adds targets.Input was_used is_used before after (Some left) (named-is true is) (takes-standard was_used is_used before after contents targets.Input left refl taken) adds
+      word_adds targets.Input was_used is_used before after (Some left) (named-is true is) (takes-standard was_used is_used before after contents targets.Input left refl taken) adds (absent-there contents first last targets.Input left)
 
   pub adds-named : (used : Bool) (t : Told) (given : Option Input) → bytes_eq word (codes "-") ≡ false → Opened contents word given
-      → AddsTo (texts_of plan word given) old new err_old err_new result → AddsWordFrom plan word contents used used t t old new err_old err_new result
-  adds-named used t given is opened adds =
-      word_adds (targets.File word) used used t t given (named-is false is) (takes-opened used t contents (targets.File word) given refl opened) adds
+      → AddsTo (texts_of plan word given) old new err_old err_new result → AbsentBy contents first last (asked (targets.File word) given ∷ [])
+      → AddsWordFrom plan word contents first last used used t t old new err_old err_new result
+  adds-named used t given is opened adds absent =
+      word_adds (targets.File word) used used t t given (named-is false is) (takes-opened used t contents (targets.File word) given refl opened) adds absent

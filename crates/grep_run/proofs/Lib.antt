@@ -5,6 +5,7 @@ pub mod FilePatterns
 pub mod Reporting
 pub mod Saying
 pub mod Summing
+pub mod Tying
 pub mod SoundInputs
 pub mod TextLaws
 pub mod RowProofs

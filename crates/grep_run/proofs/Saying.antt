@@ -6,7 +6,7 @@ use Rattle.pcre_io.specs.Told.{Told, Kept}
 use Rattle.grep_args.specs.declared.plan.GrepPlan.{GrepPlan}
 use Rattle.grep_args.specs.declared.plan.HelpKind.{HelpKind}
 use Rattle.grep_args.specs.Words.{Reads, plan_of}
-use Rattle.grep_core.specs.declared.ended.Stop.TheVariants.{SinkFault, Memory}
+use Rattle.grep_core.specs.declared.ended.Stop.TheVariants.{SinkFault, TooManyErrors, Memory}
 use Rattle.pat_tree.specs.Pattern.{Pattern}
 use Rattle.dir_walk.specs.Filters.{Filter, BadFilter, filter_of}
 use Rattle.tool_in.specs.Asked.{Asked}
@@ -91,6 +91,10 @@ runs-whole words given status out_old out_new err_old err_new runs =
     let few : status < 3 = subst (λ n. n < 3) (sym runs.1) (few-grep words given) in
     subst (λ b. Stops b (RunsSome text status (printed out_old err_old) (printed out_new err_new)) (RunsAll text status (printed out_old err_old) (printed out_new err_new))) (sym (lt-leb 3 status few))
     (record { out = runs.0.out; err = runs.0.err; answer = runs.1; steady = runs.0.steady })
+
+-- a run that the last match error that there may be ended
+pub runs-many : (text : RunOutcome) (old new : Printed) → RunsBy text old new (Err TooManyErrors) → Runs text 2 old new
+runs-many text old new runs = record { out = runs.0.out; err = runs.0.err; answer = sym runs.1; steady = runs.0.steady }
 
 -- a run that stopped: memory lacked, or a write was refused
 pub runs-lacked : (text : RunOutcome) (old new : Printed) → RunsBy text old new (Err Memory) → Runs text 3 old new

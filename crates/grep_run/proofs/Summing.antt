@@ -24,7 +24,8 @@ use Rattle.grep_core.specs.declared.shows.Treatment.{Treatment}
 use Rattle.grep_core.specs.declared.shows.Treatment.TheVariants.{AsText, AsBinary, Skipped}
 use Rattle.grep_core.specs.declared.state.State.{State}
 use Rattle.dir_walk.specs.declared.lists.Target.{Target}
-use Rattle.tool_in.specs.Asked.{Asked, asked}
+use Rattle.tool_in.specs.Absent.{AbsentBy}
+use Rattle.tool_in.specs.Asked.{Asked, asked, is_standard}
 use Rattle.grep_run.specs.PatternFiles.{shown_name, is_given}
 use Rattle.pat_tree.specs.Pattern.{Pattern}
 use Rattle.grep_core.specs.Ends.{ended_of, stop_of}
@@ -49,6 +50,9 @@ use Rattle.grep_run.specs.Searches.{ReportsTo, ReportsTargetFrom}
 use Rattle.grep_run.specs.RunsBy.{RunsBy}
 use Rattle.grep_run.specs.Sums.{SumIs, SumsTo, adds_end, one_if, writes_count}
 use Rattle.tool_in.proofs.Taking.{takes-none, takes-more, takes-end, takes-rest}
+use Rattle.tool_in.proofs.Absence.{absent-none, absent-join, absent-then, rest-there}
+use Rattle.grep_run.specs.Leaves.{Either, LeavesIt, LeavesAll, LeavesTarget, Ties, Unless, Uses}
+use Rattle.std.proofs.KnownBytes.{Consumes-nil}
 use Rattle.tool_out.specs.Printed.{printed}
 
 or_none : (b : Bool) → (b || false) ≡ b
@@ -302,10 +306,114 @@ breaks-longer {out_old} {out_new} {err_old} {err_new} a b c d stop h = record {
   steady = h.steady;
 }
 
+-- What is left of standard input.
+
+-- nothing was read of it
+leaves-none : (t : Told) (r : Report) → LeavesIt t t r
+leaves-none t (scanned w) = λ _. ([], Consumes-nil t.left, omega arith)
+leaves-none t (missing text) = tt
+
+either-of : (b : Bool) (p q : Type 0) → p → q → Either b p q
+either-of true p q x y = x
+either-of false p q x y = y
+
+either-true : (b : Bool) (p q : Type 0) → b ≡ true → p → Either b p q
+either-true true p q is x = x
+either-true false p q is x = absurd (false≢true is)
+
+either-false : (b : Bool) (p q : Type 0) → b ≡ false → q → Either b p q
+either-false true p q is x = absurd (false≢true (sym is))
+either-false false p q is x = x
+
+-- a scan that too many match errors broke off didn't end early
+ended-late : (ended : meant.Ended) → ended_broken ended ≡ true → ended ≢ early
+ended-late ended is so = absurd (false≢true (sym (ap ended_broken so) ∙ is))
+
+leaves-broken : (before after : Told) (r : Report) → is_broken r ≡ true → LeavesIt before after r
+leaves-broken before after (scanned w) is = λ so. absurd (ended-late w.ended is so)
+leaves-broken before after (missing text) is = tt
+
+module _ (plan : GrepPlan) (patterns : List Pattern) where
+  pub leaves-unread : (t : Told) (given : List Asked) (s : State) → LeavesAll t t plan patterns given s
+  leaves-unread t [] s = tt
+  leaves-unread t (a ∷ given) s =
+      let r = report_of plan patterns s a in
+      either-of (is_standard a.target) (LeavesIt t t r) (LeavesAll t t plan patterns given (state_after_report s r)) (leaves-none t r) (leaves-unread t given (state_after_report s r))
+
+  abbrev ended_with : Option FileEnd → Result (Option FileEnd) Stop
+  ended_with end = Ok end
+
+  -- after these inputs, and whatever inputs are to come
+  abbrev pub Leaving : Bool → Bool → Told → Told → List Asked → State → Type 0
+  Leaving true is_used before now given s = Unit {0}
+  Leaving false false before now given s =
+      (now ≡ before) × ((after : Told) (more : List Asked) → LeavesAll before after plan patterns more s → LeavesAll before after plan patterns (given ++ more) first_state)
+  Leaving false true before now given s = (more : List Asked) → LeavesAll before now plan patterns (given ++ more) first_state
+
+  leaving-none : (was_used : Bool) (t : Told) (s : State) → s ≡ first_state → Leaving was_used was_used t t [] s
+  leaving-none true t s is = tt
+  leaving-none false t s is = (refl, λ after more h. subst (LeavesAll t after plan patterns more) is h)
+
+  leaving-end : (was_used is_used : Bool) (before now : Told) (given : List Asked) (s : State) → Leaving was_used is_used before now given s → Unless was_used (LeavesAll before now plan patterns given first_state)
+  leaving-end true is_used before now given s had = tt
+  leaving-end false false before now given s had = subst (λ t. LeavesAll before t plan patterns given first_state) (sym had.0) (leaves-unread before given first_state)
+  leaving-end false true before now given s had = subst (λ l. LeavesAll before now plan patterns l first_state) (append-nil given) (had [])
+
+  -- one more target
+  module _ (before mid after : Told) (contents : Option Contents) (given : List Asked) (a : Asked) (s : State) where
+    abbrev here : Report
+    here = report_of plan patterns s a
+
+    -- standard input was used before
+    leaving-used : (is_used : Bool) → Leaving false true before mid given s → Takes true is_used mid after contents (a.target ∷ []) (a ∷ []) → (more : List Asked) → LeavesAll before after plan patterns ((given ++ a ∷ []) ++ more) first_state
+    leaving-used is_used had takes more =
+        subst (λ l. LeavesAll before after plan patterns l first_state) (sym (append_assoc given (a ∷ []) more))
+        (subst (λ t. LeavesAll before t plan patterns (given ++ a ∷ more) first_state) (sym takes.1) (had (a ∷ more)))
+
+    -- it is standard input
+    leaving-here : is_standard a.target ≡ true → Leaving false false before mid given s → LeavesIt before after here → (more : List Asked) → LeavesAll before after plan patterns ((given ++ a ∷ []) ++ more) first_state
+    leaving-here is had leaves more =
+        subst (λ l. LeavesAll before after plan patterns l first_state) (sym (append_assoc given (a ∷ []) more))
+        (had.1 after (a ∷ more) (either-true (is_standard a.target) (LeavesIt before after here) (LeavesAll before after plan patterns more (state_after_report s here)) is leaves))
+
+    -- it is another one
+    leaving-past : is_standard a.target ≡ false → Leaving false false before mid given s → (later : Told) (more : List Asked) → LeavesAll before later plan patterns more (state_after_report s here)
+        → LeavesAll before later plan patterns ((given ++ a ∷ []) ++ more) first_state
+    leaving-past is had later more h =
+        subst (λ l. LeavesAll before later plan patterns l first_state) (sym (append_assoc given (a ∷ []) more))
+        (had.1 later (a ∷ more) (either-false (is_standard a.target) (LeavesIt before later here) (LeavesAll before later plan patterns more (state_after_report s here)) is h))
+
+    leaving-more : (was_used mid_used is_used : Bool) (s_new : State) (end : Option FileEnd) → Leaving was_used mid_used before mid given s → Takes mid_used is_used mid after contents (a.target ∷ []) (a ∷ [])
+        → Uses (is_standard a.target) mid_used is_used mid after → s_new ≡ state_after_report s here → LeavesTarget mid_used (is_standard a.target) mid after here (ended_with end)
+        → Leaving was_used is_used before after (given ++ a ∷ []) s_new
+    leaving-more true mid_used is_used s_new end had takes uses next leaves = tt
+    leaving-more false true true s_new end had takes uses next leaves = leaving-used true had takes
+    leaving-more false true false s_new end had takes uses next leaves = absurd (false≢true takes.0)
+    leaving-more false false is_used s_new end had takes uses next leaves = by_test (is_standard a.target) refl uses leaves
+      where
+        by_test : (b : Bool) → is_standard a.target ≡ b → Uses b false is_used mid after → LeavesTarget false b mid after here (ended_with end) → Leaving false is_used before after (given ++ a ∷ []) s_new
+        by_test true is uses leaves =
+            subst (λ b. Leaving false b before after (given ++ a ∷ []) s_new) (sym uses)
+            (leaving-here is had (subst (λ t. LeavesIt t after here) had.0 leaves))
+        by_test false is uses leaves =
+            subst (λ b. Leaving false b before after (given ++ a ∷ []) s_new) (sym uses.0)
+            (uses.1 ∙ had.0, λ later more h. leaving-past is had later more (subst (LeavesAll before later plan patterns more) next h))
+
+    -- it had too many match errors
+    leaving-stop : (was_used mid_used is_used : Bool) → Leaving was_used mid_used before mid given s → Takes mid_used is_used mid after contents (a.target ∷ []) (a ∷ []) → Uses (is_standard a.target) mid_used is_used mid after
+        → is_broken here ≡ true → (more : List Asked) → Unless was_used (LeavesAll before after plan patterns ((given ++ a ∷ []) ++ more) first_state)
+    leaving-stop true mid_used is_used had takes uses broken more = tt
+    leaving-stop false true is_used had takes uses broken more = leaving-used is_used had takes more
+    leaving-stop false false is_used had takes uses broken more = by_test (is_standard a.target) refl uses
+      where
+        by_test : (b : Bool) → is_standard a.target ≡ b → Uses b false is_used mid after → LeavesAll before after plan patterns ((given ++ a ∷ []) ++ more) first_state
+        by_test true is uses = leaving-here is had (leaves-broken before after here broken) more
+        by_test false is uses = subst (λ t. LeavesAll before t plan patterns ((given ++ a ∷ []) ++ more) first_state) (sym (uses.1 ∙ had.0)) (leaves-unread before ((given ++ a ∷ []) ++ more) first_state)
+
 -- The first targets of a run.
-module _ (plan : GrepPlan) (patterns : List Pattern) (contents : Option Contents) (was_used : Bool) (before : Told) (out_old err_old : Kept) where
+module _ (plan : GrepPlan) (patterns : List Pattern) (contents : Option Contents) (first : ℕ) (was_used : Bool) (before : Told) (out_old err_old : Kept) where
   -- they were searched
-  pub record Searched (list : List Target) (is_used : Bool) (now : Told) (s : State) (sum : Sum) (out err : Kept) : Type 0 where
+  pub record Searched (list : List Target) (last : ℕ) (is_used : Bool) (now : Told) (s : State) (sum : Sum) (out err : Kept) : Type 0 where
     pub given : List Asked
     pub takes : Takes was_used is_used before now contents list given
     pub wrote : Wrote (flat_map out_of (all plan patterns given)) (flat_map err_of (all plan patterns given)) (printed out_old err_old) (printed out err)
@@ -313,8 +421,10 @@ module _ (plan : GrepPlan) (patterns : List Pattern) (contents : Option Contents
     pub state : s ≡ states_after (all plan patterns given) first_state
     pub errors : s.errors ≤ 20
     pub total : s.total ≡ sum.total
+    pub absent : AbsentBy contents first last given
+    pub leaves : Leaving plan patterns was_used is_used before now given s
 
-  pub searched-none : (s : State) → s ≡ first_state → Searched [] was_used before s (record { has_failed = false; counts = 0; total = 0 }) out_old err_old
+  pub searched-none : (s : State) → s ≡ first_state → Searched [] first was_used before s (record { has_failed = false; counts = 0; total = 0 }) out_old err_old
   unfolding reports
   searched-none s is = record {
     given = [];
@@ -324,23 +434,32 @@ module _ (plan : GrepPlan) (patterns : List Pattern) (contents : Option Contents
     state = is;
     errors = let none = ap (λ (x : State). x.errors) is in omega (arith, none);
     total = ap (λ (x : State). x.total) is;
+    absent = absent-none contents first first;
+    leaves = leaving-none plan patterns was_used before s is;
   }
 
   -- what the targets come to where nothing is searched after these
-  abbrev pub Ends : List Target → Told → Kept → Kept → Result Sum Stop → Type 0
-  Ends list after out err result =
+  abbrev pub Ends : List Target → ℕ → Told → Kept → Kept → Result Sum Stop → Type 0
+  Ends list last after out err result =
       (given : List Asked) × TakesAll was_used before after contents list given
       × SumsTo plan (all plan patterns given) (printed out_old err_old) (printed out err) result
+      × Ties contents first last given result (Unless was_used (LeavesAll before after plan patterns given first_state))
 
-  pub searched-all : (list : List Target) (is_used : Bool) (after : Told) (s : State) (sum : Sum) (out err : Kept) → Searched list is_used after s sum out err → Ends list after out err (Ok sum)
-  searched-all list is_used after s sum out err had = (had.given, takes-end was_used is_used before after contents list had.given had.takes, (had.wrote, had.sums))
+  pub searched-all : (list : List Target) (last : ℕ) (is_used : Bool) (after : Told) (s : State) (sum : Sum) (out err : Kept) → Searched list last is_used after s sum out err → Ends list last after out err (Ok sum)
+  searched-all list last is_used after s sum out err had = (
+    had.given,
+    takes-end was_used is_used before after contents list had.given had.takes,
+    (had.wrote, had.sums),
+    record { absent = had.absent; leaves = leaving-end plan patterns was_used is_used before after had.given s had.leaves },
+  )
 
-  module _ (list : List Target) (target : Target) (mid_used is_used : Bool) (mid after : Told) (s s_new : State) (sum : Sum) (out out_new err err_new : Kept) (had : Searched list mid_used mid s sum out err) where
+  module _ (list : List Target) (target : Target) (mid_faults last : ℕ) (earlier : first ≤ mid_faults) (later : mid_faults ≤ last) (mid_used is_used : Bool) (mid after : Told) (s s_new : State) (sum : Sum) (out out_new err err_new : Kept)
+      (had : Searched list mid_faults mid_used mid s sum out err) where
     abbrev so_far : List Report
     so_far = all plan patterns had.given
 
     -- one more target
-    module _ (end : Option FileEnd) (came : ReportsTargetFrom plan patterns target contents mid_used is_used mid after s s_new (printed out err) (printed out_new err_new) (Ok end)) where
+    module _ (end : Option FileEnd) (came : ReportsTargetFrom plan patterns target contents mid_faults last mid_used is_used mid after s s_new (printed out err) (printed out_new err_new) (Ok end)) where
       abbrev a : Asked
       a = asked target came.given
 
@@ -359,7 +478,7 @@ module _ (plan : GrepPlan) (patterns : List Pattern) (contents : Option Contents
           (subst (λ l. Wrote (flat_map out_of so_far ++ out_of r) l (printed out_old err_old) (printed out_new err_new)) (sym (text-more err_of so_far r))
           (wrote-more (flat_map out_of so_far) (flat_map err_of so_far) (out_of r) (err_of r) had.wrote one.wrote))
 
-      searched-more : Searched (list ++ target ∷ []) is_used after s_new (adds_end plan sum end) out_new err_new
+      searched-more : Searched (list ++ target ∷ []) last is_used after s_new (adds_end plan sum end) out_new err_new
       searched-more = record {
         given = had.given ++ a ∷ [];
         takes = takes-more was_used mid_used is_used before mid after contents list (target ∷ []) had.given (a ∷ []) had.takes came.takes;
@@ -368,25 +487,40 @@ module _ (plan : GrepPlan) (patterns : List Pattern) (contents : Option Contents
         state = one.state ∙ ap (λ x. state_after_report x r) had.state ∙ sym (states-more so_far r first_state) ∙ ap (λ l. states_after l first_state) (sym all_is);
         errors = one.errors had.errors;
         total = one.total ∙ ap (λ n. n + told_of end) had.total ∙ sym (total-more plan sum end);
+        absent = absent-then contents first mid_faults last had.given (a ∷ []) earlier later had.absent came.absent;
+        leaves = leaving-more plan patterns before mid after contents had.given a s was_used mid_used is_used s_new end had.leaves came.takes came.uses one.state came.leaves;
       }
 
-      pub searched-next : (next : List Target) (sum_new : Sum) → next ≡ list ++ target ∷ [] → sum_new ≡ adds_end plan sum end → Searched next is_used after s_new sum_new out_new err_new
+      pub searched-next : (next : List Target) (sum_new : Sum) → next ≡ list ++ target ∷ [] → sum_new ≡ adds_end plan sum end → Searched next last is_used after s_new sum_new out_new err_new
       searched-next next sum_new next_is sum_is =
-          subst (λ x. Searched next is_used after s_new x out_new err_new) (sym sum_is) (subst (λ l. Searched l is_used after s_new (adds_end plan sum end) out_new err_new) (sym next_is) searched-more)
+          subst (λ x. Searched next last is_used after s_new x out_new err_new) (sym sum_is) (subst (λ l. Searched l last is_used after s_new (adds_end plan sum end) out_new err_new) (sym next_is) searched-more)
 
     -- the run stops at this target
-    module _ (rest : List Target) (stop : Stop) (came : ReportsTargetFrom plan patterns target contents mid_used is_used mid after s s_new (printed out err) (printed out_new err_new) (Err stop)) where
+    module _ (rest : List Target) (stop : Stop) (came : ReportsTargetFrom plan patterns target contents mid_faults last mid_used is_used mid after s s_new (printed out err) (printed out_new err_new) (Err stop)) where
       abbrev b : Asked
       b = asked target came.given
 
       abbrev q : Report
       q = report_of plan patterns s b
 
-      stop_takes : (more : List Asked) × TakesAll was_used before after contents ((list ++ target ∷ []) ++ rest) ((had.given ++ b ∷ []) ++ more)
+      stop_here : TakesAll was_used before after contents (list ++ target ∷ []) (had.given ++ b ∷ [])
+      stop_here =
+          takes-end was_used is_used before after contents (list ++ target ∷ []) (had.given ++ b ∷ [])
+          (takes-more was_used mid_used is_used before mid after contents list (target ∷ []) had.given (b ∷ []) had.takes came.takes)
+
+      stop_takes : (more : List Asked) × TakesAll was_used before after contents ((list ++ target ∷ []) ++ rest) ((had.given ++ b ∷ []) ++ more) × AbsentBy contents first last ((had.given ++ b ∷ []) ++ more)
       stop_takes =
-          takes-rest was_used before after contents (list ++ target ∷ []) rest (had.given ++ b ∷ [])
-          (takes-end was_used is_used before after contents (list ++ target ∷ []) (had.given ++ b ∷ [])
-          (takes-more was_used mid_used is_used before mid after contents list (target ∷ []) had.given (b ∷ []) had.takes came.takes))
+          let taken = takes-rest was_used before after contents (list ++ target ∷ []) rest (had.given ++ b ∷ []) stop_here in (
+            taken.0,
+            taken.1,
+            absent-join contents first last (had.given ++ b ∷ []) taken.0 (absent-then contents first mid_faults last had.given (b ∷ []) earlier later had.absent came.absent)
+                (rest-there contents first last was_used before after (list ++ target ∷ []) rest (had.given ++ b ∷ []) stop_here),
+          )
+
+      stop_leaves : stop ≡ TooManyErrors → (more : List Asked) → Unless was_used (LeavesAll before after plan patterns ((had.given ++ b ∷ []) ++ more) first_state)
+      stop_leaves is more =
+          let broken = comes-last plan patterns s s_new target out out_new err err_new came.given (subst (λ x. ReportsTo q s s_new (printed out err) (printed out_new err_new) (Err x)) is came.reports) in
+          leaving-stop plan patterns before mid after contents had.given b s was_used mid_used is_used had.leaves came.takes came.uses broken.1 more
 
       all_stop : (more : List Asked) → all plan patterns ((had.given ++ b ∷ []) ++ more) ≡ so_far ++ reports plan patterns (b ∷ more) s
       all_stop more = ap (all plan patterns) (append_assoc had.given (b ∷ []) more) ∙ all-more plan patterns had.given (b ∷ more) s had.sums.whole had.state
@@ -413,15 +547,15 @@ module _ (plan : GrepPlan) (patterns : List Pattern) (contents : Option Contents
           (subst (λ l. Breaks l (flat_map err_of (so_far ++ q ∷ some.0)) (printed out_old err_old) (printed out_new err_new) (stop ≡ SinkFault)) (sym (flat_map-append out_of so_far (q ∷ some.0)))
           (subst (λ l. Breaks (flat_map out_of so_far ++ flat_map out_of (q ∷ some.0)) l (printed out_old err_old) (printed out_new err_new) (stop ≡ SinkFault)) (sym (flat_map-append err_of so_far (q ∷ some.0))) whole))
 
-    stops-so : (rest : List Target) (stop : Stop) (came : ReportsTargetFrom plan patterns target contents mid_used is_used mid after s s_new (printed out err) (printed out_new err_new) (Err stop)) → Ends ((list ++ target ∷ []) ++ rest) after out_new err_new (Err stop)
-    stops-so rest SinkFault came = let more = stop_takes rest SinkFault came in ((had.given ++ asked target came.given ∷ []) ++ more.0, more.1, stop_part rest SinkFault came (λ e. cc) more.0)
-    stops-so rest TooManyErrors came = let more = stop_takes rest TooManyErrors came in ((had.given ++ asked target came.given ∷ []) ++ more.0, more.1, stop_last rest TooManyErrors came refl more.0)
-    stops-so rest Memory came = let more = stop_takes rest Memory came in ((had.given ++ asked target came.given ∷ []) ++ more.0, more.1, stop_part rest Memory came (λ e. cc) more.0)
+    stops-so : (rest : List Target) (stop : Stop) (came : ReportsTargetFrom plan patterns target contents mid_faults last mid_used is_used mid after s s_new (printed out err) (printed out_new err_new) (Err stop)) → Ends ((list ++ target ∷ []) ++ rest) last after out_new err_new (Err stop)
+    stops-so rest SinkFault came = let more = stop_takes rest SinkFault came in ((had.given ++ asked target came.given ∷ []) ++ more.0, more.1, stop_part rest SinkFault came (λ e. cc) more.0, record { absent = more.2; leaves = tt })
+    stops-so rest TooManyErrors came = let more = stop_takes rest TooManyErrors came in ((had.given ++ asked target came.given ∷ []) ++ more.0, more.1, stop_last rest TooManyErrors came refl more.0, record { absent = more.2; leaves = stop_leaves rest TooManyErrors came refl more.0 })
+    stops-so rest Memory came = let more = stop_takes rest Memory came in ((had.given ++ asked target came.given ∷ []) ++ more.0, more.1, stop_part rest Memory came (λ e. cc) more.0, record { absent = more.2; leaves = tt })
 
     pub searched-stops : (every rest : List Target) (stop : Stop) (result : Result Sum Stop) → (list ++ target ∷ []) ++ rest ≡ every → result ≡ Err stop
-        → ReportsTargetFrom plan patterns target contents mid_used is_used mid after s s_new (printed out err) (printed out_new err_new) (Err stop) → Ends every after out_new err_new result
+        → ReportsTargetFrom plan patterns target contents mid_faults last mid_used is_used mid after s s_new (printed out err) (printed out_new err_new) (Err stop) → Ends every last after out_new err_new result
     searched-stops every rest stop result is same came =
-        subst (λ l. Ends l after out_new err_new result) is (subst (Ends ((list ++ target ∷ []) ++ rest) after out_new err_new) (sym same) (stops-so rest stop came))
+        subst (λ l. Ends l last after out_new err_new result) is (subst (Ends ((list ++ target ∷ []) ++ rest) last after out_new err_new) (sym same) (stops-so rest stop came))
 
 -- the first targets, one of them, and those after it are all
 pub list-parted : (list : List Target) (i : ℕ) (d : Target) → i < length list → (take i list ++ get_or list i d ∷ []) ++ drop (i + 1) list ≡ list

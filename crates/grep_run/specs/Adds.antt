@@ -10,6 +10,7 @@ use Rattle.grep_args.specs.declared.plan.GrepPlan.{GrepPlan}
 use Rattle.grep_core.specs.declared.ended.Ended.{Ended}
 use Rattle.grep_core.specs.declared.ended.Stop.{Stop}
 use Rattle.grep_core.specs.declared.ended.Stop.TheVariants.{Memory}
+use Rattle.tool_in.specs.Absent.{AbsentBy}
 use Rattle.tool_in.specs.Asked.{Asked, asked, named_target}
 use Rattle.grep_run.specs.PatternFiles.{shown_name, FileTexts, patterns_in, texts_of, texts_in_files}
 use Rattle.grep_core.specs.Ends.{ended_of}
@@ -39,23 +40,26 @@ AddsTo (Err text) old new err_old err_new (Err stop) = Halts text err_old err_ne
 
 module _ (plan : GrepPlan) where
   -- the file of patterns that a word names was read
-  pub record AddsWordFrom (word : List ℕ) (contents : Option Contents) (was_used is_used : Bool)
-      (before after : Told) (old new : List (List ℕ)) (err_old err_new : Kept)
-      (result : Result Bool Stop) : Type 0 where
+  pub record AddsWordFrom (word : List ℕ) (contents : Option Contents) (first last : ℕ)
+      (was_used is_used : Bool) (before after : Told) (old new : List (List ℕ))
+      (err_old err_new : Kept) (result : Result Bool Stop) : Type 0 where
     pub given : Option Input
     pub takes : Takes was_used is_used before after contents (named_target word ∷ [])
         (asked (named_target word) given ∷ [])
     pub adds : AddsTo (texts_of plan (shown_name plan (named_target word)) given) old new err_old err_new result
+    pub absent : AbsentBy contents first last (asked (named_target word) given ∷ [])
 
   -- all files were read, or one of them can't be
-  abbrev pub AddsAllFrom : Option Contents → Bool → Bool → Told → Told → List (List ℕ)
+  abbrev pub AddsAllFrom : Option Contents → ℕ → ℕ → Bool → Bool → Told → Told → List (List ℕ)
       → List (List ℕ) → Kept → Kept → Result Bool Stop → Type 0
-  AddsAllFrom contents was_used is_used before after old new err_old err_new (Ok true) =
+  AddsAllFrom contents first last was_used is_used before after old new err_old err_new (Ok true) =
       (given : List Asked) × Takes was_used is_used before after contents (map named_target plan.pattern_files) given
       × AddsTo (texts_in_files plan given) old new err_old err_new (Ok true)
-  AddsAllFrom contents was_used is_used before after old new err_old err_new result =
+      × AbsentBy contents first last given
+  AddsAllFrom contents first last was_used is_used before after old new err_old err_new result =
       (given : List Asked) × TakesAll was_used before after contents (map named_target plan.pattern_files) given
       × AddsTo (texts_in_files plan given) old new err_old err_new result
+      × AbsentBy contents first last given
 
 -- how the reading of files of patterns stands: the inputs, the patterns so far, and what the messages tell
 pub record Reading : Type 0 where
@@ -68,10 +72,12 @@ reading inputs texts err = record { inputs = inputs; texts = texts; err = err }
 
 abbrev pub AddsWord : GrepPlan → List ℕ → Reading → Reading → Result Bool Stop → Type 0
 AddsWord plan word old new result =
-    AddsWordFrom plan word old.inputs.contents old.inputs.is_used new.inputs.is_used
-    old.inputs.standard new.inputs.standard old.texts new.texts old.err new.err result
+    AddsWordFrom plan word old.inputs.contents old.inputs.faults new.inputs.faults
+    old.inputs.is_used new.inputs.is_used old.inputs.standard new.inputs.standard
+    old.texts new.texts old.err new.err result
 
 abbrev pub AddsAll : GrepPlan → Reading → Reading → Result Bool Stop → Type 0
 AddsAll plan old new result =
-    AddsAllFrom plan old.inputs.contents old.inputs.is_used new.inputs.is_used
-    old.inputs.standard new.inputs.standard old.texts new.texts old.err new.err result
+    AddsAllFrom plan old.inputs.contents old.inputs.faults new.inputs.faults
+    old.inputs.is_used new.inputs.is_used old.inputs.standard new.inputs.standard
+    old.texts new.texts old.err new.err result

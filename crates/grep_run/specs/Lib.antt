@@ -5,6 +5,7 @@ pub mod ToolText
 pub mod Asks
 pub mod RowRuns
 pub mod Worked
+pub mod Leaves
 pub mod Adds
 pub mod Searches
 pub mod Sums

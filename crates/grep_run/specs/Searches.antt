@@ -11,10 +11,12 @@ use Rattle.grep_core.specs.declared.ended.Stop.{Stop}
 use Rattle.grep_core.specs.declared.ended.Stop.TheVariants.{SinkFault, TooManyErrors}
 use Rattle.grep_core.specs.declared.state.State.{State}
 use Rattle.dir_walk.specs.declared.lists.Target.{Target}
-use Rattle.tool_in.specs.Asked.{asked}
+use Rattle.tool_in.specs.Absent.{AbsentBy}
+use Rattle.tool_in.specs.Asked.{asked, is_standard}
 use Rattle.pat_tree.specs.Pattern.{Pattern}
 use Rattle.grep_core.specs.OneInput.{GrepsTo}
 use Rattle.grep_run.specs.Reports.{Report, scanned, missing, report_of}
+use Rattle.grep_run.specs.Leaves.{LeavesTarget, Uses}
 use Rattle.tool_out.specs.Prints.{Wrote, Breaks}
 use Rattle.tool_in.specs.Takes.{Takes, Inputs}
 use Rattle.tool_out.specs.Printed.{Printed}
@@ -38,11 +40,15 @@ ReportsTo (missing text) s s_new old new (Err stop) = Breaks [] text old new (st
 
 -- what a target stands for was searched
 pub record ReportsTargetFrom (plan : GrepPlan) (patterns : List Pattern) (target : Target)
-    (contents : Option Contents) (was_used is_used : Bool) (before after : Told) (s s_new : State)
-    (old new : Printed) (result : Result (Option FileEnd) Stop) : Type 0 where
+    (contents : Option Contents) (first last : ℕ) (was_used is_used : Bool) (before after : Told)
+    (s s_new : State) (old new : Printed) (result : Result (Option FileEnd) Stop) : Type 0 where
   pub given : Option Input
   pub takes : Takes was_used is_used before after contents (target ∷ []) (asked target given ∷ [])
   pub reports : ReportsTo (report_of plan patterns s (asked target given)) s s_new old new result
+  pub absent : AbsentBy contents first last (asked target given ∷ [])
+  pub uses : Uses (is_standard target) was_used is_used before after
+  pub leaves : LeavesTarget was_used (is_standard target) before after
+      (report_of plan patterns s (asked target given)) result
 
 -- how a search stands between two targets
 pub record Searching : Type 0 where
@@ -56,5 +62,6 @@ searching inputs state printed = record { inputs = inputs; state = state; printe
 abbrev pub ReportsTarget : GrepPlan → List Pattern → Target → Searching → Searching
     → Result (Option FileEnd) Stop → Type 0
 ReportsTarget plan patterns target old new result =
-    ReportsTargetFrom plan patterns target old.inputs.contents old.inputs.is_used new.inputs.is_used
-    old.inputs.standard new.inputs.standard old.state new.state old.printed new.printed result
+    ReportsTargetFrom plan patterns target old.inputs.contents old.inputs.faults new.inputs.faults
+    old.inputs.is_used new.inputs.is_used old.inputs.standard new.inputs.standard
+    old.state new.state old.printed new.printed result

@@ -13,6 +13,7 @@ use Rattle.tool_out.specs.Printed.{Printed}
 use Rattle.grep_match.specs.Compiled.{Compiled}
 use Rattle.grep_core.specs.declared.ended.Stop.{Stop}
 use Rattle.grep_run.specs.Asks.{AsksFor, Lists, asked_by_plan}
+use Rattle.grep_run.specs.Leaves.{Ties, Unless, LeavesBy, LeavesPlan, LeavesInput}
 use Rattle.grep_run.specs.RunsBy.{RunsBy}
 use Rattle.grep_run.specs.ToolText.{text_by_patterns, text_by_plan, text_of}
 
@@ -32,7 +33,9 @@ SearchesFor plan found words was_used old new result =
     (list : List Target)
     × Lists old.files.contents old.files.faults new.files.faults plan words list
     × ((given : List Asked) × TakesAll was_used old.input new.input old.files.contents list given
-    × RunsBy (text_by_patterns words plan given found) old.printed new.printed result)
+    × RunsBy (text_by_patterns words plan given found) old.printed new.printed result
+    × Ties old.files.contents old.files.faults new.files.faults given result
+    (Unless was_used (LeavesBy old.input new.input words plan given found)))
 
 -- a search by a plan
 abbrev pub SearchesBy : GrepPlan → List (List ℕ) → Streams → Streams → Result ℕ Stop → Type 0
@@ -43,7 +46,9 @@ SearchesBy plan words old new result =
     × ((pattern_files : List Asked) × (given : List Asked)
     × (length pattern_files ≡ length plan.pattern_files)
     × StandFor old.files.contents heard (asked_by_plan plan list) (pattern_files ++ given)
-    × RunsBy (text_by_plan words plan pattern_files given) old.printed new.printed result))
+    × RunsBy (text_by_plan words plan pattern_files given) old.printed new.printed result
+    × Ties old.files.contents old.files.faults new.files.faults (pattern_files ++ given) result
+    (LeavesPlan old.input new.input words plan pattern_files given)))
 
 -- a run on the words after the tool's name
 abbrev pub RunsOn : List (List ℕ) → Streams → Streams → Result ℕ Stop → Type 0
@@ -52,4 +57,6 @@ RunsOn words old new result =
     × ((asked : List Target)
     × AsksFor old.files.contents old.files.faults new.files.faults words asked
     × ((given : List Asked) × StandFor old.files.contents heard asked given
-    × RunsBy (text_of words given) old.printed new.printed result))
+    × RunsBy (text_of words given) old.printed new.printed result
+    × Ties old.files.contents old.files.faults new.files.faults given result
+    (LeavesInput words given old.input new.input)))

@@ -8,6 +8,7 @@ ghost use Rattle.tool_in.specs.Asked.{Asked};
 ghost use Rattle.pcre_io.specs.Told.{Kept};
 ghost use Rattle.grep_match.specs.Compiled.{patterns_in, patterns_of};
 ghost use Rattle.grep_core.specs.InputText.{first_state};
+ghost use Rattle.grep_run.specs.Leaves.{LeavesAll, Ties, Unless};
 ghost use Rattle.grep_run.specs.Refusals.{refusal, usage_message, help_text};
 ghost use Rattle.grep_run.specs.Reports.{reports};
 ghost use Rattle.grep_run.specs.ToolText.{outcome_of, is_below, names_for, shows_names};
@@ -46,7 +47,10 @@ fn grep_targets<F: FileSet, S: Source, O: Sink, E: Sink>(
         (S.tells input.new) (F.tells files.old).contents list.now given
         × SumsTo plan.now (reports plan.now (patterns_in patterns.now) given first_state)
         (printed (O.tells out.old) (E.tells err.old))
-        (printed (O.tells out.new) (E.tells err.new)) result }
+        (printed (O.tells out.new) (E.tells err.new)) result
+        × Ties (F.tells files.old).contents (F.tells files.old).faults (F.tells files.new).faults
+        given result (Unless is_used.old (LeavesAll (S.tells input.old) (S.tells input.new)
+        plan.now (patterns_in patterns.now) given first_state)) }
     ensures files { (F.tells files.new).contents ≡ (F.tells files.old).contents }
     ensures later { (F.tells files.old).faults ≤ (F.tells files.new).faults }
 {
@@ -83,7 +87,10 @@ fn grep_list<F: FileSet, S: Source, O: Sink, E: Sink>(
         × RunsBy (outcome_of plan.now (reports plan.now (patterns_in patterns.now)
         given first_state))
         (printed (O.tells out.old) (E.tells err.old))
-        (printed (O.tells out.new) (E.tells err.new)) result }
+        (printed (O.tells out.new) (E.tells err.new)) result
+        × Ties (F.tells files.old).contents (F.tells files.old).faults (F.tells files.new).faults
+        given result (Unless is_used.old (LeavesAll (S.tells input.old) (S.tells input.new)
+        plan.now (patterns_in patterns.now) given first_state)) }
     ensures files { (F.tells files.new).contents ≡ (F.tells files.old).contents }
     ensures later { (F.tells files.old).faults ≤ (F.tells files.new).faults }
 {

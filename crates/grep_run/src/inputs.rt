@@ -1,14 +1,16 @@
 //! The targets of a search, one by one.
-ghost use Rattle.std.specs.Prelude.{◌≡◌, ◌≤◌, ◌<◌, ◌^◌, not, Option};
+ghost use Rattle.std.specs.Prelude.{◌≡◌, ◌≤◌, ◌<◌, ◌^◌, ◌∷◌, [], false, not, Option};
 ghost use Rattle.pcre_io.specs.Told.{Kept};
 ghost use Rattle.line_feed.specs.Rows.{Input};
-ghost use Rattle.tool_in.specs.Asked.{Opened};
+ghost use Rattle.tool_in.specs.Absent.{AbsentBy};
+ghost use Rattle.tool_in.specs.Asked.{asked, Opened};
 ghost use Rattle.grep_match.specs.Compiled.{patterns_in};
 ghost use Rattle.dir_walk.specs.declared.lists.Target.TheVariants as targets;
 ghost use Rattle.grep_core.specs.declared.state.State.{State};
 ghost use Rattle.grep_core.specs.InputText.{input_text};
 ghost use Rattle.grep_core.specs.Messages.{message_on};
 ghost use Rattle.grep_core.specs.OneInput.{GrepsTo};
+ghost use Rattle.grep_run.specs.Leaves.{LeavesScan};
 ghost use Rattle.grep_run.specs.Reports.{missing, report_on};
 ghost use Rattle.tool_in.specs.Takes.{IsLeft, inputs};
 ghost use Rattle.grep_run.specs.Searches.{IsReady, ReportsTo, ReportsTarget, searching};
@@ -39,7 +41,10 @@ fn grep_standard<S: Source, O: Sink, E: Sink>(
         × GrepsTo (input_text plan.now (patterns_in patterns.now) plan.now.label state.old left)
         state.new
         (printed (O.tells out.old) (E.tells err.old))
-        (printed (O.tells out.new) (E.tells err.new)) result }
+        (printed (O.tells out.new) (E.tells err.new)) result
+        × (is_used.old ≡ false → LeavesScan
+        (input_text plan.now (patterns_in patterns.now) plan.now.label state.old left)
+        (S.tells input.old) (S.tells input.new) result) }
 {
     let name = plan.label.as_str();
     if *is_used {
@@ -84,7 +89,9 @@ fn grep_named<F: FileSet, O: Sink, E: Sink>(
         (targets.File name.now) given)
         state.old state.new
         (printed (O.tells out.old) (E.tells err.old))
-        (printed (O.tells out.new) (E.tells err.new)) result }
+        (printed (O.tells out.new) (E.tells err.new)) result
+        × AbsentBy (F.tells files.old).contents (F.tells files.old).faults
+        (F.tells files.new).faults (asked (targets.File name.now) given ∷ []) }
     ensures files { (F.tells files.new).contents ≡ (F.tells files.old).contents }
     ensures later { (F.tells files.old).faults ≤ (F.tells files.new).faults }
 {
@@ -113,9 +120,9 @@ pub fn grep_target<F: FileSet, S: Source, O: Sink, E: Sink>(
 ) -> Result<Option<FileEnd>, Stop>
     requires { IsReady plan.now state.old }
     ensures reports { ReportsTarget plan.now (patterns_in patterns.now) target.now
-        (searching (inputs (F.tells files.old).contents (S.tells input.old) is_used.old) state.old
+        (searching (inputs (F.tells files.old) (S.tells input.old) is_used.old) state.old
         (printed (O.tells out.old) (E.tells err.old)))
-        (searching (inputs (F.tells files.new).contents (S.tells input.new) is_used.new) state.new
+        (searching (inputs (F.tells files.new) (S.tells input.new) is_used.new) state.new
         (printed (O.tells out.new) (E.tells err.new)))
         result }
     ensures files { (F.tells files.new).contents ≡ (F.tells files.old).contents }

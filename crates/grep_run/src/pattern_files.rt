@@ -2,7 +2,9 @@
 ghost use Rattle.std.specs.Prelude.{◌≡◌, ◌≤◌, ◌∷◌, [], ◌++◌, filter, OnOk, OnErr, IfOk, Some, Option, Err};
 ghost use Rattle.line_feed.specs.Rows.{Input};
 ghost use Rattle.line_feed.specs.Hears.{Hears};
-ghost use Rattle.tool_in.specs.Asked.{Opened};
+ghost use Rattle.dir_walk.specs.declared.lists.Target.TheVariants as targets;
+ghost use Rattle.tool_in.specs.Absent.{AbsentBy};
+ghost use Rattle.tool_in.specs.Asked.{asked, Opened};
 ghost use Rattle.grep_run.specs.PatternFiles.{is_white, trimmed, is_given, texts_of};
 ghost use Rattle.tool_in.specs.Takes.{IsLeft, inputs};
 ghost use Rattle.grep_run.specs.Adds.{AddsLines, AddsTo, AddsWord, AddsAll, reading};
@@ -144,7 +146,9 @@ fn add_named<F: FileSet, E: Sink>(
     requires { 1 ≤ plan.now.max_buffer_size }
     ensures adds { (given : Option Input) × Opened (F.tells files.old).contents name.now given
         × AddsTo (texts_of plan.now name.now given) texts.old texts.new (E.tells err.old)
-        (E.tells err.new) result }
+        (E.tells err.new) result
+        × AbsentBy (F.tells files.old).contents (F.tells files.old).faults
+        (F.tells files.new).faults (asked (targets.File name.now) given ∷ []) }
     ensures files { (F.tells files.new).contents ≡ (F.tells files.old).contents }
     ensures later { (F.tells files.old).faults ≤ (F.tells files.new).faults }
 {
@@ -171,9 +175,9 @@ fn add_file<F: FileSet, S: Source, E: Sink>(
 ) -> Result<bool, Stop>
     requires { 1 ≤ plan.now.max_buffer_size }
     ensures adds { AddsWord plan.now word.now
-        (reading (inputs (F.tells files.old).contents (S.tells input.old) is_used.old) texts.old
+        (reading (inputs (F.tells files.old) (S.tells input.old) is_used.old) texts.old
         (E.tells err.old))
-        (reading (inputs (F.tells files.new).contents (S.tells input.new) is_used.new) texts.new
+        (reading (inputs (F.tells files.new) (S.tells input.new) is_used.new) texts.new
         (E.tells err.new)) result }
     ensures files { (F.tells files.new).contents ≡ (F.tells files.old).contents }
     ensures later { (F.tells files.old).faults ≤ (F.tells files.new).faults }
@@ -197,9 +201,9 @@ pub fn add_files<F: FileSet, S: Source, E: Sink>(
 ) -> Result<bool, Stop>
     requires { 1 ≤ plan.now.max_buffer_size }
     ensures adds { AddsAll plan.now
-        (reading (inputs (F.tells files.old).contents (S.tells input.old) is_used.old) texts.old
+        (reading (inputs (F.tells files.old) (S.tells input.old) is_used.old) texts.old
         (E.tells err.old))
-        (reading (inputs (F.tells files.new).contents (S.tells input.new) is_used.new) texts.new
+        (reading (inputs (F.tells files.new) (S.tells input.new) is_used.new) texts.new
         (E.tells err.new)) result }
     ensures files { (F.tells files.new).contents ≡ (F.tells files.old).contents }
     ensures later { (F.tells files.old).faults ≤ (F.tells files.new).faults }

@@ -7,6 +7,7 @@ ghost use Rattle.tool_in.specs.Asked.{Asked, StandFor};
 ghost use Rattle.tool_out.specs.Outcomes.{Runs};
 ghost use Rattle.tool_out.specs.Printed.{printed};
 ghost use Rattle.grep_run.specs.Asks.{AsksFor};
+ghost use Rattle.grep_run.specs.Leaves.{LeavesInput, RunTies};
 ghost use Rattle.grep_run.specs.ToolText.{text_of};
 
 use crate::grep::grep;
@@ -29,13 +30,17 @@ pub fn run_grep<F: FileSet, S: Source, O: Sink, E: Sink>(
 ) -> u8
     // The targets that its words ask for stand for the input that the source stands for, and for the files. For these the
     // sinks grew by its text, and the answer is its status; or memory lacked or a write failed, and they grew by a part of
-    // it.
+    // it. A file is absent only where it is known to be, or a fault was counted; and where the scan of standard input ends
+    // early, little past its last line was taken of it.
     ensures text { (heard : Input) × Hears (S.tells input.old) (S.tells input.new) heard
         × ((asked : List Target) × AsksFor (F.tells files.old).contents (F.tells files.old).faults
         (F.tells files.new).faults (map string_bytes words.now) asked
         × ((given : List Asked) × StandFor (F.tells files.old).contents heard asked given
         × Runs (text_of (map string_bytes words.now) given) result
-        (printed (O.tells out.old) (E.tells err.old)) (printed (O.tells out.new) (E.tells err.new)))) }
+        (printed (O.tells out.old) (E.tells err.old)) (printed (O.tells out.new) (E.tells err.new))
+        × RunTies (F.tells files.old).contents (F.tells files.old).faults
+        (F.tells files.new).faults given result (LeavesInput (map string_bytes words.now) given
+        (S.tells input.old) (S.tells input.new)))) }
     ensures files { (F.tells files.new).contents ≡ (F.tells files.old).contents }
 {
     match grep(alloc, words, files, input, out, err) {

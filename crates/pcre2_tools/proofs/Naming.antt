@@ -13,16 +13,17 @@ use Rattle.tool_out.specs.Outcomes.{RunOutcome, said, Runs}
 use Rattle.grep_run.specs.Asks.{AsksFor}
 use Rattle.grep_run.specs.ToolText.{text_of}
 use Rattle.script_run.specs.ToolText as script
-use Rattle.pcre2_tools.specs.ToolText.{is_grep, is_test, text_by, tool_text, AsksIf, ToolAsks}
+use Rattle.pcre2_tools.specs.ToolText.{is_grep, is_test, text_by, tool_text, AsksIf, ToolAsks, TiesIf, ToolTies}
 
 -- words that ask for nothing, and that this is said to
 pub record SaysTo (words : List (List ℕ)) (text : List ℕ) (status : ℕ) : Type 0 where
   pub asks : (contents : Option Contents) (first last : ℕ) → ToolAsks contents first last words []
   pub says : (given : List Asked) → tool_text words given ≡ said text status
+  pub ties : (contents : Option Contents) (first last : ℕ) (given : List Asked) (answer : ℕ) (before after : Told) → ToolTies contents first last words given answer before after
 
 pub says-none : {A : Type 0} (f : A → List ℕ) (words : List A) → length words < 1 → SaysTo (map f words) (codes "unknown tool") 2
 says-none f words few =
-    subst (λ ws. SaysTo ws (codes "unknown tool") 2) (sym (no-word f words few)) (record { asks = λ contents first last. refl; says = λ given. refl })
+    subst (λ ws. SaysTo ws (codes "unknown tool") 2) (sym (no-word f words few)) (record { asks = λ contents first last. refl; says = λ given. refl; ties = λ contents first last given answer before after. tt })
 
 pub says-other : {A : Type 0} (f : A → List ℕ) (words : List A) (tool : A) → 1 ≤ length words → tool ≡ get_or words 0 tool → is_grep (f tool) ≡ false → is_test (f tool) ≡ false
     → SaysTo (map f words) (codes "unknown tool") 2
@@ -31,16 +32,18 @@ says-other f words tool some is other test =
     subst (λ ws. SaysTo ws (codes "unknown tool") 2) (sym (first-word f words tool some is)) (record {
       asks = λ contents first last. subst (λ t. AsksIf t (is_test (f tool)) contents first last rest []) (sym other) (subst (λ t. AsksIf false t contents first last rest []) (sym test) refl);
       says = λ given. (λ i. text_by (other i) (test i) rest given);
+      ties = λ contents first last given answer before after. subst (λ t. TiesIf t contents first last rest given answer before after) (sym other) tt;
     })
 
 -- it was written
 pub runs-said : (t : Told) (contents : Option Contents) (first last : ℕ) (words : List (List ℕ)) (text : List ℕ) (status result : ℕ) (old new : Printed)
     → SaysTo words text status → Runs (said text status) result old new
-    → (heard : Input) × Hears t t heard × ((asked : List Target) × ToolAsks contents first last words asked × ((given : List Asked) × StandFor contents heard asked given × Runs (tool_text words given) result old new))
+    → (heard : Input) × Hears t t heard × ((asked : List Target) × ToolAsks contents first last words asked × ((given : List Asked) × StandFor contents heard asked given × Runs (tool_text words given) result old new
+    × ToolTies contents first last words given result t t))
 runs-said t contents first last words text status result old new says runs = let any = hears-any t in (
   any.0,
   any.1,
-  ([], says.asks contents first last, ([], tt, subst (λ o. Runs o result old new) (sym (says.says [])) runs)),
+  ([], says.asks contents first last, ([], tt, subst (λ o. Runs o result old new) (sym (says.says [])) runs, says.ties contents first last [] result t t)),
 )
 
 -- The words after the tool's name.
@@ -52,25 +55,31 @@ module _ {A : Type 0} (f : A → List ℕ) (words : List A) (tool : A) (some : 1
   whole = sym (first-word f words tool some is)
 
   module _ (contents : Option Contents) (first last : ℕ) (before after : Told) (result : ℕ) (old new : Printed) where
-    abbrev Found : (List Target → Type 0) → (List Asked → RunOutcome) → Type 0
-    Found asks text =
+    abbrev Found : (List Target → Type 0) → (List Asked → RunOutcome) → (List Asked → Type 0) → Type 0
+    Found asks text ties =
         (heard : Input) × Hears before after heard × ((asked : List Target) × asks asked
-        × ((given : List Asked) × StandFor contents heard asked given × Runs (text given) result old new))
+        × ((given : List Asked) × StandFor contents heard asked given × Runs (text given) result old new × ties given))
 
-    found-whole : Found (ToolAsks contents first last (f tool ∷ after_name)) (tool_text (f tool ∷ after_name)) → Found (ToolAsks contents first last (map f words)) (tool_text (map f words))
-    found-whole found = subst (λ ws. Found (ToolAsks contents first last ws) (tool_text ws)) whole found
+    abbrev ties_of : List (List ℕ) → List Asked → Type 0
+    ties_of ws given = ToolTies contents first last ws given result before after
+
+    abbrev ties_if : Bool → List Asked → Type 0
+    ties_if t given = TiesIf t contents first last after_name given result before after
+
+    found-whole : Found (ToolAsks contents first last (f tool ∷ after_name)) (tool_text (f tool ∷ after_name)) (ties_of (f tool ∷ after_name)) → Found (ToolAsks contents first last (map f words)) (tool_text (map f words)) (ties_of (map f words))
+    found-whole found = subst (λ ws. Found (ToolAsks contents first last ws) (tool_text ws) (ties_of ws)) whole found
 
     -- pcre2grep asks for what the words after its name ask for
-    pub runs-grep : is_grep (f tool) ≡ true → Found (AsksFor contents first last after_name) (text_of after_name) → Found (ToolAsks contents first last (map f words)) (tool_text (map f words))
+    pub runs-grep : is_grep (f tool) ≡ true → Found (AsksFor contents first last after_name) (text_of after_name) (ties_if true) → Found (ToolAsks contents first last (map f words)) (tool_text (map f words)) (ties_of (map f words))
     runs-grep named found =
-        found-whole (subst (λ t. Found (AsksIf t (is_test (f tool)) contents first last after_name) (text_by t (is_test (f tool)) after_name)) (sym named) found)
+        found-whole (subst (λ t. Found (AsksIf t (is_test (f tool)) contents first last after_name) (text_by t (is_test (f tool)) after_name) (ties_if t)) (sym named) found)
 
     -- so does pcre2test
     pub runs-test : is_grep (f tool) ≡ false → is_test (f tool) ≡ true
         → (heard : Input) × Hears before after heard × ((given : List Asked) × StandFor contents heard (script.asked_targets after_name) given × Runs (script.text_of after_name given) result old new)
-        → Found (ToolAsks contents first last (map f words)) (tool_text (map f words))
+        → Found (ToolAsks contents first last (map f words)) (tool_text (map f words)) (ties_of (map f words))
     runs-test other named found =
         found-whole
-        (subst (λ t. Found (AsksIf t (is_test (f tool)) contents first last after_name) (text_by t (is_test (f tool)) after_name)) (sym other)
-        (subst (λ t. Found (AsksIf false t contents first last after_name) (text_by false t after_name)) (sym named)
-        (found.0, found.1, (script.asked_targets after_name, refl, found.2))))
+        (subst (λ t. Found (AsksIf t (is_test (f tool)) contents first last after_name) (text_by t (is_test (f tool)) after_name) (ties_if t)) (sym other)
+        (subst (λ t. Found (AsksIf false t contents first last after_name) (text_by false t after_name) (ties_if false)) (sym named)
+        (found.0, found.1, (script.asked_targets after_name, refl, (found.2.0, found.2.1, found.2.2, tt)))))

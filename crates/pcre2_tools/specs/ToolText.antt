@@ -1,11 +1,13 @@
 -- What the tool writes: words → the tool that the first one names, the targets that it asks for and what they stand for → its
 -- text.
-use Rattle.std.specs.Prelude.{◌≡◌, ℕ, List, [], ◌∷◌, Bool, true, false, Option, codes, bytes_eq}
+use Rattle.std.specs.Prelude.{◌≡◌, ℕ, List, [], ◌∷◌, Bool, true, false, Option, codes, bytes_eq, ⊤}
+use Rattle.pcre_io.specs.Told.{Told}
 use Rattle.pcre_io.specs.Files.{Contents}
 use Rattle.dir_walk.specs.declared.lists.Target.{Target}
 use Rattle.tool_in.specs.Asked.{Asked}
 use Rattle.tool_out.specs.Outcomes.{RunOutcome, said}
 use Rattle.grep_run.specs.Asks.{AsksFor}
+use Rattle.grep_run.specs.Leaves.{LeavesInput, RunTies}
 use Rattle.grep_run.specs.ToolText.{text_of}
 use Rattle.script_run.specs.ToolText as script
 
@@ -28,6 +30,21 @@ abbrev pub ToolAsks : Option Contents → ℕ → ℕ → List (List ℕ) → Li
 ToolAsks contents first last [] asked = asked ≡ []
 ToolAsks contents first last (tool ∷ words) asked =
     AsksIf (is_grep tool) (is_test tool) contents first last words asked
+
+-- what is told of inputs beside the text, for a run that answers this status
+abbrev pub TiesIf : Bool → Option Contents → ℕ → ℕ → List (List ℕ) → List Asked → ℕ → Told → Told
+    → Type 0
+TiesIf true contents first last words given status before after =
+    RunTies contents first last given status (LeavesInput words given before after)
+TiesIf false contents first last words given status before after = ⊤
+
+-- A file that pcre2grep was to search is absent only where a fault was counted. Where its scan of standard input ends early,
+-- little past its last line was taken of it.
+abbrev pub ToolTies : Option Contents → ℕ → ℕ → List (List ℕ) → List Asked → ℕ → Told → Told
+    → Type 0
+ToolTies contents first last [] given status before after = ⊤
+ToolTies contents first last (tool ∷ words) given status before after =
+    TiesIf (is_grep tool) contents first last words given status before after
 
 -- by the tool
 abbrev pub text_by : Bool → Bool → List (List ℕ) → List Asked → RunOutcome

@@ -48,16 +48,16 @@ stand-length contents standard [] (a ∷ given) h = absurd h
 stand-length contents standard (target ∷ list) [] h = absurd h
 stand-length contents standard (target ∷ list) (a ∷ given) h = ap suc (stand-length contents (standard_after target standard) list given h.2)
 
--- what a target may stand for that isn't looked at
-abbrev looked : Option Contents → List ℕ → Option Input
-looked None path = None
+-- What a target may stand for that isn't looked at. Of files that aren't told it is there.
+abbrev pub looked : Option Contents → List ℕ → Option Input
+looked None path = Some nothing
 looked (Some files) path = option_map input_of (opened_file path files)
 
-abbrev look : Option Contents → Target → Option Input
+abbrev pub look : Option Contents → Target → Option Input
 look contents (targets.File path) = looked contents path
 look contents _ = None
 
-abbrev filled : Option Contents → Input → List Target → List Asked
+abbrev pub filled : Option Contents → Input → List Target → List Asked
 filled contents standard [] = []
 filled contents standard (target ∷ list) =
     asked target (if is_standard target then Some standard else look contents target) ∷ filled contents (standard_after target standard) list
@@ -74,7 +74,7 @@ opens-look contents (targets.NoList path) = refl
 opens-look contents (targets.TooDeep path) = refl
 opens-look contents (targets.Unnamed path) = refl
 
-stand-filled : (contents : Option Contents) (standard : Input) (list : List Target) → StandFor contents standard list (filled contents standard list)
+pub stand-filled : (contents : Option Contents) (standard : Input) (list : List Target) → StandFor contents standard list (filled contents standard list)
 stand-filled contents standard [] = tt
 stand-filled contents standard (target ∷ list) = (refl, by_test (is_standard target), stand-filled contents (standard_after target standard) list)
   where
@@ -136,10 +136,10 @@ takes-then false true before mid after contents list others given more h i = (
 )
 
 -- targets that aren't looked at stand for something
-pub stand-any : (contents : Option Contents) (standard : Input) (list : List Target) → (given : List Asked) × StandFor contents standard list given
+unfoldable pub stand-any : (contents : Option Contents) (standard : Input) (list : List Target) → (given : List Asked) × StandFor contents standard list given
 stand-any contents standard list = (filled contents standard list, stand-filled contents standard list)
 
-pub takes-any : (was_used : Bool) (t : Told) (contents : Option Contents) (list : List Target) → (given : List Asked) × TakesAll was_used t t contents list given
+unfoldable pub takes-any : (was_used : Bool) (t : Told) (contents : Option Contents) (list : List Target) → (given : List Asked) × TakesAll was_used t t contents list given
 takes-any true t contents list = (filled contents nothing list, (refl, stand-filled contents nothing list))
 takes-any false t contents list = let any = hears-any t in (filled contents any.0 list, (any.0, any.1, stand-filled contents any.0 list))
 
@@ -155,7 +155,7 @@ takes-end was_used is_used before after contents list given h =
     (takes-then was_used is_used before after after contents list [] given [] h (takes-nothing is_used after contents)))
 
 -- the targets after those at which a run stops stand for something too
-pub takes-rest : (was_used : Bool) (before after : Told) (contents : Option Contents) (list others : List Target) (given : List Asked)
+unfoldable pub takes-rest : (was_used : Bool) (before after : Told) (contents : Option Contents) (list others : List Target) (given : List Asked)
     → TakesAll was_used before after contents list given → (more : List Asked) × TakesAll was_used before after contents (list ++ others) (given ++ more)
 takes-rest true before after contents list others given h =
     let left = standard_after_all list nothing in
@@ -175,8 +175,8 @@ opened-heard (Some files) name before after input opens hears = by_file (opened_
     by_file (Some file) is =
         ap Some (subst (λ stop. HearsBy before after (Some file.bytes) stop input) is.1 (subst (λ bytes. HearsBy before after bytes before.stop input) is.0 hears))
 
-pub opened-any : (contents : Option Contents) (name : List ℕ) → (given : Option Input) × Opened contents name given
-opened-any None name = (None, tt)
+unfoldable pub opened-any : (contents : Option Contents) (name : List ℕ) → (given : Option Input) × Opened contents name given
+opened-any None name = (Some nothing, tt)
 opened-any (Some files) name = (option_map input_of (opened_file name files), refl)
 
 -- One target.

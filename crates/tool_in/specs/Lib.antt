@@ -1,3 +1,4 @@
 pub mod Asked
+pub mod Absent
 pub mod Takes
 pub mod Laws

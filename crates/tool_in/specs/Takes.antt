@@ -1,22 +1,27 @@
 -- How a run takes its inputs: targets, and how files and standard input stood → what the targets stand for, and how they stand
 -- then.
-use Rattle.std.specs.Prelude.{◌≡◌, Bool, true, false, List, Option}
+use Rattle.std.specs.Prelude.{◌≡◌, ℕ, Bool, true, false, List, Option}
 use Rattle.pcre_io.specs.Told.{Told}
-use Rattle.pcre_io.specs.Files.{Contents}
+use Rattle.pcre_io.specs.Files.{Contents, Filed}
 use Rattle.line_feed.specs.Rows.{Input}
 use Rattle.line_feed.specs.Hears.{Hears}
 use Rattle.dir_walk.specs.declared.lists.Target.{Target}
 use Rattle.tool_in.specs.Asked.{Asked, StandFor, nothing, standard_after_all}
 
--- what a run's inputs tell: its files, what standard input has left, and whether it was used
+-- what a run's inputs tell: its files with their faults, what standard input has left, and whether it was used
 pub record Inputs : Type 0 where
   pub contents : Option Contents
+  pub faults : ℕ
   pub standard : Told
   pub is_used : Bool
 
-abbrev pub inputs : Option Contents → Told → Bool → Inputs
-inputs contents standard is_used =
-    record { contents = contents; standard = standard; is_used = is_used }
+abbrev pub inputs : Filed → Told → Bool → Inputs
+inputs files standard is_used = record {
+  contents = files.contents;
+  faults = files.faults;
+  standard = standard;
+  is_used = is_used;
+}
 
 -- Standard input was taken. This is what it stands for: once it was used, nothing is left.
 abbrev pub IsLeft : Bool → Bool → Told → Told → Input → Type 0

@@ -39,7 +39,7 @@ returns-then-not-branch-clause-runs g c =
     let err_old = g.E.Sink.tells c.args.err.now in
     let err_new = g.E.Sink.tells c.add_files.new.err in
     by-unread c.args.plan (map string_bytes c.args.words.now) files (g.F.FileSet.tells c.add_files.new.files) now after c.in_ok-texts.texts c.add_files.new.texts c.add_files.new.is_used (g.O.Sink.tells c.args.out.now) err_old err_new
-    (subst (λ all. AddsAllFrom c.args.plan files.contents false c.add_files.new.is_used now after c.in_ok-texts.texts c.add_files.new.texts err_old err_new (Ok all)) c.if-not-branch.true c.in_ok-add_files.ensures.adds)
+    (subst (λ all. AddsAllFrom c.args.plan files.contents files.faults (g.F.FileSet.tells c.add_files.new.files).faults false c.add_files.new.is_used now after c.in_ok-texts.texts c.add_files.new.texts err_old err_new (Ok all)) c.if-not-branch.true c.in_ok-add_files.ensures.adds)
 
 pub returns-clause-runs : goal.returns-clause-runs
 returns-clause-runs g c =
@@ -50,6 +50,6 @@ returns-clause-runs g c =
     let err_mid = g.E.Sink.tells c.add_files.new.err in
     by-search c.args.plan (map string_bytes c.args.words.now) files (g.F.FileSet.tells c.grep_for.new.files) now (g.S.Source.tells c.grep_for.new.input) (g.F.FileSet.tells c.add_files.new.files) mid c.in_ok-texts.texts c.add_files.new.texts c.add_files.new.is_used
     (g.O.Sink.tells c.args.out.now) err_old err_mid (printed (g.O.Sink.tells c.grep_for.new.out) (g.E.Sink.tells c.grep_for.new.err)) c.grep_for.result c.in_ok-texts.ensures.ok
-    c.in_ok-add_files.ensures.files c.in_ok-add_files.ensures.later
-    (subst (λ all. AddsAllFrom c.args.plan files.contents false c.add_files.new.is_used now mid c.in_ok-texts.texts c.add_files.new.texts err_old err_mid (Ok all)) c.if-not-branch.false c.in_ok-add_files.ensures.adds)
+    c.in_ok-add_files.ensures.files c.in_ok-add_files.ensures.later c.grep_for.ensures.later
+    (subst (λ all. AddsAllFrom c.args.plan files.contents files.faults (g.F.FileSet.tells c.add_files.new.files).faults false c.add_files.new.is_used now mid c.in_ok-texts.texts c.add_files.new.texts err_old err_mid (Ok all)) c.if-not-branch.false c.in_ok-add_files.ensures.adds)
     c.grep_for.ensures.runs

@@ -4,6 +4,7 @@ use Rattle.grep_core.specs.Ends.{stop_of}
 use Rattle.grep_core.specs.InputText.{first_state}
 use Rattle.grep_run.specs.Reports.{reports}
 use Rattle.grep_run.proofs.Summing.{outcome-whole, outcome-refused, outcome-stopped}
+use Rattle.grep_run.proofs.Tying.{tied-stop, tied-refused}
 use Rattle.grep_run.proofs.grep.grep_list.Goals as goal
 
 pub returns-in_err-sum-clause-runs : goal.returns-in_err-sum-clause-runs
@@ -15,6 +16,7 @@ returns-in_err-sum-clause-runs g c =
       sums.1,
       outcome-stopped c.args.plan.now (reports c.args.plan.now (patterns_in c.args.patterns.now) sums.0 first_state) (g.O.Sink.tells c.args.out.now) (g.O.Sink.tells c.grep_targets.new.out)
           (g.E.Sink.tells c.args.err.now) (g.E.Sink.tells c.grep_targets.new.err) stop c.from_residual.result same sums.2,
+      tied-stop stop c.from_residual.result same sums.3,
     )
 
 pub returns-in_err-write_last-clause-runs : goal.returns-in_err-write_last-clause-runs
@@ -27,6 +29,7 @@ returns-in_err-write_last-clause-runs g c =
       sums.1,
       outcome-refused c.args.plan.now rs (g.O.Sink.tells c.args.out.now) (g.O.Sink.tells c.grep_targets.new.out) (g.E.Sink.tells c.args.err.now) (g.E.Sink.tells c.grep_targets.new.err)
           (g.O.Sink.tells c.write_last.new.out) c.in_ok-sum.sum fault c.from_residual-in_err-write_last.result same sums.2 (c.in_err-write_last.ensures rs sums.2.1),
+      tied-refused fault c.from_residual-in_err-write_last.result same sums.3,
     )
 
 pub returns-clause-runs : goal.returns-clause-runs
@@ -37,4 +40,5 @@ returns-clause-runs g c =
       sums.1,
       outcome-whole c.args.plan.now rs (g.O.Sink.tells c.args.out.now) (g.O.Sink.tells c.grep_targets.new.out) (g.E.Sink.tells c.args.err.now) (g.E.Sink.tells c.grep_targets.new.err)
           (g.O.Sink.tells c.write_last.new.out) c.in_ok-sum.sum tt c.status_of.result sums.2 (c.in_ok-write_last.ensures rs sums.2.1) (c.status_of.ensures c.args.plan.now rs sums.2.1),
+      record { absent = sums.3.absent; leaves = sums.3.leaves },
     )

@@ -8,7 +8,7 @@ use Rattle.tool_out.specs.Printed.{printed}
 
 pub loop-target-init : goal.loop-target-init
 loop-target-init g c = record {
-  searched = searched-none c.args.plan.now (patterns_in c.args.patterns.now) (g.F.FileSet.tells c.args.files.now).contents c.args.is_used.now (g.S.Source.tells c.args.input.now) (g.O.Sink.tells c.args.out.now)
+  searched = searched-none c.args.plan.now (patterns_in c.args.patterns.now) (g.F.FileSet.tells c.args.files.now).contents (g.F.FileSet.tells c.args.files.now).faults c.args.is_used.now (g.S.Source.tells c.args.input.now) (g.O.Sink.tells c.args.out.now)
       (g.E.Sink.tells c.args.err.now) c.new-state.result c.new-state.ensures;
   counts = omega arith;
   total = omega arith;
@@ -28,6 +28,9 @@ returns-in_err-end-clause-sums g c =
     let plan = c.args.plan.now in
     let patterns = patterns_in c.args.patterns.now in
     let contents = (g.F.FileSet.tells c.args.files.now).contents in
+    let first = (g.F.FileSet.tells c.args.files.now).faults in
+    let mid_faults = (g.F.FileSet.tells c.loop-target.files).faults in
+    let last = (g.F.FileSet.tells c.grep_target.new.files).faults in
     let list = c.args.list.now in
     let i = c.loop-target.target-index in
     let target = get_or list i c.target-item.result in
@@ -46,10 +49,10 @@ returns-in_err-end-clause-sums g c =
     let same : c.from_residual.result ≡ Err stop = search rules in
     let target_is : c.target-item.result ≡ target = c.target-item.is in
     let came =
-    subst (λ x. ReportsTargetFrom plan patterns target x mid_used is_used mid after s s_new (printed out err) (printed out_new err_new) (Err stop)) had.files
-    (subst (λ x. ReportsTargetFrom plan patterns x (g.F.FileSet.tells c.loop-target.files).contents mid_used is_used mid after s s_new (printed out err) (printed out_new err_new) (Err stop)) target_is c.in_err-end.ensures.reports) in
-    searched-stops plan patterns contents c.args.is_used.now (g.S.Source.tells c.args.input.now) (g.O.Sink.tells c.args.out.now) (g.E.Sink.tells c.args.err.now)
-    (take i list) target mid_used is_used mid after s s_new c.loop-target.sum out out_new err err_new had.searched
+    subst (λ x. ReportsTargetFrom plan patterns target x mid_faults last mid_used is_used mid after s s_new (printed out err) (printed out_new err_new) (Err stop)) had.files
+    (subst (λ x. ReportsTargetFrom plan patterns x (g.F.FileSet.tells c.loop-target.files).contents mid_faults last mid_used is_used mid after s s_new (printed out err) (printed out_new err_new) (Err stop)) target_is c.in_err-end.ensures.reports) in
+    searched-stops plan patterns contents first c.args.is_used.now (g.S.Source.tells c.args.input.now) (g.O.Sink.tells c.args.out.now) (g.E.Sink.tells c.args.err.now)
+    (take i list) target mid_faults last had.later c.in_err-end.ensures.later mid_used is_used mid after s s_new c.loop-target.sum out out_new err err_new had.searched
     list (drop (i + 1) list) stop c.from_residual.result (list-parted list i c.target-item.result c.loop-target-test.true) same came
 
 pub loop-target-preserved : goal.loop-target-preserved
@@ -57,6 +60,9 @@ loop-target-preserved g c =
     let plan = c.args.plan.now in
     let patterns = patterns_in c.args.patterns.now in
     let contents = (g.F.FileSet.tells c.args.files.now).contents in
+    let first = (g.F.FileSet.tells c.args.files.now).faults in
+    let mid_faults = (g.F.FileSet.tells c.loop-target.files).faults in
+    let last = (g.F.FileSet.tells c.grep_target.new.files).faults in
     let list = c.args.list.now in
     let i = c.loop-target.target-index in
     let target = get_or list i c.target-item.result in
@@ -76,11 +82,11 @@ loop-target-preserved g c =
     let small : told_of end < 2 ^ 64 = search rules in
     let target_is : c.target-item.result ≡ target = c.target-item.is in
     let came =
-    subst (λ x. ReportsTargetFrom plan patterns target x mid_used is_used mid after s s_new (printed out err) (printed out_new err_new) (Ok end)) had.files
-    (subst (λ x. ReportsTargetFrom plan patterns x (g.F.FileSet.tells c.loop-target.files).contents mid_used is_used mid after s s_new (printed out err) (printed out_new err_new) (Ok end)) target_is c.in_ok-end.ensures.reports) in
+    subst (λ x. ReportsTargetFrom plan patterns target x mid_faults last mid_used is_used mid after s s_new (printed out err) (printed out_new err_new) (Ok end)) had.files
+    (subst (λ x. ReportsTargetFrom plan patterns x (g.F.FileSet.tells c.loop-target.files).contents mid_faults last mid_used is_used mid after s s_new (printed out err) (printed out_new err_new) (Ok end)) target_is c.in_ok-end.ensures.reports) in
     record {
-      searched = searched-next plan patterns contents c.args.is_used.now (g.S.Source.tells c.args.input.now) (g.O.Sink.tells c.args.out.now) (g.E.Sink.tells c.args.err.now)
-          (take i list) target mid_used is_used mid after s s_new sum out out_new err err_new had.searched end came
+      searched = searched-next plan patterns contents first c.args.is_used.now (g.S.Source.tells c.args.input.now) (g.O.Sink.tells c.args.out.now) (g.E.Sink.tells c.args.err.now)
+          (take i list) target mid_faults last had.later c.in_ok-end.ensures.later mid_used is_used mid after s s_new sum out out_new err err_new had.searched end came
           (take (i + 1) list) c.added-sum.result (take_more list i c.target-item.result c.loop-target-test.true) c.added-sum.ensures;
       counts = counts-bound plan sum c.added-sum.result end i c.added-sum.ensures had.counts;
       total = total-bound plan sum c.added-sum.result end i c.added-sum.ensures had.total small;
@@ -103,5 +109,5 @@ returns-clause-sums g c =
     let out = g.O.Sink.tells c.loop-target.out in
     let err = g.E.Sink.tells c.loop-target.err in
     let all : take c.loop-target.target-index list ≡ list = take_all c.loop-target.target-index list (omega arith) in
-    searched-all plan patterns contents was_used before out_old err_old list is_used after c.loop-target.state c.loop-target.sum out err
-    (subst (λ l. Searched plan patterns contents was_used before out_old err_old l is_used after c.loop-target.state c.loop-target.sum out err) all c.loop-target.invariant.searched)
+    searched-all plan patterns contents (g.F.FileSet.tells c.args.files.now).faults was_used before out_old err_old list (g.F.FileSet.tells c.loop-target.files).faults is_used after c.loop-target.state c.loop-target.sum out err
+    (subst (λ l. Searched plan patterns contents (g.F.FileSet.tells c.args.files.now).faults was_used before out_old err_old l (g.F.FileSet.tells c.loop-target.files).faults is_used after c.loop-target.state c.loop-target.sum out err) all c.loop-target.invariant.searched)

@@ -1,9 +1,11 @@
-use Rattle.std.proofs.Common.{rules, ◌≡◌, sym, subst, None, Some, Err}
+use Rattle.std.proofs.Common.{rules, ◌≡◌, sym, subst, None, Some, Err, [], ◌∷◌}
 use Rattle.pcre_io.specs.Files.{IsMissing}
 use Rattle.dir_walk.specs.declared.lists.Target.TheVariants as targets
 use Rattle.grep_match.specs.Compiled.{patterns_in}
 use Rattle.grep_run.specs.Reports.{report_on}
 use Rattle.grep_run.specs.Searches.{ReportsTo}
+use Rattle.tool_in.specs.Asked.{asked}
+use Rattle.tool_in.proofs.Absence.{absent-there, absent-rose, opened-there}
 use Rattle.tool_in.proofs.Taking.{opened-heard, opened-any}
 use Rattle.grep_run.proofs.Reporting.{opened-missing, reports-lacks, reports-scanned}
 use Rattle.grep_run.proofs.inputs.grep_named.Goals as goal
@@ -22,6 +24,7 @@ returns-in_err-end-in-Ok-clause-reports g c =
       opened-heard (g.F.FileSet.tells c.args.files.now).contents name (g.F.Src.Source.tells c.in-Ok.source) (g.F.Src.Source.tells c.grep_file.new.source) greps.heard c.in-Ok.ensures.opened greps.hears,
       subst (ReportsTo (report_on plan patterns s (targets.File name) (Some greps.heard)) s c.grep_file.new.state (printed (g.O.Sink.tells c.args.out.now) (g.E.Sink.tells c.args.err.now)) (printed (g.O.Sink.tells c.grep_file.new.out) (g.E.Sink.tells c.grep_file.new.err))) (sym same)
           (reports-scanned plan patterns s c.grep_file.new.state (targets.File name) greps.heard (printed (g.O.Sink.tells c.args.out.now) (g.E.Sink.tells c.args.err.now)) (printed (g.O.Sink.tells c.grep_file.new.out) (g.E.Sink.tells c.grep_file.new.err)) (Err stop) greps.greps),
+      absent-there (g.F.FileSet.tells c.args.files.now).contents (g.F.FileSet.tells c.args.files.now).faults (g.F.FileSet.tells c.open_file.new.self).faults (targets.File name) greps.heard,
     )
 
 pub returns-in_ok-end-in-Ok-clause-reports : goal.returns-in_ok-end-in-Ok-clause-reports
@@ -30,15 +33,20 @@ returns-in_ok-end-in-Ok-clause-reports g c =
       Some greps.heard,
       opened-heard (g.F.FileSet.tells c.args.files.now).contents c.args.name.now (g.F.Src.Source.tells c.in-Ok.source) (g.F.Src.Source.tells c.grep_file.new.source) greps.heard c.in-Ok.ensures.opened greps.hears,
       greps.greps,
+      absent-there (g.F.FileSet.tells c.args.files.now).contents (g.F.FileSet.tells c.args.files.now).faults (g.F.FileSet.tells c.open_file.new.self).faults (targets.File c.args.name.now) greps.heard,
     )
 
 pub returns-in-Err-Failed-clause-reports : goal.returns-in-Err-Failed-clause-reports
 returns-in-Err-Failed-clause-reports g c =
     let contents = (g.F.FileSet.tells c.args.files.now).contents in
-    let missing : IsMissing contents c.args.name.now = c.in-Err-Failed.ensures.missing (search rules) in
-    (None, opened-missing contents c.args.name.now missing, c.pass_over.ensures c.args.state.now (g.O.Sink.tells c.args.out.now))
+    let missing : IsMissing contents c.args.name.now = c.in-Err-Failed.ensures.missing (search rules) in (
+      None,
+      opened-missing contents c.args.name.now missing,
+      c.pass_over.ensures c.args.state.now (g.O.Sink.tells c.args.out.now),
+      absent-rose contents (g.F.FileSet.tells c.args.files.now).faults (g.F.FileSet.tells c.open_file.new.self).faults (asked (targets.File c.args.name.now) None ∷ []) (c.in-Err-Failed.ensures.cause.failed (search rules)),
+    )
 
 pub returns-in-Err-Memory-clause-reports : goal.returns-in-Err-Memory-clause-reports
 returns-in-Err-Memory-clause-reports g c =
     let any = opened-any (g.F.FileSet.tells c.args.files.now).contents c.args.name.now in
-    (any.0, any.1, reports-lacks c.args.plan.now (patterns_in c.args.patterns.now) c.args.state.now (targets.File c.args.name.now) any.0 (g.O.Sink.tells c.args.out.now) (g.E.Sink.tells c.args.err.now))
+    (any.0, any.1, reports-lacks c.args.plan.now (patterns_in c.args.patterns.now) c.args.state.now (targets.File c.args.name.now) any.0 (g.O.Sink.tells c.args.out.now) (g.E.Sink.tells c.args.err.now), opened-there (g.F.FileSet.tells c.args.files.now).contents (g.F.FileSet.tells c.args.files.now).faults (g.F.FileSet.tells c.open_file.new.self).faults c.args.name.now)
