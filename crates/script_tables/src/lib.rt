@@ -2,6 +2,8 @@
 #![tactic(auto)]
 
 #[cfg(test)]
+mod all_ends;
+#[cfg(test)]
 mod calls;
 #[cfg(test)]
 mod cut_off;

@@ -1,19 +1,12 @@
-//! What isn't built yet: the DFA matcher and partial matching.
+//! What isn't built yet: partial matching.
 use crate::running::check_script;
 use std::test::Fail;
 
 const UNBUILT: &str = "\
->/a/dfa
+>/a/partial_soft
 ** not built
 >a
 >\\q
->
->/a/dfa_shortest
-** not built
->a
->
->/a/partial_soft
-** not built
 >
 >/a/ps
 ** not built
@@ -24,11 +17,11 @@ const UNBUILT: &str = "\
 >/a/ph
 ** not built
 >
->/(/dfa,info
+>/(/ps,info
 ** not built
 >a
 >
->/a/-dfa,-ps
+>/a/-ph,-ps
 >a
  0: a
 >
@@ -37,10 +30,6 @@ const UNBUILT: &str = "\
  0: a
 >
 >/a/
->a\\=dfa
-** not built
->a\\=dfa_shortest
-** not built
 >a\\=ps
 ** not built
 >a\\=partial_soft
@@ -49,11 +38,11 @@ const UNBUILT: &str = "\
 ** not built
 >a\\=ph,offset=9
 ** not built
->a\\=replace=b,dfa
+>a\\=replace=b,ps
 ** not built
 >a\\=-ps
  0: a
->a\\=-dfa,-dfa_shortest,-ph
+>a\\=-ps,-ph
  0: a
 >a\\=substitute_extended,mark,callout_none
  0: a
@@ -74,20 +63,15 @@ const UNBUILT: &str = "\
 >a
  0: a
 >
->#pattern dfa
+>#pattern ph
 >/(/
 ** not built
 >a
 >
->#pattern -dfa,ph
 >/a/
 ** not built
 >
->#pattern -ph,dfa_shortest
->/a/
-** not built
->
->#subject -dfa_shortest
+>#subject -ph
 >/a/
 >a
  0: a

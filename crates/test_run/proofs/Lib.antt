@@ -9,3 +9,5 @@ pub mod Compiling
 pub mod Scripts
 pub mod RowProofs
 pub mod Rewriting
+pub mod Ends
+pub mod EndsSearching

@@ -28,6 +28,10 @@ use Rattle.pat_lengths.specs.Nodes.{nodes}
 use Rattle.pat_lengths.specs.Lookbehinds.{found_in}
 use Rattle.pat_lengths.specs.Lengths.{lengths, by_calls, lead_to, behind}
 use Rattle.pat_check.specs.Lead.{lead}
+use Rattle.pat_check.specs.Size.{whole_size}
+use Rattle.dfa_lists.specs.Served.{has_graph}
+use Rattle.dfa_ends.specs.EndList as ends
+use Rattle.dfa_ends.specs.DfaAnswer as all_ends
 use Rattle.match_items.specs.Items.{places_back, run_places, run_reaches}
 use Rattle.ordered_search.specs.Stream.{◌or_else◌, each, decide, catch, changes}
 use Rattle.ordered_search.specs.Setting.{held, hold, reach, reach_if}
@@ -43,6 +47,7 @@ use Rattle.test_script.specs.Script.{line_of}
 use Rattle.pcre2_api.specs.Captured.{top_within}
 use Rattle.pcre2_api.specs.Walks.{answer_at, all_from}
 use Rattle.test_run.specs.TestText.{told}
+use Rattle.test_run.specs.Dfa.{told_at, ends_text}
 use Rattle.test_run.specs.Worked.{WorkedRows}
 
 reading_computes : Unit {0}
@@ -53,8 +58,12 @@ searching_computes : Unit {0}
 unfolding trees_after trees group_numbers least_of nodes lengths by_calls lead_to behind found_in lead places_back run_places run_reaches ◌or_else◌ each decide catch changes held hold reach reach_if run_one run_break run_ref run_anchor offers greedy reluctant lazy_run run_many in_order choices branches run_group one_try tries tries_within run_behind run_atomic run_look asserts tests follow run_callout parts.named backs run_verb turn run_repeat parts.returns run_tree run_call level run walk from_place
 searching_computes = tt
 
+ends_compute : Unit {0}
+unfolding whole_size has_graph ends.has_spot ends.union ends.every ends.keep_if ends.after_turns ends.further ends.all_within ends.repeated ends.item_ends ends.try_list ends.ends_list ends.insert ends.falling all_ends.some_spot all_ends.some_turn all_ends.reach_test all_ends.admitted all_ends.last_of all_ends.from_place told_at ends_text
+ends_compute = tt
+
 computing : Unit {0}
-unfolding reading_computes searching_computes is_utf8 digits rows_within list_of octal_escape hexadecimal braced_octal times subject_escape piece_at subject_text line_of top_within answer_at all_from told
+unfolding reading_computes searching_computes ends_compute is_utf8 digits rows_within list_of octal_escape hexadecimal braced_octal times subject_escape piece_at subject_text line_of top_within answer_at all_from told
 computing = tt
 
 pub rows_hold : WorkedRows
@@ -70,6 +79,8 @@ rows_hold = record {
   limit = refl;
   within_limit = refl;
   unbuilt = refl;
+  all_ends = refl;
+  no_replacing = refl;
   defaults = refl;
   codes_shown = refl;
   cut_off = refl;

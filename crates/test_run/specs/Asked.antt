@@ -14,10 +14,9 @@ use Rattle.test_run.specs.declared.options.How.{How}
 abbrev pub is_on : Option Bool → Bool
 is_on flag = unwrap_or flag false
 
--- partial matching and the DFA matcher aren't built
+-- partial matching isn't built
 abbrev pub is_unbuilt : Modifiers → Bool
-is_unbuilt m =
-    is_on m.partial_soft || (is_on m.partial_hard || (is_on m.dfa || is_on m.dfa_shortest))
+is_unbuilt m = is_on m.partial_soft || is_on m.partial_hard
 
 -- the options of a pattern
 abbrev pub options_of : Modifiers → Options
@@ -61,6 +60,7 @@ module _ (own earlier : Modifiers) where
         noteol = is_on m.noteol;
         notempty = is_on m.notempty;
         notempty_atstart = is_on m.notempty_atstart;
+        dfa_shortest = is_on m.dfa_shortest;
         match_limit = unwrap_or m.match_limit plain_match.PLAIN.match_limit;
         frame_limit = unwrap_or m.frame_limit plain_match.PLAIN.frame_limit;
       }
@@ -71,6 +71,10 @@ module _ (own earlier : Modifiers) where
     start = unwrap_or (over own earlier).offset 0;
     global = is_on (over own earlier).global;
   }
+
+  -- whether all ends are looked for
+  abbrev pub is_dfa : Bool
+  is_dfa = is_on (over own earlier).dfa
 
   -- the text by which matches are replaced
   abbrev pub replacement_of : Option (List ℕ)

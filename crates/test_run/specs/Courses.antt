@@ -16,10 +16,11 @@ use Rattle.test_script.specs.declared.entries.PatternEntry.{PatternEntry}
 use Rattle.test_script.specs.declared.entries.SubjectEntry.{SubjectEntry}
 use Rattle.pcre2_api.specs.Patterns.{compiled}
 use Rattle.pcre2_api.specs.Informs.{info_in}
-use Rattle.test_run.specs.Asked.{is_on, is_unbuilt, options_of, how_of, subst_of, replacement_of}
+use Rattle.test_run.specs.Asked.{is_on, is_unbuilt, is_dfa, options_of, how_of, subst_of, replacement_of}
 use Rattle.test_run.specs.declared.options.How.{How}
 use Rattle.pcre2_api.specs.Walks.{matches_from}
 use Rattle.test_run.specs.Lines.{unbuilt_line, fault_line, info_text, refusal_line, matches_text, replaced_text}
+use Rattle.test_run.specs.Dfa.{dfa_text, replace_with_dfa_line}
 
 -- what subject lines are searched for
 pub data Course : Type 0 where
@@ -67,10 +68,17 @@ rewritten p names subject how subst replacement =
     replaced_text p.options.utf
     (substituted p names how.matching subst subject how.start replacement)
 
+-- all ends; with them nothing is replaced
+abbrev pub found_by_dfa : Pattern → List ℕ → How → Option (List ℕ) → List ℕ
+found_by_dfa p subject how (Some replacement) = replace_with_dfa_line
+found_by_dfa p subject how None = dfa_text p how.matching subject how.global how.start
+
 -- where a replacement is given the matches are replaced, else they are shown
 abbrev pub tested_text : Pattern → List NameEntry → Modifiers → SubjectEntry → List ℕ
 tested_text p names m s =
     if is_unbuilt s.modifiers then unbuilt_line
+    else if is_dfa s.modifiers m
+    then found_by_dfa p s.subject (how_of s.modifiers m) (replacement_of s.modifiers m)
     else elim (replacement_of s.modifiers m) [
       | Some text ↦ rewritten p names s.subject (how_of s.modifiers m) (subst_of s.modifiers m) text
       | None ↦ searched p s.subject (how_of s.modifiers m)

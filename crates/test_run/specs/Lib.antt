@@ -6,3 +6,5 @@ pub mod TestText
 pub mod Worked
 pub mod Searches
 pub mod Runs
+pub mod Dfa
+pub mod DfaSearches

@@ -2,6 +2,7 @@
 #![tactic(auto)]
 
 mod course;
+mod dfa;
 mod laws;
 mod lines;
 mod matches;

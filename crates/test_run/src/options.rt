@@ -1,7 +1,7 @@
 //! What modifiers ask for.
 ghost use Rattle.std.specs.Prelude.{◌≡◌};
 ghost use Rattle.std.specs.Option.{option_copied};
-ghost use Rattle.test_run.specs.Asked.{is_on, options_of, matching_of, is_unbuilt, how_of, replacement_of, subst_of};
+ghost use Rattle.test_run.specs.Asked.{is_on, options_of, matching_of, is_unbuilt, is_dfa, how_of, replacement_of, subst_of};
 
 use pcre2_api::{Bsr, MatchOptions, Newline, Options, SubstOptions};
 use script_modifiers::Modifiers;
@@ -29,14 +29,18 @@ pub fn is_info(modifiers: &Modifiers) -> bool
     is_on(modifiers.info)
 }
 
-/// Whether modifiers ask for partial matching or the DFA matcher, which aren't built.
+/// Whether modifiers ask for partial matching, which isn't built.
 pub fn is_unbuilt(modifiers: &Modifiers) -> bool
     ensures { result ≡ is_unbuilt modifiers.now }
 {
-    is_on(modifiers.partial_soft)
-        || is_on(modifiers.partial_hard)
-        || is_on(modifiers.dfa)
-        || is_on(modifiers.dfa_shortest)
+    is_on(modifiers.partial_soft) || is_on(modifiers.partial_hard)
+}
+
+/// Whether all ends of a subject's match are looked for (pcre2test, "SUBJECT MODIFIERS").
+pub fn is_dfa(own: &Modifiers, earlier: &Modifiers) -> bool
+    ensures { result ≡ is_dfa own.now earlier.now }
+{
+    is_on(own.dfa.or(earlier.dfa))
 }
 
 /// The options of a pattern with these modifiers (pcre2test, "PATTERN MODIFIERS").
@@ -81,6 +85,7 @@ fn matching_of(own: &Modifiers, earlier: &Modifiers) -> MatchOptions
         noteol: is_on(own.noteol.or(earlier.noteol)),
         notempty: is_on(own.notempty.or(earlier.notempty)),
         notempty_atstart: is_on(own.notempty_atstart.or(earlier.notempty_atstart)),
+        dfa_shortest: is_on(own.dfa_shortest.or(earlier.dfa_shortest)),
         match_limit: own
             .match_limit
             .or(earlier.match_limit)

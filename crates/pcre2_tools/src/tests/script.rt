@@ -83,13 +83,7 @@ fn words_set_defaults_and_name_a_script(rt: HostRuntime) -> Result<(), Fail> {
             b"",
             0,
         ),
-        (
-            &["-q", "-dfa"],
-            b"/a/\na\n",
-            b"/a/\n** not built\na\n",
-            b"",
-            0,
-        ),
+        (&["-q", "-dfa"], b"/a/\na\n", b"/a/\na\n 0: a\n", b"", 0),
         (&["-q", "s"], b"/a/\na\n", b"/b/\nb\n 0: b\n", b"", 0),
         (
             &["s"],

@@ -1,0 +1,14 @@
+use Rattle.std.proofs.Common.{◌≡◌, Err, sym, subst, rules}
+use Rattle.tool_out.specs.Writes.{Writes}
+use Rattle.test_run.specs.Dfa.{failed_text}
+use Rattle.test_run.proofs.Writing.{writes-as, refused-as}
+use Rattle.test_run.proofs.dfa.fail.Goals as goal
+
+pub returns-in_err-write_failed-clause-wrote : goal.returns-in_err-write_failed-clause-wrote
+returns-in_err-write_failed-clause-wrote g c =
+    let e = c.in_err-write_failed.field-0.0 in
+    let same : c.from_residual.result ≡ Err e = search rules in
+    subst (λ r. Writes (failed_text c.args.e) (g.O.Sink.tells c.args.out.now) (g.O.Sink.tells c.write_failed.new.out) r) (sym same) (refused-as {A = Unit {0}} e c.in_err-write_failed.ensures)
+
+pub returns-clause-wrote : goal.returns-clause-wrote
+returns-clause-wrote g c = writes-as {A = Unit {0}} _ _ c.in_ok-write_failed.ensures

@@ -1,0 +1,9 @@
+use Rattle.std.proofs.Common.{}
+use Rattle.pat_tree.specs.Pattern.{pattern_of}
+use Rattle.test_run.proofs.Ends.{IsAt}
+use Rattle.test_run.proofs.dfa.write_all.Given as goal
+
+abbrev pub invariant-loop-turn : goal.invariant-loop-turn
+invariant-loop-turn g l =
+    IsAt (pattern_of l.code.tree) l.how.matching l.subject l.how.start l._turn l.at l.again l.is_shown
+    (g.O.Sink.tells l.initial.out) (g.O.Sink.tells l.out)

@@ -1,0 +1,33 @@
+-- What a search for all ends comes to, as the code says it: an answer → what is told of it.
+use Rattle.std.specs.Prelude.{◌≡◌, ℕ, ◌==◌, ⊤, List, []}
+use Rattle.pcre2_api.specs.declared.dfa.DfaError.{DfaError}
+use Rattle.pcre2_api.specs.declared.dfa.DfaError.TheVariants as told
+use Rattle.pcre2_api.specs.declared.dfa.DfaFound.{DfaFound}
+use Rattle.test_run.specs.declared.dfa.Search.{Search}
+use Rattle.test_run.specs.declared.dfa.Search.TheVariants as search
+use Rattle.test_run.specs.Dfa.{Told, ends, nothing, failed, failed_text, longest}
+
+-- what is told of a search
+abbrev pub IsSearch : Search → Told → Type 0
+IsSearch (search.Ends to is_empty) (ends start qs) =
+    (to ≡ longest start qs) × (is_empty ≡ (start == longest start qs))
+IsSearch search.Nothing nothing = ⊤
+IsSearch search.Failed (failed e) = ⊤
+IsSearch _ _ = ⊥
+
+-- what is told of a match
+abbrev pub TellsEnds : Search → DfaFound → Type 0
+TellsEnds (search.Ends to is_empty) f =
+    (to ≡ longest f.start f.ends) × (is_empty ≡ (f.start == longest f.start f.ends))
+TellsEnds _ f = ⊥
+
+-- what is written of an error, and what is told of it; of want of memory nothing is
+abbrev pub error_text : DfaError → List ℕ
+error_text told.NoMatch = []
+error_text told.Memory = []
+error_text e = failed_text e
+
+abbrev pub TellsError : DfaError → Search → Type 0
+TellsError told.NoMatch s = s ≡ search.Nothing
+TellsError told.Memory s = ⊥
+TellsError e s = s ≡ search.Failed

@@ -1,0 +1,298 @@
+//! The ends of a subject, by the matcher that finds them all.
+ghost use Rattle.std.specs.Prelude.{◌≡◌, ◌<◌, ◌≤◌, length, true, None, IfOk, IfErr};
+ghost use Rattle.pat_tree.specs.declared.options.PartialMode.TheVariants.{Off};
+ghost use Rattle.pat_tree.specs.Pattern.{pattern_of};
+ghost use Rattle.match_drive.specs.Asked.{passed_over};
+ghost use Rattle.dfa_drive.specs.Answer.{AreWithin};
+ghost use Rattle.pcre2_api.specs.Matched.{search_of};
+ghost use Rattle.pcre2_api.specs.DfaMatched.{IsDfaFound, IsDfaError};
+ghost use Rattle.test_run.specs.Dfa.{end_line, ends_text, failed_text, place_text, told_at, told_text, first_text, dfa_text, replace_with_dfa_line};
+ghost use Rattle.test_run.specs.declared.dfa.Search.TheVariants.{Failed};
+ghost use Rattle.test_run.specs.DfaSearches.{error_text, IsSearch, TellsEnds, TellsError};
+ghost use Rattle.test_run.specs.Lines.{end_text};
+ghost use Rattle.tool_out.specs.Writes.{Writes};
+
+use crate::lines::write_unbuilt;
+use crate::options::How;
+use crate::shown::{write_count, write_shown};
+use itoa::Buffer;
+use pcre_io::{IoError, Sink};
+use pcre2_api::{Code, DfaError, DfaFound, MatchOptions, Steps, matching_at, place_behind};
+use std::alloc::Global;
+use std::marker::Brand;
+use std::sync::ledger::{Blank, Ledger};
+use tool_out::write_texts;
+
+/// What a search for all ends comes to.
+#[derive(Clone, Copy)]
+enum Search {
+    /// A match whose longest end this is.
+    Ends { longest: usize, is_empty: bool },
+    Nothing,
+    Failed,
+}
+
+// Writes an end: the text up to it, by its number.
+fn write_one<O: Sink>(
+    out: &mut O,
+    subject: &[u8],
+    start: usize,
+    end: usize,
+    n: u64,
+    utf: bool,
+) -> Result<(), IoError>
+    requires ordered { start ≤ end }
+    requires within { end ≤ length subject.now }
+    ensures { Writes (end_line utf subject.now start n end) (O.tells out.old) (O.tells out.new)
+        result }
+{
+    write_count(out, n)?;
+    write_shown(out, &subject[start..end], utf)?;
+    write_texts(out, &[b"\n"])
+}
+
+// Writes the ends of a match.
+fn write_ends<O: Sink>(
+    out: &mut O,
+    subject: &[u8],
+    found: &DfaFound,
+    utf: bool,
+) -> Result<(), IoError>
+    requires { AreWithin found.now.start (length subject.now) found.now.ends }
+    ensures { Writes (ends_text utf subject.now found.now.start 0 found.now.ends)
+        (O.tells out.old) (O.tells out.new) result }
+{
+    for n in 0..found.ends.len() {
+        let end = *found.ends.get(n) as usize;
+        write_one(out, subject, found.start, end, n as u64, utf)?;
+    }
+    Ok(())
+}
+
+// The place of a fault of UTF-8 in the subject.
+fn place_text(e: DfaError, room: &mut Buffer) -> &[u8]
+    ensures { result.now ≡ place_text e }
+{
+    match e {
+        DfaError::BadUtf { at } => room.format(at).as_bytes(),
+        _ => b"",
+    }
+}
+
+// Writes why there is no match.
+fn write_failed<O: Sink>(out: &mut O, e: DfaError) -> Result<(), IoError>
+    ensures { Writes (failed_text e) (O.tells out.old) (O.tells out.new) result }
+{
+    if let DfaError::NotBuilt = e {
+        return write_unbuilt(out);
+    }
+    let mut number = Buffer::new();
+    let mut place = Buffer::new();
+    write_texts(
+        out,
+        &[
+            b"Failed: error ",
+            number.format(e.number()).as_bytes(),
+            b": ",
+            e.text(),
+            place_text(e, &mut place),
+            b"\n",
+        ],
+    )
+}
+
+// Looks for all ends of a match from a place on.
+fn counted<L: Ledger>(
+    alloc: Global,
+    code: &Code,
+    subject: &[u8],
+    at: usize,
+    options: &MatchOptions,
+    blank: Blank,
+) -> Result<DfaFound, DfaError>
+    requires name { blank.name ≡ L.name }
+    requires parts { blank.parts ≡ L.parts }
+    requires one { blank.parts ≡ 1 }
+    requires short { length subject.now < 4294967295 }
+    requires off { options.now.«partial» ≡ Off }
+    ensures found { IfOk result (IsDfaFound
+        (search_of code.now options.now subject.now at passed_over)) }
+    ensures refused { IfErr result (IsDfaError
+        (search_of code.now options.now subject.now at passed_over)) }
+{
+    let mut steps = Steps::<L>::new(blank);
+    code.dfa_match(alloc, subject, at, options, &mut steps)
+}
+
+// A search with a counter of its own for the tests of classes.
+fn find_ends(
+    alloc: Global,
+    code: &Code,
+    subject: &[u8],
+    at: usize,
+    options: &MatchOptions,
+) -> Result<DfaFound, DfaError>
+    requires short { length subject.now < 4294967295 }
+    requires off { options.now.«partial» ≡ Off }
+    ensures found { IfOk result (IsDfaFound
+        (search_of code.now options.now subject.now at passed_over)) }
+    ensures refused { IfErr result (IsDfaError
+        (search_of code.now options.now subject.now at passed_over)) }
+{
+    counted::<Brand>(alloc, code, subject, at, options, Blank::new(1))
+}
+
+// What a match comes to.
+fn told_of(found: &DfaFound) -> Search
+    ensures { TellsEnds result found.now }
+{
+    let longest = if found.ends.len() == 0 {
+        found.start
+    } else {
+        *found.ends.get(0) as usize
+    };
+    Search::Ends {
+        longest,
+        is_empty: found.start == longest,
+    }
+}
+
+// Writes why a search failed.
+fn fail<O: Sink>(out: &mut O, e: DfaError) -> Result<Search, IoError>
+    ensures wrote { Writes (failed_text e) (O.tells out.old) (O.tells out.new) result }
+    ensures comes { IfOk result (λ s. s ≡ Failed) }
+{
+    write_failed(out, e)?;
+    Ok(Search::Failed)
+}
+
+// Tells what an error of a search comes to, and writes why it failed.
+fn tell_error<O: Sink>(out: &mut O, e: DfaError) -> Result<Search, IoError>
+    ensures wrote { Writes (error_text e) (O.tells out.old) (O.tells out.new) result }
+    ensures comes { IfOk result (TellsError e) }
+{
+    match e {
+        DfaError::NoMatch => Ok(Search::Nothing),
+        DfaError::Memory => Err(IoError::Memory),
+        _ => fail(out, e),
+    }
+}
+
+// Searches a subject from a place on, and writes the ends, or why the search failed.
+fn search_at<O: Sink>(
+    alloc: Global,
+    out: &mut O,
+    code: &Code,
+    subject: &[u8],
+    at: usize,
+    options: &MatchOptions,
+) -> Result<Search, IoError>
+    requires short { length subject.now < 4294967295 }
+    requires off { options.now.«partial» ≡ Off }
+    ensures wrote { Writes (told_text code.now.tree.options.utf subject.now
+        (told_at (pattern_of code.now.tree) options.now subject.now at))
+        (O.tells out.old) (O.tells out.new) result }
+    ensures comes { IfOk result (λ s. IsSearch s
+        (told_at (pattern_of code.now.tree) options.now subject.now at)) }
+{
+    match find_ends(alloc, code, subject, at, options) {
+        Ok(found) => {
+            write_ends(out, subject, &found, code.options().utf)?;
+            Ok(told_of(&found))
+        }
+        Err(e) => tell_error(out, e),
+    }
+}
+
+// Writes that there is no match, unless one was shown.
+fn write_end<O: Sink>(out: &mut O, is_shown: bool) -> Result<(), IoError>
+    ensures { Writes (end_text is_shown None) (O.tells out.old) (O.tells out.new) result }
+{
+    if is_shown {
+        return Ok(());
+    }
+    write_texts(out, &[b"No match\n"])
+}
+
+// Writes the ends of the first match.
+fn write_first<O: Sink>(
+    alloc: Global,
+    out: &mut O,
+    code: &Code,
+    subject: &[u8],
+    how: &How,
+) -> Result<(), IoError>
+    requires short { length subject.now < 4294967295 }
+    requires off { how.now.matching.«partial» ≡ Off }
+    ensures { Writes (first_text (pattern_of code.now.tree) how.now.matching subject.now
+        how.now.start) (O.tells out.old) (O.tells out.new) result }
+{
+    match search_at(alloc, out, code, subject, how.start as usize, &how.matching)? {
+        Search::Nothing => write_end(out, false),
+        Search::Ends { .. } | Search::Failed => Ok(()),
+    }
+}
+
+// Writes the ends of all matches.
+fn write_all<O: Sink>(
+    alloc: Global,
+    out: &mut O,
+    code: &Code,
+    subject: &[u8],
+    how: &How,
+) -> Result<(), IoError>
+    requires short { length subject.now < 4294967295 }
+    requires off { how.now.matching.«partial» ≡ Off }
+    ensures { Writes (dfa_text (pattern_of code.now.tree) how.now.matching subject.now true
+        how.now.start) (O.tells out.old) (O.tells out.new) result }
+{
+    let mut at = how.start as usize;
+    let mut again = false;
+    let mut is_shown = false;
+    for _turn in 0..2 * subject.len() + 2 {
+        let options = matching_at(&how.matching, again);
+        match search_at(alloc, out, code, subject, at, &options)? {
+            Search::Ends { longest, is_empty } => {
+                is_shown = true;
+                at = longest;
+                again = is_empty;
+            }
+            Search::Nothing if again && at < subject.len() => {
+                at = place_behind(code, subject, at);
+                again = false;
+            }
+            Search::Nothing => return write_end(out, is_shown),
+            Search::Failed => return Ok(()),
+        }
+    }
+    write_end(out, is_shown)
+}
+
+/// Writes that a subject's matches can't be replaced where all ends are looked for.
+pub fn write_replace_with_dfa<O: Sink>(out: &mut O) -> Result<(), IoError>
+    ensures { Writes replace_with_dfa_line (O.tells out.old) (O.tells out.new) result }
+{
+    write_texts(out, &[b"** replace with dfa\n"])
+}
+
+/// Writes all ends of the first match of a subject, the longest first, or those of all matches.
+/// Each match is searched for at the longest end of the one before (pcre2test, "DEFAULT OUTPUT FROM
+/// THE ALTERNATIVE MATCHING FUNCTION").
+pub fn write_all_ends<O: Sink>(
+    alloc: Global,
+    out: &mut O,
+    code: &Code,
+    subject: &[u8],
+    how: &How,
+) -> Result<(), IoError>
+    requires short { length subject.now < 4294967295 }
+    requires off { how.now.matching.«partial» ≡ Off }
+    ensures { Writes (dfa_text (pattern_of code.now.tree) how.now.matching subject.now
+        how.now.global how.now.start) (O.tells out.old) (O.tells out.new) result }
+{
+    if how.global {
+        write_all(alloc, out, code, subject, how)
+    } else {
+        write_first(alloc, out, code, subject, how)
+    }
+}
