@@ -1,20 +1,31 @@
 -- A sound script ends well, and the worked rows of words compute.
-use Rattle.std.proofs.Common.{◌≡◌, ◌∙◌, ℕ, List, ◌∷◌, Some, refl, ap, sym}
+use Rattle.std.proofs.Common.{◌≡◌, ◌∙◌, ℕ, List, ◌∷◌, Option, Some, refl, ap, sym}
 use Rattle.script_modifiers.specs.Lists.{list_of}
-use Rattle.line_feed.specs.Rows.{Input}
+use Rattle.byte_lanes.specs.declared.line_end.EndKind.TheVariants.{Lf}
+use Rattle.line_feed.specs.Rows.{Input, At, End, rows}
+use Rattle.test_script.specs.declared.plan.TestPlan.{TestPlan}
+use Rattle.test_run.specs.TestText.{greatest_line}
 use Rattle.tool_in.specs.Asked.{Asked}
+use Rattle.script_run.specs.declared.words.Script.{Script}
+use Rattle.script_run.specs.declared.words.Script.TheVariants.{Standard, File, Generated}
 use Rattle.script_run.specs.declared.words.TestWords.{TestWords}
 use Rattle.script_run.specs.Words.{words_of}
-use Rattle.script_run.specs.ToolText.{status_of, text_on, text_by, text_of, name_of}
+use Rattle.script_run.specs.ToolText.{status_of, text_for, text_by, text_of}
 use Rattle.script_run.specs.Laws.{IsSound, SoundEndWell}
 use Rattle.script_run.specs.Worked.{WorkedWords}
+
+-- whatever is asked for
+ends-well : (plan : TestPlan) (script : Script) (input : Input) → (rows Lf greatest_line input).finish ≡ At End → (text_for plan script (Some input)).status ≡ 0
+ends-well plan Standard input whole = ap status_of whole
+ends-well plan (File path) input whole = ap status_of whole
+ends-well plan (Generated n) input whole = refl
 
 pub sound-end-well : SoundEndWell
 unfolding text_of
 sound-end-well words a more sound =
     ap (λ read. (text_by read (a ∷ more)).status) sound.accepted
-    ∙ ap (λ input. (text_on sound.asked.plan (name_of sound.asked.script) input).status) sound.there
-    ∙ ap status_of sound.whole
+    ∙ ap (λ input. (text_for sound.asked.plan sound.asked.script input).status) sound.there
+    ∙ ends-well sound.asked.plan sound.asked.script sound.input sound.whole
 
 pub words-hold : WorkedWords
 unfolding list_of
@@ -27,7 +38,10 @@ words-hold = record {
   dfa = refl;
   no_list = refl;
   bad_list = refl;
-  no_generator = refl;
+  generated = refl;
+  too_many = refl;
+  no_number = refl;
+  late_word = refl;
   two_scripts = refl;
   late_option = refl;
 }

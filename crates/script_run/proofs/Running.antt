@@ -25,10 +25,11 @@ use Rattle.test_script.specs.declared.plan.TestPlan.{TestPlan}
 use Rattle.test_run.specs.TestText.{Tested}
 use Rattle.script_run.specs.RunsBy.{Ran, Counts, Stopped, RunsBy}
 use Rattle.script_run.specs.declared.words.Script.{Script}
-use Rattle.script_run.specs.declared.words.Script.TheVariants.{Standard, File}
+use Rattle.script_run.specs.declared.words.Script.TheVariants.{Standard, File, Generated}
 use Rattle.script_run.specs.declared.words.TestWords.{TestWords}
 use Rattle.script_run.specs.Words.{words_of}
-use Rattle.script_run.specs.ToolText.{finish_message, status_of, banner, tested_outcome, name_of, target_of, text_on, text_by, text_of, asked_by, asked_targets}
+use Rattle.script_run.specs.ToolText.{finish_message, status_of, banner, tested_outcome, targets_of, text_for, text_by, text_of, generated_outcome, asked_by, asked_targets}
+use Rattle.test_gen.specs.Texts.{generated_text}
 
 -- What the sinks count where a write was refused: of the output, after others that were taken, or of the messages.
 
@@ -135,15 +136,30 @@ given_of target input = asked target input ∷ []
 
 module _ (contents : Option Contents) (heard : Input) (words : TestWords) where
   pub stands-standard : words.script ≡ Standard → StandFor contents heard (asked_by (Some words)) (given_of targets.Input (Some heard))
-  stands-standard is = subst (λ s. StandFor contents heard (target_of s ∷ []) (given_of targets.Input (Some heard))) (sym is) (refl, refl, tt)
+  stands-standard is = subst (λ s. StandFor contents heard (targets_of s) (given_of targets.Input (Some heard))) (sym is) (refl, refl, tt)
 
   pub stands-file : (path : List ℕ) (input : Option Input) → words.script ≡ File path → Opened contents path input → StandFor contents heard (asked_by (Some words)) (given_of (targets.File path) input)
-  stands-file path input is opened = subst (λ s. StandFor contents heard (target_of s ∷ []) (given_of (targets.File path) input)) (sym is) (refl, opened, tt)
+  stands-file path input is opened = subst (λ s. StandFor contents heard (targets_of s) (given_of (targets.File path) input)) (sym is) (refl, opened, tt)
 
--- it is run under its name
+  pub stands-generated : (n : ℕ) → words.script ≡ Generated n → StandFor contents heard (asked_by (Some words)) []
+  stands-generated n is = subst (λ s. StandFor contents heard (targets_of s) []) (sym is) tt
+
+-- it is run
 pub runs-script : (words : TestWords) (script : Script) (target : Target) (input : Option Input) (old new : Printed) (result : Result ℕ IoError) → words.script ≡ script
-    → RunsBy (text_on words.plan (name_of script) input) old new result → RunsBy (text_by (Some words) (given_of target input)) old new result
-runs-script words script target input old new result is runs = subst (λ s. RunsBy (text_on words.plan (name_of s) input) old new result) (sym is) runs
+    → RunsBy (text_for words.plan script input) old new result → RunsBy (text_by (Some words) (given_of target input)) old new result
+runs-script words script target input old new result is runs = subst (λ s. RunsBy (text_for words.plan s input) old new result) (sym is) runs
+
+-- lines are made
+pub runs-generated : (words : TestWords) (n : ℕ) (old new : Printed) (result : Result ℕ IoError) → words.script ≡ Generated n
+    → RunsBy (generated_outcome n) old new result → RunsBy (text_by (Some words) []) old new result
+runs-generated words n old new result is runs = subst (λ s. RunsBy (text_for words.plan s None) old new result) (sym is) runs
+
+module _ (n : ℕ) (old new err : Kept) where
+  pub generated-whole : (u : Unit {0}) → Writes (generated_text n) old new (Ok u) → RunsBy (generated_outcome n) (printed old err) (printed new err) (Ok 0)
+  generated-whole u w = record { out = w.all; err = Appends-nil err.held; answer = refl; ends = omega arith; steady = (w.cause, refl) }
+
+  pub generated-part : (e : IoError) → Writes {T = Unit {0}} (generated_text n) old new (Err e) → RunsBy (generated_outcome n) (printed old err) (printed new err) (Err e)
+  generated-part e w = record { out = w.part; err = prefix-none err.held []; cause = counts-out old old new err e refl w.cause }
 
 -- by what the words are read as
 abbrev pub Found : Told → Told → Option Contents → Option TestWords → Printed → Printed → Result ℕ IoError → Type 0

@@ -8,8 +8,9 @@ use Rattle.dir_walk.specs.declared.lists.Target.TheVariants as targets
 use Rattle.tool_in.specs.Asked.{Asked}
 use Rattle.test_script.specs.declared.plan.TestPlan.{TestPlan}
 use Rattle.test_run.specs.TestText.{Tested, test_text}
+use Rattle.test_gen.specs.Texts.{generated_text}
 use Rattle.script_run.specs.declared.words.Script.{Script}
-use Rattle.script_run.specs.declared.words.Script.TheVariants.{Standard, File}
+use Rattle.script_run.specs.declared.words.Script.TheVariants.{Standard, File, Generated}
 use Rattle.script_run.specs.declared.words.TestWords.{TestWords}
 use Rattle.script_run.specs.Words.{words_of}
 
@@ -47,30 +48,37 @@ script_text plan name input = tested_outcome plan name (test_text plan input)
 
 -- All together.
 
-abbrev pub name_of : Script → List ℕ
-name_of Standard = codes "(standard input)"
-name_of (File path) = path
-
-abbrev pub target_of : Script → Target
-target_of Standard = targets.Input
-target_of (File path) = targets.File path
+-- lines that are made are of no target
+abbrev pub targets_of : Script → List Target
+targets_of Standard = targets.Input ∷ []
+targets_of (File path) = targets.File path ∷ []
+targets_of (Generated n) = []
 
 abbrev pub text_on : TestPlan → List ℕ → Option Input → RunOutcome
 text_on plan name None = said (message_on name (codes "cannot be opened")) 1
 text_on plan name (Some input) = script_text plan name input
+
+-- without a banner
+abbrev pub generated_outcome : ℕ → RunOutcome
+generated_outcome n = record { out = generated_text n; err = []; status = 0 }
 
 -- the input that the script's target stands for
 abbrev pub input_in : List Asked → Option Input
 input_in [] = None
 input_in (a ∷ given) = a.input
 
+abbrev pub text_for : TestPlan → Script → Option Input → RunOutcome
+text_for plan Standard input = text_on plan (codes "(standard input)") input
+text_for plan (File path) input = text_on plan path input
+text_for plan (Generated n) input = generated_outcome n
+
 abbrev pub text_by : Option TestWords → List Asked → RunOutcome
 text_by None given = said (codes "pcre2test: bad arguments") 1
-text_by (Some asked) given = text_on asked.plan (name_of asked.script) (input_in given)
+text_by (Some asked) given = text_for asked.plan asked.script (input_in given)
 
 abbrev pub asked_by : Option TestWords → List Target
 asked_by None = []
-asked_by (Some asked) = target_of asked.script ∷ []
+asked_by (Some asked) = targets_of asked.script
 
 -- the target that the words after the tool's name ask for, if they aren't refused
 unfoldable pub asked_targets : List (List ℕ) → List Target

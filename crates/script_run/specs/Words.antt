@@ -1,10 +1,11 @@
 -- What the words of pcre2test ask for (pcre2test, "COMMAND LINE OPTIONS"): words → defaults and a
 -- script, or nothing where they are refused.
-use Rattle.std.specs.Prelude.{◌≡◌, ⊤, ℕ, ◌==◌, Bool, true, false, List, [], ◌∷◌, bytes_eq, codes, Option, Some, None, Ok, Err, if◌then◌else◌}
-use Rattle.std.specs.Option.{option_and_then}
+use Rattle.std.specs.Prelude.{◌≡◌, ⊤, ℕ, ◌==◌, nat_le, Bool, true, false, List, [], ◌∷◌, bytes_eq, codes, Option, Some, None, Ok, Err, if◌then◌else◌}
+use Rattle.std.specs.Option.{option_map, option_and_then}
 use Rattle.script_modifiers.specs.declared.modifiers.Modifiers.{Modifiers}
 use Rattle.script_modifiers.specs.Modifiers.{ungiven, over}
 use Rattle.script_modifiers.specs.Lists.{list_of}
+use Rattle.script_modifiers.specs.Values.{decimal}
 use Rattle.script_modifiers.specs.Refusals.{Reads}
 use Rattle.test_script.specs.declared.plan.TestPlan.{TestPlan}
 use Rattle.script_run.specs.declared.words.Lists.{Lists}
@@ -13,7 +14,7 @@ use Rattle.script_run.specs.declared.words.Word.{Word}
 use Rattle.script_run.specs.declared.words.Word.TheVariants as word
 use Rattle.script_run.specs.declared.words.Turn.{Turn}
 use Rattle.script_run.specs.declared.words.Script.{Script}
-use Rattle.script_run.specs.declared.words.Script.TheVariants.{Standard, File}
+use Rattle.script_run.specs.declared.words.Script.TheVariants.{Standard, File, Generated}
 use Rattle.script_run.specs.declared.words.TestWords.{TestWords}
 use Rattle.script_run.specs.declared.words.WordsError.{WordsError}
 use Rattle.script_run.specs.declared.words.WordsError.TheVariants.{Refused, Memory}
@@ -85,6 +86,24 @@ abbrev pub name_alone : TestPlan → List ℕ → List (List ℕ) → Option Tes
 name_alone plan name [] = Some (asks plan (named_script name))
 name_alone plan name (text ∷ words) = None
 
+-- `-gen` makes lines in place of running a script
+abbrev pub is_generator : Option Lists → List ℕ → Bool
+is_generator (Some lists) text = false
+is_generator None text = bytes_eq text (codes "-gen")
+
+abbrev pub at_most : ℕ → ℕ → Option ℕ
+at_most most n = if nat_le n most then Some n else None
+
+-- how many lines: decimal digits, at most 100,000
+abbrev pub line_count : List ℕ → Option ℕ
+line_count text = option_and_then (at_most 100000) (decimal text)
+
+-- the number is there, and no word follows it
+abbrev pub count_alone : TestPlan → List (List ℕ) → Option TestWords
+count_alone plan [] = None
+count_alone plan (text ∷ []) = option_map (λ n. asks plan (Generated n)) (line_count text)
+count_alone plan (text ∷ other ∷ words) = None
+
 -- without a name the script is standard input; a list mustn't lack
 abbrev pub ended_by : TestPlan → Option Lists → Option TestWords
 ended_by plan None = Some (asks plan Standard)
@@ -98,6 +117,7 @@ abbrev pub words_from : Turn → List (List ℕ) → Option TestWords
 words_from t [] = ended_words t
 words_from t (text ∷ words) =
     if is_name t.wanted text then name_alone t.plan text words
+    else if is_generator t.wanted text then count_alone t.plan words
     else option_and_then (λ (next : Turn). words_from next words) (taken t text)
 
 -- the words after the tool's name

@@ -4,7 +4,7 @@ use Prim.Native.String.{String}
 use Rattle.script_modifiers.specs.declared.modifiers.Modifiers.{Modifiers}
 use Rattle.script_modifiers.specs.Modifiers.{ungiven}
 use Rattle.script_run.specs.declared.words.Script.{Script}
-use Rattle.script_run.specs.declared.words.Script.TheVariants.{Standard, File}
+use Rattle.script_run.specs.declared.words.Script.TheVariants.{Standard, File, Generated}
 use Rattle.script_run.specs.declared.words.TestWords.{TestWords}
 use Rattle.script_run.specs.Words.{words_of}
 
@@ -26,6 +26,9 @@ pub record WorkedWords : Type 0 where
       ≡ asking false (record ungiven { dfa = Some true; global = Some true }) Standard
   pub no_list : read ("-pattern" ∷ []) ≡ None
   pub bad_list : read ("-subject" ∷ "i" ∷ []) ≡ None
-  pub no_generator : read ("-gen" ∷ "1" ∷ []) ≡ None
+  pub generated : read ("-q" ∷ "-gen" ∷ "10" ∷ []) ≡ asking true ungiven (Generated 10)
+  pub too_many : read ("-gen" ∷ "100001" ∷ []) ≡ None
+  pub no_number : read ("-gen" ∷ []) ≡ None
+  pub late_word : read ("-gen" ∷ "1" ∷ "-q" ∷ []) ≡ None
   pub two_scripts : read ("s" ∷ "t" ∷ []) ≡ None
   pub late_option : read ("s" ∷ "-q" ∷ []) ≡ None

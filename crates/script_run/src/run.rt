@@ -3,15 +3,17 @@ ghost use Rattle.std.specs.Prelude.{◌≡◌, ◌∷◌, [], map, string_bytes,
 ghost use Rattle.line_feed.specs.Rows.{Input};
 ghost use Rattle.line_feed.specs.Hears.{Hears};
 ghost use Rattle.tool_in.specs.Asked.{Asked, Opened, StandFor};
+ghost use Rattle.pcre_io.specs.Told.{Kept};
 ghost use Rattle.tool_out.specs.Outcomes.{Runs};
 ghost use Rattle.tool_out.specs.Printed.{printed};
 ghost use Rattle.script_run.specs.RunsBy.{RunsBy};
-ghost use Rattle.script_run.specs.ToolText.{script_text, text_on, text_by, text_of, asked_by, asked_targets};
+ghost use Rattle.script_run.specs.ToolText.{script_text, generated_outcome, text_on, text_by, text_of, asked_by, asked_targets};
 
 use crate::messages::{write_banner, write_message, write_too_long};
 use crate::words::{Script, TestWords, WordsError, read_words};
 use pcre_io::{FileSet, IoError, Sink, Source};
 use std::alloc::Global;
+use test_gen::write_generated;
 use test_run::{ScriptStop, run_script};
 use test_script::TestPlan;
 use tool_out::{status_of, write_texts};
@@ -75,7 +77,16 @@ fn run_file<F: FileSet, O: Sink, E: Sink>(
     }
 }
 
-// Runs the script that the words ask for.
+// Makes lines, and writes what they come to.
+fn run_generated<O: Sink>(alloc: Global, lines: u32, out: &mut O) -> Result<u8, IoError>
+    ensures { (err : Kept) → RunsBy (generated_outcome lines) (printed (O.tells out.old) err)
+        (printed (O.tells out.new) err) result }
+{
+    write_generated(alloc, out, lines)?;
+    Ok(0)
+}
+
+// Runs what the words ask for.
 fn run_asked<F: FileSet, S: Source, O: Sink, E: Sink>(
     alloc: Global,
     asked: &TestWords,
@@ -95,6 +106,7 @@ fn run_asked<F: FileSet, S: Source, O: Sink, E: Sink>(
     match &asked.script {
         Script::Standard => run_source(alloc, &asked.plan, "(standard input)", input, out, err),
         Script::File(name) => run_file(alloc, &asked.plan, name.as_str(), files, out, err),
+        Script::Generated(lines) => run_generated(alloc, *lines, out),
     }
 }
 

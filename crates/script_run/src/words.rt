@@ -1,11 +1,18 @@
 //! The words of pcre2test.
 ghost use Rattle.std.specs.Prelude.{◌≡◌, map, string_bytes, Some, IfOk, IfErr};
-ghost use Rattle.script_run.specs.Words.{Refuses, is_option, is_name, kind_of, listed, option_taken, taken, words_of, name_alone, named_script, ended_words};
+ghost use Rattle.std.specs.List.{list_all};
+ghost use Rattle.std.specs.Char.{is_ascii_digit};
+ghost use Rattle.script_modifiers.specs.Values.{decimal};
+ghost use Rattle.script_run.specs.Words.{Refuses, is_option, is_name, kind_of, listed, option_taken, taken, words_of, name_alone, named_script, is_generator, line_count, count_alone, ended_words};
 
+use byte_lanes::number;
 use pcre_io::Name;
 use script_modifiers::{ListError, Modifiers, read_list};
 use std::alloc::{AllocError, Global};
 use test_script::TestPlan;
+
+// So many lines are made at most.
+const MOST_LINES: u32 = 100_000;
 
 /// What a list of modifiers is for.
 #[derive(Clone, Copy)]
@@ -38,11 +45,12 @@ pub struct Turn {
     pub wanted: Option<Lists>,
 }
 
-/// Where a script comes from.
+/// What is run: a script, by where it comes from, or so many lines that are made.
 #[derive(Drop)]
 pub enum Script {
     Standard,
     File(Name),
+    Generated(u32),
 }
 
 /// What the words ask for.
@@ -187,6 +195,69 @@ fn read_name(
     })
 }
 
+// Whether a word asks for lines that are made.
+fn is_generator(wanted: Option<Lists>, word: &str) -> bool
+    ensures { result ≡ is_generator wanted word.now }
+{
+    match wanted {
+        Some(_) => false,
+        None => word == "-gen",
+    }
+}
+
+fn are_digits(word: &[u8]) -> bool
+    ensures { result ≡ list_all is_ascii_digit word.now }
+{
+    word.iter().all(|b| b.is_ascii_digit())
+}
+
+// The number that decimal digits write.
+fn decimal(word: &[u8]) -> Option<u32>
+    ensures { result ≡ decimal word.now }
+{
+    if word.is_empty() {
+        return None;
+    }
+    if are_digits(word) {
+        number(word, 10)
+    } else {
+        None
+    }
+}
+
+// How many lines a word asks for.
+fn line_count(word: &[u8]) -> Option<u32>
+    ensures { result ≡ line_count word.now }
+{
+    let count = decimal(word)?;
+    if count <= MOST_LINES {
+        Some(count)
+    } else {
+        None
+    }
+}
+
+// The number of lines, which is the last word.
+fn read_count(plan: TestPlan, words: &[String]) -> Result<TestWords, WordsError>
+    ensures read { IfOk result (λ asked.
+        count_alone plan (map string_bytes words.now) ≡ Some asked) }
+    ensures refused { IfErr result (Refuses (count_alone plan (map string_bytes words.now))) }
+{
+    let [word, rest @ ..] = words else {
+        return Err(WordsError::Refused);
+    };
+    if !rest.is_empty() {
+        return Err(WordsError::Refused);
+    }
+    match line_count(word.as_bytes()) {
+        Some(count) => Ok(TestWords {
+            plan,
+            script: Script::Generated(count),
+        }),
+        None => Err(WordsError::Refused),
+    }
+}
+
 // What the words come to where they end.
 fn ended(turn: Turn) -> Result<TestWords, WordsError>
     ensures read { IfOk result (λ asked. ended_words turn ≡ Some asked) }
@@ -205,8 +276,9 @@ fn ended(turn: Turn) -> Result<TestWords, WordsError>
 ///
 /// # Errors
 ///
-/// Refused where an option isn't one of `-q`, `-dfa`, `-pattern` and `-subject`, a list lacks or is
-/// refused, or a word follows the script's name. Memory may be wanting.
+/// Refused where an option isn't one of `-q`, `-dfa`, `-pattern`, `-subject` and `-gen`, a list lacks
+/// or is refused, a number lacks or is too great, or a word follows it or the script's name. Memory may
+/// be wanting.
 pub fn read_words(alloc: Global, words: &[String]) -> Result<TestWords, WordsError>
     ensures read { IfOk result (λ asked. words_of (map string_bytes words.now) ≡ Some asked) }
     ensures refused { IfErr result (Refuses (words_of (map string_bytes words.now))) }
@@ -225,6 +297,9 @@ pub fn read_words(alloc: Global, words: &[String]) -> Result<TestWords, WordsErr
         };
         if is_name(turn.wanted, word.as_str()) {
             return read_name(alloc, turn.plan, word.as_str(), more);
+        }
+        if is_generator(turn.wanted, word.as_str()) {
+            return read_count(turn.plan, more);
         }
         turn = take_word(alloc, turn, word.as_str())?;
         rest = more;

@@ -46,7 +46,7 @@ fn words_set_defaults_and_name_a_script(rt: HostRuntime) -> Result<(), Fail> {
         ("cut", b"/b/\nb\nc\n", Some(7)),
         ("none", b"/b/\n", Some(0)),
     ];
-    static ROWS: [Row; 18] = [
+    static ROWS: [Row; 17] = [
         (
             &["-q"],
             b"/a(b)?/\nac\n\n",
@@ -114,7 +114,6 @@ fn words_set_defaults_and_name_a_script(rt: HostRuntime) -> Result<(), Fail> {
             2,
         ),
         (&["-x"], b"/a/\n", b"", b"pcre2test: bad arguments\n", 1),
-        (&["-gen", "1"], b"", b"", b"pcre2test: bad arguments\n", 1),
         (
             &["-q", "-pattern"],
             b"",
@@ -139,6 +138,31 @@ fn words_set_defaults_and_name_a_script(rt: HostRuntime) -> Result<(), Fail> {
         (&["s", "s"], b"", b"", b"pcre2test: bad arguments\n", 1),
     ];
     check_rows(&rt, rt.alloc(), &ROWS, &FILES)
+}
+
+#[test]
+fn lines_are_made(rt: HostRuntime) -> Result<(), Fail> {
+    const ONE: &[u8] = b"lines: 1\npattern 1: 1 lines, 4 characters\n\
+        pattern 2: 1 lines, 1 characters\npattern 3: 1 lines, 3 characters\n\
+        pattern 4: 1 lines, 5 characters\ndfa: 4 ends\nsubstitute: 3\n";
+    const NONE: &[u8] = b"lines: 0\npattern 1: 0 lines, 0 characters\n\
+        pattern 2: 0 lines, 0 characters\npattern 3: 0 lines, 0 characters\n\
+        pattern 4: 0 lines, 0 characters\ndfa: 0 ends\nsubstitute: 0\n";
+    const BAD: &[u8] = b"pcre2test: bad arguments\n";
+    static ROWS: [Row; 11] = [
+        (&["-gen", "1"], b"/a/\na\n", ONE, b"", 0),
+        (&["-gen", "0"], b"", NONE, b"", 0),
+        (&["-q", "-dfa", "-gen", "1"], b"", ONE, b"", 0),
+        (&["-gen"], b"", b"", BAD, 1),
+        (&["-gen", "100001"], b"", b"", BAD, 1),
+        (&["-gen", "99999999999999999999"], b"", b"", BAD, 1),
+        (&["-gen", ""], b"", b"", BAD, 1),
+        (&["-gen", "-1"], b"", b"", BAD, 1),
+        (&["-gen", "1", "s"], b"", b"", BAD, 1),
+        (&["-gen", "1", "-q"], b"", b"", BAD, 1),
+        (&["-pattern", "-gen"], b"", b"", BAD, 1),
+    ];
+    check_rows(&rt, rt.alloc(), &ROWS, &[])
 }
 
 #[test]

@@ -1,9 +1,9 @@
-use Rattle.std.proofs.Common.{◌≡◌, Some, rules}
+use Rattle.std.proofs.Common.{◌≡◌, [], Some, rules}
 use Rattle.dir_walk.specs.declared.lists.Target.TheVariants as targets
 use Rattle.tool_in.proofs.Taking.{hears-any}
 use Rattle.tool_out.specs.Printed.{printed}
-use Rattle.script_run.specs.declared.words.Script.TheVariants.{Standard, File}
-use Rattle.script_run.proofs.Running.{given_of, stands-standard, stands-file, runs-script}
+use Rattle.script_run.specs.declared.words.Script.TheVariants.{Standard, File, Generated}
+use Rattle.script_run.proofs.Running.{given_of, stands-standard, stands-file, stands-generated, runs-script, runs-generated}
 use Rattle.script_run.proofs.run.run_asked.Goals as goal
 
 pub returns-in-Standard-clause-runs : goal.returns-in-Standard-clause-runs
@@ -33,5 +33,21 @@ returns-in-File-clause-runs g c =
         given_of (targets.File path) r.0,
         stands-file (g.F.FileSet.tells c.args.files.now).contents any.0 words path r.0 is r.1,
         runs-script words (File path) (targets.File path) r.0 (printed (g.O.Sink.tells c.args.out.now) (g.E.Sink.tells c.args.err.now)) (printed (g.O.Sink.tells c.run_file.new.out) (g.E.Sink.tells c.run_file.new.err)) c.run_file.result is r.2,
+      ),
+    )
+
+pub returns-in-Generated-clause-runs : goal.returns-in-Generated-clause-runs
+returns-in-Generated-clause-runs g c =
+    let words = c.args.asked.now in
+    let any = hears-any (g.S.Source.tells c.args.input.now) in
+    let n = c.in-Generated.lines in
+    let is : words.script ≡ Generated n = search rules in (
+      any.0,
+      any.1,
+      (
+        [],
+        stands-generated (g.F.FileSet.tells c.args.files.now).contents any.0 words n is,
+        runs-generated words n (printed (g.O.Sink.tells c.args.out.now) (g.E.Sink.tells c.args.err.now)) (printed (g.O.Sink.tells c.run_generated.new.out) (g.E.Sink.tells c.args.err.now)) c.run_generated.result is
+            (c.run_generated.ensures (g.E.Sink.tells c.args.err.now)),
       ),
     )

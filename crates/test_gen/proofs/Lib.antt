@@ -1,0 +1,3 @@
+pub mod Making
+pub mod Counting
+pub mod Saying

@@ -1,0 +1,4 @@
+pub mod Generated
+pub mod Counts
+pub mod Texts
+pub mod Worked
