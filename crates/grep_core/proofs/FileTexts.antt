@@ -1,6 +1,7 @@
 -- What is written of an input, piece by piece, to the output and to the messages.
 use Rattle.std.proofs.Common.{◌≡◌, ◌≢◌, ℕ, ◌+◌, ◌≤◌, Bool, true, false, ◌&&◌, not, ◌||◌, List, [], ◌++◌, length, take, flat_map, Option, Result, Ok, Err, refl, sym, ap, subst, ◌∙◌, arith, inl, inr, ◌⊎◌, append-nil, nat_eq, codes}
 use Rattle.std.specs.List.{list_any}
+use Rattle.std.specs.Io.KnownBytes.{Appends}
 use Rattle.pcre_io.specs.Told.{Told, Kept, AppendsPrefix}
 use Rattle.pcre_io.specs.Causes.{CountsRefusals}
 use Rattle.pcre_io.specs.declared.traits.IoError.{IoError}
@@ -28,19 +29,22 @@ use Rattle.grep_match.specs.PatternTexts.{line_end}
 use Rattle.pat_tree.specs.Pattern.{Pattern}
 use Rattle.line_feed.specs.declared.phase.Phase.TheVariants.{Open, Closed}
 use Rattle.grep_match.specs.Modes.{mode}
-use Rattle.grep_core.specs.Shows.{is_told, tells_binary, show_in, most_selected}
+use Rattle.grep_core.specs.Shows.{is_told, tells_binary, show_in, most_selected, greatest_selected}
 use Rattle.grep_core.specs.Messages.{error_message, ended_message, message}
 use Rattle.grep_core.specs.Scans as meant
 use Rattle.grep_core.specs.Scans.{Scan, at_finish, early, too_many_errors, scan, scan_of_rows, selected_in}
 use Rattle.grep_core.specs.InputText.{Written, input_text, written_by, out_text, shown_out, end_out, state_by}
-use Rattle.grep_core.specs.Course.{scan_so_far}
+use Rattle.grep_core.specs.Course.{scan_so_far, AreNumbered}
 use Rattle.grep_core.specs.Lines.{is_nul, lines, treatment, treatment_by}
 use Rattle.grep_core.specs.Ends.{stop_of, ended_of}
 use Rattle.tool_out.specs.Writes.{Writes}
 use Rattle.tool_out.specs.Prints.{Wrote, Breaks}
-use Rattle.grep_core.specs.WholeScans.{Stood, StopsIn, ScansTo, ScansInput, left_by, AtLeastOne, IsJob, LeavesRest}
+use Rattle.grep_core.specs.WholeScans.{Stood, StopsIn, ScansTo, ScansInput, left_by, AtLeastOne, IsJob, LeavesRest, StopsSoon}
+use Rattle.grep_core.specs.Refused.{RefusesSoon, WhereRefused}
 use Rattle.grep_core.specs.OneInput.{IsNew, is_skipped, WritesBoth, CountsPart, ScansAs, ScansSo, LeavesTo, GrepsInput, GrepsTo, Treats}
-use Rattle.grep_core.proofs.ScansRows.{stood-little}
+use Rattle.grep_core.proofs.ScansRows.{stood-little, rows-numbered}
+use Rattle.grep_core.proofs.ScansTexts.{grew-part}
+use Rattle.grep_core.proofs.Refusing.{refuses-soon, refuses-none}
 use Rattle.tool_out.proofs.Writing.{prefix-front, prefix-more}
 use Rattle.tool_out.specs.Printed.{Printed, printed}
 use Rattle.tool_out.proofs.Printing as printing
@@ -133,6 +137,7 @@ module _ (plan : GrepPlan) (patterns : List Pattern) (name : List ℕ) (sh : Sho
             (record { wrote = none-wrote plan name s sh early old; state = none-state plan name s sh early }, refl, refl);
         rest = subst (λ t. let x : Scan = scan plan patterns s.errors t (lines plan h.heard) in LeavesRest {T = FileEnd} x.ended x.within before now (Ok (record { selected = 0; ended = told.Early }))) (sym is)
             (λ _. stood-little plan treated before now f [] stood near begun);
+        refused = tt;
       }
 
   -- memory lacked before the scan
@@ -141,7 +146,7 @@ module _ (plan : GrepPlan) (patterns : List Pattern) (name : List ℕ) (sh : Sho
   scans-lacks treated before now f out err result is stood =
       let h = treated-of plan treated before now f stood in
       subst (ScansAs plan patterns name sh treated s before now s (printed out err) (printed out err)) (sym is)
-      (record { heard = h.heard; hears = h.hears; treats = h.treats; scans = (breaks-none _ _ out err Memory refl, none-counts plan name s sh (scan plan patterns s.errors treated (lines plan h.heard))); rest = tt })
+      (record { heard = h.heard; hears = h.hears; treats = h.treats; scans = (breaks-none _ _ out err Memory refl, none-counts plan name s sh (scan plan patterns s.errors treated (lines plan h.heard))); rest = tt; refused = tt })
 
   scan-as : (treated : Treatment) → treated ≢ Skipped → (found : Rows) → scan_of_rows plan patterns s.errors treated found ≡ scan plan patterns s.errors treated found
   scan-as AsText other found = refl
@@ -162,6 +167,13 @@ module _ (plan : GrepPlan) (patterns : List Pattern) (name : List ℕ) (sh : Sho
   rest-end : (selected : ℕ) (x : Scan) (before after : Told) (came : Result Ended Stop) → LeavesRest x.ended x.within before after came → LeavesRest x.ended x.within before after (end_by selected came)
   rest-end selected x before after (Ok ended) h = h
   rest-end selected x before after (Err stop) h = tt
+
+  -- where a write was refused in it
+  refused-end : (selected : ℕ) (fact : Type 0) (came : Result Ended Stop) → WhereRefused came fact → WhereRefused (end_by selected came) fact
+  refused-end selected fact (Ok ended) h = tt
+  refused-end selected fact (Err SinkFault) h = h
+  refused-end selected fact (Err TooManyErrors) h = tt
+  refused-end selected fact (Err Memory) h = tt
 
   module _ (treated : Treatment) (selected total : ℕ) (s_mid : State) (sums : total ≡ s.total + selected) where
     part : (found : Scan) → StopsIn plan patterns name sh treated s found selected s_mid → CountsPart plan name sh s found (record s_mid { total = total })
@@ -188,6 +200,9 @@ module _ (plan : GrepPlan) (patterns : List Pattern) (name : List ℕ) (sh : Sho
           let x = scan_of_rows plan patterns s.errors treated (lines plan h.heard) in
           subst (λ found. LeavesRest {T = FileEnd} found.ended found.within before after result) (scan-as treated other (lines plan h.heard))
           (subst (LeavesRest {T = FileEnd} x.ended x.within before after) (sym so) (rest-end selected x before after came (subst (LeavesRest {T = Ended} x.ended x.within before after) is h.rest)));
+      refused =
+          let fact = StopsSoon plan patterns name sh treated s (lines plan h.heard) before after old.out new.out in
+          subst (λ r. WhereRefused r fact) (sym so) (refused-end selected fact came (subst (λ r. WhereRefused r fact) is h.refused));
     }
 
 -- the first bytes were looked at
@@ -251,14 +266,15 @@ some-most false mode_of.WholeLines most some = some
 
 -- the job of a scan is made for the input
 pub job-is : {plan : GrepPlan} {treated : Treatment} {md : Mode} {tells : Bool} {sh : Show} {most : Option ℕ} {f : Feed} → md ≡ mode plan → tells ≡ tells_binary treated md → sh ≡ show_in tells md → most ≡ most_selected tells md plan.max_count
-    → AtLeastOne plan.max_count → f.kind ≡ line_end plan → f.max ≡ plan.max_buffer_size → f.offset ≡ 0 → treated ≢ Skipped → IsJob plan treated sh most f
-job-is {plan} {treated} {md} {tells} {sh} {most} {f} m t e is some kind max begun other =
+    → AtLeastOne plan.max_count → f.kind ≡ line_end plan → f.max ≡ plan.max_buffer_size → f.offset ≡ 0 → length f.held ≤ 65536 → treated ≢ Skipped → IsJob plan treated sh most f
+job-is {plan} {treated} {md} {tells} {sh} {most} {f} m t e is some kind max begun near other =
     let so : tells ≡ is_told plan treated = t ∙ ap (tells_binary treated) m in record {
       show_is = e ∙ (λ i. show_in (so i) (m i));
       most_is = is ∙ (λ i. most_selected (so i) (m i) plan.max_count);
       some = subst AtLeastOne (sym is) (some-most tells md plan.max_count some);
       scanned = other;
       begun = begun;
+      near = near;
       kind = kind;
       max = max;
     }
@@ -271,6 +287,8 @@ pub record Scanned (plan : GrepPlan) (patterns : List Pattern) (name : List ℕ)
   pub shows_is : shows ≡ show_in tells md
   pub state : State
   pub state_is : state ≡ s
+  pub few : s.errors ≤ 20
+  pub some : AtLeastOne plan.max_count
   pub scans : ScansAs plan patterns name shows treated state before after s_new old mid met
 
 stop-other : (fault : IoError) → stop_of fault ≢ TooManyErrors
@@ -311,14 +329,37 @@ module _ {plan : GrepPlan} {patterns : List Pattern} {name : List ℕ} {s : Stat
 
   grep-by : {new : Printed} (came : Result FileEnd Stop) → met ≡ came → (result : Result FileEnd Stop)
       → ((found : Scan) → ScansSo plan name (show_in (is_told plan treated) (mode plan)) s found s_new old mid came → LeavesRest found.ended found.within before after came → tells_so treated (text_of found) found new result)
+      → ((found : Rows) → AreNumbered 1 found.rows → ScansSo plan name (show_in (is_told plan treated) (mode plan)) s (scan plan patterns s.errors treated found) s_new old mid came
+      → WhereRefused came (StopsSoon plan patterns name (show_in (is_told plan treated) (mode plan)) treated s found before after old.out mid.out)
+      → WhereRefused result (RefusesSoon plan patterns name s treated found.rows before after old.out new.out))
       → GrepsInput plan patterns name before after s s_new old new result
   unfolding input_text
-  grep-by {new} came is result goes =
+  grep-by {new} came is result goes soon =
       let so = scanned-so in
       let found = scan plan patterns s.errors treated (lines plan so.heard) in
       let both = subst (λ t. let x : Scan = scan plan patterns s.errors t (lines plan so.heard) in tells_so t (written_by plan name (is_told plan t) s x) x new result) (sym so.treats)
       (goes found (subst (ScansSo plan name (show_in (is_told plan treated) (mode plan)) s found s_new old mid) is so.scans) (subst (LeavesRest {T = FileEnd} found.ended found.within before after) is so.rest)) in
-      record { heard = so.heard; hears = so.hears; greps = both.0; left = both.1; rest = both.2 }
+      record {
+        heard = so.heard;
+        hears = so.hears;
+        greps = both.0;
+        left = both.1;
+        rest = both.2;
+        refused = subst (λ t. WhereRefused result (RefusesSoon plan patterns name s t (lines plan so.heard).rows before after old.out new.out)) (sym so.treats)
+            (soon (lines plan so.heard) (rows-numbered (line_end plan) plan.max_buffer_size so.heard) (subst (ScansSo plan name (show_in (is_told plan treated) (mode plan)) s found s_new old mid) is so.scans)
+            (subst (λ r. WhereRefused r (StopsSoon plan patterns name (show_in (is_told plan treated) (mode plan)) treated s (lines plan so.heard) before after old.out mid.out)) is so.refused));
+      }
+
+  at_least : AtLeastOne (greatest_selected plan treated)
+  at_least = some-most (is_told plan treated) (mode plan) plan.max_count h.some
+
+  -- after all was shown a write was refused
+  all-shown : (new : Kept) (found : Rows) (text : List ℕ) → AreNumbered 1 found.rows → Appends old.out.held mid.out.held (shown_of (scan plan patterns s.errors treated found)) → AppendsPrefix mid.out.held new.held text
+      → (fault : IoError) → WhereRefused {T = FileEnd} (Err (stop_of fault)) (RefusesSoon plan patterns name s treated found.rows before after old.out new)
+  all-shown new found text numbered wrote more io.Failed = λ written n to cut.
+      refuses-none plan patterns name s h.few found before after old.out new numbered written n to treated at_least cut
+      (grew-part (shown_of (scan plan patterns s.errors treated found)) text old.out.held mid.out.held new.held wrote more)
+  all-shown new found text numbered wrote more io.Memory = tt
 
   out-end : (found : Scan) (ended : Ended) → out_text plan name (is_told plan treated) s.has_shown found (ended_of ended) ≡ shown_of found ++ end_out plan name (mode plan) (is_told plan treated) (length (selected_in plan found))
   out-end found told.End = refl
@@ -347,7 +388,7 @@ module _ {plan : GrepPlan} {patterns : List Pattern} {name : List ℕ} {s : Stat
       },
       tt,
       rest,
-    ))
+    )) (λ found numbered scans refused. tt)
 
     pub greps-breaks : {new : Printed} (fault : IoError) (result : Result FileEnd Stop) → result ≡ Err (stop_of fault)
         → Breaks (end_out plan name md tells end.selected) (ended_message plan.no_messages name (ended_of end.ended)) mid new (stop_of fault ≡ SinkFault)
@@ -357,7 +398,8 @@ module _ {plan : GrepPlan} {patterns : List Pattern} {name : List ℕ} {s : Stat
         stopped found (stop_of fault) (stop-other fault)
         (subst (λ x. Breaks x (text_of found).err old new (stop_of fault ≡ SinkFault)) (out-is found scans)
         (subst (λ x. Breaks (shown_of found ++ end_out plan name md tells end.selected) x old new (stop_of fault ≡ SinkFault)) (said-is found scans) (wrote-breaks _ _ _ _ scans.0.wrote (stop_of fault ≡ SinkFault) next)))
-        (inl scans.0.state)))
+        (inl scans.0.state))
+        (λ found numbered scans refused. all-shown new.out found (end_out plan name md tells end.selected) numbered scans.0.wrote.out next.out fault))
 
   -- where there were too many match errors, the message that says so
   module _ (is : met ≡ Err TooManyErrors) where
@@ -377,7 +419,7 @@ module _ {plan : GrepPlan} {patterns : List Pattern} {name : List ℕ} {s : Stat
       ),
       tt,
       tt,
-    ))
+    )) (λ found numbered scans refused. tt)
 
     pub greps-untold : {err_new : Kept} (fault : IoError) (result : Result FileEnd Stop) → result ≡ Err (stop_of fault) → Writes {T = Unit {0}} (message (codes "too many match errors")) mid.err err_new (Err fault)
         → GrepsInput plan patterns name before after s s_new old (printed mid.out err_new) result
@@ -387,7 +429,8 @@ module _ {plan : GrepPlan} {patterns : List Pattern} {name : List ℕ} {s : Stat
         (subst (λ x. Breaks x (text_of found).err old (printed mid.out err_new) (stop_of fault ≡ SinkFault)) (many-out found scans.1)
         (subst (λ x. Breaks (shown_of found ++ []) x old (printed mid.out err_new) (stop_of fault ≡ SinkFault)) (many-said found scans.1)
         (wrote-breaks _ _ _ _ scans.0.wrote (stop_of fault ≡ SinkFault) (breaks-err [] _ mid.out mid.err err_new fault w))))
-        (inl scans.0.state)))
+        (inl scans.0.state))
+        (λ found numbered scans refused. all-shown mid.out found [] numbered scans.0.wrote.out (prefix-none mid.out.held []) fault))
 
   -- the scan was cut off
   longer : (found : Scan) (ended : meant.Ended) → AppendsPrefix old.out.held mid.out.held (shown_of found) → AppendsPrefix old.out.held mid.out.held (out_text plan name (is_told plan treated) s.has_shown found ended)
@@ -400,8 +443,15 @@ module _ {plan : GrepPlan} {patterns : List Pattern} {name : List ℕ} {s : Stat
   cut-off found Memory other b = (record { out = longer found found.ended b.0.out; err = prefix-front _ _ _ _ b.0.err; cause = b.0.cause; steady = b.0.steady }, inr b.1, tt)
   cut-off found TooManyErrors other b = absurd (other refl)
 
+  cut-soon : (stop : Stop) → stop ≢ TooManyErrors → (found : Rows) → AreNumbered 1 found.rows
+      → WhereRefused {T = FileEnd} (Err stop) (StopsSoon plan patterns name (show_in (is_told plan treated) (mode plan)) treated s found before after old.out mid.out)
+      → WhereRefused {T = FileEnd} (Err stop) (RefusesSoon plan patterns name s treated found.rows before after old.out mid.out)
+  cut-soon SinkFault other found numbered soon = λ written n to cut. refuses-soon plan patterns name s h.few found before after old.out mid.out numbered written n to treated at_least cut soon
+  cut-soon Memory other found numbered soon = tt
+  cut-soon TooManyErrors other found numbered soon = absurd (other refl)
+
   pub greps-cut : (stop : Stop) → met ≡ Err stop → stop ≢ TooManyErrors → GrepsInput plan patterns name before after s s_new old mid (Err stop)
-  greps-cut stop is other = grep-by (Err stop) is (Err stop) (λ found scans rest. cut-off found stop other scans)
+  greps-cut stop is other = grep-by (Err stop) is (Err stop) (λ found scans rest. cut-off found stop other scans) (λ found numbered scans refused. cut-soon stop other found numbered refused)
 
 pub fault-other : SinkFault ≢ TooManyErrors
 fault-other e = cc
@@ -415,7 +465,7 @@ pub greps-lacks : {plan : GrepPlan} {patterns : List Pattern} {name : List ℕ} 
 greps-lacks {plan} {patterns} {name} {s} {s_new} {before} {after} out err stop result kept is lacks any =
     subst (λ (now : State). GrepsInput plan patterns name before after s now (printed out err) (printed out err) result) (sym kept)
     (subst (GrepsInput plan patterns name before after s s (printed out err) (printed out err)) (sym (is ∙ ap Err lacks))
-    (record { heard = any.0; hears = any.1; greps = breaks-none _ _ out err Memory refl; left = inr (none-counts plan name s _ _); rest = tt }))
+    (record { heard = any.0; hears = any.1; greps = breaks-none _ _ out err Memory refl; left = inr (none-counts plan name s _ _); rest = tt; refused = tt }))
 
 -- the same of equal texts and an equal answer
 pub greps-moved : {plan : GrepPlan} {patterns : List Pattern} {name : List ℕ} {before after : Told} {s s_new : State} {old : Printed} (out out_then err err_then : Kept) (result result_then : Result FileEnd Stop)

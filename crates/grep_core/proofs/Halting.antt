@@ -122,6 +122,7 @@ error-takes plan name shows most c c_new s t e out_old out_new err_old err_new i
   };
   stands = passes.stands ∙ error-after plan shows c t e is;
   limit = passes.limit;
+  longest = passes.longest;
   state = error-state plan shows s t e is;
   answer = sym (ap (λ b. cond (b && is_full most c_new.selected) Context Line) (unselected-error plan t (error-of t e is)));
   errors = omega (arith, few);

@@ -4,6 +4,7 @@ pub mod ReachTexts
 pub mod ReachCourse
 pub mod Reached
 pub mod Extends
+pub mod Growing
 pub mod ScansRows
 pub mod ScansTexts
 pub mod ScansTaken
@@ -14,8 +15,10 @@ pub mod ScansFollow
 pub mod ScansWhole
 pub mod Said
 pub mod Parted
+pub mod Shortness
 pub mod Steps
 pub mod Halting
 pub mod Taking
+pub mod Refusing
 pub mod FileTexts
 pub mod Watching

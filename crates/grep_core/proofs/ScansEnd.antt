@@ -3,7 +3,7 @@ use Rattle.std.proofs.Common.{◌≡◌, ◌≢◌, ℕ, ◌+◌, ◌<◌, ◌==
 use Rattle.std.specs.Prelude.{filter, flat_map, nat_lt}
 use Rattle.std.proofs.lemmas.Bool.{cases_Bool, cond-true, cond-false, eqb-true, eqb-false, false≢true}
 use Rattle.pcre_io.specs.Told.{Told, Kept}
-use Rattle.line_feed.specs.Rows.{Row, Rows, Finish, At, Long, End, Fault, Limit}
+use Rattle.line_feed.specs.Rows.{Row, Rows, Finish, At, Long, End, Fault, Limit, rows_with}
 use Rattle.line_feed.specs.View.{Feed}
 use Rattle.line_feed.specs.Answers.{Gives, Refuses}
 use Rattle.line_feed.specs.declared.phase.FeedError.TheVariants as feed
@@ -29,15 +29,16 @@ use Rattle.grep_core.specs.Messages.{error_message}
 use Rattle.grep_core.specs.InputText.{shown_out, shows_group}
 use Rattle.grep_core.specs.Course.{AreNumbered, row_out, state_after_line, is_lines, scan_so_far}
 use Rattle.grep_core.specs.Turns.{course_of, LeavesLine, TakesLine, TakesLast, is_last, EndsSo, Idles, Turns}
-use Rattle.grep_core.specs.WholeScans.{Stood, Scans, StopsIn, ScansTo, ScansInput, scan_of, left_by, IsJob, BeginsWith, EndsWith, LeavesRest}
+use Rattle.grep_core.specs.WholeScans.{Stood, Scans, StopsIn, StopsSoon, ScansTo, ScansInput, scan_of, left_by, IsJob, BeginsWith, EndsWith, LeavesRest}
+use Rattle.grep_core.specs.Refused.{GrewBy, WhereRefused}
 use Rattle.tool_out.specs.Prints.{Wrote, Breaks}
 use Rattle.grep_core.proofs.Reached.{out-broken}
 use Rattle.grep_core.proofs.ScanEnds.{count, count-more, count-one, count-none, early-tried, broken-within}
 use Rattle.grep_core.proofs.Extends.{TextsBegin, Goes, LastError, full, whole-is, whole-out, broken-is, broken_out, row-broken, row-extends, extends, said-more, error-unselected}
-use Rattle.grep_core.proofs.ScansRows.{stood-moves, stood-begins, stood-stops, begins-numbered}
-use Rattle.grep_core.proofs.ScansTexts.{breaks-more, breaks-memory, breaks-ext}
+use Rattle.grep_core.proofs.ScansRows.{stood-moves, stood-begins, stood-stops, stood-little, begins-numbered}
+use Rattle.grep_core.proofs.ScansTexts.{breaks-more, breaks-memory, breaks-ext, grew-part}
 use Rattle.tool_out.proofs.Printing.{wrote-more}
-use Rattle.grep_core.proofs.ScansTaken.{tries, tries-more, rows-tried, errors-more, stops-in, stops-error, Standing, next-stood, next-kind, next-max, next-numbered}
+use Rattle.grep_core.proofs.ScansTaken.{tries, tries-more, rows-tried, errors-more, stops-in, stops-error, Standing, next-stood, next-kind, next-max, next-whole, next-numbered}
 use Rattle.tool_out.specs.Printed.{printed}
 
 -- how the feed ends is how the rows end
@@ -131,6 +132,16 @@ module _ (plan : GrepPlan) (patterns : List Pattern) (name : List ℕ) (shows : 
         → Goes plan shows left most (tries plan patterns standing.given) (course_of c)
     goes-of before now f c s out0 out err0 err standing = record { reached = standing.taken.reached; few = standing.few; below = standing.below }
 
+    -- what is shown of the lines that were given
+    pub given-shown : (before now : Told) (f : Feed) (c : Course) (s : State) (out0 out err0 err : Kept) (standing : Standing plan patterns name shows most treated s0 before now f c s out0 out err0 err)
+        → shown_out plan name shows s0.has_shown (scan_in (rows_with standing.given (At End))) ≡ shown_out plan name shows s0.has_shown (scan_so_far (tries plan patterns standing.given))
+    given-shown before now f c s out0 out err0 err standing =
+        let us = tries plan patterns standing.given in
+        ap (λ x. shown_out plan name shows s0.has_shown x)
+        (scan-is job.show_is job.most_is (rows_with standing.given (At End))
+        ∙ whole-is plan name shows s0.has_shown left most (At End) us (course_of c) (goes-of before now f c s out0 out err0 err standing))
+        ∙ whole-out plan name shows s0.has_shown us (At End)
+
     module _ (before now after : Told) (f g : Feed) (c : Course) (s : State) (c1 : Course) (s1 : State) (out0 out out1 err0 err err1 : Kept)
         (standing : Standing plan patterns name shows most treated s0 before now f c s out0 out err0 err) where
       abbrev us : List Tried
@@ -162,6 +173,7 @@ module _ (plan : GrepPlan) (patterns : List Pattern) (name : List ℕ) (shows : 
             treats = ends.treats;
             scans = subst (λ x. ScansTo plan patterns name shows treated s0 x c1.selected s1 (printed out0 err0) (printed out1 err1) (Ok ended)) (sym is) (whole-scans ends.finish idles, sym ends.ended_so);
             rest = rest-late (scan_in (lines plan ends.heard)) ends.finish before after ended (ap (λ (x : Scan). x.ended) is);
+            refused = tt;
           }
 
       -- the feed lacks memory
@@ -184,6 +196,7 @@ module _ (plan : GrepPlan) (patterns : List Pattern) (name : List ℕ) (shows : 
               subst (StopsIn plan patterns name shows treated s0 (full_of finish (us ++ vs)) c1.selected) (sym idles.state) (stops-in plan patterns name shows treated s0 ext.rest c1.selected (ap (λ (d : Course). d.selected) idles.course) ext.tried_is standing.taken),
             );
             rest = tt;
+            refused = tt;
           }
 
       module _ (row : Row) (gives : Gives f g now after row) where
@@ -212,13 +225,15 @@ module _ (plan : GrepPlan) (patterns : List Pattern) (name : List ℕ) (shows : 
         numbered-row : AreNumbered 1 (rows_of (us ++ t ∷ vs))
         numbered-row = subst (λ l. AreNumbered 1 (rows_of l)) all-tries (begins-tried before after (standing.given ++ row ∷ []) begins-row)
 
-        input-row : (stop : Stop) → ScansTo plan patterns name shows treated s0 (full_of finish (us ++ t ∷ vs)) c1.selected s1 (printed out0 err0) (printed out1 err1) (Err stop) → Input (Err stop)
-        input-row stop scans = record {
+        input-row : (stop : Stop) → ScansTo plan patterns name shows treated s0 (full_of finish (us ++ t ∷ vs)) c1.selected s1 (printed out0 err0) (printed out1 err1) (Err stop)
+            → WhereRefused {T = Ended} (Err stop) (StopsSoon plan patterns name shows treated s0 (lines plan begins-row.heard) before after out0 out1) → Input (Err stop)
+        input-row stop scans soon = record {
           heard = begins-row.heard;
           hears = begins-row.hears;
           treats = begins-row.treats;
           scans = subst (λ x. ScansTo plan patterns name shows treated s0 x c1.selected s1 (printed out0 err0) (printed out1 err1) (Err stop)) (sym scan-row) scans;
           rest = tt;
+          refused = soon;
         }
 
         had-errors : s.errors ≡ s0.errors + count has_error us
@@ -257,7 +272,7 @@ module _ (plan : GrepPlan) (patterns : List Pattern) (name : List ℕ) (shows : 
               state = last.state ∙ state;
             } in
             input-row TooManyErrors
-            (subst (λ x. ScansTo plan patterns name shows treated s0 x c1.selected s1 (printed out0 err0) (printed out1 err1) (Err TooManyErrors)) (sym same) (scans, refl))
+            (subst (λ x. ScansTo plan patterns name shows treated s0 x c1.selected s1 (printed out0 err0) (printed out1 err1) (Err TooManyErrors)) (sym same) (scans, refl)) tt
 
         few-next : is_last s t ≡ false → count has_error (us ++ t ∷ []) < left
         few-next e =
@@ -317,11 +332,25 @@ module _ (plan : GrepPlan) (patterns : List Pattern) (name : List ℕ) (shows : 
             (next-numbered plan patterns name shows most treated s0 before now after f g row c s c1 s1 out0 out out1 err0 err err1 standing gives) h.0 h.1)
             leaves.1
 
+        -- what is shown of the lines before it was written
+        row-soon : Breaks (cond (is_last s t) [] row_text) (error_message name t) (printed out err) (printed out1 err1) (SinkFault ≡ SinkFault) → StopsSoon plan patterns name shows treated s0 (lines plan begins-row.heard) before after out0 out1
+        row-soon breaks = record {
+          given = standing.given;
+          next = row ∷ [];
+          more = begins-row.more;
+          all = begins-row.all;
+          one = omega arith;
+          grew = subst (λ l. GrewBy l out0 out1) (sym (given-shown before now f c s out0 out err0 err standing)) (grew-part so_far (cond (is_last s t) [] row_text) out0.held out.held out1.held standing.taken.wrote.out breaks.out);
+          little = stood-little plan treated before after g (standing.given ++ row ∷ [])
+              (next-stood plan patterns name shows most treated s0 before now after f g row c s c1 s1 out0 out out1 err0 err err1 standing gives) gives.cuts.near
+              (next-whole plan patterns name shows most treated s0 before now after f g row c s c1 s1 out0 out out1 err0 err err1 standing gives);
+        }
+
         -- it couldn't be taken
         pub scans-row : (stop : Stop) → TakesLine plan name shows most t c s c1 s1 (printed out err) (printed out1 err1) (Err stop) → Input (Err stop)
-        scans-row SinkFault takes = input-row SinkFault (next-breaks SinkFault takes.0, next-stops takes.1)
+        scans-row SinkFault takes = input-row SinkFault (next-breaks SinkFault takes.0, next-stops takes.1) (row-soon takes.0)
         scans-row TooManyErrors takes = scans-last takes
-        scans-row Memory takes = input-row Memory (next-breaks Memory takes.0, next-stops takes.1)
+        scans-row Memory takes = input-row Memory (next-breaks Memory takes.0, next-stops takes.1) tt
 
       -- a turn that stops
       pub scans-stops : (stop : Stop) → Turns plan patterns name shows most f g now after c s c1 s1 (printed out err) (printed out1 err1) (Err stop) → Input (Err stop)

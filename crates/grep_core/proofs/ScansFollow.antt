@@ -13,7 +13,7 @@ use Rattle.grep_core.specs.declared.shows.Treatment.{Treatment}
 use Rattle.grep_core.specs.declared.ended.Ended.{Ended}
 use Rattle.grep_core.specs.declared.ended.Ended.TheVariants as told
 use Rattle.grep_core.specs.declared.ended.Stop.{Stop}
-use Rattle.grep_core.specs.declared.ended.Stop.TheVariants.{Memory}
+use Rattle.grep_core.specs.declared.ended.Stop.TheVariants.{SinkFault, Memory}
 use Rattle.grep_match.specs.PatternTexts.{line_end}
 use Rattle.grep_core.specs.Shows.{lines_after}
 use Rattle.grep_core.specs.Course.{line_as}
@@ -23,7 +23,7 @@ use Rattle.grep_core.specs.WholeScans.{Stood}
 use Rattle.grep_core.specs.Follows.{ShowsRow, FollowsOne, FollowsAll, FollowsSome, FollowsPart, Follows}
 use Rattle.grep_core.proofs.ScansRows.{stood-gives, stood-begins, stood-little, whole-gives}
 use Rattle.grep_core.specs.LittlePast.{bytes_in}
-use Rattle.grep_core.proofs.ScansTexts.{writes-none, writes-more, halts-more, halts-memory}
+use Rattle.grep_core.proofs.ScansTexts.{writes-none, writes-more, halts-more, halts-memory, grew-part, halts-part}
 use Rattle.grep_core.proofs.ScansEnd.{ends-so, lacks-so}
 
 pub after-lines : (shows : Show) (n : ℕ) → shows ≡ show.Lines → lines_after shows n ≡ n
@@ -105,6 +105,15 @@ module _ (plan : GrepPlan) (name : List ℕ) (shows : Show) (treated : Treatment
           begins = stood-begins plan treated before after g (given ++ rows) (kind-gives f g now after halts.row halts.gives ∙ had.kind) (max-gives f g now after halts.row halts.gives ∙ had.max) stood;
           long = omega arith;
           wrote = subst (λ l. Halts l out0 out1 stop) (sym (texts-more had.rows halts.row)) (halts-more (texts had.rows) (line_as plan name false halts.row) out0 out out1 stop had.wrote halts.wrote);
+          soon = λ is. record {
+            whole = had.rows;
+            next = halts.row ∷ [];
+            parts = refl;
+            one = omega arith;
+            grew = grew-part (texts had.rows) (line_as plan name false halts.row) out0.held out.held out1.held had.wrote.all (halts-part (line_as plan name false halts.row) out out1 stop is halts.wrote);
+            little = stood-little plan treated before after g (given ++ rows) stood halts.gives.cuts.near
+                (whole-gives now after f g (given ++ had.rows) halts.row had.whole halts.gives ∙ ap bytes_in (append_assoc given had.rows (halts.row ∷ [])));
+          };
         }
     follows-stops stop few (inr lacks) =
         let long = had.long in record {
@@ -112,6 +121,7 @@ module _ (plan : GrepPlan) (name : List ℕ) (shows : Show) (treated : Treatment
           begins = lacks-so plan treated before now after f g (given ++ had.rows) had.stood had.kind had.max lacks.1;
           long = omega arith;
           wrote = subst (λ s. Halts (texts had.rows) out0 out1 s) (sym lacks.0) (subst (λ k. Halts (texts had.rows) out0 k Memory) (sym lacks.2) (halts-memory (texts had.rows) out0 out had.wrote));
+          soon = λ is. let e : Memory ≡ SinkFault = sym lacks.0 ∙ is in absurd (cc);
         }
 
   pub follows-all : (now : Told) (f : Feed) (out0 out : Kept) (n : ℕ) → Following now f out0 out n → n ≡ lines_after shows plan.after_context → FollowsAll plan name shows treated before now given out0 out
@@ -148,4 +158,12 @@ module _ (plan : GrepPlan) (name : List ℕ) (shows : Show) (treated : Treatment
           begins = stood-begins plan treated before now f (given ++ had.rows) had.kind had.max had.stood;
           long = omega arith;
           wrote = subst (λ l. Halts l out0 out1 stop) (append-nil (texts had.rows)) (halts-more (texts had.rows) [] out0 out out1 stop had.wrote halts);
+          soon = λ is. record {
+            whole = had.rows;
+            next = [];
+            parts = sym (append-nil had.rows);
+            one = omega arith;
+            grew = grew-part (texts had.rows) [] out0.held out.held out1.held had.wrote.all (halts-part [] out out1 stop is halts);
+            little = stood-little plan treated before now f (given ++ had.rows) had.stood had.near had.whole;
+          };
         }

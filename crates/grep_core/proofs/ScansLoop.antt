@@ -59,6 +59,7 @@ standing-begun plan patterns name shows most treated s0 before now f0 c out err 
       kind = job.kind;
       max = job.max;
       whole = job.begun;
+      near = job.near;
       few = omega arith;
       below = below-none most job.some;
       taken = record {

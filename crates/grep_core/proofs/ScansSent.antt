@@ -1,12 +1,13 @@
 -- What was gathered is sent on between two lines.
-use Rattle.std.proofs.Common.{◌≡◌, ℕ, List, [], ◌++◌, Option, Err, refl, sym, subst, append-nil}
+use Rattle.std.proofs.Common.{◌≡◌, ℕ, List, [], ◌++◌, Option, Err, refl, sym, ap, subst, ◌∙◌, arith, append-nil}
 use Rattle.std.specs.Prelude.{flat_map}
-use Rattle.pcre_io.specs.Told.{Told, Kept}
+use Rattle.pcre_io.specs.Told.{Told, Kept, AppendsPrefix}
 use Rattle.line_feed.specs.View.{Feed}
 use Rattle.grep_args.specs.declared.plan.GrepPlan.{GrepPlan}
 use Rattle.pat_tree.specs.Pattern.{Pattern}
 use Rattle.grep_core.specs.declared.shows.Show.{Show}
 use Rattle.grep_core.specs.declared.shows.Treatment.{Treatment}
+use Rattle.grep_core.specs.declared.ended.Ended.{Ended}
 use Rattle.grep_core.specs.declared.ended.Stop.{Stop}
 use Rattle.grep_core.specs.declared.ended.Stop.TheVariants.{SinkFault, TooManyErrors, Memory}
 use Rattle.grep_core.specs.declared.scan.Course.{Course}
@@ -18,15 +19,17 @@ use Rattle.grep_core.specs.Messages.{error_message}
 use Rattle.grep_core.specs.InputText.{shown_out}
 use Rattle.grep_core.specs.Course.{scan_so_far}
 use Rattle.grep_core.specs.Turns.{course_of, Halts}
-use Rattle.grep_core.specs.WholeScans.{StopsIn, ScansInput, ScansTo, IsJob}
+use Rattle.grep_core.specs.LittlePast.{TakesLittlePast}
+use Rattle.grep_core.specs.Refused.{GrewBy, WhereRefused}
+use Rattle.grep_core.specs.WholeScans.{StopsIn, StopsSoon, ScansInput, ScansTo, IsJob, BeginsWith}
 use Rattle.tool_out.specs.Prints.{Wrote, Breaks}
 use Rattle.tool_out.specs.Printed.{printed}
 use Rattle.tool_out.specs.Writes.{WritesAll}
 use Rattle.grep_core.proofs.Extends.{extends}
-use Rattle.grep_core.proofs.ScansRows.{stood-begins}
-use Rattle.grep_core.proofs.ScansTexts.{wrote-out, breaks-out, breaks-ext}
+use Rattle.grep_core.proofs.ScansRows.{stood-begins, stood-little}
+use Rattle.grep_core.proofs.ScansTexts.{wrote-out, breaks-out, breaks-ext, grew-part}
 use Rattle.grep_core.proofs.ScansTaken.{tries, stops-in, Standing}
-use Rattle.grep_core.proofs.ScansEnd.{left, full_of, begins-scan, begins-tried, goes-of}
+use Rattle.grep_core.proofs.ScansEnd.{left, full_of, begins-scan, begins-tried, goes-of, given-shown}
 
 module _ (plan : GrepPlan) (patterns : List Pattern) (name : List ℕ) (shows : Show) (most : Option ℕ) (treated : Treatment) (s0 : State) (before now : Told) (f : Feed) (c : Course) (s : State) (out0 out out1 err0 err : Kept)
     (standing : Standing plan patterns name shows most treated s0 before now f c s out0 out err0 err) where
@@ -46,6 +49,7 @@ module _ (plan : GrepPlan) (patterns : List Pattern) (name : List ℕ) (shows : 
     kind = standing.kind;
     max = standing.max;
     whole = standing.whole;
+    near = standing.near;
     few = standing.few;
     below = standing.below;
     taken = record {
@@ -63,8 +67,9 @@ module _ (plan : GrepPlan) (patterns : List Pattern) (name : List ℕ) (shows : 
     unsent : (stop : Stop) → Halts [] out out1 stop
         → ((x : Scan) → Breaks (shown_out plan name shows s0.has_shown x) (flat_map (error_message name) x.tried) (printed out0 err0) (printed out1 err) (stop ≡ SinkFault) × StopsIn plan patterns name shows treated s0 x c.selected s
         → ScansTo plan patterns name shows treated s0 x c.selected s (printed out0 err0) (printed out1 err) (Err stop))
+        → ((begins : BeginsWith plan treated before now standing.given) → WhereRefused {T = Ended} (Err stop) (StopsSoon plan patterns name shows treated s0 (lines plan begins.heard) before now out0 out1))
         → ScansInput plan patterns name shows treated s0 before now c.selected s (printed out0 err0) (printed out1 err) (Err stop)
-    unsent stop halts to =
+    unsent stop halts to soon =
         let begins = stood-begins plan treated before now f standing.given standing.kind standing.max standing.stood in
         let finish = (lines plan begins.heard).finish in
         let vs = tries plan patterns begins.more in
@@ -79,10 +84,22 @@ module _ (plan : GrepPlan) (patterns : List Pattern) (name : List ℕ) (shows : 
           scans = subst (λ x. ScansTo plan patterns name shows treated s0 x c.selected s (printed out0 err0) (printed out1 err) (Err stop)) (sym is)
               (to all (breaks-ext plan name shows s0.has_shown all a us out0 out1 err0 err stop ext breaks, stops-in plan patterns name shows treated s0 ext.rest c.selected refl ext.tried_is standing.taken));
           rest = tt;
+          refused = soon begins;
         }
+
+    soon : AppendsPrefix out.held out1.held [] → (begins : BeginsWith plan treated before now standing.given) → StopsSoon plan patterns name shows treated s0 (lines plan begins.heard) before now out0 out1
+    soon part begins = record {
+      given = standing.given;
+      next = [];
+      more = begins.more;
+      all = begins.all ∙ ap (λ l. l ++ begins.more) (sym (append-nil standing.given));
+      one = omega arith;
+      grew = subst (λ l. GrewBy l out0 out1) (sym (given-shown plan patterns name shows most treated s0 f0 job before now f c s out0 out err0 err standing)) (grew-part a [] out0.held out.held out1.held standing.taken.wrote.out part);
+      little = subst (λ l. TakesLittlePast l before now) (sym (append-nil standing.given)) (stood-little plan treated before now f standing.given standing.stood standing.near standing.whole);
+    }
 
     -- it was refused: a part of the scan was written
     pub scans-unsent : (stop : Stop) → Halts [] out out1 stop → ScansInput plan patterns name shows treated s0 before now c.selected s (printed out0 err0) (printed out1 err) (Err stop)
-    scans-unsent SinkFault halts = unsent SinkFault halts (λ x both. both)
-    scans-unsent Memory halts = unsent Memory halts (λ x both. both)
+    scans-unsent SinkFault halts = unsent SinkFault halts (λ x both. both) (soon halts.0)
+    scans-unsent Memory halts = unsent Memory halts (λ x both. both) (λ begins. tt)
     scans-unsent TooManyErrors halts = absurd halts

@@ -174,6 +174,7 @@ module _ (plan : GrepPlan) (patterns : List Pattern) (name : List ℕ) (shows : 
     pub kind : f.kind ≡ line_end plan
     pub max : f.max ≡ plan.max_buffer_size
     pub whole : f.offset ≡ bytes_in given
+    pub near : length f.held ≤ 65536
     pub few : count has_error (tries plan patterns given) < errors_left s0.errors
     pub below : IsBelow most (count (is_selected plan) (tries plan patterns given))
     pub taken : Taken plan patterns name shows treated s0 (tries plan patterns given) c s out0 out err0 err
@@ -218,6 +219,7 @@ module _ (plan : GrepPlan) (patterns : List Pattern) (name : List ℕ) (shows : 
           kind = next-kind;
           max = next-max;
           whole = next-whole;
+          near = gives.cuts.near;
           few = subst (λ l. count has_error l < errors_left s0.errors) (sym same-tries) (few-line plan patterns name shows treated s0 most ts t c s c1 s1 out0 out out1 err0 err err1 Line standing.taken next-numbered takes);
           below = subst (λ l. IsBelow most (count (is_selected plan) l)) (sym same-tries) (below-line plan most ts t standing.below is);
           taken = subst (λ l. Taken plan patterns name shows treated s0 l c1 s1 out0 out1 err0 err1) (sym same-tries) (taken-line plan patterns name shows treated s0 most ts t c s c1 s1 out0 out out1 err0 err err1 Line standing.taken next-numbered takes);

@@ -1,8 +1,9 @@
 -- Texts of a scan that are written one after another.
-use Rattle.std.proofs.Common.{◌≡◌, ℕ, Bool, List, [], ◌++◌, refl, sym, ap, subst, ◌∙◌, inl}
+use Rattle.std.proofs.Common.{◌≡◌, ℕ, Bool, List, [], ◌++◌, take, Option, None, Some, refl, sym, ap, subst, ◌∙◌, inl, append_assoc}
 use Rattle.std.specs.Prelude.{flat_map}
 use Rattle.std.proofs.lemmas.List.Concat.{flat_map-append}
 use Rattle.std.proofs.KnownBytes.{Appends-nil, Appends-trans}
+use Rattle.std.specs.Io.KnownBytes.{Appends}
 use Rattle.pcre_io.specs.Told.{Kept, AppendsPrefix}
 use Rattle.pcre_io.specs.Causes.{Rose}
 use Rattle.grep_args.specs.declared.plan.GrepPlan.{GrepPlan}
@@ -80,3 +81,19 @@ halts-more a b out0 out out1 TooManyErrors w halts = halts
 
 pub halts-memory : (a : List ℕ) (out0 out : Kept) → WritesAll a out0 out → Halts a out0 out Memory
 halts-memory a out0 out w = (prefix-of out0.held out.held a w.all, w.steady)
+
+-- a text was written whole, and then a part of another
+pub grew-part : (text part : List ℕ) (a b c : Option (List ℕ)) → Appends a b text → AppendsPrefix b c part → (more : List ℕ) × Appends a c (text ++ more)
+grew-part text part None b c wrote prefix = ([], tt)
+grew-part text part (Some x) None c wrote prefix = absurd wrote
+grew-part text part (Some x) (Some y) None wrote prefix = absurd prefix
+grew-part text part (Some x) (Some y) (Some z) wrote prefix = (take prefix.0 part, Appends-trans (Some x) (Some y) (Some z) text (take prefix.0 part) wrote prefix.1)
+
+pub halts-part : (text : List ℕ) (old new : Kept) (stop : Stop) → stop ≡ SinkFault → Halts text old new stop → AppendsPrefix old.held new.held text
+halts-part text old new SinkFault is halts = halts.0
+halts-part text old new TooManyErrors is halts = absurd halts
+halts-part text old new Memory is halts = halts.0
+
+-- and then a text that begins with another
+pub grew-then : (text next : List ℕ) (a b c : Option (List ℕ)) → Appends a b text → (more : List ℕ) × Appends b c (next ++ more) → (more : List ℕ) × Appends a c ((text ++ next) ++ more)
+grew-then text next a b c wrote grew = (grew.0, subst (λ l. Appends a c l) (sym (append_assoc text next grew.0)) (Appends-trans a b c text (next ++ grew.0) wrote grew.1))

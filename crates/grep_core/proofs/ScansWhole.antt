@@ -7,7 +7,7 @@ use Rattle.std.proofs.lemmas.List.Elements.{filter-append}
 use Rattle.std.proofs.lemmas.List.Concat.{flat_map-append}
 use Rattle.std.proofs.Math.Seq.{take-append_seam, take-append-add}
 use Rattle.pcre_io.specs.Told.{Told, Kept}
-use Rattle.line_feed.specs.Rows.{Row, Finish}
+use Rattle.line_feed.specs.Rows.{Row, Finish, At, End, rows_with}
 use Rattle.line_feed.specs.View.{Feed}
 use Rattle.grep_core.specs.LittlePast.{TakesLittlePast}
 use Rattle.grep_args.specs.declared.plan.GrepPlan.{GrepPlan}
@@ -32,15 +32,16 @@ use Rattle.grep_core.specs.Course.{AreNumbered, line_as, scan_so_far, begun, cou
 use Rattle.tool_out.specs.Prints.{Wrote, Breaks}
 use Rattle.tool_out.specs.Writes.{WritesAll}
 use Rattle.grep_core.specs.Turns.{Halts}
-use Rattle.grep_core.specs.WholeScans.{Scans, StopsIn, ScansTo, ScansInput, scan_of, left_by, IsJob, Pauses}
+use Rattle.grep_core.specs.Refused.{GrewBy}
+use Rattle.grep_core.specs.WholeScans.{Scans, StopsIn, StopsSoon, ScansTo, ScansInput, scan_of, left_by, IsJob, Pauses}
 use Rattle.grep_core.specs.Follows.{FollowsAll, FollowsSome, FollowsPart, Follows}
 use Rattle.grep_core.proofs.Reached.{Reached, reached-begun, reached-more, group-more}
 use Rattle.grep_core.proofs.ScanEnds.{count, early-tried, early-within}
 use Rattle.grep_core.proofs.Extends.{LastSelected, follow_out, early-is, early_out, number-of, numbered-first, TextsBegin}
 use Rattle.grep_core.proofs.ScansRows.{ends-numbered}
-use Rattle.grep_core.proofs.ScansTexts.{wrote-out, breaks-out, breaks-ext}
+use Rattle.grep_core.proofs.ScansTexts.{wrote-out, breaks-out, breaks-ext, grew-then}
 use Rattle.grep_core.proofs.ScansTaken.{tries, tries-more, rows-tried}
-use Rattle.grep_core.proofs.ScansEnd.{full_of, begins-scan, begins-tried, ends-scan, rest-late}
+use Rattle.grep_core.proofs.ScansEnd.{full_of, scan-is, begins-scan, begins-tried, ends-scan, rest-late}
 use Rattle.tool_out.specs.Printed.{printed}
 
 -- some course is reached by any lines
@@ -242,6 +243,7 @@ module _ (plan : GrepPlan) (patterns : List Pattern) (name : List ℕ) (shows : 
         scans = subst (λ x. ScansTo plan patterns name shows treated s0 x selected s1 (printed out0 err0) (printed out1 err) (Ok told.Early)) (sym is)
             (early-scans vs finish numbered out1 (flat_map (line_as plan name false) fs) text follows.wrote, ended-early vs finish numbered out1 (omega arith));
         rest = λ _. subst (λ l. TakesLittlePast l before after) (sym (ap (λ (x : Scan). x.within) is ∙ early-within us t vs after_n ∙ (λ i. given-rows i ++ first i))) follows.little;
+        refused = tt;
       }
 
   -- the rows ended before
@@ -264,6 +266,7 @@ module _ (plan : GrepPlan) (patterns : List Pattern) (name : List ℕ) (shows : 
         scans = subst (λ x. ScansTo plan patterns name shows treated s0 x selected s1 (printed out0 err0) (printed out1 err) (Ok ended)) (sym is)
             (early-scans vs ends.finish numbered out1 (flat_map (line_as plan name false) fs) text follows.wrote, ended-late vs ends.finish numbered out1 (omega arith) ∙ sym ends.ended_so);
         rest = rest-late (scan_of plan patterns name shows treated s0 (lines plan ends.heard)) ends.finish before after ended (ap (λ (x : Scan). x.ended) is ∙ ended-late vs ends.finish numbered out1 (omega arith));
+        refused = tt;
       }
 
   -- a part of what follows was written
@@ -281,9 +284,42 @@ module _ (plan : GrepPlan) (patterns : List Pattern) (name : List ℕ) (shows : 
       subst (λ (x : Scan). Breaks (shown_out plan name shows s0.has_shown x) (flat_map (error_message name) x.tried) (printed out0 err0) (printed out1 err) (stop ≡ SinkFault) × StopsIn plan patterns name shows treated s0 x selected s1) (sym is)
       (early-breaks vs finish numbered out1 (flat_map (line_as plan name false) fs) part.0 stop text follows.wrote)
 
+  -- what is shown of the first of them was written
+  part-soon : (after : Told) (out1 : Kept) (follows : FollowsPart plan name shows treated before after given out out1 SinkFault) → StopsSoon plan patterns name shows treated s0 (lines plan follows.begins.heard) before after out0 out1
+  part-soon after out1 follows =
+      let soon = follows.soon refl in
+      let whole = soon.whole in
+      let begins = follows.begins in
+      let vs = tries plan patterns whole in
+      let numbered_all = subst (λ l. AreNumbered 1 (rows_of l)) (begins-all follows.rows begins.more) (begins-tried plan patterns name shows most treated s0 f0 job before after (given ++ follows.rows) begins) in
+      let parted : tries plan patterns follows.rows ++ tries plan patterns begins.more ≡ vs ++ (tries plan patterns soon.next ++ tries plan patterns begins.more) =
+      ap (λ l. tries plan patterns l ++ tries plan patterns begins.more) soon.parts ∙ ap (λ l. l ++ tries plan patterns begins.more) (tries-more plan patterns whole soon.next) ∙ append_assoc vs (tries plan patterns soon.next) (tries plan patterns begins.more) in
+      let numbered = numbered-first (us ++ t ∷ vs) (tries plan patterns soon.next ++ tries plan patterns begins.more)
+      (subst (λ l. AreNumbered 1 (rows_of l)) (ap (λ l. us ++ t ∷ l) parted ∙ sym (append_assoc us (t ∷ vs) (tries plan patterns soon.next ++ tries plan patterns begins.more))) numbered_all) in
+      let all : tries plan patterns (given ++ whole) ≡ us ++ t ∷ vs = tries-more plan patterns given whole ∙ ap (λ l. l ++ vs) given-tries ∙ append_assoc us (t ∷ []) vs in
+      let is = scan-is plan patterns name shows most treated s0 job.show_is job.most_is (rows_with (given ++ whole) (At End)) ∙ ap (λ l. full_of plan patterns name shows most treated s0 (At End) l) all ∙ is-early vs (At End) numbered out1 in
+      let size = ap length soon.parts in
+      let sum = length-append whole soon.next in
+      let most_rows = follows.long in
+      let first : take after_n (rows_of vs) ≡ whole = ap (λ l. take after_n l) (rows-tried plan patterns whole) ∙ take_all after_n whole (omega arith) in
+      let text = ap (λ l. follow_out plan name shows l) first ∙ follow-texts plan name shows whole (omega arith) in
+      let a = shown_out plan name shows s0.has_shown (scan_so_far (us ++ t ∷ [])) in
+      let b = flat_map (line_as plan name false) whole in
+      let shown : a ++ b ≡ shown_out plan name shows s0.has_shown (scan_of plan patterns name shows treated s0 (rows_with (given ++ whole) (At End))) =
+      ap (λ l. a ++ l) (sym text) ∙ sym (out-is vs (At End) numbered out1) ∙ ap (λ x. shown_out plan name shows s0.has_shown x) (sym is) in
+      record {
+        given = given ++ whole;
+        next = soon.next;
+        more = begins.more;
+        all = begins.all ∙ ap (λ l. l ++ begins.more) (ap (λ l. given ++ l) soon.parts ∙ sym (append_assoc given whole soon.next));
+        one = soon.one;
+        grew = subst (λ l. GrewBy l out0 out1) shown (grew-then a b out0.held out.held out1.held wrote-so.out soon.grew);
+        little = subst (λ l. TakesLittlePast l before after) (ap (λ l. given ++ l) soon.parts ∙ sym (append_assoc given whole soon.next)) soon.little;
+      }
+
   scans-part : (after : Told) (out1 : Kept) (stop : Stop) → FollowsPart plan name shows treated before after given out out1 stop → Input after out1 (Err stop)
-  scans-part after out1 SinkFault follows = record { heard = follows.begins.heard; hears = follows.begins.hears; treats = follows.begins.treats; scans = part-breaks after out1 SinkFault follows; rest = tt }
-  scans-part after out1 Memory follows = record { heard = follows.begins.heard; hears = follows.begins.hears; treats = follows.begins.treats; scans = part-breaks after out1 Memory follows; rest = tt }
+  scans-part after out1 SinkFault follows = record { heard = follows.begins.heard; hears = follows.begins.hears; treats = follows.begins.treats; scans = part-breaks after out1 SinkFault follows; rest = tt; refused = part-soon after out1 follows }
+  scans-part after out1 Memory follows = record { heard = follows.begins.heard; hears = follows.begins.hears; treats = follows.begins.treats; scans = part-breaks after out1 Memory follows; rest = tt; refused = tt }
   scans-part after out1 TooManyErrors follows = absurd follows.wrote
 
   pub scans-follow : (after : Told) (out1 : Kept) (result : Result Ended Stop) → Follows plan name shows treated before after given out out1 result → Input after out1 result

@@ -70,7 +70,7 @@ written-out u w = record { all = w.all; steady = w.cause }
 module _ (plan : GrepPlan) (name : List ℕ) (most : Option ℕ) (t : Tried) (c : Course) (s : State) (c_new : Course) (s_new : State) (old new : Kept) (next : Next) (u : Unit {0}) where
   -- where lines are shown
   pub selected-line : (show : Show) (number after : ℕ) (earlier : EarlierRows) → is_lines show ≡ true → Writes (selected_out plan name show s.has_shown (course_of c) t) old new (Ok u)
-      → t.row.number ≡ number → after ≡ plan.after_context → earlier ≡ record { limit = c.earlier.limit; rows = [] }
+      → t.row.number ≡ number → after ≡ plan.after_context → earlier ≡ record { limit = c.earlier.limit; longest = c.earlier.longest; rows = [] }
       → c_new ≡ record { selected = c.selected + 1; context_to = number + after; earlier = earlier }
       → s_new ≡ record { errors = s.errors; total = s.total; has_shown = true }
       → next ≡ (if is_full most c_new.selected then Context else Line) → SelectsIt plan name show most t c s c_new s_new old new next
@@ -78,6 +78,7 @@ module _ (plan : GrepPlan) (name : List ℕ) (most : Option ℕ) (t : Tried) (c 
     wrote = written-out u w;
     stands = ap course_of e ∙ rw (a, ← n, b) refl;
     limit = ap (λ (d : Course). d.earlier.limit) e ∙ ap (λ (d : EarlierRows). d.limit) b;
+    longest = ap (λ (d : Course). d.earlier.longest) e ∙ ap (λ (d : EarlierRows). d.longest) b;
     state = es ∙ ap {A = Bool} {B = State} (λ h. record { errors = s.errors; total = s.total; has_shown = h }) (or-true s.has_shown);
     answer = answer;
   }
@@ -93,6 +94,7 @@ module _ (plan : GrepPlan) (name : List ℕ) (most : Option ℕ) (t : Tried) (c 
     wrote = written-out u w;
     stands = ap course_of e;
     limit = ap (λ (d : Course). d.earlier.limit) e;
+    longest = ap (λ (d : Course). d.earlier.longest) e;
     state = es ∙ ap {A = Bool} {B = State} (λ h. record { errors = s.errors; total = s.total; has_shown = h }) (or-false s.has_shown);
     answer = answer;
   }
@@ -100,6 +102,7 @@ module _ (plan : GrepPlan) (name : List ℕ) (most : Option ℕ) (t : Tried) (c 
     wrote = written-out u w;
     stands = ap course_of e;
     limit = ap (λ (d : Course). d.earlier.limit) e;
+    longest = ap (λ (d : Course). d.earlier.longest) e;
     state = es ∙ ap {A = Bool} {B = State} (λ h. record { errors = s.errors; total = s.total; has_shown = h }) (or-false s.has_shown);
     answer = answer;
   }

@@ -99,6 +99,7 @@ module _ (plan : GrepPlan) (name : List ℕ) (shows : Show) (most : Option ℕ) 
     };
     stands = sel.stands ∙ sym (cond-true (is_selected plan t) _ _ yes_selected);
     limit = sel.limit;
+    longest = sel.longest;
     state = sel.state ∙ ap (λ b. let r : State = record s { has_shown = b } in r) (sym (and-or s.has_shown (is_lines shows))) ∙ state-so s true yes_selected;
     answer = sel.answer ∙ sym (ap (λ b. if b && is_full most c_new.selected then Context else Line) yes_selected);
     errors = let same = ap (λ (r : State). r.errors) sel.state in omega (arith, same, few);
@@ -117,6 +118,7 @@ module _ (plan : GrepPlan) (name : List ℕ) (shows : Show) (most : Option ℕ) 
     };
     stands = passes.stands ∙ sym (cond-false (is_selected plan t) _ _ not_selected);
     limit = passes.limit;
+    longest = passes.longest;
     state = ap (λ b. let r : State = record s { has_shown = b } in r) (sym (or-none s.has_shown (is_lines shows))) ∙ state-so s false not_selected;
     answer = sym (ap (λ b. if b && is_full most c_new.selected then Context else Line) not_selected);
     errors = few;

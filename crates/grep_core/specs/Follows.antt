@@ -12,10 +12,11 @@ use Rattle.grep_core.specs.declared.shows.Treatment.{Treatment}
 use Rattle.grep_core.specs.declared.ended.Ended.{Ended}
 use Rattle.grep_core.specs.declared.ended.Ended.TheVariants as told
 use Rattle.grep_core.specs.declared.ended.Stop.{Stop}
-use Rattle.grep_core.specs.declared.ended.Stop.TheVariants.{Memory}
+use Rattle.grep_core.specs.declared.ended.Stop.TheVariants.{SinkFault, Memory}
 use Rattle.grep_core.specs.Shows.{lines_after}
 use Rattle.grep_core.specs.Course.{line_as}
 use Rattle.tool_out.specs.Writes.{WritesAll}
+use Rattle.grep_core.specs.Refused.{GrewBy}
 use Rattle.grep_core.specs.WholeScans.{BeginsWith, EndsWith}
 use Rattle.grep_core.specs.Turns.{Halts, EndsSo}
 
@@ -57,11 +58,21 @@ module _ (plan : GrepPlan) (name : List ℕ) (show : Show) (treated : Treatment)
     pub long : length rows < lines_after show plan.after_context
     pub wrote : WritesAll (flat_map (line_as plan name false) rows) out_old out_new
 
+  -- a write was refused: the first of these rows were shown whole, and little past the next one was taken
+  pub record HaltsSoon (rows : List Row) : Type 0 where
+    pub whole : List Row
+    pub next : List Row
+    pub parts : rows ≡ whole ++ next
+    pub one : length next ≤ 1
+    pub grew : GrewBy (flat_map (line_as plan name false) whole) out_old out_new
+    pub little : TakesLittlePast (given ++ rows) before after
+
   pub record FollowsPart (stop : Stop) : Type 0 where
     pub rows : List Row
     pub begins : BeginsWith plan treated before after (given ++ rows)
     pub long : length rows ≤ lines_after show plan.after_context
     pub wrote : Halts (flat_map (line_as plan name false) rows) out_old out_new stop
+    pub soon : stop ≡ SinkFault → HaltsSoon rows
 
   abbrev pub Follows : Result Ended Stop → Type 0
   Follows (Ok told.Early) = FollowsAll

@@ -15,6 +15,7 @@ pub mod Ends
 pub mod Course
 pub mod Turns
 pub mod LittlePast
+pub mod Refused
 pub mod WholeScans
 pub mod Follows
 pub mod Sending

@@ -26,7 +26,8 @@ use Rattle.grep_match.specs.Matches.{Tried}
 use Rattle.grep_core.specs.Course.{scan_so_far}
 use Rattle.grep_core.specs.Ends.{ended_of, stop_of}
 use Rattle.tool_out.specs.Prints.{Wrote, Breaks}
-use Rattle.grep_core.specs.WholeScans.{Stood, LeavesRest}
+use Rattle.grep_core.specs.Refused.{RefusesSoon, WhereRefused}
+use Rattle.grep_core.specs.WholeScans.{Stood, LeavesRest, StopsSoon}
 use Rattle.tool_out.specs.Printed.{Printed}
 
 abbrev pub is_skipped : Treatment → Bool
@@ -107,6 +108,8 @@ module _ (plan : GrepPlan) (patterns : List Pattern) (name : List ℕ) (show : S
     pub rest :
         let found = scan plan patterns s.errors treated (lines plan heard) in
         LeavesRest found.ended found.within before after result
+    pub refused : WhereRefused result (StopsSoon plan patterns name show treated s
+        (lines plan heard) before after old.out new.out)
 
 -- all was written, and this is told and left
 pub record GrepsAll (w : Written) (s_new : State) (old new : Printed) (end : FileEnd) : Type 0 where
@@ -135,6 +138,8 @@ pub record GrepsInput (plan : GrepPlan) (patterns : List Pattern) (name : List �
   pub rest :
       let w = input_text plan patterns name s heard in
       LeavesRest w.ended w.within before after result
+  pub refused : WhereRefused result (RefusesSoon plan patterns name s (treatment plan heard)
+      (lines plan heard).rows before after old.out new.out)
 
 -- how a run stands between two inputs: what the source tells, what the inputs so far leave, and what was written
 pub record Standing : Type 0 where

@@ -51,6 +51,7 @@ module _ (plan : GrepPlan) (name : List ℕ) (show : Show) where
     pub wrote : WritesAll (passed_out plan name show (course_of c) t) out_old out_new
     pub stands : course_of c_new ≡ course_after_passed plan show (course_of c) t.row
     pub limit : c_new.earlier.limit ≡ c.earlier.limit
+    pub longest : c_new.earlier.longest ≡ c.earlier.longest
 
   abbrev pub Passes : Tried → Course → Course → Kept → Kept → Result (Unit {0}) Stop → Type 0
   Passes t c c_new out_old out_new (Ok _) = PassesOn t c c_new out_old out_new
@@ -69,6 +70,7 @@ module _ (plan : GrepPlan) (name : List ℕ) (show : Show) (most : Option ℕ) w
     pub wrote : WritesAll (selected_out plan name show s.has_shown (course_of c) t) out_old out_new
     pub stands : course_of c_new ≡ course_after_selected plan show (course_of c) t.row
     pub limit : c_new.earlier.limit ≡ c.earlier.limit
+    pub longest : c_new.earlier.longest ≡ c.earlier.longest
     pub state : s_new ≡ record s { has_shown = s.has_shown || is_lines show }
     pub answer : next ≡ (if is_full most c_new.selected then Context else Line)
 
@@ -87,6 +89,7 @@ module _ (plan : GrepPlan) (name : List ℕ) (show : Show) (most : Option ℕ) w
         old new
     pub stands : course_of c_new ≡ course_after plan show (course_of c) t
     pub limit : c_new.earlier.limit ≡ c.earlier.limit
+    pub longest : c_new.earlier.longest ≡ c.earlier.longest
     pub state : s_new ≡ state_after_line plan show s t
     pub answer : next ≡ (if is_selected plan t && is_full most c_new.selected then Context
         else Line)

@@ -2,8 +2,8 @@
 -- of it, and what it leaves.
 use Rattle.std.specs.Prelude.{[], ◌≡◌, ◌≢◌, ℕ, ◌+◌, ◌≤◌, true, false, ◌||◌, nat_eq, List, ◌∷◌, ◌++◌, length, map, filter, flat_map, Option, Some, None, Result, Ok, Err, ◌⊎◌, ⊤}
 use Rattle.std.specs.List.{list_any}
-use Rattle.pcre_io.specs.Told.{Told}
-use Rattle.line_feed.specs.Rows.{Row, Rows, Input, Finish}
+use Rattle.pcre_io.specs.Told.{Told, Kept}
+use Rattle.line_feed.specs.Rows.{Row, Rows, Input, Finish, At, End, rows_with}
 use Rattle.line_feed.specs.View.{Feed}
 use Rattle.line_feed.specs.Hears.{Hears, HasGiven, HasShown}
 use Rattle.grep_args.specs.declared.plan.GrepPlan.{GrepPlan}
@@ -26,6 +26,7 @@ use Rattle.grep_core.specs.declared.state.State.{State}
 use Rattle.grep_core.specs.InputText.{shown_out, shows_group}
 use Rattle.grep_core.specs.Course.{scan_so_far}
 use Rattle.grep_core.specs.LittlePast.{bytes_in, TakesLittlePast}
+use Rattle.grep_core.specs.Refused.{GrewBy, WhereRefused}
 use Rattle.grep_core.specs.Ends.{ended_of}
 use Rattle.tool_out.specs.Printed.{Printed}
 use Rattle.tool_out.specs.Prints.{Wrote, Breaks}
@@ -83,6 +84,17 @@ module _ (plan : GrepPlan) (patterns : List Pattern) (name : List ℕ) (show : S
       Breaks (shown_out plan name show s.has_shown scan) (flat_map (error_message name) scan.tried)
       old new (stop ≡ SinkFault) × StopsIn scan selected s_new
 
+  -- A write was refused: what is shown of these lines was written whole, and little past the one after them was taken.
+  pub record StopsSoon (found : Rows) (before after : Told) (old new : Kept) : Type 0 where
+    pub given : List Row
+    pub next : List Row
+    pub more : List Row
+    pub all : found.rows ≡ (given ++ next) ++ more
+    pub one : length next ≤ 1
+    pub grew :
+        GrewBy (shown_out plan name show s.has_shown (scan_of (rows_with given (At End)))) old new
+    pub little : TakesLittlePast (given ++ next) before after
+
   -- the scan of the input that the source stands for was written, or a part of it
   pub record ScansInput (before after : Told) (selected : ℕ) (s_new : State) (old new : Printed)
       (result : Result Ended Stop) : Type 0 where
@@ -93,6 +105,8 @@ module _ (plan : GrepPlan) (patterns : List Pattern) (name : List ℕ) (show : S
     pub rest :
         let scan = scan_of (lines plan heard) in
         LeavesRest scan.ended scan.within before after result
+    pub refused :
+        WhereRefused result (StopsSoon (lines plan heard) before after old.out new.out)
 
 -- one line at least may be selected
 abbrev pub AtLeastOne : Option ℕ → Type 0
@@ -107,6 +121,7 @@ pub record IsJob (plan : GrepPlan) (treated : Treatment) (show : Show) (most : O
   pub some : AtLeastOne most
   pub scanned : treated ≢ Skipped
   pub begun : f.offset ≡ 0
+  pub near : length f.held ≤ 65536
   pub kind : f.kind ≡ line_end plan
   pub max : f.max ≡ plan.max_buffer_size
 

@@ -2,6 +2,7 @@
 ghost use Rattle.std.specs.Prelude.{◌≡◌, ◌<◌, ◌≤◌, ◌⊎◌, ◌==◌, ◌++◌, ◌∷◌, [], length, drop, if◌then◌else◌, OnOk, IfOk, slice_get, option_map};
 ghost use Rattle.circular_buffer.specs.Buffer.{keep_last, buffer};
 ghost use Rattle.line_feed.specs.Lines.{row_of};
+ghost use Rattle.grep_core.specs.Earlier.{IsShort};
 
 use circular_buffer::HeapCircularBuffer;
 use line_feed::Line;
@@ -25,6 +26,8 @@ struct KeptLine {
 #[derive(Drop)]
 pub struct EarlierLines {
     limit: usize,
+    // No line has more bytes, without its newline. No code reads it: by it the invariant bounds how much is held.
+    longest: usize,
     // so many of the last lines in the buffer count; the others lend their room
     count: usize,
     lines: HeapCircularBuffer<KeptLine>,
@@ -104,18 +107,25 @@ impl Model for EarlierLines {
 
     ghost Value = { EarlierRows };
 
-    ghost view = { λ b. record { limit = b.limit; rows = keep_last b.count b.lines.items } };
+    ghost view = { λ b. record {
+      limit = b.limit;
+      longest = b.longest;
+      rows =
+          keep_last b.count b.lines.items;
+    } };
 
-    ghost invariant = { λ b. IsKept b.limit b.count b.lines };
+    ghost invariant = { λ b. IsKept b.limit b.longest b.count b.lines };
 }
 
 impl EarlierLines {
-    /// No line yet. It will keep the last `limit` lines. Takes no memory.
-    pub fn new(alloc: Global, limit: usize) -> Result<EarlierLines, Memory>
-        ensures { IfOk result (λ earlier. earlier ≡ record { limit = limit; rows = [] }) }
+    /// No line yet. It will keep the last `limit` lines, of at most `longest` bytes each. Takes no memory.
+    pub fn new(alloc: Global, limit: usize, longest: usize) -> Result<EarlierLines, Memory>
+        ensures { IfOk result (λ earlier. earlier
+            ≡ record { limit = limit; longest = longest; rows = [] }) }
     {
         Ok(EarlierLines {
             limit,
+            longest,
             count: 0,
             lines: HeapCircularBuffer::with_capacity(alloc, 0)?,
         })
@@ -148,6 +158,7 @@ impl EarlierLines {
 
     /// Adds a line. Where there are as many as are kept, the earliest one is forgotten.
     pub fn push(&mut self, alloc: Global, line: &Line<'_>) -> Result<(), Memory>
+        requires { IsShort self.old.longest (row_of line.now) }
         ensures { OnOk result (self.new ≡ record self.old
             { rows = keep_last self.old.limit (self.old.rows ++ row_of line.now ∷ []) }) }
     {

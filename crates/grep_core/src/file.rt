@@ -86,6 +86,7 @@ fn scan_as<S: Source, O: Sink, E: Sink>(
 ) -> Result<FileEnd, Stop>
     requires live { feed.old.phase ≢ Closed }
     requires max { feed.old.max ≤ 2 ^ 30 }
+    requires longest { feed.old.max ≤ job.now.plan.now.max_buffer_size }
     requires first { feed.old.number ≡ 0 }
     requires near { length feed.old.held ≤ 65536 }
     requires begun { feed.old.offset ≡ 0 }
@@ -108,7 +109,11 @@ fn scan_as<S: Source, O: Sink, E: Sink>(
     let mut course = Course {
         selected: 0,
         context_to: 0,
-        earlier: EarlierLines::new(job.alloc, job.plan.before_context as usize)?,
+        earlier: EarlierLines::new(
+            job.alloc,
+            job.plan.before_context as usize,
+            job.plan.max_buffer_size as usize,
+        )?,
     };
     let total = state.total;
     let ended = scan(job, feed, source, out, err, work, state, &mut course);

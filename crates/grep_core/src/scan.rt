@@ -16,6 +16,7 @@ ghost use Rattle.grep_match.specs.Found.{Lists, ListsMatches, IsVerdict};
 ghost use Rattle.tool_out.specs.Writes.{Writes};
 ghost use Rattle.grep_core.specs.declared.shows.Treatment.{Treatment};
 ghost use Rattle.grep_core.specs.Turns.{course_of, is_full, TakesLine, Passes, Selects, Turns, ended_by};
+ghost use Rattle.grep_core.specs.Earlier.{IsShort};
 ghost use Rattle.grep_core.specs.Follows.{FollowsOne, Follows};
 ghost use Rattle.grep_core.specs.Sending.{SendsOn};
 ghost use Rattle.grep_core.specs.Watched.{Watches};
@@ -147,6 +148,7 @@ fn pass<O: Sink>(
 ) -> Result<(), Stop>
     requires limit { job.now.show ≡ Lines → course.old.earlier.limit ≡
         job.now.plan.now.before_context }
+    requires short { IsShort course.old.earlier.longest (row_of line.now) }
     ensures { (t : Tried) → t.row ≡ row_of line.now
         → Passes job.now.plan.now job.now.name.now job.now.show t course.old course.new
         (O.tells out.old) (O.tells out.new) result }
@@ -248,6 +250,7 @@ fn take_error<O: Sink, E: Sink>(
     requires few { state.old.errors ≤ 20 }
     requires limit { job.now.show ≡ Lines → course.old.earlier.limit ≡
         job.now.plan.now.before_context }
+    requires short { IsShort course.old.earlier.longest (row_of line.now) }
     ensures { (t : Tried) → t.row ≡ row_of line.now → t.matches ≡ Err error
         → TakesLine job.now.plan.now job.now.name.now job.now.show job.now.most t course.old
         state.old course.new state.new (printed (O.tells out.old) (E.tells err.old))
@@ -294,7 +297,7 @@ fn take_line<O: Sink, E: Sink>(
     state: &mut State,
     course: &mut Course,
 ) -> Result<Next, Stop>
-    requires short { length line.now.bytes.now < 4294967295 }
+    requires fits { length line.now.bytes.now < 4294967295 }
     requires quiet { IsTrue is_quiet
         → matches job.now.plan.now (patterns_in job.now.patterns.now) line.now.bytes.now ≡ Ok [] }
     requires earlier { length course.old.earlier.rows < line.now.number }
@@ -305,6 +308,7 @@ fn take_line<O: Sink, E: Sink>(
     requires errors { state.old.errors ≤ 20 }
     requires limit { job.now.show ≡ Lines → course.old.earlier.limit ≡
         job.now.plan.now.before_context }
+    requires short { IsShort course.old.earlier.longest (row_of line.now) }
     ensures { TakesLine job.now.plan.now job.now.name.now job.now.show job.now.most
         (tried_row job.now.plan.now (patterns_in job.now.patterns.now) (row_of line.now))
         course.old state.old course.new state.new (printed (O.tells out.old) (E.tells err.old))
@@ -369,6 +373,7 @@ fn take_turn<S: Source, O: Sink, E: Sink>(
     requires errors { state.old.errors ≤ 20 }
     requires limit { job.now.show ≡ Lines → course.old.earlier.limit ≡
         job.now.plan.now.before_context }
+    requires longest { feed.old.max ≤ course.old.earlier.longest }
     requires watch { Watches job.now.plan.now (patterns_in job.now.patterns.now) watch.old
         feed.old.held }
     ensures turns { Turns job.now.plan.now (patterns_in job.now.patterns.now)
@@ -459,6 +464,7 @@ fn take_lines<S: Source, O: Sink, E: Sink>(
     requires context { course.old.context_to ≡ 0 }
     requires earlier { course.old.earlier.rows ≡ [] }
     requires limit { course.old.earlier.limit ≡ job.now.plan.now.before_context }
+    requires longest { feed.old.max ≤ course.old.earlier.longest }
     ensures live { result ≡ Ok None → feed.new.phase ≢ Closed }
     ensures taken { (before : Told) (treated : Treatment)
         → IsJob job.now.plan.now treated job.now.show job.now.most feed.old
@@ -500,6 +506,7 @@ pub fn scan<S: Source, O: Sink, E: Sink>(
     requires context { course.old.context_to ≡ 0 }
     requires earlier { course.old.earlier.rows ≡ [] }
     requires limit { course.old.earlier.limit ≡ job.now.plan.now.before_context }
+    requires longest { feed.old.max ≤ course.old.earlier.longest }
     // For each state of the source from which the feed came here without giving a line, and where the job is made for the
     // input, this is the scan of the input that the source stands for.
     ensures { (before : Told) (treated : Treatment)

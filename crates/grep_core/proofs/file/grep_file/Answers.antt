@@ -19,8 +19,10 @@ scanned g c =
       shows_is = c.show_in.ensures;
       state = c.state.inside.state;
       state_is = c.state.view_is;
+      few = c.requires.errors;
+      some = c.requires.most;
       scans = c.scan_as.ensures (g.S.Source.tells c.args.source.now)
-          (job-is c.mode_of-mode.ensures c.tells_binary-is_told.ensures c.show_in.ensures c.most_selected.ensures c.requires.most (treats.kind ∙ c.restart.ensures.kind ∙ c.line_end-kind.ensures) (treats.max ∙ c.restart.ensures.max) treats.begun) treats.stood;
+          (job-is c.mode_of-mode.ensures c.tells_binary-is_told.ensures c.show_in.ensures c.most_selected.ensures c.requires.most (treats.kind ∙ c.restart.ensures.kind ∙ c.line_end-kind.ensures) (treats.max ∙ c.restart.ensures.max) treats.begun treats.near) treats.stood;
     }
 
 pub returns-in_err-write_end-in-Ok : goal.returns-in_err-write_end-in-Ok

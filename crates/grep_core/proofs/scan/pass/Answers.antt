@@ -33,4 +33,5 @@ returns-in_ok-write_line g c t same =
           (wrote-of _ old new _ (c.in_ok-write_line.ensures (record { row = row; is_selected = false; begins_group = false }) refl refl));
       stands = context-after job.plan.now job.show c.args.course.now t row lines same c.if-line-course.true;
       limit = refl;
+      longest = refl;
     }

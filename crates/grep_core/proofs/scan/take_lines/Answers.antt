@@ -32,6 +32,7 @@ line-init g c = record {
       };
   watch = c.new-watch.ensures c.args.feed.now.held;
   limit = λ is. c.requires.limit;
+  longest = c.requires.longest;
   standing = λ before treated job stood. standing-begun _ _ _ _ _ treated _ before _ _ _ _ _ job stood c.requires.selected c.requires.context c.requires.earlier c.requires.errors;
 }
 
@@ -55,6 +56,12 @@ take_turn-requires-clause-selected g c = let few = c.line.invariant.keeps.select
 
 pub take_turn-requires-clause-errors : goal.take_turn-requires-clause-errors
 take_turn-requires-clause-errors g c = c.line.invariant.keeps.errors
+
+pub take_turn-requires-clause-longest : goal.take_turn-requires-clause-longest
+take_turn-requires-clause-longest g c =
+    let same = ap (λ (f : Feed). f.max) c.send_on.ensures.same in
+    let least = c.line.invariant.longest in
+    omega arith
 
 pub take_turn-requires-clause-limit : goal.take_turn-requires-clause-limit
 take_turn-requires-clause-limit g c = c.line.invariant.limit
@@ -94,6 +101,13 @@ line-preserved g c =
       keeps = keeps-more c.args.job.now.plan.now c.args.job.now.name.now c.args.job.now.show c.args.job.now.most _ _ _ _ row.row _ _ _ _ _ _ _ _ _ _ few refl kept row.gives row.takes;
       watch = c.in_ok-take_turn.ensures.watch Line (ap (λ t. Ok t) (c.in-Took-Line.is ∙ ap Took c.in-Took-Line.field-0-is));
       limit = λ is. row.takes.limit ∙ had.limit is;
+      longest =
+          let grew = gave _ _ _ _ row.row row.gives in
+          let max = grew.max in
+          let same = ap (λ (f : Feed). f.max) c.send_on.ensures.same in
+          let least = had.longest in
+          let longest = row.takes.longest in
+          omega arith;
       standing = λ before treated job stood. standing-line _ _ _ _ _ treated _ before _ _ _ _ row.row _ _ _ _ _ _ _ _ _ _ (standing-sent _ _ _ _ _ treated _ before _ _ _ _ _ _ _ _ _ (had.standing before treated job stood) _ c.send_on.ensures.same c.in_ok-send_on.ensures.sent) row.gives row.takes;
     }
 

@@ -1,4 +1,4 @@
-use Rattle.std.proofs.Common.{◌≡◌, ◌≢◌, ◌-◌, ◌^◌, []}
+use Rattle.std.proofs.Common.{◌≡◌, ◌≢◌, ◌≤◌, ◌-◌, ◌^◌, []}
 use Rattle.pcre_io.specs.Told.{Told}
 use Rattle.line_feed.specs.declared.phase.Phase.TheVariants.{Closed}
 use Rattle.grep_core.specs.declared.shows.Show.TheVariants.{Lines}
@@ -13,6 +13,7 @@ use Rattle.grep_core.proofs.scan.take_lines.Given as goal
 abbrev pub invariant-line : goal.invariant-line
 invariant-line g l = record {
   live : l.feed.phase ≢ Closed;
+  longest : l.feed.max ≤ l.course.earlier.longest;
   keeps : Keeps l.feed l.course l.state;
   watch : Watches l.job.plan.now (patterns_in l.job.patterns.now) l.watch l.feed.held;
   limit : l.job.show ≡ Lines → l.course.earlier.limit ≡ l.job.plan.now.before_context;

@@ -2,6 +2,7 @@ use Rattle.std.proofs.Common.{◌++◌, Ok, ap, subst, ◌∙◌}
 use Rattle.line_feed.specs.Answers.{Gives}
 use Rattle.line_feed.specs.Lines.{Answers, row_of}
 use Rattle.grep_match.specs.Compiled.{patterns_in}
+use Rattle.grep_core.proofs.Shortness.{gives-short}
 use Rattle.grep_core.proofs.Watching.{watches_gives, watches_line}
 use Rattle.grep_core.proofs.scan.take_turn.Goals as goal
 
@@ -29,3 +30,13 @@ returns-in_ok-take_line-in-Ok-Some-clause-watch g c = λ next is.
     let later = g.S.Source.tells c.next.new.source in
     let gives : Gives f new now later (row_of line) = subst (Answers f new now later) (c.in-Ok-Some.is ∙ ap Ok c.in-Ok-Some.field-0-is) c.next.follows.holds-at-none in
     c.leave.ensures plan patterns new.held (watches_gives plan patterns c.look.new.self f new now later (row_of line) gives (c.look.ensures plan patterns c.requires.watch))
+
+pub take_line-requires-clause-short : goal.take_line-requires-clause-short
+take_line-requires-clause-short g c =
+    let f = c.args.feed.now in
+    let new = c.next.follows.lender-at-none in
+    let now = g.S.Source.tells c.args.source.now in
+    let later = g.S.Source.tells c.next.new.source in
+    let row = row_of c.in-Ok-Some.line in
+    let gives : Gives f new now later row = subst (Answers f new now later) (c.in-Ok-Some.is ∙ ap Ok c.in-Ok-Some.field-0-is) c.next.follows.holds-at-none in
+    gives-short c.args.course.now.earlier.longest f new now later row c.requires.longest gives
