@@ -20,7 +20,7 @@ const UTF: Options = Options {
 
 const UCP: Options = Options { ucp: true, ..UTF };
 
-fn found<L: Ledger>(
+fn counted<L: Ledger>(
     alloc: Global,
     compiling: Options,
     pattern: &[u8],
@@ -31,13 +31,36 @@ fn found<L: Ledger>(
 ) -> Result<Result<DfaFound, DfaError>, Fail>
     requires name { blank.name ≡ L.name }
     requires parts { blank.parts ≡ L.parts }
-    requires some { 0 < blank.parts }
+    requires one { blank.parts ≡ 1 }
     requires short { length subject.now < 1000 }
     requires off { options.now.«partial» ≡ Off }
 {
     let code = Code::compile(alloc, pattern, compiling)?;
     let mut steps: Steps<L> = Steps::new(blank);
     Ok(code.dfa_match(alloc, subject, start, options, &mut steps))
+}
+
+// A match with a counter of its own for the tests of classes.
+fn found(
+    alloc: Global,
+    compiling: Options,
+    pattern: &[u8],
+    subject: &[u8],
+    start: usize,
+    options: &MatchOptions,
+) -> Result<Result<DfaFound, DfaError>, Fail>
+    requires short { length subject.now < 1000 }
+    requires off { options.now.«partial» ≡ Off }
+{
+    counted::<Brand>(
+        alloc,
+        compiling,
+        pattern,
+        subject,
+        start,
+        options,
+        Blank::new(1),
+    )
 }
 
 fn texts(alloc: Global, subject: &[u8], found: &DfaFound) -> Result<Vec<u8>, Fail> {
@@ -53,7 +76,7 @@ fn answers(rt: &impl Abort, alloc: Global, compiling: Options, rows: &[Row]) -> 
     for (pattern, subject, wanted) in rows {
         assert!(rt; subject.len() < 1000);
         let plain = MatchOptions::PLAIN;
-        match found::<Brand>(alloc, compiling, pattern, subject, 0, &plain, Blank::new(1))? {
+        match found(alloc, compiling, pattern, subject, 0, &plain)? {
             Ok(found) => {
                 let text = texts(alloc, subject, &found)?;
                 assert_eq!(rt; Some(text.as_slice()), *wanted);
@@ -198,15 +221,7 @@ fn what_is_not_supported_is_refused(rt: HostRuntime) -> Result<(), Fail> {
     ];
     for (pattern, wanted) in &ROWS {
         let plain = MatchOptions::PLAIN;
-        match found::<Brand>(
-            rt.alloc(),
-            Options::PLAIN,
-            pattern,
-            b"a",
-            0,
-            &plain,
-            Blank::new(1),
-        )? {
+        match found(rt.alloc(), Options::PLAIN, pattern, b"a", 0, &plain)? {
             Ok(_) => assert!(&rt; false),
             Err(e) => assert_eq!(&rt; e, *wanted),
         }
@@ -243,15 +258,7 @@ fn options_take_ends_away(rt: HostRuntime) -> Result<(), Fail> {
         (&plain, 1, b"a||".as_slice()),
     ] {
         let subject = b"aab";
-        match found::<Brand>(
-            rt.alloc(),
-            Options::PLAIN,
-            b"a*",
-            subject,
-            start,
-            options,
-            Blank::new(1),
-        )? {
+        match found(rt.alloc(), Options::PLAIN, b"a*", subject, start, options)? {
             Ok(found) => {
                 let text = texts(rt.alloc(), subject, &found)?;
                 assert_eq!(&rt; text.as_slice(), wanted);
@@ -259,15 +266,7 @@ fn options_take_ends_away(rt: HostRuntime) -> Result<(), Fail> {
             Err(_) => assert!(&rt; false),
         }
     }
-    let past = found::<Brand>(
-        rt.alloc(),
-        Options::PLAIN,
-        b"a*",
-        b"aa",
-        3,
-        &plain,
-        Blank::new(1),
-    )?;
+    let past = found(rt.alloc(), Options::PLAIN, b"a*", b"aa", 3, &plain)?;
     assert!(&rt; matches!(past, Err(DfaError::BadOffset)));
     Ok(())
 }
@@ -390,15 +389,7 @@ fn all_ends_begin_at_a_character(rt: HostRuntime) -> Result<(), Fail> {
     let plain = MatchOptions::PLAIN;
     for (subject, start, wanted) in &ROWS {
         assert!(&rt; subject.len() < 1000);
-        match found::<Brand>(
-            rt.alloc(),
-            UTF,
-            b".",
-            subject,
-            *start,
-            &plain,
-            Blank::new(1),
-        )? {
+        match found(rt.alloc(), UTF, b".", subject, *start, &plain)? {
             Ok(_) => assert!(&rt; false),
             Err(e) => assert_eq!(&rt; e, *wanted),
         }
