@@ -10,7 +10,8 @@ use Rattle.ordered_search.specs.Moves.{Moves, stops, pause, stepped, holding, tr
 use Rattle.frame_machine.specs.declared.machine.Next.TheVariants.{Back, End}
 use Rattle.frame_machine.specs.declared.machine.Spot.{Spot}
 use Rattle.frame_machine.specs.Ground.{Ground, next_of, IsGround, IsPart}
-use Rattle.frame_machine.specs.Machine.{Conf, conf, towards}
+use Rattle.frame_machine.specs.Machine.{Conf, conf, towards, mark_of}
+use Rattle.frame_machine.specs.Stops.{Told, told, tells}
 use Rattle.frame_machine.specs.Frames.{past, around, outside, fail, spot_state, ahead}
 use Rattle.frame_machine.specs.Validity.{AreSpans, AreSound, IsRunning, IsValid, Advances}
 use Rattle.frame_machine.proofs.Frames.{focus_towards, running_towards}
@@ -29,27 +30,37 @@ module _ (g : Setting) (s : State) (x : State → Moves) where
       let h : g.matching.frame_limit < s.units + 1 = omega (arith, full) in
       ap (λ b. elim b [ true ↦ x (record s { units = s.units + 1 }) | false ↦ stops (by_halt too_many_units) ]) (lt-leb _ _ h)
 
+-- the Steps that are left, and the last name, which going back leaves as they are
+abbrev pub stays : Spot → ℕ × ℕ
+stays spot = (spot.left, spot.last)
+
 module _ (c : Ground) where
-  pub advance_pause : (m n : Conf) (z : Moves) → ahead c m ≡ pause z → ahead c n ≡ z → n.spot.left ≡ m.spot.left → IsValid c n → Advances c m n
+  -- what a path tells where it has so many Steps left, and met this name last
+  abbrev saying : ℕ × ℕ → Moves → Told
+  saying p x = told (mark_of p.1) (tread c.setting p.0 x)
+
+  pub advance_pause : (m n : Conf) (z : Moves) → ahead c m ≡ pause z → ahead c n ≡ z → stays n.spot ≡ stays m.spot → IsValid c n → Advances c m n
   unfolding tread size
   advance_pause m n z e w same v = record {
-    answer = ap (tread c.setting m.spot.left) e ∙ sym (ap (tread c.setting m.spot.left) w) ∙ ap (λ l. tread c.setting l (ahead c n)) (sym same);
+    answer = ap (tells c.setting m.spot) e ∙ sym (ap (tells c.setting m.spot) w) ∙ ap (λ (p : ℕ × ℕ). saying p (ahead c n)) (sym same);
     shorter = omega (arith, ap size e, ap size w);
     valid = v;
   }
 
-  pub advance_step : (m n : Conf) (z : Moves) → ahead c m ≡ stepped z → ahead c n ≡ z → suc n.spot.left ≡ m.spot.left → IsValid c n → Advances c m n
+  pub advance_step : (m n : Conf) (z : Moves) → ahead c m ≡ stepped z → ahead c n ≡ z → suc n.spot.left ≡ m.spot.left → n.spot.last ≡ m.spot.last → IsValid c n → Advances c m n
   unfolding tread size
-  advance_step m n z e w same v = record {
-    answer = ap (tread c.setting m.spot.left) e ∙ ap (λ l. tread c.setting l (stepped z)) (sym same) ∙ sym (ap (tread c.setting n.spot.left) w);
+  advance_step m n z e w same met v = record {
+    answer =
+        ap (tells c.setting m.spot) e ∙ ap (λ l. saying (l, m.spot.last) (stepped z)) (sym same)
+        ∙ ap (λ l. saying (n.spot.left, l) z) (sym met) ∙ sym (ap (tells c.setting n.spot) w);
     shorter = omega (arith, ap size e, ap size w);
     valid = v;
   }
 
   -- the same is ahead of another state
-  pub advance_same : (m p n : Conf) → ahead c m ≡ ahead c p → m.spot.left ≡ p.spot.left → Advances c p n → Advances c m n
+  pub advance_same : (m p n : Conf) → ahead c m ≡ ahead c p → stays m.spot ≡ stays p.spot → Advances c p n → Advances c m n
   advance_same m p n e same a = record {
-    answer = ap (tread c.setting m.spot.left) e ∙ ap (λ l. tread c.setting l (ahead c p)) same ∙ a.answer;
+    answer = ap (tells c.setting m.spot) e ∙ ap (λ (x : ℕ × ℕ). saying x (ahead c p)) same ∙ a.answer;
     shorter = omega (arith, ap size e, a.shorter);
     valid = a.valid;
   }
@@ -71,21 +82,21 @@ module _ (c : Ground) where
 
   -- the machine goes back
   module _ (m : Conf) (spot : Spot) (stack : List Entry) (caps : Captures) (records : AreSound c spot.left (length caps) stack) (spans : AreSpans c caps) (slots : length caps ≡ c.setting.groups) where
-    pub goes_back : spot.left ≡ m.spot.left → ahead c m ≡ pause (fail c stack caps) → Advances c m (conf Back spot stack caps)
+    pub goes_back : stays spot ≡ stays m.spot → ahead c m ≡ pause (fail c stack caps) → Advances c m (conf Back spot stack caps)
     goes_back same e = advance_pause m (conf Back spot stack caps) (fail c stack caps) e refl same (record { running = tt; records = records; spans = spans; slots = slots })
 
     -- the machine goes on after a part
     module _ (ok : IsGround c) (q : ℕ) (inside : IsPart c q) (standing : IsRunning c spot stack End) where
-      pub goes_on : spot.left ≡ m.spot.left →
+      pub goes_on : stays spot ≡ stays m.spot →
           ahead c m ≡ pause (past c (around c stack spot.frame).depth (outside c stack caps spot.frame) q reached (spot_state c spot stack caps) (fail c stack caps)) →
           Advances c m (conf (towards (next_of c q)) spot stack caps)
       goes_on same e =
           advance_pause m (conf (towards (next_of c q)) spot stack caps) _ e (focus_towards c ok q inside _ _ _ _) same
           (record { running = running_towards c ok q inside spot stack standing; records = records; spans = spans; slots = slots })
 
-      pub goes_on_step : suc spot.left ≡ m.spot.left →
+      pub goes_on_step : suc spot.left ≡ m.spot.left → spot.last ≡ m.spot.last →
           ahead c m ≡ stepped (past c (around c stack spot.frame).depth (outside c stack caps spot.frame) q reached (spot_state c spot stack caps) (fail c stack caps)) →
           Advances c m (conf (towards (next_of c q)) spot stack caps)
-      goes_on_step same e =
-          advance_step m (conf (towards (next_of c q)) spot stack caps) _ e (focus_towards c ok q inside _ _ _ _) same
+      goes_on_step same met e =
+          advance_step m (conf (towards (next_of c q)) spot stack caps) _ e (focus_towards c ok q inside _ _ _ _) same met
           (record { running = running_towards c ok q inside spot stack standing; records = records; spans = spans; slots = slots })

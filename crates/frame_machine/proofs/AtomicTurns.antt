@@ -46,17 +46,17 @@ module _ (c : Ground) (ok : IsGround c) (spot : Spot) (records : List Record) (c
   at_height = omega (arith, height)
 
   pub atomic_inside : IsPart c p.node
-  atomic_inside = frame_inside c ok spot records caps v h at_height p at (site_of p) (kept_of p) (AtomicOpen (site_of p) (kept_of p)) (entry_of-atomic_open p kind) refl (λ a. refl) (λ below s. (s.0, s.1))
+  atomic_inside = frame_inside c ok spot records caps v h at_height p at (site_of p) (kept_of p) (AtomicOpen (site_of p) (kept_of p)) (entry_of-atomic_open p kind) refl refl (λ a. refl) (λ below s. (s.0, s.1))
 
   pub stop_atomic_left : c.setting.matching.frame_limit ≤ spot.units → tread c.setting spot.left (ahead c (conf End spot (entries records) caps)) ≡ answers FrameLimit
   stop_atomic_left full =
-      stop_leave c ok spot records caps v h at_height p at (site_of p) (kept_of p) (AtomicOpen (site_of p) (kept_of p)) (entry_of-atomic_open p kind) refl (λ a. refl) (λ below s. (s.0, s.1))
-      spot.place spot.keep p.passed v.running.here (λ a k. past c a.depth k p.node) (λ a k x out f. refl) full
+      stop_leave c ok spot records caps v h at_height p at (site_of p) (kept_of p) (AtomicOpen (site_of p) (kept_of p)) (entry_of-atomic_open p kind) refl refl (λ a. refl) (λ below s. (s.0, s.1))
+      spot.place spot.keep v.running.here (λ a k. past c a.depth k p.node) (λ a b k x out f. refl) full
 
   pub turn_atomic_left : spot.units < c.setting.matching.frame_limit →
       Advances c (conf End spot (entries records) caps)
       (conf (towards (next_of c p.node)) (record spot { passed = p.passed; frame = p.link; units = spot.units + 1 })
       (AtomicLeft (record { node = p.node; link = p.link }) (kept_at (record spot { frame = p.link })) h ∷ entries records) caps)
   turn_atomic_left room =
-      turn_left c ok spot records caps v h at_height p at (site_of p) (kept_of p) (AtomicOpen (site_of p) (kept_of p)) (entry_of-atomic_open p kind) refl (λ a. refl) (λ below s. (s.0, s.1))
-      spot.place spot.keep p.passed v.running.here (λ a k x out f. refl) room
+      turn_left c ok spot records caps v h at_height p at (site_of p) (kept_of p) (AtomicOpen (site_of p) (kept_of p)) (entry_of-atomic_open p kind) refl refl (λ a. refl) (λ below s. (s.0, s.1))
+      spot.place spot.keep v.running.here (λ a b k x out f. refl) room

@@ -14,7 +14,7 @@ use Rattle.frame_machine.specs.declared.machine.Next.TheVariants.{Branch, Begin,
 use Rattle.frame_machine.specs.declared.machine.Spot.{Spot}
 use Rattle.frame_machine.specs.Ground.{Ground, tree_of, next_of, IsGround, IsPart}
 use Rattle.frame_machine.specs.Machine.{Around, Outside, less, state_at, Conf, conf, towards}
-use Rattle.frame_machine.specs.Frames.{past, around, more_from, further_from, on_fail, outside, fail, ahead}
+use Rattle.frame_machine.specs.Frames.{past, around, around_at, more_from, further_from, on_fail, outside, fail, ahead}
 use Rattle.frame_machine.specs.Validity.{IsMany, HasFurther, IsSound, AreSound, IsValid, Advances, IsCondition}
 use Rattle.frame_machine.proofs.PartPaths.{reaching_off}
 use Rattle.frame_machine.proofs.Advance.{advance_pause, goes_back, goes_on}
@@ -60,7 +60,7 @@ module _ (c : Ground) (ok : IsGround c) (spot : Spot) (stack : List Entry) (caps
   back_fewer site kept from to v =
       let s = v.records.0 in
       advance_pause c _ _ _
-      (ap (λ l. pause (offer_paths c.setting l (state_at (around c stack site.link) kept caps) (past c (around c stack site.link).depth (outside c stack caps site.link) site.node) (fail c stack caps))) (fewer_step c ok from to s.2.1 s.2.0))
+      (ap (λ l. pause (offer_paths c.setting l (state_at (around_at c stack site.link kept.passed) kept caps) (past c (around c stack site.link).depth (outside c stack caps site.link) site.node) (fail c stack caps))) (fewer_step c ok from to s.2.1 s.2.0))
       refl refl
       (record { running = (s.0, s.1, (ok.backward to s.2.1 (omega (arith, s.2.0))).1); records = v.records.1; spans = v.spans; slots = v.slots })
 
@@ -68,11 +68,11 @@ module _ (c : Ground) (ok : IsGround c) (spot : Spot) (stack : List Entry) (caps
   module _ (site : Site) (kept : Kept) (count to : ℕ) (v : IsValid c (conf Back spot (MoreItems site kept count to ∷ stack) caps))
       (item : Item) (low : ℕ) (high : Option ℕ) (lazily : Bool) (t : tree.one_repeat item low high lazily ≡ tree_of c site.node) where
     further_is : ahead c (conf Back spot (MoreItems site kept count to ∷ stack) caps)
-        ≡ pause (lazy_paths c.setting item (one_less (less count high)) (run_at c ok item (less count high) to) (state_at (around c stack site.link) kept caps)
+        ≡ pause (lazy_paths c.setting item (one_less (less count high)) (run_at c ok item (less count high) to) (state_at (around_at c stack site.link kept.passed) kept caps)
         (past c (around c stack site.link).depth (outside c stack caps site.link) site.node) (fail c stack caps))
     unfolding fail
     further_is =
-        ap (λ x. pause (further_from c x count to (state_at (around c stack site.link) kept caps) (past c (around c stack site.link).depth (outside c stack caps site.link) site.node) (fail c stack caps))) (sym t)
+        ap (λ x. pause (further_from c x count to (state_at (around_at c stack site.link kept.passed) kept caps) (past c (around c stack site.link).depth (outside c stack caps site.link) site.node) (fail c stack caps))) (sym t)
         ∙ ap pause (reaching_off c ok _ _ _)
 
     back_further_none : after_item c.setting.scene item to ≡ None → Advances c (conf Back spot (MoreItems site kept count to ∷ stack) caps) (conf Back (restored spot site kept) stack caps)
@@ -80,7 +80,7 @@ module _ (c : Ground) (ok : IsGround c) (spot : Spot) (stack : List Entry) (caps
     back_further_none e =
         goes_back c _ (restored spot site kept) stack caps v.records.1 v.spans v.slots refl
         (further_is
-        ∙ ap (λ l. pause (lazy_paths c.setting item (one_less (less count high)) l (state_at (around c stack site.link) kept caps) (past c (around c stack site.link).depth (outside c stack caps site.link) site.node) (fail c stack caps))) (longest_none c ok item (less count high) to e))
+        ∙ ap (λ l. pause (lazy_paths c.setting item (one_less (less count high)) l (state_at (around_at c stack site.link kept.passed) kept caps) (past c (around c stack site.link).depth (outside c stack caps site.link) site.node) (fail c stack caps))) (longest_none c ok item (less count high) to e))
 
     pub back_further_some : (p j : ℕ) → j ≡ suc count → after_item c.setting.scene item to ≡ Some p →
         Advances c (conf Back spot (MoreItems site kept count to ∷ stack) caps) (conf (More site.node j p) (restored spot site kept) stack caps)
@@ -88,7 +88,7 @@ module _ (c : Ground) (ok : IsGround c) (spot : Spot) (stack : List Entry) (caps
         let s = v.records.0 in
         let w = ok.forward item to p s.2.1 e in
         let left : is_none_left (less count high) ≡ false = subst (λ x. HasFurther c x count) (sym t) s.2.2 in
-        let S : State = state_at (around c stack site.link) kept caps in
+        let S : State = state_at (around_at c stack site.link kept.passed) kept caps in
         let K : Follow = past c (around c stack site.link).depth (outside c stack caps site.link) site.node in
         let f : Moves = fail c stack caps in
         advance_pause c _ _ _

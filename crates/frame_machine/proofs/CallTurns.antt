@@ -17,16 +17,17 @@ use Rattle.ordered_search.proofs.Free.{free_paths, holding_same}
 use Rattle.frame_machine.specs.declared.machine.Next.TheVariants.{Enter, Back}
 use Rattle.frame_machine.specs.declared.machine.Spot.{Spot}
 use Rattle.frame_machine.specs.Ground.{Ground, tree_of, IsNode, IsGround, IsPart}
-use Rattle.frame_machine.specs.Machine.{Around, Outside, kept_at, conf, Conf, first_next, row_length, state_at}
+use Rattle.frame_machine.specs.Machine.{Around, Outside, heard, kept_at, conf, Conf, first_next, row_length, state_at, mark_of}
+use Rattle.frame_machine.specs.Stops.{told, tells}
 use Rattle.frame_machine.specs.Begun.{is_behind}
-use Rattle.frame_machine.specs.Frames.{after, past, branch_rest, close_from, frame_around, around, outside, hand, fail, spot_state, ahead, focus}
+use Rattle.frame_machine.specs.Frames.{after, past, branch_rest, close_from, frame_around, around, around_at, outside, hand, fail, spot_state, ahead, focus}
 use Rattle.frame_machine.specs.Branches.{IsBranched}
 use Rattle.frame_machine.specs.Validity.{IsCapture, StandsAt, IsRunning, IsValid, Advances}
 use Rattle.frame_machine.specs.Calls.{AreWithin, calls_at, EndsAlone, IsCallee, call_entry, call_spot, called_ahead, IsCalling, GoesOn}
 use Rattle.frame_machine.proofs.Forms.{verbless}
 use Rattle.frame_machine.proofs.KidParts.{kid_parts}
 use Rattle.frame_machine.proofs.PartPaths.{enter_call, after_nil, branched_group, part_paths, row_deep, first_here}
-use Rattle.frame_machine.proofs.Frames.{around_here, cont_here, focus_framed, inside_of, sound_less}
+use Rattle.frame_machine.proofs.Frames.{around_here, heard_push, cont_here, focus_framed, inside_of, sound_less}
 use Rattle.frame_machine.proofs.Advance.{holding_room, holding_full, over_steps, over_units, over_units_step}
 use Rattle.frame_machine.proofs.Turns.{deep, alike}
 use Rattle.frame_machine.proofs.CallFrames.{around_calls}
@@ -34,7 +35,7 @@ use Rattle.frame_machine.proofs.CallFrames.{around_calls}
 -- a call is entered
 module _ (c : Ground) (ok : IsGround c) (q m : ℕ) (spot : Spot) (stack : List Entry) (caps : Captures) (v : IsValid c (conf (Enter q) spot stack caps)) (i : IsNode c q (node.Call m)) where
   abbrev here : Around
-  here = around c stack spot.frame
+  here = around_at c stack spot.frame spot.passed
 
   abbrev s : State
   s = spot_state c spot stack caps
@@ -87,8 +88,10 @@ module _ (c : Ground) (ok : IsGround c) (q m : ℕ) (spot : Spot) (stack : List 
       abbrev deeper : Around
       deeper = frame_around event here
 
-      in_call : around c (event ∷ stack) (suc (length stack)) ≡ deeper
-      in_call = around_here c event stack _ refl
+      in_call : around_at c (event ∷ stack) (suc (length stack)) spot.passed ≡ deeper
+      in_call =
+          ap (λ (a : Around). record a { passed = heard (event ∷ stack) spot.passed }) (around_here c event stack _ refl)
+          ∙ ap (λ (names : List (ℕ × ℕ)). record (frame_around event (around c stack spot.frame)) { passed = names }) (heard_push c event stack spot.passed v.running.1.marked)
 
       opened : ahead c (conf (Enter q) spot stack caps) ≡ stepped (inner (record s { units = spot.units + 1 }))
       opened = opening ∙ ap stepped (holding_room c.setting _ _ room)
@@ -103,11 +106,12 @@ module _ (c : Ground) (ok : IsGround c) (q m : ℕ) (spot : Spot) (stack : List 
               counted = omega (arith, w.counted);
               few = omega (arith, room);
               here = w.here;
+              marked = omega (arith, w.marked);
             };
             records = (
               (
                 v.running.0,
-                record { inside = w.inside; deep = omega (arith, w.deep); counted = w.counted; few = w.few; here = w.here },
+                record { inside = w.inside; deep = omega (arith, w.deep); counted = w.counted; few = w.few; here = w.here; marked = w.marked },
                 All-cons (λ (x : ℕ × ℕ). x.1 ≤ last) (m, spot.place) here.calls place
                     (subst (λ (xs : List (ℕ × ℕ)). AreWithin last xs) (sym (around_calls c stack spot.frame)) within),
               ),
@@ -125,7 +129,7 @@ module _ (c : Ground) (ok : IsGround c) (q m : ℕ) (spot : Spot) (stack : List 
           opened ∙ ap (λ (o : Option Nested). stepped (called_path o (paths c.setting (here.depth - 1)) (record s { units = spot.units + 1; calls = (m, s.place) ∷ s.calls }) (returned c.setting s K) (pause f) (λ w. pause f))) none in
           let one : spot.left ≡ suc (spot.left - 1) = omega (arith, some) in
           record {
-            answer = ap (tread c.setting spot.left) e ∙ ap (λ l. tread c.setting l (stepped (pause f))) one;
+            answer = ap (told (mark_of spot.last)) (ap (tread c.setting spot.left) e ∙ ap (λ l. tread c.setting l (stepped (pause f))) one);
             shorter = omega (arith, ap size e);
             valid = record { running = tt; records = call_open.records; spans = call_open.spans; slots = call_open.slots };
           }
@@ -149,15 +153,15 @@ module _ (c : Ground) (ok : IsGround c) (q m : ℕ) (spot : Spot) (stack : List 
             ∙ (free_paths c.setting (here.depth - 1) (tree_of c p) (verbless (tree_of c p) callee.inside.runs)).same inside_state (returned c.setting s K) (pause f) at_verbs (λ w. pause f)
             ∙ ap (λ (o : Option Nested). called_path o (paths c.setting (here.depth - 1)) inside_state (returned c.setting s K) (pause f) (λ w. pause f)) (sym is)
 
-        pub turn_called : (n : Conf) → GoesOn c (spot.left - 1) (called_ahead c p to (event ∷ stack) caps) n → Advances c (conf (Enter q) spot stack caps) n
+        pub turn_called : (n : Conf) → GoesOn c to (called_ahead c p to (event ∷ stack) caps) n → Advances c (conf (Enter q) spot stack caps) n
         unfolding tread size
         turn_called n g =
             let e : ahead c (conf (Enter q) spot stack caps) ≡ stepped (called_ahead c p to (event ∷ stack) caps) = opened ∙ ap stepped (sym called_is) in
             let one : spot.left ≡ suc (spot.left - 1) = omega (arith, some) in
             record {
               answer =
-                  ap (tread c.setting spot.left) e
-                  ∙ ap (λ l. tread c.setting l (stepped (called_ahead c p to (event ∷ stack) caps))) one ∙ g.answer;
+                  ap (told (mark_of spot.last))
+                  (ap (tread c.setting spot.left) e ∙ ap (λ l. tread c.setting l (stepped (called_ahead c p to (event ∷ stack) caps))) one) ∙ g.answer;
               shorter = omega (arith, ap size e, g.shorter);
               valid = g.valid;
             }
@@ -230,19 +234,19 @@ module _ (c : Ground) (ok : IsGround c) (p : ℕ) (spot : Spot) (stack : List En
     branches_ahead =
         let inner : Outside = inside_of c group_entry stack caps in
         let now : State = record u { units = spot.units + 1 } in
-        focus_framed c group_entry stack caps (first_next p ks) (kept_at group_spot) caps (fail c (group_entry ∷ stack) caps)
+        focus_framed c group_entry stack caps (first_next p ks) spot.passed (kept_at group_spot) caps (fail c (group_entry ∷ stack) caps) w.standing.marked
         ∙ first_here c p around_it.depth ks (branched_group c p (node.Group (Some m) ks) i (Some m) ks refl) inner (alike c (group_entry ∷ stack) caps (suc (length stack)) p ks) now (pause lower) (ap is_behind (sym is_group))
         ∙ ap (λ (z : Follow). branch_paths c.setting (part_paths c around_it.depth ks) now z (pause lower) at_verbs)
         (ap (after c around_it.depth inner) (ap (λ x. branch_rest c x (c.rest p)) (sym is_group)) ∙ after_nil c around_it.depth inner)
 
-    pub turn_called_group : spot.units < c.setting.matching.frame_limit → GoesOn c spot.left (called_ahead c p spot stack caps) (conf (first_next p ks) group_spot (group_entry ∷ stack) caps)
+    pub turn_called_group : spot.units < c.setting.matching.frame_limit → GoesOn c spot (called_ahead c p spot stack caps) (conf (first_next p ks) group_spot (group_entry ∷ stack) caps)
     unfolding tread size
     turn_called_group room =
         let s = w.standing in
         let e : called_ahead c p spot stack caps ≡ pause (branch_paths c.setting (part_paths c around_it.depth ks) (record u { units = spot.units + 1 }) close_it (pause lower) at_verbs) =
         group_ahead ∙ ap pause (holding_room c.setting _ _ room) in
         record {
-          answer = ap (tread c.setting spot.left) e ∙ sym (ap (tread c.setting spot.left) branches_ahead);
+          answer = ap (tells c.setting spot) e ∙ sym (ap (tells c.setting spot) branches_ahead);
           shorter = omega (arith, ap size e, ap size branches_ahead);
           valid = record {
             running =
@@ -253,6 +257,7 @@ module _ (c : Ground) (ok : IsGround c) (p : ℕ) (spot : Spot) (stack : List En
                   counted = omega (arith, s.counted);
                   few = omega (arith, room);
                   here = s.here;
+                  marked = omega (arith, s.marked);
                 });
             records = ((callee.inside, s, subst (IsCapture c) is_group tt), w.records);
             spans = w.spans;
@@ -266,20 +271,20 @@ module _ (c : Ground) (ok : IsGround c) (p : ℕ) (spot : Spot) (stack : List En
   alone_rest (node.Group None ks) stray h = h
   alone_rest _ stray h = h
 
-  pub turn_called_whole : (n : Node) → IsNode c p n → ((m : ℕ) (ks : List ℕ) → n ≡ node.Group (Some m) ks → ⊥) → GoesOn c spot.left (called_ahead c p spot stack caps) (conf (Enter p) spot stack caps)
+  pub turn_called_whole : (n : Node) → IsNode c p n → ((m : ℕ) (ks : List ℕ) → n ≡ node.Group (Some m) ks → ⊥) → GoesOn c spot (called_ahead c p spot stack caps) (conf (Enter p) spot stack caps)
   unfolding hand
   turn_called_whole n i stray =
       let none : c.rest p ≡ [] = alone_rest n stray (subst (EndsAlone c p) (sym i.is) callee.alone) in
       let same : k.follow ≡ past c around_it.depth k p = sym (ap (after c around_it.depth k) none ∙ after_nil c around_it.depth k) in
       let e : called_ahead c p spot stack caps ≡ ahead c (conf (Enter p) spot stack caps) = ap (λ (z : Follow). paths c.setting around_it.depth (tree_of c p) u z lower at_verbs) same in
       record {
-        answer = ap (tread c.setting spot.left) e;
+        answer = ap (tells c.setting spot) e;
         shorter = omega (arith, ap size e);
         valid = record { running = (callee.inside, w.standing); records = w.records; spans = w.spans; slots = w.slots };
       }
 
   pub turn_called_group_of : (number : Option ℕ) (ks : List ℕ) → IsNode c p (node.Group number ks) → (m : ℕ) → number ≡ Some m → spot.units < c.setting.matching.frame_limit →
-      GoesOn c spot.left (called_ahead c p spot stack caps)
+      GoesOn c spot (called_ahead c p spot stack caps)
       (conf (first_next p ks) (record spot { frame = suc (length stack); units = spot.units + 1 }) (CalledGroup (record { node = p; link = spot.frame }) (kept_at spot) ∷ stack) caps)
   turn_called_group_of number ks i m is room = turn_called_group m ks (subst (λ x. IsNode c p (node.Group x ks)) is i) room
 

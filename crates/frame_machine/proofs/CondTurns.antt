@@ -275,23 +275,23 @@ module _ (c : Ground) (ok : IsGround c) (spot : Spot) (records : List Record) (c
 
   pub stop_test_left : (holds : Bool) → p.kind ≡ test_kind holds → c.setting.matching.frame_limit ≤ spot.units → tread c.setting spot.left (ahead c (conf End spot (entries records) caps)) ≡ answers FrameLimit
   stop_test_left true kind full =
-      stop_leave c ok spot records caps v h at_height p at (site_of p) (kept_of p) (LookTest (site_of p) (kept_of p)) (entry_of-look_test p kind) refl (λ a. refl) (λ below s. (s.0, s.1))
-      p.place p.keep p.passed (test_here true kind) (further true) (λ a k x out f. refl) full
+      stop_leave c ok spot records caps v h at_height p at (site_of p) (kept_of p) (LookTest (site_of p) (kept_of p)) (entry_of-look_test p kind) refl refl (λ a. refl) (λ below s. (s.0, s.1))
+      p.place p.keep (test_here true kind) (further true) (λ a b k x out f. refl) full
   stop_test_left false kind full =
-      stop_leave c ok spot records caps v h at_height p at (site_of p) (kept_of p) (DenialTest (site_of p) (kept_of p)) (entry_of-denial_test p kind) refl (λ a. refl) (λ below s. (s.0, s.1))
-      p.place p.keep p.passed (test_here false kind) (further false) (λ a k x out f. refl) full
+      stop_leave c ok spot records caps v h at_height p at (site_of p) (kept_of p) (DenialTest (site_of p) (kept_of p)) (entry_of-denial_test p kind) refl refl (λ a. refl) (λ below s. (s.0, s.1))
+      p.place p.keep (test_here false kind) (further false) (λ a b k x out f. refl) full
 
   pub turn_test_left : (holds : Bool) → p.kind ≡ test_kind holds → (next : Next) → IsChoice c p.node holds next → spot.units < c.setting.matching.frame_limit →
       Advances c (conf End spot (entries records) caps)
       (conf next (record spot { place = p.place; keep = p.keep; passed = p.passed; frame = p.link; units = spot.units + 1 })
       (AtomicLeft (record { node = p.node; link = p.link }) (kept_at (record spot { frame = p.link })) h ∷ entries records) caps)
   turn_test_left true kind next choice room =
-      turn_leave c ok spot records caps v h at_height p at (site_of p) (kept_of p) (LookTest (site_of p) (kept_of p)) (entry_of-look_test p kind) refl (λ a. refl) (λ below s. (s.0, s.1))
-      p.place p.keep p.passed (test_here true kind) (further true) (λ a k x out f. refl)
+      turn_leave c ok spot records caps v h at_height p at (site_of p) (kept_of p) (LookTest (site_of p) (kept_of p)) (entry_of-look_test p kind) refl refl (λ a. refl) (λ below s. (s.0, s.1))
+      p.place p.keep (test_here true kind) (further true) (λ a b k x out f. refl)
       next (λ s m. choice.goes _ (outside c (entries records) caps p.link) s m (λ x. hand_same c (entries records) (entries records) caps caps p.link p.link x p.node)) choice.runs room
   turn_test_left false kind next choice room =
-      turn_leave c ok spot records caps v h at_height p at (site_of p) (kept_of p) (DenialTest (site_of p) (kept_of p)) (entry_of-denial_test p kind) refl (λ a. refl) (λ below s. (s.0, s.1))
-      p.place p.keep p.passed (test_here false kind) (further false) (λ a k x out f. refl)
+      turn_leave c ok spot records caps v h at_height p at (site_of p) (kept_of p) (DenialTest (site_of p) (kept_of p)) (entry_of-denial_test p kind) refl refl (λ a. refl) (λ below s. (s.0, s.1))
+      p.place p.keep (test_here false kind) (further false) (λ a b k x out f. refl)
       next (λ s m. choice.goes _ (outside c (entries records) caps p.link) s m (λ x. hand_same c (entries records) (entries records) caps caps p.link p.link x p.node)) choice.runs room
 
 pub test_record : (positive : Bool) (spot : Spot) (q : ℕ) → entry_of (record_at spot (test_kind positive) q 0 0 0) ≡ test_entry positive (record { node = q; link = spot.frame }) (kept_at spot)

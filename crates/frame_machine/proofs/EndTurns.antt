@@ -14,8 +14,8 @@ use Rattle.ordered_search.specs.Paths.{paths, turned}
 use Rattle.frame_machine.specs.declared.machine.Next.TheVariants.{Offer, Back, End}
 use Rattle.frame_machine.specs.declared.machine.Spot.{Spot}
 use Rattle.frame_machine.specs.Ground.{Ground, tree_of, next_of, IsGround, IsPart}
-use Rattle.frame_machine.specs.Machine.{Around, Outside, less, state_at, kept_at, link_of, conf, towards}
-use Rattle.frame_machine.specs.Frames.{frame_around, past, offer_from, turned_from, close_from, around, frame_end, cont, outside, fail, spot_state, ahead, hand}
+use Rattle.frame_machine.specs.Machine.{Around, Outside, less, state_at, kept_at, link_of, entry_kept, conf, towards, mark_of}
+use Rattle.frame_machine.specs.Frames.{frame_around, around_at, past, offer_from, turned_from, close_from, around, frame_end, cont, outside, fail, spot_state, ahead, hand}
 use Rattle.frame_machine.specs.Validity.{IsRepeat, IsCapture, SpanStands, IsSound, AreSound, IsValid, Advances}
 use Rattle.frame_machine.proofs.Frames.{around_here, around_push, focus_kept, focus_towards, running_towards, Framed, framed}
 use Rattle.frame_machine.proofs.Advance.{holding_room, holding_full, advance_pause, over_units, goes_back, goes_on}
@@ -26,7 +26,7 @@ use Rattle.std.proofs.Common.{◌≢◌, ◌⊎◌, ◌&&◌, not}
 use Rattle.frame_store.specs.declared.kinds.TheConstants.{KIND_GROUP_OPEN, KIND_TURN_OPEN, KIND_TURN_OR_EXIT, KIND_ATOMIC_OPEN, KIND_LOOK_OPEN, KIND_LOOK_ALL_OPEN, KIND_DENIAL_OPEN, KIND_LOOK_TEST, KIND_DENIAL_TEST, KIND_CALLED_GROUP, KIND_CALL_OPEN}
 use Rattle.frame_store.specs.Entry.{site_of, kept_of, entry_kind}
 use Rattle.frame_store.proofs.EntryLemmas.{entry_of-group_open, entry_of-turn_open, entry_of-turn_or_exit, entry_kind-not}
-use Rattle.frame_machine.specs.Stops.{spot_outcome, took_nothing, IsNumber, admitted}
+use Rattle.frame_machine.specs.Stops.{spot_outcome, took_nothing, IsNumber, admitted, told}
 use Rattle.std.proofs.lemmas.Bool.{cases_eq, false≢true}
 use Rattle.ordered_search.specs.Setting.{Setting, match_limit}
 use Rattle.frame_machine.proofs.Frames.{around_below, cont_whole}
@@ -79,8 +79,9 @@ module _ (c : Ground) (spot : Spot) (stack : List Entry) (caps : Captures) (v : 
   unfolding tread size
   turn_refused e = record {
     answer =
-        ap (tread c.setting spot.left) at_whole
-        ∙ ap (λ o. elim o [ None ↦ tread c.setting spot.left (fail c stack caps) | Some a ↦ answers a ]) e;
+        ap (told (mark_of spot.last))
+        (ap (tread c.setting spot.left) at_whole
+        ∙ ap (λ o. elim o [ None ↦ tread c.setting spot.left (fail c stack caps) | Some a ↦ answers a ]) e);
     shorter = omega (arith, ap size at_whole);
     valid = record { running = tt; records = v.records; spans = v.spans; slots = v.slots };
   }
@@ -122,17 +123,17 @@ module _ (c : Ground) (ok : IsGround c) (spot : Spot) (records : List Record) (c
     group_frame : Framed c spot.left (length caps) (entries records) caps (suc h) (GroupOpen site kept)
     group_frame = framed c spot.left (length caps) records caps h p (GroupOpen site kept) is v.records at
 
-    group_around : around c (entries records) spot.frame ≡ around c (entries records) site.link
-    group_around = ap (around c (entries records)) height ∙ group_frame.deep
+    group_around : around_at c (entries records) spot.frame spot.passed ≡ around_at c (entries records) site.link spot.passed
+    group_around = ap (λ l. around_at c (entries records) l spot.passed) height ∙ group_frame.path spot.passed
 
     module _ (m : ℕ) (ts : Row) (t : tree.group (Some m) ts ≡ tree_of c site.node) where
       closing : ahead c (conf End spot (entries records) caps)
-          ≡ pause (holding c.setting 1 (captured m kept.place (state_at (around c (entries records) site.link) (kept_at spot) caps))
+          ≡ pause (holding c.setting 1 (captured m kept.place (state_at (around_at c (entries records) site.link spot.passed) (kept_at spot) caps))
           (λ u. past c (around c (entries records) site.link).depth (outside c (entries records) caps site.link) site.node reached u (pause (fail c (entries records) caps))))
       closing =
           ap (λ (a : Around). cont c (entries records) caps spot.frame reached (state_at a (kept_at spot) caps) (fail c (entries records) caps)) group_around
-          ∙ ap (λ (k : Follow). k reached (state_at (around c (entries records) site.link) (kept_at spot) caps) (fail c (entries records) caps)) (ap (cont c (entries records) caps) height ∙ group_frame.ends)
-          ∙ ap (λ x. close_from c x kept.place (past c (around c (entries records) site.link).depth (outside c (entries records) caps site.link) site.node) reached (state_at (around c (entries records) site.link) (kept_at spot) caps) (fail c (entries records) caps)) (sym t)
+          ∙ ap (λ (k : Follow). k reached (state_at (around_at c (entries records) site.link spot.passed) (kept_at spot) caps) (fail c (entries records) caps)) (ap (cont c (entries records) caps) height ∙ group_frame.ends)
+          ∙ ap (λ x. close_from c x kept.place (past c (around c (entries records) site.link).depth (outside c (entries records) caps site.link) site.node) reached (state_at (around_at c (entries records) site.link spot.passed) (kept_at spot) caps) (fail c (entries records) caps)) (sym t)
 
       pub stop_close : c.setting.matching.frame_limit ≤ spot.units → tread c.setting spot.left (ahead c (conf End spot (entries records) caps)) ≡ answers FrameLimit
       stop_close full = over_units c spot.left _ _ closing (holding_full c.setting _ _ full)
@@ -155,9 +156,9 @@ module _ (c : Ground) (ok : IsGround c) (spot : Spot) (records : List Record) (c
           let inside : IsPart c site.node = g.sound.0 in
           advance_pause c _ _ _
           (closing ∙ ap pause (holding_room c.setting _ _ room))
-          (focus_kept c r stack new (towards (next_of c site.node)) site.link (kept_at to) new (fail c (r ∷ stack) new) g.link
+          (focus_kept c r stack new (towards (next_of c site.node)) site.link spot.passed (kept_at to) new (fail c (r ∷ stack) new) g.link w.marked
           ∙ focus_towards c ok site.node inside _ _ _ _
-          ∙ ap (λ (x : Captures). past c (around c stack site.link).depth (outside c stack x site.link) site.node reached (state_at (around c stack site.link) (kept_at to) new) (pause (fail c stack x))) back)
+          ∙ ap (λ (x : Captures). past c (around c stack site.link).depth (outside c stack x site.link) site.node reached (state_at (around_at c stack site.link spot.passed) (kept_at to) new) (pause (fail c stack x))) back)
           refl
           (record {
             running = running_towards c ok site.node inside to (r ∷ stack) (record {
@@ -166,6 +167,7 @@ module _ (c : Ground) (ok : IsGround c) (spot : Spot) (records : List Record) (c
               counted = omega (arith, w.counted);
               few = omega (arith, room);
               here = w.here;
+              marked = omega (arith, w.marked);
             });
             records = ((some, omega (arith, few, len), stands_capture c ok caps (m - 1) v.spans, g.link), subst (λ n. AreSound c spot.left n stack) (sym len) v.records);
             spans = All-set (SpanStands c) caps (m - 1) _ (g.sound.1.here, w.here) v.spans;
@@ -181,22 +183,24 @@ module _ (c : Ground) (ok : IsGround c) (spot : Spot) (records : List Record) (c
     turn_frame : Framed c spot.left (length caps) (entries records) caps (suc h) r
     turn_frame = framed c spot.left (length caps) records caps h p r is v.records at
 
-    turn_around : around c (entries records) spot.frame ≡ record (around c (entries records) site.link) { depth = (around c (entries records) site.link).depth - suc count }
-    turn_around = ap (around c (entries records)) height ∙ turn_frame.deep ∙ inner _ ∙ ap (λ l. record (around c (entries records) l) { depth = (around c (entries records) l).depth - suc count }) link
+    turn_around : around_at c (entries records) spot.frame spot.passed ≡ record (around_at c (entries records) site.link spot.passed) { depth = (around c (entries records) site.link).depth - suc count }
+    turn_around =
+        ap (λ l. around_at c (entries records) l spot.passed) height ∙ turn_frame.path spot.passed ∙ inner _
+        ∙ ap (λ l. record (around_at c (entries records) l spot.passed) { depth = (around c (entries records) l).depth - suc count }) link
 
     ended : ahead c (conf End spot (entries records) caps)
-        ≡ pause (elim (is_over (low - count) (less count high) (state_at (around c (entries records) site.link) kept turn_frame.inner) (state_at (around c (entries records) site.link) (kept_at spot) caps)) [
-          | true ↦ past c (around c (entries records) site.link).depth (outside c (entries records) caps site.link) site.node reached (state_at (around c (entries records) site.link) (kept_at spot) caps) (fail c (entries records) caps)
+        ≡ pause (elim (is_over (low - count) (less count high) (state_at (around_at c (entries records) site.link (entry_kept r).passed) kept turn_frame.inner) (state_at (around_at c (entries records) site.link spot.passed) (kept_at spot) caps)) [
+          | true ↦ past c (around c (entries records) site.link).depth (outside c (entries records) caps site.link) site.node reached (state_at (around_at c (entries records) site.link spot.passed) (kept_at spot) caps) (fail c (entries records) caps)
           | false ↦ paths c.setting ((around c (entries records) site.link).depth - suc count) (tree.repeat (tree_of c body) (low - count - 1) (one_less (less count high)) lazily)
-              (state_at (around c (entries records) site.link) (kept_at spot) caps) (past c (around c (entries records) site.link).depth (outside c (entries records) caps site.link) site.node) (fail c (entries records) caps) (hand c (entries records) caps site.link site.node)
+              (state_at (around_at c (entries records) site.link spot.passed) (kept_at spot) caps) (past c (around c (entries records) site.link).depth (outside c (entries records) caps site.link) site.node) (fail c (entries records) caps) (hand c (entries records) caps site.link site.node)
         ])
     unfolding turned
     ended =
         ap (λ (a : Around). cont c (entries records) caps spot.frame reached (state_at a (kept_at spot) caps) (fail c (entries records) caps)) turn_around
-        ∙ ap (λ (k : Follow). k reached (state_at (around c (entries records) site.link) (kept_at spot) caps) (fail c (entries records) caps))
+        ∙ ap (λ (k : Follow). k reached (state_at (around_at c (entries records) site.link spot.passed) (kept_at spot) caps) (fail c (entries records) caps))
         (ap (cont c (entries records) caps) height ∙ turn_frame.ends ∙ ends _ _ _ _
-        ∙ ap (λ l. turned_from c (tree_of c site.node) count (around c (entries records) l).depth (state_at (around c (entries records) l) kept turn_frame.inner) (past c (around c (entries records) l).depth (outside c (entries records) caps l) site.node) (hand c (entries records) caps l site.node)) link)
-        ∙ ap (λ x. turned_from c x count (around c (entries records) site.link).depth (state_at (around c (entries records) site.link) kept turn_frame.inner) (past c (around c (entries records) site.link).depth (outside c (entries records) caps site.link) site.node) (hand c (entries records) caps site.link site.node) reached (state_at (around c (entries records) site.link) (kept_at spot) caps) (fail c (entries records) caps)) (sym t)
+        ∙ ap (λ l. turned_from c (tree_of c site.node) count (around c (entries records) l).depth (state_at (around_at c (entries records) l (entry_kept r).passed) kept turn_frame.inner) (past c (around c (entries records) l).depth (outside c (entries records) caps l) site.node) (hand c (entries records) caps l site.node)) link)
+        ∙ ap (λ x. turned_from c x count (around c (entries records) site.link).depth (state_at (around_at c (entries records) site.link (entry_kept r).passed) kept turn_frame.inner) (past c (around c (entries records) site.link).depth (outside c (entries records) caps site.link) site.node) (hand c (entries records) caps site.link site.node) reached (state_at (around_at c (entries records) site.link spot.passed) (kept_at spot) caps) (fail c (entries records) caps)) (sym t)
 
     depth_left : spot.left < (around c (entries records) site.link).depth - suc count
     depth_left = omega (arith, v.running.deep, ap (λ (a : Around). a.depth) turn_around)
@@ -216,14 +220,14 @@ module _ (c : Ground) (ok : IsGround c) (spot : Spot) (records : List Record) (c
     turn_over e =
         let w = v.running in
         goes_on c _ (record spot { frame = site.link }) (entries records) caps v.records v.spans v.slots ok site.node node_inside
-        (record { inside = link_inside; deep = omega (arith, depth_left); counted = w.counted; few = w.few; here = w.here }) refl
+        (record { inside = link_inside; deep = omega (arith, depth_left); counted = w.counted; few = w.few; here = w.here; marked = w.marked }) refl
         (ended ∙ ap pause (elim_true _ _ _ (over_is high _ _ ∙ e)))
 
     pub turn_again : (j : ℕ) → j ≡ suc count → took_nothing low high count kept.place spot.place ≡ false →
         Advances c (conf End spot (entries records) caps) (conf (Offer site.node j) (record spot { frame = site.link }) (entries records) caps)
     turn_again j same e =
         let w = v.running in
-        let a : Around = around c (entries records) site.link in
+        let a : Around = around_at c (entries records) site.link spot.passed in
         let s : State = state_at a (kept_at spot) caps in
         let K : Follow = past c a.depth (outside c (entries records) caps site.link) site.node in
         let f : Moves = fail c (entries records) caps in
@@ -238,7 +242,7 @@ module _ (c : Ground) (ok : IsGround c) (spot : Spot) (records : List Record) (c
         ∙ ap (λ x. offer_from c x j a.depth s K f (hand c (entries records) caps site.link site.node)) t))
         refl
         (record {
-          running = (node_inside, record { inside = link_inside; deep = omega (arith, depth_left, same); counted = w.counted; few = w.few; here = w.here }, (sound turn_frame.below turn_frame.sound).2);
+          running = (node_inside, record { inside = link_inside; deep = omega (arith, depth_left, same); counted = w.counted; few = w.few; here = w.here; marked = w.marked }, (sound turn_frame.below turn_frame.sound).2);
           records = v.records;
           spans = v.spans;
           slots = v.slots;

@@ -30,7 +30,7 @@ mutual
   built_runs (tree.ref ns caseless) b = tt
   built_runs (tree.anchor kind) b = tt
   built_runs tree.keep_out b = tt
-  built_runs (tree.verb v) b = absurd b
+  built_runs (tree.verb v) b = b
   built_runs (tree.callout c) b = absurd b
 
   built_row : (ts : Row) → AreBuilt ts → AreRunnable ts
@@ -49,7 +49,7 @@ mutual
   built_other tree.no_other b = tt
   built_other (tree.other t) b = built_runs t b
 
--- they have no verbs
+-- none of their verbs acts when it is backtracked onto
 mutual
   pub verbless : (t : Nested) → IsRunnable t → IsVerbless t
   verbless tree.empty b = tt
@@ -66,7 +66,7 @@ mutual
   verbless (tree.ref ns caseless) b = tt
   verbless (tree.anchor kind) b = tt
   verbless tree.keep_out b = tt
-  verbless (tree.verb v) b = absurd b
+  verbless (tree.verb v) b = b
   verbless (tree.callout c) b = absurd b
 
   pub verbless_row : (ts : Row) → AreRunnable ts → AreVerbless ts
@@ -129,5 +129,5 @@ module _ (trees : List Nested) where
   kids_runnable (node.Ref groups caseless) e h = no_kid
   kids_runnable (node.Anchor kind) e h = no_kid
   kids_runnable node.KeepOut e h = no_kid
-  kids_runnable (node.VerbNode v) e h = absurd h
+  kids_runnable (node.VerbNode v) e h = no_kid
   kids_runnable (node.Callout number from to at len) e h = absurd h

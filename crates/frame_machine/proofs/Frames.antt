@@ -7,7 +7,7 @@ use Rattle.std.proofs.lemmas.Option.{slice_get_within}
 use Rattle.frame_store.specs.declared.records.Record.{Record}
 use Rattle.frame_store.specs.declared.registers.Span.{Span}
 use Rattle.frame_store.specs.Captures.{Captures}
-use Rattle.frame_store.specs.Entry.{Kept, Entry, Undo, entry_of, entries, Other}
+use Rattle.frame_store.specs.Entry.{Kept, Entry, Undo, TurnOpen, TurnOrExit, CallOpen, entry_of, entries, Other}
 use mathlib.Core.Path.{fun_ext}
 use Rattle.frame_store.specs.Stack as stack_of
 use Rattle.frame_store.specs.Undo.{taken_back, HasSlot, undone}
@@ -19,8 +19,8 @@ use Rattle.frame_machine.specs.declared.machine.Next.TheVariants.{End}
 use Rattle.frame_machine.specs.declared.machine.Spot.{Spot}
 use Rattle.node_flow.specs.Followers.{first_of}
 use Rattle.frame_machine.specs.Ground.{Ground, next_of, IsGround, IsPart}
-use Rattle.frame_machine.specs.Machine.{Around, state_at, link_of, towards, entry_kept, Outside}
-use Rattle.frame_machine.specs.Frames.{frame_around, after, past, around, frame_end, hand, cont, fail, outside, focus}
+use Rattle.frame_machine.specs.Machine.{Around, state_at, link_of, towards, entry_kept, heard_by, heard, Outside}
+use Rattle.frame_machine.specs.Frames.{frame_around, after, past, around, around_at, frame_end, hand, cont, fail, outside, focus}
 use Rattle.frame_machine.specs.Validity.{IsStanding, SpanStands, AreSpans, IsSound, AreSound, IsRunning}
 use Rattle.frame_machine.proofs.KidParts.{next_part}
 use Rattle.ordered_search.proofs.Free.{follow_same}
@@ -38,11 +38,27 @@ module _ (c : Ground) where
   pub around_push : (r : Entry) (below : List Entry) (l : ℕ) → l ≤ length below → around c (r ∷ below) l ≡ around c below l
   around_push r below l h = around_below r below l (λ e. omega (arith, e, h))
 
+  heard_below : (r : Entry) (below : List Entry) (h : ℕ) → (h ≡ suc (length below) → ⊥) → heard (r ∷ below) h ≡ heard below h
+  unfolding heard
+  heard_below r below h n = cond-false _ _ _ (ne_eqb _ _ n)
+
+  pub heard_push : (r : Entry) (below : List Entry) (h : ℕ) → h ≤ length below → heard (r ∷ below) h ≡ heard below h
+  heard_push r below h le = heard_below r below h (λ e. omega (arith, e, le))
+
+  pub heard_here : (r : Entry) (below : List Entry) (h : ℕ) → h ≡ suc (length below) → heard (r ∷ below) h ≡ heard_by r (heard below (entry_kept r).passed)
+  unfolding heard
+  heard_here r below h e = cond-true _ _ _ (eq-eqb _ _ e)
+
+  pub path_push : (r : Entry) (below : List Entry) (l h : ℕ) → l ≤ length below → h ≤ length below → around_at c (r ∷ below) l h ≡ around_at c below l h
+  path_push r below l h le low =
+      ap (λ (a : Around). record a { passed = heard (r ∷ below) h }) (around_push r below l le)
+      ∙ ap (λ (names : List (ℕ × ℕ)). record (around c below l) { passed = names }) (heard_push r below h low)
+
   pub cont_here : (r : Entry) (below : List Entry) (caps : Captures) (l : ℕ) → l ≡ suc (length below) →
-      cont c (r ∷ below) caps l ≡ frame_end c r (around c below (link_of r)) (outside c below (taken_back r caps) (link_of r)) (taken_back r caps) (fail c below (taken_back r caps))
+      cont c (r ∷ below) caps l ≡ frame_end c r (around_at c below (link_of r) (entry_kept r).passed) (outside c below (taken_back r caps) (link_of r)) (taken_back r caps) (fail c below (taken_back r caps))
   unfolding cont
   cont_here r below caps l e =
-      follow_same _ (frame_end c r (around c below (link_of r)) (outside c below (taken_back r caps) (link_of r)) (taken_back r caps) (fail c below (taken_back r caps)))
+      follow_same _ (frame_end c r (around_at c below (link_of r) (entry_kept r).passed) (outside c below (taken_back r caps) (link_of r)) (taken_back r caps) (fail c below (taken_back r caps)))
       (λ how s f. cond-true _ _ _ (eq-eqb _ _ e))
 
   cont_below : (r : Entry) (below : List Entry) (caps : Captures) (l : ℕ) → (l ≡ suc (length below) → ⊥) → cont c (r ∷ below) caps l ≡ cont c below (taken_back r caps) l
@@ -77,13 +93,13 @@ module _ (c : Ground) where
   -- what is around the parts in a frame that is pushed
   abbrev pub inside_of : Entry → List Entry → Captures → Outside
   inside_of r stack caps =
-      around_with (frame_end c r (around c stack (link_of r)) (outside c stack (taken_back r caps) (link_of r)) (taken_back r caps) (fail c stack (taken_back r caps)))
+      around_with (frame_end c r (around_at c stack (link_of r) (entry_kept r).passed) (outside c stack (taken_back r caps) (link_of r)) (taken_back r caps) (fail c stack (taken_back r caps)))
       (hand c (r ∷ stack) caps (suc (length stack)))
 
   -- fewer Steps left
   standing_less : (left less frame d : ℕ) (kept : Kept) (stack : List Entry) → less ≤ left → IsStanding c left frame kept d stack → IsStanding c less frame kept d stack
   standing_less left less frame d kept stack h s =
-      record { inside = s.inside; deep = omega (arith, s.deep, h); counted = s.counted; few = s.few; here = s.here }
+      record { inside = s.inside; deep = omega (arith, s.deep, h); counted = s.counted; few = s.few; here = s.here; marked = s.marked }
 
   sound_one : (left less slots : ℕ) (below : List Entry) (r : Entry) → less ≤ left → IsSound c left slots below r → IsSound c less slots below r
   sound_one left less slots below (Undo at slot old) h s = s
@@ -96,20 +112,33 @@ module _ (c : Ground) where
 
   -- a record that is pushed leaves the frames below as they were
   module _ (r : Entry) (stack : List Entry) (caps : Captures) where
-    pub focus_kept : (next : Next) (l : ℕ) (kept : Kept) (now : Captures) (f : Moves) → l ≤ length stack →
-        focus c next (around c (r ∷ stack) l).depth (outside c (r ∷ stack) caps l) (state_at (around c (r ∷ stack) l) kept now) f
-        ≡ focus c next (around c stack l).depth (outside c stack (taken_back r caps) l) (state_at (around c stack l) kept now) f
-    focus_kept next l kept now f h =
-        ap (λ (a : Around). focus c next a.depth (outside c (r ∷ stack) caps l) (state_at a kept now) f) (around_push r stack l h)
-        ∙ ap (λ (k : Outside). focus c next (around c stack l).depth k (state_at (around c stack l) kept now) f) (outside_push r stack caps l h)
+    pub focus_kept : (next : Next) (l h : ℕ) (kept : Kept) (now : Captures) (f : Moves) → l ≤ length stack → h ≤ length stack →
+        focus c next (around c (r ∷ stack) l).depth (outside c (r ∷ stack) caps l) (state_at (around_at c (r ∷ stack) l h) kept now) f
+        ≡ focus c next (around c stack l).depth (outside c stack (taken_back r caps) l) (state_at (around_at c stack l h) kept now) f
+    focus_kept next l h kept now f le low =
+        ap (λ (a : Around). focus c next a.depth (outside c (r ∷ stack) caps l) (state_at a kept now) f) (path_push r stack l h le low)
+        ∙ ap (λ (k : Outside). focus c next (around c stack l).depth k (state_at (around_at c stack l h) kept now) f) (outside_push r stack caps l le)
 
-    -- a frame that is pushed
-    pub focus_framed : (next : Next) (kept : Kept) (now : Captures) (f : Moves) →
-        focus c next (around c (r ∷ stack) (suc (length stack))).depth (outside c (r ∷ stack) caps (suc (length stack))) (state_at (around c (r ∷ stack) (suc (length stack))) kept now) f
-        ≡ focus c next (frame_around r (around c stack (link_of r))).depth (inside_of r stack caps) (state_at (frame_around r (around c stack (link_of r))) kept now) f
-    focus_framed next kept now f =
-        ap (λ (a : Around). focus c next a.depth (outside c (r ∷ stack) caps (suc (length stack))) (state_at a kept now) f) (around_here r stack _ refl)
-        ∙ ap (λ (k : Follow). focus c next (frame_around r (around c stack (link_of r))).depth (around_with k (hand c (r ∷ stack) caps (suc (length stack)))) (state_at (frame_around r (around c stack (link_of r))) kept now) f) (cont_here r stack caps _ refl)
+    -- a record of a name that was passed
+    pub focus_named : (next : Next) (l : ℕ) (kept : Kept) (now : Captures) (f : Moves) → l ≤ length stack →
+        focus c next (around c (r ∷ stack) l).depth (outside c (r ∷ stack) caps l) (state_at (around_at c (r ∷ stack) l (suc (length stack))) kept now) f
+        ≡ focus c next (around c stack l).depth (outside c stack (taken_back r caps) l) (state_at (record (around c stack l) { passed = heard_by r (heard stack (entry_kept r).passed) }) kept now) f
+    focus_named next l kept now f le =
+        ap (λ (a : Around). focus c next a.depth (outside c (r ∷ stack) caps l) (state_at (record a { passed = heard (r ∷ stack) (suc (length stack)) }) kept now) f) (around_push r stack l le)
+        ∙ ap (λ (names : List (ℕ × ℕ)). focus c next (around c stack l).depth (outside c (r ∷ stack) caps l) (state_at (record (around c stack l) { passed = names }) kept now) f) (heard_here r stack _ refl)
+        ∙ ap (λ (k : Outside). focus c next (around c stack l).depth k (state_at (record (around c stack l) { passed = heard_by r (heard stack (entry_kept r).passed) }) kept now) f) (outside_push r stack caps l le)
+
+    -- a frame that is pushed, for a path that passed names up to a height below it
+    abbrev pub path_in : ℕ → Around
+    path_in h = record (frame_around r (around c stack (link_of r))) { passed = heard stack h }
+
+    pub focus_framed : (next : Next) (h : ℕ) (kept : Kept) (now : Captures) (f : Moves) → h ≤ length stack →
+        focus c next (around c (r ∷ stack) (suc (length stack))).depth (outside c (r ∷ stack) caps (suc (length stack))) (state_at (around_at c (r ∷ stack) (suc (length stack)) h) kept now) f
+        ≡ focus c next (frame_around r (around c stack (link_of r))).depth (inside_of r stack caps) (state_at (path_in h) kept now) f
+    focus_framed next h kept now f low =
+        ap (λ (a : Around). focus c next a.depth (outside c (r ∷ stack) caps (suc (length stack))) (state_at (record a { passed = heard (r ∷ stack) h }) kept now) f) (around_here r stack _ refl)
+        ∙ ap (λ (names : List (ℕ × ℕ)). focus c next (frame_around r (around c stack (link_of r))).depth (outside c (r ∷ stack) caps (suc (length stack))) (state_at (record (frame_around r (around c stack (link_of r))) { passed = names }) kept now) f) (heard_push r stack h low)
+        ∙ ap (λ (k : Follow). focus c next (frame_around r (around c stack (link_of r))).depth (around_with k (hand c (r ∷ stack) caps (suc (length stack)))) (state_at (path_in h) kept now) f) (cont_here r stack caps _ refl)
 
 -- the list around the entry at a height
 pub record Split (stack : List Entry) (h : ℕ) (r : Entry) : Type 0 where
@@ -163,6 +192,18 @@ module _ (c : Ground) where
   around_deep [] base l h = refl
   around_deep (p ∷ above) base l h = around_push c p (above ++ base) l (omega (arith, h, length-append above base)) ∙ around_deep above base l h
 
+  path_deep : (above base : List Entry) (l h : ℕ) → l ≤ length base → h ≤ length base → around_at c (above ++ base) l h ≡ around_at c base l h
+  path_deep [] base l h le low = refl
+  path_deep (p ∷ above) base l h le low =
+      path_push c p (above ++ base) l h (omega (arith, le, length-append above base)) (omega (arith, low, length-append above base)) ∙ path_deep above base l h le low
+
+  -- names are not the frame's
+  frame_passed : (r : Entry) (a : Around) (names : List (ℕ × ℕ)) → record (frame_around r a) { passed = names } ≡ frame_around r (record a { passed = names })
+  frame_passed (TurnOpen at kept count) a names = refl
+  frame_passed (TurnOrExit at kept count) a names = refl
+  frame_passed (CallOpen at kept group last) a names = refl
+  frame_passed _ a names = refl
+
   cont_deep : (above base : List Entry) (caps : Captures) (l : ℕ) → l ≤ length base → cont c (above ++ base) caps l ≡ cont c base (undone above caps) l
   unfolding undone
   cont_deep [] base caps l h = refl
@@ -182,8 +223,10 @@ module _ (c : Ground) where
   pub record Framed (left slots : ℕ) (stack : List Entry) (caps : Captures) (l : ℕ) (r : Entry) : Type 0 where
     pub below : List Entry
     pub inner : Captures
-    pub ends : cont c stack caps l ≡ frame_end c r (around c stack (link_of r)) (outside c stack caps (link_of r)) inner (fail c below inner)
+    pub ends : cont c stack caps l ≡ frame_end c r (around_at c stack (link_of r) (entry_kept r).passed) (outside c stack caps (link_of r)) inner (fail c below inner)
     pub deep : around c stack l ≡ frame_around r (around c stack (link_of r))
+    pub path : (h : ℕ) → around_at c stack l h ≡ frame_around r (around_at c stack (link_of r) h)
+    pub marked : (entry_kept r).passed ≤ length stack
     pub link : link_of r ≤ length stack
     pub sound : IsSound c left slots below r
     pub same_around : around c below (link_of r) ≡ around c stack (link_of r)
@@ -195,9 +238,14 @@ module _ (c : Ground) where
   link_sound left slots below (Other at) s = s
   link_sound left slots below r s = s.1.inside
 
-  framed_split : (left slots : ℕ) (above below : List Entry) (caps : Captures) (r : Entry) → link_of r ≤ length below →
+  heard_sound : (left slots : ℕ) (below : List Entry) (r : Entry) → IsSound c left slots below r → (entry_kept r).passed ≤ length below
+  heard_sound left slots below (Undo at slot old) s = omega arith
+  heard_sound left slots below (Other at) s = omega arith
+  heard_sound left slots below r s = s.1.marked
+
+  framed_split : (left slots : ℕ) (above below : List Entry) (caps : Captures) (r : Entry) → link_of r ≤ length below → (entry_kept r).passed ≤ length below →
       AreSound c left slots (above ++ (r ∷ below)) → Framed left slots (above ++ (r ∷ below)) caps (suc (length below)) r
-  framed_split left slots above below caps r low s =
+  framed_split left slots above below caps r low early s =
       let one : suc (length below) ≤ length (r ∷ below) = omega arith in
       let lowest : link_of r ≤ length (r ∷ below) = omega (arith, low) in
       let inner : Captures = undone above caps in
@@ -205,16 +253,25 @@ module _ (c : Ground) where
       outside_deep above (r ∷ below) caps (link_of r) lowest ∙ outside_push c r below inner (link_of r) low in
       let d2 : around c (above ++ (r ∷ below)) (link_of r) ≡ around c below (link_of r) =
       around_deep above (r ∷ below) (link_of r) lowest ∙ around_push c r below (link_of r) low in
+      let told : ℕ = (entry_kept r).passed in
+      let p2 : around_at c (above ++ (r ∷ below)) (link_of r) told ≡ around_at c below (link_of r) told =
+      path_deep above (r ∷ below) (link_of r) told lowest (omega (arith, early)) ∙ path_push c r below (link_of r) told low early in
+      let deep_is : around c (above ++ (r ∷ below)) (suc (length below)) ≡ frame_around r (around c (above ++ (r ∷ below)) (link_of r)) =
+      around_deep above (r ∷ below) _ one ∙ around_here c r below _ refl ∙ ap (frame_around r) (sym d2) in
       record {
         below = below;
         inner = taken_back r inner;
         ends =
             cont_deep above (r ∷ below) caps (suc (length below)) one
             ∙ cont_here c r below inner _ refl
-            ∙ ap (λ (a : Around). frame_end c r a (outside c below (taken_back r inner) (link_of r)) (taken_back r inner) (fail c below (taken_back r inner))) (sym d2)
-            ∙ ap (λ (k : Outside). frame_end c r (around c (above ++ (r ∷ below)) (link_of r)) k (taken_back r inner) (fail c below (taken_back r inner))) (sym k2);
-        deep = around_deep above (r ∷ below) _ one ∙ around_here c r below _ refl ∙ ap (frame_around r) (sym d2);
+            ∙ ap (λ (a : Around). frame_end c r a (outside c below (taken_back r inner) (link_of r)) (taken_back r inner) (fail c below (taken_back r inner))) (sym p2)
+            ∙ ap (λ (k : Outside). frame_end c r (around_at c (above ++ (r ∷ below)) (link_of r) told) k (taken_back r inner) (fail c below (taken_back r inner))) (sym k2);
+        deep = deep_is;
+        path = λ h.
+            ap (λ (a : Around). record a { passed = heard (above ++ (r ∷ below)) h }) deep_is
+            ∙ frame_passed r (around c (above ++ (r ∷ below)) (link_of r)) (heard (above ++ (r ∷ below)) h);
         link = omega (arith, low, length-append above (r ∷ below));
+        marked = omega (arith, early, length-append above (r ∷ below));
         sound = (sound_deep left slots above (r ∷ below) s).0;
         same_around = sym d2;
         given_up = λ h e.
@@ -232,7 +289,8 @@ module _ (c : Ground) where
       let here : AreSound c left slots (z.above ++ (r ∷ z.below)) = subst (λ st. AreSound c left slots st) is s in
       subst (λ st. Framed left slots st caps (suc i) r) (sym is)
       (subst (λ h. Framed left slots (z.above ++ (r ∷ z.below)) caps h r) (sym z.height)
-      (framed_split left slots z.above z.below caps r (link_sound left slots z.below r (sound_deep left slots z.above (r ∷ z.below) here).0) here))
+      (framed_split left slots z.above z.below caps r (link_sound left slots z.below r (sound_deep left slots z.above (r ∷ z.below) here).0)
+      (heard_sound left slots z.below r (sound_deep left slots z.above (r ∷ z.below) here).0) here))
 
   -- where the machine goes on after a part
   module _ (ok : IsGround c) (q : ℕ) (inside : IsPart c q) where

@@ -8,7 +8,7 @@ use Rattle.std.proofs.lemmas.Bool.{cases_Bool, cases_lt, eqb-true, le-leb, false
 use Rattle.std.proofs.lemmas.Str.{chars-nil}
 use Rattle.std.specs.Char.{len_utf8}
 use Rattle.std.proofs.lemmas.List.{get_or_past}
-use Rattle.std.proofs.lemmas.List.Elements.{All-head, All-tail}
+use Rattle.std.proofs.lemmas.List.Elements.{All-head, All-tail, All-weaker}
 use Rattle.std.proofs.lemmas.Map.Steps.{length-le_from_distinct_below}
 use Rattle.std.proofs.lemmas.Bool.Decides.{nat_tests}
 use Rattle.pat_tree.specs.declared.nodes.Item.{Item}
@@ -18,7 +18,7 @@ use Rattle.pat_tree.specs.declared.nodes.Node.{Node}
 use Rattle.pat_tree.specs.declared.nodes.Node.TheVariants as node
 use Rattle.pat_tree.specs.declared.nodes.Placed.{Placed}
 use Rattle.pat_tree.specs.Nested.{trees, tree_at, nest}
-use Rattle.pat_tree.specs.Rules.{kids_of, numbers_of}
+use Rattle.pat_tree.specs.Rules.{kids_of, numbers_of, verb_names_of}
 use Rattle.pat_tree.specs.Refs.{named_by, is_in, is_group, has_group}
 use Rattle.pat_tree.specs.Sound.{NodeRules, TreeRules, children, group_numbers, greatest}
 use Rattle.pat_tree.specs.declared.options.PartialMode.TheVariants.{Off}
@@ -181,6 +181,7 @@ module _ (t : TreeParts) (table : List CharSet) (matching : MatchOptions) (subje
       below = below;
       linked = subst (IsLinked (rest t.nodes t.root) (rest t.nodes t.root q)) (sym (here nowhere)) (h.linked q le nowhere);
       classes = rules.classes;
+      names = All-weaker (λ k. k < length t.verb_names) (λ k. k < 4294967295) (λ k l. omega (arith, l, h.names)) (verb_names_of n) rules.verb_names;
       ordered = rules.ordered;
       tests = rules.test;
       few = few_kids t.nodes q n here few below once;
@@ -228,6 +229,7 @@ board_search t table matching subject rules runs fixed shown searched off groups
   off = off;
   groups = groups;
   few = few;
+  names = rules.verb_name_count;
   last = (followers_hang_together t rules).last;
   chained = (followers_hang_together t rules).chained;
   linked = (followers_hang_together t rules).linked;

@@ -1,16 +1,22 @@
 -- What stops the machine where no unit more is held.
-use Rattle.std.proofs.Common.{◌≡◌, ◌≤◌, ℕ}
+use Rattle.std.proofs.Common.{◌≡◌, ◌≤◌, ◌∙◌, ℕ, ap, sym}
 use Rattle.frame_store.specs.Captures.{Captures}
 use Rattle.frame_machine.specs.declared.machine.Spot.{Spot}
 use Rattle.frame_machine.specs.declared.machine.Stop.{Stop}
 use Rattle.frame_machine.specs.declared.machine.Stop.TheVariants as stop
-use Rattle.ordered_search.specs.PlaceAnswer.{Walked, answers, FrameLimit}
-use Rattle.frame_machine.specs.Stops.{IsStop, IsHeldStop}
+use Rattle.ordered_search.specs.PlaceAnswer.{Walked, PlaceAnswer, answers, FrameLimit}
+use Rattle.frame_machine.specs.Machine.{mark_of}
+use Rattle.frame_machine.specs.Stops.{IsStop, IsHeldStop, told}
 
-pub held_stop : (s : Stop) (limit units : ℕ) (spot : Spot) (caps : Captures) (w : Walked) → IsHeldStop s limit units → (limit ≤ units → w ≡ answers FrameLimit) → IsStop s spot caps w
-held_stop stop.Match limit units spot caps w h k = absurd h
-held_stop stop.NoMatch limit units spot caps w h k = absurd h
-held_stop stop.MatchLimit limit units spot caps w h k = absurd h
-held_stop stop.Loop limit units spot caps w h k = absurd h
-held_stop stop.FrameLimit limit units spot caps w h k = k h
-held_stop stop.Memory limit units spot caps w h k = tt
+module _ (limit units : ℕ) (spot old : Spot) (caps : Captures) (w : Walked) (kept : spot.last ≡ old.last) where
+  pub held_stop : (s : Stop) → IsHeldStop s limit units → (limit ≤ units → w ≡ answers FrameLimit) → IsStop s spot caps (told (mark_of old.last) w)
+  held_stop stop.Match h k = absurd h
+  held_stop stop.NoMatch h k = absurd h
+  held_stop stop.MatchLimit h k = absurd h
+  held_stop stop.Loop h k = absurd h
+  held_stop stop.FrameLimit h k = ap (told (mark_of old.last)) (k h) ∙ ap (λ l. told (mark_of l) (answers FrameLimit)) (sym kept)
+  held_stop stop.Memory h k = tt
+
+-- what is told where the answer is this
+pub tells_stop : (spot : Spot) (w : Walked) (a : PlaceAnswer) → w ≡ answers a → told (mark_of spot.last) w ≡ told (mark_of spot.last) (answers a)
+tells_stop spot w a e = ap (told (mark_of spot.last)) e

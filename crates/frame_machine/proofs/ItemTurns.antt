@@ -129,7 +129,7 @@ module _ (c : Ground) (ok : IsGround c) (q : ℕ) (spot : Spot) (stack : List En
 -- a place of a greedy repeat is handed on
 module _ (c : Ground) (ok : IsGround c) (q from to : ℕ) (spot : Spot) (stack : List Entry) (caps : Captures) (v : IsValid c (conf (Fewer q from to) spot stack caps)) where
   moved_standing : (units left : ℕ) → left ≤ spot.left → units ≤ c.setting.matching.frame_limit → spot.units ≤ units → IsStanding c left spot.frame (record (kept_at spot) { place = to; units = units }) (around c stack spot.frame).depth stack
-  moved_standing units left le few more = let w = v.running.1 in record { inside = w.inside; deep = omega (arith, w.deep, le); counted = omega (arith, w.counted, more); few = few; here = v.running.2 }
+  moved_standing units left le few more = let w = v.running.1 in record { inside = w.inside; deep = omega (arith, w.deep, le); counted = omega (arith, w.counted, more); few = few; here = v.running.2; marked = omega (arith, w.marked, more) }
 
   fewer_last : to ≤ from → ahead c (conf (Fewer q from to) spot stack caps)
       ≡ stepped (past c (around c stack spot.frame).depth (outside c stack caps spot.frame) q reached (record (spot_state c spot stack caps) { place = to }) (fail c stack caps))
@@ -162,7 +162,7 @@ module _ (c : Ground) (ok : IsGround c) (q from to : ℕ) (spot : Spot) (stack :
   pub turn_fewer_last : to ≤ from → 0 < spot.left → Advances c (conf (Fewer q from to) spot stack caps) (conf (towards (next_of c q)) (record spot { place = to; left = spot.left - 1 }) stack caps)
   turn_fewer_last le left =
       goes_on_step c _ (record spot { place = to; left = spot.left - 1 }) stack caps (sound_less c spot.left (spot.left - 1) (length caps) stack (omega arith) v.records) v.spans v.slots ok q v.running.0
-      (moved_standing spot.units (spot.left - 1) (omega arith) v.running.1.few (omega arith)) (omega arith) (fewer_last le)
+      (moved_standing spot.units (spot.left - 1) (omega arith) v.running.1.few (omega arith)) (omega arith) refl (fewer_last le)
 
   pub turn_fewer_more : from < to → 0 < spot.left → spot.units < c.setting.matching.frame_limit →
       Advances c (conf (Fewer q from to) spot stack caps)
@@ -174,9 +174,9 @@ module _ (c : Ground) (ok : IsGround c) (q from to : ℕ) (spot : Spot) (stack :
       let w = v.running.1 in
       advance_step c _ _ _
       (fewer_more lt ∙ ap stepped (holding_room c.setting _ _ room))
-      (focus_kept c r stack caps (towards (next_of c q)) spot.frame (kept_at to') caps (fail c (r ∷ stack) caps) w.inside
+      (focus_kept c r stack caps (towards (next_of c q)) spot.frame spot.passed (kept_at to') caps (fail c (r ∷ stack) caps) w.inside w.marked
       ∙ focus_towards c ok q v.running.0 _ _ _ _)
-      (omega arith)
+      (omega arith) refl
       (record {
         running = running_towards c ok q v.running.0 to' (r ∷ stack) (record {
           inside = omega (arith, w.inside);
@@ -184,9 +184,10 @@ module _ (c : Ground) (ok : IsGround c) (q from to : ℕ) (spot : Spot) (stack :
           counted = omega (arith, w.counted);
           few = omega (arith, room);
           here = v.running.2;
+          marked = omega (arith, w.marked);
         });
         records = (
-          (v.running.0, record { inside = w.inside; deep = omega (arith, w.deep); counted = w.counted; few = w.few; here = w.here }, (lt, v.running.2)),
+          (v.running.0, record { inside = w.inside; deep = omega (arith, w.deep); counted = w.counted; few = w.few; here = w.here; marked = w.marked }, (lt, v.running.2)),
           sound_less c spot.left (spot.left - 1) (length caps) stack (omega arith) v.records,
         );
         spans = v.spans;
@@ -231,7 +232,7 @@ module _ (c : Ground) (ok : IsGround c) (q count to : ℕ) (spot : Spot) (stack 
   turn_more_last e left =
       let w = v.running.1 in
       goes_on_step c _ (record spot { place = to; left = spot.left - 1 }) stack caps (sound_less c spot.left (spot.left - 1) (length caps) stack (omega arith) v.records) v.spans v.slots ok q v.running.0
-      (record { inside = w.inside; deep = omega (arith, w.deep); counted = w.counted; few = w.few; here = v.running.3 }) (omega arith) (more_last e)
+      (record { inside = w.inside; deep = omega (arith, w.deep); counted = w.counted; few = w.few; here = v.running.3; marked = w.marked }) (omega arith) refl (more_last e)
 
   pub turn_more_more : is_none_left (less count high) ≡ false → 0 < spot.left → spot.units < c.setting.matching.frame_limit →
       Advances c (conf (More q count to) spot stack caps)
@@ -243,9 +244,9 @@ module _ (c : Ground) (ok : IsGround c) (q count to : ℕ) (spot : Spot) (stack 
       let w = v.running.1 in
       advance_step c _ _ _
       (more_more e ∙ ap stepped (holding_room c.setting _ _ room))
-      (focus_kept c r stack caps (towards (next_of c q)) spot.frame (kept_at to') caps (fail c (r ∷ stack) caps) w.inside
+      (focus_kept c r stack caps (towards (next_of c q)) spot.frame spot.passed (kept_at to') caps (fail c (r ∷ stack) caps) w.inside w.marked
       ∙ focus_towards c ok q v.running.0 _ _ _ _)
-      (omega arith)
+      (omega arith) refl
       (record {
         running = running_towards c ok q v.running.0 to' (r ∷ stack) (record {
           inside = omega (arith, w.inside);
@@ -253,11 +254,12 @@ module _ (c : Ground) (ok : IsGround c) (q count to : ℕ) (spot : Spot) (stack 
           counted = omega (arith, w.counted);
           few = omega (arith, room);
           here = v.running.3;
+          marked = omega (arith, w.marked);
         });
         records = (
           (
             v.running.0,
-            record { inside = w.inside; deep = omega (arith, w.deep); counted = w.counted; few = w.few; here = w.here },
+            record { inside = w.inside; deep = omega (arith, w.deep); counted = w.counted; few = w.few; here = w.here; marked = w.marked },
             (v.running.2, v.running.3, subst (λ x. HasFurther c x count) t e),
           ),
           sound_less c spot.left (spot.left - 1) (length caps) stack (omega arith) v.records,

@@ -59,7 +59,7 @@ module _ (c : Ground) where
   parts_under after (node.Ref ns caseless) b l a r = All-nil (IsPart c)
   parts_under after (node.Anchor kind) b l a r = All-nil (IsPart c)
   parts_under after node.KeepOut b l a r = All-nil (IsPart c)
-  parts_under after (node.VerbNode v) b l a r = absurd b
+  parts_under after (node.VerbNode v) b l a r = All-nil (IsPart c)
   parts_under after (node.Callout number from to at len) b l a r = absurd b
 
   -- the children of a part

@@ -29,3 +29,6 @@ mod Start
 mod GroundLemmas
 mod GroupParts
 mod MadeLemmas
+pub mod StopAnswers
+pub mod VerbTurns
+pub mod AcceptTurns

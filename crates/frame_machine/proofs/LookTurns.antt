@@ -109,41 +109,41 @@ module _ (c : Ground) (ok : IsGround c) (spot : Spot) (records : List Record) (c
 
   module _ (kind : p.kind ≡ KIND_LOOK_OPEN) where
     pub look_inside : IsPart c p.node
-    look_inside = frame_inside c ok spot records caps v h at_height p at (site_of p) (kept_of p) (LookOpen (site_of p) (kept_of p)) (entry_of-look_open p kind) refl (λ a. refl) (λ below s. (s.0, s.1))
+    look_inside = frame_inside c ok spot records caps v h at_height p at (site_of p) (kept_of p) (LookOpen (site_of p) (kept_of p)) (entry_of-look_open p kind) refl refl (λ a. refl) (λ below s. (s.0, s.1))
 
     look_here : c.stands p.place ≡ true
-    look_here = frame_here c ok spot records caps v h at_height p at (site_of p) (kept_of p) (LookOpen (site_of p) (kept_of p)) (entry_of-look_open p kind) refl (λ a. refl) (λ below s. (s.0, s.1))
+    look_here = frame_here c ok spot records caps v h at_height p at (site_of p) (kept_of p) (LookOpen (site_of p) (kept_of p)) (entry_of-look_open p kind) refl refl (λ a. refl) (λ below s. (s.0, s.1))
 
     pub stop_look_left : c.setting.matching.frame_limit ≤ spot.units → tread c.setting spot.left (ahead c (conf End spot (entries records) caps)) ≡ answers FrameLimit
     stop_look_left full =
-        stop_leave c ok spot records caps v h at_height p at (site_of p) (kept_of p) (LookOpen (site_of p) (kept_of p)) (entry_of-look_open p kind) refl (λ a. refl) (λ below s. (s.0, s.1))
-        p.place p.keep p.passed look_here (λ a k. past c a.depth k p.node) (λ a k x out f. refl) full
+        stop_leave c ok spot records caps v h at_height p at (site_of p) (kept_of p) (LookOpen (site_of p) (kept_of p)) (entry_of-look_open p kind) refl refl (λ a. refl) (λ below s. (s.0, s.1))
+        p.place p.keep look_here (λ a k. past c a.depth k p.node) (λ a b k x out f. refl) full
 
     pub turn_look_left : spot.units < c.setting.matching.frame_limit →
         Advances c (conf End spot (entries records) caps)
         (conf (towards (next_of c p.node)) (record spot { place = p.place; keep = p.keep; passed = p.passed; frame = p.link; units = spot.units + 1 })
         (AtomicLeft (record { node = p.node; link = p.link }) (kept_at (record spot { frame = p.link })) h ∷ entries records) caps)
     turn_look_left room =
-        turn_left c ok spot records caps v h at_height p at (site_of p) (kept_of p) (LookOpen (site_of p) (kept_of p)) (entry_of-look_open p kind) refl (λ a. refl) (λ below s. (s.0, s.1))
-        p.place p.keep p.passed look_here (λ a k x out f. refl) room
+        turn_left c ok spot records caps v h at_height p at (site_of p) (kept_of p) (LookOpen (site_of p) (kept_of p)) (entry_of-look_open p kind) refl refl (λ a. refl) (λ below s. (s.0, s.1))
+        p.place p.keep look_here (λ a b k x out f. refl) room
 
   module _ (kind : p.kind ≡ KIND_LOOK_ALL_OPEN) where
     pub through_inside : IsPart c p.node
-    through_inside = frame_inside c ok spot records caps v h at_height p at (site_of p) (kept_of p) (LookAllOpen (site_of p) (kept_of p)) (entry_of-look_all_open p kind) refl (λ a. refl) (λ below s. (s.0, s.1))
+    through_inside = frame_inside c ok spot records caps v h at_height p at (site_of p) (kept_of p) (LookAllOpen (site_of p) (kept_of p)) (entry_of-look_all_open p kind) refl refl (λ a. refl) (λ below s. (s.0, s.1))
 
     through_here : c.stands p.place ≡ true
-    through_here = frame_here c ok spot records caps v h at_height p at (site_of p) (kept_of p) (LookAllOpen (site_of p) (kept_of p)) (entry_of-look_all_open p kind) refl (λ a. refl) (λ below s. (s.0, s.1))
+    through_here = frame_here c ok spot records caps v h at_height p at (site_of p) (kept_of p) (LookAllOpen (site_of p) (kept_of p)) (entry_of-look_all_open p kind) refl refl (λ a. refl) (λ below s. (s.0, s.1))
 
     pub turn_look_through : Advances c (conf End spot (entries records) caps)
         (conf (towards (next_of c p.node)) (record spot { place = p.place; keep = p.keep; frame = p.link }) (entries records) caps)
     turn_look_through =
-        turn_through c ok spot records caps v h at_height p at (site_of p) (kept_of p) (LookAllOpen (site_of p) (kept_of p)) (entry_of-look_all_open p kind) refl (λ a. refl) (λ below s. (s.0, s.1))
-        p.place p.keep spot.passed through_here (λ a k x out f. refl)
+        turn_through c ok spot records caps v h at_height p at (site_of p) (kept_of p) (LookAllOpen (site_of p) (kept_of p)) (entry_of-look_all_open p kind) refl refl (λ a. refl) (λ below s. (s.0, s.1))
+        p.place p.keep through_here (λ a b k x out f. refl)
 
   pub turn_look_denied : p.kind ≡ KIND_DENIAL_OPEN →
       Advances c (conf End spot (entries records) caps) (conf Back spot (stack_of.up_to h (entries records)) (undone (stack_of.past h (entries records)) caps))
   turn_look_denied kind =
-      turn_denied c ok spot records caps v h at_height p at (site_of p) (kept_of p) (DenialOpen (site_of p) (kept_of p)) (entry_of-denial_open p kind) refl (λ a. refl) (λ below s. (s.0, s.1))
+      turn_denied c ok spot records caps v h at_height p at (site_of p) (kept_of p) (DenialOpen (site_of p) (kept_of p)) (entry_of-denial_open p kind) refl refl (λ a. refl) (λ below s. (s.0, s.1))
       (λ a k x out s f. refl)
 
   pub turn_look_down : p.kind ≡ KIND_DENIAL_OPEN → (rest : List Record) → rest ≡ stack_of.up_to h records → (after : Captures) → after ≡ undone (stack_of.past h (entries records)) caps →

@@ -1,5 +1,6 @@
 -- What a repeat of one item is made of, and what a part is not.
 use Rattle.std.proofs.Common.{◌≡◌, ℕ, Bool, true, false, Option, not, Result, Ok, Err, IfOk, ap, sym, refl}
+use Rattle.std.specs.Prelude.{OnOk}
 use Rattle.std.proofs.lemmas.Bool.{false≢true}
 use Rattle.pat_tree.specs.declared.nodes.Item.{Item}
 use Rattle.pat_tree.specs.Nested as tree
@@ -27,3 +28,7 @@ not_false false e = absurd (false≢true (sym e))
 pub ok_more : {A E : Type 0} (P Q : A → Type 0) (r : Result A E) → ((x : A) → P x → Q x) → IfOk r P → IfOk r Q
 ok_more P Q (Ok x) h p = h x p
 ok_more P Q (Err e) h p = p
+
+pub on_ok : {A E : Type 0} (P Q : Type 0) (r : Result A E) → OnOk r P → (P → Q) → OnOk r Q
+on_ok P Q (Ok x) p h = h p
+on_ok P Q (Err e) p h = p

@@ -14,6 +14,7 @@ use Rattle.pat_tree.specs.Nested as tree
 use Rattle.pat_tree.specs.Nested.{Nested, Row, row, nest, tree_at, other_of, test_of}
 use mathlib.Core.Path.{fun_ext}
 use Rattle.pat_tree.specs.declared.nodes.Cond.{Cond}
+use Rattle.pat_tree.specs.declared.nodes.Verb.{Verb}
 use Rattle.pat_tree.specs.declared.nodes.Cond.TheVariants as cond
 use Rattle.match_items.specs.Items.{is_none_left, after_item, longest_run, after_break, after_ref, ref_reaches, holds, earliest, places_back}
 use Rattle.frame_store.specs.declared.registers.Span.{Span}
@@ -21,7 +22,7 @@ use Rattle.frame_store.specs.Captures.{capture}
 use Rattle.ordered_search.specs.Stream.{State, reached, accepted, hit_end, by_halt, is_partial}
 use Rattle.ordered_search.specs.Setting.{counts, branch_lengths}
 use Rattle.ordered_search.specs.Moves.{Moves, stops, pause, stepped, noted, Follow, Handler, Path, catching, going, holding, reaching}
-use Rattle.ordered_search.specs.Paths.{close, ref_path, many_paths, turn_path, repeat_path, go_path, parts_path, choice_paths, branch_paths, leave, Many, only_many, possessive_path, atomic_over, look_path, path, row_paths, behind_paths, try_path, tries_path, behind_path, paths, choose_path, other_path, test_path, assert_path, tested_path, call_path}
+use Rattle.ordered_search.specs.Paths.{close, ref_path, many_paths, turn_path, repeat_path, go_path, parts_path, choice_paths, branch_paths, leave, Many, only_many, possessive_path, atomic_over, look_path, path, row_paths, behind_paths, try_path, tries_path, behind_path, paths, choose_path, other_path, test_path, assert_path, tested_path, call_path, verb_path}
 use Rattle.frame_machine.specs.declared.machine.Next.TheVariants.{Branch, Offer, Begin}
 use Rattle.node_flow.specs.Followers.{first_of}
 use Rattle.node_flow.specs.Linked.{AreChained, AllFollowed, IsLinked}
@@ -62,7 +63,7 @@ module _ (c : Ground) where
   unfolding after
   after_cons d k q qs s f = refl
 
-  after_accepted : (d : ℕ) (k : Outside) (qs : List ℕ) (s : State) (f : Moves) → after c d k qs accepted s f ≡ k.follow accepted s f
+  pub after_accepted : (d : ℕ) (k : Outside) (qs : List ℕ) (s : State) (f : Moves) → after c d k qs accepted s f ≡ k.follow accepted s f
   unfolding after
   after_accepted d k [] s f = refl
   after_accepted d k (q ∷ qs) s f = refl
@@ -520,6 +521,10 @@ module _ (c : Ground) where
     pub enter_call : (m : ℕ) → n ≡ node.Call m → enter c d k q s f ≡ call_path c.setting (paths c.setting z) m s (past c d k q) f (k.hand q)
     unfolding path
     enter_call m e = by_node (node.Call m) e
+
+    pub enter_verb : (v : Verb) → n ≡ node.VerbNode v → enter c d k q s f ≡ pause (verb_path c.setting v s (past c d k q) f (k.hand q))
+    unfolding path
+    enter_verb v e = by_node (node.VerbNode v) e
 
     -- A condition.
 

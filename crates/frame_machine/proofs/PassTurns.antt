@@ -83,7 +83,7 @@ module _ (c : Ground) (ok : IsGround c) where
   pub follows_next : (p height : ℕ) (records : List Record) (caps : Captures) (item : Item) → BeginsWith c p item → IsFollower c (Enter p) height records caps item 0
   follows_next p height records caps item b = record {
     class = b.class;
-    fails = λ newest spot at v room none. record { spot = spot; left = refl; turns = b.fails spot (entries (newest ∷ records)) caps v none };
+    fails = λ newest spot at v room none. record { spot = spot; left = refl; last = refl; turns = b.fails spot (entries (newest ∷ records)) caps v none };
   }
 
   module _ (p : Record) (kind : p.kind ≡ KIND_GROUP_OPEN) (g : HasNumber c p.node) (next : ℕ) (is : next_of c p.node ≡ Some next) (item : Item) (b : BeginsWith c next item) where
@@ -100,7 +100,7 @@ module _ (c : Ground) (ok : IsGround c) where
         let failed : Advances c (conf (Enter next) to (undo ∷ entries records) new) (conf Back to (undo ∷ entries records) new) = b.fails to (undo ∷ entries records) new closed.valid none in
         let undone : Advances c (conf Back to (undo ∷ entries records) new) (conf Back to (entries records) caps) =
         subst (λ x. Advances c (conf Back to (undo ∷ entries records) new) (conf Back to (entries records) x)) same (back_plain c ok to (entries records) new undo (λ a k x out h'. refl) failed.valid) in
-        record { spot = to; left = refl; turns = both c _ _ _ closed (both c _ _ _ failed undone) }
+        record { spot = to; left = refl; last = refl; turns = both c _ _ _ closed (both c _ _ _ failed undone) }
 
     pub follows_group : (height : ℕ) (records : List Record) (caps : Captures) (h : ℕ) → height ≡ h + 1 → slice_get (reverse records) h ≡ Some p → IsFollower c End height records caps item 1
     follows_group height records caps h above at =
@@ -123,7 +123,8 @@ module _ (c : Ground) (ok : IsGround c) where
       let first = turn_fewer_more c ok q from to spot (entries records) caps v lt left (omega (arith, room)) in
       let back = f.fails newest (record spot { place = to; left = spot.left - 1; units = spot.units + 1 }) refl first.valid (omega (arith, room)) none in
       let again = back_fewer c ok back.spot (entries records) caps site (kept_at spot) from to back.turns.valid in
-      let same : restored back.spot site (kept_at spot) ≡ record spot { left = spot.left - 1 } = ap (λ l. record spot { left = l }) back.left in
+      let same : restored back.spot site (kept_at spot) ≡ record spot { left = spot.left - 1 } =
+      ap (λ l. record spot { left = l; last = back.spot.last }) back.left ∙ ap (λ l. record spot { left = spot.left - 1; last = l }) back.last in
       subst (λ s. Advances c (conf (Fewer q from to) spot (entries records) caps) (conf (Fewer q from (place_before c.setting.scene to)) s (entries records) caps)) same
       (both c _ _ _ first (both c _ _ _ back.turns again))
 
@@ -147,7 +148,8 @@ module _ (c : Ground) (ok : IsGround c) where
       let first = turn_more_more c ok q count to spot (entries records) caps v w.item w.low high w.lazily w.is some left (omega (arith, room)) in
       let back = f.fails newest (record spot { place = to; left = spot.left - 1; units = spot.units + 1 }) refl first.valid (omega (arith, room)) none in
       let again = back_further_some c ok back.spot (entries records) caps site (kept_at spot) count to back.turns.valid w.item w.low high w.lazily w.is p j same (sym own) in
-      let spots : restored back.spot site (kept_at spot) ≡ record spot { left = spot.left - 1 } = ap (λ l. record spot { left = l }) back.left in
+      let spots : restored back.spot site (kept_at spot) ≡ record spot { left = spot.left - 1 } =
+      ap (λ l. record spot { left = l; last = back.spot.last }) back.left ∙ ap (λ l. record spot { left = spot.left - 1; last = l }) back.last in
       subst (λ s. Advances c (conf (More q count to) spot (entries records) caps) (conf (More q j p) s (entries records) caps)) spots
       (both c _ _ _ first (both c _ _ _ back.turns again))
 

@@ -20,7 +20,8 @@ use Rattle.frame_machine.specs.declared.machine.Spot.{Spot}
 use Rattle.frame_machine.specs.declared.possessive.ItemRepeat.{ItemRepeat}
 use Rattle.frame_machine.specs.declared.possessive.FirstPlace.{FirstPlace}
 use Rattle.frame_machine.specs.Ground.{Ground, next_of, IsNode, IsGround}
-use Rattle.frame_machine.specs.Machine.{less, conf, towards}
+use Rattle.frame_machine.specs.Machine.{less, conf, towards, mark_of}
+use Rattle.frame_machine.specs.Stops.{told}
 use Rattle.frame_machine.specs.Frames.{past, around, outside, fail, spot_state, ahead, fewer_places}
 use Rattle.frame_machine.specs.Validity.{IsValid, Advances}
 use Rattle.frame_machine.specs.Possessive.{many_of, IsMeet, IsOnly, first_place, units_of}
@@ -238,7 +239,7 @@ module _ (c : Ground) (ok : IsGround c) (q : ℕ) (spot : Spot) (stack : List En
           let m : ahead c (conf (Enter q) spot stack caps) ≡ pause (stepped z) = held (Some p) some ∙ ap (λ x. pause (stepped x)) (handed_room p.further moved refl few) in
           let n : ahead c (conf (towards (next_of c q)) after_it stack caps) ≡ z = focus_towards c ok q v.running.0 _ _ _ _ in
           record {
-            answer = ap (tread c.setting spot.left) m ∙ ap (λ l. tread c.setting l (stepped z)) one ∙ sym (ap (tread c.setting (spot.left - 1)) n);
+            answer = ap (told (mark_of spot.last)) (ap (tread c.setting spot.left) m ∙ ap (λ l. tread c.setting l (stepped z)) one ∙ sym (ap (tread c.setting (spot.left - 1)) n));
             shorter = omega (arith, ap size m, ap size n);
             valid = record {
               running = running_towards c ok q v.running.0 after_it stack (record {
@@ -247,6 +248,7 @@ module _ (c : Ground) (ok : IsGround c) (q : ℕ) (spot : Spot) (stack : List En
                 counted = omega (arith, w.counted);
                 few = few;
                 here = subst (IsPlaced c ok r only.meet spot.place w.here) some (first_stands c ok r only.meet spot.place w.here);
+                marked = omega (arith, w.marked);
               });
               records = sound_less c spot.left (spot.left - 1) (length caps) stack (omega arith) v.records;
               spans = v.spans;

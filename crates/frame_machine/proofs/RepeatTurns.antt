@@ -29,7 +29,7 @@ module _ (c : Ground) (ok : IsGround c) (q i : ℕ) (spot : Spot) (stack : List 
     deep = omega (arith, v.running.1.deep)
 
     standing_exit : IsRunning c spot stack End
-    standing_exit = let w = v.running.1 in record { inside = w.inside; deep = omega (arith, w.deep); counted = w.counted; few = w.few; here = w.here }
+    standing_exit = let w = v.running.1 in record { inside = w.inside; deep = omega (arith, w.deep); counted = w.counted; few = w.few; here = w.here; marked = w.marked }
 
     begins : (b : Bool) → IsValid c (conf (Begin q i b) spot stack caps)
     begins b = record { running = v.running; records = v.records; spans = v.spans; slots = v.slots }
@@ -55,7 +55,7 @@ module _ (c : Ground) (ok : IsGround c) (q i : ℕ) (spot : Spot) (stack : List 
         let w = v.running.1 in
         advance_pause c _ _ _
         (offer_lazy c q i _ (tree_of c body) low high lazily t _ _ _ deep ge e is ∙ ap pause (holding_room c.setting _ _ room))
-        (focus_kept c r stack caps (towards (next_of c q)) spot.frame (kept_at to) caps (fail c (r ∷ stack) caps) w.inside
+        (focus_kept c r stack caps (towards (next_of c q)) spot.frame spot.passed (kept_at to) caps (fail c (r ∷ stack) caps) w.inside w.marked
         ∙ focus_towards c ok q v.running.0 _ _ _ _)
         refl
         (record {
@@ -65,6 +65,7 @@ module _ (c : Ground) (ok : IsGround c) (q i : ℕ) (spot : Spot) (stack : List 
             counted = omega (arith, w.counted);
             few = omega (arith, room);
             here = w.here;
+            marked = omega (arith, w.marked);
           });
           records = (v.running, v.records);
           spans = v.spans;
@@ -111,6 +112,7 @@ module _ (c : Ground) (ok : IsGround c) (q i : ℕ) (spot : Spot) (stack : List 
               counted = omega (arith, w.counted);
               few = omega (arith, room);
               here = w.here;
+              marked = omega (arith, w.marked);
             },
           )
 
@@ -118,7 +120,7 @@ module _ (c : Ground) (ok : IsGround c) (q i : ℕ) (spot : Spot) (stack : List 
       under = sound_less c spot.left (spot.left - 1) (length caps) stack (omega arith) v.records
 
       standing : IsStanding c (spot.left - 1) spot.frame (kept_at spot) (around c stack spot.frame).depth stack
-      standing = let w = v.running.1 in record { inside = w.inside; deep = omega (arith, w.deep); counted = w.counted; few = w.few; here = w.here }
+      standing = let w = v.running.1 in record { inside = w.inside; deep = omega (arith, w.deep); counted = w.counted; few = w.few; here = w.here; marked = w.marked }
 
     -- where m is left for when the turn fails
     begins_with : (m : Moves) →
@@ -142,8 +144,8 @@ module _ (c : Ground) (ok : IsGround c) (q i : ℕ) (spot : Spot) (stack : List 
         let r : Entry = TurnOrExit (record { node = q; link = spot.frame }) (kept_at spot) i in
         advance_step c _ _ _
         (begins_with _ (cond-true b _ _ is) room)
-        (focus_framed c r stack caps (Enter body) (kept_at (to inside alone left room)) caps (fail c (r ∷ stack) caps) ∙ sym (entered inside alone left room (inside_of c r stack caps) _ _ _ (hand_same c stack (r ∷ stack) caps caps spot.frame (suc (length stack)) q body)))
-        (omega arith)
+        (focus_framed c r stack caps (Enter body) spot.passed (kept_at (to inside alone left room)) caps (fail c (r ∷ stack) caps) v.running.1.marked ∙ sym (entered inside alone left room (inside_of c r stack caps) _ _ _ (hand_same c stack (r ∷ stack) caps caps spot.frame (suc (length stack)) q body)))
+        (omega arith) refl
         (record {
           running = running inside alone left room r (around_here c r stack _ refl);
           records = ((v.running.0, standing inside alone left room, v.running.2), under inside alone left room);
@@ -159,8 +161,8 @@ module _ (c : Ground) (ok : IsGround c) (q i : ℕ) (spot : Spot) (stack : List 
         let r : Entry = TurnOpen (record { node = q; link = spot.frame }) (kept_at spot) i in
         advance_step c _ _ _
         (begins_with _ (cond-false b _ _ is) room)
-        (focus_framed c r stack caps (Enter body) (kept_at (to inside alone left room)) caps (fail c (r ∷ stack) caps) ∙ sym (entered inside alone left room (inside_of c r stack caps) _ _ _ (hand_same c stack (r ∷ stack) caps caps spot.frame (suc (length stack)) q body)))
-        (omega arith)
+        (focus_framed c r stack caps (Enter body) spot.passed (kept_at (to inside alone left room)) caps (fail c (r ∷ stack) caps) v.running.1.marked ∙ sym (entered inside alone left room (inside_of c r stack caps) _ _ _ (hand_same c stack (r ∷ stack) caps caps spot.frame (suc (length stack)) q body)))
+        (omega arith) refl
         (record {
           running = running inside alone left room r (around_here c r stack _ refl);
           records = ((v.running.0, standing inside alone left room, v.running.2), under inside alone left room);

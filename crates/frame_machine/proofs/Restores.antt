@@ -17,9 +17,10 @@ use Rattle.ordered_search.specs.PlaceAnswer.{Walked, answers, FrameLimit}
 use Rattle.frame_machine.specs.declared.machine.Spot.{Spot}
 use Rattle.frame_machine.specs.declared.machine.Stop.{Stop}
 use Rattle.frame_machine.specs.declared.machine.Stop.TheVariants as stop
-use Rattle.frame_machine.specs.Stops.{IsStop, IsHeldStop}
+use Rattle.frame_machine.specs.Stops.{IsStop, IsHeldStop, told}
+use Rattle.frame_machine.specs.Machine.{mark_of}
 use Rattle.frame_machine.specs.Calls.{AreRestored, IsReturnStop}
-use Rattle.frame_machine.proofs.Frames.{around_push, outside_push}
+use Rattle.frame_machine.proofs.Frames.{path_push, outside_push}
 
 -- How many captures change.
 
@@ -74,7 +75,7 @@ none_restored link old entry n stack a b =
       done = o ∙ sym e;
       counted = omega (arith, none);
       failing = λ c. ap (λ k. pauses k (fail c stack old)) (sym none);
-      arounds = λ c l le. refl;
+      arounds = λ c l h le low. refl;
       outsides = λ c l le. refl;
       sound = λ c steps le a b s. s;
       spans = λ c a b. a;
@@ -146,7 +147,7 @@ module _ (link node : ℕ) (old entry caps : Captures) (j i : ℕ) (next : i ≡
         counted = omega (arith, r.counted, count);
         failing = λ c.
             ap (λ (x : Captures). pause (fail c now x)) back_is ∙ ap pause (r.failing c) ∙ ap (λ k. pauses k (fail c stack old)) (sym count);
-        arounds = λ c l le. around_push c undo now l (omega (arith, le, r.counted)) ∙ r.arounds c l le;
+        arounds = λ c l h le low. path_push c undo now l h (omega (arith, le, r.counted)) (omega (arith, low, r.counted)) ∙ r.arounds c l h le low;
         outsides = λ c l le.
             outside_push c undo now set_caps l (omega (arith, le, r.counted)) ∙ ap (λ (x : Captures). outside c now x l) back_is ∙ r.outsides c l le;
         sound = λ c steps le a b s. (
@@ -282,13 +283,14 @@ none_held old entry n first a =
     ap (λ k. record first { units = k }) same
 
 -- a call isn't left
-pub return_stop : (s : Stop) (limit units : ℕ) (spot : Spot) (caps : Captures) (w : Walked) → IsReturnStop s limit units → (limit < units → w ≡ answers FrameLimit) → IsStop s spot caps w
-return_stop stop.Match limit units spot caps w h k = absurd h
-return_stop stop.NoMatch limit units spot caps w h k = absurd h
-return_stop stop.MatchLimit limit units spot caps w h k = absurd h
-return_stop stop.Loop limit units spot caps w h k = absurd h
-return_stop stop.FrameLimit limit units spot caps w h k = k h
-return_stop stop.Memory limit units spot caps w h k = tt
+module _ (limit units : ℕ) (spot old : Spot) (caps : Captures) (w : Walked) (kept : spot.last ≡ old.last) where
+  pub return_stop : (s : Stop) → IsReturnStop s limit units → (limit < units → w ≡ answers FrameLimit) → IsStop s spot caps (told (mark_of old.last) w)
+  return_stop stop.Match h k = absurd h
+  return_stop stop.NoMatch h k = absurd h
+  return_stop stop.MatchLimit h k = absurd h
+  return_stop stop.Loop h k = absurd h
+  return_stop stop.FrameLimit h k = ap (told (mark_of old.last)) (k h) ∙ ap (λ l. told (mark_of l) (answers FrameLimit)) (sym kept)
+  return_stop stop.Memory h k = tt
 
 -- all are given back
 pub all_restored : (link : ℕ) (old entry caps : Captures) (stack now : List Entry) → AreRestored link old entry caps 0 stack now → caps ≡ entry

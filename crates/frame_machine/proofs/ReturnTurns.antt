@@ -22,7 +22,7 @@ use Rattle.frame_machine.specs.declared.machine.Next.TheVariants.{End}
 use Rattle.frame_machine.specs.declared.machine.Spot.{Spot}
 use Rattle.frame_machine.specs.Ground.{Ground, tree_of, next_of, IsGround, IsPart}
 use Rattle.frame_machine.specs.Machine.{Around, Outside, state_at, kept_at, conf, towards}
-use Rattle.frame_machine.specs.Frames.{past, close_from, around, frame_end, cont, outside, fail, spot_state, ahead, focus}
+use Rattle.frame_machine.specs.Frames.{past, close_from, around, around_at, frame_end, cont, outside, fail, spot_state, ahead, focus}
 use Rattle.frame_machine.specs.Validity.{IsCapture, IsStanding, SpanStands, AreSpans, AreSound, IsValid, Advances}
 use Rattle.frame_machine.specs.Stops.{IsNumber}
 use Rattle.frame_machine.specs.Calls.{AreRestored}
@@ -56,7 +56,7 @@ module _ (c : Ground) (ok : IsGround c) (spot : Spot) (records : List Record) (c
   at_height = omega (arith, height)
 
   abbrev outer : Around
-  outer = around c stack p.link
+  outer = around_at c stack p.link spot.passed
 
   abbrev K : Outside
   K = outside c stack caps p.link
@@ -72,8 +72,8 @@ module _ (c : Ground) (ok : IsGround c) (spot : Spot) (records : List Record) (c
     pub called_sound : IsPart c p.node × IsCapture c (tree_of c p.node)
     called_sound = (group_frame.sound.0, group_frame.sound.2)
 
-    group_around : around c stack spot.frame ≡ outer
-    group_around = ap (around c stack) at_height ∙ group_frame.deep
+    group_around : around_at c stack spot.frame spot.passed ≡ outer
+    group_around = ap (λ l. around_at c stack l spot.passed) at_height ∙ group_frame.path spot.passed
 
     module _ (m : ℕ) (is : IsNumber (tree_of c p.node) m) where
       closing : ahead c (conf End spot stack caps)
@@ -103,7 +103,7 @@ module _ (c : Ground) (ok : IsGround c) (spot : Spot) (records : List Record) (c
           let back : taken_back r new ≡ caps = set-set caps (m - 1) _ (capture caps m) ∙ set-get_or caps (m - 1) None in
           advance_pause c _ _ _
           (closing ∙ ap pause (holding_room c.setting _ _ room))
-          (focus_kept c r stack new End p.link (kept_at to) new (fail c (r ∷ stack) new) g.link
+          (focus_kept c r stack new End p.link spot.passed (kept_at to) new (fail c (r ∷ stack) new) g.link w.marked
           ∙ ap (λ (x : Captures). (outside c stack x p.link).follow reached (state_at outer (kept_at to) new) (pause (fail c stack x))) back)
           refl
           (record {
@@ -113,6 +113,7 @@ module _ (c : Ground) (ok : IsGround c) (spot : Spot) (records : List Record) (c
               counted = omega (arith, w.counted);
               few = omega (arith, room);
               here = w.here;
+              marked = omega (arith, w.marked);
             };
             records = ((some, omega (arith, few, len, v.slots), stands_capture c ok caps (m - 1) v.spans, g.link), subst (λ n. AreSound c spot.left n stack) (sym len) v.records);
             spans = All-set (SpanStands c) caps (m - 1) _ (g.sound.1.here, w.here) v.spans;
@@ -147,7 +148,7 @@ module _ (c : Ground) (ok : IsGround c) (spot : Spot) (records : List Record) (c
       leaving : ahead c (conf End spot stack caps) ≡ pause (holding c.setting count left_state (λ t. on reached t (pauses count (fail c stack caps))))
       leaving =
           ap (λ (k : Follow). k reached (spot_state c spot stack caps) (fail c stack caps)) (ap (cont c stack caps) at_height ∙ call_frame.ends)
-          ∙ ap (λ (x : Captures). returned c.setting (state_at outer (kept_of p) x) on reached (spot_state c spot stack caps) (fail c stack caps)) first_is
+          ∙ ap (λ (x : Captures). returned c.setting (state_at (around_at c stack p.link p.passed) (kept_of p) x) on reached (spot_state c spot stack caps) (fail c stack caps)) first_is
 
       pub stop_left : c.setting.matching.frame_limit < spot.units + count → tread c.setting spot.left (ahead c (conf End spot stack caps)) ≡ answers FrameLimit
       stop_left over = over_units c spot.left _ _ leaving (holding_over c.setting count left_state _ over)
@@ -165,7 +166,7 @@ module _ (c : Ground) (ok : IsGround c) (spot : Spot) (records : List Record) (c
           let to : Spot = record spot { frame = p.link; units = spot.units + count } in
           advance_pause c _ _ _
           (leaving ∙ ap pause (holding_some c.setting count left_state _ room))
-          (ap (λ (a : Around). focus c (towards (next_of c p.node)) a.depth (outside c now entry p.link) (state_at a (kept_at to) entry) (fail c now entry)) (r.arounds c p.link call_frame.link)
+          (ap (λ (a : Around). focus c (towards (next_of c p.node)) a.depth (outside c now entry p.link) (state_at a (kept_at to) entry) (fail c now entry)) (r.arounds c p.link spot.passed call_frame.link w.marked)
           ∙ ap (λ (k : Outside). focus c (towards (next_of c p.node)) outer.depth k (state_at outer (kept_at to) entry) (fail c now entry)) (r.outsides c p.link call_frame.link)
           ∙ ap (focus c (towards (next_of c p.node)) outer.depth K (state_at outer (kept_at to) entry)) (r.failing c)
           ∙ focus_towards c ok p.node call_inside outer.depth K (state_at outer (kept_at to) entry) (pauses count (fail c stack caps)))
@@ -173,10 +174,11 @@ module _ (c : Ground) (ok : IsGround c) (spot : Spot) (records : List Record) (c
           (record {
             running = running_towards c ok p.node call_inside to now (record {
               inside = omega (arith, call_frame.link, r.counted);
-              deep = omega (arith, w.deep, ap (λ (a : Around). a.depth) (ap (around c stack) at_height ∙ call_frame.deep), ap (λ (a : Around). a.depth) (r.arounds c p.link call_frame.link));
+              deep = omega (arith, w.deep, ap (λ (a : Around). a.depth) (ap (around c stack) at_height ∙ call_frame.deep), ap (λ (a : Around). a.depth) (r.arounds c p.link spot.passed call_frame.link w.marked));
               counted = omega (arith, w.counted, r.counted);
               few = room;
               here = w.here;
+              marked = omega (arith, w.marked, r.counted);
             });
             records = subst (λ n. AreSound c spot.left n now) (sym entry_length) (r.sound c spot.left call_frame.link v.spans entry_spans v.records);
             spans = entry_spans;

@@ -11,7 +11,7 @@ use Rattle.ordered_search.specs.Paths.{paths}
 use Rattle.frame_machine.specs.declared.machine.Next.TheVariants.{Enter}
 use Rattle.frame_machine.specs.declared.machine.Spot.{Spot}
 use Rattle.frame_machine.specs.Ground.{Ground, tree_of, IsGround}
-use Rattle.frame_machine.specs.Machine.{conf, Outside}
+use Rattle.frame_machine.specs.Machine.{conf, heard, Outside}
 use Rattle.frame_machine.specs.Frames.{after, around, fail, ahead, hand, outside}
 use Rattle.frame_machine.specs.Validity.{SpanStands, IsValid}
 use Rattle.frame_machine.proofs.KidParts.{root_part}
@@ -21,13 +21,13 @@ use Rattle.ordered_search.proofs.Before.{tread_whole}
 
 module _ (c : Ground) (ok : IsGround c) (place : ℕ) where
   abbrev start_spot : Spot
-  start_spot = record { place = place; keep = place; early = place; units = 0; mark = 0; passed = 0; frame = 0; left = match_limit c.setting }
+  start_spot = record { place = place; keep = place; early = place; units = 0; mark = 0; passed = 0; frame = 0; left = match_limit c.setting; last = 0 }
 
   abbrev start_caps : Captures
   start_caps = replicate c.setting.groups None
 
   pub starts : tread c.setting (match_limit c.setting) (ahead c (conf (Enter c.root) start_spot [] start_caps)) ≡ place_answer c.setting place
-  unfolding around fail hand
+  unfolding around fail hand heard
   starts =
       let d : ℕ = match_limit c.setting + 1 in
       let K : Outside = outside c [] start_caps 0 in
@@ -39,7 +39,7 @@ module _ (c : Ground) (ok : IsGround c) (place : ℕ) where
   pub starts_valid : c.stands place ≡ true → IsValid c (conf (Enter c.root) start_spot [] start_caps)
   unfolding around
   starts_valid here = record {
-    running = (root_part c ok, record { inside = omega arith; deep = omega arith; counted = omega arith; few = omega arith; here = here });
+    running = (root_part c ok, record { inside = omega arith; deep = omega arith; counted = omega arith; few = omega arith; here = here; marked = omega arith });
     records = tt;
     spans = All-replicate (SpanStands c) c.setting.groups None tt;
     slots = length-replicate c.setting.groups None;

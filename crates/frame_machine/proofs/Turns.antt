@@ -27,17 +27,18 @@ use Rattle.frame_machine.specs.declared.machine.Spot.{Spot}
 use Rattle.frame_machine.specs.Begun.{is_behind, begun_by, begun_place, begun_next, begun_spot, first_begun, first_spot}
 use Rattle.frame_machine.specs.Branches.{IsBranched}
 use Rattle.frame_machine.specs.Ground.{Ground, tree_of, next_of, IsNode, StandsIf, IsGround, IsPart}
-use Rattle.frame_machine.specs.Machine.{Around, kept_at, conf, first_set, first_next, row_length, towards, entry_kept, state_at}
-use Rattle.frame_machine.specs.Frames.{past, branch_rest, around, outside, fail, focus, spot_state, ahead, frame_around, hand}
+use Rattle.frame_machine.specs.Machine.{Around, kept_at, conf, first_set, first_next, row_length, towards, entry_kept, state_at, heard}
+use Rattle.frame_machine.specs.Frames.{past, branch_rest, around, around_at, outside, fail, focus, spot_state, ahead, frame_around, hand}
 use Rattle.frame_machine.specs.Validity.{StandsAt, IsRepeat, IsCapture, SpanStands, AreSpans, IsRunning, IsValid, Advances, IsSound}
 use Rattle.frame_machine.specs.Stops.{moved_next, moved_spot, held_next, held_early, part_next}
 use Rattle.frame_machine.proofs.KidParts.{kid_parts}
 use Rattle.frame_machine.proofs.PartPaths.{enter_empty, enter_keep, enter_one, enter_break, enter_anchor, enter_ref, enter_seq_none, enter_seq, enter_group, enter_capture, enter_repeat, branch_last, branch_more, Alike, part_paths, kid_paths, plain_kids, free_kid, begun_state, first_state, first_plain, branched_group, branches_in}
 use Rattle.frame_machine.proofs.Frames.{around_here, around_push, focus_kept, focus_framed, sound_less, hand_same, inside_of}
-use Rattle.frame_machine.proofs.Advance.{holding_room, holding_full, advance_pause, advance_step, over_steps, over_units, over_units_step, goes_back, goes_on}
+use Rattle.frame_machine.proofs.Advance.{holding_room, holding_full, advance_pause, advance_step, over_steps, over_units, over_units_step, goes_back, goes_on, stays}
 use Rattle.frame_store.specs.Undo.{taken_back}
 use Rattle.ordered_search.specs.Paths.{branch_paths}
 use Rattle.pat_tree.specs.declared.nodes.Cond.{Cond}
+use Rattle.pat_tree.specs.declared.nodes.Verb.{Verb}
 
 module _ (c : Ground) (ok : IsGround c) where
   stands_item : (item : Item) (p : ℕ) (o : Option ℕ) → c.stands p ≡ true → after_item c.setting.scene item p ≡ o → StandsIf c o
@@ -87,7 +88,7 @@ module _ (c : Ground) (ok : IsGround c) where
 
   begun_ahead : (b : Bool) (to : Option ℕ) (p : ℕ) (spot : Spot) (stack : List Entry) (caps : Captures) →
       ahead c (conf (begun_next b to p) (begun_spot b to spot) stack caps)
-      ≡ focus c (begun_next b to p) (around c stack spot.frame).depth (outside c stack caps spot.frame) (state_at (around c stack spot.frame) (kept_at (begun_spot b to spot)) caps) (fail c stack caps)
+      ≡ focus c (begun_next b to p) (around c stack spot.frame).depth (outside c stack caps spot.frame) (state_at (around_at c stack spot.frame spot.passed) (kept_at (begun_spot b to spot)) caps) (fail c stack caps)
   begun_ahead false to p spot stack caps = refl
   begun_ahead true None p spot stack caps = refl
   begun_ahead true (Some place) p spot stack caps = refl
@@ -102,6 +103,16 @@ module _ (c : Ground) (ok : IsGround c) where
   begun_left true None spot = refl
   begun_left true (Some place) spot = refl
 
+  begun_last : (b : Bool) (to : Option ℕ) (spot : Spot) → (begun_spot b to spot).last ≡ spot.last
+  begun_last false to spot = refl
+  begun_last true None spot = refl
+  begun_last true (Some place) spot = refl
+
+  begun_told : (b : Bool) (to : Option ℕ) (spot : Spot) → stays (begun_spot b to spot) ≡ stays spot
+  begun_told false to spot = refl
+  begun_told true None spot = refl
+  begun_told true (Some place) spot = refl
+
   begun_valid : (b : Bool) (to : Option ℕ) → StandsIf c to → (p : ℕ) (spot : Spot) (stack : List Entry) (caps : Captures) →
       IsValid c (conf (Enter p) spot stack caps) → IsValid c (conf (begun_next b to p) (begun_spot b to spot) stack caps)
   begun_valid false to h p spot stack caps v = v
@@ -109,7 +120,7 @@ module _ (c : Ground) (ok : IsGround c) where
   begun_valid true (Some place) h p spot stack caps v =
       let w = v.running.1 in
       record {
-        running = (v.running.0, record { inside = w.inside; deep = w.deep; counted = w.counted; few = w.few; here = h });
+        running = (v.running.0, record { inside = w.inside; deep = w.deep; counted = w.counted; few = w.few; here = h; marked = w.marked });
         records = v.records;
         spans = v.spans;
         slots = v.slots;
@@ -122,7 +133,7 @@ module _ (c : Ground) (ok : IsGround c) (q : ℕ) (spot : Spot) (stack : List En
 
   -- at another place
   moved_standing : (p : ℕ) → c.stands p ≡ true → IsRunning c (record spot { place = p }) stack End
-  moved_standing p h = let w = v.running.1 in record { inside = w.inside; deep = w.deep; counted = w.counted; few = w.few; here = h }
+  moved_standing p h = let w = v.running.1 in record { inside = w.inside; deep = w.deep; counted = w.counted; few = w.few; here = h; marked = w.marked }
 
   turn_going : (o : Option ℕ) → StandsIf c o →
       ahead c (conf (Enter q) spot stack caps)
@@ -170,7 +181,7 @@ module _ (c : Ground) (ok : IsGround c) (q : ℕ) (spot : Spot) (stack : List En
   turn_holds kind e h =
       let w = v.running.1 in
       goes_on c _ (record spot { early = earliest c.setting.scene kind spot.place spot.early }) stack caps v.records v.spans v.slots ok q v.running.0
-      (record { inside = w.inside; deep = w.deep; counted = w.counted; few = w.few; here = w.here }) refl
+      (record { inside = w.inside; deep = w.deep; counted = w.counted; few = w.few; here = w.here; marked = w.marked }) refl
       (enter_anchor c ok q n i _ _ _ _ _ deep kind e
       ∙ ap (λ b. pause (elim b [
         | true ↦ past c (around c stack spot.frame).depth (outside c stack caps spot.frame) q reached
@@ -201,7 +212,7 @@ module _ (c : Ground) (ok : IsGround c) (q : ℕ) (spot : Spot) (stack : List En
   turn_keep e =
       let w = v.running.1 in
       goes_on c _ (record spot { keep = spot.place }) stack caps v.records v.spans v.slots ok q v.running.0
-      (record { inside = w.inside; deep = w.deep; counted = w.counted; few = w.few; here = w.here }) refl (enter_keep c ok q n i _ _ _ _ _ deep e)
+      (record { inside = w.inside; deep = w.deep; counted = w.counted; few = w.few; here = w.here; marked = w.marked }) refl (enter_keep c ok q n i _ _ _ _ _ deep e)
 
   kids_are : (ks : List ℕ) → kids_of n ≡ ks → All (IsPart c) ks
   kids_are ks e = subst (All (IsPart c)) e (kid_parts c q n v.running.0 i)
@@ -236,7 +247,7 @@ module _ (c : Ground) (ok : IsGround c) (q : ℕ) (spot : Spot) (stack : List En
 
   first_ahead : (b : Bool) (p : ℕ) (ks : List ℕ) (spot' : Spot) (stack' : List Entry) (caps' : Captures) →
       ahead c (conf (first_begun c b p ks spot'.place) (first_spot c b ks spot') stack' caps')
-      ≡ focus c (first_begun c b p ks spot'.place) (around c stack' spot'.frame).depth (outside c stack' caps' spot'.frame) (state_at (around c stack' spot'.frame) (kept_at (first_spot c b ks spot')) caps') (fail c stack' caps')
+      ≡ focus c (first_begun c b p ks spot'.place) (around c stack' spot'.frame).depth (outside c stack' caps' spot'.frame) (state_at (around_at c stack' spot'.frame spot'.passed) (kept_at (first_spot c b ks spot')) caps') (fail c stack' caps')
   first_ahead b p [] spot' stack' caps' = refl
   first_ahead b p (x ∷ []) spot' stack' caps' = begun_ahead c ok b (begun_place c x spot'.place) x spot' stack' caps'
   first_ahead b p (x ∷ y ∷ ps) spot' stack' caps' = refl
@@ -246,10 +257,10 @@ module _ (c : Ground) (ok : IsGround c) (q : ℕ) (spot : Spot) (stack : List En
   first_kept b (x ∷ []) a spot' caps' = begun_kept c ok b (begun_place c x spot'.place) a spot' caps'
   first_kept b (x ∷ y ∷ ps) a spot' caps' = refl
 
-  first_left : (b : Bool) (ks : List ℕ) (spot' : Spot) → (first_spot c b ks spot').left ≡ spot'.left
-  first_left b [] spot' = refl
-  first_left b (x ∷ []) spot' = begun_left c ok b (begun_place c x spot'.place) spot'
-  first_left b (x ∷ y ∷ ps) spot' = refl
+  first_told : (b : Bool) (ks : List ℕ) (spot' : Spot) → stays (first_spot c b ks spot') ≡ stays spot'
+  first_told b [] spot' = refl
+  first_told b (x ∷ []) spot' = begun_told c ok b (begun_place c x spot'.place) spot'
+  first_told b (x ∷ y ∷ ps) spot' = refl
 
   spot_plain : (ks : List ℕ) (spot' : Spot) → first_spot c false ks spot' ≡ spot'
   spot_plain [] spot' = refl
@@ -273,7 +284,7 @@ module _ (c : Ground) (ok : IsGround c) (q : ℕ) (spot : Spot) (stack : List En
     opened_standing : StandsAt c opened (r ∷ stack) (around c (r ∷ stack) (suc (length stack))).depth
     opened_standing =
         let w = v.running.1 in
-        record { inside = omega arith; deep = omega (arith, w.deep, ap (λ (a : Around). a.depth) in_frame); counted = omega (arith, w.counted); few = omega (arith, room); here = w.here }
+        record { inside = omega arith; deep = omega (arith, w.deep, ap (λ (a : Around). a.depth) in_frame); counted = omega (arith, w.counted); few = omega (arith, room); here = w.here; marked = omega (arith, w.marked) }
 
     module _ (p : ℕ) (inside : IsPart c p) (ks : List ℕ) (parts : All (IsPart c) ks) (b : IsBranched c p ks) (none : branch_rest c (tree_of c p) (c.rest p) ≡ [])
         (sound : IsSound c spot.left (length caps) stack r) (h : Handler) (z : Moves) where
@@ -294,13 +305,13 @@ module _ (c : Ground) (ok : IsGround c) (q : ℕ) (spot : Spot) (stack : List En
           advance_pause c _ _ _
           (e ∙ ap pause (holding_room c.setting _ _ room))
           (first_ahead backward p ks opened (r ∷ stack) caps
-          ∙ focus_framed c r stack caps next kept caps (fail c (r ∷ stack) caps)
-          ∙ ap (λ (a : Around). focus c next a.depth (inside_of c r stack caps) (state_at a kept caps) (fail c (r ∷ stack) caps))
+          ∙ focus_framed c r stack caps next spot.passed kept caps (fail c (r ∷ stack) caps) v.running.1.marked
+          ∙ ap (λ (a : Around). focus c next a.depth (inside_of c r stack caps) (state_at (record a { passed = heard stack spot.passed }) kept caps) (fail c (r ∷ stack) caps))
           (same _ ∙ ap (around c stack) (ap (λ (x : Site). x.link) at))
-          ∙ ap (focus c next level (inside_of c r stack caps) (state_at (around c stack spot.frame) kept caps)) f
-          ∙ ap (λ (u : State). focus c next level (inside_of c r stack caps) u z) (first_kept backward ks (around c stack spot.frame) opened caps)
-          ∙ sym (branches_in c p level ks b none (free_kids c (tree_of c p) level ks parts) (inside_of c r stack caps) (alike c (r ∷ stack) caps (suc (length stack)) p ks) (state_at (around c stack spot.frame) (kept_at opened) caps) z h))
-          (first_left backward ks opened)
+          ∙ ap (focus c next level (inside_of c r stack caps) (state_at (around_at c stack spot.frame spot.passed) kept caps)) f
+          ∙ ap (λ (u : State). focus c next level (inside_of c r stack caps) u z) (first_kept backward ks (around_at c stack spot.frame spot.passed) opened caps)
+          ∙ sym (branches_in c p level ks b none (free_kids c (tree_of c p) level ks parts) (inside_of c r stack caps) (alike c (r ∷ stack) caps (suc (length stack)) p ks) (state_at (around_at c stack spot.frame spot.passed) (kept_at opened) caps) z h))
+          (first_told backward ks opened)
           (first_valid backward p ks opened (r ∷ stack) caps v.running.1.here
           (record {
             running = first_running p ks inside parts b opened (r ∷ stack) opened_standing;
@@ -372,7 +383,7 @@ module _ (c : Ground) (ok : IsGround c) (q : ℕ) (spot : Spot) (stack : List En
       record {
         running = (
           v.running.0,
-          record { inside = w.inside; deep = omega (arith, w.deep); counted = w.counted; few = w.few; here = w.here },
+          record { inside = w.inside; deep = omega (arith, w.deep); counted = w.counted; few = w.few; here = w.here; marked = w.marked },
           subst (IsRepeat c) (subst (λ z. nest c.trees z ≡ tree_of c q) e i.is) tt,
         );
         records = v.records;
@@ -408,11 +419,11 @@ module _ (c : Ground) (ok : IsGround c) (q j : ℕ) (spot : Spot) (stack : List 
       let to : Spot = record spot { left = spot.left - 1 } in
       advance_step c _ _ _ (branch_last c q j _ ks b p at (verbless (tree_of c p) inside.runs) _ _ same_hand _ last)
       (begun_ahead c ok behind start p to stack caps
-      ∙ ap (λ (u : State). focus c (begun_next behind start p) (around c stack spot.frame).depth (outside c stack caps spot.frame) u (fail c stack caps)) (begun_kept c ok behind start (around c stack spot.frame) to caps))
-      (omega (arith, begun_left c ok behind start to, left))
+      ∙ ap (λ (u : State). focus c (begun_next behind start p) (around c stack spot.frame).depth (outside c stack caps spot.frame) u (fail c stack caps)) (begun_kept c ok behind start (around_at c stack spot.frame spot.passed) to caps))
+      (omega (arith, begun_left c ok behind start to, left)) (begun_last c ok behind start to)
       (begun_valid c ok behind start (stands_at c ok p spot.place w.here) p to stack caps
       (record {
-        running = (inside, record { inside = w.inside; deep = omega (arith, w.deep); counted = w.counted; few = w.few; here = w.here });
+        running = (inside, record { inside = w.inside; deep = omega (arith, w.deep); counted = w.counted; few = w.few; here = w.here; marked = w.marked });
         records = sound_less c spot.left (spot.left - 1) (length caps) stack (omega arith) v.records;
         spans = v.spans;
         slots = v.slots;
@@ -440,9 +451,9 @@ module _ (c : Ground) (ok : IsGround c) (q j : ℕ) (spot : Spot) (stack : List 
         advance_step c _ _ _
         (choosing ∙ ap stepped (holding_room c.setting _ _ room))
         (begun_ahead c ok behind start p to (r ∷ stack) caps
-        ∙ focus_kept c r stack caps (begun_next behind start p) spot.frame (kept_at (begun_spot behind start to)) caps (fail c (r ∷ stack) caps) w.inside
-        ∙ ap (λ (u : State). focus c (begun_next behind start p) (around c stack spot.frame).depth (outside c stack caps spot.frame) u (fail c (r ∷ stack) caps)) (begun_kept c ok behind start (around c stack spot.frame) to caps))
-        (omega (arith, begun_left c ok behind start to, left))
+        ∙ focus_kept c r stack caps (begun_next behind start p) spot.frame spot.passed (kept_at (begun_spot behind start to)) caps (fail c (r ∷ stack) caps) w.inside w.marked
+        ∙ ap (λ (u : State). focus c (begun_next behind start p) (around c stack spot.frame).depth (outside c stack caps spot.frame) u (fail c (r ∷ stack) caps)) (begun_kept c ok behind start (around_at c stack spot.frame spot.passed) to caps))
+        (omega (arith, begun_left c ok behind start to, left)) (begun_last c ok behind start to)
         (begun_valid c ok behind start (stands_at c ok p spot.place w.here) p to (r ∷ stack) caps
         (record {
           running = (
@@ -453,12 +464,13 @@ module _ (c : Ground) (ok : IsGround c) (q j : ℕ) (spot : Spot) (stack : List 
               counted = omega (arith, w.counted);
               few = omega (arith, room);
               here = w.here;
+              marked = omega (arith, w.marked);
             },
           );
           records = (
             (
               v.running.0,
-              record { inside = w.inside; deep = omega (arith, w.deep); counted = w.counted; few = w.few; here = w.here },
+              record { inside = w.inside; deep = omega (arith, w.deep); counted = w.counted; few = w.few; here = w.here; marked = w.marked },
               subst (λ r. suc j < row_length r) (sym b.rows) (omega (arith, lt, counts)),
             ),
             sound_less c spot.left (spot.left - 1) (length caps) stack (omega arith) v.records,
@@ -473,20 +485,20 @@ pub stray_node : (ts : List Nested) (n : Node) → IsRunnable (nest ts n) → n 
     ((number : Option ℕ) (ks : List ℕ) → n ≢ node.Group number ks) → ((body low : ℕ) (high : Option ℕ) (lazily : Bool) → n ≢ node.Repeat body low high lazily) →
     ((item : Item) (low : ℕ) (high : Option ℕ) (lazily : Bool) → n ≢ node.OneRepeat item low high lazily) → ((ks : List ℕ) → n ≢ node.Atomic ks) →
     ((ahead positive once : Bool) (ks : List ℕ) → n ≢ node.Look ahead positive once ks) →
-    ((test : Cond) (yes' : ℕ) (no' : Option ℕ) → n ≢ node.Cond test yes' no') → ((group : ℕ) → n ≢ node.Call group) → ⊥
-stray_node ts node.Empty b n1 n2 n3 n4 n5 n6 n7 n8 n9 n10 n11 n12 n13 n14 = n1 refl
-stray_node ts node.KeepOut b n1 n2 n3 n4 n5 n6 n7 n8 n9 n10 n11 n12 n13 n14 = n2 refl
-stray_node ts (node.One item) b n1 n2 n3 n4 n5 n6 n7 n8 n9 n10 n11 n12 n13 n14 = n3 item refl
-stray_node ts node.Break b n1 n2 n3 n4 n5 n6 n7 n8 n9 n10 n11 n12 n13 n14 = n4 refl
-stray_node ts (node.Ref ns caseless) b n1 n2 n3 n4 n5 n6 n7 n8 n9 n10 n11 n12 n13 n14 = n5 ns caseless refl
-stray_node ts (node.Anchor kind) b n1 n2 n3 n4 n5 n6 n7 n8 n9 n10 n11 n12 n13 n14 = n6 kind refl
-stray_node ts (node.Seq ks) b n1 n2 n3 n4 n5 n6 n7 n8 n9 n10 n11 n12 n13 n14 = n7 ks refl
-stray_node ts (node.Group number ks) b n1 n2 n3 n4 n5 n6 n7 n8 n9 n10 n11 n12 n13 n14 = n8 number ks refl
-stray_node ts (node.Repeat body low high lazily) b n1 n2 n3 n4 n5 n6 n7 n8 n9 n10 n11 n12 n13 n14 = n9 body low high lazily refl
-stray_node ts (node.OneRepeat item low high lazily) b n1 n2 n3 n4 n5 n6 n7 n8 n9 n10 n11 n12 n13 n14 = n10 item low high lazily refl
-stray_node ts (node.Atomic ks) b n1 n2 n3 n4 n5 n6 n7 n8 n9 n10 n11 n12 n13 n14 = n11 ks refl
-stray_node ts (node.Look ahead positive once ks) b n1 n2 n3 n4 n5 n6 n7 n8 n9 n10 n11 n12 n13 n14 = n12 ahead positive once ks refl
-stray_node ts (node.Cond test first second) b n1 n2 n3 n4 n5 n6 n7 n8 n9 n10 n11 n12 n13 n14 = n13 test first second refl
-stray_node ts (node.Call m) b n1 n2 n3 n4 n5 n6 n7 n8 n9 n10 n11 n12 n13 n14 = n14 m refl
-stray_node ts (node.VerbNode v) b n1 n2 n3 n4 n5 n6 n7 n8 n9 n10 n11 n12 n13 n14 = b
-stray_node ts (node.Callout number from to at len) b n1 n2 n3 n4 n5 n6 n7 n8 n9 n10 n11 n12 n13 n14 = b
+    ((test : Cond) (yes' : ℕ) (no' : Option ℕ) → n ≢ node.Cond test yes' no') → ((group : ℕ) → n ≢ node.Call group) → ((v : Verb) → n ≢ node.VerbNode v) → ⊥
+stray_node ts node.Empty b n1 n2 n3 n4 n5 n6 n7 n8 n9 n10 n11 n12 n13 n14 n15 = n1 refl
+stray_node ts node.KeepOut b n1 n2 n3 n4 n5 n6 n7 n8 n9 n10 n11 n12 n13 n14 n15 = n2 refl
+stray_node ts (node.One item) b n1 n2 n3 n4 n5 n6 n7 n8 n9 n10 n11 n12 n13 n14 n15 = n3 item refl
+stray_node ts node.Break b n1 n2 n3 n4 n5 n6 n7 n8 n9 n10 n11 n12 n13 n14 n15 = n4 refl
+stray_node ts (node.Ref ns caseless) b n1 n2 n3 n4 n5 n6 n7 n8 n9 n10 n11 n12 n13 n14 n15 = n5 ns caseless refl
+stray_node ts (node.Anchor kind) b n1 n2 n3 n4 n5 n6 n7 n8 n9 n10 n11 n12 n13 n14 n15 = n6 kind refl
+stray_node ts (node.Seq ks) b n1 n2 n3 n4 n5 n6 n7 n8 n9 n10 n11 n12 n13 n14 n15 = n7 ks refl
+stray_node ts (node.Group number ks) b n1 n2 n3 n4 n5 n6 n7 n8 n9 n10 n11 n12 n13 n14 n15 = n8 number ks refl
+stray_node ts (node.Repeat body low high lazily) b n1 n2 n3 n4 n5 n6 n7 n8 n9 n10 n11 n12 n13 n14 n15 = n9 body low high lazily refl
+stray_node ts (node.OneRepeat item low high lazily) b n1 n2 n3 n4 n5 n6 n7 n8 n9 n10 n11 n12 n13 n14 n15 = n10 item low high lazily refl
+stray_node ts (node.Atomic ks) b n1 n2 n3 n4 n5 n6 n7 n8 n9 n10 n11 n12 n13 n14 n15 = n11 ks refl
+stray_node ts (node.Look ahead positive once ks) b n1 n2 n3 n4 n5 n6 n7 n8 n9 n10 n11 n12 n13 n14 n15 = n12 ahead positive once ks refl
+stray_node ts (node.Cond test first second) b n1 n2 n3 n4 n5 n6 n7 n8 n9 n10 n11 n12 n13 n14 n15 = n13 test first second refl
+stray_node ts (node.Call m) b n1 n2 n3 n4 n5 n6 n7 n8 n9 n10 n11 n12 n13 n14 n15 = n14 m refl
+stray_node ts (node.VerbNode v) b n1 n2 n3 n4 n5 n6 n7 n8 n9 n10 n11 n12 n13 n14 n15 = n15 v refl
+stray_node ts (node.Callout number from to at len) b n1 n2 n3 n4 n5 n6 n7 n8 n9 n10 n11 n12 n13 n14 n15 = b

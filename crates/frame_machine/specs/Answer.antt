@@ -1,5 +1,5 @@
 -- What an answer says.
-use Rattle.std.specs.Prelude.{◌≡◌, ℕ, List, Option}
+use Rattle.std.specs.Prelude.{◌≡◌, ℕ, false, List, Option}
 use Rattle.std.specs.Option.{option_or}
 use Rattle.frame_store.specs.Captures.{Captures}
 use Rattle.pat_tree.specs.declared.options.Options.{Options}
@@ -10,9 +10,10 @@ use Rattle.frame_machine.specs.declared.answer.Signal.{Signal}
 use Rattle.frame_machine.specs.declared.answer.Signal.TheVariants as signal
 use Rattle.frame_machine.specs.declared.machine.Spot.{Spot}
 use Rattle.frame_machine.specs.declared.machine.Stop.{Stop}
+use Rattle.frame_machine.specs.declared.machine.Stop.TheVariants as stop
 use Rattle.ordered_search.specs.PlaceAnswer as meant
 use Rattle.ordered_search.specs.PlaceAnswer.{Walked, has_hit, last_name}
-use Rattle.frame_machine.specs.Stops.{IsStop}
+use Rattle.frame_machine.specs.Machine.{mark_of}
 
 abbrev pub signal_of : Signal → meant.Signal
 signal_of signal.Exhausted = meant.Exhausted
@@ -45,7 +46,11 @@ abbrev pub SkipsToPlace : Options → List ℕ → PlaceAnswer → Type 0
 SkipsToPlace options subject (told.Failed signal hit) = IsSkip options subject signal
 SkipsToPlace options subject _ = Unit {0}
 
--- the answer says with what the machine stops
-abbrev pub TellsStop : Stop → Spot → PlaceAnswer → Type 0
-TellsStop stop spot answer =
-    (caps : Captures) (w : Walked) (old : Option ℕ) → IsStop stop spot caps w → IsAnswer answer caps w × IsMark answer old old w
+-- the answer where the machine stops so
+abbrev pub answer_at : Stop → Spot → PlaceAnswer
+answer_at stop.Match spot = told.Matched spot.keep spot.place (mark_of spot.mark)
+answer_at stop.NoMatch spot = told.Failed signal.Exhausted false
+answer_at stop.MatchLimit spot = told.MatchLimit
+answer_at stop.FrameLimit spot = told.FrameLimit
+answer_at stop.Loop spot = told.Loop
+answer_at stop.Memory spot = told.Memory

@@ -5,6 +5,9 @@ use Rattle.std.proofs.Props.{props}
 use Rattle.pat_tree.specs.declared.nodes.Node.{Node}
 use Rattle.pat_tree.specs.declared.nodes.Node.TheVariants as node
 use Rattle.pat_tree.specs.declared.nodes.Placed.{Placed}
+use Rattle.pat_tree.specs.declared.nodes.Verb.{Verb}
+use Rattle.pat_tree.specs.declared.nodes.Verb.TheVariants.{Accept, Fail, Commit, Prune, Skip, Then, Mark}
+use Rattle.ordered_search.specs.Verbless.{IsPassive}
 use Rattle.pat_tree.specs.declared.options.MatchOptions.{MatchOptions}
 use Rattle.pat_tree.specs.Nested as tree
 use Rattle.pat_tree.specs.Nested.{Nested, Row, Test, Other}
@@ -23,6 +26,15 @@ use Rattle.pat_lengths.specs.declared.groups.Groups.{Groups}
 ×_prop3 : {A B C : Type 0} → IsProp A → IsProp B → IsProp C → IsProp (A × B × C)
 ×_prop3 a b c = hlevel (a, b, c)
 
+IsPassive-prop : (v : Verb) → IsProp (IsPassive v)
+IsPassive-prop (Accept name) = hlevel props
+IsPassive-prop (Fail name) = hlevel props
+IsPassive-prop (Commit name) = hlevel props
+IsPassive-prop (Prune name) = hlevel props
+IsPassive-prop (Skip name) = hlevel props
+IsPassive-prop (Then name) = hlevel props
+IsPassive-prop (Mark name) = hlevel props
+
 mutual
   IsRunnable-prop : (t : Nested) → IsProp (IsRunnable t)
   IsRunnable-prop tree.empty = hlevel props
@@ -39,7 +51,7 @@ mutual
   IsRunnable-prop (tree.ref ns caseless) = hlevel props
   IsRunnable-prop (tree.anchor kind) = hlevel props
   IsRunnable-prop tree.keep_out = hlevel props
-  IsRunnable-prop (tree.verb v) = hlevel props
+  IsRunnable-prop (tree.verb v) = IsPassive-prop v
   IsRunnable-prop (tree.callout c) = hlevel props
 
   AreRunnable-prop : (ts : Row) → IsProp (AreRunnable ts)

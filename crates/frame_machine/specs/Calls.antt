@@ -10,12 +10,13 @@ use Rattle.frame_machine.specs.declared.machine.Spot.{Spot}
 use Rattle.frame_machine.specs.declared.machine.Stop.{Stop}
 use Rattle.frame_machine.specs.declared.machine.Stop.TheVariants as stop
 use Rattle.ordered_search.specs.Stream.{changes}
-use Rattle.ordered_search.specs.Moves.{Moves, tread, size, at_verbs}
+use Rattle.ordered_search.specs.Moves.{Moves, size, at_verbs}
 use Rattle.ordered_search.specs.Paths.{paths, pauses}
 use Rattle.frame_machine.specs.Ground.{Ground, tree_of, IsPart}
 use Rattle.frame_machine.specs.Machine.{link_of, kept_at, Conf}
-use Rattle.frame_machine.specs.Frames.{around, outside, fail, spot_state, ahead}
+use Rattle.frame_machine.specs.Frames.{around, around_at, outside, fail, spot_state, ahead}
 use Rattle.frame_machine.specs.Validity.{IsStanding, AreSpans, AreSound, IsValid}
+use Rattle.frame_machine.specs.Stops.{tells}
 
 -- Active calls.
 
@@ -86,9 +87,9 @@ module _ (c : Ground) where
     pub spans : AreSpans c caps
     pub slots : length caps ≡ c.setting.groups
 
-  -- the machine goes on with what is ahead, with so many Steps left
-  pub record GoesOn (left : ℕ) (x : Moves) (n : Conf) : Type 0 where
-    pub answer : tread c.setting left x ≡ tread c.setting n.spot.left (ahead c n)
+  -- the machine goes on with what is ahead of a path
+  pub record GoesOn (spot : Spot) (x : Moves) (n : Conf) : Type 0 where
+    pub answer : tells c.setting spot x ≡ tells c.setting n.spot (ahead c n)
     pub shorter : size (ahead c n) ≤ size x
     pub valid : IsValid c n
 
@@ -108,7 +109,7 @@ pub record AreRestored (link : ℕ) (old entry caps : Captures) (i : ℕ) (stack
   pub done : drop i caps ≡ drop i entry
   pub counted : length now ≡ length stack + changes (drop i old) (drop i entry)
   pub failing : (c : Ground) → fail c now caps ≡ pauses (changes (drop i old) (drop i entry)) (fail c stack old)
-  pub arounds : (c : Ground) (l : ℕ) → l ≤ length stack → around c now l ≡ around c stack l
+  pub arounds : (c : Ground) (l h : ℕ) → l ≤ length stack → h ≤ length stack → around_at c now l h ≡ around_at c stack l h
   pub outsides : (c : Ground) (l : ℕ) → l ≤ length stack → outside c now caps l ≡ outside c stack old l
   pub sound : (c : Ground) (steps : ℕ) → link ≤ length stack → AreSpans c old → AreSpans c entry
       → AreSound c steps (length old) stack → AreSound c steps (length old) now

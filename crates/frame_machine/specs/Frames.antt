@@ -8,7 +8,7 @@ use Rattle.frame_store.specs.Captures.{Captures}
 use Rattle.frame_store.specs.Entry.{Entry, LaterBranch, GroupOpen, CalledGroup, TurnOpen, TurnOrExit, LaterTurn, FewerItems, MoreItems, AtomicOpen, LookOpen, LookAllOpen, LookTest, DenialOpen, DenialTest, CallOpen, AtomicLeft}
 use Rattle.frame_store.specs.Undo.{taken_back}
 use Rattle.frame_machine.specs.declared.machine.Next.{Next}
-use Rattle.frame_machine.specs.declared.machine.Next.TheVariants.{Enter, Branch, Offer, Begin, Fewer, More, End, Back}
+use Rattle.frame_machine.specs.declared.machine.Next.TheVariants.{Enter, Branch, Offer, Begin, Fewer, More, End, Back, Accept}
 use Rattle.frame_machine.specs.declared.machine.Spot.{Spot}
 use Rattle.ordered_search.specs.Stream.{State, reached, accepted}
 use Rattle.ordered_search.specs.Setting.{match_limit, branch_lengths}
@@ -16,13 +16,13 @@ use Rattle.ordered_search.specs.Parts.{back_to}
 use Rattle.ordered_search.specs.Moves.{Moves, pause, exhaust, Follow, Handler, Path, at_end, at_verbs, reaching}
 use Rattle.ordered_search.specs.Paths.{close, leave, returned, offer_paths, lazy_paths, turned, turn_path, choice_paths, behind_path, paths}
 use Rattle.frame_machine.specs.Ground.{Ground, tree_of}
-use Rattle.frame_machine.specs.Machine.{less, Around, state_at, kept_at, link_of, Outside, in_row, Conf}
+use Rattle.frame_machine.specs.Machine.{less, Around, state_at, kept_at, link_of, entry_kept, heard, Outside, in_row, Conf}
 
 -- inside a frame
 abbrev pub frame_around : Entry → Around → Around
 frame_around (TurnOpen at kept count) a = record a { depth = a.depth - suc count }
 frame_around (TurnOrExit at kept count) a = record a { depth = a.depth - suc count }
-frame_around (CallOpen at kept group last) a = record { depth = a.depth - 1; calls = (group, kept.place) ∷ a.calls }
+frame_around (CallOpen at kept group last) a = record a { depth = a.depth - 1; calls = (group, kept.place) ∷ a.calls }
 frame_around _ a = a
 
 module _ (c : Ground) where
@@ -121,9 +121,13 @@ module _ (c : Ground) where
 
   -- the frame at a height
   unfoldable pub around : List Entry → ℕ → Around
-  around [] l = record { depth = match_limit c.setting + 1; calls = [] }
+  around [] l = record { depth = match_limit c.setting + 1; calls = []; passed = [] }
   around (r ∷ below) l =
       if nat_eq l (suc (length below)) then frame_around r (around below (link_of r)) else around below l
+
+  -- a path in the frame at a height that passed names up to a height
+  abbrev pub around_at : List Entry → ℕ → ℕ → Around
+  around_at stack l h = record (around stack l) { passed = heard stack h }
 
   -- What follows at the end of a frame, where k is around it, `caps` were the registers, and `out` is left below.
   abbrev pub frame_end : Entry → Around → Outside → Captures → Moves → Follow
@@ -181,7 +185,7 @@ module _ (c : Ground) where
     cont [] caps l how s f = at_end how s f
     cont (r ∷ below) caps l how s f =
         if nat_eq l (suc (length below))
-        then frame_end r (around below (link_of r))
+        then frame_end r (around_at below (link_of r) (entry_kept r).passed)
         (record { follow = cont below (taken_back r caps) (link_of r); hand = hand below (taken_back r caps) (link_of r) })
         (taken_back r caps) (fail below (taken_back r caps)) how s f
         else cont below (taken_back r caps) l how s f
@@ -191,7 +195,7 @@ module _ (c : Ground) where
     fail [] caps = exhaust
     fail (r ∷ below) caps =
         pause
-        (on_fail r (around below (link_of r))
+        (on_fail r (around_at below (link_of r) (entry_kept r).passed)
         (record { follow = cont below (taken_back r caps) (link_of r); hand = hand below (taken_back r caps) (link_of r) })
         (taken_back r caps) (fail below (taken_back r caps)) (fail_to below (taken_back r caps)))
 
@@ -201,7 +205,7 @@ module _ (c : Ground) where
     fail_to (r ∷ below) caps h =
         if nat_eq h (suc (length below))
         then pause
-        (on_fail r (around below (link_of r))
+        (on_fail r (around_at below (link_of r) (entry_kept r).passed)
         (record { follow = cont below (taken_back r caps) (link_of r); hand = hand below (taken_back r caps) (link_of r) })
         (taken_back r caps) (fail below (taken_back r caps)) (fail_to below (taken_back r caps)))
         else fail_to below (taken_back r caps) h
@@ -222,9 +226,10 @@ module _ (c : Ground) where
   focus (More q count last) d k s f = more_from (tree_of c q) count last s (past d k q) f
   focus End d k s f = k.follow reached s f
   focus Back d k s f = f
+  focus Accept d k s f = k.follow accepted s f
 
   abbrev pub spot_state : Spot → List Entry → Captures → State
-  spot_state spot stack caps = state_at (around stack spot.frame) (kept_at spot) caps
+  spot_state spot stack caps = state_at (around_at stack spot.frame spot.passed) (kept_at spot) caps
 
   -- the rest of the search
   abbrev pub ahead : Conf → Moves

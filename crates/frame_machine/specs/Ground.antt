@@ -4,7 +4,7 @@ use Rattle.pat_tree.specs.declared.nodes.Item.{Item}
 use Rattle.pat_tree.specs.declared.nodes.Node.{Node}
 use Rattle.pat_tree.specs.declared.options.PartialMode.TheVariants.{Off}
 use Rattle.pat_tree.specs.Nested.{Nested, nest, tree_at}
-use Rattle.pat_tree.specs.Rules.{asserted_by, is_test, kids_of, numbers_of, classes_of, IsOrdered}
+use Rattle.pat_tree.specs.Rules.{asserted_by, is_test, kids_of, numbers_of, classes_of, verb_names_of, IsOrdered}
 use Rattle.pat_tree.specs.Refs.{named_by}
 use Rattle.node_flow.specs.Followers.{first_of}
 use Rattle.node_flow.specs.Linked.{IsLinked}
@@ -37,6 +37,8 @@ pub record IsNode (c : Ground) (q : ℕ) (n : Node) : Type 0 where
   pub below : All (λ k. k < q) (kids_of n)
   pub linked : IsLinked c.rest (c.rest q) n
   pub classes : All (λ k. k < c.class_count) (classes_of n)
+  -- a name's number is kept as one more
+  pub names : All (λ k. k < 4294967295) (verb_names_of n)
   pub ordered : IsOrdered n
   pub few : length (kids_of n) ≤ 4294967295
   -- the node of an assertion is a lookaround, or a callout and a lookaround after it

@@ -21,3 +21,4 @@ pub mod BytesBack
 pub mod Standing
 pub mod GroundLaw
 pub mod Made
+pub mod Names

@@ -1,5 +1,5 @@
 -- A state of the machine.
-use Rattle.std.specs.Prelude.{ℕ, zero, suc, ◌-◌, List, [], ◌∷◌, Option, Some, None, option_map}
+use Rattle.std.specs.Prelude.{ℕ, zero, suc, ◌-◌, List, [], ◌∷◌, length, Option, Some, None, option_map, nat_eq, if◌then◌else◌}
 use Rattle.pat_tree.specs.Nested as tree
 use Rattle.pat_tree.specs.Nested.{Nested, Row}
 use Rattle.frame_store.specs.declared.registers.Span.{Span}
@@ -19,17 +19,18 @@ abbrev pub mark_of : ℕ → Option ℕ
 mark_of zero = None
 mark_of (suc n) = Some n
 
--- what a frame has around it: the depth, and the active calls
+-- what a path has around it: the depth, the active calls, and the names that SKIP looks for
 pub record Around : Type 0 where
   pub depth : ℕ
   pub calls : List (ℕ × ℕ)
+  pub passed : List (ℕ × ℕ)
 
 abbrev pub state_at : Around → Kept → Captures → State
 state_at a kept caps = record {
   place = kept.place;
   caps = caps;
   mark = mark_of kept.mark;
-  passed = [];
+  passed = a.passed;
   keep = kept.keep;
   calls = a.calls;
   early = kept.early;
@@ -71,6 +72,17 @@ entry_kept (PrunePassed at kept height) = kept
 entry_kept (SkipPassed at kept height next) = kept
 entry_kept (ThenPassed at kept) = kept
 entry_kept (Other at) = nothing_kept
+
+-- a name that was passed, (name, place)
+abbrev pub heard_by : Entry → List (ℕ × ℕ) → List (ℕ × ℕ)
+heard_by (MarkPassed at kept) names = (kept.mark - 1, kept.place) ∷ names
+heard_by _ names = names
+
+-- the names that were passed up to the record at a height, the last one first
+unfoldable pub heard : List Entry → ℕ → List (ℕ × ℕ)
+heard [] h = []
+heard (r ∷ below) h =
+    if nat_eq h (suc (length below)) then heard_by r (heard below (entry_kept r).passed) else heard below h
 
 -- what is around a part: what follows at the end of its frame, and what the verbs in each part of the frame lead to
 pub record Outside : Type 0 where

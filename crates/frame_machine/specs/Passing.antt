@@ -9,17 +9,17 @@ use Rattle.frame_store.specs.Entry.{Entry, entries}
 use Rattle.frame_machine.specs.declared.machine.Next.{Next}
 use Rattle.frame_machine.specs.declared.machine.Next.TheVariants.{Enter, Back}
 use Rattle.frame_machine.specs.declared.machine.Spot.{Spot}
-use Rattle.ordered_search.specs.Moves.{tread, size}
+use Rattle.ordered_search.specs.Moves.{size}
 use Rattle.frame_machine.specs.Ground.{Ground, tree_of}
 use Rattle.frame_machine.specs.Machine.{Conf, conf}
 use Rattle.frame_machine.specs.Frames.{ahead}
 use Rattle.frame_machine.specs.Validity.{IsValid, Advances}
-use Rattle.frame_machine.specs.Stops.{IsNumber}
+use Rattle.frame_machine.specs.Stops.{IsNumber, tells}
 
 module _ (c : Ground) where
   -- The machine is there, or comes there by its turns.
   pub record Reaches (m n : Conf) : Type 0 where
-    pub answer : tread c.setting m.spot.left (ahead c m) ≡ tread c.setting n.spot.left (ahead c n)
+    pub answer : tells c.setting m.spot (ahead c m) ≡ tells c.setting n.spot (ahead c n)
     pub shorter : size (ahead c n) ≤ size (ahead c m)
     pub valid : IsValid c n
 
@@ -27,6 +27,7 @@ module _ (c : Ground) where
   pub record FallsBack (m : Conf) : Type 0 where
     pub spot : Spot
     pub left : spot.left ≡ m.spot.left
+    pub last : spot.last ≡ m.spot.last
     pub turns : Advances c m (conf Back spot m.stack m.caps)
 
   -- The part is a capturing group, whose number has a register.

@@ -87,6 +87,7 @@ pub record IsBoardSearch (tree : TreeParts) (table : List CharSet) (matching : M
   pub off : matching.«partial» ≡ Off
   pub groups : greatest (group_numbers tree.nodes) ≤ 65535
   pub few : matching.match_limit ≤ 4294967295
+  pub names : length tree.verb_names ≤ 4294967295
   -- nothing follows the whole, a part that follows is followed by the others, and children are followed as their parent says
   pub last : rest tree.nodes tree.root tree.root ≡ []
   pub chained : (q p : ℕ) (ps : List ℕ) → rest tree.nodes tree.root q ≡ p ∷ ps → rest tree.nodes tree.root p ≡ ps

@@ -15,7 +15,9 @@ use Rattle.frame_machine.specs.declared.machine.Spot.{Spot}
 use Rattle.frame_machine.specs.declared.machine.Stop.{Stop}
 use Rattle.frame_machine.specs.declared.machine.Stop.TheVariants as stop
 use Rattle.ordered_search.specs.Setting.{Setting, notempty, notempty_atstart, endanchored}
-use Rattle.ordered_search.specs.PlaceAnswer.{Walked, Failed, Exhausted, Matched, MatchLimit, FrameLimit, Loop, answers, Outcome}
+use Rattle.std.specs.Option.{option_or}
+use Rattle.ordered_search.specs.Moves.{Moves, tread}
+use Rattle.ordered_search.specs.PlaceAnswer.{Walked, PlaceAnswer, Failed, Exhausted, Matched, MatchLimit, FrameLimit, Loop, answers, Outcome, last_name, has_hit}
 use Rattle.frame_machine.specs.Ground.{Ground, next_of}
 use Rattle.match_items.specs.Views.{end_of}
 use Rattle.frame_machine.specs.Machine.{mark_of, kept_at, less, towards}
@@ -24,14 +26,32 @@ use Rattle.frame_machine.specs.Machine.{mark_of, kept_at, less, towards}
 abbrev pub spot_outcome : Spot → Captures → Outcome
 spot_outcome spot caps = record { keep = spot.keep; to = spot.place; mark = mark_of spot.mark; caps = caps }
 
--- what the search answers where the machine stops so; want of memory may come at any time
-abbrev pub IsStop : Stop → Spot → Captures → Walked → Type 0
-IsStop stop.Match spot caps w = w ≡ answers (Matched (spot_outcome spot caps))
-IsStop stop.NoMatch spot caps w = w ≡ answers (Failed Exhausted)
-IsStop stop.MatchLimit spot caps w = w ≡ answers MatchLimit
-IsStop stop.FrameLimit spot caps w = w ≡ answers FrameLimit
-IsStop stop.Loop spot caps w = w ≡ answers Loop
-IsStop stop.Memory spot caps w = Unit {0}
+-- An answer, the last name that was met up to it, and whether the subject's end was reached.
+pub record Told : Type 0 where
+  pub answer : PlaceAnswer
+  pub last : Option ℕ
+  pub hit : Bool
+
+-- what a walk tells, before which this was the last name
+unfoldable pub told : Option ℕ → Walked → Told
+told last w = record { answer = w.answer; last = option_or (last_name w.notes) last; hit = has_hit w.notes }
+
+-- what is told of what is ahead of a path
+abbrev pub tells : Setting → Spot → Moves → Told
+tells g spot x = told (mark_of spot.last) (tread g spot.left x)
+
+-- an answer of a path, after which nothing is told
+abbrev pub told_at : Spot → PlaceAnswer → Told
+told_at spot a = told (mark_of spot.last) (answers a)
+
+-- what the search tells where the machine stops so; want of memory may come at any time
+abbrev pub IsStop : Stop → Spot → Captures → Told → Type 0
+IsStop stop.Match spot caps t = t ≡ told_at spot (Matched (spot_outcome spot caps))
+IsStop stop.NoMatch spot caps t = t ≡ told_at spot (Failed Exhausted)
+IsStop stop.MatchLimit spot caps t = t ≡ told_at spot MatchLimit
+IsStop stop.FrameLimit spot caps t = t ≡ told_at spot FrameLimit
+IsStop stop.Loop spot caps t = t ≡ told_at spot Loop
+IsStop stop.Memory spot caps t = Unit {0}
 
 -- a turn that began at one place after so many took nothing, and no further turn is owed or bounded
 abbrev pub took_nothing : ℕ → Option ℕ → ℕ → ℕ → ℕ → Bool
@@ -49,6 +69,7 @@ restored spot site kept = record {
   passed = kept.passed;
   frame = site.link;
   left = spot.left;
+  last = spot.last;
 }
 
 -- with one more unit
@@ -126,10 +147,16 @@ abbrev pub IsNumber : Nested → ℕ → Type 0
 IsNumber (tree.group (Some n) ts) number = n ≡ number
 IsNumber _ number = ⊥
 
--- an outcome from one place to another is admitted (pcre2api, "Option bits for pcre2_match()")
+-- an outcome from one place to another is refused (pcre2api, "Option bits for pcre2_match()")
+abbrev pub refused_as_empty : Setting → ℕ → ℕ → Bool
+refused_as_empty g keep place = (keep == place) && (notempty g || notempty_atstart g && (keep == g.start))
+
+abbrev pub refused_by_end : Setting → ℕ → Bool
+refused_by_end g place = endanchored g && not (place == length g.subject)
+
+-- and else admitted
 abbrev pub admitted : Setting → ℕ → ℕ → Bool
-admitted g keep place =
-    not ((keep == place) && (notempty g || notempty_atstart g && (keep == g.start))) && not (endanchored g && not (place == length g.subject))
+admitted g keep place = not (refused_as_empty g keep place) && not (refused_by_end g place)
 
 -- what a turn leaves
 abbrev pub turn_entry : Spot → ℕ → ℕ → Bool → Entry

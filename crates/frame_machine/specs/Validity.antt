@@ -7,12 +7,13 @@ use Rattle.frame_store.specs.declared.registers.Span.{Span}
 use Rattle.frame_store.specs.Captures.{Captures}
 use Rattle.frame_store.specs.Entry.{Kept, Entry, Undo, LaterBranch, GroupOpen, CalledGroup, TurnOpen, TurnOrExit, LaterTurn, FewerItems, MoreItems, LookTest, DenialTest, CallOpen, AtomicLeft, Other, entry_site}
 use Rattle.frame_machine.specs.declared.machine.Next.{Next}
-use Rattle.frame_machine.specs.declared.machine.Next.TheVariants.{Enter, Branch, Offer, Begin, Fewer, More, End, Back}
+use Rattle.frame_machine.specs.declared.machine.Next.TheVariants.{Enter, Branch, Offer, Begin, Fewer, More, End, Back, Accept}
 use Rattle.frame_machine.specs.declared.machine.Spot.{Spot}
-use Rattle.ordered_search.specs.Moves.{tread, size}
+use Rattle.ordered_search.specs.Moves.{size}
 use Rattle.frame_machine.specs.Ground.{Ground, tree_of, IsPart}
 use Rattle.frame_machine.specs.Machine.{less, Around, kept_at, link_of, entry_kept, row_length, Conf}
 use Rattle.frame_machine.specs.Frames.{branch_row, around, ahead}
+use Rattle.frame_machine.specs.Stops.{tells}
 
 module _ (c : Ground) where
   -- What holds where a path stands over a stack, with so many Steps left and at the depth d.
@@ -22,6 +23,7 @@ module _ (c : Ground) where
     pub counted : length stack ≤ kept.units
     pub few : kept.units ≤ c.setting.matching.frame_limit
     pub here : c.stands kept.place ≡ true
+    pub marked : kept.passed ≤ length stack
 
   abbrev pub HasBranch : Nested → ℕ → Type 0
   HasBranch t i = i < row_length (branch_row c t)
@@ -106,6 +108,7 @@ module _ (c : Ground) where
       IsPart c q × StandsAt spot stack (around c stack spot.frame).depth × (count ≤ last) × (c.stands last ≡ true) × IsMany (tree_of c q)
   IsRunning spot stack End = StandsAt spot stack (around c stack spot.frame).depth
   IsRunning spot stack Back = Unit {0}
+  IsRunning spot stack Accept = StandsAt spot stack (around c stack spot.frame).depth
 
   pub record IsValid (m : Conf) : Type 0 where
     pub running : IsRunning m.spot m.stack m.next
@@ -113,8 +116,8 @@ module _ (c : Ground) where
     pub spans : AreSpans m.caps
     pub slots : length m.caps ≡ c.setting.groups
 
-  -- One turn of the machine's loop: the answer stays, and what is ahead gets shorter.
+  -- One turn of the machine's loop: what is told stays, and what is ahead gets shorter.
   pub record Advances (m n : Conf) : Type 0 where
-    pub answer : tread c.setting m.spot.left (ahead c m) ≡ tread c.setting n.spot.left (ahead c n)
+    pub answer : tells c.setting m.spot (ahead c m) ≡ tells c.setting n.spot (ahead c n)
     pub shorter : size (ahead c n) < size (ahead c m)
     pub valid : IsValid n

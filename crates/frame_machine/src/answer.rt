@@ -1,7 +1,7 @@
 //! What a search at one place answers.
-ghost use Rattle.std.specs.Prelude.{◌≡◌, ℕ, List};
-ghost use Rattle.pat_tree.specs.declared.options.Options.{Options};
-ghost use Rattle.frame_machine.specs.Answer.{SkipsToPlace, TellsStop};
+ghost use Rattle.std.specs.Prelude.{◌≡◌};
+ghost use Rattle.std.specs.Option.{option_or};
+ghost use Rattle.frame_machine.specs.Answer.{answer_at};
 ghost use Rattle.frame_machine.specs.Machine.{mark_of};
 
 use crate::machine::{Spot, Stop};
@@ -54,10 +54,16 @@ fn mark_of(mark: u32) -> Option<u32>
     if mark == 0 { None } else { Some(mark - 1) }
 }
 
+/// The last name, kept as one more, or the earlier one where none was met.
+pub(crate) fn last_of(last: u32, earlier: Option<u32>) -> Option<u32>
+    ensures { result ≡ option_or (mark_of last) earlier }
+{
+    if last == 0 { earlier } else { Some(last - 1) }
+}
+
 /// The answer where the machine stops so.
 pub(crate) fn answer_of(stop: Stop, spot: &Spot) -> PlaceAnswer
-    ensures tells { TellsStop stop spot.now result }
-    ensures skip { (options : Options) (subject : List ℕ) → SkipsToPlace options subject result }
+    ensures { result ≡ answer_at stop spot.now }
 {
     match stop {
         Stop::Match => PlaceAnswer::Matched {

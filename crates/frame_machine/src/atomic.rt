@@ -7,9 +7,8 @@ ghost use Rattle.frame_machine.specs.Ground.{IsNode};
 ghost use Rattle.frame_machine.specs.Machine.{conf};
 ghost use Rattle.frame_machine.specs.Frames.{ahead};
 ghost use Rattle.frame_machine.specs.Validity.{IsValid, Advances};
-ghost use Rattle.ordered_search.specs.Moves.{tread};
 ghost use Rattle.ordered_search.specs.Paths.{only_many};
-ghost use Rattle.frame_machine.specs.Stops.{IsStop};
+ghost use Rattle.frame_machine.specs.Stops.{IsStop, tells};
 
 use crate::enter::{first_branch, go_on};
 use crate::framing::{leave, open_frame};
@@ -32,7 +31,7 @@ pub(crate) fn enter_atomic<S: Searchable>(
     requires valid { IsValid (S.searched on.now) (conf (Next.Enter at) spot.old (entries store.old.records) registers.now) }
     requires node { IsNode (S.searched on.now) at (node.Atomic branches.now) }
     ensures on { IfOk result (λ next. Advances (S.searched on.now) (conf (Next.Enter at) spot.old (entries store.old.records) registers.now) (conf next spot.new (entries store.new.records) registers.now)) }
-    ensures stop { IfErr result (λ stop. IsStop stop spot.new registers.now (tread (S.searched on.now).setting spot.old.left (ahead (S.searched on.now) (conf (Next.Enter at) spot.old (entries store.old.records) registers.now)))) }
+    ensures stop { IfErr result (λ stop. IsStop stop spot.new registers.now (tells (S.searched on.now).setting spot.old (ahead (S.searched on.now) (conf (Next.Enter at) spot.old (entries store.old.records) registers.now)))) }
     ensures peak { store.new.peak ≤ max store.old.peak (S.searched on.now).setting.matching.frame_limit }
 {
     match only_repeat(on, branches) {
@@ -60,7 +59,7 @@ fn open_atomic<S: Searchable>(
         (conf next spot.new (entries store.new.records) registers.now)) }
     ensures stop { IfErr result
         (λ stop. IsStop stop spot.new registers.now
-        (tread (S.searched on.now).setting spot.old.left
+        (tells (S.searched on.now).setting spot.old
         (ahead (S.searched on.now)
         (conf (Next.Enter at) spot.old (entries store.old.records) registers.now)))) }
     ensures peak { store.new.peak
@@ -86,7 +85,7 @@ pub(crate) fn leave_atomic<S: Searchable>(
     requires at { slice_get (reverse store.old.records) height ≡ Some frame.now }
     requires kind { frame.now.kind ≡ KIND_ATOMIC_OPEN }
     ensures on { IfOk result (λ next. Advances (S.searched on.now) (conf Next.End spot.old (entries store.old.records) registers.now) (conf next spot.new (entries store.new.records) registers.now)) }
-    ensures stop { IfErr result (λ stop. IsStop stop spot.new registers.now (tread (S.searched on.now).setting spot.old.left (ahead (S.searched on.now) (conf Next.End spot.old (entries store.old.records) registers.now)))) }
+    ensures stop { IfErr result (λ stop. IsStop stop spot.new registers.now (tells (S.searched on.now).setting spot.old (ahead (S.searched on.now) (conf Next.End spot.old (entries store.old.records) registers.now)))) }
     ensures peak { store.new.peak ≤ max store.old.peak (S.searched on.now).setting.matching.frame_limit }
 {
     if let Err(stop) = leave(on.unit_limit(), frame, height, spot, store) {

@@ -2,13 +2,12 @@
 ghost use Rattle.std.specs.Prelude.{◌≡◌, ◌≤◌, ◌<◌, ◌+◌, ◌∷◌, max, length, Option, OnOk, IfOk, IfErr};
 ghost use Rattle.pat_tree.specs.declared.nodes.Node.TheVariants as node;
 ghost use Rattle.frame_store.specs.Entry.{CallOpen, entries, entry_of};
-ghost use Rattle.ordered_search.specs.Moves.{tread};
 ghost use Rattle.ordered_search.specs.Parts.{contains, is_active, is_called, is_called_of};
 ghost use Rattle.frame_machine.specs.Calls.{AreNested, AreWithin, IsCalling, IsLatest, IsCallee, GoesOn, call_entry, call_spot, called_ahead, calls_at};
 ghost use Rattle.frame_machine.specs.Frames.{ahead};
 ghost use Rattle.frame_machine.specs.Ground.{IsNode};
 ghost use Rattle.frame_machine.specs.Machine.{conf, kept_at};
-ghost use Rattle.frame_machine.specs.Stops.{IsHeldStop, IsStop};
+ghost use Rattle.frame_machine.specs.Stops.{IsHeldStop, IsStop, tells};
 ghost use Rattle.frame_machine.specs.Validity.{IsValid, Advances};
 
 use crate::enter::first_branch;
@@ -135,6 +134,7 @@ fn open_call(
     ensures spot { OnOk result (spot.new ≡ call_spot spot.old (length store.old.records)) }
     ensures pushed { OnOk result (entries store.new.records ≡ call_entry spot.old at group last ∷ entries store.old.records) }
     ensures stop { IfErr result (λ stop. IsHeldStop stop limit spot.old.units) }
+    ensures last { spot.new.last ≡ spot.old.last }
     ensures peak { store.new.peak ≤ max store.old.peak limit }
 {
     let event = call_record(spot, at, group, last);
@@ -158,7 +158,7 @@ pub(crate) fn enter_call<S: Searchable>(
     requires valid { IsValid (S.searched on.now) (conf (Next.Enter at) spot.old (entries store.old.records) registers.now) }
     requires node { IsNode (S.searched on.now) at (node.Call group) }
     ensures on { IfOk result (λ next. Advances (S.searched on.now) (conf (Next.Enter at) spot.old (entries store.old.records) registers.now) (conf next spot.new (entries store.new.records) registers.now)) }
-    ensures stop { IfErr result (λ stop. IsStop stop spot.new registers.now (tread (S.searched on.now).setting spot.old.left (ahead (S.searched on.now) (conf (Next.Enter at) spot.old (entries store.old.records) registers.now)))) }
+    ensures stop { IfErr result (λ stop. IsStop stop spot.new registers.now (tells (S.searched on.now).setting spot.old (ahead (S.searched on.now) (conf (Next.Enter at) spot.old (entries store.old.records) registers.now)))) }
     ensures peak { store.new.peak ≤ max store.old.peak (S.searched on.now).setting.matching.frame_limit }
 {
     if spot.left == 0 {
@@ -187,8 +187,8 @@ fn run_called<S: Searchable>(
 ) -> Result<Next, Stop>
     requires calling { IsCalling (S.searched on.now) spot.old (entries store.old.records) registers.now }
     requires callee { IsCallee (S.searched on.now) part }
-    ensures on { IfOk result (λ next. GoesOn (S.searched on.now) spot.old.left (called_ahead (S.searched on.now) part spot.old (entries store.old.records) registers.now) (conf next spot.new (entries store.new.records) registers.now)) }
-    ensures stop { IfErr result (λ stop. IsStop stop spot.new registers.now (tread (S.searched on.now).setting spot.old.left (called_ahead (S.searched on.now) part spot.old (entries store.old.records) registers.now))) }
+    ensures on { IfOk result (λ next. GoesOn (S.searched on.now) spot.old (called_ahead (S.searched on.now) part spot.old (entries store.old.records) registers.now) (conf next spot.new (entries store.new.records) registers.now)) }
+    ensures stop { IfErr result (λ stop. IsStop stop spot.new registers.now (tells (S.searched on.now).setting spot.old (called_ahead (S.searched on.now) part spot.old (entries store.old.records) registers.now))) }
     ensures peak { store.new.peak ≤ max store.old.peak (S.searched on.now).setting.matching.frame_limit }
 {
     match on.node(part) {
@@ -212,8 +212,8 @@ fn run_group<S: Searchable>(
     requires calling { IsCalling (S.searched on.now) spot.old (entries store.old.records) registers.now }
     requires callee { IsCallee (S.searched on.now) part }
     requires node { IsNode (S.searched on.now) part (node.Group number branches.now) }
-    ensures on { IfOk result (λ next. GoesOn (S.searched on.now) spot.old.left (called_ahead (S.searched on.now) part spot.old (entries store.old.records) registers.now) (conf next spot.new (entries store.new.records) registers.now)) }
-    ensures stop { IfErr result (λ stop. IsStop stop spot.new registers.now (tread (S.searched on.now).setting spot.old.left (called_ahead (S.searched on.now) part spot.old (entries store.old.records) registers.now))) }
+    ensures on { IfOk result (λ next. GoesOn (S.searched on.now) spot.old (called_ahead (S.searched on.now) part spot.old (entries store.old.records) registers.now) (conf next spot.new (entries store.new.records) registers.now)) }
+    ensures stop { IfErr result (λ stop. IsStop stop spot.new registers.now (tells (S.searched on.now).setting spot.old (called_ahead (S.searched on.now) part spot.old (entries store.old.records) registers.now))) }
     ensures peak { store.new.peak ≤ max store.old.peak (S.searched on.now).setting.matching.frame_limit }
 {
     let Some(_) = number else {

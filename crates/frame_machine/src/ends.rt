@@ -5,8 +5,7 @@ ghost use Rattle.frame_machine.specs.Ground.{tree_of, IsPart};
 ghost use Rattle.frame_machine.specs.Machine.{conf};
 ghost use Rattle.frame_machine.specs.Frames.{ahead};
 ghost use Rattle.frame_machine.specs.Validity.{IsValid, Advances, IsCapture};
-ghost use Rattle.ordered_search.specs.Moves.{tread};
-ghost use Rattle.frame_machine.specs.Stops.{IsStop, IsNumber, took_nothing, admitted};
+ghost use Rattle.frame_machine.specs.Stops.{IsStop, IsNumber, took_nothing, refused_as_empty, refused_by_end, admitted, tells};
 
 use crate::atomic::leave_atomic;
 use crate::conds::leave_test;
@@ -24,17 +23,29 @@ use frame_store::kinds::{
 use frame_store::{Record, Registers, Span, Store};
 use pat_tree::Node;
 
-/// Whether an outcome is admitted that reaches from one place to another.
-fn is_admitted<S: Searchable>(on: &S, keep: u64, place: u64) -> bool
-    ensures { result ≡ admitted (S.searched on.now).setting keep place }
+/// Whether an outcome is refused since its text is empty.
+pub(crate) fn is_refused_as_empty<S: Searchable>(on: &S, keep: u64, place: u64) -> bool
+    ensures { result ≡ refused_as_empty (S.searched on.now).setting keep place }
 {
     let options = on.options();
     let matching = on.matching();
     let never_empty = options.notempty || matching.notempty;
     let not_at_start = options.notempty_atstart || matching.notempty_atstart;
-    let is_empty = keep == place && (never_empty || not_at_start && keep == on.start());
-    let is_cut = (options.endanchored || matching.endanchored) && place != on.length();
-    !is_empty && !is_cut
+    keep == place && (never_empty || not_at_start && keep == on.start())
+}
+
+/// Whether an outcome is refused since it doesn't end with the subject.
+pub(crate) fn is_refused_by_end<S: Searchable>(on: &S, place: u64) -> bool
+    ensures { result ≡ refused_by_end (S.searched on.now).setting place }
+{
+    (on.options().endanchored || on.matching().endanchored) && place != on.length()
+}
+
+/// Whether an outcome is admitted that reaches from one place to another.
+fn is_admitted<S: Searchable>(on: &S, keep: u64, place: u64) -> bool
+    ensures { result ≡ admitted (S.searched on.now).setting keep place }
+{
+    !is_refused_as_empty(on, keep, place) && !is_refused_by_end(on, place)
 }
 
 /// Whether a turn took nothing after which only the exit follows.
@@ -96,7 +107,7 @@ fn close<S: Searchable>(
     requires at { slice_get (reverse store.old.records) height ≡ Some frame.now }
     requires kind { frame.now.kind ≡ KIND_GROUP_OPEN }
     ensures on { IfOk result (λ next. Advances (S.searched on.now) (conf Next.End spot.old (entries store.old.records) registers.old) (conf next spot.new (entries store.new.records) registers.new)) }
-    ensures stop { IfErr result (λ stop. IsStop stop spot.new registers.new (tread (S.searched on.now).setting spot.old.left (ahead (S.searched on.now) (conf Next.End spot.old (entries store.old.records) registers.old)))) }
+    ensures stop { IfErr result (λ stop. IsStop stop spot.new registers.new (tells (S.searched on.now).setting spot.old (ahead (S.searched on.now) (conf Next.End spot.old (entries store.old.records) registers.old)))) }
     ensures peak { store.new.peak ≤ max store.old.peak (S.searched on.now).setting.matching.frame_limit }
 {
     let number = number_of(on, frame.node);
@@ -130,7 +141,7 @@ fn turned<S: Searchable>(
     requires at { slice_get (reverse store.old.records) height ≡ Some frame.now }
     requires kind { (frame.now.kind ≡ KIND_TURN_OPEN) ⊎ (frame.now.kind ≡ KIND_TURN_OR_EXIT) }
     ensures on { IfOk result (λ next. Advances (S.searched on.now) (conf Next.End spot.old (entries store.old.records) registers.now) (conf next spot.new (entries store.new.records) registers.now)) }
-    ensures stop { IfErr result (λ stop. IsStop stop spot.new registers.now (tread (S.searched on.now).setting spot.old.left (ahead (S.searched on.now) (conf Next.End spot.old (entries store.old.records) registers.now)))) }
+    ensures stop { IfErr result (λ stop. IsStop stop spot.new registers.now (tells (S.searched on.now).setting spot.old (ahead (S.searched on.now) (conf Next.End spot.old (entries store.old.records) registers.now)))) }
     ensures peak { store.new.peak ≤ max store.old.peak (S.searched on.now).setting.matching.frame_limit }
 {
     let turns = turns_of(on, frame.node);
@@ -151,7 +162,7 @@ fn end_pattern<S: Searchable>(
     requires valid { IsValid (S.searched on.now) (conf Next.End spot.now (entries store.now.records) registers.now) }
     requires whole { spot.now.frame ≡ 0 }
     ensures on { IfOk result (λ next. Advances (S.searched on.now) (conf Next.End spot.now (entries store.now.records) registers.now) (conf next spot.now (entries store.now.records) registers.now)) }
-    ensures stop { IfErr result (λ stop. IsStop stop spot.now registers.now (tread (S.searched on.now).setting spot.now.left (ahead (S.searched on.now) (conf Next.End spot.now (entries store.now.records) registers.now)))) }
+    ensures stop { IfErr result (λ stop. IsStop stop spot.now registers.now (tells (S.searched on.now).setting spot.now (ahead (S.searched on.now) (conf Next.End spot.now (entries store.now.records) registers.now)))) }
 {
     if is_admitted(on, spot.keep, spot.place) {
         return Err(Stop::Match);
@@ -169,7 +180,7 @@ pub(crate) fn finish<S: Searchable>(
 ) -> Result<Next, Stop>
     requires valid { IsValid (S.searched on.now) (conf Next.End spot.old (entries store.old.records) registers.old) }
     ensures on { IfOk result (λ next. Advances (S.searched on.now) (conf Next.End spot.old (entries store.old.records) registers.old) (conf next spot.new (entries store.new.records) registers.new)) }
-    ensures stop { IfErr result (λ stop. IsStop stop spot.new registers.new (tread (S.searched on.now).setting spot.old.left (ahead (S.searched on.now) (conf Next.End spot.old (entries store.old.records) registers.old)))) }
+    ensures stop { IfErr result (λ stop. IsStop stop spot.new registers.new (tells (S.searched on.now).setting spot.old (ahead (S.searched on.now) (conf Next.End spot.old (entries store.old.records) registers.old)))) }
     ensures peak { store.new.peak ≤ max store.old.peak (S.searched on.now).setting.matching.frame_limit }
 {
     if spot.frame == 0 {

@@ -7,9 +7,8 @@ ghost use Rattle.frame_machine.specs.Ground.{next_of, IsNode, IsPart};
 ghost use Rattle.frame_machine.specs.Machine.{conf, towards, first_next, first_set};
 ghost use Rattle.frame_machine.specs.Frames.{ahead};
 ghost use Rattle.frame_machine.specs.Validity.{IsValid, Advances, AreSpans, SpanStands};
-ghost use Rattle.ordered_search.specs.Moves.{tread};
 ghost use Rattle.match_items.specs.Items.{holds};
-ghost use Rattle.frame_machine.specs.Stops.{IsStop, referred, moved_next, moved_spot, held_next, held_early, part_next};
+ghost use Rattle.frame_machine.specs.Stops.{IsStop, referred, moved_next, moved_spot, held_next, held_early, part_next, tells};
 
 use crate::atomic::enter_atomic;
 use crate::calls::enter_call;
@@ -19,6 +18,7 @@ use crate::looks::enter_look;
 use crate::machine::{Next, Spot, Stop, hold};
 use crate::repeats::offer;
 use crate::searchable::Searchable;
+use crate::verbs::enter_verb;
 use frame_store::kinds::KIND_GROUP_OPEN;
 use frame_store::{Registers, Span, Store};
 use pat_tree::{AnchorKind, Kids, Node};
@@ -134,7 +134,7 @@ fn enter_group<S: Searchable>(
     requires valid { IsValid (S.searched on.now) (conf (Next.Enter at) spot.old (entries store.old.records) registers.now) }
     requires node { IsNode (S.searched on.now) at (node.Group number branches.now) }
     ensures on { IfOk result (λ next. Advances (S.searched on.now) (conf (Next.Enter at) spot.old (entries store.old.records) registers.now) (conf next spot.new (entries store.new.records) registers.now)) }
-    ensures stop { IfErr result (λ stop. IsStop stop spot.new registers.now (tread (S.searched on.now).setting spot.old.left (ahead (S.searched on.now) (conf (Next.Enter at) spot.old (entries store.old.records) registers.now)))) }
+    ensures stop { IfErr result (λ stop. IsStop stop spot.new registers.now (tells (S.searched on.now).setting spot.old (ahead (S.searched on.now) (conf (Next.Enter at) spot.old (entries store.old.records) registers.now)))) }
     ensures peak { store.new.peak ≤ max store.old.peak (S.searched on.now).setting.matching.frame_limit }
 {
     let Some(_) = number else {
@@ -158,7 +158,7 @@ pub(crate) fn enter<S: Searchable>(
 ) -> Result<Next, Stop>
     requires valid { IsValid (S.searched on.now) (conf (Next.Enter at) spot.old (entries store.old.records) registers.now) }
     ensures on { IfOk result (λ next. Advances (S.searched on.now) (conf (Next.Enter at) spot.old (entries store.old.records) registers.now) (conf next spot.new (entries store.new.records) registers.now)) }
-    ensures stop { IfErr result (λ stop. IsStop stop spot.new registers.now (tread (S.searched on.now).setting spot.old.left (ahead (S.searched on.now) (conf (Next.Enter at) spot.old (entries store.old.records) registers.now)))) }
+    ensures stop { IfErr result (λ stop. IsStop stop spot.new registers.now (tells (S.searched on.now).setting spot.old (ahead (S.searched on.now) (conf (Next.Enter at) spot.old (entries store.old.records) registers.now)))) }
     ensures peak { store.new.peak ≤ max store.old.peak (S.searched on.now).setting.matching.frame_limit }
 {
     match on.node(at) {
@@ -198,6 +198,7 @@ pub(crate) fn enter<S: Searchable>(
             enter_condition(on, at, test, *yes, *no, spot, store, registers)
         }
         Node::Call { group } => enter_call(on, at, *group, spot, store, registers),
+        Node::VerbNode(verb) => enter_verb(on, at, *verb, spot, store, registers),
         _ => unreachable!(),
     }
 }

@@ -19,6 +19,7 @@ pub(crate) fn open_frame(
     ensures spot { OnOk result (spot.new ≡ record spot.old { frame = length store.new.records; units = spot.old.units + 1 }) }
     ensures pushed { OnOk result (store.new.records ≡ record_at spot.old kind part 0 0 0 ∷ store.old.records) }
     ensures stop { IfErr result (λ stop. IsHeldStop stop limit spot.old.units) }
+    ensures last { spot.new.last ≡ spot.old.last }
     ensures peak { store.new.peak ≤ max store.old.peak limit }
 {
     let event = spot.record(kind, part, 0, 0, 0);
@@ -43,6 +44,7 @@ pub(crate) fn leave(
     ensures spot { OnOk result (spot.new ≡ record spot.old { passed = frame.now.passed; frame = frame.now.link; units = spot.old.units + 1 }) }
     ensures pushed { OnOk result (store.new.records ≡ record_at (record spot.old { frame = frame.now.link }) KIND_ATOMIC_LEFT frame.now.node 0 height 0 ∷ store.old.records) }
     ensures stop { IfErr result (λ stop. IsHeldStop stop limit spot.old.units) }
+    ensures last { spot.new.last ≡ spot.old.last }
     ensures peak { store.new.peak ≤ max store.old.peak limit }
 {
     spot.frame = frame.link;

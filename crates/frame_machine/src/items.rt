@@ -8,8 +8,7 @@ ghost use Rattle.frame_machine.specs.Ground.{tree_of, IsPart};
 ghost use Rattle.frame_machine.specs.Machine.{conf, less};
 ghost use Rattle.frame_machine.specs.Frames.{ahead};
 ghost use Rattle.frame_machine.specs.Validity.{IsValid, Advances, IsRepeat, IsMany};
-ghost use Rattle.ordered_search.specs.Moves.{tread};
-ghost use Rattle.frame_machine.specs.Stops.{IsStop, IsMost, many_next};
+ghost use Rattle.frame_machine.specs.Stops.{IsStop, IsMost, many_next, tells};
 
 use crate::enter::go_on;
 use crate::machine::{Next, Spot, Stop, hold};
@@ -80,7 +79,7 @@ pub(crate) fn fewer<S: Searchable>(
 ) -> Result<Next, Stop>
     requires valid { IsValid (S.searched on.now) (conf (Next.Fewer at least last) spot.old (entries store.old.records) registers.now) }
     ensures on { IfOk result (λ next. Advances (S.searched on.now) (conf (Next.Fewer at least last) spot.old (entries store.old.records) registers.now) (conf next spot.new (entries store.new.records) registers.now)) }
-    ensures stop { IfErr result (λ stop. IsStop stop spot.new registers.now (tread (S.searched on.now).setting spot.old.left (ahead (S.searched on.now) (conf (Next.Fewer at least last) spot.old (entries store.old.records) registers.now)))) }
+    ensures stop { IfErr result (λ stop. IsStop stop spot.new registers.now (tells (S.searched on.now).setting spot.old (ahead (S.searched on.now) (conf (Next.Fewer at least last) spot.old (entries store.old.records) registers.now)))) }
     ensures peak { store.new.peak ≤ max store.old.peak (S.searched on.now).setting.matching.frame_limit }
 {
     let last = pass_fewer(on, at, least, last, spot, store, registers);
@@ -99,7 +98,7 @@ fn hand_on<S: Searchable>(
 ) -> Result<Next, Stop>
     requires valid { IsValid (S.searched on.now) (conf (Next.Fewer at least last) spot.old (entries store.old.records) registers.now) }
     ensures on { IfOk result (λ next. Advances (S.searched on.now) (conf (Next.Fewer at least last) spot.old (entries store.old.records) registers.now) (conf next spot.new (entries store.new.records) registers.now)) }
-    ensures stop { IfErr result (λ stop. IsStop stop spot.new registers.now (tread (S.searched on.now).setting spot.old.left (ahead (S.searched on.now) (conf (Next.Fewer at least last) spot.old (entries store.old.records) registers.now)))) }
+    ensures stop { IfErr result (λ stop. IsStop stop spot.new registers.now (tells (S.searched on.now).setting spot.old (ahead (S.searched on.now) (conf (Next.Fewer at least last) spot.old (entries store.old.records) registers.now)))) }
     ensures peak { store.new.peak ≤ max store.old.peak (S.searched on.now).setting.matching.frame_limit }
 {
     if spot.left == 0 {
@@ -131,7 +130,7 @@ pub(crate) fn more<S: Searchable>(
 ) -> Result<Next, Stop>
     requires valid { IsValid (S.searched on.now) (conf (Next.More at count last) spot.old (entries store.old.records) registers.now) }
     ensures on { IfOk result (λ next. Advances (S.searched on.now) (conf (Next.More at count last) spot.old (entries store.old.records) registers.now) (conf next spot.new (entries store.new.records) registers.now)) }
-    ensures stop { IfErr result (λ stop. IsStop stop spot.new registers.now (tread (S.searched on.now).setting spot.old.left (ahead (S.searched on.now) (conf (Next.More at count last) spot.old (entries store.old.records) registers.now)))) }
+    ensures stop { IfErr result (λ stop. IsStop stop spot.new registers.now (tells (S.searched on.now).setting spot.old (ahead (S.searched on.now) (conf (Next.More at count last) spot.old (entries store.old.records) registers.now)))) }
     ensures peak { store.new.peak ≤ max store.old.peak (S.searched on.now).setting.matching.frame_limit }
 {
     let run = pass_more(on, at, count, last, spot, store, registers);
@@ -150,7 +149,7 @@ fn wait_for_more<S: Searchable>(
 ) -> Result<Next, Stop>
     requires valid { IsValid (S.searched on.now) (conf (Next.More at count last) spot.old (entries store.old.records) registers.now) }
     ensures on { IfOk result (λ next. Advances (S.searched on.now) (conf (Next.More at count last) spot.old (entries store.old.records) registers.now) (conf next spot.new (entries store.new.records) registers.now)) }
-    ensures stop { IfErr result (λ stop. IsStop stop spot.new registers.now (tread (S.searched on.now).setting spot.old.left (ahead (S.searched on.now) (conf (Next.More at count last) spot.old (entries store.old.records) registers.now)))) }
+    ensures stop { IfErr result (λ stop. IsStop stop spot.new registers.now (tells (S.searched on.now).setting spot.old (ahead (S.searched on.now) (conf (Next.More at count last) spot.old (entries store.old.records) registers.now)))) }
     ensures peak { store.new.peak ≤ max store.old.peak (S.searched on.now).setting.matching.frame_limit }
 {
     let most = most_of(on, at);

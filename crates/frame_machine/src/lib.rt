@@ -1,6 +1,7 @@
 //! The ordered search of a pattern at one start place, on one stack of records (pcre2matching, "The standard matching algorithm").
 #![tactic(auto)]
 
+mod accepts;
 mod answer;
 mod atomic;
 mod back;
@@ -25,6 +26,7 @@ mod scratch;
 mod searchable;
 #[cfg(test)]
 mod tests;
+mod verbs;
 
 pub use answer::{PlaceAnswer, Signal};
 pub use ready::{Ready, run_at};

@@ -6,8 +6,7 @@ ghost use Rattle.frame_machine.specs.Ground.{IsNode};
 ghost use Rattle.frame_machine.specs.Machine.{conf};
 ghost use Rattle.frame_machine.specs.Frames.{ahead};
 ghost use Rattle.frame_machine.specs.Validity.{IsValid, Advances};
-ghost use Rattle.ordered_search.specs.Moves.{tread};
-ghost use Rattle.frame_machine.specs.Stops.{IsStop};
+ghost use Rattle.frame_machine.specs.Stops.{IsStop, tells};
 ghost use Rattle.frame_machine.specs.Looks.{look_kind};
 
 use crate::behind::begin_branches;
@@ -48,7 +47,7 @@ pub(crate) fn enter_look<S: Searchable>(
     requires valid { IsValid (S.searched on.now) (conf (Next.Enter at) spot.old (entries store.old.records) registers.now) }
     requires node { IsNode (S.searched on.now) at (node.Look forward positive once branches.now) }
     ensures on { IfOk result (λ next. Advances (S.searched on.now) (conf (Next.Enter at) spot.old (entries store.old.records) registers.now) (conf next spot.new (entries store.new.records) registers.now)) }
-    ensures stop { IfErr result (λ stop. IsStop stop spot.new registers.now (tread (S.searched on.now).setting spot.old.left (ahead (S.searched on.now) (conf (Next.Enter at) spot.old (entries store.old.records) registers.now)))) }
+    ensures stop { IfErr result (λ stop. IsStop stop spot.new registers.now (tells (S.searched on.now).setting spot.old (ahead (S.searched on.now) (conf (Next.Enter at) spot.old (entries store.old.records) registers.now)))) }
     ensures peak { store.new.peak ≤ max store.old.peak (S.searched on.now).setting.matching.frame_limit }
 {
     let kind = look_kind(positive, once);
@@ -80,7 +79,7 @@ pub(crate) fn leave_look<S: Searchable>(
     requires at { slice_get (reverse store.old.records) height ≡ Some frame.now }
     requires kind { frame.now.kind ≡ KIND_LOOK_OPEN }
     ensures on { IfOk result (λ next. Advances (S.searched on.now) (conf Next.End spot.old (entries store.old.records) registers.now) (conf next spot.new (entries store.new.records) registers.now)) }
-    ensures stop { IfErr result (λ stop. IsStop stop spot.new registers.now (tread (S.searched on.now).setting spot.old.left (ahead (S.searched on.now) (conf Next.End spot.old (entries store.old.records) registers.now)))) }
+    ensures stop { IfErr result (λ stop. IsStop stop spot.new registers.now (tells (S.searched on.now).setting spot.old (ahead (S.searched on.now) (conf Next.End spot.old (entries store.old.records) registers.now)))) }
     ensures peak { store.new.peak ≤ max store.old.peak (S.searched on.now).setting.matching.frame_limit }
 {
     if let Err(stop) = leave(on.unit_limit(), frame, height, spot, store) {
@@ -104,7 +103,7 @@ pub(crate) fn pass_look<S: Searchable>(
     requires at { slice_get (reverse store.old.records) height ≡ Some frame.now }
     requires kind { frame.now.kind ≡ KIND_LOOK_ALL_OPEN }
     ensures on { IfOk result (λ next. Advances (S.searched on.now) (conf Next.End spot.old (entries store.old.records) registers.now) (conf next spot.new (entries store.new.records) registers.now)) }
-    ensures stop { IfErr result (λ stop. IsStop stop spot.new registers.now (tread (S.searched on.now).setting spot.old.left (ahead (S.searched on.now) (conf Next.End spot.old (entries store.old.records) registers.now)))) }
+    ensures stop { IfErr result (λ stop. IsStop stop spot.new registers.now (tells (S.searched on.now).setting spot.old (ahead (S.searched on.now) (conf Next.End spot.old (entries store.old.records) registers.now)))) }
     ensures peak { store.new.peak ≤ max store.old.peak (S.searched on.now).setting.matching.frame_limit }
 {
     go_back(spot, frame);
@@ -126,7 +125,7 @@ pub(crate) fn deny<S: Searchable>(
     requires at { slice_get (reverse store.old.records) height ≡ Some frame.now }
     requires kind { frame.now.kind ≡ KIND_DENIAL_OPEN }
     ensures on { IfOk result (λ next. Advances (S.searched on.now) (conf Next.End spot.old (entries store.old.records) registers.old) (conf next spot.new (entries store.new.records) registers.new)) }
-    ensures stop { IfErr result (λ stop. IsStop stop spot.new registers.new (tread (S.searched on.now).setting spot.old.left (ahead (S.searched on.now) (conf Next.End spot.old (entries store.old.records) registers.old)))) }
+    ensures stop { IfErr result (λ stop. IsStop stop spot.new registers.new (tells (S.searched on.now).setting spot.old (ahead (S.searched on.now) (conf Next.End spot.old (entries store.old.records) registers.old)))) }
     ensures peak { store.new.peak ≤ max store.old.peak (S.searched on.now).setting.matching.frame_limit }
 {
     store.undo_to(height, registers);

@@ -24,6 +24,8 @@ pub(crate) enum Next {
     End,
     /// Go back to the newest record.
     Back,
+    /// ACCEPT has ended the innermost frame, or the pattern.
+    Accept,
 }
 
 /// Where the path stands, and how many Steps are left.
@@ -39,6 +41,8 @@ pub(crate) struct Spot {
     /// The height of the innermost frame, or 0.
     pub frame: u32,
     pub left: u32,
+    /// The number of the last name that was met on any path, and 1 more; 0 where there is none.
+    pub last: u32,
 }
 
 /// Why the machine stops.
@@ -65,6 +69,7 @@ impl Spot {
             passed: 0,
             frame: 0,
             left: 0,
+            last: 0,
         }
     }
 
@@ -115,6 +120,7 @@ pub(crate) fn hold(
     ensures spot { OnOk result (spot.new ≡ held_spot spot.old) }
     ensures pushed { OnOk result (store.new.records ≡ event ∷ store.old.records) }
     ensures stop { IfErr result (λ stop. IsHeldStop stop limit spot.old.units) }
+    ensures last { spot.new.last ≡ spot.old.last }
     ensures kept { OnErr result (spot.new ≡ spot.old) }
     ensures peak { store.new.peak ≤ max store.old.peak limit }
 {

@@ -9,12 +9,11 @@ ghost use Rattle.pat_tree.specs.Nested.{row, tree_at};
 ghost use Rattle.pat_tree.specs.Rules.{class_in};
 ghost use Rattle.frame_store.specs.Entry.{entries};
 ghost use Rattle.ordered_search.specs.Paths.{many_in, only_many};
-ghost use Rattle.ordered_search.specs.Moves.{tread};
 ghost use Rattle.frame_machine.specs.Ground.{tree_of, IsNode, IsPart};
 ghost use Rattle.frame_machine.specs.Machine.{conf};
 ghost use Rattle.frame_machine.specs.Frames.{ahead};
 ghost use Rattle.frame_machine.specs.Validity.{IsValid, Advances};
-ghost use Rattle.frame_machine.specs.Stops.{IsStop};
+ghost use Rattle.frame_machine.specs.Stops.{IsStop, tells};
 ghost use Rattle.frame_machine.specs.Possessive.{IsRepeatOf, IsOnly, first_place, units_of};
 
 use crate::enter::go_on;
@@ -129,7 +128,7 @@ pub(crate) fn pass_possessive<S: Searchable>(
         (conf next spot.new (entries store.now.records) registers.now)) }
     ensures stop { IfErr result
         (λ stop. IsStop stop spot.new registers.now
-        (tread (S.searched on.now).setting spot.old.left
+        (tells (S.searched on.now).setting spot.old
         (ahead (S.searched on.now)
         (conf (Next.Enter at) spot.old (entries store.now.records) registers.now)))) }
 {

@@ -9,8 +9,7 @@ ghost use Rattle.frame_machine.specs.Machine.{conf, less};
 ghost use Rattle.frame_machine.specs.Frames.{ahead};
 ghost use Rattle.frame_machine.specs.Branches.{AreBranches};
 ghost use Rattle.frame_machine.specs.Validity.{IsValid, Advances, HasBranch, IsRepeat, IsMany};
-ghost use Rattle.ordered_search.specs.Moves.{tread};
-ghost use Rattle.frame_machine.specs.Stops.{IsStop, many_next, turn_entry};
+ghost use Rattle.frame_machine.specs.Stops.{IsStop, many_next, turn_entry, tells};
 
 use crate::behind::{begin_branch, is_behind};
 use crate::enter::go_on;
@@ -99,7 +98,7 @@ pub(crate) fn branch<S: Searchable>(
 ) -> Result<Next, Stop>
     requires valid { IsValid (S.searched on.now) (conf (Next.Branch at index) spot.old (entries store.old.records) registers.now) }
     ensures on { IfOk result (λ next. Advances (S.searched on.now) (conf (Next.Branch at index) spot.old (entries store.old.records) registers.now) (conf next spot.new (entries store.new.records) registers.now)) }
-    ensures stop { IfErr result (λ stop. IsStop stop spot.new registers.now (tread (S.searched on.now).setting spot.old.left (ahead (S.searched on.now) (conf (Next.Branch at index) spot.old (entries store.old.records) registers.now)))) }
+    ensures stop { IfErr result (λ stop. IsStop stop spot.new registers.now (tells (S.searched on.now).setting spot.old (ahead (S.searched on.now) (conf (Next.Branch at index) spot.old (entries store.old.records) registers.now)))) }
     ensures peak { store.new.peak ≤ max store.old.peak (S.searched on.now).setting.matching.frame_limit }
 {
     let index = pass_branches(on, at, index, spot, store, registers);
@@ -117,7 +116,7 @@ fn try_branch<S: Searchable>(
 ) -> Result<Next, Stop>
     requires valid { IsValid (S.searched on.now) (conf (Next.Branch at index) spot.old (entries store.old.records) registers.now) }
     ensures on { IfOk result (λ next. Advances (S.searched on.now) (conf (Next.Branch at index) spot.old (entries store.old.records) registers.now) (conf next spot.new (entries store.new.records) registers.now)) }
-    ensures stop { IfErr result (λ stop. IsStop stop spot.new registers.now (tread (S.searched on.now).setting spot.old.left (ahead (S.searched on.now) (conf (Next.Branch at index) spot.old (entries store.old.records) registers.now)))) }
+    ensures stop { IfErr result (λ stop. IsStop stop spot.new registers.now (tells (S.searched on.now).setting spot.old (ahead (S.searched on.now) (conf (Next.Branch at index) spot.old (entries store.old.records) registers.now)))) }
     ensures peak { store.new.peak ≤ max store.old.peak (S.searched on.now).setting.matching.frame_limit }
 {
     let branches = branches_of(on, at, index);
@@ -149,7 +148,7 @@ pub(crate) fn offer<S: Searchable>(
 ) -> Result<Next, Stop>
     requires valid { IsValid (S.searched on.now) (conf (Next.Offer at count) spot.old (entries store.old.records) registers.now) }
     ensures on { IfOk result (λ next. Advances (S.searched on.now) (conf (Next.Offer at count) spot.old (entries store.old.records) registers.now) (conf next spot.new (entries store.new.records) registers.now)) }
-    ensures stop { IfErr result (λ stop. IsStop stop spot.new registers.now (tread (S.searched on.now).setting spot.old.left (ahead (S.searched on.now) (conf (Next.Offer at count) spot.old (entries store.old.records) registers.now)))) }
+    ensures stop { IfErr result (λ stop. IsStop stop spot.new registers.now (tells (S.searched on.now).setting spot.old (ahead (S.searched on.now) (conf (Next.Offer at count) spot.old (entries store.old.records) registers.now)))) }
     ensures peak { store.new.peak ≤ max store.old.peak (S.searched on.now).setting.matching.frame_limit }
 {
     let turns = turns_of(on, at);
@@ -192,7 +191,7 @@ pub(crate) fn begin<S: Searchable>(
 ) -> Result<Next, Stop>
     requires valid { IsValid (S.searched on.now) (conf (Next.Begin at count exits) spot.old (entries store.old.records) registers.now) }
     ensures on { IfOk result (λ next. Advances (S.searched on.now) (conf (Next.Begin at count exits) spot.old (entries store.old.records) registers.now) (conf next spot.new (entries store.new.records) registers.now)) }
-    ensures stop { IfErr result (λ stop. IsStop stop spot.new registers.now (tread (S.searched on.now).setting spot.old.left (ahead (S.searched on.now) (conf (Next.Begin at count exits) spot.old (entries store.old.records) registers.now)))) }
+    ensures stop { IfErr result (λ stop. IsStop stop spot.new registers.now (tells (S.searched on.now).setting spot.old (ahead (S.searched on.now) (conf (Next.Begin at count exits) spot.old (entries store.old.records) registers.now)))) }
     ensures peak { store.new.peak ≤ max store.old.peak (S.searched on.now).setting.matching.frame_limit }
 {
     let turns = turns_of(on, at);

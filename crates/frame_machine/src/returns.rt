@@ -4,12 +4,11 @@ ghost use Rattle.frame_store.specs.Captures.{HasGroup, capture, with_capture};
 ghost use Rattle.frame_store.specs.Entry.{Undo, entries};
 ghost use Rattle.frame_store.specs.Stack.{past};
 ghost use Rattle.frame_store.specs.Undo.{HasSlot, undone};
-ghost use Rattle.ordered_search.specs.Moves.{tread};
 ghost use Rattle.ordered_search.specs.Stream.{changes, same_span};
 ghost use Rattle.frame_machine.specs.Calls.{AreRestored, IsReturnStop};
 ghost use Rattle.frame_machine.specs.Frames.{ahead};
 ghost use Rattle.frame_machine.specs.Machine.{conf};
-ghost use Rattle.frame_machine.specs.Stops.{IsHeldStop, IsStop, held_spot};
+ghost use Rattle.frame_machine.specs.Stops.{IsHeldStop, IsStop, held_spot, tells};
 ghost use Rattle.frame_machine.specs.Validity.{IsValid, Advances};
 
 use crate::ends::{number_of, undo_record};
@@ -33,7 +32,7 @@ pub(crate) fn close_called<S: Searchable>(
     requires at { slice_get (reverse store.old.records) height ≡ Some frame.now }
     requires kind { frame.now.kind ≡ KIND_CALLED_GROUP }
     ensures on { IfOk result (λ next. Advances (S.searched on.now) (conf Next.End spot.old (entries store.old.records) registers.old) (conf next spot.new (entries store.new.records) registers.new)) }
-    ensures stop { IfErr result (λ stop. IsStop stop spot.new registers.new (tread (S.searched on.now).setting spot.old.left (ahead (S.searched on.now) (conf Next.End spot.old (entries store.old.records) registers.old)))) }
+    ensures stop { IfErr result (λ stop. IsStop stop spot.new registers.new (tells (S.searched on.now).setting spot.old (ahead (S.searched on.now) (conf Next.End spot.old (entries store.old.records) registers.old)))) }
     ensures peak { store.new.peak ≤ max store.old.peak (S.searched on.now).setting.matching.frame_limit }
 {
     let number = number_of(on, frame.node);
@@ -82,6 +81,7 @@ fn restore_one(
     ensures spot { OnOk result (same_span (capture registers.old group) value ≡ false → spot.new ≡ held_spot spot.old) }
     ensures pushed { OnOk result (same_span (capture registers.old group) value ≡ false → entries store.new.records ≡ Undo (record { node = frame.now.node; link = frame.now.link }) group (capture registers.old group) ∷ entries store.old.records) }
     ensures stop { IfErr result (λ stop. IsHeldStop stop limit spot.old.units) }
+    ensures last { spot.new.last ≡ spot.old.last }
     ensures differs { IfErr result (λ stop. same_span (capture registers.old group) value ≡ false) }
     ensures peak { store.new.peak ≤ max store.old.peak limit }
 {
@@ -113,6 +113,7 @@ fn restore(
     ensures spot { OnOk result (spot.new ≡ record spot.old { units = spot.old.units + changes registers.old entry.now }) }
     ensures few { OnOk result (spot.new.units ≤ limit) }
     ensures stop { IfErr result (λ stop. IsReturnStop stop limit (spot.old.units + changes registers.old entry.now)) }
+    ensures last { spot.new.last ≡ spot.old.last }
     ensures peak { store.new.peak ≤ max store.old.peak limit }
 {
     let mut group = entry.count() as u16;
@@ -163,7 +164,7 @@ pub(crate) fn leave_call<S: Searchable>(
     requires at { slice_get (reverse store.old.records) height ≡ Some frame.now }
     requires kind { frame.now.kind ≡ KIND_CALL_OPEN }
     ensures on { IfOk result (λ next. Advances (S.searched on.now) (conf Next.End spot.old (entries store.old.records) registers.old) (conf next spot.new (entries store.new.records) registers.new)) }
-    ensures stop { IfErr result (λ stop. IsStop stop spot.new registers.new (tread (S.searched on.now).setting spot.old.left (ahead (S.searched on.now) (conf Next.End spot.old (entries store.old.records) registers.old)))) }
+    ensures stop { IfErr result (λ stop. IsStop stop spot.new registers.new (tells (S.searched on.now).setting spot.old (ahead (S.searched on.now) (conf Next.End spot.old (entries store.old.records) registers.old)))) }
     ensures peak { store.new.peak ≤ max store.old.peak (S.searched on.now).setting.matching.frame_limit }
 {
     let Ok(()) = captures_at(store, height, registers, bank) else {

@@ -5,10 +5,10 @@ ghost use Rattle.frame_store.specs.Entry.{entries};
 ghost use Rattle.frame_machine.specs.Machine.{conf, mark_of};
 ghost use Rattle.frame_machine.specs.Frames.{ahead};
 ghost use Rattle.frame_machine.specs.Validity.{IsValid, Advances};
-ghost use Rattle.ordered_search.specs.Moves.{tread};
 ghost use Rattle.ordered_search.specs.PlaceAnswer.{place_answer};
-ghost use Rattle.frame_machine.specs.Stops.{IsStop};
+ghost use Rattle.frame_machine.specs.Stops.{IsStop, told, tells};
 
+use crate::accepts::accept;
 use crate::back::back;
 use crate::ends::finish;
 use crate::enter::enter;
@@ -29,7 +29,7 @@ fn turn<S: Searchable>(
 ) -> Result<Next, Stop>
     requires valid { IsValid (S.searched on.now) (conf next spot.old (entries store.old.records) registers.old) }
     ensures on { IfOk result (λ to. Advances (S.searched on.now) (conf next spot.old (entries store.old.records) registers.old) (conf to spot.new (entries store.new.records) registers.new)) }
-    ensures stop { IfErr result (λ stop. IsStop stop spot.new registers.new (tread (S.searched on.now).setting spot.old.left (ahead (S.searched on.now) (conf next spot.old (entries store.old.records) registers.old)))) }
+    ensures stop { IfErr result (λ stop. IsStop stop spot.new registers.new (tells (S.searched on.now).setting spot.old (ahead (S.searched on.now) (conf next spot.old (entries store.old.records) registers.old)))) }
     ensures peak { store.new.peak ≤ max store.old.peak (S.searched on.now).setting.matching.frame_limit }
 {
     match next {
@@ -41,6 +41,7 @@ fn turn<S: Searchable>(
         Next::More(at, count, last) => more(on, at, count, last, spot, store, registers),
         Next::End => finish(on, spot, store, registers, bank),
         Next::Back => back(on, spot, store, registers),
+        Next::Accept => accept(on, spot, store, registers, bank),
     }
 }
 
@@ -57,7 +58,7 @@ pub(crate) fn run<S: Searchable>(
     requires place { (S.searched on.now).stands place ≡ true }
     requires empty { store.old.records ≡ [] }
     requires unset { registers.old ≡ replicate (S.searched on.now).setting.groups None }
-    ensures stop { IsStop result spot.new registers.new (place_answer (S.searched on.now).setting place) }
+    ensures stop { IsStop result spot.new registers.new (told None (place_answer (S.searched on.now).setting place)) }
     ensures peak { store.new.peak ≤ max store.old.peak (S.searched on.now).setting.matching.frame_limit }
 {
     *spot = Spot {
@@ -69,6 +70,7 @@ pub(crate) fn run<S: Searchable>(
         passed: 0,
         frame: 0,
         left: on.step_limit(),
+        last: 0,
     };
     let mut next = Next::Enter(on.root());
     'turns: loop {

@@ -5,7 +5,7 @@ ghost use Rattle.pat_tree.specs.declared.options.Options.{Options};
 ghost use Rattle.frame_machine.specs.Answer.{IsAnswer, IsMark, SkipsToPlace};
 ghost use Rattle.ordered_search.specs.PlaceAnswer.{place_answer};
 
-use crate::answer::{PlaceAnswer, answer_of};
+use crate::answer::{PlaceAnswer, answer_of, last_of};
 use crate::machine::Spot;
 use crate::run::run;
 use crate::searchable::Searchable;
@@ -138,5 +138,6 @@ pub fn search_at<S: Searchable>(on: &S, place: u64, scratch: &mut Scratch) -> Pl
         &mut scratch.registers,
         &mut scratch.bank,
     );
+    scratch.last_mark = last_of(spot.last, scratch.last_mark);
     answer_of(stop, &spot)
 }

@@ -9,7 +9,7 @@ use crate::{PlaceAnswer, Ready, Scratch, run_at};
 use char_sets::ClassTable;
 use match_items::View;
 use pat_check::check;
-use pat_tree::{Draft, Item, Kids, MatchOptions, Node, NodeId, Options, Tree};
+use pat_tree::{Draft, Item, Kids, MatchOptions, Node, NodeId, Options, Tree, Verb};
 use pcre_io::NoCallouts;
 use std::alloc::Global;
 use std::process::Abort;
@@ -26,6 +26,10 @@ enum Step {
     Ahead,
     /// A lookbehind of the last two as its branches.
     BehindEither,
+    /// A group of the last two as its branches.
+    Either,
+    Accept,
+    GoBack,
 }
 
 fn item(letter: u8) -> Item
@@ -115,6 +119,10 @@ fn add_over_two(
             atomic: true,
             branches: kids,
         },
+        Step::Either => Node::Group {
+            number: None,
+            branches: kids,
+        },
         _ => Node::Seq(kids),
     };
     add(draft, waiting, node)
@@ -136,7 +144,11 @@ fn take_step(
         Step::Letter(letter) => add(draft, waiting, Node::One(item(letter))),
         Step::Keep => add(draft, waiting, Node::KeepOut),
         Step::Ahead => add_ahead(alloc, draft, waiting),
-        Step::Join | Step::BehindEither => add_over_two(alloc, draft, waiting, step),
+        Step::Join | Step::BehindEither | Step::Either => {
+            add_over_two(alloc, draft, waiting, step)
+        }
+        Step::Accept => add(draft, waiting, Node::VerbNode(Verb::Accept { name: None })),
+        Step::GoBack => add(draft, waiting, Node::VerbNode(Verb::Fail { name: None })),
     }
 }
 
@@ -237,6 +249,71 @@ fn a_lookaround_goes_back_to_the_start_of_the_match(rt: HostRuntime) -> Result<(
             b"abc",
             0,
             3,
+        ),
+    ];
+    let alloc = rt.alloc();
+    let mut used = Scratch::new(alloc);
+    for row in &ROWS {
+        case(&rt, alloc, row, &mut Scratch::new(alloc))?;
+        case(&rt, alloc, row, &mut used)?;
+    }
+    Ok(())
+}
+
+// pcre2pattern, "Verbs that act immediately".
+#[test]
+fn accept_ends_what_is_around_it_and_fail_goes_back(rt: HostRuntime) -> Result<(), Fail> {
+    use Step::*;
+    static ROWS: [Row; 3] = [
+        // `a(?:b(*ACCEPT)|c)d`
+        (
+            &[
+                Letter(b'a'),
+                Letter(b'b'),
+                Accept,
+                Join,
+                Letter(b'c'),
+                Either,
+                Join,
+                Letter(b'd'),
+                Join,
+            ],
+            b"ab",
+            0,
+            2,
+        ),
+        // `(?=ab(*ACCEPT)c)a`
+        (
+            &[
+                Letter(b'a'),
+                Letter(b'b'),
+                Join,
+                Accept,
+                Join,
+                Letter(b'c'),
+                Join,
+                Ahead,
+                Letter(b'a'),
+                Join,
+            ],
+            b"abx",
+            0,
+            1,
+        ),
+        // `(?:a(*FAIL)|ab)`
+        (
+            &[
+                Letter(b'a'),
+                GoBack,
+                Join,
+                Letter(b'a'),
+                Letter(b'b'),
+                Join,
+                Either,
+            ],
+            b"ab",
+            0,
+            2,
         ),
     ];
     let alloc = rt.alloc();

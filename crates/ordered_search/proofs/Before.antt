@@ -4,20 +4,22 @@ use Rattle.std.specs.Prelude.{nat_le, option_map, ℤ, pos, negsuc, ◌==◌}
 use Rattle.pat_tree.specs.declared.options.PartialMode.TheVariants.{Off, Soft, Hard}
 use Rattle.pat_tree.specs.declared.nodes.Item.{Item}
 use Rattle.pat_tree.specs.declared.nodes.AnchorKind.{AnchorKind}
+use Rattle.pat_tree.specs.declared.nodes.Verb.{Verb}
+use Rattle.pat_tree.specs.declared.nodes.Verb.TheVariants.{Accept, Fail, Commit, Prune, Skip, Then, Mark}
 use Rattle.pat_tree.specs.Nested as tree
 use Rattle.pat_tree.specs.Nested.{Nested, Row, Test, Other}
 use Rattle.pat_tree.specs.Groups.{group_of}
 use Rattle.match_items.specs.Items.{one_less, is_none_left, after_item, item_reaches, longest_run, run_reaches, after_break, break_reaches, after_ref, ref_reaches, holds, anchor_reaches, earliest, places_back}
 use Rattle.pat_lengths.specs.Lengths.{SomeLengths}
 use Rattle.frame_store.specs.Captures.{capture}
-use Rattle.ordered_search.specs.Stream.{State, first_state, VerbEnding, next_branch, prune, skip, commit, is_partial, too_many_units, loop, exhausted, by_verb, by_halt, hit_end, How, reached, accepted, note, state, step, Stream, Search, ends, ◌▸◌, nothing, gives, ◌or_else◌, each, go_on, and_then, catch, is_next_branch, is_verb, captured, changes, shown, decide, no_ending, fails_alone, fails_inside}
+use Rattle.ordered_search.specs.Stream.{State, first_state, VerbEnding, next_branch, prune, skip, commit, is_partial, too_many_units, loop, Ending, exhausted, by_verb, by_halt, name, hit_end, How, reached, accepted, note, state, step, Stream, Search, ends, ◌▸◌, nothing, gives, ◌or_else◌, each, go_on, and_then, catch, is_next_branch, is_verb, captured, changes, shown, decide, no_ending, fails_alone, fails_inside}
 use Rattle.ordered_search.specs.Setting.{Setting, held, hold, counts, reach, reach_if, match_limit, branch_lengths}
 use Rattle.ordered_search.specs.Tests.{move_to, goes_to, run_one, run_break, run_ref, run_anchor, offers, greedy, offer_and, reluctant, lazy_run, run_many}
-use Rattle.ordered_search.specs.Parts.{Searches, in_order, choices, branches, run_group, is_over, turn, run_repeat, begun_at, ends_at, one_try, tries, tries_within, run_behind, back_to, forget_passed, run_atomic, run_look, asserts, tests, some_set, is_called, is_called_of, block_of, follow, run_callout, run_tree, is_active, returns, run_call}
+use Rattle.ordered_search.specs.Parts.{Searches, in_order, choices, branches, run_group, is_over, turn, run_repeat, begun_at, ends_at, one_try, tries, tries_within, run_behind, back_to, forget_passed, run_atomic, run_look, asserts, tests, some_set, is_called, is_called_of, block_of, follow, run_callout, run_tree, is_active, returns, run_call, named, skip_to, backs, run_verb}
 use Rattle.ordered_search.specs.Run.{level, levels, run, levels_behind, level_test, level_other}
 use Rattle.ordered_search.specs.PlaceAnswer.{with_note, answers, decision, walk, place_answer}
 use Rattle.ordered_search.specs.Moves.{Moves, stops, pause, stepped, noted, found, exhaust, Follow, Handler, Path, before, catching, at_end, at_verbs, going, holding, reaching, tread}
-use Rattle.ordered_search.specs.Paths.{Paths, close, ref_path, anchor_path, offer_paths, offer_path, lazy_paths, many_paths, turned, turn_path, repeat_path, go_path, parts_path, choice_paths, branch_paths, path, row_paths, paths, try_path, ends_before, tries_path, behind_path, leave, Many, only_many, possessive_path, atomic_path, atomic_over, look_path, tested_path, assert_path, choose_path, answered, behind_paths, test_path, other_path, pauses, returned, called_path, call_path}
+use Rattle.ordered_search.specs.Paths.{Paths, close, ref_path, anchor_path, offer_paths, offer_path, lazy_paths, many_paths, turned, turn_path, repeat_path, go_path, parts_path, choice_paths, branch_paths, path, row_paths, paths, try_path, ends_before, tries_path, behind_path, leave, Many, only_many, possessive_path, atomic_path, atomic_over, look_path, tested_path, assert_path, choose_path, answered, behind_paths, test_path, other_path, pauses, returned, called_path, call_path, ended, named_path, backs_path, verb_path}
 use Rattle.ordered_search.proofs.Possessive.{only_is}
 
 unfoldable strip : Moves → Moves
@@ -645,6 +647,63 @@ module _ (g : Setting) where
           (strip_holding 1 s inside stream l (strip f) j (λ t. strip_called o s (called t) k l f j e)));
     }
 
+  -- Verbs.
+
+  strip_ended : (e : Ending) (l : Follow) (f : Moves) (h j : Handler) → AreStripped h j → strip (ended e f h) ≡ before (ends e) l (strip f) j
+  unfolding before strip
+  strip_ended exhausted l f h j r = refl
+  strip_ended (by_verb v) l f h j r = r.same v
+  strip_ended (by_halt x) l f h j r = refl
+
+  strip_backs : (e : Ending) → IsSearch (backs_path g e) (backs g e)
+  unfolding before strip backs
+  strip_backs e = record {
+    is = λ s k l f h j x r.
+        strip_holding 1 s (λ t. k reached t (pause (ended e f h))) (λ t. state reached t ▸ ends e) l (strip f) j
+        (λ t. x.same reached t (pause (ended e f h)) ∙ ap (l reached t) (strip_ended e l f h j r));
+  }
+
+  -- a name is met
+  strip_named : (o : Option ℕ) (is_noted : Bool) (s : State) (x : State → Moves) (w : Search) (l : Follow) (f : Moves) (j : Handler) →
+      ((t : State) → strip (x t) ≡ before (w t) l f j) → strip (named_path g o is_noted s x) ≡ before (named o is_noted s w) l f j
+  unfolding before strip named
+  strip_named None is_noted s x w l f j same = same s
+  strip_named (Some n) false s x w l f j same = ap (noted (name n)) (same (record s { mark = Some n }))
+  strip_named (Some n) true s x w l f j same = ap (noted (name n)) (same (record s { mark = Some n; passed = (n, s.place) ∷ s.passed }))
+
+  -- a verb that acts when it is backtracked onto
+  strip_backs_to : (o : Option ℕ) (e : Ending) → IsSearch (λ s k f h. named_path g o false s (λ t. backs_path g e t k f h)) (λ s. named o false s (backs g e))
+  strip_backs_to o e = record {
+    is = λ s k l f h j x r.
+        strip_named o false s (λ t. backs_path g e t k f h) (backs g e) l (strip f) j (λ t. (strip_backs e).is t k l f h j x r);
+  }
+
+  -- a verb that is passed and does nothing then
+  strip_passed : (o : Option ℕ) (how : How) → IsSearch (λ s k f h. named_path g o true s (λ t. holding g 1 t (λ u. k how u (pause f)))) (λ s. named o true s (hold g how))
+  unfolding strip
+  strip_passed o how = record {
+    is = λ s k l f h j x r.
+        strip_named o true s (λ t. holding g 1 t (λ u. k how u (pause f))) (hold g how) l (strip f) j
+        (λ t. strip_hold how t (λ u. k how u (pause f)) l (strip f) j (λ u. x.same how u (pause f)));
+  }
+
+  strip_verb : (v : Verb) → IsSearch (verb_path g v) (run_verb g v)
+  unfolding before strip run_verb
+  strip_verb (Accept None) = record { is = λ s k l f h j e r. e.same accepted s f }
+  strip_verb (Accept (Some n)) = record { is = (strip_passed (Some n) accepted).is }
+  strip_verb (Fail None) = record { is = λ s k l f h j e r. refl }
+  strip_verb (Fail (Some n)) = record {
+    is = λ s k l f h j e r.
+        strip_named (Some n) true s (λ t. holding g 1 t (λ u. f)) (λ t. held g 1 t (λ u. nothing)) l (strip f) j
+        (λ t. strip_holding 1 t (λ u. f) (λ u. nothing) l (strip f) j (λ u. refl));
+  }
+  strip_verb (Mark o) = record { is = (strip_passed o reached).is }
+  strip_verb (Commit o) = record { is = (strip_backs_to o (by_verb commit)).is }
+  strip_verb (Prune o) = record { is = (strip_backs_to o (by_verb prune)).is }
+  strip_verb (Then o) = record { is = (strip_backs_to o (by_verb next_branch)).is }
+  strip_verb (Skip None) = record { is = λ s k l f h j e r. (strip_backs (by_verb (skip s.place))).is s k l f h j e r }
+  strip_verb (Skip (Some n)) = record { is = λ s k l f h j e r. (strip_backs (skip_to g n s.passed)).is s k l f h j e r }
+
   -- The trees.
 
   module _ (d : ℕ) (same : (t : Nested) → IsSearch (paths g d t) (run g d t)) where
@@ -690,7 +749,7 @@ module _ (g : Setting) where
           strip_test test (path g d (paths g d) first) (other_path g d (paths g d) second) (level g (run g d) first) (level_other g (run g d) second)
           (record { is = strip_path first }) (strip_other second) s k l f h j e r
       strip_path (tree.call n) s k l f h j e r = (strip_call (paths g d) (run g d) same n).is s k l f h j e r
-      strip_path (tree.verb v) s k l f h j e r = strip_run (tree.verb v) s k l f h j e r
+      strip_path (tree.verb v) s k l f h j e r = (strip_verb v).is s k l f h j e r
       strip_path (tree.callout c) s k l f h j e r = strip_run (tree.callout c) s k l f h j e r
 
       strip_row : (ts : Row) → ArePaths (row_paths g d (paths g d) ts) (levels g (run g d) ts)

@@ -1,16 +1,16 @@
--- A search for a tree of the forms that are built gives a match in the subject, none, a limit or a loop, and tells nothing else.
-use Rattle.std.proofs.Common.{◌≡◌, ℕ, zero, suc, ◌+◌, ◌-◌, ◌<◌, ◌≤◌, ◌≢◌, Bool, true, false, List, [], ◌++◌, length, Option, Some, None, refl, sym, subst, arith}
+-- A search for a tree of the forms that are built gives a match in the subject, none, a limit or a loop, and tells names alone.
+use Rattle.std.proofs.Common.{◌≡◌, ℕ, zero, suc, ◌+◌, ◌-◌, ◌<◌, ◌≤◌, ◌≢◌, Bool, true, false, List, [], ◌∷◌, ◌++◌, length, Option, Some, None, refl, sym, subst, arith}
 use Rattle.std.specs.Prelude.{nat_le, IfSome}
 use Rattle.std.proofs.lemmas.List.{length-replicate}
 use Rattle.std.proofs.lemmas.List.Elements.{All-replicate}
-use Rattle.ordered_search.specs.Stream.{State, first_state, exhausted, by_verb, by_halt, is_partial, too_many_units, loop, abort, cut, Note, reached, accepted, note, state, step, Stream, ends, ◌▸◌}
+use Rattle.ordered_search.specs.Stream.{State, first_state, exhausted, by_verb, by_halt, is_partial, too_many_units, loop, abort, cut, Note, name, shown, hit_end, How, reached, accepted, note, state, step, Stream, ends, ◌▸◌}
 use Rattle.ordered_search.specs.Setting.{Setting, match_limit}
 use Rattle.ordered_search.specs.PlaceAnswer.{outcome, Signal, Exhausted, Prune, Skip, Commit, PlaceAnswer, Matched, Failed, Partial, MatchLimit, FrameLimit, Loop, Abort, NoDepth, Walked, answers, has_hit, is_refused_by_end, is_refused_as_empty, walk, place_answer}
 use Rattle.ordered_search.proofs.WalkLaw.{no_cut}
 use Rattle.ordered_search.specs.Places.{next_place, last_place, within, place_after, is_excluded}
 use Rattle.ordered_search.specs.MatchAnswer.{Match, PartialFrom, Error, Found, none_found, decided, undecided, failed_at, tried, from_place}
 use Rattle.match_items.specs.Subjects.{IsTextPlace}
-use Rattle.ordered_search.specs.Forward.{IsWithin, IsPlaced, IsPlainFound, IsBuiltSearch, ForwardLaw}
+use Rattle.ordered_search.specs.Forward.{IsWithin, IsPlaced, AreNames, IsPlainFound, IsBuiltSearch, ForwardLaw}
 use Rattle.ordered_search.proofs.StartPlaces.{up_to_keeps, start_within, after_later, next_stands}
 use Rattle.ordered_search.proofs.ForwardStreams.{IsOnWay, Forward}
 use Rattle.ordered_search.proofs.ForwardSearch.{forward_run}
@@ -27,33 +27,33 @@ module _ (g : Setting) (search : IsBuiltSearch g) where
   IsPlainPlace _ = ⊥
 
   abbrev IsPlainWalk : Walked → Type 0
-  IsPlainWalk w = IsPlainPlace w.answer × (w.notes ≡ [])
+  IsPlainWalk w = IsPlainPlace w.answer × AreNames w.notes
 
   placed : (low : ℕ) (s : State) → g.start ≤ low → IsOnWay g (Some low) s → IsPlaced g (outcome s)
   placed low s le on =
       let begins : low ≤ s.keep = on.kept.0 in
-      record { begins = omega (arith, le, begins); ordered = on.kept.1; within = on.here.within; place = on.here; caps = on.caps; groups = on.groups; no_mark = on.no_mark }
+      record { begins = omega (arith, le, begins); ordered = on.kept.1; within = on.here.within; place = on.here; caps = on.caps; groups = on.groups }
 
-  plain_state : (low : ℕ) (s : State) (empty by_end : Bool) (w : Walked) → g.start ≤ low → IsOnWay g (Some low) s → IsPlainWalk w →
-      IsPlainWalk (elim (elim empty as (λ _. Option PlaceAnswer) [ true ↦ None | false ↦ elim by_end [ false ↦ Some (Matched (outcome s)) | true ↦ elim reached as (λ _. Option PlaceAnswer) [ reached ↦ None | accepted ↦ Some (Failed Exhausted) ] ] ]) [ None ↦ w | Some a ↦ answers a ])
-  plain_state low s true by_end w le on h = h
-  plain_state low s false false w le on h = (placed low s le on, refl)
-  plain_state low s false true w le on h = h
+  plain_state : (low : ℕ) (how : How) (s : State) (empty by_end : Bool) (w : Walked) → g.start ≤ low → IsOnWay g (Some low) s → IsPlainWalk w →
+      IsPlainWalk (elim (elim empty as (λ _. Option PlaceAnswer) [ true ↦ None | false ↦ elim by_end [ false ↦ Some (Matched (outcome s)) | true ↦ elim how as (λ _. Option PlaceAnswer) [ reached ↦ None | accepted ↦ Some (Failed Exhausted) ] ] ]) [ None ↦ w | Some a ↦ answers a ])
+  plain_state low how s true by_end w le on h = h
+  plain_state low how s false false w le on h = (placed low s le on, tt)
+  plain_state low reached s false true w le on h = h
+  plain_state low accepted s false true w le on h = (tt, tt)
 
   plain_walk : (low p n : ℕ) (x : Stream) → g.start ≤ low → Forward g (Some low) p x → IsPlainWalk (walk g n x)
   unfolding Forward walk
-  plain_walk low p n (ends exhausted) le h = (tt, refl)
+  plain_walk low p n (ends exhausted) le h = (tt, tt)
   plain_walk low p n (ends (by_verb v)) le h = absurd h
   plain_walk low p n (ends (by_halt is_partial)) le h = absurd h
-  plain_walk low p n (ends (by_halt too_many_units)) le h = (tt, refl)
-  plain_walk low p n (ends (by_halt loop)) le h = (tt, refl)
+  plain_walk low p n (ends (by_halt too_many_units)) le h = (tt, tt)
+  plain_walk low p n (ends (by_halt loop)) le h = (tt, tt)
   plain_walk low p n (ends (by_halt (abort m))) le h = absurd h
-  plain_walk low p n (ends (by_halt cut)) le h = (tt, refl)
-  plain_walk low p n (note k ▸ x) le h = absurd h
-  plain_walk low p n (state reached s ▸ x) le h =
-      plain_state low s (is_refused_as_empty g s) (is_refused_by_end g s) (walk g n x) le h.1 (plain_walk low p n x le h.2)
-  plain_walk low p n (state accepted s ▸ x) le h = absurd h
-  plain_walk low p zero (step ▸ x) le h = (tt, refl)
+  plain_walk low p n (ends (by_halt cut)) le h = (tt, tt)
+  plain_walk low p n (note k ▸ x) le h = let later = plain_walk low p n x le h.1 in (later.0, (h.0, later.1))
+  plain_walk low p n (state how s ▸ x) le h =
+      plain_state low how s (is_refused_as_empty g s) (is_refused_by_end g s) (walk g n x) le h.1 (plain_walk low p n x le h.2)
+  plain_walk low p zero (step ▸ x) le h = (tt, tt)
   plain_walk low p (suc n) (step ▸ x) le h = plain_walk low p n x le h
 
   begun_at : (p : ℕ) → IsTextPlace g.options g.subject p → IsOnWay g (Some p) (first_state g.groups p)
@@ -62,7 +62,6 @@ module _ (g : Setting) (search : IsBuiltSearch g) where
     here = here;
     caps = All-replicate (IsWithin (length g.subject)) g.groups None tt;
     groups = length-replicate g.groups None;
-    no_mark = refl;
   }
 
   plain_place : (p : ℕ) → g.start ≤ p → IsTextPlace g.options g.subject p → IsPlainWalk (place_answer g p)
@@ -74,16 +73,29 @@ module _ (g : Setting) (search : IsBuiltSearch g) where
   not_cut p false = no_cut g p
 
   plain_tried : (p : ℕ) (b : Bool) → g.start ≤ p → IsTextPlace g.options g.subject p → IsPlainWalk (elim b [ true ↦ answers (Failed Exhausted) | false ↦ place_answer g p ])
-  plain_tried p true le in' = (tt, refl)
+  plain_tried p true le in' = (tt, tt)
   plain_tried p false le in' = plain_place p le in'
 
   none_plain : IsPlainFound g none_found
-  none_plain = record { answer = tt; notes = refl }
+  none_plain = record { answer = tt; notes = tt }
 
-  plain_failed : (p : ℕ) (ns : List Note) (later : Found) → ns ≡ [] → IsPlainFound g later → IsPlainFound g (record { answer = undecided (has_hit ns) p later.answer; notes = ns ++ later.notes })
-  plain_failed p ns later e h = subst (λ ms. IsPlainFound g (record { answer = undecided (has_hit ms) p later.answer; notes = ms ++ later.notes })) (sym e) h
+  -- names hit no end
+  no_hit : (ns : List Note) → AreNames ns → has_hit ns ≡ false
+  no_hit [] h = refl
+  no_hit (name n ∷ ns) h = no_hit ns h.1
+  no_hit (shown b ∷ ns) h = absurd h.0
+  no_hit (hit_end ∷ ns) h = absurd h.0
 
-  plain_answer : (p : ℕ) (w : Walked) (later : Signal → Found) (a : PlaceAnswer) → IsPlainPlace a → a ≢ NoDepth → w.notes ≡ [] → IsPlainFound g (later Exhausted) →
+  names_append : (ns ms : List Note) → AreNames ns → AreNames ms → AreNames (ns ++ ms)
+  names_append [] ms h k = k
+  names_append (n ∷ ns) ms h k = (h.0, names_append ns ms h.1 k)
+
+  plain_failed : (p : ℕ) (ns : List Note) (later : Found) → AreNames ns → IsPlainFound g later → IsPlainFound g (record { answer = undecided (has_hit ns) p later.answer; notes = ns ++ later.notes })
+  plain_failed p ns later h k =
+      subst (λ b. IsPlainFound g (record { answer = undecided b p later.answer; notes = ns ++ later.notes })) (sym (no_hit ns h))
+      (record { answer = k.answer; notes = names_append ns later.notes h k.notes })
+
+  plain_answer : (p : ℕ) (w : Walked) (later : Signal → Found) (a : PlaceAnswer) → IsPlainPlace a → a ≢ NoDepth → AreNames w.notes → IsPlainFound g (later Exhausted) →
       IsPlainFound g (elim a [ Matched o ↦ decided w (Match o) | Failed signal ↦ failed_at p w (later signal) | Partial ↦ decided w (PartialFrom p) | b ↦ decided w (Error b) ])
   plain_answer p w later (Matched o) h n e k = record { answer = h; notes = e }
   plain_answer p w later (Failed Exhausted) h n e k = plain_failed p w.notes (later Exhausted) e k

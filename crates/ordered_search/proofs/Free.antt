@@ -1,6 +1,8 @@
--- A tree without verbs is the same before any handler.
+-- A tree without verbs that act when they are backtracked onto is the same before any handler.
 use Rattle.std.proofs.Common.{◌≡◌, ℕ, zero, suc, ◌-◌, ◌∙◌, Bool, true, false, List, [], ◌∷◌, Option, Some, None, refl, ap, drop, reverse, ◌==◌}
 use mathlib.Core.Path.{fun_ext}
+use Rattle.pat_tree.specs.declared.nodes.Verb.{Verb}
+use Rattle.pat_tree.specs.declared.nodes.Verb.TheVariants.{Accept, Fail, Mark}
 use Rattle.pat_tree.specs.Nested as tree
 use Rattle.pat_tree.specs.Nested.{Nested, Row, Test, Other}
 use Rattle.match_items.specs.Items.{one_less, places_back}
@@ -9,8 +11,8 @@ use Rattle.ordered_search.specs.Stream.{State, How, reached, accepted}
 use Rattle.ordered_search.specs.Setting.{Setting, branch_lengths}
 use Rattle.ordered_search.specs.Parts.{is_over, begun_at, back_to, some_set, is_called, is_called_of}
 use Rattle.ordered_search.specs.Moves.{Moves, pause, stepped, Follow, Handler, Path, catching, holding}
-use Rattle.ordered_search.specs.Paths.{Paths, close, turned, turn_path, repeat_path, go_path, parts_path, choice_paths, branch_paths, path, row_paths, paths, try_path, ends_before, tries_path, behind_path, leave, Many, only_many, atomic_path, atomic_over, look_path, tested_path, assert_path, choose_path, behind_paths, test_path, other_path, call_path}
-use Rattle.ordered_search.specs.Verbless.{IsVerbless, AreVerbless, IsVerblessTest, IsVerblessOther}
+use Rattle.ordered_search.specs.Paths.{Paths, close, turned, turn_path, repeat_path, go_path, parts_path, choice_paths, branch_paths, path, row_paths, paths, try_path, ends_before, tries_path, behind_path, leave, Many, only_many, atomic_path, atomic_over, look_path, tested_path, assert_path, choose_path, behind_paths, test_path, other_path, call_path, verb_path}
+use Rattle.ordered_search.specs.Verbless.{IsPassive, IsVerbless, AreVerbless, IsVerblessTest, IsVerblessOther}
 
 pub record IsFree (p : Path) : Type 0 where
   pub same : (s : State) (k : Follow) (f : Moves) (h j : Handler) → p s k f h ≡ p s k f j
@@ -183,6 +185,14 @@ module _ (g : Setting) where
   free_chosen true q q' a b = record { same = λ s k f h j. ap pause (a.same s k f h j) }
   free_chosen false q q' a b = record { same = λ s k f h j. ap pause (b.same s k f h j) }
 
+  free_verb : (v : Verb) → IsPassive v → IsFree (λ s k f h. pause (verb_path g v s k f h))
+  free_verb (Accept None) b = record { same = λ s k f h j. refl }
+  free_verb (Accept (Some n)) b = record { same = λ s k f h j. refl }
+  free_verb (Fail None) b = record { same = λ s k f h j. refl }
+  free_verb (Fail (Some n)) b = record { same = λ s k f h j. refl }
+  free_verb (Mark n) b = record { same = λ s k f h j. refl }
+  free_verb _ b = absurd b
+
   module _ (d : ℕ) (under : (t : Nested) → IsVerbless t → IsFree (paths g d t)) where
     mutual
       unfolding path call_path
@@ -220,7 +230,7 @@ module _ (g : Setting) where
       free_path (tree.ref ns caseless) b = record { same = λ s k f h j. refl }
       free_path (tree.anchor kind) b = record { same = λ s k f h j. refl }
       free_path tree.keep_out b = record { same = λ s k f h j. refl }
-      free_path (tree.verb v) b = absurd b
+      free_path (tree.verb v) b = record { same = (free_verb v b).same }
       free_path (tree.callout x) b = absurd b
 
       free_row : (ts : Row) → AreVerbless ts → AllFree (row_paths g d (paths g d) ts)

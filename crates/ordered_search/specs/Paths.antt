@@ -1,18 +1,20 @@
 -- The ordered search as a machine goes through it: each tree before what follows it. Without its pauses it is the search
--- of the definitions. Verbs and callouts are that search itself.
+-- of the definitions. A callout is that search itself.
 use Rattle.std.specs.Prelude.{ℕ, zero, suc, ◌-◌, Bool, true, false, List, [], ◌∷◌, drop, take, reverse, Option, Some, None, option_map, ℤ, pos, negsuc, ◌==◌}
 use Rattle.pat_tree.specs.declared.nodes.Item.{Item}
 use Rattle.pat_tree.specs.declared.nodes.AnchorKind.{AnchorKind}
+use Rattle.pat_tree.specs.declared.nodes.Verb.{Verb}
+use Rattle.pat_tree.specs.declared.nodes.Verb.TheVariants.{Accept, Fail, Commit, Prune, Skip, Then, Mark}
 use Rattle.pat_tree.specs.Nested as tree
 use Rattle.pat_tree.specs.Nested.{Nested, Row, Test, Other}
 use Rattle.match_items.specs.Items.{one_less, is_none_left, after_item, item_reaches, longest_run, run_reaches, after_break, break_reaches, after_ref, ref_reaches, holds, anchor_reaches, earliest, places_back}
 use Rattle.pat_lengths.specs.Lengths.{SomeLengths}
 use Rattle.frame_store.specs.Captures.{capture}
 use Rattle.pat_tree.specs.Groups.{group_of}
-use Rattle.ordered_search.specs.Stream.{State, by_halt, cut, loop, abort, changes, shown, How, reached, accepted, captured}
+use Rattle.ordered_search.specs.Stream.{State, next_branch, prune, skip, commit, Ending, exhausted, by_verb, by_halt, cut, loop, abort, changes, name, shown, How, reached, accepted, captured}
 use Rattle.ordered_search.specs.Setting.{Setting, branch_lengths}
 use Rattle.ordered_search.specs.Tests.{move_to}
-use Rattle.ordered_search.specs.Parts.{is_over, begun_at, back_to, forget_passed, some_set, is_called, is_called_of, is_active, block_of}
+use Rattle.ordered_search.specs.Parts.{is_over, begun_at, back_to, forget_passed, some_set, is_called, is_called_of, is_active, block_of, skip_to}
 use Rattle.ordered_search.specs.Run.{run}
 use Rattle.ordered_search.specs.Moves.{Moves, stops, pause, stepped, noted, Follow, Handler, Path, before, catching, going, holding, reaching}
 
@@ -95,6 +97,14 @@ abbrev pub answered : ℤ → Moves → Moves → Moves
 answered (pos zero) x f = x
 answered (pos (suc n)) x f = f
 answered (negsuc n) x f = stops (by_halt (abort (negsuc n)))
+
+-- Verbs.
+
+-- what an ending leads to
+abbrev pub ended : Ending → Moves → Handler → Moves
+ended exhausted f h = f
+ended (by_verb v) f h = h v
+ended (by_halt x) f h = stops (by_halt x)
 
 module _ (g : Setting) where
   -- a capture is written, and taken back where the path fails
@@ -255,6 +265,30 @@ module _ (g : Setting) where
             (λ v. pause f))
       ])
 
+  -- Verbs.
+
+  -- a name is met; a noted one is what SKIP looks for
+  abbrev pub named_path : Option ℕ → Bool → State → (State → Moves) → Moves
+  named_path None is_noted s x = x s
+  named_path (Some n) false s x = noted (name n) (x (record s { mark = Some n }))
+  named_path (Some n) true s x = noted (name n) (x (record s { mark = Some n; passed = (n, s.place) ∷ s.passed }))
+
+  -- goes on, and ends so when it is backtracked onto
+  abbrev pub backs_path : Ending → Path
+  backs_path e s k f h = holding g 1 s (λ t. k reached t (pause (ended e f h)))
+
+  abbrev pub verb_path : Verb → Path
+  verb_path (Accept None) s k f h = k accepted s f
+  verb_path (Accept (Some n)) s k f h = named_path (Some n) true s (λ t. holding g 1 t (λ u. k accepted u (pause f)))
+  verb_path (Fail None) s k f h = f
+  verb_path (Fail (Some n)) s k f h = named_path (Some n) true s (λ t. holding g 1 t (λ u. f))
+  verb_path (Mark n) s k f h = named_path n true s (λ t. holding g 1 t (λ u. k reached u (pause f)))
+  verb_path (Commit n) s k f h = named_path n false s (λ t. backs_path (by_verb commit) t k f h)
+  verb_path (Prune n) s k f h = named_path n false s (λ t. backs_path (by_verb prune) t k f h)
+  verb_path (Then n) s k f h = named_path n false s (λ t. backs_path (by_verb next_branch) t k f h)
+  verb_path (Skip None) s k f h = backs_path (by_verb (skip s.place)) s k f h
+  verb_path (Skip (Some n)) s k f h = backs_path (skip_to g n s.passed) s k f h
+
   -- The trees, where d is the depth below.
   module _ (d : ℕ) (below : Paths) where
     unfoldable mutual
@@ -279,7 +313,7 @@ module _ (g : Setting) where
       path (tree.look false positive once ts) s k f h = look_path positive once (branch_paths (behind_paths ts)) s k f h
       path (tree.condition test first second) s k f h = test_path test (path first) (other_path second) s k f h
       path (tree.call n) s k f h = call_path below n s k f h
-      path (tree.verb v) s k f h = pause (before (run g (suc d) (tree.verb v) s) k f h)
+      path (tree.verb v) s k f h = pause (verb_path v s k f h)
       path (tree.callout c) s k f h = pause (before (run g (suc d) (tree.callout c) s) k f h)
 
       pub row_paths : Row → List Path

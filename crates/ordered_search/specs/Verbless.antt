@@ -1,6 +1,16 @@
--- Patterns without verbs and callouts of their own. The verbs of a called group end with its call.
+-- Patterns without callouts, and without verbs that act when they are backtracked onto, of their own. The verbs of a called
+-- group end with its call.
+use Rattle.pat_tree.specs.declared.nodes.Verb.{Verb}
+use Rattle.pat_tree.specs.declared.nodes.Verb.TheVariants.{Accept, Fail, Mark}
 use Rattle.pat_tree.specs.Nested as tree
 use Rattle.pat_tree.specs.Nested.{Nested, Row, Test, Other}
+
+-- backtracking passes over it
+abbrev pub IsPassive : Verb → Type 0
+IsPassive (Accept n) = Unit {0}
+IsPassive (Fail n) = Unit {0}
+IsPassive (Mark n) = Unit {0}
+IsPassive _ = ⊥
 
 abbrev mutual
   pub IsVerbless : Nested → Type 0
@@ -18,7 +28,7 @@ abbrev mutual
   IsVerbless (tree.ref ns caseless) = Unit {0}
   IsVerbless (tree.anchor kind) = Unit {0}
   IsVerbless tree.keep_out = Unit {0}
-  IsVerbless (tree.verb v) = ⊥
+  IsVerbless (tree.verb v) = IsPassive v
   IsVerbless (tree.callout c) = ⊥
 
   pub AreVerbless : Row → Type 0

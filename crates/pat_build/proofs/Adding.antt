@@ -1,22 +1,25 @@
 -- What a token that adds one node or one class does to a machine keeps what the machine means.
-use Rattle.std.proofs.Common.{◌≡◌, ℕ, ◌<◌, ◌≤◌, Bool, false, ◌||◌, List, [], ◌∷◌, ◌++◌, length, length-append, Some, Ok, sym, ap, ◌∙◌, arith}
+use Rattle.std.proofs.Common.{◌≡◌, ℕ, ◌<◌, ◌≤◌, Bool, false, ◌||◌, List, [], ◌∷◌, ◌++◌, length, length-append, append-nil, Some, Ok, refl, sym, ap, ◌∙◌, arith}
 use Rattle.std.proofs.lemmas.List.Elements.{All-nil, All-push}
 use Rattle.pat_tree.specs.declared.nodes.Placed.{Placed}
 use Rattle.pat_tree.specs.declared.nodes.ClassSpec.{ClassSpec}
 use Rattle.pat_tree.specs.declared.nodes.Item.TheVariants.{Class}
 use Rattle.pat_tree.specs.Parts.{DraftParts, with_node, with_class}
-use Rattle.pat_tree.specs.Nested.{Nested, one}
+use Rattle.pat_tree.specs.Nested.{Nested, one, verb}
 use Rattle.pat_tree.specs.Refs.{refs_of, has_group, is_group}
 use Rattle.pat_tree.specs.Growing.{Makes, Replaces}
 use Rattle.pat_tree.specs.Rules.{kids_of}
 use Rattle.token_parts.specs.declared.token.Token.{Token}
+use Rattle.token_parts.specs.declared.token.VerbKind.{VerbKind}
 use Rattle.pat_build.specs.declared.machine.Atom.TheVariants.{Single, Whole}
 use Rattle.pat_build.specs.declared.machine.Machine.{Machine}
 use Rattle.pat_build.specs.Groups.{places_named}
 use Rattle.pat_build.specs.Parts.{atom, bare, of_class}
-use Rattle.pat_build.specs.Machine.{Means, Ready, Begins, Took, IsMany, state_of, references_of, reference_in}
+use Rattle.pat_build.specs.State.{State}
+use Rattle.pat_build.specs.Verbs.{verb_of, number_of_name, names_after}
+use Rattle.pat_build.specs.Machine.{Means, Ready, Begins, Took, IsMany, AddsVerb, state_of, references_of, reference_in, verb_node}
 use Rattle.pat_build.proofs.States.{references_push}
-use Rattle.pat_build.proofs.Extending.{Extends, extends_node, extends_class}
+use Rattle.pat_build.proofs.Extending.{Extends, extends_node, extends_class, extends_verb}
 use Rattle.pat_build.proofs.Taking.{atom_means, bare_means}
 
 -- the node that a draft has more
@@ -33,6 +36,16 @@ state_more : (m : Machine) (draft : DraftParts) (p : Placed) → draft ≡ with_
     state_of (record m { draft = draft }) ≡ record (state_of m) { references = references_of m.draft.nodes ++ reference_in p }
 state_more m draft p is =
     ap (λ d. state_of (record m { draft = d })) is ∙ ap (λ rs. record (state_of m) { references = rs }) (references_push m.draft.nodes p)
+
+-- the state after a verb
+abbrev pub state_named : Machine → List ℕ → State
+state_named m name = record (state_of m) { verb_names = names_after m.draft.verb_names name }
+
+state_verb : (m : Machine) (draft : DraftParts) (kind : VerbKind) (name : List ℕ) (at id : ℕ) → AddsVerb m.draft draft kind name at id →
+    state_of (record m { draft = draft }) ≡ state_named m name
+state_verb m draft kind name at id adds =
+    ap (λ d. state_of (record m { draft = d })) adds.is
+    ∙ ap (λ rs. record (state_named m name) { references = rs }) (references_push m.draft.nodes (verb_node kind m.draft.verb_names name at) ∙ append-nil (references_of m.draft.nodes))
 
 module _ (m : Machine) (means : Means m) where
   -- the node waits for a quantifier
@@ -66,3 +79,23 @@ module _ (m : Machine) (means : Means m) where
       atom_means m means token after end quoting (Single (Class id) at) draft ready later within extends (All-push (λ n. n < length draft.classes) [] id (All-nil (λ n. n < length draft.classes)) below)
       (λ n h. begins n h ∙ ap (λ d. Ok (atom (one (Class (length m.draft.classes))) (state_of (record m { draft = d; at = end; quoting = quoting })))) (sym is)
       ∙ ap (λ k. Ok (atom (one (Class k)) (state_of (record m { draft = draft; at = end; quoting = quoting })))) (sym number))
+
+  -- a verb waits for a quantifier
+  pub verb_waits : (token : Token) (after at id : ℕ) (kind : VerbKind) (name : List ℕ) (draft : DraftParts) → Ready token after m → AddsVerb m.draft draft kind name at id →
+      Begins m token after (Ok (atom (verb (verb_of kind (number_of_name m.draft.verb_names name))) (record (state_named m name) { at = after }))) →
+      Took m (record m { draft = draft; waiting = Some (Whole id at); at = after })
+  verb_waits token after at id kind name draft ready adds begins =
+      let t = verb (verb_of kind (number_of_name m.draft.verb_names name)) in
+      let state = state_verb m draft kind name at id adds in
+      let many : IsMany t = record { many = λ low high lazy. refl } in
+      atom_means m means token after after m.quoting (Whole id at) draft ready (omega arith) ready.there.within (extends_verb m.draft draft kind name at id means.refs_are adds) (adds.makes.below, rw adds.makes.is many)
+      (λ n h. begins n h ∙ ap (λ st. Ok (atom t (record st { at = after }))) (sym state) ∙ ap (λ u. Ok (atom u (record (state_of (record m { draft = draft })) { at = after }))) (sym adds.makes.is))
+
+  -- no quantifier may follow a verb
+  pub verb_stands : (token : Token) (after at id : ℕ) (kind : VerbKind) (name : List ℕ) (draft : DraftParts) (parts : List ℕ) → Ready token after m → AddsVerb m.draft draft kind name at id → parts ≡ m.level.parts ++ id ∷ [] →
+      Begins m token after (Ok (bare (verb (verb_of kind (number_of_name m.draft.verb_names name))) (record (state_named m name) { at = after }))) →
+      Took m (record m { draft = draft; level = record (m.level) { parts = parts }; at = after })
+  verb_stands token after at id kind name draft parts ready adds pushed begins =
+      let t = verb (verb_of kind (number_of_name m.draft.verb_names name)) in
+      bare_means m means token after id t draft parts ready (extends_verb m.draft draft kind name at id means.refs_are adds) adds.makes pushed
+      (λ n h. begins n h ∙ ap (λ st. Ok (bare t (record st { at = after }))) (sym (state_verb m draft kind name at id adds)))

@@ -10,7 +10,10 @@ use Rattle.pat_tree.specs.Growing.{EndsIn, Grows, Makes, Replaces, loose}
 use Rattle.pat_tree.specs.Closing.{TakeTheLast, StandInTurn}
 use Rattle.pat_tree.proofs.Growing.{grows_not, refs_push}
 use Rattle.pat_build.specs.Groups.{Form, grouped, number_of, noted, places_named}
-use Rattle.pat_build.specs.Machine.{Adds, Closes, references_of, reference_in, is_number}
+use Rattle.token_parts.specs.declared.token.VerbKind.{VerbKind}
+use Rattle.pat_tree.specs.Nested.{verb}
+use Rattle.pat_build.specs.Verbs.{verb_of, number_of_name, names_after}
+use Rattle.pat_build.specs.Machine.{Adds, AddsVerb, Closes, references_of, reference_in, is_number, verb_node}
 use Rattle.pat_build.proofs.States.{references_push, places_append, or_false}
 
 -- a node without children takes none
@@ -30,7 +33,7 @@ pub record Extends (old new : DraftParts) (tail : List ℕ) : Type 0 where
   pub grows : Grows old.nodes new.nodes
   pub options : new.options ≡ old.options
   pub names : new.names ≡ old.names
-  pub verb_names : new.verb_names ≡ old.verb_names
+  pub verb_names : length new.verb_names ≤ length old.verb_names + 1
   pub classes : length new.classes ≤ length old.classes + 1
   pub refs_are : refs new.nodes ≡ places_named (references_of new.nodes)
   pub groups : (n : ℕ) → has_group new.nodes n ≡ has_group old.nodes n
@@ -43,7 +46,7 @@ extends_none d h = record {
   grows = grows_not d.nodes;
   options = refl;
   names = refl;
-  verb_names = refl;
+  verb_names = omega arith;
   classes = omega arith;
   refs_are = h;
   groups = λ n. refl;
@@ -57,7 +60,7 @@ extends_class d spec h = record {
   grows = grows_not d.nodes;
   options = refl;
   names = refl;
-  verb_names = refl;
+  verb_names = omega arith;
   classes = omega (arith, length-append d.classes (spec ∷ []));
   refs_are = h;
   groups = λ n. refl;
@@ -73,7 +76,7 @@ extends_node d new p id t h is made replaces no_group groups named childless = r
   grows = made.grows;
   options = ap (λ v. v.options) is;
   names = ap (λ v. v.names) is;
-  verb_names = ap (λ v. v.verb_names) is;
+  verb_names = omega (arith, ap (λ v. length v.verb_names) is);
   classes = omega (arith, ap (λ v. length v.classes) is);
   refs_are = ap (λ v. refs v.nodes) is ∙ refs_push d.nodes p ∙ ap (λ v. v ++ refs_of p) h ∙ ap (λ v. places_named (references_of d.nodes) ++ v) named
       ∙ sym (places_append (references_of d.nodes) (reference_in p)) ∙ ap places_named (sym (references_push d.nodes p)) ∙ ap (λ v. places_named (references_of v.nodes)) (sym is);
@@ -82,6 +85,30 @@ extends_node d new p id t h is made replaces no_group groups named childless = r
   loose_is = replaces (loose d.nodes) (sym (append-nil (loose d.nodes)));
   count = omega (arith, ap (λ v. length v.nodes) is, length-append d.nodes (p ∷ []));
 }
+
+-- a name is one entry more at most
+names_count : (names : List (List ℕ)) (name : List ℕ) → length (names_after names name) ≤ length names + 1
+names_count names [] = omega arith
+names_count names (c ∷ cs) = omega (arith, length-append names ((c ∷ cs) ∷ []))
+
+-- the node of a verb, and its name
+pub extends_verb : (d new : DraftParts) (kind : VerbKind) (name : List ℕ) (at id : ℕ) → refs d.nodes ≡ places_named (references_of d.nodes) →
+    AddsVerb d new kind name at id → Extends d new (id ∷ [])
+unfolding places_named
+extends_verb d new kind name at id h adds =
+    let named : DraftParts = record d { verb_names = names_after d.verb_names name } in
+    let e = extends_node named new (verb_node kind d.verb_names name at) id (verb (verb_of kind (number_of_name d.verb_names name))) h adds.is adds.makes adds.replaces (λ n. refl) adds.groups refl refl in record {
+      grows = e.grows;
+      options = e.options;
+      names = e.names;
+      verb_names = omega (arith, ap (λ v. length v.verb_names) adds.is, names_count d.verb_names name);
+      classes = e.classes;
+      refs_are = e.refs_are;
+      groups = e.groups;
+      turns = e.turns;
+      loose_is = e.loose_is;
+      count = e.count;
+    }
 
 pub adds_none : (d : DraftParts) → Adds d d
 adds_none d = record { options = refl; classes = refl; names = refl; verb_names = refl; references = refl; refs_are = refl; groups = λ n. refl; turns = λ h. h }

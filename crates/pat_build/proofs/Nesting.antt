@@ -263,7 +263,7 @@ module _ (m : Machine) (means : Means m) where
           classes = omega (arith, means.classes, there.goes, ap length adds.classes);
           named = rw (adds.names) (given_on given next m.draft.names (omega (arith, same)) means.named);
           names = omega (arith, means.names, there.goes, ap length adds.names);
-          verb_names = adds.verb_names ∙ means.verb_names;
+          verb_names = omega (arith, means.verb_names, there.goes, ap length adds.verb_names);
           refs_are = refs_kept m draft adds means.refs_are;
           turns = adds.turns means.turns;
           loose_is = replaces (ids_held m.stack.items ++ m.level.branches) (loose_idle m means ready.idle ∙ to_parts (ids_held m.stack.items) m.level.branches m.level.parts) ∙ as_branch (ids_held m.stack.items) m.level.branches (id ∷ []) ∙ ap (λ l. ids_held m.stack.items ++ ((l ++ []) ++ [])) (sym more) ∙ ap (λ w. ids_held m.stack.items ++ ((branches ++ []) ++ ids_waiting w)) (sym ready.idle);
@@ -343,7 +343,7 @@ module _ (m : Machine) (means : Means m) where
           classes = omega (arith, means.classes, there.goes);
           named = given_names m.text.now given m.draft.names m.groups start.groups (number_of (form_of form)) start.numbering m.stack.items stack.items f numbered gives pushed means.named;
           names = omega (arith, means.names, there.goes, count_given m.text.now given m.draft.names);
-          verb_names = means.verb_names;
+          verb_names = omega (arith, means.verb_names, there.goes);
           refs_are = means.refs_are;
           turns = means.turns;
           loose_is = loose_idle m means ready.idle ∙ ap (λ l. ids_held m.stack.items ++ l) (append-nil (ids_in m.level)) ∙ ap (λ l. ids_held m.stack.items ++ ids_in l) (sym same) ∙ sym (held_push m.stack.items f) ∙ ap ids_held (sym pushed) ∙ sym (append-nil (ids_held stack.items)) ∙ ap (λ w. ids_held stack.items ++ ids_waiting w) (sym ready.idle);
@@ -403,7 +403,6 @@ module _ (m : Machine) (means : Means m) where
         refs_are = refs_kept m draft adds means.refs_are;
         text = refl;
         named = rw (adds.names) (given_on (greatest_given [] m.numbering m.groups) m.groups m.draft.names (omega (arith, last)) given);
-        verb_names = adds.verb_names ∙ means.verb_names;
         options = adds.options;
       }
 
@@ -456,7 +455,7 @@ module _ (m : Machine) (means : Means m) where
           classes = omega (arith, means.classes, there.goes, ap length closes.classes);
           named = rw (closes.names) (given_on given next m.draft.names (omega (arith, same)) means.named);
           names = omega (arith, means.names, there.goes, ap length closes.names);
-          verb_names = closes.verb_names ∙ means.verb_names;
+          verb_names = omega (arith, means.verb_names, there.goes, ap length closes.verb_names);
           refs_are = refs_closed m draft closes means.refs_are;
           turns = closes.turns means.turns;
           loose_is = replaces (ids_held m.stack.items) (loose_idle m means ready.idle ∙ ap (λ l. ids_held m.stack.items ++ l) (append-nil (ids_in m.level))) ∙ ap (λ l. l ++ id ∷ []) (ap ids_held popped ∙ held_push stack.items f) ∙ append_assoc (ids_held stack.items) (ids_in f.outer) (id ∷ [])
@@ -528,7 +527,7 @@ module _ (m : Machine) (means : Means m) where
           classes = omega (arith, means.classes, there.goes, ap length closes.classes);
           named = rw (closes.names) (given_on given next m.draft.names (omega (arith, same)) means.named);
           names = omega (arith, means.names, there.goes, ap length closes.names);
-          verb_names = closes.verb_names ∙ means.verb_names;
+          verb_names = omega (arith, means.verb_names, there.goes, ap length closes.verb_names);
           refs_are = refs_closed m draft closes means.refs_are;
           turns = closes.turns means.turns;
           loose_is = replaces (ids_held m.stack.items) (loose_idle m means ready.idle ∙ ap (λ l. ids_held m.stack.items ++ l) (append-nil (ids_in m.level))) ∙ ap (λ l. l ++ id ∷ []) (ap ids_held popped ∙ held_push stack.items f)
@@ -599,7 +598,7 @@ module _ (m : Machine) (means : Means m) where
           classes = omega (arith, means.classes, onward);
           named = given_on given next m.draft.names (omega (arith, first, second)) means.named;
           names = omega (arith, means.names, onward);
-          verb_names = means.verb_names;
+          verb_names = omega (arith, means.verb_names, onward);
           refs_are = means.refs_are;
           turns = means.turns;
           loose_is = loose_idle m means ready.idle ∙ ap (λ l. ids_held m.stack.items ++ l) (append-nil (ids_in m.level)) ∙ ap (λ l. ids_held m.stack.items ++ ids_in l) (sym same) ∙ sym (held_push m.stack.items around)

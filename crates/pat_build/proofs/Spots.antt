@@ -69,7 +69,7 @@ module _ (cursor : Cursor) (in_class : Bool) (from here : Place) (token : Token)
       ((st : State) → passed_over token (record (state_at cursor st here) { at = at }) ≡ Some (state_at cursor st beyond)) → beyond.at ≡ at →
       Passes cursor in_class from beyond × (here.at < beyond.at)
   passes_on moves beyond over is =
-      let none : State = record { at = 0; quoting = false; options = cursor.options; groups = 0; depth = 0; looking = false; bars = Free; numbering = Onward; classes = []; names = []; references = []; beyond = None } in
+      let none : State = record { at = 0; quoting = false; options = cursor.options; groups = 0; depth = 0; looking = false; bars = Free; numbering = Onward; classes = []; names = []; verb_names = []; references = []; beyond = None } in
       let goes : (here.at < at) × (at ≤ length cursor.text.now) = moves_over _ _ _ token _ _ moves (over none) in (
         record {
           past = omega (arith, passes.past);

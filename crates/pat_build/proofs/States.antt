@@ -49,6 +49,7 @@ module _ (m : Machine) (draft : DraftParts) (adds : Adds m.draft draft) where
   state_kept =
       ap (λ v. record (state_of (record m { draft = draft })) { classes = v }) adds.classes
       ∙ ap (λ v. record (state_of (record m { draft = draft })) { classes = m.draft.classes; names = v }) adds.names
+      ∙ ap (λ v. record (state_of (record m { draft = draft })) { classes = m.draft.classes; names = m.draft.names; verb_names = v }) adds.verb_names
       ∙ ap (λ v. record (state_of m) { references = v }) adds.references
 
   pub whole_kept : whole_of (record m { draft = draft }) ≡ whole_of m
@@ -63,6 +64,7 @@ module _ (m : Machine) (draft : DraftParts) {form : Form} {at : ℕ} (closes : C
   state_closed =
       ap (λ v. record (state_of (record m { draft = draft })) { classes = v }) closes.classes
       ∙ ap (λ v. record (state_of (record m { draft = draft })) { classes = m.draft.classes; names = v }) closes.names
+      ∙ ap (λ v. record (state_of (record m { draft = draft })) { classes = m.draft.classes; names = m.draft.names; verb_names = v }) closes.verb_names
       ∙ ap (λ v. record (state_of m) { references = v }) closes.references
 
   pub whole_closed : whole_of (record m { draft = draft }) ≡ whole_of m

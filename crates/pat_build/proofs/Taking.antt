@@ -57,7 +57,7 @@ module _ (m : Machine) (means : Means m) where
           short = means.short;
           depth = means.depth;
           classes = omega (arith, means.classes, there.goes, later, extends.classes);
-          verb_names = extends.verb_names ∙ means.verb_names;
+          verb_names = omega (arith, means.verb_names, there.goes, later, extends.verb_names);
           named = rw (extends.names) means.named;
           names = omega (arith, means.names, there.goes, later, ap length extends.names);
           refs_are = extends.refs_are;
@@ -100,7 +100,7 @@ module _ (m : Machine) (means : Means m) where
           short = means.short;
           depth = means.depth;
           classes = omega (arith, means.classes, there.goes, extends.classes);
-          verb_names = extends.verb_names ∙ means.verb_names;
+          verb_names = omega (arith, means.verb_names, there.goes, extends.verb_names);
           named = rw (extends.names) means.named;
           names = omega (arith, means.names, there.goes, ap length extends.names);
           refs_are = extends.refs_are;
@@ -145,7 +145,7 @@ module _ (m : Machine) (means : Means m) where
           classes = omega (arith, means.classes, there.goes);
           named = means.named;
           names = omega (arith, means.names, there.goes);
-          verb_names = means.verb_names;
+          verb_names = omega (arith, means.verb_names, there.goes);
           refs_are = means.refs_are;
           turns = means.turns;
           loose_is = means.loose_is;
@@ -203,7 +203,7 @@ module _ (m : Machine) (means : Means m) where
           classes = omega (arith, means.classes, there.goes);
           named = means.named;
           names = omega (arith, means.names, there.goes);
-          verb_names = means.verb_names;
+          verb_names = omega (arith, means.verb_names, there.goes);
           refs_are = means.refs_are;
           turns = means.turns;
           loose_is = means.loose_is;
@@ -245,7 +245,7 @@ module _ (m : Machine) (means : Means m) where
           classes = omega (arith, means.classes, there.goes, ap length adds.classes);
           named = rw (adds.names) means.named;
           names = omega (arith, means.names, there.goes, ap length adds.names);
-          verb_names = adds.verb_names ∙ means.verb_names;
+          verb_names = omega (arith, means.verb_names, there.goes, ap length adds.verb_names);
           refs_are = refs_kept m draft adds means.refs_are;
           turns = adds.turns means.turns;
           loose_is = replaces (ids_held m.stack.items ++ ids_in m.level) (loose_waiting m means a is) ∙ as_part (ids_held m.stack.items) m.level.branches m.level.parts (id ∷ []) ∙ ap (λ l. ids_held m.stack.items ++ ((m.level.branches ++ l) ++ [])) (sym more);

@@ -106,7 +106,7 @@ module _ (m : Machine) (means : Means m) where
         classes = rw (adds.classes) means.classes;
         named = rw (adds.names) means.named;
         names = rw (adds.names) means.names;
-        verb_names = adds.verb_names ∙ means.verb_names;
+        verb_names = rw (adds.verb_names) means.verb_names;
         refs_are = refs_kept m draft adds means.refs_are;
         turns = adds.turns means.turns;
         loose_is = replaces (ids_held m.stack.items ++ ids_in m.level) (loose_waiting a is) ∙ as_part (ids_held m.stack.items) m.level.branches m.level.parts (id ∷ []) ∙ ap (λ l. ids_held m.stack.items ++ ((m.level.branches ++ l) ++ [])) (sym more);
@@ -238,9 +238,9 @@ module _ (m : Machine) (means : Means m) where
 -- a cursor at the machine's place has the machine's token
 pub token_same : (m : Machine) (text : List ℕ) (place : Place) (options : Options) (groups : ℕ) → text ≡ m.text.now → place ≡ record { at = m.at; quoting = m.quoting } → options ≡ m.options → groups ≡ m.groups →
     token_at m.text.now (flags_of false (state_of m)) m.at
-    ≡ token_at text (flags_of false (record { at = place.at; quoting = place.quoting; options = options; groups = groups; depth = 0; looking = false; bars = Free; numbering = Onward; classes = []; names = []; references = []; beyond = None })) place.at
+    ≡ token_at text (flags_of false (record { at = place.at; quoting = place.quoting; options = options; groups = groups; depth = 0; looking = false; bars = Free; numbering = Onward; classes = []; names = []; verb_names = []; references = []; beyond = None })) place.at
 token_same m text place options groups text_is place_is options_is groups_is =
     ap (λ t. token_at t (flags_of false (state_of m)) m.at) (sym text_is)
-    ∙ ap (λ p. token_at text (flags_of false (record { at = p.at; quoting = p.quoting; options = m.options; groups = m.groups; depth = 0; looking = false; bars = Free; numbering = Onward; classes = []; names = []; references = []; beyond = None })) p.at) (sym place_is)
-    ∙ ap (λ o. token_at text (flags_of false (record { at = place.at; quoting = place.quoting; options = o; groups = m.groups; depth = 0; looking = false; bars = Free; numbering = Onward; classes = []; names = []; references = []; beyond = None })) place.at) (sym options_is)
-    ∙ ap (λ g. token_at text (flags_of false (record { at = place.at; quoting = place.quoting; options = options; groups = g; depth = 0; looking = false; bars = Free; numbering = Onward; classes = []; names = []; references = []; beyond = None })) place.at) (sym groups_is)
+    ∙ ap (λ p. token_at text (flags_of false (record { at = p.at; quoting = p.quoting; options = m.options; groups = m.groups; depth = 0; looking = false; bars = Free; numbering = Onward; classes = []; names = []; verb_names = []; references = []; beyond = None })) p.at) (sym place_is)
+    ∙ ap (λ o. token_at text (flags_of false (record { at = place.at; quoting = place.quoting; options = o; groups = m.groups; depth = 0; looking = false; bars = Free; numbering = Onward; classes = []; names = []; verb_names = []; references = []; beyond = None })) place.at) (sym options_is)
+    ∙ ap (λ g. token_at text (flags_of false (record { at = place.at; quoting = place.quoting; options = options; groups = g; depth = 0; looking = false; bars = Free; numbering = Onward; classes = []; names = []; verb_names = []; references = []; beyond = None })) place.at) (sym groups_is)

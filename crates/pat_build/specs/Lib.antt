@@ -5,6 +5,7 @@ pub mod Groups
 pub mod Parts
 pub mod Reading
 pub mod Stack
+pub mod Verbs
 pub mod Rows
 pub mod Searchable
 pub mod Places

@@ -7,17 +7,18 @@ use Rattle.pat_tree.specs.declared.nodes.Cond.{Cond}
 use Rattle.pat_tree.specs.declared.nodes.Cond.TheVariants as cond
 use Rattle.pat_tree.specs.declared.nodes.Node.TheVariants as node
 use Rattle.pat_tree.specs.declared.names.NameEntry.{NameEntry}
-use Rattle.pat_tree.specs.Nested.{Nested, Test, none, one, look, repeat, any_set, in_call, in_call_of, tree_at, trees}
-use Rattle.pat_tree.specs.Parts.{DraftParts, TreeParts}
+use Rattle.pat_tree.specs.Nested.{Nested, Test, none, one, look, repeat, verb, any_set, in_call, in_call_of, tree_at, trees}
+use Rattle.pat_tree.specs.Parts.{DraftParts, TreeParts, with_node}
 use Rattle.pat_tree.specs.Pattern.{pattern_of}
 use Rattle.pat_tree.specs.Refs.{refs, has_group, beside_whole, named_in}
 use Rattle.pat_tree.specs.Rules.{class_in, is_test}
-use Rattle.pat_tree.specs.Growing.{Stand, loose}
+use Rattle.pat_tree.specs.Growing.{Stand, Makes, Replaces, loose}
 use Rattle.pat_tree.specs.Closing.{StandInTurn}
 use Rattle.token_parts.specs.declared.fault.Fault.{Fault}
 use Rattle.token_parts.specs.declared.token.Token.{Token}
 use Rattle.token_parts.specs.declared.token.Token.TheVariants.{End, Literal, Dot, NotNewline, LineBreak, Caret, Dollar, SubjectStart, SubjectEnd, EndOrNewline, StartGiven, Boundary}
 use Rattle.token_parts.specs.declared.token.Token.TheVariants as token
+use Rattle.token_parts.specs.declared.token.VerbKind.{VerbKind}
 use Rattle.token_parts.specs.Tell.{IsWell, ◌>>=◌}
 use Rattle.pat_lex.specs.Tokens.{token_at}
 use Rattle.pat_build.specs.declared.error.ReadError.{ReadError}
@@ -39,6 +40,7 @@ use Rattle.pat_build.specs.declared.machine.Inside.{Inside}
 use Rattle.pat_build.specs.declared.machine.Machine.{Machine}
 use Rattle.pat_build.specs.State.{State, Reads, Reference, flags_of}
 use Rattle.pat_build.specs.Groups.{Opening, Form, grouped, atomically, looks, conditional, defines, asserted, asserting, is_look, is_tested, bars_in, number_of, noted, is_opened, places_named, missing}
+use Rattle.pat_build.specs.Verbs.{verb_of, number_of_name, names_after}
 use Rattle.pat_build.specs.Names.{Stands, with_given}
 use Rattle.pat_build.specs.declared.cursor.Assertion.{Assertion}
 use Rattle.pat_build.specs.Parts.{Beginning, inside, asserts, once_more, repeat_of, beginning}
@@ -93,6 +95,28 @@ pub record Closes (old new : DraftParts) (form : Form) (at : ℕ) : Type 0 where
   pub refs_are : refs new.nodes ≡ refs old.nodes ++ places_named (noted form at)
   pub groups : (n : ℕ) → has_group new.nodes n ≡ (has_group old.nodes n || is_number (number_of form) n)
   pub turns : StandInTurn old.nodes → StandInTurn new.nodes
+
+-- the table has the name of a verb more, unless it is empty, and this is its number
+abbrev pub NamesVerb : DraftParts → DraftParts → List ℕ → Option ℕ → Type 0
+NamesVerb old new name number =
+    (new ≡ record old { verb_names = names_after old.verb_names name })
+    × (number ≡ number_of_name old.verb_names name)
+
+-- the node of a verb of this name, which is a new entry of these
+abbrev pub verb_node : VerbKind → List (List ℕ) → List ℕ → ℕ → Placed
+verb_node kind names name at = record {
+  node = node.VerbNode (verb_of kind (number_of_name names name));
+  at = at;
+}
+
+-- the draft has the node of a verb more, and its name
+pub record AddsVerb (old new : DraftParts) (kind : VerbKind) (name : List ℕ) (at id : ℕ) : Type 0 where
+  pub is : new
+      ≡ with_node (record old { verb_names = names_after old.verb_names name })
+      (verb_node kind old.verb_names name at)
+  pub makes : Makes old.nodes new.nodes id (verb (verb_of kind (number_of_name old.verb_names name)))
+  pub replaces : Replaces old.nodes [] new.nodes id
+  pub groups : (n : ℕ) → has_group new.nodes n ≡ (has_group old.nodes n || false)
 
 -- no one-item atom and no lookaround
 pub record IsMany (t : Nested) : Type 0 where
@@ -311,13 +335,14 @@ state_of m = record {
   numbering = m.numbering;
   classes = m.draft.classes;
   names = m.draft.names;
+  verb_names = m.draft.verb_names;
   references = references_of m.draft.nodes;
   beyond = m.beyond;
 }
 
 -- the state in which the reading begins, after the start items
 abbrev pub state_from : ℕ → Options → State
-state_from at options = record { at = at; quoting = false; options = options; groups = 0; depth = 0; looking = false; bars = barring.Free; numbering = Onward; classes = []; names = []; references = []; beyond = None }
+state_from at options = record { at = at; quoting = false; options = options; groups = 0; depth = 0; looking = false; bars = barring.Free; numbering = Onward; classes = []; names = []; verb_names = []; references = []; beyond = None }
 
 -- what begins where a group of this form does, with this name, if it gets one
 abbrev pub inside_from : Machine → Form → Option Name → Inside → Beginning
@@ -384,7 +409,7 @@ pub record Means (m : Machine) : Type 0 where
   pub classes : length m.draft.classes ≤ m.at
   pub named : All (IsGiven (greatest_given m.stack.items m.numbering m.groups)) m.draft.names
   pub names : length m.draft.names ≤ m.at
-  pub verb_names : m.draft.verb_names ≡ []
+  pub verb_names : length m.draft.verb_names ≤ m.at
   pub refs_are : refs m.draft.nodes ≡ places_named (references_of m.draft.nodes)
   pub loose_is : loose m.draft.nodes ≡ ids_held m.stack.items ++ (ids_in m.level ++ ids_waiting m.waiting)
   pub turns : StandInTurn m.draft.nodes
@@ -459,5 +484,4 @@ pub record Ends (old new : Machine) (id : ℕ) : Type 0 where
   pub refs_are : refs new.draft.nodes ≡ places_named (references_of new.draft.nodes)
   pub text : new.text.now ≡ old.text.now
   pub named : All (IsGiven new.groups) new.draft.names
-  pub verb_names : new.draft.verb_names ≡ []
   pub options : new.draft.options ≡ old.draft.options

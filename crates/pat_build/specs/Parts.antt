@@ -7,7 +7,7 @@ use Rattle.pat_tree.specs.declared.nodes.Part.{Part}
 use Rattle.pat_tree.specs.declared.nodes.Part.TheVariants as part
 use Rattle.pat_tree.specs.declared.nodes.ClassSpec.{ClassSpec}
 use Rattle.pat_tree.specs.declared.names.NameEntry.{NameEntry}
-use Rattle.pat_tree.specs.Nested.{Nested, empty, one, line_break, seq, repeat, one_repeat, atomic, look, call, ref, anchor, keep_out, row}
+use Rattle.pat_tree.specs.Nested.{Nested, empty, one, line_break, seq, repeat, one_repeat, atomic, look, call, ref, anchor, keep_out, verb, row}
 use Rattle.pat_tree.specs.Refs.{beside_whole}
 use Rattle.token_parts.specs.declared.fault.Fault.{Fault}
 use Rattle.token_parts.specs.declared.token.OpenKind.{OpenKind}
@@ -18,11 +18,13 @@ use Rattle.token_parts.specs.declared.token.QuantMode.{QuantMode}
 use Rattle.token_parts.specs.declared.token.QuantMode.TheVariants.{Greedy, Lazy, Possessive}
 use Rattle.token_parts.specs.declared.token.Target.{Target}
 use Rattle.token_parts.specs.declared.token.Target.TheVariants.{Number}
+use Rattle.token_parts.specs.declared.token.VerbKind.{VerbKind}
 use Rattle.token_parts.specs.declared.token.Token.{Token}
 use Rattle.token_parts.specs.declared.token.Token.TheVariants as token
 use Rattle.token_parts.specs.Tell.{fault, ◌>>=◌}
 use Rattle.pat_build.specs.State.{State, Item, item}
 use Rattle.pat_build.specs.Options.{with_setting}
+use Rattle.pat_build.specs.Verbs.{verb_of, number_of_name, names_after, acts_later, may_be_repeated}
 use Rattle.pat_build.specs.Classes.{class_spec, property_part}
 use Rattle.pat_build.specs.Groups.{Opening, Opens, grouped, atomically, looks, asserted, asserting, opened, captured, named, reset, named_by, form_in, beyond_after}
 
@@ -126,6 +128,22 @@ unfoldable pub calls : List NameEntry → List ℕ → State → Target → Stat
 calls known text st target next =
     named_by known text st target >>= λ groups. Ok (called st next groups (number_called (is_number target) groups))
 
+-- a part that a quantifier may follow, or none
+abbrev pub part_if : Bool → Nested → State → Beginning
+part_if true t after = atom t after
+part_if false t after = bare t after
+
+abbrev pub with_verb : VerbKind → List ℕ → State → State → Beginning
+with_verb kind name st next =
+    part_if (may_be_repeated kind) (verb (verb_of kind (number_of_name st.verb_names name)))
+    (record next { verb_names = names_after st.verb_names name })
+
+-- a verb of this name; those that act later are left out
+unfoldable pub verbs : VerbKind → List ℕ → State → State → Result Beginning Fault
+verbs kind name st next =
+    if acts_later kind then fault 195 st.at
+    else Ok (with_verb kind name st next)
+
 -- a conditional group, the text of whose test is given
 unfoldable pub conditions : List NameEntry → List ℕ → State → CondText → List ℕ → State → Result Beginning Fault
 conditions known text st cond word next =
@@ -208,6 +226,8 @@ module _ (known : List NameEntry) (text : List ℕ) where
   beginning n st (token.OptionSet reset on off true) next = enters (opened st (grouped None) (record next { options = with_setting reset on off st.options }))
   beginning n st (token.CondStart tested.Lookaround from to) next = assertions text n st next
   beginning n st (token.CondStart cond from to) next = conditions known text st cond (slice_range text from to) next
+  -- verbs
+  beginning n st (token.VerbItem kind from to) next = verbs kind (slice_range text from to) st next
   -- what is no part
   beginning n st (token.OptionSet reset on off false) next = Ok (nothing (record next { options = with_setting reset on off st.options }))
   beginning n st token.Passed next = Ok (nothing next)
@@ -216,5 +236,5 @@ module _ (known : List NameEntry) (text : List ℕ) where
   -- a quantifier without an atom, and a start item that isn't at the start
   beginning n st (token.Quantifier low high mode) next = fault 109 st.at
   beginning n st (token.Start item) next = fault 160 st.at
-  -- Left out: verbs; callouts.
+  -- Left out: callouts.
   beginning n st _ next = fault 195 st.at

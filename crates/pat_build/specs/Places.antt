@@ -26,7 +26,7 @@ state_at cursor st place = record st { at = place.at; quoting = place.quoting; o
 -- what the tokens depend on at a place, which is nothing else of the state
 abbrev pub flags_at : Cursor → Bool → Place → LexFlags
 flags_at cursor in_class place =
-    flags_of in_class (record { at = place.at; quoting = place.quoting; options = cursor.options; groups = cursor.groups; depth = 0; looking = false; bars = Free; numbering = Onward; classes = []; names = []; references = []; beyond = None })
+    flags_of in_class (record { at = place.at; quoting = place.quoting; options = cursor.options; groups = cursor.groups; depth = 0; looking = false; bars = Free; numbering = Onward; classes = []; names = []; verb_names = []; references = []; beyond = None })
 
 -- What is said of a text, of a number that bounds the items of a class, and of the states at the places.
 abbrev pub Claim : Type 1

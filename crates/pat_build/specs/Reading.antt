@@ -121,7 +121,7 @@ started text zero st = fault 0 0
 started text (suc n) st = started_by text st (started text n) (next text false st)
 
 abbrev pub start : Options → State
-start options = record { at = 0; quoting = false; options = options; groups = 0; depth = 0; looking = false; bars = Free; numbering = Onward; classes = []; names = []; references = []; beyond = None }
+start options = record { at = 0; quoting = false; options = options; groups = 0; depth = 0; looking = false; bars = Free; numbering = Onward; classes = []; names = []; verb_names = []; references = []; beyond = None }
 
 -- the tree from a state on and the last state, where these are the names of the whole pattern
 unfoldable pub reading : List NameEntry → List ℕ → State → Reads Nested
@@ -131,7 +131,6 @@ reading known text st = do
 
 -- what a pattern is read as
 pub record Parsed : Type 0 where
-  -- no names of verbs are read yet
   pub pattern : Pattern
   pub open pattern use *
   -- in the order of the table
@@ -163,7 +162,7 @@ abbrev pub checked : Options → Option ℕ → Option ℕ → Nested → State 
 checked options (Some beyond) bad tree last = fault 161 beyond
 checked options None (Some at) tree last = fault 115 at
 checked options None None tree last = Ok (record {
-  pattern = record { options = options; tree = tree; groups = last.groups; classes = last.classes; verb_names = [] };
+  pattern = record { options = options; tree = tree; groups = last.groups; classes = last.classes; verb_names = last.verb_names };
   names = last.names;
   places = map (λ r. r.at) last.references;
 })

@@ -10,7 +10,8 @@ use Rattle.pat_tree.specs.declared.nodes.Part.TheVariants.{Range, Set}
 use Rattle.pat_tree.specs.declared.nodes.SetName.TheVariants.{Digit}
 use Rattle.pat_tree.specs.declared.nodes.ClassSpec.{ClassSpec}
 use Rattle.pat_tree.specs.declared.names.NameEntry.{NameEntry}
-use Rattle.pat_tree.specs.Nested.{Nested, empty, one, seq, group, repeat, one_repeat, atomic, look, ref, row}
+use Rattle.pat_tree.specs.declared.nodes.Verb.TheVariants.{Accept, Fail, Mark}
+use Rattle.pat_tree.specs.Nested.{Nested, empty, one, seq, group, repeat, one_repeat, atomic, look, ref, verb, row}
 use Rattle.pat_tree.specs.Pattern.{Pattern}
 use Rattle.token_parts.specs.declared.fault.Fault.{Fault}
 use Rattle.token_parts.specs.Tell.{fault}
@@ -88,6 +89,14 @@ some_numbers = record (with (λ p. record p { groups = 3 })
       places = 17 ∷ [];
     }
 
+-- names of verbs have numbers, and an empty one is none; of the verbs ACCEPT alone may be repeated
+abbrev pub some_verbs : Parsed
+some_verbs = with (λ p. record p { verb_names = codes "m" ∷ codes "n" ∷ [] })
+    (branches (
+    seq (row (letter "a" ∷ verb (Mark (Some 0)) ∷ repeat (verb (Accept None)) 0 (Some 1) true ∷ []))
+    ∷ verb (Fail (Some 1))
+    ∷ []))
+
 abbrev pub limited : Parsed
 limited =
     with (λ p. record p { options = record plain.PLAIN { newline = CrLf; match_limit = Some 5 } })
@@ -109,4 +118,7 @@ pub record WorkedRows : Type 0 where
   pub class : reads "[^]\\Q-\\Ea-c\\d-]" ≡ Ok (with (λ p. record p { classes = mixed_class ∷ [] }) (branches (one (Class 0) ∷ [])))
   pub cases : reads "(?i)a|(?-i:b|c)d{2,}?|" ≡ Ok some_cases
   pub later_names : reads "(?J)\\k<n>(?<n>a)(?<n>b)" ≡ Ok two_named
+  pub verbs : reads "a(*:m)(*ACCEPT:)??|(*F:n)" ≡ Ok some_verbs
+  pub later_verb : reads "a(*THEN)" ≡ fault 195 1
+  pub repeated_verb : reads "(*FAIL)*" ≡ fault 109 7
   pub start_items : reads "(*CRLF)(*LIMIT_MATCH=5).(?#x)?" ≡ Ok limited

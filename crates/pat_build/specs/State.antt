@@ -38,6 +38,8 @@ pub record State : Type 0 where
   pub classes : List ClassSpec
   -- the names that were given, in the order of the table of names
   pub names : List NameEntry
+  -- the names of verbs that were read, in that order
+  pub verb_names : List (List ℕ)
   -- the references, calls, lookarounds and conditions that were read, in the order in which they end
   pub references : List Reference
   -- the first test of a call whose number no group can have

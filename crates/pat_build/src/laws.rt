@@ -2,12 +2,12 @@
 ghost use Rattle.pat_build.specs.Searchable.{SearchableLaw};
 ghost use Rattle.pat_build.specs.Rows.{WorkedRows};
 
-/// Whatever is read can be searched: its tree has no verb and callout.
+/// Whatever is read can be searched: its tree has no callout, and no verb that acts only when backtracking comes back.
 pub fn what_is_read_can_be_searched()
     ensures { SearchableLaw }
 {}
 
-/// Fifteen patterns computed from the definition, each as pcre2pattern has it.
+/// Nineteen patterns computed from the definition, each as pcre2pattern has it.
 pub fn worked_rows()
     ensures { WorkedRows }
 {}

@@ -21,6 +21,7 @@ mod start;
 #[cfg(test)]
 mod tests;
 mod tokens;
+mod verbs;
 
 pub use error::ReadError;
 pub use laws::{what_is_read_can_be_searched, worked_rows};

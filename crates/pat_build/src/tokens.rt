@@ -191,6 +191,7 @@ impl<'a> Machine<'a> {
                 off,
                 opens,
             } => self.option_set(reset, on, off, opens, after),
+            Token::VerbItem { verb, from, to } => self.verb(verb, from, to, after),
             Token::Bar => self.bar(after),
             Token::CondStart { cond, from, to } => self.condition(cond, from, to, after),
             Token::Close => self.close(after),

@@ -1,7 +1,7 @@
 -- What the answer of a search that goes forward says of a match.
-use Rattle.std.proofs.Common.{◌≡◌, ◌∙◌, ap, subst, Option, None}
+use Rattle.std.proofs.Common.{◌≡◌, subst}
 use Rattle.ordered_search.specs.Setting.{Setting}
-use Rattle.ordered_search.specs.PlaceAnswer.{Outcome, last_name}
+use Rattle.ordered_search.specs.PlaceAnswer.{Outcome}
 use Rattle.ordered_search.specs.MatchAnswer.{MatchAnswer, Match, Found}
 use Rattle.ordered_search.specs.Forward.{IsPlaced, IsPlain, IsPlainFound}
 
@@ -11,6 +11,3 @@ module _ (g : Setting) (f : Found) (plain : IsPlainFound g f) where
 
   pub is_plain : (a : MatchAnswer) → f.answer ≡ a → IsPlain g a
   is_plain a e = subst (IsPlain g) e plain.answer
-
-  pub no_name : (mark : Option _) → mark ≡ last_name f.notes → mark ≡ None
-  no_name mark e = e ∙ ap last_name plain.notes

@@ -25,13 +25,12 @@ pub record MatchParts : Type 0 where
   pub subject : List ℕ
   pub outcome : Outcome
 
--- The text and the captures lie in the subject, there is a register for each group, and no mark.
+-- The text and the captures lie in the subject, and there is a register for each group.
 pub record AreParts (f : MatchParts) : Type 0 where
   pub ordered : f.outcome.keep ≤ f.outcome.to
   pub within : f.outcome.to ≤ length f.subject
   pub caps : All (IsWithin (length f.subject)) f.outcome.caps
   pub groups : length f.outcome.caps ≡ greatest (group_numbers f.code.tree.nodes)
-  pub no_mark : f.outcome.mark ≡ None
 
 -- The options admit the text (pcre2api, "Option bits for pcre2_match()"): NOTEMPTY none that is empty, NOTEMPTY_ATSTART none
 -- that is empty at the start, and ENDANCHORED only one that ends where the subject does.
@@ -50,13 +49,16 @@ pub record IsFound (g : Setting) (f : MatchParts) : Type 0 where
   pub placed : IsPlaced g f.outcome
   pub admitted : IsAdmitted g f.outcome
 
--- Why there is no match: each refusal has its cause. Without partial matching, for the forms that are built there is no
--- partial match, no callout and no mark. Want of memory may come at any time.
+-- Why there is no match: each refusal has its cause, and where nothing matches the last name is told that was met at any
+-- place. Without partial matching, for the forms that are built there is no partial match and no callout. Want of memory
+-- may come at any time.
 abbrev pub IsMatchError : Setting → MatchError → Type 0
 IsMatchError g told.BadOffset = fault_in g ≡ Some told.BadOffset
 IsMatchError g (told.BadUtf at) = fault_in g ≡ Some (told.BadUtf at)
 IsMatchError g told.BadUtfOffset = fault_in g ≡ Some told.BadUtfOffset
-IsMatchError g (told.NoMatch mark) = (fault_in g ≡ None) × ((match_answer g).answer ≡ meant.NoMatch) × (mark ≡ None)
+IsMatchError g (told.NoMatch mark) =
+    (fault_in g ≡ None) × ((match_answer g).answer ≡ meant.NoMatch)
+    × (mark ≡ last_name (match_answer g).notes)
 IsMatchError g (told.Partial start end mark) = ⊥
 IsMatchError g told.MatchLimit = (fault_in g ≡ None) × ((match_answer g).answer ≡ meant.Error place.MatchLimit)
 IsMatchError g told.FrameLimit = (fault_in g ≡ None) × ((match_answer g).answer ≡ meant.Error place.FrameLimit)

@@ -265,7 +265,7 @@ fn faults_of_marks_and_callouts(rt: HostRuntime) {
 #[test]
 fn a_name_of_a_verb_has_255_bytes(rt: HostRuntime) -> Result<(), Fail> {
     let alloc = rt.alloc();
-    for (begin, place) in [("(*MARK:", 0), ("ab(*PRUNE:", 2), ("(*THEN:", 0)] {
+    for (begin, place) in [("(*SKIP:", 0), ("ab(*PRUNE:", 2), ("(*THEN:", 0)] {
         for (bytes, number) in [(255, 195), (256, 176), (300, 176)] {
             let mut pattern = String::new(alloc);
             pattern.push_str(begin)?;
@@ -301,10 +301,11 @@ fn faults_of_properties(rt: HostRuntime) {
 
 #[test]
 fn what_is_not_built_or_left_out(rt: HostRuntime) {
-    static ROWS: [(&'static str, i32, usize); 18] = [
-        ("a(*ACCEPT)", 195, 1),
-        ("(*F)", 195, 0),
-        ("(*:n)a", 195, 0),
+    static ROWS: [(&'static str, i32, usize); 19] = [
+        ("a(*COMMIT)", 195, 1),
+        ("(*PRUNE)", 195, 0),
+        ("(*SKIP)a", 195, 0),
+        ("a(*SKIP:n)", 195, 1),
         ("a(*THEN:n)", 195, 1),
         ("(?C)a", 195, 0),
         ("a(?C255)", 195, 1),
@@ -444,7 +445,7 @@ fn the_first_fault(rt: HostRuntime) {
         ("(?#", 118, 3),
         ("((?#a", 118, 5),
         (r"a(?<=b)\1", 115, 7),
-        (r"\2(a)(?|a)(*F)", 195, 10),
+        (r"\2(a)(?|a)(*THEN)", 195, 10),
         (r"\y[z-a]", 103, 0),
     ];
     are_refused(&rt, rt.alloc(), &ROWS);

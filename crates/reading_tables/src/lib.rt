@@ -21,3 +21,5 @@ mod sweeps;
 mod trees;
 #[cfg(test)]
 mod unicode;
+#[cfg(test)]
+mod verbs;

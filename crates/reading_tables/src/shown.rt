@@ -14,9 +14,10 @@
 //! - `=1` is a reference, `=1=2` one to the first set of two groups.
 //! - `^` and `$` have an `m` where they hold at lines, `$` an `e` where it holds at the subject's end alone. Other assertions,
 //!   `\R` and `\K` are written as in patterns.
+//! - `%Mark:n` is a verb with its name, `%Fail` one without a name.
 //! - After the tree stand the names, as `name=1`.
 use pat_tree::{
-    AnchorKind, ClassSpec, Cond, GroupList, Item, Kids, NameTable, Node, NodeId, Part, Tree,
+    AnchorKind, ClassSpec, Cond, GroupList, Item, Kids, NameTable, Node, NodeId, Part, Tree, Verb,
 };
 use std::alloc::Global;
 use std::fmt::Write;
@@ -153,9 +154,35 @@ fn node_text(alloc: Global, tree: &Tree, node: &Node, texts: &[String]) -> Resul
         Node::Ref { groups, caseless } => reference(&mut text, groups, *caseless)?,
         Node::Anchor(kind) => text.push_str(anchor(*kind))?,
         Node::KeepOut => text.push_str("\\K")?,
+        Node::VerbNode(verb) => verb_text(&mut text, tree, *verb)?,
         _ => text.push_str("other")?,
     }
     Ok(text)
+}
+
+// What a verb is called, and the number of its name.
+fn verb_parts(verb: Verb) -> (&'static str, Option<u32>) {
+    match verb {
+        Verb::Accept { name } => ("%Accept", name),
+        Verb::Fail { name } => ("%Fail", name),
+        Verb::Commit { name } => ("%Commit", name),
+        Verb::Prune { name } => ("%Prune", name),
+        Verb::Skip { name } => ("%Skip", name),
+        Verb::Then { name } => ("%Then", name),
+        Verb::Mark { name } => ("%Mark", name),
+    }
+}
+
+fn verb_text(text: &mut String, tree: &Tree, verb: Verb) -> Result<(), Fail> {
+    let (kind, name) = verb_parts(verb);
+    text.push_str(kind)?;
+    if let Some(id) = name {
+        if id < tree.verb_names() {
+            text.push(':')?;
+            text.push_str(str::from_utf8(tree.verb_name(id))?)?;
+        }
+    }
+    Ok(())
 }
 
 fn joined(text: &mut String, texts: &[String], kids: &Kids, between: char) -> Result<(), Fail> {

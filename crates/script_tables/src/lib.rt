@@ -22,6 +22,8 @@ mod line_ends;
 #[cfg(test)]
 mod lists;
 #[cfg(test)]
+mod marks;
+#[cfg(test)]
 mod notes;
 #[cfg(test)]
 mod pattern_defaults;
@@ -49,5 +51,7 @@ mod unbuilt;
 mod unknown;
 #[cfg(test)]
 mod utf;
+#[cfg(test)]
+mod verbs;
 #[cfg(test)]
 mod worked;

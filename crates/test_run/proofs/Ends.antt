@@ -18,8 +18,7 @@ use Rattle.pcre2_api.specs.declared.error.MatchError.{MatchError}
 use Rattle.pcre2_api.specs.Walks.{goes_on, place_behind}
 use Rattle.test_run.proofs.Writing.{writes-first}
 use Rattle.test_run.specs.declared.dfa.Search.TheVariants as search
-use Rattle.test_run.specs.Lines.{end_text}
-use Rattle.test_run.specs.Dfa.{Told, ends, nothing, failed, told_of, unless_barred, told_at, end_line, ends_text, failed_text, told_text, longest, here, all_text, first_text, dfa_text}
+use Rattle.test_run.specs.Dfa.{Told, ends, nothing, failed, told_of, unless_barred, told_at, end_line, ends_text, failed_text, none_text, told_text, longest, here, all_text, first_text, dfa_text}
 use Rattle.test_run.specs.DfaSearches.{IsSearch}
 
 -- The ends of a match from one on.
@@ -106,11 +105,11 @@ module _ (p : Pattern) (matching : MatchOptions) (subject : List ℕ) where
   all-next n is_shown again at e goes = rw (e, goes, all_text) refl
 
   all-none : (n : ℕ) (is_shown again : Bool) (at : ℕ) → asked again at ≡ nothing →
-      goes_on p matching subject again at ≡ false → all (suc n) is_shown again at ≡ end_text is_shown None
+      goes_on p matching subject again at ≡ false → all (suc n) is_shown again at ≡ none_text is_shown
   unfolding all_text
   all-none n is_shown again at e goes = rw (e, goes, all_text) refl
 
-  all-zero : (is_shown again : Bool) (at : ℕ) → all zero is_shown again at ≡ end_text is_shown None
+  all-zero : (is_shown again : Bool) (at : ℕ) → all zero is_shown again at ≡ none_text is_shown
   unfolding all_text
   all-zero is_shown again at = refl
 
@@ -155,8 +154,8 @@ module _ (p : Pattern) (matching : MatchOptions) (subject : List ℕ) where
       }
 
       pub at-end : (result : Result (Unit {0}) IoError) → asked again at ≡ nothing → goes_on p matching subject again at ≡ false →
-          Writes (end_text is_shown None) mid new result → Writes (total from) old new result
-      at-end result e goes w = left-last result on.left (rest-is (end_text is_shown None) (all-none _ is_shown again at e goes)) w
+          Writes (none_text is_shown) mid new result → Writes (total from) old new result
+      at-end result e goes w = left-last result on.left (rest-is (none_text is_shown) (all-none _ is_shown again at e goes)) w
 
       pub at-failed : (f : DfaError) (u : Unit {0}) → asked again at ≡ failed f → Writes (failed_text f) mid new (Ok u) →
           Writes (total from) old new (Ok u)
@@ -183,7 +182,7 @@ module _ (p : Pattern) (matching : MatchOptions) (subject : List ℕ) where
     at-quiet u w = record { left = left-more [] (all (most - i) is_shown again at) u on.left refl w }
 
     -- no search is left
-    pub at-last : (result : Result (Unit {0}) IoError) → most ≤ i → Writes (end_text is_shown None) mid new result →
+    pub at-last : (result : Result (Unit {0}) IoError) → most ≤ i → Writes (none_text is_shown) mid new result →
         Writes (total from) old new result
     at-last result past w =
         let e : most - i ≡ 0 = omega arith in
@@ -204,7 +203,7 @@ module _ (p : Pattern) (matching : MatchOptions) (subject : List ℕ) where
   abbrev by_first : Told → List ℕ
   by_first a = elim a [
     | ends start qs ↦ ends_text p.options.utf subject start 0 qs
-    | nothing ↦ end_text false None
+    | nothing ↦ none_text false
     | failed e ↦ failed_text e
   ]
 
@@ -212,7 +211,7 @@ module _ (p : Pattern) (matching : MatchOptions) (subject : List ℕ) where
       first from ≡ ends_text p.options.utf subject start 0 qs
   first-ends from start qs e = ap by_first e
 
-  pub first-none : (from : ℕ) → told_at p matching subject from ≡ nothing → first from ≡ end_text false None
+  pub first-none : (from : ℕ) → told_at p matching subject from ≡ nothing → first from ≡ none_text false
   first-none from e = ap by_first e
 
   pub first-failed : (from : ℕ) (f : DfaError) → told_at p matching subject from ≡ failed f → first from ≡ failed_text f
@@ -227,7 +226,7 @@ module _ (p : Pattern) (matching : MatchOptions) (subject : List ℕ) where
           Writes {T = Unit {0}} (told_text p.options.utf subject a) old new (Err fault) →
           Writes {T = Unit {0}} (first from) old new (Err fault)
       by_answer (ends start qs) e w = writes-same (sym (first-ends from start qs e)) w
-      by_answer nothing e w = writes-same (sym (first-none from e)) (writes-first [] (end_text false None) old new fault w)
+      by_answer nothing e w = writes-same (sym (first-none from e)) (writes-first [] (none_text false) old new fault w)
       by_answer (failed f) e w = writes-same (sym (first-failed from f e)) w
 
   -- a search that finds nothing began

@@ -1,6 +1,8 @@
 pub mod Writing
 pub mod Showing
 pub mod Saying
+pub mod Naming
+pub mod Tested
 pub mod Searching
 pub mod Listing
 pub mod Shorts

@@ -70,6 +70,7 @@ module _ (own earlier : Modifiers) where
     matching = matching_of;
     start = unwrap_or (over own earlier).offset 0;
     global = is_on (over own earlier).global;
+    marks = is_on (over own earlier).mark;
   }
 
   -- whether all ends are looked for

@@ -19,6 +19,7 @@ use Rattle.pcre2_api.specs.Informs.{info_in}
 use Rattle.test_run.specs.Asked.{is_on, is_unbuilt, is_dfa, options_of, how_of, subst_of, replacement_of}
 use Rattle.test_run.specs.declared.options.How.{How}
 use Rattle.pcre2_api.specs.Walks.{matches_from}
+use Rattle.test_run.specs.Marks.{showing, missed}
 use Rattle.test_run.specs.Lines.{unbuilt_line, fault_line, info_text, refusal_line, matches_text, replaced_text}
 use Rattle.test_run.specs.Dfa.{dfa_text, replace_with_dfa_line}
 
@@ -61,7 +62,8 @@ pattern_text p =
 
 abbrev pub searched : Pattern → List ℕ → How → List ℕ
 searched p subject how =
-    matches_text p.options.utf subject (matches_from p how.matching subject how.global how.start)
+    matches_text (showing p how.marks) subject (missed p how.matching subject how.start)
+    (matches_from p how.matching subject how.global how.start)
 
 abbrev pub rewritten : Pattern → List NameEntry → List ℕ → How → SubstOptions → List ℕ → List ℕ
 rewritten p names subject how subst replacement =

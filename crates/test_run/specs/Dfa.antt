@@ -15,7 +15,7 @@ use Rattle.pcre2_api.specs.DfaMatched.{error_of, start_error_of}
 use Rattle.pcre2_api.specs.DfaErrors.{number_of, text_of}
 use Rattle.pcre2_api.specs.declared.dfa.DfaError.{DfaError}
 use Rattle.pcre2_api.specs.declared.dfa.DfaError.TheVariants as told
-use Rattle.test_run.specs.Lines.{unbuilt_line, end_text}
+use Rattle.test_run.specs.Lines.{unbuilt_line}
 use Rattle.test_run.specs.Shown.{number_before, shown}
 
 -- what one search gives: the place where the match begins, and its ends, the longest first
@@ -68,6 +68,11 @@ failed_text e =
 abbrev pub replace_with_dfa_line : List ℕ
 replace_with_dfa_line = line (codes "** replace with dfa")
 
+-- that there is no match is shown only where none was shown
+abbrev pub none_text : Bool → List ℕ
+none_text true = []
+none_text false = line (codes "No match")
+
 -- what a search writes
 abbrev pub told_text : Bool → List ℕ → Told → List ℕ
 told_text utf subject (ends start qs) = ends_text utf subject start 0 qs
@@ -85,14 +90,14 @@ module _ (p : Pattern) (matching : MatchOptions) (subject : List ℕ) where
   -- All matches from a place on, as they are written: each is searched for at the longest end of
   -- the one before. Two searches a place are enough, and the number bounds how many there are.
   unfoldable pub all_text : ℕ → Bool → Bool → ℕ → List ℕ
-  all_text zero is_shown again at = end_text is_shown None
+  all_text zero is_shown again at = none_text is_shown
   all_text (suc n) is_shown again at = elim (here again at) [
     | ends start qs ↦
         ends_text p.options.utf subject start 0 qs
         ++ all_text n true (start == longest start qs) (longest start qs)
     | nothing ↦ elim (goes_on p matching subject again at) [
       | true ↦ all_text n is_shown false (place_behind p subject at)
-      | false ↦ end_text is_shown None
+      | false ↦ none_text is_shown
     ]
     | failed e ↦ failed_text e
   ]
@@ -100,7 +105,7 @@ module _ (p : Pattern) (matching : MatchOptions) (subject : List ℕ) where
   abbrev pub first_text : ℕ → List ℕ
   first_text at = elim (told_at p matching subject at) [
     | ends start qs ↦ ends_text p.options.utf subject start 0 qs
-    | nothing ↦ end_text false None
+    | nothing ↦ none_text false
     | failed e ↦ failed_text e
   ]
 

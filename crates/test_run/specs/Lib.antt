@@ -1,4 +1,5 @@
 pub mod Shown
+pub mod Marks
 pub mod Asked
 pub mod Lines
 pub mod Courses

@@ -15,7 +15,8 @@ use Rattle.pcre2_api.specs.declared.subst_error.SubstError.TheVariants as refusa
 use Rattle.pcre2_api.specs.declared.substitute.Substituted.{Substituted}
 use Rattle.pcre2_api.specs.FaultTexts.{fault_text}
 use Rattle.pcre2_api.specs.Walks.{Matches}
-use Rattle.test_run.specs.Shown.{shown, number_before, match_text}
+use Rattle.test_run.specs.Shown.{shown, number_before}
+use Rattle.test_run.specs.Marks.{Showing, name_of, missed_line, match_text}
 
 abbrev pub unbuilt_line : List ℕ
 unbuilt_line = line (codes "** not built")
@@ -58,20 +59,20 @@ refusal_text BadSubject = codes "bad subject"
 abbrev pub refusal_line : Refusal → List ℕ
 refusal_line refusal = line (codes "** " ++ refusal_text refusal)
 
--- that there is no match is shown only where none was shown
-abbrev pub end_text : Bool → Option MatchError → List ℕ
-end_text is_shown (Some e) = failed_line e
-end_text true None = []
-end_text false None = line (codes "No match")
+-- that there is no match is shown only where none was shown, with the last name that was met
+abbrev pub end_text : Showing → Option ℕ → Bool → Option MatchError → List ℕ
+end_text s mark is_shown (Some e) = failed_line e
+end_text s mark true None = []
+end_text s mark false None = missed_line s (name_of s mark)
 
 abbrev pub is_any : {A : Type 0} → List A → Bool
 is_any [] = false
 is_any (x ∷ xs) = true
 
--- the matches of a subject, in UTF or outside it
-abbrev pub matches_text : Bool → List ℕ → Matches → List ℕ
-matches_text utf subject m =
-    flat_map (match_text utf subject) m.outcomes ++ end_text (is_any m.outcomes) m.ended
+-- the matches of a subject, where the first search last met this name
+abbrev pub matches_text : Showing → List ℕ → Option ℕ → Matches → List ℕ
+matches_text s subject mark m =
+    flat_map (match_text s subject) m.outcomes ++ end_text s mark (is_any m.outcomes) m.ended
 
 -- Substitutions, in UTF or outside it.
 

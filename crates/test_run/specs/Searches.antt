@@ -1,6 +1,6 @@
 -- What a search comes to, as the code says it: an answer → what is written, and where the next
 -- search begins.
-use Rattle.std.specs.Prelude.{◌≡◌, ℕ, ◌≤◌, ◌==◌, ◌||◌, Bool, List, [], ◌++◌, flat_map, ⊤}
+use Rattle.std.specs.Prelude.{◌≡◌, ℕ, ◌≤◌, ◌==◌, ◌||◌, Bool, List, [], ◌++◌, flat_map, Option, ⊤}
 use Rattle.pat_tree.specs.Pattern.{pattern_of}
 use Rattle.ordered_search.specs.PlaceAnswer.{Outcome}
 use Rattle.pcre2_api.specs.declared.error.MatchError.{MatchError}
@@ -12,21 +12,26 @@ use Rattle.test_run.specs.declared.matches.Search.TheVariants as search
 use Rattle.test_run.specs.Courses.{Course, between, tests, passed}
 use Rattle.test_run.specs.Lines.{failed_line, end_text, is_any}
 use Rattle.pcre2_api.specs.Walks.{Answer, found, none, failed, Matches}
-use Rattle.test_run.specs.Shown.{match_text}
+use Rattle.test_run.specs.Marks.{Showing, match_text}
 
 -- what a search writes
-abbrev pub answer_text : Bool → List ℕ → Answer → List ℕ
-answer_text utf subject (found o) = match_text utf subject o
-answer_text utf subject none = []
-answer_text utf subject (failed e) = failed_line e
+abbrev pub answer_text : Showing → List ℕ → Answer → List ℕ
+answer_text s subject (found o) = match_text s subject o
+answer_text s subject none = []
+answer_text s subject (failed e) = failed_line e
 
 -- what is told of a search in a subject of this length
 abbrev pub IsSearch : ℕ → Search → Answer → Type 0
 IsSearch len (search.Found to is_empty) (found o) =
     (to ≡ o.to) × (is_empty ≡ (o.keep == o.to)) × (o.to ≤ len)
-IsSearch len search.Nothing none = ⊤
+IsSearch len (search.Nothing mark) none = ⊤
 IsSearch len search.Failed (failed e) = ⊤
 IsSearch _ _ _ = ⊥
+
+-- the name that is told where nothing is found
+abbrev pub TellsMissed : Option ℕ → Search → Type 0
+TellsMissed last (search.Nothing mark) = mark ≡ last
+TellsMissed last _ = ⊤
 
 -- what is told of a match
 abbrev pub TellsMatch : Search → Outcome → Type 0
@@ -40,14 +45,15 @@ error_text told.Memory = []
 error_text e = failed_line e
 
 abbrev pub TellsError : MatchError → Search → Type 0
-TellsError (told.NoMatch mark) s = s ≡ search.Nothing
+TellsError (told.NoMatch mark) s = s ≡ search.Nothing mark
 TellsError told.Memory s = ⊥
 TellsError e s = s ≡ search.Failed
 
 -- what matches write after others were shown
-abbrev pub rest_text : Bool → List ℕ → Bool → Matches → List ℕ
-rest_text utf subject is_shown m =
-    flat_map (match_text utf subject) m.outcomes ++ end_text (is_shown || is_any m.outcomes) m.ended
+abbrev pub rest_text : Showing → List ℕ → Option ℕ → Bool → Matches → List ℕ
+rest_text s subject mark is_shown m =
+    flat_map (match_text s subject) m.outcomes
+    ++ end_text s mark (is_shown || is_any m.outcomes) m.ended
 
 -- what subject lines are searched for, where the pattern is compiled
 abbrev pub course_of : Kept → Course

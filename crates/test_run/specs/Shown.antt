@@ -65,5 +65,5 @@ module _ (utf : Bool) (subject : List ℕ) (o : Outcome) where
   group_line n = line (number_before n ++ shown_or_unset utf (group_text subject o n))
 
   -- the whole match, and each group up to the greatest that is set
-  abbrev pub match_text : List ℕ
-  match_text = flat_map group_line (range_with_len 0 (top_of o + 1))
+  abbrev pub groups_text : List ℕ
+  groups_text = flat_map group_line (range_with_len 0 (top_of o + 1))

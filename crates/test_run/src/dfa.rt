@@ -1,15 +1,14 @@
 //! The ends of a subject, by the matcher that finds them all.
-ghost use Rattle.std.specs.Prelude.{◌≡◌, ◌<◌, ◌≤◌, length, true, None, IfOk, IfErr};
+ghost use Rattle.std.specs.Prelude.{◌≡◌, ◌<◌, ◌≤◌, length, true, IfOk, IfErr};
 ghost use Rattle.pat_tree.specs.declared.options.PartialMode.TheVariants.{Off};
 ghost use Rattle.pat_tree.specs.Pattern.{pattern_of};
 ghost use Rattle.match_drive.specs.Asked.{passed_over};
 ghost use Rattle.dfa_drive.specs.Answer.{AreWithin};
 ghost use Rattle.pcre2_api.specs.Matched.{search_of};
 ghost use Rattle.pcre2_api.specs.DfaMatched.{IsDfaFound, IsDfaError};
-ghost use Rattle.test_run.specs.Dfa.{end_line, ends_text, failed_text, place_text, told_at, told_text, first_text, dfa_text, replace_with_dfa_line};
+ghost use Rattle.test_run.specs.Dfa.{end_line, ends_text, failed_text, none_text, place_text, told_at, told_text, first_text, dfa_text, replace_with_dfa_line};
 ghost use Rattle.test_run.specs.declared.dfa.Search.TheVariants.{Failed};
 ghost use Rattle.test_run.specs.DfaSearches.{error_text, IsSearch, TellsEnds, TellsError};
-ghost use Rattle.test_run.specs.Lines.{end_text};
 ghost use Rattle.tool_out.specs.Writes.{Writes};
 
 use crate::lines::write_unbuilt;
@@ -206,7 +205,7 @@ fn search_at<O: Sink>(
 
 // Writes that there is no match, unless one was shown.
 fn write_end<O: Sink>(out: &mut O, is_shown: bool) -> Result<(), IoError>
-    ensures { Writes (end_text is_shown None) (O.tells out.old) (O.tells out.new) result }
+    ensures { Writes (none_text is_shown) (O.tells out.old) (O.tells out.new) result }
 {
     if is_shown {
         return Ok(());

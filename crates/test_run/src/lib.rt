@@ -5,6 +5,7 @@ mod course;
 mod dfa;
 mod laws;
 mod lines;
+mod marks;
 mod matches;
 mod options;
 mod patterns;

@@ -1,17 +1,19 @@
 //! The matches of a subject.
-ghost use Rattle.std.specs.Prelude.{◌≡◌, ◌<◌, length, true, None, IfOk};
+ghost use Rattle.std.specs.Prelude.{◌≡◌, ◌<◌, length, true, IfOk};
 ghost use Rattle.std.specs.Option.{option_copied};
 ghost use Rattle.pat_tree.specs.declared.options.PartialMode.TheVariants.{Off};
 ghost use Rattle.pat_tree.specs.Pattern.{pattern_of};
 ghost use Rattle.test_run.specs.declared.matches.Search.TheVariants.{Failed};
-ghost use Rattle.test_run.specs.Lines.{end_text, failed_line, matches_text};
+ghost use Rattle.test_run.specs.Lines.{failed_line, matches_text};
+ghost use Rattle.test_run.specs.Marks.{showing, match_text, missed};
 ghost use Rattle.uni_text.specs.Characters.{IsChecked};
 ghost use Rattle.pcre2_api.specs.Walks.{answer_at, first_from, matches_from};
-ghost use Rattle.test_run.specs.Searches.{answer_text, error_text, IsSearch, TellsError, TellsMatch};
-ghost use Rattle.test_run.specs.Shown.{shown_or_unset, group_line, match_text};
+ghost use Rattle.test_run.specs.Searches.{answer_text, error_text, IsSearch, TellsError, TellsMatch, TellsMissed};
+ghost use Rattle.test_run.specs.Shown.{shown_or_unset, group_line, groups_text};
 ghost use Rattle.tool_out.specs.Writes.{Writes};
 
 use crate::lines::write_failed;
+use crate::marks::{write_end, write_mark};
 use crate::options::How;
 use crate::shown::{write_number, write_shown};
 use pcre_io::{IoError, Sink};
@@ -25,7 +27,8 @@ use tool_out::write_texts;
 enum Search {
     /// A match that ends here.
     Found { to: usize, is_empty: bool },
-    Nothing,
+    /// No match, with the last name that was met.
+    Nothing { mark: Option<u32> },
     Failed,
 }
 
@@ -50,9 +53,9 @@ fn write_group<O: Sink>(out: &mut O, found: &Found<'_>, n: u32) -> Result<(), Io
     write_texts(out, &[b"\n"])
 }
 
-// Writes a match: its text, and its groups up to the greatest that is set.
-fn write_match<O: Sink>(out: &mut O, found: &Found<'_>) -> Result<(), IoError>
-    ensures { Writes (match_text found.now.code.tree.options.utf found.now.subject
+// Writes the text of a match, and its groups up to the greatest that is set.
+fn write_groups<O: Sink>(out: &mut O, found: &Found<'_>) -> Result<(), IoError>
+    ensures { Writes (groups_text found.now.code.tree.options.utf found.now.subject
         found.now.outcome) (O.tells out.old) (O.tells out.new) result }
 {
     let top = found.top();
@@ -60,6 +63,15 @@ fn write_match<O: Sink>(out: &mut O, found: &Found<'_>) -> Result<(), IoError>
         write_group(out, found, n)?;
     }
     write_group(out, found, top)
+}
+
+// Writes a match: its texts, and its mark.
+fn write_match<O: Sink>(out: &mut O, found: &Found<'_>, marks: bool) -> Result<(), IoError>
+    ensures { Writes (match_text (showing (pattern_of found.now.code.tree) marks) found.now.subject
+        found.now.outcome) (O.tells out.old) (O.tells out.new) result }
+{
+    write_groups(out, found)?;
+    write_mark(out, found, marks)
 }
 
 // What a match comes to.
@@ -87,7 +99,7 @@ fn tell_error<O: Sink>(out: &mut O, e: MatchError) -> Result<Search, IoError>
     ensures comes { IfOk result (TellsError e) }
 {
     match e {
-        MatchError::NoMatch { .. } => Ok(Search::Nothing),
+        MatchError::NoMatch { mark } => Ok(Search::Nothing { mark }),
         MatchError::Memory => Err(IoError::Memory),
         _ => fail(out, e),
     }
@@ -101,34 +113,27 @@ fn search_from<O: Sink>(
     subject: &[u8],
     start: usize,
     options: &MatchOptions,
+    marks: bool,
     scratch: &mut Scratch,
 ) -> Result<Search, IoError>
     requires checked { IsChecked code.now.tree.options.utf subject.now }
     requires short { length subject.now < 4294967295 }
     requires off { options.now.«partial» ≡ Off }
-    ensures wrote { Writes (answer_text code.now.tree.options.utf subject.now
+    ensures wrote { Writes (answer_text (showing (pattern_of code.now.tree) marks) subject.now
         (answer_at (pattern_of code.now.tree) options.now subject.now start))
         (O.tells out.old) (O.tells out.new) result }
     ensures comes { IfOk result (λ s. IsSearch (length subject.now) s
         (answer_at (pattern_of code.now.tree) options.now subject.now start)) }
+    ensures missed { IfOk result (TellsMissed
+        (missed (pattern_of code.now.tree) options.now subject.now start)) }
 {
     match code.match_again(subject, start, options, scratch, &mut NoCallouts) {
         Ok(found) => {
-            write_match(out, &found)?;
+            write_match(out, &found, marks)?;
             Ok(found_at(&found))
         }
         Err(e) => tell_error(out, e),
     }
-}
-
-// Writes that there is no match, unless one was shown.
-fn write_end<O: Sink>(out: &mut O, is_shown: bool) -> Result<(), IoError>
-    ensures { Writes (end_text is_shown None) (O.tells out.old) (O.tells out.new) result }
-{
-    if is_shown {
-        return Ok(());
-    }
-    write_texts(out, &[b"No match\n"])
 }
 
 // Writes the first match of a subject.
@@ -142,9 +147,10 @@ fn write_first<O: Sink>(
     requires checked { IsChecked code.now.tree.options.utf subject.now }
     requires short { length subject.now < 4294967295 }
     requires off { how.now.matching.«partial» ≡ Off }
-    ensures { Writes (matches_text code.now.tree.options.utf subject.now (first_from
-        (pattern_of code.now.tree) how.now.matching subject.now how.now.start)) (O.tells out.old)
-        (O.tells out.new) result }
+    ensures { let p = pattern_of code.now.tree in Writes (matches_text (showing p how.now.marks)
+        subject.now (missed p how.now.matching subject.now how.now.start)
+        (first_from p how.now.matching subject.now how.now.start))
+        (O.tells out.old) (O.tells out.new) result }
 {
     match search_from(
         out,
@@ -152,9 +158,10 @@ fn write_first<O: Sink>(
         subject,
         how.start as usize,
         &how.matching,
+        how.marks,
         scratch,
     )? {
-        Search::Nothing => write_end(out, false),
+        Search::Nothing { mark } => write_end(out, code, false, mark, how.marks),
         Search::Found { .. } | Search::Failed => Ok(()),
     }
 }
@@ -170,8 +177,9 @@ fn write_all_matches<O: Sink>(
     requires checked { IsChecked code.now.tree.options.utf subject.now }
     requires short { length subject.now < 4294967295 }
     requires off { how.now.matching.«partial» ≡ Off }
-    ensures { Writes (matches_text code.now.tree.options.utf subject.now (matches_from
-        (pattern_of code.now.tree) how.now.matching subject.now true how.now.start))
+    ensures { let p = pattern_of code.now.tree in Writes (matches_text (showing p how.now.marks)
+        subject.now (missed p how.now.matching subject.now how.now.start)
+        (matches_from p how.now.matching subject.now true how.now.start))
         (O.tells out.old) (O.tells out.new) result }
 {
     let mut at = how.start as usize;
@@ -179,21 +187,23 @@ fn write_all_matches<O: Sink>(
     let mut is_shown = false;
     for _turn in 0..2 * subject.len() + 2 {
         let options = matching_at(&how.matching, again);
-        match search_from(out, code, subject, at, &options, scratch)? {
+        match search_from(out, code, subject, at, &options, how.marks, scratch)? {
             Search::Found { to, is_empty } => {
                 is_shown = true;
                 at = to;
                 again = is_empty;
             }
-            Search::Nothing if again && at < subject.len() => {
+            Search::Nothing { .. } if again && at < subject.len() => {
                 at = place_behind(code, subject, at);
                 again = false;
             }
-            Search::Nothing => return write_end(out, is_shown),
+            Search::Nothing { mark } => {
+                return write_end(out, code, is_shown, mark, how.marks);
+            }
             Search::Failed => return Ok(()),
         }
     }
-    write_end(out, is_shown)
+    write_end(out, code, is_shown, None, how.marks)
 }
 
 /// Searches a subject, and writes its first match or all of them (pcre2test, "Finding all matches
@@ -207,8 +217,9 @@ pub fn write_matches<O: Sink>(
 ) -> Result<(), IoError>
     requires short { length subject.now < 4294967295 }
     requires off { how.now.matching.«partial» ≡ Off }
-    ensures { Writes (matches_text code.now.tree.options.utf subject.now (matches_from
-        (pattern_of code.now.tree) how.now.matching subject.now how.now.global how.now.start))
+    ensures { let p = pattern_of code.now.tree in Writes (matches_text (showing p how.now.marks)
+        subject.now (missed p how.now.matching subject.now how.now.start)
+        (matches_from p how.now.matching subject.now how.now.global how.now.start))
         (O.tells out.old) (O.tells out.new) result }
 {
     if let Err(e) = code.test_start(subject, how.start as usize) {

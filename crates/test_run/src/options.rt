@@ -14,6 +14,8 @@ pub struct How {
     pub start: u32,
     /// Whether all matches are shown.
     pub global: bool,
+    /// Whether marks are shown.
+    pub marks: bool,
 }
 
 fn is_on(flag: Option<bool>) -> bool
@@ -107,6 +109,7 @@ pub fn how_of(own: &Modifiers, earlier: &Modifiers) -> How
         matching: matching_of(own, earlier),
         start: own.offset.or(earlier.offset).unwrap_or(0),
         global: is_on(own.global.or(earlier.global)),
+        marks: is_on(own.mark.or(earlier.mark)),
     }
 }
 

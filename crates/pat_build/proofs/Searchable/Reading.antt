@@ -12,6 +12,8 @@ use Rattle.token_parts.specs.declared.token.OptionMask.{OptionMask}
 use Rattle.token_parts.specs.declared.token.OpenKind.TheVariants as opening
 use Rattle.token_parts.specs.declared.token.QuantMode.{QuantMode}
 use Rattle.token_parts.specs.declared.token.QuantMode.TheVariants.{Greedy, Lazy, Possessive}
+use Rattle.token_parts.specs.declared.token.VerbKind.{VerbKind}
+use Rattle.token_parts.specs.declared.token.VerbKind.TheVariants.{Accept, Fail, Commit, Prune, Skip, Then, Mark}
 use Rattle.token_parts.specs.declared.token.Token.{Token}
 use Rattle.token_parts.specs.declared.token.Token.TheVariants as token
 use Rattle.token_parts.specs.Tell.{fault, ◌>>=◌}
@@ -25,7 +27,7 @@ use Rattle.token_parts.specs.declared.token.Target.TheVariants.{Number}
 use Rattle.token_parts.specs.declared.token.CondText.{CondText}
 use Rattle.token_parts.specs.declared.token.CondText.TheVariants as tested
 use Rattle.pat_build.specs.Groups.{Form, grouped, atomically, looks, conditional, defines, asserted, asserting, branched, barred, restarted, groups_after, has_name, is_elsewhere, is_other, unless_named, called_by, form_in, beyond_after, built, noted, Opening, Opens, opened, captured, named, reset, named_by, missing}
-use Rattle.pat_build.specs.Parts.{alternative, repeat_of, repeated, Beginning, atom, bare, inside, asserts, nothing, over, enters, Assertion, asserted_by, settled, assertion, assertions, of_class, type_class, any_or_line, boundary, is_number, number_called, called, calls, conditions, beginning}
+use Rattle.pat_build.specs.Parts.{alternative, repeat_of, repeated, Beginning, atom, bare, inside, asserts, nothing, over, enters, Assertion, asserted_by, settled, assertion, assertions, of_class, type_class, any_or_line, boundary, is_number, number_called, called, calls, verbs, conditions, beginning}
 use Rattle.std.specs.Str.{is_utf8}
 use Rattle.pat_build.specs.Reading.{Parsed, quantified, closed, part_then, parts_from, alternatives_from, sequence, alternatives, whole, started, start, reading, characters, literally, checked, read_from, read}
 use Rattle.pat_build.specs.Searchable.{SearchableLaw}
@@ -69,7 +71,8 @@ repeat_built low high lazily (tree.call n) h = h
 repeat_built low high lazily (tree.ref ns caseless) h = h
 repeat_built low high lazily (tree.anchor kind) h = h
 repeat_built low high lazily tree.keep_out h = h
-repeat_built low high lazily _ h = absurd h
+repeat_built low high lazily (tree.verb v) h = h
+repeat_built low high lazily (tree.callout c) h = absurd h
 
 repeated_built : (low : ℕ) (high : Option ℕ) (mode : QuantMode) (ungreedy : Bool) (t : Nested) → IsBuilt t → IsBuilt (repeated low high mode ungreedy t)
 repeated_built low high Greedy ungreedy t h = repeat_built low high _ t h
@@ -208,6 +211,16 @@ calls_begin known text st target after k =
     holds_then (λ groups. Unit {0}) Begins (named_by known text st target) _ (holds_any _)
     (λ groups _. holds_ok Begins _ (called_begins st after groups (number_called (is_number target) groups) k))
 
+verbs_begin : (kind : VerbKind) (name : List ℕ) (st after : State) → Keeps after → Holds Begins (verbs kind name st after)
+unfolding verbs
+verbs_begin Accept name st after k = holds_ok Begins _ (tt, k)
+verbs_begin Fail name st after k = holds_ok Begins _ (tt, k)
+verbs_begin Commit name st after k = holds_err Begins _
+verbs_begin Prune name st after k = holds_err Begins _
+verbs_begin Skip name st after k = holds_err Begins _
+verbs_begin Then name st after k = holds_err Begins _
+verbs_begin Mark name st after k = holds_ok Begins _ (tt, k)
+
 any_built : (dotall : Bool) → IsBuilt (any_or_line dotall)
 any_built true = tt
 any_built false = tt
@@ -247,6 +260,7 @@ module _ (known : List NameEntry) (text : List ℕ) where
   begins n st (token.Reference target) after h k =
       holds_then (λ groups. Unit {0}) Begins (named_by known text st target) _ (holds_any _) (λ groups _. holds_ok Begins _ (tt, k))
   begins n st (token.CallTo target) after h k = calls_begin known text st target after k
+  begins n st (token.VerbItem kind from to) after h k = verbs_begin kind (slice_range text from to) st after k
   begins n st (token.Open opening.Capture) after h k =
       enters_begins _ (holds_if GroupKeeps _ _ _ (opened_keeps st h (grouped None) after tt k) (captured_keeps st h after k))
   begins n st (token.Open opening.Plain) after h k = enters_begins _ (opened_keeps st h (grouped None) after tt k)

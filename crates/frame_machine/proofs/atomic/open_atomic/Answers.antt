@@ -7,7 +7,7 @@ use Rattle.frame_machine.proofs.atomic.open_atomic.Goals as goal
 
 pub returns-in-Err-clause-stop : goal.returns-in-Err-clause-stop
 returns-in-Err-clause-stop g c =
-    held_stop c.in-Err.stop _ _ _ _ _ c.in-Err.ensures.stop
+    held_stop _ _ _ c.args.spot.now _ _ c.in-Err.ensures.last c.in-Err.stop c.in-Err.ensures.stop
     (λ h. stop_atomic (g.S.Searchable.searched c.args.on.now) (g.met.S.Searchable.sound c.args.on.now) c.args.at c.args.spot.now (entries c.args.store.now.records) c.args.registers.now c.requires.valid _ c.requires.node c.requires.other (omega (arith, h, c.unit_limit.ensures)))
 
 pub returns-clause-on : goal.returns-clause-on

@@ -1,13 +1,14 @@
 use Rattle.frame_store.specs.Entry.{entries}
 use Rattle.frame_machine.proofs.Frames.{slots_sound}
 use Rattle.frame_machine.proofs.BackTurns.{stop_none, pop_branch, pop_exit, pop_later, pop_fewer, pop_more, pop_plain, pop_left, pop_denial, left_within, left_slots, denial_inside, pop_look_test, pop_denial_test, look_test_sound, denial_test_sound, exit_inside, fewer_stands, more_inside, more_many, more_stands, more_few}
+use Rattle.frame_machine.proofs.HeldStops.{tells_stop}
 use Rattle.frame_machine.proofs.back.back.Goals as goal
 
 pub pop-requires : goal.pop-requires
 pop-requires g c = slots_sound (g.S.Searchable.searched c.args.on.now) c.args.spot.now.left c.args.registers.now (entries c.args.store.now.records) c.requires.valid.records
 
 pub returns-in_default-clause-stop : goal.returns-in_default-clause-stop
-returns-in_default-clause-stop g c = stop_none (g.S.Searchable.searched c.args.on.now) c.args.spot.now c.args.store.now.records c.args.registers.now c.in_default.ensures.popped
+returns-in_default-clause-stop g c = tells_stop c.args.spot.now _ _ (stop_none (g.S.Searchable.searched c.args.on.now) c.args.spot.now c.args.store.now.records c.args.registers.now c.in_default.ensures.popped)
 
 pub returns-then-newest-eq-KIND_LATER_BRANCH-clause-on : goal.returns-then-newest-eq-KIND_LATER_BRANCH-clause-on
 returns-then-newest-eq-KIND_LATER_BRANCH-clause-on g c = rw c.restore.ensures (pop_branch (g.S.Searchable.searched c.args.on.now) (g.met.S.Searchable.sound c.args.on.now) c.args.spot.now c.args.store.now.records c.pop.new.store.records c.in-Some.newest c.args.registers.now c.pop.new.registers c.requires.valid c.in-Some.ensures.popped c.in-Some.ensures.back c.if-newest-eq-KIND_LATER_BRANCH.true)

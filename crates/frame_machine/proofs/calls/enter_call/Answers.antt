@@ -1,30 +1,30 @@
-use Rattle.std.proofs.Common.{Some, None, IfErr, length, sym, subst, arith}
+use Rattle.std.proofs.Common.{Some, None, IfErr, length, sym, ap, subst, arith}
 use Rattle.std.proofs.lemmas.List.{length-map}
 use Rattle.frame_store.specs.Entry.{entries, entry_of}
-use Rattle.ordered_search.specs.PlaceAnswer.{Walked}
-use Rattle.frame_machine.specs.Stops.{IsStop}
+use Rattle.frame_machine.specs.Machine.{mark_of}
+use Rattle.frame_machine.specs.Stops.{IsStop, Told, told}
 use Rattle.frame_machine.specs.Calls.{IsCalled}
-use Rattle.frame_machine.proofs.HeldStops.{held_stop}
+use Rattle.frame_machine.proofs.HeldStops.{held_stop, tells_stop}
 use Rattle.frame_machine.proofs.MostOf.{ok_more}
 use Rattle.frame_machine.proofs.CallFrames.{nested}
 use Rattle.frame_machine.proofs.CallTurns.{stop_call_steps, stop_call_loop, stop_call_units, call_open, turn_call_none, turn_called, stop_called}
 use Rattle.frame_machine.proofs.calls.enter_call.Goals as goal
 
 pub returns-then-spot-eq0-clause-stop : goal.returns-then-spot-eq0-clause-stop
-returns-then-spot-eq0-clause-stop g c = stop_call_steps (g.S.Searchable.searched c.args.on.now) (g.met.S.Searchable.sound c.args.on.now) c.args.at c.args.group c.args.spot.now (entries c.args.store.now.records) c.args.registers.now c.requires.valid c.requires.node c.if-spot-eq0.true
+returns-then-spot-eq0-clause-stop g c = tells_stop c.args.spot.now _ _ (stop_call_steps (g.S.Searchable.searched c.args.on.now) (g.met.S.Searchable.sound c.args.on.now) c.args.at c.args.group c.args.spot.now (entries c.args.store.now.records) c.args.registers.now c.requires.valid c.requires.node c.if-spot-eq0.true)
 
 pub is_active-requires-clause-nested : goal.is_active-requires-clause-nested
 is_active-requires-clause-nested g c = nested (g.S.Searchable.searched c.args.on.now) c.args.spot.now.left (length c.args.registers.now) (entries c.args.store.now.records) c.requires.valid.records
 
 pub returns-then-is_active-clause-stop : goal.returns-then-is_active-clause-stop
-returns-then-is_active-clause-stop g c = stop_call_loop (g.S.Searchable.searched c.args.on.now) (g.met.S.Searchable.sound c.args.on.now) c.args.at c.args.group c.args.spot.now (entries c.args.store.now.records) c.args.registers.now c.requires.valid c.requires.node (omega (arith, c.if-spot-eq0.false)) (sym c.if-is_active.ensures)
+returns-then-is_active-clause-stop g c = tells_stop c.args.spot.now _ _ (stop_call_loop (g.S.Searchable.searched c.args.on.now) (g.met.S.Searchable.sound c.args.on.now) c.args.at c.args.group c.args.spot.now (entries c.args.store.now.records) c.args.registers.now c.requires.valid c.requires.node (omega (arith, c.if-spot-eq0.false)) (sym c.if-is_active.ensures))
 
 pub last_place-last-requires-clause-nested : goal.last_place-last-requires-clause-nested
 last_place-last-requires-clause-nested g c = nested (g.S.Searchable.searched c.args.on.now) c.args.spot.now.left (length c.args.registers.now) (entries c.args.store.now.records) c.requires.valid.records
 
 pub returns-in-Err-clause-stop : goal.returns-in-Err-clause-stop
 returns-in-Err-clause-stop g c =
-    held_stop c.in-Err.stop _ _ _ _ _ c.in-Err.ensures.stop
+    held_stop _ _ _ c.args.spot.now _ _ c.in-Err.ensures.last c.in-Err.stop c.in-Err.ensures.stop
     (λ h. stop_call_units (g.S.Searchable.searched c.args.on.now) (g.met.S.Searchable.sound c.args.on.now) c.args.at c.args.group c.args.spot.now (entries c.args.store.now.records) c.args.registers.now c.requires.valid c.requires.node (omega (arith, c.if-spot-eq0.false)) (sym c.if-is_active.ensures) (omega (arith, h, c.unit_limit.ensures)))
 
 pub run_called-requires-clause-calling : goal.run_called-requires-clause-calling
@@ -50,6 +50,6 @@ returns-in-Some-clause-on g c =
 pub returns-in-Some-clause-stop : goal.returns-in-Some-clause-stop
 returns-in-Some-clause-stop g c =
     let called = subst (IsCalled (g.S.Searchable.searched c.args.on.now) c.args.group) c.in-Some.is c.group.ensures in
-    subst (λ (w : Walked). IfErr c.run_called.result (λ stop. IsStop stop c.run_called.new.spot c.args.registers.now w))
-    (sym (stop_called (g.S.Searchable.searched c.args.on.now) (g.met.S.Searchable.sound c.args.on.now) c.args.at c.args.group c.args.spot.now (entries c.args.store.now.records) c.args.registers.now c.requires.valid c.requires.node (omega (arith, c.if-spot-eq0.false)) (sym c.if-is_active.ensures) c.last_place-last.result c.last_place-last.ensures.here c.last_place-last.ensures.around (omega (arith, c.in_default.ensures.room, c.unit_limit.ensures)) c.in-Some.part called.0 called.1))
+    subst (λ (t : Told). IfErr c.run_called.result (λ stop. IsStop stop c.run_called.new.spot c.args.registers.now t))
+    (sym (ap (told (mark_of c.args.spot.now.last)) (stop_called (g.S.Searchable.searched c.args.on.now) (g.met.S.Searchable.sound c.args.on.now) c.args.at c.args.group c.args.spot.now (entries c.args.store.now.records) c.args.registers.now c.requires.valid c.requires.node (omega (arith, c.if-spot-eq0.false)) (sym c.if-is_active.ensures) c.last_place-last.result c.last_place-last.ensures.here c.last_place-last.ensures.around (omega (arith, c.in_default.ensures.room, c.unit_limit.ensures)) c.in-Some.part called.0 called.1)))
     (rw (c.in_default.ensures.spot, c.in_default.ensures.pushed, sym (length-map c.args.store.now.records entry_of)) at c.run_called.ensures.stop)

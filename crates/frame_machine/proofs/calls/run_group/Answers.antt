@@ -10,7 +10,7 @@ returns-in_default-clause-on g c = turn_called_whole (g.S.Searchable.searched c.
 
 pub returns-in-Err-clause-stop : goal.returns-in-Err-clause-stop
 returns-in-Err-clause-stop g c =
-    held_stop c.in-Err.stop _ _ _ _ _ c.in-Err.ensures.stop
+    held_stop _ _ _ c.args.spot.now _ _ c.in-Err.ensures.last c.in-Err.stop c.in-Err.ensures.stop
     (λ h. stop_group_of (g.S.Searchable.searched c.args.on.now) (g.met.S.Searchable.sound c.args.on.now) c.args.part c.args.spot.now (entries c.args.store.now.records) c.args.registers.now c.requires.calling c.requires.callee c.args.number c.args.branches.now c.requires.node _ c.in-Some.is (omega (arith, h, c.unit_limit.ensures)))
 
 pub returns-clause-on : goal.returns-clause-on

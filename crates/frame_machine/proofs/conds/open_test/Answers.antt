@@ -7,7 +7,7 @@ use Rattle.frame_machine.proofs.conds.open_test.Goals as goal
 
 pub returns-in-Err-clause-stop : goal.returns-in-Err-clause-stop
 returns-in-Err-clause-stop g c =
-    held_stop c.in-Err.stop _ _ _ _ _ c.in-Err.ensures.stop
+    held_stop _ _ _ c.args.spot.now _ _ c.in-Err.ensures.last c.in-Err.stop c.in-Err.ensures.stop
     (λ h. stop_test (g.S.Searchable.searched c.args.on.now) (g.met.S.Searchable.sound c.args.on.now) c.args.at c.args.spot.now (entries c.args.store.now.records) c.args.registers.now c.requires.valid c.args.look c.requires.test c.args.branches.now c.args.forward c.args.positive c.requires.look (omega (arith, h, c.unit_limit.ensures)))
 
 pub begin_branches-requires-clause-inside : goal.begin_branches-requires-clause-inside

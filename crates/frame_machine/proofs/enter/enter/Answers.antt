@@ -40,7 +40,7 @@ returns-in-Repeat-clause-on g c =
 pub unreachable-requires : goal.unreachable-requires
 unreachable-requires g c =
     stray_node (g.S.Searchable.searched c.args.on.now).trees _ (subst IsRunnable (sym c.node.ensures.is) c.requires.valid.running.0.runs) c.in_default.not-Empty c.in_default.not-KeepOut c.in_default.not-One c.in_default.not-Break
-    c.in_default.not-Ref c.in_default.not-Anchor c.in_default.not-Seq c.in_default.not-Group c.in_default.not-Repeat c.in_default.not-OneRepeat c.in_default.not-Atomic c.in_default.not-Look c.in_default.not-Cond c.in_default.not-Call
+    c.in_default.not-Ref c.in_default.not-Anchor c.in_default.not-Seq c.in_default.not-Group c.in_default.not-Repeat c.in_default.not-OneRepeat c.in_default.not-Atomic c.in_default.not-Look c.in_default.not-Cond c.in_default.not-Call c.in_default.not-VerbNode
 
 pub enter_atomic-requires-clause-node : goal.enter_atomic-requires-clause-node
 enter_atomic-requires-clause-node g c = subst (IsNode (g.S.Searchable.searched c.args.on.now) c.args.at) c.in-Atomic.is c.node.ensures
@@ -56,3 +56,6 @@ enter_group-requires-clause-node g c = subst (IsNode (g.S.Searchable.searched c.
 
 pub enter_call-requires-clause-node : goal.enter_call-requires-clause-node
 enter_call-requires-clause-node g c = subst (IsNode (g.S.Searchable.searched c.args.on.now) c.args.at) c.in-Call.is c.node.ensures
+
+pub enter_verb-requires-clause-node : goal.enter_verb-requires-clause-node
+enter_verb-requires-clause-node g c = subst (IsNode (g.S.Searchable.searched c.args.on.now) c.args.at) c.in-VerbNode.is c.node.ensures

@@ -1,6 +1,6 @@
 use Rattle.std.proofs.Common.{arith, sym, refl}
 use Rattle.frame_store.specs.Entry.{entry_in, entries}
-use Rattle.frame_machine.proofs.HeldStops.{held_stop}
+use Rattle.frame_machine.proofs.HeldStops.{held_stop, tells_stop}
 use Rattle.frame_machine.specs.Ground.{tree_of}
 use Rattle.frame_machine.proofs.MostOf.{most}
 use Rattle.frame_machine.proofs.ItemTurns.{stop_more, stop_more_units, turn_more_last, turn_more_more}
@@ -9,7 +9,7 @@ use Rattle.frame_machine.proofs.items.wait_for_more.Goals as goal
 pub returns-then-spot-eq0-clause-stop : goal.returns-then-spot-eq0-clause-stop
 returns-then-spot-eq0-clause-stop g c =
     let m = most (tree_of (g.S.Searchable.searched c.args.on.now) c.args.at) c.most_of-most.result c.most_of-most.ensures in
-    stop_more (g.S.Searchable.searched c.args.on.now) (g.met.S.Searchable.sound c.args.on.now) c.args.at c.args.count c.args.last c.args.spot.now (entries c.args.store.now.records) c.args.registers.now c.requires.valid m.item m.low c.most_of-most.result m.lazily m.is c.if-spot-eq0.true _ refl
+    tells_stop c.args.spot.now _ _ (stop_more (g.S.Searchable.searched c.args.on.now) (g.met.S.Searchable.sound c.args.on.now) c.args.at c.args.count c.args.last c.args.spot.now (entries c.args.store.now.records) c.args.registers.now c.requires.valid m.item m.low c.most_of-most.result m.lazily m.is c.if-spot-eq0.true _ refl)
 
 pub returns-then-is_last-clause-on : goal.returns-then-is_last-clause-on
 returns-then-is_last-clause-on g c =
@@ -19,7 +19,7 @@ returns-then-is_last-clause-on g c =
 pub returns-in-Err-clause-stop : goal.returns-in-Err-clause-stop
 returns-in-Err-clause-stop g c =
     let m = most (tree_of (g.S.Searchable.searched c.args.on.now) c.args.at) c.most_of-most.result c.most_of-most.ensures in
-    held_stop c.in-Err.stop _ _ _ _ _ c.in-Err.ensures.stop
+    held_stop _ _ _ c.args.spot.now _ _ c.in-Err.ensures.last c.in-Err.stop c.in-Err.ensures.stop
     (λ h. stop_more_units (g.S.Searchable.searched c.args.on.now) (g.met.S.Searchable.sound c.args.on.now) c.args.at c.args.count c.args.last c.args.spot.now (entries c.args.store.now.records) c.args.registers.now c.requires.valid m.item m.low c.most_of-most.result m.lazily m.is (sym c.if-is_last.ensures) (omega (arith, c.if-spot-eq0.false)) (omega (arith, h, c.unit_limit.ensures)))
 
 pub returns-clause-on : goal.returns-clause-on

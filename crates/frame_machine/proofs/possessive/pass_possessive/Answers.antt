@@ -1,11 +1,12 @@
 use Rattle.std.proofs.Common.{◌∙◌, sym, arith}
 use Rattle.frame_store.specs.Entry.{entries}
 use Rattle.frame_machine.proofs.PossessiveTurns.{no_place, stop_full, turn_none, stop_steps, stop_units, turn_passed}
+use Rattle.frame_machine.proofs.HeldStops.{tells_stop}
 use Rattle.frame_machine.proofs.possessive.pass_possessive.Goals as goal
 
 pub returns-then-spot-limit-clause-stop : goal.returns-then-spot-limit-clause-stop
 returns-then-spot-limit-clause-stop g c =
-    stop_full (g.S.Searchable.searched c.args.on.now) (g.met.S.Searchable.sound c.args.on.now) c.args.at c.args.spot.now (entries c.args.store.now.records) c.args.registers.now c.requires.valid _ c.requires.node _ c.requires.only (omega (arith, c.if-spot-limit.true, c.unit_limit-limit.ensures))
+    tells_stop c.args.spot.now _ _ (stop_full (g.S.Searchable.searched c.args.on.now) (g.met.S.Searchable.sound c.args.on.now) c.args.at c.args.spot.now (entries c.args.store.now.records) c.args.registers.now c.requires.valid _ c.requires.node _ c.requires.only (omega (arith, c.if-spot-limit.true, c.unit_limit-limit.ensures)))
 
 pub returns-in_default-clause-on : goal.returns-in_default-clause-on
 returns-in_default-clause-on g c =
@@ -14,14 +15,14 @@ returns-in_default-clause-on g c =
 
 pub returns-then-spot-eq0-clause-stop : goal.returns-then-spot-eq0-clause-stop
 returns-then-spot-eq0-clause-stop g c =
-    stop_steps (g.S.Searchable.searched c.args.on.now) (g.met.S.Searchable.sound c.args.on.now) c.args.at c.args.spot.now (entries c.args.store.now.records) c.args.registers.now c.requires.valid _ c.requires.node _ c.requires.only (omega (arith, c.if-spot-limit.false, c.unit_limit-limit.ensures))
-    c.in-Some.first (sym c.in-Some.ensures) c.if-spot-eq0.true
+    tells_stop c.args.spot.now _ _ (stop_steps (g.S.Searchable.searched c.args.on.now) (g.met.S.Searchable.sound c.args.on.now) c.args.at c.args.spot.now (entries c.args.store.now.records) c.args.registers.now c.requires.valid _ c.requires.node _ c.requires.only (omega (arith, c.if-spot-limit.false, c.unit_limit-limit.ensures))
+    c.in-Some.first (sym c.in-Some.ensures) c.if-spot-eq0.true)
 
 pub returns-then-limit-spot-clause-stop : goal.returns-then-limit-spot-clause-stop
 returns-then-limit-spot-clause-stop g c =
-    stop_units (g.S.Searchable.searched c.args.on.now) (g.met.S.Searchable.sound c.args.on.now) c.args.at c.args.spot.now (entries c.args.store.now.records) c.args.registers.now c.requires.valid _ c.requires.node _ c.requires.only (omega (arith, c.if-spot-limit.false, c.unit_limit-limit.ensures))
+    tells_stop c.args.spot.now _ _ (stop_units (g.S.Searchable.searched c.args.on.now) (g.met.S.Searchable.sound c.args.on.now) c.args.at c.args.spot.now (entries c.args.store.now.records) c.args.registers.now c.requires.valid _ c.requires.node _ c.requires.only (omega (arith, c.if-spot-limit.false, c.unit_limit-limit.ensures))
     c.in-Some.first (sym c.in-Some.ensures) (omega (arith, c.if-spot-eq0.false))
-    (omega (arith, c.if-limit-spot.true, c.if-spot-limit.false, c.unit_limit-limit.ensures, c.units_of-units.ensures))
+    (omega (arith, c.if-limit-spot.true, c.if-spot-limit.false, c.unit_limit-limit.ensures, c.units_of-units.ensures)))
 
 pub returns-clause-on : goal.returns-clause-on
 returns-clause-on g c =

@@ -16,7 +16,7 @@ returns-then-not-turns-clause-on g c = turn_greedy (g.S.Searchable.searched c.ar
 
 pub returns-in-Err-clause-stop : goal.returns-in-Err-clause-stop
 returns-in-Err-clause-stop g c =
-    held_stop c.in-Err.stop _ _ _ _ _ c.in-Err.ensures.stop
+    held_stop _ _ _ c.args.spot.now _ _ c.in-Err.ensures.last c.in-Err.stop c.in-Err.ensures.stop
     (λ h. stop_lazy (g.S.Searchable.searched c.args.on.now) (g.met.S.Searchable.sound c.args.on.now) c.args.at c.args.count c.args.spot.now (entries c.args.store.now.records) c.args.registers.now c.turns_of-turns.result.body c.turns_of-turns.result.min c.turns_of-turns.result.max c.turns_of-turns.result.lazy c.turns_of-turns.ensures.is c.requires.valid c.if-count-turns.false (sym c.if-is_last.ensures) (not_false _ c.if-not-turns.false) (omega (arith, h, c.unit_limit.ensures)))
 
 pub returns-clause-on : goal.returns-clause-on

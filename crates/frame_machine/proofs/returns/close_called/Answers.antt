@@ -11,7 +11,7 @@ number_of-number-requires-clause-capture g c = (called_sound (g.S.Searchable.sea
 
 pub returns-in-Err-clause-stop : goal.returns-in-Err-clause-stop
 returns-in-Err-clause-stop g c =
-    held_stop c.in-Err.stop _ _ _ _ _ c.in-Err.ensures.stop
+    held_stop _ _ _ c.args.spot.now _ _ c.in-Err.ensures.last c.in-Err.stop c.in-Err.ensures.stop
     (λ h. stop_closed (g.S.Searchable.searched c.args.on.now) (g.met.S.Searchable.sound c.args.on.now) c.args.spot.now c.args.store.now.records c.args.registers.now c.requires.valid c.args.height c.requires.frame c.args.frame.now c.requires.at c.requires.kind c.number_of-number.result c.number_of-number.ensures.is (omega (arith, h, c.unit_limit.ensures)))
 
 pub returns-clause-on : goal.returns-clause-on

@@ -14,7 +14,7 @@ restore-requires-clause-same g c = bank_length (g.S.Searchable.searched c.args.o
 
 pub returns-in-Err-clause-stop : goal.returns-in-Err-clause-stop
 returns-in-Err-clause-stop g c =
-    return_stop c.in-Err.stop _ _ _ _ _ c.in-Err.ensures.stop
+    return_stop _ _ _ c.args.spot.now _ _ c.in-Err.ensures.last c.in-Err.stop c.in-Err.ensures.stop
     (λ h. stop_left (g.S.Searchable.searched c.args.on.now) (g.met.S.Searchable.sound c.args.on.now) c.args.spot.now c.args.store.now.records c.args.registers.now c.requires.valid c.args.height c.requires.frame c.args.frame.now c.requires.at c.requires.kind _ c.in-Ok.ensures (omega (arith, h, c.unit_limit.ensures)))
 
 pub go_on-requires : goal.go_on-requires

@@ -1,5 +1,6 @@
-use Rattle.std.proofs.Common.{◌≡◌, ◌≤◌, ap, arith, length}
+use Rattle.std.proofs.Common.{◌≡◌, ◌≤◌, ◌∙◌, ap, arith, length}
 use Rattle.frame_store.specs.Entry.{entries}
+use Rattle.frame_machine.specs.declared.machine.Spot.{Spot}
 use Rattle.frame_machine.proofs.Restores.{none_restored, none_held, step_restored, step_spot, step_few, stop_restored}
 use Rattle.frame_machine.proofs.returns.restore.Goals as goal
 
@@ -34,3 +35,9 @@ groups-preserved c =
       within = omega (arith, c.groups.invariant.within);
       peak = omega (arith, c.groups.invariant.peak, c.in_default.ensures.peak);
     }
+
+pub returns-in-Err-clause-last : goal.returns-in-Err-clause-last
+returns-in-Err-clause-last c = c.in-Err.ensures.last ∙ ap (λ (x : Spot). x.last) c.groups.invariant.spot
+
+pub returns-clause-last : goal.returns-clause-last
+returns-clause-last c = ap (λ (x : Spot). x.last) c.groups.invariant.spot

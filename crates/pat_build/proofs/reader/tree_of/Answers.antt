@@ -1,4 +1,4 @@
-use Rattle.std.proofs.Common.{◌≡◌, ◌∙◌, ap, sym, subst, None, Some, Option, ℕ, List, [], Result, Ok}
+use Rattle.std.proofs.Common.{◌≡◌, ◌∙◌, ap, sym, subst, None, Some, Option, ℕ, Result, Ok}
 use Rattle.std.proofs.lemmas.Result.{err_from_is_err_and}
 use Rattle.pat_tree.specs.declared.options.Options.{Options}
 use Rattle.pat_tree.specs.Nested.{tree_at, trees}
@@ -56,8 +56,7 @@ returns-in-Ok-clause-ok c =
     ∙ ap (λ (b : Option ℕ). checked c.args.options b (missing m.groups (references_of m.draft.nodes)) tree (state_of m)) c.in_ok-none_beyond.ensures.ok
     ∙ ap (λ (o : Option ℕ). checked c.args.options None o tree (state_of m)) (missing_is m.draft.nodes m.groups None ends.groups ends.refs_are finished.1)
     ∙ ap (λ (o : Options). checked o None None tree (state_of m)) (sym options)
-    ∙ ap (λ (n : ℕ). let x : Result Parsed Fault = Ok (record parsed { pattern = record parsed.pattern { groups = n; verb_names = [] } }) in x) (sym (greatest_is m.draft.nodes m.groups ends.groups))
-    ∙ ap (λ (v : List (List ℕ)). let x : Result Parsed Fault = Ok (record parsed { pattern = record parsed.pattern { verb_names = v } }) in x) (sym ends.verb_names))
+    ∙ ap (λ (n : ℕ). let x : Result Parsed Fault = Ok (record parsed { pattern = record parsed.pattern { groups = n } }) in x) (sym (greatest_is m.draft.nodes m.groups ends.groups)))
 
 pub returns-in-Ok-clause-under : goal.returns-in-Ok-clause-under
 returns-in-Ok-clause-under c =

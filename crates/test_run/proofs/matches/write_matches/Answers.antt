@@ -10,4 +10,4 @@ returns-in-Err g c =
     let p = pattern_of c.args.code.now.tree in
     let how = c.args.how.now in
     let subject = c.args.subject.now in
-    writes-equal (sym (all-unbegun p how.matching subject how.global how.start c.in-Err.e (fails-at p how.matching subject how.start c.in-Err.e c.in-Err.ensures.refused))) c.write_failed.ensures
+    writes-equal (sym (all-unbegun p how.marks how.matching subject how.global how.start c.in-Err.e (fails-at p how.matching subject how.start c.in-Err.e c.in-Err.ensures.refused))) c.write_failed.ensures

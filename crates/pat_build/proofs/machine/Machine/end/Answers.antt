@@ -32,7 +32,6 @@ returns-clause-ok c =
       refs_are = ends.refs_are;
       text = ends.text ∙ f.same.text;
       named = ends.named;
-      verb_names = ends.verb_names;
       options = ends.options ∙ f.same.options;
     }
 

@@ -42,6 +42,7 @@ returns-in_default-clause-bad c =
       | token.QuoteOff ↦ λ e p q. absurd p
       | token.ClassStart negated ↦ λ e p q. absurd (no.not-ClassStart negated e)
       | token.Open kind ↦ λ e p q. absurd (no.not-Open kind e)
+      | token.VerbItem verb from to ↦ λ e p q. absurd (no.not-VerbItem verb from to e)
       | token.CondStart cond from to ↦ λ e p q. absurd (no.not-CondStart cond from to e)
       | token.Bar ↦ λ e p q. absurd (no.not-Bar e)
       | token.Close ↦ λ e p q. absurd (no.not-Close e)

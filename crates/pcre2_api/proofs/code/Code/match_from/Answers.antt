@@ -3,14 +3,14 @@ use Rattle.ordered_search.specs.MatchAnswer.{match_answer, PartialFrom, Error}
 use Rattle.ordered_search.specs.PlaceAnswer.{Abort}
 use Rattle.pcre2_api.specs.Matched.{search_of, IsFound}
 use Rattle.pcre2_api.proofs.Admission.{is_admitted}
-use Rattle.pcre2_api.proofs.Matching.{is_placed, is_plain, no_name}
+use Rattle.pcre2_api.proofs.Matching.{is_placed, is_plain}
 use Rattle.pcre2_api.proofs.code.Code.match_from.Goals as goal
 
 pub of-requires : goal.of-requires
 of-requires g c =
     let asked = search_of c.args.self.now c.args.options.now c.args.subject.now c.args.start (g.C.Callouts.answers c.args.calls.now) in
     let placed = is_placed asked (match_answer asked) c.in-Match.ensures.plain _ c.in-Match.ensures.answer in
-    record { ordered = placed.ordered; within = placed.within; caps = placed.caps; groups = placed.groups; no_mark = placed.no_mark }
+    record { ordered = placed.ordered; within = placed.within; caps = placed.caps; groups = placed.groups }
 
 pub returns-in-Match-clause-found : goal.returns-in-Match-clause-found
 returns-in-Match-clause-found g c =
@@ -24,9 +24,7 @@ returns-in-Match-clause-found g c =
     })
 
 pub returns-in-NoMatch-clause-refused : goal.returns-in-NoMatch-clause-refused
-returns-in-NoMatch-clause-refused g c =
-    let asked = search_of c.args.self.now c.args.options.now c.args.subject.now c.args.start (g.C.Callouts.answers c.args.calls.now) in
-    (c.requires.begun, c.in-NoMatch.ensures.answer.0, no_name asked (match_answer asked) c.in-NoMatch.ensures.plain _ c.in-NoMatch.ensures.answer.1)
+returns-in-NoMatch-clause-refused g c = (c.requires.begun, c.in-NoMatch.ensures.answer.0, c.in-NoMatch.ensures.answer.1)
 
 pub returns-in-Partial-clause-refused : goal.returns-in-Partial-clause-refused
 returns-in-Partial-clause-refused g c =

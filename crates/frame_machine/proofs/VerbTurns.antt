@@ -1,0 +1,270 @@
+-- The steps of the machine at a verb.
+use Rattle.std.proofs.Common.{◌≡◌, ◌≢◌, ℕ, suc, ◌+◌, ◌-◌, ◌<◌, ◌≤◌, ◌∙◌, List, [], ◌∷◌, All, Option, Some, None, length, refl, sym, ap, arith}
+use Rattle.std.specs.Prelude.{IfSome}
+use Rattle.std.proofs.lemmas.List.Elements.{All-head}
+use Rattle.std.specs.Option.{option_or}
+use Rattle.pat_tree.specs.Rules.{number_in}
+use Rattle.pat_tree.specs.declared.nodes.Node.TheVariants as node
+use Rattle.pat_tree.specs.declared.nodes.Verb.{Verb}
+use Rattle.pat_tree.specs.declared.nodes.Verb.TheVariants as verb
+use Rattle.frame_store.specs.Captures.{Captures}
+use Rattle.frame_store.specs.declared.records.Record.{Record}
+use Rattle.frame_store.specs.declared.kinds.TheConstants.{KIND_MARK_PASSED}
+use Rattle.frame_store.specs.Entry.{Entry, MarkPassed, entry_in, entries}
+use Rattle.ordered_search.specs.Stream.{State, name, reached, accepted}
+use Rattle.ordered_search.specs.PlaceAnswer.{Walked, with_note, answers, FrameLimit, last_name, has_hit}
+use Rattle.ordered_search.specs.Moves.{Moves, pause, noted, Follow, holding, tread, size}
+use Rattle.ordered_search.specs.Paths.{verb_path}
+use Rattle.ordered_search.specs.Verbless.{IsPassive}
+use Rattle.frame_machine.specs.declared.machine.Next.{Next}
+use Rattle.frame_machine.specs.declared.machine.Next.TheVariants.{Enter, End, Back, Accept}
+use Rattle.frame_machine.specs.declared.machine.Spot.{Spot}
+use Rattle.frame_machine.specs.declared.machine.Stop.{Stop}
+use Rattle.frame_machine.specs.declared.machine.Stop.TheVariants as stop
+use Rattle.frame_machine.specs.Ground.{Ground, next_of, IsNode, IsGround, IsPart}
+use Rattle.frame_machine.specs.Machine.{Around, Outside, Conf, conf, kept_at, state_at, mark_of, heard, towards}
+use Rattle.frame_machine.specs.Frames.{past, around, around_at, outside, hand, fail, focus, spot_state, ahead}
+use Rattle.frame_machine.specs.Validity.{IsStanding, IsRunning, IsValid, Advances}
+use Rattle.frame_machine.specs.Stops.{Told, told, tells, IsStop, IsHeldStop, record_at}
+use Rattle.frame_machine.specs.Names.{named_last, named_entry, named_spot}
+use Rattle.frame_machine.proofs.PartPaths.{enter_verb, after_accepted}
+use Rattle.frame_machine.proofs.Frames.{around_push, focus_kept, focus_named, focus_towards, running_towards}
+use Rattle.frame_machine.proofs.Advance.{holding_room, holding_full, advance_pause, over_units, goes_back}
+use Rattle.frame_machine.proofs.Turns.{deep}
+
+-- A name that is told is the last one.
+
+or_or : (o : Option ℕ) (n : ℕ) (old : Option ℕ) → option_or (option_or o (Some n)) old ≡ option_or o (Some n)
+or_or None n old = refl
+or_or (Some m) n old = refl
+
+telling : Walked → Option ℕ → Told
+telling w o = record { answer = w.answer; last = o; hit = has_hit w.notes }
+
+told_name : (old : Option ℕ) (n : ℕ) (w : Walked) → told old (with_note (name n) w) ≡ told (Some n) w
+unfolding told telling
+told_name old n w = ap (telling w) (or_or (last_name w.notes) n old)
+
+mark_one : (n : ℕ) → mark_of (n + 1) ≡ Some n
+mark_one n = let one : n + 1 ≡ suc n = omega arith in ap mark_of one
+
+less_one : (n : ℕ) → n + 1 - 1 ≡ n
+less_one n = omega arith
+
+none_some : (n : ℕ) → None ≡ Some n → ⊥
+none_some n e = cc
+
+pub none_of : (o : Option ℕ) → ((n : ℕ) → o ≢ Some n) → o ≡ None
+none_of None h = refl
+none_of (Some n) h = absurd (h n refl)
+
+-- the record of a name
+pub unnamed_pushed : (spot : Spot) (q : ℕ) (o : Option ℕ) → ((n : ℕ) → o ≢ Some n) → (records : List Record) →
+    entries (record_at spot KIND_MARK_PASSED q 0 0 0 ∷ records) ≡ named_entry spot q o ∷ entries records
+unfolding entry_in
+unnamed_pushed spot q o none records = ap (λ x. named_entry spot q x ∷ entries records) (sym (none_of o none))
+
+pub named_pushed : (spot : Spot) (q : ℕ) (o : Option ℕ) (n : ℕ) → o ≡ Some n → (records : List Record) →
+    entries (record_at (record spot { mark = n + 1; last = n + 1 }) KIND_MARK_PASSED q 0 0 0 ∷ records) ≡ named_entry spot q o ∷ entries records
+unfolding entry_in
+named_pushed spot q o n e records = ap (λ x. named_entry spot q x ∷ entries records) (sym e)
+
+pub name_few : (o : Option ℕ) → All (λ k. k < 4294967295) (number_in o) → IfSome o (λ n. n < 4294967295)
+name_few None a = tt
+name_few (Some n) a = All-head (λ k. k < 4294967295) n [] a
+
+-- the verbs that run
+pub stray_verb : (v : Verb) → IsPassive v → ((o : Option ℕ) → v ≢ verb.Mark o) → ((o : Option ℕ) → v ≢ verb.Accept o) → ((o : Option ℕ) → v ≢ verb.Fail o) → ⊥
+stray_verb (verb.Mark o) b m a f = m o refl
+stray_verb (verb.Accept o) b m a f = a o refl
+stray_verb (verb.Fail o) b m a f = f o refl
+stray_verb _ b m a f = b
+
+module _ (c : Ground) where
+  advance_named : (m n : Conf) (k : ℕ) (z : Moves) → ahead c m ≡ pause (noted (name k) z) → ahead c n ≡ z → n.spot.left ≡ m.spot.left → n.spot.last ≡ k + 1 → IsValid c n → Advances c m n
+  unfolding tread size
+  advance_named m n k z e w same met v = record {
+    answer =
+        ap (tells c.setting m.spot) e
+        ∙ told_name (mark_of m.spot.last) k (tread c.setting m.spot.left z)
+        ∙ ap (λ (o : Option ℕ). told o (tread c.setting m.spot.left z)) (sym (mark_one k))
+        ∙ ap (λ l. told (mark_of l) (tread c.setting m.spot.left z)) (sym met)
+        ∙ ap (λ l. told (mark_of n.spot.last) (tread c.setting l z)) (sym same)
+        ∙ sym (ap (tells c.setting n.spot) w);
+    shorter = omega (arith, ap size e, ap size w);
+    valid = v;
+  }
+
+  -- no unit is left after a name
+  over_named : (left : ℕ) (old : Option ℕ) (k : ℕ) (x z : Moves) → x ≡ pause (noted (name k) z) → tread c.setting left z ≡ answers FrameLimit →
+      told old (tread c.setting left x) ≡ told (mark_of (k + 1)) (answers FrameLimit)
+  unfolding tread
+  over_named left old k x z e over =
+      ap (λ (y : Moves). told old (tread c.setting left y)) e
+      ∙ told_name old k (tread c.setting left z)
+      ∙ ap (told (Some k)) over
+      ∙ ap (λ (o : Option ℕ). told o (answers FrameLimit)) (sym (mark_one k))
+
+-- The machine comes to a verb.
+
+module _ (c : Ground) (ok : IsGround c) (q : ℕ) (spot : Spot) (stack : List Entry) (caps : Captures) (v : IsValid c (conf (Enter q) spot stack caps)) where
+  abbrev s : State
+  s = spot_state c spot stack caps
+
+  abbrev K : Follow
+  K = past c (around c stack spot.frame).depth (outside c stack caps spot.frame) q
+
+  abbrev f : Moves
+  f = fail c stack caps
+
+  at_verb : (x : Verb) → IsNode c q (node.VerbNode x) → ahead c (conf (Enter q) spot stack caps) ≡ pause (verb_path c.setting x s K f (hand c stack caps spot.frame q))
+  at_verb x i = enter_verb c ok q (node.VerbNode x) i _ _ _ _ _ (deep c ok q spot stack caps v (node.VerbNode x) i) x refl
+
+  -- a state after a name
+  abbrev named_state : Option ℕ → ℕ → State
+  named_state mark n = record s { mark = mark; passed = (n, spot.place) ∷ s.passed; units = spot.units + 1 }
+
+  named_same : (n : ℕ) → named_state (mark_of (n + 1)) (n + 1 - 1) ≡ named_state (Some n) n
+  named_same n = ap (λ (m : Option ℕ). named_state m (n + 1 - 1)) (mark_one n) ∙ ap (named_state (Some n)) (less_one n)
+
+  -- the path after it stands
+  named_standing : (o : Option ℕ) → spot.units < c.setting.matching.frame_limit →
+      IsRunning c (named_spot spot (length stack) o) (named_entry spot q o ∷ stack) End
+  named_standing None room =
+      let w = v.running.1 in
+      record {
+        inside = omega (arith, w.inside);
+        deep = omega (arith, w.deep, ap (λ (a : Around). a.depth) (around_push c (named_entry spot q None) stack spot.frame w.inside));
+        counted = omega (arith, w.counted);
+        few = omega (arith, room);
+        here = w.here;
+        marked = omega (arith, w.marked);
+      }
+  named_standing (Some n) room =
+      let w = v.running.1 in
+      record {
+        inside = omega (arith, w.inside);
+        deep = omega (arith, w.deep, ap (λ (a : Around). a.depth) (around_push c (named_entry spot q (Some n)) stack spot.frame w.inside));
+        counted = omega (arith, w.counted);
+        few = omega (arith, room);
+        here = w.here;
+        marked = omega arith;
+      }
+
+  module _ (next : Next) (inside : (o : Option ℕ) → spot.units < c.setting.matching.frame_limit → IsRunning c (named_spot spot (length stack) o) (named_entry spot q o ∷ stack) next) where
+    named_valid : (o : Option ℕ) → spot.units < c.setting.matching.frame_limit → IsValid c (conf next (named_spot spot (length stack) o) (named_entry spot q o ∷ stack) caps)
+    named_valid None room = let w = v.running.1 in record { running = inside None room; records = ((v.running.0, w, tt), v.records); spans = v.spans; slots = v.slots }
+    named_valid (Some n) room =
+        let w = v.running.1 in
+        record {
+          running = inside (Some n) room;
+          records = (
+            (v.running.0, record { inside = w.inside; deep = w.deep; counted = w.counted; few = w.few; here = w.here; marked = w.marked }, tt),
+            v.records,
+          );
+          spans = v.spans;
+          slots = v.slots;
+        }
+
+    -- what goes on after a name
+    module _ (goes : State → Moves → Moves) (ends : (u : State) (m : Moves) → focus c next (around c stack spot.frame).depth (outside c stack caps spot.frame) u m ≡ goes u m) where
+      turn_named : (n : ℕ) → spot.units < c.setting.matching.frame_limit →
+          ahead c (conf (Enter q) spot stack caps)
+          ≡ pause (noted (name n) (holding c.setting 1 (record s { mark = Some n; passed = (n, spot.place) ∷ s.passed }) (λ u. goes u (pause f)))) →
+          Advances c (conf (Enter q) spot stack caps) (conf next (named_spot spot (length stack) (Some n)) (named_entry spot q (Some n) ∷ stack) caps)
+      unfolding fail
+      turn_named n room e =
+          let w = v.running.1 in
+          let r : Entry = named_entry spot q (Some n) in
+          let to : Spot = named_spot spot (length stack) (Some n) in
+          advance_named c _ _ n _
+          (e ∙ ap (λ (m : Moves). pause (noted (name n) m)) (holding_room c.setting _ _ room))
+          (focus_named c r stack caps next spot.frame (kept_at to) caps (fail c (r ∷ stack) caps) w.inside
+          ∙ ends (named_state (mark_of (n + 1)) (n + 1 - 1)) (pause f)
+          ∙ ap (λ (u : State). goes u (pause f)) (named_same n))
+          refl refl (named_valid (Some n) room)
+
+      turn_unnamed : spot.units < c.setting.matching.frame_limit →
+          ahead c (conf (Enter q) spot stack caps) ≡ pause (holding c.setting 1 s (λ u. goes u (pause f))) →
+          Advances c (conf (Enter q) spot stack caps) (conf next (named_spot spot (length stack) None) (named_entry spot q None ∷ stack) caps)
+      unfolding fail
+      turn_unnamed room e =
+          let w = v.running.1 in
+          let r : Entry = named_entry spot q None in
+          let to : Spot = named_spot spot (length stack) None in
+          advance_pause c _ _ _
+          (e ∙ ap pause (holding_room c.setting _ _ room))
+          (focus_kept c r stack caps next spot.frame spot.passed (kept_at to) caps (fail c (r ∷ stack) caps) w.inside w.marked
+          ∙ ends (record s { units = spot.units + 1 }) (pause f))
+          refl (named_valid None room)
+
+  -- MARK
+
+  pub turn_mark : (o : Option ℕ) → IsNode c q (node.VerbNode (verb.Mark o)) → spot.units < c.setting.matching.frame_limit →
+      Advances c (conf (Enter q) spot stack caps) (conf (towards (next_of c q)) (named_spot spot (length stack) o) (named_entry spot q o ∷ stack) caps)
+  turn_mark None i room =
+      turn_unnamed (towards (next_of c q)) (λ o room'. running_towards c ok q v.running.0 (named_spot spot (length stack) o) (named_entry spot q o ∷ stack) (named_standing o room')) (K reached) (λ u m. focus_towards c ok q v.running.0 _ _ u m) room (at_verb (verb.Mark None) i)
+  turn_mark (Some n) i room =
+      turn_named (towards (next_of c q)) (λ o room'. running_towards c ok q v.running.0 (named_spot spot (length stack) o) (named_entry spot q o ∷ stack) (named_standing o room')) (K reached) (λ u m. focus_towards c ok q v.running.0 _ _ u m) n room (at_verb (verb.Mark (Some n)) i)
+
+  pub stop_mark : (o : Option ℕ) → IsNode c q (node.VerbNode (verb.Mark o)) → c.setting.matching.frame_limit ≤ spot.units →
+      tells c.setting spot (ahead c (conf (Enter q) spot stack caps)) ≡ told (mark_of (named_last spot.last o)) (answers FrameLimit)
+  unfolding tread
+  stop_mark None i full = ap (told (mark_of spot.last)) (over_units c spot.left _ _ (at_verb (verb.Mark None) i) (holding_full c.setting _ _ full))
+  stop_mark (Some n) i full = over_named c spot.left (mark_of spot.last) n _ _ (at_verb (verb.Mark (Some n)) i) (ap (tread c.setting spot.left) (holding_full c.setting _ _ full))
+
+  -- ACCEPT
+
+  accepts : (u : State) (m : Moves) → focus c Accept (around c stack spot.frame).depth (outside c stack caps spot.frame) u m ≡ K accepted u m
+  accepts u m = sym (after_accepted c (around c stack spot.frame).depth (outside c stack caps spot.frame) (c.rest q) u m)
+
+  pub turn_accept : IsNode c q (node.VerbNode (verb.Accept None)) → Advances c (conf (Enter q) spot stack caps) (conf Accept spot stack caps)
+  turn_accept i =
+      advance_pause c _ _ _ (at_verb (verb.Accept None) i) (accepts s f) refl
+      (record { running = v.running.1; records = v.records; spans = v.spans; slots = v.slots })
+
+  pub turn_accept_named : (n : ℕ) → IsNode c q (node.VerbNode (verb.Accept (Some n))) → spot.units < c.setting.matching.frame_limit →
+      Advances c (conf (Enter q) spot stack caps) (conf Accept (named_spot spot (length stack) (Some n)) (named_entry spot q (Some n) ∷ stack) caps)
+  turn_accept_named n i room = turn_named Accept named_standing (K accepted) accepts n room (at_verb (verb.Accept (Some n)) i)
+
+  pub stop_accept : (n : ℕ) → IsNode c q (node.VerbNode (verb.Accept (Some n))) → c.setting.matching.frame_limit ≤ spot.units →
+      tells c.setting spot (ahead c (conf (Enter q) spot stack caps)) ≡ told (mark_of (n + 1)) (answers FrameLimit)
+  unfolding tread
+  stop_accept n i full = over_named c spot.left (mark_of spot.last) n _ _ (at_verb (verb.Accept (Some n)) i) (ap (tread c.setting spot.left) (holding_full c.setting _ _ full))
+
+  pub accept_named : (o : Option ℕ) → IsNode c q (node.VerbNode (verb.Accept o)) → (n : ℕ) → o ≡ Some n → spot.units < c.setting.matching.frame_limit →
+      Advances c (conf (Enter q) spot stack caps) (conf Accept (named_spot spot (length stack) o) (named_entry spot q o ∷ stack) caps)
+  accept_named None i n e room = absurd (none_some n e)
+  accept_named (Some m) i n e room = turn_accept_named m i room
+
+  pub stop_accept_of : (o : Option ℕ) → IsNode c q (node.VerbNode (verb.Accept o)) → (n : ℕ) → o ≡ Some n → c.setting.matching.frame_limit ≤ spot.units →
+      tells c.setting spot (ahead c (conf (Enter q) spot stack caps)) ≡ told (mark_of (named_last spot.last o)) (answers FrameLimit)
+  stop_accept_of None i n e full = absurd (none_some n e)
+  stop_accept_of (Some m) i n e full = stop_accept m i full
+
+  -- FAIL
+
+  pub turn_fail : IsNode c q (node.VerbNode (verb.Fail None)) → Advances c (conf (Enter q) spot stack caps) (conf Back spot stack caps)
+  turn_fail i = goes_back c _ spot stack caps v.records v.spans v.slots refl (at_verb (verb.Fail None) i)
+
+  pub turn_fail_named : (n : ℕ) → IsNode c q (node.VerbNode (verb.Fail (Some n))) → spot.units < c.setting.matching.frame_limit →
+      Advances c (conf (Enter q) spot stack caps) (conf Back (record spot { last = n + 1 }) stack caps)
+  turn_fail_named n i room =
+      advance_named c _ _ n _
+      (at_verb (verb.Fail (Some n)) i ∙ ap (λ (m : Moves). pause (noted (name n) m)) (holding_room c.setting _ (λ u. f) room))
+      refl refl refl (record { running = tt; records = v.records; spans = v.spans; slots = v.slots })
+
+  pub stop_fail : (n : ℕ) → IsNode c q (node.VerbNode (verb.Fail (Some n))) → c.setting.matching.frame_limit ≤ spot.units →
+      tells c.setting spot (ahead c (conf (Enter q) spot stack caps)) ≡ told (mark_of (n + 1)) (answers FrameLimit)
+  unfolding tread
+  stop_fail n i full = over_named c spot.left (mark_of spot.last) n _ _ (at_verb (verb.Fail (Some n)) i) (ap (tread c.setting spot.left) (holding_full c.setting _ (λ u. f) full))
+
+-- what stops the machine where no unit more is held after a name
+module _ (limit units : ℕ) (spot : Spot) (last : ℕ) (caps : Captures) (t : Told) (met : spot.last ≡ last) where
+  pub named_stop : (s : Stop) → IsHeldStop s limit units → (limit ≤ units → t ≡ told (mark_of last) (answers FrameLimit)) → IsStop s spot caps t
+  named_stop stop.Match h k = absurd h
+  named_stop stop.NoMatch h k = absurd h
+  named_stop stop.MatchLimit h k = absurd h
+  named_stop stop.Loop h k = absurd h
+  named_stop stop.FrameLimit h k = k h ∙ ap (λ l. told (mark_of l) (answers FrameLimit)) (sym met)
+  named_stop stop.Memory h k = tt

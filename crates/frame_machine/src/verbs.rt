@@ -1,0 +1,180 @@
+//! Verbs (pcre2pattern, "Backtracking control").
+ghost use Rattle.std.specs.Prelude.{◌≡◌, ◌≤◌, ◌<◌, ◌∷◌, max, length, IfOk, IfErr, IfSome, OnOk};
+ghost use Rattle.pat_tree.specs.declared.nodes.Node.TheVariants as node;
+ghost use Rattle.pat_tree.specs.declared.nodes.Verb.TheVariants as verb;
+ghost use Rattle.frame_store.specs.Entry.{entries};
+ghost use Rattle.frame_machine.specs.Ground.{IsNode};
+ghost use Rattle.frame_machine.specs.Machine.{conf};
+ghost use Rattle.frame_machine.specs.Frames.{ahead};
+ghost use Rattle.frame_machine.specs.Validity.{IsValid, Advances};
+ghost use Rattle.frame_machine.specs.Stops.{IsHeldStop, IsStop, tells};
+ghost use Rattle.frame_machine.specs.Names.{named_entry, named_spot, named_last};
+
+use crate::enter::go_on;
+use crate::machine::{Next, Spot, Stop, hold};
+use crate::searchable::Searchable;
+use frame_store::kinds::KIND_MARK_PASSED;
+use frame_store::{Registers, Store};
+use pat_tree::Verb;
+
+/// Passes a name, if there is one: it is told, it is the path's mark, and SKIP finds it. The path holds a unit more.
+fn pass_name(
+    limit: u32,
+    at: u32,
+    name: Option<u32>,
+    spot: &mut Spot,
+    store: &mut Store,
+) -> Result<(), Stop>
+    requires counted { length store.old.records ≤ spot.old.units }
+    requires few { IfSome name (λ n. n < 4294967295) }
+    ensures room { OnOk result (spot.old.units < limit) }
+    ensures spot { OnOk result (spot.new ≡ named_spot spot.old (length store.old.records) name) }
+    ensures pushed { OnOk result
+        (entries store.new.records ≡ named_entry spot.old at name ∷ entries store.old.records) }
+    ensures stop { IfErr result (λ stop. IsHeldStop stop limit spot.old.units) }
+    ensures last { spot.new.last ≡ named_last spot.old.last name }
+    ensures peak { store.new.peak ≤ max store.old.peak limit }
+{
+    let Some(name) = name else {
+        let event = spot.record(KIND_MARK_PASSED, at, 0, 0, 0);
+        return hold(limit, event, spot, store);
+    };
+    spot.mark = name + 1;
+    spot.last = name + 1;
+    let event = spot.record(KIND_MARK_PASSED, at, 0, 0, 0);
+    if let Err(stop) = hold(limit, event, spot, store) {
+        return Err(stop);
+    }
+    spot.passed = store.len() as u32;
+    Ok(())
+}
+
+/// Goes on past a name, or with none.
+fn pass_mark<S: Searchable>(
+    on: &S,
+    at: u32,
+    name: Option<u32>,
+    spot: &mut Spot,
+    store: &mut Store,
+    registers: &Registers,
+) -> Result<Next, Stop>
+    requires valid { IsValid (S.searched on.now)
+        (conf (Next.Enter at) spot.old (entries store.old.records) registers.now) }
+    requires node { IsNode (S.searched on.now) at (node.VerbNode (verb.Mark name)) }
+    requires few { IfSome name (λ n. n < 4294967295) }
+    ensures on { IfOk result
+        (λ next. Advances (S.searched on.now)
+        (conf (Next.Enter at) spot.old (entries store.old.records) registers.now)
+        (conf next spot.new (entries store.new.records) registers.now)) }
+    ensures stop { IfErr result
+        (λ stop. IsStop stop spot.new registers.now
+        (tells (S.searched on.now).setting spot.old
+        (ahead (S.searched on.now)
+        (conf (Next.Enter at) spot.old (entries store.old.records) registers.now)))) }
+    ensures peak { store.new.peak
+        ≤ max store.old.peak (S.searched on.now).setting.matching.frame_limit }
+{
+    if let Err(stop) = pass_name(on.unit_limit(), at, name, spot, store) {
+        return Err(stop);
+    }
+    Ok(go_on(on, at))
+}
+
+/// Ends the innermost frame, or the pattern, past a name if there is one.
+fn pass_accept<S: Searchable>(
+    on: &S,
+    at: u32,
+    name: Option<u32>,
+    spot: &mut Spot,
+    store: &mut Store,
+    registers: &Registers,
+) -> Result<Next, Stop>
+    requires valid { IsValid (S.searched on.now)
+        (conf (Next.Enter at) spot.old (entries store.old.records) registers.now) }
+    requires node { IsNode (S.searched on.now) at (node.VerbNode (verb.Accept name)) }
+    requires few { IfSome name (λ n. n < 4294967295) }
+    ensures on { IfOk result
+        (λ next. Advances (S.searched on.now)
+        (conf (Next.Enter at) spot.old (entries store.old.records) registers.now)
+        (conf next spot.new (entries store.new.records) registers.now)) }
+    ensures stop { IfErr result
+        (λ stop. IsStop stop spot.new registers.now
+        (tells (S.searched on.now).setting spot.old
+        (ahead (S.searched on.now)
+        (conf (Next.Enter at) spot.old (entries store.old.records) registers.now)))) }
+    ensures peak { store.new.peak
+        ≤ max store.old.peak (S.searched on.now).setting.matching.frame_limit }
+{
+    let Some(_) = name else {
+        return Ok(Next::Accept);
+    };
+    if let Err(stop) = pass_name(on.unit_limit(), at, name, spot, store) {
+        return Err(stop);
+    }
+    Ok(Next::Accept)
+}
+
+/// Fails, past a name if there is one.
+fn pass_fail<S: Searchable>(
+    on: &S,
+    at: u32,
+    name: Option<u32>,
+    spot: &mut Spot,
+    store: &Store,
+    registers: &Registers,
+) -> Result<Next, Stop>
+    requires valid { IsValid (S.searched on.now)
+        (conf (Next.Enter at) spot.old (entries store.now.records) registers.now) }
+    requires node { IsNode (S.searched on.now) at (node.VerbNode (verb.Fail name)) }
+    requires few { IfSome name (λ n. n < 4294967295) }
+    ensures on { IfOk result
+        (λ next. Advances (S.searched on.now)
+        (conf (Next.Enter at) spot.old (entries store.now.records) registers.now)
+        (conf next spot.new (entries store.now.records) registers.now)) }
+    ensures stop { IfErr result
+        (λ stop. IsStop stop spot.new registers.now
+        (tells (S.searched on.now).setting spot.old
+        (ahead (S.searched on.now)
+        (conf (Next.Enter at) spot.old (entries store.now.records) registers.now)))) }
+{
+    let Some(name) = name else {
+        return Ok(Next::Back);
+    };
+    spot.last = name + 1;
+    if spot.units >= on.unit_limit() {
+        return Err(Stop::FrameLimit);
+    }
+    Ok(Next::Back)
+}
+
+/// Runs a verb.
+pub(crate) fn enter_verb<S: Searchable>(
+    on: &S,
+    at: u32,
+    verb: Verb,
+    spot: &mut Spot,
+    store: &mut Store,
+    registers: &Registers,
+) -> Result<Next, Stop>
+    requires valid { IsValid (S.searched on.now)
+        (conf (Next.Enter at) spot.old (entries store.old.records) registers.now) }
+    requires node { IsNode (S.searched on.now) at (node.VerbNode verb) }
+    ensures on { IfOk result
+        (λ next. Advances (S.searched on.now)
+        (conf (Next.Enter at) spot.old (entries store.old.records) registers.now)
+        (conf next spot.new (entries store.new.records) registers.now)) }
+    ensures stop { IfErr result
+        (λ stop. IsStop stop spot.new registers.now
+        (tells (S.searched on.now).setting spot.old
+        (ahead (S.searched on.now)
+        (conf (Next.Enter at) spot.old (entries store.old.records) registers.now)))) }
+    ensures peak { store.new.peak
+        ≤ max store.old.peak (S.searched on.now).setting.matching.frame_limit }
+{
+    match verb {
+        Verb::Mark { name } => pass_mark(on, at, name, spot, store, registers),
+        Verb::Accept { name } => pass_accept(on, at, name, spot, store, registers),
+        Verb::Fail { name } => pass_fail(on, at, name, spot, store, registers),
+        _ => unreachable!(),
+    }
+}

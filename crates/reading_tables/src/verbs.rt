@@ -1,0 +1,120 @@
+//! Verbs that backtracking passes over, as they are read and refused (pcre2pattern, "Backtracking control"). The C library,
+//! 10.42, accepts each pattern that is read here, and refuses the others.
+use crate::answers::{are_read, are_refused, fault_of, is_read};
+use pat_build::read;
+use pat_tree::Options;
+use std::test::Fail;
+
+#[test]
+fn verbs(rt: HostRuntime) -> Result<(), Fail> {
+    static ROWS: [(&'static str, &'static str); 24] = [
+        ("(*ACCEPT)", "(%Accept)"),
+        ("a(*FAIL)", "(<a %Fail>)"),
+        ("a(*F)b", "(<a %Fail b>)"),
+        ("(*MARK:n)", "(%Mark:n)"),
+        ("(*:n)a", "(<%Mark:n a>)"),
+        (
+            "(*ACCEPT:n)|(*FAIL:m)|(*F:l)",
+            "(%Accept:n|%Fail:m|%Fail:l)",
+        ),
+        ("(*ACCEPT:)(*FAIL:)(*F:)", "(<%Accept %Fail %Fail>)"),
+        ("(*:n)(*:n)(*MARK:m)", "(<%Mark:n %Mark:n %Mark:m>)"),
+        ("(*: a b )", "(%Mark: a b )"),
+        ("(*:(x)a", "(<%Mark:(x a>)"),
+        ("(*:a\\Eb)", "(%Mark:a\\Eb)"),
+        ("(*:\u{e9})", "(%Mark:\u{e9})"),
+        ("((*ACCEPT)|a)", "((1:%Accept|a))"),
+        ("(?=(*ACCEPT)a)b", "(<(=<%Accept a>) b>)"),
+        ("(?<=(*MARK:n))b", "(<(<=%Mark:n) b>)"),
+        ("(?>(*F)|a)", "((>%Fail|a))"),
+        ("(?(?=(*F))a|b)", "((?(=%Fail)a|b))"),
+        (
+            "(?(DEFINE)(a(*ACCEPT)))(?1)",
+            "(<(?never(1:<a %Accept>)) @1>)",
+        ),
+        ("(*ACCEPT)*", "(%Accept*{0,})"),
+        ("(*ACCEPT:n)+?", "(%Accept:n*{1,}?)"),
+        ("(A(*ACCEPT)??B)C", "(<(1:<A %Accept*{0,1}? B>) C>)"),
+        ("(*ACCEPT){2,3}+", "((>%Accept*{2,3}))"),
+        ("(?x) (*ACCEPT) # x\n ?", "(%Accept*{0,1})"),
+        ("(*UTF)(*F)", "(%Fail)"),
+    ];
+    are_read(&rt, rt.alloc(), &ROWS)
+}
+
+#[test]
+fn ungreedy_swaps_a_quantifier_on_accept(rt: HostRuntime) -> Result<(), Fail> {
+    let options = Options {
+        ungreedy: true,
+        ..Options::PLAIN
+    };
+    is_read(&rt, rt.alloc(), "(*ACCEPT)?", options, "(%Accept*{0,1}?)")?;
+    is_read(&rt, rt.alloc(), "(*ACCEPT)??", options, "(%Accept*{0,1})")
+}
+
+// Only ACCEPT has a quantifier.
+#[test]
+fn verbs_with_a_fault(rt: HostRuntime) {
+    static ROWS: [(&'static str, i32, usize); 22] = [
+        ("(*FAIL)*", 109, 7),
+        ("(*F)?", 109, 4),
+        ("(*F:n)+", 109, 6),
+        ("(*MARK:n){2}", 109, 9),
+        ("(*:n)*", 109, 5),
+        ("(*ACCEPT)**", 109, 10),
+        ("(*ACCEPT", 160, 0),
+        ("a(*accept)", 160, 1),
+        ("(*FAILS)", 160, 0),
+        ("(*F ail)", 160, 0),
+        ("(*MARK)", 166, 0),
+        ("a(*MARK:)", 166, 1),
+        ("(*:)", 166, 0),
+        ("(*:n", 160, 0),
+        ("(*MARK :n)", 160, 0),
+        ("(*F)(*ACCEPT)(", 114, 14),
+        ("(*:n)(a", 114, 7),
+        ("(*:n)\\1", 115, 5),
+        ("(*:n)(?1)", 115, 5),
+        ("(*F))", 122, 4),
+        ("(*)a", 109, 1),
+        ("(* F)", 109, 1),
+    ];
+    are_refused(&rt, rt.alloc(), &ROWS);
+}
+
+// Names are told apart by their numbers, in the order of reading.
+#[test]
+fn names_are_a_table(rt: HostRuntime) -> Result<(), Fail> {
+    let alloc = rt.alloc();
+    let tree = read(
+        alloc,
+        b"(*:a)(*F:)(*ACCEPT:bc)|(*:a)(*FAIL:d)".as_slice(),
+        Options::PLAIN,
+    )?;
+    assert_eq!(rt; tree.verb_names(), 4);
+    for (id, name) in [(0, "a"), (1, "bc"), (2, "a"), (3, "d")] {
+        if id < tree.verb_names() {
+            assert_eq!(rt; tree.verb_name(id), name.as_bytes());
+        }
+    }
+    Ok(())
+}
+
+#[test]
+fn the_longest_name_has_255_bytes(rt: HostRuntime) -> Result<(), Fail> {
+    let alloc = rt.alloc();
+    for begin in ["(*MARK:", "(*:", "(*ACCEPT:", "(*F:"] {
+        for (bytes, fault) in [(255, None), (256, Some((176, 1)))] {
+            let mut pattern = String::new(alloc);
+            pattern.push('a')?;
+            pattern.push_str(begin)?;
+            for _ in 0..bytes {
+                pattern.push('n')?;
+            }
+            pattern.push(')')?;
+            let told = fault_of(alloc, pattern.as_bytes(), Options::PLAIN);
+            assert_eq!(rt; told, fault, "{begin} {bytes}");
+        }
+    }
+    Ok(())
+}
