@@ -19,6 +19,3 @@ pub use lexer::next_token;
 pub use token_parts::{
     CondText, Fault, LexFlags, OpenKind, OptionMask, QuantMode, StartItem, Target, Token, VerbKind,
 };
-
-#[cfg(test)]
-mod tests;

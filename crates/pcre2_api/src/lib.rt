@@ -12,8 +12,6 @@ mod starts;
 mod subst_error;
 mod substitute;
 mod taken;
-#[cfg(test)]
-mod tests;
 mod texts;
 mod walk;
 

@@ -1,14 +1,10 @@
-//! Tables of answers that cross crates: what searches find, and how a program uses the library.
+//! Tables of what searches find, with their least limits.
 #![tactic(auto)]
 
 #[cfg(test)]
 mod forms;
 #[cfg(test)]
-mod library;
-#[cfg(test)]
 mod limits;
-#[cfg(test)]
-mod many;
 #[cfg(test)]
 mod pairs;
 #[cfg(test)]

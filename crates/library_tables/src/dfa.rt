@@ -2,7 +2,7 @@
 ghost use Rattle.pat_tree.specs.declared.options.PartialMode.TheVariants.{Off};
 ghost use Rattle.std.specs.Prelude.{◌≡◌, ◌<◌, length};
 
-use crate::{Code, DfaError, DfaFound, MatchOptions, Options, Steps};
+use pcre2_api::{Code, DfaError, DfaFound, MatchOptions, Options, Steps};
 use std::alloc::Global;
 use std::marker::Brand;
 use std::process::Abort;

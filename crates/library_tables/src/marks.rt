@@ -1,6 +1,6 @@
 //! The marks of matches and of failures (pcre2pattern, "Recording which path was taken"; pcre2_get_mark). The answers of the
 //! C library, 10.42.
-use crate::{Code, MatchError, MatchOptions, NoCallouts, Options, Scratch};
+use pcre2_api::{Code, MatchError, MatchOptions, NoCallouts, Options, Scratch};
 use std::test::Fail;
 
 /// A pattern, a subject, and the names of its match's mark or of its failure's.

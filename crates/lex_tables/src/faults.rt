@@ -1,6 +1,6 @@
 //! Tables of faults, and texts of any bytes.
-use super::{EXTENDED, IN_CLASS, PLAIN, QUOTING, refused};
-use crate::{LexFlags, Token, next_token};
+use crate::tokens::{EXTENDED, IN_CLASS, PLAIN, QUOTING, refused};
+use pat_lex::{LexFlags, Token, next_token};
 use pat_tree::Newline;
 use std::process::Abort;
 

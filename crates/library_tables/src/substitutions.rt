@@ -2,7 +2,7 @@
 //! before any search, that an empty replacement is one, and that CRLF is no newline under NUL.
 ghost use Rattle.std.specs.Prelude.{◌≡◌, ◌<◌, length};
 
-use crate::{Code, MatchOptions, Options, PartialMode, Scratch, SubstError, SubstOptions};
+use pcre2_api::{Code, MatchOptions, Options, PartialMode, Scratch, SubstError, SubstOptions};
 use std::alloc::Global;
 use std::process::Abort;
 use std::test::Fail;

@@ -1,16 +1,9 @@
 ghost use Rattle.pat_tree.specs.declared.options.PartialMode.TheVariants.{Off};
 ghost use Rattle.std.specs.Prelude.{◌≡◌};
 
-mod dfa;
-mod marks;
-mod substitutions;
-mod utf;
-
-use crate::{Code, CompileError, MatchError, fault_text};
-use frame_machine::Scratch;
-use frame_store::Span;
-use pat_tree::{MatchOptions, Options};
-use pcre_io::NoCallouts;
+use pcre2_api::{
+    Code, CompileError, MatchError, MatchOptions, NoCallouts, Options, Scratch, Span, fault_text,
+};
 use std::alloc::Global;
 use std::process::Abort;
 use std::test::Fail;

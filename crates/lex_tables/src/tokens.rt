@@ -1,11 +1,12 @@
 //! Tables of tokens and faults, from pcre2pattern.
-mod faults;
-
-use super::*;
+use pat_lex::{
+    CondText, Fault, LexFlags, OpenKind, OptionMask, QuantMode, StartItem, Target, Token, VerbKind,
+    next_token,
+};
 use pat_tree::{Bsr, Newline, SetName};
 use std::process::Abort;
 
-const PLAIN: LexFlags = LexFlags {
+pub(crate) const PLAIN: LexFlags = LexFlags {
     utf: false,
     extended: false,
     extended_more: false,
@@ -15,17 +16,17 @@ const PLAIN: LexFlags = LexFlags {
     groups: 0,
 };
 
-const EXTENDED: LexFlags = LexFlags {
+pub(crate) const EXTENDED: LexFlags = LexFlags {
     extended: true,
     ..PLAIN
 };
 
-const QUOTING: LexFlags = LexFlags {
+pub(crate) const QUOTING: LexFlags = LexFlags {
     quoting: true,
     ..PLAIN
 };
 
-const IN_CLASS: LexFlags = LexFlags {
+pub(crate) const IN_CLASS: LexFlags = LexFlags {
     in_class: true,
     ..PLAIN
 };
@@ -40,7 +41,7 @@ fn begins(rt: &impl Abort, flags: LexFlags, text: &str, token: Token, after: usi
 }
 
 /// The text's first token is refused.
-fn refused(rt: &impl Abort, flags: LexFlags, text: &str, number: i32, at: usize) {
+pub(crate) fn refused(rt: &impl Abort, flags: LexFlags, text: &str, number: i32, at: usize) {
     assert_eq!(rt;
         next_token(text.as_bytes(), 0, flags),
         Err(Fault { number, at }),

@@ -1,5 +1,5 @@
 //! Where searches begin in UTF, by the forms of RFC 3629, section 3.
-use crate::{Code, MatchError, Options};
+use pcre2_api::{Code, MatchError, Options};
 use std::test::Fail;
 
 /// A subject, a start, and why a search can't begin there, if it can't.

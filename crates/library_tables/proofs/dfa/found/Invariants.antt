@@ -1,4 +1,4 @@
-use Rattle.pcre2_api.proofs.tests.dfa.found.Given as goal
+use Rattle.library_tables.proofs.dfa.found.Given as goal
 
 abbrev pub ghosts-counted : goal.ghosts-counted
 ghosts-counted a = record { name = a.blank.name; parts = a.blank.parts }
