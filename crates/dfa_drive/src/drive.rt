@@ -10,7 +10,7 @@ ghost use Rattle.dfa_drive.specs.Answer.{IsDfaAnswer, IsDecidedBy, AreWithin, Is
 
 use crate::answer::DfaAnswer;
 use crate::ends::ends_at;
-use dfa_lists::{EndList, Graph};
+use dfa_lists::{EndList, Graph, Lists};
 use frame_machine::Ready;
 use match_drive::{is_left_out, last_start, start_after};
 use match_items::View;
@@ -25,6 +25,7 @@ fn decision<L: Ledger>(
     graph: &Graph,
     view: &View<'_>,
     place: usize,
+    lists: &mut Lists,
     steps: &mut Steps<L>,
 ) -> Result<Option<EndList>, Memory>
     requires ready { IsReadySearch ready.now view.now }
@@ -39,7 +40,7 @@ fn decision<L: Ledger>(
     if is_left_out(ready, view, place) {
         return Ok(None);
     }
-    let ends = ends_at(alloc, ready, graph, view, place, steps)?;
+    let ends = ends_at(alloc, ready, graph, view, place, lists, steps)?;
     if ends.len() == 0 {
         Ok(None)
     } else {
@@ -59,6 +60,7 @@ pub fn dfa_search<L: Ledger>(
     ready: &Ready<'_>,
     graph: &Graph,
     view: &View<'_>,
+    lists: &mut Lists,
     steps: &mut Steps<L>,
 ) -> Result<DfaAnswer, Memory>
     requires ready { IsReadySearch ready.now view.now }
@@ -72,7 +74,7 @@ pub fn dfa_search<L: Ledger>(
     let last = last_start(ready, view);
     let mut next = Some(view.start);
     'places: while let Some(place) = next {
-        if let Some(ends) = decision(alloc, ready, graph, view, place, steps)? {
+        if let Some(ends) = decision(alloc, ready, graph, view, place, lists, steps)? {
             return Ok(DfaAnswer::Ends { start: place, ends });
         }
         next = start_after(ready, view, place, last);

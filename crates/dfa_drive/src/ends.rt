@@ -10,7 +10,7 @@ ghost use Rattle.dfa_ends.specs.DfaAnswer.{last_of, ends_from};
 ghost use Rattle.dfa_drive.specs.Answer.{AreWithin};
 ghost use Rattle.dfa_drive.specs.Admitted.{admits, kept_if, admitted_down};
 
-use dfa_lists::{EndList, Graph, graph_ends};
+use dfa_lists::{EndList, Graph, Lists, graph_ends};
 use frame_machine::Ready;
 use match_items::View;
 use pat_tree::{ListOf, Memory, Steps};
@@ -82,6 +82,7 @@ pub(crate) fn ends_at<L: Ledger>(
     graph: &Graph,
     view: &View<'_>,
     place: usize,
+    lists: &mut Lists,
     steps: &mut Steps<L>,
 ) -> Result<EndList, Memory>
     requires ready { IsReadySearch ready.now view.now }
@@ -92,7 +93,7 @@ pub(crate) fn ends_at<L: Ledger>(
         place) }
     ensures within { IfOk result (AreWithin place (length view.now.subject.now)) }
 {
-    let rising = graph_ends(alloc, graph, ready.classes, view, place, steps)?;
+    let rising = graph_ends(alloc, graph, ready.classes, view, place, lists, steps)?;
     let falling = admitted_ends(alloc, view, place as u64, &rising)?;
     if view.matching.dfa_shortest {
         shortest_of(alloc, falling)

@@ -13,7 +13,7 @@ ghost use Rattle.pat_check.specs.Support.{dfa_support};
 
 use crate::build::place_tree;
 use crate::graph::Node;
-use crate::lists::{EndList, ends_of};
+use crate::lists::{EndList, Lists, ends_of};
 use char_sets::ClassTable;
 use match_items::{View, places_stand};
 use pat_check::{DfaSupport, Facts};
@@ -107,6 +107,7 @@ pub fn graph_ends<L: Ledger>(
     classes: &ClassTable,
     view: &View<'_>,
     place: usize,
+    lists: &mut Lists,
     steps: &mut Steps<L>,
 ) -> Result<EndList, Memory>
     requires subject { IsText view.now.options.now view.now.subject.now }
@@ -120,6 +121,6 @@ pub fn graph_ends<L: Ledger>(
 {
     // so what a state takes ends at a place
     places_stand();
-    let found = ends_of(alloc, &graph.nodes, 0, classes, view, place, steps)?;
+    let found = ends_of(alloc, &graph.nodes, 0, classes, view, place, lists, steps)?;
     Ok(found)
 }

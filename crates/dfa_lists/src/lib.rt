@@ -10,4 +10,4 @@ mod lists;
 pub use ends::{Graph, GraphError, graph_ends};
 pub use graph::Node;
 pub use laws::{fragments_mean, paths_end};
-pub use lists::EndList;
+pub use lists::{EndList, Lists};

@@ -1,6 +1,6 @@
 //! All ends of a graph at one place, by lists of states, one character at a time (pcre2matching, "The
 //! alternative matching algorithm").
-ghost use Rattle.std.specs.Prelude.{◌≡◌, ℕ, ◌+◌, ◌-◌, ◌*◌, ◌<◌, ◌≤◌, ◌++◌, List, [], IfOk, length, replicate, false};
+ghost use Rattle.std.specs.Prelude.{◌≡◌, ℕ, ◌+◌, ◌-◌, ◌*◌, ◌<◌, ◌≤◌, ◌++◌, ◌∷◌, List, [], IfOk, length, replicate, false};
 ghost use Rattle.match_items.specs.Subjects.{IsText, IsTextPlace};
 ghost use Rattle.match_items.specs.Views.{bare_text, text_scene};
 ghost use Rattle.dfa_ends.specs.Ends.{Among};
@@ -12,6 +12,7 @@ use char_sets::ClassTable;
 use match_items::{Taken, View, places_stand, step, text_anchor, text_break_step};
 use pat_tree::{ListOf, Memory, Steps};
 use std::alloc::Global;
+use std::mem::swap;
 use std::sync::ledger::Ledger;
 
 /// Places, rising.
@@ -194,16 +195,53 @@ fn note(found: &mut EndList, at: usize, hit: bool) -> Result<(), Memory>
     Ok(())
 }
 
+/// The lists of states of searches for all ends. They are kept from one search to the next, which so
+/// takes no memory anew; what a search left in them doesn't count (pcre2api, "Matching a pattern: the
+/// alternative function", on the workspace).
+#[derive(Debug, Drop)]
+pub struct Lists {
+    /// The states that wait, each at its place.
+    pending: Vec<Seed>,
+    /// Those that wait past the present place.
+    later: Vec<Seed>,
+    /// The states at the present place that are still to be followed.
+    seeds: Vec<u32>,
+    /// Which states were followed there.
+    marks: Vec<bool>,
+    /// Those among them that take something.
+    leaves: Vec<u32>,
+}
+
+impl Lists {
+    /// Lists that hold nothing, and take no memory yet.
+    pub fn new(alloc: Global) -> Lists {
+        Lists {
+            pending: Vec::new(alloc),
+            later: Vec::new(alloc),
+            seeds: Vec::new(alloc),
+            marks: Vec::new(alloc),
+            leaves: Vec::new(alloc),
+        }
+    }
+}
+
+/// Marks none of so many states.
+fn mark_none(marks: &mut Vec<bool>, states: usize) -> Result<(), Memory>
+    ensures { IfOk result (λ _. marks.new.items ≡ replicate states false) }
+{
+    marks.clear();
+    marks.resize(states, false)?;
+    Ok(())
+}
+
 /// Takes the states that wait at a place: what follows them there, what these take, and whether the
 /// end of a path is among them.
 fn take_place<L: Ledger>(
-    alloc: Global,
     view: &View<'_>,
     classes: &ClassTable,
     nodes: &[Node],
     at: usize,
-    seeds: &mut Vec<u32>,
-    later: &mut Vec<Seed>,
+    lists: &mut Lists,
     found: &mut EndList,
     steps: &mut Steps<L>,
 ) -> Result<(), Memory>
@@ -211,16 +249,51 @@ fn take_place<L: Ledger>(
     requires place { IsTextPlace view.now.options.now view.now.subject.now at }
     requires few { length nodes.now ≤ 1048576 }
     requires graph { IsGraph (length classes.now) nodes.now }
-    requires seeds { AllBelow (length nodes.now) seeds.old.items }
+    requires seeds { AllBelow (length nodes.now) lists.old.seeds.items }
     ensures { IfOk result (λ _. IsTakenAt (text_scene view.now classes.now) nodes.now at
-        seeds.old.items later.old.items later.new.items found.old found.new steps.old steps.new) }
+        lists.old.seeds.items lists.old.later.items lists.new.later.items found.old found.new
+        steps.old steps.new) }
 {
-    let mut marks = vec![in alloc; false; nodes.len()]?;
-    let mut leaves: Vec<u32> = Vec::new(alloc);
-    let hit = close(view, nodes, at, seeds, &mut marks, &mut leaves)?;
+    mark_none(&mut lists.marks, nodes.len())?;
+    lists.leaves.clear();
+    let hit = close(
+        view,
+        nodes,
+        at,
+        &mut lists.seeds,
+        &mut lists.marks,
+        &mut lists.leaves,
+    )?;
     note(found, at, hit)?;
-    advance(view, classes, nodes, &leaves, at, later, steps)?;
+    advance(
+        view,
+        classes,
+        nodes,
+        &lists.leaves,
+        at,
+        &mut lists.later,
+        steps,
+    )?;
     Ok(())
+}
+
+/// Begins with one state that waits.
+fn begin(lists: &mut Lists, at: usize, state: u32) -> Result<(), Memory>
+    ensures { IfOk result (λ _. lists.new.pending.items ≡ record { at = at; state = state } ∷ []) }
+{
+    lists.pending.clear();
+    lists.pending.push(Seed { at, state })?;
+    Ok(())
+}
+
+/// Parts what waits at a place from what waits elsewhere.
+fn part_lists(lists: &mut Lists, at: usize) -> Result<(), Memory>
+    ensures seeds { IfOk result (λ _. lists.new.seeds.items ≡ waiting_at at lists.old.pending.items) }
+    ensures later { IfOk result (λ _. lists.new.later.items ≡ elsewhere at lists.old.pending.items) }
+{
+    lists.seeds.clear();
+    lists.later.clear();
+    part(&lists.pending, at, &mut lists.seeds, &mut lists.later)
 }
 
 /// The places where a path from a state and a place can end, rising. Each place costs at most one
@@ -232,6 +305,7 @@ pub(crate) fn ends_of<L: Ledger>(
     classes: &ClassTable,
     view: &View<'_>,
     place: usize,
+    lists: &mut Lists,
     steps: &mut Steps<L>,
 ) -> Result<EndList, Memory>
     requires subject { IsText view.now.options.now view.now.subject.now }
@@ -250,22 +324,14 @@ pub(crate) fn ends_of<L: Ledger>(
     // so what a state takes ends at a place
     places_stand();
     let mut found: EndList = ListOf::new(alloc);
-    let mut pending: Vec<Seed> = Vec::new(alloc);
-    pending.push(Seed {
-        at: place,
-        state: entry,
-    })?;
+    begin(lists, place, entry)?;
     let mut at = place;
-    'places: while !pending.is_empty() {
-        let mut seeds: Vec<u32> = Vec::new(alloc);
-        let mut later: Vec<Seed> = Vec::new(alloc);
-        part(&pending, at, &mut seeds, &mut later)?;
-        if !seeds.is_empty() {
-            take_place(
-                alloc, view, classes, nodes, at, &mut seeds, &mut later, &mut found, steps,
-            )?;
+    'places: while !lists.pending.is_empty() {
+        part_lists(lists, at)?;
+        if !lists.seeds.is_empty() {
+            take_place(view, classes, nodes, at, lists, &mut found, steps)?;
         }
-        pending = later;
+        swap(&mut lists.pending, &mut lists.later);
         at += 1;
     }
     Ok(found)

@@ -2,7 +2,7 @@
 ghost use Rattle.pat_tree.specs.declared.options.PartialMode.TheVariants.{Off};
 ghost use Rattle.std.specs.Prelude.{◌≡◌, ◌<◌, length};
 
-use pcre2_api::{Code, DfaError, DfaFound, MatchOptions, Options, Steps};
+use pcre2_api::{Code, DfaError, DfaFound, Lists, MatchOptions, Options, Steps};
 use std::alloc::Global;
 use std::marker::Brand;
 use std::process::Abort;
@@ -27,6 +27,7 @@ fn counted<L: Ledger>(
     subject: &[u8],
     start: usize,
     options: &MatchOptions,
+    lists: &mut Lists,
     blank: Blank,
 ) -> Result<Result<DfaFound, DfaError>, Fail>
     requires name { blank.name ≡ L.name }
@@ -37,7 +38,7 @@ fn counted<L: Ledger>(
 {
     let code = Code::compile(alloc, pattern, compiling)?;
     let mut steps: Steps<L> = Steps::new(blank);
-    Ok(code.dfa_match(alloc, subject, start, options, &mut steps))
+    Ok(code.dfa_match(alloc, subject, start, options, lists, &mut steps))
 }
 
 // A match with a counter of its own for the tests of classes.
@@ -48,6 +49,7 @@ fn found(
     subject: &[u8],
     start: usize,
     options: &MatchOptions,
+    lists: &mut Lists,
 ) -> Result<Result<DfaFound, DfaError>, Fail>
     requires short { length subject.now < 1000 }
     requires off { options.now.«partial» ≡ Off }
@@ -59,6 +61,7 @@ fn found(
         subject,
         start,
         options,
+        lists,
         Blank::new(1),
     )
 }
@@ -72,11 +75,13 @@ fn texts(alloc: Global, subject: &[u8], found: &DfaFound) -> Result<Vec<u8>, Fai
     Ok(text)
 }
 
+// The same lists serve all rows.
 fn answers(rt: &impl Abort, alloc: Global, compiling: Options, rows: &[Row]) -> Result<(), Fail> {
+    let mut lists = Lists::new(alloc);
     for (pattern, subject, wanted) in rows {
         assert!(rt; subject.len() < 1000);
         let plain = MatchOptions::PLAIN;
-        match found(alloc, compiling, pattern, subject, 0, &plain)? {
+        match found(alloc, compiling, pattern, subject, 0, &plain, &mut lists)? {
             Ok(found) => {
                 let text = texts(alloc, subject, &found)?;
                 assert_eq!(rt; Some(text.as_slice()), *wanted);
@@ -219,9 +224,18 @@ fn what_is_not_supported_is_refused(rt: HostRuntime) -> Result<(), Fail> {
         (b"(?=a)a{60000}b{9000}", DfaError::TooLarge),
         (b"(?=a)", DfaError::NotBuilt),
     ];
+    let mut lists = Lists::new(rt.alloc());
     for (pattern, wanted) in &ROWS {
         let plain = MatchOptions::PLAIN;
-        match found(rt.alloc(), Options::PLAIN, pattern, b"a", 0, &plain)? {
+        match found(
+            rt.alloc(),
+            Options::PLAIN,
+            pattern,
+            b"a",
+            0,
+            &plain,
+            &mut lists,
+        )? {
             Ok(_) => assert!(&rt; false),
             Err(e) => assert_eq!(&rt; e, *wanted),
         }
@@ -248,6 +262,7 @@ fn options_take_ends_away(rt: HostRuntime) -> Result<(), Fail> {
         notempty_atstart: true,
         ..plain
     };
+    let mut lists = Lists::new(rt.alloc());
     for (options, start, wanted) in [
         (&plain, 0, b"aa|a||".as_slice()),
         (&shortest, 0, b"|".as_slice()),
@@ -258,7 +273,16 @@ fn options_take_ends_away(rt: HostRuntime) -> Result<(), Fail> {
         (&plain, 1, b"a||".as_slice()),
     ] {
         let subject = b"aab";
-        match found(rt.alloc(), Options::PLAIN, b"a*", subject, start, options)? {
+        let turns = b"a*";
+        match found(
+            rt.alloc(),
+            Options::PLAIN,
+            turns,
+            subject,
+            start,
+            options,
+            &mut lists,
+        )? {
             Ok(found) => {
                 let text = texts(rt.alloc(), subject, &found)?;
                 assert_eq!(&rt; text.as_slice(), wanted);
@@ -266,7 +290,15 @@ fn options_take_ends_away(rt: HostRuntime) -> Result<(), Fail> {
             Err(_) => assert!(&rt; false),
         }
     }
-    let past = found(rt.alloc(), Options::PLAIN, b"a*", b"aa", 3, &plain)?;
+    let past = found(
+        rt.alloc(),
+        Options::PLAIN,
+        b"a*",
+        b"aa",
+        3,
+        &plain,
+        &mut lists,
+    )?;
     assert!(&rt; matches!(past, Err(DfaError::BadOffset)));
     Ok(())
 }
@@ -387,9 +419,10 @@ fn all_ends_begin_at_a_character(rt: HostRuntime) -> Result<(), Fail> {
         (b"\xc3\xa9\xff", 1, DfaError::BadUtf { at: 2 }),
     ];
     let plain = MatchOptions::PLAIN;
+    let mut lists = Lists::new(rt.alloc());
     for (subject, start, wanted) in &ROWS {
         assert!(&rt; subject.len() < 1000);
-        match found(rt.alloc(), UTF, b".", subject, *start, &plain)? {
+        match found(rt.alloc(), UTF, b".", subject, *start, &plain, &mut lists)? {
             Ok(_) => assert!(&rt; false),
             Err(e) => assert_eq!(&rt; e, *wanted),
         }

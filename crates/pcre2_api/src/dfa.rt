@@ -10,7 +10,7 @@ ghost use Rattle.pcre2_api.specs.DfaMatched.{start_error_of, IsDfaFound, IsDfaEr
 use crate::code::Code;
 use crate::error::MatchError;
 use dfa_drive::{DfaAnswer, dfa_search};
-use dfa_lists::{EndList, Graph, GraphError};
+use dfa_lists::{EndList, Graph, GraphError, Lists};
 use match_items::View;
 use pat_tree::{MatchOptions, Memory, Steps};
 use std::alloc::Global;
@@ -139,6 +139,7 @@ impl Code {
         subject: &[u8],
         start: usize,
         options: &MatchOptions,
+        lists: &mut Lists,
         steps: &mut Steps<L>,
     ) -> Result<DfaFound, DfaError>
         requires short { length subject.now < 4294967295 }
@@ -149,7 +150,7 @@ impl Code {
             (search_of self.now options.now subject.now start passed_over)) }
     {
         match self.test_start(subject, start) {
-            Ok(()) => self.ends_from(alloc, subject, start, options, steps),
+            Ok(()) => self.ends_from(alloc, subject, start, options, lists, steps),
             Err(e) => Err(start_error(e)),
         }
     }
@@ -161,6 +162,7 @@ impl Code {
         subject: &[u8],
         start: usize,
         options: &MatchOptions,
+        lists: &mut Lists,
         steps: &mut Steps<L>,
     ) -> Result<DfaFound, DfaError>
         requires begun { start_fault self.now.tree.options.utf subject.now start ≡ None }
@@ -180,7 +182,7 @@ impl Code {
             options: compiled,
             matching: options,
         };
-        let answer = dfa_search(alloc, &ready, &graph, &view, steps)?;
+        let answer = dfa_search(alloc, &ready, &graph, &view, lists, steps)?;
         match answer {
             DfaAnswer::Ends { start, ends } => Ok(DfaFound { start, ends }),
             DfaAnswer::NoMatch => Err(DfaError::NoMatch),

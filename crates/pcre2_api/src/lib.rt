@@ -17,7 +17,7 @@ mod walk;
 
 pub use code::{Code, Info};
 pub use dfa::{DfaError, DfaFound};
-pub use dfa_lists::EndList;
+pub use dfa_lists::{EndList, Lists};
 pub use error::{CompileError, MatchError};
 pub use found::Found;
 pub use frame_machine::Scratch;

@@ -9,8 +9,8 @@ ghost use Rattle.test_gen.specs.Counts.{pattern, names, pattern_in, IsNamed, fir
 use crate::lines::Generator;
 use pcre_io::{Memory, NoCallouts};
 use pcre2_api::{
-    Code, CompileError, DfaError, MatchError, MatchOptions, Options, Scratch, Steps, SubstError,
-    SubstOptions,
+    Code, CompileError, DfaError, Lists, MatchError, MatchOptions, Options, Scratch, Steps,
+    SubstError, SubstOptions,
 };
 use std::alloc::Global;
 use std::marker::Brand;
@@ -122,6 +122,7 @@ fn ends_in<L: Ledger>(
     alloc: Global,
     code: &Option<Code>,
     line: &[u8],
+    lists: &mut Lists,
     steps: &mut Steps<L>,
 ) -> Result<usize, Memory>
     requires { length line.now ≡ 12 }
@@ -130,7 +131,7 @@ fn ends_in<L: Ledger>(
     let Some(code) = code else {
         return Ok(0);
     };
-    match code.dfa_match(alloc, line, 0, &MatchOptions::PLAIN, steps) {
+    match code.dfa_match(alloc, line, 0, &MatchOptions::PLAIN, lists, steps) {
         Ok(found) => Ok(found.ends.as_slice().len()),
         Err(e) => no_ends(e),
     }
@@ -148,13 +149,14 @@ fn ends_of<L: Ledger>(
     requires some { 0 < blank.parts }
     ensures { IfOk result (λ count. count ≡ all_ends (pattern_in code.now) lines) }
 {
+    let mut lists = Lists::new(alloc);
     let mut steps: Steps<L> = Steps::new(blank);
     let mut generator = Generator::new();
     // so wide that no sum of that many counts is past its end
     let mut count: u128 = 0;
     for _line in 0..lines {
         let line = generator.next_line(alloc)?;
-        count += ends_in(alloc, code, line.as_slice(), &mut steps)? as u128;
+        count += ends_in(alloc, code, line.as_slice(), &mut lists, &mut steps)? as u128;
     }
     Ok(count)
 }

@@ -16,7 +16,7 @@ use crate::options::How;
 use crate::shown::{write_count, write_shown};
 use itoa::Buffer;
 use pcre_io::{IoError, Sink};
-use pcre2_api::{Code, DfaError, DfaFound, MatchOptions, Steps, matching_at, place_behind};
+use pcre2_api::{Code, DfaError, DfaFound, Lists, MatchOptions, Steps, matching_at, place_behind};
 use std::alloc::Global;
 use std::marker::Brand;
 use std::sync::ledger::{Blank, Ledger};
@@ -107,6 +107,7 @@ fn counted<L: Ledger>(
     subject: &[u8],
     at: usize,
     options: &MatchOptions,
+    lists: &mut Lists,
     blank: Blank,
 ) -> Result<DfaFound, DfaError>
     requires name { blank.name ≡ L.name }
@@ -120,7 +121,7 @@ fn counted<L: Ledger>(
         (search_of code.now options.now subject.now at passed_over)) }
 {
     let mut steps = Steps::<L>::new(blank);
-    code.dfa_match(alloc, subject, at, options, &mut steps)
+    code.dfa_match(alloc, subject, at, options, lists, &mut steps)
 }
 
 // A search with a counter of its own for the tests of classes.
@@ -130,6 +131,7 @@ fn find_ends(
     subject: &[u8],
     at: usize,
     options: &MatchOptions,
+    lists: &mut Lists,
 ) -> Result<DfaFound, DfaError>
     requires short { length subject.now < 4294967295 }
     requires off { options.now.«partial» ≡ Off }
@@ -138,7 +140,7 @@ fn find_ends(
     ensures refused { IfErr result (IsDfaError
         (search_of code.now options.now subject.now at passed_over)) }
 {
-    counted::<Brand>(alloc, code, subject, at, options, Blank::new(1))
+    counted::<Brand>(alloc, code, subject, at, options, lists, Blank::new(1))
 }
 
 // What a match comes to.
@@ -185,6 +187,7 @@ fn search_at<O: Sink>(
     subject: &[u8],
     at: usize,
     options: &MatchOptions,
+    lists: &mut Lists,
 ) -> Result<Search, IoError>
     requires short { length subject.now < 4294967295 }
     requires off { options.now.«partial» ≡ Off }
@@ -194,7 +197,7 @@ fn search_at<O: Sink>(
     ensures comes { IfOk result (λ s. IsSearch s
         (told_at (pattern_of code.now.tree) options.now subject.now at)) }
 {
-    match find_ends(alloc, code, subject, at, options) {
+    match find_ends(alloc, code, subject, at, options, lists) {
         Ok(found) => {
             write_ends(out, subject, &found, code.options().utf)?;
             Ok(told_of(&found))
@@ -220,13 +223,15 @@ fn write_first<O: Sink>(
     code: &Code,
     subject: &[u8],
     how: &How,
+    lists: &mut Lists,
 ) -> Result<(), IoError>
     requires short { length subject.now < 4294967295 }
     requires off { how.now.matching.«partial» ≡ Off }
     ensures { Writes (first_text (pattern_of code.now.tree) how.now.matching subject.now
         how.now.start) (O.tells out.old) (O.tells out.new) result }
 {
-    match search_at(alloc, out, code, subject, how.start as usize, &how.matching)? {
+    let start = how.start as usize;
+    match search_at(alloc, out, code, subject, start, &how.matching, lists)? {
         Search::Nothing => write_end(out, false),
         Search::Ends { .. } | Search::Failed => Ok(()),
     }
@@ -239,6 +244,7 @@ fn write_all<O: Sink>(
     code: &Code,
     subject: &[u8],
     how: &How,
+    lists: &mut Lists,
 ) -> Result<(), IoError>
     requires short { length subject.now < 4294967295 }
     requires off { how.now.matching.«partial» ≡ Off }
@@ -250,7 +256,7 @@ fn write_all<O: Sink>(
     let mut is_shown = false;
     for _turn in 0..2 * subject.len() + 2 {
         let options = matching_at(&how.matching, again);
-        match search_at(alloc, out, code, subject, at, &options)? {
+        match search_at(alloc, out, code, subject, at, &options, lists)? {
             Search::Ends { longest, is_empty } => {
                 is_shown = true;
                 at = longest;
@@ -289,9 +295,11 @@ pub fn write_all_ends<O: Sink>(
     ensures { Writes (dfa_text (pattern_of code.now.tree) how.now.matching subject.now
         how.now.global how.now.start) (O.tells out.old) (O.tells out.new) result }
 {
+    // all searches of a subject share them
+    let mut lists = Lists::new(alloc);
     if how.global {
-        write_all(alloc, out, code, subject, how)
+        write_all(alloc, out, code, subject, how, &mut lists)
     } else {
-        write_first(alloc, out, code, subject, how)
+        write_first(alloc, out, code, subject, how, &mut lists)
     }
 }

@@ -5,7 +5,7 @@ use Rattle.dfa_lists.proofs.lists.ends_of.Given as goal
 
 abbrev pub invariant-places : goal.invariant-places
 invariant-places g l =
-    Running (text_scene l.view l.classes) l.nodes l.entry l.place l.at l.pending.items l.found
+    Running (text_scene l.view l.classes) l.nodes l.entry l.place l.at l.lists.pending.items l.found
     l.fn.steps l.steps
 
 abbrev pub decreases-places : goal.decreases-places

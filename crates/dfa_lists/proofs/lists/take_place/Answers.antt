@@ -16,7 +16,7 @@ returns g c = record {
   found_is = c.in_ok-note.ensures;
   later_is = c.in_ok-advance.ensures.later ∙ ap
       (λ xs. landed (text_scene c.args.view.now c.args.classes.now) c.args.nodes.now c.args.at xs
-      c.args.later.now.items)
+      c.args.lists.now.later.items)
       c.deref.ensures.value;
   few = subst (λ xs. c.advance.new.steps ≤ c.args.steps.now + length xs) c.deref.ensures.value
       c.in_ok-advance.ensures.tests;
