@@ -17,7 +17,8 @@ use Rattle.dfa_lists.specs.declared.build.Work.TheVariants as work
 use Rattle.dfa_lists.specs.declared.build.Task.{Task}
 use Rattle.dfa_lists.specs.declared.build.Step.{Step}
 use Rattle.dfa_lists.specs.declared.build.Step.TheVariants as step
-use Rattle.dfa_lists.specs.Graph.{IsNodeIn, IsGraph}
+use Rattle.pat_check.specs.Size.{whole_size}
+use Rattle.dfa_lists.specs.Graph.{IsNodeIn, IsGraph, takers}
 use Rattle.dfa_lists.specs.Fragment.{IsNode, Placed, IsGraphOf}
 use Rattle.dfa_lists.specs.Building.{
   part_of,
@@ -527,12 +528,19 @@ module _ (ps : List placed.Placed) (root classes : ℕ) where
       }))
 
   pub ended : (nodes : List Node) (ts : List Task) → Building nodes ts → ts ≡ [] →
-      length nodes ≤ 1048576 →
+      length nodes ≤ 1048576 → takers nodes ≤ whole_size (tree_of ps root) →
       IsGraphOf classes nodes (tree_of ps root)
   unfolding AllTasks Fills
-  ended nodes ts h e few =
+  ended nodes ts h e few bounded =
       let goal = (subst (λ us. Building nodes us) e h).owed nodes (λ q l none. refl) tt in
-      record { placed = goal.0; ends = goal.1; graph = h.graph; some = h.some; few = few }
+      record {
+        placed = goal.0;
+        ends = goal.1;
+        graph = h.graph;
+        some = h.some;
+        few = few;
+        bounded = bounded;
+      }
 
   -- as the code does a step
   pub next_step : (nodes nodes' : List Node) (ts rest ts' : List Task) (t : Task) (s : Step) →

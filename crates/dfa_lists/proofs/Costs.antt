@@ -356,10 +356,10 @@ module _ (ps : List placed.Placed) where
   one_step : 1 ≤ 1
   one_step = omega arith
 
-  abbrev rest_of : ℕ → ℕ → Row
+  abbrev pub rest_of : ℕ → ℕ → Row
   rest_of p from = row (map f (drop (from + 1) (ids_of (node_of ps p))))
 
-  first_of : (p from k : ℕ) → slice_get (ids_of (node_of ps p)) from ≡ Some k →
+  pub first_of : (p from k : ℕ) → slice_get (ids_of (node_of ps p)) from ≡ Some k →
       row_from ps p from ≡ tree.more (f k) (rest_of p from)
   first_of p from k e = ap (λ xs. row (map f xs)) (drop_some (ids_of (node_of ps p)) from k e)
 

@@ -6,4 +6,5 @@ pub mod Fragments
 pub mod Steps
 pub mod Building
 pub mod Costs
+pub mod Takers
 pub mod Having

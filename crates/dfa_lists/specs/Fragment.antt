@@ -18,6 +18,7 @@ use Rattle.pat_tree.specs.declared.nodes.Verb.{Verb}
 use Rattle.pat_tree.specs.declared.nodes.Verb.TheVariants.{Fail}
 use Rattle.pat_tree.specs.Nested as tree
 use Rattle.pat_tree.specs.Nested.{Nested, Row, Test, Other}
+use Rattle.pat_check.specs.Size.{whole_size}
 use Rattle.ordered_search.specs.Setting.{Setting}
 use Rattle.dfa_ends.specs.Ends.{Spot, Among, Ends}
 use Rattle.dfa_lists.specs.declared.graph.Node.{Node}
@@ -33,7 +34,7 @@ use Rattle.dfa_lists.specs.declared.graph.Node.TheVariants.{
 use Rattle.match_items.specs.Scene.{Scene}
 use Rattle.dfa_ends.specs.TwoMatchers.{EndPlace}
 use Rattle.dfa_lists.specs.Lists.{Rising}
-use Rattle.dfa_lists.specs.Graph.{Accepts, IsGraph}
+use Rattle.dfa_lists.specs.Graph.{Accepts, IsGraph, takers}
 
 -- from a state on to a state
 abbrev pub Part : Type 1
@@ -141,6 +142,8 @@ pub record IsGraphOf (classes : ℕ) (nodes : List Node) (t : Nested) : Type 0 w
   pub graph : IsGraph classes nodes
   pub some : 2 ≤ length nodes
   pub few : length nodes ≤ 1048576
+  -- at most as many states take something as the tree has nodes, with its repeats written out
+  pub bounded : takers nodes ≤ whole_size t
 
 -- The paths of the graph of a tree end where the tree can end.
 abbrev pub PathLaw : Type 0

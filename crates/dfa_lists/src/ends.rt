@@ -4,11 +4,10 @@ ghost use Rattle.pat_tree.specs.Nested.{Nested};
 ghost use Rattle.match_items.specs.Subjects.{IsText, IsTextPlace};
 ghost use Rattle.match_items.specs.Views.{text_scene};
 ghost use Rattle.dfa_ends.specs.Ends.{Among};
-ghost use Rattle.dfa_lists.specs.Graph.{takers};
 ghost use Rattle.dfa_lists.specs.Fragment.{IsGraphOf, AreEnds};
 ghost use Rattle.dfa_lists.specs.Building.{tree_of};
 ghost use Rattle.dfa_lists.specs.Served.{refusal, IsRefused};
-ghost use Rattle.pat_check.specs.Size.{size};
+ghost use Rattle.pat_check.specs.Size.{size, whole_size};
 ghost use Rattle.pat_check.specs.Support.{dfa_support};
 
 use crate::build::place_tree;
@@ -97,8 +96,8 @@ impl Graph {
 const MOST_NODES: u32 = 65_536;
 
 /// All places where the tree of a graph can end from a place, rising (pcre2matching, "The alternative
-/// matching algorithm"). Each place costs at most one test of each state that takes something. Fails
-/// for want of memory alone.
+/// matching algorithm"). Each place costs at most as many tests as the tree has nodes, with its
+/// repeats written out. Fails for want of memory alone.
 ///
 /// Needs the classes of the graph's tree, a subject that can be searched, and a place in it.
 pub fn graph_ends<L: Ledger>(
@@ -116,8 +115,8 @@ pub fn graph_ends<L: Ledger>(
     ensures ends { IfOk result (λ found. AreEnds (text_scene view.now classes.now) graph.now place found) }
     ensures within { IfOk result (λ found. (end : ℕ) → Among end found
         → (place ≤ end) × (end ≤ length view.now.subject.now)) }
-    ensures tests { IfOk result (λ _. steps.new
-        ≤ steps.old + takers graph.now * (length view.now.subject.now + 1 - place)) }
+    ensures tests { IfOk result (λ _. (t : Nested) → IsGraphOf (length classes.now) graph.now t
+        → steps.new ≤ steps.old + whole_size t * (length view.now.subject.now + 1 - place)) }
 {
     // so what a state takes ends at a place
     places_stand();

@@ -3,8 +3,10 @@ use Rattle.std.proofs.lemmas.Bool.{false≢true}
 use Rattle.std.proofs.lemmas.Grind.{common_steps}
 use Rattle.dfa_lists.specs.declared.graph.Node.TheVariants.{Dead, Match}
 use Rattle.dfa_lists.specs.declared.build.Work.TheVariants as work
-use Rattle.dfa_lists.specs.Building.{task}
+use Rattle.pat_check.specs.Size.{whole_size}
+use Rattle.dfa_lists.specs.Building.{task, tree_of}
 use Rattle.dfa_lists.proofs.Costs.{first_can, can_step, none_left, not_refused}
+use Rattle.dfa_lists.proofs.Takers.{first_bounded, bounded_step, all_bounded}
 use Rattle.dfa_lists.proofs.Building.{starts, ended, next_step, popped, two_more}
 use Rattle.dfa_lists.proofs.build.place_tree.Goals as goal
 
@@ -21,6 +23,7 @@ tasks-init c =
       building = starts _ _ _ _ _ e one;
       few = omega (arith, l);
       can = λ small has. first_can c.args.tree.now.nodes c.args.tree.now.root _ one small has;
+      bounded = first_bounded c.args.tree.now.nodes c.args.tree.now.root _ _ e one;
     }
 
 pub work_step-step-requires-clause-part : goal.work_step-step-requires-clause-part
@@ -52,6 +55,12 @@ tasks-preserved c =
           c.tasks.tasks.items _ c.in-Some.task (c.tasks.invariant.can small has)
           c.in-Some.ensures.items range _ c.work_step-step.ensures.part c.work_step-step.ensures.is
           _ _ c.in_ok-do_step.ensures.tasks;
+      bounded =
+          bounded_step c.args.tree.now.nodes (length c.args.tree.now.classes)
+          (whole_size (tree_of c.args.tree.now.nodes c.args.tree.now.root)) c.tasks.nodes.items _
+          c.tasks.tasks.items _ _ c.in-Some.task _ c.tasks.invariant.bounded
+          c.in-Some.ensures.items range c.work_step-step.ensures.part c.work_step-step.ensures.is
+          c.in_ok-do_step.ensures.nodes c.in_ok-do_step.ensures.tasks;
     }
 
 pub returns-then-left-eq0-clause-none : goal.returns-then-left-eq0-clause-none
@@ -72,3 +81,6 @@ pub returns-clause-some : goal.returns-clause-some
 returns-clause-some c =
     let e : c.tasks.tasks.items ≡ [] = grind (arith, common_steps, c.in_default.ensures) in
     ended _ _ _ _ _ c.tasks.invariant.building e (omega (arith, c.tasks.invariant.few))
+    (all_bounded c.args.tree.now.nodes
+    (whole_size (tree_of c.args.tree.now.nodes c.args.tree.now.root)) c.tasks.nodes.items
+    c.tasks.tasks.items c.tasks.invariant.bounded e)

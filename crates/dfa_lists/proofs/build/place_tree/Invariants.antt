@@ -4,6 +4,7 @@ use Rattle.dfa_lists.specs.Building.{tree_of}
 use Rattle.dfa_lists.specs.Served.{has_graph}
 use Rattle.dfa_lists.proofs.Building.{Building}
 use Rattle.dfa_lists.proofs.Costs.{Can}
+use Rattle.dfa_lists.proofs.Takers.{IsBounded}
 use Rattle.dfa_lists.proofs.build.place_tree.Given as goal
 
 abbrev pub invariant-tasks : goal.invariant-tasks
@@ -13,6 +14,8 @@ invariant-tasks l = record {
   can : whole_size (tree_of l.tree.nodes l.tree.root) ≤ 65536 →
       has_graph (tree_of l.tree.nodes l.tree.root) ≡ true →
       Can l.tree.nodes l.left l.tasks.items;
+  bounded : IsBounded l.tree.nodes (whole_size (tree_of l.tree.nodes l.tree.root)) l.nodes.items
+      l.tasks.items;
 }
 
 abbrev pub decreases-tasks : goal.decreases-tasks
