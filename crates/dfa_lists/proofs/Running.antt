@@ -3,6 +3,7 @@ use Rattle.std.proofs.Common.{
   ◌≡◌,
   ◌∙◌,
   ℕ,
+  suc,
   ◌+◌,
   ◌-◌,
   ◌*◌,
@@ -27,9 +28,20 @@ use Rattle.std.proofs.Common.{
   inl,
   inr,
   arith,
+  ltb-true,
+  ltb-false,
 }
 use Rattle.std.proofs.lemmas.Bool.{false≢true}
-use Rattle.std.specs.Prelude.{slice_get}
+use Rattle.std.proofs.lemmas.Nat.{mul-le}
+use Rattle.std.specs.Prelude.{
+  ◌||◌,
+  not,
+  nat_lt,
+  slice_get,
+  slice_index,
+  IsTrue,
+  IsCharBoundary,
+}
 use Rattle.pat_tree.specs.declared.nodes.Item.TheVariants.{AnyAll}
 use Rattle.match_items.specs.Scene.{Scene}
 use Rattle.match_items.specs.declared.view.View.{View}
@@ -66,6 +78,7 @@ use Rattle.dfa_lists.specs.Graph.{
   IsNodeIn,
   IsGraph,
   takers,
+  count_if,
 }
 use Rattle.dfa_lists.specs.Lists as lists
 use Rattle.dfa_lists.specs.Lists.{
@@ -78,6 +91,9 @@ use Rattle.dfa_lists.specs.Lists.{
   elsewhere,
   Waits,
   Rising,
+  is_stop,
+  stops,
+  stops_from,
 }
 use Rattle.dfa_lists.proofs.Places.{among_push, kept_old, kept_new, kept_cases, get_in}
 use Rattle.dfa_lists.proofs.Landing.{
@@ -109,7 +125,9 @@ pub record Running (g : Scene) (nodes : List Node) (entry place at : ℕ) (pendi
       Among end found ⊎ SomeWaits g nodes end pending
   pub below : (q : ℕ) → Among q found → q < at
   pub rising : Rising found
-  pub few : tests ≤ old + takers nodes * (at - place)
+  pub few :
+      tests + takers nodes * stops_from g.options.utf g.subject at
+      ≤ old + takers nodes * stops_from g.options.utf g.subject place
 
 rising_push : (xs : List ℕ) (y : ℕ) → Rising xs → ((q : ℕ) → Among q xs → q < y) →
     Rising (xs ++ y ∷ [])
@@ -220,14 +238,71 @@ comes_from g nodes i start _ (on q a n c e m) = comes_from g nodes i start q c
 mul_more : (n k : ℕ) → n * (k + 1) ≡ n * k + n
 mul_more n k = omega arith
 
-more : (n old tests tests' k at place : ℕ) → place ≤ at → tests ≤ old + n * (at - place) →
-    tests' ≤ tests + k → k ≤ n →
-    tests' ≤ old + n * (at + 1 - place)
-more n old tests tests' k at place l t e f =
-    let d : at + 1 - place ≡ (at - place) + 1 = omega (arith, l) in
-    let m : n * (at + 1 - place) ≡ n * (at - place) + n =
-    ap (λ j. n * j) d ∙ mul_more n (at - place) in
-    omega (arith, t, e, f, m)
+count_grows : (b : Bool) (k : ℕ) → k ≤ count_if b k
+count_grows true k = omega arith
+count_grows false k = omega arith
+
+count_one : (b : Bool) (k : ℕ) → b ≡ true → count_if b k ≡ k + 1
+count_one true k e = omega arith
+count_one false k e = cc
+
+either : (a b c : Bool) → (a ≡ false → b ≡ false → c ≡ true → ⊥) → (a || b || not c) ≡ true
+either true b c h = refl
+either false true c h = refl
+either false false false h = refl
+either false false true h = absurd (h refl refl refl)
+
+-- where a search stands, a character begins, or the text ends
+stop_of : (utf : Bool) (bytes : List ℕ) (i : ℕ) → (IsTrue utf → IsCharBoundary bytes i) →
+    is_stop utf bytes i ≡ true
+stop_of false bytes i h = refl
+stop_of true bytes i h =
+    either (nat_lt (slice_index bytes i) 128) (nat_lt 191 (slice_index bytes i))
+    (nat_lt i (length bytes))
+    (λ a b c. (
+    let low = ltb-false _ _ a in
+    let high = ltb-false _ _ b in
+    let wide = (h refl).1 (ltb-true _ _ c) low in
+    absurd (omega (arith, high, wide))))
+
+stands_stop : (g : Scene) (i : ℕ) → Stands g i → is_stop g.options.utf g.subject i ≡ true
+stands_stop g i h = stop_of g.options.utf g.subject i h.between
+
+stops_next : (utf : Bool) (bytes : List ℕ) (at : ℕ) → at ≤ length bytes →
+    stops_from utf bytes at ≡ count_if (is_stop utf bytes at) (stops_from utf bytes (at + 1))
+unfolding stops
+stops_next utf bytes at l =
+    let d : length bytes + 1 - at ≡ suc (length bytes + 1 - (at + 1)) = omega (arith, l) in
+    ap (stops utf bytes at) d
+
+-- each leaf makes a test at most, and where there is one, a character begins or the text ends
+more : (g : Scene) (n old tests tests' at place : ℕ) (leaves : List ℕ) → at ≤ length g.subject →
+    tests + n * stops_from g.options.utf g.subject at
+    ≤ old + n * stops_from g.options.utf g.subject place →
+    tests' ≤ tests + length leaves → length leaves ≤ n →
+    ((q : ℕ) → Among q leaves → Stands g at) →
+    tests' + n * stops_from g.options.utf g.subject (at + 1)
+    ≤ old + n * stops_from g.options.utf g.subject place
+unfolding Among
+more g n old tests tests' at place [] l few t f stands =
+    let k = stops_from g.options.utf g.subject at in
+    let k' = stops_from g.options.utf g.subject (at + 1) in
+    let e = stops_next g.options.utf g.subject at l in
+    let grows : k' ≤ k = subst (λ i. k' ≤ i) (sym e)
+    (count_grows (is_stop g.options.utf g.subject at) k') in
+    let m : n * k' ≤ n * k = mul-le n k' n k (omega arith) grows in
+    omega (arith, few, t, m)
+more g n old tests tests' at place (q ∷ qs) l few t f stands =
+    let k = stops_from g.options.utf g.subject at in
+    let k' = stops_from g.options.utf g.subject (at + 1) in
+    let e : k ≡ k' + 1 = stops_next g.options.utf g.subject at l
+    ∙ count_one (is_stop g.options.utf g.subject at) k' (stands_stop g at (stands q (inl refl))) in
+    let m : n * k ≡ n * k' + n = ap (λ i. n * i) e ∙ mul_more n k' in
+    omega (arith, few, t, f, m)
+
+-- what is left makes no test
+pub no_more : (a b c : ℕ) → a + b ≤ c → a ≤ c
+no_more a b c l = omega (arith, l)
 
 -- One place is done: what waits there is closed, its leaves take what stands there.
 module _ (g : Scene) (nodes : List Node) (classes entry place at : ℕ) (pending : List Seed)
@@ -358,7 +433,7 @@ module _ (g : Scene) (nodes : List Node) (classes entry place at : ℕ) (pending
           | inr b ↦ let e = b.0 in omega (arith, e)
         ]);
         rising = rising_kept hit at found h.rising h.below;
-        few = more (takers nodes) old tests tests' (length leaves) at place h.from h.few t c.few;
+        few = more g (takers nodes) old tests tests' at place leaves some h.few t c.few leaf_stands;
       }))
 
 pub starts : (g : Scene) (nodes : List Node) (entry place : ℕ) (pending : List Seed)

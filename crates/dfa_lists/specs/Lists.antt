@@ -13,12 +13,19 @@ use Rattle.std.specs.Prelude.{
   [],
   ◌∷◌,
   ◌++◌,
+  ◌||◌,
+  ◌-◌,
+  not,
+  nat_lt,
+  zero,
+  suc,
   length,
   Option,
   Some,
   None,
   ◌==◌,
   slice_get,
+  slice_index,
   slice_index_or,
 }
 use Rattle.match_items.specs.Scene.{Scene}
@@ -26,7 +33,15 @@ use Rattle.dfa_ends.specs.Ends.{Among}
 use Rattle.dfa_lists.specs.declared.graph.Node.{Node}
 use Rattle.dfa_lists.specs.declared.graph.Node.TheVariants.{Dead}
 use Rattle.dfa_lists.specs.declared.lists.Seed.{Seed}
-use Rattle.dfa_lists.specs.Graph.{takes, is_match, lands, target, takers, Comes}
+use Rattle.dfa_lists.specs.Graph.{
+  takes,
+  is_match,
+  lands,
+  target,
+  takers,
+  count_if,
+  Comes,
+}
 
 abbrev pub IsTaking : List Node → ℕ → Type 0
 IsTaking nodes q = (n : Node) × (slice_get nodes q ≡ Some n) × (takes n ≡ true)
@@ -91,3 +106,18 @@ pub record IsTakenAt (g : Scene) (nodes : List Node) (i : ℕ) (start : List ℕ
   pub found_is : found' ≡ kept hit i found
   pub later_is : later ≡ landed g nodes i leaves others
   pub few : tests ≤ old + length leaves
+
+-- a character begins at the place, or the text ends there: in UTF no byte that continues one stands there
+abbrev pub is_stop : Bool → List ℕ → ℕ → Bool
+is_stop utf bytes i =
+    not utf || nat_lt (slice_index bytes i) 128 || nat_lt 191 (slice_index bytes i)
+    || not (nat_lt i (length bytes))
+
+-- how many of n places from one on are so
+unfoldable pub stops : Bool → List ℕ → ℕ → ℕ → ℕ
+stops utf bytes p zero = 0
+stops utf bytes p (suc n) = count_if (is_stop utf bytes p) (stops utf bytes (p + 1) n)
+
+-- how many characters begin from a place on, and the text's end
+abbrev pub stops_from : Bool → List ℕ → ℕ → ℕ
+stops_from utf bytes p = stops utf bytes p (length bytes + 1 - p)

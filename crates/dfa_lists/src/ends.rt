@@ -1,10 +1,11 @@
 //! The graph of a tree, and its ends from a place.
-ghost use Rattle.std.specs.Prelude.{◌≡◌, ℕ, ◌+◌, ◌-◌, ◌*◌, ◌≤◌, None, IfOk, IfErr, length};
+ghost use Rattle.std.specs.Prelude.{◌≡◌, ℕ, ◌+◌, ◌*◌, ◌≤◌, None, IfOk, IfErr, length};
 ghost use Rattle.pat_tree.specs.Nested.{Nested};
 ghost use Rattle.match_items.specs.Subjects.{IsText, IsTextPlace};
 ghost use Rattle.match_items.specs.Views.{text_scene};
 ghost use Rattle.dfa_ends.specs.Ends.{Among};
 ghost use Rattle.dfa_lists.specs.Fragment.{IsGraphOf, AreEnds};
+ghost use Rattle.dfa_lists.specs.Lists.{stops_from};
 ghost use Rattle.dfa_lists.specs.Building.{tree_of};
 ghost use Rattle.dfa_lists.specs.Served.{refusal, IsRefused};
 ghost use Rattle.pat_check.specs.Size.{size, whole_size};
@@ -96,8 +97,8 @@ impl Graph {
 const MOST_NODES: u32 = 65_536;
 
 /// All places where the tree of a graph can end from a place, rising (pcre2matching, "The alternative
-/// matching algorithm"). Each place costs at most as many tests as the tree has nodes, with its
-/// repeats written out. Fails for want of memory alone.
+/// matching algorithm"). Each character from the place on, and the subject's end, costs at most
+/// as many tests as the tree has nodes, with its repeats written out. Fails for want of memory alone.
 ///
 /// Needs the classes of the graph's tree, a subject that can be searched, and a place in it.
 pub fn graph_ends<L: Ledger>(
@@ -116,7 +117,8 @@ pub fn graph_ends<L: Ledger>(
     ensures within { IfOk result (λ found. (end : ℕ) → Among end found
         → (place ≤ end) × (end ≤ length view.now.subject.now)) }
     ensures tests { IfOk result (λ _. (t : Nested) → IsGraphOf (length classes.now) graph.now t
-        → steps.new ≤ steps.old + whole_size t * (length view.now.subject.now + 1 - place)) }
+        → steps.new ≤ steps.old
+        + whole_size t * stops_from view.now.options.now.utf view.now.subject.now place) }
 {
     // so what a state takes ends at a place
     places_stand();

@@ -1,11 +1,11 @@
 //! All ends of a graph at one place, by lists of states, one character at a time (pcre2matching, "The
 //! alternative matching algorithm").
-ghost use Rattle.std.specs.Prelude.{◌≡◌, ℕ, ◌+◌, ◌-◌, ◌*◌, ◌<◌, ◌≤◌, ◌++◌, ◌∷◌, List, [], IfOk, length, replicate, false};
+ghost use Rattle.std.specs.Prelude.{◌≡◌, ℕ, ◌+◌, ◌*◌, ◌<◌, ◌≤◌, ◌++◌, ◌∷◌, List, [], IfOk, length, replicate, false};
 ghost use Rattle.match_items.specs.Subjects.{IsText, IsTextPlace};
 ghost use Rattle.match_items.specs.Views.{bare_text, text_scene};
 ghost use Rattle.dfa_ends.specs.Ends.{Among};
 ghost use Rattle.dfa_lists.specs.Graph.{takes, is_match, moves, lands, target, takers, Accepts, AllBelow, IsNodeIn, IsGraph};
-ghost use Rattle.dfa_lists.specs.Lists.{IsClosed, IsTakenAt, kept, waiting_at, elsewhere, landed, Rising};
+ghost use Rattle.dfa_lists.specs.Lists.{IsClosed, IsTakenAt, kept, waiting_at, elsewhere, landed, Rising, stops_from};
 
 use crate::graph::Node;
 use char_sets::ClassTable;
@@ -296,8 +296,8 @@ fn part_lists(lists: &mut Lists, at: usize) -> Result<(), Memory>
     part(&lists.pending, at, &mut lists.seeds, &mut lists.later)
 }
 
-/// The places where a path from a state and a place can end, rising. Each place costs at most one
-/// test of each state that takes something.
+/// The places where a path from a state and a place can end, rising. Each character from the place
+/// on costs at most one test of each state that takes something, and so does the subject's end.
 pub(crate) fn ends_of<L: Ledger>(
     alloc: Global,
     nodes: &[Node],
@@ -318,8 +318,8 @@ pub(crate) fn ends_of<L: Ledger>(
     ensures full { IfOk result (λ found. (end : ℕ)
         → Accepts (text_scene view.now classes.now) nodes.now end entry place → Among end found) }
     ensures rising { IfOk result (λ found. Rising found) }
-    ensures tests { IfOk result (λ _. steps.new
-        ≤ steps.old + takers nodes.now * (length view.now.subject.now + 1 - place)) }
+    ensures tests { IfOk result (λ _. steps.new ≤ steps.old
+        + takers nodes.now * stops_from view.now.options.now.utf view.now.subject.now place) }
 {
     // so what a state takes ends at a place
     places_stand();

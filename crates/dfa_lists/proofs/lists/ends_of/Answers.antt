@@ -10,6 +10,7 @@ use Rattle.dfa_lists.proofs.Running.{
   place_follows,
   none_taken,
   ended,
+  no_more,
 }
 use Rattle.dfa_lists.proofs.lists.ends_of.Goals as goal
 use Rattle.dfa_lists.proofs.lists.ends_of.Goals.{then-not-is_empty+in_ok-take_place, else-not-is_empty}
@@ -65,3 +66,6 @@ pub returns-clause-full : goal.returns-clause-full
 returns-clause-full g c =
     let e : c.places.lists.pending.items ≡ [] = grind (arith, common_steps, c.is_empty.ensures) in
     ended _ _ _ _ _ _ _ _ _ c.places.invariant e
+
+pub returns-clause-tests : goal.returns-clause-tests
+returns-clause-tests g c = no_more _ _ _ c.places.invariant.few
