@@ -139,6 +139,44 @@ fn bytes_held_and_another_input(rt: HostRuntime) -> Result<(), Fail> {
     Ok(())
 }
 
+// Zero bytes, of which so many are left, and how often it was read.
+#[derive(Drop)]
+struct Zeros {
+    left: usize,
+    reads: u32,
+}
+
+impl Source for Zeros {
+    ghost tells = { λ s. record { left = None; stop = None; faults = 0 } };
+
+    fn read(&mut self, buf: &mut [u8]) -> Result<usize, Failed> {
+        let n = buf.len().min(self.left);
+        buf[..n].fill(0);
+        self.left -= n;
+        self.reads = self.reads.saturating_add(1);
+        Ok(n)
+    }
+}
+
+#[test]
+fn the_room_that_was_kept_is_filled_by_one_read(rt: HostRuntime) -> Result<(), Fail> {
+    let mut feed = LineFeed::new(rt.alloc(), EndKind::Lf, 9_000);
+    let mut source = Zeros {
+        left: 9_000,
+        reads: 0,
+    };
+    assert!(rt; gives(&mut feed, &mut source, [0; 9_000].as_slice(), b"", 1, 0));
+    feed.restart(EndKind::Lf, 9_000);
+    let mut source = Zeros {
+        left: 8_000,
+        reads: 0,
+    };
+    assert!(rt; gives(&mut feed, &mut source, [0; 8_000].as_slice(), b"", 1, 0));
+    assert!(rt; ends(&mut feed, &mut source));
+    assert_eq!(rt; source.reads, 2);
+    Ok(())
+}
+
 const TEXT: [u8; 12] = *b"a\r\nb\r\r\nc\n\nd\r";
 
 // The text in up to three pieces, which end at these places.
