@@ -3,6 +3,7 @@ mod NoneTold
 mod Excluded
 mod Steps
 mod TextSteps
+mod PastPlaces
 mod Walk
 mod Leads
 mod PastBegin

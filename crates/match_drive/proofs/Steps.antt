@@ -1,19 +1,17 @@
 -- How a search goes from place to place.
 use Rattle.std.proofs.Common.{inl, inr, ◌≡◌, ℕ, zero, suc, ◌+◌, ◌-◌, ◌<◌, ◌≤◌, ◌⊎◌, Bool, true, false, ◌&&◌, max, List, [], ◌∷◌, length, Option, Some, None, nat_lt, if◌then◌else◌, refl, sym, ap, subst, ◌∙◌, arith}
-use Rattle.std.specs.Prelude.{IfSome, IsSomeAnd, slice_index}
+use Rattle.std.specs.Prelude.{IfSome, IsSomeAnd}
 use Rattle.std.proofs.lemmas.Option.{IfSome_then}
 use Rattle.std.proofs.lemmas.Bool.{and_parts, and_left, and_right, eqb-true, ltb-true, lt-ltb, le-ltb}
 use Rattle.byte_lanes.specs.declared.line_end.EndKind.TheVariants.{CrLf}
 use Rattle.byte_lanes.specs.Newlines.{stands, newline_len}
-use Rattle.pat_check.specs.Known.{IsByteSet}
 use Rattle.ordered_search.specs.PlaceAnswer as place
 use Rattle.ordered_search.specs.PlaceAnswer.{Signal, Exhausted, Prune, Skip, Commit, Walked, answers, place_answer}
-use Rattle.ordered_search.specs.Setting.{Setting, lead_set}
+use Rattle.ordered_search.specs.Setting.{Setting}
 use Rattle.ordered_search.specs.Places.{passes_crlf, next_place, last_place, within, place_after, is_excluded, up_to}
 use Rattle.ordered_search.specs.MatchAnswer.{Found, none_found, failed_at, tried, from_place, match_answer, found_by, found_at}
-use Rattle.match_drive.specs.Rest.{IsByteOutside, behind, found_from, IsLeft, IsPassed, IsTried, IsNextTried}
+use Rattle.match_drive.specs.Rest.{behind, found_from, IsLeft, IsPassed, IsTried, IsNextTried}
 use Rattle.ordered_search.proofs.StartPlaces.{no_stand, crlf_then, up_to_is, up_to_past, up_to_keeps, last_within, start_within, next_inside, next_later, after_later}
-use Rattle.match_drive.proofs.Excluded.{excluded_by_byte}
 
 -- Bytes.
 
@@ -50,7 +48,7 @@ no_earlier : (from : Option ℕ) (p q : ℕ) → IsNoEarlier from p → p ≤ q 
 no_earlier None p q h k = absurd h
 no_earlier (Some n) p q h k = omega arith
 
-behind_later : (g : Setting) (p q : ℕ) → p ≤ q → p ≤ behind g p q
+pub behind_later : (g : Setting) (p q : ℕ) → p ≤ q → p ≤ behind g p q
 behind_later g p q h = by_test (nat_lt p q && passes_crlf g (q - 1))
   where
     by_test : (b : Bool) → p ≤ (elim b [ true ↦ q + 1 | false ↦ q ])
@@ -154,7 +152,7 @@ module _ (g : Setting) (begun : g.start ≤ length g.subject) where
 
   -- Places that fail silently, one after the other.
 
-  behind_none : (p : ℕ) → behind g p p ≡ p
+  pub behind_none : (p : ℕ) → behind g p p ≡ p
   behind_none p = ap (λ b. elim (b && passes_crlf g (p - 1)) [ true ↦ p + 1 | false ↦ p ]) (le-ltb p p (omega arith))
 
   behind_more : (p k : ℕ) → p ≤ k → Some (behind g p (k + 1)) ≡ elim (passes_crlf g k) [ true ↦ Some (k + 2) | false ↦ Some (k + 1) ]
@@ -169,7 +167,7 @@ module _ (g : Setting) (begun : g.start ≤ length g.subject) where
       by_crlf false = refl
 
   -- after a CRLF that is passed whole none stands at its LF
-  passed_once : (k : ℕ) → passes_crlf g k ≡ true → passes_crlf g (k + 1) ≡ false
+  pub passed_once : (k : ℕ) → passes_crlf g k ≡ true → passes_crlf g (k + 1) ≡ false
   passed_once k h =
       let parts = and_parts _ _ (and_parts _ _ h).0 in
       and_left _ _ (and_right _ _ (no_crlf_after g.subject k parts.1))
@@ -231,15 +229,6 @@ module _ (g : Setting) (begun : g.start ≤ length g.subject) where
 
   pub not_passed : (p : ℕ) → p ≤ last_place g → IsPassed g p p
   not_passed p h = record { same = ap (found_from g) (up_to_is (last_place g) p h); later = omega arith }
-
-  pub passed_bytes : g.options.utf ≡ false → (set : List Bool) (p q : ℕ) → g.options.no_start_optimize ≡ false → IsByteSet (Some set) (lead_set g) → p ≤ last_place g → p ≤ q
-      → q ≤ length g.subject → q ≤ last_place g + 1 → ((k : ℕ) → p ≤ k → k < q → IsByteOutside set (slice_index g.subject k)) → IsPassed g p (behind g p q)
-  passed_bytes not_utf set p q on lead low ordered high most all = record {
-    same = passed not_utf p q low ordered high most
-        (λ k a b. excluded_fails k (excluded_by_byte g set k on lead (omega (arith, b, high))
-        (all k a b)));
-    later = behind_later g p q ordered;
-  }
 
   -- the place behind is tried
   pub tried_next : (from : Option ℕ) (p q : ℕ) → found_from g (Some p) ≡ found_from g from → IsNoEarlier from p → IsPassed g p q → q ≤ last_place g → is_excluded g q ≡ false → IsTried g from q

@@ -1,7 +1,6 @@
 -- The places to which a search goes on are places of its subject.
-use Rattle.std.proofs.Common.{◌≡◌, ℕ, ◌≤◌, Bool, true, false, List, length, Option, Some, None, sym, ap, subst, ◌∙◌, inl, inr}
-use Rattle.std.specs.Prelude.{IfSome, IsTrue, nat_le}
-use Rattle.std.proofs.lemmas.Bool.{cases_Bool}
+use Rattle.std.proofs.Common.{◌≡◌, ℕ, ◌≤◌, Bool, true, false, List, length, Option, Some, None, sym, ap, ◌∙◌}
+use Rattle.std.specs.Prelude.{IfSome, nat_le}
 use Rattle.pat_tree.specs.declared.options.Options.{Options}
 use Rattle.match_items.specs.declared.view.Taken.TheVariants.{Took}
 use Rattle.match_items.specs.Subjects.{IsTextPlace}
@@ -12,13 +11,6 @@ module _ (options : Options) (subject : List ℕ) where
   -- outside UTF each place within the subject is one
   pub byte_place : options.utf ≡ false → (p : ℕ) → p ≤ length subject → IsTextPlace options subject p
   byte_place bytes p within = record { within = within; between = λ utf. absurd (let no : true ≡ false = sym utf ∙ bytes in cc) }
-
-  -- a place that in UTF is one that was known, and else lies within the subject
-  pub same_place : (at p : ℕ) → IsTextPlace options subject at → p ≤ length subject → (IsTrue options.utf → p ≡ at) → IsTextPlace options subject p
-  same_place at p known within same = elim (cases_Bool options.utf) [
-    | inl utf ↦ subst (IsTextPlace options subject) (sym (same utf)) known
-    | inr bytes ↦ byte_place bytes p within
-  ]
 
 -- what holds of a place holds of it where it isn't past the last one
 pub up_to_place : (P : ℕ → Type 0) (last : ℕ) (o : Option ℕ) → IfSome o P → IfSome (up_to last o) P

@@ -3,6 +3,7 @@ ghost use Rattle.std.specs.Prelude.{◌≡◌, ◌≤◌, ◌<◌, ◌+◌, ◌&
 ghost use Rattle.std.specs.Option.{option_copied};
 ghost use Rattle.byte_lanes.specs.Newlines.{newline_len};
 ghost use Rattle.byte_lanes.specs.Sets.{has_byte};
+ghost use Rattle.uni_text.specs.Characters as text;
 ghost use Rattle.match_items.specs.Subjects.{IsPlace, IsTextPlace};
 ghost use Rattle.frame_machine.specs.Answer.{signal_of, IsSkip};
 ghost use Rattle.match_drive.specs.Asked.{passed_over};
@@ -164,24 +165,51 @@ fn bytes_end(last: usize, length: usize) -> usize
     if last < length { last + 1 } else { length }
 }
 
+/// Whether a character begins at a byte, as one does outside UTF at each, and in UTF where the byte doesn't continue one
+/// (RFC 3629, section 3).
+fn is_place(bytes: &[u8], at: usize, utf: bool) -> bool
+    requires { at < length bytes.now }
+    ensures place { IsTrue result → text.IsPlace utf bytes.now at }
+    ensures inside { result ≡ false → text.IsPlace utf bytes.now at → ⊥ }
+{
+    !utf || bytes[at] < 0x80 || bytes[at] >= 0xC0
+}
+
+/// The first place from one on, and before another, at which a character begins, or else the other.
+fn place_from(bytes: &[u8], from: usize, to: usize, utf: bool) -> usize
+    requires ordered { from ≤ to }
+    requires within { to ≤ length bytes.now }
+    ensures low { from ≤ result }
+    ensures high { result ≤ to }
+    ensures before { (k : ℕ) → from ≤ k → k < result → text.IsPlace utf bytes.now k → ⊥ }
+    ensures found { result < to → text.IsPlace utf bytes.now result }
+{
+    let mut at = from;
+    'bytes: while at < to && !is_place(bytes, at, utf) {
+        at += 1;
+    }
+    at
+}
+
 /// Goes past places that are excluded, by lanes.
 fn pass<S: Driven>(on: &S, from: usize, last: usize) -> usize
     requires fits { S.fits on.now }
     requires from { from ≤ last }
+    requires place { IsTextPlace (S.asked on.now passed_over).options
+        (S.asked on.now passed_over).subject from }
     requires last { last ≡ places.last_place (S.asked on.now passed_over) }
     ensures passed { IsPassedAlways (S.asked on.now passed_over) from result }
-    ensures alone { IsTrue (S.asked on.now passed_over).options.utf → result ≡ from }
+    ensures place { result ≤ last → IsTextPlace (S.asked on.now passed_over).options
+        (S.asked on.now passed_over).subject result }
 {
     let Some(set) = lead_used(on) else {
         return from;
     };
-    // In UTF the set has bytes that stand inside characters.
-    if on.options().utf {
-        return from;
-    }
     let subject = on.subject();
     let end = bytes_end(last, subject.len());
-    behind(on, from, first_in(subject, from, end, set))
+    let found = first_in(subject, from, end, set);
+    // In UTF the set may have bytes that stand inside characters.
+    behind(on, from, place_from(subject, found, end, on.options().utf))
 }
 
 /// The first place from one on that is tried.

@@ -274,9 +274,87 @@ Failed: error -36: offset is not at a character
 >
 ";
 
+// Start places: characters of two bytes and more stand between them, and newlines.
+const STARTS: &str = "\
+>/\\x{20ac}c/utf
+>\\x{20ad}\\x{20ac}\\x{20ac}c
+ 0: \\x{20ac}c
+>\\x{20ac}\\x{20ad}c
+No match
+>
+>/\\x{e9}/utf
+>\\x{c3}\\x{a9}x\\x{e9}
+ 0: \\x{e9}
+>
+>/[^a]b/utf
+>aaaa\\x{20ac}b
+ 0: \\x{20ac}b
+>aaaab
+No match
+>
+>/[\\x{e9}x]/utf
+>ab\\x{e8}cd\\x{e9}
+ 0: \\x{e9}
+>\\x{e8}\\x{1f600}\\x{20ac}
+No match
+>
+>/x|\\x{20ac}/utf
+>ab\\x{20ad}\\x{20ac}x
+ 0: \\x{20ac}
+>
+>/b/utf,firstline,newline=any
+>\\x{20ac}\\x{2028}b
+No match
+>\\x{20ac}b\\x{2028}
+ 0: b
+>
+>/[^a]/utf,firstline,newline=any
+>aa\\x{2028}b
+ 0: \\x{2028}
+>a\\x{85}
+ 0: \\x{85}
+>
+>/(?m)^b/utf,newline=crlf
+>\\x{20ac}b\\r\\n\\x{e9}\\r\\nb
+ 0: b
+>
+>/\\n?\\x{e9}b/utf,newline=crlf
+>x\\r\\n\\x{e9}c\\r\\n\\x{e9}b
+ 0: \\x{0a}\\x{e9}b
+>
+>/[b\\x{e9}]$/utf,newline=anycrlf
+>\\x{e9}\\x{e9}c\\r\\n
+No match
+>
+>/\\x{1f600}+$/utf
+>\\x{1f601}\\x{1f600}a\\x{1f600}
+ 0: \\x{1f600}
+>
+>/\\x{20ac}\\x{20ad}/utf
+>a\\x{20ac}\\=ps
+Partial match: \\x{20ac}
+>\\x{20ad}a\\x{20ac}\\=ph
+Partial match: \\x{20ac}
+>a\\x{20ac}
+No match
+>
+>/b/utf
+>b\\x{e9}ab\\=offset=3
+ 0: b
+>b\\x{e9}a\\=offset=1
+No match
+>
+>/b/g,utf
+>\\x{e9}b\\x{20ac}bb
+ 0: b
+ 0: b
+ 0: b
+>
+";
+
 #[test]
 fn characters_are_matched_in_utf(rt: HostRuntime) -> Result<(), Fail> {
-    for transcript in [CHARACTERS, ITEMS] {
+    for transcript in [CHARACTERS, ITEMS, STARTS] {
         check_script(&rt, rt.alloc(), transcript)?;
     }
     Ok(())

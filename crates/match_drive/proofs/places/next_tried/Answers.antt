@@ -7,7 +7,7 @@ use Rattle.match_drive.specs.Rest.{found_from}
 use Rattle.match_drive.proofs.Steps.{left_less, none_earlier, step_is, step_later, tried_next, none_next, excluded_next}
 use Rattle.ordered_search.proofs.StartPlaces.{last_within}
 use Rattle.match_drive.proofs.PastBegin.{none_past}
-use Rattle.match_drive.proofs.TextSteps.{same_place, up_to_place}
+use Rattle.match_drive.proofs.TextSteps.{up_to_place}
 use Rattle.match_drive.proofs.places.next_tried.Goals as goal
 
 pub pass-place-requires-clause-from : goal.pass-place-requires-clause-from
@@ -42,21 +42,14 @@ returns-then-not-is_excluded-clause-tried g c reply =
     (rw c.in-Some.is at (c.places.invariant.same reply)) (rw c.in-Some.is at c.places.invariant.later) (c.pass-place.ensures.passed reply)
     (omega (arith, c.requires.last, c.if-place-last.false)) (sym c.is_excluded.ensures ∙ c.if-not-is_excluded.true)
 
+pub pass-place-requires-clause-place : goal.pass-place-requires-clause-place
+pass-place-requires-clause-place g c = rw c.in-Some.is at c.places.invariant.place
+
 pub returns-then-not-is_excluded-clause-place : goal.returns-then-not-is_excluded-clause-place
-returns-then-not-is_excluded-clause-place g c =
-    let x = c.args.on.now in
-    let s = g.S.Driven.asked x passed_over in
-    let high : last_place s ≤ length s.subject = last_within s (g.met.S.Driven.start_is x c.requires.fits).within in
-    same_place s.options s.subject c.in-Some.at c.pass-place.result (rw c.in-Some.is at c.places.invariant.place) (omega (arith, high, c.requires.last, c.if-place-last.false))
-    c.pass-place.ensures.alone
+returns-then-not-is_excluded-clause-place g c = c.pass-place.ensures.place (omega (arith, c.if-place-last.false))
 
 pub next_place-requires-clause-at : goal.next_place-requires-clause-at
-next_place-requires-clause-at g c =
-    let x = c.args.on.now in
-    let s = g.S.Driven.asked x passed_over in
-    let high : last_place s ≤ length s.subject = last_within s (g.met.S.Driven.start_is x c.requires.fits).within in
-    same_place s.options s.subject c.in-Some.at c.pass-place.result (rw c.in-Some.is at c.places.invariant.place) (omega (arith, high, c.requires.last, c.if-place-last.false))
-    c.pass-place.ensures.alone
+next_place-requires-clause-at g c = c.pass-place.ensures.place (omega (arith, c.if-place-last.false))
 
 pub places-smaller : goal.places-smaller
 places-smaller g c =
