@@ -631,9 +631,9 @@ fn needs_as(facts: &Facts, row: &NeedRow) -> bool {
     }
 }
 
-fn tells_need(rt: &impl Abort, alloc: Global, row: &NeedRow) -> Result<(), Fail> {
+fn tells_need(rt: &impl Abort, alloc: Global, options: Options, row: &NeedRow) -> Result<(), Fail> {
     assert!(rt; row.0.len() < 1000);
-    match facts_of(alloc, Options::PLAIN, row.0)? {
+    match facts_of(alloc, options, row.0)? {
         Ok(facts) => assert!(rt; needs_as(&facts, row)),
         Err(_) => assert!(rt; false),
     }
@@ -695,7 +695,29 @@ fn the_rarest_byte_that_every_match_takes_is_told(rt: HostRuntime) -> Result<(),
         (&[B, AheadAnyWay(1), A, Seq(2)], None, 0, 0, 0),
     ];
     for row in &ROWS {
-        tells_need(&rt, rt.alloc(), row)?;
+        tells_need(&rt, rt.alloc(), Options::PLAIN, row)?;
+    }
+    Ok(())
+}
+
+#[test]
+fn in_utf_the_byte_of_an_ascii_character_is_told(rt: HostRuntime) -> Result<(), Fail> {
+    use Step::*;
+    let utf = Options {
+        utf: true,
+        ..Options::PLAIN
+    };
+    // `a`, `(?i)k`, a class, `é+`, a class and `b`, `é|b`
+    static ROWS: [NeedRow; 6] = [
+        (&[A], Some(b"a"), 0, 0, 0),
+        (&[AnyCase(107)], None, 0, 0, 0),
+        (&[Class], None, 0, 0, 0),
+        (&[Chars(233, 1, None)], None, 0, 0, 0),
+        (&[Class, B, Seq(2)], Some(b"b"), 0, 0, 0),
+        (&[Chars(233, 1, None), B, Group(2)], None, 0, 0, 0),
+    ];
+    for row in &ROWS {
+        tells_need(&rt, rt.alloc(), utf, row)?;
     }
     Ok(())
 }

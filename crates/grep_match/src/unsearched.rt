@@ -36,7 +36,7 @@ fn needed_within(codes: &[Code], matching: &MatchOptions, most: u32) -> Option<B
         let Some(more) = code.needed(most, matching) else {
             return None;
         };
-        bytes.add(more);
+        bytes.add(&more);
     }
     Some(bytes)
 }

@@ -57,8 +57,7 @@ pub(crate) fn lacks_need(ready: &Ready<'_>, view: &View<'_>) -> bool
     let Some(need) = &ready.facts.need else {
         return false;
     };
-    // What matches need is told of bytes.
-    if view.options.utf || view.start > 0 || !is_within(need, view) {
+    if view.start > 0 || !is_within(need, view) {
         return false;
     }
     lacks(view.subject, &need.bytes)

@@ -1,14 +1,13 @@
 // Bytes of which every match of a part of a pattern takes one.
-ghost use Rattle.std.specs.Prelude.{◌≡◌, ℕ, ◌+◌, ◌<◌, ◌&&◌, if◌then◌else◌, Bool, false, None, All, List, map, IfOk, IfSome, length};
+ghost use Rattle.std.specs.Prelude.{◌≡◌, ℕ, ◌+◌, ◌<◌, ◌&&◌, if◌then◌else◌, Bool, true, false, None, All, List, map, IfOk, IfSome, length};
 ghost use Rattle.byte_lanes.specs.Sets.{has_byte};
-ghost use Rattle.pat_tree.specs.declared.nodes.Item.TheVariants.{Char};
+ghost use Rattle.char_sets.specs.Sets.{class_has};
 ghost use Rattle.pat_tree.specs.Nested.{Nested, Row, more, trees, nest, row};
 ghost use Rattle.pat_tree.specs.Parts.{TreeParts};
 ghost use Rattle.pat_tree.specs.Rules.{kids_of, classes_of, class_in};
-ghost use Rattle.char_sets.specs.Sets.{class_has};
 ghost use Rattle.char_sets.specs.Table.{IsTableOf};
-ghost use Rattle.match_needs.specs.Needs.{Needs, SomeNeeds};
-ghost use Rattle.match_needs.specs.NeedTables.{IsNeed, IsItemNeed, AreAllNeeds, KeepNeeds, AreNeeds, IsNeedOf};
+ghost use Rattle.match_needs.specs.Needs.{may_take, Needs, SomeNeeds};
+ghost use Rattle.match_needs.specs.NeedTables.{may_of, IsNeed, IsItemNeed, AreAllNeeds, KeepNeeds, AreNeeds, IsNeedOf};
 
 use crate::bounds::{Bound, bound_of_whole};
 use byte_lanes::ByteSet;
@@ -34,15 +33,12 @@ pub(crate) struct Wanted {
 // A set that is more common than this is of no use, since most lines have one of its bytes.
 const COMMON: u32 = 100;
 
-/// The bytes that every match of a pattern needs with the pattern's bound, where both are known; none in UTF. Needs the
-/// table of the tree's own classes.
+/// The bytes that every match of a pattern needs with the pattern's bound, where both are known. Needs the table of the
+/// tree's own classes.
 pub fn need_of(alloc: Global, tree: &Tree, classes: &ClassTable) -> Result<Option<Need>, Memory>
     requires table { IsTableOf tree.now classes.now }
     ensures { IfOk result (λ need. IfSome need (IsNeedOf tree.now)) }
 {
-    if tree.options().utf {
-        return Ok(None);
-    }
     let Some(bound) = bound_of_whole(alloc, tree)? else {
         return Ok(None);
     };
@@ -51,8 +47,8 @@ pub fn need_of(alloc: Global, tree: &Tree, classes: &ClassTable) -> Result<Optio
 }
 
 fn with_bound(need: &Option<Wanted>, bound: Bound) -> Option<Need>
-    ensures bytes { (has : ℕ → ℕ → Bool) → (t : Nested) → IsNeed has t need.now
-        → IfSome result (λ told. Needs has (has_byte told.bytes) t) }
+    ensures bytes { (may : Item → ℕ → Bool) → (t : Nested) → IsNeed may t need.now
+        → IfSome result (λ told. Needs may (has_byte told.bytes) t) }
     ensures bound { IfSome result (λ told. told.bound ≡ bound) }
 {
     match need {
@@ -69,29 +65,35 @@ fn needs_of(alloc: Global, tree: &Tree, classes: &ClassTable) -> Result<Vec<Opti
     requires { IsTableOf tree.now classes.now }
     ensures count { IfOk result (λ needs. length needs.items ≡ tree.now.root + 1) }
     ensures kept { IfOk result (λ needs.
-        KeepNeeds (class_has tree.now) (trees tree.now.nodes) needs.items) }
+        KeepNeeds (may_of tree.now) (trees tree.now.nodes) needs.items) }
 {
+    let utf = tree.options().utf;
     let mut needs = Vec::with_capacity(alloc, tree.root() as usize + 1)?;
     for id in 0..tree.root() as u64 + 1 {
-        let need = node_need(classes, tree.node(id as u32), &needs);
+        let need = node_need(classes, tree.node(id as u32), utf, &needs);
         needs.push(need)?;
     }
     Ok(needs)
 }
 
-/// What is needed of a node, by what is needed of its children.
-fn node_need(classes: &ClassTable, node: &Node, needs: &[Option<Wanted>]) -> Option<Wanted>
+/// What is needed of a node, in UTF or not, by what is needed of its children.
+fn node_need(
+    classes: &ClassTable,
+    node: &Node,
+    utf: bool,
+    needs: &[Option<Wanted>],
+) -> Option<Wanted>
     requires classes { All (λ n. n < length classes.now) (classes_of node.now) }
     requires below { All (λ k. k < length needs.now) (kids_of node.now) }
-    ensures { (tree : TreeParts) → IsTableOf tree classes.now → (trees : List Nested)
-        → KeepNeeds (class_has tree) trees needs.now
-        → IsNeed (class_has tree) (nest trees node.now) result }
+    ensures { (tree : TreeParts) → IsTableOf tree classes.now → tree.options.utf ≡ utf
+        → (trees : List Nested) → KeepNeeds (may_of tree) trees needs.now
+        → IsNeed (may_of tree) (nest trees node.now) result }
 {
     match node {
-        Node::One(item) => item_need(classes, item),
+        Node::One(item) => item_need(classes, item, utf),
         Node::Seq(kids) => rarest(kids.as_slice(), needs),
         Node::Group { branches, .. } => each_of(branches.as_slice(), needs),
-        Node::OneRepeat { item, min, .. } if *min > 0 => item_need(classes, item),
+        Node::OneRepeat { item, min, .. } if *min > 0 => item_need(classes, item, utf),
         Node::Atomic(branches) => each_of(branches.as_slice(), needs),
         Node::Look {
             ahead,
@@ -109,11 +111,35 @@ fn wanted_if(ahead: bool, positive: bool, wanted: Option<Wanted>) -> Option<Want
     if ahead && positive { wanted } else { None }
 }
 
-/// The bytes that a character or a class takes, where they are rare.
-fn item_need(classes: &ClassTable, item: &Item) -> Option<Wanted>
+/// The bytes that begin what an item takes, where they are known and rare.
+fn item_need(classes: &ClassTable, item: &Item, utf: bool) -> Option<Wanted>
+    requires class { All (λ n. n < length classes.now) (class_in item.now) }
+    ensures { (tree : TreeParts) → IsTableOf tree classes.now → tree.options.utf ≡ utf
+        → IfSome result (IsItemNeed (may_of tree) item.now) }
+{
+    if utf {
+        ascii_need(item)
+    } else {
+        byte_need(classes, item)
+    }
+}
+
+/// The byte of an ASCII character in its case alone: in UTF other items take characters past ASCII.
+fn ascii_need(item: &Item) -> Option<Wanted>
+    ensures { (classes : ℕ → ℕ → Bool)
+        → IfSome result (IsItemNeed (may_take true classes) item.now) }
+{
+    match item {
+        Item::Char { c, caseless: false } if *c < 128 => one_byte(*c),
+        _ => None,
+    }
+}
+
+/// The bytes that a character or a class takes outside UTF, where they are rare.
+fn byte_need(classes: &ClassTable, item: &Item) -> Option<Wanted>
     requires class { All (λ n. n < length classes.now) (class_in item.now) }
     ensures { (tree : TreeParts) → IsTableOf tree classes.now
-        → IfSome result (IsItemNeed (class_has tree) item.now) }
+        → IfSome result (IsItemNeed (may_take false (class_has tree)) item.now) }
 {
     match item {
         Item::Char { c, caseless: false } => one_byte(*c),
@@ -125,7 +151,7 @@ fn item_need(classes: &ClassTable, item: &Item) -> Option<Wanted>
 
 /// A character that is a byte, in its case alone.
 fn one_byte(c: u32) -> Option<Wanted>
-    ensures { (classes : ℕ → ℕ → Bool) → IfSome result (IsItemNeed classes (Char c false)) }
+    ensures { IfSome result (λ w. has_byte w.bytes c ≡ true) }
 {
     if c >= 256 {
         return None;
@@ -182,8 +208,8 @@ fn weighed(need: &Option<Wanted>) -> u32 {
 /// Of what is needed of these parts the rarest.
 fn rarest(parts: &[NodeId], needs: &[Option<Wanted>]) -> Option<Wanted>
     requires { All (λ k. k < length needs.now) parts.now }
-    ensures { (has : ℕ → ℕ → Bool) → (of : ℕ → Nested) → AreNeeds has of needs.now parts.now
-        → IfSome result (λ w. SomeNeeds has (has_byte w.bytes) (row (map of parts.now))) }
+    ensures { (may : Item → ℕ → Bool) → (of : ℕ → Nested) → AreNeeds may of needs.now parts.now
+        → IfSome result (λ w. SomeNeeds may (has_byte w.bytes) (row (map of parts.now))) }
 {
     let mut least = u32::MAX;
     let mut best = None;
@@ -201,7 +227,7 @@ fn rarest(parts: &[NodeId], needs: &[Option<Wanted>]) -> Option<Wanted>
 }
 
 fn copy_of(need: &Option<Wanted>) -> Option<Wanted>
-    ensures { (has : ℕ → ℕ → Bool) → (t : Nested) → IsNeed has t need.now → IsNeed has t result }
+    ensures { (may : Item → ℕ → Bool) → (t : Nested) → IsNeed may t need.now → IsNeed may t result }
 {
     match need {
         Some(wanted) => Some(Wanted {
@@ -215,8 +241,8 @@ fn copy_of(need: &Option<Wanted>) -> Option<Wanted>
 /// A byte that one of these branches needs, whichever it is.
 fn each_of(branches: &[NodeId], needs: &[Option<Wanted>]) -> Option<Wanted>
     requires { All (λ k. k < length needs.now) branches.now }
-    ensures { (has : ℕ → ℕ → Bool) → (of : ℕ → Nested) → AreNeeds has of needs.now branches.now
-        → AreAllNeeds has (row (map of branches.now)) result }
+    ensures { (may : Item → ℕ → Bool) → (of : ℕ → Nested) → AreNeeds may of needs.now branches.now
+        → AreAllNeeds may (row (map of branches.now)) result }
 {
     let mut whole = Some(Wanted {
         bytes: ByteSet::empty(),
@@ -232,8 +258,8 @@ fn each_of(branches: &[NodeId], needs: &[Option<Wanted>]) -> Option<Wanted>
 
 /// What a branch needs or the others, where the bytes are still rare together.
 fn joined(one: &Option<Wanted>, others: Option<Wanted>) -> Option<Wanted>
-    ensures { (has : ℕ → ℕ → Bool) → (t : Nested) (ts : Row) → IsNeed has t one.now
-        → AreAllNeeds has ts others → AreAllNeeds has (more t ts) result }
+    ensures { (may : Item → ℕ → Bool) → (t : Nested) (ts : Row) → IsNeed may t one.now
+        → AreAllNeeds may ts others → AreAllNeeds may (more t ts) result }
 {
     let Some(one) = one else {
         return None;

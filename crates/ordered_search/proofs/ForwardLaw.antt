@@ -56,7 +56,7 @@ module _ (g : Setting) (search : IsBuiltSearch g) where
   plain_walk low p zero (step ▸ x) le h = (tt, tt)
   plain_walk low p (suc n) (step ▸ x) le h = plain_walk low p n x le h
 
-  begun_at : (p : ℕ) → IsTextPlace g.options g.subject p → IsOnWay g (Some p) (first_state g.groups p)
+  pub begun_at : (p : ℕ) → IsTextPlace g.options g.subject p → IsOnWay g (Some p) (first_state g.groups p)
   begun_at p here = record {
     kept = (omega arith, omega arith);
     here = here;

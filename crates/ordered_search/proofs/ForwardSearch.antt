@@ -358,7 +358,7 @@ module _ (g : Setting) (text : IsText g.options g.subject) (off : g.matching.«p
     mutual
       unfolding level
 
-      forward_level : (low : Option ℕ) (t : Nested) → IsBuilt t → IsForward g low (level g below t)
+      pub forward_level : (low : Option ℕ) (t : Nested) → IsBuilt t → IsForward g low (level g below t)
       forward_level low tree.empty built s on = forward_gives g low s.place s (omega arith) on
       forward_level low (tree.one item) built s on = forward_one g low text off item s on
       forward_level low tree.line_break built s on = forward_break g low text off s on

@@ -23,4 +23,5 @@ pub mod TameStreams
 pub mod Growing
 pub mod Bounded
 pub mod SilentStreams
+pub mod BoundForms
 pub mod Needed

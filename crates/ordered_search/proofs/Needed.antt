@@ -1,15 +1,21 @@
 -- Where no byte stands that every match needs, there is no match, and within the bound no limit is passed.
-use Rattle.std.proofs.Common.{◌≡◌, ℕ, zero, suc, ◌+◌, ◌-◌, ◌<◌, ◌≤◌, Bool, true, false, List, [], ◌∷◌, ◌++◌, length, drop, reverse, Option, Some, None, inl, inr, refl, sym, ap, subst, ◌∙◌, arith}
-use Rattle.std.specs.Prelude.{nat_le, ◌==◌, slice_index, option_map}
-use Rattle.std.proofs.lemmas.Bool.{leb-true, leb-false}
-use Rattle.uni_text.specs.Characters.{char_at}
+use Rattle.std.proofs.Common.{◌≡◌, ℕ, zero, suc, ◌+◌, ◌-◌, ◌<◌, ◌≤◌, Bool, true, false, List, [], ◌∷◌, ◌++◌, length, drop, drop-cons, take-append-drop, get_or, reverse, Option, Some, None, inl, inr, refl, sym, ap, subst, ◌∙◌, arith}
+use Rattle.std.specs.Prelude.{IfSome, IsTrue, nat_le, ◌==◌, ◌&&◌, slice_index, option_map}
+use Rattle.std.specs.Char.{len_utf8}
+use Rattle.std.proofs.Math.Utf8.{encode}
+use Rattle.std.proofs.lemmas.Bool.{cases_lt, eqb-true, eq-eqb, le-leb, leb-true, leb-false, or_left, or_right}
+use Rattle.std.proofs.lemmas.Str.{byte_from_char}
+use Rattle.uni_text.specs.Characters.{first_char, char_at}
 use Rattle.uni_text.specs.Ascii.{ascii_fold}
 use Rattle.pat_tree.specs.declared.options.PartialMode.TheVariants.{Off}
 use Rattle.pat_tree.specs.declared.nodes.Item.{Item}
 use Rattle.pat_tree.specs.declared.nodes.Item.TheVariants.{Char, AnyAll, NotNewline, Class}
+use Rattle.pat_tree.specs.Built.{IsBuilt}
 use Rattle.pat_tree.specs.Nested as tree
 use Rattle.pat_tree.specs.Nested.{Nested, Row}
 use Rattle.match_items.specs.Items.{is_end, takes, after_item, one_less, is_none_left, run_places, longest_run}
+use Rattle.match_items.specs.Subjects.{IsText, IsTextPlace}
+use Rattle.match_items.proofs.TextGround.{next_place as goes_to_place}
 use Rattle.match_needs.specs.declared.bounds.Bound.{Bound}
 use Rattle.match_needs.specs.Bounds.{at, followed, or_later, closed, grouped, both, change, offered, turns, once, bound, bound_in_turn, bound_of_one, bound_of_choices}
 use Rattle.match_needs.specs.Needs.{may_take, TakesOf, Needs, SomeNeeds, AllNeed}
@@ -20,53 +26,93 @@ use Rattle.ordered_search.specs.Parts.{Searches, in_order, choices, branches, ru
 use Rattle.ordered_search.specs.Run.{level, levels, run}
 use Rattle.ordered_search.specs.Laws.{step_count}
 use Rattle.ordered_search.specs.PlaceAnswer.{Signal, Exhausted, Failed, Walked, answers, walk, place_answer}
-use Rattle.ordered_search.specs.Places.{is_excluded, place_after}
+use Rattle.ordered_search.specs.Forward.{IsBuiltSearch}
+use Rattle.ordered_search.specs.Places.{next_place, last_place, within, is_excluded, place_after}
 use Rattle.ordered_search.specs.MatchAnswer.{Found, none_found, tried, found_at, from_place, match_answer}
 use Rattle.ordered_search.specs.Needed.{IsWithoutNeed, NeedLaw}
 use Rattle.ordered_search.proofs.TameStreams.{state_count, Tame, Within}
-use Rattle.ordered_search.proofs.SilentStreams.{Silent, silent_nothing, silent_halt, silent_step, silent_if, silent_or_else, silent_before, silent_behind, silent_decide, silent_catch}
+use Rattle.ordered_search.proofs.SilentStreams.{Silent, silent_nothing, silent_halt, silent_step, silent_if, silent_or_else, silent_before, silent_decide, silent_catch}
+use Rattle.ordered_search.proofs.StartPlaces.{next_stands, up_to_keeps}
+use Rattle.ordered_search.proofs.ForwardStreams.{IsOnWay, Forward, IsForward, with_units, loosened}
+use Rattle.ordered_search.proofs.ForwardSearch.{forward_level, forward_run}
+use Rattle.ordered_search.proofs.ForwardLaw.{begun_at}
+use Rattle.ordered_search.proofs.BoundForms.{Where, built_where}
 use Rattle.ordered_search.proofs.Bounded.{FitsSome, size, unreached, fits_level}
 
-module _ (g : Setting) (has : ℕ → Bool) (off : g.matching.«partial» ≡ Off) (no_utf : g.options.utf ≡ false)
+module _ (g : Setting) (has : ℕ → Bool) (off : g.matching.«partial» ≡ Off) (text : IsTrue g.options.utf → IsText g.options g.subject)
     (missing : (k : ℕ) → k < length g.subject → (slice_index g.subject k < 256) × (has (slice_index g.subject k) ≡ false)) where
   -- No item takes anything all of whose bytes are in the set.
 
   clash : (b : Bool) → b ≡ true → b ≡ false → ⊥
   clash b h k = cc
 
-  -- what an item takes, it may take
-  takes_may : (item : Item) (p b : ℕ) → takes g.scene item p b ≡ true → may_take g.class_has item b ≡ true
-  takes_may (Char c true) p b h = rw no_utf at h
-  takes_may (Char c false) p b h = h
-  takes_may AnyAll p b h = refl
-  takes_may NotNewline p b h = refl
-  takes_may (Class n) p b h = h
+  abbrev may : Item → ℕ → Bool
+  may = may_take g.options.utf g.class_has
 
-  none_taken : (item : Item) → TakesOf g.class_has has item → (p : ℕ) → after_item g.scene item p ≡ None
-  none_taken item h p = by_end (is_end g.scene p) refl
+  -- in UTF a character begins there
+  abbrev Here : ℕ → Type 0
+  Here p = IsTrue g.options.utf → IsTextPlace g.options g.subject p
+
+  -- outside UTF an item may take what it takes
+  takes_may : (item : Item) (p b : ℕ) → g.options.utf ≡ false → takes g.scene item p b ≡ true → may item b ≡ true
+  takes_may (Char c true) p b no_utf h = or_right g.options.utf (ascii_fold c == ascii_fold b) (rw no_utf at h)
+  takes_may (Char c false) p b no_utf h = or_right (g.options.utf && nat_le 128 c) (c == b) h
+  takes_may AnyAll p b no_utf h = refl
+  takes_may NotNewline p b no_utf h = refl
+  takes_may (Class n) p b no_utf h = or_right g.options.utf (g.class_has n b) h
+
+  -- an ASCII character is its byte
+  byte_here : (p c : ℕ) → IsTrue g.options.utf → IsTextPlace g.options g.subject p → p < length g.subject → c < 128 → first_char (drop p g.subject) ≡ c → slice_index g.subject p ≡ c
+  byte_here p c utf here inside small first =
+      let span = (goes_to_place true g.subject p (λ _. (text utf).checked utf) (here.within, λ _. here.between utf) inside).1 in
+      let n = len_utf8 (first_char (drop p g.subject)) in
+      let split : drop p g.subject ≡ encode (first_char (drop p g.subject)) ++ drop ((p + n) - p) (drop p g.subject) =
+      sym (take-append-drop ((p + n) - p) (drop p g.subject)) ∙ ap (λ (xs : List ℕ). xs ++ drop ((p + n) - p) (drop p g.subject)) span.stands in
+      let low : first_char (drop p g.subject) < 128 = omega (arith, first, small) in
+      ap (λ (xs : List ℕ). get_or xs 0 0) (sym (drop-cons g.subject p 0 inside))
+      ∙ byte_from_char (drop p g.subject) _ (first_char (drop p g.subject)) split low ∙ first
+
+  -- in UTF it may begin with the byte that stands there
+  takes_begun : (item : Item) (p : ℕ) → IsTrue g.options.utf → IsTextPlace g.options g.subject p → p < length g.subject
+      → takes g.scene item p (first_char (drop p g.subject)) ≡ true → may item (slice_index g.subject p) ≡ true
+  takes_begun (Char c true) p utf here inside h = or_left g.options.utf _ utf
+  takes_begun (Char c false) p utf here inside h = elim (cases_lt c 128) [
+    | inl small ↦ or_right (g.options.utf && nat_le 128 c) (c == slice_index g.subject p)
+        (eq-eqb c (slice_index g.subject p) (sym (byte_here p c utf here inside small (sym (eqb-true c (first_char (drop p g.subject)) h)))))
+    | inr past ↦ or_left (g.options.utf && nat_le 128 c) (c == slice_index g.subject p) (ap (λ b. b && nat_le 128 c) utf ∙ le-leb 128 c (omega (arith, past)))
+  ]
+  takes_begun AnyAll p utf here inside h = refl
+  takes_begun NotNewline p utf here inside h = refl
+  takes_begun (Class n) p utf here inside h = or_left g.options.utf _ utf
+
+  none_taken : (item : Item) → TakesOf may has item → (p : ℕ) → Here p → after_item g.scene item p ≡ None
+  none_taken item h p here = by_char (is_end g.scene p) refl g.options.utf refl
     where
-      by_taken : p < length g.subject → (b : Bool) → takes g.scene item p (slice_index g.subject p) ≡ b → ◌≡◌ {A = Option ℕ} (elim b [ true ↦ Some (p + 1) | false ↦ None ]) None
-      by_taken inside true e =
+      by_taken : p < length g.subject → (c q : ℕ) → (takes g.scene item p c ≡ true → may item (slice_index g.subject p) ≡ true)
+          → (b : Bool) → takes g.scene item p c ≡ b → ◌≡◌ {A = Option ℕ} (elim b [ true ↦ Some q | false ↦ None ]) None
+      by_taken inside c q may_it true e =
           let m = missing p inside in
-          absurd (clash (has (slice_index g.subject p)) (h (slice_index g.subject p) m.0 (takes_may item p (slice_index g.subject p) e)) m.1)
-      by_taken inside false e = refl
+          absurd (clash (has (slice_index g.subject p)) (h (slice_index g.subject p) m.0 (may_it e)) m.1)
+      by_taken inside c q may_it false e = refl
 
-      by_char : (e : Bool) → is_end g.scene p ≡ e → (utf : Bool) → utf ≡ false →
+      by_char : (e : Bool) → is_end g.scene p ≡ e → (utf : Bool) → g.options.utf ≡ utf →
           ◌≡◌ {A = Option ℕ} (elim (elim e as (λ _. Option (ℕ × ℕ)) [ true ↦ None | false ↦ Some (char_at utf g.subject p) ]) [
             | None ↦ None
             | Some c ↦ elim (takes g.scene item p c.0) [ true ↦ Some c.1 | false ↦ None ]
           ]) None
       by_char true is utf e = refl
-      by_char false is true e = absurd cc
-      by_char false is false e = by_taken (leb-false (length g.subject) p is) (takes g.scene item p (slice_index g.subject p)) refl
+      by_char false is true e =
+          let inside : p < length g.subject = leb-false (length g.subject) p is in
+          let c = first_char (drop p g.subject) in
+          by_taken inside c (p + len_utf8 c) (takes_begun item p e (here e) inside) (takes g.scene item p c) refl
+      by_char false is false e =
+          let c = slice_index g.subject p in
+          by_taken (leb-false (length g.subject) p is) c (p + 1) (takes_may item p c e) (takes g.scene item p c) refl
 
-      by_end : (e : Bool) → is_end g.scene p ≡ e → after_item g.scene item p ≡ None
-      by_end e is = by_char (is_end g.scene p) refl g.options.utf no_utf
-
-  none_run : (item : Item) → TakesOf g.class_has has item → (n : ℕ) (most : Option ℕ) (p : ℕ) → run_places g.scene item n most p ≡ []
+  none_run : (item : Item) → TakesOf may has item → (n : ℕ) (most : Option ℕ) (p : ℕ) → Here p → run_places g.scene item n most p ≡ []
   unfolding run_places
-  none_run item h zero most p = refl
-  none_run item h (suc n) most p = by_left (is_none_left most)
+  none_run item h zero most p here = refl
+  none_run item h (suc n) most p here = by_left (is_none_left most)
     where
       by_next : (o : Option ℕ) → o ≡ None → ◌≡◌ {A = List ℕ} (elim o [ None ↦ [] | Some q ↦ q ∷ run_places g.scene item n (one_less most) q ]) []
       by_next None e = refl
@@ -77,12 +123,19 @@ module _ (g : Setting) (has : ℕ → Bool) (off : g.matching.«partial» ≡ Of
         | false ↦ elim (after_item g.scene item p) [ None ↦ [] | Some q ↦ q ∷ run_places g.scene item n (one_less most) q ]
       ]) []
       by_left true = refl
-      by_left false = by_next (after_item g.scene item p) (none_taken item h p)
+      by_left false = by_next (after_item g.scene item p) (none_taken item h p here)
 
   -- Searches without a state.
 
+  -- in UTF it stands where a character begins
+  abbrev OnWay : State → Type 0
+  OnWay s = IsTrue g.options.utf → IsOnWay g None s
+
+  with_more : (s : State) (n : ℕ) → OnWay s → OnWay (record s { units = n })
+  with_more s n on = λ utf. with_units g None s n (on utf)
+
   abbrev SilentIn : Bound → Search → Type 0
-  SilentIn b f = (s : State) → s.units + b.units ≤ g.matching.frame_limit → Silent (f s)
+  SilentIn b f = (s : State) → OnWay s → s.units + b.units ≤ g.matching.frame_limit → Silent (f s)
 
   abbrev SilentSome : Option Bound → Search → Type 0
   SilentSome None f = Unit {0}
@@ -100,9 +153,10 @@ module _ (g : Setting) (has : ℕ → Bool) (off : g.matching.«partial» ≡ Of
       by_room true e = h (leb-true (s.units + n) g.matching.frame_limit e)
       by_room false e = silent_halt _
 
-  silent_one : (item : Item) → TakesOf g.class_has has item → (s : State) → Silent (run_one g item s)
+  silent_one : (item : Item) → TakesOf may has item → (s : State) → OnWay s → Silent (run_one g item s)
   unfolding run_one
-  silent_one item h s = silent_reach _ s _ (subst (λ o. Silent (goes_to o s)) (sym (none_taken item h s.place)) silent_nothing)
+  silent_one item h s on =
+      silent_reach _ s _ (subst (λ o. Silent (goes_to o s)) (sym (none_taken item h s.place (λ utf. (on utf).here))) silent_nothing)
 
   silent_offers : (n : ℕ) (s : State) → Silent (offers g (reverse (drop n [])) s)
   unfolding offers
@@ -114,66 +168,90 @@ module _ (g : Setting) (has : ℕ → Bool) (off : g.matching.«partial» ≡ Of
   silent_reluctant item left zero s = silent_nothing
   silent_reluctant item left (suc n) s = silent_nothing
 
-  silent_many : (item : Item) (low : ℕ) (high : Option ℕ) (lazily : Bool) → 0 < low → TakesOf g.class_has has item → (s : State) → Silent (run_many g item low high lazily s)
+  silent_many : (item : Item) (low : ℕ) (high : Option ℕ) (lazily : Bool) → 0 < low → TakesOf may has item → (s : State) → OnWay s → Silent (run_many g item low high lazily s)
   unfolding run_many greedy lazy_run offers reluctant
-  silent_many item zero high lazily some h s = absurd (omega (arith, some))
-  silent_many item (suc low) high false some h s =
-      silent_reach _ s _ (subst (λ (ps : List ℕ). Silent (offers g (reverse (drop (suc low) (s.place ∷ ps))) s)) (sym (none_run item h (length g.subject) high s.place)) (silent_offers low s))
-  silent_many item (suc low) high true some h s =
-      silent_reach _ s _ (subst (λ (ps : List ℕ). Silent (reluctant g item (option_map (λ k. k - suc low) high) (drop (suc low) (s.place ∷ ps)) s)) (sym (none_run item h (length g.subject) high s.place)) (silent_reluctant item (option_map (λ k. k - suc low) high) low s))
+  silent_many item zero high lazily some h s on = absurd (omega (arith, some))
+  silent_many item (suc low) high false some h s on =
+      silent_reach _ s _ (subst (λ (ps : List ℕ). Silent (offers g (reverse (drop (suc low) (s.place ∷ ps))) s)) (sym (none_run item h (length g.subject) high s.place (λ utf. (on utf).here))) (silent_offers low s))
+  silent_many item (suc low) high true some h s on =
+      silent_reach _ s _ (subst (λ (ps : List ℕ). Silent (reluctant g item (option_map (λ k. k - suc low) high) (drop (suc low) (s.place ∷ ps)) s)) (sym (none_run item h (length g.subject) high s.place (λ utf. (on utf).here))) (silent_reluctant item (option_map (λ k. k - suc low) high) low s))
 
   -- a part needs it, or one behind it
   silent_first : (x y : Option Bound) (f : Search) (fs : List Search) → SilentSome x f → SilentSome (both followed x y) (in_order (f ∷ fs))
   unfolding in_order
   silent_first None y f fs h = tt
   silent_first (Some a) None f fs h = tt
-  silent_first (Some a) (Some b) f fs h = λ s le. silent_before (f s) (go_on (in_order fs)) (h s (omega (arith, le)))
+  silent_first (Some a) (Some b) f fs h = λ s on le. silent_before (f s) (go_on (in_order fs)) (h s on (omega (arith, le)))
 
-  silent_later : (x y : Option Bound) (f : Search) (fs : List Search) → FitsSome g off x f → SilentSome y (in_order fs) → SilentSome (both followed x y) (in_order (f ∷ fs))
+  -- its states stand where characters begin
+  abbrev Forwards : Option Bound → Search → Type 0
+  Forwards None f = Unit {0}
+  Forwards (Some b) f = IsTrue g.options.utf → IsForward g None f
+
+  silent_on_way : (u p : ℕ) (x : Stream) (f : How → Search) → Tame u x → (IsTrue g.options.utf → Forward g None p x)
+      → ((s : State) → OnWay s → s.units ≤ u → Silent (f reached s)) → Silent (each x f)
+  unfolding state_count each Tame Forward
+  silent_on_way u p (ends e) f h forth k = refl
+  silent_on_way u p (note m ▸ x) f h forth k = absurd h
+  silent_on_way u p (state reached s ▸ x) f h forth k =
+      silent_or_else (f reached s) (each x f) (k s (λ utf. (forth utf).1) h.0) (silent_on_way u p x f h.1 (λ utf. (forth utf).2) k)
+  silent_on_way u p (state accepted s ▸ x) f h forth k = absurd h
+  silent_on_way u p (step ▸ x) f h forth k = silent_on_way u p x f h forth k
+
+  silent_later : (x y : Option Bound) (f : Search) (fs : List Search) → FitsSome g off x f → Forwards x f → SilentSome y (in_order fs)
+      → SilentSome (both followed x y) (in_order (f ∷ fs))
   unfolding in_order
-  silent_later None y f fs h k = tt
-  silent_later (Some a) None f fs h k = tt
-  silent_later (Some a) (Some b) f fs h k = λ s le.
-      silent_behind (s.units + a.units) (f s) (go_on (in_order fs)) (h s (omega (arith, le))).tame (λ t few. k t (omega (arith, few, le)))
+  silent_later None y f fs h forth k = tt
+  silent_later (Some a) None f fs h forth k = tt
+  silent_later (Some a) (Some b) f fs h forth k = λ s on le.
+      silent_on_way (s.units + a.units) s.place (f s) (go_on (in_order fs)) (h s (omega (arith, le))).tame (λ utf. forth utf s (on utf))
+      (λ t there few. k t there (omega (arith, few, le)))
 
   silent_or : (x y : Option Bound) (f : Search) (fs : List Search) → SilentSome x f → SilentSome y (choices g fs) → SilentSome (both or_later x y) (choices g (f ∷ fs))
   unfolding choices
   silent_or None y f fs h k = tt
   silent_or (Some a) None f fs h k = tt
-  silent_or (Some a) (Some b) f [] h k = λ s le. silent_step _ (silent_catch is_next_branch (f s) (h s (omega (arith, le))))
-  silent_or (Some a) (Some b) f (f' ∷ fs) h k = λ s le.
+  silent_or (Some a) (Some b) f [] h k = λ s on le. silent_step _ (silent_catch is_next_branch (f s) (h s on (omega (arith, le))))
+  silent_or (Some a) (Some b) f (f' ∷ fs) h k = λ s on le.
       silent_step _ (silent_or_else _ _
-      (silent_held 1 s _ (λ room. silent_catch is_next_branch _ (h _ (omega (arith, le)))))
-      (k s (omega (arith, le))))
+      (silent_held 1 s _ (λ room. silent_catch is_next_branch _ (h _ (with_more s (s.units + 1) on) (omega (arith, le)))))
+      (k s on (omega (arith, le))))
 
   silent_group : (number : Option ℕ) (x : Option Bound) (f : Search) → SilentSome x f → SilentSome (change (grouped number) x) (run_group g number f)
   unfolding run_group
   silent_group number None f h = tt
-  silent_group None (Some a) f h = λ s le. h s le
-  silent_group (Some n) (Some a) f h = λ s le. silent_held 1 s _ (λ room. silent_before _ _ (h _ (omega (arith, le))))
+  silent_group None (Some a) f h = λ s on le. h s on le
+  silent_group (Some n) (Some a) f h = λ s on le. silent_held 1 s _ (λ room. silent_before _ _ (h _ (with_more s (s.units + 1) on) (omega (arith, le))))
 
   silent_atomic : (x : Option Bound) (f : Search) → SilentSome x f → SilentSome (change closed x) (run_atomic g f)
   unfolding run_atomic
   silent_atomic None f h = tt
-  silent_atomic (Some a) f h = λ s le. silent_held 1 s _ (λ room. silent_decide no_ending _ _ nothing (h _ (omega (arith, le))) silent_nothing)
+  silent_atomic (Some a) f h = λ s on le. silent_held 1 s _ (λ room. silent_decide no_ending _ _ nothing (h _ (with_more s (s.units + 1) on) (omega (arith, le))) silent_nothing)
 
   silent_look : (x : Option Bound) (f : Search) → SilentSome x f → SilentSome (change closed x) (run_look g true true f)
   unfolding run_look
   silent_look None f h = tt
-  silent_look (Some a) f h = λ s le. silent_held 1 s _ (λ room. silent_decide fails_alone _ _ nothing (h _ (omega (arith, le))) silent_nothing)
+  silent_look (Some a) f h = λ s on le. silent_held 1 s _ (λ room. silent_decide fails_alone _ _ nothing (h _ (with_more s (s.units + 1) on) (omega (arith, le))) silent_nothing)
 
-  module _ (below : Searches) where
+  module _ (below : Searches) (whole_built : IsBuilt g.whole) (deeper : IsTrue g.options.utf → (low : Option ℕ) (t : Nested) → IsBuilt t → IsForward g low (below t)) where
+    forwards : (t : Nested) → Forwards (bound t) (level g below t)
+    forwards t = by_bound (bound t) (built_where t)
+      where
+        by_bound : (x : Option Bound) → Where x (IsBuilt t) → Forwards x (level g below t)
+        by_bound None built = tt
+        by_bound (Some b) built = λ utf. forward_level g (text utf) off whole_built below (deeper utf) None t built
+
     mutual
       unfolding bound level in_order branches choices
 
-      silent_level : (t : Nested) → Needs g.class_has has t → SilentSome (bound t) (level g below t)
+      silent_level : (t : Nested) → Needs may has t → SilentSome (bound t) (level g below t)
       silent_level tree.empty h = absurd h
-      silent_level (tree.one item) h = λ s le. silent_one item h s
+      silent_level (tree.one item) h = λ s on le. silent_one item h s on
       silent_level tree.line_break h = absurd h
       silent_level (tree.seq ts) h = silent_turn ts h
       silent_level (tree.group number ts) h = silent_group number (bound_of_one ts) (branches g (levels g below ts)) (silent_branches ts h)
       silent_level (tree.repeat body low high lazily) h = tt
-      silent_level (tree.one_repeat item low high lazily) h = λ s le. silent_many item low high lazily h.0 h.1 s
+      silent_level (tree.one_repeat item low high lazily) h = λ s on le. silent_many item low high lazily h.0 h.1 s on
       silent_level (tree.atomic ts) h = silent_atomic (bound_of_one ts) (branches g (levels g below ts)) (silent_branches ts h)
       silent_level (tree.look true true true ts) h = silent_look (bound_of_one ts) (branches g (levels g below ts)) (silent_branches ts h)
       silent_level (tree.look true false true ts) h = absurd h
@@ -187,21 +265,21 @@ module _ (g : Setting) (has : ℕ → Bool) (off : g.matching.«partial» ≡ Of
       silent_level (tree.verb v) h = tt
       silent_level (tree.callout c) h = tt
 
-      silent_turn : (ts : Row) → SomeNeeds g.class_has has ts → SilentSome (bound_in_turn ts) (in_order (levels g below ts))
+      silent_turn : (ts : Row) → SomeNeeds may has ts → SilentSome (bound_in_turn ts) (in_order (levels g below ts))
       silent_turn tree.none h = absurd h
       silent_turn (tree.more t ts) (inl h) = silent_first (bound t) (bound_in_turn ts) (level g below t) (levels g below ts) (silent_level t h)
       silent_turn (tree.more t ts) (inr h) =
-          silent_later (bound t) (bound_in_turn ts) (level g below t) (levels g below ts) (fits_level g off below t) (silent_turn ts h)
+          silent_later (bound t) (bound_in_turn ts) (level g below t) (levels g below ts) (fits_level g off below t) (forwards t) (silent_turn ts h)
 
-      silent_branches : (ts : Row) → AllNeed g.class_has has ts → SilentSome (bound_of_one ts) (branches g (levels g below ts))
-      silent_branches tree.none h = λ s le. silent_nothing
+      silent_branches : (ts : Row) → AllNeed may has ts → SilentSome (bound_of_one ts) (branches g (levels g below ts))
+      silent_branches tree.none h = λ s on le. silent_nothing
       silent_branches (tree.more t tree.none) h = silent_level t h.0
       silent_branches (tree.more t (tree.more u ts)) h =
           silent_or (bound t) (both or_later (bound u) (bound_of_choices ts)) (level g below t) (level g below u ∷ levels g below ts) (silent_level t h.0)
           (silent_or (bound u) (bound_of_choices ts) (level g below u) (levels g below ts) (silent_level u h.1.0) (silent_choices ts h.1.1))
 
-      silent_choices : (ts : Row) → AllNeed g.class_has has ts → SilentSome (bound_of_choices ts) (choices g (levels g below ts))
-      silent_choices tree.none h = λ s le. silent_nothing
+      silent_choices : (ts : Row) → AllNeed may has ts → SilentSome (bound_of_choices ts) (choices g (levels g below ts))
+      silent_choices tree.none h = λ s on le. silent_nothing
       silent_choices (tree.more t ts) h = silent_or (bound t) (bound_of_choices ts) (level g below t) (levels g below ts) (silent_level t h.0) (silent_choices ts h.1)
 
   -- All start places.
@@ -216,35 +294,56 @@ module _ (g : Setting) (has : ℕ → Bool) (off : g.matching.«partial» ≡ Of
   walk_fails zero u (step ▸ x) few h k = absurd (omega (arith, few))
   walk_fails (suc n) u (step ▸ x) few h k = walk_fails n u x (omega (arith, few)) h k
 
-  module _ (b : Bound) (needs : Needs g.class_has has g.whole) (bounded : bound g.whole ≡ Some b)
-      (steps : at b.steps (length g.subject + 1) ≤ match_limit g) (units : b.units ≤ g.matching.frame_limit) where
-    place_fails : (p : ℕ) → place_answer g p ≡ answers (Failed Exhausted)
+  module _ (b : Bound) (needs : Needs may has g.whole) (bounded : bound g.whole ≡ Some b)
+      (steps : at b.steps (length g.subject + 1) ≤ match_limit g) (units : b.units ≤ g.matching.frame_limit)
+      (begun : IsTrue g.options.utf → IsTextPlace g.options g.subject g.start) where
+    built : IsBuilt g.whole
+    built = subst (λ o. Where o (IsBuilt g.whole)) bounded (built_where g.whole)
+
+    begun_here : (p : ℕ) → Here p → OnWay (first_state g.groups p)
+    begun_here p here = λ utf.
+        let search : IsBuiltSearch g = record { built = built; text = text utf; off = off; begun = begun utf } in
+        loosened g (Some p) (first_state g.groups p) (begun_at g search p (here utf))
+
+    place_fails : (p : ℕ) → Here p → place_answer g p ≡ answers (Failed Exhausted)
     unfolding run
-    place_fails p =
+    place_fails p here =
         let d = match_limit g in
         let s = first_state g.groups p in
         let e : d + 1 ≡ suc d = omega arith in
         let fits = subst (λ o. FitsSome g off o (level g (run g d) g.whole)) bounded (fits_level g off (run g d) g.whole) in
-        let silent = subst (λ o. SilentSome o (level g (run g d) g.whole)) bounded (silent_level (run g d) g.whole needs) in
+        let silent = subst (λ o. SilentSome o (level g (run g d) g.whole)) bounded (silent_level (run g d) built (λ utf. forward_run g (text utf) off built d) g.whole needs) in
         let room : 0 + b.units ≤ g.matching.frame_limit = omega (arith, units) in
         let w = fits s room in
         ap (λ n. walk g d (run g n g.whole s)) e
-        ∙ walk_fails d (0 + b.units) (level g (run g d) g.whole s) (let k = w.steps in omega (arith, k, steps)) w.tame (silent s room)
+        ∙ walk_fails d (0 + b.units) (level g (run g d) g.whole s) (let k = w.steps in omega (arith, k, steps)) w.tame (silent s (begun_here p here) room)
 
-    tried_fails : (p : ℕ) → tried g p ≡ answers (Failed Exhausted)
-    tried_fails p = by_test (is_excluded g p)
+    tried_fails : (p : ℕ) → Here p → tried g p ≡ answers (Failed Exhausted)
+    tried_fails p here = by_test (is_excluded g p)
       where
         by_test : (c : Bool) → ◌≡◌ {A = Walked} (elim c [ true ↦ answers (Failed Exhausted) | false ↦ place_answer g p ]) (answers (Failed Exhausted))
         by_test true = refl
-        by_test false = place_fails p
+        by_test false = place_fails p here
 
-    none_from : (n : ℕ) (o : Option ℕ) → from_place g n o ≡ none_found
+    -- the places up to the last one
+    here_some : (o : Option ℕ) → (IsTrue g.options.utf → IfSome o (IsTextPlace g.options g.subject)) → IfSome (within g o) Here
+    here_some o h = by_kept (within g o) (λ utf. up_to_keeps (IsTextPlace g.options g.subject) (last_place g) o (h utf))
+      where
+        by_kept : (kept : Option ℕ) → (IsTrue g.options.utf → IfSome kept (λ q. IsTextPlace g.options g.subject q × (q ≤ last_place g))) → IfSome kept Here
+        by_kept None k = tt
+        by_kept (Some q) k = λ utf. (k utf).0
+
+    none_from : (n : ℕ) (o : Option ℕ) → IfSome o Here → from_place g n o ≡ none_found
     unfolding from_place
-    none_from zero o = refl
-    none_from (suc n) None = refl
-    none_from (suc n) (Some p) =
-        ap (λ w. found_at p w (λ signal. from_place g n (place_after g p signal))) (tried_fails p)
-        ∙ ap (λ (f : Found). record { answer = f.answer; notes = [] ++ f.notes }) (none_from n (place_after g p Exhausted))
+    none_from zero o h = refl
+    none_from (suc n) None h = refl
+    none_from (suc n) (Some p) h =
+        ap (λ w. found_at p w (λ signal. from_place g n (place_after g p signal))) (tried_fails p h)
+        ∙ ap (λ (f : Found). record { answer = f.answer; notes = [] ++ f.notes })
+        (none_from n (place_after g p Exhausted) (here_some (next_place g p) (λ utf. next_stands g (begun utf).within (text utf) p (h utf))))
+
+    none_at_all : match_answer g ≡ none_found
+    none_at_all = none_from _ (within g (Some g.start)) (here_some (Some g.start) begun)
 
 pub need_law : NeedLaw
-need_law g has b h = none_from g has h.off h.bytes h.missing b h.needs h.bounded h.steps h.units _ _
+need_law g has b h = none_at_all g has h.off h.text h.missing b h.needs h.bounded h.steps h.units h.begun

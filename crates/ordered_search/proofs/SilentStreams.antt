@@ -1,7 +1,7 @@
 -- Streams without a state.
 use Rattle.std.proofs.Common.{◌≡◌, ℕ, suc, ◌+◌, ◌≤◌, Bool, true, false, refl, arith}
 use Rattle.ordered_search.specs.Stream.{State, Ending, exhausted, by_verb, by_halt, How, reached, accepted, note, state, step, Stream, Search, ends, ◌▸◌, nothing, gives, ◌or_else◌, each, decide, catch}
-use Rattle.ordered_search.proofs.TameStreams.{state_count, states_both, Tame}
+use Rattle.ordered_search.proofs.TameStreams.{state_count, states_both}
 
 abbrev pub Silent : Stream → Type 0
 Silent x = state_count x ≡ 0
@@ -32,15 +32,6 @@ silent_before (ends e) f h = refl
 silent_before (note m ▸ x) f h = silent_before x f h
 silent_before (state how s ▸ x) f h = absurd (omega (arith, h))
 silent_before (step ▸ x) f h = silent_before x f h
-
--- from no state a state follows
-pub silent_behind : (u : ℕ) (x : Stream) (f : How → Search) → Tame u x → ((s : State) → s.units ≤ u → Silent (f reached s)) → Silent (each x f)
-unfolding state_count each Tame
-silent_behind u (ends e) f h k = refl
-silent_behind u (note m ▸ x) f h k = absurd h
-silent_behind u (state reached s ▸ x) f h k = silent_or_else (f reached s) (each x f) (k s h.0) (silent_behind u x f h.1 k)
-silent_behind u (state accepted s ▸ x) f h k = absurd h
-silent_behind u (step ▸ x) f h k = silent_behind u x f h k
 
 pub silent_decide : (fails : Ending → Bool) (x : Stream) (f : How → Search) (y : Stream) → Silent x → Silent y → Silent (decide fails x f y)
 unfolding state_count decide

@@ -1,16 +1,19 @@
 -- Where no byte stands that every match of a compiled pattern needs, nothing is found.
 use mathlib.Core.Path.{fun_ext}
-use Rattle.std.proofs.Common.{◌≡◌, ◌∙◌, ℕ, ◌+◌, ◌≤◌, Bool, true, false, if◌then◌else◌, List, length, Some, None, ap, subst, arith}
-use Rattle.std.specs.Prelude.{slice_get}
+use Rattle.std.proofs.Common.{◌≡◌, ◌∙◌, ℕ, ◌+◌, ◌<◌, ◌≤◌, Bool, true, false, if◌then◌else◌, List, length, Some, None, inl, inr, refl, ap, subst, arith}
+use Rattle.std.specs.Prelude.{IsTrue, slice_get, slice_index}
+use Rattle.std.specs.Str.{IsAscii}
 use Rattle.std.proofs.Math.Nat.{pow-le-pow_left, mul-le-mul_left}
-use Rattle.std.proofs.lemmas.Bool.{le-ltb}
+use Rattle.std.proofs.lemmas.Bool.{cases_lt, le-ltb, lt-leb}
+use Rattle.std.proofs.lemmas.List.{get_or_past}
+use Rattle.std.proofs.lemmas.Str.{IsUtf8-from_ascii, IsCharBoundary-from_ascii, is_utf8-from_IsUtf8}
 use Rattle.byte_lanes.specs.Sets.{has_byte}
 use Rattle.pat_tree.specs.declared.options.MatchOptions.{MatchOptions}
 use Rattle.pat_tree.specs.declared.options.PartialMode.TheVariants.{Off}
 use Rattle.pat_tree.specs.Parts.{TreeParts, tree_of}
 use Rattle.char_sets.specs.Sets.{class_has}
 use Rattle.match_needs.specs.Bounds.{at}
-use Rattle.match_needs.specs.Needs.{Needs}
+use Rattle.match_needs.specs.Needs.{may_take, Needs}
 use Rattle.match_needs.specs.NeedTables.{IsNeedOf}
 use Rattle.match_needs.specs.declared.bounds.Growth.{Growth}
 use Rattle.match_needs.specs.declared.needs.Need.{Need}
@@ -21,7 +24,7 @@ use Rattle.pcre2_api.specs.Answers.{answer_of}
 use Rattle.pcre2_api.specs.Compiled.{CodeParts}
 use Rattle.pcre2_api.specs.Matched.{search_of}
 use Rattle.pcre2_api.proofs.Searched.{begun}
-use Rattle.pcre2_api.specs.Needed.{FindsNone}
+use Rattle.pcre2_api.specs.Needed.{Lacks, FindsNone}
 use Rattle.pcre2_api.specs.Starts.{start_fault}
 use Rattle.pcre2_api.specs.declared.error.MatchError.TheVariants.{BadOffset}
 
@@ -32,25 +35,56 @@ class_told tree = fun_ext (λ n. fun_ext (λ c. class_is tree n c))
 at_most : (a : Growth) (n m : ℕ) → n ≤ m → at a n ≤ at a m
 at_most a n m le = mul-le-mul_left a.times (pow-le-pow_left le a.degree)
 
--- outside UTF a search begins at a subject's start
-begins : (utf : Bool) (subject : List ℕ) → utf ≡ false → start_fault utf subject 0 ≡ None
-begins false subject bytes = ap (λ (b : Bool). if b then Some BadOffset else None) (le-ltb (length subject) 0 (omega arith))
-begins true subject bytes = absurd cc
+-- what a set lacks that has all bytes of another, in UTF with those past ASCII
+module _ (utf : Bool) (some all : List Bool) (more : (b : ℕ) → has_byte some b ≡ true → has_byte all b ≡ true)
+    (wide : IsTrue utf → (b : ℕ) → 128 ≤ b → b < 256 → has_byte all b ≡ true) (subject : List ℕ) (lacks : Lacks all subject) where
+  clash : (b : Bool) → b ≡ true → b ≡ false → ⊥
+  clash b h k = cc
 
-pub finds_none : (code : CodeParts) (matching : MatchOptions) (most : ℕ) (need : Need)
-    → IsNeedOf code.tree need → code.tree.options.utf ≡ false → matching.«partial» ≡ Off
+  lacks_some : Lacks some subject
+  lacks_some k l = ((lacks k l).0, by_test (has_byte some (slice_index subject k)) refl)
+    where
+      by_test : (b : Bool) → has_byte some (slice_index subject k) ≡ b → has_byte some (slice_index subject k) ≡ false
+      by_test true e = absurd (clash (has_byte all (slice_index subject k)) (more (slice_index subject k) e) (lacks k l).1)
+      by_test false e = e
+
+  ascii : IsTrue utf → IsAscii subject
+  ascii on k = elim (cases_lt k (length subject)) [
+    | inl inside ↦ elim (cases_lt (slice_index subject k) 128) [
+      | inl small ↦ small
+      | inr large ↦
+          let x = lacks k inside in
+          absurd (clash (has_byte all (slice_index subject k)) (wide on (slice_index subject k) (omega (arith, large)) x.0) x.1)
+    ]
+    | inr past ↦ let none : slice_index subject k ≡ 0 = get_or_past subject k 0 (omega (arith, past)) in omega (arith, none)
+  ]
+
+  -- a search begins at the subject's start
+  begins : start_fault utf subject 0 ≡ None
+  begins = by_utf utf refl
+    where
+      by_utf : (u : Bool) → utf ≡ u → start_fault u subject 0 ≡ None
+      by_utf false e = ap (λ (b : Bool). if b then Some BadOffset else None) (le-ltb (length subject) 0 (omega arith))
+      by_utf true e =
+          rw (le-ltb (length subject) 0 (omega arith), is_utf8-from_IsUtf8 subject (IsUtf8-from_ascii subject (ascii e)), lt-leb 128 (slice_index subject 0) (ascii e 0)) refl
+
+pub finds_none : (code : CodeParts) (matching : MatchOptions) (most : ℕ) (need : Need) (set : List Bool)
+    → IsNeedOf code.tree need → ((b : ℕ) → has_byte need.bytes b ≡ true → has_byte set b ≡ true)
+    → (IsTrue code.tree.options.utf → (b : ℕ) → 128 ≤ b → b < 256 → has_byte set b ≡ true) → matching.«partial» ≡ Off
     → at need.bound.steps (most + 1) ≤ lower_of code.tree.options.match_limit matching.match_limit
-    → need.bound.units ≤ matching.frame_limit → FindsNone code matching most need.bytes
-finds_none code matching most need is bytes off steps units subject answers short lacks =
-    let less = at_most need.bound.steps (length subject + 1) (most + 1) (omega arith) in
+    → need.bound.units ≤ matching.frame_limit → most < 4294967295 → FindsNone code matching most set
+finds_none code matching most need set is more wide off steps units few subject answers short lacks =
+    let utf = code.tree.options.utf in
+    let less = at_most need.bound.steps (length subject + 1) (most + 1) (omega (arith, short)) in
     let g = search_of code matching subject 0 answers in
-    begun g (begins code.tree.options.utf subject bytes) ∙ ap (λ f. answer_of f.answer)
+    begun g (begins utf need.bytes set more wide subject lacks) ∙ ap (λ f. answer_of f.answer)
     (need_law g (has_byte need.bytes) need.bound (record {
-      needs = subst (λ (has : ℕ → ℕ → Bool). Needs has (has_byte need.bytes) (tree_of code.tree)) (class_told code.tree) is.bytes;
-      missing = lacks;
+      needs = subst (λ (has : ℕ → ℕ → Bool). Needs (may_take utf has) (has_byte need.bytes) (tree_of code.tree)) (class_told code.tree) is.bytes;
+      missing = lacks_some utf need.bytes set more wide subject lacks;
       bounded = is.bound;
       steps = omega (arith, less, steps);
       units = units;
-      bytes = bytes;
+      text = λ on. record { short = omega (arith, short, few); checked = λ _. IsUtf8-from_ascii subject (ascii utf need.bytes set more wide subject lacks on) };
+      begun = λ on. record { within = omega arith; between = λ _. IsCharBoundary-from_ascii subject 0 (ascii utf need.bytes set more wide subject lacks on) (omega arith) };
       off = off;
     }))

@@ -21,7 +21,7 @@ ghost use Rattle.pcre2_api.specs.Starts.{start_fault};
 
 use crate::error::{CompileError, MatchError};
 use crate::found::{Found, Text};
-use crate::need::is_within;
+use crate::need::{is_within, told_bytes};
 use crate::starts::{test_place, test_start};
 use byte_lanes::ByteSet;
 use char_sets::ClassTable;
@@ -221,19 +221,19 @@ impl Code {
     /// A set of bytes of which every match takes one: a subject of at most `most` bytes without any has no match, and a
     /// search of it from its begin passes no limit of `options`. Who has many subjects need not search such ones. None where
     /// no such set is known.
-    pub fn needed(&self, most: u32, options: &MatchOptions) -> Option<&ByteSet>
+    pub fn needed(&self, most: u32, options: &MatchOptions) -> Option<ByteSet>
         requires { options.now.«partial» ≡ Off }
-        ensures { IfSome result (λ set. FindsNone self.now options.now most set.now) }
+        ensures { IfSome result (λ set. FindsNone self.now options.now most set) }
     {
         let Some(need) = &self.facts.need else {
             return None;
         };
         let own = self.tree.options();
-        // In UTF a subject that isn't UTF-8 is told, whatever it lacks.
-        if own.utf || !is_within(need, most, own, options) {
+        if !is_within(need, most, own, options) {
             return None;
         }
-        Some(&need.bytes)
+        // In UTF a subject that isn't UTF-8 is told, whatever it lacks.
+        Some(told_bytes(need, own.utf))
     }
 
     /// A law: what is told of the code is told of what its pattern is read as.

@@ -7,7 +7,7 @@ loop-code-init c = λ line short lacks. refl
 
 pub loop-code-preserved : goal.loop-code-preserved
 loop-code-preserved c =
-    next_none c.args.matching.now c.args.codes.now c.loop-code.code-index c.args.most c.code-item.result c.add.new.self c.loop-code.bytes c.in-Some.more.now
+    next_none c.args.matching.now c.args.codes.now c.loop-code.code-index c.args.most c.code-item.result c.add.new.self c.loop-code.bytes c.in-Some.more
     c.loop-code-test.true c.code-item.is (rw c.in-Some.is at c.needed.ensures) c.add.ensures c.loop-code.invariant
 
 pub returns : goal.returns

@@ -1,4 +1,5 @@
 use Rattle.std.proofs.Common.{ℕ, ◌≤◌, Bool, length, drop, map}
+use Rattle.pat_tree.specs.declared.nodes.Item.{Item}
 use Rattle.pat_tree.specs.Nested.{Nested, row}
 use Rattle.match_needs.specs.NeedTables.{AreAllNeeds, AreNeeds}
 use Rattle.match_needs.proofs.needs.each_of.Given as goal
@@ -6,7 +7,7 @@ use Rattle.match_needs.proofs.needs.each_of.Given as goal
 abbrev pub invariant-loop-i : goal.invariant-loop-i
 invariant-loop-i l = record {
   within : l.i ≤ length l.branches;
-  is : (has : ℕ → ℕ → Bool) (of : ℕ → Nested) → AreNeeds has of l.needs (drop l.i l.branches)
+  is : (has : Item → ℕ → Bool) (of : ℕ → Nested) → AreNeeds has of l.needs (drop l.i l.branches)
       → AreAllNeeds has (row (map of (drop l.i l.branches))) l.whole;
 }
 

@@ -1,9 +1,8 @@
 use Rattle.std.proofs.Common.{◌≡◌, ◌∙◌, ◌<◌, Some, None, length, subst, sym, arith, get_or}
 use Rattle.std.proofs.lemmas.List.{get_or_default}
 use Rattle.pat_tree.specs.Parts.{tree_of}
-use Rattle.char_sets.specs.Sets.{class_has}
 use Rattle.match_needs.specs.Bounds.{bound}
-use Rattle.match_needs.specs.NeedTables.{IsNeed}
+use Rattle.match_needs.specs.NeedTables.{may_of, IsNeed}
 use Rattle.match_needs.proofs.NeedLemmas.{need_whole}
 use Rattle.match_needs.proofs.needs.need_of.Goals as goal
 
@@ -16,5 +15,5 @@ returns c =
     let within : t.root < length needs = omega (arith, c.in_ok-needs.ensures.count) in
     let read : wanted ≡ get_or needs t.root wanted = rw c.root.ensures at c.index.ensures in
     let is : wanted ≡ get_or needs t.root None = read ∙ get_or_default needs t.root wanted None within in
-    let needed = subst (IsNeed (class_has t) (tree_of t)) (sym is) (c.in_ok-needs.ensures.kept t.root within) in
-    need_whole t c.in-Some.bound wanted c.with_bound.result bounded needed (c.with_bound.ensures.bytes (class_has t) (tree_of t)) c.with_bound.ensures.bound
+    let needed = subst (IsNeed (may_of t) (tree_of t)) (sym is) (c.in_ok-needs.ensures.kept t.root within) in
+    need_whole t c.in-Some.bound wanted c.with_bound.result bounded needed (c.with_bound.ensures.bytes (may_of t) (tree_of t)) c.with_bound.ensures.bound

@@ -2,19 +2,18 @@ use Rattle.std.proofs.Common.{◌<◌, All, None, length, subst}
 use Rattle.std.specs.Prelude.{slice_index_or}
 use Rattle.pat_tree.specs.Nested.{tree_at}
 use Rattle.pat_tree.specs.Rules.{kids_of}
-use Rattle.char_sets.specs.Sets.{class_has}
 use Rattle.pat_lengths.proofs.KeepLemmas.{all_kept}
-use Rattle.match_needs.specs.NeedTables.{IsNeed}
+use Rattle.match_needs.specs.NeedTables.{may_of, IsNeed}
 use Rattle.match_needs.proofs.NeedLemmas.{needs_one, needs_turn, needs_group, needs_atomic, needs_look}
 use Rattle.match_needs.proofs.needs.node_need.Goals as goal
 
 pub returns-in-One : goal.returns-in-One
-returns-in-One c tree table trees kept =
-    rw c.in-One.is (needs_one (class_has tree) c.in-One.item c.item_need.result (c.item_need.ensures tree table))
+returns-in-One c tree table utf trees kept =
+    rw c.in-One.is (needs_one (may_of tree) c.in-One.item c.item_need.result (c.item_need.ensures tree table utf))
 
 pub returns-in-Seq : goal.returns-in-Seq
-returns-in-Seq c tree table trees kept =
-    let has = class_has tree in
+returns-in-Seq c tree table utf trees kept =
+    let has = may_of tree in
     let needs = c.args.needs.now in
     let kids = c.in-Seq.kids in
     let below : All (λ k. k < length needs) kids = subst (λ n. All (λ k. k < length needs) (kids_of n)) c.in-Seq.is c.requires.below in
@@ -23,8 +22,8 @@ returns-in-Seq c tree table trees kept =
     ((rw c.as_slice.ensures at (c.rarest.ensures has (tree_at trees))) all))
 
 pub returns-in-Group : goal.returns-in-Group
-returns-in-Group c tree table trees kept =
-    let has = class_has tree in
+returns-in-Group c tree table utf trees kept =
+    let has = may_of tree in
     let needs = c.args.needs.now in
     let kids = c.in-Group.branches in
     let below : All (λ k. k < length needs) kids = subst (λ n. All (λ k. k < length needs) (kids_of n)) c.in-Group.is c.requires.below in
@@ -33,8 +32,8 @@ returns-in-Group c tree table trees kept =
     ((rw c.as_slice-in-Group.ensures at (c.each_of.ensures has (tree_at trees))) all))
 
 pub returns-in-Atomic : goal.returns-in-Atomic
-returns-in-Atomic c tree table trees kept =
-    let has = class_has tree in
+returns-in-Atomic c tree table utf trees kept =
+    let has = may_of tree in
     let needs = c.args.needs.now in
     let kids = c.in-Atomic.branches in
     let below : All (λ k. k < length needs) kids = subst (λ n. All (λ k. k < length needs) (kids_of n)) c.in-Atomic.is c.requires.below in
@@ -43,8 +42,8 @@ returns-in-Atomic c tree table trees kept =
     ((rw c.as_slice-in-Atomic.ensures at (c.each_of-in-Atomic.ensures has (tree_at trees))) all))
 
 pub returns-in-Look : goal.returns-in-Look
-returns-in-Look c tree table trees kept =
-    let has = class_has tree in
+returns-in-Look c tree table utf trees kept =
+    let has = may_of tree in
     let needs = c.args.needs.now in
     let kids = c.in-Look.branches in
     let below : All (λ k. k < length needs) kids = subst (λ n. All (λ k. k < length needs) (kids_of n)) c.in-Look.is c.requires.below in

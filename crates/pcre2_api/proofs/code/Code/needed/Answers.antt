@@ -1,4 +1,6 @@
-use Rattle.std.proofs.Common.{◌≡◌, ◌+◌, ◌≤◌, false, subst}
+use Rattle.std.proofs.Common.{◌≡◌, ℕ, ◌+◌, ◌<◌, ◌≤◌, true, subst}
+use Rattle.std.specs.Prelude.{IsTrue}
+use Rattle.byte_lanes.specs.Sets.{has_byte}
 use Rattle.pat_tree.specs.declared.options.Options.{Options}
 use Rattle.match_needs.specs.Bounds.{at}
 use Rattle.ordered_search.specs.Setting.{lower_of}
@@ -13,8 +15,10 @@ returns c =
     let matching = c.args.options.now in
     let told = c.self.invariant in
     let code : CodeParts = record { text = c.self.inside.text.items; tree = c.self.inside.tree; classes = c.self.inside.classes; facts = c.self.inside.facts } in
-    subst (λ (code : CodeParts). FindsNone code matching c.args.most need.bytes) c.self.view_is
-    (finds_none code matching c.args.most need (rw c.in-Some.is at told.facts.need) (subst (λ (o : Options). o.utf ≡ false) c.options-own.ensures c.if-own.false) c.requires
+    subst (λ (code : CodeParts). FindsNone code matching c.args.most c.told_bytes.result) c.self.view_is
+    (finds_none code matching c.args.most need c.told_bytes.result (rw c.in-Some.is at told.facts.need) c.told_bytes.ensures.needed
+    (subst (λ (o : Options). IsTrue o.utf → (b : ℕ) → 128 ≤ b → b < 256 → has_byte c.told_bytes.result b ≡ true) c.options-own.ensures c.told_bytes.ensures.wide)
+    c.requires
     (subst (λ (o : Options). at need.bound.steps (c.args.most + 1) ≤ lower_of o.match_limit matching.match_limit) c.options-own.ensures
     (c.is_within.ensures.steps c.if-not-is_within.false))
-    (c.is_within.ensures.units c.if-not-is_within.false))
+    (c.is_within.ensures.units c.if-not-is_within.false) (c.is_within.ensures.short c.if-not-is_within.false))

@@ -1,0 +1,16 @@
+use Rattle.std.proofs.Common.{Bool, ◌∙◌, sym, subst}
+use Rattle.std.specs.Prelude.{IfSome}
+use Rattle.char_sets.specs.Sets.{class_has}
+use Rattle.match_needs.specs.Needs.{may_take}
+use Rattle.match_needs.specs.NeedTables.{IsItemNeed}
+use Rattle.match_needs.proofs.needs.item_need.Goals as goal
+
+pub returns-then-utf : goal.returns-then-utf
+returns-then-utf c tree table utf =
+    subst (λ (u : Bool). IfSome c.ascii_need.result (IsItemNeed (may_take u (class_has tree)) c.args.item.now)) (sym (utf ∙ c.if-utf.true))
+    (c.ascii_need.ensures (class_has tree))
+
+pub returns-else-utf : goal.returns-else-utf
+returns-else-utf c tree table utf =
+    subst (λ (u : Bool). IfSome c.byte_need.result (IsItemNeed (may_take u (class_has tree)) c.args.item.now)) (sym (utf ∙ c.if-utf.false))
+    (c.byte_need.ensures tree table)
