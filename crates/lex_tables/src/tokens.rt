@@ -368,6 +368,30 @@ fn white_space_and_comments(rt: HostRuntime) {
     }
     assert_eq!(rt; next_token(b"\x85", 0, EXTENDED), Ok((Token::Passed, 1)));
     assert_eq!(rt; next_token(b"\x85", 0, PLAIN), Ok((Token::Literal(133), 1)));
+    let utf = LexFlags {
+        utf: true,
+        ..EXTENDED
+    };
+    for (text, after) in [
+        ("\u{85}", 2),
+        ("\u{200e}", 3),
+        ("\u{200f}", 3),
+        ("\u{2028}", 3),
+        ("\u{2029}", 3),
+        (" \u{85}", 1),
+    ] {
+        begins(&rt, utf, text, Token::Passed, after);
+    }
+    for (text, code, after) in [
+        ("\u{a0}", 0xA0, 2),
+        ("\u{180e}", 0x180E, 3),
+        ("\u{200d}", 0x200D, 3),
+        ("\u{202f}", 0x202F, 3),
+        ("\u{3000}", 0x3000, 3),
+    ] {
+        begins(&rt, utf, text, Token::Literal(code), after);
+    }
+    begins(&rt, EXTENDED, "\u{2028}", Token::Literal(0xE2), 1);
     begins(&rt, EXTENDED, "#a", Token::Passed, 2);
     begins(&rt, EXTENDED, "\\#", Token::Literal(35), 2);
     let rows = [

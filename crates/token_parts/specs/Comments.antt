@@ -1,6 +1,7 @@
 -- What is passed over: comments (pcre2pattern, "Comments"), and the white space that EXTENDED ignores (pcre2api,
 -- "PCRE2_EXTENDED").
-use Rattle.std.specs.Prelude.{ℕ, zero, suc, ◌+◌, ◌-◌, Bool, not, ◌&&◌, ◌||◌, ◌==◌, nat_lt, List, length, Ok, if◌then◌else◌}
+use Rattle.std.specs.Prelude.{ℕ, zero, suc, ◌+◌, ◌-◌, Bool, not, ◌&&◌, ◌||◌, ◌==◌, nat_lt, nat_eq, List, [], ◌∷◌, drop, length, Ok, if◌then◌else◌}
+use Rattle.std.specs.List.{starts_with}
 use Rattle.std.specs.Int.{is_in_range}
 use Rattle.byte_lanes.specs.Newlines.{newline_len}
 use Rattle.pat_tree.specs.Newlines.{end_kind}
@@ -45,11 +46,31 @@ module _ (text : List ℕ) where
       let to = run_end text (λ c. not (c ∈ ")")) (at + 3) in
       if is_at text ")" to then Ok (Passed, to + 1) else fault 118 (length text)
 
+  -- these bytes begin at the place
+  abbrev pub begins_bytes : ℕ → List ℕ → Bool
+  begins_bytes i bytes = starts_with nat_eq (drop i text) bytes
+
+  -- U+200E or U+200F in UTF-8
+  abbrev pub begins_mark : ℕ → Bool
+  begins_mark i = begins_bytes i (0xE2 ∷ 0x80 ∷ 0x8E ∷ []) || begins_bytes i (0xE2 ∷ 0x80 ∷ 0x8F ∷ [])
+
+  -- U+2028 or U+2029
+  abbrev pub begins_separator : ℕ → Bool
+  begins_separator i = begins_bytes i (0xE2 ∷ 0x80 ∷ 0xA8 ∷ []) || begins_bytes i (0xE2 ∷ 0x80 ∷ 0xA9 ∷ [])
+
+  -- how many bytes the white space character past ASCII has that begins at the place, U+0085 or one of these; 0 where none does
+  abbrev pub wide_len : ℕ → ℕ
+  wide_len i = if begins_bytes i (0xC2 ∷ 0x85 ∷ []) then 2 else if begins_mark i then 3 else if begins_separator i then 3 else 0
+
   module _ (flags : LexFlags) where
+    -- the same of all white space, in UTF or not
+    abbrev pub white_len : ℕ → ℕ
+    white_len i = if passes_at text (is_white flags) i then 1 else if flags.utf then wide_len i else 0
+
     -- past one white space character, or one comment from `#` on; the place itself where neither stands there
     unfoldable pub blank_end : ℕ → ℕ
     blank_end i =
-        if passes_at text (is_white flags) i then i + 1
+        if nat_lt 0 (white_len i) then i + white_len i
         else if is_at text "#" i then line_end flags (i + 1)
         else i
 
