@@ -1,9 +1,9 @@
 -- A search for a tree of the forms that are built gives a match in the subject, none, a limit or a loop, and tells names alone.
 use Rattle.std.proofs.Common.{◌≡◌, ℕ, zero, suc, ◌+◌, ◌-◌, ◌<◌, ◌≤◌, ◌≢◌, Bool, true, false, List, [], ◌∷◌, ◌++◌, length, Option, Some, None, refl, sym, subst, arith}
-use Rattle.std.specs.Prelude.{nat_le, IfSome}
+use Rattle.std.specs.Prelude.{nat_le, nat_lt, IfSome}
 use Rattle.std.proofs.lemmas.List.{length-replicate}
 use Rattle.std.proofs.lemmas.List.Elements.{All-replicate}
-use Rattle.ordered_search.specs.Stream.{State, first_state, exhausted, by_verb, by_halt, is_partial, too_many_units, loop, abort, cut, Note, name, shown, hit_end, How, reached, accepted, note, state, step, Stream, ends, ◌▸◌}
+use Rattle.ordered_search.specs.Stream.{State, first_state, next_branch, prune, skip, commit, exhausted, by_verb, by_halt, is_partial, too_many_units, loop, abort, cut, Note, name, shown, hit_end, How, reached, accepted, note, state, step, Stream, ends, ◌▸◌}
 use Rattle.ordered_search.specs.Setting.{Setting, match_limit}
 use Rattle.ordered_search.specs.PlaceAnswer.{outcome, Signal, Exhausted, Prune, Skip, Commit, PlaceAnswer, Matched, Failed, Partial, MatchLimit, FrameLimit, Loop, Abort, NoDepth, Walked, answers, has_hit, is_refused_by_end, is_refused_as_empty, walk, place_answer}
 use Rattle.ordered_search.proofs.WalkLaw.{no_cut}
@@ -20,6 +20,9 @@ module _ (g : Setting) (search : IsBuiltSearch g) where
   abbrev IsPlainPlace : PlaceAnswer → Type 0
   IsPlainPlace (Matched o) = IsPlaced g o
   IsPlainPlace (Failed Exhausted) = Unit {0}
+  IsPlainPlace (Failed Prune) = Unit {0}
+  IsPlainPlace (Failed (Skip q)) = IsTextPlace g.options g.subject q
+  IsPlainPlace (Failed Commit) = Unit {0}
   IsPlainPlace MatchLimit = Unit {0}
   IsPlainPlace FrameLimit = Unit {0}
   IsPlainPlace Loop = Unit {0}
@@ -44,7 +47,10 @@ module _ (g : Setting) (search : IsBuiltSearch g) where
   plain_walk : (low p n : ℕ) (x : Stream) → g.start ≤ low → Forward g (Some low) p x → IsPlainWalk (walk g n x)
   unfolding Forward walk
   plain_walk low p n (ends exhausted) le h = (tt, tt)
-  plain_walk low p n (ends (by_verb v)) le h = absurd h
+  plain_walk low p n (ends (by_verb next_branch)) le h = (tt, tt)
+  plain_walk low p n (ends (by_verb prune)) le h = (tt, tt)
+  plain_walk low p n (ends (by_verb (skip q))) le h = (h, tt)
+  plain_walk low p n (ends (by_verb commit)) le h = (tt, tt)
   plain_walk low p n (ends (by_halt is_partial)) le h = absurd h
   plain_walk low p n (ends (by_halt too_many_units)) le h = (tt, tt)
   plain_walk low p n (ends (by_halt loop)) le h = (tt, tt)
@@ -60,6 +66,7 @@ module _ (g : Setting) (search : IsBuiltSearch g) where
   begun_at p here = record {
     kept = (omega arith, omega arith);
     here = here;
+    passed = tt;
     caps = All-replicate (IsWithin (length g.subject)) g.groups None tt;
     groups = length-replicate g.groups None;
   }
@@ -95,13 +102,11 @@ module _ (g : Setting) (search : IsBuiltSearch g) where
       subst (λ b. IsPlainFound g (record { answer = undecided b p later.answer; notes = ns ++ later.notes })) (sym (no_hit ns h))
       (record { answer = k.answer; notes = names_append ns later.notes h k.notes })
 
-  plain_answer : (p : ℕ) (w : Walked) (later : Signal → Found) (a : PlaceAnswer) → IsPlainPlace a → a ≢ NoDepth → AreNames w.notes → IsPlainFound g (later Exhausted) →
+  plain_answer : (p : ℕ) (w : Walked) (later : Signal → Found) (a : PlaceAnswer) → IsPlainPlace a → a ≢ NoDepth → AreNames w.notes →
+      ((signal : Signal) → IsPlainPlace (Failed signal) → IsPlainFound g (later signal)) →
       IsPlainFound g (elim a [ Matched o ↦ decided w (Match o) | Failed signal ↦ failed_at p w (later signal) | Partial ↦ decided w (PartialFrom p) | b ↦ decided w (Error b) ])
   plain_answer p w later (Matched o) h n e k = record { answer = h; notes = e }
-  plain_answer p w later (Failed Exhausted) h n e k = plain_failed p w.notes (later Exhausted) e k
-  plain_answer p w later (Failed Prune) h n e k = absurd h
-  plain_answer p w later (Failed (Skip q)) h n e k = absurd h
-  plain_answer p w later (Failed Commit) h n e k = absurd h
+  plain_answer p w later (Failed signal) h n e k = plain_failed p w.notes (later signal) e (k signal h)
   plain_answer p w later Partial h n e k = absurd h
   plain_answer p w later MatchLimit h n e k = record { answer = tt; notes = e }
   plain_answer p w later FrameLimit h n e k = record { answer = tt; notes = e }
@@ -116,10 +121,27 @@ module _ (g : Setting) (search : IsBuiltSearch g) where
   inside_both p None le h k = tt
   inside_both p (Some q) le h k = let later : p < q = h.0 in (omega (arith, le, later), h.1, k.0)
 
-  inside_after : (p : ℕ) → g.start ≤ p → IsTextPlace g.options g.subject p → IsInside (place_after g p Exhausted)
-  inside_after p le here =
-      inside_both p (place_after g p Exhausted) le (after_later g search.begun.within p Exhausted)
-      (up_to_keeps (IsTextPlace g.options g.subject) (last_place g) (next_place g p) (next_stands g search.begun.within search.text p here))
+  stands_next : (p : ℕ) → IsTextPlace g.options g.subject p →
+      IfSome (within g (next_place g p)) (λ q. IsTextPlace g.options g.subject q × (q ≤ last_place g))
+  stands_next p here =
+      up_to_keeps (IsTextPlace g.options g.subject) (last_place g) (next_place g p) (next_stands g search.begun.within search.text p here)
+
+  stands_after : (p : ℕ) → IsTextPlace g.options g.subject p → (signal : Signal) → IsPlainPlace (Failed signal) →
+      IfSome (place_after g p signal) (λ q. IsTextPlace g.options g.subject q × (q ≤ last_place g))
+  stands_after p here Exhausted h = stands_next p here
+  stands_after p here Prune h = stands_next p here
+  stands_after p here (Skip to) h = by_test (nat_lt p to)
+    where
+      by_test : (b : Bool) → IfSome (elim b [ true ↦ within g (Some to) | false ↦ within g (next_place g p) ])
+          (λ q. IsTextPlace g.options g.subject q × (q ≤ last_place g))
+      by_test true = up_to_keeps (IsTextPlace g.options g.subject) (last_place g) (Some to) h
+      by_test false = stands_next p here
+  stands_after p here Commit h = tt
+
+  inside_after : (p : ℕ) → g.start ≤ p → IsTextPlace g.options g.subject p → (signal : Signal) → IsPlainPlace (Failed signal) →
+      IsInside (place_after g p signal)
+  inside_after p le here signal h =
+      inside_both p (place_after g p signal) le (after_later g search.begun.within p signal) (stands_after p here signal h)
 
   plain_from : (n : ℕ) (next : Option ℕ) → IsInside next → IsPlainFound g (from_place g n next)
   unfolding from_place
@@ -128,7 +150,7 @@ module _ (g : Setting) (search : IsBuiltSearch g) where
   plain_from (suc n) (Some p) h =
       let walk = plain_tried p (is_excluded g p) h.0 h.2 in
       plain_answer p (tried g p) (λ signal. from_place g n (place_after g p signal)) (tried g p).answer walk.0 (not_cut p (is_excluded g p)) walk.1
-      (plain_from n (place_after g p Exhausted) (inside_after p h.0 h.2))
+      (λ signal plain. plain_from n (place_after g p signal) (inside_after p h.0 h.2 signal plain))
 
   first_inside : IsInside (within g (Some g.start))
   first_inside = by_test (nat_le g.start (last_place g)) refl

@@ -1,5 +1,5 @@
 -- The search of a tree of the forms that are built goes forward.
-use Rattle.std.proofs.Common.{◌≡◌, ℕ, zero, suc, ◌+◌, ◌-◌, ◌<◌, ◌≤◌, Bool, true, false, List, [], ◌∷◌, ◌++◌, length, drop, reverse, Option, Some, None, refl, sym, ap, ◌∙◌, subst, arith, ◌==◌}
+use Rattle.std.proofs.Common.{◌≡◌, ℕ, zero, suc, ◌+◌, ◌-◌, ◌<◌, ◌≤◌, Bool, true, false, List, [], ◌∷◌, ◌++◌, length, drop, reverse, Option, Some, None, refl, sym, subst, arith, ◌==◌}
 use Rattle.std.specs.Prelude.{nat_lt}
 use Rattle.std.proofs.lemmas.List.{reverse-append}
 use Rattle.pat_tree.specs.declared.nodes.Item.{Item}
@@ -9,7 +9,7 @@ use Rattle.pat_tree.specs.Nested as tree
 use Rattle.pat_tree.specs.Nested.{Nested, Row, Test, Other, repeat}
 use Rattle.pat_tree.specs.declared.nodes.Verb.{Verb}
 use Rattle.pat_tree.specs.declared.nodes.Verb.TheVariants.{Accept, Fail, Commit, Prune, Skip, Then, Mark}
-use Rattle.pat_tree.specs.Built.{IsPassive, IsBuilt, AreBuilt, IsBuiltTest, IsBuiltOther}
+use Rattle.pat_tree.specs.Built.{IsBuilt, AreBuilt, IsBuiltTest, IsBuiltOther}
 use Rattle.pat_tree.specs.Groups.{group_of}
 use Rattle.pat_lengths.specs.Lengths.{SomeLengths}
 use Rattle.frame_store.specs.declared.registers.Span.{Span}
@@ -17,13 +17,13 @@ use Rattle.frame_store.specs.Captures.{capture}
 use Rattle.match_items.specs.Items.{one_less, is_none_left, after_item, item_reaches, run_places, longest_run, place_before, places_back, break_len, after_ref, ref_reaches, holds, anchor_reaches}
 use Rattle.match_items.specs.Subjects.{IsText, IsTextPlace}
 use Rattle.match_items.proofs.TextGround.{places_stand}
-use Rattle.ordered_search.specs.Stream.{State, How, reached, accepted, Stream, Search, nothing, gives, no_ending, is_verb, is_next_branch, fails_alone, fails_inside, captured, changes, and_then}
-use Rattle.ordered_search.specs.Setting.{Setting, branch_lengths, held, hold, reach_if}
+use Rattle.ordered_search.specs.Stream.{State, VerbEnding, next_branch, prune, skip, commit, Ending, exhausted, by_verb, How, reached, accepted, Stream, Search, nothing, gives, no_ending, is_verb, is_next_branch, fails_alone, fails_inside, captured, changes, and_then}
+use Rattle.ordered_search.specs.Setting.{Setting, branch_lengths, held, hold, reach_if, verb_name}
 use Rattle.ordered_search.specs.Tests.{move_to, goes_to, run_one, run_break, run_ref, run_anchor, offers, greedy, offer_and, reluctant, lazy_run, run_many}
-use Rattle.ordered_search.specs.Parts.{Searches, in_order, choices, branches, run_group, back_to, forget_passed, run_atomic, run_look, asserts, tests, some_set, is_called, is_called_of, begun_at, ends_at, one_try, tries, tries_within, run_behind, is_over, turn, run_repeat, run_tree, is_active, returns, run_call, named, run_verb}
+use Rattle.ordered_search.specs.Parts.{Searches, in_order, choices, branches, run_group, back_to, forget_passed, run_atomic, run_look, asserts, tests, some_set, is_called, is_called_of, begun_at, ends_at, one_try, tries, tries_within, run_behind, is_over, turn, run_repeat, run_tree, is_active, returns, run_call, named, same_text, skip_to, backs, run_verb}
 use Rattle.ordered_search.specs.Run.{level, levels, levels_behind, level_test, level_other, run}
 use Rattle.ordered_search.proofs.BuiltGroups.{IsBuiltFound, group_built}
-use Rattle.ordered_search.proofs.ForwardStreams.{IsOnWay, Forward, IsForward, forward_nothing, forward_loop, forward_gives, forward_gives_so, forward_name, forward_step, forward_if, forward_less, forward_or_else, forward_each, forward_and_then, forward_catch, forward_decide, with_units, with_early, with_place, with_keep, with_mark, with_capture, with_passed, with_calls, with_returned, loosened, with_return, each_inside, decide_inside, forward_held, forward_hold, forward_hold_so, forward_reach_if}
+use Rattle.ordered_search.proofs.ForwardStreams.{LeadsInside, ArePassedInside, IsOnWay, Forward, IsForward, forward_nothing, forward_backs, forward_loop, forward_gives, forward_gives_so, forward_name, forward_step, forward_if, forward_less, forward_or_else, forward_each, forward_and_then, forward_catch, forward_decide, with_units, with_early, with_place, with_keep, with_mark, with_capture, with_passed, with_calls, with_returned, loosened, with_return, each_inside, decide_inside, forward_held, forward_hold, forward_hold_so, forward_reach_if}
 
 -- a place that is told is as far as what was taken
 told_far : (b : Bool) (p n q : ℕ) → elim b as (λ _. Option ℕ) [ true ↦ Some (p + n) | false ↦ None ] ≡ Some q → p ≤ q
@@ -201,7 +201,7 @@ module _ (g : Setting) (low : Option ℕ) (text : IsText g.options g.subject) (o
   forward_atomic f h s on =
       forward_held g low s.place 1 s _
       (forward_decide g low s.place no_ending _ (λ how u. hold g how (forget_passed s u)) nothing (h _ (with_units g low s _ on)) (forward_nothing g low s.place)
-      (λ how u le on'. forward_hold_so g low s.place how (forget_passed s u) le (with_passed g low u s.passed on')))
+      (λ how u le on'. forward_hold_so g low s.place how (forget_passed s u) le (with_passed g low u s.passed on.passed on')))
 
   -- what is inside a lookaround goes its own way
   forward_look : (positive once : Bool) (f : Search) → ((s : State) → IsOnWay g None s → Forward g None 0 (f s)) → Goes (run_look g positive once f)
@@ -209,7 +209,7 @@ module _ (g : Setting) (low : Option ℕ) (text : IsText g.options g.subject) (o
   forward_look true true f h s on =
       forward_held g low s.place 1 s _
       (decide_inside g low s.place fails_alone _ (λ how u. hold g reached (back_to s (forget_passed s u))) nothing (h _ (with_units g None s _ (loosened g low s on))) (forward_nothing g low s.place)
-      (λ how u on'. forward_hold g low s.place (back_to s (forget_passed s u)) (omega arith) (with_return g low s _ on (with_passed g None u s.passed on'))))
+      (λ how u on'. forward_hold g low s.place (back_to s (forget_passed s u)) (omega arith) (with_return g low s _ on (with_passed g None u s.passed on.passed on'))))
   forward_look true false f h s on =
       forward_held g low s.place 1 s _
       (forward_catch g low s.place fails_alone _ (each_inside g low s.place _ (λ how u. gives reached (back_to s u)) (h _ (with_units g None s _ (loosened g low s on)))
@@ -225,37 +225,61 @@ module _ (g : Setting) (low : Option ℕ) (text : IsText g.options g.subject) (o
   forward_asserts true f yes' no' h y n s on =
       forward_held g low s.place 1 s _
       (decide_inside g low s.place fails_inside _ (λ how u. held g 1 (back_to s (forget_passed s u)) yes') (no' s) (h _ (with_units g None s _ (loosened g low s on))) (n s on)
-      (λ how u on'. forward_held g low s.place 1 (back_to s (forget_passed s u)) yes' (y _ (with_units g low _ _ (with_return g low s _ on (with_passed g None u s.passed on'))))))
+      (λ how u on'. forward_held g low s.place 1 (back_to s (forget_passed s u)) yes' (y _ (with_units g low _ _ (with_return g low s _ on (with_passed g None u s.passed on.passed on'))))))
   forward_asserts false f yes' no' h y n s on =
       forward_held g low s.place 1 s _
       (decide_inside g low s.place fails_inside _ (λ how u. held g 1 (back_to s (forget_passed s u)) no') (yes' s) (h _ (with_units g None s _ (loosened g low s on))) (y s on)
-      (λ how u on'. forward_held g low s.place 1 (back_to s (forget_passed s u)) no' (n _ (with_units g low _ _ (with_return g low s _ on (with_passed g None u s.passed on'))))))
+      (λ how u on'. forward_held g low s.place 1 (back_to s (forget_passed s u)) no' (n _ (with_units g low _ _ (with_return g low s _ on (with_passed g None u s.passed on.passed on'))))))
 
   forward_tests : (b : Bool) (f f' : Search) (s : State) → Forward g low s.place (f s) → Forward g low s.place (f' s) → Forward g low s.place (tests b f f' s)
   unfolding tests
   forward_tests true f f' s h k = h
   forward_tests false f f' s h k = k
 
-  -- Verbs over which backtracking passes.
+  -- Verbs.
 
-  forward_named : (o : Option ℕ) (f : Search) → Goes f → (s : State) → IsOnWay g low s → Forward g low s.place (named o true s f)
+  forward_named : (o : Option ℕ) (is_noted : Bool) (f : Search) → Goes f → (s : State) → IsOnWay g low s → Forward g low s.place (named o is_noted s f)
   unfolding named
-  forward_named None f h s on = h s on
-  forward_named (Some n) f h s on = forward_name g low s.place n _ (h _ (with_mark g low _ (Some n) (with_passed g low s ((n, s.place) ∷ s.passed) on)))
+  forward_named None is_noted f h s on = h s on
+  forward_named (Some n) false f h s on = forward_name g low s.place n _ (h _ (with_mark g low s (Some n) on))
+  forward_named (Some n) true f h s on =
+      forward_name g low s.place n _ (h _ (with_mark g low _ (Some n) (with_passed g low s ((n, s.place) ∷ s.passed) (on.here, on.passed) on)))
 
-  forward_verb : (v : Verb) → IsPassive v → Goes (run_verb g v)
+  -- it goes on, and ends by a verb where backtracking comes back to it
+  forward_backs_by : (v : VerbEnding) → LeadsInside g v → Goes (backs g (by_verb v))
+  unfolding backs
+  forward_backs_by v h s on =
+      forward_held g low s.place 1 s _ (forward_backs g low s.place _ v (omega arith) (with_units g low s _ on) h)
+
+  forward_backs_none : Goes (backs g exhausted)
+  unfolding backs Forward
+  forward_backs_none s on = forward_held g low s.place 1 s _ (omega arith, with_units g low s _ on, tt)
+
+  forward_either : (b : Bool) (e e' : Ending) → Goes (backs g e) → Goes (backs g e') → Goes (backs g (elim b [ true ↦ e | false ↦ e' ]))
+  forward_either true e e' h h' s on = h s on
+  forward_either false e e' h h' s on = h' s on
+
+  -- a SKIP of a name leads to where it was passed, if it was
+  forward_skips : (n : ℕ) (ms : List (ℕ × ℕ)) → ArePassedInside g ms → Goes (backs g (skip_to g n ms))
+  forward_skips n [] h s on = forward_backs_none s on
+  forward_skips n (m ∷ ms) h s on =
+      forward_either (same_text (verb_name g n) (verb_name g m.0)) (by_verb (skip m.1)) (skip_to g n ms)
+      (forward_backs_by (skip m.1) h.0) (forward_skips n ms h.1) s on
+
+  forward_verb : (v : Verb) → Goes (run_verb g v)
   unfolding run_verb
-  forward_verb (Accept None) passive s on = forward_gives_so g low s.place accepted s (omega arith) on
-  forward_verb (Accept (Some n)) passive s on =
-      forward_named (Some n) (hold g accepted) (λ t on'. forward_hold_so g low t.place accepted t (omega arith) on') s on
-  forward_verb (Fail None) passive s on = forward_nothing g low s.place
-  forward_verb (Fail (Some n)) passive s on =
-      forward_named (Some n) (λ t. held g 1 t (λ u. nothing)) (λ t on'. forward_held g low t.place 1 t (λ u. nothing) (forward_nothing g low t.place)) s on
-  forward_verb (Mark o) passive s on = forward_named o (hold g reached) (λ t on'. forward_hold g low t.place t (omega arith) on') s on
-  forward_verb (Commit o) passive s on = absurd passive
-  forward_verb (Prune o) passive s on = absurd passive
-  forward_verb (Skip o) passive s on = absurd passive
-  forward_verb (Then o) passive s on = absurd passive
+  forward_verb (Accept None) s on = forward_gives_so g low s.place accepted s (omega arith) on
+  forward_verb (Accept (Some n)) s on =
+      forward_named (Some n) true (hold g accepted) (λ t on'. forward_hold_so g low t.place accepted t (omega arith) on') s on
+  forward_verb (Fail None) s on = forward_nothing g low s.place
+  forward_verb (Fail (Some n)) s on =
+      forward_named (Some n) true (λ t. held g 1 t (λ u. nothing)) (λ t on'. forward_held g low t.place 1 t (λ u. nothing) (forward_nothing g low t.place)) s on
+  forward_verb (Mark o) s on = forward_named o true (hold g reached) (λ t on'. forward_hold g low t.place t (omega arith) on') s on
+  forward_verb (Commit o) s on = forward_named o false (backs g (by_verb commit)) (forward_backs_by commit tt) s on
+  forward_verb (Prune o) s on = forward_named o false (backs g (by_verb prune)) (forward_backs_by prune tt) s on
+  forward_verb (Skip None) s on = forward_backs_by (skip s.place) on.here s on
+  forward_verb (Skip (Some n)) s on = forward_skips n s.passed on.passed s on
+  forward_verb (Then o) s on = forward_named o false (backs g (by_verb next_branch)) (forward_backs_by next_branch tt) s on
 
   -- Repeats, whose turns go a level deeper.
 
@@ -318,7 +342,7 @@ module _ (g : Setting) (text : IsText g.options g.subject) where
   Roams f = (s : State) → IsOnWay g None s → Forward g None 0 (f s)
 
   begun : (p : ℕ) (s : State) → Stands g p → IsOnWay g None s → IsOnWay g None (begun_at p s)
-  begun p s h on = record { kept = tt; here = h; caps = on.caps; groups = on.groups }
+  begun p s h on = record { kept = tt; here = h; passed = on.passed; caps = on.caps; groups = on.groups }
 
   begins_at : (p : ℕ) (f : Search) → IsForward g None f → (s : State) → Stands g p → IsOnWay g None s → Forward g None 0 (f (begun_at p s))
   begins_at p f h s within on = forward_less g None 0 p (f (begun_at p s)) (omega arith) (h (begun_at p s) (begun p s within on))
@@ -375,7 +399,7 @@ module _ (g : Setting) (text : IsText g.options g.subject) (off : g.matching.«p
       forward_level low (tree.ref ns caseless) built s on = forward_ref g low text off ns caseless s on
       forward_level low (tree.anchor kind) built s on = forward_anchor g low text off kind s on
       forward_level low tree.keep_out built s on = forward_gives g low s.place _ (omega arith) (with_keep g low s on)
-      forward_level low (tree.verb v) built s on = forward_verb g low text off v built s on
+      forward_level low (tree.verb v) built s on = forward_verb g low text off v s on
       forward_level low (tree.callout c) built s on = absurd built
 
       forward_levels : (low : Option ℕ) (ts : Row) → AreBuilt ts → AllGo g low text off (levels g below ts)

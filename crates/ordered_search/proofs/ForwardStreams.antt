@@ -1,13 +1,13 @@
 -- Streams that go forward: their states are reached at a place or past it, in the subject, and nothing but names is told beside
--- them.
-use Rattle.std.proofs.Common.{◌≡◌, ◌∙◌, ℕ, ◌+◌, ◌≤◌, Bool, true, false, List, All, length, Option, Some, None, arith}
+-- them. A verb that skips goes to a place of the subject.
+use Rattle.std.proofs.Common.{◌≡◌, ◌∙◌, ℕ, ◌+◌, ◌≤◌, Bool, true, false, List, [], ◌∷◌, All, length, Option, Some, None, arith}
 use Rattle.std.specs.Prelude.{nat_le}
 use Rattle.std.proofs.lemmas.List.{length-set}
 use Rattle.std.proofs.lemmas.List.Elements.{All-set}
 use Rattle.pat_tree.specs.declared.options.PartialMode.{PartialMode}
 use Rattle.pat_tree.specs.declared.options.PartialMode.TheVariants.{Off, Soft, Hard}
 use Rattle.match_items.specs.Subjects.{IsTextPlace}
-use Rattle.ordered_search.specs.Stream.{State, exhausted, by_verb, by_halt, is_partial, too_many_units, loop, abort, cut, Ending, How, reached, accepted, note, name, state, step, Stream, Search, ends, ◌▸◌, nothing, gives, ◌or_else◌, each, and_then, go_on, decide, catch, captured}
+use Rattle.ordered_search.specs.Stream.{State, VerbEnding, skip, exhausted, by_verb, by_halt, is_partial, too_many_units, loop, abort, cut, Ending, How, reached, accepted, note, name, state, step, Stream, Search, ends, ◌▸◌, nothing, gives, ◌or_else◌, each, and_then, go_on, decide, catch, captured}
 use Rattle.ordered_search.specs.Setting.{Setting, held, hold, reach, reach_if}
 use Rattle.ordered_search.specs.Parts.{back_to}
 use Rattle.ordered_search.specs.Forward.{IsWithin, IsName}
@@ -26,17 +26,29 @@ kept_here : (low : Option ℕ) (keep p : ℕ) → IsKept low keep p → IsKept l
 kept_here None keep p h = tt
 kept_here (Some low) keep p h = let begins : low ≤ keep = h.0 in let ordered : keep ≤ p = h.1 in (omega (arith, begins, ordered), omega arith)
 
+module _ (g : Setting) where
+  -- where it skips to is a place of the subject
+  abbrev pub LeadsInside : VerbEnding → Type 0
+  LeadsInside (skip p) = IsTextPlace g.options g.subject p
+  LeadsInside _ = Unit {0}
+
+  -- the names were passed at places of the subject
+  abbrev pub ArePassedInside : List (ℕ × ℕ) → Type 0
+  ArePassedInside [] = Unit {0}
+  ArePassedInside (m ∷ ms) = IsTextPlace g.options g.subject m.1 × ArePassedInside ms
+
 module _ (g : Setting) (low : Option ℕ) where
   -- a state on a path that began at `low`
   pub record IsOnWay (s : State) : Type 0 where
     pub kept : IsKept low s.keep s.place
     pub here : IsTextPlace g.options g.subject s.place
+    pub passed : ArePassedInside g s.passed
     pub caps : All (IsWithin (length g.subject)) s.caps
     pub groups : length s.caps ≡ g.groups
 
   unfoldable pub Forward : ℕ → Stream → Type 0
   Forward p (ends exhausted) = Unit {0}
-  Forward p (ends (by_verb v)) = ⊥
+  Forward p (ends (by_verb v)) = LeadsInside g v
   Forward p (ends (by_halt is_partial)) = ⊥
   Forward p (ends (by_halt too_many_units)) = Unit {0}
   Forward p (ends (by_halt loop)) = Unit {0}
@@ -65,6 +77,10 @@ module _ (g : Setting) (low : Option ℕ) where
   pub forward_gives : (p : ℕ) (s : State) → p ≤ s.place → IsOnWay s → Forward p (gives reached s)
   forward_gives p s h on = forward_gives_so p reached s h on
 
+  pub forward_backs : (p : ℕ) (s : State) (v : VerbEnding) → p ≤ s.place → IsOnWay s → LeadsInside g v → Forward p (state reached s ▸ ends (by_verb v))
+  unfolding Forward
+  forward_backs p s v le on h = (le, on, h)
+
   pub forward_name : (p n : ℕ) (x : Stream) → Forward p x → Forward p (note (name n) ▸ x)
   unfolding Forward
   forward_name p n x h = (tt, h)
@@ -80,7 +96,7 @@ module _ (g : Setting) (low : Option ℕ) where
   pub forward_less : (p q : ℕ) (x : Stream) → p ≤ q → Forward q x → Forward p x
   unfolding Forward
   forward_less p q (ends exhausted) le h = tt
-  forward_less p q (ends (by_verb v)) le h = absurd h
+  forward_less p q (ends (by_verb v)) le h = h
   forward_less p q (ends (by_halt is_partial)) le h = absurd h
   forward_less p q (ends (by_halt too_many_units)) le h = tt
   forward_less p q (ends (by_halt loop)) le h = tt
@@ -93,7 +109,7 @@ module _ (g : Setting) (low : Option ℕ) where
   pub forward_or_else : (p : ℕ) (x y : Stream) → Forward p x → Forward p y → Forward p (x or_else y)
   unfolding Forward ◌or_else◌
   forward_or_else p (ends exhausted) y h k = k
-  forward_or_else p (ends (by_verb v)) y h k = absurd h
+  forward_or_else p (ends (by_verb v)) y h k = h
   forward_or_else p (ends (by_halt a)) y h k = h
   forward_or_else p (note m ▸ x) y h k = (h.0, forward_or_else p x y h.1 k)
   forward_or_else p (state how s ▸ x) y h k = (h.0, h.1, forward_or_else p x y h.2 k)
@@ -133,37 +149,38 @@ module _ (g : Setting) (low : Option ℕ) where
   -- States that stay on the way.
 
   pub with_units : (s : State) (n : ℕ) → IsOnWay s → IsOnWay (record s { units = n })
-  with_units s n on = record { kept = on.kept; here = on.here; caps = on.caps; groups = on.groups }
+  with_units s n on = record { kept = on.kept; here = on.here; passed = on.passed; caps = on.caps; groups = on.groups }
 
   pub with_early : (s : State) (n : ℕ) → IsOnWay s → IsOnWay (record s { early = n })
-  with_early s n on = record { kept = on.kept; here = on.here; caps = on.caps; groups = on.groups }
+  with_early s n on = record { kept = on.kept; here = on.here; passed = on.passed; caps = on.caps; groups = on.groups }
 
   pub with_place : (s : State) (q : ℕ) → s.place ≤ q → IsTextPlace g.options g.subject q → IsOnWay s → IsOnWay (record s { place = q })
-  with_place s q le in' on = record { kept = kept_on low s.keep s.place q le on.kept; here = in'; caps = on.caps; groups = on.groups }
+  with_place s q le in' on = record { kept = kept_on low s.keep s.place q le on.kept; here = in'; passed = on.passed; caps = on.caps; groups = on.groups }
 
   pub with_mark : (s : State) (mark : Option ℕ) → IsOnWay s → IsOnWay (record s { mark = mark })
-  with_mark s mark on = record { kept = on.kept; here = on.here; caps = on.caps; groups = on.groups }
+  with_mark s mark on = record { kept = on.kept; here = on.here; passed = on.passed; caps = on.caps; groups = on.groups }
 
   pub with_keep : (s : State) → IsOnWay s → IsOnWay (record s { keep = s.place })
-  with_keep s on = record { kept = kept_here low s.keep s.place on.kept; here = on.here; caps = on.caps; groups = on.groups }
+  with_keep s on = record { kept = kept_here low s.keep s.place on.kept; here = on.here; passed = on.passed; caps = on.caps; groups = on.groups }
 
   pub with_capture : (s : State) (n p : ℕ) → p ≤ s.place → IsOnWay s → IsOnWay (captured n p s)
   with_capture s n p le on = record {
     kept = on.kept;
     here = on.here;
+    passed = on.passed;
     caps = All-set (IsWithin (length g.subject)) s.caps _ (Some (record { from = p; to = s.place })) (le, on.here.within) on.caps;
     groups = length-set s.caps _ _ ∙ on.groups;
   }
 
-  pub with_passed : (s : State) (ps : List (ℕ × ℕ)) → IsOnWay s → IsOnWay (record s { passed = ps })
-  with_passed s ps on = record { kept = on.kept; here = on.here; caps = on.caps; groups = on.groups }
+  pub with_passed : (s : State) (ps : List (ℕ × ℕ)) → ArePassedInside g ps → IsOnWay s → IsOnWay (record s { passed = ps })
+  with_passed s ps inside on = record { kept = on.kept; here = on.here; passed = inside; caps = on.caps; groups = on.groups }
 
   pub with_calls : (s : State) (calls : List (ℕ × ℕ)) → IsOnWay s → IsOnWay (record s { calls = calls })
-  with_calls s calls on = record { kept = on.kept; here = on.here; caps = on.caps; groups = on.groups }
+  with_calls s calls on = record { kept = on.kept; here = on.here; passed = on.passed; caps = on.caps; groups = on.groups }
 
   -- back from a call, with the captures and the calls from before it
   pub with_returned : (s u : State) (n : ℕ) → IsOnWay s → IsOnWay u → IsOnWay (record u { caps = s.caps; calls = s.calls; units = n })
-  with_returned s u n on on' = record { kept = on'.kept; here = on'.here; caps = on.caps; groups = on.groups }
+  with_returned s u n on on' = record { kept = on'.kept; here = on'.here; passed = on'.passed; caps = on.caps; groups = on.groups }
 
   -- Units and hits of the end.
 
@@ -191,16 +208,16 @@ module _ (g : Setting) (low : Option ℕ) where
 -- Lookarounds: what is inside goes its own way, and only its captures stay.
 module _ (g : Setting) (low : Option ℕ) where
   pub loosened : (s : State) → IsOnWay g low s → IsOnWay g None s
-  loosened s on = record { kept = tt; here = on.here; caps = on.caps; groups = on.groups }
+  loosened s on = record { kept = tt; here = on.here; passed = on.passed; caps = on.caps; groups = on.groups }
 
   -- back from a lookaround, with the captures of its body
   pub with_return : (s u : State) → IsOnWay g low s → IsOnWay g None u → IsOnWay g low (back_to s u)
-  with_return s u on on' = record { kept = on.kept; here = on.here; caps = on'.caps; groups = on'.groups }
+  with_return s u on on' = record { kept = on.kept; here = on.here; passed = on'.passed; caps = on'.caps; groups = on'.groups }
 
   forward_ending : (p : ℕ) (e : Ending) → Forward g None 0 (ends e) → Forward g low p (ends e)
   unfolding Forward
   forward_ending p exhausted h = tt
-  forward_ending p (by_verb v) h = absurd h
+  forward_ending p (by_verb v) h = h
   forward_ending p (by_halt is_partial) h = absurd h
   forward_ending p (by_halt too_many_units) h = tt
   forward_ending p (by_halt loop) h = tt
