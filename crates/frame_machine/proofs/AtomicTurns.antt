@@ -1,5 +1,5 @@
 -- The steps of the machine at an atomic group.
-use Rattle.std.proofs.Common.{◌≡◌, ℕ, suc, ◌+◌, ◌<◌, ◌≤◌, List, ◌∷◌, map, reverse, None, Some, length, slice_get, refl, sym, ap, arith}
+use Rattle.std.proofs.Common.{◌≡◌, ℕ, suc, ◌+◌, ◌<◌, ◌≤◌, List, ◌∷◌, map, reverse, None, Some, length, slice_get, refl, sym, ap, subst, arith}
 use Rattle.pat_tree.specs.declared.nodes.Node.TheVariants as node
 use Rattle.pat_tree.specs.Nested.{row, tree_at}
 use Rattle.ordered_search.specs.Paths.{only_many}
@@ -19,6 +19,8 @@ use Rattle.frame_machine.specs.Frames.{branch_rest, hand, fail, ahead, past}
 use Rattle.frame_machine.specs.Validity.{IsValid, Advances}
 use Rattle.frame_machine.proofs.PartPaths.{tree_by, branched_atomic, enter_atomic}
 use Rattle.frame_machine.proofs.Advance.{holding_full, over_units}
+use Rattle.ordered_search.proofs.Free.{IsAgreed, agreed}
+use Rattle.frame_machine.proofs.Frames.{caught_through}
 use Rattle.frame_machine.proofs.Turns.{deep, opens}
 use Rattle.frame_machine.proofs.LeaveTurns.{frame_inside, stop_leave, turn_left}
 use Rattle.frame_machine.proofs.KidParts.{kid_parts}
@@ -32,7 +34,9 @@ module _ (c : Ground) (ok : IsGround c) (q : ℕ) (spot : Spot) (stack : List En
   turn_atomic room =
       opens c ok q spot stack caps v (node.Atomic ks) i (AtomicOpen (record { node = q; link = spot.frame }) (kept_at spot)) refl refl refl (λ a. refl) room
       q v.running.0 ks (kid_parts c q (node.Atomic ks) v.running.0 i) (branched_atomic c q (node.Atomic ks) i ks refl) (ap (λ x. branch_rest c x (c.rest q)) (sym (tree_by c q (node.Atomic ks) i (node.Atomic ks) refl)))
-      (v.running.0, v.running.1, tt) (hand c stack caps spot.frame q) (pause (fail c stack caps)) (ap is_behind (sym (tree_by c q (node.Atomic ks) i (node.Atomic ks) refl)))
+      (v.running.0, v.running.1, tt) (hand c stack caps spot.frame q)
+      (subst (IsAgreed (hand c stack caps spot.frame q)) (caught_through c (AtomicOpen (record { node = q; link = spot.frame }) (kept_at spot)) stack caps refl) (agreed _))
+      (pause (fail c stack caps)) (ap is_behind (sym (tree_by c q (node.Atomic ks) i (node.Atomic ks) refl)))
       (enter_atomic c ok q (node.Atomic ks) i _ _ _ _ _ (deep c ok q spot stack caps v (node.Atomic ks) i) ks refl none) refl
 
   pub stop_atomic : c.setting.matching.frame_limit ≤ spot.units → tread c.setting spot.left (ahead c (conf (Enter q) spot stack caps)) ≡ answers FrameLimit

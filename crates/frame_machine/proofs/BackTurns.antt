@@ -5,12 +5,13 @@ use Rattle.pat_tree.specs.Nested.{Nested, Row}
 use Rattle.match_items.specs.Items.{one_less, is_none_left, after_item, place_before}
 use Rattle.frame_store.specs.declared.records.Record.{Record}
 use Rattle.frame_store.specs.Captures.{Captures}
-use Rattle.frame_store.specs.Entry.{Site, Kept, Entry, LaterBranch, TurnOrExit, LaterTurn, FewerItems, MoreItems, AtomicLeft, DenialOpen, LookTest, DenialTest, entry_of, entries}
+use Rattle.frame_store.specs.Entry.{Site, Kept, Entry, LaterBranch, TurnOrExit, LaterTurn, FewerItems, MoreItems, AtomicLeft, DenialOpen, LookTest, DenialTest, CommitPassed, PrunePassed, SkipPassed, entry_of, entries}
 use Rattle.ordered_search.specs.Stream.{State}
 use Rattle.ordered_search.specs.PlaceAnswer.{answers, Failed, Exhausted}
-use Rattle.ordered_search.specs.Moves.{Moves, pause, Follow, tread}
+use Rattle.ordered_search.specs.Moves.{Moves, pause, Follow, tread, size}
 use Rattle.ordered_search.specs.Paths.{offer_paths, lazy_paths}
-use Rattle.frame_machine.specs.declared.machine.Next.TheVariants.{Branch, Begin, Fewer, More, Back}
+use Rattle.frame_machine.specs.declared.machine.Next.TheVariants.{Branch, Begin, Fewer, More, Back, Act}
+use Rattle.frame_machine.specs.declared.machine.Acting.TheVariants as acting
 use Rattle.frame_machine.specs.declared.machine.Spot.{Spot}
 use Rattle.frame_machine.specs.Ground.{Ground, tree_of, next_of, IsGround, IsPart}
 use Rattle.frame_machine.specs.Machine.{Around, Outside, less, state_at, Conf, conf, towards}
@@ -20,7 +21,7 @@ use Rattle.frame_machine.proofs.PartPaths.{reaching_off}
 use Rattle.frame_machine.proofs.Advance.{advance_pause, goes_back, goes_on}
 use Rattle.std.proofs.Common.{◌≢◌}
 use Rattle.pat_tree.specs.declared.nodes.Item.{Item}
-use Rattle.frame_store.specs.declared.kinds.TheConstants.{KIND_LATER_BRANCH, KIND_TURN_OR_EXIT, KIND_LATER_TURN, KIND_FEWER_ITEMS, KIND_MORE_ITEMS, KIND_ATOMIC_LEFT, KIND_DENIAL_OPEN, KIND_LOOK_TEST, KIND_DENIAL_TEST}
+use Rattle.frame_store.specs.declared.kinds.TheConstants.{KIND_LATER_BRANCH, KIND_TURN_OR_EXIT, KIND_LATER_TURN, KIND_FEWER_ITEMS, KIND_MORE_ITEMS, KIND_ATOMIC_LEFT, KIND_DENIAL_OPEN, KIND_LOOK_TEST, KIND_DENIAL_TEST, KIND_COMMIT_PASSED, KIND_PRUNE_PASSED, KIND_SKIP_PASSED}
 use Rattle.frame_store.specs.Entry.{site_of, kept_of, entry_kind}
 use Rattle.std.proofs.lemmas.List.{length-map}
 use Rattle.frame_store.specs.Stack as stack_of
@@ -29,7 +30,7 @@ use Rattle.frame_store.proofs.StackLemmas.{past-more, past-all, up_to-map}
 use Rattle.frame_machine.proofs.Drops.{fail_to_is, dropped, past_slots}
 use Rattle.frame_store.specs.Undo.{HasSlot}
 use Rattle.std.proofs.Common.{All, ◌≤◌}
-use Rattle.frame_store.proofs.EntryLemmas.{entry_of-later_branch, entry_of-turn_or_exit, entry_of-later_turn, entry_of-fewer_items, entry_of-more_items, entry_of-atomic_left, entry_of-denial_open, entry_of-look_test, entry_of-denial_test, entry_kind-not}
+use Rattle.frame_store.proofs.EntryLemmas.{entry_of-later_branch, entry_of-turn_or_exit, entry_of-later_turn, entry_of-fewer_items, entry_of-more_items, entry_of-atomic_left, entry_of-denial_open, entry_of-look_test, entry_of-denial_test, entry_of-commit_passed, entry_of-prune_passed, entry_of-skip_passed, entry_kind-not}
 use Rattle.frame_store.proofs.UndoLemmas.{length-taken_back, undone-cons, undone-nil}
 use Rattle.frame_machine.specs.Stops.{restored, IsFurther, more_next}
 use Rattle.frame_machine.proofs.Frames.{spans_back, hand_same}
@@ -115,15 +116,42 @@ module _ (c : Ground) (ok : IsGround c) (spot : Spot) (stack : List Entry) (caps
       Advances c (conf Back spot (LookTest site kept ∷ stack) caps) (conf next (restored spot site kept) stack caps)
   unfolding fail
   back_look_test site kept next choice v =
-      advance_pause c _ _ _ refl (choice.goes _ (outside c stack caps site.link) _ _ (λ p. hand_same c stack stack caps caps site.link site.link p site.node)) refl
+      advance_pause c _ _ _ refl (choice.goes _ (outside c stack caps site.link) _ _ (λ p. hand_same c stack caps site.link p site.node)) refl
       (record { running = choice.runs (restored spot site kept) stack v.records.0.1; records = v.records.1; spans = v.spans; slots = v.slots })
 
   back_denial_test : (site : Site) (kept : Kept) (next : Next) → IsChoice c site.node true next → IsValid c (conf Back spot (DenialTest site kept ∷ stack) caps) →
       Advances c (conf Back spot (DenialTest site kept ∷ stack) caps) (conf next (restored spot site kept) stack caps)
   unfolding fail
   back_denial_test site kept next choice v =
-      advance_pause c _ _ _ refl (choice.goes _ (outside c stack caps site.link) _ _ (λ p. hand_same c stack stack caps caps site.link site.link p site.node)) refl
+      advance_pause c _ _ _ refl (choice.goes _ (outside c stack caps site.link) _ _ (λ p. hand_same c stack caps site.link p site.node)) refl
       (record { running = choice.runs (restored spot site kept) stack v.records.0.1; records = v.records.1; spans = v.spans; slots = v.slots })
+
+  -- a verb acts
+  back_commit : (site : Site) (kept : Kept) (h : ℕ) → IsValid c (conf Back spot (CommitPassed site kept h ∷ stack) caps) →
+      Advances c (conf Back spot (CommitPassed site kept h ∷ stack) caps) (conf (Act acting.Commit) (restored spot site kept) stack caps)
+  unfolding fail
+  back_commit site kept h v = advance_pause c _ _ _ refl refl refl (record { running = (v.records.0.1, tt); records = v.records.1; spans = v.spans; slots = v.slots })
+
+  back_prune : (site : Site) (kept : Kept) (h : ℕ) → IsValid c (conf Back spot (PrunePassed site kept h ∷ stack) caps) →
+      Advances c (conf Back spot (PrunePassed site kept h ∷ stack) caps) (conf (Act acting.Prune) (restored spot site kept) stack caps)
+  unfolding fail
+  back_prune site kept h v = advance_pause c _ _ _ refl refl refl (record { running = (v.records.0.1, tt); records = v.records.1; spans = v.spans; slots = v.slots })
+
+  back_skip : (site : Site) (kept : Kept) (to : ℕ) → IsValid c (conf Back spot (SkipPassed site kept 0 to ∷ stack) caps) →
+      Advances c (conf Back spot (SkipPassed site kept 0 to ∷ stack) caps) (conf (Act (acting.Skip to)) (restored spot site kept) stack caps)
+  unfolding fail
+  back_skip site kept to v =
+      advance_pause c _ _ _ refl refl refl (record { running = (v.records.0.1, v.records.0.2); records = v.records.1; spans = v.spans; slots = v.slots })
+
+  -- or not, where its name was not passed
+  back_unskipped : (site : Site) (kept : Kept) (h to : ℕ) → IsValid c (conf Back spot (SkipPassed site kept (suc h) to ∷ stack) caps) →
+      Advances c (conf Back spot (SkipPassed site kept (suc h) to ∷ stack) caps) (conf Back spot stack caps)
+  unfolding fail tread size
+  back_unskipped site kept h to v = record {
+    answer = refl;
+    shorter = omega arith;
+    valid = record { running = tt; records = v.records.1; spans = v.spans; slots = v.slots };
+  }
 
   -- an atomic part that was left is given up
   back_left : (site : Site) (kept : Kept) (h : ℕ) → IsValid c (conf Back spot (AtomicLeft site kept h ∷ stack) caps) →
@@ -147,18 +175,21 @@ module _ (c : Ground) (ok : IsGround c) (spot : Spot) (stack : List Entry) (caps
       })
 
 leaves_nothing : (c : Ground) (r : Entry) → entry_kind r ≢ KIND_LATER_BRANCH → entry_kind r ≢ KIND_TURN_OR_EXIT → entry_kind r ≢ KIND_LATER_TURN → entry_kind r ≢ KIND_FEWER_ITEMS → entry_kind r ≢ KIND_MORE_ITEMS → entry_kind r ≢ KIND_ATOMIC_LEFT → entry_kind r ≢ KIND_DENIAL_OPEN → entry_kind r ≢ KIND_LOOK_TEST →
-    entry_kind r ≢ KIND_DENIAL_TEST →
+    entry_kind r ≢ KIND_DENIAL_TEST → entry_kind r ≢ KIND_COMMIT_PASSED → entry_kind r ≢ KIND_PRUNE_PASSED → entry_kind r ≢ KIND_SKIP_PASSED →
     (a : Around) (k : Outside) (x : Captures) (out : Moves) (to : ℕ → Moves) → on_fail c r a k x out to ≡ out
-leaves_nothing c (LaterBranch at kept next) b e l f m g d t w a k x out to = absurd (b refl)
-leaves_nothing c (TurnOrExit at kept count) b e l f m g d t w a k x out to = absurd (e refl)
-leaves_nothing c (LaterTurn at kept count) b e l f m g d t w a k x out to = absurd (l refl)
-leaves_nothing c (FewerItems at kept least last) b e l f m g d t w a k x out to = absurd (f refl)
-leaves_nothing c (MoreItems at kept count last) b e l f m g d t w a k x out to = absurd (m refl)
-leaves_nothing c (AtomicLeft at kept height) b e l f m g d t w a k x out to = absurd (g refl)
-leaves_nothing c (DenialOpen at kept) b e l f m g d t w a k x out to = absurd (d refl)
-leaves_nothing c (LookTest at kept) b e l f m g d t w a k x out to = absurd (t refl)
-leaves_nothing c (DenialTest at kept) b e l f m g d t w a k x out to = absurd (w refl)
-leaves_nothing c _ b e l f m g d t w a k x out to = refl
+leaves_nothing c (LaterBranch at kept next) b e l f m g d t w z y u a k x out to = absurd (b refl)
+leaves_nothing c (TurnOrExit at kept count) b e l f m g d t w z y u a k x out to = absurd (e refl)
+leaves_nothing c (LaterTurn at kept count) b e l f m g d t w z y u a k x out to = absurd (l refl)
+leaves_nothing c (FewerItems at kept least last) b e l f m g d t w z y u a k x out to = absurd (f refl)
+leaves_nothing c (MoreItems at kept count last) b e l f m g d t w z y u a k x out to = absurd (m refl)
+leaves_nothing c (AtomicLeft at kept height) b e l f m g d t w z y u a k x out to = absurd (g refl)
+leaves_nothing c (DenialOpen at kept) b e l f m g d t w z y u a k x out to = absurd (d refl)
+leaves_nothing c (LookTest at kept) b e l f m g d t w z y u a k x out to = absurd (t refl)
+leaves_nothing c (DenialTest at kept) b e l f m g d t w z y u a k x out to = absurd (w refl)
+leaves_nothing c (CommitPassed at kept height) b e l f m g d t w z y u a k x out to = absurd (z refl)
+leaves_nothing c (PrunePassed at kept height) b e l f m g d t w z y u a k x out to = absurd (y refl)
+leaves_nothing c (SkipPassed at kept height next) b e l f m g d t w z y u a k x out to = absurd (u refl)
+leaves_nothing c _ b e l f m g d t w z y u a k x out to = refl
 
 -- the same, of the records
 module _ (c : Ground) (ok : IsGround c) (spot : Spot) (old older : List Record) (r : Record) (caps now : Captures) (v : IsValid c (conf Back spot (entries old) caps))
@@ -194,6 +225,27 @@ module _ (c : Ground) (ok : IsGround c) (spot : Spot) (old older : List Record) 
 
   pub pop_denial_test : r.kind ≡ KIND_DENIAL_TEST → (next : Next) → IsChoice c r.node true next → Advances c (conf Back spot (entries old) caps) (conf next (restored spot (site_of r) (kept_of r)) (entries older) now)
   pop_denial_test e next choice = pop_as _ (entry_of-denial_test r e) (λ x. conf next (restored spot (site_of r) (kept_of r)) (entries older) x) (back_denial_test c ok spot (entries older) caps (site_of r) (kept_of r) next choice)
+
+  pub pop_commit : r.kind ≡ KIND_COMMIT_PASSED → Advances c (conf Back spot (entries old) caps) (conf (Act acting.Commit) (restored spot (site_of r) (kept_of r)) (entries older) now)
+  pop_commit e = pop_as _ (entry_of-commit_passed r e) (λ x. conf (Act acting.Commit) (restored spot (site_of r) (kept_of r)) (entries older) x) (back_commit c ok spot (entries older) caps (site_of r) (kept_of r) r.from)
+
+  pub pop_prune : r.kind ≡ KIND_PRUNE_PASSED → Advances c (conf Back spot (entries old) caps) (conf (Act acting.Prune) (restored spot (site_of r) (kept_of r)) (entries older) now)
+  pop_prune e = pop_as _ (entry_of-prune_passed r e) (λ x. conf (Act acting.Prune) (restored spot (site_of r) (kept_of r)) (entries older) x) (back_prune c ok spot (entries older) caps (site_of r) (kept_of r) r.from)
+
+  -- the record of SKIP, of this height
+  skip_of : r.kind ≡ KIND_SKIP_PASSED → (h : ℕ) → r.from ≡ h → entry_of r ≡ SkipPassed (site_of r) (kept_of r) h r.to
+  skip_of e h is = entry_of-skip_passed r e ∙ ap (λ x. SkipPassed (site_of r) (kept_of r) x r.to) is
+
+  pub pop_skip : r.kind ≡ KIND_SKIP_PASSED → (r.from ≤ 0) → Advances c (conf Back spot (entries old) caps) (conf (Act (acting.Skip r.to)) (restored spot (site_of r) (kept_of r)) (entries older) now)
+  pop_skip e none =
+      pop_as _ (skip_of e 0 (omega (arith, none))) (λ x. conf (Act (acting.Skip r.to)) (restored spot (site_of r) (kept_of r)) (entries older) x)
+      (back_skip c ok spot (entries older) caps (site_of r) (kept_of r) r.to)
+
+  pub pop_unskipped : r.kind ≡ KIND_SKIP_PASSED → 0 < r.from → Advances c (conf Back spot (entries old) caps) (conf Back spot (entries older) now)
+  pop_unskipped e some =
+      let one : r.from ≡ suc (r.from - 1) = omega (arith, some) in
+      pop_as _ (skip_of e (suc (r.from - 1)) one) (λ x. conf Back spot (entries older) x)
+      (back_unskipped c ok spot (entries older) caps (site_of r) (kept_of r) (r.from - 1) r.to)
 
   pub pop_left : r.kind ≡ KIND_ATOMIC_LEFT → (rest : List Record) → rest ≡ stack_of.up_to r.from older → (after : Captures) → after ≡ undone (stack_of.past r.from (entries older)) now →
       Advances c (conf Back spot (entries old) caps) (conf Back spot (entries rest) after)
@@ -278,13 +330,14 @@ module _ (c : Ground) (ok : IsGround c) (spot : Spot) (old older : List Record) 
     pop_more (Some p) h = let z = further_one (tree_of c r.node) (Some p) h in pop_further_some e z.0 z.1 z.2 z.3 z.4 p (r.count + 1) (omega arith) (sym z.5)
 
   pub pop_plain : r.kind ≢ KIND_LATER_BRANCH → r.kind ≢ KIND_TURN_OR_EXIT → r.kind ≢ KIND_LATER_TURN → r.kind ≢ KIND_FEWER_ITEMS → r.kind ≢ KIND_MORE_ITEMS → r.kind ≢ KIND_ATOMIC_LEFT → r.kind ≢ KIND_DENIAL_OPEN → r.kind ≢ KIND_LOOK_TEST →
-      r.kind ≢ KIND_DENIAL_TEST → Advances c (conf Back spot (entries old) caps) (conf Back spot (entries older) now)
-  pop_plain b x l f m g d t w =
+      r.kind ≢ KIND_DENIAL_TEST → r.kind ≢ KIND_COMMIT_PASSED → r.kind ≢ KIND_PRUNE_PASSED → r.kind ≢ KIND_SKIP_PASSED → Advances c (conf Back spot (entries old) caps) (conf Back spot (entries older) now)
+  pop_plain b x l f m g d t w z y u =
       pop_as (entry_of r) refl (λ z. conf Back spot (entries older) z)
       (back_plain c ok spot (entries older) caps (entry_of r)
       (leaves_nothing c (entry_of r) (entry_kind-not r KIND_LATER_BRANCH (omega arith) b) (entry_kind-not r KIND_TURN_OR_EXIT (omega arith) x) (entry_kind-not r KIND_LATER_TURN (omega arith) l)
       (entry_kind-not r KIND_FEWER_ITEMS (omega arith) f) (entry_kind-not r KIND_MORE_ITEMS (omega arith) m) (entry_kind-not r KIND_ATOMIC_LEFT (omega arith) g) (entry_kind-not r KIND_DENIAL_OPEN (omega arith) d)
-      (entry_kind-not r KIND_LOOK_TEST (omega arith) t) (entry_kind-not r KIND_DENIAL_TEST (omega arith) w)))
+      (entry_kind-not r KIND_LOOK_TEST (omega arith) t) (entry_kind-not r KIND_DENIAL_TEST (omega arith) w)
+      (entry_kind-not r KIND_COMMIT_PASSED (omega arith) z) (entry_kind-not r KIND_PRUNE_PASSED (omega arith) y) (entry_kind-not r KIND_SKIP_PASSED (omega arith) u)))
 
 -- nothing is left
 pub stop_none : (c : Ground) (spot : Spot) (old : List Record) (caps : Captures) → old ≡ [] → tread c.setting spot.left (ahead c (conf Back spot (entries old) caps)) ≡ answers (Failed Exhausted)

@@ -78,7 +78,7 @@ site_is r =
     (here refl, (here refl, (here refl, (here refl, (here refl, (here refl, (here refl, (here refl, (here refl, (here refl, (here refl, (here refl, (here refl, (here refl, (here refl, (here refl, (here refl, (here refl, (here refl, (here refl, (here refl, (here refl, tt))))))))))))))))))))))
     (here refl)).same
 
-link_is : (r : Record) → link_of (entry_of r) ≡ r.link
+pub link_is : (r : Record) → link_of (entry_of r) ≡ r.link
 link_is r = ap (λ (s : Site). s.link) (site_is r)
 
 -- The record at a height.
@@ -88,7 +88,7 @@ calls_deep [] base l h = refl
 calls_deep (p ∷ above) base l h =
     calls_below p (above ++ base) l (λ e. omega (arith, e, h, length-append above base)) ∙ calls_deep above base l h
 
-nested_deep : (above base : List Entry) → AreNested (above ++ base) → AreNested base
+pub nested_deep : (above base : List Entry) → AreNested (above ++ base) → AreNested base
 nested_deep [] base n = n
 nested_deep (p ∷ above) base n = nested_deep above base n.2
 

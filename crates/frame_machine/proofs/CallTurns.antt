@@ -11,9 +11,9 @@ use Rattle.frame_store.specs.Entry.{Entry, CalledGroup}
 use Rattle.ordered_search.specs.Stream.{State, loop, by_halt}
 use Rattle.ordered_search.specs.Parts.{is_active}
 use Rattle.ordered_search.specs.PlaceAnswer.{answers, MatchLimit, FrameLimit, Loop}
-use Rattle.ordered_search.specs.Moves.{Moves, stops, pause, stepped, holding, tread, size, Follow, Path, at_verbs}
+use Rattle.ordered_search.specs.Moves.{Moves, stops, pause, stepped, holding, tread, size, Follow, Handler, Path}
 use Rattle.ordered_search.specs.Paths.{returned, called_path, call_path, paths, path, branch_paths, close}
-use Rattle.ordered_search.proofs.Free.{free_paths, holding_same}
+use Rattle.ordered_search.proofs.Free.{holding_same}
 use Rattle.frame_machine.specs.declared.machine.Next.TheVariants.{Enter, Back}
 use Rattle.frame_machine.specs.declared.machine.Spot.{Spot}
 use Rattle.frame_machine.specs.Ground.{Ground, tree_of, IsNode, IsGround, IsPart}
@@ -24,10 +24,9 @@ use Rattle.frame_machine.specs.Frames.{after, past, branch_rest, close_from, fra
 use Rattle.frame_machine.specs.Branches.{IsBranched}
 use Rattle.frame_machine.specs.Validity.{IsCapture, StandsAt, IsRunning, IsValid, Advances}
 use Rattle.frame_machine.specs.Calls.{AreWithin, calls_at, EndsAlone, IsCallee, call_entry, call_spot, called_ahead, IsCalling, GoesOn}
-use Rattle.frame_machine.proofs.Forms.{verbless}
 use Rattle.frame_machine.proofs.KidParts.{kid_parts}
 use Rattle.frame_machine.proofs.PartPaths.{enter_call, after_nil, branched_group, part_paths, row_deep, first_here}
-use Rattle.frame_machine.proofs.Frames.{around_here, heard_push, cont_here, focus_framed, inside_of, sound_less}
+use Rattle.frame_machine.proofs.Frames.{around_here, heard_push, cont_here, caught_at, caught_through, focus_framed, inside_of, sound_less}
 use Rattle.frame_machine.proofs.Advance.{holding_room, holding_full, over_steps, over_units, over_units_step}
 use Rattle.frame_machine.proofs.Turns.{deep, alike}
 use Rattle.frame_machine.proofs.CallFrames.{around_calls}
@@ -139,18 +138,22 @@ module _ (c : Ground) (ok : IsGround c) (q m : ℕ) (spot : Spot) (stack : List 
         abbrev inside_state : State
         inside_state = record s { units = spot.units + 1; calls = (m, s.place) ∷ s.calls }
 
+        -- what verbs in the call lead to
+        abbrev given_up : Handler
+        given_up = hand c (event ∷ stack) caps (suc (length stack)) p
+
         called_in : called_ahead c p to (event ∷ stack) caps
-            ≡ paths c.setting (here.depth - 1) (tree_of c p) inside_state (returned c.setting s K) (pause f) at_verbs
+            ≡ paths c.setting (here.depth - 1) (tree_of c p) inside_state (returned c.setting s K) (pause f) (λ w. pause f)
         unfolding fail
         called_in =
-            ap (λ (a : Around). paths c.setting a.depth (tree_of c p) (state_at a (kept_at to) caps) (outside c (event ∷ stack) caps (suc (length stack))).follow (fail c (event ∷ stack) caps) at_verbs) in_call
-            ∙ ap (λ (k : Follow). paths c.setting deeper.depth (tree_of c p) (state_at deeper (kept_at to) caps) k (fail c (event ∷ stack) caps) at_verbs)
+            ap (λ (a : Around). paths c.setting a.depth (tree_of c p) (state_at a (kept_at to) caps) (outside c (event ∷ stack) caps (suc (length stack))).follow (fail c (event ∷ stack) caps) given_up) in_call
+            ∙ ap (λ (k : Follow). paths c.setting deeper.depth (tree_of c p) (state_at deeper (kept_at to) caps) k (fail c (event ∷ stack) caps) given_up)
             (cont_here c event stack caps _ refl)
+            ∙ ap (λ (h : Handler). paths c.setting deeper.depth (tree_of c p) inside_state (returned c.setting s K) (pause f) h) (sym (caught_at c event stack caps refl))
 
         called_is : called_ahead c p to (event ∷ stack) caps ≡ inner (record s { units = spot.units + 1 })
         called_is =
             called_in
-            ∙ (free_paths c.setting (here.depth - 1) (tree_of c p) (verbless (tree_of c p) callee.inside.runs)).same inside_state (returned c.setting s K) (pause f) at_verbs (λ w. pause f)
             ∙ ap (λ (o : Option Nested). called_path o (paths c.setting (here.depth - 1)) inside_state (returned c.setting s K) (pause f) (λ w. pause f)) (sym is)
 
         pub turn_called : (n : Conf) → GoesOn c to (called_ahead c p to (event ∷ stack) caps) n → Advances c (conf (Enter q) spot stack caps) n
@@ -194,6 +197,10 @@ module _ (c : Ground) (ok : IsGround c) (p : ℕ) (spot : Spot) (stack : List En
   abbrev lower : Moves
   lower = fail c stack caps
 
+  -- what verbs in it lead to
+  abbrev h0 : Handler
+  h0 = k.hand p
+
   level_deep : around_it.depth ≡ suc (around_it.depth - 1)
   level_deep = omega (arith, w.standing.deep)
 
@@ -206,18 +213,18 @@ module _ (c : Ground) (ok : IsGround c) (p : ℕ) (spot : Spot) (stack : List En
     close_it = close_from c (tree_of c p) u.place k.follow
 
     group_ahead : called_ahead c p spot stack caps
-        ≡ pause (holding c.setting 1 u (λ t. branch_paths c.setting (part_paths c around_it.depth ks) t close_it (pause lower) at_verbs))
+        ≡ pause (holding c.setting 1 u (λ t. branch_paths c.setting (part_paths c around_it.depth ks) t close_it (pause lower) h0))
     unfolding path paths
     group_ahead =
         let e : ℕ = around_it.depth - 1 in
         let closes : (λ how t x. close c.setting m u.place how t k.follow x) ≡ close_it = ap (λ z. close_from c z u.place k.follow) is_group in
-        ap (λ x. paths c.setting x (tree_of c p) u k.follow lower at_verbs) level_deep
-        ∙ ap (λ z. paths c.setting (suc e) z u k.follow lower at_verbs) (sym is_group)
+        ap (λ x. paths c.setting x (tree_of c p) u k.follow lower h0) level_deep
+        ∙ ap (λ z. paths c.setting (suc e) z u k.follow lower h0) (sym is_group)
         ∙ ap pause
         (holding_same c.setting 1 u _ _
         (λ t.
-        ap (λ (xs : List Path). branch_paths c.setting xs t (λ how v x. close c.setting m u.place how v k.follow x) (pause lower) at_verbs) (row_deep c around_it.depth e ks level_deep)
-        ∙ ap (λ (z : Follow). branch_paths c.setting (part_paths c around_it.depth ks) t z (pause lower) at_verbs) closes))
+        ap (λ (xs : List Path). branch_paths c.setting xs t (λ how v x. close c.setting m u.place how v k.follow x) (pause lower) h0) (row_deep c around_it.depth e ks level_deep)
+        ∙ ap (λ (z : Follow). branch_paths c.setting (part_paths c around_it.depth ks) t z (pause lower) h0) closes))
 
     pub stop_group : c.setting.matching.frame_limit ≤ spot.units → tread c.setting spot.left (called_ahead c p spot stack caps) ≡ answers FrameLimit
     stop_group full = over_units c spot.left _ _ group_ahead (holding_full c.setting _ _ full)
@@ -229,21 +236,22 @@ module _ (c : Ground) (ok : IsGround c) (p : ℕ) (spot : Spot) (stack : List En
     group_spot = record spot { frame = suc (length stack); units = spot.units + 1 }
 
     branches_ahead : ahead c (conf (first_next p ks) group_spot (group_entry ∷ stack) caps)
-        ≡ branch_paths c.setting (part_paths c around_it.depth ks) (record u { units = spot.units + 1 }) close_it (pause lower) at_verbs
-    unfolding fail hand
+        ≡ branch_paths c.setting (part_paths c around_it.depth ks) (record u { units = spot.units + 1 }) close_it (pause lower) h0
+    unfolding fail
     branches_ahead =
         let inner : Outside = inside_of c group_entry stack caps in
         let now : State = record u { units = spot.units + 1 } in
         focus_framed c group_entry stack caps (first_next p ks) spot.passed (kept_at group_spot) caps (fail c (group_entry ∷ stack) caps) w.standing.marked
         ∙ first_here c p around_it.depth ks (branched_group c p (node.Group (Some m) ks) i (Some m) ks refl) inner (alike c (group_entry ∷ stack) caps (suc (length stack)) p ks) now (pause lower) (ap is_behind (sym is_group))
-        ∙ ap (λ (z : Follow). branch_paths c.setting (part_paths c around_it.depth ks) now z (pause lower) at_verbs)
+        ∙ ap (λ (z : Follow). branch_paths c.setting (part_paths c around_it.depth ks) now z (pause lower) (inner.hand p))
         (ap (after c around_it.depth inner) (ap (λ x. branch_rest c x (c.rest p)) (sym is_group)) ∙ after_nil c around_it.depth inner)
+        ∙ ap (λ (h : Handler). branch_paths c.setting (part_paths c around_it.depth ks) now close_it (pause lower) h) (sym (caught_through c group_entry stack caps refl))
 
     pub turn_called_group : spot.units < c.setting.matching.frame_limit → GoesOn c spot (called_ahead c p spot stack caps) (conf (first_next p ks) group_spot (group_entry ∷ stack) caps)
     unfolding tread size
     turn_called_group room =
         let s = w.standing in
-        let e : called_ahead c p spot stack caps ≡ pause (branch_paths c.setting (part_paths c around_it.depth ks) (record u { units = spot.units + 1 }) close_it (pause lower) at_verbs) =
+        let e : called_ahead c p spot stack caps ≡ pause (branch_paths c.setting (part_paths c around_it.depth ks) (record u { units = spot.units + 1 }) close_it (pause lower) h0) =
         group_ahead ∙ ap pause (holding_room c.setting _ _ room) in
         record {
           answer = ap (tells c.setting spot) e ∙ sym (ap (tells c.setting spot) branches_ahead);
@@ -272,11 +280,10 @@ module _ (c : Ground) (ok : IsGround c) (p : ℕ) (spot : Spot) (stack : List En
   alone_rest _ stray h = h
 
   pub turn_called_whole : (n : Node) → IsNode c p n → ((m : ℕ) (ks : List ℕ) → n ≡ node.Group (Some m) ks → ⊥) → GoesOn c spot (called_ahead c p spot stack caps) (conf (Enter p) spot stack caps)
-  unfolding hand
   turn_called_whole n i stray =
       let none : c.rest p ≡ [] = alone_rest n stray (subst (EndsAlone c p) (sym i.is) callee.alone) in
       let same : k.follow ≡ past c around_it.depth k p = sym (ap (after c around_it.depth k) none ∙ after_nil c around_it.depth k) in
-      let e : called_ahead c p spot stack caps ≡ ahead c (conf (Enter p) spot stack caps) = ap (λ (z : Follow). paths c.setting around_it.depth (tree_of c p) u z lower at_verbs) same in
+      let e : called_ahead c p spot stack caps ≡ ahead c (conf (Enter p) spot stack caps) = ap (λ (z : Follow). paths c.setting around_it.depth (tree_of c p) u z lower h0) same in
       record {
         answer = ap (tells c.setting spot) e;
         shorter = omega (arith, ap size e);

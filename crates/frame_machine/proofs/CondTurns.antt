@@ -34,7 +34,8 @@ use Rattle.frame_machine.specs.Conditions.{IsChoice, IsTest, IsLook, test_entry,
 use Rattle.frame_machine.specs.Stops.{record_at}
 use Rattle.frame_machine.proofs.KidParts.{kid_parts}
 use Rattle.frame_machine.proofs.PartPaths.{tree_by, kid_paths, branched_look, behind_look, fixed_look, enter_any_set, enter_never, enter_in_call, enter_in_call_of, enter_test}
-use Rattle.frame_machine.proofs.Frames.{hand_same, inside_of, focus_towards, running_towards, framed}
+use Rattle.ordered_search.proofs.Free.{IsAgreed, agreed}
+use Rattle.frame_machine.proofs.Frames.{hand_same, caught_at, inside_of, focus_towards, running_towards, framed}
 use Rattle.frame_machine.proofs.Advance.{holding_full, advance_pause, over_units}
 use Rattle.frame_machine.specs.Calls.{calls_at}
 use Rattle.frame_machine.proofs.CallFrames.{around_calls}
@@ -141,7 +142,7 @@ module _ (c : Ground) (ok : IsGround c) (q : ℕ) (spot : Spot) (stack : List En
         ≡ pause (chosen_from c (tree_of c q) holds (around c stack spot.frame).depth (spot_state c spot stack caps) (past c (around c stack spot.frame).depth (outside c stack caps spot.frame) q) (fail c stack caps) (hand c stack caps spot.frame q)) →
         Advances c (conf (Enter q) spot stack caps) (conf next spot stack caps)
     chosen e =
-        advance_pause c _ _ _ e (choice.goes _ (outside c stack caps spot.frame) _ _ (λ p. hand_same c stack stack caps caps spot.frame spot.frame p q)) refl
+        advance_pause c _ _ _ e (choice.goes _ (outside c stack caps spot.frame) _ _ (λ p. hand_same c stack caps spot.frame p q)) refl
         (record { running = choice.runs spot stack v.running.1; records = v.records; spans = v.spans; slots = v.slots })
 
   pub turn_any_set : (test : Cond) (ns : List ℕ) (yes' : ℕ) (no' : Option ℕ) → IsNode c q (node.Cond test yes' no') → test ≡ cond.AnySet ns → (next : Next) → IsChoice c q (some_set caps ns) next →
@@ -201,7 +202,7 @@ module _ (c : Ground) (ok : IsGround c) (q : ℕ) (spot : Spot) (stack : List En
 
       -- the frame of the condition is opened around the branches of its test
       module _ (r : Entry) (at : entry_site r ≡ here) (kept : entry_kept r ≡ kept_at spot) (plain : taken_back r caps ≡ caps) (same : (a : Around) → frame_around r a ≡ a)
-          (room : spot.units < c.setting.matching.frame_limit) (sound : IsSound c spot.left (length caps) stack r) (h : Handler) (z : Moves) where
+          (room : spot.units < c.setting.matching.frame_limit) (sound : IsSound c spot.left (length caps) stack r) (h : Handler) (agrees : IsAgreed h (hand c (r ∷ stack) caps (suc (length stack)) p)) (z : Moves) where
         test_opens : ahead c (conf (Enter q) spot stack caps)
             ≡ pause (holding c.setting 1 (spot_state c spot stack caps) (λ u.
             branch_paths c.setting (kid_paths c (tree_of c p) (around c stack spot.frame).depth ks) u (inside_of c r stack caps).follow z h)) →
@@ -211,7 +212,7 @@ module _ (c : Ground) (ok : IsGround c) (q : ℕ) (spot : Spot) (stack : List En
         test_opens e f =
             opens_as c ok q spot stack caps v n test.node r at kept plain same room
             p test_inside ks test_parts (branched_look c p m l.node test_inside forward positive' l.once ks refl) (ap (λ x. branch_rest c x (c.rest p)) (sym (tree_by c p m l.node m refl)))
-            sound h z (not forward) (behind_look c p m l.node forward positive' l.once ks refl) e f
+            sound h agrees z (not forward) (behind_look c p m l.node forward positive' l.once ks refl) e f
 
       entered_test : ahead c (conf (Enter q) spot stack caps)
           ≡ tested_path c.setting (branch_paths c.setting (kid_paths c (tree_of c p) (around c stack spot.frame).depth ks)) (chosen_from c (tree_of c q) positive' (around c stack spot.frame).depth) (chosen_from c (tree_of c q) (not positive') (around c stack spot.frame).depth)
@@ -228,11 +229,11 @@ module _ (c : Ground) (ok : IsGround c) (q : ℕ) (spot : Spot) (stack : List En
     unfolding fail otherwise
     turn_test ks forward true l room =
         test_opens ks forward true l (LookTest here (kept_at spot)) refl refl refl (λ a. refl) room
-        (v.running.0, v.running.1, condition_here c ok q v.running.0 n test.node (cond.Assert p) test.first test.second refl) (λ w. otherwise false) (pause (otherwise false))
+        (v.running.0, v.running.1, condition_here c ok q v.running.0 n test.node (cond.Assert p) test.first test.second refl) (λ w. pause (otherwise false)) (subst (IsAgreed (λ w. pause (otherwise false))) (caught_at c (LookTest here (kept_at spot)) stack caps refl) (agreed _)) (pause (otherwise false))
         (entered_test ks forward true l) refl
     turn_test ks forward false l room =
         test_opens ks forward false l (DenialTest here (kept_at spot)) refl refl refl (λ a. refl) room
-        (v.running.0, v.running.1, condition_here c ok q v.running.0 n test.node (cond.Assert p) test.first test.second refl) (λ w. otherwise true) (pause (otherwise true))
+        (v.running.0, v.running.1, condition_here c ok q v.running.0 n test.node (cond.Assert p) test.first test.second refl) (λ w. pause (otherwise true)) (subst (IsAgreed (λ w. pause (otherwise true))) (caught_at c (DenialTest here (kept_at spot)) stack caps refl) (agreed _)) (pause (otherwise true))
         (entered_test ks forward false l) refl
 
 -- A test that runs is a lookaround.
@@ -288,11 +289,11 @@ module _ (c : Ground) (ok : IsGround c) (spot : Spot) (records : List Record) (c
   turn_test_left true kind next choice room =
       turn_leave c ok spot records caps v h at_height p at (site_of p) (kept_of p) (LookTest (site_of p) (kept_of p)) (entry_of-look_test p kind) refl refl (λ a. refl) (λ below s. (s.0, s.1))
       p.place p.keep (test_here true kind) (further true) (λ a b k x out f. refl)
-      next (λ s m. choice.goes _ (outside c (entries records) caps p.link) s m (λ x. hand_same c (entries records) (entries records) caps caps p.link p.link x p.node)) choice.runs room
+      next (λ s m. choice.goes _ (outside c (entries records) caps p.link) s m (λ x. hand_same c (entries records) caps p.link x p.node)) choice.runs room
   turn_test_left false kind next choice room =
       turn_leave c ok spot records caps v h at_height p at (site_of p) (kept_of p) (DenialTest (site_of p) (kept_of p)) (entry_of-denial_test p kind) refl refl (λ a. refl) (λ below s. (s.0, s.1))
       p.place p.keep (test_here false kind) (further false) (λ a b k x out f. refl)
-      next (λ s m. choice.goes _ (outside c (entries records) caps p.link) s m (λ x. hand_same c (entries records) (entries records) caps caps p.link p.link x p.node)) choice.runs room
+      next (λ s m. choice.goes _ (outside c (entries records) caps p.link) s m (λ x. hand_same c (entries records) caps p.link x p.node)) choice.runs room
 
 pub test_record : (positive : Bool) (spot : Spot) (q : ℕ) → entry_of (record_at spot (test_kind positive) q 0 0 0) ≡ test_entry positive (record { node = q; link = spot.frame }) (kept_at spot)
 unfolding entry_in

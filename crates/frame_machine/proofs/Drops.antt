@@ -18,11 +18,11 @@ use Rattle.frame_machine.specs.Validity.{AreSpans, AreSound, IsValid}
 use Rattle.frame_machine.proofs.Frames.{spans_back, slots_sound}
 
 module _ (c : Ground) where
-  fail_to_here : (r : Entry) (below : List Entry) (caps : Captures) (h : ℕ) → h ≡ suc (length below) → fail_to c (r ∷ below) caps h ≡ fail c (r ∷ below) caps
+  pub fail_to_here : (r : Entry) (below : List Entry) (caps : Captures) (h : ℕ) → h ≡ suc (length below) → fail_to c (r ∷ below) caps h ≡ fail c (r ∷ below) caps
   unfolding fail
   fail_to_here r below caps h e = cond-true _ _ _ (eq-eqb _ _ e)
 
-  fail_to_below : (r : Entry) (below : List Entry) (caps : Captures) (h : ℕ) → (h ≡ suc (length below) → ⊥) → fail_to c (r ∷ below) caps h ≡ fail_to c below (taken_back r caps) h
+  pub fail_to_below : (r : Entry) (below : List Entry) (caps : Captures) (h : ℕ) → (h ≡ suc (length below) → ⊥) → fail_to c (r ∷ below) caps h ≡ fail_to c below (taken_back r caps) h
   unfolding fail
   fail_to_below r below caps h n = cond-false _ _ _ (ne_eqb _ _ n)
 

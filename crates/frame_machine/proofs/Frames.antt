@@ -1,5 +1,5 @@
 -- Frames and records of a stack.
-use Rattle.std.proofs.Common.{◌≡◌, ℕ, suc, ◌-◌, ◌<◌, ◌≤◌, ◌∙◌, List, [], ◌∷◌, ◌++◌, reverse, Option, Some, None, length, All, set, slice_get, refl, sym, ap, subst, inl, inr, arith, length-append}
+use Rattle.std.proofs.Common.{◌≡◌, ℕ, Bool, true, false, suc, ◌-◌, ◌<◌, ◌≤◌, ◌∙◌, List, [], ◌∷◌, ◌++◌, reverse, Option, Some, None, length, All, set, slice_get, refl, sym, ap, subst, inl, inr, arith, length-append}
 use Rattle.std.proofs.lemmas.List.{length-map, length-reverse}
 use Rattle.std.proofs.lemmas.List.Elements.{All-cons, All-set}
 use Rattle.std.proofs.lemmas.Bool.{cases_eq, cond-true, cond-false, eq-eqb, ne_eqb}
@@ -12,15 +12,15 @@ use mathlib.Core.Path.{fun_ext}
 use Rattle.frame_store.specs.Stack as stack_of
 use Rattle.frame_store.specs.Undo.{taken_back, HasSlot, undone}
 use Rattle.frame_store.proofs.StackLemmas.{slice_get-reverse-here, slice_get-reverse-below, up_to-more, up_to-all, past-more, past-all}
-use Rattle.ordered_search.specs.Stream.{State, reached}
-use Rattle.ordered_search.specs.Moves.{Moves, Follow, at_end, Handler}
+use Rattle.ordered_search.specs.Stream.{State, VerbEnding, reached}
+use Rattle.ordered_search.specs.Moves.{Moves, Follow, at_end, at_verbs, Handler}
 use Rattle.frame_machine.specs.declared.machine.Next.{Next}
 use Rattle.frame_machine.specs.declared.machine.Next.TheVariants.{End}
 use Rattle.frame_machine.specs.declared.machine.Spot.{Spot}
 use Rattle.node_flow.specs.Followers.{first_of}
 use Rattle.frame_machine.specs.Ground.{Ground, next_of, IsGround, IsPart}
 use Rattle.frame_machine.specs.Machine.{Around, state_at, link_of, towards, entry_kept, heard_by, heard, Outside}
-use Rattle.frame_machine.specs.Frames.{frame_around, after, past, around, around_at, frame_end, hand, cont, fail, outside, focus}
+use Rattle.frame_machine.specs.Frames.{frame_around, after, past, around, around_at, frame_end, is_catching, frame_hand, hand, cont, caught, fail, outside, focus}
 use Rattle.frame_machine.specs.Validity.{IsStanding, SpanStands, AreSpans, IsSound, AreSound, IsRunning}
 use Rattle.frame_machine.proofs.KidParts.{next_part}
 use Rattle.ordered_search.proofs.Free.{follow_same}
@@ -38,7 +38,7 @@ module _ (c : Ground) where
   pub around_push : (r : Entry) (below : List Entry) (l : ℕ) → l ≤ length below → around c (r ∷ below) l ≡ around c below l
   around_push r below l h = around_below r below l (λ e. omega (arith, e, h))
 
-  heard_below : (r : Entry) (below : List Entry) (h : ℕ) → (h ≡ suc (length below) → ⊥) → heard (r ∷ below) h ≡ heard below h
+  pub heard_below : (r : Entry) (below : List Entry) (h : ℕ) → (h ≡ suc (length below) → ⊥) → heard (r ∷ below) h ≡ heard below h
   unfolding heard
   heard_below r below h n = cond-false _ _ _ (ne_eqb _ _ n)
 
@@ -74,13 +74,46 @@ module _ (c : Ground) where
   cont_whole [] caps = follow_same _ at_end (λ how s f. refl)
   cont_whole (r ∷ below) caps = cont_below r below caps 0 (λ e. omega (arith, e)) ∙ cont_whole below (taken_back r caps)
 
-  -- what verbs lead to is the same everywhere
-  pub hand_same : (stack now : List Entry) (caps then' : Captures) (l m q p : ℕ) → hand c stack caps l q ≡ hand c now then' m p
-  unfolding hand
-  hand_same stack now caps then' l m q p = refl
+  -- What verbs lead to.
 
-  hands_same : (stack now : List Entry) (caps then' : Captures) (l m : ℕ) → hand c stack caps l ≡ hand c now then' m
-  hands_same stack now caps then' l m = fun_ext (λ q. hand_same stack now caps then' l m q q)
+  pub caught_here : (r : Entry) (below : List Entry) (caps : Captures) (l : ℕ) → l ≡ suc (length below) →
+      caught c (r ∷ below) caps l ≡ frame_hand r (caught c below (taken_back r caps) (link_of r)) (fail c (r ∷ below) caps)
+  unfolding cont
+  caught_here r below caps l e = fun_ext (λ v. cond-true _ _ _ (eq-eqb _ _ e))
+
+  pub caught_below : (r : Entry) (below : List Entry) (caps : Captures) (l : ℕ) → (l ≡ suc (length below) → ⊥) → caught c (r ∷ below) caps l ≡ caught c below (taken_back r caps) l
+  unfolding cont
+  caught_below r below caps l n = fun_ext (λ v. cond-false _ _ _ (ne_eqb _ _ n))
+
+  pub caught_push : (r : Entry) (below : List Entry) (caps : Captures) (l : ℕ) → l ≤ length below → caught c (r ∷ below) caps l ≡ caught c below (taken_back r caps) l
+  caught_push r below caps l h = caught_below r below caps l (λ e. omega (arith, e, h))
+
+  -- the whole pattern's
+  pub caught_whole : (stack : List Entry) (caps : Captures) → caught c stack caps 0 ≡ at_verbs
+  unfolding cont
+  caught_whole [] caps = fun_ext (λ v. refl)
+  caught_whole (r ∷ below) caps = caught_below r below caps 0 (λ e. omega (arith, e)) ∙ caught_whole below (taken_back r caps)
+
+  -- they pass on through the frame, or are caught there
+  pub caught_through : (r : Entry) (below : List Entry) (caps : Captures) → is_catching r ≡ false →
+      caught c below (taken_back r caps) (link_of r) ≡ caught c (r ∷ below) caps (suc (length below))
+  caught_through r below caps no' =
+      let h : Handler = caught c below (taken_back r caps) (link_of r) in
+      let x : Moves = fail c (r ∷ below) caps in
+      let on : (v : VerbEnding) → h v ≡ frame_hand r h x v = λ v. sym (ap (λ (b : Bool). elim b [ true ↦ x | false ↦ h v ]) no') in
+      fun_ext on ∙ sym (caught_here r below caps _ refl)
+
+  pub caught_at : (r : Entry) (below : List Entry) (caps : Captures) → is_catching r ≡ true →
+      (λ (v : VerbEnding). fail c (r ∷ below) caps) ≡ caught c (r ∷ below) caps (suc (length below))
+  caught_at r below caps yes' =
+      let h : Handler = caught c below (taken_back r caps) (link_of r) in
+      let x : Moves = fail c (r ∷ below) caps in
+      let on : (v : VerbEnding) → x ≡ frame_hand r h x v = λ v. sym (ap (λ (b : Bool). elim b [ true ↦ x | false ↦ h v ]) yes') in
+      fun_ext on ∙ sym (caught_here r below caps _ refl)
+
+  -- it is the same in each part of a frame
+  pub hand_same : (stack : List Entry) (caps : Captures) (l q p : ℕ) → hand c stack caps l q ≡ hand c stack caps l p
+  hand_same stack caps l q p = refl
 
   abbrev around_with : Follow → (ℕ → Handler) → Outside
   around_with k h = record { follow = k; hand = h }
@@ -88,7 +121,7 @@ module _ (c : Ground) where
   pub outside_push : (r : Entry) (below : List Entry) (caps : Captures) (l : ℕ) → l ≤ length below → outside c (r ∷ below) caps l ≡ outside c below (taken_back r caps) l
   outside_push r below caps l h =
       ap (λ (k : Follow). around_with k (hand c (r ∷ below) caps l)) (cont_push r below caps l h)
-      ∙ ap (λ (z : ℕ → Handler). around_with (cont c below (taken_back r caps) l) z) (hands_same (r ∷ below) below caps (taken_back r caps) l l)
+      ∙ ap (λ (z : Handler). around_with (cont c below (taken_back r caps) l) (λ q. z)) (caught_push r below caps l h)
 
   -- what is around the parts in a frame that is pushed
   abbrev pub inside_of : Entry → List Entry → Captures → Outside
@@ -187,6 +220,18 @@ past_above (p ∷ above) below r caps =
     ap (λ es. undone es caps) (past-more (length below) p (above ++ (r ∷ below)) (omega (arith, length-append above (r ∷ below))))
     ∙ past_above above below r (taken_back p caps)
 
+up_to_base : (above base : List Entry) → stack_of.up_to (length base) (above ++ base) ≡ base
+up_to_base [] base = up_to-all (length base) base (omega arith)
+up_to_base (p ∷ above) base =
+    up_to-more (length base) p (above ++ base) (omega (arith, length-append above base)) ∙ up_to_base above base
+
+past_base : (above base : List Entry) (caps : Captures) → undone (stack_of.past (length base) (above ++ base)) caps ≡ undone above caps
+unfolding undone
+past_base [] base caps = ap (λ es. undone es caps) (past-all (length base) base (omega arith))
+past_base (p ∷ above) base caps =
+    ap (λ es. undone es caps) (past-more (length base) p (above ++ base) (omega (arith, length-append above base)))
+    ∙ past_base above base (taken_back p caps)
+
 module _ (c : Ground) where
   around_deep : (above base : List Entry) (l : ℕ) → l ≤ length base → around c (above ++ base) l ≡ around c base l
   around_deep [] base l h = refl
@@ -210,10 +255,16 @@ module _ (c : Ground) where
   cont_deep (p ∷ above) base caps l h =
       cont_push c p (above ++ base) caps l (omega (arith, h, length-append above base)) ∙ cont_deep above base (taken_back p caps) l h
 
+  caught_deep : (above base : List Entry) (caps : Captures) (l : ℕ) → l ≤ length base → caught c (above ++ base) caps l ≡ caught c base (undone above caps) l
+  unfolding undone
+  caught_deep [] base caps l h = refl
+  caught_deep (p ∷ above) base caps l h =
+      caught_push c p (above ++ base) caps l (omega (arith, h, length-append above base)) ∙ caught_deep above base (taken_back p caps) l h
+
   outside_deep : (above base : List Entry) (caps : Captures) (l : ℕ) → l ≤ length base → outside c (above ++ base) caps l ≡ outside c base (undone above caps) l
   outside_deep above base caps l h =
       ap (λ (k : Follow). around_with c k (hand c (above ++ base) caps l)) (cont_deep above base caps l h)
-      ∙ ap (λ (z : ℕ → Handler). around_with c (cont c base (undone above caps) l) z) (hands_same c (above ++ base) base caps (undone above caps) l l)
+      ∙ ap (λ (z : Handler). around_with c (cont c base (undone above caps) l) (λ q. z)) (caught_deep above base caps l h)
 
   sound_deep : (left slots : ℕ) (above base : List Entry) → AreSound c left slots (above ++ base) → AreSound c left slots base
   sound_deep left slots [] base s = s
@@ -224,6 +275,8 @@ module _ (c : Ground) where
     pub below : List Entry
     pub inner : Captures
     pub ends : cont c stack caps l ≡ frame_end c r (around_at c stack (link_of r) (entry_kept r).passed) (outside c stack caps (link_of r)) inner (fail c below inner)
+    -- what verbs in it lead to; where it catches them it fails
+    pub catches : caught c stack caps l ≡ frame_hand r (caught c stack caps (link_of r)) (fail c (stack_of.up_to l stack) (undone (stack_of.past l stack) caps))
     pub deep : around c stack l ≡ frame_around r (around c stack (link_of r))
     pub path : (h : ℕ) → around_at c stack l h ≡ frame_around r (around_at c stack (link_of r) h)
     pub marked : (entry_kept r).passed ≤ length stack
@@ -238,7 +291,7 @@ module _ (c : Ground) where
   link_sound left slots below (Other at) s = s
   link_sound left slots below r s = s.1.inside
 
-  heard_sound : (left slots : ℕ) (below : List Entry) (r : Entry) → IsSound c left slots below r → (entry_kept r).passed ≤ length below
+  pub heard_sound : (left slots : ℕ) (below : List Entry) (r : Entry) → IsSound c left slots below r → (entry_kept r).passed ≤ length below
   heard_sound left slots below (Undo at slot old) s = omega arith
   heard_sound left slots below (Other at) s = omega arith
   heard_sound left slots below r s = s.1.marked
@@ -266,6 +319,14 @@ module _ (c : Ground) where
             ∙ cont_here c r below inner _ refl
             ∙ ap (λ (a : Around). frame_end c r a (outside c below (taken_back r inner) (link_of r)) (taken_back r inner) (fail c below (taken_back r inner))) (sym p2)
             ∙ ap (λ (k : Outside). frame_end c r (around_at c (above ++ (r ∷ below)) (link_of r) told) k (taken_back r inner) (fail c below (taken_back r inner))) (sym k2);
+        catches =
+            let h2 : caught c (above ++ (r ∷ below)) caps (link_of r) ≡ caught c below (taken_back r inner) (link_of r) =
+            caught_deep above (r ∷ below) caps (link_of r) lowest ∙ caught_push c r below inner (link_of r) low in
+            caught_deep above (r ∷ below) caps (suc (length below)) one
+            ∙ caught_here c r below inner _ refl
+            ∙ ap (λ (z : Handler). frame_hand r z (fail c (r ∷ below) inner)) (sym h2)
+            ∙ ap (λ st. frame_hand r (caught c (above ++ (r ∷ below)) caps (link_of r)) (fail c st inner)) (sym (up_to_base above (r ∷ below)))
+            ∙ ap (λ (x : Captures). frame_hand r (caught c (above ++ (r ∷ below)) caps (link_of r)) (fail c (stack_of.up_to (suc (length below)) (above ++ (r ∷ below))) x)) (sym (past_base above (r ∷ below) caps));
         deep = deep_is;
         path = λ h.
             ap (λ (a : Around). record a { passed = heard (above ++ (r ∷ below)) h }) deep_is

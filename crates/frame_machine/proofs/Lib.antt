@@ -32,3 +32,6 @@ mod MadeLemmas
 pub mod StopAnswers
 pub mod VerbTurns
 pub mod AcceptTurns
+pub mod CatchTurns
+pub mod SkipTurns
+mod SameNames

@@ -30,8 +30,9 @@ use Rattle.std.proofs.lemmas.List.{length-reverse}
 use Rattle.std.proofs.lemmas.Option.{slice_get_within}
 use Rattle.frame_machine.specs.Begun.{is_behind, IsFixedPart, first_begun, first_spot}
 use Rattle.frame_machine.specs.Branches.{IsBranched}
+use Rattle.ordered_search.proofs.Free.{IsAgreed, agreed, agreed_off}
 use Rattle.frame_machine.proofs.PartPaths.{tree_by, kid_paths, branched_look, behind_look, fixed_look, enter_look}
-use Rattle.frame_machine.proofs.Frames.{inside_of}
+use Rattle.frame_machine.proofs.Frames.{inside_of, caught_through, caught_at}
 use Rattle.frame_machine.proofs.Advance.{holding_full, over_units}
 use Rattle.frame_machine.proofs.Turns.{deep, opens_as}
 use Rattle.frame_machine.proofs.LeaveTurns.{frame_inside, frame_here, stop_leave, turn_left, turn_through, turn_denied}
@@ -59,14 +60,14 @@ module _ (c : Ground) (ok : IsGround c) (q : ℕ) (spot : Spot) (stack : List En
 
     -- its frame is opened
     module _ (r : Entry) (at : entry_site r ≡ here) (kept : entry_kept r ≡ kept_at spot) (plain : taken_back r caps ≡ caps) (same : (a : Around) → frame_around r a ≡ a)
-        (room : spot.units < c.setting.matching.frame_limit) (sound : IsSound c spot.left (length caps) stack r) (h : Handler) (z : Moves) where
+        (room : spot.units < c.setting.matching.frame_limit) (sound : IsSound c spot.left (length caps) stack r) (h : Handler) (agrees : IsAgreed h (hand c (r ∷ stack) caps (suc (length stack)) q)) (z : Moves) where
       look_opens : ahead c (conf (Enter q) spot stack caps)
           ≡ pause (holding c.setting 1 (spot_state c spot stack caps) (λ u.
           branch_paths c.setting (kid_paths c (tree_of c q) (around c stack spot.frame).depth ks) u (inside_of c r stack caps).follow z h)) →
           fail c (r ∷ stack) caps ≡ z →
           Advances c (conf (Enter q) spot stack caps)
           (conf (first_begun c (not ahead') q ks spot.place) (first_spot c (not ahead') ks (record spot { frame = suc (length stack); units = spot.units + 1 })) (r ∷ stack) caps)
-      look_opens e f = opens_as c ok q spot stack caps v n i r at kept plain same room q v.running.0 ks parts branches none sound h z (not ahead') behind e f
+      look_opens e f = opens_as c ok q spot stack caps v n i r at kept plain same room q v.running.0 ks parts branches none sound h agrees z (not ahead') behind e f
 
     entered : ahead c (conf (Enter q) spot stack caps)
         ≡ look_path c.setting positive' once' (branch_paths c.setting (kid_paths c (tree_of c q) (around c stack spot.frame).depth ks)) (spot_state c spot stack caps) (past c (around c stack spot.frame).depth (outside c stack caps spot.frame) q) (fail c stack caps) (hand c stack caps spot.frame q)
@@ -78,14 +79,14 @@ module _ (c : Ground) (ok : IsGround c) (q : ℕ) (spot : Spot) (stack : List En
   unfolding fail look_path
   turn_look ahead' true true i room =
       look_opens ahead' true true i (LookOpen here (kept_at spot)) refl refl refl (λ a. refl) room (v.running.0, v.running.1, tt)
-      (catching (fail c stack caps) (hand c stack caps spot.frame q)) (pause (fail c stack caps)) (entered ahead' true true i) refl
+      (catching (fail c stack caps) (hand c stack caps spot.frame q)) (subst (IsAgreed (catching (fail c stack caps) (hand c stack caps spot.frame q))) (caught_through c (LookOpen here (kept_at spot)) stack caps refl) (agreed_off (fail c stack caps) (hand c stack caps spot.frame q))) (pause (fail c stack caps)) (entered ahead' true true i) refl
   turn_look ahead' true false i room =
       look_opens ahead' true false i (LookAllOpen here (kept_at spot)) refl refl refl (λ a. refl) room (v.running.0, v.running.1, tt)
-      (catching (fail c stack caps) (hand c stack caps spot.frame q)) (pause (fail c stack caps)) (entered ahead' true false i) refl
+      (catching (fail c stack caps) (hand c stack caps spot.frame q)) (subst (IsAgreed (catching (fail c stack caps) (hand c stack caps spot.frame q))) (caught_through c (LookAllOpen here (kept_at spot)) stack caps refl) (agreed_off (fail c stack caps) (hand c stack caps spot.frame q))) (pause (fail c stack caps)) (entered ahead' true false i) refl
   turn_look ahead' false once i room =
       let passes : Moves = past c (around c stack spot.frame).depth (outside c stack caps spot.frame) q reached (spot_state c spot stack caps) (fail c stack caps) in
       look_opens ahead' false once i (DenialOpen here (kept_at spot)) refl refl refl (λ a. refl) room (v.running.0, v.running.1, tt)
-      (λ w. passes) (pause passes) (entered ahead' false once i) refl
+      (λ w. pause passes) (subst (IsAgreed (λ w. pause passes)) (caught_at c (DenialOpen here (kept_at spot)) stack caps refl) (agreed _)) (pause passes) (entered ahead' false once i) refl
 
   pub stop_look : (ahead' positive once : Bool) → IsNode c q (node.Look ahead' positive once ks) → c.setting.matching.frame_limit ≤ spot.units →
       tread c.setting spot.left (ahead c (conf (Enter q) spot stack caps)) ≡ answers FrameLimit

@@ -34,7 +34,7 @@ use Rattle.frame_machine.specs.Ground.{Ground, tree_of, IsNode, IsMeasuredIn, Is
 use Rattle.frame_machine.proofs.BehindLemmas.{one_length, one_place, all_here}
 use Rattle.frame_machine.specs.Machine.{less, in_row, first_set, first_next, Outside}
 use Rattle.frame_machine.specs.Frames.{after, past, enter, branch_rest, branch_from, offer_from, begin_from, turned_from, close_from, focus, branch_row, branch_path, other_from, chosen_from}
-use Rattle.ordered_search.proofs.Free.{follow_same, holding_same, free_paths, IsFree, AllFree, free_behind, free_branches}
+use Rattle.ordered_search.proofs.Free.{follow_same, holding_same, free_paths, IsAgreed, agreed_off, IsFree, AllFree, free_behind, free_branches}
 use Rattle.ordered_search.specs.Verbless.{IsVerbless}
 use Rattle.ordered_search.specs.Parts.{begun_at, some_set, is_called, is_called_of}
 
@@ -288,17 +288,17 @@ module _ (c : Ground) where
   All-at P (x ∷ ks) zero p a e = subst P (some_same x p e) (All-head P x ks a)
   All-at P (x ∷ ks) (suc i) p a e = All-at P ks i p (All-tail P x ks a) e
 
-  -- where nothing follows the branches, they end their frame; without verbs they are the same before any handler
+  -- where nothing follows the branches, they end their frame; without THEN they are the same before handlers that agree
   pub branches_in : (q d : ℕ) (ks : List ℕ) → IsBranched c q ks → branch_rest c (tree_of c q) (c.rest q) ≡ [] → AllFree (kid_paths c (tree_of c q) d ks) →
-      (k : Outside) → Alike k q ks → (s : State) (f : Moves) (h : Handler) →
+      (k : Outside) → Alike k q ks → (s : State) (f : Moves) (h : Handler) → IsAgreed h (k.hand q) →
       branch_paths c.setting (kid_paths c (tree_of c q) d ks) s k.follow f h
       ≡ focus c (first_begun c (is_behind (tree_of c q)) q ks s.place) d k (first_state (is_behind (tree_of c q)) ks s) f
-  branches_in q d ks b none free k a s f h =
-      (free_branches c.setting (kid_paths c (tree_of c q) d ks) free).same s k.follow f h (k.hand q)
+  branches_in q d ks b none free k a s f h agrees =
+      (free_branches c.setting (kid_paths c (tree_of c q) d ks) free).same s k.follow f h (k.hand q) agrees
       ∙ ap (λ (z : Follow). branch_paths c.setting (kid_paths c (tree_of c q) d ks) s z f (k.hand q)) (sym (after_nil d k) ∙ ap (after c d k) (sym none))
       ∙ sym (first_branch q d ks b k a s f)
 
-  -- a branch of a tree without verbs is the same before any handler
+  -- and so is a branch
   pub free_kid : (t : Nested) (d : ℕ) (u : Nested) → IsVerbless u → IsFree (branch_path c t d u)
   free_kid (tree.look false positive once ts) d u v = free_behind c.setting (branch_lengths c.setting u) (paths c.setting d u) (free_paths c.setting d u v)
   free_kid (tree.look true positive once ts) d u v = free_paths c.setting d u v
@@ -317,11 +317,11 @@ module _ (c : Ground) where
         ∙ ap (λ (xs : List Path). choice_paths c.setting xs s K f (k.hand q))
         (drop-map (λ x. branch_path c (tree_of c q) d (tree_of c x)) i ks ∙ ap (kid_paths c (tree_of c q) d) (drop_here ks i p at))
 
-    -- without verbs it is the same before any handler
-    branch_followed : (u : State) (m : Moves) (h : Handler) → branch_path c (tree_of c q) d (tree_of c p) u K m h
+    -- it is the same before handlers that agree
+    branch_followed : (u : State) (m : Moves) (h : Handler) → IsAgreed h (k.hand q) → branch_path c (tree_of c q) d (tree_of c p) u K m h
         ≡ focus c (begun_next (is_behind (tree_of c q)) (begun_place c p u.place) p) d k (begun_state (is_behind (tree_of c q)) (begun_place c p u.place) u) m
-    branch_followed u m h =
-        (free_kid (tree_of c q) d (tree_of c p) verbless).same u K m h (k.hand q)
+    branch_followed u m h agrees =
+        (free_kid (tree_of c q) d (tree_of c p) verbless).same u K m h (k.hand q) agrees
         ∙ sym (begun_is q p (λ e. All-at (IsFixedPart c) ks i p (b.fixed e) at) (All-at (λ x. c.rest x ≡ branch_rest c (tree_of c q) (c.rest q)) ks i p b.linked at) d k same u m)
 
     pub branch_last : length ks ≤ suc i → focus c (Branch q i) d k s f
@@ -331,7 +331,7 @@ module _ (c : Ground) where
         choice_at
         ∙ ap (λ (xs : List ℕ). choice_paths c.setting (branch_path c (tree_of c q) d (tree_of c p) ∷ kid_paths c (tree_of c q) d xs) s K f (k.hand q))
         (drop_of_length-le ks e)
-        ∙ ap stepped (branch_followed s f (catching f (k.hand q)))
+        ∙ ap stepped (branch_followed s f (catching f (k.hand q)) (agreed_off f (k.hand q)))
 
     pub branch_more : (p' : ℕ) → slice_get ks (suc i) ≡ Some p' →
         focus c (Branch q i) d k s f ≡ stepped (holding c.setting 1 s (λ u.
@@ -350,7 +350,7 @@ module _ (c : Ground) where
         ∙ ap stepped
         (holding_same c.setting 1 s _ _
         (λ u.
-        branch_followed u later (catching later (k.hand q))
+        branch_followed u later (catching later (k.hand q)) (agreed_off later (k.hand q))
         ∙ ap (focus c (begun_next (is_behind (tree_of c q)) (begun_place c p u.place) p) d k (begun_state (is_behind (tree_of c q)) (begun_place c p u.place) u)) same))
 
   -- the branches of a part, by its node

@@ -18,7 +18,7 @@ use Rattle.frame_machine.specs.Frames.{after, past, enter, turned_from, around, 
 use Rattle.frame_machine.specs.Validity.{IsStanding, AreSound, IsRunning, IsValid, Advances}
 use Rattle.frame_machine.specs.Stops.{turn_entry}
 use Rattle.frame_machine.proofs.PartPaths.{after_nil, offer_below, offer_full, offer_greedy, offer_lazy, begin_step}
-use Rattle.frame_machine.proofs.Frames.{around_here, around_push, focus_kept, focus_framed, sound_less, focus_towards, running_towards, hand_same, inside_of}
+use Rattle.frame_machine.proofs.Frames.{around_here, around_push, focus_kept, focus_framed, sound_less, focus_towards, running_towards, caught_through, inside_of}
 use Rattle.frame_machine.proofs.Advance.{holding_room, holding_full, advance_pause, advance_step, over_steps, over_units, over_units_step, goes_on}
 
 module _ (c : Ground) (ok : IsGround c) (q i : ℕ) (spot : Spot) (stack : List Entry) (caps : Captures) (body : ℕ) (low : ℕ) (high : Option ℕ) (lazily : Bool)
@@ -144,7 +144,7 @@ module _ (c : Ground) (ok : IsGround c) (q i : ℕ) (spot : Spot) (stack : List 
         let r : Entry = TurnOrExit (record { node = q; link = spot.frame }) (kept_at spot) i in
         advance_step c _ _ _
         (begins_with _ (cond-true b _ _ is) room)
-        (focus_framed c r stack caps (Enter body) spot.passed (kept_at (to inside alone left room)) caps (fail c (r ∷ stack) caps) v.running.1.marked ∙ sym (entered inside alone left room (inside_of c r stack caps) _ _ _ (hand_same c stack (r ∷ stack) caps caps spot.frame (suc (length stack)) q body)))
+        (focus_framed c r stack caps (Enter body) spot.passed (kept_at (to inside alone left room)) caps (fail c (r ∷ stack) caps) v.running.1.marked ∙ sym (entered inside alone left room (inside_of c r stack caps) _ _ _ (caught_through c r stack caps refl)))
         (omega arith) refl
         (record {
           running = running inside alone left room r (around_here c r stack _ refl);
@@ -161,7 +161,7 @@ module _ (c : Ground) (ok : IsGround c) (q i : ℕ) (spot : Spot) (stack : List 
         let r : Entry = TurnOpen (record { node = q; link = spot.frame }) (kept_at spot) i in
         advance_step c _ _ _
         (begins_with _ (cond-false b _ _ is) room)
-        (focus_framed c r stack caps (Enter body) spot.passed (kept_at (to inside alone left room)) caps (fail c (r ∷ stack) caps) v.running.1.marked ∙ sym (entered inside alone left room (inside_of c r stack caps) _ _ _ (hand_same c stack (r ∷ stack) caps caps spot.frame (suc (length stack)) q body)))
+        (focus_framed c r stack caps (Enter body) spot.passed (kept_at (to inside alone left room)) caps (fail c (r ∷ stack) caps) v.running.1.marked ∙ sym (entered inside alone left room (inside_of c r stack caps) _ _ _ (caught_through c r stack caps refl)))
         (omega arith) refl
         (record {
           running = running inside alone left room r (around_here c r stack _ refl);

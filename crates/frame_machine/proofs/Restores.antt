@@ -249,6 +249,7 @@ module _ (link node : ℕ) (old entry caps : Captures) (i : ℕ) (some : 0 < i) 
     pub stop_restored : (s : Stop) → same_span before after ≡ false → IsHeldStop s limit spot.units → IsReturnStop s limit (first.units + changes old entry)
     stop_restored stop.Match e h = absurd h
     stop_restored stop.NoMatch e h = absurd h
+    stop_restored (stop.Verb a) e h = absurd h
     stop_restored stop.MatchLimit e h = absurd h
     stop_restored stop.Loop e h = absurd h
     stop_restored stop.FrameLimit e h =
@@ -287,6 +288,7 @@ module _ (limit units : ℕ) (spot old : Spot) (caps : Captures) (w : Walked) (k
   pub return_stop : (s : Stop) → IsReturnStop s limit units → (limit < units → w ≡ answers FrameLimit) → IsStop s spot caps (told (mark_of old.last) w)
   return_stop stop.Match h k = absurd h
   return_stop stop.NoMatch h k = absurd h
+  return_stop (stop.Verb a) h k = absurd h
   return_stop stop.MatchLimit h k = absurd h
   return_stop stop.Loop h k = absurd h
   return_stop stop.FrameLimit h k = ap (told (mark_of old.last)) (k h) ∙ ap (λ l. told (mark_of l) (answers FrameLimit)) (sym kept)

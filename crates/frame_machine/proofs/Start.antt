@@ -6,7 +6,7 @@ use Rattle.frame_store.specs.Captures.{Captures}
 use Rattle.ordered_search.specs.Stream.{first_state}
 use Rattle.ordered_search.specs.Setting.{match_limit}
 use Rattle.ordered_search.specs.PlaceAnswer.{place_answer}
-use Rattle.ordered_search.specs.Moves.{Follow, exhaust, at_end, tread}
+use Rattle.ordered_search.specs.Moves.{Follow, Handler, exhaust, at_end, tread}
 use Rattle.ordered_search.specs.Paths.{paths}
 use Rattle.frame_machine.specs.declared.machine.Next.TheVariants.{Enter}
 use Rattle.frame_machine.specs.declared.machine.Spot.{Spot}
@@ -16,7 +16,7 @@ use Rattle.frame_machine.specs.Frames.{after, around, fail, ahead, hand, outside
 use Rattle.frame_machine.specs.Validity.{SpanStands, IsValid}
 use Rattle.frame_machine.proofs.KidParts.{root_part}
 use Rattle.frame_machine.proofs.PartPaths.{after_nil}
-use Rattle.frame_machine.proofs.Frames.{cont_whole}
+use Rattle.frame_machine.proofs.Frames.{cont_whole, caught_whole}
 use Rattle.ordered_search.proofs.Before.{tread_whole}
 
 module _ (c : Ground) (ok : IsGround c) (place : ℕ) where
@@ -27,13 +27,14 @@ module _ (c : Ground) (ok : IsGround c) (place : ℕ) where
   start_caps = replicate c.setting.groups None
 
   pub starts : tread c.setting (match_limit c.setting) (ahead c (conf (Enter c.root) start_spot [] start_caps)) ≡ place_answer c.setting place
-  unfolding around fail hand heard
+  unfolding around fail heard
   starts =
       let d : ℕ = match_limit c.setting + 1 in
       let K : Outside = outside c [] start_caps 0 in
       let follow : after c d K (c.rest c.root) ≡ at_end = ap (after c d K) ok.last ∙ after_nil c d K ∙ cont_whole c [] start_caps in
       ap (λ (z : Follow). tread c.setting (match_limit c.setting) (paths c.setting d (tree_of c c.root) (first_state c.setting.groups place) z exhaust (K.hand c.root))) follow
       ∙ ap (λ t. tread c.setting (match_limit c.setting) (paths c.setting d t (first_state c.setting.groups place) at_end exhaust (K.hand c.root))) ok.whole
+      ∙ ap (λ (h : Handler). tread c.setting (match_limit c.setting) (paths c.setting d c.setting.whole (first_state c.setting.groups place) at_end exhaust h)) (caught_whole c [] start_caps)
       ∙ tread_whole c.setting place
 
   pub starts_valid : c.stands place ≡ true → IsValid c (conf (Enter c.root) start_spot [] start_caps)

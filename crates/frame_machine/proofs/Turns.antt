@@ -19,7 +19,7 @@ use Rattle.pat_lengths.specs.Lengths.{SomeLengths}
 use Rattle.ordered_search.specs.Setting.{branch_lengths}
 use Rattle.ordered_search.specs.Moves.{Moves, pause, stepped, Follow, Path, going, holding, tread, Handler}
 use Rattle.frame_machine.specs.Forms.{IsRunnable}
-use Rattle.ordered_search.proofs.Free.{AllFree}
+use Rattle.ordered_search.proofs.Free.{AllFree, IsAgreed, agreed}
 use Rattle.frame_machine.proofs.Forms.{verbless}
 use Rattle.frame_machine.specs.declared.machine.Next.{Next}
 use Rattle.frame_machine.specs.declared.machine.Next.TheVariants.{Enter, Branch, Offer, Back, End}
@@ -33,7 +33,7 @@ use Rattle.frame_machine.specs.Validity.{StandsAt, IsRepeat, IsCapture, SpanStan
 use Rattle.frame_machine.specs.Stops.{moved_next, moved_spot, held_next, held_early, part_next}
 use Rattle.frame_machine.proofs.KidParts.{kid_parts}
 use Rattle.frame_machine.proofs.PartPaths.{enter_empty, enter_keep, enter_one, enter_break, enter_anchor, enter_ref, enter_seq_none, enter_seq, enter_group, enter_capture, enter_repeat, branch_last, branch_more, Alike, part_paths, kid_paths, plain_kids, free_kid, begun_state, first_state, first_plain, branched_group, branches_in}
-use Rattle.frame_machine.proofs.Frames.{around_here, around_push, focus_kept, focus_framed, sound_less, hand_same, inside_of}
+use Rattle.frame_machine.proofs.Frames.{around_here, around_push, focus_kept, focus_framed, sound_less, hand_same, caught_through, inside_of}
 use Rattle.frame_machine.proofs.Advance.{holding_room, holding_full, advance_pause, advance_step, over_steps, over_units, over_units_step, goes_back, goes_on, stays}
 use Rattle.frame_store.specs.Undo.{taken_back}
 use Rattle.ordered_search.specs.Paths.{branch_paths}
@@ -68,9 +68,9 @@ module _ (c : Ground) (ok : IsGround c) where
 
 -- what verbs lead to is the same in all parts
 pub alike : (c : Ground) (stack : List Entry) (caps : Captures) (l q : ℕ) (ks : List ℕ) → Alike c (outside c stack caps l) q ks
-alike c stack caps l q ks = λ i d h. hand_same c stack stack caps caps l l (get_or ks i d) q
+alike c stack caps l q ks = λ i d h. hand_same c stack caps l (get_or ks i d) q
 
--- parts that run have no verbs
+-- parts that run have no THEN
 pub free_kids : (c : Ground) (t : Nested) (d : ℕ) (ks : List ℕ) → All (IsPart c) ks → AllFree (kid_paths c t d ks)
 free_kids c t d [] a = tt
 free_kids c t d (k ∷ ks) a =
@@ -287,7 +287,7 @@ module _ (c : Ground) (ok : IsGround c) (q : ℕ) (spot : Spot) (stack : List En
         record { inside = omega arith; deep = omega (arith, w.deep, ap (λ (a : Around). a.depth) in_frame); counted = omega (arith, w.counted); few = omega (arith, room); here = w.here; marked = omega (arith, w.marked) }
 
     module _ (p : ℕ) (inside : IsPart c p) (ks : List ℕ) (parts : All (IsPart c) ks) (b : IsBranched c p ks) (none : branch_rest c (tree_of c p) (c.rest p) ≡ [])
-        (sound : IsSound c spot.left (length caps) stack r) (h : Handler) (z : Moves) where
+        (sound : IsSound c spot.left (length caps) stack r) (h : Handler) (agrees : IsAgreed h (hand c (r ∷ stack) caps (suc (length stack)) p)) (z : Moves) where
       abbrev backward : Bool
       backward = is_behind (tree_of c p)
 
@@ -310,7 +310,7 @@ module _ (c : Ground) (ok : IsGround c) (q : ℕ) (spot : Spot) (stack : List En
           (same _ ∙ ap (around c stack) (ap (λ (x : Site). x.link) at))
           ∙ ap (focus c next level (inside_of c r stack caps) (state_at (around_at c stack spot.frame spot.passed) kept caps)) f
           ∙ ap (λ (u : State). focus c next level (inside_of c r stack caps) u z) (first_kept backward ks (around_at c stack spot.frame spot.passed) opened caps)
-          ∙ sym (branches_in c p level ks b none (free_kids c (tree_of c p) level ks parts) (inside_of c r stack caps) (alike c (r ∷ stack) caps (suc (length stack)) p ks) (state_at (around_at c stack spot.frame spot.passed) (kept_at opened) caps) z h))
+          ∙ sym (branches_in c p level ks b none (free_kids c (tree_of c p) level ks parts) (inside_of c r stack caps) (alike c (r ∷ stack) caps (suc (length stack)) p ks) (state_at (around_at c stack spot.frame spot.passed) (kept_at opened) caps) z h agrees))
           (first_told backward ks opened)
           (first_valid backward p ks opened (r ∷ stack) caps v.running.1.here
           (record {
@@ -353,7 +353,9 @@ module _ (c : Ground) (ok : IsGround c) (q : ℕ) (spot : Spot) (stack : List En
       q v.running.0 ks (kids_are ks (ap kids_of e)) (branched_group c q n i (Some m) ks e)
       (ap (λ x. branch_rest c x (c.rest q)) (sym t))
       (v.running.0, v.running.1, subst (IsCapture c) t tt)
-      (hand c stack caps spot.frame q) (pause (fail c stack caps)) (ap is_behind (sym t))
+      (hand c stack caps spot.frame q)
+      (subst (IsAgreed (hand c stack caps spot.frame q)) (caught_through c (GroupOpen (record { node = q; link = spot.frame }) (kept_at spot)) stack caps refl) (agreed _))
+      (pause (fail c stack caps)) (ap is_behind (sym t))
       (enter_capture c ok q n i _ _ _ _ _ deep m ks e) refl
 
   pub stop_capture : (m : ℕ) (ks : List ℕ) → n ≡ node.Group (Some m) ks → c.setting.matching.frame_limit ≤ spot.units →
@@ -405,7 +407,7 @@ module _ (c : Ground) (ok : IsGround c) (q j : ℕ) (spot : Spot) (stack : List 
   start = begun_place c p spot.place
 
   same_hand : (outside c stack caps spot.frame).hand p ≡ (outside c stack caps spot.frame).hand q
-  same_hand = hand_same c stack stack caps caps spot.frame spot.frame p q
+  same_hand = hand_same c stack caps spot.frame p q
 
   pub stop_branch : spot.left ≡ 0 → (p' : Option ℕ) → slice_get ks (suc j) ≡ p' → length ks ≤ suc j ⊎ ((x : ℕ) × (slice_get ks (suc j) ≡ Some x)) →
       tread c.setting spot.left (ahead c (conf (Branch q j) spot stack caps)) ≡ answers MatchLimit

@@ -9,13 +9,14 @@ use Rattle.pat_tree.specs.declared.nodes.Verb.{Verb}
 use Rattle.pat_tree.specs.declared.nodes.Verb.TheVariants as verb
 use Rattle.frame_store.specs.Captures.{Captures}
 use Rattle.frame_store.specs.declared.records.Record.{Record}
-use Rattle.frame_store.specs.declared.kinds.TheConstants.{KIND_MARK_PASSED}
-use Rattle.frame_store.specs.Entry.{Entry, MarkPassed, entry_in, entries}
-use Rattle.ordered_search.specs.Stream.{State, name, reached, accepted}
+use Rattle.frame_store.specs.declared.kinds.TheConstants.{KIND_MARK_PASSED, KIND_COMMIT_PASSED, KIND_PRUNE_PASSED, KIND_SKIP_PASSED}
+use Rattle.frame_store.specs.Entry.{Site, Kept, Entry, MarkPassed, CommitPassed, PrunePassed, SkipPassed, entry_in, entry_of, entries}
+use Rattle.frame_store.specs.Undo.{taken_back}
+use Rattle.ordered_search.specs.Stream.{State, VerbEnding, prune, skip, commit, by_verb, name, reached, accepted}
 use Rattle.ordered_search.specs.PlaceAnswer.{Walked, with_note, answers, FrameLimit, last_name, has_hit}
 use Rattle.ordered_search.specs.Moves.{Moves, pause, noted, Follow, holding, tread, size}
 use Rattle.ordered_search.specs.Paths.{verb_path}
-use Rattle.ordered_search.specs.Verbless.{IsPassive}
+use Rattle.ordered_search.specs.Verbless.{IsUncaught}
 use Rattle.frame_machine.specs.declared.machine.Next.{Next}
 use Rattle.frame_machine.specs.declared.machine.Next.TheVariants.{Enter, End, Back, Accept}
 use Rattle.frame_machine.specs.declared.machine.Spot.{Spot}
@@ -24,9 +25,9 @@ use Rattle.frame_machine.specs.declared.machine.Stop.TheVariants as stop
 use Rattle.frame_machine.specs.Ground.{Ground, next_of, IsNode, IsGround, IsPart}
 use Rattle.frame_machine.specs.Machine.{Around, Outside, Conf, conf, kept_at, state_at, mark_of, heard, towards}
 use Rattle.frame_machine.specs.Frames.{past, around, around_at, outside, hand, fail, focus, spot_state, ahead}
-use Rattle.frame_machine.specs.Validity.{IsStanding, IsRunning, IsValid, Advances}
-use Rattle.frame_machine.specs.Stops.{Told, told, tells, IsStop, IsHeldStop, record_at}
-use Rattle.frame_machine.specs.Names.{named_last, named_entry, named_spot}
+use Rattle.frame_machine.specs.Validity.{IsStanding, IsSound, IsRunning, IsValid, Advances}
+use Rattle.frame_machine.specs.Stops.{Told, told, tells, IsStop, IsHeldStop, held_spot, record_at}
+use Rattle.frame_machine.specs.Names.{met, named_last, named_entry, named_spot}
 use Rattle.frame_machine.proofs.PartPaths.{enter_verb, after_accepted}
 use Rattle.frame_machine.proofs.Frames.{around_push, focus_kept, focus_named, focus_towards, running_towards}
 use Rattle.frame_machine.proofs.Advance.{holding_room, holding_full, advance_pause, over_units, goes_back}
@@ -74,11 +75,15 @@ name_few None a = tt
 name_few (Some n) a = All-head (λ k. k < 4294967295) n [] a
 
 -- the verbs that run
-pub stray_verb : (v : Verb) → IsPassive v → ((o : Option ℕ) → v ≢ verb.Mark o) → ((o : Option ℕ) → v ≢ verb.Accept o) → ((o : Option ℕ) → v ≢ verb.Fail o) → ⊥
-stray_verb (verb.Mark o) b m a f = m o refl
-stray_verb (verb.Accept o) b m a f = a o refl
-stray_verb (verb.Fail o) b m a f = f o refl
-stray_verb _ b m a f = b
+pub stray_verb : (v : Verb) → IsUncaught v → ((o : Option ℕ) → v ≢ verb.Mark o) → ((o : Option ℕ) → v ≢ verb.Accept o) → ((o : Option ℕ) → v ≢ verb.Fail o) →
+    ((o : Option ℕ) → v ≢ verb.Commit o) → ((o : Option ℕ) → v ≢ verb.Prune o) → ((o : Option ℕ) → v ≢ verb.Skip o) → ⊥
+stray_verb (verb.Mark o) b m a f c p s = m o refl
+stray_verb (verb.Accept o) b m a f c p s = a o refl
+stray_verb (verb.Fail o) b m a f c p s = f o refl
+stray_verb (verb.Commit o) b m a f c p s = c o refl
+stray_verb (verb.Prune o) b m a f c p s = p o refl
+stray_verb (verb.Skip o) b m a f c p s = s o refl
+stray_verb (verb.Then o) b m a f c p s = b
 
 module _ (c : Ground) where
   advance_named : (m n : Conf) (k : ℕ) (z : Moves) → ahead c m ≡ pause (noted (name k) z) → ahead c n ≡ z → n.spot.left ≡ m.spot.left → n.spot.last ≡ k + 1 → IsValid c n → Advances c m n
@@ -117,7 +122,7 @@ module _ (c : Ground) (ok : IsGround c) (q : ℕ) (spot : Spot) (stack : List En
   abbrev f : Moves
   f = fail c stack caps
 
-  at_verb : (x : Verb) → IsNode c q (node.VerbNode x) → ahead c (conf (Enter q) spot stack caps) ≡ pause (verb_path c.setting x s K f (hand c stack caps spot.frame q))
+  pub at_verb : (x : Verb) → IsNode c q (node.VerbNode x) → ahead c (conf (Enter q) spot stack caps) ≡ pause (verb_path c.setting x s K f (hand c stack caps spot.frame q))
   at_verb x i = enter_verb c ok q (node.VerbNode x) i _ _ _ _ _ (deep c ok q spot stack caps v (node.VerbNode x) i) x refl
 
   -- a state after a name
@@ -259,11 +264,128 @@ module _ (c : Ground) (ok : IsGround c) (q : ℕ) (spot : Spot) (stack : List En
   unfolding tread
   stop_fail n i full = over_named c spot.left (mark_of spot.last) n _ _ (at_verb (verb.Fail (Some n)) i) (ap (tread c.setting spot.left) (holding_full c.setting _ (λ u. f) full))
 
+  -- COMMIT, PRUNE and SKIP
+
+  module _ (r : Entry) (z : Moves) (plain : taken_back r caps ≡ caps) (failing : fail c (r ∷ stack) caps ≡ pause (pause z)) (sound : IsSound c spot.left (length caps) stack r) where
+    acting_standing : (to : Spot) → to.frame ≡ spot.frame → to.left ≡ spot.left → to.place ≡ spot.place → to.passed ≡ spot.passed → to.units ≡ spot.units + 1 → spot.units < c.setting.matching.frame_limit →
+        IsRunning c to (r ∷ stack) End
+    acting_standing to frame left place passed units room =
+        let w = v.running.1 in
+        record {
+          inside = omega (arith, w.inside, frame);
+          deep = omega (arith, w.deep, left, ap (λ l. (around c (r ∷ stack) l).depth) frame, ap (λ (a : Around). a.depth) (around_push c r stack spot.frame w.inside));
+          counted = omega (arith, w.counted, units);
+          few = omega (arith, room, units);
+          here = ap c.stands place ∙ w.here;
+          marked = omega (arith, w.marked, passed);
+        }
+
+    -- what goes on with the path as it is kept
+    acting_ahead : (kept : Kept) → focus c (towards (next_of c q)) (around c (r ∷ stack) spot.frame).depth (outside c (r ∷ stack) caps spot.frame) (state_at (around_at c (r ∷ stack) spot.frame spot.passed) kept caps) (fail c (r ∷ stack) caps)
+        ≡ K reached (state_at (around_at c stack spot.frame spot.passed) kept caps) (pause (pause z))
+    acting_ahead kept =
+        let w = v.running.1 in
+        let t : State = state_at (around_at c stack spot.frame spot.passed) kept caps in
+        focus_kept c r stack caps (towards (next_of c q)) spot.frame spot.passed kept caps (fail c (r ∷ stack) caps) w.inside w.marked
+        ∙ focus_towards c ok q v.running.0 _ _ _ _
+        ∙ ap (λ (x : Captures). past c (around c stack spot.frame).depth (outside c stack x spot.frame) q reached t (fail c (r ∷ stack) caps)) plain
+        ∙ ap (K reached t) failing
+
+    pub turn_acting : spot.units < c.setting.matching.frame_limit →
+        ahead c (conf (Enter q) spot stack caps) ≡ pause (holding c.setting 1 s (λ t. K reached t (pause (pause z)))) →
+        Advances c (conf (Enter q) spot stack caps) (conf (towards (next_of c q)) (record spot { units = spot.units + 1 }) (r ∷ stack) caps)
+    turn_acting room x =
+        let to : Spot = record spot { units = spot.units + 1 } in
+        advance_pause c _ _ _
+        (x ∙ ap pause (holding_room c.setting _ _ room))
+        (acting_ahead (kept_at to)) refl
+        (record {
+          running = running_towards c ok q v.running.0 to (r ∷ stack) (acting_standing to refl refl refl refl refl room);
+          records = (sound, v.records);
+          spans = v.spans;
+          slots = v.slots;
+        })
+
+    turn_acting_named : (n : ℕ) → spot.units < c.setting.matching.frame_limit →
+        ahead c (conf (Enter q) spot stack caps) ≡ pause (noted (name n) (holding c.setting 1 (record s { mark = Some n }) (λ t. K reached t (pause (pause z))))) →
+        Advances c (conf (Enter q) spot stack caps) (conf (towards (next_of c q)) (record spot { mark = n + 1; last = n + 1; units = spot.units + 1 }) (r ∷ stack) caps)
+    turn_acting_named n room x =
+        let to : Spot = record spot { mark = n + 1; last = n + 1; units = spot.units + 1 } in
+        advance_named c _ _ n _
+        (x ∙ ap (λ (m : Moves). pause (noted (name n) m)) (holding_room c.setting _ _ room))
+        (acting_ahead (kept_at to)
+        ∙ ap (λ (o : Option ℕ). K reached (record s { mark = o; units = spot.units + 1 }) (pause (pause z))) (mark_one n))
+        refl refl
+        (record {
+          running = running_towards c ok q v.running.0 to (r ∷ stack) (acting_standing to refl refl refl refl refl room);
+          records = (sound, v.records);
+          spans = v.spans;
+          slots = v.slots;
+        })
+
+  abbrev site : Site
+  site = record { node = q; link = spot.frame }
+
+  -- the path as it is kept at a name
+  met_standing : (n : ℕ) → IsStanding c spot.left spot.frame (kept_at (record spot { mark = n + 1; last = n + 1 })) (around c stack spot.frame).depth stack
+  met_standing n = let w = v.running.1 in record { inside = w.inside; deep = w.deep; counted = w.counted; few = w.few; here = w.here; marked = w.marked }
+
+  pub turn_commit : (o : Option ℕ) → IsNode c q (node.VerbNode (verb.Commit o)) → spot.units < c.setting.matching.frame_limit →
+      Advances c (conf (Enter q) spot stack caps) (conf (towards (next_of c q)) (held_spot (met spot o)) (CommitPassed site (kept_at (met spot o)) 0 ∷ stack) caps)
+  unfolding fail
+  turn_commit None i room = turn_acting (CommitPassed site (kept_at spot) 0) (hand c stack caps spot.frame q commit) refl refl (v.running.0, v.running.1, tt) room (at_verb (verb.Commit None) i)
+  turn_commit (Some n) i room =
+      turn_acting_named (CommitPassed site (kept_at (met spot (Some n))) 0) (hand c stack caps spot.frame q commit) refl refl (v.running.0, met_standing n, tt) n room (at_verb (verb.Commit (Some n)) i)
+
+  pub turn_prune : (o : Option ℕ) → IsNode c q (node.VerbNode (verb.Prune o)) → spot.units < c.setting.matching.frame_limit →
+      Advances c (conf (Enter q) spot stack caps) (conf (towards (next_of c q)) (held_spot (met spot o)) (PrunePassed site (kept_at (met spot o)) 0 ∷ stack) caps)
+  unfolding fail
+  turn_prune None i room = turn_acting (PrunePassed site (kept_at spot) 0) (hand c stack caps spot.frame q prune) refl refl (v.running.0, v.running.1, tt) room (at_verb (verb.Prune None) i)
+  turn_prune (Some n) i room =
+      turn_acting_named (PrunePassed site (kept_at (met spot (Some n))) 0) (hand c stack caps spot.frame q prune) refl refl (v.running.0, met_standing n, tt) n room (at_verb (verb.Prune (Some n)) i)
+
+  pub turn_skip : IsNode c q (node.VerbNode (verb.Skip None)) → spot.units < c.setting.matching.frame_limit →
+      Advances c (conf (Enter q) spot stack caps) (conf (towards (next_of c q)) (held_spot spot) (SkipPassed site (kept_at spot) 0 spot.place ∷ stack) caps)
+  unfolding fail
+  turn_skip i room = turn_acting (SkipPassed site (kept_at spot) 0 spot.place) (hand c stack caps spot.frame q (skip spot.place)) refl refl (v.running.0, v.running.1, v.running.1.here) room (at_verb (verb.Skip None) i)
+
+  pub stop_commit : (o : Option ℕ) → IsNode c q (node.VerbNode (verb.Commit o)) → c.setting.matching.frame_limit ≤ spot.units →
+      tells c.setting spot (ahead c (conf (Enter q) spot stack caps)) ≡ told (mark_of (named_last spot.last o)) (answers FrameLimit)
+  unfolding tread
+  stop_commit None i full = ap (told (mark_of spot.last)) (over_units c spot.left _ _ (at_verb (verb.Commit None) i) (holding_full c.setting _ _ full))
+  stop_commit (Some n) i full = over_named c spot.left (mark_of spot.last) n _ _ (at_verb (verb.Commit (Some n)) i) (ap (tread c.setting spot.left) (holding_full c.setting _ _ full))
+
+  pub stop_prune : (o : Option ℕ) → IsNode c q (node.VerbNode (verb.Prune o)) → c.setting.matching.frame_limit ≤ spot.units →
+      tells c.setting spot (ahead c (conf (Enter q) spot stack caps)) ≡ told (mark_of (named_last spot.last o)) (answers FrameLimit)
+  unfolding tread
+  stop_prune None i full = ap (told (mark_of spot.last)) (over_units c spot.left _ _ (at_verb (verb.Prune None) i) (holding_full c.setting _ _ full))
+  stop_prune (Some n) i full = over_named c spot.left (mark_of spot.last) n _ _ (at_verb (verb.Prune (Some n)) i) (ap (tread c.setting spot.left) (holding_full c.setting _ _ full))
+
+  pub stop_skip : IsNode c q (node.VerbNode (verb.Skip None)) → c.setting.matching.frame_limit ≤ spot.units →
+      tells c.setting spot (ahead c (conf (Enter q) spot stack caps)) ≡ told (mark_of spot.last) (answers FrameLimit)
+  stop_skip i full = ap (told (mark_of spot.last)) (over_units c spot.left _ _ (at_verb (verb.Skip None) i) (holding_full c.setting _ _ full))
+
+-- their records
+pub commit_record : (spot : Spot) (o : Option ℕ) (q : ℕ) → entry_of (record_at (met spot o) KIND_COMMIT_PASSED q 0 0 0) ≡ CommitPassed (record { node = q; link = spot.frame }) (kept_at (met spot o)) 0
+unfolding entry_in
+commit_record spot None q = refl
+commit_record spot (Some n) q = refl
+
+pub prune_record : (spot : Spot) (o : Option ℕ) (q : ℕ) → entry_of (record_at (met spot o) KIND_PRUNE_PASSED q 0 0 0) ≡ PrunePassed (record { node = q; link = spot.frame }) (kept_at (met spot o)) 0
+unfolding entry_in
+prune_record spot None q = refl
+prune_record spot (Some n) q = refl
+
+pub skip_record : (spot : Spot) (q next : ℕ) → entry_of (record_at spot KIND_SKIP_PASSED q 0 0 next) ≡ SkipPassed (record { node = q; link = spot.frame }) (kept_at spot) 0 next
+unfolding entry_in
+skip_record spot q next = refl
+
 -- what stops the machine where no unit more is held after a name
 module _ (limit units : ℕ) (spot : Spot) (last : ℕ) (caps : Captures) (t : Told) (met : spot.last ≡ last) where
   pub named_stop : (s : Stop) → IsHeldStop s limit units → (limit ≤ units → t ≡ told (mark_of last) (answers FrameLimit)) → IsStop s spot caps t
   named_stop stop.Match h k = absurd h
   named_stop stop.NoMatch h k = absurd h
+  named_stop (stop.Verb a) h k = absurd h
   named_stop stop.MatchLimit h k = absurd h
   named_stop stop.Loop h k = absurd h
   named_stop stop.FrameLimit h k = k h ∙ ap (λ l. told (mark_of l) (answers FrameLimit)) (sym met)

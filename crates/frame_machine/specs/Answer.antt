@@ -1,5 +1,5 @@
 -- What an answer says.
-use Rattle.std.specs.Prelude.{◌≡◌, ℕ, false, List, Option}
+use Rattle.std.specs.Prelude.{◌≡◌, ℕ, Bool, true, false, List, Option}
 use Rattle.std.specs.Option.{option_or}
 use Rattle.frame_store.specs.Captures.{Captures}
 use Rattle.pat_tree.specs.declared.options.Options.{Options}
@@ -8,6 +8,8 @@ use Rattle.frame_machine.specs.declared.answer.PlaceAnswer.{PlaceAnswer}
 use Rattle.frame_machine.specs.declared.answer.PlaceAnswer.TheVariants as told
 use Rattle.frame_machine.specs.declared.answer.Signal.{Signal}
 use Rattle.frame_machine.specs.declared.answer.Signal.TheVariants as signal
+use Rattle.frame_machine.specs.declared.machine.Acting.{Acting}
+use Rattle.frame_machine.specs.declared.machine.Acting.TheVariants as acting
 use Rattle.frame_machine.specs.declared.machine.Spot.{Spot}
 use Rattle.frame_machine.specs.declared.machine.Stop.{Stop}
 use Rattle.frame_machine.specs.declared.machine.Stop.TheVariants as stop
@@ -46,10 +48,22 @@ abbrev pub SkipsToPlace : Options → List ℕ → PlaceAnswer → Type 0
 SkipsToPlace options subject (told.Failed signal hit) = IsSkip options subject signal
 SkipsToPlace options subject _ = Unit {0}
 
+-- such a place stands in what is searched
+abbrev pub SkipStands : (ℕ → Bool) → PlaceAnswer → Type 0
+SkipStands stands (told.Failed (signal.Skip p) hit) = stands p ≡ true
+SkipStands stands _ = Unit {0}
+
+-- how a place failed where a verb did
+abbrev pub signal_by : Acting → Signal
+signal_by acting.Prune = signal.Prune
+signal_by (acting.Skip p) = signal.Skip p
+signal_by acting.Commit = signal.Commit
+
 -- the answer where the machine stops so
 abbrev pub answer_at : Stop → Spot → PlaceAnswer
 answer_at stop.Match spot = told.Matched spot.keep spot.place (mark_of spot.mark)
 answer_at stop.NoMatch spot = told.Failed signal.Exhausted false
+answer_at (stop.Verb a) spot = told.Failed (signal_by a) false
 answer_at stop.MatchLimit spot = told.MatchLimit
 answer_at stop.FrameLimit spot = told.FrameLimit
 answer_at stop.Loop spot = told.Loop

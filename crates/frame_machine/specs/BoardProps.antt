@@ -7,7 +7,6 @@ use Rattle.pat_tree.specs.declared.nodes.Node.TheVariants as node
 use Rattle.pat_tree.specs.declared.nodes.Placed.{Placed}
 use Rattle.pat_tree.specs.declared.nodes.Verb.{Verb}
 use Rattle.pat_tree.specs.declared.nodes.Verb.TheVariants.{Accept, Fail, Commit, Prune, Skip, Then, Mark}
-use Rattle.ordered_search.specs.Verbless.{IsPassive}
 use Rattle.pat_tree.specs.declared.options.MatchOptions.{MatchOptions}
 use Rattle.pat_tree.specs.Nested as tree
 use Rattle.pat_tree.specs.Nested.{Nested, Row, Test, Other}
@@ -15,6 +14,7 @@ use Rattle.pat_tree.specs.Parts.{TreeParts}
 use Rattle.char_sets.specs.Table.{CharSet}
 use Rattle.node_flow.specs.Followers.{IsFlowOf}
 use Rattle.node_flow.specs.Linked.{AreChained, IsLinked}
+use Rattle.ordered_search.specs.Verbless.{IsUncaught}
 use Rattle.frame_machine.specs.Forms.{IsRunnable, AreRunnable, IsRunnableTest, IsRunnableOther}
 use Rattle.frame_machine.specs.Behind.{AreFixed, HasFixed}
 use Rattle.frame_machine.specs.Ready.{IsBoardSearch}
@@ -26,14 +26,14 @@ use Rattle.pat_lengths.specs.declared.groups.Groups.{Groups}
 ×_prop3 : {A B C : Type 0} → IsProp A → IsProp B → IsProp C → IsProp (A × B × C)
 ×_prop3 a b c = hlevel (a, b, c)
 
-IsPassive-prop : (v : Verb) → IsProp (IsPassive v)
-IsPassive-prop (Accept name) = hlevel props
-IsPassive-prop (Fail name) = hlevel props
-IsPassive-prop (Commit name) = hlevel props
-IsPassive-prop (Prune name) = hlevel props
-IsPassive-prop (Skip name) = hlevel props
-IsPassive-prop (Then name) = hlevel props
-IsPassive-prop (Mark name) = hlevel props
+IsUncaught-prop : (v : Verb) → IsProp (IsUncaught v)
+IsUncaught-prop (Accept name) = hlevel props
+IsUncaught-prop (Fail name) = hlevel props
+IsUncaught-prop (Commit name) = hlevel props
+IsUncaught-prop (Prune name) = hlevel props
+IsUncaught-prop (Skip name) = hlevel props
+IsUncaught-prop (Then name) = hlevel props
+IsUncaught-prop (Mark name) = hlevel props
 
 mutual
   IsRunnable-prop : (t : Nested) → IsProp (IsRunnable t)
@@ -51,7 +51,7 @@ mutual
   IsRunnable-prop (tree.ref ns caseless) = hlevel props
   IsRunnable-prop (tree.anchor kind) = hlevel props
   IsRunnable-prop tree.keep_out = hlevel props
-  IsRunnable-prop (tree.verb v) = IsPassive-prop v
+  IsRunnable-prop (tree.verb v) = IsUncaught-prop v
   IsRunnable-prop (tree.callout c) = hlevel props
 
   AreRunnable-prop : (ts : Row) → IsProp (AreRunnable ts)

@@ -10,11 +10,11 @@ use Rattle.frame_machine.specs.declared.machine.Spot.{Spot}
 use Rattle.frame_machine.specs.declared.machine.Stop.{Stop}
 use Rattle.frame_machine.specs.declared.machine.Stop.TheVariants as stop
 use Rattle.ordered_search.specs.Stream.{changes}
-use Rattle.ordered_search.specs.Moves.{Moves, size, at_verbs}
+use Rattle.ordered_search.specs.Moves.{Moves, size}
 use Rattle.ordered_search.specs.Paths.{paths, pauses}
 use Rattle.frame_machine.specs.Ground.{Ground, tree_of, IsPart}
 use Rattle.frame_machine.specs.Machine.{link_of, kept_at, Conf}
-use Rattle.frame_machine.specs.Frames.{around, around_at, outside, fail, spot_state, ahead}
+use Rattle.frame_machine.specs.Frames.{around, around_at, outside, hand, fail, spot_state, ahead}
 use Rattle.frame_machine.specs.Validity.{IsStanding, AreSpans, AreSound, IsValid}
 use Rattle.frame_machine.specs.Stops.{tells}
 
@@ -78,7 +78,7 @@ module _ (c : Ground) where
   abbrev pub called_ahead : ℕ → Spot → List Entry → Captures → Moves
   called_ahead q spot stack caps =
       paths c.setting (around c stack spot.frame).depth (tree_of c q) (spot_state c spot stack caps)
-      (outside c stack caps spot.frame).follow (fail c stack caps) at_verbs
+      (outside c stack caps spot.frame).follow (fail c stack caps) (hand c stack caps spot.frame q)
 
   -- the path stands where that is so
   pub record IsCalling (spot : Spot) (stack : List Entry) (caps : Captures) : Type 0 where

@@ -1,7 +1,7 @@
--- The forms of patterns that the machine runs: all but callouts, and verbs that act when they are backtracked onto.
+-- The forms of patterns that the machine runs: all but callouts and THEN.
 use Rattle.pat_tree.specs.Nested as tree
 use Rattle.pat_tree.specs.Nested.{Nested, Row, Test, Other}
-use Rattle.ordered_search.specs.Verbless.{IsPassive}
+use Rattle.ordered_search.specs.Verbless.{IsUncaught}
 
 abbrev mutual
   pub IsRunnable : Nested → Type 0
@@ -19,7 +19,7 @@ abbrev mutual
   IsRunnable (tree.ref ns caseless) = Unit {0}
   IsRunnable (tree.anchor kind) = Unit {0}
   IsRunnable tree.keep_out = Unit {0}
-  IsRunnable (tree.verb v) = IsPassive v
+  IsRunnable (tree.verb v) = IsUncaught v
   IsRunnable (tree.callout c) = ⊥
 
   pub AreRunnable : Row → Type 0

@@ -5,18 +5,18 @@ use Rattle.pat_tree.specs.Nested as tree
 use Rattle.pat_tree.specs.Nested.{Nested, Row, Other}
 use Rattle.match_items.specs.Items.{one_less, item_reaches, run_places, place_before}
 use Rattle.frame_store.specs.Captures.{Captures}
-use Rattle.frame_store.specs.Entry.{Entry, LaterBranch, GroupOpen, CalledGroup, TurnOpen, TurnOrExit, LaterTurn, FewerItems, MoreItems, AtomicOpen, LookOpen, LookAllOpen, LookTest, DenialOpen, DenialTest, CallOpen, AtomicLeft}
+use Rattle.frame_store.specs.Entry.{Entry, LaterBranch, GroupOpen, CalledGroup, TurnOpen, TurnOrExit, LaterTurn, FewerItems, MoreItems, AtomicOpen, LookOpen, LookAllOpen, LookTest, DenialOpen, DenialTest, CallOpen, AtomicLeft, CommitPassed, PrunePassed, SkipPassed}
 use Rattle.frame_store.specs.Undo.{taken_back}
 use Rattle.frame_machine.specs.declared.machine.Next.{Next}
-use Rattle.frame_machine.specs.declared.machine.Next.TheVariants.{Enter, Branch, Offer, Begin, Fewer, More, End, Back, Accept}
+use Rattle.frame_machine.specs.declared.machine.Next.TheVariants.{Enter, Branch, Offer, Begin, Fewer, More, End, Back, Accept, Act}
 use Rattle.frame_machine.specs.declared.machine.Spot.{Spot}
-use Rattle.ordered_search.specs.Stream.{State, reached, accepted}
+use Rattle.ordered_search.specs.Stream.{State, prune, skip, commit, reached, accepted}
 use Rattle.ordered_search.specs.Setting.{match_limit, branch_lengths}
 use Rattle.ordered_search.specs.Parts.{back_to}
 use Rattle.ordered_search.specs.Moves.{Moves, pause, exhaust, Follow, Handler, Path, at_end, at_verbs, reaching}
 use Rattle.ordered_search.specs.Paths.{close, leave, returned, offer_paths, lazy_paths, turned, turn_path, choice_paths, behind_path, paths}
 use Rattle.frame_machine.specs.Ground.{Ground, tree_of}
-use Rattle.frame_machine.specs.Machine.{less, Around, state_at, kept_at, link_of, entry_kept, heard, Outside, in_row, Conf}
+use Rattle.frame_machine.specs.Machine.{less, Around, state_at, kept_at, link_of, entry_kept, heard, ending_of, Outside, in_row, Conf}
 
 -- inside a frame
 abbrev pub frame_around : Entry → Around → Around
@@ -24,6 +24,18 @@ frame_around (TurnOpen at kept count) a = record a { depth = a.depth - suc count
 frame_around (TurnOrExit at kept count) a = record a { depth = a.depth - suc count }
 frame_around (CallOpen at kept group last) a = record a { depth = a.depth - 1; calls = (group, kept.place) ∷ a.calls }
 frame_around _ a = a
+
+-- a frame catches what verbs in it end with
+abbrev pub is_catching : Entry → Bool
+is_catching (DenialOpen at kept) = true
+is_catching (LookTest at kept) = true
+is_catching (DenialTest at kept) = true
+is_catching (CallOpen at kept group last) = true
+is_catching _ = false
+
+-- what a verb but THEN leads to in a frame, where h is around it, and x is left where the frame fails
+abbrev pub frame_hand : Entry → Handler → Moves → Handler
+frame_hand r h x v = elim (is_catching r) [ true ↦ x | false ↦ h v ]
 
 module _ (c : Ground) where
   -- parts that follow one after the other, and then the frame's end
@@ -173,11 +185,12 @@ module _ (c : Ground) where
   on_fail (DenialTest at kept) a k caps out to =
       chosen_from (tree_of c at.node) true a.depth (state_at a kept caps) (past a.depth k at.node) out (k.hand at.node)
   on_fail (AtomicLeft at kept height) a k caps out to = to height
+  on_fail (CommitPassed at kept height) a k caps out to = pause (k.hand at.node commit)
+  on_fail (PrunePassed at kept height) a k caps out to = pause (k.hand at.node prune)
+  on_fail (SkipPassed at kept zero next) a k caps out to = pause (k.hand at.node (skip next))
+  -- its name was not passed
+  on_fail (SkipPassed at kept (suc n) next) a k caps out to = pause out
   on_fail _ a k caps out to = out
-
-  -- What the verbs in a part lead to, in the frame at a height. No pattern that runs has verbs, so it is the same everywhere.
-  unfoldable pub hand : List Entry → Captures → ℕ → ℕ → Handler
-  hand stack caps l q = at_verbs
 
   unfoldable mutual
     -- what follows at the end of the frame at a height
@@ -186,7 +199,7 @@ module _ (c : Ground) where
     cont (r ∷ below) caps l how s f =
         if nat_eq l (suc (length below))
         then frame_end r (around_at below (link_of r) (entry_kept r).passed)
-        (record { follow = cont below (taken_back r caps) (link_of r); hand = hand below (taken_back r caps) (link_of r) })
+        (record { follow = cont below (taken_back r caps) (link_of r); hand = λ q. caught below (taken_back r caps) (link_of r) })
         (taken_back r caps) (fail below (taken_back r caps)) how s f
         else cont below (taken_back r caps) l how s f
 
@@ -196,8 +209,21 @@ module _ (c : Ground) where
     fail (r ∷ below) caps =
         pause
         (on_fail r (around_at below (link_of r) (entry_kept r).passed)
-        (record { follow = cont below (taken_back r caps) (link_of r); hand = hand below (taken_back r caps) (link_of r) })
+        (record { follow = cont below (taken_back r caps) (link_of r); hand = λ q. caught below (taken_back r caps) (link_of r) })
         (taken_back r caps) (fail below (taken_back r caps)) (fail_to below (taken_back r caps)))
+
+    -- what a verb leads to in the frame at a height, but THEN
+    pub caught : List Entry → Captures → ℕ → Handler
+    caught [] caps l v = at_verbs v
+    caught (r ∷ below) caps l v =
+        if nat_eq l (suc (length below))
+        then frame_hand r (caught below (taken_back r caps) (link_of r))
+        (pause
+        (on_fail r (around_at below (link_of r) (entry_kept r).passed)
+        (record { follow = cont below (taken_back r caps) (link_of r); hand = λ q. caught below (taken_back r caps) (link_of r) })
+        (taken_back r caps) (fail below (taken_back r caps)) (fail_to below (taken_back r caps))))
+        v
+        else caught below (taken_back r caps) l v
 
     -- what is left at a height
     pub fail_to : List Entry → Captures → ℕ → Moves
@@ -206,9 +232,13 @@ module _ (c : Ground) where
         if nat_eq h (suc (length below))
         then pause
         (on_fail r (around_at below (link_of r) (entry_kept r).passed)
-        (record { follow = cont below (taken_back r caps) (link_of r); hand = hand below (taken_back r caps) (link_of r) })
+        (record { follow = cont below (taken_back r caps) (link_of r); hand = λ q. caught below (taken_back r caps) (link_of r) })
         (taken_back r caps) (fail below (taken_back r caps)) (fail_to below (taken_back r caps)))
         else fail_to below (taken_back r caps) h
+
+  -- what the verbs in a part lead to, in the frame at a height: the same in each part while no THEN is run
+  abbrev pub hand : List Entry → Captures → ℕ → ℕ → Handler
+  hand stack caps l q = caught stack caps l
 
   -- what is around the parts of the frame at a height
   abbrev pub outside : List Entry → Captures → ℕ → Outside
@@ -227,6 +257,7 @@ module _ (c : Ground) where
   focus End d k s f = k.follow reached s f
   focus Back d k s f = f
   focus Accept d k s f = k.follow accepted s f
+  focus (Act a) d k s f = pause (k.hand 0 (ending_of a))
 
   abbrev pub spot_state : Spot → List Entry → Captures → State
   spot_state spot stack caps = state_at (around_at stack spot.frame spot.passed) (kept_at spot) caps

@@ -22,3 +22,4 @@ pub mod Standing
 pub mod GroundLaw
 pub mod Made
 pub mod Names
+pub mod Catching

@@ -8,7 +8,9 @@ use Rattle.frame_store.specs.Entry.{Kept, Entry, Undo, LaterBranch, GroupOpen, C
 use Rattle.frame_machine.specs.declared.machine.Next.{Next}
 use Rattle.frame_machine.specs.declared.machine.Next.TheVariants.{Enter, Branch, End, Back}
 use Rattle.frame_machine.specs.declared.machine.Spot.{Spot}
-use Rattle.ordered_search.specs.Stream.{State}
+use Rattle.frame_machine.specs.declared.machine.Acting.{Acting}
+use Rattle.frame_machine.specs.declared.machine.Acting.TheVariants as acting
+use Rattle.ordered_search.specs.Stream.{State, VerbEnding, prune, skip, commit}
 use Rattle.ordered_search.specs.Moves.{Follow, Handler, Path}
 
 -- a maximum after so many more
@@ -40,6 +42,12 @@ state_at a kept caps = record {
 abbrev pub kept_at : Spot → Kept
 kept_at spot =
     record { units = spot.units; place = spot.place; mark = spot.mark; passed = spot.passed; keep = spot.keep; early = spot.early }
+
+-- what a verb ends the search with
+abbrev pub ending_of : Acting → VerbEnding
+ending_of acting.Prune = prune
+ending_of (acting.Skip p) = skip p
+ending_of acting.Commit = commit
 
 abbrev pub link_of : Entry → ℕ
 link_of e = (entry_site e).link
@@ -73,10 +81,10 @@ entry_kept (SkipPassed at kept height next) = kept
 entry_kept (ThenPassed at kept) = kept
 entry_kept (Other at) = nothing_kept
 
--- a name that was passed, (name, place)
+-- a name that was passed, (name, place); no other record tells of names
 abbrev pub heard_by : Entry → List (ℕ × ℕ) → List (ℕ × ℕ)
 heard_by (MarkPassed at kept) names = (kept.mark - 1, kept.place) ∷ names
-heard_by _ names = names
+heard_by _ names = []
 
 -- the names that were passed up to the record at a height, the last one first
 unfoldable pub heard : List Entry → ℕ → List (ℕ × ℕ)

@@ -1,8 +1,12 @@
--- What a name leaves that is passed, if there is one.
-use Rattle.std.specs.Prelude.{ℕ, suc, ◌+◌, Option, Some, None}
+-- What a name leaves, if there is one.
+use Rattle.std.specs.Prelude.{ℕ, suc, ◌+◌, ◌≤◌, List, [], ◌∷◌, length, Option, Some, None}
+use Rattle.frame_store.specs.declared.records.Record.{Record}
+use Rattle.frame_store.specs.declared.kinds.TheConstants.{KIND_SKIP_PASSED}
 use Rattle.frame_store.specs.Entry.{Entry, MarkPassed}
+use Rattle.ordered_search.specs.Stream.{Ending, exhausted, by_verb, skip}
 use Rattle.frame_machine.specs.declared.machine.Spot.{Spot}
-use Rattle.frame_machine.specs.Machine.{kept_at}
+use Rattle.frame_machine.specs.Machine.{kept_at, entry_kept}
+use Rattle.frame_machine.specs.Stops.{record_at}
 
 -- the last name that was met, kept as one more
 abbrev pub named_last : ℕ → Option ℕ → ℕ
@@ -19,3 +23,25 @@ abbrev pub named_spot : Spot → ℕ → Option ℕ → Spot
 named_spot spot height None = record spot { units = spot.units + 1 }
 named_spot spot height (Some n) =
     record spot { mark = n + 1; last = n + 1; passed = suc height; units = spot.units + 1 }
+
+-- the path at a name that SKIP doesn't look for
+abbrev pub met : Spot → Option ℕ → Spot
+met spot None = spot
+met spot (Some n) = record spot { mark = n + 1; last = n + 1 }
+
+-- The names that SKIP looks for.
+
+-- each is told of by a record below
+abbrev pub AreHeard : List Entry → Type 0
+AreHeard [] = Unit {0}
+AreHeard (r ∷ below) = ((entry_kept r).passed ≤ length below) × AreHeard below
+
+-- what SKIP of a name ends with, which was last passed at this place, if it was
+abbrev pub skip_by : Option ℕ → Ending
+skip_by None = exhausted
+skip_by (Some p) = by_verb (skip p)
+
+-- and its record
+abbrev pub skip_record : Spot → ℕ → Option ℕ → Record
+skip_record spot q None = record_at spot KIND_SKIP_PASSED q 0 1 spot.place
+skip_record spot q (Some p) = record_at spot KIND_SKIP_PASSED q 0 0 p

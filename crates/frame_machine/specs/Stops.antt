@@ -11,16 +11,18 @@ use Rattle.frame_store.specs.Captures.{Captures}
 use Rattle.frame_store.specs.Entry.{Site, Kept, Entry, TurnOpen, TurnOrExit}
 use Rattle.frame_machine.specs.declared.machine.Next.{Next}
 use Rattle.frame_machine.specs.declared.machine.Next.TheVariants.{Enter, Fewer, More, Back}
+use Rattle.frame_machine.specs.declared.machine.Acting.{Acting}
+use Rattle.frame_machine.specs.declared.machine.Acting.TheVariants as acting
 use Rattle.frame_machine.specs.declared.machine.Spot.{Spot}
 use Rattle.frame_machine.specs.declared.machine.Stop.{Stop}
 use Rattle.frame_machine.specs.declared.machine.Stop.TheVariants as stop
 use Rattle.ordered_search.specs.Setting.{Setting, notempty, notempty_atstart, endanchored}
 use Rattle.std.specs.Option.{option_or}
 use Rattle.ordered_search.specs.Moves.{Moves, tread}
-use Rattle.ordered_search.specs.PlaceAnswer.{Walked, PlaceAnswer, Failed, Exhausted, Matched, MatchLimit, FrameLimit, Loop, answers, Outcome, last_name, has_hit}
+use Rattle.ordered_search.specs.PlaceAnswer.{Walked, PlaceAnswer, Failed, Exhausted, Matched, MatchLimit, FrameLimit, Loop, answers, Outcome, last_name, has_hit, at_verb}
 use Rattle.frame_machine.specs.Ground.{Ground, next_of}
 use Rattle.match_items.specs.Views.{end_of}
-use Rattle.frame_machine.specs.Machine.{mark_of, kept_at, less, towards}
+use Rattle.frame_machine.specs.Machine.{mark_of, kept_at, ending_of, less, towards}
 
 -- what a match gives
 abbrev pub spot_outcome : Spot → Captures → Outcome
@@ -48,10 +50,21 @@ told_at spot a = told (mark_of spot.last) (answers a)
 abbrev pub IsStop : Stop → Spot → Captures → Told → Type 0
 IsStop stop.Match spot caps t = t ≡ told_at spot (Matched (spot_outcome spot caps))
 IsStop stop.NoMatch spot caps t = t ≡ told_at spot (Failed Exhausted)
+IsStop (stop.Verb a) spot caps t = ⊥
 IsStop stop.MatchLimit spot caps t = t ≡ told_at spot MatchLimit
 IsStop stop.FrameLimit spot caps t = t ≡ told_at spot FrameLimit
 IsStop stop.Loop spot caps t = t ≡ told_at spot Loop
 IsStop stop.Memory spot caps t = Unit {0}
+
+-- where a verb has the search go on stands
+abbrev pub ActsAt : Ground → Acting → Type 0
+ActsAt c (acting.Skip p) = c.stands p ≡ true
+ActsAt c _ = Unit {0}
+
+-- the same where a verb may have ended the search of the place
+abbrev pub IsEnd : Ground → Stop → Spot → Captures → Told → Type 0
+IsEnd c (stop.Verb a) spot caps t = (t ≡ told_at spot (Failed (at_verb (ending_of a)))) × ActsAt c a
+IsEnd c s spot caps t = IsStop s spot caps t
 
 -- a turn that began at one place after so many took nothing, and no further turn is owed or bounded
 abbrev pub took_nothing : ℕ → Option ℕ → ℕ → ℕ → ℕ → Bool

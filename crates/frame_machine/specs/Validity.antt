@@ -5,15 +5,15 @@ use Rattle.pat_tree.specs.Nested.{Nested}
 use Rattle.match_items.specs.Items.{is_none_left}
 use Rattle.frame_store.specs.declared.registers.Span.{Span}
 use Rattle.frame_store.specs.Captures.{Captures}
-use Rattle.frame_store.specs.Entry.{Kept, Entry, Undo, LaterBranch, GroupOpen, CalledGroup, TurnOpen, TurnOrExit, LaterTurn, FewerItems, MoreItems, LookTest, DenialTest, CallOpen, AtomicLeft, Other, entry_site}
+use Rattle.frame_store.specs.Entry.{Kept, Entry, Undo, LaterBranch, GroupOpen, CalledGroup, TurnOpen, TurnOrExit, LaterTurn, FewerItems, MoreItems, LookTest, DenialTest, CallOpen, AtomicLeft, SkipPassed, Other, entry_site}
 use Rattle.frame_machine.specs.declared.machine.Next.{Next}
-use Rattle.frame_machine.specs.declared.machine.Next.TheVariants.{Enter, Branch, Offer, Begin, Fewer, More, End, Back, Accept}
+use Rattle.frame_machine.specs.declared.machine.Next.TheVariants.{Enter, Branch, Offer, Begin, Fewer, More, End, Back, Accept, Act}
 use Rattle.frame_machine.specs.declared.machine.Spot.{Spot}
 use Rattle.ordered_search.specs.Moves.{size}
 use Rattle.frame_machine.specs.Ground.{Ground, tree_of, IsPart}
 use Rattle.frame_machine.specs.Machine.{less, Around, kept_at, link_of, entry_kept, row_length, Conf}
 use Rattle.frame_machine.specs.Frames.{branch_row, around, ahead}
-use Rattle.frame_machine.specs.Stops.{tells}
+use Rattle.frame_machine.specs.Stops.{ActsAt, tells}
 
 module _ (c : Ground) where
   -- What holds where a path stands over a stack, with so many Steps left and at the depth d.
@@ -73,6 +73,7 @@ module _ (c : Ground) where
   Suits below (CallOpen at kept group last) =
       All (λ (x : ℕ × ℕ). x.1 ≤ last) ((group, kept.place) ∷ (around c below at.link).calls)
   Suits below (AtomicLeft at kept height) = height ≤ length below
+  Suits below (SkipPassed at kept height next) = c.stands next ≡ true
   Suits below _ = Unit {0}
 
   -- the depth at a record, where this is around it
@@ -109,6 +110,7 @@ module _ (c : Ground) where
   IsRunning spot stack End = StandsAt spot stack (around c stack spot.frame).depth
   IsRunning spot stack Back = Unit {0}
   IsRunning spot stack Accept = StandsAt spot stack (around c stack spot.frame).depth
+  IsRunning spot stack (Act a) = StandsAt spot stack (around c stack spot.frame).depth × ActsAt c a
 
   pub record IsValid (m : Conf) : Type 0 where
     pub running : IsRunning m.spot m.stack m.next

@@ -1,10 +1,10 @@
 //! What a search at one place answers.
 ghost use Rattle.std.specs.Prelude.{◌≡◌};
 ghost use Rattle.std.specs.Option.{option_or};
-ghost use Rattle.frame_machine.specs.Answer.{answer_at};
+ghost use Rattle.frame_machine.specs.Answer.{answer_at, signal_by};
 ghost use Rattle.frame_machine.specs.Machine.{mark_of};
 
-use crate::machine::{Spot, Stop};
+use crate::machine::{Acting, Spot, Stop};
 
 /// How a start place failed, and so which place follows (pcre2pattern, "Backtracking control").
 #[derive(Clone, Copy, Debug, PartialEq, Eq)]
@@ -61,6 +61,17 @@ pub(crate) fn last_of(last: u32, earlier: Option<u32>) -> Option<u32>
     if last == 0 { earlier } else { Some(last - 1) }
 }
 
+/// How a start place failed where a verb did that was backtracked onto.
+fn signal_by(acting: Acting) -> Signal
+    ensures { result ≡ signal_by acting }
+{
+    match acting {
+        Acting::Prune => Signal::Prune,
+        Acting::Skip(to) => Signal::Skip(to as usize),
+        Acting::Commit => Signal::Commit,
+    }
+}
+
 /// The answer where the machine stops so.
 pub(crate) fn answer_of(stop: Stop, spot: &Spot) -> PlaceAnswer
     ensures { result ≡ answer_at stop spot.now }
@@ -73,6 +84,10 @@ pub(crate) fn answer_of(stop: Stop, spot: &Spot) -> PlaceAnswer
         },
         Stop::NoMatch => PlaceAnswer::Failed {
             signal: Signal::Exhausted,
+            hit_end: false,
+        },
+        Stop::Verb(acting) => PlaceAnswer::Failed {
+            signal: signal_by(acting),
             hit_end: false,
         },
         Stop::MatchLimit => PlaceAnswer::MatchLimit,

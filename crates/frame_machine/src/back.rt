@@ -11,11 +11,12 @@ ghost use Rattle.frame_machine.specs.Stops.{IsStop, IsFurther, more_next, tells}
 
 use crate::conds::choose;
 use crate::enter::go_on;
-use crate::machine::{Next, Spot, Stop};
+use crate::machine::{Acting, Next, Spot, Stop};
 use crate::searchable::Searchable;
 use frame_store::kinds::{
-    KIND_ATOMIC_LEFT, KIND_DENIAL_OPEN, KIND_DENIAL_TEST, KIND_FEWER_ITEMS, KIND_LATER_BRANCH,
-    KIND_LATER_TURN, KIND_LOOK_TEST, KIND_MORE_ITEMS, KIND_TURN_OR_EXIT,
+    KIND_ATOMIC_LEFT, KIND_COMMIT_PASSED, KIND_DENIAL_OPEN, KIND_DENIAL_TEST, KIND_FEWER_ITEMS,
+    KIND_LATER_BRANCH, KIND_LATER_TURN, KIND_LOOK_TEST, KIND_MORE_ITEMS, KIND_PRUNE_PASSED,
+    KIND_SKIP_PASSED, KIND_TURN_OR_EXIT,
 };
 use frame_store::{Record, Registers, Store};
 use pat_tree::Node;
@@ -119,6 +120,21 @@ pub(crate) fn back<S: Searchable>(
     if newest.kind == KIND_DENIAL_TEST {
         spot.restore(&newest);
         return Ok(choose(on, newest.node, true));
+    }
+    if newest.kind == KIND_COMMIT_PASSED {
+        spot.restore(&newest);
+        return Ok(Next::Act(Acting::Commit));
+    }
+    if newest.kind == KIND_PRUNE_PASSED {
+        spot.restore(&newest);
+        return Ok(Next::Act(Acting::Prune));
+    }
+    if newest.kind == KIND_SKIP_PASSED {
+        if newest.from > 0 {
+            return Ok(Next::Back);
+        }
+        spot.restore(&newest);
+        return Ok(Next::Act(Acting::Skip(newest.to)));
     }
     Ok(Next::Back)
 }

@@ -1,5 +1,5 @@
 //! A finished tree over a subject, as the machine goes over it.
-ghost use Rattle.std.specs.Prelude.{◌≡◌, ℕ, true, length};
+ghost use Rattle.std.specs.Prelude.{◌≡◌, ℕ, true, [], length, slice_index_or};
 ghost use Rattle.match_items.specs.Subjects.{IsText, IsTextPlace};
 ghost use Rattle.match_items.specs.Views.{text_scene};
 ghost use Rattle.node_flow.specs.Followers.{IsFlowOf};
@@ -46,6 +46,17 @@ impl<C: Callouts> Board<'_, C> {
             options: self.tree.options(),
             matching: self.matching,
         }
+    }
+}
+
+/// The verb's name of a number, empty where the number is of none.
+fn name_of(tree: &Tree, number: u32) -> &[u8]
+    ensures { result.now ≡ slice_index_or tree.now.verb_names number [] }
+{
+    if number < tree.verb_names() {
+        tree.verb_name(number)
+    } else {
+        &[]
     }
 }
 
@@ -145,6 +156,10 @@ impl<C: Callouts> Searchable for Board<'_, C> {
 
     fn back(&self, branch: u32) -> u32 {
         self.facts.back(branch)
+    }
+
+    fn same_name(&self, first: u32, second: u32) -> bool {
+        name_of(self.tree, first) == name_of(self.tree, second)
     }
 
     fn step_limit(&self) -> u32 {

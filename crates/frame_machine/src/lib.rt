@@ -8,6 +8,7 @@ mod back;
 mod behind;
 mod board;
 mod calls;
+mod catches;
 mod conds;
 mod counted;
 mod ends;
@@ -24,6 +25,7 @@ mod returns;
 mod run;
 mod scratch;
 mod searchable;
+mod skips;
 #[cfg(test)]
 mod tests;
 mod verbs;

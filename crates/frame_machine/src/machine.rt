@@ -26,6 +26,19 @@ pub(crate) enum Next {
     Back,
     /// ACCEPT has ended the innermost frame, or the pattern.
     Accept,
+    /// A verb in the innermost frame was backtracked onto.
+    Act(Acting),
+}
+
+/// What a verb does that is backtracked onto, where nothing catches it.
+#[derive(Clone, Copy)]
+pub(crate) enum Acting {
+    /// This start place fails.
+    Prune,
+    /// This start place fails, and the search goes on at a place.
+    Skip(u64),
+    /// No start place follows.
+    Commit,
 }
 
 /// Where the path stands, and how many Steps are left.
@@ -50,6 +63,8 @@ pub(crate) struct Spot {
 pub(crate) enum Stop {
     Match,
     NoMatch,
+    /// A verb was backtracked onto, and nothing caught it.
+    Verb(Acting),
     MatchLimit,
     FrameLimit,
     /// A call at the place of an active call of the same group.

@@ -28,7 +28,7 @@ pub struct Ready<'a> {
 ///
 /// Needs the table and the facts of the tree, and a view with the tree's options; a subject of fewer than 4,294,967,295
 /// bytes, which in UTF is UTF-8; a start that is at most the place, and both in the subject, in UTF where characters begin;
-/// no partial matching; and a tree without callouts and without verbs that act when they are backtracked onto, the branches
+/// no partial matching; and a tree without callouts and THEN, the branches
 /// of whose lookbehinds have one length each, as its facts say. So it calls at no callout.
 pub fn run_at<C: Callouts>(
     ready: &Ready<'_>,

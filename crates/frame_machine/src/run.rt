@@ -6,10 +6,11 @@ ghost use Rattle.frame_machine.specs.Machine.{conf, mark_of};
 ghost use Rattle.frame_machine.specs.Frames.{ahead};
 ghost use Rattle.frame_machine.specs.Validity.{IsValid, Advances};
 ghost use Rattle.ordered_search.specs.PlaceAnswer.{place_answer};
-ghost use Rattle.frame_machine.specs.Stops.{IsStop, told, tells};
+ghost use Rattle.frame_machine.specs.Stops.{IsEnd, told, tells};
 
 use crate::accepts::accept;
 use crate::back::back;
+use crate::catches::act;
 use crate::ends::finish;
 use crate::enter::enter;
 use crate::items::{fewer, more};
@@ -29,7 +30,7 @@ fn turn<S: Searchable>(
 ) -> Result<Next, Stop>
     requires valid { IsValid (S.searched on.now) (conf next spot.old (entries store.old.records) registers.old) }
     ensures on { IfOk result (λ to. Advances (S.searched on.now) (conf next spot.old (entries store.old.records) registers.old) (conf to spot.new (entries store.new.records) registers.new)) }
-    ensures stop { IfErr result (λ stop. IsStop stop spot.new registers.new (tells (S.searched on.now).setting spot.old (ahead (S.searched on.now) (conf next spot.old (entries store.old.records) registers.old)))) }
+    ensures stop { IfErr result (λ stop. IsEnd (S.searched on.now) stop spot.new registers.new (tells (S.searched on.now).setting spot.old (ahead (S.searched on.now) (conf next spot.old (entries store.old.records) registers.old)))) }
     ensures peak { store.new.peak ≤ max store.old.peak (S.searched on.now).setting.matching.frame_limit }
 {
     match next {
@@ -42,6 +43,7 @@ fn turn<S: Searchable>(
         Next::End => finish(on, spot, store, registers, bank),
         Next::Back => back(on, spot, store, registers),
         Next::Accept => accept(on, spot, store, registers, bank),
+        Next::Act(acting) => act(on, acting, spot, store, registers),
     }
 }
 
@@ -58,7 +60,7 @@ pub(crate) fn run<S: Searchable>(
     requires place { (S.searched on.now).stands place ≡ true }
     requires empty { store.old.records ≡ [] }
     requires unset { registers.old ≡ replicate (S.searched on.now).setting.groups None }
-    ensures stop { IsStop result spot.new registers.new (told None (place_answer (S.searched on.now).setting place)) }
+    ensures stop { IsEnd (S.searched on.now) result spot.new registers.new (told None (place_answer (S.searched on.now).setting place)) }
     ensures peak { store.new.peak ≤ max store.old.peak (S.searched on.now).setting.matching.frame_limit }
 {
     *spot = Spot {

@@ -1,8 +1,7 @@
 //! The workspace of a search.
 ghost use Rattle.std.specs.Prelude.{◌≡◌, ◌≤◌, ◌<◌, ℕ, List, true, max, replicate, None, [], OnOk};
 ghost use Rattle.frame_store.specs.Captures.{capture_if_any};
-ghost use Rattle.pat_tree.specs.declared.options.Options.{Options};
-ghost use Rattle.frame_machine.specs.Answer.{IsAnswer, IsMark, SkipsToPlace};
+ghost use Rattle.frame_machine.specs.Answer.{IsAnswer, IsMark, SkipStands};
 ghost use Rattle.ordered_search.specs.PlaceAnswer.{place_answer};
 
 use crate::answer::{PlaceAnswer, answer_of, last_of};
@@ -120,7 +119,7 @@ pub fn search_at<S: Searchable>(on: &S, place: u64, scratch: &mut Scratch) -> Pl
     requires place { (S.searched on.now).stands place ≡ true }
     ensures answer { IsAnswer result scratch.new.spans (place_answer (S.searched on.now).setting place) }
     ensures mark { IsMark result scratch.old.last_mark scratch.new.last_mark (place_answer (S.searched on.now).setting place) }
-    ensures skip { (options : Options) (subject : List ℕ) → SkipsToPlace options subject result }
+    ensures skip { SkipStands (S.searched on.now).stands result }
     ensures peak { scratch.new.peak ≤ max scratch.old.peak (S.searched on.now).setting.matching.frame_limit }
     ensures groups { scratch.new.groups ≡ scratch.old.groups }
     ensures frames { scratch.new.frames ≡ scratch.old.frames }

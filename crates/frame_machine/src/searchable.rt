@@ -4,7 +4,8 @@ ghost use Rattle.pat_tree.specs.Rules.{class_in};
 ghost use Rattle.match_items.specs.Items.{after_item, after_break, after_ref, longest_run, place_before, holds, earliest};
 ghost use Rattle.match_items.specs.Views.{end_of};
 ghost use Rattle.pat_lengths.specs.Lengths.{only};
-ghost use Rattle.ordered_search.specs.Setting.{match_limit, branch_lengths};
+ghost use Rattle.ordered_search.specs.Parts.{same_text};
+ghost use Rattle.ordered_search.specs.Setting.{match_limit, branch_lengths, verb_name};
 ghost use Rattle.frame_machine.specs.Ground.{Ground, IsPart, IsNode, IsGround, next_of, tree_of};
 ghost use Rattle.frame_machine.specs.Behind.{place_back};
 ghost use Rattle.frame_machine.specs.Begun.{IsFixedPart};
@@ -97,6 +98,10 @@ pub trait Searchable {
         requires inside { IsPart (searched self.now) branch }
         requires fixed { IsFixedPart (searched self.now) branch }
         ensures { branch_lengths (searched self.now).setting (tree_of (searched self.now) branch) ≡ only result };
+
+    /// Whether two numbers of verbs' names are of the same name. A number that is of none has the empty name.
+    fn same_name(&self, first: u32, second: u32) -> bool
+        ensures { result ≡ same_text (verb_name (searched self.now).setting first) (verb_name (searched self.now).setting second) };
 
     fn step_limit(&self) -> u32
         ensures { result ≡ match_limit (searched self.now).setting };

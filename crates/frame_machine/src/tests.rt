@@ -5,7 +5,7 @@ ghost use Rattle.pat_tree.specs.Rules.{kids_of, classes_of, verb_names_of, numbe
 ghost use Rattle.frame_machine.specs.Forms.{IsRunnable};
 ghost use Rattle.frame_machine.specs.Made.{IsMade};
 
-use crate::{PlaceAnswer, Ready, Scratch, run_at};
+use crate::{PlaceAnswer, Ready, Scratch, Signal, run_at};
 use char_sets::ClassTable;
 use match_items::View;
 use pat_check::check;
@@ -24,12 +24,21 @@ enum Step {
     Join,
     /// A lookahead of the last one.
     Ahead,
+    /// A negative lookahead of the last one.
+    Deny,
+    /// An atomic group of the last one.
+    Cut,
+    /// The last one again and again.
+    Again,
     /// A lookbehind of the last two as its branches.
     BehindEither,
     /// A group of the last two as its branches.
     Either,
     Accept,
     GoBack,
+    Commit,
+    Prune,
+    Skip,
 }
 
 fn item(letter: u8) -> Item
@@ -75,7 +84,12 @@ fn single(alloc: Global, only: NodeId) -> Result<Kids, Fail>
 }
 
 /// Adds what takes the last one.
-fn add_ahead(alloc: Global, draft: &mut Draft, waiting: &mut Vec<NodeId>) -> Result<(), Fail>
+fn add_over_one(
+    alloc: Global,
+    draft: &mut Draft,
+    waiting: &mut Vec<NodeId>,
+    step: Step,
+) -> Result<(), Fail>
     requires room { length draft.old.nodes < 1000 }
     requires made { IsMade draft.old waiting.old.items }
     ensures made { OnOk result (IsMade draft.new waiting.new.items) }
@@ -84,11 +98,20 @@ fn add_ahead(alloc: Global, draft: &mut Draft, waiting: &mut Vec<NodeId>) -> Res
     let Some(only) = waiting.pop() else {
         return Ok(());
     };
-    let node = Node::Look {
-        ahead: true,
-        positive: true,
-        atomic: true,
-        branches: single(alloc, only)?,
+    let node = match step {
+        Step::Cut => Node::Atomic(single(alloc, only)?),
+        Step::Again => Node::Repeat {
+            body: only,
+            min: 0,
+            max: None,
+            lazy: false,
+        },
+        _ => Node::Look {
+            ahead: true,
+            positive: matches!(step, Step::Ahead),
+            atomic: true,
+            branches: single(alloc, only)?,
+        },
     };
     add(draft, waiting, node)
 }
@@ -143,12 +166,17 @@ fn take_step(
     match step {
         Step::Letter(letter) => add(draft, waiting, Node::One(item(letter))),
         Step::Keep => add(draft, waiting, Node::KeepOut),
-        Step::Ahead => add_ahead(alloc, draft, waiting),
+        Step::Ahead | Step::Deny | Step::Cut | Step::Again => {
+            add_over_one(alloc, draft, waiting, step)
+        }
         Step::Join | Step::BehindEither | Step::Either => {
             add_over_two(alloc, draft, waiting, step)
         }
         Step::Accept => add(draft, waiting, Node::VerbNode(Verb::Accept { name: None })),
         Step::GoBack => add(draft, waiting, Node::VerbNode(Verb::Fail { name: None })),
+        Step::Commit => add(draft, waiting, Node::VerbNode(Verb::Commit { name: None })),
+        Step::Prune => add(draft, waiting, Node::VerbNode(Verb::Prune { name: None })),
+        Step::Skip => add(draft, waiting, Node::VerbNode(Verb::Skip { name: None })),
     }
 }
 
@@ -314,6 +342,211 @@ fn accept_ends_what_is_around_it_and_fail_goes_back(rt: HostRuntime) -> Result<(
             b"ab",
             0,
             2,
+        ),
+    ];
+    let alloc = rt.alloc();
+    let mut used = Scratch::new(alloc);
+    for row in &ROWS {
+        case(&rt, alloc, row, &mut Scratch::new(alloc))?;
+        case(&rt, alloc, row, &mut used)?;
+    }
+    Ok(())
+}
+
+/// A pattern, a subject, and how its first place fails.
+type Failing = (&'static [Step], &'static [u8], Signal);
+
+/// A row is answered by a workspace.
+fn failing(
+    rt: &impl Abort,
+    alloc: Global,
+    row: &Failing,
+    scratch: &mut Scratch,
+) -> Result<(), Fail> {
+    let (steps, subject, signal) = *row;
+    assert!(rt; steps.len() < 100 && subject.len() < 100);
+    let tree = tree_of(alloc, steps)?;
+    let answer = PlaceAnswer::Failed {
+        signal,
+        hit_end: false,
+    };
+    assert_eq!(rt; found(alloc, &tree, subject, scratch)?, answer);
+    Ok(())
+}
+
+// pcre2pattern, "Verbs that act after backtracking".
+#[test]
+fn a_verb_says_how_its_place_fails(rt: HostRuntime) -> Result<(), Fail> {
+    use Step::*;
+    static ROWS: [Failing; 10] = [
+        // `a(*COMMIT)b`
+        (
+            &[Letter(b'a'), Commit, Join, Letter(b'b'), Join],
+            b"ac",
+            Signal::Commit,
+        ),
+        // `a(*PRUNE)b`
+        (
+            &[Letter(b'a'), Prune, Join, Letter(b'b'), Join],
+            b"ac",
+            Signal::Prune,
+        ),
+        // `a(*SKIP)b`
+        (
+            &[Letter(b'a'), Skip, Join, Letter(b'b'), Join],
+            b"ac",
+            Signal::Skip(1),
+        ),
+        // `(?:a(*COMMIT)b|ac)`
+        (
+            &[
+                Letter(b'a'),
+                Commit,
+                Join,
+                Letter(b'b'),
+                Join,
+                Letter(b'a'),
+                Letter(b'c'),
+                Join,
+                Either,
+            ],
+            b"ac",
+            Signal::Commit,
+        ),
+        // `(?=a(*PRUNE)b)a`
+        (
+            &[
+                Letter(b'a'),
+                Prune,
+                Join,
+                Letter(b'b'),
+                Join,
+                Ahead,
+                Letter(b'a'),
+                Join,
+            ],
+            b"ac",
+            Signal::Prune,
+        ),
+        // `(?>a(*SKIP)c|ab)`
+        (
+            &[
+                Letter(b'a'),
+                Skip,
+                Join,
+                Letter(b'c'),
+                Join,
+                Letter(b'a'),
+                Letter(b'b'),
+                Join,
+                Either,
+                Cut,
+            ],
+            b"ab",
+            Signal::Skip(1),
+        ),
+        // `(?>a(*COMMIT))c`
+        (
+            &[Letter(b'a'), Commit, Join, Cut, Letter(b'c'), Join],
+            b"ab",
+            Signal::Exhausted,
+        ),
+        // `(?:a(*SKIP))*b`
+        (
+            &[Letter(b'a'), Skip, Join, Again, Letter(b'b'), Join],
+            b"aaac",
+            Signal::Skip(3),
+        ),
+        // `a(*PRUNE)b(*SKIP)c`
+        (
+            &[
+                Letter(b'a'),
+                Prune,
+                Join,
+                Letter(b'b'),
+                Join,
+                Skip,
+                Join,
+                Letter(b'c'),
+                Join,
+            ],
+            b"abd",
+            Signal::Skip(2),
+        ),
+        // `a(*COMMIT)(*FAIL)`
+        (
+            &[Letter(b'a'), Commit, Join, GoBack, Join],
+            b"a",
+            Signal::Commit,
+        ),
+    ];
+    let alloc = rt.alloc();
+    let mut used = Scratch::new(alloc);
+    for row in &ROWS {
+        failing(&rt, alloc, row, &mut Scratch::new(alloc))?;
+        failing(&rt, alloc, row, &mut used)?;
+    }
+    Ok(())
+}
+
+// pcre2pattern, "Backtracking verbs in assertions".
+#[test]
+fn a_negative_lookaround_catches_a_verb(rt: HostRuntime) -> Result<(), Fail> {
+    use Step::*;
+    static ROWS: [Row; 3] = [
+        // `(?!a(*COMMIT)b)a`
+        (
+            &[
+                Letter(b'a'),
+                Commit,
+                Join,
+                Letter(b'b'),
+                Join,
+                Deny,
+                Letter(b'a'),
+                Join,
+            ],
+            b"ac",
+            0,
+            1,
+        ),
+        // `(?!(?>a(*SKIP)b|a))a`
+        (
+            &[
+                Letter(b'a'),
+                Skip,
+                Join,
+                Letter(b'b'),
+                Join,
+                Letter(b'a'),
+                Either,
+                Cut,
+                Deny,
+                Letter(b'a'),
+                Join,
+            ],
+            b"ac",
+            0,
+            1,
+        ),
+        // `(?:(?!a(*PRUNE)b)a)*c`
+        (
+            &[
+                Letter(b'a'),
+                Prune,
+                Join,
+                Letter(b'b'),
+                Join,
+                Deny,
+                Letter(b'a'),
+                Join,
+                Again,
+                Letter(b'c'),
+                Join,
+            ],
+            b"aac",
+            0,
+            3,
         ),
     ];
     let alloc = rt.alloc();

@@ -553,10 +553,10 @@ module _ (g : Setting) where
   }
   strip_look false once p x i = record {
     is = λ s k l f h j e r.
-        strip_holding 1 s (λ t. p t (λ how u m. pause f) (pause (k reached s f)) (λ v. k reached s f))
+        strip_holding 1 s (λ t. p t (λ how u m. pause f) (pause (k reached s f)) (λ v. pause (k reached s f)))
         (λ t. decide fails_inside (x t) (λ how u. nothing) (gives reached s)) l (strip f) j
         (λ t.
-        i.is t (λ how u m. pause f) (λ how u m. strip f) (pause (k reached s f)) (λ v. k reached s f) (λ v. strip (k reached s f))
+        i.is t (λ how u m. pause f) (λ how u m. strip f) (pause (k reached s f)) (λ v. pause (k reached s f)) (λ v. strip (k reached s f))
         (record { same = λ how u m. refl }) (record { same = λ v. refl })
         ∙ ap (λ m. before (x t) (λ how u y. strip f) m (λ v. m)) (e.same reached s f)
         ∙ sym (before_first_inside (x t) (λ how u. nothing) (gives reached s) l (strip f) j));
@@ -572,10 +572,10 @@ module _ (g : Setting) where
         let ends : Follow = λ how u m. leave g s reached (back_to s u) follows f in
         let other : Moves = before (y' s) l (strip f) j in
         let same : strip (q' s k f h) ≡ other = b.is s k l f h j e r in
-        strip_holding 1 s (λ t. p t ends (pause (q' s k f h)) (λ v. q' s k f h))
+        strip_holding 1 s (λ t. p t ends (pause (q' s k f h)) (λ v. pause (q' s k f h)))
         (λ t. decide fails_inside (x t) (λ how u. held g 1 (back_to s (forget_passed s u)) y) (y' s)) l (strip f) j
         (λ t.
-        i.is t ends (λ how u m. before (held g 1 (back_to s (forget_passed s u)) y) l (strip f) j) (pause (q' s k f h)) (λ v. q' s k f h) (λ v. other)
+        i.is t ends (λ how u m. before (held g 1 (back_to s (forget_passed s u)) y) l (strip f) j) (pause (q' s k f h)) (λ v. pause (q' s k f h)) (λ v. other)
         (record {
           same = λ how u m.
               strip_holding 1 (back_to s (forget_passed s u)) (λ v. q v k (pause f) h) y l (strip f) j (λ v. a.is v k l (pause f) h j e r);
@@ -659,8 +659,8 @@ module _ (g : Setting) where
   unfolding before strip backs
   strip_backs e = record {
     is = λ s k l f h j x r.
-        strip_holding 1 s (λ t. k reached t (pause (ended e f h))) (λ t. state reached t ▸ ends e) l (strip f) j
-        (λ t. x.same reached t (pause (ended e f h)) ∙ ap (l reached t) (strip_ended e l f h j r));
+        strip_holding 1 s (λ t. k reached t (pause (pause (ended e f h)))) (λ t. state reached t ▸ ends e) l (strip f) j
+        (λ t. x.same reached t (pause (pause (ended e f h))) ∙ ap (l reached t) (strip_ended e l f h j r));
   }
 
   -- a name is met

@@ -231,14 +231,14 @@ module _ (g : Setting) where
   look_path true false p s k f h =
       pause (holding g 1 s (λ t. p t (λ how u e. pause (k reached (back_to s u) e)) (pause f) (catching f h)))
   look_path false once p s k f h =
-      pause (holding g 1 s (λ t. p t (λ how u e. pause f) (pause (k reached s f)) (λ v. k reached s f)))
+      pause (holding g 1 s (λ t. p t (λ how u e. pause f) (pause (k reached s f)) (λ v. pause (k reached s f))))
 
   -- a lookaround as a test: where it has an outcome `then'` goes on from there, and else `else'` from the start
   abbrev pub tested_path : Path → Path → Path → Path
   tested_path p then' else' s k f h =
       pause
       (holding g 1 s
-      (λ t. p t (λ how u e. leave s reached (back_to s u) (λ how v m. then' v k m h) f) (pause (else' s k f h)) (λ v. else' s k f h)))
+      (λ t. p t (λ how u e. leave s reached (back_to s u) (λ how v m. then' v k m h) f) (pause (else' s k f h)) (λ v. pause (else' s k f h))))
 
   abbrev pub assert_path : Bool → Path → Path → Path → Path
   assert_path true p yes' no' = tested_path p yes' no'
@@ -275,7 +275,7 @@ module _ (g : Setting) where
 
   -- goes on, and ends so when it is backtracked onto
   abbrev pub backs_path : Ending → Path
-  backs_path e s k f h = holding g 1 s (λ t. k reached t (pause (ended e f h)))
+  backs_path e s k f h = holding g 1 s (λ t. k reached t (pause (pause (ended e f h))))
 
   abbrev pub verb_path : Verb → Path
   verb_path (Accept None) s k f h = k accepted s f

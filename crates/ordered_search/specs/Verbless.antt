@@ -1,16 +1,13 @@
--- Patterns without callouts, and without verbs that act when they are backtracked onto, of their own. The verbs of a called
--- group end with its call.
+-- Patterns without callouts and THEN of their own. The verbs of a called group end with its call.
 use Rattle.pat_tree.specs.declared.nodes.Verb.{Verb}
-use Rattle.pat_tree.specs.declared.nodes.Verb.TheVariants.{Accept, Fail, Mark}
+use Rattle.pat_tree.specs.declared.nodes.Verb.TheVariants.{Then}
 use Rattle.pat_tree.specs.Nested as tree
 use Rattle.pat_tree.specs.Nested.{Nested, Row, Test, Other}
 
--- backtracking passes over it
-abbrev pub IsPassive : Verb → Type 0
-IsPassive (Accept n) = Unit {0}
-IsPassive (Fail n) = Unit {0}
-IsPassive (Mark n) = Unit {0}
-IsPassive _ = ⊥
+-- no branch catches it
+abbrev pub IsUncaught : Verb → Type 0
+IsUncaught (Then n) = ⊥
+IsUncaught _ = Unit {0}
 
 abbrev mutual
   pub IsVerbless : Nested → Type 0
@@ -28,7 +25,7 @@ abbrev mutual
   IsVerbless (tree.ref ns caseless) = Unit {0}
   IsVerbless (tree.anchor kind) = Unit {0}
   IsVerbless tree.keep_out = Unit {0}
-  IsVerbless (tree.verb v) = IsPassive v
+  IsVerbless (tree.verb v) = IsUncaught v
   IsVerbless (tree.callout c) = ⊥
 
   pub AreVerbless : Row → Type 0

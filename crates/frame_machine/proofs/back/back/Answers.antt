@@ -1,6 +1,6 @@
 use Rattle.frame_store.specs.Entry.{entries}
 use Rattle.frame_machine.proofs.Frames.{slots_sound}
-use Rattle.frame_machine.proofs.BackTurns.{stop_none, pop_branch, pop_exit, pop_later, pop_fewer, pop_more, pop_plain, pop_left, pop_denial, left_within, left_slots, denial_inside, pop_look_test, pop_denial_test, look_test_sound, denial_test_sound, exit_inside, fewer_stands, more_inside, more_many, more_stands, more_few}
+use Rattle.frame_machine.proofs.BackTurns.{stop_none, pop_branch, pop_exit, pop_later, pop_fewer, pop_more, pop_plain, pop_left, pop_denial, left_within, left_slots, denial_inside, pop_look_test, pop_denial_test, pop_commit, pop_prune, pop_skip, pop_unskipped, look_test_sound, denial_test_sound, exit_inside, fewer_stands, more_inside, more_many, more_stands, more_few}
 use Rattle.frame_machine.proofs.HeldStops.{tells_stop}
 use Rattle.frame_machine.proofs.back.back.Goals as goal
 
@@ -44,9 +44,21 @@ pub returns-then-newest-eq-KIND_MORE_ITEMS-clause-on : goal.returns-then-newest-
 returns-then-newest-eq-KIND_MORE_ITEMS-clause-on g c =
     rw (c.more_or_back.ensures, c.restore-then-newest-eq-KIND_MORE_ITEMS.ensures) (pop_more (g.S.Searchable.searched c.args.on.now) (g.met.S.Searchable.sound c.args.on.now) c.args.spot.now c.args.store.now.records c.pop.new.store.records c.in-Some.newest c.args.registers.now c.pop.new.registers c.requires.valid c.in-Some.ensures.popped c.in-Some.ensures.back c.if-newest-eq-KIND_MORE_ITEMS.true _ c.take_further.ensures)
 
+pub returns-then-newest-eq-KIND_COMMIT_PASSED-clause-on : goal.returns-then-newest-eq-KIND_COMMIT_PASSED-clause-on
+returns-then-newest-eq-KIND_COMMIT_PASSED-clause-on g c = rw c.restore-then-newest-eq-KIND_COMMIT_PASSED.ensures (pop_commit (g.S.Searchable.searched c.args.on.now) (g.met.S.Searchable.sound c.args.on.now) c.args.spot.now c.args.store.now.records c.pop.new.store.records c.in-Some.newest c.args.registers.now c.pop.new.registers c.requires.valid c.in-Some.ensures.popped c.in-Some.ensures.back c.if-newest-eq-KIND_COMMIT_PASSED.true)
+
+pub returns-then-newest-eq-KIND_PRUNE_PASSED-clause-on : goal.returns-then-newest-eq-KIND_PRUNE_PASSED-clause-on
+returns-then-newest-eq-KIND_PRUNE_PASSED-clause-on g c = rw c.restore-then-newest-eq-KIND_PRUNE_PASSED.ensures (pop_prune (g.S.Searchable.searched c.args.on.now) (g.met.S.Searchable.sound c.args.on.now) c.args.spot.now c.args.store.now.records c.pop.new.store.records c.in-Some.newest c.args.registers.now c.pop.new.registers c.requires.valid c.in-Some.ensures.popped c.in-Some.ensures.back c.if-newest-eq-KIND_PRUNE_PASSED.true)
+
+pub returns-then-newest-eq-KIND_SKIP_PASSED-clause-on : goal.returns-then-newest-eq-KIND_SKIP_PASSED-clause-on
+returns-then-newest-eq-KIND_SKIP_PASSED-clause-on g c = rw c.restore-then-newest-eq-KIND_SKIP_PASSED.ensures (pop_skip (g.S.Searchable.searched c.args.on.now) (g.met.S.Searchable.sound c.args.on.now) c.args.spot.now c.args.store.now.records c.pop.new.store.records c.in-Some.newest c.args.registers.now c.pop.new.registers c.requires.valid c.in-Some.ensures.popped c.in-Some.ensures.back c.if-newest-eq-KIND_SKIP_PASSED.true c.if-newest-gt0.false)
+
+pub returns-then-newest-gt0-clause-on : goal.returns-then-newest-gt0-clause-on
+returns-then-newest-gt0-clause-on g c = pop_unskipped (g.S.Searchable.searched c.args.on.now) (g.met.S.Searchable.sound c.args.on.now) c.args.spot.now c.args.store.now.records c.pop.new.store.records c.in-Some.newest c.args.registers.now c.pop.new.registers c.requires.valid c.in-Some.ensures.popped c.in-Some.ensures.back c.if-newest-eq-KIND_SKIP_PASSED.true c.if-newest-gt0.true
+
 pub returns-clause-on : goal.returns-clause-on
 returns-clause-on g c =
-    pop_plain (g.S.Searchable.searched c.args.on.now) (g.met.S.Searchable.sound c.args.on.now) c.args.spot.now c.args.store.now.records c.pop.new.store.records c.in-Some.newest c.args.registers.now c.pop.new.registers c.requires.valid c.in-Some.ensures.popped c.in-Some.ensures.back c.if-newest-eq-KIND_LATER_BRANCH.false c.if-newest-eq-KIND_TURN_OR_EXIT.false c.if-newest-eq-KIND_LATER_TURN.false c.if-newest-eq-KIND_FEWER_ITEMS.false c.if-newest-eq-KIND_MORE_ITEMS.false c.if-newest-eq-KIND_ATOMIC_LEFT.false c.if-newest-eq-KIND_DENIAL_OPEN.false c.if-newest-eq-KIND_LOOK_TEST.false c.if-newest-eq-KIND_DENIAL_TEST.false
+    pop_plain (g.S.Searchable.searched c.args.on.now) (g.met.S.Searchable.sound c.args.on.now) c.args.spot.now c.args.store.now.records c.pop.new.store.records c.in-Some.newest c.args.registers.now c.pop.new.registers c.requires.valid c.in-Some.ensures.popped c.in-Some.ensures.back c.if-newest-eq-KIND_LATER_BRANCH.false c.if-newest-eq-KIND_TURN_OR_EXIT.false c.if-newest-eq-KIND_LATER_TURN.false c.if-newest-eq-KIND_FEWER_ITEMS.false c.if-newest-eq-KIND_MORE_ITEMS.false c.if-newest-eq-KIND_ATOMIC_LEFT.false c.if-newest-eq-KIND_DENIAL_OPEN.false c.if-newest-eq-KIND_LOOK_TEST.false c.if-newest-eq-KIND_DENIAL_TEST.false c.if-newest-eq-KIND_COMMIT_PASSED.false c.if-newest-eq-KIND_PRUNE_PASSED.false c.if-newest-eq-KIND_SKIP_PASSED.false
 
 pub undo_to-requires-clause-within : goal.undo_to-requires-clause-within
 undo_to-requires-clause-within g c = left_within (g.S.Searchable.searched c.args.on.now) (g.met.S.Searchable.sound c.args.on.now) c.args.spot.now c.args.store.now.records c.pop.new.store.records c.in-Some.newest c.args.registers.now c.pop.new.registers c.requires.valid c.in-Some.ensures.popped c.in-Some.ensures.back c.if-newest-eq-KIND_ATOMIC_LEFT.true

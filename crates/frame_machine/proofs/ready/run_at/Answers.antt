@@ -1,6 +1,9 @@
-use Rattle.std.proofs.Common.{◌≤◌, arith}
+use Rattle.std.proofs.Common.{◌≡◌, ◌≤◌, true, sym, subst, arith}
+use Rattle.pat_tree.specs.declared.options.Options.{Options}
 use Rattle.pat_tree.specs.Sound.{greatest, group_numbers}
 use Rattle.match_items.specs.Subjects.{IsText}
+use Rattle.frame_machine.specs.Standing.{stands_in, place_of}
+use Rattle.frame_machine.proofs.StopAnswers.{skip_place}
 use Rattle.frame_machine.proofs.GroundLemmas.{board_search}
 use Rattle.frame_machine.proofs.ready.run_at.Goals as goal
 
@@ -19,4 +22,9 @@ invariant_of-board g c =
     }
 
 pub returns-clause-skip : goal.returns-clause-skip
-returns-clause-skip g c = c.search_at.ensures.skip c.args.view.now.options.now c.args.view.now.subject.now
+returns-clause-skip g c =
+    let options = c.args.view.now.options.now in
+    let subject = c.args.view.now.subject.now in
+    skip_place (stands_in c.args.ready.now.tree.now.options.utf subject) options subject
+    (λ p e. place_of options subject p (subst (λ (o : Options). stands_in o.utf subject p ≡ true) (sym c.requires.search.options) e))
+    _ c.search_at.ensures.skip
