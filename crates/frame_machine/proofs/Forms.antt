@@ -3,27 +3,15 @@ use Rattle.std.proofs.Common.{◌≡◌, ℕ, true, false, List, [], ◌∷◌, 
 use Rattle.std.proofs.lemmas.List.Elements.{All-nil, All-cons, All-head, All-append}
 use Rattle.pat_tree.specs.declared.nodes.Node.{Node}
 use Rattle.pat_tree.specs.declared.nodes.Node.TheVariants as node
-use Rattle.pat_tree.specs.declared.nodes.Verb.{Verb}
-use Rattle.pat_tree.specs.declared.nodes.Verb.TheVariants.{Accept, Fail, Commit, Prune, Skip, Then, Mark}
 use Rattle.pat_tree.specs.Nested as tree
 use Rattle.pat_tree.specs.Nested.{Nested, Row, Test, Other, row, tree_at, other_of, cond_of, test_of, nest}
 use Rattle.pat_tree.specs.Rules.{kids_of, tests_of, number_in, asserted_by, is_test}
 use Rattle.pat_tree.specs.declared.nodes.Cond.{Cond}
 use Rattle.pat_tree.specs.declared.nodes.Cond.TheVariants as cond
 use Rattle.std.proofs.lemmas.Bool.{false≢true}
-use Rattle.pat_tree.specs.Built.{IsPassive, IsBuilt, AreBuilt, IsBuiltTest, IsBuiltOther}
-use Rattle.ordered_search.specs.Verbless.{IsUncaught, IsVerbless, AreVerbless, IsVerblessTest, IsVerblessOther}
+use Rattle.pat_tree.specs.Built.{IsBuilt, AreBuilt, IsBuiltTest, IsBuiltOther}
+use Rattle.ordered_search.specs.Verbless.{IsVerbless, AreVerbless, IsVerblessTest, IsVerblessOther}
 use Rattle.frame_machine.specs.Forms.{IsRunnable, AreRunnable, IsRunnableTest, IsRunnableOther}
-
--- the verbs that are read run
-built_verb : (v : Verb) → IsPassive v → IsUncaught v
-built_verb (Accept n) b = tt
-built_verb (Fail n) b = tt
-built_verb (Mark n) b = tt
-built_verb (Commit n) b = absurd b
-built_verb (Prune n) b = absurd b
-built_verb (Skip n) b = absurd b
-built_verb (Then n) b = absurd b
 
 -- the forms that are read run
 mutual
@@ -42,7 +30,7 @@ mutual
   built_runs (tree.ref ns caseless) b = tt
   built_runs (tree.anchor kind) b = tt
   built_runs tree.keep_out b = tt
-  built_runs (tree.verb v) b = built_verb v b
+  built_runs (tree.verb v) b = b
   built_runs (tree.callout c) b = absurd b
 
   built_row : (ts : Row) → AreBuilt ts → AreRunnable ts

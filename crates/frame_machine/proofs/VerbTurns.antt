@@ -16,7 +16,7 @@ use Rattle.ordered_search.specs.Stream.{State, VerbEnding, prune, skip, commit, 
 use Rattle.ordered_search.specs.PlaceAnswer.{Walked, with_note, answers, FrameLimit, last_name, has_hit}
 use Rattle.ordered_search.specs.Moves.{Moves, pause, noted, Follow, holding, tread, size}
 use Rattle.ordered_search.specs.Paths.{verb_path}
-use Rattle.ordered_search.specs.Verbless.{IsUncaught}
+use Rattle.pat_tree.specs.Built.{IsUncaught}
 use Rattle.frame_machine.specs.declared.machine.Next.{Next}
 use Rattle.frame_machine.specs.declared.machine.Next.TheVariants.{Enter, End, Back, Accept}
 use Rattle.frame_machine.specs.declared.machine.Spot.{Spot}

@@ -14,7 +14,7 @@ use Rattle.pat_tree.specs.Parts.{TreeParts}
 use Rattle.char_sets.specs.Table.{CharSet}
 use Rattle.node_flow.specs.Followers.{IsFlowOf}
 use Rattle.node_flow.specs.Linked.{AreChained, IsLinked}
-use Rattle.ordered_search.specs.Verbless.{IsUncaught}
+use Rattle.pat_tree.specs.Built.{IsUncaught}
 use Rattle.frame_machine.specs.Forms.{IsRunnable, AreRunnable, IsRunnableTest, IsRunnableOther}
 use Rattle.frame_machine.specs.Behind.{AreFixed, HasFixed}
 use Rattle.frame_machine.specs.Ready.{IsBoardSearch}

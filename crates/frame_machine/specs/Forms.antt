@@ -1,7 +1,7 @@
 -- The forms of patterns that the machine runs: all but callouts and THEN.
+use Rattle.pat_tree.specs.Built.{IsUncaught}
 use Rattle.pat_tree.specs.Nested as tree
 use Rattle.pat_tree.specs.Nested.{Nested, Row, Test, Other}
-use Rattle.ordered_search.specs.Verbless.{IsUncaught}
 
 abbrev mutual
   pub IsRunnable : Nested → Type 0

@@ -7,3 +7,5 @@ mod calls;
 mod places;
 #[cfg(test)]
 mod rows;
+#[cfg(test)]
+mod verbs;

@@ -106,7 +106,7 @@ pub fn search_on<S: Driven, C: Callouts>(
 ///
 /// Needs the table and the facts of the tree, and a view with the tree's options; a subject of fewer than 4,294,967,295
 /// bytes, which in UTF is UTF-8; a start in the subject, in UTF where a character begins; no partial matching; and a tree
-/// without callouts and without verbs that act only when backtracking comes back to them. So it calls at no callout.
+/// without callouts and THEN. So it calls at no callout.
 pub fn search<C: Callouts>(
     ready: &Ready<'_>,
     view: &View<'_>,

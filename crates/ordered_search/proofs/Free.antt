@@ -1,6 +1,7 @@
 -- A tree without THEN and callouts is the same before handlers that lead to the same from every other verb.
 use Rattle.std.proofs.Common.{◌≡◌, ℕ, zero, suc, ◌-◌, ◌∙◌, Bool, true, false, List, [], ◌∷◌, Option, Some, None, refl, ap, drop, reverse, ◌==◌}
 use mathlib.Core.Path.{fun_ext}
+use Rattle.pat_tree.specs.Built.{IsUncaught}
 use Rattle.pat_tree.specs.declared.nodes.Verb.{Verb}
 use Rattle.pat_tree.specs.declared.nodes.Verb.TheVariants.{Accept, Fail, Commit, Prune, Skip, Then, Mark}
 use Rattle.pat_tree.specs.Nested as tree
@@ -12,7 +13,7 @@ use Rattle.ordered_search.specs.Setting.{Setting, branch_lengths, verb_name}
 use Rattle.ordered_search.specs.Parts.{is_over, begun_at, back_to, some_set, is_called, is_called_of, same_text, skip_to}
 use Rattle.ordered_search.specs.Moves.{Moves, pause, stepped, noted, Follow, Handler, Path, catching, holding}
 use Rattle.ordered_search.specs.Paths.{Paths, close, turned, turn_path, repeat_path, go_path, parts_path, choice_paths, branch_paths, path, row_paths, paths, try_path, ends_before, tries_path, behind_path, leave, Many, only_many, atomic_path, atomic_over, look_path, tested_path, assert_path, choose_path, behind_paths, test_path, other_path, call_path, ended, named_path, backs_path, verb_path}
-use Rattle.ordered_search.specs.Verbless.{IsUncaught, IsVerbless, AreVerbless, IsVerblessTest, IsVerblessOther}
+use Rattle.ordered_search.specs.Verbless.{IsVerbless, AreVerbless, IsVerblessTest, IsVerblessOther}
 
 -- handlers that lead to the same from every verb but THEN
 pub record IsAgreed (h j : Handler) : Type 0 where

@@ -1,13 +1,7 @@
 -- Patterns without callouts and THEN of their own. The verbs of a called group end with its call.
-use Rattle.pat_tree.specs.declared.nodes.Verb.{Verb}
-use Rattle.pat_tree.specs.declared.nodes.Verb.TheVariants.{Then}
+use Rattle.pat_tree.specs.Built.{IsUncaught}
 use Rattle.pat_tree.specs.Nested as tree
 use Rattle.pat_tree.specs.Nested.{Nested, Row, Test, Other}
-
--- no branch catches it
-abbrev pub IsUncaught : Verb → Type 0
-IsUncaught (Then n) = ⊥
-IsUncaught _ = Unit {0}
 
 abbrev mutual
   pub IsVerbless : Nested → Type 0

@@ -34,9 +34,9 @@ pub fn no_partial_match()
     ensures { NoPartialLaw }
 {}
 
-/// A search without partial matching, in UTF or outside it, for a tree without callouts and without verbs that act only when
-/// backtracking comes back to them: a match lies in the subject at the start or past it, with its captures; else there is
-/// none, a limit is passed, or a group is called at the place of an active call of it. Nothing but names is told.
+/// A search without partial matching, in UTF or outside it, for a tree without callouts and THEN: a match lies in the subject
+/// at the start or past it, with its captures; else there is none, a limit is passed, or a group is called at the place of an
+/// active call of it. Nothing but names is told.
 pub fn searches_go_forward()
     ensures { ForwardLaw }
 {}

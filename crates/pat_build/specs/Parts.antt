@@ -24,7 +24,7 @@ use Rattle.token_parts.specs.declared.token.Token.TheVariants as token
 use Rattle.token_parts.specs.Tell.{fault, ◌>>=◌}
 use Rattle.pat_build.specs.State.{State, Item, item}
 use Rattle.pat_build.specs.Options.{with_setting}
-use Rattle.pat_build.specs.Verbs.{verb_of, number_of_name, names_after, acts_later, may_be_repeated}
+use Rattle.pat_build.specs.Verbs.{verb_of, number_of_name, names_after, is_left_out, may_be_repeated}
 use Rattle.pat_build.specs.Classes.{class_spec, property_part}
 use Rattle.pat_build.specs.Groups.{Opening, Opens, grouped, atomically, looks, asserted, asserting, opened, captured, named, reset, named_by, form_in, beyond_after}
 
@@ -138,10 +138,10 @@ with_verb kind name st next =
     part_if (may_be_repeated kind) (verb (verb_of kind (number_of_name st.verb_names name)))
     (record next { verb_names = names_after st.verb_names name })
 
--- a verb of this name; those that act later are left out
+-- a verb of this name; THEN is left out
 unfoldable pub verbs : VerbKind → List ℕ → State → State → Result Beginning Fault
 verbs kind name st next =
-    if acts_later kind then fault 195 st.at
+    if is_left_out kind then fault 195 st.at
     else Ok (with_verb kind name st next)
 
 -- a conditional group, the text of whose test is given

@@ -4,7 +4,7 @@ use Rattle.pat_tree.specs.declared.options.Options.{Options}
 use Rattle.pat_tree.specs.Built.{IsBuilt}
 use Rattle.pat_build.specs.Reading.{Parsed, read}
 
--- The tree has no callout, and no verb that acts only when backtracking comes back to it.
+-- The tree has no callout and no THEN.
 pub record IsSearchable (parsed : Parsed) : Type 0 where
   pub built : IsBuilt parsed.tree
 

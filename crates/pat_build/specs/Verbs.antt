@@ -24,15 +24,15 @@ abbrev pub names_after : List (List ℕ) → List ℕ → List (List ℕ)
 names_after names [] = names
 names_after names (c ∷ cs) = names ++ (c ∷ cs) ∷ []
 
--- what acts only when backtracking comes back to it ("Verbs that act after backtracking")
-abbrev pub acts_later : VerbKind → Bool
-acts_later Accept = false
-acts_later Fail = false
-acts_later Commit = true
-acts_later Prune = true
-acts_later Skip = true
-acts_later Then = true
-acts_later Mark = false
+-- a verb that isn't built
+abbrev pub is_left_out : VerbKind → Bool
+is_left_out Accept = false
+is_left_out Fail = false
+is_left_out Commit = false
+is_left_out Prune = false
+is_left_out Skip = false
+is_left_out Then = true
+is_left_out Mark = false
 
 -- a quantifier may follow ("Verbs that act immediately")
 abbrev pub may_be_repeated : VerbKind → Bool

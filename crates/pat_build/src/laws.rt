@@ -2,7 +2,7 @@
 ghost use Rattle.pat_build.specs.Searchable.{SearchableLaw};
 ghost use Rattle.pat_build.specs.Rows.{WorkedRows};
 
-/// Whatever is read can be searched: its tree has no callout, and no verb that acts only when backtracking comes back.
+/// Whatever is read can be searched: its tree has no callout and no THEN.
 pub fn what_is_read_can_be_searched()
     ensures { SearchableLaw }
 {}

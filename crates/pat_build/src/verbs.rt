@@ -3,7 +3,7 @@ ghost use Rattle.std.specs.Prelude.{◌≡◌, ℕ, ◌+◌, ◌<◌, ◌≤◌,
 ghost use Rattle.pat_tree.specs.Nested.{verb};
 ghost use Rattle.token_parts.specs.declared.token.Token.TheVariants.{VerbItem};
 ghost use Rattle.pat_build.specs.Parts.{with_verb};
-ghost use Rattle.pat_build.specs.Verbs.{verb_of, number_of_name, names_after, acts_later, may_be_repeated};
+ghost use Rattle.pat_build.specs.Verbs.{verb_of, number_of_name, names_after, is_left_out, may_be_repeated};
 ghost use Rattle.pat_build.specs.Machine.{Ready, Begins, Took, Refuses, NamesVerb, AddsVerb, state_of, whole_of};
 
 use crate::error::ReadError;
@@ -26,14 +26,11 @@ fn verb_of(kind: VerbKind, name: Option<u32>) -> Verb
     }
 }
 
-/// Whether a verb of this kind acts only when backtracking comes back to it.
-fn acts_later(kind: VerbKind) -> bool
-    ensures { result ≡ acts_later kind }
+/// Whether a verb of this kind isn't built.
+fn is_left_out(kind: VerbKind) -> bool
+    ensures { result ≡ is_left_out kind }
 {
-    match kind {
-        VerbKind::Commit | VerbKind::Prune | VerbKind::Skip | VerbKind::Then => true,
-        VerbKind::Accept | VerbKind::Fail | VerbKind::Mark => false,
-    }
+    matches!(kind, VerbKind::Then)
 }
 
 /// Whether a quantifier may follow a verb of this kind.
@@ -86,7 +83,7 @@ impl<'a> Machine<'a> {
         Ok(())
     }
 
-    /// A verb. Those that act only when backtracking comes back to them are left out.
+    /// A verb. THEN is left out.
     pub(crate) fn verb(
         &mut self,
         kind: VerbKind,
@@ -98,7 +95,7 @@ impl<'a> Machine<'a> {
         ensures ok { OnOk result (Took self.old self.new) }
         ensures bad { IfErr result (Refuses (whole_of self.old)) }
     {
-        if acts_later(kind) {
+        if is_left_out(kind) {
             return Err(self.fault(195));
         }
         let text = self.text;

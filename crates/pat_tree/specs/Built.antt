@@ -1,16 +1,14 @@
--- The patterns that are told about and searched: without callouts, and without the verbs that act only when backtracking
--- comes back to them (pcre2pattern, "Verbs that act after backtracking").
+-- The patterns that are told about and searched: without callouts, and without THEN, which the next branch catches
+-- (pcre2pattern, "Verbs that act after backtracking").
 use Rattle.pat_tree.specs.declared.nodes.Verb.{Verb}
-use Rattle.pat_tree.specs.declared.nodes.Verb.TheVariants.{Accept, Fail, Mark}
+use Rattle.pat_tree.specs.declared.nodes.Verb.TheVariants.{Then}
 use Rattle.pat_tree.specs.Nested as tree
 use Rattle.pat_tree.specs.Nested.{Nested, Row, Test, Other}
 
--- backtracking passes over it
-abbrev pub IsPassive : Verb → Type 0
-IsPassive (Accept name) = Unit {0}
-IsPassive (Fail name) = Unit {0}
-IsPassive (Mark name) = Unit {0}
-IsPassive _ = ⊥
+-- no branch catches it
+abbrev pub IsUncaught : Verb → Type 0
+IsUncaught (Then name) = ⊥
+IsUncaught _ = Unit {0}
 
 abbrev mutual
   pub IsBuilt : Nested → Type 0
@@ -28,7 +26,7 @@ abbrev mutual
   IsBuilt (tree.ref ns caseless) = Unit {0}
   IsBuilt (tree.anchor kind) = Unit {0}
   IsBuilt tree.keep_out = Unit {0}
-  IsBuilt (tree.verb v) = IsPassive v
+  IsBuilt (tree.verb v) = IsUncaught v
   IsBuilt (tree.callout c) = ⊥
 
   pub AreBuilt : Row → Type 0

@@ -265,7 +265,7 @@ fn faults_of_marks_and_callouts(rt: HostRuntime) {
 #[test]
 fn a_name_of_a_verb_has_255_bytes(rt: HostRuntime) -> Result<(), Fail> {
     let alloc = rt.alloc();
-    for (begin, place) in [("(*SKIP:", 0), ("ab(*PRUNE:", 2), ("(*THEN:", 0)] {
+    for (begin, place) in [("(*THEN:", 0), ("ab(*THEN:", 2)] {
         for (bytes, number) in [(255, 195), (256, 176), (300, 176)] {
             let mut pattern = String::new(alloc);
             pattern.push_str(begin)?;
@@ -301,12 +301,10 @@ fn faults_of_properties(rt: HostRuntime) {
 
 #[test]
 fn what_is_not_built_or_left_out(rt: HostRuntime) {
-    static ROWS: [(&'static str, i32, usize); 19] = [
-        ("a(*COMMIT)", 195, 1),
-        ("(*PRUNE)", 195, 0),
-        ("(*SKIP)a", 195, 0),
-        ("a(*SKIP:n)", 195, 1),
+    static ROWS: [(&'static str, i32, usize); 17] = [
+        ("(*THEN)", 195, 0),
         ("a(*THEN:n)", 195, 1),
+        ("(*COMMIT)(*THEN)(", 195, 9),
         ("(?C)a", 195, 0),
         ("a(?C255)", 195, 1),
         ("(?C'it''s')", 195, 0),

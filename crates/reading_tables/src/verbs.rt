@@ -1,4 +1,4 @@
-//! Verbs that backtracking passes over, as they are read and refused (pcre2pattern, "Backtracking control"). The C library,
+//! Verbs as they are read and refused (pcre2pattern, "Backtracking control"). The C library,
 //! 10.42, accepts each pattern that is read here, and refuses the others.
 use crate::answers::{are_read, are_refused, fault_of, is_read};
 use pat_build::read;
@@ -7,7 +7,7 @@ use std::test::Fail;
 
 #[test]
 fn verbs(rt: HostRuntime) -> Result<(), Fail> {
-    static ROWS: [(&'static str, &'static str); 24] = [
+    static ROWS: [(&'static str, &'static str); 32] = [
         ("(*ACCEPT)", "(%Accept)"),
         ("a(*FAIL)", "(<a %Fail>)"),
         ("a(*F)b", "(<a %Fail b>)"),
@@ -38,6 +38,14 @@ fn verbs(rt: HostRuntime) -> Result<(), Fail> {
         ("(*ACCEPT){2,3}+", "((>%Accept*{2,3}))"),
         ("(?x) (*ACCEPT) # x\n ?", "(%Accept*{0,1})"),
         ("(*UTF)(*F)", "(%Fail)"),
+        ("(*COMMIT)", "(%Commit)"),
+        ("a(*COMMIT:n)b", "(<a %Commit:n b>)"),
+        ("(*PRUNE)(*PRUNE:)", "(<%Prune %Prune>)"),
+        ("(*PRUNE:n)|(*PRUNE:m)", "(%Prune:n|%Prune:m)"),
+        ("(*SKIP)(*SKIP:)", "(<%Skip %Skip>)"),
+        ("(*:n)(*SKIP:n)", "(<%Mark:n %Skip:n>)"),
+        ("((*SKIP)|(*COMMIT)a)", "((1:%Skip|<%Commit a>))"),
+        ("(?!(*PRUNE)a)", "((!<%Prune a>))"),
     ];
     are_read(&rt, rt.alloc(), &ROWS)
 }
@@ -55,8 +63,16 @@ fn ungreedy_swaps_a_quantifier_on_accept(rt: HostRuntime) -> Result<(), Fail> {
 // Only ACCEPT has a quantifier.
 #[test]
 fn verbs_with_a_fault(rt: HostRuntime) {
-    static ROWS: [(&'static str, i32, usize); 22] = [
+    static ROWS: [(&'static str, i32, usize); 30] = [
         ("(*FAIL)*", 109, 7),
+        ("(*COMMIT)*", 109, 9),
+        ("(*PRUNE:n)?", 109, 10),
+        ("a(*SKIP)+", 109, 8),
+        ("(*SKIP:n){2}", 109, 9),
+        ("(*COMMIT", 160, 0),
+        ("a(*skip)", 160, 1),
+        ("(*PRUNES)", 160, 0),
+        ("(*SKIP:n", 160, 0),
         ("(*F)?", 109, 4),
         ("(*F:n)+", 109, 6),
         ("(*MARK:n){2}", 109, 9),
@@ -103,7 +119,15 @@ fn names_are_a_table(rt: HostRuntime) -> Result<(), Fail> {
 #[test]
 fn the_longest_name_has_255_bytes(rt: HostRuntime) -> Result<(), Fail> {
     let alloc = rt.alloc();
-    for begin in ["(*MARK:", "(*:", "(*ACCEPT:", "(*F:"] {
+    for begin in [
+        "(*MARK:",
+        "(*:",
+        "(*ACCEPT:",
+        "(*F:",
+        "(*COMMIT:",
+        "(*PRUNE:",
+        "(*SKIP:",
+    ] {
         for (bytes, fault) in [(255, None), (256, Some((176, 1)))] {
             let mut pattern = String::new(alloc);
             pattern.push('a')?;

@@ -6,6 +6,8 @@ mod all_ends;
 #[cfg(test)]
 mod calls;
 #[cfg(test)]
+mod commits;
+#[cfg(test)]
 mod cut_off;
 #[cfg(test)]
 mod defaults;
@@ -37,6 +39,8 @@ mod replaced;
 mod running;
 #[cfg(test)]
 mod runs;
+#[cfg(test)]
+mod skips;
 #[cfg(test)]
 mod starts;
 #[cfg(test)]

@@ -215,9 +215,9 @@ verbs_begin : (kind : VerbKind) (name : List ℕ) (st after : State) → Keeps a
 unfolding verbs
 verbs_begin Accept name st after k = holds_ok Begins _ (tt, k)
 verbs_begin Fail name st after k = holds_ok Begins _ (tt, k)
-verbs_begin Commit name st after k = holds_err Begins _
-verbs_begin Prune name st after k = holds_err Begins _
-verbs_begin Skip name st after k = holds_err Begins _
+verbs_begin Commit name st after k = holds_ok Begins _ (tt, k)
+verbs_begin Prune name st after k = holds_ok Begins _ (tt, k)
+verbs_begin Skip name st after k = holds_ok Begins _ (tt, k)
 verbs_begin Then name st after k = holds_err Begins _
 verbs_begin Mark name st after k = holds_ok Begins _ (tt, k)
 

@@ -6,12 +6,12 @@ use Rattle.pat_build.specs.Machine.{state_of}
 use Rattle.pat_build.proofs.Waiting.{bad_means}
 use Rattle.pat_build.proofs.machine.Machine.verb.Goals as goal
 
-pub returns-then-acts_later-clause-bad : goal.returns-then-acts_later-clause-bad
+pub returns-then-is_left_out-clause-bad : goal.returns-then-is_left_out-clause-bad
 unfolding verbs
-returns-then-acts_later-clause-bad c =
+returns-then-is_left_out-clause-bad c =
     let m = c.args.self.now in
     rw c.fault.ensures (bad_means m c.requires.means (VerbItem c.args.kind c.args.from c.args.to) c.args.after _ c.requires
-    (λ n h. ap (λ b. if b then fault 195 m.at else Ok (with_verb c.args.kind (slice_range m.text.now c.args.from c.args.to) (state_of m) (record (state_of m) { at = c.args.after }))) (sym c.acts_later.ensures ∙ c.if-acts_later.true)))
+    (λ n h. ap (λ b. if b then fault 195 m.at else Ok (with_verb c.args.kind (slice_range m.text.now c.args.from c.args.to) (state_of m) (record (state_of m) { at = c.args.after }))) (sym c.is_left_out.ensures ∙ c.if-is_left_out.true)))
 
 pub begin_verb-requires : goal.begin_verb-requires
 unfolding verbs
@@ -21,6 +21,6 @@ begin_verb-requires c =
         c.args.from,
         c.args.to,
         c.requires,
-        λ n h. ap (λ b. if b then fault 195 m.at else Ok (with_verb c.args.kind (slice_range m.text.now c.args.from c.args.to) (state_of m) (record (state_of m) { at = c.args.after }))) (sym c.acts_later.ensures ∙ c.if-acts_later.false),
+        λ n h. ap (λ b. if b then fault 195 m.at else Ok (with_verb c.args.kind (slice_range m.text.now c.args.from c.args.to) (state_of m) (record (state_of m) { at = c.args.after }))) (sym c.is_left_out.ensures ∙ c.if-is_left_out.false),
       );
     }
