@@ -4,6 +4,7 @@ ghost use Rattle.std.specs.Prelude.{◌≡◌, ◌<◌, false, length};
 use crate::build::{Step, tree_of};
 use byte_lanes::ByteSet;
 use char_sets::ClassTable;
+use match_needs::ByteText;
 use pat_check::{CheckError, DfaSupport, Facts, Growth, check};
 use pat_tree::{AnchorKind, Options};
 use std::alloc::Global;
@@ -613,19 +614,33 @@ fn lookbehinds_have_a_length_or_are_refused(rt: HostRuntime) -> Result<(), Fail>
     Ok(())
 }
 
-/// A tree by its steps, the bytes of which every match takes one if such a set is told, and the bounds of its Steps, as
-/// times and degree, and of its units.
-type NeedRow = (&'static [Step], Option<&'static [u8]>, u32, u32, u32);
+/// The bytes that stand in a text one behind the other; none where it is shorter.
+type TextRow = (&'static [u8], &'static [u8], &'static [u8]);
+
+/// A tree by its steps, the text that every match takes if one is told, and the bounds of its Steps, as times and degree,
+/// and of its units.
+type NeedRow = (&'static [Step], Option<TextRow>, u32, u32, u32);
+
+fn is_next(set: &Option<ByteSet>, bytes: &[u8]) -> bool {
+    match set {
+        Some(set) => is_set(set, bytes),
+        None => bytes.is_empty(),
+    }
+}
+
+fn is_text(text: &ByteText, row: &TextRow) -> bool {
+    is_set(&text.first, row.0) && is_next(&text.second, row.1) && is_next(&text.third, row.2)
+}
 
 fn needs_as(facts: &Facts, row: &NeedRow) -> bool {
-    match (&facts.need, row.1) {
+    match (&facts.need, &row.1) {
         (None, None) => true,
-        (Some(need), Some(bytes)) => {
+        (Some(need), Some(text)) => {
             let steps = Growth {
                 times: row.2,
                 degree: row.3,
             };
-            is_set(&need.bytes, bytes) && need.bound.steps == steps && need.bound.units == row.4
+            is_text(&need.text, text) && need.bound.steps == steps && need.bound.units == row.4
         }
         _ => false,
     }
@@ -641,38 +656,44 @@ fn tells_need(rt: &impl Abort, alloc: Global, options: Options, row: &NeedRow) -
 }
 
 #[test]
-fn the_rarest_byte_that_every_match_takes_is_told(rt: HostRuntime) -> Result<(), Fail> {
+fn the_rarest_text_that_every_match_takes_is_told(rt: HostRuntime) -> Result<(), Fail> {
     use Step::*;
-    static ROWS: [NeedRow; 20] = [
+    static ROWS: [NeedRow; 24] = [
         // `a`, `(?i)k`, a class, `a?b`, `a+b`, `a{2,3}`, `a*`, `.`
-        (&[A], Some(b"a"), 0, 0, 0),
-        (&[AnyCase(107)], Some(b"Kk"), 0, 0, 0),
-        (&[Class], Some(b"\n\x0B\x0C\r"), 0, 0, 0),
-        (&[MAYBE, B, Seq(2)], Some(b"b"), 2, 0, 1),
-        (&[Chars(97, 1, None), B, Seq(2)], Some(b"b"), 1, 1, 1),
-        (&[Chars(97, 2, Some(3))], Some(b"a"), 2, 0, 1),
+        (&[A], Some((b"a", b"", b"")), 0, 0, 0),
+        (&[AnyCase(107)], Some((b"Kk", b"", b"")), 0, 0, 0),
+        (&[Class], Some((b"\n\x0B\x0C\r", b"", b"")), 0, 0, 0),
+        (&[MAYBE, B, Seq(2)], Some((b"b", b"", b"")), 2, 0, 1),
+        (
+            &[Chars(97, 1, None), B, Seq(2)],
+            Some((b"b", b"", b"")),
+            1,
+            1,
+            1,
+        ),
+        (&[Chars(97, 2, Some(3))], Some((b"a", b"", b"")), 2, 0, 1),
         (&[Chars(97, 0, None)], None, 0, 0, 0),
         (&[AnyAll], None, 0, 0, 0),
         // `ab|cb`, `a|`, `(a)`, `(?>a+)b`, `(?=b)a*`
         (
             &[A, B, Seq(2), C, B, Seq(2), Group(2)],
-            Some(b"bc"),
+            Some((b"ac", b"b", b"")),
             2,
             0,
             2,
         ),
         (&[A, Empty, Group(2)], None, 0, 0, 0),
-        (&[A, Capture(1, 1)], Some(b"a"), 0, 0, 2),
+        (&[A, Capture(1, 1)], Some((b"a", b"", b"")), 0, 0, 2),
         (
             &[Chars(97, 1, None), Atomic(1), B, Seq(2)],
-            Some(b"b"),
+            Some((b"b", b"", b"")),
             1,
             1,
             3,
         ),
         (
             &[B, Ahead(1), Chars(97, 0, None), Seq(2)],
-            Some(b"b"),
+            Some((b"b", b"", b"")),
             1,
             1,
             3,
@@ -680,10 +701,33 @@ fn the_rarest_byte_that_every_match_takes_is_told(rt: HostRuntime) -> Result<(),
         // `a+b+c`
         (
             &[Chars(97, 1, None), Chars(98, 1, None), C, Seq(3)],
-            Some(b"b"),
+            Some((b"c", b"", b"")),
             2,
             2,
             2,
+        ),
+        // `abc`, `abcB`, `ab(b)`, `a+bc`
+        (&[A, B, C, Seq(3)], Some((b"a", b"b", b"c")), 0, 0, 0),
+        (
+            &[A, B, C, AnyCase(98), Seq(4)],
+            Some((b"b", b"c", b"Bb")),
+            0,
+            0,
+            0,
+        ),
+        (
+            &[A, B, B, Capture(1, 1), Seq(3)],
+            Some((b"a", b"b", b"")),
+            0,
+            0,
+            2,
+        ),
+        (
+            &[Chars(97, 1, None), B, C, Seq(3)],
+            Some((b"b", b"c", b"")),
+            1,
+            1,
+            1,
         ),
         // forms without a bound: `(?:a){2,}`, `(?<=b)a`, `(?1)`, an accept, a callout
         (&[A, Repeat(2, None)], None, 0, 0, 0),
@@ -709,11 +753,11 @@ fn in_utf_the_byte_of_an_ascii_character_is_told(rt: HostRuntime) -> Result<(), 
     };
     // `a`, `(?i)k`, a class, `é+`, a class and `b`, `é|b`
     static ROWS: [NeedRow; 6] = [
-        (&[A], Some(b"a"), 0, 0, 0),
+        (&[A], Some((b"a", b"", b"")), 0, 0, 0),
         (&[AnyCase(107)], None, 0, 0, 0),
         (&[Class], None, 0, 0, 0),
         (&[Chars(233, 1, None)], None, 0, 0, 0),
-        (&[Class, B, Seq(2)], Some(b"b"), 0, 0, 0),
+        (&[Class, B, Seq(2)], Some((b"b", b"", b"")), 0, 0, 0),
         (&[Chars(233, 1, None), B, Group(2)], None, 0, 0, 0),
     ];
     for row in &ROWS {

@@ -1,9 +1,10 @@
 -- What is known of the bytes that a feed holds stays known from one line to the next.
-use Rattle.std.proofs.Common.{◌≡◌, ◌∙◌, ℕ, ◌+◌, ◌-◌, ◌<◌, ◌≤◌, List, [], ◌++◌, length, Bool, true, false, Option, Some, None, Ok, refl, sym, ap, subst, arith, length-append}
+use Rattle.std.proofs.Common.{◌≡◌, ◌∙◌, ℕ, ◌+◌, ◌-◌, ◌<◌, ◌≤◌, List, [], ◌∷◌, ◌++◌, length, Bool, true, Option, Some, None, Ok, sym, ap, subst, arith, length-append}
 use Rattle.std.specs.Prelude.{slice_index, IfSome}
 use Rattle.std.proofs.lemmas.List.{append_assoc, get_or_append_left, get_or-append-add}
 use Rattle.byte_lanes.specs.Places.{IsLeast}
-use Rattle.byte_lanes.specs.Sets.{has_byte, IsIn}
+use Rattle.byte_lanes.specs.Sets.{has_byte}
+use Rattle.match_needs.specs.Texts.{sets_of, behind_of, Stands}
 use Rattle.pcre_io.specs.Told.{Told}
 use Rattle.pat_tree.specs.Pattern.{Pattern}
 use Rattle.grep_args.specs.declared.plan.GrepPlan.{GrepPlan}
@@ -17,67 +18,101 @@ use Rattle.grep_match.specs.Needed.{AreNeeded}
 use Rattle.grep_core.specs.declared.watch.Watch.{Watch}
 use Rattle.grep_core.specs.Watched.{IsQuiet, Watches}
 
-is_false : (b : Bool) → ¬ (b ≡ true) → b ≡ false
-is_false false h = refl
-is_false true h = absurd (h refl)
-
 kept : Option Needed → Needed → Needed
 kept None d = d
 kept (Some x) d = x
 
-quiet-more : (set : List Bool) (held taken : List ℕ) (n : ℕ) → IsQuiet set held n → IsQuiet set (held ++ taken) n
-quiet-more set held taken n q =
+-- Where a text stands in bytes before and behind which others stand.
+
+stands_before : (text : List (List Bool)) (xs ys : List ℕ) (k : ℕ) → Stands text xs k → Stands text (xs ++ ys) k
+stands_before [] xs ys k h = tt
+stands_before (set ∷ sets) xs ys k h =
+    let long = length-append xs ys in
+    let within = h.0 in
+    (omega arith, (subst (λ b. has_byte set b ≡ true) (sym (get_or_append_left xs ys 0 k within)) h.1.0, stands_before sets xs ys (k + 1) h.1.1))
+
+stands_within : (text : List (List Bool)) (xs ys : List ℕ) (k : ℕ) → k + length text ≤ length xs → Stands text (xs ++ ys) k → Stands text xs k
+stands_within [] xs ys k l h = tt
+stands_within (set ∷ sets) xs ys k l h =
+    let within : k < length xs = omega (arith, l) in
+    (within, (subst (λ b. has_byte set b ≡ true) (get_or_append_left xs ys 0 k within) h.1.0, stands_within sets xs ys (k + 1) (omega (arith, l)) h.1.1))
+
+stands_behind : (text : List (List Bool)) (xs ys : List ℕ) (k : ℕ) → Stands text ys k → Stands text (xs ++ ys) (length xs + k)
+stands_behind [] xs ys k h = tt
+stands_behind (set ∷ sets) xs ys k h =
+    let long = length-append xs ys in
+    let within = h.0 in
+    let next : length xs + (k + 1) ≡ length xs + k + 1 = omega arith in (
+      omega arith,
+      (
+        subst (λ b. has_byte set b ≡ true) (sym (get_or-append-add xs ys k 0)) h.1.0,
+        subst (Stands sets (xs ++ ys)) next (stands_behind sets xs ys (k + 1) h.1.1),
+      ),
+    )
+
+stands_long : (text : List (List Bool)) (bytes : List ℕ) (k : ℕ) → k ≤ length bytes → Stands text bytes k → k + length text ≤ length bytes
+stands_long [] bytes k l h = omega (arith, l)
+stands_long (set ∷ sets) bytes k l h = let within = h.0 in let rest = stands_long sets bytes (k + 1) (omega arith) h.1.1 in omega arith
+
+quiet-more : (text : List (List Bool)) (held taken : List ℕ) (n : ℕ) → IsQuiet text held n → IsQuiet text (held ++ taken) n
+quiet-more text held taken n q =
     let long = length-append held taken in
     let within = q.within in
     record {
       within = omega arith;
-      lacks = λ k low high is. q.lacks k low high (subst (λ b. has_byte set b ≡ true) (get_or_append_left held taken 0 k (omega arith)) is);
+      lacks = λ k low is. q.lacks k low (stands_within text held taken k (omega (arith, low, within)) is);
     }
 
-quiet-front : (set : List Bool) (bytes behind : List ℕ) (n : ℕ) → IsQuiet set (bytes ++ behind) n → length bytes ≤ n
-    → ((k : ℕ) → k < length bytes → slice_index bytes k < 256) → Lacks set bytes
-quiet-front set bytes behind n q some are = λ k l.
-    (are k l, is_false _ (λ is. q.lacks k (omega arith) (omega arith) (subst (λ b. has_byte set b ≡ true) (sym (get_or_append_left bytes behind 0 k l)) is)))
+quiet-front : (set : List Bool) (sets : List (List Bool)) (bytes behind : List ℕ) (n : ℕ) → IsQuiet (set ∷ sets) (bytes ++ behind) n → length bytes ≤ n
+    → ((k : ℕ) → k < length bytes → slice_index bytes k < 256) → Lacks (set ∷ sets) bytes
+quiet-front set sets bytes behind n q some are = record {
+  small = are;
+  missing = λ k is.
+      let within = is.0 in
+      let long = stands_long (set ∷ sets) bytes k (omega arith) is in
+      q.lacks k (omega (arith, long, some)) (stands_before (set ∷ sets) bytes behind k is);
+}
 
-quiet-behind : (set : List Bool) (bytes behind : List ℕ) (n : ℕ) → IsQuiet set (bytes ++ behind) n → IsQuiet set behind (n - length bytes)
-quiet-behind set bytes behind n q =
+quiet-behind : (set : List Bool) (sets : List (List Bool)) (bytes behind : List ℕ) (n : ℕ) → IsQuiet (set ∷ sets) (bytes ++ behind) n → IsQuiet (set ∷ sets) behind (n - length bytes)
+quiet-behind set sets bytes behind n q =
     let long = length-append bytes behind in
     let within = q.within in
     record {
       within = omega arith;
-      lacks = λ k low high is. q.lacks (length bytes + k) (omega arith) (omega arith) (subst (λ b. has_byte set b ≡ true) (sym (get_or-append-add bytes behind k 0)) is);
+      lacks = λ k low is. q.lacks (length bytes + k) (omega (arith, low)) (stands_behind (set ∷ sets) bytes behind k is);
     }
 
--- of no byte anything need be known
+-- of no text anything need be known
 pub watches_new : (plan : GrepPlan) (patterns : List Pattern) (needed : Option Needed) → IfSome needed (AreNeeded plan patterns)
     → (held : List ℕ) → Watches plan patterns (record { needed = needed; quiet = 0 }) held
 watches_new plan patterns needed are held = record {
   needed = λ some is. subst (λ o. IfSome o (AreNeeded plan patterns)) is are;
-  quiet = λ some is. record { within = omega arith; lacks = λ k low high in_set. omega (arith, high) };
+  quiet = λ some is. record { within = omega arith; lacks = λ k low stands. omega (arith, low) };
 }
 
 module _ (plan : GrepPlan) (patterns : List Pattern) (w : Watch) where
   watches_more : (held taken : List ℕ) → Watches plan patterns w held → Watches plan patterns w (held ++ taken)
   watches_more held taken had = record {
     needed = had.needed;
-    quiet = λ some is. quiet-more some.bytes held taken w.quiet (had.quiet some is);
+    quiet = λ some is. quiet-more (sets_of some.text) held taken w.quiet (had.quiet some is);
   }
 
-  -- a needed byte was looked for
-  pub watches_found : (held : List ℕ) (n : ℕ) (found : Needed) → w.needed ≡ Some found → IsLeast (IsIn found.bytes held) 0 (length held) n
+  -- the text was looked for
+  pub watches_found : (held : List ℕ) (n : ℕ) (found : Needed) → w.needed ≡ Some found → IsLeast (Stands (sets_of found.text) held) 0 (length held) n
       → Watches plan patterns w held → Watches plan patterns (record w { quiet = n }) held
   unfolding kept
   watches_found held n found there least had = record {
     needed = had.needed;
     quiet = λ some is.
-        subst (λ (s : Needed). IsQuiet s.bytes held n) (ap (λ o. kept o found) (sym there ∙ is)) (record { within = least.high; lacks = least.before });
+        subst (λ (s : Needed). IsQuiet (sets_of s.text) held n) (ap (λ o. kept o found) (sym there ∙ is))
+        (record { within = least.high; lacks = λ k low stands. least.before k (omega arith) (omega (arith, low)) stands });
   }
 
-  -- none is among the bytes of a line
+  -- it stands nowhere in a line
   pub watches_none : (bytes behind : List ℕ) (found : Needed) → w.needed ≡ Some found → length bytes ≤ w.quiet → length bytes ≤ found.most
       → ((k : ℕ) → k < length bytes → slice_index bytes k < 256) → Watches plan patterns w (bytes ++ behind) → matches plan patterns bytes ≡ Ok []
   watches_none bytes behind found there some short are had =
-      had.needed found there bytes short (quiet-front found.bytes bytes behind w.quiet (had.quiet found there) some are)
+      had.needed found there bytes short (quiet-front found.text.first (behind_of found.text.second found.text.third) bytes behind w.quiet (had.quiet found there) some are)
 
   pub watches_behind : (bytes newline behind : List ℕ) (n : ℕ) → n ≡ w.quiet - length bytes - length newline → Watches plan patterns w (bytes ++ newline ++ behind)
       → Watches plan patterns (record w { quiet = n }) behind
@@ -86,7 +121,8 @@ module _ (plan : GrepPlan) (patterns : List Pattern) (w : Watch) where
     quiet = λ some there.
         let long = length-append bytes newline in
         let same : w.quiet - length (bytes ++ newline) ≡ n = omega (arith, long, is) in
-        subst (IsQuiet some.bytes behind) same (quiet-behind some.bytes (bytes ++ newline) behind w.quiet (had.quiet some there));
+        subst (IsQuiet (sets_of some.text) behind) same
+        (quiet-behind some.text.first (behind_of some.text.second some.text.third) (bytes ++ newline) behind w.quiet (had.quiet some there));
   }
 
   -- what the feed held begins with the line that it gives

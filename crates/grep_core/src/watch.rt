@@ -7,15 +7,15 @@ ghost use Rattle.grep_match.specs.Matches.{matches};
 ghost use Rattle.grep_core.specs.Watched.{Watches};
 
 use grep_args::GrepPlan;
-use grep_match::{Needed, Patterns, needed_bytes};
+use grep_match::{Needed, Patterns, needed_text};
 use line_feed::{Line, LineFeed};
 
 /// What is known of the bytes that a feed holds.
 #[derive(Drop)]
 pub struct Watch {
-    /// Bytes of which every match takes one, where some are known.
+    /// A text that every match takes, where one is known.
     pub needed: Option<Needed>,
-    /// So many bytes stand before the first of them, or are known to.
+    /// In so many first bytes it stands nowhere, as far as is known.
     pub quiet: usize,
 }
 
@@ -32,12 +32,12 @@ impl Watch {
         ensures { (held : List ℕ) → Watches plan.now (patterns_in patterns.now) result held }
     {
         Watch {
-            needed: needed_bytes(plan, patterns),
+            needed: needed_text(plan, patterns),
             quiet: 0,
         }
     }
 
-    /// Looks for the first needed byte, where the next byte may be one.
+    /// Looks for the text, where it may begin at the next byte.
     #[tactic(auto, using(crate::proofs::Watching::watches_found))]
     pub fn look(&mut self, feed: &LineFeed)
         ensures { (plan : GrepPlan) (patterns : List Pattern)
@@ -48,7 +48,7 @@ impl Watch {
             return;
         }
         if let Some(needed) = &self.needed {
-            self.quiet = feed.first_held(0, &needed.bytes);
+            self.quiet = needed.text.find(feed.held());
         }
     }
 

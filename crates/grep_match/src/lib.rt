@@ -13,4 +13,4 @@ pub use found::{MatchList, Place};
 pub use modes::{Mode, is_matching, is_named, mode_of};
 pub use patterns::{PatternError, Patterns};
 pub use search::{Verdict, Workspace, search_line};
-pub use unsearched::{Needed, needed_bytes};
+pub use unsearched::{Needed, needed_text};

@@ -3,47 +3,48 @@ ghost use Rattle.std.specs.Prelude.{◌≡◌, IfSome};
 ghost use Rattle.pat_tree.specs.declared.options.PartialMode.TheVariants.{Off};
 ghost use Rattle.grep_match.specs.Compiled.{patterns_in};
 ghost use Rattle.grep_match.specs.Needed.{NoneAnswers, AreNeeded};
+ghost use Rattle.match_needs.specs.Texts.{sets_of};
 
 use crate::patterns::Patterns;
 use crate::search::limits;
-use byte_lanes::ByteSet;
 use grep_args::GrepPlan;
-use pcre2_api::{Code, MatchOptions};
+use pcre2_api::{ByteText, Code, MatchOptions};
 
 // Longer lines are searched. Some patterns pass no limit on short lines alone.
 const LONG: u32 = 65_535;
 
 const SHORT: u32 = 2_047;
 
-// Of more patterns some needed byte stands in nearly every line.
+// Of more patterns some text stands in nearly every line.
 const MANY: usize = 16;
 
-/// Bytes of which every match takes one.
+/// A text that every match takes.
 #[derive(Drop)]
 pub struct Needed {
-    pub bytes: ByteSet,
+    pub text: ByteText,
     /// So many bytes a line may have on which no search is made.
     pub most: u32,
 }
 
-// The bytes for lines of at most so many bytes.
-fn needed_within(codes: &[Code], matching: &MatchOptions, most: u32) -> Option<ByteSet>
+// The text for lines of at most so many bytes.
+fn needed_within(codes: &[Code], matching: &MatchOptions, most: u32) -> Option<ByteText>
     requires { matching.now.«partial» ≡ Off }
-    ensures { IfSome result (NoneAnswers matching.now (patterns_in codes.now) most) }
+    ensures { IfSome result (λ text.
+        NoneAnswers matching.now (patterns_in codes.now) most (sets_of text)) }
 {
-    let mut bytes = ByteSet::empty();
+    let mut text = ByteText::nowhere();
     for code in codes {
         let Some(more) = code.needed(most, matching) else {
             return None;
         };
-        bytes.add(&more);
+        text = text.either(&more);
     }
-    Some(bytes)
+    Some(text)
 }
 
-/// Bytes of which every match of the patterns takes one, under the limits of the plan: a line that lacks them isn't
-/// searched. None where no such bytes are known.
-pub fn needed_bytes(plan: &GrepPlan, patterns: &Patterns) -> Option<Needed>
+/// A text that every match of the patterns takes, under the limits of the plan: a line in which it stands nowhere isn't
+/// searched. None where no such text is known.
+pub fn needed_text(plan: &GrepPlan, patterns: &Patterns) -> Option<Needed>
     ensures { IfSome result (AreNeeded plan.now (patterns_in patterns.now)) }
 {
     let codes = patterns.codes();
@@ -51,11 +52,11 @@ pub fn needed_bytes(plan: &GrepPlan, patterns: &Patterns) -> Option<Needed>
         return None;
     }
     let matching = limits(plan);
-    if let Some(bytes) = needed_within(codes, &matching, LONG) {
-        return Some(Needed { bytes, most: LONG });
+    if let Some(text) = needed_within(codes, &matching, LONG) {
+        return Some(Needed { text, most: LONG });
     }
     match needed_within(codes, &matching, SHORT) {
-        Some(bytes) => Some(Needed { bytes, most: SHORT }),
+        Some(text) => Some(Needed { text, most: SHORT }),
         None => None,
     }
 }

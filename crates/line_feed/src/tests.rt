@@ -1,7 +1,7 @@
 ghost use Rattle.std.specs.Prelude.{◌≡◌, None};
 
 use crate::{FeedError, LineFeed};
-use byte_lanes::{ByteSet, EndKind};
+use byte_lanes::EndKind;
 use pcre_io::{Failed, MemSource, Source};
 use std::alloc::Global;
 use std::test::Fail;
@@ -121,18 +121,16 @@ fn the_front_and_the_lines_behind_it(rt: HostRuntime) -> Result<(), Fail> {
 #[test]
 fn bytes_held_and_another_input(rt: HostRuntime) -> Result<(), Fail> {
     let alloc = rt.alloc();
-    let mut set = ByteSet::empty();
-    set.insert(b'd');
     let mut feed = LineFeed::new(alloc, EndKind::Lf, 9);
     let mut source = MemSource::new(b"ad\ncd\nx".to_vec(alloc)?, None, 9);
-    assert!(rt; feed.first_held(0, &set) == 0);
+    assert!(rt; feed.held().is_empty());
     assert!(rt; gives(&mut feed, &mut source, b"ad", b"\n", 1, 0));
-    assert!(rt; feed.first_held(0, &set) == 1);
+    assert!(rt; feed.held() == b"cd\nx".as_slice());
     assert!(rt; gives(&mut feed, &mut source, b"cd", b"\n", 2, 3));
-    assert!(rt; feed.first_held(0, &set) == 1);
+    assert!(rt; feed.held() == b"x".as_slice());
     feed.restart(EndKind::Cr, 9);
     let mut source = MemSource::new(b"a\rb".to_vec(alloc)?, None, 9);
-    assert!(rt; feed.first_held(0, &set) == 0);
+    assert!(rt; feed.held().is_empty());
     assert!(rt; gives(&mut feed, &mut source, b"a", b"\r", 1, 0));
     assert!(rt; gives(&mut feed, &mut source, b"b", b"", 2, 2));
     assert!(rt; ends(&mut feed, &mut source));

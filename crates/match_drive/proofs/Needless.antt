@@ -1,7 +1,6 @@
--- Where no byte stands that every match of a finished tree needs, nothing is found.
+-- Where no text stands that every match of a finished tree needs, nothing is found.
 use Rattle.std.proofs.Common.{◌≡◌, ℕ, ℤ, ◌+◌, ◌<◌, ◌≤◌, Bool, length, subst}
 use Rattle.std.specs.Prelude.{slice_index}
-use Rattle.byte_lanes.specs.Sets.{has_byte}
 use Rattle.pat_tree.specs.declared.options.Options.{Options}
 use Rattle.pat_tree.specs.declared.options.PartialMode.TheVariants.{Off}
 use Rattle.pat_tree.specs.Parts.{TreeParts, tree_of}
@@ -10,24 +9,25 @@ use Rattle.match_items.specs.Subjects.{IsText, IsTextPlace}
 use Rattle.pcre_io.specs.declared.callouts.Block.{Block}
 use Rattle.match_needs.specs.Bounds.{at}
 use Rattle.match_needs.specs.Needs.{may_take, Needs}
+use Rattle.match_needs.specs.Texts.{sets_of, Stands}
 use Rattle.match_needs.specs.NeedTables.{IsNeedOf}
 use Rattle.match_needs.specs.declared.needs.Need.{Need}
 use Rattle.ordered_search.specs.Setting.{lower_of}
 use Rattle.ordered_search.specs.MatchAnswer.{none_found, match_answer}
 use Rattle.ordered_search.proofs.Needed.{need_law}
 use Rattle.frame_machine.specs.Ready.{setting_for}
-use Rattle.match_drive.specs.Rest.{IsByteOutside}
 use Rattle.match_drive.proofs.Leads.{class_told}
 
 pub none_without : (tree : TreeParts) (view : View) (need : Need) (answers : Block → ℤ) → IsNeedOf tree need →
     view.options.now ≡ tree.options → IsText view.options.now view.subject.now → IsTextPlace view.options.now view.subject.now view.start → view.matching.now.«partial» ≡ Off →
     at need.bound.steps (length view.subject.now + 1) ≤ lower_of view.options.now.match_limit view.matching.now.match_limit →
     need.bound.units ≤ view.matching.now.frame_limit →
-    ((k : ℕ) → k < length view.subject.now → IsByteOutside need.bytes (slice_index view.subject.now k)) →
+    ((k : ℕ) → k < length view.subject.now → slice_index view.subject.now k < 256) → ((k : ℕ) → ¬ Stands (sets_of need.text) view.subject.now k) →
     match_answer (setting_for tree view answers) ≡ none_found
-none_without tree view need answers is shown text begun off steps units missing =
-    need_law (setting_for tree view answers) (has_byte need.bytes) need.bound (record {
-      needs = subst (λ (has : ℕ → ℕ → Bool). Needs (may_take tree.options.utf has) (has_byte need.bytes) (tree_of tree)) (class_told tree) is.bytes;
+none_without tree view need answers is shown text begun off steps units small missing =
+    need_law (setting_for tree view answers) (sets_of need.text) need.bound (record {
+      needs = subst (λ (has : ℕ → ℕ → Bool). Needs (may_take tree.options.utf has) tree.options.utf (sets_of need.text) (tree_of tree)) (class_told tree) is.text;
+      small = small;
       missing = missing;
       bounded = is.bound;
       steps = subst (λ (o : Options). at need.bound.steps (length view.subject.now + 1) ≤ lower_of o.match_limit view.matching.now.match_limit) shown steps;

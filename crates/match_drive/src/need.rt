@@ -1,4 +1,4 @@
-//! Subjects without a byte that every match needs.
+//! Subjects without a text that every match needs.
 ghost use Rattle.std.specs.Prelude.{◌≡◌, ◌+◌, ◌<◌, ◌≤◌, ℕ, ℤ, None, IsTrue, length, slice_index};
 ghost use Rattle.match_items.specs.Subjects.{IsText};
 ghost use Rattle.pcre_io.specs.declared.callouts.Block.{Block};
@@ -6,13 +6,12 @@ ghost use Rattle.match_needs.specs.Bounds.{at};
 ghost use Rattle.frame_machine.specs.Ready.{IsReadySearch, setting_for};
 ghost use Rattle.ordered_search.specs.Setting.{lower_of};
 ghost use Rattle.ordered_search.specs.MatchAnswer.{none_found, match_answer};
-ghost use Rattle.match_drive.specs.Rest.{IsByteOutside};
+ghost use Rattle.match_needs.specs.Texts.{sets_of, Stands};
 
 use crate::answer::MatchAnswer;
-use byte_lanes::{ByteSet, find_in_set};
 use frame_machine::{Ready, Scratch};
 use match_items::View;
-use match_needs::Need;
+use match_needs::{ByteText, Need};
 
 /// The greatest number of Steps at a place: the pattern may lower that of the match.
 fn match_limit(view: &View<'_>) -> u32
@@ -38,16 +37,17 @@ fn is_within(need: &Need, view: &View<'_>) -> bool
     need.bound.steps.is_within(size, match_limit(view))
 }
 
-/// Whether no byte of a text is in a set.
-fn lacks(bytes: &[u8], set: &ByteSet) -> bool
-    ensures { IsTrue result → (k : ℕ) → k < length bytes.now
-        → IsByteOutside set.now (slice_index bytes.now k) }
+/// Whether a text stands nowhere in these bytes.
+#[tactic(auto, using(match_needs::proofs::TextLemmas::stands_nowhere))]
+fn lacks(bytes: &[u8], text: &ByteText) -> bool
+    ensures small { (k : ℕ) → k < length bytes.now → slice_index bytes.now k < 256 }
+    ensures missing { IsTrue result → (k : ℕ) → ¬ Stands (sets_of text.now) bytes.now k }
 {
-    find_in_set(bytes, 0, set) == bytes.len()
+    text.find(bytes) == bytes.len()
 }
 
-/// True only where the subject has no match and a search of it passes no limit: no byte stands in it of a set of which
-/// every match takes one. A search that begins later isn't looked at, so that many searches of a long subject don't each
+/// True only where the subject has no match and a search of it passes no limit: a text that every match takes stands
+/// nowhere in it. A search that begins later isn't looked at, so that many searches of a long subject don't each
 /// look over what stands before.
 pub(crate) fn lacks_need(ready: &Ready<'_>, view: &View<'_>) -> bool
     requires { IsReadySearch ready.now view.now }
@@ -60,7 +60,7 @@ pub(crate) fn lacks_need(ready: &Ready<'_>, view: &View<'_>) -> bool
     if view.start > 0 || !is_within(need, view) {
         return false;
     }
-    lacks(view.subject, &need.bytes)
+    lacks(view.subject, &need.text)
 }
 
 /// The answer for such a subject, whose search met no name.

@@ -1,3 +1,4 @@
 pub mod Backwards
 pub mod BoundLemmas
 pub mod NeedLemmas
+pub mod TextLemmas

@@ -1,5 +1,5 @@
 -- How many Steps and states a search of a part of a pattern gives at most, and how many units its paths hold beside those
--- that they began with (docs/SPEED.md, "A byte that every match needs").
+-- that they began with (docs/SPEED.md, "A text that every match needs").
 use Rattle.std.specs.Prelude.{ℕ, ◌+◌, ◌-◌, ◌*◌, ◌^◌, max, true, false, Option, Some, None}
 use Rattle.pat_tree.specs.Nested.{Nested, Row, empty, one, line_break, seq, group, repeat, one_repeat, atomic, look, condition, call, ref, anchor, keep_out, verb, callout, none, more}
 use Rattle.match_needs.specs.declared.bounds.Growth.{Growth}

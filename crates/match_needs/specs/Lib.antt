@@ -2,3 +2,4 @@ pub mod Bounds
 pub mod BoundTables
 pub mod Needs
 pub mod NeedTables
+pub mod Texts

@@ -1,5 +1,6 @@
--- Sets of bytes of which every match of a part of a pattern takes one (docs/SPEED.md, "A byte that every match needs").
-use Rattle.std.specs.Prelude.{◌≡◌, ℕ, ◌<◌, Bool, true, false, ◌==◌, ◌||◌, ◌&&◌, nat_le, ◌⊎◌}
+-- Texts of which every match of a part of a pattern takes one (docs/SPEED.md, "A text that every match needs").
+use Rattle.std.specs.Prelude.{◌≡◌, ℕ, ◌<◌, Bool, true, false, ◌==◌, ◌||◌, ◌&&◌, nat_le, ◌⊎◌, List, [], ◌∷◌}
+use Rattle.byte_lanes.specs.Sets.{has_byte}
 use Rattle.pat_tree.specs.declared.nodes.Item.{Item}
 use Rattle.pat_tree.specs.declared.nodes.Item.TheVariants.{Char, AnyAll, NotNewline, Class}
 use Rattle.pat_tree.specs.Nested.{Nested, Row, empty, one, line_break, seq, group, repeat, one_repeat, atomic, look, condition, call, ref, anchor, keep_out, verb, callout, none, more}
@@ -14,38 +15,51 @@ may_take utf class_has AnyAll b = true
 may_take utf class_has NotNewline b = true
 may_take utf class_has (Class n) b = utf || class_has n b
 
--- what items may take, and a set
-module _ (may : Item → ℕ → Bool) (has : ℕ → Bool) where
+-- what items may take
+module _ (may : Item → ℕ → Bool) where
   -- every byte that the item may take is in the set
-  abbrev pub TakesOf : Item → Type 0
-  TakesOf item = (b : ℕ) → b < 256 → may item b ≡ true → has b ≡ true
+  abbrev pub TakesOf : List Bool → Item → Type 0
+  TakesOf set item = (b : ℕ) → b < 256 → may item b ≡ true → has_byte set b ≡ true
 
-  -- A sequence needs what one of its parts needs, and a group what each of its branches needs.
-  abbrev mutual
-    pub Needs : Nested → Type 0
-    Needs empty = ⊥
-    Needs (one item) = TakesOf item
-    Needs line_break = ⊥
-    Needs (seq ts) = SomeNeeds ts
-    Needs (group number ts) = AllNeed ts
-    Needs (repeat t low high lazily) = ⊥
-    Needs (one_repeat item low high lazily) = (0 < low) × TakesOf item
-    Needs (atomic ts) = AllNeed ts
-    Needs (look true true once ts) = AllNeed ts
-    Needs (look true false once ts) = ⊥
-    Needs (look false positive once ts) = ⊥
-    Needs (condition test first second) = ⊥
-    Needs (call n) = ⊥
-    Needs (ref ns caseless) = ⊥
-    Needs (anchor kind) = ⊥
-    Needs keep_out = ⊥
-    Needs (verb v) = ⊥
-    Needs (callout c) = ⊥
+  -- the part is an item that takes bytes of the set alone
+  abbrev pub IsTaking : List Bool → Nested → Type 0
+  IsTaking set t = (item : Item) × ((t ≡ one item) × TakesOf set item)
 
-    pub SomeNeeds : Row → Type 0
-    SomeNeeds none = ⊥
-    SomeNeeds (more t ts) = Needs t ⊎ SomeNeeds ts
+  -- the row begins with an item for each set
+  abbrev pub Begins : List (List Bool) → Row → Type 0
+  Begins [] ts = Unit {0}
+  Begins (set ∷ sets) none = ⊥
+  Begins (set ∷ sets) (more t ts) = IsTaking set t × Begins sets ts
 
-    pub AllNeed : Row → Type 0
-    AllNeed none = Unit {0}
-    AllNeed (more t ts) = Needs t × AllNeed ts
+  -- in UTF or not, and the sets of a text
+  module _ (utf : Bool) (text : List (List Bool)) where
+    -- A sequence needs what one of its parts needs or, outside UTF, what some items in it take, and a group what each of its
+    -- branches needs.
+    abbrev mutual
+      pub Needs : Nested → Type 0
+      Needs empty = ⊥
+      Needs (one item) = Begins text (more (one item) none)
+      Needs line_break = ⊥
+      Needs (seq ts) = SomeNeeds ts
+      Needs (group number ts) = AllNeed ts
+      Needs (repeat t low high lazily) = ⊥
+      Needs (one_repeat item low high lazily) = (0 < low) × Begins text (more (one item) none)
+      Needs (atomic ts) = AllNeed ts
+      Needs (look true true once ts) = AllNeed ts
+      Needs (look true false once ts) = ⊥
+      Needs (look false positive once ts) = ⊥
+      Needs (condition test first second) = ⊥
+      Needs (call n) = ⊥
+      Needs (ref ns caseless) = ⊥
+      Needs (anchor kind) = ⊥
+      Needs keep_out = ⊥
+      Needs (verb v) = ⊥
+      Needs (callout c) = ⊥
+
+      pub SomeNeeds : Row → Type 0
+      SomeNeeds none = ⊥
+      SomeNeeds (more t ts) = Needs t ⊎ (((utf ≡ false) × Begins text (more t ts)) ⊎ SomeNeeds ts)
+
+      pub AllNeed : Row → Type 0
+      AllNeed none = Unit {0}
+      AllNeed (more t ts) = Needs t × AllNeed ts

@@ -1,39 +1,55 @@
-// Bytes of which every match of a part of a pattern takes one.
-ghost use Rattle.std.specs.Prelude.{◌≡◌, ℕ, ◌+◌, ◌<◌, ◌&&◌, if◌then◌else◌, Bool, true, false, None, All, List, map, IfOk, IfSome, length};
+// Texts of which every match of a part of a pattern takes one.
+ghost use Rattle.std.specs.Prelude.{◌≡◌, ◌⊎◌, ℕ, ◌+◌, ◌<◌, ◌∷◌, [], ◌&&◌, if◌then◌else◌, Bool, true, false, None, Some, All, List, map, IfOk, IfSome, length};
 ghost use Rattle.byte_lanes.specs.Sets.{has_byte};
 ghost use Rattle.char_sets.specs.Sets.{class_has};
+ghost use Rattle.pat_tree.specs.declared.nodes.Item.{Item};
 ghost use Rattle.pat_tree.specs.Nested.{Nested, Row, more, trees, nest, row};
 ghost use Rattle.pat_tree.specs.Parts.{TreeParts};
 ghost use Rattle.pat_tree.specs.Rules.{kids_of, classes_of, class_in};
 ghost use Rattle.char_sets.specs.Table.{IsTableOf};
-ghost use Rattle.match_needs.specs.Needs.{may_take, Needs, SomeNeeds};
-ghost use Rattle.match_needs.specs.NeedTables.{may_of, IsNeed, IsItemNeed, AreAllNeeds, KeepNeeds, AreNeeds, IsNeedOf};
+ghost use Rattle.match_needs.specs.declared.needs.Wanted.{Wanted};
+ghost use Rattle.match_needs.specs.Needs.{may_take, Needs, TakesOf, IsTaking};
+ghost use Rattle.match_needs.specs.Texts.{sets_of};
+ghost use Rattle.match_needs.specs.NeedTables.{may_of, IsNeed, IsItemNeed, IsRun, IsSomeNeed, AreAllNeeds, KeepNeeds, AreNeeds, IsNeedOf};
 
 use crate::bounds::{Bound, bound_of_whole};
+use crate::text::ByteText;
 use byte_lanes::ByteSet;
 use char_sets::{ClassTable, both_cases};
 use pat_tree::{Item, Memory, Node, NodeId, Tree};
 use std::alloc::Global;
 
-/// A set of bytes of which every match takes one, and what a search takes at most. So a subject without such a byte has no
-/// match, and within the limits a search of it passes none.
+/// A text of which every match takes one, and what a search takes at most. So a subject without such a text has no match,
+/// and within the limits a search of it passes none.
 #[derive(Drop)]
 pub struct Need {
-    pub bytes: ByteSet,
+    pub text: ByteText,
     pub bound: Bound,
 }
 
-/// A set of bytes of which every match of a part takes one, and how common they are.
+/// The bytes that an item takes, and how common they are.
 #[derive(Drop)]
-pub(crate) struct Wanted {
+pub(crate) struct Taken {
     pub bytes: ByteSet,
     pub weight: u32,
 }
 
+/// A text of which every match of a part takes one, and how common the bytes of each place are.
+#[derive(Drop)]
+pub(crate) struct Wanted {
+    pub text: ByteText,
+    pub weights: [u32; 3],
+    /// Whether the part is one item, and the text is what it takes.
+    pub is_item: bool,
+}
+
+// A weight tells how many of so many bytes of a usual text are in a set: the weight of a place where any byte may stand.
+const ANY: u32 = 400;
+
 // A set that is more common than this is of no use, since most lines have one of its bytes.
 const COMMON: u32 = 100;
 
-/// The bytes that every match of a pattern needs with the pattern's bound, where both are known. Needs the table of the
+/// The text that every match of a pattern needs with the pattern's bound, where both are known. Needs the table of the
 /// tree's own classes.
 pub fn need_of(alloc: Global, tree: &Tree, classes: &ClassTable) -> Result<Option<Need>, Memory>
     requires table { IsTableOf tree.now classes.now }
@@ -47,16 +63,30 @@ pub fn need_of(alloc: Global, tree: &Tree, classes: &ClassTable) -> Result<Optio
 }
 
 fn with_bound(need: &Option<Wanted>, bound: Bound) -> Option<Need>
-    ensures bytes { (may : Item → ℕ → Bool) → (t : Nested) → IsNeed may t need.now
-        → IfSome result (λ told. Needs may (has_byte told.bytes) t) }
+    ensures text { (may : Item → ℕ → Bool) (utf : Bool) → (t : Nested) → IsNeed may utf t need.now
+        → IfSome result (λ told. Needs may utf (sets_of told.text) t) }
     ensures bound { IfSome result (λ told. told.bound ≡ bound) }
 {
     match need {
-        Some(wanted) => Some(Need {
-            bytes: wanted.bytes.copied(),
-            bound,
-        }),
+        Some(wanted) => {
+            let text = wanted
+                .text
+                .copied()
+                .looked_for(rarest_place(&wanted.weights));
+            Some(Need { text, bound })
+        }
         None => None,
+    }
+}
+
+/// The place of the rarest byte.
+fn rarest_place(weights: &[u32; 3]) -> usize {
+    if weights[1] < weights[0] && weights[1] <= weights[2] {
+        1
+    } else if weights[2] < weights[0] {
+        2
+    } else {
+        0
     }
 }
 
@@ -65,7 +95,7 @@ fn needs_of(alloc: Global, tree: &Tree, classes: &ClassTable) -> Result<Vec<Opti
     requires { IsTableOf tree.now classes.now }
     ensures count { IfOk result (λ needs. length needs.items ≡ tree.now.root + 1) }
     ensures kept { IfOk result (λ needs.
-        KeepNeeds (may_of tree.now) (trees tree.now.nodes) needs.items) }
+        KeepNeeds (may_of tree.now) tree.now.options.utf (trees tree.now.nodes) needs.items) }
 {
     let utf = tree.options().utf;
     let mut needs = Vec::with_capacity(alloc, tree.root() as usize + 1)?;
@@ -86,14 +116,16 @@ fn node_need(
     requires classes { All (λ n. n < length classes.now) (classes_of node.now) }
     requires below { All (λ k. k < length needs.now) (kids_of node.now) }
     ensures { (tree : TreeParts) → IsTableOf tree classes.now → tree.options.utf ≡ utf
-        → (trees : List Nested) → KeepNeeds (may_of tree) trees needs.now
-        → IsNeed (may_of tree) (nest trees node.now) result }
+        → (trees : List Nested) → KeepNeeds (may_of tree) tree.options.utf trees needs.now
+        → IsNeed (may_of tree) tree.options.utf (nest trees node.now) result }
 {
     match node {
-        Node::One(item) => item_need(classes, item, utf),
+        Node::One(item) => wanted_of(item_need(classes, item, utf), !utf),
         Node::Seq(kids) => rarest(kids.as_slice(), needs),
         Node::Group { branches, .. } => each_of(branches.as_slice(), needs),
-        Node::OneRepeat { item, min, .. } if *min > 0 => item_need(classes, item, utf),
+        Node::OneRepeat { item, min, .. } if *min > 0 => {
+            wanted_of(item_need(classes, item, utf), false)
+        }
         Node::Atomic(branches) => each_of(branches.as_slice(), needs),
         Node::Look {
             ahead,
@@ -111,8 +143,25 @@ fn wanted_if(ahead: bool, positive: bool, wanted: Option<Wanted>) -> Option<Want
     if ahead && positive { wanted } else { None }
 }
 
+/// The bytes of an item as a text.
+fn wanted_of(taken: Option<Taken>, is_item: bool) -> Option<Wanted>
+    ensures sets { IfSome result (λ w. sets_of w.text ≡ w.text.first ∷ []) }
+    ensures item { IfSome result (λ w. w.is_item ≡ is_item) }
+    ensures takes { (may : Item → ℕ → Bool) → (item : Item) → IfSome taken (IsItemNeed may item)
+        → IfSome result (λ w. TakesOf may w.text.first item) }
+{
+    match taken {
+        Some(taken) => Some(Wanted {
+            text: ByteText::one(taken.bytes),
+            weights: [taken.weight, ANY, ANY],
+            is_item,
+        }),
+        None => None,
+    }
+}
+
 /// The bytes that begin what an item takes, where they are known and rare.
-fn item_need(classes: &ClassTable, item: &Item, utf: bool) -> Option<Wanted>
+fn item_need(classes: &ClassTable, item: &Item, utf: bool) -> Option<Taken>
     requires class { All (λ n. n < length classes.now) (class_in item.now) }
     ensures { (tree : TreeParts) → IsTableOf tree classes.now → tree.options.utf ≡ utf
         → IfSome result (IsItemNeed (may_of tree) item.now) }
@@ -125,7 +174,7 @@ fn item_need(classes: &ClassTable, item: &Item, utf: bool) -> Option<Wanted>
 }
 
 /// The byte of an ASCII character in its case alone: in UTF other items take characters past ASCII.
-fn ascii_need(item: &Item) -> Option<Wanted>
+fn ascii_need(item: &Item) -> Option<Taken>
     ensures { (classes : ℕ → ℕ → Bool)
         → IfSome result (IsItemNeed (may_take true classes) item.now) }
 {
@@ -136,7 +185,7 @@ fn ascii_need(item: &Item) -> Option<Wanted>
 }
 
 /// The bytes that a character or a class takes outside UTF, where they are rare.
-fn byte_need(classes: &ClassTable, item: &Item) -> Option<Wanted>
+fn byte_need(classes: &ClassTable, item: &Item) -> Option<Taken>
     requires class { All (λ n. n < length classes.now) (class_in item.now) }
     ensures { (tree : TreeParts) → IsTableOf tree classes.now
         → IfSome result (IsItemNeed (may_take false (class_has tree)) item.now) }
@@ -150,7 +199,7 @@ fn byte_need(classes: &ClassTable, item: &Item) -> Option<Wanted>
 }
 
 /// A character that is a byte, in its case alone.
-fn one_byte(c: u32) -> Option<Wanted>
+fn one_byte(c: u32) -> Option<Taken>
     ensures { IfSome result (λ w. has_byte w.bytes c ≡ true) }
 {
     if c >= 256 {
@@ -158,18 +207,18 @@ fn one_byte(c: u32) -> Option<Wanted>
     }
     let mut bytes = ByteSet::empty();
     bytes.insert(c as u8);
-    Some(Wanted {
+    Some(Taken {
         bytes,
         weight: commonness(c as u8),
     })
 }
 
 /// These bytes, where they are rare enough.
-fn if_rare(bytes: ByteSet) -> Option<Wanted>
-    ensures { IfSome result (λ w. w.bytes ≡ bytes) }
+fn if_rare(bytes: ByteSet) -> Option<Taken>
+    ensures { IfSome result (λ taken. taken.bytes ≡ bytes) }
 {
     let weight = weight_of(&bytes)?;
-    Some(Wanted { bytes, weight })
+    Some(Taken { bytes, weight })
 }
 
 /// How common the bytes of a set are, where they are rare enough.
@@ -197,56 +246,110 @@ fn commonness(byte: u8) -> u32 {
     }
 }
 
-/// How common a set is, where there is one.
-fn weighed(need: &Option<Wanted>) -> u32 {
+/// How common a text is, where there is one.
+fn weighed(need: &Option<Wanted>) -> u64 {
     match need {
-        Some(wanted) => wanted.weight,
-        None => u32::MAX,
+        Some(wanted) => rate(&wanted.weights),
+        None => u64::MAX,
     }
 }
 
-/// Of what is needed of these parts the rarest.
+/// How common a text is: of `ANY` to the third power places it stands at about so many.
+fn rate(weights: &[u32; 3]) -> u64 {
+    let two = u64::from(weights[0]).saturating_mul(u64::from(weights[1]));
+    two.saturating_mul(u64::from(weights[2]))
+}
+
+/// Of what is needed of these parts, and of the texts that the items among them take, the rarest.
 fn rarest(parts: &[NodeId], needs: &[Option<Wanted>]) -> Option<Wanted>
     requires { All (λ k. k < length needs.now) parts.now }
-    ensures { (may : Item → ℕ → Bool) → (of : ℕ → Nested) → AreNeeds may of needs.now parts.now
-        → IfSome result (λ w. SomeNeeds may (has_byte w.bytes) (row (map of parts.now))) }
+    ensures { (may : Item → ℕ → Bool) (utf : Bool) → (of : ℕ → Nested) → AreNeeds may utf of needs.now parts.now
+        → IsSomeNeed may utf (row (map of parts.now)) result }
 {
-    let mut least = u32::MAX;
+    let mut run = None;
     let mut best = None;
-    for i in 0..parts.len() {
-        let weight = weighed(&needs[parts[i] as usize]);
-        if weight < least {
-            least = weight;
-            best = Some(i);
-        }
+    let mut i = parts.len();
+    while i > 0 {
+        i -= 1;
+        let need = &needs[parts[i] as usize];
+        run = run_from(need, &run);
+        best = rarer(best, copy_of(need), copy_of(&run));
     }
-    match best {
-        Some(i) => copy_of(&needs[parts[i] as usize]),
-        None => None,
+    best
+}
+
+/// The text that the items take with which the parts begin, from a part and from the items behind it.
+fn run_from(need: &Option<Wanted>, run: &Option<Wanted>) -> Option<Wanted>
+    ensures { (may : Item → ℕ → Bool) (utf : Bool) → (t : Nested) (ts : Row) → IsNeed may utf t need.now
+        → IsRun may utf ts run.now → IsRun may utf (more t ts) result }
+{
+    match need {
+        Some(wanted) if wanted.is_item => Some(before(wanted, run)),
+        _ => None,
     }
 }
 
+/// The text of an item with that of the items behind it.
+fn before(item: &Wanted, run: &Option<Wanted>) -> Wanted
+    ensures { (may : Item → ℕ → Bool) (utf : Bool) → (t : Nested) (ts : Row) → (utf ≡ false) × IsTaking may item.now.text.first t
+        → IsRun may utf ts run.now → IsRun may utf (more t ts) (Some result) }
+{
+    let first = item.text.first.copied();
+    match run {
+        Some(behind) => Wanted {
+            text: behind.text.behind(first),
+            weights: [item.weights[0], behind.weights[0], behind.weights[1]],
+            is_item: false,
+        },
+        None => Wanted {
+            text: ByteText::one(first),
+            weights: [item.weights[0], ANY, ANY],
+            is_item: false,
+        },
+    }
+}
+
+/// The rarest of three.
+fn rarer(best: Option<Wanted>, one: Option<Wanted>, other: Option<Wanted>) -> Option<Wanted>
+    ensures { (result ≡ best) ⊎ ((result ≡ one) ⊎ (result ≡ other)) }
+{
+    let (least, second, third) = (weighed(&best), weighed(&one), weighed(&other));
+    if least <= second && least <= third {
+        best
+    } else if second <= third {
+        one
+    } else {
+        other
+    }
+}
+
+/// What is needed of a part, told of what holds it.
 fn copy_of(need: &Option<Wanted>) -> Option<Wanted>
-    ensures { (may : Item → ℕ → Bool) → (t : Nested) → IsNeed may t need.now → IsNeed may t result }
+    ensures item { IfSome result (λ w. w.is_item ≡ false) }
+    ensures some { (wanted : Wanted) → need.now ≡ Some wanted
+        → IfSome result (λ w. sets_of w.text ≡ sets_of wanted.text) }
+    ensures none { need.now ≡ None → result ≡ None }
 {
     match need {
         Some(wanted) => Some(Wanted {
-            bytes: wanted.bytes.copied(),
-            weight: wanted.weight,
+            text: wanted.text.copied(),
+            weights: wanted.weights,
+            is_item: false,
         }),
         None => None,
     }
 }
 
-/// A byte that one of these branches needs, whichever it is.
+/// A text that one of these branches needs, whichever it is.
 fn each_of(branches: &[NodeId], needs: &[Option<Wanted>]) -> Option<Wanted>
     requires { All (λ k. k < length needs.now) branches.now }
-    ensures { (may : Item → ℕ → Bool) → (of : ℕ → Nested) → AreNeeds may of needs.now branches.now
-        → AreAllNeeds may (row (map of branches.now)) result }
+    ensures { (may : Item → ℕ → Bool) (utf : Bool) → (of : ℕ → Nested) → AreNeeds may utf of needs.now branches.now
+        → AreAllNeeds may utf (row (map of branches.now)) result }
 {
     let mut whole = Some(Wanted {
-        bytes: ByteSet::empty(),
-        weight: 0,
+        text: ByteText::nowhere(),
+        weights: [0; 3],
+        is_item: false,
     });
     let mut i = branches.len();
     while i > 0 {
@@ -256,19 +359,31 @@ fn each_of(branches: &[NodeId], needs: &[Option<Wanted>]) -> Option<Wanted>
     whole
 }
 
-/// What a branch needs or the others, where the bytes are still rare together.
+/// What a branch needs or the others, where the text is still rare.
 fn joined(one: &Option<Wanted>, others: Option<Wanted>) -> Option<Wanted>
-    ensures { (may : Item → ℕ → Bool) → (t : Nested) (ts : Row) → IsNeed may t one.now
-        → AreAllNeeds may ts others → AreAllNeeds may (more t ts) result }
+    ensures { (may : Item → ℕ → Bool) (utf : Bool) → (t : Nested) (ts : Row) → IsNeed may utf t one.now
+        → AreAllNeeds may utf ts others → AreAllNeeds may utf (more t ts) result }
 {
     let Some(one) = one else {
         return None;
     };
-    let mut both = others?;
-    both.bytes.add(&one.bytes);
-    both.weight = both.weight.saturating_add(one.weight);
-    if both.weight > COMMON {
+    let others = others?;
+    let weights = both_weights(&one.weights, &others.weights);
+    if rate(&weights) > u64::from(COMMON * ANY * ANY) {
         return None;
     }
-    Some(both)
+    Some(Wanted {
+        text: others.text.either(&one.text),
+        weights,
+        is_item: false,
+    })
+}
+
+/// How common the bytes of either are.
+fn both_weights(one: &[u32; 3], other: &[u32; 3]) -> [u32; 3] {
+    [
+        one[0].saturating_add(other[0]).min(ANY),
+        one[1].saturating_add(other[1]).min(ANY),
+        one[2].saturating_add(other[2]).min(ANY),
+    ]
 }

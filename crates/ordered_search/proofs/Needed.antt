@@ -1,5 +1,5 @@
--- Where no byte stands that every match needs, there is no match, and within the bound no limit is passed.
-use Rattle.std.proofs.Common.{◌≡◌, ℕ, zero, suc, ◌+◌, ◌-◌, ◌<◌, ◌≤◌, Bool, true, false, List, [], ◌∷◌, ◌++◌, length, drop, drop-cons, take-append-drop, get_or, reverse, Option, Some, None, inl, inr, refl, sym, ap, subst, ◌∙◌, arith}
+-- Where no text stands that every match needs, there is no match, and within the bound no limit is passed.
+use Rattle.std.proofs.Common.{◌≡◌, ℕ, zero, suc, ◌+◌, ◌-◌, ◌<◌, ◌≤◌, Bool, true, false, List, [], ◌∷◌, ◌++◌, length, drop, drop-cons, take-append-drop, get_or, reverse, Option, Some, None, ◌⊎◌, ⊎_elim, inl, inr, refl, sym, ap, subst, ◌∙◌, arith}
 use Rattle.std.specs.Prelude.{IfSome, IsTrue, nat_le, ◌==◌, ◌&&◌, slice_index, option_map}
 use Rattle.std.specs.Char.{len_utf8}
 use Rattle.std.proofs.Math.Utf8.{encode}
@@ -18,7 +18,9 @@ use Rattle.match_items.specs.Subjects.{IsText, IsTextPlace}
 use Rattle.match_items.proofs.TextGround.{next_place as goes_to_place}
 use Rattle.match_needs.specs.declared.bounds.Bound.{Bound}
 use Rattle.match_needs.specs.Bounds.{at, followed, or_later, closed, grouped, both, change, offered, turns, once, bound, bound_in_turn, bound_of_one, bound_of_choices}
-use Rattle.match_needs.specs.Needs.{may_take, TakesOf, Needs, SomeNeeds, AllNeed}
+use Rattle.match_needs.specs.Needs.{may_take, TakesOf, IsTaking, Begins, Needs, SomeNeeds, AllNeed}
+use Rattle.match_needs.specs.Texts.{Stands}
+use Rattle.byte_lanes.specs.Sets.{has_byte, IsIn}
 use Rattle.ordered_search.specs.Stream.{State, first_state, exhausted, by_verb, by_halt, too_many_units, How, reached, accepted, note, state, step, Stream, Search, ends, ◌▸◌, nothing, gives, ◌or_else◌, each, go_on, and_then, decide, catch, no_ending, is_next_branch, fails_alone, captured}
 use Rattle.ordered_search.specs.Setting.{Setting, match_limit, held, hold, reach_if}
 use Rattle.ordered_search.specs.Tests.{goes_to, run_one, offers, greedy, reluctant, lazy_run, run_many}
@@ -39,9 +41,9 @@ use Rattle.ordered_search.proofs.ForwardLaw.{begun_at}
 use Rattle.ordered_search.proofs.BoundForms.{Where, built_where}
 use Rattle.ordered_search.proofs.Bounded.{FitsSome, size, unreached, fits_level}
 
-module _ (g : Setting) (has : ℕ → Bool) (off : g.matching.«partial» ≡ Off) (text : IsTrue g.options.utf → IsText g.options g.subject)
-    (missing : (k : ℕ) → k < length g.subject → (slice_index g.subject k < 256) × (has (slice_index g.subject k) ≡ false)) where
-  -- No item takes anything all of whose bytes are in the set.
+module _ (g : Setting) (sets : List (List Bool)) (off : g.matching.«partial» ≡ Off) (text : IsTrue g.options.utf → IsText g.options g.subject)
+    (small : (k : ℕ) → k < length g.subject → slice_index g.subject k < 256) (missing : (k : ℕ) → ¬ Stands sets g.subject k) where
+  -- An item takes a byte of its set, or nothing.
 
   clash : (b : Bool) → b ≡ true → b ≡ false → ⊥
   clash b h k = cc
@@ -85,14 +87,13 @@ module _ (g : Setting) (has : ℕ → Bool) (off : g.matching.«partial» ≡ Of
   takes_begun NotNewline p utf here inside h = refl
   takes_begun (Class n) p utf here inside h = or_left g.options.utf _ utf
 
-  none_taken : (item : Item) → TakesOf may has item → (p : ℕ) → Here p → after_item g.scene item p ≡ None
-  none_taken item h p here = by_char (is_end g.scene p) refl g.options.utf refl
+  none_of : (set : List Bool) → ((k : ℕ) → ¬ Stands (set ∷ []) g.subject k) → (item : Item) → TakesOf may set item → (p : ℕ) → Here p → after_item g.scene item p ≡ None
+  none_of set gone item h p here = by_char (is_end g.scene p) refl g.options.utf refl
     where
       by_taken : p < length g.subject → (c q : ℕ) → (takes g.scene item p c ≡ true → may item (slice_index g.subject p) ≡ true)
           → (b : Bool) → takes g.scene item p c ≡ b → ◌≡◌ {A = Option ℕ} (elim b [ true ↦ Some q | false ↦ None ]) None
       by_taken inside c q may_it true e =
-          let m = missing p inside in
-          absurd (clash (has (slice_index g.subject p)) (h (slice_index g.subject p) m.0 (may_it e)) m.1)
+          absurd (gone p (inside, (h (slice_index g.subject p) (small p inside) (may_it e), tt)))
       by_taken inside c q may_it false e = refl
 
       by_char : (e : Bool) → is_end g.scene p ≡ e → (utf : Bool) → g.options.utf ≡ utf →
@@ -109,7 +110,44 @@ module _ (g : Setting) (has : ℕ → Bool) (off : g.matching.«partial» ≡ Of
           let c = slice_index g.subject p in
           by_taken (leb-false (length g.subject) p is) c (p + 1) (takes_may item p c e) (takes g.scene item p c) refl
 
-  none_run : (item : Item) → TakesOf may has item → (n : ℕ) (most : Option ℕ) (p : ℕ) → Here p → run_places g.scene item n most p ≡ []
+  -- the place behind a byte of the set, if there is one
+  abbrev IsBehind : List Bool → ℕ → Option ℕ → Type 0
+  IsBehind set p o = (o ≡ None) ⊎ ((o ≡ Some (p + 1)) × ((p < length g.subject) × IsIn set g.subject p))
+
+  taken : (no_utf : g.options.utf ≡ false) (set : List Bool) (item : Item) → TakesOf may set item → (p : ℕ) → IsBehind set p (after_item g.scene item p)
+  taken no_utf set item h p = by_end (is_end g.scene p) refl
+    where
+      by_taken : p < length g.subject → (b : Bool) → takes g.scene item p (slice_index g.subject p) ≡ b → IsBehind set p (elim b [ true ↦ Some (p + 1) | false ↦ None ])
+      by_taken inside true e =
+          inr (refl, (inside, h (slice_index g.subject p) (small p inside) (takes_may item p (slice_index g.subject p) no_utf e)))
+      by_taken inside false e = inl refl
+
+      by_char : (e : Bool) → is_end g.scene p ≡ e → (utf : Bool) → utf ≡ false →
+          IsBehind set p (elim (elim e as (λ _. Option (ℕ × ℕ)) [ true ↦ None | false ↦ Some (char_at utf g.subject p) ]) [
+            | None ↦ None
+            | Some c ↦ elim (takes g.scene item p c.0) [ true ↦ Some c.1 | false ↦ None ]
+          ])
+      by_char true is utf e = inl refl
+      by_char false is true e = absurd cc
+      by_char false is false e = by_taken (leb-false (length g.subject) p is) (takes g.scene item p (slice_index g.subject p)) refl
+
+      by_end : (e : Bool) → is_end g.scene p ≡ e → IsBehind set p (after_item g.scene item p)
+      by_end e is = by_char (is_end g.scene p) refl g.options.utf no_utf
+
+  same_item : (item other : Item) → tree.one item ≡ tree.one other → other ≡ item
+  same_item item other e = cc
+
+  -- an item that takes the whole text takes nothing here
+  none_taken : (all : List (List Bool)) → ((k : ℕ) → ¬ Stands all g.subject k) → (item : Item) → Begins may all (tree.more (tree.one item) tree.none) →
+      (p : ℕ) → Here p → after_item g.scene item p ≡ None
+  none_taken [] gone item h p here = absurd (gone 0 tt)
+  none_taken (set ∷ set' ∷ rest) gone item h p here = absurd h.1
+  none_taken (set ∷ []) gone item h p here = none_of set gone item (subst (TakesOf may set) (same_item item h.0.0 h.0.1.0) h.0.1.1) p here
+
+  abbrev IsWhole : Item → Type 0
+  IsWhole item = Begins may sets (tree.more (tree.one item) tree.none)
+
+  none_run : (item : Item) → IsWhole item → (n : ℕ) (most : Option ℕ) (p : ℕ) → Here p → run_places g.scene item n most p ≡ []
   unfolding run_places
   none_run item h zero most p here = refl
   none_run item h (suc n) most p here = by_left (is_none_left most)
@@ -123,7 +161,7 @@ module _ (g : Setting) (has : ℕ → Bool) (off : g.matching.«partial» ≡ Of
         | false ↦ elim (after_item g.scene item p) [ None ↦ [] | Some q ↦ q ∷ run_places g.scene item n (one_less most) q ]
       ]) []
       by_left true = refl
-      by_left false = by_next (after_item g.scene item p) (none_taken item h p here)
+      by_left false = by_next (after_item g.scene item p) (none_taken sets missing item h p here)
 
   -- Searches without a state.
 
@@ -153,10 +191,10 @@ module _ (g : Setting) (has : ℕ → Bool) (off : g.matching.«partial» ≡ Of
       by_room true e = h (leb-true (s.units + n) g.matching.frame_limit e)
       by_room false e = silent_halt _
 
-  silent_one : (item : Item) → TakesOf may has item → (s : State) → OnWay s → Silent (run_one g item s)
+  silent_one : (item : Item) → IsWhole item → (s : State) → OnWay s → Silent (run_one g item s)
   unfolding run_one
   silent_one item h s on =
-      silent_reach _ s _ (subst (λ o. Silent (goes_to o s)) (sym (none_taken item h s.place (λ utf. (on utf).here))) silent_nothing)
+      silent_reach _ s _ (subst (λ o. Silent (goes_to o s)) (sym (none_taken sets missing item h s.place (λ utf. (on utf).here))) silent_nothing)
 
   silent_offers : (n : ℕ) (s : State) → Silent (offers g (reverse (drop n [])) s)
   unfolding offers
@@ -168,7 +206,7 @@ module _ (g : Setting) (has : ℕ → Bool) (off : g.matching.«partial» ≡ Of
   silent_reluctant item left zero s = silent_nothing
   silent_reluctant item left (suc n) s = silent_nothing
 
-  silent_many : (item : Item) (low : ℕ) (high : Option ℕ) (lazily : Bool) → 0 < low → TakesOf may has item → (s : State) → OnWay s → Silent (run_many g item low high lazily s)
+  silent_many : (item : Item) (low : ℕ) (high : Option ℕ) (lazily : Bool) → 0 < low → IsWhole item → (s : State) → OnWay s → Silent (run_many g item low high lazily s)
   unfolding run_many greedy lazy_run offers reluctant
   silent_many item zero high lazily some h s on = absurd (omega (arith, some))
   silent_many item (suc low) high false some h s on =
@@ -233,6 +271,26 @@ module _ (g : Setting) (has : ℕ → Bool) (off : g.matching.«partial» ≡ Of
   silent_look None f h = tt
   silent_look (Some a) f h = λ s on le. silent_held 1 s _ (λ room. silent_decide fails_alone _ _ nothing (h _ (with_more s (s.units + 1) on) (omega (arith, le))) silent_nothing)
 
+  silent_any : (x : Option Bound) (f : Search) → ((s : State) → Silent (f s)) → SilentSome x f
+  silent_any None f h = tt
+  silent_any (Some b) f h = λ s on le. h s
+
+  -- an item takes the first byte of what doesn't stand here, and so the others don't stand behind it
+  silent_run : (no_utf : g.options.utf ≡ false) (set : List Bool) (rest : List (List Bool)) (item : Item) → TakesOf may set item → (f : Search) →
+      ((t : State) → ¬ Stands rest g.subject t.place → Silent (f t)) → (s : State) → ¬ Stands (set ∷ rest) g.subject s.place → Silent (and_then (run_one g item s) f)
+  unfolding run_one each
+  silent_run no_utf set rest item takes f next s gone =
+      subst (λ x. Silent (and_then x f)) (sym (unreached g off _ s (goes_to (after_item g.scene item s.place) s)))
+      (by_place (after_item g.scene item s.place) (taken no_utf set item takes s.place))
+    where
+      by_place : (o : Option ℕ) → IsBehind set s.place o → Silent (and_then (goes_to o s) f)
+      by_place None h = silent_nothing
+      by_place (Some q) (inl e) = absurd cc
+      by_place (Some q) (inr h) =
+          let e = h.0 in
+          let is : q ≡ s.place + 1 = cc in
+          silent_or_else (f (record s { place = q })) nothing (next _ (λ stands. gone (h.1.0, (h.1.1, subst (Stands rest g.subject) is stands)))) silent_nothing
+
   module _ (below : Searches) (whole_built : IsBuilt g.whole) (deeper : IsTrue g.options.utf → (low : Option ℕ) (t : Nested) → IsBuilt t → IsForward g low (below t)) where
     forwards : (t : Nested) → Forwards (bound t) (level g below t)
     forwards t = by_bound (bound t) (built_where t)
@@ -241,10 +299,18 @@ module _ (g : Setting) (has : ℕ → Bool) (off : g.matching.«partial» ≡ Of
         by_bound None built = tt
         by_bound (Some b) built = λ utf. forward_level g (text utf) off whole_built below (deeper utf) None t built
 
+    silent_begins : (no_utf : g.options.utf ≡ false) (all : List (List Bool)) (ts : Row) → Begins may all ts → (s : State) → ¬ Stands all g.subject s.place → Silent (in_order (levels g below ts) s)
+    unfolding level in_order
+    silent_begins no_utf [] ts h s gone = absurd (gone tt)
+    silent_begins no_utf (set ∷ rest) tree.none h s gone = absurd h
+    silent_begins no_utf (set ∷ rest) (tree.more t ts) h s gone =
+        subst (λ u. Silent (in_order (level g below u ∷ levels g below ts) s)) (sym h.0.1.0)
+        (silent_run no_utf set rest h.0.0 h.0.1.1 (in_order (levels g below ts)) (silent_begins no_utf rest ts h.1) s gone)
+
     mutual
       unfolding bound level in_order branches choices
 
-      silent_level : (t : Nested) → Needs may has t → SilentSome (bound t) (level g below t)
+      silent_level : (t : Nested) → Needs may g.options.utf sets t → SilentSome (bound t) (level g below t)
       silent_level tree.empty h = absurd h
       silent_level (tree.one item) h = λ s on le. silent_one item h s on
       silent_level tree.line_break h = absurd h
@@ -265,20 +331,23 @@ module _ (g : Setting) (has : ℕ → Bool) (off : g.matching.«partial» ≡ Of
       silent_level (tree.verb v) h = tt
       silent_level (tree.callout c) h = tt
 
-      silent_turn : (ts : Row) → SomeNeeds may has ts → SilentSome (bound_in_turn ts) (in_order (levels g below ts))
+      silent_turn : (ts : Row) → SomeNeeds may g.options.utf sets ts → SilentSome (bound_in_turn ts) (in_order (levels g below ts))
       silent_turn tree.none h = absurd h
       silent_turn (tree.more t ts) (inl h) = silent_first (bound t) (bound_in_turn ts) (level g below t) (levels g below ts) (silent_level t h)
-      silent_turn (tree.more t ts) (inr h) =
+      silent_turn (tree.more t ts) (inr (inl h)) =
+          silent_any (both followed (bound t) (bound_in_turn ts)) (in_order (level g below t ∷ levels g below ts))
+          (λ s. silent_begins h.0 sets (tree.more t ts) h.1 s (missing s.place))
+      silent_turn (tree.more t ts) (inr (inr h)) =
           silent_later (bound t) (bound_in_turn ts) (level g below t) (levels g below ts) (fits_level g off below t) (forwards t) (silent_turn ts h)
 
-      silent_branches : (ts : Row) → AllNeed may has ts → SilentSome (bound_of_one ts) (branches g (levels g below ts))
+      silent_branches : (ts : Row) → AllNeed may g.options.utf sets ts → SilentSome (bound_of_one ts) (branches g (levels g below ts))
       silent_branches tree.none h = λ s on le. silent_nothing
       silent_branches (tree.more t tree.none) h = silent_level t h.0
       silent_branches (tree.more t (tree.more u ts)) h =
           silent_or (bound t) (both or_later (bound u) (bound_of_choices ts)) (level g below t) (level g below u ∷ levels g below ts) (silent_level t h.0)
           (silent_or (bound u) (bound_of_choices ts) (level g below u) (levels g below ts) (silent_level u h.1.0) (silent_choices ts h.1.1))
 
-      silent_choices : (ts : Row) → AllNeed may has ts → SilentSome (bound_of_choices ts) (choices g (levels g below ts))
+      silent_choices : (ts : Row) → AllNeed may g.options.utf sets ts → SilentSome (bound_of_choices ts) (choices g (levels g below ts))
       silent_choices tree.none h = λ s on le. silent_nothing
       silent_choices (tree.more t ts) h = silent_or (bound t) (bound_of_choices ts) (level g below t) (levels g below ts) (silent_level t h.0) (silent_choices ts h.1)
 
@@ -294,7 +363,7 @@ module _ (g : Setting) (has : ℕ → Bool) (off : g.matching.«partial» ≡ Of
   walk_fails zero u (step ▸ x) few h k = absurd (omega (arith, few))
   walk_fails (suc n) u (step ▸ x) few h k = walk_fails n u x (omega (arith, few)) h k
 
-  module _ (b : Bound) (needs : Needs may has g.whole) (bounded : bound g.whole ≡ Some b)
+  module _ (b : Bound) (needs : Needs may g.options.utf sets g.whole) (bounded : bound g.whole ≡ Some b)
       (steps : at b.steps (length g.subject + 1) ≤ match_limit g) (units : b.units ≤ g.matching.frame_limit)
       (begun : IsTrue g.options.utf → IsTextPlace g.options g.subject g.start) where
     built : IsBuilt g.whole
@@ -346,4 +415,4 @@ module _ (g : Setting) (has : ℕ → Bool) (off : g.matching.«partial» ≡ Of
     none_at_all = none_from _ (within g (Some g.start)) (here_some (Some g.start) begun)
 
 pub need_law : NeedLaw
-need_law g has b h = none_at_all g has h.off h.text h.missing b h.needs h.bounded h.steps h.units h.begun
+need_law g sets b h = none_at_all g sets h.off h.text h.small h.missing b h.needs h.bounded h.steps h.units h.begun

@@ -1,18 +1,19 @@
--- Searches that a byte which is missing in the subject answers (docs/SPEED.md, "A byte that every match needs").
-use Rattle.std.specs.Prelude.{◌≡◌, ◌<◌, ◌≤◌, ℕ, ◌+◌, Bool, false, IsTrue, length, Some, slice_index}
+-- Searches that a text which is missing in the subject answers (docs/SPEED.md, "A text that every match needs").
+use Rattle.std.specs.Prelude.{◌≡◌, ◌<◌, ◌≤◌, ℕ, ◌+◌, Bool, IsTrue, List, length, Some, slice_index}
 use Rattle.pat_tree.specs.declared.options.PartialMode.TheVariants.{Off}
 use Rattle.match_items.specs.Subjects.{IsText, IsTextPlace}
 use Rattle.match_needs.specs.declared.bounds.Bound.{Bound}
 use Rattle.match_needs.specs.Bounds.{at, bound}
 use Rattle.match_needs.specs.Needs.{may_take, Needs}
+use Rattle.match_needs.specs.Texts.{Stands}
 use Rattle.ordered_search.specs.Setting.{Setting, match_limit}
 use Rattle.ordered_search.specs.MatchAnswer.{none_found, match_answer}
 
--- Every match takes a byte of a set, none of whose bytes stands in the subject, and what a search takes at most is within the
--- limits. There is no partial matching, and in UTF the subject is UTF-8 and the start a place in it.
-pub record IsWithoutNeed (g : Setting) (has : ℕ → Bool) (b : Bound) : Type 0 where
-  pub needs : Needs (may_take g.options.utf g.class_has) has g.whole
-  pub missing : (k : ℕ) → k < length g.subject → (slice_index g.subject k < 256) × (has (slice_index g.subject k) ≡ false)
+-- Every match takes a text that stands nowhere in the subject, and what a search takes at most is within the limits. There is no partial matching, and in UTF the subject is UTF-8 and the start a place in it.
+pub record IsWithoutNeed (g : Setting) (sets : List (List Bool)) (b : Bound) : Type 0 where
+  pub needs : Needs (may_take g.options.utf g.class_has) g.options.utf sets g.whole
+  pub small : (k : ℕ) → k < length g.subject → slice_index g.subject k < 256
+  pub missing : (k : ℕ) → ¬ Stands sets g.subject k
   pub bounded : bound g.whole ≡ Some b
   pub steps : at b.steps (length g.subject + 1) ≤ match_limit g
   pub units : b.units ≤ g.matching.frame_limit
@@ -21,4 +22,4 @@ pub record IsWithoutNeed (g : Setting) (has : ℕ → Bool) (b : Bound) : Type 0
   pub off : g.matching.«partial» ≡ Off
 
 abbrev pub NeedLaw : Type 0
-NeedLaw = (g : Setting) (has : ℕ → Bool) (b : Bound) → IsWithoutNeed g has b → match_answer g ≡ none_found
+NeedLaw = (g : Setting) (sets : List (List Bool)) (b : Bound) → IsWithoutNeed g sets b → match_answer g ≡ none_found

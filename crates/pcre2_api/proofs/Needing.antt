@@ -7,7 +7,7 @@ use Rattle.std.proofs.Math.Nat.{pow-le-pow_left, mul-le-mul_left}
 use Rattle.std.proofs.lemmas.Bool.{cases_lt, le-ltb, lt-leb}
 use Rattle.std.proofs.lemmas.List.{get_or_past}
 use Rattle.std.proofs.lemmas.Str.{IsUtf8-from_ascii, IsCharBoundary-from_ascii, is_utf8-from_IsUtf8}
-use Rattle.byte_lanes.specs.Sets.{has_byte}
+use Rattle.match_needs.specs.Texts.{sets_of, Stands}
 use Rattle.pat_tree.specs.declared.options.MatchOptions.{MatchOptions}
 use Rattle.pat_tree.specs.declared.options.PartialMode.TheVariants.{Off}
 use Rattle.pat_tree.specs.Parts.{TreeParts, tree_of}
@@ -35,26 +35,15 @@ class_told tree = fun_ext (λ n. fun_ext (λ c. class_is tree n c))
 at_most : (a : Growth) (n m : ℕ) → n ≤ m → at a n ≤ at a m
 at_most a n m le = mul-le-mul_left a.times (pow-le-pow_left le a.degree)
 
--- what a set lacks that has all bytes of another, in UTF with those past ASCII
-module _ (utf : Bool) (some all : List Bool) (more : (b : ℕ) → has_byte some b ≡ true → has_byte all b ≡ true)
-    (wide : IsTrue utf → (b : ℕ) → 128 ≤ b → b < 256 → has_byte all b ≡ true) (subject : List ℕ) (lacks : Lacks all subject) where
-  clash : (b : Bool) → b ≡ true → b ≡ false → ⊥
-  clash b h k = cc
-
-  lacks_some : Lacks some subject
-  lacks_some k l = ((lacks k l).0, by_test (has_byte some (slice_index subject k)) refl)
-    where
-      by_test : (b : Bool) → has_byte some (slice_index subject k) ≡ b → has_byte some (slice_index subject k) ≡ false
-      by_test true e = absurd (clash (has_byte all (slice_index subject k)) (more (slice_index subject k) e) (lacks k l).1)
-      by_test false e = e
-
+-- what a text lacks that stands where another does, in UTF also where a byte past ASCII stands
+module _ (utf : Bool) (some all : List (List Bool)) (more : (bytes : List ℕ) (k : ℕ) → Stands some bytes k → Stands all bytes k)
+    (wide : IsTrue utf → (bytes : List ℕ) (k : ℕ) → k < length bytes → 128 ≤ slice_index bytes k → slice_index bytes k < 256 → Stands all bytes k)
+    (subject : List ℕ) (lacks : Lacks all subject) where
   ascii : IsTrue utf → IsAscii subject
   ascii on k = elim (cases_lt k (length subject)) [
     | inl inside ↦ elim (cases_lt (slice_index subject k) 128) [
-      | inl small ↦ small
-      | inr large ↦
-          let x = lacks k inside in
-          absurd (clash (has_byte all (slice_index subject k)) (wide on (slice_index subject k) (omega (arith, large)) x.0) x.1)
+      | inl less ↦ less
+      | inr large ↦ absurd (lacks.missing k (wide on subject k inside (omega (arith, large)) (lacks.small k inside)))
     ]
     | inr past ↦ let none : slice_index subject k ≡ 0 = get_or_past subject k 0 (omega (arith, past)) in omega (arith, none)
   ]
@@ -68,23 +57,24 @@ module _ (utf : Bool) (some all : List Bool) (more : (b : ℕ) → has_byte some
       by_utf true e =
           rw (le-ltb (length subject) 0 (omega arith), is_utf8-from_IsUtf8 subject (IsUtf8-from_ascii subject (ascii e)), lt-leb 128 (slice_index subject 0) (ascii e 0)) refl
 
-pub finds_none : (code : CodeParts) (matching : MatchOptions) (most : ℕ) (need : Need) (set : List Bool)
-    → IsNeedOf code.tree need → ((b : ℕ) → has_byte need.bytes b ≡ true → has_byte set b ≡ true)
-    → (IsTrue code.tree.options.utf → (b : ℕ) → 128 ≤ b → b < 256 → has_byte set b ≡ true) → matching.«partial» ≡ Off
+pub finds_none : (code : CodeParts) (matching : MatchOptions) (most : ℕ) (need : Need) (told : List (List Bool))
+    → IsNeedOf code.tree need → ((bytes : List ℕ) (k : ℕ) → Stands (sets_of need.text) bytes k → Stands told bytes k)
+    → (IsTrue code.tree.options.utf → (bytes : List ℕ) (k : ℕ) → k < length bytes → 128 ≤ slice_index bytes k → slice_index bytes k < 256 → Stands told bytes k) → matching.«partial» ≡ Off
     → at need.bound.steps (most + 1) ≤ lower_of code.tree.options.match_limit matching.match_limit
-    → need.bound.units ≤ matching.frame_limit → most < 4294967295 → FindsNone code matching most set
-finds_none code matching most need set is more wide off steps units few subject answers short lacks =
+    → need.bound.units ≤ matching.frame_limit → most < 4294967295 → FindsNone code matching most told
+finds_none code matching most need told is more wide off steps units few subject answers short lacks =
     let utf = code.tree.options.utf in
     let less = at_most need.bound.steps (length subject + 1) (most + 1) (omega (arith, short)) in
     let g = search_of code matching subject 0 answers in
-    begun g (begins utf need.bytes set more wide subject lacks) ∙ ap (λ f. answer_of f.answer)
-    (need_law g (has_byte need.bytes) need.bound (record {
-      needs = subst (λ (has : ℕ → ℕ → Bool). Needs (may_take utf has) (has_byte need.bytes) (tree_of code.tree)) (class_told code.tree) is.bytes;
-      missing = lacks_some utf need.bytes set more wide subject lacks;
+    begun g (begins utf (sets_of need.text) told more wide subject lacks) ∙ ap (λ f. answer_of f.answer)
+    (need_law g (sets_of need.text) need.bound (record {
+      needs = subst (λ (has : ℕ → ℕ → Bool). Needs (may_take utf has) utf (sets_of need.text) (tree_of code.tree)) (class_told code.tree) is.text;
+      small = lacks.small;
+      missing = λ k stands. lacks.missing k (more subject k stands);
       bounded = is.bound;
       steps = omega (arith, less, steps);
       units = units;
-      text = λ on. record { short = omega (arith, short, few); checked = λ _. IsUtf8-from_ascii subject (ascii utf need.bytes set more wide subject lacks on) };
-      begun = λ on. record { within = omega arith; between = λ _. IsCharBoundary-from_ascii subject 0 (ascii utf need.bytes set more wide subject lacks on) (omega arith) };
+      text = λ on. record { short = omega (arith, short, few); checked = λ _. IsUtf8-from_ascii subject (ascii utf (sets_of need.text) told more wide subject lacks on) };
+      begun = λ on. record { within = omega arith; between = λ _. IsCharBoundary-from_ascii subject 0 (ascii utf (sets_of need.text) told more wide subject lacks on) (omega arith) };
       off = off;
     }))

@@ -16,18 +16,19 @@ ghost use Rattle.ordered_search.specs.Forward.{IsPlainFound};
 ghost use Rattle.ordered_search.specs.MatchAnswer.{match_answer};
 ghost use Rattle.uni_text.specs.Characters.{IsChecked};
 ghost use Rattle.pcre2_api.specs.Matched.{search_of, IsFound, IsMatchError};
+ghost use Rattle.match_needs.specs.Texts.{sets_of};
 ghost use Rattle.pcre2_api.specs.Needed.{FindsNone};
 ghost use Rattle.pcre2_api.specs.Starts.{start_fault};
 
 use crate::error::{CompileError, MatchError};
 use crate::found::{Found, Text};
-use crate::need::{is_within, told_bytes};
+use crate::need::{is_within, told_text};
 use crate::starts::{test_place, test_start};
-use byte_lanes::ByteSet;
 use char_sets::ClassTable;
 use frame_machine::{Ready, Scratch};
 use match_drive::{MatchAnswer, search};
 use match_items::View;
+use match_needs::ByteText;
 use pat_build::{read, what_is_read_can_be_searched};
 use pat_check::{Facts, check};
 use pat_lengths::first_refused_is_leftmost;
@@ -218,12 +219,12 @@ impl Code {
         search(&ready, &view, scratch, calls)
     }
 
-    /// A set of bytes of which every match takes one: a subject of at most `most` bytes without any has no match, and a
+    /// A text that every match takes: a subject of at most `most` bytes in which it stands nowhere has no match, and a
     /// search of it from its begin passes no limit of `options`. Who has many subjects need not search such ones. None where
-    /// no such set is known.
-    pub fn needed(&self, most: u32, options: &MatchOptions) -> Option<ByteSet>
+    /// no such text is known.
+    pub fn needed(&self, most: u32, options: &MatchOptions) -> Option<ByteText>
         requires { options.now.«partial» ≡ Off }
-        ensures { IfSome result (λ set. FindsNone self.now options.now most set) }
+        ensures { IfSome result (λ text. FindsNone self.now options.now most (sets_of text)) }
     {
         let Some(need) = &self.facts.need else {
             return None;
@@ -233,7 +234,7 @@ impl Code {
             return None;
         }
         // In UTF a subject that isn't UTF-8 is told, whatever it lacks.
-        Some(told_bytes(need, own.utf))
+        Some(told_text(need, own.utf))
     }
 
     /// A law: what is told of the code is told of what its pattern is read as.

@@ -23,6 +23,7 @@ pub use found::Found;
 pub use frame_machine::Scratch;
 pub use frame_store::Span;
 pub use laws::worked_substitutions;
+pub use match_needs::ByteText;
 pub use pat_tree::{Bsr, MatchOptions, Newline, Options, PartialMode, Steps};
 pub use pcre_io::{Block, Callouts, NoCallouts};
 pub use starts::is_text;

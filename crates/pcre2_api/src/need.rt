@@ -1,12 +1,11 @@
 //! Searches that need not be made.
-ghost use Rattle.std.specs.Prelude.{◌≡◌, ◌+◌, ◌<◌, ◌≤◌, ℕ, true, IsTrue};
-ghost use Rattle.byte_lanes.specs.Sets.{has_byte};
+ghost use Rattle.std.specs.Prelude.{◌≡◌, ◌+◌, ◌<◌, ◌≤◌, ℕ, List, length, slice_index, IsTrue};
+ghost use Rattle.match_needs.specs.Texts.{sets_of, Stands};
 ghost use Rattle.match_needs.specs.Bounds.{at};
 ghost use Rattle.ordered_search.specs.Setting.{lower_of};
 
-use byte_lanes::ByteSet;
 use char_sets::add_range;
-use match_needs::Need;
+use match_needs::{ByteText, Need};
 use pat_tree::{MatchOptions, Options};
 
 /// The greatest number of Steps at a place: the pattern may lower that of the match.
@@ -19,16 +18,19 @@ fn match_limit(options: &Options, matching: &MatchOptions) -> u32
     }
 }
 
-/// The needed bytes, in UTF with all bytes past ASCII: a subject without any of those is UTF-8.
-pub(crate) fn told_bytes(need: &Need, utf: bool) -> ByteSet
-    ensures needed { (b : ℕ) → has_byte need.now.bytes b ≡ true → has_byte result b ≡ true }
-    ensures wide { IsTrue utf → (b : ℕ) → 128 ≤ b → b < 256 → has_byte result b ≡ true }
+/// The needed text, in UTF its first byte or any byte past ASCII: a subject without any of those is UTF-8.
+pub(crate) fn told_text(need: &Need, utf: bool) -> ByteText
+    ensures needed { (bytes : List ℕ) (k : ℕ) → Stands (sets_of need.now.text) bytes k
+        → Stands (sets_of result) bytes k }
+    ensures wide { IsTrue utf → (bytes : List ℕ) (k : ℕ) → k < length bytes
+        → 128 ≤ slice_index bytes k → slice_index bytes k < 256 → Stands (sets_of result) bytes k }
 {
-    let mut bytes = need.bytes.copied();
-    if utf {
-        add_range(&mut bytes, 128, 255);
+    if !utf {
+        return need.text.copied();
     }
-    bytes
+    let mut first = need.text.first.copied();
+    add_range(&mut first, 128, 255);
+    ByteText::one(first)
 }
 
 /// Whether a search of a subject of at most so many bytes passes no limit, whatever it finds. No subject has as many as the

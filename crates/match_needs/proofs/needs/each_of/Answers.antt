@@ -1,4 +1,5 @@
 use Rattle.std.proofs.Common.{arith, ◌≡◌, ◌<◌, ◌-◌, length}
+use Rattle.match_needs.specs.NeedTables.{AreAllNeeds}
 use Rattle.match_needs.proofs.NeedLemmas.{needs_back, need_read}
 use Rattle.match_needs.proofs.needs.each_of.Goals as goal
 
@@ -9,12 +10,12 @@ loop-i-preserved c =
     let below : i - 1 < length xs = omega (arith, c.loop-i.invariant.within, c.loop-i-test.true) in
     record {
       within = omega (arith, c.loop-i.invariant.within);
-      is = λ has of.
-          needs_back has of c.args.needs.now xs i c.index-needs-branches.result c.loop-i.whole c.joined-whole.result
-          c.loop-i-test.true c.loop-i.invariant.within
+      is = λ may utf of.
+          needs_back may utf of c.args.needs.now xs i c.index-needs-branches.result (λ ts. AreAllNeeds may utf ts c.loop-i.whole)
+          (λ ts. AreAllNeeds may utf ts c.joined-whole.result) c.loop-i-test.true c.loop-i.invariant.within
           (need_read c.args.needs.now xs (i - 1) c.index-needs-branches.result below c.requires c.index-needs-branches.is)
-          (c.loop-i.invariant.is has of) (c.joined-whole.ensures has);
+          (c.loop-i.invariant.is may utf of) (c.joined-whole.ensures may utf);
     }
 
 pub returns : goal.returns
-returns c has of = let done : c.loop-i.i ≡ 0 = omega (arith, c.loop-i-test.false) in rw done at (c.loop-i.invariant.is has of)
+returns c may utf of = let done : c.loop-i.i ≡ 0 = omega (arith, c.loop-i-test.false) in rw done at (c.loop-i.invariant.is may utf of)

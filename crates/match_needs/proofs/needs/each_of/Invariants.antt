@@ -7,8 +7,8 @@ use Rattle.match_needs.proofs.needs.each_of.Given as goal
 abbrev pub invariant-loop-i : goal.invariant-loop-i
 invariant-loop-i l = record {
   within : l.i ≤ length l.branches;
-  is : (has : Item → ℕ → Bool) (of : ℕ → Nested) → AreNeeds has of l.needs (drop l.i l.branches)
-      → AreAllNeeds has (row (map of (drop l.i l.branches))) l.whole;
+  is : (may : Item → ℕ → Bool) (utf : Bool) (of : ℕ → Nested) → AreNeeds may utf of l.needs (drop l.i l.branches)
+      → AreAllNeeds may utf (row (map of (drop l.i l.branches))) l.whole;
 }
 
 abbrev pub decreases-loop-i : goal.decreases-loop-i

@@ -1,9 +1,11 @@
-use Rattle.match_needs.specs.NeedTables.{IsNeed, AreAllNeeds}
-use Rattle.std.proofs.Common.{subst}
+use Rattle.std.proofs.Common.{refl, subst}
+use Rattle.match_needs.specs.Texts.{sets_of}
+use Rattle.match_needs.specs.NeedTables.{IsNeed, IsWanted, AreAllNeeds}
 use Rattle.match_needs.proofs.NeedLemmas.{both_need}
 use Rattle.match_needs.proofs.needs.joined.Goals as goal
 
 pub returns : goal.returns
-returns c has t ts h k =
-    both_need has t ts c.in-Some.one.bytes c.in_ok-both.both.bytes c.add.new.self (λ b l. c.add.ensures b)
-    (subst (IsNeed has t) c.in-Some.is h) (subst (AreAllNeeds has ts) c.in_ok-both.was k)
+returns c may utf t ts h k =
+    let one : IsWanted may utf t c.in-Some.one = subst (IsNeed may utf t) c.in-Some.is h in
+    let others = subst (AreAllNeeds may utf ts) c.in_ok-others.was k in
+    (refl, both_need may utf t ts (sets_of c.in_ok-others.others.text) (sets_of c.in-Some.one.text) (sets_of c.either.result) c.either.ensures one.needs others.1)

@@ -15,5 +15,5 @@ returns c =
     let within : t.root < length needs = omega (arith, c.in_ok-needs.ensures.count) in
     let read : wanted ≡ get_or needs t.root wanted = rw c.root.ensures at c.index.ensures in
     let is : wanted ≡ get_or needs t.root None = read ∙ get_or_default needs t.root wanted None within in
-    let needed = subst (IsNeed (may_of t) (tree_of t)) (sym is) (c.in_ok-needs.ensures.kept t.root within) in
-    need_whole t c.in-Some.bound wanted c.with_bound.result bounded needed (c.with_bound.ensures.bytes (may_of t) (tree_of t)) c.with_bound.ensures.bound
+    let needed = subst (IsNeed (may_of t) t.options.utf (tree_of t)) (sym is) (c.in_ok-needs.ensures.kept t.root within) in
+    need_whole t c.in-Some.bound wanted c.with_bound.result bounded needed (c.with_bound.ensures.text (may_of t) t.options.utf (tree_of t)) c.with_bound.ensures.bound

@@ -1,5 +1,5 @@
-use Rattle.std.proofs.Common.{◌<◌, All, None, length, subst}
-use Rattle.std.specs.Prelude.{slice_index_or}
+use Rattle.std.proofs.Common.{◌≡◌, ◌<◌, All, None, length, subst, sym}
+use Rattle.std.specs.Prelude.{slice_index_or, not, IfSome}
 use Rattle.pat_tree.specs.Nested.{tree_at}
 use Rattle.pat_tree.specs.Rules.{kids_of}
 use Rattle.pat_lengths.proofs.KeepLemmas.{all_kept}
@@ -9,45 +9,51 @@ use Rattle.match_needs.proofs.needs.node_need.Goals as goal
 
 pub returns-in-One : goal.returns-in-One
 returns-in-One c tree table utf trees kept =
-    rw c.in-One.is (needs_one (may_of tree) c.in-One.item c.item_need.result (c.item_need.ensures tree table utf))
+    rw c.in-One.is (needs_one (may_of tree) tree.options.utf c.in-One.item c.wanted_of.result c.wanted_of.ensures.sets
+    (subst (λ u. IfSome c.wanted_of.result (λ w. w.is_item ≡ not u)) (sym utf) c.wanted_of.ensures.item)
+    (c.wanted_of.ensures.takes (may_of tree) c.in-One.item (c.item_need.ensures tree table utf)))
 
 pub returns-in-Seq : goal.returns-in-Seq
 returns-in-Seq c tree table utf trees kept =
     let has = may_of tree in
+    let u = tree.options.utf in
     let needs = c.args.needs.now in
     let kids = c.in-Seq.kids in
     let below : All (λ k. k < length needs) kids = subst (λ n. All (λ k. k < length needs) (kids_of n)) c.in-Seq.is c.requires.below in
-    let all = all_kept (λ k. IsNeed has (tree_at trees k) (slice_index_or needs k None)) kids (length needs) kept below in
-    rw c.in-Seq.is (needs_turn has _ c.rarest.result
-    ((rw c.as_slice.ensures at (c.rarest.ensures has (tree_at trees))) all))
+    let all = all_kept (λ k. IsNeed has u (tree_at trees k) (slice_index_or needs k None)) kids (length needs) kept below in
+    rw c.in-Seq.is (needs_turn has u _ c.rarest.result
+    ((rw c.as_slice.ensures at (c.rarest.ensures has u (tree_at trees))) all))
 
 pub returns-in-Group : goal.returns-in-Group
 returns-in-Group c tree table utf trees kept =
     let has = may_of tree in
+    let u = tree.options.utf in
     let needs = c.args.needs.now in
     let kids = c.in-Group.branches in
     let below : All (λ k. k < length needs) kids = subst (λ n. All (λ k. k < length needs) (kids_of n)) c.in-Group.is c.requires.below in
-    let all = all_kept (λ k. IsNeed has (tree_at trees k) (slice_index_or needs k None)) kids (length needs) kept below in
-    rw c.in-Group.is (needs_group has c.in-Group.number _ c.each_of.result
-    ((rw c.as_slice-in-Group.ensures at (c.each_of.ensures has (tree_at trees))) all))
+    let all = all_kept (λ k. IsNeed has u (tree_at trees k) (slice_index_or needs k None)) kids (length needs) kept below in
+    rw c.in-Group.is (needs_group has u c.in-Group.number _ c.each_of.result
+    ((rw c.as_slice-in-Group.ensures at (c.each_of.ensures has u (tree_at trees))) all))
 
 pub returns-in-Atomic : goal.returns-in-Atomic
 returns-in-Atomic c tree table utf trees kept =
     let has = may_of tree in
+    let u = tree.options.utf in
     let needs = c.args.needs.now in
     let kids = c.in-Atomic.branches in
     let below : All (λ k. k < length needs) kids = subst (λ n. All (λ k. k < length needs) (kids_of n)) c.in-Atomic.is c.requires.below in
-    let all = all_kept (λ k. IsNeed has (tree_at trees k) (slice_index_or needs k None)) kids (length needs) kept below in
-    rw c.in-Atomic.is (needs_atomic has _ c.each_of-in-Atomic.result
-    ((rw c.as_slice-in-Atomic.ensures at (c.each_of-in-Atomic.ensures has (tree_at trees))) all))
+    let all = all_kept (λ k. IsNeed has u (tree_at trees k) (slice_index_or needs k None)) kids (length needs) kept below in
+    rw c.in-Atomic.is (needs_atomic has u _ c.each_of-in-Atomic.result
+    ((rw c.as_slice-in-Atomic.ensures at (c.each_of-in-Atomic.ensures has u (tree_at trees))) all))
 
 pub returns-in-Look : goal.returns-in-Look
 returns-in-Look c tree table utf trees kept =
     let has = may_of tree in
+    let u = tree.options.utf in
     let needs = c.args.needs.now in
     let kids = c.in-Look.branches in
     let below : All (λ k. k < length needs) kids = subst (λ n. All (λ k. k < length needs) (kids_of n)) c.in-Look.is c.requires.below in
-    let all = all_kept (λ k. IsNeed has (tree_at trees k) (slice_index_or needs k None)) kids (length needs) kept below in
+    let all = all_kept (λ k. IsNeed has u (tree_at trees k) (slice_index_or needs k None)) kids (length needs) kept below in
     rw c.in-Look.is
-    (needs_look has c.in-Look.ahead c.in-Look.positive c.in-Look.atomic _ c.each_of-in-Look.result c.wanted_if.result
-    ((rw c.as_slice-in-Look.ensures at (c.each_of-in-Look.ensures has (tree_at trees))) all) c.wanted_if.ensures)
+    (needs_look has u c.in-Look.ahead c.in-Look.positive c.in-Look.atomic _ c.each_of-in-Look.result c.wanted_if.result
+    ((rw c.as_slice-in-Look.ensures at (c.each_of-in-Look.ensures has u (tree_at trees))) all) c.wanted_if.ensures)

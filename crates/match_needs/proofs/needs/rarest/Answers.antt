@@ -1,14 +1,32 @@
-use Rattle.std.proofs.Common.{◌<◌, length, get_or, sym, subst}
-use Rattle.match_needs.specs.NeedTables.{IsNeed}
-use Rattle.match_needs.proofs.NeedLemmas.{need_read, some_read}
+use Rattle.std.proofs.Common.{arith, ◌≡◌, ◌<◌, ◌-◌, length}
+use Rattle.pat_tree.specs.Nested as tree
+use Rattle.match_needs.specs.NeedTables.{IsRun, IsSomeNeed}
+use Rattle.match_needs.proofs.NeedLemmas.{needs_back, need_read, some_later, some_part, some_run, some_of_three}
 use Rattle.match_needs.proofs.needs.rarest.Goals as goal
 
-pub returns-in-Some : goal.returns-in-Some
-returns-in-Some c has of kept =
+pub loop-i-preserved : goal.loop-i-preserved
+loop-i-preserved c =
+    let xs = c.args.parts.now in
     let needs = c.args.needs.now in
-    let parts = c.args.parts.now in
-    let i = c.in-Some.i in
-    let t = of (get_or parts i 0) in
-    let less : i < length parts = rw c.in-Some.is at c.loop-i.invariant in
-    let read = need_read needs parts i c.index-needs-parts-in-Some.result less c.requires c.index-needs-parts-in-Some.is in
-    some_read has of parts i c.copy_of.result less (c.copy_of.ensures has t (subst (IsNeed has t) (sym read) (kept i 0 less)))
+    let i = c.loop-i.i in
+    let first = c.index-needs-parts.result in
+    let run = c.run_from-run.result in
+    let below : i - 1 < length xs = omega (arith, c.loop-i.invariant.within, c.loop-i-test.true) in
+    record {
+      within = omega (arith, c.loop-i.invariant.within);
+      is = λ may utf of.
+          needs_back may utf of needs xs i first (λ ts. IsRun may utf ts c.loop-i.run × IsSomeNeed may utf ts c.loop-i.best)
+          (λ ts. IsRun may utf ts run × IsSomeNeed may utf ts c.rarer-best.result) c.loop-i-test.true c.loop-i.invariant.within
+          (need_read needs xs (i - 1) first below c.requires c.index-needs-parts.is) (c.loop-i.invariant.is may utf of)
+          (λ t ts need had.
+          let begun = c.run_from-run.ensures may utf t ts need had.0 in (
+            begun,
+            some_of_three may utf (tree.more t ts) c.loop-i.best c.copy_of.result c.copy_of-in-loop-i.result c.rarer-best.result c.rarer-best.ensures
+                (some_later may utf t ts c.loop-i.best had.1)
+                (some_part may utf t ts first c.copy_of.result need c.copy_of.ensures.item c.copy_of.ensures.some c.copy_of.ensures.none)
+                (some_run may utf t ts run c.copy_of-in-loop-i.result begun c.copy_of-in-loop-i.ensures.item c.copy_of-in-loop-i.ensures.some c.copy_of-in-loop-i.ensures.none),
+          ));
+    }
+
+pub returns : goal.returns
+returns c may utf of kept = let done : c.loop-i.i ≡ 0 = omega (arith, c.loop-i-test.false) in let all = rw done at (c.loop-i.invariant.is may utf of) in (all kept).1

@@ -1,8 +1,8 @@
-use Rattle.std.proofs.Common.{◌≡◌, ℕ, ◌+◌, ◌<◌, ◌≤◌, true, subst}
-use Rattle.std.specs.Prelude.{IsTrue}
-use Rattle.byte_lanes.specs.Sets.{has_byte}
+use Rattle.std.proofs.Common.{◌≡◌, ℕ, ◌+◌, ◌<◌, ◌≤◌, List, length, subst}
+use Rattle.std.specs.Prelude.{IsTrue, slice_index}
 use Rattle.pat_tree.specs.declared.options.Options.{Options}
 use Rattle.match_needs.specs.Bounds.{at}
+use Rattle.match_needs.specs.Texts.{sets_of, Stands}
 use Rattle.ordered_search.specs.Setting.{lower_of}
 use Rattle.pcre2_api.specs.Compiled.{CodeParts}
 use Rattle.pcre2_api.specs.Needed.{FindsNone}
@@ -15,9 +15,9 @@ returns c =
     let matching = c.args.options.now in
     let told = c.self.invariant in
     let code : CodeParts = record { text = c.self.inside.text.items; tree = c.self.inside.tree; classes = c.self.inside.classes; facts = c.self.inside.facts } in
-    subst (λ (code : CodeParts). FindsNone code matching c.args.most c.told_bytes.result) c.self.view_is
-    (finds_none code matching c.args.most need c.told_bytes.result (rw c.in-Some.is at told.facts.need) c.told_bytes.ensures.needed
-    (subst (λ (o : Options). IsTrue o.utf → (b : ℕ) → 128 ≤ b → b < 256 → has_byte c.told_bytes.result b ≡ true) c.options-own.ensures c.told_bytes.ensures.wide)
+    subst (λ (code : CodeParts). FindsNone code matching c.args.most (sets_of c.told_text.result)) c.self.view_is
+    (finds_none code matching c.args.most need (sets_of c.told_text.result) (rw c.in-Some.is at told.facts.need) c.told_text.ensures.needed
+    (subst (λ (o : Options). IsTrue o.utf → (bytes : List ℕ) (k : ℕ) → k < length bytes → 128 ≤ slice_index bytes k → slice_index bytes k < 256 → Stands (sets_of c.told_text.result) bytes k) c.options-own.ensures c.told_text.ensures.wide)
     c.requires
     (subst (λ (o : Options). at need.bound.steps (c.args.most + 1) ≤ lower_of o.match_limit matching.match_limit) c.options-own.ensures
     (c.is_within.ensures.steps c.if-not-is_within.false))

@@ -1,0 +1,92 @@
+-- Texts whose sets hold more.
+use Rattle.std.proofs.Common.{◌≡◌, ◌∙◌, ℕ, ◌+◌, ◌<◌, ◌||◌, Bool, true, false, List, [], ◌∷◌, length, Option, Some, None, refl, arith}
+use Rattle.std.specs.Prelude.{slice_index}
+use Rattle.byte_lanes.specs.Places.{IsLeast}
+use Rattle.byte_lanes.specs.Sets.{has_byte}
+use Rattle.pat_tree.specs.declared.nodes.Item.{Item}
+use Rattle.pat_tree.specs.Nested as tree
+use Rattle.pat_tree.specs.Nested.{Row}
+use Rattle.match_needs.specs.Needs.{Begins}
+use Rattle.match_needs.specs.Texts.{more_of, behind_of, sets_of, Stands, IsUnionOf, AreUnions}
+use Rattle.match_needs.specs.declared.text.ByteText.{ByteText}
+
+pub clash : (b : Bool) → b ≡ true → b ≡ false → ⊥
+clash b h k = cc
+
+-- the second text stands where the first does: each of its sets holds the bytes of the first's
+abbrev pub Wider : List (List Bool) → List (List Bool) → Type 0
+Wider sets [] = Unit {0}
+Wider [] (more ∷ rest) = ⊥
+Wider (set ∷ sets) (more ∷ rest) = ((b : ℕ) → b < 256 → has_byte set b ≡ true → has_byte more b ≡ true) × Wider sets rest
+
+pub begins_more : (may : Item → ℕ → Bool) (old new : List (List Bool)) → Wider old new → (ts : Row) → Begins may old ts → Begins may new ts
+begins_more may old [] w ts h = tt
+begins_more may [] (more ∷ rest) w ts h = absurd w
+begins_more may (set ∷ sets) (more ∷ rest) w tree.none h = absurd h
+begins_more may (set ∷ sets) (more ∷ rest) w (tree.more t ts) h =
+    ((h.0.0, (h.0.1.0, λ b l may. w.0 b l (h.0.1.1 b l may))), begins_more may sets rest w.1 ts h.1)
+
+or_left : (p q : Bool) → p ≡ true → (p || q) ≡ true
+or_left true q h = refl
+or_left false q h = absurd cc
+
+or_right : (p q : Bool) → q ≡ true → (p || q) ≡ true
+or_right true q h = refl
+or_right false q h = h
+
+pub wider_left : (new ones others : List (List Bool)) → AreUnions new ones others → Wider ones new
+wider_left [] ones others h = tt
+wider_left (both ∷ rest) (one ∷ ones) (other ∷ others) h = (λ b l m. h.0 b ∙ or_left (has_byte one b) (has_byte other b) m, wider_left rest ones others h.1)
+wider_left (both ∷ rest) [] others h = absurd h
+wider_left (both ∷ rest) (one ∷ ones) [] h = absurd h
+
+pub wider_right : (new ones others : List (List Bool)) → AreUnions new ones others → Wider others new
+wider_right [] ones others h = tt
+wider_right (both ∷ rest) (one ∷ ones) (other ∷ others) h = (λ b l m. h.0 b ∙ or_right (has_byte one b) (has_byte other b) m, wider_right rest ones others h.1)
+wider_right (both ∷ rest) [] others h = absurd h
+wider_right (both ∷ rest) (one ∷ ones) [] h = absurd h
+
+-- the sets of a text by those of two
+pub unions_behind : (second third second1 third1 second2 third2 : Option (List Bool)) → IsUnionOf second second1 second2 → IsUnionOf third third1 third2
+    → AreUnions (behind_of second third) (behind_of second1 third1) (behind_of second2 third2)
+unions_behind None third None third1 second2 third2 h k = tt
+unions_behind None third (Some b) third1 None third2 h k = tt
+unions_behind None third (Some b) third1 (Some c) third2 h k = absurd h
+unions_behind (Some a) third None third1 second2 third2 h k = absurd h
+unions_behind (Some a) third (Some b) third1 None third2 h k = absurd h
+unions_behind (Some a) None (Some b) None (Some c) third2 h k = (h, tt)
+unions_behind (Some a) None (Some b) (Some e) (Some c) None h k = (h, tt)
+unions_behind (Some a) None (Some b) (Some e) (Some c) (Some f) h k = absurd k
+unions_behind (Some a) (Some d) (Some b) None (Some c) third2 h k = absurd k
+unions_behind (Some a) (Some d) (Some b) (Some e) (Some c) None h k = absurd k
+unions_behind (Some a) (Some d) (Some b) (Some e) (Some c) (Some f) h k = (h, (k, tt))
+
+-- the first two sets of a text begin what the text begins
+pub begins_two : (may : Item → ℕ → Bool) (first : List Bool) (second third : Option (List Bool)) (ts : Row) → Begins may (first ∷ behind_of second third) ts
+    → Begins may (first ∷ more_of second) ts
+begins_two may first second third tree.none h = absurd h
+begins_two may first None third (tree.more t ts) h = h
+begins_two may first (Some b) third (tree.more t tree.none) h = absurd h.1
+begins_two may first (Some b) third (tree.more t (tree.more u ts)) h = (h.0, (h.1.0, tt))
+
+-- Where a text stands, one that holds more stands too.
+
+pub stands_left : (new ones others : List (List Bool)) → AreUnions new ones others → (bytes : List ℕ) (k : ℕ) → Stands ones bytes k → Stands new bytes k
+stands_left [] ones others h bytes k s = tt
+stands_left (both ∷ rest) (one ∷ ones) (other ∷ others) h bytes k s =
+    (s.0, (h.0 (slice_index bytes k) ∙ or_left (has_byte one (slice_index bytes k)) (has_byte other (slice_index bytes k)) s.1.0, stands_left rest ones others h.1 bytes (k + 1) s.1.1))
+stands_left (both ∷ rest) [] others h bytes k s = absurd h
+stands_left (both ∷ rest) (one ∷ ones) [] h bytes k s = absurd h
+
+pub stands_right : (new ones others : List (List Bool)) → AreUnions new ones others → (bytes : List ℕ) (k : ℕ) → Stands others bytes k → Stands new bytes k
+stands_right [] ones others h bytes k s = tt
+stands_right (both ∷ rest) (one ∷ ones) (other ∷ others) h bytes k s =
+    (s.0, (h.0 (slice_index bytes k) ∙ or_right (has_byte one (slice_index bytes k)) (has_byte other (slice_index bytes k)) s.1.0, stands_right rest ones others h.1 bytes (k + 1) s.1.1))
+stands_right (both ∷ rest) [] others h bytes k s = absurd h
+stands_right (both ∷ rest) (one ∷ ones) [] h bytes k s = absurd h
+
+-- a search that finds no place
+pub stands_nowhere : (text : ByteText) (bytes : List ℕ) (n : ℕ) → IsLeast (Stands (sets_of text) bytes) 0 (length bytes) n → n ≡ length bytes → (k : ℕ) → ¬ Stands (sets_of text) bytes k
+stands_nowhere text bytes n least e k h =
+    let within = h.0 in
+    least.before k (omega arith) (omega (arith, within, e)) h

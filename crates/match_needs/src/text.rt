@@ -1,0 +1,185 @@
+// Texts whose bytes are each of a set, and where such a text stands.
+ghost use Rattle.std.specs.Prelude.{◌≡◌, ◌↔◌, ℕ, ◌+◌, ◌<◌, ◌≤◌, ◌∷◌, [], List, None, Some, IsTrue, length};
+ghost use Rattle.byte_lanes.specs.Places.{IsLeast};
+ghost use Rattle.byte_lanes.specs.Sets.{IsIn};
+ghost use Rattle.match_needs.specs.Texts.{sets_of, Stands, AreUnions, IsUnion, IsUnionOf};
+
+use byte_lanes::{ByteSet, find_in_set};
+
+/// A text of one to three bytes, each of which is any of a set. Without a second set the third isn't read.
+#[derive(Drop)]
+pub struct ByteText {
+    pub first: ByteSet,
+    pub second: Option<ByteSet>,
+    pub third: Option<ByteSet>,
+    /// The place of the byte that is looked for first, 0 to 2: the rarest.
+    pub anchor: usize,
+}
+
+// The byte that is looked for first.
+#[derive(Drop)]
+struct Anchor<'a> {
+    place: usize,
+    set: &'a ByteSet,
+}
+
+impl ByteText {
+    /// A text of one byte.
+    pub fn one(first: ByteSet) -> ByteText
+        ensures first { result.first ≡ first }
+        ensures second { result.second ≡ None }
+    {
+        ByteText {
+            first,
+            second: None,
+            third: None,
+            anchor: 0,
+        }
+    }
+
+    /// A text that stands nowhere, to which others can be added by `either`.
+    pub fn nowhere() -> ByteText
+        ensures { (bytes : List ℕ) (k : ℕ) → ¬ Stands (sets_of result) bytes k }
+    {
+        ByteText {
+            first: ByteSet::empty(),
+            second: Some(ByteSet::empty()),
+            third: Some(ByteSet::empty()),
+            anchor: 0,
+        }
+    }
+
+    /// The same text.
+    pub fn copied(&self) -> ByteText
+        ensures first { result.first ≡ self.now.first }
+        ensures second { result.second ≡ self.now.second }
+        ensures third { result.third ≡ self.now.third }
+    {
+        ByteText {
+            first: self.first.copied(),
+            second: copied(&self.second),
+            third: copied(&self.third),
+            anchor: self.anchor,
+        }
+    }
+
+    /// The same text, whose byte at this place is looked for first.
+    pub(crate) fn looked_for(self, anchor: usize) -> ByteText
+        ensures first { result.first ≡ self.first }
+        ensures second { result.second ≡ self.second }
+        ensures third { result.third ≡ self.third }
+    {
+        let mut text = self;
+        text.anchor = anchor;
+        text
+    }
+
+    /// A byte, and the first two of these behind it.
+    pub(crate) fn behind(&self, first: ByteSet) -> ByteText
+        ensures first { result.first ≡ first }
+        ensures second { result.second ≡ Some self.now.first }
+        ensures third { result.third ≡ self.now.second }
+    {
+        ByteText {
+            first,
+            second: Some(self.first.copied()),
+            third: copied(&self.second),
+            anchor: 0,
+        }
+    }
+
+    /// A text that is there where one of the two is: each byte is of either, as far as both go.
+    pub fn either(self, more: &ByteText) -> ByteText
+        ensures { AreUnions (sets_of result) (sets_of self) (sets_of more.now) }
+    {
+        let first = union(self.first, &more.first);
+        let second = union_of(self.second, &more.second);
+        let third = union_of(self.third, &more.third);
+        ByteText {
+            first,
+            second,
+            third,
+            anchor: self.anchor,
+        }
+    }
+
+    /// Whether the text stands at this place.
+    fn stands(&self, bytes: &[u8], at: usize) -> bool
+        ensures { IsTrue result ↔ Stands (sets_of self.now) bytes.now at }
+    {
+        if at >= bytes.len() || !self.first.has(bytes[at]) {
+            return false;
+        }
+        let Some(second) = &self.second else {
+            return true;
+        };
+        if at + 1 >= bytes.len() || !second.has(bytes[at + 1]) {
+            return false;
+        }
+        let Some(third) = &self.third else {
+            return true;
+        };
+        at + 2 < bytes.len() && third.has(bytes[at + 2])
+    }
+
+    fn anchored(&self) -> Anchor<'_>
+        ensures place { result.place ≤ 2 }
+        ensures is_in { (bytes : List ℕ) (k : ℕ) → Stands (sets_of self.now) bytes k
+            → (k + result.place < length bytes) × IsIn result.set.now bytes (k + result.place) }
+    {
+        match (&self.second, &self.third) {
+            (Some(set), _) if self.anchor == 1 => Anchor { place: 1, set },
+            (Some(_), Some(set)) if self.anchor == 2 => Anchor { place: 2, set },
+            _ => Anchor {
+                place: 0,
+                set: &self.first,
+            },
+        }
+    }
+
+    /// The first place of the bytes at which the text stands, or their number where it stands nowhere.
+    pub fn find(&self, bytes: &[u8]) -> usize
+        ensures { IsLeast (Stands (sets_of self.now) bytes.now) 0 (length bytes.now) result }
+    {
+        let anchor = self.anchored();
+        let mut from = anchor.place;
+        'place: while from < bytes.len() {
+            let found = find_in_set(bytes, from, anchor.set);
+            if found == bytes.len() {
+                return bytes.len();
+            }
+            let at = found - anchor.place;
+            if self.stands(bytes, at) {
+                return at;
+            }
+            from = found + 1;
+        }
+        bytes.len()
+    }
+}
+
+fn copied(set: &Option<ByteSet>) -> Option<ByteSet>
+    ensures { result ≡ set.now }
+{
+    match set {
+        Some(set) => Some(set.copied()),
+        None => None,
+    }
+}
+
+fn union(one: ByteSet, other: &ByteSet) -> ByteSet
+    ensures { IsUnion result one other.now }
+{
+    let mut both = one;
+    both.add(other);
+    both
+}
+
+fn union_of(one: Option<ByteSet>, other: &Option<ByteSet>) -> Option<ByteSet>
+    ensures { IsUnionOf result one other.now }
+{
+    match (one, other) {
+        (Some(one), Some(other)) => Some(union(one, other)),
+        _ => None,
+    }
+}
