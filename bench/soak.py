@@ -37,20 +37,22 @@ PIECES = [
     b"a", b"b", b"\\w", b"\\d", b"\\s", b".", b"[ab]", b"[^a]", b"[[:digit:]-z]", b"\\b", b"^", b"$", b"(", b")", b"(?:", b"(?>",
     b"(?=", b"(?!", b"(?<=", b"(?<!", b"(?<n>", b"(?|", b"(?(1)", b"(?(<n>)", b"(?(?=", b"(?(R)", b"(?(DEFINE)", b"|", b"*", b"+",
     b"?", b"{2}", b"{0,3}", b"{1,}", b"*?", b"++", b"?+", b"\\1", b"\\g{1}", b"\\k<n>", b"(?1)", b"(?R)", b"(?&n)", b"(*FAIL)",
-    b"(*ACCEPT)", b"(*THEN)", b"(*SKIP:n)", b"(*:n)", b"(?C)", b"\\K", b"\\R", b"\\X", b"\\N", b"\\Q", b"\\E", b"(?i)", b"(?x)",
+    b"(*ACCEPT)", b"(*THEN)", b"(*SKIP:n)", b"(*SKIP)", b"(*PRUNE)", b"(*COMMIT:n)", b"(*:n)", b"(?C)", b"\\K",
+    b"\\R", b"\\X", b"\\N", b"\\Q", b"\\E", b"(?i)", b"(?x)",
     b"(?-s)", b"(?#", b"\\x{10FFFF}", b"\\x80", b"\\p{Lu}", b"[[:foo:]]", b"\\", b"[", b"]", b"{", b"}", b"\xff", b"\0", b"\n",
 ]
 MODIFIERS = (
     "i m s x xx n g I caseless multiline dotall extended anchored endanchored dollar_endonly dupnames firstline literal ungreedy"
     " no_auto_capture allow_empty_class match_unset_backref no_start_optimize info global notbol noteol notempty"
-    " notempty_atstart offset=1 offset=9 match_limit=5 frame_limit=3 newline=crlf newline=any bsr=unicode utf ucp nosuch offset=x"
+    " notempty_atstart offset=1 offset=9 match_limit=5 frame_limit=3 newline=crlf newline=any bsr=unicode utf ucp mark dfa"
+    " dfa_shortest nosuch offset=x"
 ).split()
 OPTIONS = ["-n", "-c", "-v", "-i", "-w", "-x", "-o", "-o1", "-l", "-L", "-q", "-m2", "-A1", "-B2", "-C1", "-b", "--line-offsets",
            "--file-offsets", "-N", "-a", "-I", "-h", "-H", "-s", "-F", "--buffer-size=64", "--match-limit=1000", "--colour"]
 
 RESULT = re.compile(
     rb" ?\d+: .*|MK: .*|No match(, mark = .*)?|Partial match(, mark=.*)?: .*|Failed: error -?\d+: .+"
-    rb"|Failed: error \d+ at offset \d+: .+|Capture group count = \d+|Max lookbehind = \d+|May match empty string"
+    rb"|Failed: error (-3|\d+) at offset \d+: .+|Capture group count = \d+|Max lookbehind = \d+|May match empty string"
     rb"|\*\* (bad script line|bad subject|not built|replace with dfa|(unknown modifier|bad modifier value) .*)"
 )
 MATCH_ERROR = re.compile(rb": line \d+: error -\d+$")

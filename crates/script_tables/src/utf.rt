@@ -331,10 +331,6 @@ No match
  0: \\x{1f600}
 >
 >/\\x{20ac}\\x{20ad}/utf
->a\\x{20ac}\\=ps
-Partial match: \\x{20ac}
->\\x{20ad}a\\x{20ac}\\=ph
-Partial match: \\x{20ac}
 >a\\x{20ac}
 No match
 >
