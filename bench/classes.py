@@ -2,13 +2,13 @@
 """Times the class table beside a plain array of 256 truth values, on 100 MB of bytes of all values.
 
 The crate `measure` counts the bytes of a class in a text of its own, a million bytes gone through a hundred times, by
-`ClassTable::has` and by the array. Prints both in nanoseconds a byte (the best of five runs, less that of a run that
+`ClassTable::has` and by the array. Prints both in nanoseconds a byte (processor time, the least of five runs, less that of a run that
 does nothing) and their ratio, for `[a-z0-9_]`, `[^\\n]` and a class of twenty ranges. Run `rt run` in crates/measure first.
 """
 import os
+import resource
 import subprocess
 import sys
-import time
 
 HERE = os.path.dirname(os.path.abspath(__file__))
 OURS = os.path.join(HERE, "..", "crates", "measure", "out", "measure")
@@ -18,9 +18,10 @@ BYTES = 100_000_000
 def best(words):
     times, told = [], None
     for _ in range(5):
-        start = time.perf_counter()
+        before = resource.getrusage(resource.RUSAGE_CHILDREN)
         told = subprocess.run([OURS, *words], stdout=subprocess.PIPE, check=True).stdout
-        times.append(time.perf_counter() - start)
+        after = resource.getrusage(resource.RUSAGE_CHILDREN)
+        times.append(after.ru_utime + after.ru_stime - before.ru_utime - before.ru_stime)
     return min(times), told
 
 

@@ -4,13 +4,14 @@
 Each pattern has repeats that multiply in an ordered search. It is anchored, and its subject is one letter 100,000,
 1,000,000 and 10,000,000 times, so each state is asked at each place and no match is found. A second table has a text whose
 last letter ends the match. Prints for each size the processor time of all three (user and system, the least of three), how
-often ours is that of the size before, and what both pcre2test answer. Run ./build first; the C library's pcre2test and rg
-have to be on the PATH. Another program can be named as the first argument; it has to be named pcre2test.
+often ours is that of the size before, and what both pcre2test answer. Run ./build first; the C library's pcre2test has to be
+on the PATH. Without rg its column is left out. Another program can be named as the first argument; it has to be named pcre2test.
 
     bench/ends.py [PROGRAM]
 """
 import os
 import resource
+import shutil
 import subprocess
 import sys
 import tempfile
@@ -57,7 +58,9 @@ def row(ours, folder, pattern, letter, last, size):
         out.write(letter * size + last + "\n")
     mine, told = used([ours, "-q", "script"], folder)
     theirs, expected = used([THEIRS, "-q", "script"], folder)
-    third, _ = used(["rg", "-c", "^(?:" + pattern + ")", "text"], folder)
+    third = "-"
+    if shutil.which("rg"):
+        third = f"{used(['rg', '-c', '^(?:' + pattern + ')', 'text'], folder)[0]:.3f}"
     same = "same" if answer(told) == answer(expected) else f"{answer(told)} in place of {answer(expected)}"
     return mine, theirs, third, same
 
@@ -72,7 +75,7 @@ def main():
                 for size in SIZES:
                     mine, theirs, third, same = row(ours, folder, pattern, letter, end if ended else "", size)
                     growth = f"{mine / before:.1f}" if before else "-"
-                    print(f"{pattern:12} {size:10} {mine:8.3f} {theirs:8.3f} {third:8.3f} {growth:>7}  {same}", flush=True)
+                    print(f"{pattern:12} {size:10} {mine:8.3f} {theirs:8.3f} {third:>8} {growth:>7}  {same}", flush=True)
                     before = mine
     return 0
 

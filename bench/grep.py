@@ -3,8 +3,8 @@
 
 Makes its input itself, in a temporary folder: a tree of 3,000 source files, a log of 200 MB, and a file of patterns, the same
 at each run. Each command line is one run over all the files, or over the log. Prints whether output and status are the same,
-or the first difference, then the times (the best of three), their ratio (below 1 is faster than the C library), and the greatest
-resident size of each. With -C the C library's tool also writes `--` between groups of lines that touch; such a line counts as
+or the first difference, then the processor times (user and system, the least of three), their ratio (below 1 is faster than the
+C library), and the greatest resident size of each. With -C the C library's tool also writes `--` between groups of lines that touch; such a line counts as
 no difference, and is told. Run ./build first; the C library's pcre2grep and `time` have to be on the PATH (Debian's packages
 pcre2-utils and time). Another program can be named as the first argument.
 
@@ -14,11 +14,11 @@ import argparse
 import itertools
 import os
 import random
+import resource
 import signal
 import subprocess
 import sys
 import tempfile
-import time
 
 HERE = os.path.dirname(os.path.abspath(__file__))
 OURS = os.path.join(HERE, "..", "bin", "pcre2grep")
@@ -126,11 +126,11 @@ def make_log(path, size):
 
 
 def run(command, folder, out_path):
-    """Seconds, the greatest resident size in bytes, the status, and the messages. The output goes to the file."""
+    """Processor time, the greatest resident size in bytes, the status, and the messages. The output goes to the file."""
     # The size that the system tells of a child counts from before its start, so a small program starts it and not this one.
     size_path = os.path.join(folder, "size")
+    before = resource.getrusage(resource.RUSAGE_CHILDREN)
     with open(out_path, "wb") as out:
-        start = time.perf_counter()
         done = subprocess.run(
             ["time", "--quiet", "-f", "%M", "-o", size_path] + command,
             cwd=folder,
@@ -139,7 +139,8 @@ def run(command, folder, out_path):
             stderr=subprocess.PIPE,
             check=False,
         )
-        seconds = time.perf_counter() - start
+    after = resource.getrusage(resource.RUSAGE_CHILDREN)
+    seconds = after.ru_utime + after.ru_stime - before.ru_utime - before.ru_stime
     with open(size_path, encoding="ascii") as told:
         size = int(told.read()) * 1024
     return seconds, size, done.returncode, done.stderr

@@ -3,14 +3,14 @@
 
 Makes its inputs itself, 100 MB of lines that end at LF and at CRLF, in a temporary folder. The crate `measure` counts the
 lines of its standard input through the feed; pcre2grep counts those that match a word that no line holds. Prints both
-times (the best of five) and their ratio, for LF and for ANYCRLF. Run `rt run` in crates/measure first; the C library's
-pcre2grep has to be on the PATH.
+processor times (user and system, the least of five) and their ratio, for LF and for ANYCRLF. Run `rt run` in crates/measure
+first; the C library's pcre2grep has to be on the PATH.
 """
 import os
+import resource
 import subprocess
 import sys
 import tempfile
-import time
 
 HERE = os.path.dirname(os.path.abspath(__file__))
 OURS = os.path.join(HERE, "..", "crates", "measure", "out", "measure")
@@ -29,9 +29,10 @@ def best(command, path):
     times = []
     for _ in range(5):
         with open(path, "rb") as source:
-            start = time.perf_counter()
+            before = resource.getrusage(resource.RUSAGE_CHILDREN)
             subprocess.run(command, stdin=source, stdout=subprocess.DEVNULL, check=False)
-            times.append(time.perf_counter() - start)
+            after = resource.getrusage(resource.RUSAGE_CHILDREN)
+            times.append(after.ru_utime + after.ru_stime - before.ru_utime - before.ru_stime)
     return min(times)
 
 

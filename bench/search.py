@@ -1,20 +1,21 @@
 #!/usr/bin/env python3
-"""Times the search beside the C library's pcre2grep --no-jit -c, on 20 MB of lines.
+"""Times the search beside the C library's pcre2grep --no-jit -c, on 20 MB of lines, in processor time.
 
 Makes its input itself, in a temporary folder: lines of words, letters and digits, with an address, a function head, a
-quoted text and the like now and then. The crate `measure` compiles the pattern and counts the lines of its standard
-input that it matches. Prints both times (the best of three), their ratio (below 1 is faster than the C library), and
-whether the counts agree. Run `rt run` in crates/measure first; the C library's pcre2grep has to be on the PATH.
+quoted text and the like now and then. The lines that a pattern matches are counted by bin/pcre2grep -c, by the C library's
+tool, and by the crate `measure`, which gives every line to the library. Prints the processor times (user and system, the least
+of three), the ratio of the first two (below 1 is faster than the C library), and whether the counts agree. Run ./build and
+`rt run` in crates/measure first; the C library's pcre2grep has to be on the PATH.
 """
 import os
 import random
-import subprocess
 import sys
 import tempfile
-import time
 
-HERE = os.path.dirname(os.path.abspath(__file__))
-OURS = os.path.join(HERE, "..", "crates", "measure", "out", "measure")
+from grep import HERE, OURS, THEIRS
+from rewrite import best
+
+LIBRARY = os.path.join(HERE, "..", "crates", "measure", "out", "measure")
 SIZE = 20_000_000
 PATTERNS = [
     r"(\w+)@(\w+)\.com",
@@ -43,25 +44,19 @@ def make_input(path):
             written += len(line) + 1
 
 
-def best(command, path):
-    times, told = [], None
-    for _ in range(3):
-        with open(path, "rb") as source:
-            start = time.perf_counter()
-            told = subprocess.run(command, stdin=source, stdout=subprocess.PIPE, check=False).stdout
-            times.append(time.perf_counter() - start)
-    return min(times), told
-
-
 def main():
     with tempfile.TemporaryDirectory() as folder:
         path = os.path.join(folder, "text")
         make_input(path)
         for pattern in PATTERNS:
-            ours, count = best([OURS, "search", pattern], path)
-            theirs, expected = best(["pcre2grep", "--no-jit", "-c", pattern], path)
-            agrees = "same count" if count == expected else f"{count} in place of {expected}"
-            print(f"{pattern:32} ours {ours:.3f} s, theirs {theirs:.3f} s, ratio {ours / theirs:.2f}, {agrees}")
+            ours, count = best([OURS, "-c", pattern], path)
+            theirs, expected = best(THEIRS + ["-c", pattern], path)
+            alone, other = best([LIBRARY, "search", pattern], path)
+            agrees = "same counts" if count == expected == other else "DIFFERENT"
+            print(
+                f"{pattern:32} ours {ours:.3f} s, theirs {theirs:.3f} s, ratio {ours / theirs:.2f}, library {alone:.3f} s, {agrees}",
+                flush=True,
+            )
 
 
 if __name__ == "__main__":

@@ -32,12 +32,16 @@ USUAL = [
     rb"\Qa.b\E+", rb"(?x) a # note\n b", rb"\R\h*\v?", rb"\bword\b", rb"\Aabc\z", rb"^.*?;$", rb"(?s).*\K.", rb"a{2,5}?b{3}",
     rb"((((a)b)c)d)\g{-2}", rb"\x41\x{42}\103\o{104}", rb"(?R)?a", rb"\((?:[^()]++|(?R))*+\)", rb"a(*SKIP)b|c", rb"(*COMMIT)x",
     rb"(?C1)a(?C'text')b", rb"(?<n>a)(?&n)", rb"(?'q'['\"]).*?\k{q}", rb"(?^x:a b)", rb"(*LIMIT_MATCH=100)a*b", rb"(*CRLF)^a$",
+    rb'"[^"]*"(*SKIP)(*FAIL)|\bword\b', rb"a(*THEN:x)b|a(*MARK:y)c", rb"(?<=a(?=b)|\bc)(?<!xx|y)b", rb"(?(?C2)(?<=a)b|c)",
+    "(*UTF)(?<größe>\\w)(?&größe)\\k<größe>".encode(), "(*UTF)(?(DEFINE)(?<имя>a|é))(?&имя)+".encode(),
 ]
 PIECES = [
     b"a", b"b", b"\\w", b"\\d", b"\\s", b".", b"[ab]", b"[^a]", b"[[:digit:]-z]", b"\\b", b"^", b"$", b"(", b")", b"(?:", b"(?>",
     b"(?=", b"(?!", b"(?<=", b"(?<!", b"(?<n>", b"(?|", b"(?(1)", b"(?(<n>)", b"(?(?=", b"(?(R)", b"(?(DEFINE)", b"|", b"*", b"+",
     b"?", b"{2}", b"{0,3}", b"{1,}", b"*?", b"++", b"?+", b"\\1", b"\\g{1}", b"\\k<n>", b"(?1)", b"(?R)", b"(?&n)", b"(*FAIL)",
     b"(*ACCEPT)", b"(*THEN)", b"(*SKIP:n)", b"(*SKIP)", b"(*PRUNE)", b"(*COMMIT:n)", b"(*:n)", b"(?C)", b"\\K",
+    "(?<größe>".encode(), "(?&größe)".encode(), "(?(<größe>)".encode(), "é".encode(), b"(*UTF)", b"(*ACCEPT:n)", b"(*PRUNE:n)",
+    b"(*THEN:n)", b"(?C2)", b"(?C'text')", b"(?C{a}}b})", b"(?(?C1)(?<=",
     b"\\R", b"\\X", b"\\N", b"\\Q", b"\\E", b"(?i)", b"(?x)",
     b"(?-s)", b"(?#", b"\\x{10FFFF}", b"\\x80", b"\\p{Lu}", b"[[:foo:]]", b"\\", b"[", b"]", b"{", b"}", b"\xff", b"\0", b"\n",
 ]
@@ -45,13 +49,16 @@ MODIFIERS = (
     "i m s x xx n g I caseless multiline dotall extended anchored endanchored dollar_endonly dupnames firstline literal ungreedy"
     " no_auto_capture allow_empty_class match_unset_backref no_start_optimize info global notbol noteol notempty"
     " notempty_atstart offset=1 offset=9 match_limit=5 frame_limit=3 newline=crlf newline=any bsr=unicode utf ucp mark dfa"
-    " dfa_shortest nosuch offset=x"
+    " dfa_shortest nosuch offset=x auto_callout auto_callout auto_callout callout_fail=1 callout_error=2 callout_none"
+    " partial_soft partial_hard ps ph replace=<$0> replace=$1${n}"
 ).split()
 OPTIONS = ["-n", "-c", "-v", "-i", "-w", "-x", "-o", "-o1", "-l", "-L", "-q", "-m2", "-A1", "-B2", "-C1", "-b", "--line-offsets",
-           "--file-offsets", "-N", "-a", "-I", "-h", "-H", "-s", "-F", "--buffer-size=64", "--match-limit=1000", "--colour"]
+           "--file-offsets", "-N", "-a", "-I", "-h", "-H", "-s", "-F", "--buffer-size=64", "--match-limit=1000", "--colour", "-u"]
 
+CALLOUT = re.compile(rb"(Callout \(\d+\): | {0,2}\+?\d+ +\^| {4,}\^).*")
 RESULT = re.compile(
     rb" ?\d+: .*|MK: .*|No match(, mark = .*)?|Partial match(, mark=.*)?: .*|Failed: error -?\d+: .+"
+    rb"|--->.*|Callout \(\d+\): .*| {0,2}\+?\d+ +\^.*| {4,}\^.*|Latest Mark: .*"
     rb"|Failed: error (-3|\d+) at offset \d+: .+|Capture group count = \d+|Max lookbehind = \d+|May match empty string"
     rb"|\*\* (bad script line|bad subject|not built|replace with dfa|(unknown modifier|bad modifier value) .*)"
 )
@@ -96,6 +103,20 @@ def fits_messages(status, err):
     told = [line for line in err.split(b"\n") if line.startswith(b"pcre2grep: ")]
     others = [line for line in told if not MATCH_ERROR.search(line)]
     return bool(told) if status == 2 else not others
+
+
+def ends_of_results(told, at, given):
+    """The places after each of the result lines that begin at a place, that place too. A callout shows the next item's text as
+    it is, which may have newlines."""
+    yield at
+    callout = False
+    while at < len(told) - 1:
+        if RESULT.fullmatch(told[at]):
+            callout = CALLOUT.fullmatch(told[at]) is not None
+        elif not callout or told[at] not in given:
+            return
+        at += 1
+        yield at
 
 
 def limited():
@@ -148,18 +169,16 @@ class Soak:
 
     def follow(self, lines, told, given):
         """Each line of the script stands in the output, and what stands between are named lines."""
-        at = 0
+        # The places in the output at which the next line of the script may stand: a result may look like that line.
+        places = {0}
         for number, line in enumerate(lines):
-            if at >= len(told) or told[at] != line:
-                self.tell(f"no echo of line {number}", ["pcre2test"], given)
+            later = {after for at in places if told[at] == line for after in ends_of_results(told, at + 1, given)}
+            if not later:
+                self.tell(f"no line {number} after {told[max(places)]!r}", ["pcre2test"], given)
                 return
-            at += 1
-            later = lines[number + 1] if number + 1 < len(lines) else b""
-            while at < len(told) - 1 and told[at] != later:
-                if not RESULT.fullmatch(told[at]):
-                    self.tell(f"line {told[at]!r} after line {number}", ["pcre2test"], given)
-                    return
-                at += 1
+            places = later
+        if len(told) - 1 not in places:
+            self.tell(f"line {told[max(places)]!r} at the end", ["pcre2test"], given)
 
     def word(self, number):
         choice = random.Random(f"{self.seed} word {number}")

@@ -3,7 +3,7 @@
 
 Makes its input itself, in a temporary folder, the same at each run: a tree of 30,000 source files in nested folders, some of
 them hidden. Prints for each command line whether the lines are the same (as sets of lines, since the C library's tool goes
-through a folder in no order), the times (the best of three), the ratios to both, and the greatest resident size. With
+through a folder in no order), the processor times (user and system, the least of three), the ratios to both, and the greatest resident size. With
 --names COUNT it also makes that many empty files and tells time and size of a run that searches them. Run ./build first; the
 C library's pcre2grep, rg and `time` have to be on the PATH (Debian's packages pcre2-utils, ripgrep and time). Without rg its
 columns are left out.

@@ -8,12 +8,12 @@ mod digits;
 mod lanes;
 mod laws;
 mod line_end;
+mod plain;
 mod scan;
-#[cfg(test)]
-mod tests;
 
 pub use byte_set::{ByteSet, find_in_set};
 pub use count::count_byte;
 pub use digits::{digit_value, number};
 pub use laws::{newlines_before_a_place, newlines_by_convention};
 pub use line_end::{EndKind, LineEnd, find_line_end, newline_at};
+pub use plain::find_past_plain;

@@ -1,6 +1,6 @@
 -- Pairs of characters that fold alike, which rise by their first characters.
-use Rattle.std.proofs.Common.{◌≡◌, ◌≢◌, ◌⊎◌, ℕ, zero, suc, ◌+◌, ◌<◌, ◌≤◌, Bool, true, false, ◌||◌, ◌&&◌, ◌==◌, nat_lt, nat_le, List, [], ◌∷◌, length, get_or, refl, sym, ap, ap₂, subst, ◌∙◌, arith, inl, inr, leb-true, ltb-true, eqb-true, Contains}
-use Rattle.std.proofs.lemmas.Bool.{cases_lt, and_parts, or_cases, cond_both}
+use Rattle.std.proofs.Common.{◌≡◌, ℕ, zero, suc, ◌<◌, ◌≤◌, Bool, true, false, ◌||◌, ◌&&◌, ◌==◌, nat_lt, List, [], ◌∷◌, length, get_or, refl, sym, ap, subst, ◌∙◌, arith, inl, inr, Contains}
+use Rattle.std.proofs.lemmas.Bool.{cases_lt, and_parts}
 use Rattle.std.proofs.lemmas.Bool.Decides.{nat_tests}
 use Rattle.std.proofs.lemmas.List.{get_or_default}
 use Rattle.std.proofs.lemmas.List.Folds.{list_any_none, list_any_at}
@@ -64,10 +64,6 @@ module _ (pairs : List (ℕ × ℕ)) (from to c first : ℕ) (rises : IsNonDecre
 
   pub none_left : (i : ℕ) → length pairs ≤ i → NoneUpTo i → other_has pairs from to c ≡ false
   none_left i past none = list_any_none (pair_has from to c) pairs (λ k d lt. none k (omega arith) d)
-
--- the pair found settles it
-pub some_pair : (pairs : List (ℕ × ℕ)) (from to c i : ℕ) (d : ℕ × ℕ) → i < length pairs → pair_has from to c (get_or pairs i d) ≡ true → other_has pairs from to c ≡ true
-some_pair pairs from to c i d lt h = list_any_at (pair_has from to c) pairs i d lt h
 
 -- the pair that passes a test
 pub some_of : {X : Type 0} (p : X → Bool) (xs : List X) → list_any p xs ≡ true → (x : X) × Contains xs x × (p x ≡ true)

@@ -26,9 +26,6 @@ one_steady x a b le from to = grind (arith, nat_tests)
 byte_steady : (x a b : ℕ) → x < 256 → 256 ≤ a → a ≤ b → (a == x) ≡ (b == x)
 byte_steady x a b small past le = grind (arith, nat_tests)
 
-bytes_steady : (low high a b : ℕ) → high < 256 → 256 ≤ a → a ≤ b → is_in_range low high a ≡ is_in_range low high b
-bytes_steady low high a b small past le = grind (arith, nat_tests)
-
 or_false : (x y : Bool) → (x || y) ≡ false → (x ≡ false) × (y ≡ false)
 or_false true y h = absurd (grind arith)
 or_false false y h = (refl, h)

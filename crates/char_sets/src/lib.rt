@@ -8,8 +8,6 @@ mod folds;
 mod laws;
 mod sets;
 mod table;
-#[cfg(test)]
-mod tests;
 mod unicode;
 
 pub use bytes::{add_range, both_cases};

@@ -751,17 +751,66 @@ fn in_utf_the_byte_of_an_ascii_character_is_told(rt: HostRuntime) -> Result<(), 
         utf: true,
         ..Options::PLAIN
     };
-    // `a`, `(?i)k`, a class, `é+`, a class and `b`, `é|b`
-    static ROWS: [NeedRow; 6] = [
+    // `a`, `(?i)@`, `(?i)b`, `(?i)k`, `(?i)S`, the Kelvin sign and the long s without regard to case, a class, a class and `b`
+    static ROWS: [NeedRow; 9] = [
         (&[A], Some((b"a", b"", b"")), 0, 0, 0),
+        (&[AnyCase(64)], Some((b"@", b"", b"")), 0, 0, 0),
+        (&[AnyCase(98)], Some((b"Bb", b"", b"")), 0, 0, 0),
         (&[AnyCase(107)], None, 0, 0, 0),
+        (&[AnyCase(83)], None, 0, 0, 0),
+        (&[AnyCase(0x212A)], None, 0, 0, 0),
+        (&[AnyCase(0x17F)], None, 0, 0, 0),
         (&[Class], None, 0, 0, 0),
-        (&[Chars(233, 1, None)], None, 0, 0, 0),
         (&[Class, B, Seq(2)], Some((b"b", b"", b"")), 0, 0, 0),
-        (&[Chars(233, 1, None), B, Group(2)], None, 0, 0, 0),
     ];
     for row in &ROWS {
         tells_need(&rt, rt.alloc(), utf, row)?;
+    }
+    Ok(())
+}
+
+/// Every match takes a byte past ASCII or one of these.
+fn needs_past_ascii(
+    rt: &impl Abort,
+    alloc: Global,
+    steps: &'static [Step],
+    or: &[u8],
+) -> Result<(), Fail> {
+    let utf = Options {
+        utf: true,
+        ..Options::PLAIN
+    };
+    assert!(rt; steps.len() < 1000);
+    match facts_of(alloc, utf, steps)? {
+        Ok(facts) => {
+            let Some(need) = &facts.need else {
+                assert!(rt; false);
+                return Ok(());
+            };
+            for b in 0..256u32 {
+                let b = b as u8;
+                assert_eq!(rt; need.text.first.has(b), b >= 128 || or.contains(&b), "{b}");
+            }
+            assert!(rt; need.text.second.is_none());
+        }
+        Err(_) => assert!(rt; false),
+    }
+    Ok(())
+}
+
+#[test]
+fn in_utf_a_character_past_ascii_begins_past_it(rt: HostRuntime) -> Result<(), Fail> {
+    use Step::*;
+    // `\u{e9}+`, `(?i)\u{df}`, `a\u{e9}`, `\u{e9}|b`, `(?i)\u{e9}|b`
+    static ROWS: [(&'static [Step], &'static [u8]); 5] = [
+        (&[Chars(233, 1, None)], b""),
+        (&[AnyCase(223)], b""),
+        (&[A, Chars(233, 1, None), Seq(2)], b""),
+        (&[Chars(233, 1, None), B, Group(2)], b"b"),
+        (&[AnyCase(233), B, Group(2)], b"b"),
+    ];
+    for (steps, or) in &ROWS {
+        needs_past_ascii(&rt, rt.alloc(), steps, or)?;
     }
     Ok(())
 }

@@ -5,7 +5,6 @@ use Rattle.std.proofs.Common.{
   ℕ,
   zero,
   suc,
-  ◌+◌,
   ◌-◌,
   ◌<◌,
   ◌≤◌,
@@ -38,7 +37,7 @@ use Rattle.dfa_ends.specs.TwoMatchers.{EndPlace}
 use Rattle.dfa_ends.specs.Answered.{Falls}
 use Rattle.dfa_ends.proofs.AnswerLaw.{falls_falling, from_falling, to_falling}
 use Rattle.dfa_ends.proofs.ListLaw.{list_law}
-use Rattle.dfa_lists.specs.Lists.{Rising}
+use Rattle.dfa_graph.specs.Fragment.{Rising}
 use Rattle.dfa_drive.specs.Answer.{AreWithin}
 use Rattle.dfa_drive.specs.Admitted.{admits, kept_if, admitted_down}
 
@@ -211,13 +210,6 @@ pub last_of_none : (qs : List ℕ) → length qs ≡ 0 → qs ≡ last_of qs
 unfolding last_of
 last_of_none [] l = refl
 last_of_none (q ∷ qs) l = absurd (omega (arith, l))
-
-pub none_in : (qs : List ℕ) → length qs ≡ 0 → qs ≡ []
-none_in [] l = refl
-none_in (q ∷ qs) l = absurd (omega (arith, l))
-
-pub some_in : (qs : List ℕ) → (length qs ≡ 0 → ⊥) → qs ≡ [] → ⊥
-some_in qs f e = f (ap length e)
 
 -- What is kept is among the ends.
 

@@ -1,3 +1,4 @@
+pub mod Deciding
 pub mod Downward
 pub mod Scenes
 pub mod Ending

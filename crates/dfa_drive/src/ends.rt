@@ -1,16 +1,17 @@
 //! The ends at one place that the options admit.
-ghost use Rattle.std.specs.Prelude.{◌≡◌, ◌≤◌, ◌++◌, [], IfOk, length};
+ghost use Rattle.std.specs.Prelude.{◌≡◌, ◌≤◌, ◌++◌, [], IfOk, cond, length};
 ghost use Rattle.pat_tree.specs.Parts.{tree_of};
 ghost use Rattle.match_items.specs.Subjects.{IsTextPlace};
 ghost use Rattle.match_items.specs.Views.{bare_text};
-ghost use Rattle.frame_machine.specs.Ready.{IsReadySearch, setting_for};
+ghost use Rattle.frame_board.specs.Ready.{IsReadySearch, setting_for};
 ghost use Rattle.match_drive.specs.Asked.{passed_over};
-ghost use Rattle.dfa_lists.specs.Fragment.{IsGraphOf};
-ghost use Rattle.dfa_ends.specs.DfaAnswer.{last_of, ends_from};
+ghost use Rattle.dfa_graph.specs.Fragment.{IsGraphOf};
+ghost use Rattle.dfa_ends.specs.Ends.{spot};
+ghost use Rattle.dfa_ends.specs.DfaAnswer.{last_of, ends_from, reach_test};
 ghost use Rattle.dfa_drive.specs.Answer.{AreWithin};
 ghost use Rattle.dfa_drive.specs.Admitted.{admits, kept_if, admitted_down};
 
-use dfa_lists::{EndList, Graph, Lists, graph_ends};
+use dfa_lists::{EndList, EndSet, Graph, Lists, ends};
 use frame_machine::Ready;
 use match_items::View;
 use pat_tree::{ListOf, Memory, Steps};
@@ -74,8 +75,20 @@ fn shortest_of(alloc: Global, falling: EndList) -> Result<EndList, Memory>
     Ok(only)
 }
 
-/// The ends from a place, the longest first, or the shortest alone under DFA_SHORTEST (pcre2api,
-/// "Option bits for pcre2_dfa_match()").
+/// Falling ends, or under DFA_SHORTEST the shortest alone (pcre2api, "Option bits for
+/// pcre2_dfa_match()").
+fn asked_of(alloc: Global, falling: EndList, shortest: bool) -> Result<EndList, Memory>
+    ensures { IfOk result (λ ends. ends ≡ cond shortest (last_of falling) falling) }
+{
+    if shortest {
+        shortest_of(alloc, falling)
+    } else {
+        Ok(falling)
+    }
+}
+
+/// The ends from a place, the longest first, or the shortest alone under DFA_SHORTEST, and whether a
+/// test on the way from the place reaches the subject's end.
 pub(crate) fn ends_at<L: Ledger>(
     alloc: Global,
     ready: &Ready<'_>,
@@ -84,20 +97,22 @@ pub(crate) fn ends_at<L: Ledger>(
     place: usize,
     lists: &mut Lists,
     steps: &mut Steps<L>,
-) -> Result<EndList, Memory>
+) -> Result<EndSet, Memory>
     requires ready { IsReadySearch ready.now view.now }
     requires graph { IsGraphOf (length ready.now.classes.now) graph.now (tree_of ready.now.tree.now) }
     requires place { IsTextPlace view.now.options.now view.now.subject.now place }
-    ensures ends { IfOk result (λ ends. ends ≡ ends_from
+    ensures ends { IfOk result (λ set. set.ends ≡ ends_from
         (setting_for ready.now.tree.now view.now passed_over) view.now.matching.now.dfa_shortest
         place) }
-    ensures within { IfOk result (AreWithin place (length view.now.subject.now)) }
+    ensures hit { let g = setting_for ready.now.tree.now view.now passed_over in
+        IfOk result (λ set. set.hit_end ≡ reach_test g g.whole (spot place place)) }
+    ensures within { IfOk result (λ set.
+        AreWithin place (length view.now.subject.now) set.ends) }
 {
-    let rising = graph_ends(alloc, graph, ready.classes, view, place, lists, steps)?;
-    let falling = admitted_ends(alloc, view, place as u64, &rising)?;
-    if view.matching.dfa_shortest {
-        shortest_of(alloc, falling)
-    } else {
-        Ok(falling)
-    }
+    let found = ends(alloc, graph, ready.classes, view, place, lists, steps)?;
+    let falling = admitted_ends(alloc, view, place as u64, &found.ends)?;
+    Ok(EndSet {
+        ends: asked_of(alloc, falling, view.matching.dfa_shortest)?,
+        hit_end: found.hit_end,
+    })
 }

@@ -36,20 +36,26 @@ use Rattle.std.proofs.lemmas.List.{length-replicate}
 use Rattle.match_items.specs.Scene.{Scene}
 use Rattle.match_items.specs.Items.{holds}
 use Rattle.dfa_ends.specs.Ends.{Among}
-use Rattle.dfa_lists.specs.declared.graph.Node.{Node}
-use Rattle.dfa_lists.specs.declared.graph.Node.TheVariants.{
+use Rattle.dfa_graph.specs.declared.graph.Node.{Node}
+use Rattle.dfa_graph.specs.declared.graph.Node.TheVariants.{
   One,
   Break,
   Anchor,
   Split,
   Goto,
+  Look,
+  Atomic,
   Dead,
   Match,
 }
-use Rattle.dfa_lists.specs.Graph.{
+use Rattle.dfa_lists.specs.declared.lists.Seed.{Seed}
+use Rattle.dfa_graph.specs.Graph.{
   takes,
   is_match,
   moves,
+  Inner,
+  Follows,
+  Leaps,
   Comes,
   here,
   on,
@@ -59,22 +65,18 @@ use Rattle.dfa_lists.specs.Graph.{
   count_if,
   takers,
 }
-use Rattle.dfa_lists.specs.Lists.{IsTaking, IsMatching, IsClosed, kept}
-use Rattle.dfa_lists.proofs.Places.{
-  among_first,
-  among_second,
-  among_append,
-  among_one,
-  among_last,
-  among_push,
-  kept_old,
-  kept_new,
-  kept_cases,
-  or_left,
-  or_right,
-  or_cases,
-  get_of,
+use Rattle.dfa_lists.specs.Lists.{
+  IsTaking,
+  IsMatching,
+  IsClosed,
+  IsVisited,
+  Leaping,
+  Waits,
+  kept,
 }
+use Rattle.dfa_lists.proofs.Landing.{waits_first, waits_second, waits_append}
+use Rattle.dfa_graph.proofs.Places.{among_first, among_second, among_append, among_one, among_last, among_push, or_left, or_right, or_cases}
+use Rattle.dfa_lists.proofs.Kept.{kept_old, kept_new, kept_cases}
 
 unfoldable pub Marked : List Bool → ℕ → Type 0
 Marked marks q = slice_index_or marks q false ≡ true
@@ -95,23 +97,28 @@ abbrev pub Seen : List Bool → List ℕ → ℕ → Type 0
 Seen marks seeds q = Marked marks q ⊎ Among q seeds
 
 -- what the state q does is not lost
-pub record IsCovered (g : Scene) (i : ℕ) (marks : List Bool) (seeds leaves : List ℕ) (hit : Bool)
+pub record IsCovered (g : Scene) (B : Inner) (i : ℕ) (marks : List Bool) (seeds leaves : List ℕ)
+    (leaps : List Seed) (hit : Bool)
     (q : ℕ) (n : Node) : Type 0 where
-  pub moves_on : (a : ℕ) → Among a (moves g n i) → Seen marks seeds a
+  pub moves_on : (a : ℕ) → Follows g B n i a → Seen marks seeds a
+  pub leaps_on : (a j : ℕ) → Leaps B n i j a → i < j → Waits a j leaps
   pub is_kept : takes n ≡ true → Among q leaves
   pub is_told : is_match n ≡ true → hit ≡ true
 
-pub record Going (g : Scene) (nodes : List Node) (i : ℕ) (start seeds : List ℕ)
-    (marks : List Bool) (leaves : List ℕ) (hit : Bool) : Type 0 where
+pub record Going (g : Scene) (nodes : List Node) (B : Inner) (i : ℕ) (start seeds : List ℕ)
+    (marks : List Bool) (leaves : List ℕ) (old later : List Seed) (hit : Bool) : Type 0 where
+  pub leaps : List Seed
+  pub later_is : later ≡ old ++ leaps
   pub size : length marks ≡ length nodes
   pub few : length leaves + unmarked_takers nodes marks ≤ takers nodes
   pub seeds_in : AllBelow (length nodes) seeds
   pub met : (q : ℕ) → Among q start → Seen marks seeds q
   pub covered : (q : ℕ) (n : Node) → Marked marks q → slice_get nodes q ≡ Some n →
-      IsCovered g i marks seeds leaves hit q n
-  pub seeds_come : (q : ℕ) → Among q seeds → Comes g nodes i start q
-  pub leaves_come : (q : ℕ) → Among q leaves → Comes g nodes i start q × IsTaking nodes q
-  pub hit_comes : hit ≡ true → (q : ℕ) × Comes g nodes i start q × IsMatching nodes q
+      IsCovered g B i marks seeds leaves leaps hit q n
+  pub seeds_come : (q : ℕ) → Among q seeds → Comes g nodes B i start q
+  pub leaves_come : (q : ℕ) → Among q leaves → Comes g nodes B i start q × IsTaking nodes q
+  pub leaps_come : (a j : ℕ) → Waits a j leaps → Leaping g nodes B i start a j
+  pub hit_comes : hit ≡ true → (q : ℕ) × Comes g nodes B i start q × IsMatching nodes q
 
 marked_set : (ms : List Bool) (q p : ℕ) → Marked ms p → Marked (slice_set ms q true) p
 unfolding Marked
@@ -127,7 +134,7 @@ marked_new [] q l = absurd (omega (arith, l))
 marked_new (m ∷ ms) zero l = refl
 marked_new (m ∷ ms) (suc q) l = marked_new ms q (omega (arith, l))
 
-marked_old : (ms : List Bool) (q p : ℕ) → Marked (slice_set ms q true) p → Marked ms p ⊎ (p ≡ q)
+pub marked_old : (ms : List Bool) (q p : ℕ) → Marked (slice_set ms q true) p → Marked ms p ⊎ (p ≡ q)
 unfolding Marked
 marked_old [] q p h = inl h
 marked_old (m ∷ ms) zero zero h = inr refl
@@ -156,7 +163,7 @@ count_swap true false w = refl
 count_swap false true w = refl
 count_swap false false w = refl
 
-node_same : (m n : Node) → ◌≡◌ {A = Option Node} (Some m) (Some n) → m ≡ n
+pub node_same : (m n : Node) → ◌≡◌ {A = Option Node} (Some m) (Some n) → m ≡ n
 node_same m n e = cc
 
 takers_less : (ns : List Node) (ms : List Bool) (q : ℕ) (n : Node) → slice_get ns q ≡ Some n →
@@ -201,33 +208,42 @@ moves_if true p states a l h =
     let e = among_one a p h in subst (λ k. k < states) (sym e) l
 moves_if false p states a l h = absurd h
 
-moves_in : (g : Scene) (i states classes : ℕ) (n : Node) (a : ℕ) → IsNodeIn states classes n →
-    Among a (moves g n i) → a < states
+follows_in : (g : Scene) (B : Inner) (i states classes : ℕ) (n : Node) (a : ℕ) →
+    IsNodeIn states classes n → Follows g B n i a → a < states
 unfolding Among
-moves_in g i states classes (One item next) a ok h = absurd h
-moves_in g i states classes (Break next) a ok h = absurd h
-moves_in g i states classes (Anchor kind next) a ok h =
+follows_in g B i states classes (One item next) a ok h = absurd h
+follows_in g B i states classes (Break next) a ok h = absurd h
+follows_in g B i states classes (Anchor kind next) a ok h =
     moves_if (holds g kind i) next states a ok h
-moves_in g i states classes (Split first second) a ok h =
+follows_in g B i states classes (Split first second) a ok h =
     elim h [
       | inl e ↦ subst (λ k. k < states) (sym e) ok.0
       | inr r ↦ let e = among_one a second r in subst (λ k. k < states) (sym e) ok.1
     ]
-moves_in g i states classes (Goto next) a ok h =
+follows_in g B i states classes (Goto next) a ok h =
     let e = among_one a next h in subst (λ k. k < states) (sym e) ok
-moves_in g i states classes Dead a ok h = absurd h
-moves_in g i states classes Match a ok h = absurd h
+follows_in g B i states classes (Look back entry hit miss) a ok h =
+    elim h [
+      | inl y ↦ subst (λ k. k < states) (sym y.1) ok.1
+      | inr y ↦ subst (λ k. k < states) (sym y.1) ok.2
+    ]
+follows_in g B i states classes (Atomic entry next) a ok h =
+    subst (λ k. k < states) (sym h.1) ok.1
+follows_in g B i states classes Dead a ok h = absurd h
+follows_in g B i states classes Match a ok h = absurd h
 
 len_if : (b : Bool) (p : ℕ) → length {A = ℕ} (elim b [ true ↦ p ∷ [] | false ↦ [] ]) ≤ 2
 len_if true p = omega arith
 len_if false p = omega arith
 
-two_moves : (g : Scene) (i : ℕ) (n : Node) → length (moves g n i) ≤ 2
+pub two_moves : (g : Scene) (i : ℕ) (n : Node) → length (moves g n i) ≤ 2
 two_moves g i (One item next) = omega arith
 two_moves g i (Break next) = omega arith
 two_moves g i (Anchor kind next) = len_if (holds g kind i) next
 two_moves g i (Split first second) = omega arith
 two_moves g i (Goto next) = omega arith
+two_moves g i (Look back entry hit miss) = omega arith
+two_moves g i (Atomic entry next) = omega arith
 two_moves g i Dead = omega arith
 two_moves g i Match = omega arith
 
@@ -242,8 +258,12 @@ pub read_mark : (marks : List Bool) (q : ℕ) (r b : Bool) → q < length marks 
     r ≡ slice_index_or marks q r → r ≡ b → slice_index_or marks q false ≡ b
 read_mark marks q r b l e f = index_any marks q false r l ∙ sym e ∙ f
 
-module _ (g : Scene) (nodes : List Node) (i : ℕ) (start rest : List ℕ) (marks : List Bool)
-    (leaves : List ℕ)
+more_assoc : (xs ys zs : List Seed) → (xs ++ ys) ++ zs ≡ xs ++ (ys ++ zs)
+more_assoc [] ys zs = refl
+more_assoc (x ∷ xs) ys zs = ap (λ ts. x ∷ ts) (more_assoc xs ys zs)
+
+module _ (g : Scene) (nodes : List Node) (B : Inner) (i : ℕ) (start rest : List ℕ)
+    (marks : List Bool) (leaves : List ℕ) (old later : List Seed)
     (hit : Bool) (q : ℕ) where
   -- it stays seen where its seed goes, once it is marked
   seen_popped : (marks' : List Bool) (seeds' : List ℕ) →
@@ -259,7 +279,7 @@ module _ (g : Scene) (nodes : List Node) (i : ℕ) (start rest : List ℕ) (mark
         ]
       ]
 
-  module _ (h : Going g nodes i start (rest ++ q ∷ []) marks leaves hit) where
+  module _ (h : Going g nodes B i start (rest ++ q ∷ []) marks leaves old later hit) where
     pub top_in : q < length nodes
     top_in = h.seeds_in q (among_last rest q)
 
@@ -267,9 +287,11 @@ module _ (g : Scene) (nodes : List Node) (i : ℕ) (start rest : List ℕ) (mark
     top_marks = let l = top_in in omega (arith, h.size, l)
 
     pub pop_marked : slice_index_or marks q false ≡ true →
-        Going g nodes i start rest marks leaves hit
+        Going g nodes B i start rest marks leaves old later hit
     unfolding Marked
     pop_marked m = record {
+      leaps = h.leaps;
+      later_is = h.later_is;
       size = h.size;
       few = h.few;
       seeds_in = λ p j. h.seeds_in p (among_first rest _ p j);
@@ -278,73 +300,86 @@ module _ (g : Scene) (nodes : List Node) (i : ℕ) (start rest : List ℕ) (mark
           let c = h.covered p n j e in
           record {
             moves_on = λ a k. seen_popped marks rest (λ r k. k) m (λ r k. k) a (c.moves_on a k);
+            leaps_on = c.leaps_on;
             is_kept = c.is_kept;
             is_told = c.is_told;
           });
       seeds_come = λ p j. h.seeds_come p (among_first rest _ p j);
       leaves_come = h.leaves_come;
+      leaps_come = h.leaps_come;
       hit_comes = h.hit_comes;
     }
 
-    module _ (n : Node) (e : slice_get nodes q ≡ Some n) where
-      top_comes : Comes g nodes i start q
+    module _ (n : Node) (e : slice_get nodes q ≡ Some n) (seeds' : List ℕ) (later' : List Seed)
+        (v : IsVisited g B n i rest seeds' later later') where
+      top_comes : Comes g nodes B i start q
       top_comes = h.seeds_come q (among_last rest q)
 
+      -- what is covered after it
+      Covered : ℕ → Node → Type 0
+      Covered p k =
+          IsCovered g B i (slice_set marks q true) (rest ++ v.more) (kept (takes n) q leaves)
+          (h.leaps ++ v.leaps) (hit || is_match n) p k
+
+      old_covered : (p : ℕ) (k : Node) →
+          IsCovered g B i marks (rest ++ q ∷ []) leaves h.leaps hit p k → Covered p k
+      unfolding Covered
+      old_covered p k c = record {
+        moves_on = λ a j. seen_popped _ _ (marked_set marks q) (marked_new marks q top_marks)
+            (among_first rest v.more) a (c.moves_on a j);
+        leaps_on = λ a j y l. waits_first a j h.leaps v.leaps (c.leaps_on a j y l);
+        is_kept = λ t. kept_old (takes n) q leaves p (c.is_kept t);
+        is_told = λ t. or_left hit (is_match n) (c.is_told t);
+      }
+
+      top_covered : Covered q n
+      unfolding Covered
+      top_covered = record {
+        moves_on = λ a j. inr (among_second rest v.more a (v.all_follow a j));
+        leaps_on = λ a j y l. waits_second a j h.leaps v.leaps (v.all_leap a j y l);
+        is_kept = λ t. kept_new (takes n) q leaves t;
+        is_told = λ t. or_right hit (is_match n) t;
+      }
+
       new_covered : (p : ℕ) (k : Node) → Marked (slice_set marks q true) p →
-          slice_get nodes p ≡ Some k →
-          IsCovered g i (slice_set marks q true) (rest ++ moves g n i) (kept (takes n) q leaves)
-          (hit || is_match n) p k
+          slice_get nodes p ≡ Some k → Covered p k
       new_covered p k m f =
           elim (marked_old marks q p m) [
             | inl a ↦ old_covered p k (h.covered p k a f)
             | inr b ↦
                 let same = node_same n k (sym e ∙ ap (slice_get nodes) (sym b) ∙ f) in
-                subst (λ r. IsCovered g i (slice_set marks q true) (rest ++ moves g n i)
-                (kept (takes n) q leaves) (hit || is_match n) r k) (sym b)
-                (subst (λ k. IsCovered g i (slice_set marks q true) (rest ++ moves g n i)
-                (kept (takes n) q leaves) (hit || is_match n) q k) same top_covered)
+                subst (λ r. Covered r k) (sym b) (subst (λ k. Covered q k) same top_covered)
           ]
-        where
-          old_covered : (p : ℕ) (k : Node) → IsCovered g i marks (rest ++ q ∷ []) leaves hit p k →
-              IsCovered g i (slice_set marks q true) (rest ++ moves g n i) (kept (takes n) q leaves)
-              (hit || is_match n) p k
-          old_covered p k c = record {
-            moves_on = λ a j. seen_popped _ _ (marked_set marks q) (marked_new marks q top_marks)
-                (among_first rest (moves g n i)) a (c.moves_on a j);
-            is_kept = λ t. kept_old (takes n) q leaves p (c.is_kept t);
-            is_told = λ t. or_left hit (is_match n) (c.is_told t);
-          }
-
-          top_covered : IsCovered g i (slice_set marks q true) (rest ++ moves g n i)
-              (kept (takes n) q leaves) (hit || is_match n) q n
-          top_covered = record {
-            moves_on = λ a j. inr (among_second rest (moves g n i) a j);
-            is_kept = λ t. kept_new (takes n) q leaves t;
-            is_told = λ t. or_right hit (is_match n) t;
-          }
 
       pub pop_new : (classes : ℕ) → IsGraph classes nodes → slice_index_or marks q false ≡ false →
-          Going g nodes i start (rest ++ moves g n i) (slice_set marks q true)
-          (kept (takes n) q leaves)
-          (hit || is_match n)
+          Going g nodes B i start (rest ++ v.more) (slice_set marks q true)
+          (kept (takes n) q leaves) old later' (hit || is_match n)
+      unfolding Covered
       pop_new classes ok un = record {
+        leaps = h.leaps ++ v.leaps;
+        later_is = v.later_are ∙ ap (λ ts. ts ++ v.leaps) h.later_is
+            ∙ more_assoc old h.leaps v.leaps;
         size = length-set marks q true ∙ h.size;
         few = few_kept (takes n) q leaves _ _ _ h.few (takers_less nodes marks q n e top_marks un);
-        seeds_in = λ p j. (elim (among_append rest (moves g n i) p j) [
+        seeds_in = λ p j. (elim (among_append rest v.more p j) [
           | inl a ↦ h.seeds_in p (among_first rest _ p a)
-          | inr b ↦ moves_in g i (length nodes) classes n p (ok q n e) b
+          | inr b ↦ follows_in g B i (length nodes) classes n p (ok q n e) (v.each_follows p b)
         ]);
         met = λ p j. seen_popped _ _ (marked_set marks q) (marked_new marks q top_marks)
-            (among_first rest (moves g n i)) p (h.met p j);
+            (among_first rest v.more) p (h.met p j);
         covered = new_covered;
-        seeds_come = λ p j. (elim (among_append rest (moves g n i) p j) [
+        seeds_come = λ p j. (elim (among_append rest v.more p j) [
           | inl a ↦ h.seeds_come p (among_first rest _ p a)
-          | inr b ↦ on q p n top_comes e b
+          | inr b ↦ on q p n top_comes e (v.each_follows p b)
         ]);
         leaves_come = λ p j. (elim (kept_cases (takes n) q leaves p j) [
           | inl a ↦ h.leaves_come p a
-          | inr b ↦ subst (λ r. Comes g nodes i start r × IsTaking nodes r) (sym b.0)
+          | inr b ↦ subst (λ r. Comes g nodes B i start r × IsTaking nodes r) (sym b.0)
               (top_comes, (n, e, b.1))
+        ]);
+        leaps_come = λ a j w. (elim (waits_append a j h.leaps v.leaps w) [
+          | inl b ↦ h.leaps_come a j b
+          | inr b ↦ let y = v.each_leaps a j b in (q, n, top_comes, e, y.0, y.1)
         ]);
         hit_comes = λ t. (elim (or_cases hit (is_match n) t) [
           | inl a ↦ h.hit_comes a
@@ -352,18 +387,24 @@ module _ (g : Scene) (nodes : List Node) (i : ℕ) (start rest : List ℕ) (mark
         ]);
       }
 
-all_false : (n q : ℕ) → slice_index_or (replicate n false) q false ≡ true → ⊥
+pub all_false : (n q : ℕ) → slice_index_or (replicate n false) q false ≡ true → ⊥
 all_false zero q e = cc
 all_false (suc n) zero e = cc
 all_false (suc n) (suc q) e = all_false n q e
 
+nothing_more : (ts : List Seed) → ts ≡ ts ++ []
+nothing_more [] = refl
+nothing_more (t ∷ ts) = ap (λ us. t ∷ us) (nothing_more ts)
+
 -- the start: nothing is marked
-pub begin : (g : Scene) (nodes : List Node) (i : ℕ) (start : List ℕ) (marks : List Bool)
-    (leaves : List ℕ) →
+pub begin : (g : Scene) (nodes : List Node) (B : Inner) (i : ℕ) (start : List ℕ)
+    (marks : List Bool) (leaves : List ℕ) (later : List Seed) →
     marks ≡ replicate (length nodes) false → AllBelow (length nodes) start → leaves ≡ [] →
-    Going g nodes i start start marks leaves false
-unfolding Among Marked
-begin g nodes i start marks leaves m s l = record {
+    Going g nodes B i start start marks leaves later later false
+unfolding Among Marked Waits
+begin g nodes B i start marks leaves later m s l = record {
+  leaps = [];
+  later_is = nothing_more later;
   size = ap length m ∙ length-replicate (length nodes) false;
   few = (let t = takers_most nodes marks in let z = ap length l in omega (arith, t, z));
   seeds_in = s;
@@ -372,88 +413,100 @@ begin g nodes i start marks leaves m s l = record {
       (all_false (length nodes) q (subst (λ ms. slice_index_or ms q false ≡ true) m j));
   seeds_come = λ q j. here q j;
   leaves_come = λ q j. absurd (subst (Among q) l j);
+  leaps_come = λ a j w. absurd w;
   hit_comes = λ e. cc;
 }
 
 -- When no seed is left, all that comes is marked.
-module _ (g : Scene) (nodes : List Node) (i : ℕ) (start seeds : List ℕ) (marks : List Bool)
-    (leaves : List ℕ)
+module _ (g : Scene) (nodes : List Node) (B : Inner) (i : ℕ) (start seeds : List ℕ)
+    (marks : List Bool) (leaves : List ℕ) (old later : List Seed)
     (hit : Bool) (none : seeds ≡ [])
-    (h : Going g nodes i start seeds marks leaves hit) where
+    (h : Going g nodes B i start seeds marks leaves old later hit) where
   seen_marked : (q : ℕ) → Seen marks seeds q → Marked marks q
   unfolding Among
   seen_marked q s = elim s [ inl a ↦ a | inr b ↦ absurd (subst (Among q) none b) ]
 
-  comes_marked : (q : ℕ) → Comes g nodes i start q → Marked marks q
+  pub comes_marked : (q : ℕ) → Comes g nodes B i start q → Marked marks q
   comes_marked _ (here q j) = seen_marked q (h.met q j)
   comes_marked _ (on q a n c e j) =
       seen_marked a ((h.covered q n (comes_marked q c) e).moves_on a j)
 
-  pub closed : IsClosed g nodes i start leaves hit
-  closed = record {
-    each_comes = h.leaves_come;
-    all_are_kept = λ q c t. (h.covered q t.0 (comes_marked q c) t.1).is_kept t.2;
-    hit_comes = h.hit_comes;
-    comes_hit = λ q c t. (h.covered q t.0 (comes_marked q c) t.1).is_told t.2;
-    few = omega (arith, h.few);
-  }
+  pub closed : (leaps : List Seed) × (later ≡ old ++ leaps)
+      × IsClosed g nodes B i start leaves leaps hit
+  closed = (
+    h.leaps,
+    h.later_is,
+    record {
+      each_comes = h.leaves_come;
+      all_are_kept = λ q c t. (h.covered q t.0 (comes_marked q c) t.1).is_kept t.2;
+      hit_comes = h.hit_comes;
+      comes_hit = λ q c t. (h.covered q t.0 (comes_marked q c) t.1).is_told t.2;
+      each_leaps = h.leaps_come;
+      all_leap = λ a j y. (h.covered y.0 y.1 (comes_marked y.0 y.2) y.3).leaps_on a j y.4 y.5;
+      few = omega (arith, h.few);
+    },
+  )
 
 -- The steps of the loop.
 
-pub at_pop : (g : Scene) (nodes : List Node) (i : ℕ) (start seeds rest : List ℕ)
-    (marks : List Bool) (leaves : List ℕ)
-    (hit : Bool) (q : ℕ) → seeds ≡ rest ++ q ∷ [] → Going g nodes i start seeds marks leaves hit →
-    Going g nodes i start (rest ++ q ∷ []) marks leaves hit
-at_pop g nodes i start seeds rest marks leaves hit q e h =
-    subst (λ xs. Going g nodes i start xs marks leaves hit) e h
+pub at_pop : (g : Scene) (nodes : List Node) (B : Inner) (i : ℕ) (start seeds rest : List ℕ)
+    (marks : List Bool) (leaves : List ℕ) (old later : List Seed)
+    (hit : Bool) (q : ℕ) → seeds ≡ rest ++ q ∷ [] →
+    Going g nodes B i start seeds marks leaves old later hit →
+    Going g nodes B i start (rest ++ q ∷ []) marks leaves old later hit
+at_pop g nodes B i start seeds rest marks leaves old later hit q e h =
+    subst (λ xs. Going g nodes B i start xs marks leaves old later hit) e h
 
-module _ (g : Scene) (nodes : List Node) (i : ℕ) (start seeds rest : List ℕ) (marks : List Bool)
-    (leaves : List ℕ)
+module _ (g : Scene) (nodes : List Node) (B : Inner) (i : ℕ) (start seeds rest : List ℕ)
+    (marks : List Bool) (leaves : List ℕ) (old later : List Seed)
     (hit : Bool) (q : ℕ) (pop : seeds ≡ rest ++ q ∷ [])
-    (h : Going g nodes i start seeds marks leaves hit) where
+    (h : Going g nodes B i start seeds marks leaves old later hit) where
+  top : Going g nodes B i start (rest ++ q ∷ []) marks leaves old later hit
+  top = at_pop g nodes B i start seeds rest marks leaves old later hit q pop h
+
   pub popped_in : q < length nodes
-  popped_in = top_in g nodes i start rest marks leaves hit q
-      (at_pop g nodes i start seeds rest marks leaves hit q pop h)
+  popped_in = top_in g nodes B i start rest marks leaves old later hit q top
 
   pub popped_marks : q < length marks
   popped_marks = let l = popped_in in omega (arith, h.size, l)
 
   pub passed_over : slice_index_or marks q false ≡ true →
-      Going g nodes i start rest marks leaves hit
-  passed_over m =
-      pop_marked g nodes i start rest marks leaves hit q
-      (at_pop g nodes i start seeds rest marks leaves hit q pop h) m
+      Going g nodes B i start rest marks leaves old later hit
+  passed_over m = pop_marked g nodes B i start rest marks leaves old later hit q top m
 
   -- the state is visited
-  pub visited : (d : Node) (classes : ℕ) → IsGraph classes nodes →
+  pub visited : (n : Node) (classes : ℕ) → slice_get nodes q ≡ Some n → IsGraph classes nodes →
       slice_index_or marks q false ≡ false →
-      (seeds' leaves' : List ℕ) (hit' : Bool) →
-      seeds' ≡ rest ++ moves g (slice_index_or nodes q d) i →
-      leaves' ≡ kept (takes (slice_index_or nodes q d)) q leaves →
-      hit' ≡ (hit || is_match (slice_index_or nodes q d)) →
-      Going g nodes i start seeds' (slice_set marks q true) leaves' hit'
-  visited d classes ok un seeds' leaves' hit' es el eh =
-      subst (λ xs. Going g nodes i start xs (slice_set marks q true) leaves' hit') (sym es)
-      (subst (λ xs. Going g nodes i start (rest ++ moves g (slice_index_or nodes q d) i)
-      (slice_set marks q true) xs hit') (sym el)
-      (subst (λ b. Going g nodes i start (rest ++ moves g (slice_index_or nodes q d) i)
-      (slice_set marks q true)
-      (kept (takes (slice_index_or nodes q d)) q leaves) b) (sym eh)
-      (pop_new g nodes i start rest marks leaves hit q
-      (at_pop g nodes i start seeds rest marks leaves hit q pop h) (slice_index_or nodes q d)
-      (get_of nodes q d popped_in) classes ok un)))
+      (marks' : List Bool) (seeds' leaves' : List ℕ) (later' : List Seed) (hit' : Bool) →
+      marks' ≡ slice_set marks q true →
+      IsVisited g B n i rest seeds' later later' →
+      leaves' ≡ kept (takes n) q leaves →
+      hit' ≡ (hit || is_match n) →
+      Going g nodes B i start seeds' marks' leaves' old later' hit'
+  visited n classes e ok un marks' seeds' leaves' later' hit' em v el eh =
+      subst (λ ms. Going g nodes B i start seeds' ms leaves' old later' hit') (sym em)
+      (subst (λ xs. Going g nodes B i start xs (slice_set marks q true) leaves' old later' hit')
+      (sym v.seeds_are)
+      (subst (λ xs. Going g nodes B i start (rest ++ v.more) (slice_set marks q true) xs old later'
+      hit') (sym el)
+      (subst (λ b. Going g nodes B i start (rest ++ v.more) (slice_set marks q true)
+      (kept (takes n) q leaves) old later' b) (sym eh)
+      (pop_new g nodes B i start rest marks leaves old later hit q top n e seeds' later' v classes ok
+      un))))
 
-  pub fewer : (d : Node) (seeds' : List ℕ) → slice_index_or marks q false ≡ false →
-      seeds' ≡ rest ++ moves g (slice_index_or nodes q d) i →
-      3 * unmarked (slice_set marks q true) + length seeds' < 3 * unmarked marks + length seeds
-  fewer d seeds' un e =
-      let s = ap length e in
+  pub fewer : (n : Node) (marks' : List Bool) (seeds' : List ℕ) (later' : List Seed) →
+      slice_index_or marks q false ≡ false → marks' ≡ slice_set marks q true →
+      IsVisited g B n i rest seeds' later later' →
+      3 * unmarked marks' + length seeds' < 3 * unmarked marks + length seeds
+  fewer n marks' seeds' later' un em v =
+      let s = ap length v.seeds_are in
       let p = ap length pop in
-      let n = length-append rest (q ∷ []) in
+      let k = length-append rest (q ∷ []) in
       let f = unmarked_less marks q popped_marks un in
-      let m = length-append rest (moves g (slice_index_or nodes q d) i) in
-      let two = two_moves g i (slice_index_or nodes q d) in
-      omega (arith, s, p, n, f, m, two)
+      let u = ap unmarked em in
+      let m = length-append rest v.more in
+      let two = v.few in
+      omega (arith, s, p, k, f, u, m, two)
 
 pub or_then : (a b c : Bool) → a ≡ true → a ≡ (a || c)
 or_then true b c e = refl

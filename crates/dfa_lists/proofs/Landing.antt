@@ -33,11 +33,11 @@ use Rattle.std.proofs.Common.{
 use Rattle.std.specs.Prelude.{◌==◌, slice_get, slice_index_or}
 use Rattle.match_items.specs.Scene.{Scene}
 use Rattle.dfa_ends.specs.Ends.{Among}
-use Rattle.dfa_lists.specs.declared.graph.Node.{Node}
+use Rattle.dfa_graph.specs.declared.graph.Node.{Node}
 use Rattle.dfa_lists.specs.declared.lists.Seed.{Seed}
-use Rattle.dfa_lists.specs.Graph.{lands, target, AllBelow}
+use Rattle.dfa_graph.specs.Graph.{lands, target, AllBelow}
 use Rattle.dfa_lists.specs.Lists.{waiting_at, elsewhere, Waits, with_landing, node_at, landed}
-use Rattle.dfa_lists.proofs.Places.{read_is, read_same, get_of}
+use Rattle.dfa_graph.proofs.Places.{read_is, read_same, get_of}
 
 -- one leaf more
 landed_suc : (g : Scene) (nodes : List Node) (i : ℕ) (qs : List ℕ) (k d : ℕ) (ss : List Seed) →
@@ -90,10 +90,25 @@ landed_all g nodes i [] (suc k) ss l = refl
 landed_all g nodes i (q ∷ qs) zero ss l = absurd (omega (arith, l))
 landed_all g nodes i (q ∷ qs) (suc k) ss l = landed_all g nodes i qs k ss (omega (arith, l))
 
-waits_first : (q j : ℕ) (ss ts : List Seed) → Waits q j ss → Waits q j (ss ++ ts)
+pub waits_first : (q j : ℕ) (ss ts : List Seed) → Waits q j ss → Waits q j (ss ++ ts)
 unfolding Waits
 waits_first q j [] ts h = absurd h
 waits_first q j (s ∷ ss) ts h = elim h [ inl a ↦ inl a | inr b ↦ inr (waits_first q j ss ts b) ]
+
+pub waits_second : (q j : ℕ) (ss ts : List Seed) → Waits q j ts → Waits q j (ss ++ ts)
+unfolding Waits
+waits_second q j [] ts h = h
+waits_second q j (s ∷ ss) ts h = inr (waits_second q j ss ts h)
+
+pub waits_append : (q j : ℕ) (ss ts : List Seed) → Waits q j (ss ++ ts) →
+    Waits q j ss ⊎ Waits q j ts
+unfolding Waits
+waits_append q j [] ts h = inr h
+waits_append q j (s ∷ ss) ts h =
+    elim h [
+      | inl a ↦ inl (inl a)
+      | inr b ↦ elim (waits_append q j ss ts b) [ inl c ↦ inl (inr c) | inr d ↦ inr d ]
+    ]
 
 waits_last : (q j : ℕ) (ss : List Seed) → Waits q j (ss ++ record { at = j; state = q } ∷ [])
 unfolding Waits

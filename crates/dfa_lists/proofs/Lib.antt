@@ -1,10 +1,5 @@
-pub mod Places
+pub mod Kept
 pub mod Closing
 pub mod Landing
 pub mod Running
-pub mod Fragments
-pub mod Steps
-pub mod Building
-pub mod Costs
-pub mod Takers
-pub mod Having
+pub mod Telling

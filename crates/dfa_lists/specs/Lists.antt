@@ -30,10 +30,15 @@ use Rattle.std.specs.Prelude.{
 }
 use Rattle.match_items.specs.Scene.{Scene}
 use Rattle.dfa_ends.specs.Ends.{Among}
-use Rattle.dfa_lists.specs.declared.graph.Node.{Node}
-use Rattle.dfa_lists.specs.declared.graph.Node.TheVariants.{Dead}
+use Rattle.dfa_graph.specs.declared.graph.Node.{Node}
+use Rattle.dfa_graph.specs.declared.graph.Node.TheVariants.{Look, Dead}
 use Rattle.dfa_lists.specs.declared.lists.Seed.{Seed}
-use Rattle.dfa_lists.specs.Graph.{
+use Rattle.dfa_lists.specs.declared.lists.Branch.{Branch}
+use Rattle.dfa_graph.specs.Graph.{
+  Inner,
+  Follows,
+  Leaps,
+  IsFlat,
   takes,
   is_match,
   lands,
@@ -48,16 +53,6 @@ IsTaking nodes q = (n : Node) × (slice_get nodes q ≡ Some n) × (takes n ≡ 
 
 abbrev pub IsMatching : List Node → ℕ → Type 0
 IsMatching nodes q = (n : Node) × (slice_get nodes q ≡ Some n) × (is_match n ≡ true)
-
--- The leaves are the states that take something among those that follow the start at a place, and
--- `hit` tells whether `Match` is among these.
-pub record IsClosed (g : Scene) (nodes : List Node) (i : ℕ) (start leaves : List ℕ) (hit : Bool) :
-    Type 0 where
-  pub each_comes : (q : ℕ) → Among q leaves → Comes g nodes i start q × IsTaking nodes q
-  pub all_are_kept : (q : ℕ) → Comes g nodes i start q → IsTaking nodes q → Among q leaves
-  pub hit_comes : hit ≡ true → (q : ℕ) × Comes g nodes i start q × IsMatching nodes q
-  pub comes_hit : (q : ℕ) → Comes g nodes i start q → IsMatching nodes q → hit ≡ true
-  pub few : length leaves ≤ takers nodes
 
 -- one more item
 abbrev pub kept : Bool → ℕ → List ℕ → List ℕ
@@ -78,6 +73,58 @@ unfoldable pub Waits : ℕ → ℕ → List Seed → Type 0
 Waits q i [] = ⊥
 Waits q i (s ∷ ss) = ((q ≡ s.state) × (i ≡ s.at)) ⊎ Waits q i ss
 
+-- a state waits where an atomic group, which follows the start at a place, has a later end
+abbrev pub Leaping : Scene → List Node → Inner → ℕ → List ℕ → ℕ → ℕ → Type 0
+Leaping g nodes B i start a j =
+    (q : ℕ) × (n : Node) × Comes g nodes B i start q × (slice_get nodes q ≡ Some n) ×
+    Leaps B n i j a × (i < j)
+
+-- The leaves are the states that take something among those that follow the start at a place, the
+-- leaps what atomic groups among them give later, and `hit` tells whether `Match` is among them.
+pub record IsClosed (g : Scene) (nodes : List Node) (B : Inner) (i : ℕ) (start leaves : List ℕ)
+    (leaps : List Seed) (hit : Bool) : Type 0 where
+  pub each_comes : (q : ℕ) → Among q leaves → Comes g nodes B i start q × IsTaking nodes q
+  pub all_are_kept : (q : ℕ) → Comes g nodes B i start q → IsTaking nodes q → Among q leaves
+  pub hit_comes : hit ≡ true → (q : ℕ) × Comes g nodes B i start q × IsMatching nodes q
+  pub comes_hit : (q : ℕ) → Comes g nodes B i start q → IsMatching nodes q → hit ≡ true
+  pub each_leaps : (a j : ℕ) → Waits a j leaps → Leaping g nodes B i start a j
+  pub all_leap : (a j : ℕ) → Leaping g nodes B i start a j → Waits a j leaps
+  pub few : length leaves ≤ takers nodes
+
+-- A state is visited: what follows it at the place, and what follows it later.
+pub record IsVisited (g : Scene) (B : Inner) (n : Node) (i : ℕ) (seeds seeds' : List ℕ)
+    (later later' : List Seed) : Type 0 where
+  pub more : List ℕ
+  pub leaps : List Seed
+  pub seeds_are : seeds' ≡ seeds ++ more
+  pub later_are : later' ≡ later ++ leaps
+  pub each_follows : (a : ℕ) → Among a more → Follows g B n i a
+  pub all_follow : (a : ℕ) → Follows g B n i a → Among a more
+  pub each_leaps : (a j : ℕ) → Waits a j leaps → Leaps B n i j a × (i < j)
+  pub all_leap : (a j : ℕ) → Leaps B n i j a → i < j → Waits a j leaps
+  pub few : length more ≤ 2
+
+-- the branch of a lookbehind that a state stands for, if it does
+abbrev pub branch_in : Node → Option Branch
+branch_in (Look (Some back) entry hit miss) =
+    Some (record { back = back; entry = entry; miss = miss })
+branch_in _ = None
+
+-- the way of a lookaround, by whether nested paths have an end
+abbrev pub way_of : Option ℕ → ℕ → ℕ → ℕ
+way_of None hit miss = miss
+way_of (Some j) hit miss = hit
+
+-- the state after an atomic group that has its furthest end here, or later
+abbrev pub gone_here : ℕ → Option ℕ → ℕ → List ℕ
+gone_here i None q = []
+gone_here i (Some j) q = elim (j == i) [ true ↦ q ∷ [] | false ↦ [] ]
+
+abbrev pub gone_later : ℕ → Option ℕ → ℕ → List Seed
+gone_later i None q = []
+gone_later i (Some j) q =
+    elim (j == i) [ true ↦ [] | false ↦ record { at = j; state = q } ∷ [] ]
+
 -- what a leaf takes at a place, if it takes something, waits after it
 abbrev pub with_landing : Option ℕ → ℕ → List Seed → List Seed
 with_landing None q ss = ss
@@ -92,20 +139,16 @@ landed g nodes i [] ss = ss
 landed g nodes i (q ∷ qs) ss =
     landed g nodes i qs (with_landing (lands g (node_at nodes q) i) (target (node_at nodes q)) ss)
 
--- each is below all that follow
-unfoldable pub Rising : List ℕ → Type 0
-Rising [] = Unit {0}
-Rising (x ∷ xs) = ((q : ℕ) → Among q xs → x < q) × Rising xs
-
 -- A place is taken: its leaves take what stands there, and it is kept where the end of a path is met.
-pub record IsTakenAt (g : Scene) (nodes : List Node) (i : ℕ) (start : List ℕ)
+pub record IsTakenAt (g : Scene) (nodes : List Node) (B : Inner) (i : ℕ) (start : List ℕ)
     (others later : List Seed) (found found' : List ℕ) (old tests : ℕ) : Type 0 where
   pub leaves : List ℕ
+  pub leaps : List Seed
   pub hit : Bool
-  pub closed : IsClosed g nodes i start leaves hit
+  pub closed : IsClosed g nodes B i start leaves leaps hit
   pub found_is : found' ≡ kept hit i found
-  pub later_is : later ≡ landed g nodes i leaves others
-  pub few : tests ≤ old + length leaves
+  pub later_is : later ≡ landed g nodes i leaves (others ++ leaps)
+  pub few : IsFlat nodes → tests ≤ old + length leaves
 
 -- a character begins at the place, or the text ends there: in UTF no byte that continues one stands there
 abbrev pub is_stop : Bool → List ℕ → ℕ → Bool

@@ -1,15 +1,18 @@
 //! All ends of a graph at one place, by lists of states, one character at a time (pcre2matching, "The
 //! alternative matching algorithm").
-ghost use Rattle.std.specs.Prelude.{◌≡◌, ℕ, ◌+◌, ◌*◌, ◌<◌, ◌≤◌, ◌++◌, ◌∷◌, List, [], IfOk, length, replicate, false};
+ghost use Rattle.std.specs.Prelude.{◌≡◌, ℕ, suc, ◌+◌, ◌*◌, ◌<◌, ◌≤◌, ◌++◌, ◌∷◌, ◌||◌, List, [], Some, IfOk, length, replicate, true, false};
 ghost use Rattle.match_items.specs.Subjects.{IsText, IsTextPlace};
 ghost use Rattle.match_items.specs.Views.{bare_text, text_scene};
 ghost use Rattle.dfa_ends.specs.Ends.{Among};
-ghost use Rattle.dfa_lists.specs.Graph.{takes, is_match, moves, lands, target, takers, Accepts, AllBelow, IsNodeIn, IsGraph};
-ghost use Rattle.dfa_lists.specs.Lists.{IsClosed, IsTakenAt, kept, waiting_at, elsewhere, landed, Rising, stops_from};
+ghost use Rattle.dfa_graph.specs.Graph.{takes, is_match, nests, moves, lands, target, takers, Deep, AllBelow, IsNodeIn, IsGraph, IsFlat, IsFurthest, IsEndBehind};
+ghost use Rattle.dfa_graph.specs.Meets.{tells, Probes, Asks, Telling, DeepMeets, MeetsBehind, SomeTells, IsTold};
+ghost use Rattle.dfa_graph.specs.Fragment.{Rising};
+ghost use Rattle.dfa_lists.specs.Lists.{IsClosed, IsTakenAt, IsVisited, way_of, gone_here, gone_later, kept, waiting_at, elsewhere, landed, stops_from, branch_in};
 
-use crate::graph::Node;
+use crate::reaching::{break_reaches, item_reaches, looks_back, tell};
 use char_sets::ClassTable;
-use match_items::{Taken, View, places_stand, step, text_anchor, text_break_step};
+use dfa_graph::Node;
+use match_items::{Taken, View, places_stand, step, text_anchor, text_back, text_break_step};
 use pat_tree::{ListOf, Memory, Steps};
 use std::alloc::Global;
 use std::mem::swap;
@@ -18,6 +21,15 @@ use std::sync::ledger::Ledger;
 /// Places, rising.
 pub type EndList = ListOf<u64>;
 
+/// What a search for all ends from one place found.
+#[derive(Debug, Drop)]
+pub struct EndSet {
+    /// The ends, rising.
+    pub ends: EndList,
+    /// Whether some test on the way reached the subject's end, and counts (pcre2partial).
+    pub hit_end: bool,
+}
+
 /// A state that waits at a place.
 #[derive(Clone, Copy, Debug, PartialEq, Eq)]
 pub(crate) struct Seed {
@@ -25,36 +37,346 @@ pub(crate) struct Seed {
     pub(crate) state: u32,
 }
 
+/// The furthest place where nested paths from a state and a place end, if they do.
+#[cycle(ends)]
+fn furthest<L: Ledger>(
+    alloc: Global,
+    nodes: &[Node],
+    depth: u32,
+    entry: u32,
+    counts: bool,
+    classes: &ClassTable,
+    view: &View<'_>,
+    place: usize,
+    told: &mut bool,
+    pool: &mut Lists,
+    steps: &mut Steps<L>,
+) -> Result<Option<usize>, Memory>
+    requires subject { IsText view.now.options.now view.now.subject.now }
+    requires place { IsTextPlace view.now.options.now view.now.subject.now place }
+    requires few { length nodes.now ≤ 1048576 }
+    requires graph { IsGraph (length classes.now) nodes.now }
+    requires entry { entry < length nodes.now }
+    ensures furthest { IfOk result (IsFurthest
+        (Deep (text_scene view.now classes.now) nodes.now depth) entry place) }
+    ensures told { IfOk result (λ _. IsTold (DeepMeets (text_scene view.now classes.now) nodes.now
+        counts depth entry place) told.old told.new) }
+{
+    if depth == 0 {
+        return Ok(None);
+    }
+    let set = ends_of(
+        alloc,
+        nodes,
+        depth - 1,
+        entry,
+        counts,
+        classes,
+        view,
+        place,
+        pool,
+        steps,
+    )?;
+    tell(told, set.hit_end);
+    match set.ends.len() {
+        0 => Ok(None),
+        count => Ok(Some(*set.ends.get(count - 1) as usize)),
+    }
+}
+
+/// An end of nested paths that begin so many characters before a place, if they have one.
+#[cycle(ends)]
+fn end_behind<L: Ledger>(
+    alloc: Global,
+    nodes: &[Node],
+    depth: u32,
+    back: u32,
+    entry: u32,
+    counts: bool,
+    classes: &ClassTable,
+    view: &View<'_>,
+    at: usize,
+    told: &mut bool,
+    pool: &mut Lists,
+    steps: &mut Steps<L>,
+) -> Result<Option<usize>, Memory>
+    requires subject { IsText view.now.options.now view.now.subject.now }
+    requires place { IsTextPlace view.now.options.now view.now.subject.now at }
+    requires few { length nodes.now ≤ 1048576 }
+    requires graph { IsGraph (length classes.now) nodes.now }
+    requires entry { entry < length nodes.now }
+    ensures behind { IfOk result (IsEndBehind (text_scene view.now classes.now)
+        (Deep (text_scene view.now classes.now) nodes.now depth) (Some back) entry at) }
+    ensures told { IfOk result (λ _. IsTold (MeetsBehind (text_scene view.now classes.now)
+        (DeepMeets (text_scene view.now classes.now) nodes.now counts depth) back entry at)
+        told.old told.new) }
+{
+    let Some(place) = text_back(view, at, back) else {
+        return Ok(None);
+    };
+    furthest(
+        alloc, nodes, depth, entry, counts, classes, view, place, told, pool, steps,
+    )
+}
+
+/// A branch of a lookbehind.
+#[derive(Clone, Copy, Debug, PartialEq, Eq)]
+struct Branch {
+    back: u32,
+    entry: u32,
+    miss: u32,
+}
+
+/// The branch of a lookbehind that a state stands for, if it does.
+fn branch_of(node: Node) -> Option<Branch>
+    ensures { result ≡ branch_in node }
+{
+    match node {
+        Node::Look {
+            back: Some(back),
+            entry,
+            miss,
+            ..
+        } => Some(Branch { back, entry, miss }),
+        _ => None,
+    }
+}
+
+/// Tries the branches of a lookbehind from the one on whose state this is, as far as the states of
+/// branches rise: whether one reaches the subject's end.
+#[cycle(ends)]
+fn probe<L: Ledger>(
+    alloc: Global,
+    nodes: &[Node],
+    depth: u32,
+    branch: u32,
+    counts: bool,
+    classes: &ClassTable,
+    view: &View<'_>,
+    at: usize,
+    told: &mut bool,
+    pool: &mut Lists,
+    steps: &mut Steps<L>,
+) -> Result<(), Memory>
+    requires subject { IsText view.now.options.now view.now.subject.now }
+    requires place { IsTextPlace view.now.options.now view.now.subject.now at }
+    requires few { length nodes.now ≤ 1048576 }
+    requires graph { IsGraph (length classes.now) nodes.now }
+    requires branch { branch < length nodes.now }
+    ensures { IfOk result (λ _. IsTold (Probes (text_scene view.now classes.now) nodes.now counts
+        (DeepMeets (text_scene view.now classes.now) nodes.now counts depth) at branch)
+        told.old told.new) }
+{
+    let mut state = branch;
+    'branches: while let Some(tried) = branch_of(nodes[state as usize]) {
+        end_behind(
+            alloc,
+            nodes,
+            depth,
+            tried.back,
+            tried.entry,
+            counts,
+            classes,
+            view,
+            at,
+            told,
+            pool,
+            steps,
+        )?;
+        if tried.miss <= state {
+            return Ok(());
+        }
+        state = tried.miss;
+    }
+    Ok(())
+}
+
+/// An end of the nested paths that a lookaround asks for, if they have one. Where a branch of a
+/// lookbehind has one, the later branches are tried all the same, since each may reach the subject's
+/// end.
+#[cycle(ends)]
+fn ask<L: Ledger>(
+    alloc: Global,
+    nodes: &[Node],
+    depth: u32,
+    back: Option<u32>,
+    entry: u32,
+    miss: u32,
+    counts: bool,
+    classes: &ClassTable,
+    view: &View<'_>,
+    at: usize,
+    told: &mut bool,
+    pool: &mut Lists,
+    steps: &mut Steps<L>,
+) -> Result<Option<usize>, Memory>
+    requires subject { IsText view.now.options.now view.now.subject.now }
+    requires place { IsTextPlace view.now.options.now view.now.subject.now at }
+    requires few { length nodes.now ≤ 1048576 }
+    requires graph { IsGraph (length classes.now) nodes.now }
+    requires entry { entry < length nodes.now }
+    requires miss { miss < length nodes.now }
+    ensures behind { IfOk result (IsEndBehind (text_scene view.now classes.now)
+        (Deep (text_scene view.now classes.now) nodes.now depth) back entry at) }
+    ensures told { IfOk result (λ _. IsTold (Asks (text_scene view.now classes.now) nodes.now counts
+        (Deep (text_scene view.now classes.now) nodes.now depth)
+        (DeepMeets (text_scene view.now classes.now) nodes.now counts depth) back entry miss at)
+        told.old told.new) }
+{
+    let Some(back) = back else {
+        return furthest(
+            alloc, nodes, depth, entry, counts, classes, view, at, told, pool, steps,
+        );
+    };
+    let some = end_behind(
+        alloc, nodes, depth, back, entry, counts, classes, view, at, told, pool, steps,
+    )?;
+    if let Some(_) = some {
+        probe(
+            alloc, nodes, depth, miss, counts, classes, view, at, told, pool, steps,
+        )?;
+    }
+    Ok(some)
+}
+
+/// The way of a lookaround, by whether nested paths have an end.
+fn way(some: Option<usize>, hit: u32, miss: u32) -> u32
+    ensures { result ≡ way_of some hit miss }
+{
+    match some {
+        Some(_) => hit,
+        None => miss,
+    }
+}
+
+/// Goes on with a state where nested paths have their furthest end: here, or later.
+fn go_on(
+    seeds: &mut Vec<u32>,
+    later: &mut Vec<Seed>,
+    at: usize,
+    some: Option<usize>,
+    state: u32,
+) -> Result<(), Memory>
+    ensures seeds { IfOk result (λ _. seeds.new.items ≡ seeds.old.items ++ gone_here at some state) }
+    ensures later { IfOk result (λ _. later.new.items ≡ later.old.items ++ gone_later at some state) }
+{
+    match some {
+        Some(end) if end == at => seeds.push(state)?,
+        Some(end) => later.push(Seed { at: end, state })?,
+        None => {}
+    }
+    Ok(())
+}
+
 /// Follows a state at a place. One that takes something becomes a leaf; else the states that follow
-/// it are seeds. Answers whether it is the end of a path.
-fn visit(
+/// it are seeds, or wait where an atomic group has its furthest end. Answers whether it is the end of
+/// a path.
+#[cycle(ends)]
+fn visit<L: Ledger>(
+    alloc: Global,
+    nodes: &[Node],
+    depth: u32,
+    counts: bool,
+    classes: &ClassTable,
     view: &View<'_>,
     node: Node,
     state: u32,
     at: usize,
-    seeds: &mut Vec<u32>,
-    leaves: &mut Vec<u32>,
+    lists: &mut StateLists,
+    pool: &mut Lists,
+    steps: &mut Steps<L>,
 ) -> Result<bool, Memory>
     requires subject { IsText view.now.options.now view.now.subject.now }
     requires place { IsTextPlace view.now.options.now view.now.subject.now at }
-    ensures seeds { IfOk result (λ hit. seeds.new.items ≡ seeds.old.items
-        ++ moves (bare_text view.now) node at) }
-    ensures leaves { IfOk result (λ hit. leaves.new.items ≡ kept (takes node) state leaves.old.items) }
+    requires few { length nodes.now ≤ 1048576 }
+    requires graph { IsGraph (length classes.now) nodes.now }
+    requires node { IsNodeIn (length nodes.now) (length classes.now) node }
+    ensures visited { IfOk result (λ _. IsVisited (text_scene view.now classes.now)
+        (Deep (text_scene view.now classes.now) nodes.now depth) node at lists.old.seeds.items
+        lists.new.seeds.items lists.old.later.items lists.new.later.items) }
+    ensures leaves { IfOk result (λ _. lists.new.leaves.items
+        ≡ kept (takes node) state lists.old.leaves.items) }
+    ensures marks { IfOk result (λ _. lists.new.marks.items ≡ lists.old.marks.items) }
     ensures hit { IfOk result (λ hit. hit ≡ is_match node) }
+    ensures told { IfOk result (λ _. IsTold (Telling (text_scene view.now classes.now) nodes.now
+        counts (Deep (text_scene view.now classes.now) nodes.now depth)
+        (DeepMeets (text_scene view.now classes.now) nodes.now counts depth) node at)
+        lists.old.told lists.new.told) }
+    ensures tests { IfOk result (λ _. nests node ≡ false → steps.new ≡ steps.old) }
 {
     match node {
-        Node::One { .. } | Node::Break { .. } => leaves.push(state)?,
+        Node::Look {
+            back,
+            entry,
+            hit,
+            miss,
+        } => {
+            let told = &mut lists.told;
+            let some = ask(
+                alloc, nodes, depth, back, entry, miss, counts, classes, view, at, told, pool,
+                steps,
+            )?;
+            lists.seeds.push(way(some, hit, miss))?;
+            Ok(false)
+        }
+        Node::Atomic { entry, next } => {
+            // so nested paths end at a place
+            places_stand();
+            let told = &mut lists.told;
+            let far = furthest(
+                alloc, nodes, depth, entry, counts, classes, view, at, told, pool, steps,
+            )?;
+            go_on(&mut lists.seeds, &mut lists.later, at, far, next)?;
+            Ok(false)
+        }
+        _ => visit_plain(view, counts, node, state, at, lists),
+    }
+}
+
+/// Follows a state that nests nothing.
+fn visit_plain(
+    view: &View<'_>,
+    counts: bool,
+    node: Node,
+    state: u32,
+    at: usize,
+    lists: &mut StateLists,
+) -> Result<bool, Memory>
+    requires subject { IsText view.now.options.now view.now.subject.now }
+    requires place { IsTextPlace view.now.options.now view.now.subject.now at }
+    ensures seeds { IfOk result (λ hit. lists.new.seeds.items ≡ lists.old.seeds.items
+        ++ moves (bare_text view.now) node at) }
+    ensures leaves { IfOk result (λ hit. lists.new.leaves.items
+        ≡ kept (takes node) state lists.old.leaves.items) }
+    ensures later { IfOk result (λ hit. lists.new.later.items ≡ lists.old.later.items) }
+    ensures marks { IfOk result (λ hit. lists.new.marks.items ≡ lists.old.marks.items) }
+    ensures hit { IfOk result (λ hit. hit ≡ is_match node) }
+    ensures told { IfOk result (λ hit. lists.new.told
+        ≡ (lists.old.told || tells (bare_text view.now) counts node at)) }
+{
+    match node {
+        Node::One { item, .. } => {
+            tell(&mut lists.told, item_reaches(view, &item, at) && counts);
+            lists.leaves.push(state)?;
+        }
+        Node::Break { .. } => {
+            tell(&mut lists.told, break_reaches(view, at) && counts);
+            lists.leaves.push(state)?;
+        }
         Node::Anchor { kind, next } => {
-            if text_anchor(view, kind, at).holds {
-                seeds.push(next)?;
+            let held = text_anchor(view, kind, at);
+            let tells = counts || looks_back(kind) && !view.subject.is_empty();
+            tell(&mut lists.told, held.at_end && tells);
+            if held.holds {
+                lists.seeds.push(next)?;
             }
         }
         Node::Split { first, second } => {
-            seeds.push(first)?;
-            seeds.push(second)?;
+            lists.seeds.push(first)?;
+            lists.seeds.push(second)?;
         }
-        Node::Goto { next } => seeds.push(next)?,
-        Node::Dead => {}
+        Node::Goto { next } => lists.seeds.push(next)?,
+        Node::Look { .. } | Node::Atomic { .. } | Node::Dead => {}
         Node::Match => return Ok(true),
     }
     Ok(false)
@@ -62,30 +384,45 @@ fn visit(
 
 /// Follows what takes nothing from the seeds on, at one place. The leaves are the states met that
 /// take something. Answers whether the end of a path was met.
-fn close(
-    view: &View<'_>,
+#[cycle(ends)]
+fn close<L: Ledger>(
+    alloc: Global,
     nodes: &[Node],
+    depth: u32,
+    counts: bool,
+    classes: &ClassTable,
+    view: &View<'_>,
     at: usize,
-    seeds: &mut Vec<u32>,
-    marks: &mut Vec<bool>,
-    leaves: &mut Vec<u32>,
+    lists: &mut StateLists,
+    pool: &mut Lists,
+    steps: &mut Steps<L>,
 ) -> Result<bool, Memory>
     requires subject { IsText view.now.options.now view.now.subject.now }
     requires place { IsTextPlace view.now.options.now view.now.subject.now at }
     requires few { length nodes.now ≤ 1048576 }
-    requires graph { (classes : ℕ) × IsGraph classes nodes.now }
-    requires seeds { AllBelow (length nodes.now) seeds.old.items }
-    requires marks { marks.old.items ≡ replicate (length nodes.now) false }
-    requires leaves { leaves.old.items ≡ [] }
-    ensures { IfOk result (λ hit. IsClosed (bare_text view.now) nodes.now at seeds.old.items
-        leaves.new.items hit) }
+    requires graph { IsGraph (length classes.now) nodes.now }
+    requires seeds { AllBelow (length nodes.now) lists.old.seeds.items }
+    requires marks { lists.old.marks.items ≡ replicate (length nodes.now) false }
+    requires leaves { lists.old.leaves.items ≡ [] }
+    ensures closed { IfOk result (λ hit. (leaps : List Seed)
+        × (lists.new.later.items ≡ lists.old.later.items ++ leaps)
+        × IsClosed (text_scene view.now classes.now) nodes.now
+        (Deep (text_scene view.now classes.now) nodes.now depth) at lists.old.seeds.items
+        lists.new.leaves.items leaps hit) }
+    ensures told { IfOk result (λ _. IsTold (SomeTells (text_scene view.now classes.now) nodes.now
+        counts (Deep (text_scene view.now classes.now) nodes.now depth)
+        (DeepMeets (text_scene view.now classes.now) nodes.now counts depth) at
+        lists.old.seeds.items) lists.old.told lists.new.told) }
+    ensures tests { IfOk result (λ _. IsFlat nodes.now → steps.new ≡ steps.old) }
 {
     let mut hit = false;
-    'seeds: while let Some(state) = seeds.pop() {
+    'seeds: while let Some(state) = lists.seeds.pop() {
         let q = state as usize;
-        if !marks[q] {
-            marks[q] = true;
-            let is_end = visit(view, nodes[q], state, at, seeds, leaves)?;
+        if !lists.marks[q] {
+            lists.marks[q] = true;
+            let is_end = visit(
+                alloc, nodes, depth, counts, classes, view, nodes[q], state, at, lists, pool, steps,
+            )?;
             hit = hit || is_end;
         }
     }
@@ -195,11 +532,9 @@ fn note(found: &mut EndList, at: usize, hit: bool) -> Result<(), Memory>
     Ok(())
 }
 
-/// The lists of states of searches for all ends. They are kept from one search to the next, which so
-/// takes no memory anew; what a search left in them doesn't count (pcre2api, "Matching a pattern: the
-/// alternative function", on the workspace).
+/// The lists of states of one search from one place.
 #[derive(Debug, Drop)]
-pub struct Lists {
+pub(crate) struct StateLists {
     /// The states that wait, each at its place.
     pending: Vec<Seed>,
     /// Those that wait past the present place.
@@ -210,18 +545,53 @@ pub struct Lists {
     marks: Vec<bool>,
     /// Those among them that take something.
     leaves: Vec<u32>,
+    /// Whether some test reached the subject's end so far, and counts.
+    told: bool,
+}
+
+impl StateLists {
+    /// Lists that hold nothing, and take no memory yet.
+    fn new(alloc: Global) -> StateLists {
+        StateLists {
+            pending: Vec::new(alloc),
+            later: Vec::new(alloc),
+            seeds: Vec::new(alloc),
+            marks: Vec::new(alloc),
+            leaves: Vec::new(alloc),
+            told: false,
+        }
+    }
+}
+
+/// The lists of states of searches for all ends: those that no search uses now. A search in another,
+/// for an atomic group or a lookaround, has lists of its own. They are kept from one search to the
+/// next, which so takes no memory anew; what a search left in them doesn't count (pcre2api, "Matching
+/// a pattern: the alternative function", on the workspace).
+#[derive(Debug, Drop)]
+pub struct Lists {
+    free: Vec<StateLists>,
 }
 
 impl Lists {
     /// Lists that hold nothing, and take no memory yet.
     pub fn new(alloc: Global) -> Lists {
         Lists {
-            pending: Vec::new(alloc),
-            later: Vec::new(alloc),
-            seeds: Vec::new(alloc),
-            marks: Vec::new(alloc),
-            leaves: Vec::new(alloc),
+            free: Vec::new(alloc),
         }
+    }
+
+    /// Takes lists that no search uses.
+    fn take(&mut self, alloc: Global) -> StateLists {
+        match self.free.pop() {
+            Some(lists) => lists,
+            None => StateLists::new(alloc),
+        }
+    }
+
+    /// Gives lists back.
+    fn give(&mut self, lists: StateLists) -> Result<(), Memory> {
+        self.free.push(lists)?;
+        Ok(())
     }
 }
 
@@ -236,13 +606,18 @@ fn mark_none(marks: &mut Vec<bool>, states: usize) -> Result<(), Memory>
 
 /// Takes the states that wait at a place: what follows them there, what these take, and whether the
 /// end of a path is among them.
+#[cycle(ends)]
 fn take_place<L: Ledger>(
-    view: &View<'_>,
-    classes: &ClassTable,
+    alloc: Global,
     nodes: &[Node],
+    depth: u32,
+    counts: bool,
+    classes: &ClassTable,
+    view: &View<'_>,
     at: usize,
-    lists: &mut Lists,
+    lists: &mut StateLists,
     found: &mut EndList,
+    pool: &mut Lists,
     steps: &mut Steps<L>,
 ) -> Result<(), Memory>
     requires subject { IsText view.now.options.now view.now.subject.now }
@@ -250,19 +625,19 @@ fn take_place<L: Ledger>(
     requires few { length nodes.now ≤ 1048576 }
     requires graph { IsGraph (length classes.now) nodes.now }
     requires seeds { AllBelow (length nodes.now) lists.old.seeds.items }
-    ensures { IfOk result (λ _. IsTakenAt (text_scene view.now classes.now) nodes.now at
+    ensures taken { IfOk result (λ _. IsTakenAt (text_scene view.now classes.now) nodes.now
+        (Deep (text_scene view.now classes.now) nodes.now depth) at
         lists.old.seeds.items lists.old.later.items lists.new.later.items found.old found.new
         steps.old steps.new) }
+    ensures told { IfOk result (λ _. IsTold (SomeTells (text_scene view.now classes.now) nodes.now
+        counts (Deep (text_scene view.now classes.now) nodes.now depth)
+        (DeepMeets (text_scene view.now classes.now) nodes.now counts depth) at
+        lists.old.seeds.items) lists.old.told lists.new.told) }
 {
     mark_none(&mut lists.marks, nodes.len())?;
     lists.leaves.clear();
     let hit = close(
-        view,
-        nodes,
-        at,
-        &mut lists.seeds,
-        &mut lists.marks,
-        &mut lists.leaves,
+        alloc, nodes, depth, counts, classes, view, at, lists, pool, steps,
     )?;
     note(found, at, hit)?;
     advance(
@@ -278,61 +653,82 @@ fn take_place<L: Ledger>(
 }
 
 /// Begins with one state that waits.
-fn begin(lists: &mut Lists, at: usize, state: u32) -> Result<(), Memory>
-    ensures { IfOk result (λ _. lists.new.pending.items ≡ record { at = at; state = state } ∷ []) }
+fn begin(lists: &mut StateLists, at: usize, state: u32) -> Result<(), Memory>
+    ensures pending { IfOk result (λ _. lists.new.pending.items
+        ≡ record { at = at; state = state } ∷ []) }
+    ensures told { IfOk result (λ _. lists.new.told ≡ false) }
 {
+    lists.told = false;
     lists.pending.clear();
     lists.pending.push(Seed { at, state })?;
     Ok(())
 }
 
 /// Parts what waits at a place from what waits elsewhere.
-fn part_lists(lists: &mut Lists, at: usize) -> Result<(), Memory>
+fn part_lists(lists: &mut StateLists, at: usize) -> Result<(), Memory>
     ensures seeds { IfOk result (λ _. lists.new.seeds.items ≡ waiting_at at lists.old.pending.items) }
     ensures later { IfOk result (λ _. lists.new.later.items ≡ elsewhere at lists.old.pending.items) }
+    ensures told { IfOk result (λ _. lists.new.told ≡ lists.old.told) }
 {
     lists.seeds.clear();
     lists.later.clear();
     part(&lists.pending, at, &mut lists.seeds, &mut lists.later)
 }
 
-/// The places where a path from a state and a place can end, rising. Each character from the place
-/// on costs at most one test of each state that takes something, and so does the subject's end.
+/// The places where a path from a state and a place can end, rising; nested paths are so deep at most.
+/// Without these each character from the place on costs at most one test of each state that takes
+/// something, and so does the subject's end.
+#[cycle(ends)]
 pub(crate) fn ends_of<L: Ledger>(
     alloc: Global,
     nodes: &[Node],
+    depth: u32,
     entry: u32,
+    counts: bool,
     classes: &ClassTable,
     view: &View<'_>,
     place: usize,
-    lists: &mut Lists,
+    pool: &mut Lists,
     steps: &mut Steps<L>,
-) -> Result<EndList, Memory>
+) -> Result<EndSet, Memory>
     requires subject { IsText view.now.options.now view.now.subject.now }
     requires place { IsTextPlace view.now.options.now view.now.subject.now place }
     requires few { length nodes.now ≤ 1048576 }
     requires graph { IsGraph (length classes.now) nodes.now }
     requires entry { entry < length nodes.now }
-    ensures sound { IfOk result (λ found. (end : ℕ) → Among end found
-        → Accepts (text_scene view.now classes.now) nodes.now end entry place) }
-    ensures full { IfOk result (λ found. (end : ℕ)
-        → Accepts (text_scene view.now classes.now) nodes.now end entry place → Among end found) }
-    ensures rising { IfOk result (λ found. Rising found) }
-    ensures tests { IfOk result (λ _. steps.new ≤ steps.old
+    ensures sound { IfOk result (λ set. (end : ℕ) → Among end set.ends
+        → Deep (text_scene view.now classes.now) nodes.now (suc depth) entry place end) }
+    ensures full { IfOk result (λ set. (end : ℕ)
+        → Deep (text_scene view.now classes.now) nodes.now (suc depth) entry place end
+        → Among end set.ends) }
+    ensures rising { IfOk result (λ set. Rising set.ends) }
+    ensures hit { IfOk result (λ set. set.hit_end ≡ true
+        → DeepMeets (text_scene view.now classes.now) nodes.now counts (suc depth) entry place) }
+    ensures all_hit { IfOk result (λ set. DeepMeets (text_scene view.now classes.now) nodes.now
+        counts (suc depth) entry place → set.hit_end ≡ true) }
+    ensures tests { IfOk result (λ _. IsFlat nodes.now → steps.new ≤ steps.old
         + takers nodes.now * stops_from view.now.options.now.utf view.now.subject.now place) }
 {
     // so what a state takes ends at a place
     places_stand();
+    let mut lists = pool.take(alloc);
     let mut found: EndList = ListOf::new(alloc);
-    begin(lists, place, entry)?;
+    begin(&mut lists, place, entry)?;
     let mut at = place;
     'places: while !lists.pending.is_empty() {
-        part_lists(lists, at)?;
+        part_lists(&mut lists, at)?;
         if !lists.seeds.is_empty() {
-            take_place(view, classes, nodes, at, lists, &mut found, steps)?;
+            take_place(
+                alloc, nodes, depth, counts, classes, view, at, &mut lists, &mut found, pool, steps,
+            )?;
         }
         swap(&mut lists.pending, &mut lists.later);
         at += 1;
     }
-    Ok(found)
+    let hit_end = lists.told;
+    pool.give(lists)?;
+    Ok(EndSet {
+        ends: found,
+        hit_end,
+    })
 }

@@ -6,10 +6,6 @@ use Rattle.std.proofs.lemmas.List.{reverse-append, reverse-reverse, take_more, d
 use Rattle.pcre_io.specs.MemTree.{is_slash}
 use Rattle.dir_walk.specs.Paths.{after_slashes, before_slash, without_slashes, name_of}
 
--- a slash at the end goes
-pub shorter : (word front : List ℕ) → word ≡ front ++ 47 ∷ [] → without_slashes front ≡ without_slashes word
-shorter word front e = sym (ap without_slashes e ∙ ap (λ l. reverse (after_slashes l)) (reverse-append front (47 ∷ [])))
-
 -- a word without a slash at its end stays
 pub shortest : (word : List ℕ) → ((front : List ℕ) → word ≢ front ++ 47 ∷ []) → word ≡ without_slashes word
 shortest word ends = by_last (reverse word) refl
@@ -56,7 +52,3 @@ module _ (path : List ℕ) (n : ℕ) (some : 0 < n) (within : n ≤ length path)
   one_more other so_far =
       so_far ∙ ap (λ l. l ++ drop n path) (ap name_of cut ∙ name-push (take (n - 1) path) last false (not_slash last other))
       ∙ append_assoc (name_of (take (n - 1) path)) (last ∷ []) (drop n path) ∙ ap (λ l. name_of (take (n - 1) path) ++ l) (sym rest)
-
-  -- a slash stands before the name
-  pub at_slash : is_slash (get_or path (n - 1) 0) ≡ true → name_of path ≡ name_of (take n path) ++ drop n path → drop n path ≡ name_of path
-  at_slash slash so_far = sym (so_far ∙ ap (λ l. l ++ drop n path) (ap name_of cut ∙ name-push (take (n - 1) path) last true slash))

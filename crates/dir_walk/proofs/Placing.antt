@@ -1,12 +1,10 @@
 -- Items at their places in the order.
-use Rattle.std.proofs.Common.{◌≡◌, ℕ, List, [], ◌∷◌, map, flat_map, Less, Equal, Greater, refl, ap, sym, ◌∙◌}
+use Rattle.std.proofs.Common.{◌≡◌, List, [], ◌∷◌, map, Less, Equal, Greater, refl, ap, ◌∙◌}
 use Rattle.std.specs.declared.cmp.Ordering.{Ordering}
 use Rattle.std.specs.Ordering.{match_ordering}
 use Rattle.std.specs.BTreeSet.{insert_key}
-use Rattle.std.proofs.lemmas.List.Sums.{fold-append}
-use Rattle.pcre_io.specs.declared.entries.DirEntry.{DirEntry}
 use Rattle.dir_walk.specs.declared.items.Item.{Item}
-use Rattle.dir_walk.specs.Paths.{ItemParts, item_parts, item_cmp, item_of, with_items}
+use Rattle.dir_walk.specs.Paths.{item_parts, item_cmp}
 
 -- keys that compare as their items do
 module _ (cmp : Item → Item → Ordering) (same : (a b : Item) → cmp a b ≡ item_cmp (item_parts a) (item_parts b)) where
@@ -22,8 +20,3 @@ module _ (cmp : Item → Item → Ordering) (same : (a b : Item) → cmp a b ≡
       by_order later Less = refl
       by_order later Equal = refl
       by_order later Greater = ap (λ l. item_parts x ∷ l) later
-
--- the items of an entry and of others
-pub more_items : (path : List ℕ) (entry : DirEntry) (entries : List DirEntry) (old new : List ItemParts) → new ≡ with_items old (item_of path entry)
-    → with_items new (flat_map (item_of path) entries) ≡ with_items old (flat_map (item_of path) (entry ∷ entries))
-more_items path entry entries old new e = ap (λ l. with_items l (flat_map (item_of path) entries)) e ∙ sym (fold-append (insert_key item_cmp) old (item_of path entry) (flat_map (item_of path) entries))

@@ -1,9 +1,8 @@
 -- The stack of a walk, and what is told of it.
-use Rattle.std.proofs.Common.{◌≡◌, ℕ, zero, suc, ◌+◌, ◌*◌, ◌<◌, ◌≤◌, Bool, true, false, ◌||◌, List, [], ◌∷◌, ◌++◌, length, map, reverse, flat_map, Option, Some, None, IfSome, refl, ap, sym, subst, ◌∙◌, append_assoc, append-nil, arith}
+use Rattle.std.proofs.Common.{◌≡◌, ℕ, zero, suc, ◌+◌, ◌*◌, ◌<◌, ◌≤◌, Bool, true, false, List, [], ◌∷◌, ◌++◌, length, map, reverse, flat_map, Option, Some, None, IfSome, refl, ap, sym, subst, ◌∙◌, append_assoc, append-nil, arith}
 use Rattle.std.proofs.lemmas.List.{reverse-append, reverse-reverse}
 use Rattle.std.proofs.Math.Nat.{mul-lt-mul_of_pos_right, suc-mul}
 use Rattle.std.proofs.lemmas.List.Concat.{flat_map-append}
-use Rattle.std.proofs.lemmas.List.Folds.{list_any-append}
 use Rattle.std.proofs.lemmas.List.Sums.{sum_by-append, sum_by_push}
 use Rattle.pcre_io.specs.Causes.{Rose}
 use Rattle.pcre_io.specs.Files.{Contents, listed_entries, HasEntries}
@@ -13,7 +12,7 @@ use Rattle.dir_walk.specs.declared.lists.Target.TheVariants.{TooDeep}
 use Rattle.dir_walk.specs.Filters.{Filter}
 use Rattle.dir_walk.specs.Paths.{ItemParts, items_in}
 use Rattle.dir_walk.specs.Targets.{allows_directory, item_targets, directory_targets, file_targets, listed_targets, unnamed_targets}
-use Rattle.dir_walk.specs.Walks.{PendingParts, at_levels, pending_targets, stack_targets, stack_weight, weight, has_failed, is_failed, Grows, HasCauses, Steps}
+use Rattle.dir_walk.specs.Walks.{PendingParts, at_levels, pending_targets, stack_targets, stack_weight, weight, has_failed, HasCauses, Steps}
 
 -- faults that were counted before or after
 
@@ -34,13 +33,6 @@ causes_then before between after first mid last l1 l2 one two none some = by_fai
 pub unfailed_causes : (before after : List Target) (first last : ℕ) → has_failed after ≡ has_failed before → HasCauses before after first last
 unfailed_causes before after first last same none some =
     absurd (let no : false ≡ true = sym (same ∙ none) ∙ some in cc)
-
-pub failed_push : (targets : List Target) (target : Target) → is_failed target ≡ false → has_failed (targets ++ target ∷ []) ≡ has_failed targets
-failed_push targets target is = list_any-append is_failed targets (target ∷ []) ∙ rw is (by_any (has_failed targets))
-  where
-    by_any : (b : Bool) → (b || false) ≡ b
-    by_any true = refl
-    by_any false = refl
 
 -- the stack
 
@@ -147,16 +139,9 @@ going_on filter contents contents' wanted told now more stack rest after p heavy
         k ∙ append_assoc now (pending_targets filter set p) (stack_targets filter set rest)
         ∙ ap (λ l. now ++ l) (sym (stack_push filter set rest p) ∙ ap (stack_targets filter set) (sym top)) ∙ h
 
-pub lighter_on : (stack rest after : List PendingParts) (p : PendingParts) → stack ≡ rest ++ p ∷ [] → stack_weight after < stack_weight rest + weight p.levels → stack_weight after < stack_weight stack
-lighter_on stack rest after p top lighter = subst (λ n. stack_weight after < n) (sym (ap stack_weight top ∙ weight_snoc rest p)) lighter
-
 pub going_first : (filter : Filter) (contents : Option Contents) (told : List Target) (stack : List PendingParts) (p : PendingParts) → stack ≡ p ∷ [] → Going filter contents (λ set. pending_targets filter set p) told told stack
 going_first filter None told stack p is = tt
 going_first filter (Some set) told stack p is = ap (λ l. told ++ l) (ap (stack_targets filter set) is ∙ append-nil (pending_targets filter set p))
-
-pub going_ended : (filter : Filter) (contents : Option Contents) (wanted : Contents → List Target) (told now : List Target) (stack : List PendingParts) → stack ≡ [] → Going filter contents wanted told now stack → Grows contents wanted told now
-going_ended filter None wanted told now stack is h = tt
-going_ended filter (Some set) wanted told now stack is h = sym (ap (λ l. now ++ l) (ap (stack_targets filter set) is) ∙ append-nil now) ∙ h
 
 -- targets by other words
 

@@ -6,8 +6,6 @@ mod items;
 mod laws;
 mod lists;
 mod paths;
-#[cfg(test)]
-mod tests;
 mod walk;
 mod words;
 

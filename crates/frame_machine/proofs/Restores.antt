@@ -5,22 +5,22 @@ use Rattle.std.proofs.lemmas.List.{length-set, set-set, set-get_or, drop-set, dr
 use Rattle.std.proofs.lemmas.List.Elements.{All-set, All-get_or}
 use Rattle.frame_store.specs.declared.registers.Span.{Span}
 use Rattle.frame_store.specs.Captures.{Captures, capture, with_capture}
-use Rattle.frame_store.specs.Entry.{Site, Entry, Undo}
+use Rattle.frame_store.specs.Entry.{Entry, Undo}
 use Rattle.frame_store.specs.Undo.{taken_back, undone}
 use Rattle.ordered_search.specs.Stream.{changes, same_span}
-use Rattle.ordered_search.specs.Moves.{Moves, pause}
+use Rattle.ordered_search.specs.Moves.{pause}
 use Rattle.ordered_search.specs.Paths.{pauses}
-use Rattle.frame_machine.specs.Ground.{Ground}
-use Rattle.frame_machine.specs.Frames.{around, outside, fail}
-use Rattle.frame_machine.specs.Validity.{SpanStands, AreSpans, AreSound}
+use Rattle.frame_state.specs.Ground.{Ground}
+use Rattle.frame_state.specs.Frames.{outside, fail, Agrees}
+use Rattle.frame_state.specs.Validity.{SpanStands, AreSpans}
 use Rattle.ordered_search.specs.PlaceAnswer.{Walked, answers, FrameLimit}
-use Rattle.frame_machine.specs.declared.machine.Spot.{Spot}
-use Rattle.frame_machine.specs.declared.machine.Stop.{Stop}
-use Rattle.frame_machine.specs.declared.machine.Stop.TheVariants as stop
-use Rattle.frame_machine.specs.Stops.{IsStop, IsHeldStop, told}
-use Rattle.frame_machine.specs.Machine.{mark_of}
-use Rattle.frame_machine.specs.Calls.{AreRestored, IsReturnStop}
-use Rattle.frame_machine.proofs.Frames.{path_push, outside_push}
+use Rattle.frame_state.specs.declared.machine.Met.{Met}
+use Rattle.frame_state.specs.declared.machine.Spot.{Spot}
+use Rattle.frame_state.specs.declared.machine.Stop.{Stop}
+use Rattle.frame_state.specs.declared.machine.Stop.TheVariants as stop
+use Rattle.frame_state.specs.Stops.{IsStop, IsHeldStop, told}
+use Rattle.frame_state.specs.Calls.{AreRestored, IsReturnStop}
+use Rattle.frame_state.proofs.Frames.{path_push, outside_push, agrees_same, agrees_over, later_push}
 
 -- How many captures change.
 
@@ -63,9 +63,9 @@ changes_other old entry j a b e =
 
 -- Nothing is given back yet.
 
-pub none_restored : (link : ℕ) (old entry : Captures) (n : ℕ) (stack : List Entry) → length old ≤ n → length entry ≤ n → AreRestored link old entry old n stack stack
+pub none_restored : (link node : ℕ) (old entry : Captures) (n : ℕ) (stack : List Entry) → length old ≤ n → length entry ≤ n → AreRestored link node old entry old n stack stack
 unfolding changes
-none_restored link old entry n stack a b =
+none_restored link node old entry n stack a b =
     let o : drop n old ≡ [] = drop_all n old a in
     let e : drop n entry ≡ [] = drop_all n entry b in
     let none : changes (drop n old) (drop n entry) ≡ 0 = ap (λ (xs : Captures). changes xs (drop n entry)) o in
@@ -76,15 +76,17 @@ none_restored link old entry n stack a b =
       counted = omega (arith, none);
       failing = λ c. ap (λ k. pauses k (fail c stack old)) (sym none);
       arounds = λ c l h le low. refl;
-      outsides = λ c l le. refl;
-      sound = λ c steps le a b s. s;
+      outsides = λ c le. agrees_same c node (outside c stack old link);
+      contained = λ h. h;
+      later = λ c h. h;
+      sound = λ c steps le part inside later a b s. s;
       spans = λ c a b. a;
     }
 
 -- The capture at j is given back next.
 
 module _ (link node : ℕ) (old entry caps : Captures) (j i : ℕ) (next : i ≡ j + 1) (within : j < length old) (there : j < length entry) (stack now : List Entry)
-    (r : AreRestored link old entry caps i stack now) where
+    (r : AreRestored link node old entry caps i stack now) where
   abbrev value : Option Span
   value = get_or entry j None
 
@@ -110,7 +112,7 @@ module _ (link node : ℕ) (old entry caps : Captures) (j i : ℕ) (next : i ≡
   set_spans c a b = All-set (SpanStands c) caps j value (All-get_or (SpanStands c) entry j None there b) (r.spans c a b)
 
   -- it is the same
-  pub kept_restored : same_span (get_or old j None) value ≡ true → set_caps ≡ caps → AreRestored link old entry set_caps j stack now
+  pub kept_restored : same_span (get_or old j None) value ≡ true → set_caps ≡ caps → AreRestored link node old entry set_caps j stack now
   kept_restored same is =
       let count : changes (drop j old) (drop j entry) ≡ changes (drop i old) (drop i entry) =
       changes_same old entry j within there same ∙ ap (λ k. changes (drop k old) (drop k entry)) (sym next) in
@@ -121,7 +123,9 @@ module _ (link node : ℕ) (old entry caps : Captures) (j i : ℕ) (next : i ≡
         counted = r.counted ∙ ap (λ k. length stack + k) (sym count);
         failing = λ c. ap (fail c now) is ∙ r.failing c ∙ ap (λ k. pauses k (fail c stack old)) (sym count);
         arounds = r.arounds;
-        outsides = λ c l le. ap (λ (x : Captures). outside c now x l) is ∙ r.outsides c l le;
+        outsides = λ c le. subst (λ (x : Captures). Agrees c node (outside c now x link) (outside c stack old link)) (sym is) (r.outsides c le);
+        contained = r.contained;
+        later = r.later;
         sound = r.sound;
         spans = set_spans;
       }
@@ -135,7 +139,7 @@ module _ (link node : ℕ) (old entry caps : Captures) (j i : ℕ) (next : i ≡
       let at : i - 1 ≡ j = omega (arith, next) in
       ap (λ k. set set_caps k (get_or caps j None)) at ∙ set-set caps j value (get_or caps j None) ∙ set-get_or caps j None
 
-  pub changed_restored : same_span (get_or old j None) value ≡ false → AreRestored link old entry set_caps j stack (undo ∷ now)
+  pub changed_restored : same_span (get_or old j None) value ≡ false → AreRestored link node old entry set_caps j stack (undo ∷ now)
   unfolding fail
   changed_restored other =
       let count : changes (drop j old) (drop j entry) ≡ suc (changes (drop i old) (drop i entry)) =
@@ -148,11 +152,23 @@ module _ (link node : ℕ) (old entry caps : Captures) (j i : ℕ) (next : i ≡
         failing = λ c.
             ap (λ (x : Captures). pause (fail c now x)) back_is ∙ ap pause (r.failing c) ∙ ap (λ k. pauses k (fail c stack old)) (sym count);
         arounds = λ c l h le low. path_push c undo now l h (omega (arith, le, r.counted)) (omega (arith, low, r.counted)) ∙ r.arounds c l h le low;
-        outsides = λ c l le.
-            outside_push c undo now set_caps l (omega (arith, le, r.counted)) ∙ ap (λ (x : Captures). outside c now x l) back_is ∙ r.outsides c l le;
-        sound = λ c steps le a b s. (
-          (omega (arith, next), omega (arith, within, next), subst (SpanStands c) (sym here_is) (All-get_or (SpanStands c) old j None within a), omega (arith, le, r.counted)),
-          r.sound c steps le a b s,
+        outsides = λ c le.
+            agrees_over c node (outside c (undo ∷ now) set_caps link) (outside c now caps link) (outside c stack old link)
+            (subst (λ (x : Captures). Agrees c node (outside c (undo ∷ now) set_caps link) (outside c now x link)) back_is (outside_push c undo now set_caps link (omega (arith, le, r.counted)) refl))
+            (r.outsides c le);
+        contained = λ h. (λ le. omega arith, r.contained h);
+        later = λ c h. later_push c link node undo now (omega arith) (r.later c h);
+        sound = λ c steps le part inside later a b s. (
+          (
+            omega (arith, next),
+            omega (arith, within, next),
+            subst (SpanStands c) (sym here_is) (All-get_or (SpanStands c) old j None within a),
+            omega (arith, le, r.counted),
+            part,
+            r.contained inside,
+            r.later c later,
+          ),
+          r.sound c steps le part inside later a b s,
         );
         spans = set_spans;
       }
@@ -181,7 +197,7 @@ spans_same (Some x) (Some y) e =
 
 -- group i is given back, those past it are already
 module _ (link node : ℕ) (old entry caps : Captures) (i : ℕ) (some : 0 < i) (same : length old ≡ length entry) (within : i ≤ length entry) (stack now : List Entry)
-    (r : AreRestored link old entry caps i stack now) where
+    (r : AreRestored link node old entry caps i stack now) where
   abbrev before : Option Span
   before = capture caps i
 
@@ -204,16 +220,16 @@ module _ (link node : ℕ) (old entry caps : Captures) (i : ℕ) (some : 0 < i) 
   in_entry = omega (arith, some, within)
 
   pub step_restored : (new : Captures) (later : List Entry) → new ≡ with_capture caps i after → (same_span before after ≡ true → later ≡ now) →
-      (same_span before after ≡ false → later ≡ Undo (record { node = node; link = link }) i before ∷ now) → AreRestored link old entry new (i - 1) stack later
+      (same_span before after ≡ false → later ≡ Undo (record { node = node; link = link }) i before ∷ now) → AreRestored link node old entry new (i - 1) stack later
   step_restored new later set kept pushed =
-      subst (λ (x : Captures). AreRestored link old entry x (i - 1) stack later) (sym set)
+      subst (λ (x : Captures). AreRestored link node old entry x (i - 1) stack later) (sym set)
       (elim (cases_Bool (same_span before after)) [
         | inl e ↦
             let is : with_capture caps i after ≡ caps = ap (with_capture caps i) (sym (spans_same before after e)) ∙ set-get_or caps (i - 1) None in
-            subst (λ (st : List Entry). AreRestored link old entry (with_capture caps i after) (i - 1) stack st) (sym (kept e))
+            subst (λ (st : List Entry). AreRestored link node old entry (with_capture caps i after) (i - 1) stack st) (sym (kept e))
             (kept_restored link node old entry caps (i - 1) i next_is in_old in_entry stack now r (as_old true e) is)
         | inr e ↦
-            subst (λ (st : List Entry). AreRestored link old entry (with_capture caps i after) (i - 1) stack st) (sym (pushed e))
+            subst (λ (st : List Entry). AreRestored link node old entry (with_capture caps i after) (i - 1) stack st) (sym (pushed e))
             (changed_restored link node old entry caps (i - 1) i next_is in_old in_entry stack now r (as_old false e))
       ])
 
@@ -251,7 +267,9 @@ module _ (link node : ℕ) (old entry caps : Captures) (i : ℕ) (some : 0 < i) 
     stop_restored stop.NoMatch e h = absurd h
     stop_restored (stop.Verb a) e h = absurd h
     stop_restored stop.MatchLimit e h = absurd h
+    stop_restored stop.Partial e h = absurd h
     stop_restored stop.Loop e h = absurd h
+    stop_restored (stop.Abort n) e h = absurd h
     stop_restored stop.FrameLimit e h =
         let fewer = changes_drop (i - 1) old entry in
         omega (arith, h, fewer, next_other e, ap (λ (x : Spot). x.units) held)
@@ -285,15 +303,17 @@ none_held old entry n first a =
 
 -- a call isn't left
 module _ (limit units : ℕ) (spot old : Spot) (caps : Captures) (w : Walked) (kept : spot.last ≡ old.last) where
-  pub return_stop : (s : Stop) → IsReturnStop s limit units → (limit < units → w ≡ answers FrameLimit) → IsStop s spot caps (told (mark_of old.last) w)
+  pub return_stop : (s : Stop) → IsReturnStop s limit units → (limit < units → w ≡ answers FrameLimit) → IsStop s spot caps (told old.last w)
   return_stop stop.Match h k = absurd h
   return_stop stop.NoMatch h k = absurd h
   return_stop (stop.Verb a) h k = absurd h
   return_stop stop.MatchLimit h k = absurd h
+  return_stop stop.Partial h k = absurd h
   return_stop stop.Loop h k = absurd h
-  return_stop stop.FrameLimit h k = ap (told (mark_of old.last)) (k h) ∙ ap (λ l. told (mark_of l) (answers FrameLimit)) (sym kept)
+  return_stop (stop.Abort n) h k = absurd h
+  return_stop stop.FrameLimit h k = ap (told old.last) (k h) ∙ ap (λ (l : Met). told l (answers FrameLimit)) (sym kept)
   return_stop stop.Memory h k = tt
 
 -- all are given back
-pub all_restored : (link : ℕ) (old entry caps : Captures) (stack now : List Entry) → AreRestored link old entry caps 0 stack now → caps ≡ entry
-all_restored link old entry caps stack now r = r.done
+pub all_restored : (link node : ℕ) (old entry caps : Captures) (stack now : List Entry) → AreRestored link node old entry caps 0 stack now → caps ≡ entry
+all_restored link node old entry caps stack now r = r.done

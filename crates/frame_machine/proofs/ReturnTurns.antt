@@ -1,14 +1,14 @@
 -- The steps of the machine where a called group ends, and where its call is left.
-use Rattle.std.proofs.Common.{◌≡◌, ℕ, suc, ◌+◌, ◌-◌, ◌<◌, ◌≤◌, ◌∙◌, true, false, Bool, List, [], ◌∷◌, reverse, Some, None, length, All, slice_get, refl, sym, ap, subst, arith}
+use Rattle.std.proofs.Common.{◌≡◌, ℕ, suc, ◌+◌, ◌-◌, ◌<◌, ◌≤◌, ◌∙◌, true, false, List, ◌∷◌, reverse, Some, None, length, All, slice_get, refl, sym, ap, subst, arith}
 use Rattle.std.proofs.lemmas.Bool.{le-leb, lt-leb}
 use Rattle.std.proofs.lemmas.List.{length-set, set-set, set-get_or}
-use Rattle.std.proofs.lemmas.List.Elements.{All-set}
+use Rattle.std.proofs.lemmas.List.Elements.{All-nil, All-set}
 use Rattle.pat_tree.specs.Nested as tree
 use Rattle.pat_tree.specs.Nested.{Nested, Row}
 use Rattle.frame_store.specs.declared.records.Record.{Record}
 use Rattle.frame_store.specs.declared.kinds.TheConstants.{KIND_CALLED_GROUP, KIND_CALL_OPEN}
 use Rattle.frame_store.specs.Captures.{Captures, capture, with_capture}
-use Rattle.frame_store.specs.Entry.{Entry, Undo, CalledGroup, CallOpen, entry_of, entries, site_of, kept_of}
+use Rattle.frame_store.specs.Entry.{Entry, Undo, CalledGroup, CallOpen, entries, site_of, kept_of}
 use Rattle.frame_store.specs.Stack as stack_of
 use Rattle.frame_store.specs.Undo.{taken_back, undone, HasSlot}
 use Rattle.frame_store.proofs.EntryLemmas.{entry_of-called_group, entry_of-call_open}
@@ -18,19 +18,19 @@ use Rattle.ordered_search.specs.Setting.{Setting}
 use Rattle.ordered_search.specs.PlaceAnswer.{answers, FrameLimit}
 use Rattle.ordered_search.specs.Moves.{Moves, stops, pause, Follow, holding, tread}
 use Rattle.ordered_search.specs.Paths.{returned, pauses}
-use Rattle.frame_machine.specs.declared.machine.Next.TheVariants.{End}
-use Rattle.frame_machine.specs.declared.machine.Spot.{Spot}
-use Rattle.frame_machine.specs.Ground.{Ground, tree_of, next_of, IsGround, IsPart}
-use Rattle.frame_machine.specs.Machine.{Around, Outside, state_at, kept_at, conf, towards}
-use Rattle.frame_machine.specs.Frames.{past, close_from, around, around_at, frame_end, cont, outside, fail, spot_state, ahead, focus}
-use Rattle.frame_machine.specs.Validity.{IsCapture, IsStanding, SpanStands, AreSpans, AreSound, IsValid, Advances}
-use Rattle.frame_machine.specs.Stops.{IsNumber}
-use Rattle.frame_machine.specs.Calls.{AreRestored}
-use Rattle.frame_machine.proofs.Frames.{around_push, focus_kept, focus_towards, running_towards, Framed, framed}
-use Rattle.frame_machine.proofs.Drops.{dropped, past_slots}
-use Rattle.frame_machine.proofs.Advance.{holding_room, holding_full, advance_pause, over_units}
-use Rattle.frame_machine.proofs.Turns.{stands_capture}
-use Rattle.frame_machine.proofs.LookTurns.{denied_height}
+use Rattle.frame_state.specs.declared.machine.Next.TheVariants.{End}
+use Rattle.frame_state.specs.declared.machine.Spot.{Spot}
+use Rattle.frame_state.specs.Ground.{Ground, tree_of, next_of, BeginsBy, IsGround, IsPart}
+use Rattle.frame_state.specs.Machine.{Around, Outside, state_at, kept_at, conf, towards}
+use Rattle.frame_state.specs.Frames.{past, close_from, around, around_at, cont, outside, fail, spot_state, ahead, focus}
+use Rattle.frame_state.specs.Validity.{IsLater, IsCapture, SpanStands, AreSpans, AreSound, IsValid, Advances}
+use Rattle.frame_state.specs.Stops.{IsNumber}
+use Rattle.frame_state.specs.Calls.{AreRestored}
+use Rattle.frame_state.proofs.Frames.{around_push, focus_kept, focus_towards, focus_agrees, running_towards, begun_towards, contained_push, within_frame, Framed, framed}
+use Rattle.frame_state.proofs.Drops.{dropped, past_slots}
+use Rattle.frame_state.proofs.Advance.{holding_room, holding_full, advance_pause, over_units}
+use Rattle.frame_state.proofs.Turns.{stands_capture}
+use Rattle.frame_parts.proofs.LookTurns.{denied_height}
 
 numbered : (m : ℕ) (x : Nested) → IsNumber x m → (ts : Row) × (tree.group (Some m) ts ≡ x)
 numbered m (tree.group (Some n) ts) e = (ts, ap (λ k. tree.group (Some k) ts) (sym e))
@@ -67,7 +67,7 @@ module _ (c : Ground) (ok : IsGround c) (spot : Spot) (records : List Record) (c
     group = CalledGroup (site_of p) (kept_of p)
 
     group_frame : Framed c spot.left (length caps) stack caps (suc h) group
-    group_frame = framed c spot.left (length caps) records caps h p group (entry_of-called_group p kind) v.records at
+    group_frame = framed c spot.left (length caps) records caps h p group (entry_of-called_group p kind) v.records (within_frame c _ _ _ at_height v.running.contained) at
 
     pub called_sound : IsPart c p.node × IsCapture c (tree_of c p.node)
     called_sound = (group_frame.sound.0, group_frame.sound.2)
@@ -103,7 +103,7 @@ module _ (c : Ground) (ok : IsGround c) (spot : Spot) (records : List Record) (c
           let back : taken_back r new ≡ caps = set-set caps (m - 1) _ (capture caps m) ∙ set-get_or caps (m - 1) None in
           advance_pause c _ _ _
           (closing ∙ ap pause (holding_room c.setting _ _ room))
-          (focus_kept c r stack new End p.link spot.passed (kept_at to) new (fail c (r ∷ stack) new) g.link w.marked
+          (focus_kept c r stack new End p.link spot.passed (kept_at to) new (fail c (r ∷ stack) new) g.link w.marked refl (All-nil (BeginsBy c p.node))
           ∙ ap (λ (x : Captures). (outside c stack x p.link).follow reached (state_at outer (kept_at to) new) (pause (fail c stack x))) back)
           refl
           (record {
@@ -114,8 +114,9 @@ module _ (c : Ground) (ok : IsGround c) (spot : Spot) (records : List Record) (c
               few = omega (arith, room);
               here = w.here;
               marked = omega (arith, w.marked);
+              contained = contained_push c p.link r stack refl g.outer;
             };
-            records = ((some, omega (arith, few, len, v.slots), stands_capture c ok caps (m - 1) v.spans, g.link), subst (λ n. AreSound c spot.left n stack) (sym len) v.records);
+            records = ((some, omega (arith, few, len, v.slots), stands_capture c ok caps (m - 1) v.spans, g.link, g.sound.0, g.outer, g.later p.node (omega arith)), subst (λ n. AreSound c spot.left n stack) (sym len) v.records);
             spans = All-set (SpanStands c) caps (m - 1) _ (g.sound.1.here, w.here) v.spans;
             slots = len ∙ v.slots;
           })
@@ -126,10 +127,13 @@ module _ (c : Ground) (ok : IsGround c) (spot : Spot) (records : List Record) (c
     call = CallOpen (site_of p) (kept_of p) p.slot p.from
 
     call_frame : Framed c spot.left (length caps) stack caps (suc h) call
-    call_frame = framed c spot.left (length caps) records caps h p call (entry_of-call_open p kind) v.records at
+    call_frame = framed c spot.left (length caps) records caps h p call (entry_of-call_open p kind) v.records (within_frame c _ _ _ at_height v.running.contained) at
 
     pub call_inside : IsPart c p.node
     call_inside = call_frame.sound.0
+
+    call_later : IsLater c p.link p.node stack
+    call_later = call_frame.later p.node (omega arith)
 
     -- the captures at its begin
     module _ (entry : Captures) (is : entry ≡ undone (stack_of.past h stack) caps) where
@@ -159,7 +163,7 @@ module _ (c : Ground) (ok : IsGround c) (spot : Spot) (records : List Record) (c
       entry_spans : AreSpans c entry
       entry_spans = subst (AreSpans c) (sym is) (dropped c ok spot stack caps h v.records v.spans v.slots).spans
 
-      pub turn_left : (now : List Entry) → AreRestored p.link caps entry entry 0 stack now → spot.units + count ≤ c.setting.matching.frame_limit →
+      pub turn_left : (now : List Entry) → AreRestored p.link p.node caps entry entry 0 stack now → spot.units + count ≤ c.setting.matching.frame_limit →
           Advances c (conf End spot stack caps) (conf (towards (next_of c p.node)) (record spot { frame = p.link; units = spot.units + count }) now entry)
       turn_left now r room =
           let w = v.running in
@@ -167,29 +171,30 @@ module _ (c : Ground) (ok : IsGround c) (spot : Spot) (records : List Record) (c
           advance_pause c _ _ _
           (leaving ∙ ap pause (holding_some c.setting count left_state _ room))
           (ap (λ (a : Around). focus c (towards (next_of c p.node)) a.depth (outside c now entry p.link) (state_at a (kept_at to) entry) (fail c now entry)) (r.arounds c p.link spot.passed call_frame.link w.marked)
-          ∙ ap (λ (k : Outside). focus c (towards (next_of c p.node)) outer.depth k (state_at outer (kept_at to) entry) (fail c now entry)) (r.outsides c p.link call_frame.link)
+          ∙ focus_agrees c p.node outer.depth (outside c now entry p.link) K (r.outsides c call_frame.link) (state_at outer (kept_at to) entry) (fail c now entry) (towards (next_of c p.node)) (begun_towards c ok p.node call_inside)
           ∙ ap (focus c (towards (next_of c p.node)) outer.depth K (state_at outer (kept_at to) entry)) (r.failing c)
           ∙ focus_towards c ok p.node call_inside outer.depth K (state_at outer (kept_at to) entry) (pauses count (fail c stack caps)))
           refl
           (record {
-            running = running_towards c ok p.node call_inside to now (record {
+            running = running_towards c ok p.node call_inside to now (r.later c call_later) (record {
               inside = omega (arith, call_frame.link, r.counted);
               deep = omega (arith, w.deep, ap (λ (a : Around). a.depth) (ap (around c stack) at_height ∙ call_frame.deep), ap (λ (a : Around). a.depth) (r.arounds c p.link spot.passed call_frame.link w.marked));
               counted = omega (arith, w.counted, r.counted);
               few = room;
               here = w.here;
               marked = omega (arith, w.marked, r.counted);
+              contained = r.contained call_frame.outer;
             });
-            records = subst (λ n. AreSound c spot.left n now) (sym entry_length) (r.sound c spot.left call_frame.link v.spans entry_spans v.records);
+            records = subst (λ n. AreSound c spot.left n now) (sym entry_length) (r.sound c spot.left call_frame.link call_inside call_frame.outer call_later v.spans entry_spans v.records);
             spans = entry_spans;
             slots = entry_length ∙ v.slots;
           })
 
-      pub turn_given : (now : List Entry) (held : Captures) → AreRestored p.link caps entry held 0 stack now → spot.units + count ≤ c.setting.matching.frame_limit →
+      pub turn_given : (now : List Entry) (held : Captures) → AreRestored p.link p.node caps entry held 0 stack now → spot.units + count ≤ c.setting.matching.frame_limit →
           Advances c (conf End spot stack caps) (conf (towards (next_of c p.node)) (record spot { frame = p.link; units = spot.units + count }) now held)
       turn_given now held r room =
           subst (λ (x : Captures). Advances c (conf End spot stack caps) (conf (towards (next_of c p.node)) (record spot { frame = p.link; units = spot.units + count }) now x)) (sym r.done)
-          (turn_left now (subst (λ (x : Captures). AreRestored p.link caps entry x 0 stack now) r.done r) room)
+          (turn_left now (subst (λ (x : Captures). AreRestored p.link p.node caps entry x 0 stack now) r.done r) room)
 
     pub bank_height : h ≤ length records
     bank_height = denied_height records h p at

@@ -1,6 +1,8 @@
 -- What a contract sees of a workspace.
-use Rattle.std.specs.Prelude.{ℕ, Option}
+use Rattle.std.specs.Prelude.{◌≤◌, ℕ, Option}
 use Rattle.frame_store.specs.Captures.{Captures}
+use Rattle.frame_state.specs.declared.answer.PlaceAnswer.{PlaceAnswer}
+use Rattle.frame_state.specs.declared.answer.PlaceAnswer.TheVariants as told
 
 pub record Workspace : Type 0 where
   -- what each group captured
@@ -12,3 +14,13 @@ pub record Workspace : Type 0 where
   pub peak : ℕ
   -- the number of the last name
   pub last_mark : Option ℕ
+
+-- there is room for so many groups and so many records
+abbrev pub HasRoom : Workspace → ℕ → ℕ → Type 0
+HasRoom w groups frames = (groups ≤ w.groups) × (frames ≤ w.frames)
+
+-- neither want of memory is answered nor a callout's answer
+abbrev pub IsOfSearch : PlaceAnswer → Type 0
+IsOfSearch told.Memory = ⊥
+IsOfSearch (told.Abort n) = ⊥
+IsOfSearch _ = Unit {0}

@@ -1,26 +1,28 @@
 //! Where ACCEPT has ended a frame or the pattern (pcre2pattern, "Verbs that act immediately").
 ghost use Rattle.std.specs.Prelude.{◌≡◌, ◌≤◌, ◌+◌, max, length, IfOk, IfErr, Some, reverse, slice_get, ◌⊎◌};
+ghost use Rattle.frame_store.specs.Stack.{room};
+ghost use Rattle.frame_state.specs.Room.{IsShort, IsSteady};
 ghost use Rattle.frame_store.specs.Entry.{entries};
-ghost use Rattle.frame_machine.specs.Machine.{conf};
-ghost use Rattle.frame_machine.specs.Frames.{ahead};
-ghost use Rattle.frame_machine.specs.Validity.{IsValid, Advances};
-ghost use Rattle.frame_machine.specs.Stops.{IsStop, tells};
+ghost use Rattle.frame_state.specs.Machine.{conf};
+ghost use Rattle.frame_state.specs.Frames.{ahead};
+ghost use Rattle.frame_state.specs.Validity.{IsValid, Advances};
+ghost use Rattle.frame_state.specs.Stops.{IsStop, tells};
 
 use crate::ends::{finish, is_refused_as_empty, is_refused_by_end, number_of, undo_record};
-use crate::framing::leave;
-use crate::machine::{Next, Spot, Stop, hold};
-use crate::searchable::Searchable;
+use frame_state::framing::leave;
+use frame_state::machine::{Next, Spot, Stop, hold};
+use frame_state::searchable::Searchable;
 use frame_store::kinds::{
     KIND_ATOMIC_OPEN, KIND_CALLED_GROUP, KIND_GROUP_OPEN, KIND_TURN_OPEN, KIND_TURN_OR_EXIT,
 };
-use frame_store::{Record, Registers, Span, Store};
+use frame_store::{Record, Span, Store, captured, set_captured};
 
 /// Ends the pattern. Where the outcome is refused for its end alone, its start place has failed.
 fn accept_pattern<S: Searchable>(
     on: &S,
     spot: &Spot,
     store: &Store,
-    registers: &Registers,
+    registers: &[Option<Span>],
 ) -> Result<Next, Stop>
     requires valid { IsValid (S.searched on.now)
         (conf Next.Accept spot.now (entries store.now.records) registers.now) }
@@ -34,6 +36,7 @@ fn accept_pattern<S: Searchable>(
         (tells (S.searched on.now).setting spot.now
         (ahead (S.searched on.now)
         (conf Next.Accept spot.now (entries store.now.records) registers.now)))) }
+    ensures steady { IfErr result IsSteady }
 {
     if is_refused_as_empty(on, spot.keep, spot.place) {
         return Ok(Next::Back);
@@ -51,7 +54,7 @@ fn accept_group<S: Searchable>(
     height: usize,
     spot: &mut Spot,
     store: &mut Store,
-    registers: &mut Registers,
+    registers: &mut [Option<Span>],
 ) -> Result<Next, Stop>
     requires valid { IsValid (S.searched on.now)
         (conf Next.Accept spot.old (entries store.old.records) registers.old) }
@@ -69,14 +72,18 @@ fn accept_group<S: Searchable>(
         (conf Next.Accept spot.old (entries store.old.records) registers.old)))) }
     ensures peak { store.new.peak
         ≤ max store.old.peak (S.searched on.now).setting.matching.frame_limit }
+    ensures no_less { room store.old ≤ room store.new }
+    ensures short { IfErr result (λ stop.
+        IsShort stop (S.searched on.now).setting.matching.frame_limit store.new) }
 {
     let number = number_of(on, frame.node);
-    let old = registers.get(u32::from(number));
+    let old = captured(registers, u32::from(number));
     let undo = undo_record(spot, frame.link, frame.node, number, old);
     if let Err(stop) = hold(on.unit_limit(), undo, spot, store) {
         return Err(stop);
     }
-    registers.set(
+    set_captured(
+        registers,
         u32::from(number),
         Some(Span {
             from: frame.place,
@@ -94,7 +101,7 @@ fn accept_turn<S: Searchable>(
     height: usize,
     spot: &mut Spot,
     store: &Store,
-    registers: &Registers,
+    registers: &[Option<Span>],
 ) -> Result<Next, Stop>
     requires valid { IsValid (S.searched on.now)
         (conf Next.Accept spot.old (entries store.now.records) registers.now) }
@@ -110,6 +117,7 @@ fn accept_turn<S: Searchable>(
         (tells (S.searched on.now).setting spot.old
         (ahead (S.searched on.now)
         (conf Next.Accept spot.old (entries store.now.records) registers.now)))) }
+    ensures steady { IfErr result IsSteady }
 {
     spot.frame = frame.link;
     Ok(Next::Accept)
@@ -122,7 +130,7 @@ fn accept_atomic<S: Searchable>(
     height: usize,
     spot: &mut Spot,
     store: &mut Store,
-    registers: &Registers,
+    registers: &[Option<Span>],
 ) -> Result<Next, Stop>
     requires valid { IsValid (S.searched on.now)
         (conf Next.Accept spot.old (entries store.old.records) registers.now) }
@@ -140,6 +148,9 @@ fn accept_atomic<S: Searchable>(
         (conf Next.Accept spot.old (entries store.old.records) registers.now)))) }
     ensures peak { store.new.peak
         ≤ max store.old.peak (S.searched on.now).setting.matching.frame_limit }
+    ensures no_less { room store.old ≤ room store.new }
+    ensures short { IfErr result (λ stop.
+        IsShort stop (S.searched on.now).setting.matching.frame_limit store.new) }
 {
     if let Err(stop) = leave(on.unit_limit(), frame, height, spot, store) {
         return Err(stop);
@@ -153,11 +164,13 @@ pub(crate) fn accept<S: Searchable>(
     on: &S,
     spot: &mut Spot,
     store: &mut Store,
-    registers: &mut Registers,
-    bank: &mut Registers,
+    registers: &mut [Option<Span>],
+    bank: &mut [Option<Span>],
 ) -> Result<Next, Stop>
     requires valid { IsValid (S.searched on.now)
         (conf Next.Accept spot.old (entries store.old.records) registers.old) }
+    requires bank { length bank.old ≡ (S.searched on.now).setting.groups }
+    ensures bank { length bank.new ≡ length bank.old }
     ensures on { IfOk result
         (λ next. Advances (S.searched on.now)
         (conf Next.Accept spot.old (entries store.old.records) registers.old)
@@ -169,6 +182,9 @@ pub(crate) fn accept<S: Searchable>(
         (conf Next.Accept spot.old (entries store.old.records) registers.old)))) }
     ensures peak { store.new.peak
         ≤ max store.old.peak (S.searched on.now).setting.matching.frame_limit }
+    ensures no_less { room store.old ≤ room store.new }
+    ensures short { IfErr result (λ stop.
+        IsShort stop (S.searched on.now).setting.matching.frame_limit store.new) }
 {
     if spot.frame == 0 {
         return accept_pattern(on, spot, store, registers);

@@ -1,53 +1,45 @@
 //! Back to the newest record.
 ghost use Rattle.std.specs.Prelude.{◌≡◌, ◌≤◌, ◌<◌, ◌+◌, max, All, IfOk, IfErr, MatchOption, Some, true, [], ◌∷◌};
 ghost use Rattle.match_items.specs.Items.{place_before};
+ghost use Rattle.frame_store.specs.Stack.{room};
+ghost use Rattle.frame_state.specs.Room.{IsShort};
 ghost use Rattle.frame_store.specs.Entry.{entries, entry_of};
 ghost use Rattle.frame_store.specs.Undo.{taken_back, HasSlot};
-ghost use Rattle.frame_machine.specs.Ground.{tree_of, IsPart};
-ghost use Rattle.frame_machine.specs.Machine.{conf};
-ghost use Rattle.frame_machine.specs.Frames.{ahead};
-ghost use Rattle.frame_machine.specs.Validity.{IsValid, Advances, IsMany};
-ghost use Rattle.frame_machine.specs.Stops.{IsStop, IsFurther, more_next, tells};
+ghost use Rattle.frame_state.specs.Reach.{IsFurtherTaken, IsFurtherStop};
+ghost use Rattle.frame_state.specs.Ground.{tree_of, IsPart};
+ghost use Rattle.frame_state.specs.Machine.{conf};
+ghost use Rattle.frame_state.specs.Frames.{ahead};
+ghost use Rattle.frame_state.specs.Validity.{IsValid, Advances, IsMany};
+ghost use Rattle.frame_state.specs.Stops.{IsStop, more_next, tells};
 
-use crate::conds::choose;
-use crate::enter::go_on;
-use crate::machine::{Acting, Next, Spot, Stop};
-use crate::searchable::Searchable;
+use frame_parts::conds::choose;
+use frame_state::framing::go_on;
+use frame_state::machine::{Acting, Next, Spot, Stop};
+use frame_state::reach::reach;
+use frame_state::searchable::Searchable;
 use frame_store::kinds::{
     KIND_ATOMIC_LEFT, KIND_COMMIT_PASSED, KIND_DENIAL_OPEN, KIND_DENIAL_TEST, KIND_FEWER_ITEMS,
     KIND_LATER_BRANCH, KIND_LATER_TURN, KIND_LOOK_TEST, KIND_MORE_ITEMS, KIND_PRUNE_PASSED,
-    KIND_SKIP_PASSED, KIND_TURN_OR_EXIT,
+    KIND_SKIP_PASSED, KIND_THEN_PASSED, KIND_TURN_OR_EXIT,
 };
-use frame_store::{Record, Registers, Store};
+use frame_store::{Record, Span, Store};
 use pat_tree::Node;
 
 /// Takes the newest record off, and takes back what it wrote.
-fn pop(store: &mut Store, registers: &mut Registers) -> Option<Record>
+fn pop(store: &mut Store, registers: &mut [Option<Span>]) -> Option<Record>
     requires { All (HasSlot registers.old) (entries store.old.records) }
     ensures popped { MatchOption result (store.old.records ≡ []) (λ r. store.old.records ≡ r ∷ store.new.records) }
     ensures back { MatchOption result (registers.new ≡ registers.old) (λ r. registers.new ≡ taken_back (entry_of r) registers.old) }
     ensures peak { store.new.peak ≡ store.old.peak }
+    ensures room { room store.new ≡ room store.old }
 {
     let newest = match store.top() {
         None => return None,
         Some(newest) => *newest,
     };
     let height = store.len() - 1;
-    store.undo_to(height, registers);
+    store.undo_spans(height, registers);
     Some(newest)
-}
-
-/// What a repeat of one item takes at a place.
-pub(crate) fn take_further<S: Searchable>(on: &S, part: u32, at: u64) -> Option<u64>
-    requires inside { IsPart (S.searched on.now) part }
-    requires many { IsMany (S.searched on.now) (tree_of (S.searched on.now) part) }
-    requires place { (S.searched on.now).stands at ≡ true }
-    ensures { IsFurther (S.searched on.now) (tree_of (S.searched on.now) part) at result }
-{
-    match on.node(part) {
-        Node::OneRepeat { item, .. } => on.take(item, at),
-        _ => unreachable!(),
-    }
 }
 
 /// Where a greedy repeat of one item leads that gives a character back.
@@ -70,17 +62,41 @@ fn more_or_back(kept: &Record, further: Option<u64>) -> Next
     }
 }
 
+/// Goes on after a further item of a lazy repeat, if it takes one.
+fn take_more<S: Searchable>(on: &S, kept: &Record, spot: &mut Spot) -> Result<Next, Stop>
+    requires inside { IsPart (S.searched on.now) kept.now.node }
+    requires many { IsMany (S.searched on.now) (tree_of (S.searched on.now) kept.now.node) }
+    requires place { (S.searched on.now).stands kept.now.to ≡ true }
+    requires count { kept.now.count < 4294967295 }
+    ensures on { IfOk result
+        (λ next. IsFurtherTaken (S.searched on.now) kept.now spot.old next spot.new) }
+    ensures stop { IfErr result (λ stop. IsFurtherStop (S.searched on.now) kept.now
+        spot.old spot.new.last stop) }
+{
+    let Node::OneRepeat { item, .. } = on.node(kept.node) else {
+        unreachable!();
+    };
+    let reached = on.item_reaches(item, kept.to);
+    if let Err(stop) = reach(on, reached, spot.early, &mut spot.last) {
+        return Err(stop);
+    }
+    Ok(more_or_back(kept, on.take(item, kept.to)))
+}
+
 /// Goes back to the newest record.
 pub(crate) fn back<S: Searchable>(
     on: &S,
     spot: &mut Spot,
     store: &mut Store,
-    registers: &mut Registers,
+    registers: &mut [Option<Span>],
 ) -> Result<Next, Stop>
     requires valid { IsValid (S.searched on.now) (conf Next.Back spot.old (entries store.old.records) registers.old) }
     ensures on { IfOk result (λ next. Advances (S.searched on.now) (conf Next.Back spot.old (entries store.old.records) registers.old) (conf next spot.new (entries store.new.records) registers.new)) }
     ensures stop { IfErr result (λ stop. IsStop stop spot.new registers.new (tells (S.searched on.now).setting spot.old (ahead (S.searched on.now) (conf Next.Back spot.old (entries store.old.records) registers.old)))) }
     ensures peak { store.new.peak ≤ max store.old.peak (S.searched on.now).setting.matching.frame_limit }
+    ensures no_less { room store.old ≤ room store.new }
+    ensures short { IfErr result (λ stop.
+        IsShort stop (S.searched on.now).setting.matching.frame_limit store.new) }
 {
     let Some(newest) = pop(store, registers) else {
         return Err(Stop::NoMatch);
@@ -103,10 +119,10 @@ pub(crate) fn back<S: Searchable>(
     }
     if newest.kind == KIND_MORE_ITEMS {
         spot.restore(&newest);
-        return Ok(more_or_back(&newest, take_further(on, newest.node, newest.to)));
+        return take_more(on, &newest, spot);
     }
     if newest.kind == KIND_ATOMIC_LEFT {
-        store.undo_to(newest.from as usize, registers);
+        store.undo_spans(newest.from as usize, registers);
         return Ok(Next::Back);
     }
     if newest.kind == KIND_DENIAL_OPEN {
@@ -135,6 +151,10 @@ pub(crate) fn back<S: Searchable>(
         }
         spot.restore(&newest);
         return Ok(Next::Act(Acting::Skip(newest.to)));
+    }
+    if newest.kind == KIND_THEN_PASSED {
+        spot.restore(&newest);
+        return Ok(Next::Leave(newest.node));
     }
     Ok(Next::Back)
 }

@@ -1,26 +1,28 @@
 //! Where a frame or the pattern ends.
 ghost use Rattle.std.specs.Prelude.{◌≡◌, ◌≤◌, ◌<◌, ◌+◌, max, length, All, IfOk, IfErr, MatchOption, Some, [], ◌∷◌, reverse, slice_get, ◌⊎◌};
+ghost use Rattle.frame_store.specs.Stack.{room};
+ghost use Rattle.frame_state.specs.Room.{IsShort, IsSteady};
 ghost use Rattle.frame_store.specs.Entry.{Undo, entries, entry_of};
-ghost use Rattle.frame_machine.specs.Ground.{tree_of, IsPart};
-ghost use Rattle.frame_machine.specs.Machine.{conf};
-ghost use Rattle.frame_machine.specs.Frames.{ahead};
-ghost use Rattle.frame_machine.specs.Validity.{IsValid, Advances, IsCapture};
-ghost use Rattle.frame_machine.specs.Stops.{IsStop, IsNumber, took_nothing, refused_as_empty, refused_by_end, admitted, tells};
+ghost use Rattle.frame_state.specs.Ground.{tree_of, IsPart};
+ghost use Rattle.frame_state.specs.Machine.{conf};
+ghost use Rattle.frame_state.specs.Frames.{ahead};
+ghost use Rattle.frame_state.specs.Validity.{IsValid, Advances, IsCapture};
+ghost use Rattle.frame_state.specs.Stops.{IsStop, IsNumber, took_nothing, refused_as_empty, refused_by_end, admitted, tells};
 
-use crate::atomic::leave_atomic;
-use crate::conds::leave_test;
-use crate::enter::go_on;
-use crate::looks::{deny, leave_look, pass_look};
-use crate::machine::{Next, Spot, Stop, hold};
-use crate::repeats::turns_of;
 use crate::returns::{close_called, leave_call};
-use crate::searchable::Searchable;
+use frame_parts::atomic::leave_atomic;
+use frame_parts::conds::leave_test;
+use frame_parts::looks::{deny, leave_look, pass_look};
+use frame_parts::repeats::turns_of;
+use frame_state::framing::go_on;
+use frame_state::machine::{Next, Spot, Stop, hold};
+use frame_state::searchable::Searchable;
 use frame_store::kinds::{
     KIND_ATOMIC_OPEN, KIND_CALL_OPEN, KIND_CALLED_GROUP, KIND_DENIAL_OPEN, KIND_DENIAL_TEST,
     KIND_GROUP_OPEN, KIND_LOOK_ALL_OPEN, KIND_LOOK_OPEN, KIND_LOOK_TEST, KIND_TURN_OPEN,
     KIND_TURN_OR_EXIT, KIND_UNDO,
 };
-use frame_store::{Record, Registers, Span, Store};
+use frame_store::{Record, Span, Store, captured, set_captured};
 use pat_tree::Node;
 
 /// Whether an outcome is refused since its text is empty.
@@ -100,7 +102,7 @@ fn close<S: Searchable>(
     height: usize,
     spot: &mut Spot,
     store: &mut Store,
-    registers: &mut Registers,
+    registers: &mut [Option<Span>],
 ) -> Result<Next, Stop>
     requires valid { IsValid (S.searched on.now) (conf Next.End spot.old (entries store.old.records) registers.old) }
     requires frame { spot.old.frame ≡ height + 1 }
@@ -109,14 +111,18 @@ fn close<S: Searchable>(
     ensures on { IfOk result (λ next. Advances (S.searched on.now) (conf Next.End spot.old (entries store.old.records) registers.old) (conf next spot.new (entries store.new.records) registers.new)) }
     ensures stop { IfErr result (λ stop. IsStop stop spot.new registers.new (tells (S.searched on.now).setting spot.old (ahead (S.searched on.now) (conf Next.End spot.old (entries store.old.records) registers.old)))) }
     ensures peak { store.new.peak ≤ max store.old.peak (S.searched on.now).setting.matching.frame_limit }
+    ensures no_less { room store.old ≤ room store.new }
+    ensures short { IfErr result (λ stop.
+        IsShort stop (S.searched on.now).setting.matching.frame_limit store.new) }
 {
     let number = number_of(on, frame.node);
-    let old = registers.get(u32::from(number));
+    let old = captured(registers, u32::from(number));
     let undo = undo_record(spot, frame.link, frame.node, number, old);
     if let Err(stop) = hold(on.unit_limit(), undo, spot, store) {
         return Err(stop);
     }
-    registers.set(
+    set_captured(
+        registers,
         u32::from(number),
         Some(Span {
             from: frame.place,
@@ -134,7 +140,7 @@ fn turned<S: Searchable>(
     height: usize,
     spot: &mut Spot,
     store: &mut Store,
-    registers: &Registers,
+    registers: &[Option<Span>],
 ) -> Result<Next, Stop>
     requires valid { IsValid (S.searched on.now) (conf Next.End spot.old (entries store.old.records) registers.now) }
     requires frame { spot.old.frame ≡ height + 1 }
@@ -143,6 +149,9 @@ fn turned<S: Searchable>(
     ensures on { IfOk result (λ next. Advances (S.searched on.now) (conf Next.End spot.old (entries store.old.records) registers.now) (conf next spot.new (entries store.new.records) registers.now)) }
     ensures stop { IfErr result (λ stop. IsStop stop spot.new registers.now (tells (S.searched on.now).setting spot.old (ahead (S.searched on.now) (conf Next.End spot.old (entries store.old.records) registers.now)))) }
     ensures peak { store.new.peak ≤ max store.old.peak (S.searched on.now).setting.matching.frame_limit }
+    ensures no_less { room store.old ≤ room store.new }
+    ensures short { IfErr result (λ stop.
+        IsShort stop (S.searched on.now).setting.matching.frame_limit store.new) }
 {
     let turns = turns_of(on, frame.node);
     spot.frame = frame.link;
@@ -157,12 +166,13 @@ fn end_pattern<S: Searchable>(
     on: &S,
     spot: &Spot,
     store: &Store,
-    registers: &Registers,
+    registers: &[Option<Span>],
 ) -> Result<Next, Stop>
     requires valid { IsValid (S.searched on.now) (conf Next.End spot.now (entries store.now.records) registers.now) }
     requires whole { spot.now.frame ≡ 0 }
     ensures on { IfOk result (λ next. Advances (S.searched on.now) (conf Next.End spot.now (entries store.now.records) registers.now) (conf next spot.now (entries store.now.records) registers.now)) }
     ensures stop { IfErr result (λ stop. IsStop stop spot.now registers.now (tells (S.searched on.now).setting spot.now (ahead (S.searched on.now) (conf Next.End spot.now (entries store.now.records) registers.now)))) }
+    ensures steady { IfErr result IsSteady }
 {
     if is_admitted(on, spot.keep, spot.place) {
         return Err(Stop::Match);
@@ -175,13 +185,18 @@ pub(crate) fn finish<S: Searchable>(
     on: &S,
     spot: &mut Spot,
     store: &mut Store,
-    registers: &mut Registers,
-    bank: &mut Registers,
+    registers: &mut [Option<Span>],
+    bank: &mut [Option<Span>],
 ) -> Result<Next, Stop>
     requires valid { IsValid (S.searched on.now) (conf Next.End spot.old (entries store.old.records) registers.old) }
+    requires bank { length bank.old ≡ (S.searched on.now).setting.groups }
+    ensures bank { length bank.new ≡ length bank.old }
     ensures on { IfOk result (λ next. Advances (S.searched on.now) (conf Next.End spot.old (entries store.old.records) registers.old) (conf next spot.new (entries store.new.records) registers.new)) }
     ensures stop { IfErr result (λ stop. IsStop stop spot.new registers.new (tells (S.searched on.now).setting spot.old (ahead (S.searched on.now) (conf Next.End spot.old (entries store.old.records) registers.old)))) }
     ensures peak { store.new.peak ≤ max store.old.peak (S.searched on.now).setting.matching.frame_limit }
+    ensures no_less { room store.old ≤ room store.new }
+    ensures short { IfErr result (λ stop.
+        IsShort stop (S.searched on.now).setting.matching.frame_limit store.new) }
 {
     if spot.frame == 0 {
         return end_pattern(on, spot, store, registers);

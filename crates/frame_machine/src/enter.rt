@@ -1,94 +1,44 @@
 //! The parts of a pattern, run one after the other.
-ghost use Rattle.std.specs.Prelude.{◌≡◌, ◌≤◌, true, max, All, IfOk, IfErr};
+ghost use Rattle.std.specs.Prelude.{◌≡◌, ◌≤◌, ◌&&◌, true, max, All, IfOk, IfErr, OnOk};
 ghost use Rattle.pat_tree.specs.declared.nodes.Node.TheVariants as node;
+ghost use Rattle.frame_store.specs.Stack.{room};
+ghost use Rattle.frame_state.specs.Room.{IsQuiet, IsShort};
 ghost use Rattle.frame_store.specs.Captures.{HasGroup};
 ghost use Rattle.frame_store.specs.Entry.{entries};
-ghost use Rattle.frame_machine.specs.Ground.{next_of, IsNode, IsPart};
-ghost use Rattle.frame_machine.specs.Machine.{conf, towards, first_next, first_set};
-ghost use Rattle.frame_machine.specs.Frames.{ahead};
-ghost use Rattle.frame_machine.specs.Validity.{IsValid, Advances, AreSpans, SpanStands};
-ghost use Rattle.match_items.specs.Items.{holds};
-ghost use Rattle.frame_machine.specs.Stops.{IsStop, referred, moved_next, moved_spot, held_next, held_early, part_next, tells};
+ghost use Rattle.pcre_io.specs.declared.callouts.Block.{Block};
+ghost use Rattle.frame_state.specs.Ground.{IsNode, IsPart};
+ghost use Rattle.frame_state.specs.Machine.{conf, first_set};
+ghost use Rattle.frame_state.specs.Frames.{ahead};
+ghost use Rattle.frame_state.specs.Over.{IsStopOver, AdvancesOver};
+ghost use Rattle.frame_state.specs.Shown.{IsReplied};
+ghost use Rattle.frame_state.specs.Validity.{IsValid, Advances, AreSpans, SpanStands};
+ghost use Rattle.match_items.specs.Items.{anchor_reaches, earliest};
+ghost use Rattle.frame_state.specs.Reach.{asks, referred_reaches, IsNoted, IsHardStop, IsTested, IsAnchored};
+ghost use Rattle.frame_state.specs.Stops.{IsStop, referred, part_next, tells};
 
-use crate::atomic::enter_atomic;
-use crate::calls::enter_call;
-use crate::conds::enter_condition;
-use crate::items::many;
-use crate::looks::enter_look;
-use crate::machine::{Next, Spot, Stop, hold};
-use crate::repeats::offer;
-use crate::searchable::Searchable;
-use crate::verbs::enter_verb;
+use frame_parts::atomic::enter_atomic;
+use frame_parts::callouts::{block_of, enter_callout};
+use frame_parts::calls::enter_call;
+use frame_parts::conds::enter_condition;
+use frame_parts::items::enter_many;
+use frame_parts::looks::enter_look;
+use frame_parts::repeats::offer;
+use frame_state::framing::{first_branch, first_set, go_on};
+use frame_state::machine::{Met, Next, Spot, Stop, hold};
+use frame_state::reach::{pass, reach};
+use frame_state::searchable::Searchable;
 use frame_store::kinds::KIND_GROUP_OPEN;
-use frame_store::{Registers, Span, Store};
+use frame_store::{Span, Store};
+use frame_verbs::verbs::enter_verb;
 use pat_tree::{AnchorKind, Kids, Node};
+use pcre_io::Callouts;
 
-/// Where the path goes on after a part.
-pub(crate) fn go_on<S: Searchable>(on: &S, part: u32) -> Next
-    requires { IsPart (S.searched on.now) part }
-    ensures { result ≡ towards (next_of (S.searched on.now) part) }
-{
-    match on.next(part) {
-        None => Next::End,
-        Some(next) => Next::Enter(next),
-    }
-}
-
-/// Where a group begins.
-pub(crate) fn first_branch(part: u32, branches: &Kids) -> Next
-    ensures { result ≡ first_next part branches.now }
-{
-    match branches.as_slice() {
-        [] => Next::Back,
-        [only] => Next::Enter(*only),
-        _ => Next::Branch(part, 0),
-    }
-}
-
-/// Goes on at a place, if there is one.
-fn move_to<S: Searchable>(on: &S, part: u32, to: Option<u64>, spot: &mut Spot) -> Next
-    requires { IsPart (S.searched on.now) part }
-    ensures next { result ≡ moved_next (S.searched on.now) part to }
-    ensures spot { spot.new ≡ moved_spot spot.old to }
-{
-    match to {
-        None => Next::Back,
-        Some(place) => {
-            spot.place = place;
-            go_on(on, part)
-        }
-    }
-}
-
-/// The first set group of the list.
-pub(crate) fn first_set(groups: &[u16], registers: &Registers) -> Option<Span>
-    requires { All (HasGroup registers.now) groups.now }
-    ensures { result ≡ first_set registers.now groups.now }
-{
-    let mut i = 0;
-    'groups: while i < groups.len() {
-        if let Some(span) = registers.get(u32::from(groups[i])) {
-            return Some(span);
-        }
-        i += 1;
-    }
-    None
-}
-
-/// Where a reference to one of these groups leads.
-fn refer<S: Searchable>(
-    on: &S,
-    groups: &[u16],
-    caseless: bool,
-    place: u64,
-    registers: &Registers,
-) -> Option<u64>
-    requires groups { All (HasGroup registers.now) groups.now }
-    requires spans { AreSpans (S.searched on.now) registers.now }
+/// Where a reference leads, whose first set group has captured this.
+fn refer<S: Searchable>(on: &S, captured: Option<Span>, caseless: bool, place: u64) -> Option<u64>
+    requires span { SpanStands (S.searched on.now) captured }
     requires place { (S.searched on.now).stands place ≡ true }
-    ensures { result ≡ referred (S.searched on.now) place (first_set registers.now groups.now) caseless }
+    ensures { result ≡ referred (S.searched on.now) place captured caseless }
 {
-    let captured = first_set(groups, registers);
     match captured {
         Some(span) => on.refer(span.from, span.to, caseless, place),
         None if on.options().match_unset_backref => Some(place),
@@ -96,18 +46,94 @@ fn refer<S: Searchable>(
     }
 }
 
+/// Whether a reference reaches the subject's end, whose first set group has captured this, where
+/// partial matches are looked for.
+fn refer_reaches<S: Searchable>(on: &S, captured: Option<Span>, caseless: bool, place: u64) -> bool
+    requires span { SpanStands (S.searched on.now) captured }
+    requires place { (S.searched on.now).stands place ≡ true }
+    ensures { result ≡ (asks (S.searched on.now).setting
+        && referred_reaches (S.searched on.now) place captured caseless) }
+{
+    match captured {
+        Some(span) => on.ref_reaches(span.from, span.to, caseless, place),
+        None => false,
+    }
+}
+
+/// Runs a reference to one of these groups.
+fn enter_ref<S: Searchable>(
+    on: &S,
+    part: u32,
+    groups: &[u16],
+    caseless: bool,
+    spot: &mut Spot,
+    registers: &[Option<Span>],
+) -> Result<Next, Stop>
+    requires inside { IsPart (S.searched on.now) part }
+    requires groups { All (HasGroup registers.now) groups.now }
+    requires spans { AreSpans (S.searched on.now) registers.now }
+    requires place { (S.searched on.now).stands spot.old.place ≡ true }
+    ensures on { IfOk result (λ next. IsTested (S.searched on.now) part
+        (asks (S.searched on.now).setting && referred_reaches (S.searched on.now)
+        spot.old.place (first_set registers.now groups.now) caseless)
+        (referred (S.searched on.now) spot.old.place (first_set registers.now groups.now) caseless)
+        spot.old next spot.new) }
+    ensures stop { IfErr result (λ stop. IsHardStop (S.searched on.now)
+        (asks (S.searched on.now).setting && referred_reaches (S.searched on.now)
+        spot.old.place (first_set registers.now groups.now) caseless)
+        spot.old.early spot.old.last spot.new.last stop) }
+{
+    let captured = first_set(groups, registers);
+    let reached = refer_reaches(on, captured, caseless, spot.place);
+    let to = refer(on, captured, caseless, spot.place);
+    pass(on, part, reached, to, spot)
+}
+
+/// Notes that a simple assertion reached the subject's end, if it did and that counts.
+fn reach_anchor<S: Searchable>(
+    on: &S,
+    kind: AnchorKind,
+    place: u64,
+    early: u64,
+    met: &mut Met,
+) -> Result<(), Stop>
+    requires { (S.searched on.now).stands place ≡ true }
+    ensures on { OnOk result (IsNoted (S.searched on.now)
+        (asks (S.searched on.now).setting
+        && anchor_reaches (S.searched on.now).setting.scene kind place)
+        (earliest (S.searched on.now).setting.scene kind place early) met.old met.new) }
+    ensures stop { IfErr result (λ stop. IsHardStop (S.searched on.now)
+        (asks (S.searched on.now).setting
+        && anchor_reaches (S.searched on.now).setting.scene kind place)
+        (earliest (S.searched on.now).setting.scene kind place early) met.old met.new stop) }
+{
+    let reached = on.anchor_reaches(kind, place);
+    if !reached {
+        return Ok(());
+    }
+    reach(on, reached, on.earliest(kind, place, early), met)
+}
+
 /// Goes on where a simple assertion holds.
-fn anchor<S: Searchable>(on: &S, part: u32, kind: AnchorKind, spot: &mut Spot) -> Next
+fn anchor<S: Searchable>(on: &S, part: u32, kind: AnchorKind, spot: &mut Spot) -> Result<Next, Stop>
     requires inside { IsPart (S.searched on.now) part }
     requires place { (S.searched on.now).stands spot.old.place ≡ true }
-    ensures next { result ≡ held_next (S.searched on.now) part (holds (S.searched on.now).setting.scene kind spot.old.place) }
-    ensures spot { spot.new ≡ held_early (S.searched on.now) kind spot.old (holds (S.searched on.now).setting.scene kind spot.old.place) }
+    ensures on { IfOk result
+        (λ next. IsAnchored (S.searched on.now) part kind spot.old next spot.new) }
+    ensures stop { IfErr result (λ stop. IsHardStop (S.searched on.now)
+        (asks (S.searched on.now).setting
+        && anchor_reaches (S.searched on.now).setting.scene kind spot.old.place)
+        (earliest (S.searched on.now).setting.scene kind spot.old.place spot.old.early)
+        spot.old.last spot.new.last stop) }
 {
+    if let Err(stop) = reach_anchor(on, kind, spot.place, spot.early, &mut spot.last) {
+        return Err(stop);
+    }
     if !on.holds(kind, spot.place) {
-        return Next::Back;
+        return Ok(Next::Back);
     }
     spot.early = on.earliest(kind, spot.place, spot.early);
-    go_on(on, part)
+    Ok(go_on(on, part))
 }
 
 /// Where a sequence begins.
@@ -129,13 +155,16 @@ fn enter_group<S: Searchable>(
     branches: &Kids,
     spot: &mut Spot,
     store: &mut Store,
-    registers: &Registers,
+    registers: &[Option<Span>],
 ) -> Result<Next, Stop>
     requires valid { IsValid (S.searched on.now) (conf (Next.Enter at) spot.old (entries store.old.records) registers.now) }
     requires node { IsNode (S.searched on.now) at (node.Group number branches.now) }
     ensures on { IfOk result (λ next. Advances (S.searched on.now) (conf (Next.Enter at) spot.old (entries store.old.records) registers.now) (conf next spot.new (entries store.new.records) registers.now)) }
     ensures stop { IfErr result (λ stop. IsStop stop spot.new registers.now (tells (S.searched on.now).setting spot.old (ahead (S.searched on.now) (conf (Next.Enter at) spot.old (entries store.old.records) registers.now)))) }
     ensures peak { store.new.peak ≤ max store.old.peak (S.searched on.now).setting.matching.frame_limit }
+    ensures no_less { room store.old ≤ room store.new }
+    ensures short { IfErr result (λ stop.
+        IsShort stop (S.searched on.now).setting.matching.frame_limit store.new) }
 {
     let Some(_) = number else {
         return Ok(first_branch(at, branches));
@@ -149,17 +178,24 @@ fn enter_group<S: Searchable>(
 }
 
 /// Runs a part.
-pub(crate) fn enter<S: Searchable>(
+pub(crate) fn enter<S: Searchable, C: Callouts>(
     on: &S,
     at: u32,
     spot: &mut Spot,
     store: &mut Store,
-    registers: &Registers,
+    registers: &[Option<Span>],
+    calls: &mut C,
 ) -> Result<Next, Stop>
     requires valid { IsValid (S.searched on.now) (conf (Next.Enter at) spot.old (entries store.old.records) registers.now) }
-    ensures on { IfOk result (λ next. Advances (S.searched on.now) (conf (Next.Enter at) spot.old (entries store.old.records) registers.now) (conf next spot.new (entries store.new.records) registers.now)) }
-    ensures stop { IfErr result (λ stop. IsStop stop spot.new registers.now (tells (S.searched on.now).setting spot.old (ahead (S.searched on.now) (conf (Next.Enter at) spot.old (entries store.old.records) registers.now)))) }
+    requires replied { IsReplied (S.searched on.now).setting (C.answers calls.old) }
+    ensures on { IfOk result (λ next. AdvancesOver (S.searched on.now) (C.seen calls.old) (C.seen calls.new) (conf (Next.Enter at) spot.old (entries store.old.records) registers.now) (conf next spot.new (entries store.new.records) registers.now)) }
+    ensures stop { IfErr result (λ stop. IsStopOver stop spot.new registers.now (C.seen calls.old) (C.seen calls.new) (tells (S.searched on.now).setting spot.old (ahead (S.searched on.now) (conf (Next.Enter at) spot.old (entries store.old.records) registers.now)))) }
+    ensures rule { (block : Block) → C.answers calls.new block ≡ C.answers calls.old block }
     ensures peak { store.new.peak ≤ max store.old.peak (S.searched on.now).setting.matching.frame_limit }
+    ensures no_less { room store.old ≤ room store.new }
+    ensures short { IsQuiet C.refuses (C.answers calls.old)
+        → IfErr result (λ stop.
+        IsShort stop (S.searched on.now).setting.matching.frame_limit store.new) }
 {
     match on.node(at) {
         Node::Empty => Ok(go_on(on, at)),
@@ -167,13 +203,18 @@ pub(crate) fn enter<S: Searchable>(
             spot.keep = spot.place;
             Ok(go_on(on, at))
         }
-        Node::One(item) => Ok(move_to(on, at, on.take(item, spot.place), spot)),
-        Node::Break => Ok(move_to(on, at, on.take_break(spot.place), spot)),
-        Node::Ref { groups, caseless } => {
-            let to = refer(on, groups.as_slice(), *caseless, spot.place, registers);
-            Ok(move_to(on, at, to, spot))
+        Node::One(item) => {
+            let reached = on.item_reaches(item, spot.place);
+            pass(on, at, reached, on.take(item, spot.place), spot)
         }
-        Node::Anchor(kind) => Ok(anchor(on, at, *kind, spot)),
+        Node::Break => {
+            let reached = on.break_reaches(spot.place);
+            pass(on, at, reached, on.take_break(spot.place), spot)
+        }
+        Node::Ref { groups, caseless } => {
+            enter_ref(on, at, groups.as_slice(), *caseless, spot, registers)
+        }
+        Node::Anchor(kind) => anchor(on, at, *kind, spot),
         Node::Seq(kids) => Ok(first_part(on, at, kids)),
         Node::Group { number, branches } => {
             enter_group(on, at, *number, branches, spot, store, registers)
@@ -184,7 +225,7 @@ pub(crate) fn enter<S: Searchable>(
             min,
             max,
             lazy,
-        } => Ok(many(on, at, item, *min, *max, *lazy, spot.place)),
+        } => enter_many(on, at, item, *min, *max, *lazy, spot),
         Node::Atomic(branches) => enter_atomic(on, at, branches, spot, store, registers),
         Node::Look {
             ahead,
@@ -195,10 +236,19 @@ pub(crate) fn enter<S: Searchable>(
             on, at, *ahead, *positive, *atomic, branches, spot, store, registers,
         ),
         Node::Cond { test, yes, no } => {
-            enter_condition(on, at, test, *yes, *no, spot, store, registers)
+            enter_condition(on, at, test, *yes, *no, spot, store, registers, calls)
         }
         Node::Call { group } => enter_call(on, at, *group, spot, store, registers),
         Node::VerbNode(verb) => enter_verb(on, at, *verb, spot, store, registers),
-        _ => unreachable!(),
+        Node::Callout {
+            number,
+            text_from,
+            text_to,
+            item_at,
+            item_len,
+        } => {
+            let block = block_of(*number, *text_from, *text_to, *item_at, *item_len, spot);
+            enter_callout(on, at, &block, calls)
+        }
     }
 }

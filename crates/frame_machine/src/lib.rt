@@ -2,35 +2,16 @@
 #![tactic(auto)]
 
 mod accepts;
-mod answer;
-mod atomic;
 mod back;
-mod behind;
-mod board;
-mod calls;
-mod catches;
-mod conds;
-mod counted;
 mod ends;
 mod enter;
-mod framing;
-mod items;
-mod looks;
-mod machine;
-mod passing;
-mod possessive;
 mod ready;
-mod repeats;
 mod returns;
 mod run;
 mod scratch;
-mod searchable;
-mod skips;
-#[cfg(test)]
-mod tests;
-mod verbs;
 
-pub use answer::{PlaceAnswer, Signal};
-pub use ready::{Ready, run_at};
+pub use frame_board::Ready;
+pub use frame_state::answer::{PlaceAnswer, Signal};
+pub use frame_state::searchable::{Run, Searchable};
+pub use ready::{run_at, run_at_reserved};
 pub use scratch::{Scratch, search_at};
-pub use searchable::{Run, Searchable};

@@ -1,22 +1,24 @@
 //! Calls of groups, as they end: the captures are those of the call's begin again (pcre2pattern, "Recursive patterns").
 ghost use Rattle.std.specs.Prelude.{◌≡◌, ◌≤◌, ◌<◌, ◌+◌, ◌∷◌, max, length, All, true, false, Option, IfOk, IfErr, OnOk, Some, reverse, slice_get};
+ghost use Rattle.frame_store.specs.Stack.{room};
+ghost use Rattle.frame_state.specs.Room.{IsShort};
 ghost use Rattle.frame_store.specs.Captures.{HasGroup, capture, with_capture};
 ghost use Rattle.frame_store.specs.Entry.{Undo, entries};
 ghost use Rattle.frame_store.specs.Stack.{past};
 ghost use Rattle.frame_store.specs.Undo.{HasSlot, undone};
 ghost use Rattle.ordered_search.specs.Stream.{changes, same_span};
-ghost use Rattle.frame_machine.specs.Calls.{AreRestored, IsReturnStop};
-ghost use Rattle.frame_machine.specs.Frames.{ahead};
-ghost use Rattle.frame_machine.specs.Machine.{conf};
-ghost use Rattle.frame_machine.specs.Stops.{IsHeldStop, IsStop, held_spot, tells};
-ghost use Rattle.frame_machine.specs.Validity.{IsValid, Advances};
+ghost use Rattle.frame_state.specs.Calls.{AreRestored, IsReturnStop};
+ghost use Rattle.frame_state.specs.Frames.{ahead};
+ghost use Rattle.frame_state.specs.Machine.{conf};
+ghost use Rattle.frame_state.specs.Stops.{IsHeldStop, IsStop, held_spot, tells};
+ghost use Rattle.frame_state.specs.Validity.{IsValid, Advances};
 
 use crate::ends::{number_of, undo_record};
-use crate::enter::go_on;
-use crate::machine::{Next, Spot, Stop, hold};
-use crate::searchable::Searchable;
+use frame_state::framing::go_on;
+use frame_state::machine::{Next, Spot, Stop, hold};
+use frame_state::searchable::Searchable;
 use frame_store::kinds::{KIND_CALL_OPEN, KIND_CALLED_GROUP};
-use frame_store::{Memory, Record, Registers, Span, Store};
+use frame_store::{Record, Span, Store, captured, set_captured};
 
 /// Writes the capture of a called group where it has ended, and then its call ends.
 pub(crate) fn close_called<S: Searchable>(
@@ -25,7 +27,7 @@ pub(crate) fn close_called<S: Searchable>(
     height: usize,
     spot: &mut Spot,
     store: &mut Store,
-    registers: &mut Registers,
+    registers: &mut [Option<Span>],
 ) -> Result<Next, Stop>
     requires valid { IsValid (S.searched on.now) (conf Next.End spot.old (entries store.old.records) registers.old) }
     requires frame { spot.old.frame ≡ height + 1 }
@@ -34,14 +36,18 @@ pub(crate) fn close_called<S: Searchable>(
     ensures on { IfOk result (λ next. Advances (S.searched on.now) (conf Next.End spot.old (entries store.old.records) registers.old) (conf next spot.new (entries store.new.records) registers.new)) }
     ensures stop { IfErr result (λ stop. IsStop stop spot.new registers.new (tells (S.searched on.now).setting spot.old (ahead (S.searched on.now) (conf Next.End spot.old (entries store.old.records) registers.old)))) }
     ensures peak { store.new.peak ≤ max store.old.peak (S.searched on.now).setting.matching.frame_limit }
+    ensures no_less { room store.old ≤ room store.new }
+    ensures short { IfErr result (λ stop.
+        IsShort stop (S.searched on.now).setting.matching.frame_limit store.new) }
 {
     let number = number_of(on, frame.node);
-    let old = registers.get(u32::from(number));
+    let old = captured(registers, u32::from(number));
     let undo = undo_record(spot, frame.link, frame.node, number, old);
     if let Err(stop) = hold(on.unit_limit(), undo, spot, store) {
         return Err(stop);
     }
-    registers.set(
+    set_captured(
+        registers,
         u32::from(number),
         Some(Span {
             from: frame.place,
@@ -71,7 +77,7 @@ fn restore_one(
     value: Option<Span>,
     spot: &mut Spot,
     store: &mut Store,
-    registers: &mut Registers,
+    registers: &mut [Option<Span>],
 ) -> Result<(), Stop>
     requires group { HasGroup registers.old group }
     requires counted { length store.old.records ≤ spot.old.units }
@@ -84,8 +90,10 @@ fn restore_one(
     ensures last { spot.new.last ≡ spot.old.last }
     ensures differs { IfErr result (λ stop. same_span (capture registers.old group) value ≡ false) }
     ensures peak { store.new.peak ≤ max store.old.peak limit }
+    ensures no_less { room store.old ≤ room store.new }
+    ensures short { IfErr result (λ stop. IsShort stop limit store.new) }
 {
-    let now = registers.get(u32::from(group));
+    let now = captured(registers, u32::from(group));
     if same_span(now, value) {
         return Ok(());
     }
@@ -93,32 +101,43 @@ fn restore_one(
     if let Err(stop) = hold(limit, undo, spot, store) {
         return Err(stop);
     }
-    registers.set(u32::from(group), value);
+    set_captured(registers, u32::from(group), value);
     Ok(())
+}
+
+/// The number of registers.
+fn count(registers: &[Option<Span>]) -> u16
+    requires { length registers.now ≤ 65535 }
+    ensures { result ≡ length registers.now }
+{
+    registers.len() as u16
 }
 
 /// Gives all registers the values of others back.
 fn restore(
     limit: u32,
     frame: &Record,
-    entry: &Registers,
+    entry: &[Option<Span>],
     spot: &mut Spot,
     store: &mut Store,
-    registers: &mut Registers,
+    registers: &mut [Option<Span>],
 ) -> Result<(), Stop>
     requires same { length registers.old ≡ length entry.now }
+    requires numbered { length entry.now ≤ 65535 }
     requires counted { length store.old.records ≤ spot.old.units }
     requires few { spot.old.units ≤ limit }
-    ensures restored { OnOk result (AreRestored frame.now.link registers.old entry.now registers.new 0 (entries store.old.records) (entries store.new.records)) }
+    ensures restored { OnOk result (AreRestored frame.now.link frame.now.node registers.old entry.now registers.new 0 (entries store.old.records) (entries store.new.records)) }
     ensures spot { OnOk result (spot.new ≡ record spot.old { units = spot.old.units + changes registers.old entry.now }) }
     ensures few { OnOk result (spot.new.units ≤ limit) }
     ensures stop { IfErr result (λ stop. IsReturnStop stop limit (spot.old.units + changes registers.old entry.now)) }
     ensures last { spot.new.last ≡ spot.old.last }
     ensures peak { store.new.peak ≤ max store.old.peak limit }
+    ensures no_less { room store.old ≤ room store.new }
+    ensures short { IfErr result (λ stop. IsShort stop limit store.new) }
 {
-    let mut group = entry.count() as u16;
+    let mut group = count(entry);
     'groups: while group > 0 {
-        let value = entry.get(u32::from(group));
+        let value = captured(entry, u32::from(group));
         if let Err(stop) = restore_one(limit, frame, group, value, spot, store, registers) {
             return Err(stop);
         }
@@ -129,24 +148,23 @@ fn restore(
 
 /// Takes over in a bank the captures that stood when only so many of the oldest records did.
 fn captures_at(
-    store: &Store,
+    store: &mut Store,
     height: usize,
-    registers: &Registers,
-    bank: &mut Registers,
-) -> Result<(), Memory>
-    requires within { height ≤ length store.now.records }
-    requires slots { All (HasSlot registers.now) (past height (entries store.now.records)) }
-    ensures { OnOk result (bank.new ≡ undone (past height (entries store.now.records)) registers.now) }
+    registers: &[Option<Span>],
+    bank: &mut [Option<Span>],
+)
+    requires within { height ≤ length store.old.records }
+    requires slots { All (HasSlot registers.now) (past height (entries store.old.records)) }
+    requires same { length bank.old ≡ length registers.now }
+    ensures taken { bank.new ≡ undone (past height (entries store.old.records)) registers.now }
+    ensures kept { store.new ≡ store.old }
 {
-    let Ok(()) = bank.copy_from(registers) else {
-        return Err(Memory);
-    };
+    bank.copy_from_slice(registers);
     // Without groups there is nothing to look for.
-    if registers.count() == 0 {
-        return Ok(());
+    if registers.is_empty() {
+        return;
     }
     store.give_back(height, bank);
-    Ok(())
 }
 
 /// Leaves a call, which can be backtracked into: its records stay. `bank` serves for the captures at its begin.
@@ -156,20 +174,23 @@ pub(crate) fn leave_call<S: Searchable>(
     height: usize,
     spot: &mut Spot,
     store: &mut Store,
-    registers: &mut Registers,
-    bank: &mut Registers,
+    registers: &mut [Option<Span>],
+    bank: &mut [Option<Span>],
 ) -> Result<Next, Stop>
     requires valid { IsValid (S.searched on.now) (conf Next.End spot.old (entries store.old.records) registers.old) }
     requires frame { spot.old.frame ≡ height + 1 }
     requires at { slice_get (reverse store.old.records) height ≡ Some frame.now }
     requires kind { frame.now.kind ≡ KIND_CALL_OPEN }
+    requires bank { length bank.old ≡ (S.searched on.now).setting.groups }
+    ensures bank { length bank.new ≡ length bank.old }
     ensures on { IfOk result (λ next. Advances (S.searched on.now) (conf Next.End spot.old (entries store.old.records) registers.old) (conf next spot.new (entries store.new.records) registers.new)) }
     ensures stop { IfErr result (λ stop. IsStop stop spot.new registers.new (tells (S.searched on.now).setting spot.old (ahead (S.searched on.now) (conf Next.End spot.old (entries store.old.records) registers.old)))) }
     ensures peak { store.new.peak ≤ max store.old.peak (S.searched on.now).setting.matching.frame_limit }
+    ensures no_less { room store.old ≤ room store.new }
+    ensures short { IfErr result (λ stop.
+        IsShort stop (S.searched on.now).setting.matching.frame_limit store.new) }
 {
-    let Ok(()) = captures_at(store, height, registers, bank) else {
-        return Err(Stop::Memory);
-    };
+    captures_at(store, height, registers, bank);
     if let Err(stop) = restore(on.unit_limit(), frame, bank, spot, store, registers) {
         return Err(stop);
     }

@@ -1,67 +1,94 @@
 //! The machine's loop, and the workspace that it runs in.
 ghost use Rattle.std.specs.Prelude.{◌≡◌, ◌≤◌, ◌<◌, true, max, length, replicate, None, [], IfOk, IfErr, OnOk, OnErr};
+ghost use Rattle.frame_store.specs.Stack.{room};
+ghost use Rattle.frame_state.specs.Room.{IsQuiet, IsShort};
 ghost use Rattle.frame_store.specs.Captures.{capture};
 ghost use Rattle.frame_store.specs.Entry.{entries};
-ghost use Rattle.frame_machine.specs.Machine.{conf, mark_of};
-ghost use Rattle.frame_machine.specs.Frames.{ahead};
-ghost use Rattle.frame_machine.specs.Validity.{IsValid, Advances};
+ghost use Rattle.pcre_io.specs.declared.callouts.Block.{Block};
+ghost use Rattle.frame_state.specs.Machine.{conf, mark_of};
+ghost use Rattle.frame_state.specs.Frames.{ahead};
+ghost use Rattle.frame_state.specs.Validity.{IsValid};
 ghost use Rattle.ordered_search.specs.PlaceAnswer.{place_answer};
-ghost use Rattle.frame_machine.specs.Stops.{IsEnd, told, tells};
+ghost use Rattle.frame_state.specs.Over.{AdvancesOver, IsEndOver};
+ghost use Rattle.frame_state.specs.Shown.{IsReplied};
+ghost use Rattle.frame_state.specs.Stops.{none_met, told, tells};
 
 use crate::accepts::accept;
 use crate::back::back;
-use crate::catches::act;
 use crate::ends::finish;
 use crate::enter::enter;
-use crate::items::{fewer, more};
-use crate::machine::{Next, Spot, Stop};
-use crate::repeats::{begin, branch, offer};
-use crate::searchable::Searchable;
-use frame_store::{Registers, Store};
+use frame_parts::items::{fewer, more};
+use frame_parts::repeats::{begin, branch, offer};
+use frame_state::machine::{Met, Next, Spot, Stop};
+use frame_state::searchable::Searchable;
+use frame_store::{Span, Store};
+use frame_verbs::catches::{act, leave};
+use pcre_io::Callouts;
 
-/// One turn of the machine's loop. `bank` serves where registers are given back.
-fn turn<S: Searchable>(
+/// One turn of the machine's loop, from what is next to what is next then. `bank` serves where registers are given back.
+// What is next is written in place: copied out of an answer it costs a quarter of a search.
+#[inline(always)]
+fn turn<S: Searchable, C: Callouts>(
     on: &S,
-    next: Next,
+    next: &mut Next,
     spot: &mut Spot,
     store: &mut Store,
-    registers: &mut Registers,
-    bank: &mut Registers,
-) -> Result<Next, Stop>
-    requires valid { IsValid (S.searched on.now) (conf next spot.old (entries store.old.records) registers.old) }
-    ensures on { IfOk result (λ to. Advances (S.searched on.now) (conf next spot.old (entries store.old.records) registers.old) (conf to spot.new (entries store.new.records) registers.new)) }
-    ensures stop { IfErr result (λ stop. IsEnd (S.searched on.now) stop spot.new registers.new (tells (S.searched on.now).setting spot.old (ahead (S.searched on.now) (conf next spot.old (entries store.old.records) registers.old)))) }
+    registers: &mut [Option<Span>],
+    bank: &mut [Option<Span>],
+    calls: &mut C,
+) -> Result<(), Stop>
+    requires valid { IsValid (S.searched on.now) (conf next.old spot.old (entries store.old.records) registers.old) }
+    requires replied { IsReplied (S.searched on.now).setting (C.answers calls.old) }
+    requires bank { length bank.old ≡ (S.searched on.now).setting.groups }
+    ensures bank { length bank.new ≡ length bank.old }
+    ensures on { OnOk result (AdvancesOver (S.searched on.now) (C.seen calls.old) (C.seen calls.new) (conf next.old spot.old (entries store.old.records) registers.old) (conf next.new spot.new (entries store.new.records) registers.new)) }
+    ensures stop { IfErr result (λ stop. IsEndOver (S.searched on.now) stop spot.new registers.new (C.seen calls.old) (C.seen calls.new) (tells (S.searched on.now).setting spot.old (ahead (S.searched on.now) (conf next.old spot.old (entries store.old.records) registers.old)))) }
+    ensures rule { (block : Block) → C.answers calls.new block ≡ C.answers calls.old block }
     ensures peak { store.new.peak ≤ max store.old.peak (S.searched on.now).setting.matching.frame_limit }
+    ensures no_less { room store.old ≤ room store.new }
+    ensures short { IsQuiet C.refuses (C.answers calls.old)
+        → IfErr result (λ stop.
+        IsShort stop (S.searched on.now).setting.matching.frame_limit store.new) }
 {
-    match next {
-        Next::Enter(at) => enter(on, at, spot, store, registers),
-        Next::Branch(at, index) => branch(on, at, index, spot, store, registers),
-        Next::Offer(at, count) => offer(on, at, count, spot, store, registers),
-        Next::Begin(at, count, exits) => begin(on, at, count, exits, spot, store, registers),
-        Next::Fewer(at, least, last) => fewer(on, at, least, last, spot, store, registers),
-        Next::More(at, count, last) => more(on, at, count, last, spot, store, registers),
-        Next::End => finish(on, spot, store, registers, bank),
-        Next::Back => back(on, spot, store, registers),
-        Next::Accept => accept(on, spot, store, registers, bank),
-        Next::Act(acting) => act(on, acting, spot, store, registers),
-    }
+    *next = match *next {
+        Next::Enter(at) => enter(on, at, spot, store, registers, calls)?,
+        Next::Branch(at, index) => branch(on, at, index, spot, store, registers)?,
+        Next::Offer(at, count) => offer(on, at, count, spot, store, registers)?,
+        Next::Begin(at, count, exits) => begin(on, at, count, exits, spot, store, registers)?,
+        Next::Fewer(at, least, last) => fewer(on, at, least, last, spot, store, registers)?,
+        Next::More(at, count, last) => more(on, at, count, last, spot, store, registers)?,
+        Next::End => finish(on, spot, store, registers, bank)?,
+        Next::Back => back(on, spot, store, registers)?,
+        Next::Accept => accept(on, spot, store, registers, bank)?,
+        Next::Act(acting) => act(on, acting, spot, store, registers)?,
+        Next::Leave(at) => leave(on, at, spot, store, registers)?,
+    };
+    Ok(())
 }
 
 /// Searches at a place, from no records and no captures, and says with what the machine stops. `bank` serves
 /// where registers are given back.
-pub(crate) fn run<S: Searchable>(
+pub(crate) fn run<S: Searchable, C: Callouts>(
     on: &S,
     place: u64,
     spot: &mut Spot,
     store: &mut Store,
-    registers: &mut Registers,
-    bank: &mut Registers,
+    registers: &mut [Option<Span>],
+    bank: &mut [Option<Span>],
+    calls: &mut C,
 ) -> Stop
     requires place { (S.searched on.now).stands place ≡ true }
     requires empty { store.old.records ≡ [] }
     requires unset { registers.old ≡ replicate (S.searched on.now).setting.groups None }
-    ensures stop { IsEnd (S.searched on.now) result spot.new registers.new (told None (place_answer (S.searched on.now).setting place)) }
+    requires replied { IsReplied (S.searched on.now).setting (C.answers calls.old) }
+    requires bank { length bank.old ≡ (S.searched on.now).setting.groups }
+    ensures bank { length bank.new ≡ length bank.old }
+    ensures stop { IsEndOver (S.searched on.now) result spot.new registers.new (C.seen calls.old) (C.seen calls.new) (told none_met (place_answer (S.searched on.now).setting place)) }
+    ensures rule { (block : Block) → C.answers calls.new block ≡ C.answers calls.old block }
     ensures peak { store.new.peak ≤ max store.old.peak (S.searched on.now).setting.matching.frame_limit }
+    ensures no_less { room store.old ≤ room store.new }
+    ensures short { IsQuiet C.refuses (C.answers calls.old)
+        → IsShort result (S.searched on.now).setting.matching.frame_limit store.new }
 {
     *spot = Spot {
         place,
@@ -72,13 +99,15 @@ pub(crate) fn run<S: Searchable>(
         passed: 0,
         frame: 0,
         left: on.step_limit(),
-        last: 0,
+        last: Met {
+            name: 0,
+            hit: false,
+        },
     };
     let mut next = Next::Enter(on.root());
     'turns: loop {
-        match turn(on, next, spot, store, registers, bank) {
-            Ok(to) => next = to,
-            Err(stop) => return stop,
+        if let Err(stop) = turn(on, &mut next, spot, store, registers, bank, calls) {
+            return stop;
         }
     }
 }

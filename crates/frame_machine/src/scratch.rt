@@ -1,14 +1,20 @@
 //! The workspace of a search.
-ghost use Rattle.std.specs.Prelude.{◌≡◌, ◌≤◌, ◌<◌, ℕ, List, true, max, replicate, None, [], OnOk};
+ghost use Rattle.std.specs.Prelude.{◌≡◌, ◌≤◌, ◌<◌, ℕ, List, true, max, length, replicate, None, [], IsOk, OnOk, OnErr, vec_capacity};
 ghost use Rattle.frame_store.specs.Captures.{capture_if_any};
-ghost use Rattle.frame_machine.specs.Answer.{IsAnswer, IsMark, SkipStands};
+ghost use Rattle.pcre_io.specs.declared.callouts.Block.{Block};
+ghost use Rattle.frame_state.specs.Answer.{IsAnswer, IsMark, IsSeen, SkipStands};
+ghost use Rattle.frame_state.specs.Room.{IsQuiet};
+ghost use Rattle.frame_state.specs.Shown.{IsReplied};
+ghost use Rattle.frame_store.specs.Stack.{room};
+ghost use Rattle.frame_machine.specs.Scratch.{HasRoom, IsOfSearch};
 ghost use Rattle.ordered_search.specs.PlaceAnswer.{place_answer};
 
-use crate::answer::{PlaceAnswer, answer_of, last_of};
-use crate::machine::Spot;
 use crate::run::run;
-use crate::searchable::Searchable;
+use frame_state::answer::{PlaceAnswer, answer_of, last_of};
+use frame_state::machine::Spot;
+use frame_state::searchable::Searchable;
 use frame_store::{Memory, Registers, Span, Store};
+use pcre_io::Callouts;
 use std::alloc::Global;
 use std::marker::Model;
 
@@ -26,17 +32,22 @@ pub struct Scratch {
 }
 
 impl Model for Scratch {
+    ghost use Rattle.std.specs.Prelude.{◌≤◌, vec_capacity};
+    ghost use Rattle.frame_store.specs.Stack.{room};
     ghost use Rattle.frame_machine.specs.Scratch.{Workspace};
 
     ghost Value = { Workspace };
 
     ghost view = { λ s. record {
-      spans = s.registers;
+      spans = s.registers.spans.items;
       groups = s.groups;
       frames = s.frames;
       peak = s.store.peak;
       last_mark = s.last_mark;
     } };
+
+    ghost invariant = { λ s. (s.frames ≤ room s.store)
+        × (s.groups ≤ vec_capacity s.registers.spans) × (s.groups ≤ vec_capacity s.bank.spans) };
 }
 
 impl Scratch {
@@ -52,6 +63,25 @@ impl Scratch {
             frames: 0,
             last_mark: None,
         }
+    }
+
+    /// Makes room for searches of patterns with so many groups, under so high a frame limit. Want of memory alone refuses
+    /// it, and leaves the room that was made before.
+    pub fn reserve(&mut self, groups: u32, frames: u32) -> Result<(), Memory>
+        requires { groups ≤ 65535 }
+        ensures groups { OnOk result (self.new.groups ≡ max self.old.groups groups) }
+        ensures frames { OnOk result (self.new.frames ≡ max self.old.frames frames) }
+        ensures kept { self.new ≡ record self.old { groups = self.new.groups; frames = self.new.frames } }
+        ensures refused { OnErr result (self.new ≡ self.old) }
+    {
+        self.store.cut(0);
+        self.store.reserve(frames as usize)?;
+        self.store.reserve_groups(groups)?;
+        self.registers.reserve(groups)?;
+        self.bank.reserve(groups)?;
+        self.groups = self.groups.max(groups);
+        self.frames = self.frames.max(frames);
+        Ok(())
     }
 
     /// The greatest number of records that there has been.
@@ -80,7 +110,7 @@ impl Scratch {
     pub fn span(&self, group: u32) -> Option<Span>
         ensures { result ≡ capture_if_any self.now.spans group }
     {
-        if group == 0 || group > self.registers.count() {
+        if group == 0 || group as usize > self.registers.spans.len() {
             return None;
         }
         self.registers.get(group)
@@ -101,31 +131,68 @@ impl Scratch {
     }
 }
 
-/// Makes a workspace ready for a search: no records, and so many unset registers. Want of memory alone refuses it.
-fn prepare(groups: u32, store: &mut Store, registers: &mut Registers) -> Result<(), Memory>
+/// Makes a workspace ready for a search: no records, and so many unset registers, with a bank for as many. Want of memory
+/// alone refuses it, where no room was made for them, for `reserved` groups.
+fn prepare(
+    groups: u32,
+    reserved: u32,
+    store: &mut Store,
+    registers: &mut Registers,
+    bank: &mut Registers,
+) -> Result<(), Memory>
     requires { groups ≤ 65535 }
     ensures empty { store.new.records ≡ [] }
-    ensures unset { OnOk result (registers.new ≡ replicate groups None) }
+    ensures unset { OnOk result (registers.new.spans.items ≡ replicate groups None) }
+    ensures bank { OnOk result (length bank.new.spans.items ≡ groups) }
     ensures peak { store.new.peak ≡ store.old.peak }
+    ensures no_less { room store.old ≤ room store.new }
+    ensures no_fewer { vec_capacity registers.old.spans ≤ vec_capacity registers.new.spans }
+    ensures no_smaller { vec_capacity bank.old.spans ≤ vec_capacity bank.new.spans }
+    ensures succeeds { groups ≤ reserved → groups ≤ vec_capacity registers.old.spans
+        → groups ≤ vec_capacity bank.old.spans → IsOk result }
 {
     store.cut(0);
+    if groups > reserved {
+        store.reserve_groups(groups)?;
+    }
+    store.expect_groups(groups);
     registers.clear();
-    registers.grow(groups)
+    registers.grow(groups)?;
+    bank.clear();
+    bank.grow(groups)
 }
 
 /// Searches at one place. It answers what the ordered search of the definitions answers there, with the captures of a
 /// match in the workspace (pcre2matching, "The standard matching algorithm").
-pub fn search_at<S: Searchable>(on: &S, place: u64, scratch: &mut Scratch) -> PlaceAnswer
+pub fn search_at<S: Searchable, C: Callouts>(
+    on: &S,
+    place: u64,
+    scratch: &mut Scratch,
+    calls: &mut C,
+) -> PlaceAnswer
     requires place { (S.searched on.now).stands place ≡ true }
+    requires replied { IsReplied (S.searched on.now).setting (C.answers calls.old) }
     ensures answer { IsAnswer result scratch.new.spans (place_answer (S.searched on.now).setting place) }
     ensures mark { IsMark result scratch.old.last_mark scratch.new.last_mark (place_answer (S.searched on.now).setting place) }
     ensures skip { SkipStands (S.searched on.now).stands result }
+    ensures seen { IsSeen result (C.seen calls.old) (C.seen calls.new) (place_answer (S.searched on.now).setting place) }
+    ensures rule { (block : Block) → C.answers calls.new block ≡ C.answers calls.old block }
     ensures peak { scratch.new.peak ≤ max scratch.old.peak (S.searched on.now).setting.matching.frame_limit }
     ensures groups { scratch.new.groups ≡ scratch.old.groups }
     ensures frames { scratch.new.frames ≡ scratch.old.frames }
+    ensures reserved { HasRoom scratch.old (S.searched on.now).setting.groups
+        (S.searched on.now).setting.matching.frame_limit
+        → IsQuiet C.refuses (C.answers calls.old) → IsOfSearch result }
 {
     let groups = on.groups();
-    if prepare(groups, &mut scratch.store, &mut scratch.registers).is_err() {
+    let ready = prepare(
+        groups,
+        scratch.groups,
+        &mut scratch.store,
+        &mut scratch.registers,
+        &mut scratch.bank,
+    );
+    if ready.is_err() {
         return PlaceAnswer::Memory;
     }
     let mut spot = Spot::at(place);
@@ -134,9 +201,10 @@ pub fn search_at<S: Searchable>(on: &S, place: u64, scratch: &mut Scratch) -> Pl
         place,
         &mut spot,
         &mut scratch.store,
-        &mut scratch.registers,
-        &mut scratch.bank,
+        scratch.registers.spans.as_mut_slice(),
+        scratch.bank.spans.as_mut_slice(),
+        calls,
     );
-    scratch.last_mark = last_of(spot.last, scratch.last_mark);
+    scratch.last_mark = last_of(spot.last.name, scratch.last_mark);
     answer_of(stop, &spot)
 }

@@ -1,3 +1,4 @@
 pub mod EntryLemmas
 pub mod UndoLemmas
 pub mod StackLemmas
+pub mod GainLemmas

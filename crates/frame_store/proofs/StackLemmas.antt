@@ -2,7 +2,6 @@
 use Rattle.std.proofs.Common.{◌≡◌, ◌≤◌, ◌<◌, ◌-◌, ◌+◌, ℕ, suc, ◌∙◌, List, [], ◌∷◌, ◌++◌, length, take, drop, get_or, reverse, map, slice_get, Some, sym, ap, arith}
 use Rattle.std.proofs.lemmas.List.{reverse-append, length-reverse, length-drop, length-map, take-append-drop, take-map, drop-map, take_more, drop_at, take_at, get_or_at, get_or_append_left}
 use Rattle.std.proofs.lemmas.Option.{slice_get-get_or}
-use Rattle.std.proofs.Math.Seq.{take-add}
 use Rattle.frame_store.specs.Stack.{up_to, past}
 
 module _ {X : Type 0} where
@@ -54,17 +53,8 @@ module _ {X : Type 0} where
       let e : length xs - n ≡ 0 = omega arith in
       ap (λ k. take k xs) e
 
-  pub past-up_to : (n : ℕ) (xs : List X) → past n xs ++ up_to n xs ≡ xs
-  past-up_to n xs = take-append-drop (length xs - n) xs
-
   pub length-up_to : (n : ℕ) (xs : List X) → n ≤ length xs → length (up_to n xs) ≡ n
   length-up_to n xs h = omega (arith, length-drop (length xs - n) xs)
-
-  pub past-past : (low high : ℕ) (xs : List X) → low ≤ high → high ≤ length xs → past high xs ++ past low (up_to high xs) ≡ past low xs
-  past-past low high xs h within =
-      let len : length (up_to high xs) ≡ high = length-up_to high xs within in
-      let e : length xs - low ≡ length xs - high + (length (up_to high xs) - low) = omega (arith, len) in
-      sym (ap (λ k. take k xs) e ∙ take-add (length xs - high) (length (up_to high xs) - low) xs)
 
   reverse-cons : (x : X) (xs : List X) → reverse (x ∷ xs) ≡ reverse xs ++ x ∷ []
   reverse-cons x xs = reverse-append (x ∷ []) xs

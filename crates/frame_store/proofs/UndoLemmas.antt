@@ -1,16 +1,16 @@
 -- The way back over lists of entries.
 use Rattle.std.proofs.Common.{◌≡◌, ◌<◌, ◌≤◌, ℕ, ◌-◌, take, drop, reverse, All, false, ◌∙◌, List, [], ◌∷◌, length, get_or, Option, None, refl, sym, ap}
-use Rattle.std.proofs.lemmas.List.{length-set, set-set, set-get_or, take_rest}
+use Rattle.std.proofs.lemmas.List.{length-set, set-set, set-get_or, take_rest, length-reverse}
 use Rattle.std.proofs.lemmas.List.Elements.{All-cons, All-head, All-tail, All-weaker}
 use Rattle.std.proofs.lemmas.Bool.{false≢true}
 use Rattle.frame_store.specs.declared.records.Record.{Record}
 use Rattle.frame_store.specs.declared.kinds.TheConstants.{KIND_UNDO}
 use Rattle.frame_store.specs.Captures.{Captures, HasGroup, capture, with_capture}
 use Rattle.frame_store.specs.Entry.{Entry, Undo, entry_of, entries}
-use Rattle.frame_store.specs.Stack.{past, up_to}
+use Rattle.frame_store.specs.Stack.{Stack, past}
 use Rattle.frame_store.specs.Undo.{taken_back, undone, is_undo, written, IsTrail, HasSlot, TrailLaw, AppendLaw, FilterLaw, PlainLaw, LengthLaw}
 use Rattle.frame_store.proofs.EntryLemmas.{entry_of-undo}
-use Rattle.frame_store.proofs.StackLemmas.{past-map, past-reverse, past-past, reverse-take}
+use Rattle.frame_store.proofs.StackLemmas.{past-map, past-reverse, reverse-take}
 
 pub length-taken_back : (e : Entry) (caps : Captures) → length (taken_back e caps) ≡ length caps
 length-taken_back (Undo at slot old) caps = length-set caps _ old
@@ -80,15 +80,16 @@ past-entries to xs h =
     past-map entry_of to (reverse xs) ∙ ap entries (past-reverse to xs h)
     ∙ ap (λ ys. entries (reverse ys)) (sym (take_rest xs to))
 
+-- the later records of a store, as it reads them
+pub past-read : (stack : Stack) (items read : List Record) (to : ℕ) → reverse items ≡ stack.records → read ≡ items → to ≤ length stack.records → past to (entries stack.records) ≡ entries (reverse (take (length read - to) (drop to read)))
+past-read stack items read to view same h =
+    let within : to ≤ length items = rw (← length-reverse items, view) h in
+    ap (λ ys. past to (entries ys)) (sym view) ∙ past-entries to items within
+    ∙ ap (λ (ys : List Record). entries (reverse (take (length ys - to) (drop to ys)))) (sym same)
+
 -- the newest of the first i records is taken back first
 pub entries-take : (i : ℕ) (xs : List Record) (d : Record) → 0 < i → i ≤ length xs → entries (reverse (take i xs)) ≡ entry_of (get_or xs (i - 1) d) ∷ entries (reverse (take (i - 1) xs))
 entries-take i xs d p h = ap entries (reverse-take i xs d p h)
-
--- going back to a height in two steps is going back to it in one
-pub undone-past_up_to : (low high : ℕ) (stack : List Entry) (caps : Captures) → low ≤ high → high ≤ length stack → undone (past low (up_to high stack)) (undone (past high stack) caps) ≡ undone (past low stack) caps
-undone-past_up_to low high stack caps h within =
-    sym (undone-append (past high stack) (past low (up_to high stack)) caps)
-    ∙ ap (λ (es : List Entry). undone es caps) (past-past low high stack h within)
 
 -- a pushed undo record of a register that is there, and any other pushed record, leave all slots there
 pub AllHaveSlots-undo : (caps : Captures) (r : Record) (older : List Record) → r.kind ≡ KIND_UNDO → HasGroup caps r.slot → All (HasSlot caps) (entries older) → All (HasSlot caps) (entries (r ∷ older))

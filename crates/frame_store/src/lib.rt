@@ -2,6 +2,7 @@
 //! to an earlier height of the stack, which takes back what was written to the registers since.
 #![tactic(auto)]
 
+mod gains;
 pub mod kinds;
 mod laws;
 mod records;
@@ -12,5 +13,5 @@ mod tests;
 
 pub use laws::{entry_laws, undo_laws, worked_rows};
 pub use records::Record;
-pub use registers::{Registers, Span};
+pub use registers::{Registers, Span, captured, set_captured};
 pub use store::{Memory, Store};

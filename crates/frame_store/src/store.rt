@@ -1,12 +1,13 @@
-ghost use Rattle.std.specs.Prelude.{◌≡◌, ◌+◌, ◌-◌, ◌<◌, ◌≤◌, max, List, [], ◌∷◌, length, drop, reverse, Some, All, IsOk, OnOk, OnErr, MatchOption, slice_get};
+ghost use Rattle.std.specs.Prelude.{◌≡◌, ◌+◌, ◌-◌, ◌<◌, ◌≤◌, max, List, [], ◌∷◌, length, drop, reverse, Some, All, IsOk, OnOk, OnErr, MatchOption, slice_get, vec_capacity};
 ghost use Rattle.frame_store.specs.Captures.{HasGroup};
-ghost use Rattle.frame_store.specs.Stack.{up_to, past};
+ghost use Rattle.frame_store.specs.Stack.{room, up_to, past};
 ghost use Rattle.frame_store.specs.Entry.{entries, entry_of, kept_value};
 ghost use Rattle.frame_store.specs.Undo.{undone, taken_back, HasSlot};
 
+use crate::gains::{Gains, gather, overlay};
 use crate::kinds::KIND_UNDO;
 use crate::records::Record;
-use crate::registers::{Registers, Span};
+use crate::registers::{Registers, Span, set_captured};
 use std::alloc::Global;
 use std::error::Error;
 use std::fmt;
@@ -30,11 +31,14 @@ impl Error for Memory {}
 pub struct Store {
     records: Vec<Record>,
     peak: usize,
+    // What the undo records of a stretch give back, so that the next stretch around it needs no second look at them.
+    gains: Gains,
 }
 
 impl Model for Store {
     ghost use Rattle.std.specs.Prelude.{◌-◌, ◌≤◌, reverse, vec_len, vec_capacity};
     ghost use Rattle.frame_store.specs.Stack.{Stack};
+    ghost use Rattle.frame_store.specs.Gains.{IsOf};
 
     ghost Value = { Stack };
 
@@ -44,7 +48,7 @@ impl Model for Store {
       peak = s.peak;
     } };
 
-    ghost invariant = { λ s. vec_len s.records ≤ s.peak };
+    ghost invariant = { λ s. (vec_len s.records ≤ s.peak) × IsOf s.gains s.records.items };
 }
 
 impl Store {
@@ -55,6 +59,7 @@ impl Store {
         Store {
             records: Vec::new(alloc),
             peak: 0,
+            gains: Gains::new(alloc),
         }
     }
 
@@ -73,6 +78,21 @@ impl Store {
         Ok(())
     }
 
+    /// Makes room for so many registers, so that `give_back` needs no second look at the records of a stretch. Want of
+    /// memory alone refuses it, and changes nothing.
+    pub fn reserve_groups(&mut self, groups: u32) -> Result<(), Memory>
+        ensures kept { self.new ≡ self.old }
+    {
+        self.gains.reserve(groups)
+    }
+
+    /// Tells how many registers `give_back` will be called with. It takes no memory.
+    pub fn expect_groups(&mut self, groups: u32)
+        ensures kept { self.new ≡ self.old }
+    {
+        self.gains.clear(groups);
+    }
+
     /// Adds a record above the others. Want of memory alone refuses it, where nothing was spare, and changes nothing.
     pub fn push(&mut self, r: Record) -> Result<(), Memory>
         ensures pushed { OnOk result (self.new.records ≡ r ∷ self.old.records) }
@@ -82,7 +102,7 @@ impl Store {
 
         // It takes memory only where nothing was spare. The length and the spare room together never fall.
         ensures in_room { 0 < self.old.spare → self.new.spare + 1 ≡ self.old.spare }
-        ensures room { length self.old.records + self.old.spare ≤ length self.new.records + self.new.spare }
+        ensures room { room self.old ≤ room self.new }
     {
         if self.records.len() == self.records.capacity() && self.records.reserve(1).is_err() {
             return Err(Memory);
@@ -96,6 +116,7 @@ impl Store {
         requires { 0 < self.old.spare }
         ensures pushed { self.new.records ≡ r ∷ self.old.records }
         ensures spare { self.new.spare + 1 ≡ self.old.spare }
+        ensures room { room self.new ≡ room self.old }
         ensures peak { self.new.peak ≡ max self.old.peak (length self.new.records) }
     {
         self.records.push_reserved(r);
@@ -122,9 +143,11 @@ impl Store {
         requires { to ≤ length self.old.records }
         ensures cut { self.new.records ≡ up_to to self.old.records }
         ensures spare { self.new.spare ≡ self.old.spare + (length self.old.records - to) }
+        ensures room { room self.new ≡ room self.old }
         ensures peak { self.new.peak ≡ self.old.peak }
     {
         self.records.truncate(to);
+        self.gains.forget_past(to);
     }
 
     /// The number of records.
@@ -143,32 +166,56 @@ impl Store {
     }
 
     /// Gives each register the value that the undo records past the oldest `to` records keep, the newest first, and
-    /// leaves the records.
-    pub fn give_back(&self, to: usize, registers: &mut Registers)
-        requires within { to ≤ length self.now.records }
-        requires slots { All (HasSlot registers.old) (past to (entries self.now.records)) }
-        ensures { registers.new ≡ undone (past to (entries self.now.records)) registers.old }
+    /// leaves the records. Of the records that stood past a greater height at the last call, and stand still, none is
+    /// looked at again, where there was room for so many registers.
+    pub fn give_back(&mut self, to: usize, registers: &mut [Option<Span>])
+        requires within { to ≤ length self.old.records }
+        requires slots { All (HasSlot registers.old) (past to (entries self.old.records)) }
+        ensures back { registers.new
+            ≡ undone (past to (entries self.old.records)) registers.old }
+        ensures kept { self.new ≡ self.old }
     {
-        put_back(&self.records[to..], registers);
+        if self.gains.values.len() != registers.len() {
+            put_back(&self.records[to..], registers);
+            return;
+        }
+        gather(&self.records, to, &mut self.gains);
+        overlay(&self.gains.values, registers);
     }
 
     /// Goes back to the oldest `to` records: gives each register the value that the undo records past them keep, the
     /// newest first, and drops the later records.
     pub fn undo_to(&mut self, to: usize, registers: &mut Registers)
         requires within { to ≤ length self.old.records }
+        requires slots { All (HasSlot registers.old.spans.items) (past to (entries self.old.records)) }
+        ensures undone { registers.new.spans.items
+            ≡ undone (past to (entries self.old.records)) registers.old.spans.items }
+        ensures no_less { vec_capacity registers.new.spans ≡ vec_capacity registers.old.spans }
+        ensures cut { self.new.records ≡ up_to to self.old.records }
+        ensures spare { self.new.spare ≡ self.old.spare + (length self.old.records - to) }
+        ensures room { room self.new ≡ room self.old }
+        ensures peak { self.new.peak ≡ self.old.peak }
+    {
+        self.undo_spans(to, registers.spans.as_mut_slice());
+    }
+
+    /// Goes back as `undo_to` does, with registers that stand as a slice.
+    pub fn undo_spans(&mut self, to: usize, registers: &mut [Option<Span>])
+        requires within { to ≤ length self.old.records }
         requires slots { All (HasSlot registers.old) (past to (entries self.old.records)) }
         ensures undone { registers.new ≡ undone (past to (entries self.old.records)) registers.old }
         ensures cut { self.new.records ≡ up_to to self.old.records }
         ensures spare { self.new.spare ≡ self.old.spare + (length self.old.records - to) }
+        ensures room { room self.new ≡ room self.old }
         ensures peak { self.new.peak ≡ self.old.peak }
     {
-        self.give_back(to, registers);
+        put_back(&self.records[to..], registers);
         self.cut(to);
     }
 }
 
 /// Gives each register the value that these undo records keep, the last of them first.
-fn put_back(records: &[Record], registers: &mut Registers)
+fn put_back(records: &[Record], registers: &mut [Option<Span>])
     requires { All (HasSlot registers.old) (entries (reverse records.now)) }
     ensures { registers.new ≡ undone (entries (reverse records.now)) registers.old }
 {
@@ -178,17 +225,17 @@ fn put_back(records: &[Record], registers: &mut Registers)
 }
 
 /// Gives a register the value that an undo record keeps. Any other record changes nothing.
-fn put_back_one(r: &Record, registers: &mut Registers)
+fn put_back_one(r: &Record, registers: &mut [Option<Span>])
     requires { HasSlot registers.old (entry_of r.now) }
     ensures { registers.new ≡ taken_back (entry_of r.now) registers.old }
 {
     if r.kind == KIND_UNDO {
-        registers.set(u32::from(r.slot), kept_value(r));
+        set_captured(registers, u32::from(r.slot), kept_value(r));
     }
 }
 
 /// The value that an undo record keeps.
-fn kept_value(r: &Record) -> Option<Span>
+pub(crate) fn kept_value(r: &Record) -> Option<Span>
     ensures { result ≡ kept_value r.now }
 {
     if r.count == 1 {

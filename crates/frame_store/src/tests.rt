@@ -73,7 +73,7 @@ fn a_store_is_a_stack_that_knows_its_greatest_height(rt: HostRuntime) -> Result<
 /// Writes a register, after its old value was pushed.
 fn write(
     store: &mut Store,
-    registers: &mut Registers,
+    registers: &mut [Option<Span>],
     group: u16,
     value: Option<Span>,
 ) -> Result<(), Memory>
@@ -82,14 +82,14 @@ fn write(
     ensures slots { All (HasSlot registers.new) (entries store.new.records) }
     ensures count { length registers.new ≡ length registers.old }
 {
-    let old = registers.get(u32::from(group));
+    let old = captured(registers, u32::from(group));
     store.push(make_record(KIND_UNDO, group, old))?;
-    registers.set(u32::from(group), value);
+    set_captured(registers, u32::from(group), value);
     Ok(())
 }
 
 /// Pushes a record that is no undo record.
-fn begin_turn(store: &mut Store, registers: &Registers) -> Result<(), Memory>
+fn begin_turn(store: &mut Store, registers: &[Option<Span>]) -> Result<(), Memory>
     requires { All (HasSlot registers.now) (entries store.old.records) }
     ensures { All (HasSlot registers.now) (entries store.new.records) }
 {
@@ -102,7 +102,7 @@ fn span(from: u64, to: u64) -> Option<Span> {
 }
 
 /// Captures in two groups, with a turn between.
-fn make_trail(store: &mut Store, registers: &mut Registers) -> Result<(), Memory>
+fn make_trail(store: &mut Store, registers: &mut [Option<Span>]) -> Result<(), Memory>
     requires groups { length registers.old ≡ 2 }
     requires slots { All (HasSlot registers.old) (entries store.old.records) }
     ensures slots { All (HasSlot registers.new) (entries store.new.records) }
@@ -128,7 +128,7 @@ fn undo_gives_registers_back_what_they_held(rt: HostRuntime) -> Result<(), Fail>
         let mut store = Store::new(rt.alloc());
         let mut registers = Registers::new(rt.alloc());
         registers.grow(2)?;
-        make_trail(&mut store, &mut registers)?;
+        make_trail(&mut store, registers.spans.as_mut_slice())?;
         assert!(rt; to <= store.len());
         store.undo_to(to, &mut registers);
         assert_eq!(rt; (store.len(), store.peak()), (to, 5));

@@ -17,6 +17,3 @@ pub use options::FilterOption;
 pub use plan::{BinaryMode, GrepPlan, HelpKind, NameMode, OffsetMode};
 pub use reading::read;
 pub use usage::{ArgError, UsageKind};
-
-#[cfg(test)]
-mod tests;

@@ -10,7 +10,7 @@ use Rattle.grep_core.specs.declared.shows.Show.{Show}
 use Rattle.grep_core.specs.declared.shows.Show.TheVariants as show
 use Rattle.grep_core.specs.Shows.{lines_after}
 use Rattle.grep_match.specs.Matches.{Matches, Tried, is_selected, has_error, selects}
-use Rattle.grep_core.specs.Scans.{Scan, whole_scan, early_scan, broken_scan, rows_of}
+use Rattle.grep_core.specs.Scans.{Scan, IsBelow, whole_scan, early_scan, broken_scan, rows_of}
 use Rattle.grep_core.specs.Context.{shown_lines}
 use Rattle.grep_core.specs.Texts.{lines_text, matches_text}
 use Rattle.grep_core.specs.InputText.{shown_out, shows_group}
@@ -18,7 +18,7 @@ use Rattle.grep_core.specs.Messages.{error_message}
 use Rattle.grep_core.specs.Course.{Course, row_out, course_after, line_as, AreNumbered, scan_so_far}
 use Rattle.grep_core.proofs.ReachRows.{numbered-left, numbered-right, numbered-take}
 use Rattle.grep_core.proofs.Reached.{Reached, reached-more, out-more, out-follow, out-broken}
-use Rattle.grep_core.proofs.ScanEnds.{count, count-more, count-one, count-none, scanned, scan-whole, scan-early, scan-broken, IsBelow, early-tried, early-within, broken-within}
+use Rattle.grep_core.proofs.ScanEnds.{count, count-more, count-one, count-none, scanned, scan-whole, scan-early, scan-broken, early-tried, early-within, broken-within}
 
 selects-error : (invert : Bool) (m : Matches) → elim m [ Ok os ↦ false | Err e ↦ true ] ≡ true → selects invert m ≡ false
 selects-error invert (Ok os) e = absurd (false≢true e)

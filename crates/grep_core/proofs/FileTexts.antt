@@ -40,11 +40,12 @@ use Rattle.grep_core.specs.Ends.{stop_of, ended_of}
 use Rattle.tool_out.specs.Writes.{Writes}
 use Rattle.tool_out.specs.Prints.{Wrote, Breaks}
 use Rattle.grep_core.specs.WholeScans.{Stood, StopsIn, ScansTo, ScansInput, left_by, AtLeastOne, IsJob, LeavesRest, StopsSoon}
+use Rattle.grep_core.specs.LittlePast.{TakesLittlePast}
 use Rattle.grep_core.specs.Refused.{RefusesSoon, WhereRefused}
 use Rattle.grep_core.specs.OneInput.{IsNew, is_skipped, WritesBoth, CountsPart, ScansAs, ScansSo, LeavesTo, GrepsInput, GrepsTo, Treats}
 use Rattle.grep_core.proofs.ScansRows.{stood-little, rows-numbered}
 use Rattle.grep_core.proofs.ScansTexts.{grew-part}
-use Rattle.grep_core.proofs.Refusing.{refuses-soon, refuses-none}
+use Rattle.grep_core.proofs.Refusing.{refuses-soon, refuses-ended}
 use Rattle.tool_out.proofs.Writing.{prefix-front, prefix-more}
 use Rattle.tool_out.specs.Printed.{Printed, printed}
 use Rattle.tool_out.proofs.Printing as printing
@@ -56,6 +57,9 @@ plus_zero n = omega arith
 or_none : (b : Bool) → b ≡ (b || false)
 or_none true = refl
 or_none false = refl
+
+many-early : too_many_errors ≢ early
+many-early e = cc
 
 memory-fault : Memory ≢ SinkFault
 memory-fault e = cc
@@ -238,11 +242,6 @@ treats-none plan t f new is = record {
     open-closed : Open ≢ Closed
     open-closed e = cc
 
--- texts after those of a scan
-pub both-all : {out_old out_mid err_old err_new : Kept} (out_text err_text : List ℕ) (u v : Unit {0}) → Writes out_text out_old out_mid (Ok u) → Writes err_text err_old err_new (Ok v)
-    → Wrote out_text err_text (printed out_old err_old) (printed out_mid err_new)
-both-all out_text err_text u v out err = record { out = out.all; err = err.all; steady = (out.cause, err.cause) }
-
 pub both-refused : {out_old out_mid err_old err_new : Kept} (out_text err_text : List ℕ) (u : Unit {0}) (fault : IoError) (result : Result (Unit {0}) IoError) → result ≡ Err fault → Writes out_text out_old out_mid (Ok u)
     → Writes {T = Unit {0}} err_text err_old err_new (Err fault) → WritesBoth out_text err_text (printed out_old err_old) (printed out_mid err_new) result
 both-refused {out_old} {out_mid} {err_old} {err_new} out_text err_text u fault result is out err =
@@ -330,7 +329,7 @@ module _ {plan : GrepPlan} {patterns : List Pattern} {name : List ℕ} {s : Stat
   grep-by : {new : Printed} (came : Result FileEnd Stop) → met ≡ came → (result : Result FileEnd Stop)
       → ((found : Scan) → ScansSo plan name (show_in (is_told plan treated) (mode plan)) s found s_new old mid came → LeavesRest found.ended found.within before after came → tells_so treated (text_of found) found new result)
       → ((found : Rows) → AreNumbered 1 found.rows → ScansSo plan name (show_in (is_told plan treated) (mode plan)) s (scan plan patterns s.errors treated found) s_new old mid came
-      → WhereRefused came (StopsSoon plan patterns name (show_in (is_told plan treated) (mode plan)) treated s found before after old.out mid.out)
+      → (let x : Scan = scan plan patterns s.errors treated found in LeavesRest x.ended x.within before after came) → WhereRefused came (StopsSoon plan patterns name (show_in (is_told plan treated) (mode plan)) treated s found before after old.out mid.out)
       → WhereRefused result (RefusesSoon plan patterns name s treated found.rows before after old.out new.out))
       → GrepsInput plan patterns name before after s s_new old new result
   unfolding input_text
@@ -347,6 +346,7 @@ module _ {plan : GrepPlan} {patterns : List Pattern} {name : List ℕ} {s : Stat
         rest = both.2;
         refused = subst (λ t. WhereRefused result (RefusesSoon plan patterns name s t (lines plan so.heard).rows before after old.out new.out)) (sym so.treats)
             (soon (lines plan so.heard) (rows-numbered (line_end plan) plan.max_buffer_size so.heard) (subst (ScansSo plan name (show_in (is_told plan treated) (mode plan)) s found s_new old mid) is so.scans)
+            (subst (LeavesRest {T = FileEnd} found.ended found.within before after) is so.rest)
             (subst (λ r. WhereRefused r (StopsSoon plan patterns name (show_in (is_told plan treated) (mode plan)) treated s (lines plan so.heard) before after old.out mid.out)) is so.refused));
       }
 
@@ -355,11 +355,11 @@ module _ {plan : GrepPlan} {patterns : List Pattern} {name : List ℕ} {s : Stat
 
   -- after all was shown a write was refused
   all-shown : (new : Kept) (found : Rows) (text : List ℕ) → AreNumbered 1 found.rows → Appends old.out.held mid.out.held (shown_of (scan plan patterns s.errors treated found)) → AppendsPrefix mid.out.held new.held text
-      → (fault : IoError) → WhereRefused {T = FileEnd} (Err (stop_of fault)) (RefusesSoon plan patterns name s treated found.rows before after old.out new)
-  all-shown new found text numbered wrote more io.Failed = λ written n to cut.
-      refuses-none plan patterns name s h.few found before after old.out new numbered written n to treated at_least cut
-      (grew-part (shown_of (scan plan patterns s.errors treated found)) text old.out.held mid.out.held new.held wrote more)
-  all-shown new found text numbered wrote more io.Memory = tt
+      → (let x : Scan = scan plan patterns s.errors treated found in x.ended ≡ early → TakesLittlePast x.within before after) → (fault : IoError) → WhereRefused {T = FileEnd} (Err (stop_of fault)) (RefusesSoon plan patterns name s treated found.rows before after old.out new)
+  all-shown new found text numbered wrote more rest io.Failed = λ plain written n to cut.
+      refuses-ended plan patterns name s h.few found before after old.out new numbered plain written n to treated at_least cut
+      (grew-part (shown_of (scan plan patterns s.errors treated found)) text old.out.held mid.out.held new.held wrote more) rest
+  all-shown new found text numbered wrote more rest io.Memory = tt
 
   out-end : (found : Scan) (ended : Ended) → out_text plan name (is_told plan treated) s.has_shown found (ended_of ended) ≡ shown_of found ++ end_out plan name (mode plan) (is_told plan treated) (length (selected_in plan found))
   out-end found told.End = refl
@@ -388,7 +388,7 @@ module _ {plan : GrepPlan} {patterns : List Pattern} {name : List ℕ} {s : Stat
       },
       tt,
       rest,
-    )) (λ found numbered scans refused. tt)
+    )) (λ found numbered scans rest refused. tt)
 
     pub greps-breaks : {new : Printed} (fault : IoError) (result : Result FileEnd Stop) → result ≡ Err (stop_of fault)
         → Breaks (end_out plan name md tells end.selected) (ended_message plan.no_messages name (ended_of end.ended)) mid new (stop_of fault ≡ SinkFault)
@@ -399,7 +399,7 @@ module _ {plan : GrepPlan} {patterns : List Pattern} {name : List ℕ} {s : Stat
         (subst (λ x. Breaks x (text_of found).err old new (stop_of fault ≡ SinkFault)) (out-is found scans)
         (subst (λ x. Breaks (shown_of found ++ end_out plan name md tells end.selected) x old new (stop_of fault ≡ SinkFault)) (said-is found scans) (wrote-breaks _ _ _ _ scans.0.wrote (stop_of fault ≡ SinkFault) next)))
         (inl scans.0.state))
-        (λ found numbered scans refused. all-shown new.out found (end_out plan name md tells end.selected) numbered scans.0.wrote.out next.out fault))
+        (λ found numbered scans rest refused. all-shown new.out found (end_out plan name md tells end.selected) numbered scans.0.wrote.out next.out rest fault))
 
   -- where there were too many match errors, the message that says so
   module _ (is : met ≡ Err TooManyErrors) where
@@ -419,7 +419,7 @@ module _ {plan : GrepPlan} {patterns : List Pattern} {name : List ℕ} {s : Stat
       ),
       tt,
       tt,
-    )) (λ found numbered scans refused. tt)
+    )) (λ found numbered scans rest refused. tt)
 
     pub greps-untold : {err_new : Kept} (fault : IoError) (result : Result FileEnd Stop) → result ≡ Err (stop_of fault) → Writes {T = Unit {0}} (message (codes "too many match errors")) mid.err err_new (Err fault)
         → GrepsInput plan patterns name before after s s_new old (printed mid.out err_new) result
@@ -430,7 +430,7 @@ module _ {plan : GrepPlan} {patterns : List Pattern} {name : List ℕ} {s : Stat
         (subst (λ x. Breaks (shown_of found ++ []) x old (printed mid.out err_new) (stop_of fault ≡ SinkFault)) (many-said found scans.1)
         (wrote-breaks _ _ _ _ scans.0.wrote (stop_of fault ≡ SinkFault) (breaks-err [] _ mid.out mid.err err_new fault w))))
         (inl scans.0.state))
-        (λ found numbered scans refused. all-shown mid.out found [] numbered scans.0.wrote.out (prefix-none mid.out.held []) fault))
+        (λ found numbered scans rest refused. all-shown mid.out found [] numbered scans.0.wrote.out (prefix-none mid.out.held []) (λ e. absurd (many-early (sym scans.1 ∙ e))) fault))
 
   -- the scan was cut off
   longer : (found : Scan) (ended : meant.Ended) → AppendsPrefix old.out.held mid.out.held (shown_of found) → AppendsPrefix old.out.held mid.out.held (out_text plan name (is_told plan treated) s.has_shown found ended)
@@ -446,12 +446,12 @@ module _ {plan : GrepPlan} {patterns : List Pattern} {name : List ℕ} {s : Stat
   cut-soon : (stop : Stop) → stop ≢ TooManyErrors → (found : Rows) → AreNumbered 1 found.rows
       → WhereRefused {T = FileEnd} (Err stop) (StopsSoon plan patterns name (show_in (is_told plan treated) (mode plan)) treated s found before after old.out mid.out)
       → WhereRefused {T = FileEnd} (Err stop) (RefusesSoon plan patterns name s treated found.rows before after old.out mid.out)
-  cut-soon SinkFault other found numbered soon = λ written n to cut. refuses-soon plan patterns name s h.few found before after old.out mid.out numbered written n to treated at_least cut soon
+  cut-soon SinkFault other found numbered soon = λ plain written n to cut. refuses-soon plan patterns name s h.few found before after old.out mid.out numbered plain written n to treated at_least cut soon
   cut-soon Memory other found numbered soon = tt
   cut-soon TooManyErrors other found numbered soon = absurd (other refl)
 
   pub greps-cut : (stop : Stop) → met ≡ Err stop → stop ≢ TooManyErrors → GrepsInput plan patterns name before after s s_new old mid (Err stop)
-  greps-cut stop is other = grep-by (Err stop) is (Err stop) (λ found scans rest. cut-off found stop other scans) (λ found numbered scans refused. cut-soon stop other found numbered refused)
+  greps-cut stop is other = grep-by (Err stop) is (Err stop) (λ found scans rest. cut-off found stop other scans) (λ found numbered scans rest refused. cut-soon stop other found numbered refused)
 
 pub fault-other : SinkFault ≢ TooManyErrors
 fault-other e = cc

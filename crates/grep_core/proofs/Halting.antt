@@ -27,7 +27,7 @@ use Rattle.tool_out.specs.Writes.{Writes, WritesAll}
 use Rattle.tool_out.specs.Prints.{Breaks}
 use Rattle.grep_core.proofs.Reached.{unselected-error}
 use Rattle.tool_out.specs.Printed.{printed}
-use Rattle.tool_out.proofs.Printing.{prefix-of, prefix-none}
+use Rattle.tool_out.proofs.Printing.{prefix-of}
 
 -- a refused write
 pub halts-of : {T : Type 0} (text : List ℕ) (old new : Kept) (e : IoError) → Writes {T = T} text old new (Err e) → Halts text old new (stop_of e)
@@ -102,13 +102,6 @@ error-halts plan name shows c s t e out_old out_new err_old err_new stop is few 
     by_stop SinkFault h = record { out = h.0; err = prefix-of err_old.held err_new.held (error_message name t) said.all; cause = λ _. inl h.1; steady = λ other. absurd (other refl) }
     by_stop Memory h = record { out = h.0; err = prefix-of err_old.held err_new.held (error_message name t) said.all; cause = λ is. absurd (cc); steady = λ _. (h.1, said.steady) }
     by_stop TooManyErrors h = absurd h
-
--- where a part of its message was written
-pub error-unsaid : (plan : GrepPlan) (name : List ℕ) (shows : Show) (c : Course) (s : State) (t : Tried) (out err_old err_new : Kept) (e : IoError)
-    → Writes {T = Unit {0}} (error_message name t) err_old err_new (Err e)
-    → Breaks (if is_last s t then [] else row_out plan name shows s.has_shown (course_of c) t) (error_message name t) (printed out err_old) (printed out err_new) ((stop_of e) ≡ SinkFault)
-error-unsaid plan name shows c s t out err_old err_new io.Failed w = record { out = prefix-none out.held _; err = w.part; cause = λ _. inr w.cause; steady = λ other. absurd (other refl) }
-error-unsaid plan name shows c s t out err_old err_new io.Memory w = record { out = prefix-none out.held _; err = w.part; cause = λ is. absurd (cc); steady = λ _. (refl, w.cause) }
 
 -- a line with a match error was scanned whole
 pub error-takes : (plan : GrepPlan) (name : List ℕ) (shows : Show) (most : Option ℕ) (c c_new : Course) (s : State) (t : Tried) (e : ℤ) (out_old out_new err_old err_new : Kept) → t.matches ≡ Err e → s.errors + 1 < 21

@@ -19,6 +19,7 @@ pub mod Shortness
 pub mod Steps
 pub mod Halting
 pub mod Taking
+pub mod Deciding
 pub mod Refusing
 pub mod FileTexts
 pub mod Watching

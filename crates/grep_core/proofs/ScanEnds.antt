@@ -7,17 +7,12 @@ use Rattle.std.proofs.lemmas.List.Elements.{filter-append}
 use Rattle.std.proofs.Math.Seq.{take-append_seam, take-append-add}
 use Rattle.line_feed.specs.Rows.{Finish}
 use Rattle.grep_match.specs.Matches.{Tried}
-use Rattle.grep_core.specs.Scans.{Scan, nth_place, place_of_most, scan_to, whole_scan, early_scan, broken_scan, rows_of}
+use Rattle.grep_core.specs.Scans.{Scan, IsBelow, nth_place, place_of_most, scan_to, whole_scan, early_scan, broken_scan, rows_of}
 
 -- it is none of the first lines
 abbrev pub IsPast : ℕ → Option ℕ → Type 0
 IsPast n None = ⊤
 IsPast n (Some k) = n ≤ k
-
--- fewer lines than that are selected
-abbrev pub IsBelow : Option ℕ → ℕ → Type 0
-IsBelow None k = ⊤
-IsBelow (Some m) k = k < m
 
 abbrev pub count : (Tried → Bool) → List Tried → ℕ
 count holds ts = length (filter holds ts)

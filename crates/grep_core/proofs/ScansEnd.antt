@@ -23,7 +23,7 @@ use Rattle.grep_core.specs.Lines.{lines}
 use Rattle.grep_core.specs.Shows.{is_told, show_in, greatest_selected, lines_after}
 use Rattle.grep_match.specs.Modes.{mode}
 use Rattle.grep_match.specs.Matches.{Tried, tried_row, is_selected, has_error}
-use Rattle.grep_core.specs.Scans.{Scan, rows_of, errors_left, nth_place, place_of_most, scan_to, whole_scan, broken_scan, errors_in, selected_in, at_finish, early}
+use Rattle.grep_core.specs.Scans.{Scan, IsBelow, rows_of, errors_left, nth_place, place_of_most, scan_to, whole_scan, broken_scan, errors_in, selected_in, at_finish, early}
 use Rattle.grep_core.specs.Context.{shown_lines}
 use Rattle.grep_core.specs.Messages.{error_message}
 use Rattle.grep_core.specs.InputText.{shown_out, shows_group}
@@ -344,6 +344,7 @@ module _ (plan : GrepPlan) (patterns : List Pattern) (name : List ℕ) (shows : 
           little = stood-little plan treated before after g (standing.given ++ row ∷ [])
               (next-stood plan patterns name shows most treated s0 before now after f g row c s c1 s1 out0 out out1 err0 err err1 standing gives) gives.cuts.near
               (next-whole plan patterns name shows most treated s0 before now after f g row c s c1 s1 out0 out out1 err0 err err1 standing gives);
+          below = λ none. subst (λ m. IsBelow m (count (is_selected plan) us)) job.most_is standing.below;
         }
 
         -- it couldn't be taken

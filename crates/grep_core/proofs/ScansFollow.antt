@@ -103,6 +103,7 @@ module _ (plan : GrepPlan) (name : List ℕ) (shows : Show) (treated : Treatment
         let long = had.long in record {
           rows = rows;
           begins = stood-begins plan treated before after g (given ++ rows) (kind-gives f g now after halts.row halts.gives ∙ had.kind) (max-gives f g now after halts.row halts.gives ∙ had.max) stood;
+          some = omega arith;
           long = omega arith;
           wrote = subst (λ l. Halts l out0 out1 stop) (sym (texts-more had.rows halts.row)) (halts-more (texts had.rows) (line_as plan name false halts.row) out0 out out1 stop had.wrote halts.wrote);
           soon = λ is. record {
@@ -119,6 +120,7 @@ module _ (plan : GrepPlan) (name : List ℕ) (shows : Show) (treated : Treatment
         let long = had.long in record {
           rows = had.rows;
           begins = lacks-so plan treated before now after f g (given ++ had.rows) had.stood had.kind had.max lacks.1;
+          some = omega arith;
           long = omega arith;
           wrote = subst (λ s. Halts (texts had.rows) out0 out1 s) (sym lacks.0) (subst (λ k. Halts (texts had.rows) out0 k Memory) (sym lacks.2) (halts-memory (texts had.rows) out0 out had.wrote));
           soon = λ is. let e : Memory ≡ SinkFault = sym lacks.0 ∙ is in absurd (cc);
@@ -156,6 +158,7 @@ module _ (plan : GrepPlan) (name : List ℕ) (shows : Show) (treated : Treatment
         let long = had.long in record {
           rows = had.rows;
           begins = stood-begins plan treated before now f (given ++ had.rows) had.kind had.max had.stood;
+          some = omega arith;
           long = omega arith;
           wrote = subst (λ l. Halts l out0 out1 stop) (append-nil (texts had.rows)) (halts-more (texts had.rows) [] out0 out out1 stop had.wrote halts);
           soon = λ is. record {

@@ -23,7 +23,7 @@ use Rattle.grep_core.specs.Turns.{course_of, Takes}
 use Rattle.grep_core.specs.WholeScans.{Stood, IsJob, AtLeastOne}
 use Rattle.tool_out.specs.Prints.{Wrote}
 use Rattle.grep_core.proofs.Reached.{Reached, reached-begun}
-use Rattle.grep_core.proofs.ScanEnds.{IsBelow}
+use Rattle.grep_core.specs.Scans.{IsBelow}
 use Rattle.tool_out.proofs.Printing.{wrote-none}
 use Rattle.grep_core.proofs.ScansTaken.{Standing}
 use Rattle.tool_out.specs.Printed.{printed}

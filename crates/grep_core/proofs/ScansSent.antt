@@ -12,9 +12,9 @@ use Rattle.grep_core.specs.declared.ended.Stop.{Stop}
 use Rattle.grep_core.specs.declared.ended.Stop.TheVariants.{SinkFault, TooManyErrors, Memory}
 use Rattle.grep_core.specs.declared.scan.Course.{Course}
 use Rattle.grep_core.specs.declared.state.State.{State}
-use Rattle.grep_match.specs.Matches.{Tried}
+use Rattle.grep_match.specs.Matches.{Tried, is_selected}
 use Rattle.grep_core.specs.Lines.{lines}
-use Rattle.grep_core.specs.Scans.{Scan}
+use Rattle.grep_core.specs.Scans.{Scan, IsBelow}
 use Rattle.grep_core.specs.Messages.{error_message}
 use Rattle.grep_core.specs.InputText.{shown_out}
 use Rattle.grep_core.specs.Course.{scan_so_far}
@@ -25,6 +25,7 @@ use Rattle.grep_core.specs.WholeScans.{StopsIn, StopsSoon, ScansInput, ScansTo, 
 use Rattle.tool_out.specs.Prints.{Wrote, Breaks}
 use Rattle.tool_out.specs.Printed.{printed}
 use Rattle.tool_out.specs.Writes.{WritesAll}
+use Rattle.grep_core.proofs.ScanEnds.{count}
 use Rattle.grep_core.proofs.Extends.{extends}
 use Rattle.grep_core.proofs.ScansRows.{stood-begins, stood-little}
 use Rattle.grep_core.proofs.ScansTexts.{wrote-out, breaks-out, breaks-ext, grew-part}
@@ -96,6 +97,7 @@ module _ (plan : GrepPlan) (patterns : List Pattern) (name : List ℕ) (shows : 
       one = omega arith;
       grew = subst (λ l. GrewBy l out0 out1) (sym (given-shown plan patterns name shows most treated s0 f0 job before now f c s out0 out err0 err standing)) (grew-part a [] out0.held out.held out1.held standing.taken.wrote.out part);
       little = subst (λ l. TakesLittlePast l before now) (sym (append-nil standing.given)) (stood-little plan treated before now f standing.given standing.stood standing.near standing.whole);
+      below = λ none. subst (λ m. IsBelow m (count (is_selected plan) us)) job.most_is standing.below;
     }
 
     -- it was refused: a part of the scan was written

@@ -315,6 +315,7 @@ module _ (plan : GrepPlan) (patterns : List Pattern) (name : List ℕ) (shows : 
         one = soon.one;
         grew = subst (λ l. GrewBy l out0 out1) shown (grew-then a b out0.held out.held out1.held wrote-so.out soon.grew);
         little = subst (λ l. TakesLittlePast l before after) (ap (λ l. given ++ l) soon.parts ∙ sym (append_assoc given whole soon.next)) soon.little;
+        below = λ none. let some = follows.some in absurd (omega arith);
       }
 
   scans-part : (after : Told) (out1 : Kept) (stop : Stop) → FollowsPart plan name shows treated before after given out out1 stop → Input after out1 (Err stop)

@@ -69,6 +69,7 @@ module _ (plan : GrepPlan) (name : List ℕ) (show : Show) (treated : Treatment)
 
   pub record FollowsPart (stop : Stop) : Type 0 where
     pub rows : List Row
+    pub some : 1 ≤ lines_after show plan.after_context
     pub begins : BeginsWith plan treated before after (given ++ rows)
     pub long : length rows ≤ lines_after show plan.after_context
     pub wrote : Halts (flat_map (line_as plan name false) rows) out_old out_new stop

@@ -1,5 +1,5 @@
 -- How far an input is scanned: rows → tried lines → those up to where the scan ends.
-use Rattle.std.specs.Prelude.{ℕ, suc, ◌+◌, ◌-◌, ◌==◌, Bool, true, false, nat_lt, nat_le, if◌then◌else◌, List, [], ◌∷◌, map, take, filter, length, Option, Some, None, option_map}
+use Rattle.std.specs.Prelude.{ℕ, suc, ◌+◌, ◌-◌, ◌<◌, ◌==◌, Bool, true, false, nat_lt, nat_le, if◌then◌else◌, List, [], ◌∷◌, map, take, filter, length, Option, Some, None, option_map, ⊤}
 use Rattle.line_feed.specs.Rows.{Row, Rows, Finish}
 use Rattle.grep_args.specs.declared.plan.GrepPlan.{GrepPlan}
 use Rattle.pat_tree.specs.Pattern.{Pattern}
@@ -70,6 +70,11 @@ scan_to ts finish following (Some e) None = broken_scan ts e
 scan_to ts finish following None (Some s) = early_scan ts finish s following
 scan_to ts finish following (Some e) (Some s) =
     if nat_lt e s then broken_scan ts e else early_scan ts finish s following
+
+-- fewer lines than that are selected
+abbrev pub IsBelow : Option ℕ → ℕ → Type 0
+IsBelow None k = ⊤
+IsBelow (Some most) k = k < most
 
 -- the 21st match error of a run ends it
 abbrev pub errors_left : ℕ → ℕ

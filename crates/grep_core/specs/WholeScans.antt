@@ -14,13 +14,13 @@ use Rattle.grep_core.specs.declared.ended.Ended.{Ended}
 use Rattle.grep_core.specs.declared.ended.Stop.{Stop}
 use Rattle.grep_core.specs.declared.ended.Stop.TheVariants.{SinkFault, TooManyErrors}
 use Rattle.grep_match.specs.PatternTexts.{line_end}
-use Rattle.grep_core.specs.Shows.{is_told, show_in, greatest_selected}
+use Rattle.grep_core.specs.Shows.{is_told, show_in, greatest_selected, lines_after}
 use Rattle.grep_match.specs.Modes.{mode}
 use Rattle.pat_tree.specs.Pattern.{Pattern}
 use Rattle.grep_core.specs.Lines.{is_nul, lines, treatment, treatment_by}
 use Rattle.grep_match.specs.Matches.{Tried, tried_row, is_selected}
 use Rattle.grep_core.specs.Scans as meant
-use Rattle.grep_core.specs.Scans.{Scan, scan_of_rows, selected_in, errors_in, too_many_errors}
+use Rattle.grep_core.specs.Scans.{Scan, IsBelow, scan_of_rows, selected_in, errors_in, too_many_errors}
 use Rattle.grep_core.specs.Messages.{error_message}
 use Rattle.grep_core.specs.declared.state.State.{State}
 use Rattle.grep_core.specs.InputText.{shown_out, shows_group}
@@ -85,6 +85,7 @@ module _ (plan : GrepPlan) (patterns : List Pattern) (name : List ℕ) (show : S
       old new (stop ≡ SinkFault) × StopsIn scan selected s_new
 
   -- A write was refused: what is shown of these lines was written whole, and little past the one after them was taken.
+  -- Where no context follows, none of these lines was the last one that may be selected.
   pub record StopsSoon (found : Rows) (before after : Told) (old new : Kept) : Type 0 where
     pub given : List Row
     pub next : List Row
@@ -94,6 +95,8 @@ module _ (plan : GrepPlan) (patterns : List Pattern) (name : List ℕ) (show : S
     pub grew :
         GrewBy (shown_out plan name show s.has_shown (scan_of (rows_with given (At End)))) old new
     pub little : TakesLittlePast (given ++ next) before after
+    pub below : lines_after show plan.after_context ≡ 0 → IsBelow (greatest_selected plan treated)
+        (length (filter (is_selected plan) (map (tried_row plan patterns) given)))
 
   -- the scan of the input that the source stands for was written, or a part of it
   pub record ScansInput (before after : Told) (selected : ℕ) (s_new : State) (old new : Printed)

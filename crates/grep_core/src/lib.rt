@@ -11,8 +11,6 @@ mod scan;
 mod shows;
 mod state;
 mod summary;
-#[cfg(test)]
-mod tests;
 mod watch;
 
 pub use ended::{Ended, FileEnd, Stop};

@@ -3,7 +3,7 @@ use Rattle.std.proofs.Common.{◌≡◌, ℕ, ◌+◌, List, [], ◌∷◌, ◌+
 use Rattle.std.proofs.lemmas.List.{map-append, length-map}
 use Rattle.pat_tree.specs.declared.options.Options.{Options}
 use Rattle.token_parts.specs.declared.fault.Fault.{Fault}
-use Rattle.pcre2_api.specs.Compiled.{CodeParts, Compiles}
+use Rattle.pcre2_api.specs.Compiled.{CodeParts}
 use Rattle.grep_match.specs.declared.patterns.PatternError.{PatternError}
 use Rattle.grep_match.specs.declared.patterns.PatternError.TheVariants.{Bad, Memory}
 use Rattle.pat_tree.specs.Pattern.{Pattern, pattern_of}
@@ -99,18 +99,6 @@ with-bad (p ∷ ps) bad = ap (with_pattern p) (with-bad ps bad)
 
 pub adds-none : {A : Type 0} (a : A) (options : Options) (codes : List CodeParts) → Adds options [] codes codes (Ok a)
 adds-none a options codes = ([], sym (append-nil codes), refl)
-
-pub adds-one : {A : Type 0} (a : A) (options : Options) (text : List ℕ) (old new : List CodeParts) (code : CodeParts) → Compiles options text code → new ≡ old ++ code ∷ [] → Adds options (text ∷ []) old new (Ok a)
-adds-one a options text old new code is grown = (
-  code ∷ [],
-  grown,
-  from-ok options (length old + 1) text [] (pattern_of code.tree) is.2,
-)
-
-pub adds-bad : (A : Type 0) (options : Options) (text : List ℕ) (old new : List CodeParts) (n number at : _) → compiled options text ≡ Err (record { number = number; at = at }) → n ≡ length old + 1 → Adds {A = A} options (text ∷ []) old new (Err (Bad n number at))
-adds-bad A options text old new n number at is place =
-    from-bad options (length old + 1) text [] _ is
-    ∙ ap (λ k. let r : Compiled = Err (record { number = k; fault = record { number = number; at = at } }) in r) (sym place)
 
 pub adds-then : {A B : Type 0} (a : A) (options : Options) (xs ys : List (List ℕ)) (old mid new : List CodeParts) (found : Result B PatternError) → Adds options xs old mid (Ok a) → Adds options ys mid new found → Adds options (xs ++ ys) old new found
 adds-then a options xs ys old mid new (Ok b) first second =

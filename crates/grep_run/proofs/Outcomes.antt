@@ -1,5 +1,5 @@
 -- What a run comes to where it searches nothing, or stops.
-use Rattle.std.proofs.Common.{ℕ, List, [], Ok, Err, refl, inl, inr}
+use Rattle.std.proofs.Common.{ℕ, List, [], Ok, Err, refl, inr}
 use Rattle.std.proofs.KnownBytes.{Appends-nil}
 use Rattle.pcre_io.specs.Told.{Kept}
 use Rattle.grep_core.specs.declared.ended.Stop.{Stop}
@@ -14,16 +14,6 @@ use Rattle.tool_out.specs.Printed.{printed}
 -- memory lacked before anything was written
 pub runs-lacks : (text : RunOutcome) (out err : Kept) → RunsBy text (printed out err) (printed out err) (Err Memory)
 runs-lacks text out err = record { out = prefix-none out.held text.out; err = prefix-none err.held text.err; cause = λ is. absurd (cc); steady = λ _. (refl, refl) }
-
--- A text on the output, and no message.
-module _ (text : List ℕ) (status : ℕ) where
-  pub told-whole : (out_old out_new err : Kept) → WritesAll text out_old out_new → RunsBy (record { out = text; err = []; status = status }) (printed out_old err) (printed out_new err) (Ok status)
-  told-whole out_old out_new err w = (record { out = w.all; err = Appends-nil err.held; steady = (w.steady, refl) }, refl)
-
-  pub told-halts : (out_old out_new err : Kept) (stop : Stop) → Halts text out_old out_new stop → RunsBy (record { out = text; err = []; status = status }) (printed out_old err) (printed out_new err) (Err stop)
-  told-halts out_old out_new err SinkFault h = record { out = h.0; err = prefix-none err.held []; cause = λ _. inl h.1; steady = λ other. absurd (other refl) }
-  told-halts out_old out_new err Memory h = record { out = h.0; err = prefix-none err.held []; cause = λ is. absurd (cc); steady = λ _. (h.1, refl) }
-  told-halts out_old out_new err TooManyErrors h = absurd h
 
 -- A message, and nothing on the output.
 module _ (text : List ℕ) (status : ℕ) where

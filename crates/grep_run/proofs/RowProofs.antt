@@ -22,7 +22,8 @@ use Rattle.pat_build.specs.State.{next, item}
 use Rattle.pat_build.specs.Options.{with_setting, with_item}
 use Rattle.pat_build.specs.Classes.{range_or_hyphen, from_character, from_set, class_parts, class_spec}
 use Rattle.pat_build.specs.Groups.{opened, captured, named, groups_of, named_by, places_named, missing}
-use Rattle.pat_build.specs.Reading.{quantified, closed, part_then, alternatives_from, sequence, alternatives, whole, started, reading, read_from, read}
+use Rattle.pat_build.specs.Callouts.{automatic}
+use Rattle.pat_build.specs.Reading.{quantified, closed, part_then, alternatives_from, sequence, sequence_at, alternatives, whole, started, reading, read_from, read_with, read}
 use Rattle.pat_tree.specs.Nested.{trees_after, trees}
 use Rattle.pat_tree.specs.Sound.{group_numbers}
 use Rattle.pat_lengths.specs.Nodes.{nodes}
@@ -46,7 +47,7 @@ use Rattle.grep_run.specs.ToolText.{text_of}
 use Rattle.grep_run.specs.Worked.{WorkedRows}
 
 reading_computes : Unit {0}
-unfolding stands run_end numeral name_end newline_at first_newline line_end comment blank_end blanks_end is_counted with_mode counted everywhere outside octal numbered_escape longer escape named_reference name_escape digits_start begins_number posix_end ignored_end all_ignored_end class_start bracket class_escape in_class set_by unset_by setting_closed setting start_word closed_word limit star_word opened_by named_group angle special group quoted rest plain token_at next with_setting with_item item range_or_hyphen from_character from_set class_parts class_spec opened captured named groups_of named_by places_named missing quantified closed part_then alternatives_from sequence alternatives whole started reading read_from read
+unfolding stands run_end numeral name_end newline_at first_newline line_end comment blank_end blanks_end is_counted with_mode counted everywhere outside octal numbered_escape longer escape named_reference name_escape digits_start begins_number posix_end ignored_end all_ignored_end class_start bracket class_escape in_class set_by unset_by setting_closed setting start_word closed_word limit star_word opened_by named_group angle special group quoted rest plain token_at next with_setting with_item item range_or_hyphen from_character from_set class_parts class_spec opened captured named groups_of named_by places_named missing quantified closed part_then alternatives_from automatic sequence sequence_at alternatives whole started reading read_from read_with read
 reading_computes = tt
 
 searching_computes : Unit {0}

@@ -510,3 +510,86 @@ fn characters_of_utf_8_are_whole(rt: HostRuntime) {
         Ok((Token::Literal(0xC3), 1))
     );
 }
+
+/// In UTF names have letters, decimal digits and underscores of Unicode, at most 32 bytes of them.
+#[test]
+fn names_in_utf(rt: HostRuntime) {
+    let names = [
+        ("(?<stra\u{DF}e>", 3, 10),
+        ("(?'\u{3C3}\u{663}_'", 3, 8),
+        ("(?P<\u{10400}_\u{1D7D9}>", 4, 13),
+        ("(?<\u{1D3}\u{1C5}\u{2B0}\u{5D0}\u{61}\u{30}>", 3, 13),
+        (
+            "(?<_\u{E9}\u{E9}\u{E9}\u{E9}\u{E9}\u{E9}\u{E9}\u{E9}\u{E9}\u{E9}\u{E9}\u{E9}\u{E9}\u{E9}\u{E9}a>",
+            3,
+            35,
+        ),
+    ];
+    for (text, from, to) in names {
+        let kind = OpenKind::Named { from, to };
+        begins(&rt, UTF, text, Token::Open(kind), to + 1);
+    }
+    let by_name = [("\\k<\u{E9}>", 3), ("\\g{\u{E9}}", 3), ("(?P=\u{E9})", 4)];
+    for (text, from) in by_name {
+        let named = Target::Named { from, to: from + 2 };
+        begins(&rt, UTF, text, Token::Reference(named), from + 3);
+    }
+    let calls = [("(?&\u{E9})", 3), ("(?P>\u{E9})", 4), ("\\g<\u{E9}>", 3)];
+    for (text, from) in calls {
+        let named = Target::Named { from, to: from + 2 };
+        begins(&rt, UTF, text, Token::CallTo(named), from + 3);
+    }
+    let tests = [
+        ("(?(<\u{E9}>)", Target::Named { from: 4, to: 6 }, 7),
+        ("(?('\u{E9}')", Target::Named { from: 4, to: 6 }, 7),
+        ("(?(\u{E9})", Target::Named { from: 3, to: 5 }, 5),
+    ];
+    for (text, named, to) in tests {
+        let cond = CondText::Group(named);
+        begins(
+            &rt,
+            UTF,
+            text,
+            Token::CondStart { cond, from: 3, to },
+            to + 1,
+        );
+    }
+    let cond = CondText::InCallOf(Target::Named { from: 5, to: 7 });
+    begins(
+        &rt,
+        UTF,
+        "(?(R&\u{E9})",
+        Token::CondStart {
+            cond,
+            from: 3,
+            to: 7,
+        },
+        8,
+    );
+}
+
+#[test]
+fn faults_of_names_in_utf(rt: HostRuntime) {
+    let rows = [
+        // A digit first, a combining mark, a letter number, another number, a connector that is no underscore.
+        (
+            144,
+            "(?<\u{663}a> (?<\u{1D7D9}> \\k<\u{FF11}> (?<\u{301}> (?<\u{2160}> (?<\u{B2}> (?<\u{203F}>",
+        ),
+        (
+            142,
+            "(?<a\u{301}> (?<a\u{2160}> (?<a\u{B2}> (?<a\u{203F}> (?<\u{E9}",
+        ),
+        (
+            148,
+            "(?<__\u{E9}\u{E9}\u{E9}\u{E9}\u{E9}\u{E9}\u{E9}\u{E9}\u{E9}\u{E9}\u{E9}\u{E9}\u{E9}\u{E9}\u{E9}a>",
+        ),
+    ];
+    for (number, texts) in rows {
+        for text in texts.split(' ') {
+            refused(&rt, UTF, text, number, 0);
+        }
+    }
+    refused(&rt, PLAIN, "(?<\u{E9}>", 144, 0);
+    refused(&rt, PLAIN, "(?<a\u{E9}>", 142, 0);
+}

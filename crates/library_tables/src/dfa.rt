@@ -1,8 +1,7 @@
 //! Matches by all ends. The rows are those of pcre2test 10.42 under `dfa` and `no_auto_possess`.
-ghost use Rattle.pat_tree.specs.declared.options.PartialMode.TheVariants.{Off};
 ghost use Rattle.std.specs.Prelude.{◌≡◌, ◌<◌, length};
 
-use pcre2_api::{Code, DfaError, DfaFound, Lists, MatchOptions, Options, Steps};
+use pcre2_api::{Code, DfaError, DfaFound, Lists, MatchOptions, Options, PartialMode, Steps};
 use std::alloc::Global;
 use std::marker::Brand;
 use std::process::Abort;
@@ -20,6 +19,13 @@ const UTF: Options = Options {
 
 const UCP: Options = Options { ucp: true, ..UTF };
 
+// Partial matches in a subject of three bytes, by where they begin.
+const PARTLY: DfaError = DfaError::Partial { start: 1, end: 3 };
+
+const LATE: DfaError = DfaError::Partial { start: 2, end: 3 };
+
+const EMPTY: DfaError = DfaError::Partial { start: 3, end: 3 };
+
 fn counted<L: Ledger>(
     alloc: Global,
     compiling: Options,
@@ -34,7 +40,6 @@ fn counted<L: Ledger>(
     requires parts { blank.parts ≡ L.parts }
     requires one { blank.parts ≡ 1 }
     requires short { length subject.now < 1000 }
-    requires off { options.now.«partial» ≡ Off }
 {
     let code = Code::compile(alloc, pattern, compiling)?;
     let mut steps: Steps<L> = Steps::new(blank);
@@ -52,7 +57,6 @@ fn found(
     lists: &mut Lists,
 ) -> Result<Result<DfaFound, DfaError>, Fail>
     requires short { length subject.now < 1000 }
-    requires off { options.now.«partial» ≡ Off }
 {
     counted::<Brand>(
         alloc,
@@ -222,7 +226,7 @@ fn what_is_not_supported_is_refused(rt: HostRuntime) -> Result<(), Fail> {
         (b"(a)\\1(?(1)b)", DfaError::Item),
         (b"a{60000}b{9000}", DfaError::TooLarge),
         (b"(?=a)a{60000}b{9000}", DfaError::TooLarge),
-        (b"(?=a)", DfaError::NotBuilt),
+        (b"(?<=a(?(R1)b|c))(d)", DfaError::Cond),
     ];
     let mut lists = Lists::new(rt.alloc());
     for (pattern, wanted) in &ROWS {
@@ -300,6 +304,64 @@ fn options_take_ends_away(rt: HostRuntime) -> Result<(), Fail> {
         &mut lists,
     )?;
     assert!(&rt; matches!(past, Err(DfaError::BadOffset)));
+    Ok(())
+}
+
+// A partial match is told by its places.
+#[test]
+fn a_partial_match_runs_to_the_end(rt: HostRuntime) -> Result<(), Fail> {
+    static ROWS: [(&[u8], &[u8], PartialMode, DfaError); 12] = [
+        (b"abc", b"xab", PartialMode::Soft, PARTLY),
+        (b"abc", b"xab", PartialMode::Hard, PARTLY),
+        (b"abc", b"xab", PartialMode::Off, DfaError::NoMatch),
+        (b"abc", b"xax", PartialMode::Soft, DfaError::NoMatch),
+        (b"abc", b"xax", PartialMode::Hard, DfaError::NoMatch),
+        (b"a|abc", b"xab", PartialMode::Hard, PARTLY),
+        (b"b+?", b"xab", PartialMode::Hard, LATE),
+        (b"b$", b"xab", PartialMode::Hard, LATE),
+        (b"ab\\b", b"xab", PartialMode::Hard, PARTLY),
+        (b"(?<=b)c", b"xab", PartialMode::Soft, EMPTY),
+        (b"b(?=c)", b"xab", PartialMode::Soft, LATE),
+        (b"(a)\\1", b"xab", PartialMode::Soft, DfaError::Item),
+    ];
+    let mut lists = Lists::new(rt.alloc());
+    for (pattern, subject, partial, wanted) in &ROWS {
+        assert!(&rt; subject.len() < 1000);
+        let options = MatchOptions {
+            partial: *partial,
+            ..MatchOptions::PLAIN
+        };
+        match found(
+            rt.alloc(),
+            Options::PLAIN,
+            pattern,
+            subject,
+            0,
+            &options,
+            &mut lists,
+        )? {
+            Ok(_) => assert!(&rt; false),
+            Err(e) => assert_eq!(&rt; e, *wanted),
+        }
+    }
+    Ok(())
+}
+
+#[test]
+fn ends_go_before_a_soft_partial_match(rt: HostRuntime) -> Result<(), Fail> {
+    let soft = MatchOptions {
+        partial: PartialMode::Soft,
+        ..MatchOptions::PLAIN
+    };
+    let mut lists = Lists::new(rt.alloc());
+    let plain = Options::PLAIN;
+    match found(rt.alloc(), plain, b"a|ab+", b"abb", 0, &soft, &mut lists)? {
+        Ok(found) => {
+            let text = texts(rt.alloc(), b"abb", &found)?;
+            assert_eq!(&rt; text.as_slice(), b"abb|ab|a|".as_slice());
+        }
+        Err(_) => assert!(&rt; false),
+    }
     Ok(())
 }
 
@@ -426,6 +488,205 @@ fn all_ends_begin_at_a_character(rt: HostRuntime) -> Result<(), Fail> {
             Ok(_) => assert!(&rt; false),
             Err(e) => assert_eq!(&rt; e, *wanted),
         }
+    }
+    Ok(())
+}
+
+#[test]
+fn nested_parts_have_ends_of_their_own(rt: HostRuntime) -> Result<(), Fail> {
+    static ROWS: [Row; 62] = [
+        (b"(?=a)a", b"aaa", Some(b"a|")),
+        (b"(?=ab)a.*", b"abc", Some(b"abc|ab|a|")),
+        (b"(?=ab)a.*", b"acabd", Some(b"abd|ab|a|")),
+        (b"(?!ab)a.?", b"abac", Some(b"ac|a|")),
+        (b"(?!ab)a.?", b"ab", None),
+        (b"a(?=b)", b"ab", Some(b"a|")),
+        (b"a(?=b)", b"ac", None),
+        (b"a(?!b)", b"ab", None),
+        (b"a(?!b)", b"abac", Some(b"a|")),
+        (b"(?>a+)b", b"aaab", Some(b"aaab|")),
+        (b"(?>a+)a", b"aaa", None),
+        (b"(?>a|ab|abc)c", b"abcc", Some(b"abcc|")),
+        (b"(?>a|ab|abc)", b"abc", Some(b"abc|")),
+        (b"(?>a|ab)(?>c|bcd)", b"abcd", Some(b"abc|")),
+        (b"^a++\\w!", b"aaab!", Some(b"aaab!|")),
+        (b"^a++\\w!", b"aaa!", None),
+        (b"a*+b", b"aaab", Some(b"aaab|")),
+        (b"a?+a", b"aa", Some(b"aa|")),
+        (b"(?>)a", b"a", Some(b"a|")),
+        (b"(?>a?)b", b"ab", Some(b"ab|")),
+        (b"(?>a?)b", b"b", Some(b"b|")),
+        (b"(?:(?>a?))*b", b"aab", Some(b"aab|")),
+        (b"(?:(?>))*a", b"a", Some(b"a|")),
+        (b"(?:(?=a))*a", b"aa", Some(b"a|")),
+        (b"(?=(?=a)ab)a.", b"ab", Some(b"ab|")),
+        (b"(?=(?!ac)a).+", b"acab", Some(b"ab|a|")),
+        (b"(?!(?!a)b)b", b"b", None),
+        (b"(?!(?=a))b", b"ab", Some(b"b|")),
+        (b"(?(?=a)ab|cd)", b"ab", Some(b"ab|")),
+        (b"(?(?=a)ab|cd)", b"cd", Some(b"cd|")),
+        (b"(?(?=a)ab|cd)", b"ad", None),
+        (b"(?(?=ab)a)", b"ab", Some(b"a|")),
+        (b"(?(?=ab)a)", b"b", Some(b"|")),
+        (b"(?(?!a)b|a)+", b"abba", Some(b"abba|abb|ab|a|")),
+        (b"(?(?!a)b)c", b"bc", Some(b"bc|")),
+        (b"(?(?!a)b)c", b"ac", None),
+        (b"(?(?=a)(?>a+)|b+)c", b"aac", Some(b"aac|")),
+        (b"(?(?=(?=a)a.)..|b)", b"acb", Some(b"ac|")),
+        (b"(?=a|b)\\w+", b"cab", Some(b"ab|a|")),
+        (b"(?=.*c)\\w+", b"abcd", Some(b"abcd|abc|ab|a|")),
+        (b"(?=.*c)\\w+", b"abd", None),
+        (b"(?!.*c)\\w+", b"abcd", Some(b"d|")),
+        (b"(?>\\w+\\b)!", b"ab!", Some(b"ab!|")),
+        (b"(?>(a|b)*)c", b"ababc", Some(b"ababc|")),
+        (
+            b"(a|(?>bc|b)d)+",
+            b"abcdbda",
+            Some(b"abcdbda|abcdbd|abcd|a|"),
+        ),
+        (b"(?=a)", b"b", None),
+        (b"(?=)a", b"a", Some(b"a|")),
+        (b"(?!)a", b"a", None),
+        (b"(?=(*FAIL))a", b"a", None),
+        (b"(?>(*FAIL)|a)", b"a", Some(b"a|")),
+        (b"(?>a{2,3}){2}", b"aaaaaa", Some(b"aaaaaa|")),
+        (b"(?>a{2,3}?)a", b"aaaa", Some(b"aaaa|")),
+        (b"(?=a(?>b+)c)\\w+", b"abbc", Some(b"abbc|abb|ab|a|")),
+        (b"(?=^|b)\\w", b"ab", Some(b"a|")),
+        (b"(?>\\R)\\n", b"\r\n\n", Some(b"\r\n\n|")),
+        (b"(?=\\R)\\r", b"\r\n", Some(b"\r|")),
+        (b"x(?=(?:a|b)*c)", b"xabac", Some(b"x|")),
+        (b"(?>x(?=a))a", b"xa", Some(b"xa|")),
+        (b"(?:(?=a)\\w|b)+", b"abac", Some(b"aba|ab|a|")),
+        (b"(?=(a)(?=b))\\w(b)", b"ab", Some(b"ab|")),
+        (b"(?(?=.b)(?(?=a)ab|bb)|c)", b"bb", Some(b"bb|")),
+        (b"(?(?=.b)(?(?=a)ab|bb)|c)", b"c", Some(b"c|")),
+    ];
+    answers(&rt, rt.alloc(), Options::PLAIN, &ROWS)
+}
+
+#[test]
+fn lookbehinds_begin_before_their_place(rt: HostRuntime) -> Result<(), Fail> {
+    static ROWS: [Row; 67] = [
+        (b"(?<=a)b", b"ab", Some(b"b|")),
+        (b"(?<=a)b", b"bb", None),
+        (b"(?<=a)b*", b"aabb", Some(b"|")),
+        (b"(?<!a)b+", b"abbb", Some(b"bb|b|")),
+        (b"(?<!a)b", b"ab", None),
+        (b"(?<!a)b", b"cb", Some(b"b|")),
+        (b"(?<=ab)c.?", b"abcd", Some(b"cd|c|")),
+        (b"(?<=ab)c", b"ac", None),
+        (b"(?<=ab|c)d+", b"cdd", Some(b"dd|d|")),
+        (b"(?<=ab|c)d+", b"abd", Some(b"d|")),
+        (b"(?<=ab|c)d+", b"bd", None),
+        (b"(?<=c|ab)d+", b"abdd", Some(b"dd|d|")),
+        (b"(?<!ab|c)d", b"abdcd", None),
+        (b"(?<!ab|c)d", b"abdcdd", Some(b"d|")),
+        (b"(?<!c|ab)d", b"add", Some(b"d|")),
+        (b"(?<=^a)b", b"ab", Some(b"b|")),
+        (b"(?<=^a)b", b"aab", None),
+        (b"(?<=a|^)b+", b"bbab", Some(b"bb|b|")),
+        (b"(?<=)a", b"a", Some(b"a|")),
+        (b"(?<!)a", b"a", None),
+        (b"a(?<=a)", b"aa", Some(b"a|")),
+        (b"a+(?<=aa)", b"aaa", Some(b"aaa|aa|")),
+        (b"a+(?<!aa)b", b"aab", None),
+        (b"\\w+(?<=[bd])", b"abcde", Some(b"abcd|ab|")),
+        (b"\\w+(?<![bd])", b"abcd", Some(b"abc|a|")),
+        (b"(?<=a{3})b", b"aaab", Some(b"b|")),
+        (b"(?<=a{3})b", b"aab", None),
+        (b"(?<=(a|b)c)d", b"bcd", Some(b"d|")),
+        (b"(?<=(?:ab|cd)e)f", b"cdef", Some(b"f|")),
+        (b"(?<=(?<=a)b)c", b"abc", Some(b"c|")),
+        (b"(?<=(?<!a)b)c", b"abcbc", Some(b"c|")),
+        (b"(?<=(?<!a)b)c", b"abc", None),
+        (b"(?<=a(?=b))b.?", b"abc", Some(b"bc|b|")),
+        (b"(?<=(?=ab).)b", b"ab", Some(b"b|")),
+        (b"(?<=(?>a|b))c", b"bc", Some(b"c|")),
+        (b"(?=(?<=a)b)\\w+", b"abc", Some(b"bc|b|")),
+        (b"(?>(?<=a)b+)c", b"abbc", Some(b"bbc|")),
+        (b"(?(?<=a)b|c)+", b"bacb", None),
+        (b"(?(?<=a)b|c)", b"ab", Some(b"b|")),
+        (b"(?(?<=a)b|c)", b"cb", Some(b"c|")),
+        (b"(?(?<!a)b|c)+", b"bac", Some(b"b|")),
+        (b"(?(?<=a)b)c", b"abc", Some(b"bc|")),
+        (b"(?(?<=a)b)c", b"ac", None),
+        (b"(?(?<!a)b)c", b"ac", Some(b"c|")),
+        (b"(?(?<!a)b)c", b"bc", Some(b"bc|")),
+        (b"(?(?<!ab|c)d|e)+", b"abecdd", Some(b"e|")),
+        (b"a(?(?<=a)|b)c", b"abc", None),
+        (b"(?(?<=^)a|b)+", b"ab", Some(b"ab|a|")),
+        (b"(?(?<=ab|c)d|e)", b"abd", Some(b"d|")),
+        (b"(?(?<=ab|c)d|e)", b"de", Some(b"e|")),
+        (b"(?<=\\d{3}(?<!999))foo", b"999foo123foo", Some(b"foo|")),
+        (b"(?<=foo)bar(?=baz)", b"foobarbaz", Some(b"bar|")),
+        (b"(?<![cd]{2})[ab]+", b"cdacb", Some(b"b|")),
+        (b"(?<=\\b)a", b"a", Some(b"a|")),
+        (b"(?<=\\n)^a", b"x\na", None),
+        (b"(?<=.)\\b", b"ab", Some(b"|")),
+        (b"(?<=a)(?<=b)c", b"abc", None),
+        (b"(?<=b)(?<!a)c", b"bc", Some(b"c|")),
+        (b"(?<!^)a+", b"aaa", Some(b"aa|a|")),
+        (b"(?:(?<=a)b|a)+", b"abab", Some(b"abab|aba|ab|a|")),
+        (b"(?:(?<!a)b|a)+", b"abba", Some(b"a|")),
+        (b"(?<=(*FAIL))a", b"a", None),
+        (b"(?<!(*FAIL))a", b"a", Some(b"a|")),
+        (b"(?<=(?(?=a)a|b))c", b"bc", Some(b"c|")),
+        (b"(?<=(?(?=a)a|b))c", b"cc", None),
+        (b"x(?<=(?<=y)x)z", b"yxz", Some(b"xz|")),
+        (b"(?<=a)b(?<=ab)(?<!b)c|abc", b"abc", Some(b"abc|")),
+    ];
+    answers(&rt, rt.alloc(), Options::PLAIN, &ROWS)
+}
+
+#[test]
+fn lookbehinds_count_characters(rt: HostRuntime) -> Result<(), Fail> {
+    static ROWS: [Row; 6] = [
+        (b"(?<=\\x{e9})b", b"\xc3\xa9b", Some(b"b|")),
+        (
+            b"(?<=\\x{e9}\\x{20ac})b+",
+            b"\xc3\xa9\xe2\x82\xacbb",
+            Some(b"bb|b|"),
+        ),
+        (b"(?<!\\x{20ac})b", b"\xe2\x82\xacbb", Some(b"b|")),
+        (b"(?<=..)b", b"\xe2\x82\xacb\xc3\xa9b", Some(b"b|")),
+        (b"(?<=\\x{20ac}|\\x{e9}a)b", b"\xc3\xa9ab", Some(b"b|")),
+        (
+            b"(?(?<=\\x{20ac})b|\\x{20ac})+",
+            b"\xe2\x82\xacb",
+            Some(b"\xe2\x82\xacb|\xe2\x82\xac|"),
+        ),
+    ];
+    answers(&rt, rt.alloc(), UTF, &ROWS)
+}
+
+#[test]
+fn the_deepest_groups_are_matched(rt: HostRuntime) -> Result<(), Fail> {
+    // 250 groups, each in a possessive repeat: 500 atomic groups in each other
+    let mut pattern = Vec::new(rt.alloc());
+    for _ in 0..250 {
+        pattern.extend_from_slice(b"(?>")?;
+    }
+    pattern.push(b'a')?;
+    for _ in 0..250 {
+        pattern.extend_from_slice(b")?+")?;
+    }
+    let mut lists = Lists::new(rt.alloc());
+    let plain = MatchOptions::PLAIN;
+    match found(
+        rt.alloc(),
+        Options::PLAIN,
+        pattern.as_slice(),
+        b"aa",
+        0,
+        &plain,
+        &mut lists,
+    )? {
+        Ok(all) => {
+            let told = texts(rt.alloc(), b"aa", &all)?;
+            assert_eq!(&rt; told.as_slice(), b"a|".as_slice());
+        }
+        Err(_) => assert!(&rt; false),
     }
     Ok(())
 }

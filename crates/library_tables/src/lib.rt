@@ -6,12 +6,6 @@ mod dfa;
 #[cfg(test)]
 mod library;
 #[cfg(test)]
-mod many;
-#[cfg(test)]
-mod marks;
-#[cfg(test)]
 mod places;
-#[cfg(test)]
-mod substitutions;
 #[cfg(test)]
 mod utf;

@@ -1,5 +1,5 @@
 -- Bytes taken, piece by piece.
-use Rattle.std.proofs.Common.{◌≡◌, ◌≢◌, ℕ, ◌+◌, ◌^◌, ◌<◌, [], ◌++◌, length, refl, sym, ap, subst, ◌∙◌, ⊎_elim, append_assoc, append-nil, length-append}
+use Rattle.std.proofs.Common.{◌≡◌, ℕ, ◌+◌, ◌^◌, ◌<◌, [], ◌++◌, length, refl, sym, ap, subst, ◌∙◌, ⊎_elim, append_assoc, append-nil, length-append}
 use Rattle.std.proofs.KnownBytes.{Consumes-nil, Consumes-trans}
 use Rattle.pcre_io.specs.Told.{Told}
 use Rattle.line_feed.specs.declared.phase.Phase.{Phase}
@@ -16,13 +16,6 @@ going Ended = 0
 going Missed = 0
 going Full = 0
 going Closed = 0
-
-pub going-small : (p : Phase) → p ≢ Open → going p ≡ 0
-going-small Open h = absurd (h refl)
-going-small Ended h = refl
-going-small Missed h = refl
-going-small Full h = refl
-going-small Closed h = refl
 
 pub Moves-none : (f : Feed) (t : Told) → (f.phase ≡ Open → f.offset + length f.held < 2 ^ 40) → Moves f f t t
 Moves-none f t few = record {

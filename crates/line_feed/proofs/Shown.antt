@@ -7,7 +7,7 @@ use Rattle.line_feed.specs.declared.phase.Phase.TheVariants.{Open, Ended, Missed
 use Rattle.line_feed.specs.Rows.{Row, Ending, Finish, rows_from}
 use Rattle.line_feed.specs.View.{Feed, Follows, HasNoMore, to_give}
 use Rattle.line_feed.specs.Steps.{Moves}
-use Rattle.line_feed.specs.Answers.{Cuts, Gives, Lacks, Shows}
+use Rattle.line_feed.specs.Answers.{Cuts, Gives, Shows}
 use Rattle.line_feed.specs.Hears.{HasGiven, HasHeard, HasBegun, HasShown}
 use Rattle.line_feed.proofs.Given.{HasGiven-moved, HasGiven-cut, input-for, heard-of, phase-open}
 
@@ -66,9 +66,6 @@ pub HasShown-gives : (before now after : Told) (f g : Feed) (given : List Row) (
     → HasShown before after g (given ++ row ∷ []) shown
 HasShown-gives before now after f g given row shown has gives =
     HasShown-cuts before after gives.mid g given row shown (HasShown-moves before now after f gives.mid given shown has gives.reads.moves) gives.cuts
-
-pub HasShown-lacks : (before now after : Told) (f g : Feed) (given : List Row) (shown : List ℕ) → HasShown before now f given shown → Lacks f g now after → HasShown before after g given shown
-HasShown-lacks before now after f g given shown has lacks = HasShown-moves before now after f g given shown has lacks.moves
 
 -- the bytes shown are the first of the input that the source stands for
 front-of : (phase : Phase) (all more : List ℕ) (ending : Ending) → Follows phase more ending → (phase ≡ Open → 1024 ≤ length all) → take 1024 (all ++ more) ≡ take 1024 all

@@ -133,15 +133,15 @@ fn nested(
 #[test]
 fn nested_calls_take_two_steps_each(rt: HostRuntime) -> Result<(), Fail> {
     let alloc = rt.alloc();
-    let balanced = nested(&rt, alloc, b"^((?>a(?1)?b))$", 10_000, 10_000, 20_000)?;
-    assert_eq!(rt; balanced.0, found!(0, 20_000));
+    let balanced = nested(&rt, alloc, b"^((?>a(?1)?b))$", 30_000, 30_000, 60_000)?;
+    assert_eq!(rt; balanced.0, found!(0, 60_000));
     assert_eq!(rt;
         balanced.1.map(|span| (span.from, span.to)),
-        Some((0, 20_000))
+        Some((0, 60_000))
     );
-    let few = nested(&rt, alloc, b"^((?>a(?1)?b))$", 10_000, 10_000, 19_999)?;
+    let few = nested(&rt, alloc, b"^((?>a(?1)?b))$", 30_000, 30_000, 59_999)?;
     assert_eq!(rt; few.0, PlaceAnswer::MatchLimit);
-    let ahead = nested(&rt, alloc, b"(a(?=(?1)?))", 10_000, 0, 20_000)?;
+    let ahead = nested(&rt, alloc, b"(a(?=(?1)?))", 30_000, 0, 60_000)?;
     assert_eq!(rt; ahead.0, found!(0, 1));
     assert_eq!(rt; ahead.1.map(|span| (span.from, span.to)), Some((0, 1)));
     Ok(())

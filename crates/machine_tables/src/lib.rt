@@ -4,8 +4,12 @@
 #[cfg(test)]
 mod calls;
 #[cfg(test)]
+mod partial;
+#[cfg(test)]
 mod places;
 #[cfg(test)]
 mod rows;
+#[cfg(test)]
+mod trees;
 #[cfg(test)]
 mod verbs;

@@ -1,16 +1,13 @@
 //! What the machine answers at the first place of a subject.
 ghost use Rattle.std.specs.Prelude.{◌≡◌, ◌≤◌, ◌<◌, false, length};
-ghost use Rattle.pat_tree.specs.Parts.{tree_of};
 ghost use Rattle.char_sets.specs.Table.{IsTableOf};
-ghost use Rattle.pat_tree.specs.Built.{IsBuilt};
-ghost use Rattle.frame_machine.specs.Ready.{AreFactsOf};
-ghost use Rattle.pat_tree.specs.declared.options.PartialMode.TheVariants.{Off};
+ghost use Rattle.frame_board.specs.Ready.{AreFactsOf};
 
 use char_sets::ClassTable;
 use frame_machine::{PlaceAnswer, Ready, Scratch, run_at};
 use frame_store::Span;
 use match_items::View;
-use pat_build::{read, what_is_read_can_be_searched};
+use pat_build::read;
 use pat_check::{Facts, check};
 use pat_tree::{MatchOptions, Options, PartialMode, Tree};
 use pcre_io::NoCallouts;
@@ -30,6 +27,8 @@ pub(crate) enum Change {
     Units(u32),
     /// What group 1 captured.
     Captured(u64, u64),
+    /// How partial matches are looked for.
+    Partially(PartialMode),
 }
 
 /// The limits of a run, and what group 1 captures.
@@ -45,6 +44,7 @@ impl Run {
             Change::Steps(limit) => self.matching.match_limit = limit,
             Change::Units(limit) => self.matching.frame_limit = limit,
             Change::Captured(from, to) => self.group = Some((from, to)),
+            Change::Partially(mode) => self.matching.partial = mode,
         }
     }
 }
@@ -74,8 +74,6 @@ fn answer_of(
     requires facts { AreFactsOf tree.now facts.now }
     requires short { length subject.now < 4294967295 }
     requires bytes { tree.now.options.utf ≡ false }
-    requires off { matching.now.«partial» ≡ Off }
-    requires built { IsBuilt (tree_of tree.now) }
 {
     let ready = Ready {
         tree,
@@ -100,11 +98,8 @@ pub(crate) fn placed(
     scratch: &mut Scratch,
 ) -> Result<(PlaceAnswer, Option<Span>), Fail>
     requires short { length subject.now < 4294967295 }
-    requires off { matching.now.«partial» ≡ Off }
 {
     let tree = read(alloc, pattern, Options::PLAIN)?;
-    // so the tree has the forms that run
-    what_is_read_can_be_searched();
     // the rows are run byte by byte
     if tree.options().utf {
         return Ok((PlaceAnswer::Memory, None));
@@ -119,12 +114,8 @@ pub(crate) fn placed(
 fn case(rt: &impl Abort, alloc: Global, row: &Row, scratch: &mut Scratch) -> Result<(), Fail> {
     let (pattern, subject, expected, changes) = *row;
     let run = run_with(changes);
-    let matching = MatchOptions {
-        partial: PartialMode::Off,
-        ..run.matching
-    };
     assert!(rt; subject.len() < 100);
-    let (answer, group) = placed(alloc, pattern, subject, &matching, scratch)?;
+    let (answer, group) = placed(alloc, pattern, subject, &run.matching, scratch)?;
     assert_eq!(rt; answer, expected);
     if matches!(answer, PlaceAnswer::Matched { .. }) {
         assert_eq!(rt; group.map(|span| (span.from, span.to)), run.group);

@@ -1,7 +1,7 @@
 -- The places that the bytes of every match exclude.
-use Rattle.std.proofs.Common.{◌≡◌, ℕ, ◌<◌, ◌≤◌, Bool, true, false, not, List, length, Option, Some, None, refl, sym, ap, ◌∙◌}
+use Rattle.std.proofs.Common.{◌≡◌, ℕ, ◌<◌, Bool, true, false, not, List, length, Option, Some, None, refl, sym, ap, ◌∙◌}
 use Rattle.std.specs.Prelude.{slice_index}
-use Rattle.std.proofs.lemmas.Bool.{le-leb, lt-leb}
+use Rattle.std.proofs.lemmas.Bool.{lt-leb}
 use Rattle.byte_lanes.specs.Sets.{has_byte}
 use Rattle.pat_check.specs.Known.{IsByteSet}
 use Rattle.ordered_search.specs.Setting.{Setting, lead_set}
@@ -33,16 +33,6 @@ module _ (g : Setting) where
       by_lead (Some has) is =
           ap (λ b. elim b [ true ↦ is_off g.matching.«partial» | false ↦ not (has (slice_index g.subject p)) ]) (lt-leb (length g.subject) p inside)
           ∙ ap not (sym (is (slice_index g.subject p) byte))
-
-  -- the subject's end
-  pub excluded_end : (set : List Bool) (p : ℕ) → g.options.no_start_optimize ≡ false → IsByteSet (Some set) (lead_set g)
-      → length g.subject ≤ p → is_excluded g p ≡ is_off g.matching.«partial»
-  excluded_end set p h is past = excluded_by p h ∙ by_lead (lead_set g) is
-    where
-      by_lead : (lead : Option (ℕ → Bool)) → IsByteSet (Some set) lead → is_outside g lead p ≡ is_off g.matching.«partial»
-      by_lead None is = absurd is
-      by_lead (Some has) is =
-          ap (λ b. elim b [ true ↦ is_off g.matching.«partial» | false ↦ not (has (slice_index g.subject p)) ]) (le-leb (length g.subject) p past)
 
   pub excluded_by_byte : (set : List Bool) (p : ℕ) → g.options.no_start_optimize ≡ false → IsByteSet (Some set) (lead_set g) → p < length g.subject
       → IsByteOutside set (slice_index g.subject p) → is_excluded g p ≡ true

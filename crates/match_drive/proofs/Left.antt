@@ -3,9 +3,9 @@ use Rattle.std.proofs.Common.{◌≡◌, ℕ, ℤ, Bool, true, false, List, [], 
 use Rattle.std.specs.Option.{option_or, unwrap_or}
 use Rattle.frame_store.specs.Captures.{Captures}
 use Rattle.ordered_search.specs.Stream.{Note}
-use Rattle.frame_machine.specs.declared.answer.PlaceAnswer.TheVariants as told
-use Rattle.frame_machine.specs.declared.answer.Signal.{Signal}
-use Rattle.frame_machine.specs.Answer.{signal_of, IsAnswer, IsMark}
+use Rattle.frame_state.specs.declared.answer.PlaceAnswer.TheVariants as told
+use Rattle.frame_state.specs.declared.answer.Signal.{Signal}
+use Rattle.frame_state.specs.Answer.{signal_of, IsAnswer, IsMark}
 use Rattle.ordered_search.specs.PlaceAnswer as place
 use Rattle.ordered_search.specs.PlaceAnswer.{Walked, name_in, last_name, has_hit}
 use Rattle.match_drive.specs.declared.answer.MatchAnswer.TheVariants as answer

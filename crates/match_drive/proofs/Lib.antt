@@ -4,9 +4,18 @@ mod Excluded
 mod Steps
 mod TextSteps
 mod PastPlaces
+mod Shown
 mod Walk
 mod Leads
 mod PastBegin
 mod PastPrefix
+mod PastRepeats
 mod PastRun
 mod Needless
+mod SameSearch
+mod KeptStreams
+mod LeadItems
+mod LeadSearch
+pub mod StartLaw
+pub mod Regular
+pub mod Both

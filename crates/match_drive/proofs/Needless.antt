@@ -1,5 +1,5 @@
 -- Where no text stands that every match of a finished tree needs, nothing is found.
-use Rattle.std.proofs.Common.{◌≡◌, ℕ, ℤ, ◌+◌, ◌<◌, ◌≤◌, Bool, length, subst}
+use Rattle.std.proofs.Common.{◌≡◌, ℕ, ℤ, ◌+◌, ◌<◌, ◌≤◌, Bool, List, length, refl, subst, arith}
 use Rattle.std.specs.Prelude.{slice_index}
 use Rattle.pat_tree.specs.declared.options.Options.{Options}
 use Rattle.pat_tree.specs.declared.options.PartialMode.TheVariants.{Off}
@@ -7,6 +7,8 @@ use Rattle.pat_tree.specs.Parts.{TreeParts, tree_of}
 use Rattle.match_items.specs.declared.view.View.{View}
 use Rattle.match_items.specs.Subjects.{IsText, IsTextPlace}
 use Rattle.pcre_io.specs.declared.callouts.Block.{Block}
+use Rattle.byte_lanes.specs.Places.{IsLeast}
+use Rattle.match_needs.specs.declared.text.ByteText.{ByteText}
 use Rattle.match_needs.specs.Bounds.{at}
 use Rattle.match_needs.specs.Needs.{may_take, Needs}
 use Rattle.match_needs.specs.Texts.{sets_of, Stands}
@@ -15,8 +17,14 @@ use Rattle.match_needs.specs.declared.needs.Need.{Need}
 use Rattle.ordered_search.specs.Setting.{lower_of}
 use Rattle.ordered_search.specs.MatchAnswer.{none_found, match_answer}
 use Rattle.ordered_search.proofs.Needed.{need_law}
-use Rattle.frame_machine.specs.Ready.{setting_for}
+use Rattle.frame_board.specs.Ready.{setting_for}
 use Rattle.match_drive.proofs.Leads.{class_told}
+
+-- a search that finds no place
+pub stands_nowhere : (text : ByteText) (bytes : List ℕ) (n : ℕ) → IsLeast (Stands (sets_of text) bytes) 0 (length bytes) n → n ≡ length bytes → (k : ℕ) → ¬ Stands (sets_of text) bytes k
+stands_nowhere text bytes n least e k h =
+    let within = h.0 in
+    least.before k (omega arith) (omega (arith, within, e)) h
 
 pub none_without : (tree : TreeParts) (view : View) (need : Need) (answers : Block → ℤ) → IsNeedOf tree need →
     view.options.now ≡ tree.options → IsText view.options.now view.subject.now → IsTextPlace view.options.now view.subject.now view.start → view.matching.now.«partial» ≡ Off →
@@ -30,6 +38,7 @@ none_without tree view need answers is shown text begun off steps units small mi
       small = small;
       missing = missing;
       bounded = is.bound;
+      folds = refl;
       steps = subst (λ (o : Options). at need.bound.steps (length view.subject.now + 1) ≤ lower_of o.match_limit view.matching.now.match_limit) shown steps;
       units = units;
       text = λ utf. subst (λ (o : Options). IsText o view.subject.now) shown text;

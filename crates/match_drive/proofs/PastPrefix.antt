@@ -17,7 +17,7 @@ use Rattle.match_items.specs.Items.{after_item, item_reaches}
 use Rattle.match_items.specs.Views.{text_scene, fold_in}
 use Rattle.ordered_search.specs.Stream.{State, Stream, Search, first_state, nothing, each, and_then, ◌or_else◌}
 use Rattle.ordered_search.specs.Setting.{Setting, match_limit, reach, reach_if}
-use Rattle.frame_machine.specs.Ready.{setting_for}
+use Rattle.frame_board.specs.Ready.{setting_for}
 use Rattle.ordered_search.specs.Tests.{goes_to, move_to, run_one}
 use Rattle.ordered_search.specs.Parts.{Searches, in_order, branches, run_group}
 use Rattle.ordered_search.specs.Run.{level, levels, run}
@@ -107,9 +107,9 @@ scene_same tree table view answers h e =
 
 -- a search fails at a place where a first item refuses what stands there
 pub refused : (tree : TreeParts) (table : List CharSet) (view : View) (answers : Block → ℤ) (parts : List ℕ) (p : ℕ) → IsTableOf tree table → view.options.now ≡ tree.options →
-    view.matching.now.«partial» ≡ Off → AreFirstParts tree parts → item_refuses (text_scene view table) (row_of tree parts) p ≡ true →
+    (0 < length parts → view.matching.now.«partial» ≡ Off) → AreFirstParts tree parts → item_refuses (text_scene view table) (row_of tree parts) p ≡ true →
     place_answer (setting_for tree view answers) p ≡ answer.answers (Failed Exhausted)
 unfolding item_refuses
 refused tree table view answers [] p shown options off are h = absurd (cc h)
 refused tree table view answers (k ∷ ks) p shown options off are h =
-    place_fails (setting_for tree view answers) off (row_of tree (k ∷ ks)) (are.all (omega arith)) p (rw (scene_same tree table view answers shown options) at h)
+    place_fails (setting_for tree view answers) (off (omega arith)) (row_of tree (k ∷ ks)) (are.all (omega arith)) p (rw (scene_same tree table view answers shown options) at h)

@@ -23,7 +23,7 @@ use Rattle.std.proofs.Common.{
   ◌∙◌,
   arith,
 }
-use Rattle.std.specs.Prelude.{IfSome, All, nat_le}
+use Rattle.std.specs.Prelude.{All}
 use Rattle.ordered_search.specs.Stream.{Block}
 use Rattle.pat_tree.specs.Parts.{TreeParts}
 use Rattle.char_sets.specs.Table.{CharSet, IsTableOf}
@@ -31,7 +31,7 @@ use Rattle.match_items.specs.Scene.{Scene}
 use Rattle.match_items.specs.declared.view.View.{View}
 use Rattle.match_items.specs.Items.{longest_run}
 use Rattle.match_items.specs.Views.{text_scene, end_of}
-use Rattle.frame_machine.specs.Ready.{setting_for}
+use Rattle.frame_board.specs.Ready.{setting_for}
 use Rattle.ordered_search.proofs.LaterRuns.{end_within}
 use Rattle.ordered_search.proofs.FollowLaw.{later_places}
 use Rattle.match_drive.specs.Run.{IsFirstRun}
@@ -56,15 +56,14 @@ use Rattle.pat_tree.specs.Nested.{
 }
 use Rattle.pat_tree.specs.Rules.{kids_of, number_in}
 use Rattle.ordered_search.specs.Plain.{IsPlain, ArePlain, IsPlainTest, IsPlainOther}
-use Rattle.ordered_search.specs.LaterPlaces as later
 use Rattle.ordered_search.specs.LaterPlaces.{BeginsWithRun, run_end}
 use Rattle.ordered_search.specs.Setting.{Setting}
 use Rattle.ordered_search.specs.PlaceAnswer as place
-use Rattle.ordered_search.specs.PlaceAnswer.{Signal, Exhausted, answers, place_answer}
+use Rattle.ordered_search.specs.PlaceAnswer.{Exhausted, answers, place_answer}
 use Rattle.ordered_search.specs.Places.{last_place, is_excluded, up_to, place_after}
 use Rattle.ordered_search.specs.MatchAnswer.{tried}
 use Rattle.match_drive.specs.Asked.{passed_over, replied}
-use Rattle.match_drive.specs.Run.{is_plain, is_plain_test, first_part, run_of}
+use Rattle.match_drive.specs.Run.{is_plain, is_plain_test}
 use Rattle.match_drive.specs.Rest.{found_from, behind, FailsTo, FailsToAlways}
 use Rattle.match_drive.proofs.Steps.{found_failed, passed}
 
@@ -123,49 +122,9 @@ module _ (trees : List Nested) (n : ℕ) (plain : (k : ℕ) → k < n → IsPlai
   plain_node (node.VerbNode v) e low = absurd (cc e)
   plain_node (node.Callout number from to at len) e low = absurd (cc e)
 
--- The first run of a node: that of its first part, or its own.
-
-module _ (trees : List Nested) where
-  pub run_in_part : (m : Node) (k : ℕ) → first_part m ≡ Some k
-      → later.first_run (nest trees m) ≡ later.first_run (tree_at trees k)
-  run_in_part (node.Seq (j ∷ ks)) k e = ap (λ i. later.first_run (tree_at trees i))
-      (let same : j ≡ k = cc in same)
-  run_in_part (node.Group number (j ∷ [])) k e = ap (λ i. later.first_run (tree_at trees i))
-      (let same : j ≡ k = cc in same)
-  run_in_part m k e = absurd (cc e)
-
-  pub run_here : (m : Node) → first_part m ≡ None → later.first_run (nest trees m) ≡ run_of m
-  run_here (node.Seq (j ∷ ks)) e = absurd (cc e)
-  run_here (node.Group number (j ∷ [])) e = absurd (cc e)
-  run_here (node.OneRepeat item least None false) e = refl
-  run_here m e = refl
-
-  pub part_below : (n : ℕ) (m : Node) (k : ℕ) → first_part m ≡ Some k → All (λ j. j < n) (kids_of m)
-      → k < n
-  part_below n (node.Seq (j ∷ ks)) k e low = let same : j ≡ k = cc in let h =
-      low 0 j (omega arith) in omega arith
-  part_below n (node.Group number (j ∷ [])) k e low = let same : j ≡ k = cc in let h =
-      low 0 j (omega arith) in omega arith
-  part_below n m k e low = absurd (cc e)
-
 -- Where the search goes on.
 
-behind_past : (g : Setting) (p q : ℕ) → q ≤ behind g p q
-behind_past g p q = by_test _
-  where
-    by_test : (b : Bool) → q ≤ (elim b [ true ↦ q + 1 | false ↦ q ])
-    by_test true = omega arith
-    by_test false = omega arith
-
 module _ (g : Setting) where
-  pub past_later : (last p q : ℕ) → p < q → IfSome (up_to last (Some (behind g p q))) (λ to. p < to)
-  past_later last p q less = by_test (nat_le (behind g p q) last)
-    where
-      by_test : (b : Bool)
-          → IfSome (elim b [ true ↦ Some (behind g p q) | false ↦ None ]) (λ to. p < to)
-      by_test true = let low = behind_past g p q in omega arith
-      by_test false = tt
-
   tried_fails : (p : ℕ) → place_answer g p ≡ answers (place.Failed Exhausted)
       → tried g p ≡ answers (place.Failed Exhausted)
   tried_fails p e = by_test (is_excluded g p)

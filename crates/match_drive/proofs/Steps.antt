@@ -2,11 +2,11 @@
 use Rattle.std.proofs.Common.{inl, inr, ◌≡◌, ℕ, zero, suc, ◌+◌, ◌-◌, ◌<◌, ◌≤◌, ◌⊎◌, Bool, true, false, ◌&&◌, max, List, [], ◌∷◌, length, Option, Some, None, nat_lt, if◌then◌else◌, refl, sym, ap, subst, ◌∙◌, arith}
 use Rattle.std.specs.Prelude.{IfSome, IsSomeAnd}
 use Rattle.std.proofs.lemmas.Option.{IfSome_then}
-use Rattle.std.proofs.lemmas.Bool.{and_parts, and_left, and_right, eqb-true, ltb-true, lt-ltb, le-ltb}
+use Rattle.std.proofs.lemmas.Bool.{and_parts, and_left, and_right, ltb-true, lt-ltb, le-ltb}
 use Rattle.byte_lanes.specs.declared.line_end.EndKind.TheVariants.{CrLf}
 use Rattle.byte_lanes.specs.Newlines.{stands, newline_len}
 use Rattle.ordered_search.specs.PlaceAnswer as place
-use Rattle.ordered_search.specs.PlaceAnswer.{Signal, Exhausted, Prune, Skip, Commit, Walked, answers, place_answer}
+use Rattle.ordered_search.specs.PlaceAnswer.{Signal, Exhausted, Walked, answers, place_answer}
 use Rattle.ordered_search.specs.Setting.{Setting}
 use Rattle.ordered_search.specs.Places.{passes_crlf, next_place, last_place, within, place_after, is_excluded, up_to}
 use Rattle.ordered_search.specs.MatchAnswer.{Found, none_found, failed_at, tried, from_place, match_answer, found_by, found_at}
@@ -227,9 +227,6 @@ module _ (g : Setting) (begun : g.start ≤ length g.subject) where
 
   -- The pieces of the walk.
 
-  pub not_passed : (p : ℕ) → p ≤ last_place g → IsPassed g p p
-  not_passed p h = record { same = ap (found_from g) (up_to_is (last_place g) p h); later = omega arith }
-
   -- the place behind is tried
   pub tried_next : (from : Option ℕ) (p q : ℕ) → found_from g (Some p) ≡ found_from g from → IsNoEarlier from p → IsPassed g p q → q ≤ last_place g → is_excluded g q ≡ false → IsTried g from q
   tried_next from p q same low passed within_last out = record {
@@ -269,11 +266,16 @@ module _ (g : Setting) where
   tried_later (Some n) (Some q) p h low = omega (arith, h.later, low)
 
   -- what is left at a place that is tried
+  -- what is found from a place that is tried
+  pub found_here : (begun : g.start ≤ length g.subject) (next : Option ℕ) (p : ℕ) → next ≡ Some p → IfSome next (λ p. p ≤ last_place g) → IfSome next (λ p. is_excluded g p ≡ false)
+      → found_from g next ≡ found_at p (place_answer g p) (λ signal. found_from g (place_after g p signal))
+  found_here begun next p is low out = ap (found_from g) is ∙ found_tried g begun p (rw is at low) (rw is at out)
+
   pub left_at : (begun : g.start ≤ length g.subject) (whole : Found) (first mark next : Option ℕ) (p : ℕ) → next ≡ Some p
       → IsLeft whole first mark (found_from g next) → IfSome next (λ p. p ≤ last_place g) → IfSome next (λ p. is_excluded g p ≡ false)
       → IsLeft whole first mark (found_at p (place_answer g p) (λ signal. found_from g (place_after g p signal)))
   left_at begun whole first mark next p is left low out =
-      subst (IsLeft whole first mark) (ap (found_from g) is ∙ found_tried g begun p (rw is at low) (rw is at out)) left
+      subst (IsLeft whole first mark) (found_here begun next p is low out) left
 
   pub tried_from : (p : ℕ) (next : Option ℕ) → IsNextTried g (Some p) next → IfSome next (λ q. p ≤ q)
   tried_from p None h = tt

@@ -3,5 +3,8 @@ pub mod Rest
 pub mod Answer
 pub mod Begin
 pub mod Prefix
+pub mod Repeats
 pub mod Run
 pub mod Course
+pub mod StartLaw
+pub mod Starts

@@ -3,6 +3,8 @@ use Rattle.std.specs.Prelude.{◌≡◌, ◌≤◌, ◌<◌, ℕ, ℤ, ◌+◌, 
 use Rattle.std.specs.Option.{option_or}
 use Rattle.byte_lanes.specs.Sets.{has_byte}
 use Rattle.pat_check.specs.Known.{IsByteSet}
+use Rattle.pcre_io.specs.declared.callouts.Block as told
+use Rattle.frame_state.specs.Shown.{seen_after}
 use Rattle.ordered_search.specs.Stream.{Block}
 use Rattle.ordered_search.specs.Setting.{Setting, lead_set}
 use Rattle.ordered_search.specs.PlaceAnswer.{
@@ -12,6 +14,7 @@ use Rattle.ordered_search.specs.PlaceAnswer.{
   answers,
   place_answer,
   last_name,
+  blocks,
 }
 use Rattle.match_drive.specs.Asked.{replied}
 use Rattle.ordered_search.specs.Places.{up_to, passes_crlf, last_place, place_after, is_excluded}
@@ -95,3 +98,7 @@ after_hit (Some p) a = undecided true p a
 pub record IsLeft (whole : Found) (first mark : Option ℕ) (rest : Found) : Type 0 where
   pub answer : whole.answer ≡ after_hit first rest.answer
   pub last_mark : last_name whole.notes ≡ option_or (last_name rest.notes) mark
+
+-- What callouts show in all is what they showed up to some place, and then what is found from it on.
+abbrev pub IsShownTo : Option (List told.Block) → Option (List told.Block) → Found → Found → Type 0
+IsShownTo old now whole rest = seen_after old (blocks whole.notes) ≡ seen_after now (blocks rest.notes)

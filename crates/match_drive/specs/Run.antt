@@ -8,7 +8,7 @@ use Rattle.pat_tree.specs.declared.nodes.Node.TheVariants as node
 use Rattle.pat_tree.specs.Parts.{TreeParts}
 use Rattle.pat_tree.specs.Rules.{class_in}
 use Rattle.match_items.specs.declared.view.View.{View}
-use Rattle.frame_machine.specs.Ready.{setting_for}
+use Rattle.frame_board.specs.Ready.{setting_for}
 use Rattle.ordered_search.specs.LaterPlaces.{BeginsWithRun}
 use Rattle.match_drive.specs.Asked.{passed_over}
 

@@ -1,12 +1,30 @@
 //! A finished tree and a subject, as the walk over the start places goes over them.
+ghost use Rattle.std.specs.Prelude.{◌≡◌, ◌≤◌, ℤ, IsTrue, IfSome, length};
+ghost use Rattle.pat_tree.specs.declared.options.PartialMode.TheVariants.{Off};
+ghost use Rattle.pcre_io.specs.declared.callouts.Block.{Block};
+ghost use Rattle.match_items.specs.Subjects.{IsTextPlace};
+ghost use Rattle.frame_board.specs.Ready.{setting_for};
+ghost use Rattle.ordered_search.specs.PlaceAnswer.{Exhausted, Failed, answers, place_answer};
+ghost use Rattle.match_drive.specs.Asked.{passed_over};
+ghost use Rattle.match_drive.specs.Course.{IsByteCourse};
+ghost use Rattle.match_drive.specs.Repeats.{FailsUpTo};
+ghost use Rattle.match_drive.specs.Rest.{FailsToAlways};
 
 use crate::driven::Driven;
 use crate::prefix::item_refuses;
+use crate::repeats::{FirstRepeat, refused_to};
 use byte_lanes::ByteSet;
 use frame_machine::{PlaceAnswer, Ready, Scratch, Signal, run_at};
 use match_items::{View, item_run};
-use pat_tree::{Item, MatchOptions, NodeId, Options};
+use pat_tree::{Item, MatchOptions, NodeId, Options, PartialMode};
 use pcre_io::Callouts;
+
+/// Whether partial matches are not looked for.
+pub(crate) fn is_off(view: &View<'_>) -> bool
+    ensures { IsTrue result → view.now.matching.now.partial ≡ Off }
+{
+    matches!(view.matching.partial, PartialMode::Off)
+}
 
 /// A finished tree, made ready, and a subject.
 #[derive(Clone, Copy)]
@@ -15,21 +33,75 @@ pub(crate) struct Course<'a> {
     pub view: &'a View<'a>,
     /// The pattern stands at the subject's begin alone.
     pub at_begin: bool,
-    /// The parts of the pattern's only alternative, where it has one and that begins with a single item, else none.
+    /// The parts of the pattern's only alternative, where it has one and that begins with a single item, else none; and
+    /// none where partial matches are looked for.
     pub first: &'a [NodeId],
+    /// The repeat of an item that the pattern begins with, where one is known.
+    pub repeat: Option<FirstRepeat>,
     /// The item whose run the pattern begins with, where places in it fail with the first of them.
     pub run: Option<Item>,
+}
+
+impl Course<'_> {
+    /// The end of the run that the pattern begins with at a place, where it is known to fail at each place up to there.
+    fn refused_to(&self, place: usize) -> Option<usize>
+        requires fits { IsByteCourse self.now.ready.now self.now.view.now self.now.at_begin
+            self.now.first.now self.now.repeat self.now.run }
+        requires place { IsTextPlace self.now.ready.now.tree.now.options
+            self.now.view.now.subject.now place }
+        ensures { IfSome result (FailsUpTo self.now.ready.now.tree.now self.now.view.now place) }
+    {
+        match &self.repeat {
+            Some(first) => refused_to(self.ready, self.view, first, place),
+            None => None,
+        }
+    }
+
+    /// The end of the run from a place that failed, where all places in the run fail with it, else the place.
+    fn run_to(&self, place: usize) -> usize
+        requires fits { IsByteCourse self.now.ready.now self.now.view.now self.now.at_begin
+            self.now.first.now self.now.repeat self.now.run }
+        requires place { IsTextPlace self.now.ready.now.tree.now.options
+            self.now.view.now.subject.now place }
+        ensures low { place ≤ result }
+        ensures within { result ≤ length self.now.view.now.subject.now }
+        ensures alone { IsTrue self.now.ready.now.tree.now.options.utf → result ≡ place }
+        ensures fails { FailsToAlways
+            (setting_for self.now.ready.now.tree.now self.now.view.now passed_over) place result }
+    {
+        match &self.run {
+            Some(item) => item_run(self.view, self.ready.classes, item, place, u32::MAX).to,
+            None => place,
+        }
+    }
+
+    /// Whether what the pattern begins with is known not to stand at a place, so that it fails there.
+    fn refuses(&self, place: usize) -> bool
+        requires fits { IsByteCourse self.now.ready.now self.now.view.now self.now.at_begin
+            self.now.first.now self.now.repeat self.now.run }
+        requires place { IsTextPlace self.now.ready.now.tree.now.options
+            self.now.view.now.subject.now place }
+        ensures { IsTrue result → (given : Block → ℤ)
+            → place_answer (setting_for self.now.ready.now.tree.now self.now.view.now given) place
+            ≡ answers (Failed Exhausted) }
+    {
+        if item_refuses(self.ready, self.view, self.first, place) {
+            return true;
+        }
+        match self.refused_to(place) {
+            Some(_) => true,
+            None => false,
+        }
+    }
 }
 
 impl Driven for Course<'_> {
     ghost use Rattle.std.proofs.Common.{refl, subst};
     ghost use Rattle.match_items.specs.Subjects.{IsText, IsTextPlace};
-    ghost use Rattle.frame_machine.specs.Ready.{setting_for};
-    ghost use Rattle.match_drive.specs.Course.{IsByteCourse};
 
     ghost asked = { λ x. setting_for x.ready.now.tree.now x.view.now };
 
-    ghost fits = { λ x. IsByteCourse x.ready.now x.view.now x.at_begin x.first.now x.run };
+    ghost fits = { λ x. IsByteCourse x.ready.now x.view.now x.at_begin x.first.now x.repeat x.run };
 
     fn subject(&self) -> &[u8] {
         self.view.subject
@@ -60,9 +132,9 @@ impl Driven for Course<'_> {
     }
 
     fn fails_to(&self, place: usize) -> usize {
-        match &self.run {
-            Some(item) => item_run(self.view, self.ready.classes, item, place, u32::MAX).to,
-            None => place,
+        match self.refused_to(place) {
+            Some(to) => to,
+            None => self.run_to(place),
         }
     }
 
@@ -73,7 +145,7 @@ impl Driven for Course<'_> {
         calls: &mut C,
     ) -> PlaceAnswer {
         // At most places the pattern's first items already don't stand.
-        if item_refuses(self.ready, self.view, self.first, place) {
+        if self.refuses(place) {
             return PlaceAnswer::Failed {
                 signal: Signal::Exhausted,
                 hit_end: false,

@@ -1,12 +1,15 @@
 //! The search over all start places.
 ghost use Rattle.std.specs.Prelude.{◌≡◌, ◌≤◌, ◌<◌, false, length, max};
-ghost use Rattle.frame_machine.specs.Ready.{IsReadySearch, setting_for};
+ghost use Rattle.frame_board.specs.Ready.{IsReadySearch, setting_for};
 ghost use Rattle.pat_tree.specs.declared.options.PartialMode.TheVariants.{Off};
 ghost use Rattle.pcre_io.specs.declared.callouts.Block.{Block};
+ghost use Rattle.frame_state.specs.Room.{IsQuiet};
+ghost use Rattle.frame_machine.specs.Scratch.{HasRoom, IsOfSearch};
 ghost use Rattle.match_drive.specs.Asked.{passed_over};
-ghost use Rattle.match_drive.specs.Answer.{IsMatchAnswer, IsLastMark, IsNotPartial, IsDeciding, TellsPlace, TellsNone};
+ghost use Rattle.match_drive.specs.Answer.{IsMatchAnswer, IsLastMark, IsNotPartial, IsDeciding, IsOfMatching, IsShown, TellsMemory, TellsPlace, TellsNone};
 ghost use Rattle.ordered_search.specs.MatchAnswer.{match_answer};
 ghost use Rattle.match_drive.specs.Rest as rest;
+ghost use Rattle.match_drive.specs.Starts.{AreAlike, AreBytes};
 
 use crate::answer::MatchAnswer;
 use crate::begin::stands_at_begin;
@@ -14,11 +17,17 @@ use crate::course::Course;
 use crate::driven::Driven;
 use crate::need::{lacks_need, no_match};
 use crate::places::{last_place, next_tried, place_past};
-use crate::prefix::first_parts;
+use crate::prefix::parts_tested;
+use crate::repeats::first_repeat;
 use crate::run::leading_run;
 use frame_machine::{PlaceAnswer, Ready, Scratch};
 use match_items::View;
-use pcre_io::Callouts;
+use pcre_io::{Callouts, NoCallouts};
+
+/// A law: what stands in a slice of bytes is below 256.
+fn are_bytes(bytes: &[u8])
+    ensures { AreBytes bytes.now }
+{}
 
 /// The first place that reached the subject's end, after one more place.
 fn first_hit(first: Option<usize>, hit_end: bool, at: usize) -> Option<usize>
@@ -39,7 +48,9 @@ fn decided(
     last_mark: Option<u32>,
 ) -> MatchAnswer
     requires { IsDeciding answer }
-    ensures { TellsPlace answer at first last_mark result }
+    ensures tells { TellsPlace answer at first last_mark result }
+    ensures memory { TellsMemory answer result }
+    ensures reserved { IsOfSearch answer → IsOfMatching result }
 {
     match answer {
         PlaceAnswer::Matched { keep, to, mark } => MatchAnswer::Match { keep, to, mark },
@@ -59,7 +70,8 @@ fn decided(
 /// The answer where no place decides: a partial match from the first place that reached the subject's end, if one did
 /// (pcre2partial, "Partial matching using PCRE2_PARTIAL_SOFT").
 fn undecided(first: Option<usize>, mark: Option<u32>) -> MatchAnswer
-    ensures { TellsNone first mark result }
+    ensures tells { TellsNone first mark result }
+    ensures reserved { IsOfMatching result }
 {
     match first {
         Some(start) => MatchAnswer::Partial { start, mark },
@@ -69,7 +81,8 @@ fn undecided(first: Option<usize>, mark: Option<u32>) -> MatchAnswer
 
 /// Searches over all start places, in order, and answers what the definitions answer, with the captures of a match in the
 /// workspace (pcre2api, "Matching a pattern: the traditional function"). There is no partial match without partial matching.
-/// Want of memory may be answered at any time. The workspace can be used again after every answer.
+/// Want of memory may be answered at any time. The workspace can be used again after every answer. `calls` is shown a block
+/// at each callout.
 pub fn search_on<S: Driven, C: Callouts>(
     on: &S,
     scratch: &mut Scratch,
@@ -83,7 +96,10 @@ pub fn search_on<S: Driven, C: Callouts>(
     ensures groups { scratch.new.groups ≡ scratch.old.groups }
     ensures frames { scratch.new.frames ≡ scratch.old.frames }
     ensures rule { (block : Block) → C.answers calls.new block ≡ C.answers calls.old block }
-    ensures seen { C.seen calls.new ≡ C.seen calls.old }
+    ensures seen { IsShown result (C.seen calls.old) (C.seen calls.new) (match_answer (S.asked on.now (C.answers calls.old))) }
+    ensures reserved { HasRoom scratch.old (S.asked on.now passed_over).groups
+        (S.asked on.now passed_over).matching.frame_limit
+        → IsQuiet C.refuses (C.answers calls.old) → IsOfMatching result }
 {
     scratch.clear_mark();
     let last = last_place(on);
@@ -104,9 +120,16 @@ pub fn search_on<S: Driven, C: Callouts>(
 /// "Matching a pattern: the traditional function"). Any workspace serves, new or used, and it can be used again after every
 /// answer. Want of memory may be answered at any time.
 ///
+/// For a tree without verbs, callouts and calls the answer is the same with start optimisations and
+/// without them, unless a limit is passed without them (pcre2api, "Option bits for
+/// pcre2_compile()", PCRE2_NO_START_OPTIMIZE).
+///
 /// Needs the table and the facts of the tree, and a view with the tree's options; a subject of fewer than 4,294,967,295
-/// bytes, which in UTF is UTF-8; a start in the subject, in UTF where a character begins; no partial matching; and a tree
-/// without callouts and THEN. So it calls at no callout.
+/// bytes, which in UTF is UTF-8; and a start in the subject, in UTF where a character begins. There is no partial match
+/// without partial matching.
+///
+/// At each callout it calls `calls`, and follows the answer. Where want of memory is answered, the blocks that were shown
+/// aren't told.
 pub fn search<C: Callouts>(
     ready: &Ready<'_>,
     view: &View<'_>,
@@ -116,13 +139,20 @@ pub fn search<C: Callouts>(
     requires { IsReadySearch ready.now view.now }
     ensures answer { IsMatchAnswer result scratch.new.spans (match_answer (setting_for ready.now.tree.now view.now (C.answers calls.old))) }
     ensures last_mark { IsLastMark result scratch.new.last_mark (match_answer (setting_for ready.now.tree.now view.now (C.answers calls.old))) }
-    ensures whole { IsNotPartial result }
+    ensures starts { AreAlike (setting_for ready.now.tree.now view.now (C.answers calls.old)) }
+    ensures whole { view.now.matching.now.partial ≡ Off → IsNotPartial result }
     ensures peak { scratch.new.peak ≤ max scratch.old.peak view.now.matching.now.frame_limit }
     ensures groups { scratch.new.groups ≡ scratch.old.groups }
     ensures frames { scratch.new.frames ≡ scratch.old.frames }
     ensures rule { (block : Block) → C.answers calls.new block ≡ C.answers calls.old block }
-    ensures seen { C.seen calls.new ≡ C.seen calls.old }
+    ensures seen { IsShown result (C.seen calls.old) (C.seen calls.new) (match_answer (setting_for ready.now.tree.now view.now (C.answers calls.old))) }
+    ensures reserved { HasRoom scratch.old (setting_for ready.now.tree.now view.now passed_over).groups
+        view.now.matching.now.frame_limit
+        → IsQuiet C.refuses (C.answers calls.old) → IsOfMatching result }
 {
+    // what the clause on start optimisations goes by
+    ready.tree.is_sound();
+    are_bytes(view.subject);
     if lacks_need(ready, view) {
         return no_match(scratch);
     }
@@ -131,8 +161,28 @@ pub fn search<C: Callouts>(
         ready,
         view,
         at_begin,
-        first: first_parts(ready.tree),
+        first: parts_tested(ready.tree, view),
+        repeat: first_repeat(ready, view),
         run: leading_run(ready.tree, view),
     };
     search_on(&course, scratch, calls)
+}
+
+/// The same in room that was made before (`Scratch::reserve`), so that it takes no memory: neither want of memory is
+/// answered nor a callout's answer. Callouts are passed over.
+pub fn search_reserved(ready: &Ready<'_>, view: &View<'_>, scratch: &mut Scratch) -> MatchAnswer
+    requires search { IsReadySearch ready.now view.now }
+    requires room { HasRoom scratch.old (setting_for ready.now.tree.now view.now passed_over).groups
+        view.now.matching.now.frame_limit }
+    ensures answer { IsMatchAnswer result scratch.new.spans
+        (match_answer (setting_for ready.now.tree.now view.now passed_over)) }
+    ensures of_matching { IsOfMatching result }
+    ensures last_mark { IsLastMark result scratch.new.last_mark
+        (match_answer (setting_for ready.now.tree.now view.now passed_over)) }
+    ensures whole { view.now.matching.now.partial ≡ Off → IsNotPartial result }
+    ensures peak { scratch.new.peak ≤ max scratch.old.peak view.now.matching.now.frame_limit }
+    ensures groups { scratch.new.groups ≡ scratch.old.groups }
+    ensures frames { scratch.new.frames ≡ scratch.old.frames }
+{
+    search(ready, view, scratch, &mut NoCallouts)
 }

@@ -4,7 +4,9 @@ ghost use Rattle.std.specs.Option.{option_copied};
 ghost use Rattle.pcre_io.specs.declared.callouts.Block.{Block};
 ghost use Rattle.match_items.specs.Subjects.{IsText, IsTextPlace};
 ghost use Rattle.pat_check.specs.Known.{IsByteSet};
-ghost use Rattle.frame_machine.specs.Answer.{IsAnswer, IsMark, SkipsToPlace};
+ghost use Rattle.frame_state.specs.Room.{IsQuiet};
+ghost use Rattle.frame_machine.specs.Scratch.{HasRoom, IsOfSearch};
+ghost use Rattle.frame_state.specs.Answer.{IsAnswer, IsMark, IsSeen, SkipsToPlace};
 ghost use Rattle.ordered_search.specs.PlaceAnswer.{place_answer};
 ghost use Rattle.ordered_search.specs.Setting.{Setting, lead_set, names_cr_or_lf};
 ghost use Rattle.match_drive.specs.Asked.{passed_over, replied};
@@ -78,7 +80,10 @@ pub trait Driven {
         ensures groups { scratch.new.groups ≡ scratch.old.groups }
         ensures frames { scratch.new.frames ≡ scratch.old.frames }
         ensures rule { (block : Block) → C.answers calls.new block ≡ C.answers calls.old block }
-        ensures seen { C.seen calls.new ≡ C.seen calls.old };
+        ensures seen { IsSeen result (C.seen calls.old) (C.seen calls.new) (place_answer (asked self.now (C.answers calls.old)) place) }
+        ensures reserved { HasRoom scratch.old (asked self.now passed_over).groups
+            (asked self.now passed_over).matching.frame_limit
+            → IsQuiet C.refuses (C.answers calls.old) → IsOfSearch result };
 
     ghost subject_is: { (x : Self) → fits x → IsText (asked x passed_over).options (asked x passed_over).subject };
 

@@ -7,13 +7,16 @@ mod begin;
 mod course;
 mod drive;
 mod driven;
+mod laws;
 mod need;
 mod places;
 mod prefix;
+mod repeats;
 mod run;
 mod starts;
 
 pub use answer::MatchAnswer;
-pub use drive::{search, search_on};
+pub use drive::{search, search_on, search_reserved};
 pub use driven::Driven;
+pub use laws::starts_are_the_same;
 pub use starts::{is_left_out, last_start, start_after};

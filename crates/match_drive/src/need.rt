@@ -3,18 +3,19 @@ ghost use Rattle.std.specs.Prelude.{◌≡◌, ◌+◌, ◌<◌, ◌≤◌, ℕ,
 ghost use Rattle.match_items.specs.Subjects.{IsText};
 ghost use Rattle.pcre_io.specs.declared.callouts.Block.{Block};
 ghost use Rattle.match_needs.specs.Bounds.{at};
-ghost use Rattle.frame_machine.specs.Ready.{IsReadySearch, setting_for};
+ghost use Rattle.frame_board.specs.Ready.{IsReadySearch, setting_for};
 ghost use Rattle.ordered_search.specs.Setting.{lower_of};
 ghost use Rattle.ordered_search.specs.MatchAnswer.{none_found, match_answer};
 ghost use Rattle.match_needs.specs.Texts.{sets_of, Stands};
 
 use crate::answer::MatchAnswer;
+use crate::course::is_off;
 use frame_machine::{Ready, Scratch};
 use match_items::View;
 use match_needs::{ByteText, Need};
 
 /// The greatest number of Steps at a place: the pattern may lower that of the match.
-fn match_limit(view: &View<'_>) -> u32
+pub(crate) fn match_limit(view: &View<'_>) -> u32
     ensures { result ≡ lower_of view.now.options.now.match_limit view.now.matching.now.match_limit }
 {
     match view.options.match_limit {
@@ -38,7 +39,7 @@ fn is_within(need: &Need, view: &View<'_>) -> bool
 }
 
 /// Whether a text stands nowhere in these bytes.
-#[tactic(auto, using(match_needs::proofs::TextLemmas::stands_nowhere))]
+#[tactic(auto, using(crate::proofs::Needless::stands_nowhere))]
 fn lacks(bytes: &[u8], text: &ByteText) -> bool
     ensures small { (k : ℕ) → k < length bytes.now → slice_index bytes.now k < 256 }
     ensures missing { IsTrue result → (k : ℕ) → ¬ Stands (sets_of text.now) bytes.now k }
@@ -46,7 +47,7 @@ fn lacks(bytes: &[u8], text: &ByteText) -> bool
     text.find(bytes) == bytes.len()
 }
 
-/// True only where the subject has no match and a search of it passes no limit: a text that every match takes stands
+/// True only where the subject has no match, partial or not, and a search of it passes no limit: a text that every match takes stands
 /// nowhere in it. A search that begins later isn't looked at, so that many searches of a long subject don't each
 /// look over what stands before.
 pub(crate) fn lacks_need(ready: &Ready<'_>, view: &View<'_>) -> bool
@@ -54,6 +55,9 @@ pub(crate) fn lacks_need(ready: &Ready<'_>, view: &View<'_>) -> bool
     ensures { IsTrue result → (answers : Block → ℤ)
         → match_answer (setting_for ready.now.tree.now view.now answers) ≡ none_found }
 {
+    if !is_off(view) {
+        return false;
+    }
     let Some(need) = &ready.facts.need else {
         return false;
     };

@@ -5,7 +5,7 @@ ghost use Rattle.byte_lanes.specs.Newlines.{newline_len};
 ghost use Rattle.byte_lanes.specs.Sets.{has_byte};
 ghost use Rattle.uni_text.specs.Characters as text;
 ghost use Rattle.match_items.specs.Subjects.{IsPlace, IsTextPlace};
-ghost use Rattle.frame_machine.specs.Answer.{signal_of, IsSkip};
+ghost use Rattle.frame_state.specs.Answer.{signal_of, IsSkip};
 ghost use Rattle.match_drive.specs.Asked.{passed_over};
 ghost use Rattle.ordered_search.specs.Places as places;
 ghost use Rattle.ordered_search.specs.Places.{up_to};

@@ -1,5 +1,6 @@
 //! The single items that a pattern begins with, tested before the machine goes over the pattern.
 ghost use Rattle.std.specs.Prelude.{◌≡◌, ◌<◌, ◌≤◌, All, IfSome, false, length};
+ghost use Rattle.pat_tree.specs.declared.options.PartialMode.TheVariants.{Off};
 ghost use Rattle.pat_tree.specs.Rules.{class_in};
 ghost use Rattle.char_sets.specs.Table.{IsTableOf};
 ghost use Rattle.match_items.specs.Subjects.{IsText, IsTextPlace};
@@ -8,6 +9,7 @@ ghost use Rattle.match_items.specs.Views.{text_scene, told};
 ghost use Rattle.match_drive.specs.Prefix as prefix;
 ghost use Rattle.match_drive.specs.Prefix.{AreParts, AreFirstParts, row_of};
 
+use crate::course::is_off;
 use char_sets::ClassTable;
 use frame_machine::Ready;
 use match_items::{Taken, View, item_step};
@@ -31,7 +33,7 @@ fn parts_of(tree: &Tree, part: NodeId) -> &[NodeId]
 }
 
 /// The parts of a pattern's only alternative, where it has one and that begins with a single item, else none.
-pub(crate) fn first_parts(tree: &Tree) -> &[NodeId]
+fn first_parts(tree: &Tree) -> &[NodeId]
     ensures { AreFirstParts tree.now result.now }
 {
     let Node::Group {
@@ -47,8 +49,20 @@ pub(crate) fn first_parts(tree: &Tree) -> &[NodeId]
     parts_of(tree, *only)
 }
 
+/// Those of them that are tested before the machine runs: none where partial matches are looked for,
+/// as the subject's end may be reached there.
+pub(crate) fn parts_tested<'a>(tree: &'a Tree, view: &View<'_>) -> &'a [NodeId]
+    ensures parts { AreFirstParts tree.now result.now }
+    ensures off { 0 < length result.now → view.now.matching.now.partial ≡ Off }
+{
+    if !is_off(view) {
+        return &[];
+    }
+    first_parts(tree)
+}
+
 /// The place after what an item takes.
-fn taken(view: &View<'_>, classes: &ClassTable, item: &Item, at: usize) -> Option<usize>
+pub(crate) fn taken(view: &View<'_>, classes: &ClassTable, item: &Item, at: usize) -> Option<usize>
     requires subject { IsText view.now.options.now view.now.subject.now }
     requires place { IsTextPlace view.now.options.now view.now.subject.now at }
     requires class { All (λ n. n < length classes.now) (class_in item.now) }

@@ -1,7 +1,6 @@
 //! The run of one item that a pattern begins with: a start place that fails has those up to the
 //! run's end fail with it.
 ghost use Rattle.std.specs.Prelude.{◌≡◌, ◌<◌, ◌≤◌, All, IfSome, IsTrue, false, length};
-ghost use Rattle.pat_tree.specs.declared.options.PartialMode.TheVariants.{Off};
 ghost use Rattle.pat_tree.specs.Parts.{tree_of};
 ghost use Rattle.pat_tree.specs.Rules.{class_in};
 ghost use Rattle.match_items.specs.Subjects.{IsText};
@@ -10,6 +9,7 @@ ghost use Rattle.ordered_search.specs.Plain.{IsPlain};
 ghost use Rattle.match_drive.specs.Run as run;
 ghost use Rattle.match_drive.specs.Run.{IsFirstRun};
 
+use crate::course::is_off;
 use match_items::View;
 use pat_tree::{Cond, Item, Node, NodeId, Tree};
 
@@ -81,13 +81,15 @@ fn first_run(tree: &Tree) -> Option<Item>
 
 /// The item whose run a pattern begins with, where a place that fails has all places in the run
 /// from there fail: nothing in the pattern goes by what was captured, and matches of the empty text
-/// count. None in UTF, where places go by characters.
+/// count. None in UTF, where places go by characters, and none where partial matches are looked for.
 pub(crate) fn leading_run(tree: &Tree, view: &View<'_>) -> Option<Item>
     requires options { view.now.options.now ≡ tree.now.options }
     requires subject { IsText view.now.options.now view.now.subject.now }
-    requires off { view.now.matching.now.partial ≡ Off }
     ensures { IfSome result (IsFirstRun tree.now view.now) }
 {
+    if !is_off(view) {
+        return None;
+    }
     let item = first_run(tree)?;
     let (options, matching) = (view.options, view.matching);
     if options.utf

@@ -1,7 +1,6 @@
 -- Where each character is a byte, the scene of a text and that of bytes are one to every test.
-use Rattle.std.proofs.Common.{◌≡◌, ℕ, Bool, true, false, List, Option, refl, ap}
+use Rattle.std.proofs.Common.{◌≡◌, ℕ, Bool, true, false, List, refl, ap}
 use Rattle.pat_tree.specs.declared.options.Options.{Options}
-use Rattle.pat_tree.specs.declared.nodes.Item.{Item}
 use Rattle.pat_tree.specs.declared.nodes.AnchorKind.{AnchorKind}
 use Rattle.pat_tree.specs.declared.nodes.AnchorKind.TheVariants.{Caret, Dollar, SubjectStart, SubjectEnd, EndOrNewline, StartGiven, Word, NotWord}
 use Rattle.uni_text.specs.Sets.{word}
@@ -9,7 +8,7 @@ use Rattle.char_sets.specs.Table.{CharSet}
 use Rattle.match_items.specs.declared.view.View.{View}
 use Rattle.match_items.specs.Scene.{Scene}
 use Rattle.match_items.specs.Subjects.{IsText, IsTextPlace, IsSubject, IsPlace}
-use Rattle.match_items.specs.Items.{after_item, run_places, longest_run, run_reaches, after_ref, ref_reaches, holds, anchor_reaches}
+use Rattle.match_items.specs.Items.{after_ref, ref_reaches, holds, anchor_reaches}
 use Rattle.match_items.specs.Views.{text_scene, scene_of, bare_text, bare_scene, fold_in, asks_ucp}
 
 pub text_of : (options : Options) (bytes : List ℕ) → IsSubject options bytes → IsText options bytes
@@ -25,17 +24,6 @@ module _ (view : View) (table : List CharSet) (bytes : view.options.now.utf ≡ 
 
   scene_is : text_scene view table ≡ worded
   scene_is = ap (λ (u : Bool). record worded { fold = fold_in u }) bytes
-
-  pub after_item_is : (item : Item) (p : ℕ) → after_item (text_scene view table) item p ≡ after_item (scene_of view table) item p
-  after_item_is item p = ap (λ (g : Scene). after_item g item p) scene_is
-
-  pub longest_is : (item : Item) (most : Option ℕ) (p : ℕ) → longest_run (text_scene view table) item most p ≡ longest_run (scene_of view table) item most p
-  unfolding run_places
-  longest_is item most p = ap (λ (g : Scene). longest_run g item most p) scene_is
-
-  pub run_reaches_is : (item : Item) (most : Option ℕ) (p : ℕ) (qs : List ℕ) → run_reaches (text_scene view table) item most p qs ≡ run_reaches (scene_of view table) item most p qs
-  unfolding run_reaches
-  run_reaches_is item most p qs = ap (λ (g : Scene). run_reaches g item most p qs) scene_is
 
   pub after_ref_is : (from to p : ℕ) (caseless : Bool) → after_ref (text_scene view table) from to caseless p ≡ after_ref (scene_of view table) from to caseless p
   after_ref_is from to p caseless = ap (λ (g : Scene). after_ref g from to caseless p) scene_is

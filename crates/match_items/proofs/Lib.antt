@@ -10,5 +10,6 @@ pub mod TextPlaces
 pub mod TextRefs
 pub mod TextRuns
 pub mod Places
+pub mod PlainRuns
 pub mod Words
 mod RowProofs

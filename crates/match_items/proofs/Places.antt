@@ -1,14 +1,13 @@
 -- Places before and after what is taken, outside UTF.
-use Rattle.std.proofs.Common.{◌≡◌, ◌∙◌, ℕ, zero, suc, ◌+◌, ◌-◌, ◌<◌, ◌≤◌, Bool, true, false, List, [], ◌∷◌, Some, None, length, take, drop, slice_range, nat_lt, nat_le, refl, sym, ap, arith, inl, inr, length-drop, length-take, get_or, ◌==◌, chars, sum_by, add-zero}
+use Rattle.std.proofs.Common.{◌≡◌, ◌∙◌, ℕ, zero, suc, ◌+◌, ◌-◌, ◌<◌, ◌≤◌, Bool, true, false, List, [], ◌∷◌, Some, None, length, take, drop, slice_range, nat_lt, refl, sym, ap, arith, inl, inr, length-drop, length-take, get_or, ◌==◌, chars, sum_by}
 use Rattle.std.proofs.lemmas.Bool.{cases_Bool, cases_lt, and_parts, ltb-true}
-use Rattle.std.proofs.lemmas.Bool.Decides.{nat_tests}
 use Rattle.byte_lanes.specs.Newlines.{stands, longest, newline_texts}
 use Rattle.pat_tree.specs.declared.nodes.Item.{Item}
 use Rattle.std.specs.Char.{len_utf8}
 use Rattle.uni_text.specs.Characters.{char_before}
 use Rattle.pat_tree.specs.Newlines.{break_kind}
 use Rattle.match_items.specs.Scene.{Scene}
-use Rattle.match_items.specs.Items.{place_before, after_item, break_len, after_break, characters, width, after_text, after_ref}
+use Rattle.match_items.specs.Items.{place_before, after_item, break_len, after_break, characters, width, after_ref}
 use Rattle.match_items.proofs.OneItem.{if_taken, after_item-before, after_item-end, told_break}
 
 -- the character before a place that is not the first is the byte before
@@ -84,17 +83,3 @@ ref_within g from to p q caseless bytes within e =
     let rest : length ys ≡ length (drop p g.subject) = ap length (characters_are g (drop p g.subject) bytes) in
     let left : length (drop p g.subject) ≡ length g.subject - p = length-drop p g.subject in
     omega (arith, end, wide, short, rest, left)
-
--- a text that ends before it begins is empty, and stands everywhere
-pub ref_empty : (g : Scene) (from to p : ℕ) (caseless : Bool) → g.options.utf ≡ false → to ≤ from → after_ref g from to caseless p ≡ Some p
-ref_empty g from to p caseless bytes le =
-    let ys : List ℕ = characters g (drop p g.subject) in
-    let none : to - from ≡ 0 = omega arith in
-    let empty : characters g (slice_range g.subject from to) ≡ [] =
-    characters_are g (slice_range g.subject from to) bytes ∙ ap (λ n. take n (drop from g.subject)) none in
-    let fits : nat_le 0 (length ys) ≡ true = grind (arith, nat_tests) in
-    let zero_wide : width g [] ≡ 0 = width_is g [] bytes in
-    ap (λ (xs : List ℕ). after_text g caseless xs ys p) empty
-    ∙ ap (λ (b : Bool). if_taken b (p + width g [])) fits
-    ∙ ap (λ n. Some (p + n)) zero_wide
-    ∙ ap Some (add-zero p)

@@ -131,6 +131,13 @@ place_behind true bytes p checked place some =
     let at = IsCharBoundary-from_take bytes n (checked refl) (omega (arith, within)) (subst IsUtf8 (sym front ∙ cut) t.checked) in
     ((at.0, λ utf. at), omega (arith, bounds.0, some))
 
+-- a text goes on at a place with the encoding of the character there
+pub begun_with : (bytes : List ℕ) (p : ℕ) → IsUtf8 bytes → IsCharBoundary bytes p → p < length bytes
+    → (rest : List ℕ) × (drop p bytes ≡ encode (first_char (drop p bytes)) ++ rest)
+begun_with bytes p u at inside =
+    let h = head (drop p bytes) (IsUtf8-drop bytes p u at) (omega (arith, inside, length-drop p bytes)) in
+    (h.rest, h.split)
+
 module _ (g : Scene) (t : IsText g.options g.subject) where
   -- an item goes forward by one character
   pub text_forward : (item : Item) (p q : ℕ) → IsTextPlace g.options g.subject p → after_item g item p ≡ Some q →

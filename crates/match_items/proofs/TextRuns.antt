@@ -194,10 +194,6 @@ module _ (g : Scene) (item : Item) where
       by_item NotNewline = refl
       by_item (Class n) = ap (λ (b : Bool). if b then 0 else 1) (is_end-at g q h)
 
-  or_itself_true : (b : Bool) → (b || true) ≡ true
-  or_itself_true true = refl
-  or_itself_true false = refl
-
   none_after : (m : Option ℕ) (q : ℕ) → Ends m q → longest_run g item m q ≡ []
   none_after m q (full e) = no_more (length g.subject) m q e
   none_after m q (at_end left past) = not_one (length g.subject) m q (after_item-end g item q past)

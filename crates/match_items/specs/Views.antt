@@ -1,13 +1,14 @@
 -- What a view shows, and how the answers of the tests are told.
-use Rattle.std.specs.Prelude.{◌≡◌, ℕ, ◌+◌, ◌-◌, Bool, true, false, ◌==◌, ◌&&◌, ◌||◌, nat_lt, length, if◌then◌else◌, List, [], ◌∷◌, Option, Some, None}
+use Rattle.std.specs.Prelude.{◌≡◌, ℕ, ◌+◌, ◌-◌, Bool, true, false, ◌==◌, ◌&&◌, ◌||◌, nat_lt, length, if◌then◌else◌, List, [], ◌∷◌, Option, Some, None, slice_index}
 use Rattle.pat_tree.specs.declared.nodes.Item.{Item}
-use Rattle.pat_tree.specs.declared.nodes.Item.TheVariants.{Class}
+use Rattle.pat_tree.specs.declared.nodes.Item.TheVariants.{Class, AnyAll, NotNewline}
 use Rattle.pat_tree.specs.declared.nodes.AnchorKind.{AnchorKind}
 use Rattle.pat_tree.specs.declared.nodes.AnchorKind.TheVariants.{Word, NotWord}
 use Rattle.uni_text.specs.Ascii.{ascii_fold, is_word_char}
 use Rattle.uni_text.specs.Folding as unicode
 use Rattle.uni_text.specs.Sets.{word}
 use Rattle.char_sets.specs.Table.{CharSet, table_has}
+use Rattle.byte_lanes.specs.Plain.{is_plain}
 use Rattle.match_items.specs.declared.view.View.{View}
 use Rattle.match_items.specs.declared.walks.Walk.{Walk}
 use Rattle.match_items.specs.declared.view.Taken.{Taken}
@@ -97,3 +98,13 @@ asks_ucp _ = false
 abbrev pub span_tests : Item → ℕ → ℕ → ℕ → ℕ
 span_tests (Class n) from to limit = (to - from) + (if nat_lt to limit then 1 else 0)
 span_tests _ from to limit = 0
+
+-- the item is `.`, with newlines or without them
+abbrev pub is_dot : Item → Bool
+is_dot AnyAll = true
+is_dot NotNewline = true
+is_dot _ = false
+
+-- it is, and takes the byte at place k as a character of ASCII, whatever ends a line
+abbrev pub IsPlainDot : Item → List ℕ → ℕ → Type 0
+IsPlainDot item bytes k = (is_dot item ≡ true) × (is_plain (slice_index bytes k) ≡ true)

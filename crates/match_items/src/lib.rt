@@ -9,10 +9,6 @@ mod items;
 mod laws;
 mod references;
 mod runs;
-#[cfg(test)]
-mod tests;
-#[cfg(test)]
-mod text_tests;
 mod uncounted;
 mod view;
 mod walks;

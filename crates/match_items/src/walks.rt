@@ -1,12 +1,13 @@
 //! Runs over the characters of UTF-8.
-ghost use Rattle.std.specs.Prelude.{◌≡◌, ◌+◌, ◌<◌, ◌≤◌, All, length, IsTrue};
+ghost use Rattle.std.specs.Prelude.{◌≡◌, ℕ, ◌+◌, ◌<◌, ◌≤◌, All, length, IsTrue};
 ghost use Rattle.pat_tree.specs.Rules.{class_in};
 ghost use Rattle.match_items.specs.Subjects.{IsText, IsTextPlace};
 ghost use Rattle.match_items.specs.Items.{longest_run};
-ghost use Rattle.match_items.specs.Views.{text_scene, maximum, run_tests, IsWalk};
+ghost use Rattle.match_items.specs.Views.{text_scene, maximum, run_tests, IsWalk, IsPlainDot};
 
 use crate::items::takes;
 use crate::view::View;
+use byte_lanes::find_past_plain;
 use char_sets::ClassTable;
 use pat_tree::{Item, Steps};
 use std::sync::ledger::Ledger;
@@ -21,7 +22,28 @@ pub(crate) struct Walk {
     pub to: usize,
 }
 
-/// The longest run in UTF, character by character.
+/// The end of the characters of ASCII from a place on that `.` takes whatever ends a line, of
+/// `most` of them at most. Each is a byte.
+fn plain_run(view: &View<'_>, item: &Item, from: usize, most: u32) -> usize
+    requires { from ≤ length view.now.subject.now }
+    ensures low { from ≤ result }
+    ensures few { result ≤ from + most }
+    ensures within { result ≤ length view.now.subject.now }
+    ensures plain { (k : ℕ) → from ≤ k → k < result
+        → IsPlainDot item.now view.now.subject.now k }
+{
+    if !matches!(*item, Item::AnyAll | Item::NotNewline) {
+        return from;
+    }
+    let limit = view.subject.len().min(from + most as usize);
+    // A character past ASCII isn't worth a look at those behind it.
+    if from == limit || view.subject[from] >= 128 {
+        return from;
+    }
+    find_past_plain(&view.subject[..limit], from)
+}
+
+/// The longest run in UTF: of `.` the characters of ASCII at once, and others one by one.
 pub(crate) fn text_walk<L: Ledger>(
     view: &View<'_>,
     classes: &ClassTable,
@@ -44,15 +66,21 @@ pub(crate) fn text_walk<L: Ledger>(
     let mut count = 0;
     let mut to = at;
     while count < max {
-        if to == view.subject.len() {
-            return Walk { count, to };
+        let near = plain_run(view, item, to, max - count);
+        if near > to {
+            count += (near - to) as u32;
+            to = near;
+        } else {
+            if to == view.subject.len() {
+                return Walk { count, to };
+            }
+            let (c, next) = char_at(view.subject, to, true);
+            if !takes(view, classes, item, to, c, steps) {
+                return Walk { count, to };
+            }
+            count += 1;
+            to = next;
         }
-        let (c, next) = char_at(view.subject, to, true);
-        if !takes(view, classes, item, to, c, steps) {
-            return Walk { count, to };
-        }
-        count += 1;
-        to = next;
     }
     Walk { count, to }
 }

@@ -1,15 +1,10 @@
 -- Bounds as they are kept, joined as the definition joins them.
-use Rattle.std.proofs.Common.{◌≡◌, ℕ, ◌-◌, ◌<◌, ◌≤◌, ◌&&◌, Bool, true, false, if◌then◌else◌, List, [], ◌∷◌, map, Option, Some, None, All, length, drop, get_or, refl, sym, ap, subst}
+use Rattle.std.proofs.Common.{◌≡◌, ℕ, ◌&&◌, Bool, true, false, if◌then◌else◌, List, [], ◌∷◌, map, Option, Some, None, All, refl, sym, ap, subst}
 use Rattle.std.proofs.lemmas.List.Elements.{All-head, All-tail}
 use Rattle.pat_tree.specs.Nested.{Nested, Row, look, row, tree_at}
 use Rattle.match_needs.specs.declared.bounds.Bound.{Bound}
 use Rattle.match_needs.specs.Bounds.{closed, followed, or_later, both, change, bound, bound_in_turn, bound_of_one, bound_of_choices}
 use Rattle.match_needs.specs.BoundTables.{Refines, bound_at, turn_of, choices_of, one_of}
-use Rattle.match_needs.proofs.Backwards.{back}
-
-pub refines_same : (x y : Option Bound) → x ≡ y → Refines x y
-refines_same None y e = tt
-refines_same (Some a) y e = sym e
 
 pub refines_on : (x y z : Option Bound) → Refines x y → Refines y z → Refines x z
 refines_on None y z h k = tt
@@ -23,25 +18,6 @@ both_refines f (Some a) (Some b) x' y' h k = rw (h, k) refl
 pub change_refines : (f : Bound → Bound) (x x' : Option Bound) → Refines x x' → Refines (change f x) (change f x')
 change_refines f None x' h = tt
 change_refines f (Some a) x' h = rw h refl
-
--- A list taken from its end.
-
-module _ (of : ℕ → Option Bound) (xs : List ℕ) (i : ℕ) (first whole next : Option Bound) (p : 0 < i) (l : i ≤ length xs) (is : first ≡ of (get_or xs (i - 1) 0)) where
-  pub turn_back : Refines whole (turn_of of (drop i xs)) → Refines next (both followed first whole) → Refines next (turn_of of (drop (i - 1) xs))
-  turn_back rest join =
-      rw (back xs i p l)
-      (refines_on next (both followed first whole) _ join (both_refines followed first whole _ _ (refines_same first _ is) rest))
-
-  pub choices_back : Refines whole (choices_of of (drop i xs)) → Refines next (both or_later first whole) → Refines next (choices_of of (drop (i - 1) xs))
-  choices_back rest join =
-      rw (back xs i p l)
-      (refines_on next (both or_later first whole) _ join (both_refines or_later first whole _ _ (refines_same first _ is) rest))
-
--- more than one branch, or none
-pub no_only : (of : ℕ → Option Bound) (xs : List ℕ) → ((k : ℕ) → xs ≡ k ∷ [] → ⊥) → choices_of of xs ≡ one_of of xs
-no_only of [] h = refl
-no_only of (k ∷ []) h = absurd (h k refl)
-no_only of (k ∷ m ∷ ks) h = refl
 
 -- By the bounds of the trees.
 

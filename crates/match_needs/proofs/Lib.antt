@@ -1,3 +1,4 @@
+mod LetterLemmas
 pub mod Backwards
 pub mod BoundLemmas
 pub mod NeedLemmas

@@ -116,12 +116,6 @@ pub needs_one : (may : Item → ℕ → Bool) (utf : Bool) (item : Item) (r : Op
 needs_one may utf item None e i h = tt
 needs_one may utf item (Some w) e i h = record { needs = one_begins may utf item w e h; item = λ yes. (by_bytes utf (sym i ∙ yes), (item, (refl, h))) }
 
-pub needs_many : (may : Item → ℕ → Bool) (utf : Bool) (item : Item) (low : ℕ) (high : Option ℕ) (lazily : Bool) (r : Option Wanted) → 0 < low →
-    IfSome r (λ w. sets_of w.text ≡ w.text.first ∷ []) → IfSome r (λ w. w.is_item ≡ false) → IfSome r (λ w. TakesOf may w.text.first item) →
-    IsNeed may utf (tree.one_repeat item low high lazily) r
-needs_many may utf item low high lazily None some e i h = tt
-needs_many may utf item low high lazily (Some w) some e i h = record { needs = (some, one_begins may utf item w e h); item = λ yes. absurd (clash _ yes i) }
-
 pub needs_turn : (may : Item → ℕ → Bool) (utf : Bool) (ts : Row) (r : Option Wanted) → IsSomeNeed may utf ts r → IsNeed may utf (tree.seq ts) r
 needs_turn may utf ts None h = tt
 needs_turn may utf ts (Some w) h = record { needs = h.1; item = λ yes. absurd (clash _ yes h.0) }

@@ -1,14 +1,12 @@
 -- Texts whose sets hold more.
-use Rattle.std.proofs.Common.{◌≡◌, ◌∙◌, ℕ, ◌+◌, ◌<◌, ◌||◌, Bool, true, false, List, [], ◌∷◌, length, Option, Some, None, refl, arith}
+use Rattle.std.proofs.Common.{◌≡◌, ◌∙◌, ℕ, ◌+◌, ◌<◌, ◌||◌, Bool, true, false, List, [], ◌∷◌, refl}
 use Rattle.std.specs.Prelude.{slice_index}
-use Rattle.byte_lanes.specs.Places.{IsLeast}
 use Rattle.byte_lanes.specs.Sets.{has_byte}
 use Rattle.pat_tree.specs.declared.nodes.Item.{Item}
 use Rattle.pat_tree.specs.Nested as tree
 use Rattle.pat_tree.specs.Nested.{Row}
 use Rattle.match_needs.specs.Needs.{Begins}
-use Rattle.match_needs.specs.Texts.{more_of, behind_of, sets_of, Stands, IsUnionOf, AreUnions}
-use Rattle.match_needs.specs.declared.text.ByteText.{ByteText}
+use Rattle.match_needs.specs.Texts.{Stands, AreUnions}
 
 pub clash : (b : Bool) → b ≡ true → b ≡ false → ⊥
 clash b h k = cc
@@ -46,29 +44,6 @@ wider_right (both ∷ rest) (one ∷ ones) (other ∷ others) h = (λ b l m. h.0
 wider_right (both ∷ rest) [] others h = absurd h
 wider_right (both ∷ rest) (one ∷ ones) [] h = absurd h
 
--- the sets of a text by those of two
-pub unions_behind : (second third second1 third1 second2 third2 : Option (List Bool)) → IsUnionOf second second1 second2 → IsUnionOf third third1 third2
-    → AreUnions (behind_of second third) (behind_of second1 third1) (behind_of second2 third2)
-unions_behind None third None third1 second2 third2 h k = tt
-unions_behind None third (Some b) third1 None third2 h k = tt
-unions_behind None third (Some b) third1 (Some c) third2 h k = absurd h
-unions_behind (Some a) third None third1 second2 third2 h k = absurd h
-unions_behind (Some a) third (Some b) third1 None third2 h k = absurd h
-unions_behind (Some a) None (Some b) None (Some c) third2 h k = (h, tt)
-unions_behind (Some a) None (Some b) (Some e) (Some c) None h k = (h, tt)
-unions_behind (Some a) None (Some b) (Some e) (Some c) (Some f) h k = absurd k
-unions_behind (Some a) (Some d) (Some b) None (Some c) third2 h k = absurd k
-unions_behind (Some a) (Some d) (Some b) (Some e) (Some c) None h k = absurd k
-unions_behind (Some a) (Some d) (Some b) (Some e) (Some c) (Some f) h k = (h, (k, tt))
-
--- the first two sets of a text begin what the text begins
-pub begins_two : (may : Item → ℕ → Bool) (first : List Bool) (second third : Option (List Bool)) (ts : Row) → Begins may (first ∷ behind_of second third) ts
-    → Begins may (first ∷ more_of second) ts
-begins_two may first second third tree.none h = absurd h
-begins_two may first None third (tree.more t ts) h = h
-begins_two may first (Some b) third (tree.more t tree.none) h = absurd h.1
-begins_two may first (Some b) third (tree.more t (tree.more u ts)) h = (h.0, (h.1.0, tt))
-
 -- Where a text stands, one that holds more stands too.
 
 pub stands_left : (new ones others : List (List Bool)) → AreUnions new ones others → (bytes : List ℕ) (k : ℕ) → Stands ones bytes k → Stands new bytes k
@@ -84,9 +59,3 @@ stands_right (both ∷ rest) (one ∷ ones) (other ∷ others) h bytes k s =
     (s.0, (h.0 (slice_index bytes k) ∙ or_right (has_byte one (slice_index bytes k)) (has_byte other (slice_index bytes k)) s.1.0, stands_right rest ones others h.1 bytes (k + 1) s.1.1))
 stands_right (both ∷ rest) [] others h bytes k s = absurd h
 stands_right (both ∷ rest) (one ∷ ones) [] h bytes k s = absurd h
-
--- a search that finds no place
-pub stands_nowhere : (text : ByteText) (bytes : List ℕ) (n : ℕ) → IsLeast (Stands (sets_of text) bytes) 0 (length bytes) n → n ≡ length bytes → (k : ℕ) → ¬ Stands (sets_of text) bytes k
-stands_nowhere text bytes n least e k h =
-    let within = h.0 in
-    least.before k (omega arith) (omega (arith, within, e)) h

@@ -1,5 +1,5 @@
 // Texts of which every match of a part of a pattern takes one.
-ghost use Rattle.std.specs.Prelude.{◌≡◌, ◌⊎◌, ℕ, ◌+◌, ◌<◌, ◌∷◌, [], ◌&&◌, if◌then◌else◌, Bool, true, false, None, Some, All, List, map, IfOk, IfSome, length};
+ghost use Rattle.std.specs.Prelude.{◌≡◌, ◌⊎◌, ℕ, ◌+◌, ◌<◌, ◌≤◌, ◌∷◌, [], ◌&&◌, if◌then◌else◌, Bool, true, false, None, Some, All, List, map, IfOk, IfSome, length};
 ghost use Rattle.byte_lanes.specs.Sets.{has_byte};
 ghost use Rattle.char_sets.specs.Sets.{class_has};
 ghost use Rattle.pat_tree.specs.declared.nodes.Item.{Item};
@@ -8,14 +8,14 @@ ghost use Rattle.pat_tree.specs.Parts.{TreeParts};
 ghost use Rattle.pat_tree.specs.Rules.{kids_of, classes_of, class_in};
 ghost use Rattle.char_sets.specs.Table.{IsTableOf};
 ghost use Rattle.match_needs.specs.declared.needs.Wanted.{Wanted};
-ghost use Rattle.match_needs.specs.Needs.{may_take, Needs, TakesOf, IsTaking};
+ghost use Rattle.match_needs.specs.Needs.{may_begin, may_take, Needs, TakesOf, IsTaking};
 ghost use Rattle.match_needs.specs.Texts.{sets_of};
 ghost use Rattle.match_needs.specs.NeedTables.{may_of, IsNeed, IsItemNeed, IsRun, IsSomeNeed, AreAllNeeds, KeepNeeds, AreNeeds, IsNeedOf};
 
 use crate::bounds::{Bound, bound_of_whole};
 use crate::text::ByteText;
 use byte_lanes::ByteSet;
-use char_sets::{ClassTable, both_cases};
+use char_sets::{ClassTable, add_range, both_cases};
 use pat_tree::{Item, Memory, Node, NodeId, Tree};
 use std::alloc::Global;
 
@@ -167,21 +167,45 @@ fn item_need(classes: &ClassTable, item: &Item, utf: bool) -> Option<Taken>
         → IfSome result (IsItemNeed (may_of tree) item.now) }
 {
     if utf {
-        ascii_need(item)
+        utf_need(item)
     } else {
         byte_need(classes, item)
     }
 }
 
-/// The byte of an ASCII character in its case alone: in UTF other items take characters past ASCII.
-fn ascii_need(item: &Item) -> Option<Taken>
+/// The bytes that begin a character in UTF, where they are all of ASCII or all past it.
+fn utf_need(item: &Item) -> Option<Taken>
     ensures { (classes : ℕ → ℕ → Bool)
         → IfSome result (IsItemNeed (may_take true classes) item.now) }
 {
     match item {
         Item::Char { c, caseless: false } if *c < 128 => one_byte(*c),
+        Item::Char { c, caseless: false } => Some(past_ascii()),
+        Item::Char { c, caseless: true } => letter_need(*c),
         _ => None,
     }
+}
+
+/// The bytes that begin a character or one that folds as it does. Characters past ASCII and of ASCII fold alike in two
+/// cases: the Kelvin sign U+212A folds to k, and the long s U+017F to s.
+fn letter_need(c: u32) -> Option<Taken>
+    ensures { IfSome result (λ taken. (b : ℕ) → b < 256 → may_begin true c b ≡ true
+        → has_byte taken.bytes b ≡ true) }
+{
+    match c {
+        0x4B | 0x6B | 0x53 | 0x73 | 0x212A | 0x17F => None,
+        0..=0x7F => if_rare(both_cases(c)),
+        _ => Some(past_ascii()),
+    }
+}
+
+/// The bytes past ASCII. They are looked for anyway where lines must be UTF-8, and so they are the rarest.
+fn past_ascii() -> Taken
+    ensures { (b : ℕ) → 128 ≤ b → b < 256 → has_byte result.bytes b ≡ true }
+{
+    let mut bytes = ByteSet::empty();
+    add_range(&mut bytes, 128, 255);
+    Taken { bytes, weight: 1 }
 }
 
 /// The bytes that a character or a class takes outside UTF, where they are rare.

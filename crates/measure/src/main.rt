@@ -4,16 +4,19 @@
 mod classes;
 mod lines;
 mod reading;
+mod rewrite;
 mod search;
 
 use byte_lanes::EndKind;
 use classes::{Class, Sample};
+use std::io::Write;
 use std::{env, io};
 
 // What the words ask for.
 enum Asked<'a> {
     Nothing,
     Search(&'a str),
+    Rewrite(&'a str, &'a str),
     Reading(u32),
     Lines(EndKind),
     Classes(Sample),
@@ -28,6 +31,9 @@ fn make_asked(words: &[String]) -> Asked<'_> {
             Asked::Lines(EndKind::AnyCrLf)
         }
         [_, what, pattern] if what.as_str() == "search" => Asked::Search(pattern.as_str()),
+        [_, what, pattern, replacement] if what.as_str() == "rewrite" => {
+            Asked::Rewrite(pattern.as_str(), replacement.as_str())
+        }
         [_, what, times] if what.as_str() == "reading" => make_reading(times.as_str()),
         [_, what, class, way] if what.as_str() == "classes" => {
             make_sample(class.as_str(), way.as_str())
@@ -65,6 +71,12 @@ fn main(rt: HostRuntime) -> io::Result<()> {
             match search::count_matches(rt.alloc(), pattern, rt.stdin()) {
                 Some(count) => println!(rt; "{count}"),
                 None => println!(rt; "the pattern is not compiled"),
+            }
+        }
+        Asked::Rewrite(pattern, replacement) => {
+            match rewrite::rewritten(rt.alloc(), pattern, replacement, rt.stdin()) {
+                Some(done) => rt.stdout().write_all(done.text.bytes()),
+                None => println!(rt; "the text is not rewritten"),
             }
         }
         Asked::Reading(times) => {

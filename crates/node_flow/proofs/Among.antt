@@ -97,7 +97,7 @@ chained n (q ∷ ps) k p tail once e =
       | inr other ↦ by_later k (rw other at e)
     ]
 
-small_out : (n k : ℕ) (ks : List ℕ) → n ≤ k → All (λ x. x < n) ks → is_in k ks ≡ false
+pub small_out : (n k : ℕ) (ks : List ℕ) → n ≤ k → All (λ x. x < n) ks → is_in k ks ≡ false
 small_out n k ks l h =
     elim (in_or_not k ks) [
       | inl member ↦ (let less : k < n = of_member (λ x. x < n) ks k h member in absurd (omega (arith, l, less)))

@@ -38,7 +38,7 @@ module _ (f : ℕ → List ℕ) where
         | inr later ↦ (let o = in_one ks x later in record { at = o.at; listed = rw (o.listed, or-true) refl; has = o.has })
       ]
 
-  in_all : (ks : List ℕ) (a x : ℕ) → is_in a ks ≡ true → is_in x (f a) ≡ true → is_in x (flat_map f ks) ≡ true
+  pub in_all : (ks : List ℕ) (a x : ℕ) → is_in a ks ≡ true → is_in x (f a) ≡ true → is_in x (flat_map f ks) ≡ true
   in_all [] a x h m = absurd (true_false false h refl)
   in_all (k ∷ ks) a x h m =
       in_append x (f k) (flat_map f ks) ∙ elim (same_or_other k a) [
@@ -107,7 +107,7 @@ module _ (ps : List Placed) (once : Once (children ps)) where
     child : is_in x (kids_at parent) ≡ true
 
   -- parts under another have smaller numbers
-  small : (n k x : ℕ) → k < n → k < length ps → is_in x (order ps k) ≡ true → x ≤ k
+  pub small : (n k x : ℕ) → k < n → k < length ps → is_in x (order ps k) ≡ true → x ≤ k
   small zero k x l s h = absurd (omega (arith, l))
   small (suc n) k x l s h =
       let lists = take k (orders_after [] ps) in

@@ -39,7 +39,7 @@ node_before ps id root n below here =
     let is : p ≡ get_or ps id d = get_or-take (root + 1) ps id d (omega arith) in
     (p, ap (λ q. q.node) is ∙ sym (here d), drop-cons (take (root + 1) ps) id d l ∙ (let e : suc id ≡ id + 1 = omega arith in ap (λ i. p ∷ drop i (take (root + 1) ps)) e))
 
-none_in : (n k : ℕ) → get_or {A = Option ℕ} (replicate n None) k None ≡ None
+pub none_in : (n k : ℕ) → get_or {A = Option ℕ} (replicate n None) k None ≡ None
 none_in n k =
     let cases : (k < n) ⊎ (n ≤ k) = grind arith in
     elim cases [

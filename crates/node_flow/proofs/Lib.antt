@@ -2,6 +2,7 @@ pub mod Members
 pub mod Told
 pub mod Children
 pub mod Building
+pub mod Branching
 pub mod Later
 pub mod Among
 pub mod TreeLaws
@@ -9,3 +10,4 @@ pub mod Orders
 pub mod Waiting
 pub mod Apart
 pub mod Places
+pub mod InTurn

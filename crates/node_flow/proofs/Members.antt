@@ -29,9 +29,6 @@ of_member P (x ∷ xs) k all member =
 pub in_append : (k : ℕ) (xs ys : List ℕ) → is_in k (xs ++ ys) ≡ (is_in k xs || is_in k ys)
 in_append k xs ys = list_any-append (λ x. x == k) xs ys
 
-pub in_none : (k : ℕ) → is_in k [] ≡ false
-in_none k = refl
-
 -- none comes twice
 unfoldable pub Once : List ℕ → Type 0
 Once [] = Unit {0}

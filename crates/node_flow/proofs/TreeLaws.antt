@@ -17,7 +17,7 @@ use Rattle.node_flow.proofs.Orders.{first}
 use Rattle.node_flow.proofs.Apart.{stands_once, stands_together}
 use Rattle.node_flow.proofs.Among.{inside, chained, no_child, followed, once_at}
 
-below_take : (n m : ℕ) (ps : List Placed) → AreBelow n ps → AreBelow n (take m ps)
+pub below_take : (n m : ℕ) (ps : List Placed) → AreBelow n ps → AreBelow n (take m ps)
 below_take n zero ps h = tt
 below_take n (suc m) [] h = tt
 below_take n (suc m) (p ∷ ps) h = (h.0, below_take (n + 1) m ps h.1)

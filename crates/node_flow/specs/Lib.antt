@@ -1,3 +1,4 @@
+pub mod Branches
 pub mod Followers
 pub mod Linked
 pub mod Order

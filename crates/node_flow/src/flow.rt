@@ -54,7 +54,7 @@ impl Flow {
 }
 
 /// As many parts, each told that nothing follows.
-fn nothing_told(alloc: Global, count: usize) -> Result<Vec<Option<NodeId>>, Memory>
+pub(crate) fn nothing_told(alloc: Global, count: usize) -> Result<Vec<Option<NodeId>>, Memory>
     ensures { IfOk result (λ next. next.items ≡ replicate count None) }
 {
     let next = vec![in alloc; None; count]?;
@@ -82,7 +82,7 @@ fn link(next: &mut [Option<NodeId>], node: &Node, after: Option<NodeId>)
 }
 
 /// Tells the branches of a condition that `after` follows them.
-fn tell_branches(
+pub(crate) fn tell_branches(
     next: &mut [Option<NodeId>],
     yes: NodeId,
     no: Option<NodeId>,
@@ -115,7 +115,7 @@ fn chain(next: &mut [Option<NodeId>], kids: &[NodeId], after: Option<NodeId>)
 }
 
 /// Tells each of these parts that `after` follows it.
-fn tell(next: &mut [Option<NodeId>], parts: &[NodeId], after: Option<NodeId>)
+pub(crate) fn tell(next: &mut [Option<NodeId>], parts: &[NodeId], after: Option<NodeId>)
     requires { All (λ k. k < length next.old) parts.now }
     ensures { (k : ℕ) → slice_index_or next.new k None
         ≡ (if is_in k parts.now then after else slice_index_or next.old k None) }

@@ -139,17 +139,6 @@ strip_catching f h j r = record {
 record IsSearch (p : Path) (x : Search) : Type 0 where
   is : (s : State) (k l : Follow) (f : Moves) (h j : Handler) → IsStripped k l → AreStripped h j → strip (p s k f h) ≡ before (x s) l (strip f) j
 
-strip_before : (x : Stream) (k l : Follow) (f : Moves) (h j : Handler) → IsStripped k l → AreStripped h j →
-    strip (before x k f h) ≡ before x l (strip f) j
-unfolding before strip
-strip_before (ends exhausted) k l f h j e r = refl
-strip_before (ends (by_verb v)) k l f h j e r = r.same v
-strip_before (ends (by_halt a)) k l f h j e r = refl
-strip_before (note n ▸ x) k l f h j e r = ap (noted n) (strip_before x k l f h j e r)
-strip_before (state how s ▸ x) k l f h j e r =
-    e.same how s (before x k f h) ∙ ap (l how s) (strip_before x k l f h j e r)
-strip_before (step ▸ x) k l f h j e r = ap stepped (strip_before x k l f h j e r)
-
 -- one place at most
 strip_going : (o : Option ℕ) (s : State) (k l : Follow) (f : Moves) (j : Handler) → IsStripped k l →
     strip (going o s k f) ≡ before (goes_to o s) l (strip f) j
@@ -534,20 +523,20 @@ module _ (g : Setting) where
   unfolding before strip run_look look_path
   strip_look true true p x i = record {
     is = λ s k l f h j e r.
-        strip_holding 1 s (λ t. p t (λ how u m. leave g s reached (back_to s u) k f) (pause f) (catching f h))
+        strip_holding 1 s (λ t. p t (λ how u m. leave g s reached (back_to s u) k f) (pause f) (catching (pause f) h))
         (λ t. decide fails_alone (x t) (λ how u. hold g reached (back_to s (forget_passed s u))) nothing) l (strip f) j
         (λ t.
         i.is t (λ how u m. leave g s reached (back_to s u) k f) (λ how u m. before (hold g reached (back_to s (forget_passed s u))) l (strip f) j)
-        (pause f) (catching f h) (catching (strip f) j) (left_stripped s (λ how. reached) (λ u. back_to s u) k l f j e) (strip_catching f h j r)
+        (pause f) (catching (pause f) h) (catching (strip f) j) (left_stripped s (λ how. reached) (λ u. back_to s u) k l f j e) (strip_catching (pause f) h j r)
         ∙ sym (before_first_alone (x t) (λ how u. hold g reached (back_to s (forget_passed s u))) l (strip f) j));
   }
   strip_look true false p x i = record {
     is = λ s k l f h j e r.
-        strip_holding 1 s (λ t. p t (λ how u m. pause (k reached (back_to s u) m)) (pause f) (catching f h))
+        strip_holding 1 s (λ t. p t (λ how u m. pause (k reached (back_to s u) m)) (pause f) (catching (pause f) h))
         (λ t. catch fails_alone (each (x t) (λ how u. gives reached (back_to s u)))) l (strip f) j
         (λ t.
         i.is t (λ how u m. pause (k reached (back_to s u) m)) (λ how u m. before (gives reached (back_to s u)) l m (catching (strip f) j))
-        (pause f) (catching f h) (catching (strip f) j) (record { same = λ how u m. e.same reached (back_to s u) m }) (strip_catching f h j r)
+        (pause f) (catching (pause f) h) (catching (strip f) j) (record { same = λ how u m. e.same reached (back_to s u) m }) (strip_catching (pause f) h j r)
         ∙ sym (before_each (x t) (λ how u. gives reached (back_to s u)) l (strip f) (catching (strip f) j))
         ∙ sym (before_catch_alone (each (x t) (λ how u. gives reached (back_to s u))) l (strip f) j));
   }
@@ -707,12 +696,6 @@ module _ (g : Setting) where
   -- The trees.
 
   module _ (d : ℕ) (same : (t : Nested) → IsSearch (paths g d t) (run g d t)) where
-    -- a form that is the search itself
-    strip_run : (t : Nested) (s : State) (k l : Follow) (f : Moves) (h j : Handler) → IsStripped k l → AreStripped h j →
-        strip (pause (before (run g (suc d) t s) k f h)) ≡ before (level g (run g d) t s) l (strip f) j
-    unfolding run strip
-    strip_run t s k l f h j e r = strip_before (run g (suc d) t s) k l f h j e r
-
     mutual
       unfolding before strip level path run_one run_break run_group run_callout
 
@@ -750,7 +733,9 @@ module _ (g : Setting) where
           (record { is = strip_path first }) (strip_other second) s k l f h j e r
       strip_path (tree.call n) s k l f h j e r = (strip_call (paths g d) (run g d) same n).is s k l f h j e r
       strip_path (tree.verb v) s k l f h j e r = (strip_verb v).is s k l f h j e r
-      strip_path (tree.callout c) s k l f h j e r = strip_run (tree.callout c) s k l f h j e r
+      strip_path (tree.callout c) s k l f h j e r =
+          ap (noted (shown (block_of c s)))
+          (strip_answered (g.reply (block_of c s)) (k reached s f) f (gives reached s) l j (e.same reached s f))
 
       strip_row : (ts : Row) → ArePaths (row_paths g d (paths g d) ts) (levels g (run g d) ts)
       strip_row tree.none = tt

@@ -1,6 +1,6 @@
 -- Streams of which one follows the other: the same events, from states at the same places that hold
 -- no more units.
-use Rattle.std.proofs.Common.{◌≡◌, ◌≤◌, Bool, true, false, refl, arith}
+use Rattle.std.proofs.Common.{◌≡◌, ◌≤◌, Bool, true, false}
 use Rattle.ordered_search.specs.Stream.{
   State,
   Ending,
@@ -50,9 +50,6 @@ FollowsAll b f h = (how : How) (t s : State) → IsNear t s → Follows b (f how
 abbrev pub Keeps : Search → Type 0
 Keeps f = (t s : State) → IsNear t s → Follows false (f t) (f s)
 
-pub near_self : (s : State) → IsNear s s
-near_self s = record { place = refl; units = omega arith }
-
 pub follows_nothing : {b : Bool} → Follows b nothing nothing
 follows_nothing = at_end exhausted
 
@@ -61,14 +58,6 @@ pub follows_gives : {b : Bool} (how : How) (t s : State) → IsNear t s
 follows_gives how t s near = at_state how t s near follows_nothing
 
 module _ {b : Bool} where
-  -- what follows throughout may stop
-  pub follows_throughout : {y x : Stream} → Follows false y x → Follows b y x
-  follows_throughout at_limit = at_limit
-  follows_throughout (at_stop e) = absurd (cc e)
-  follows_throughout (at_end e) = at_end e
-  follows_throughout (at_state how t s near h) = at_state how t s near (follows_throughout h)
-  follows_throughout (at_step h) = at_step (follows_throughout h)
-
   pub follows_if : (c : Bool) {y x y' x' : Stream} → Follows b y x → Follows b y' x'
       → Follows b (elim c [ true ↦ y | false ↦ y' ]) (elim c [ true ↦ x | false ↦ x' ])
   follows_if true h k = h

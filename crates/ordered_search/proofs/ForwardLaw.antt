@@ -1,21 +1,21 @@
--- A search for a tree of the forms that are built gives a match in the subject, none, a limit or a loop, and tells names alone.
-use Rattle.std.proofs.Common.{◌≡◌, ℕ, zero, suc, ◌+◌, ◌-◌, ◌<◌, ◌≤◌, ◌≢◌, Bool, true, false, List, [], ◌∷◌, ◌++◌, length, Option, Some, None, refl, sym, subst, arith}
+-- A search gives a match in the subject, whole or partial, none, a limit, a loop or a callout's number.
+use Rattle.std.proofs.Common.{◌≡◌, ℕ, zero, suc, ◌+◌, ◌-◌, ◌<◌, ◌≤◌, ◌≢◌, Bool, true, false, length, Option, Some, None, refl, arith}
 use Rattle.std.specs.Prelude.{nat_le, nat_lt, IfSome}
 use Rattle.std.proofs.lemmas.List.{length-replicate}
 use Rattle.std.proofs.lemmas.List.Elements.{All-replicate}
-use Rattle.ordered_search.specs.Stream.{State, first_state, next_branch, prune, skip, commit, exhausted, by_verb, by_halt, is_partial, too_many_units, loop, abort, cut, Note, name, shown, hit_end, How, reached, accepted, note, state, step, Stream, ends, ◌▸◌}
+use Rattle.ordered_search.specs.Stream.{State, first_state, next_branch, prune, skip, commit, exhausted, by_verb, by_halt, is_partial, too_many_units, loop, abort, cut, How, reached, accepted, note, state, step, Stream, ends, ◌▸◌}
 use Rattle.ordered_search.specs.Setting.{Setting, match_limit}
 use Rattle.ordered_search.specs.PlaceAnswer.{outcome, Signal, Exhausted, Prune, Skip, Commit, PlaceAnswer, Matched, Failed, Partial, MatchLimit, FrameLimit, Loop, Abort, NoDepth, Walked, answers, has_hit, is_refused_by_end, is_refused_as_empty, walk, place_answer}
 use Rattle.ordered_search.proofs.WalkLaw.{no_cut}
 use Rattle.ordered_search.specs.Places.{next_place, last_place, within, place_after, is_excluded}
-use Rattle.ordered_search.specs.MatchAnswer.{Match, PartialFrom, Error, Found, none_found, decided, undecided, failed_at, tried, from_place}
+use Rattle.ordered_search.specs.MatchAnswer.{MatchAnswer, Match, NoMatch, PartialFrom, Error, Found, decided, undecided, failed_at, tried, from_place}
 use Rattle.match_items.specs.Subjects.{IsTextPlace}
-use Rattle.ordered_search.specs.Forward.{IsWithin, IsPlaced, AreNames, IsPlainFound, IsBuiltSearch, ForwardLaw}
+use Rattle.ordered_search.specs.Forward.{IsWithin, IsPlaced, IsPlain, IsTextSearch, ForwardLaw}
 use Rattle.ordered_search.proofs.StartPlaces.{up_to_keeps, start_within, after_later, next_stands}
 use Rattle.ordered_search.proofs.ForwardStreams.{IsOnWay, Forward}
 use Rattle.ordered_search.proofs.ForwardSearch.{forward_run}
 
-module _ (g : Setting) (search : IsBuiltSearch g) where
+module _ (g : Setting) (search : IsTextSearch g) where
   -- what a place answers
   abbrev IsPlainPlace : PlaceAnswer → Type 0
   IsPlainPlace (Matched o) = IsPlaced g o
@@ -27,10 +27,11 @@ module _ (g : Setting) (search : IsBuiltSearch g) where
   IsPlainPlace FrameLimit = Unit {0}
   IsPlainPlace Loop = Unit {0}
   IsPlainPlace NoDepth = Unit {0}
-  IsPlainPlace _ = ⊥
+  IsPlainPlace Partial = Unit {0}
+  IsPlainPlace (Abort n) = Unit {0}
 
   abbrev IsPlainWalk : Walked → Type 0
-  IsPlainWalk w = IsPlainPlace w.answer × AreNames w.notes
+  IsPlainWalk w = IsPlainPlace w.answer
 
   placed : (low : ℕ) (s : State) → g.start ≤ low → IsOnWay g (Some low) s → IsPlaced g (outcome s)
   placed low s le on =
@@ -40,26 +41,26 @@ module _ (g : Setting) (search : IsBuiltSearch g) where
   plain_state : (low : ℕ) (how : How) (s : State) (empty by_end : Bool) (w : Walked) → g.start ≤ low → IsOnWay g (Some low) s → IsPlainWalk w →
       IsPlainWalk (elim (elim empty as (λ _. Option PlaceAnswer) [ true ↦ None | false ↦ elim by_end [ false ↦ Some (Matched (outcome s)) | true ↦ elim how as (λ _. Option PlaceAnswer) [ reached ↦ None | accepted ↦ Some (Failed Exhausted) ] ] ]) [ None ↦ w | Some a ↦ answers a ])
   plain_state low how s true by_end w le on h = h
-  plain_state low how s false false w le on h = (placed low s le on, tt)
+  plain_state low how s false false w le on h = placed low s le on
   plain_state low reached s false true w le on h = h
-  plain_state low accepted s false true w le on h = (tt, tt)
+  plain_state low accepted s false true w le on h = tt
 
   plain_walk : (low p n : ℕ) (x : Stream) → g.start ≤ low → Forward g (Some low) p x → IsPlainWalk (walk g n x)
   unfolding Forward walk
-  plain_walk low p n (ends exhausted) le h = (tt, tt)
-  plain_walk low p n (ends (by_verb next_branch)) le h = (tt, tt)
-  plain_walk low p n (ends (by_verb prune)) le h = (tt, tt)
-  plain_walk low p n (ends (by_verb (skip q))) le h = (h, tt)
-  plain_walk low p n (ends (by_verb commit)) le h = (tt, tt)
-  plain_walk low p n (ends (by_halt is_partial)) le h = absurd h
-  plain_walk low p n (ends (by_halt too_many_units)) le h = (tt, tt)
-  plain_walk low p n (ends (by_halt loop)) le h = (tt, tt)
-  plain_walk low p n (ends (by_halt (abort m))) le h = absurd h
-  plain_walk low p n (ends (by_halt cut)) le h = (tt, tt)
-  plain_walk low p n (note k ▸ x) le h = let later = plain_walk low p n x le h.1 in (later.0, (h.0, later.1))
+  plain_walk low p n (ends exhausted) le h = tt
+  plain_walk low p n (ends (by_verb next_branch)) le h = tt
+  plain_walk low p n (ends (by_verb prune)) le h = tt
+  plain_walk low p n (ends (by_verb (skip q))) le h = h
+  plain_walk low p n (ends (by_verb commit)) le h = tt
+  plain_walk low p n (ends (by_halt is_partial)) le h = tt
+  plain_walk low p n (ends (by_halt too_many_units)) le h = tt
+  plain_walk low p n (ends (by_halt loop)) le h = tt
+  plain_walk low p n (ends (by_halt (abort m))) le h = tt
+  plain_walk low p n (ends (by_halt cut)) le h = tt
+  plain_walk low p n (note k ▸ x) le h = plain_walk low p n x le h
   plain_walk low p n (state how s ▸ x) le h =
       plain_state low how s (is_refused_as_empty g s) (is_refused_by_end g s) (walk g n x) le h.1 (plain_walk low p n x le h.2)
-  plain_walk low p zero (step ▸ x) le h = (tt, tt)
+  plain_walk low p zero (step ▸ x) le h = tt
   plain_walk low p (suc n) (step ▸ x) le h = plain_walk low p n x le h
 
   pub begun_at : (p : ℕ) → IsTextPlace g.options g.subject p → IsOnWay g (Some p) (first_state g.groups p)
@@ -73,46 +74,34 @@ module _ (g : Setting) (search : IsBuiltSearch g) where
 
   plain_place : (p : ℕ) → g.start ≤ p → IsTextPlace g.options g.subject p → IsPlainWalk (place_answer g p)
   plain_place p le here =
-      plain_walk p p (match_limit g) _ le (forward_run g search.text search.off search.built (match_limit g + 1) (Some p) g.whole search.built (first_state g.groups p) (begun_at p here))
+      plain_walk p p (match_limit g) _ le (forward_run g search.text (match_limit g + 1) (Some p) g.whole (first_state g.groups p) (begun_at p here))
 
   not_cut : (p : ℕ) (b : Bool) → (elim b as (λ _. Walked) [ true ↦ answers (Failed Exhausted) | false ↦ place_answer g p ]).answer ≢ NoDepth
   not_cut p true = λ e. cc
   not_cut p false = no_cut g p
 
   plain_tried : (p : ℕ) (b : Bool) → g.start ≤ p → IsTextPlace g.options g.subject p → IsPlainWalk (elim b [ true ↦ answers (Failed Exhausted) | false ↦ place_answer g p ])
-  plain_tried p true le in' = (tt, tt)
+  plain_tried p true le in' = tt
   plain_tried p false le in' = plain_place p le in'
 
-  none_plain : IsPlainFound g none_found
-  none_plain = record { answer = tt; notes = tt }
+  plain_undecided : (hit : Bool) (p : ℕ) (a : MatchAnswer) → g.start ≤ p → IsTextPlace g.options g.subject p → IsPlain g a → IsPlain g (undecided hit p a)
+  plain_undecided true p (Match o) le here h = h
+  plain_undecided true p NoMatch le here h = (le, here)
+  plain_undecided true p (PartialFrom q) le here h = (le, here)
+  plain_undecided true p (Error a) le here h = h
+  plain_undecided false p a le here h = h
 
-  -- names hit no end
-  no_hit : (ns : List Note) → AreNames ns → has_hit ns ≡ false
-  no_hit [] h = refl
-  no_hit (name n ∷ ns) h = no_hit ns h.1
-  no_hit (shown b ∷ ns) h = absurd h.0
-  no_hit (hit_end ∷ ns) h = absurd h.0
-
-  names_append : (ns ms : List Note) → AreNames ns → AreNames ms → AreNames (ns ++ ms)
-  names_append [] ms h k = k
-  names_append (n ∷ ns) ms h k = (h.0, names_append ns ms h.1 k)
-
-  plain_failed : (p : ℕ) (ns : List Note) (later : Found) → AreNames ns → IsPlainFound g later → IsPlainFound g (record { answer = undecided (has_hit ns) p later.answer; notes = ns ++ later.notes })
-  plain_failed p ns later h k =
-      subst (λ b. IsPlainFound g (record { answer = undecided b p later.answer; notes = ns ++ later.notes })) (sym (no_hit ns h))
-      (record { answer = k.answer; notes = names_append ns later.notes h k.notes })
-
-  plain_answer : (p : ℕ) (w : Walked) (later : Signal → Found) (a : PlaceAnswer) → IsPlainPlace a → a ≢ NoDepth → AreNames w.notes →
-      ((signal : Signal) → IsPlainPlace (Failed signal) → IsPlainFound g (later signal)) →
-      IsPlainFound g (elim a [ Matched o ↦ decided w (Match o) | Failed signal ↦ failed_at p w (later signal) | Partial ↦ decided w (PartialFrom p) | b ↦ decided w (Error b) ])
-  plain_answer p w later (Matched o) h n e k = record { answer = h; notes = e }
-  plain_answer p w later (Failed signal) h n e k = plain_failed p w.notes (later signal) e (k signal h)
-  plain_answer p w later Partial h n e k = absurd h
-  plain_answer p w later MatchLimit h n e k = record { answer = tt; notes = e }
-  plain_answer p w later FrameLimit h n e k = record { answer = tt; notes = e }
-  plain_answer p w later Loop h n e k = record { answer = tt; notes = e }
-  plain_answer p w later (Abort m) h n e k = absurd h
-  plain_answer p w later NoDepth h n e k = absurd (n refl)
+  plain_answer : (p : ℕ) (w : Walked) (later : Signal → Found) (a : PlaceAnswer) → g.start ≤ p → IsTextPlace g.options g.subject p → IsPlainPlace a → a ≢ NoDepth →
+      ((signal : Signal) → IsPlainPlace (Failed signal) → IsPlain g (later signal).answer) →
+      IsPlain g (elim a as (λ _. Found) [ Matched o ↦ decided w (Match o) | Failed signal ↦ failed_at p w (later signal) | Partial ↦ decided w (PartialFrom p) | b ↦ decided w (Error b) ]).answer
+  plain_answer p w later (Matched o) le here h n k = h
+  plain_answer p w later (Failed signal) le here h n k = plain_undecided (has_hit w.notes) p (later signal).answer le here (k signal h)
+  plain_answer p w later Partial le here h n k = (le, here)
+  plain_answer p w later MatchLimit le here h n k = tt
+  plain_answer p w later FrameLimit le here h n k = tt
+  plain_answer p w later Loop le here h n k = tt
+  plain_answer p w later (Abort m) le here h n k = tt
+  plain_answer p w later NoDepth le here h n k = absurd (n refl)
 
   abbrev IsInside : Option ℕ → Type 0
   IsInside next = IfSome next (λ p. (g.start ≤ p) × (p ≤ last_place g) × IsTextPlace g.options g.subject p)
@@ -143,13 +132,13 @@ module _ (g : Setting) (search : IsBuiltSearch g) where
   inside_after p le here signal h =
       inside_both p (place_after g p signal) le (after_later g search.begun.within p signal) (stands_after p here signal h)
 
-  plain_from : (n : ℕ) (next : Option ℕ) → IsInside next → IsPlainFound g (from_place g n next)
+  plain_from : (n : ℕ) (next : Option ℕ) → IsInside next → IsPlain g (from_place g n next).answer
   unfolding from_place
-  plain_from zero next h = none_plain
-  plain_from (suc n) None h = none_plain
+  plain_from zero next h = tt
+  plain_from (suc n) None h = tt
   plain_from (suc n) (Some p) h =
       let walk = plain_tried p (is_excluded g p) h.0 h.2 in
-      plain_answer p (tried g p) (λ signal. from_place g n (place_after g p signal)) (tried g p).answer walk.0 (not_cut p (is_excluded g p)) walk.1
+      plain_answer p (tried g p) (λ signal. from_place g n (place_after g p signal)) (tried g p).answer h.0 h.2 walk (not_cut p (is_excluded g p))
       (λ signal plain. plain_from n (place_after g p signal) (inside_after p h.0 h.2 signal plain))
 
   first_inside : IsInside (within g (Some g.start))

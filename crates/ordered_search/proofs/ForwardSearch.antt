@@ -1,15 +1,13 @@
--- The search of a tree of the forms that are built goes forward.
+-- The search of a tree goes forward.
 use Rattle.std.proofs.Common.{◌≡◌, ℕ, zero, suc, ◌+◌, ◌-◌, ◌<◌, ◌≤◌, Bool, true, false, List, [], ◌∷◌, ◌++◌, length, drop, reverse, Option, Some, None, refl, sym, subst, arith, ◌==◌}
 use Rattle.std.specs.Prelude.{nat_lt}
 use Rattle.std.proofs.lemmas.List.{reverse-append}
 use Rattle.pat_tree.specs.declared.nodes.Item.{Item}
 use Rattle.pat_tree.specs.declared.nodes.AnchorKind.{AnchorKind}
-use Rattle.pat_tree.specs.declared.options.PartialMode.TheVariants.{Off}
 use Rattle.pat_tree.specs.Nested as tree
-use Rattle.pat_tree.specs.Nested.{Nested, Row, Test, Other, repeat}
+use Rattle.pat_tree.specs.Nested.{Nested, Row, Test, Other, Callout, repeat}
 use Rattle.pat_tree.specs.declared.nodes.Verb.{Verb}
 use Rattle.pat_tree.specs.declared.nodes.Verb.TheVariants.{Accept, Fail, Commit, Prune, Skip, Then, Mark}
-use Rattle.pat_tree.specs.Built.{IsBuilt, AreBuilt, IsBuiltTest, IsBuiltOther}
 use Rattle.pat_tree.specs.Groups.{group_of}
 use Rattle.pat_lengths.specs.Lengths.{SomeLengths}
 use Rattle.frame_store.specs.declared.registers.Span.{Span}
@@ -20,10 +18,9 @@ use Rattle.match_items.proofs.TextGround.{places_stand}
 use Rattle.ordered_search.specs.Stream.{State, VerbEnding, next_branch, prune, skip, commit, Ending, exhausted, by_verb, How, reached, accepted, Stream, Search, nothing, gives, no_ending, is_verb, is_next_branch, fails_alone, fails_inside, captured, changes, and_then}
 use Rattle.ordered_search.specs.Setting.{Setting, branch_lengths, held, hold, reach_if, verb_name}
 use Rattle.ordered_search.specs.Tests.{move_to, goes_to, run_one, run_break, run_ref, run_anchor, offers, greedy, offer_and, reluctant, lazy_run, run_many}
-use Rattle.ordered_search.specs.Parts.{Searches, in_order, choices, branches, run_group, back_to, forget_passed, run_atomic, run_look, asserts, tests, some_set, is_called, is_called_of, begun_at, ends_at, one_try, tries, tries_within, run_behind, is_over, turn, run_repeat, run_tree, is_active, returns, run_call, named, same_text, skip_to, backs, run_verb}
+use Rattle.ordered_search.specs.Parts.{Searches, in_order, choices, branches, run_group, back_to, forget_passed, run_atomic, run_look, asserts, tests, some_set, is_called, is_called_of, begun_at, ends_at, one_try, tries, tries_within, run_behind, is_over, turn, run_repeat, run_tree, is_active, returns, run_call, block_of, run_callout, named, same_text, skip_to, backs, run_verb}
 use Rattle.ordered_search.specs.Run.{level, levels, levels_behind, level_test, level_other, run}
-use Rattle.ordered_search.proofs.BuiltGroups.{IsBuiltFound, group_built}
-use Rattle.ordered_search.proofs.ForwardStreams.{LeadsInside, ArePassedInside, IsOnWay, Forward, IsForward, forward_nothing, forward_backs, forward_loop, forward_gives, forward_gives_so, forward_name, forward_step, forward_if, forward_less, forward_or_else, forward_each, forward_and_then, forward_catch, forward_decide, with_units, with_early, with_place, with_keep, with_mark, with_capture, with_passed, with_calls, with_returned, loosened, with_return, each_inside, decide_inside, forward_held, forward_hold, forward_hold_so, forward_reach_if}
+use Rattle.ordered_search.proofs.ForwardStreams.{LeadsInside, ArePassedInside, IsOnWay, Forward, IsForward, forward_nothing, forward_backs, forward_loop, forward_gives, forward_gives_so, forward_name, forward_shown, forward_step, forward_if, forward_less, forward_or_else, forward_each, forward_and_then, forward_catch, forward_decide, with_units, with_early, with_place, with_keep, with_mark, with_capture, with_passed, with_calls, with_returned, loosened, with_return, each_inside, decide_inside, forward_held, forward_hold, forward_hold_so, forward_reach_if}
 
 -- a place that is told is as far as what was taken
 told_far : (b : Bool) (p n q : ℕ) → elim b as (λ _. Option ℕ) [ true ↦ Some (p + n) | false ↦ None ] ≡ Some q → p ≤ q
@@ -56,7 +53,7 @@ between_drop p n zero qs h = h
 between_drop p n (suc k) [] h = tt
 between_drop p n (suc k) (q ∷ qs) h = between_drop p n k qs h.1
 
-module _ (g : Setting) (low : Option ℕ) (text : IsText g.options g.subject) (off : g.matching.«partial» ≡ Off) where
+module _ (g : Setting) (low : Option ℕ) (text : IsText g.options g.subject) where
   abbrev Goes : Search → Type 0
   Goes = IsForward g low
 
@@ -71,7 +68,7 @@ module _ (g : Setting) (low : Option ℕ) (text : IsText g.options g.subject) (o
   forward_one : (item : Item) → Goes (run_one g item)
   unfolding run_one
   forward_one item s on =
-      forward_reach_if g low off s.place _ s _ (forward_goes s _ on (λ q e.
+      forward_reach_if g low s.place _ s _ (forward_goes s _ on (λ q e.
       let there = (places_stand g.scene text).forward item s.place q on.here e in
       let later : s.place < q = there.0 in
       (omega (arith, later), there.1)))
@@ -79,7 +76,7 @@ module _ (g : Setting) (low : Option ℕ) (text : IsText g.options g.subject) (o
   forward_break : Goes (run_break g)
   unfolding run_break
   forward_break s on =
-      forward_reach_if g low off s.place _ s _ (forward_goes s _ on (λ q e.
+      forward_reach_if g low s.place _ s _ (forward_goes s _ on (λ q e.
       (told_far (nat_lt 0 (break_len g.scene s.place)) s.place (break_len g.scene s.place) q e, (places_stand g.scene text).breaks s.place q on.here e)))
 
   forward_ref : (ns : List ℕ) (caseless : Bool) → Goes (run_ref g ns caseless)
@@ -93,13 +90,13 @@ module _ (g : Setting) (low : Option ℕ) (text : IsText g.options g.subject) (o
       ])
       by_capture None h = h
       by_capture (Some span) h =
-          forward_reach_if g low off s.place _ s _ (forward_goes s _ on (λ q e.
+          forward_reach_if g low s.place _ s _ (forward_goes s _ on (λ q e.
           (told_far _ s.place _ q e, (places_stand g.scene text).refers span.from span.to s.place q caseless on.here e)))
 
   forward_anchor : (kind : AnchorKind) → Goes (run_anchor g kind)
   unfolding run_anchor
   forward_anchor kind s on =
-      forward_reach_if g low off s.place (anchor_reaches g.scene kind s.place) _ _
+      forward_reach_if g low s.place (anchor_reaches g.scene kind s.place) _ _
       (forward_if g low s.place (holds g.scene kind s.place) _ _
       (forward_gives g low s.place _ (omega arith) (with_early g low s _ on)) (forward_nothing g low s.place))
 
@@ -122,7 +119,7 @@ module _ (g : Setting) (low : Option ℕ) (text : IsText g.options g.subject) (o
   forward_reluctant item left [] s on h = forward_nothing g low s.place
   forward_reluctant item left (p ∷ ps) s on h =
       forward_offer_and (is_none_left left) s.place (move_to p s) _ h.0.0 (with_place g low s p h.0.0 h.0.1 on)
-      (forward_reach_if g low off s.place (item_reaches g.scene item p) s _ (forward_reluctant item (one_less left) ps s on h.1))
+      (forward_reach_if g low s.place (item_reaches g.scene item p) s _ (forward_reluctant item (one_less left) ps s on h.1))
 
   -- the places of a run lie between
   places_between : (item : Item) (n : ℕ) (most : Option ℕ) (p : ℕ) → Stands g p → AreBetween p (Stands g) (run_places g.scene item n most p)
@@ -150,10 +147,10 @@ module _ (g : Setting) (low : Option ℕ) (text : IsText g.options g.subject) (o
   forward_many : (item : Item) (least : ℕ) (high : Option ℕ) (lazily : Bool) → Goes (run_many g item least high lazily)
   unfolding run_many greedy lazy_run
   forward_many item least high false s on =
-      forward_reach_if g low off s.place _ s _ (forward_offers _ s on
+      forward_reach_if g low s.place _ s _ (forward_offers _ s on
       (between_reverse s.place (Stands g) _ (between_drop s.place (Stands g) least _ (run_between item high s.place on.here))))
   forward_many item least high true s on =
-      forward_reach_if g low off s.place _ s _ (forward_reluctant item _ _ s on
+      forward_reach_if g low s.place _ s _ (forward_reluctant item _ _ s on
       (between_drop s.place (Stands g) least _ (run_between item high s.place on.here)))
 
   forward_in_order : (fs : List Search) → AllGo fs → Goes (in_order fs)
@@ -281,38 +278,42 @@ module _ (g : Setting) (low : Option ℕ) (text : IsText g.options g.subject) (o
   forward_verb (Skip (Some n)) s on = forward_skips n s.passed on.passed s on
   forward_verb (Then o) s on = forward_named o false (backs g (by_verb next_branch)) (forward_backs_by next_branch tt) s on
 
+  forward_callout : (c : Callout) (f : Search) → Goes f → Goes (run_callout g c f)
+  unfolding run_callout
+  forward_callout c f h s on = forward_shown g low s.place (block_of c s) (g.reply (block_of c s)) (f s) (h s on)
+
   -- Repeats, whose turns go a level deeper.
 
   abbrev GoesBelow : Searches → Type 0
-  GoesBelow below = (t : Nested) → IsBuilt t → Goes (below t)
+  GoesBelow below = (t : Nested) → Goes (below t)
 
-  forward_turn : (below : Searches) (body : Nested) (least : ℕ) (high : Option ℕ) (lazily : Bool) → GoesBelow below → IsBuilt body → Goes (turn g below body least high lazily)
+  forward_turn : (below : Searches) (body : Nested) (least : ℕ) (high : Option ℕ) (lazily : Bool) → GoesBelow below → Goes (turn g below body least high lazily)
   unfolding turn
-  forward_turn below body least high lazily h built s on =
+  forward_turn below body least high lazily h s on =
       forward_step g low s.place _ (forward_held g low s.place 1 s _
-      (forward_and_then g low s.place _ _ (h body built _ (with_units g low s _ on)) (λ u le on'.
+      (forward_and_then g low s.place _ _ (h body _ (with_units g low s _ on)) (λ u le on'.
       forward_if g low u.place (is_over least high s u) _ _ (forward_gives g low u.place u (omega arith) on')
-      (h (repeat body (least - 1) (one_less high) lazily) built u on'))))
+      (h (repeat body (least - 1) (one_less high) lazily) u on'))))
 
-  forward_repeat : (below : Searches) (body : Nested) (least : ℕ) (high : Option ℕ) (lazily : Bool) → GoesBelow below → IsBuilt body → Goes (run_repeat g below body least high lazily)
+  forward_repeat : (below : Searches) (body : Nested) (least : ℕ) (high : Option ℕ) (lazily : Bool) → GoesBelow below → Goes (run_repeat g below body least high lazily)
   unfolding run_repeat
-  forward_repeat below body (suc least) high lazily h built s on = forward_turn below body (suc least) high lazily h built s on
-  forward_repeat below body zero (Some zero) lazily h built s on = forward_gives g low s.place s (omega arith) on
-  forward_repeat below body zero (Some (suc n)) true h built s on =
-      forward_or_else g low s.place _ _ (forward_hold g low s.place s (omega arith) on) (forward_turn below body zero (Some (suc n)) true h built s on)
-  forward_repeat below body zero (Some (suc n)) false h built s on =
-      forward_or_else g low s.place _ _ (forward_turn below body zero (Some (suc n)) false h built s on) (forward_gives g low s.place s (omega arith) on)
-  forward_repeat below body zero None true h built s on =
-      forward_or_else g low s.place _ _ (forward_hold g low s.place s (omega arith) on) (forward_turn below body zero None true h built s on)
-  forward_repeat below body zero None false h built s on =
-      forward_or_else g low s.place _ _ (forward_turn below body zero None false h built s on) (forward_gives g low s.place s (omega arith) on)
+  forward_repeat below body (suc least) high lazily h s on = forward_turn below body (suc least) high lazily h s on
+  forward_repeat below body zero (Some zero) lazily h s on = forward_gives g low s.place s (omega arith) on
+  forward_repeat below body zero (Some (suc n)) true h s on =
+      forward_or_else g low s.place _ _ (forward_hold g low s.place s (omega arith) on) (forward_turn below body zero (Some (suc n)) true h s on)
+  forward_repeat below body zero (Some (suc n)) false h s on =
+      forward_or_else g low s.place _ _ (forward_turn below body zero (Some (suc n)) false h s on) (forward_gives g low s.place s (omega arith) on)
+  forward_repeat below body zero None true h s on =
+      forward_or_else g low s.place _ _ (forward_hold g low s.place s (omega arith) on) (forward_turn below body zero None true h s on)
+  forward_repeat below body zero None false h s on =
+      forward_or_else g low s.place _ _ (forward_turn below body zero None false h s on) (forward_gives g low s.place s (omega arith) on)
 
   -- Calls, which go a level deeper too.
 
-  forward_tree : (below : Searches) (o : Option Nested) → GoesBelow below → IsBuiltFound o → Goes (run_tree o below)
+  forward_tree : (below : Searches) (o : Option Nested) → GoesBelow below → Goes (run_tree o below)
   unfolding run_tree
-  forward_tree below None h built s on = forward_nothing g low s.place
-  forward_tree below (Some t) h built s on = h t built s on
+  forward_tree below None h s on = forward_nothing g low s.place
+  forward_tree below (Some t) h s on = h t s on
 
   forward_returns : (s : State) (how : How) (u : State) → s.place ≤ u.place → IsOnWay g low s → IsOnWay g low u → Forward g low s.place (returns g s how u)
   unfolding returns
@@ -320,13 +321,13 @@ module _ (g : Setting) (low : Option ℕ) (text : IsText g.options g.subject) (o
       forward_held g low s.place (changes u.caps s.caps) (record u { caps = s.caps; calls = s.calls }) (gives reached)
       (forward_gives g low s.place _ le (with_returned g low s u _ on on'))
 
-  forward_call : (below : Searches) (n : ℕ) → GoesBelow below → IsBuilt g.whole → Goes (run_call g below n)
+  forward_call : (below : Searches) (n : ℕ) → GoesBelow below → Goes (run_call g below n)
   unfolding run_call
-  forward_call below n h built s on =
+  forward_call below n h s on =
       forward_step g low s.place _ (forward_if g low s.place (is_active n s.place s.calls) _ _ (forward_loop g low s.place)
       (forward_held g low s.place 1 s _ (forward_catch g low s.place is_verb _
       (forward_each g low s.place _ _
-      (forward_tree below (group_of g.whole n) h (group_built n g.whole built) _ (with_calls g low _ _ (with_units g low s _ on)))
+      (forward_tree below (group_of g.whole n) h _ (with_calls g low _ _ (with_units g low s _ on)))
       (λ how u le on'. forward_returns s how u le on on')))))
 
 -- Branches of a lookbehind, which begin before its place.
@@ -377,62 +378,62 @@ module _ (g : Setting) (text : IsText g.options g.subject) where
           let between = between_reverse 0 (Stands g) _ (between_drop 0 (Stands g) a.least _ (back_between most s.place on.here)) in
           forward_if g None 0 (a.least == most) (one_try places f s) (tries g places f s) (roam_once places f h between s on) (roam_tries places f h between s on)
 
-module _ (g : Setting) (text : IsText g.options g.subject) (off : g.matching.«partial» ≡ Off) (all_built : IsBuilt g.whole) where
-  module _ (below : Searches) (deeper : (low : Option ℕ) (t : Nested) → IsBuilt t → IsForward g low (below t)) where
+module _ (g : Setting) (text : IsText g.options g.subject) where
+  module _ (below : Searches) (deeper : (low : Option ℕ) (t : Nested) → IsForward g low (below t)) where
     mutual
       unfolding level
 
-      pub forward_level : (low : Option ℕ) (t : Nested) → IsBuilt t → IsForward g low (level g below t)
-      forward_level low tree.empty built s on = forward_gives g low s.place s (omega arith) on
-      forward_level low (tree.one item) built s on = forward_one g low text off item s on
-      forward_level low tree.line_break built s on = forward_break g low text off s on
-      forward_level low (tree.seq ts) built s on = forward_in_order g low text off _ (forward_levels low ts built) s on
-      forward_level low (tree.group number ts) built s on = forward_group g low text off number _ (forward_branches g low text off true _ (forward_reach low ts built)) s on
-      forward_level low (tree.repeat body least high lazily) built s on = forward_repeat g low text off below body least high lazily (deeper low) built s on
-      forward_level low (tree.one_repeat item least high lazily) built s on = forward_many g low text off item least high lazily s on
-      forward_level low (tree.atomic ts) built s on = forward_atomic g low text off _ (forward_branches g low text off true _ (forward_reach low ts built)) s on
-      forward_level low (tree.look true positive once ts) built s on = forward_look g low text off positive once _ (forward_branches g None text off false _ (roam_ahead ts built)) s on
-      forward_level low (tree.look false positive once ts) built s on = forward_look g low text off positive once _ (forward_branches g None text off false _ (roam_back ts built)) s on
-      forward_level low (tree.condition test first second) built s on =
-          forward_test low test _ _ built.0 (forward_level low first built.1) (forward_other low second built.2) s on
-      forward_level low (tree.call n) built s on = forward_call g low text off below n (deeper low) all_built s on
-      forward_level low (tree.ref ns caseless) built s on = forward_ref g low text off ns caseless s on
-      forward_level low (tree.anchor kind) built s on = forward_anchor g low text off kind s on
-      forward_level low tree.keep_out built s on = forward_gives g low s.place _ (omega arith) (with_keep g low s on)
-      forward_level low (tree.verb v) built s on = forward_verb g low text off v s on
-      forward_level low (tree.callout c) built s on = absurd built
+      pub forward_level : (low : Option ℕ) (t : Nested) → IsForward g low (level g below t)
+      forward_level low tree.empty s on = forward_gives g low s.place s (omega arith) on
+      forward_level low (tree.one item) s on = forward_one g low text item s on
+      forward_level low tree.line_break s on = forward_break g low text s on
+      forward_level low (tree.seq ts) s on = forward_in_order g low text _ (forward_levels low ts) s on
+      forward_level low (tree.group number ts) s on = forward_group g low text number _ (forward_branches g low text true _ (forward_reach low ts)) s on
+      forward_level low (tree.repeat body least high lazily) s on = forward_repeat g low text below body least high lazily (deeper low) s on
+      forward_level low (tree.one_repeat item least high lazily) s on = forward_many g low text item least high lazily s on
+      forward_level low (tree.atomic ts) s on = forward_atomic g low text _ (forward_branches g low text true _ (forward_reach low ts)) s on
+      forward_level low (tree.look true positive once ts) s on = forward_look g low text positive once _ (forward_branches g None text false _ (roam_ahead ts)) s on
+      forward_level low (tree.look false positive once ts) s on = forward_look g low text positive once _ (forward_branches g None text false _ (roam_back ts)) s on
+      forward_level low (tree.condition test first second) s on =
+          forward_test low test _ _ (forward_level low first) (forward_other low second) s on
+      forward_level low (tree.call n) s on = forward_call g low text below n (deeper low) s on
+      forward_level low (tree.ref ns caseless) s on = forward_ref g low text ns caseless s on
+      forward_level low (tree.anchor kind) s on = forward_anchor g low text kind s on
+      forward_level low tree.keep_out s on = forward_gives g low s.place _ (omega arith) (with_keep g low s on)
+      forward_level low (tree.verb v) s on = forward_verb g low text v s on
+      forward_level low (tree.callout c) s on = forward_callout g low text c (gives reached) (λ t on'. forward_gives g low t.place t (omega arith) on') s on
 
-      forward_levels : (low : Option ℕ) (ts : Row) → AreBuilt ts → AllGo g low text off (levels g below ts)
-      forward_levels low tree.none built = tt
-      forward_levels low (tree.more t ts) built = (forward_level low t built.0, forward_levels low ts built.1)
+      forward_levels : (low : Option ℕ) (ts : Row) → AllGo g low text (levels g below ts)
+      forward_levels low tree.none = tt
+      forward_levels low (tree.more t ts) = (forward_level low t, forward_levels low ts)
 
-      forward_reach : (low : Option ℕ) (ts : Row) → AreBuilt ts → AllReach g low text off true (levels g below ts)
-      forward_reach low tree.none built = tt
-      forward_reach low (tree.more t ts) built = (forward_level low t built.0, forward_reach low ts built.1)
+      forward_reach : (low : Option ℕ) (ts : Row) → AllReach g low text true (levels g below ts)
+      forward_reach low tree.none = tt
+      forward_reach low (tree.more t ts) = (forward_level low t, forward_reach low ts)
 
-      forward_test : (low : Option ℕ) (test : Test) (f f' : Search) → IsBuiltTest test → IsForward g low f → IsForward g low f' → IsForward g low (level_test g below test f f')
-      forward_test low (tree.any_set ns) f f' built h h' s on = forward_tests g low text off (some_set s.caps ns) f f' s (h s on) (h' s on)
-      forward_test low tree.in_call f f' built h h' s on = forward_tests g low text off (is_called s.calls) f f' s (h s on) (h' s on)
-      forward_test low (tree.in_call_of ns) f f' built h h' s on = forward_tests g low text off (is_called_of s.calls ns) f f' s (h s on) (h' s on)
-      forward_test low tree.never f f' built h h' s on = h' s on
-      forward_test low (tree.assert true positive once ts) f f' built h h' s on = forward_asserts g low text off positive _ f f' (forward_branches g None text off false _ (roam_ahead ts built)) h h' s on
-      forward_test low (tree.assert false positive once ts) f f' built h h' s on = forward_asserts g low text off positive _ f f' (forward_branches g None text off false _ (roam_back ts built)) h h' s on
-      forward_test low (tree.called c test) f f' built h h' s on = absurd built
+      forward_test : (low : Option ℕ) (test : Test) (f f' : Search) → IsForward g low f → IsForward g low f' → IsForward g low (level_test g below test f f')
+      forward_test low (tree.any_set ns) f f' h h' s on = forward_tests g low text (some_set s.caps ns) f f' s (h s on) (h' s on)
+      forward_test low tree.in_call f f' h h' s on = forward_tests g low text (is_called s.calls) f f' s (h s on) (h' s on)
+      forward_test low (tree.in_call_of ns) f f' h h' s on = forward_tests g low text (is_called_of s.calls ns) f f' s (h s on) (h' s on)
+      forward_test low tree.never f f' h h' s on = h' s on
+      forward_test low (tree.assert true positive once ts) f f' h h' s on = forward_asserts g low text positive _ f f' (forward_branches g None text false _ (roam_ahead ts)) h h' s on
+      forward_test low (tree.assert false positive once ts) f f' h h' s on = forward_asserts g low text positive _ f f' (forward_branches g None text false _ (roam_back ts)) h h' s on
+      forward_test low (tree.called c test) f f' h h' s on = forward_callout g low text c (level_test g below test f f') (forward_test low test f f' h h') s on
 
-      forward_other : (low : Option ℕ) (second : Other) → IsBuiltOther second → IsForward g low (level_other g below second)
-      forward_other low tree.no_other built s on = forward_gives g low s.place s (omega arith) on
-      forward_other low (tree.other t) built s on = forward_level low t built s on
+      forward_other : (low : Option ℕ) (second : Other) → IsForward g low (level_other g below second)
+      forward_other low tree.no_other s on = forward_gives g low s.place s (omega arith) on
+      forward_other low (tree.other t) s on = forward_level low t s on
 
-      roam_ahead : (ts : Row) → AreBuilt ts → AllReach g None text off false (levels g below ts)
-      roam_ahead tree.none built = tt
-      roam_ahead (tree.more t ts) built =
-          (λ s on. forward_less g None 0 s.place (level g below t s) (omega arith) (forward_level None t built.0 s on), roam_ahead ts built.1)
+      roam_ahead : (ts : Row) → AllReach g None text false (levels g below ts)
+      roam_ahead tree.none = tt
+      roam_ahead (tree.more t ts) =
+          (λ s on. forward_less g None 0 s.place (level g below t s) (omega arith) (forward_level None t s on), roam_ahead ts)
 
-      roam_back : (ts : Row) → AreBuilt ts → AllReach g None text off false (levels_behind g below ts)
-      roam_back tree.none built = tt
-      roam_back (tree.more t ts) built = (roam_behind g text (branch_lengths g t) (level g below t) (forward_level None t built.0), roam_back ts built.1)
+      roam_back : (ts : Row) → AllReach g None text false (levels_behind g below ts)
+      roam_back tree.none = tt
+      roam_back (tree.more t ts) = (roam_behind g text (branch_lengths g t) (level g below t) (forward_level None t), roam_back ts)
 
-  pub forward_run : (d : ℕ) (low : Option ℕ) (t : Nested) → IsBuilt t → IsForward g low (run g d t)
+  pub forward_run : (d : ℕ) (low : Option ℕ) (t : Nested) → IsForward g low (run g d t)
   unfolding run Forward
-  forward_run zero low t built s on = tt
-  forward_run (suc d) low t built s on = forward_level (run g d) (forward_run d) low t built s on
+  forward_run zero low t s on = tt
+  forward_run (suc d) low t s on = forward_level (run g d) (forward_run d) low t s on

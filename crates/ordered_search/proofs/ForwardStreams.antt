@@ -1,16 +1,15 @@
--- Streams that go forward: their states are reached at a place or past it, in the subject, and nothing but names is told beside
--- them. A verb that skips goes to a place of the subject.
-use Rattle.std.proofs.Common.{◌≡◌, ◌∙◌, ℕ, ◌+◌, ◌≤◌, Bool, true, false, List, [], ◌∷◌, All, length, Option, Some, None, arith}
+-- Streams that go forward: their states are reached at a place or past it, in the subject. A verb that skips goes to a place of the subject.
+use Rattle.std.proofs.Common.{◌≡◌, ◌∙◌, ℕ, zero, suc, ◌+◌, ◌≤◌, ℤ, pos, negsuc, Bool, true, false, List, [], ◌∷◌, All, length, Option, Some, None, arith}
 use Rattle.std.specs.Prelude.{nat_le}
 use Rattle.std.proofs.lemmas.List.{length-set}
 use Rattle.std.proofs.lemmas.List.Elements.{All-set}
 use Rattle.pat_tree.specs.declared.options.PartialMode.{PartialMode}
 use Rattle.pat_tree.specs.declared.options.PartialMode.TheVariants.{Off, Soft, Hard}
 use Rattle.match_items.specs.Subjects.{IsTextPlace}
-use Rattle.ordered_search.specs.Stream.{State, VerbEnding, skip, exhausted, by_verb, by_halt, is_partial, too_many_units, loop, abort, cut, Ending, How, reached, accepted, note, name, state, step, Stream, Search, ends, ◌▸◌, nothing, gives, ◌or_else◌, each, and_then, go_on, decide, catch, captured}
-use Rattle.ordered_search.specs.Setting.{Setting, held, hold, reach, reach_if}
-use Rattle.ordered_search.specs.Parts.{back_to}
-use Rattle.ordered_search.specs.Forward.{IsWithin, IsName}
+use Rattle.ordered_search.specs.Stream.{State, Block, VerbEnding, skip, exhausted, by_verb, by_halt, is_partial, too_many_units, loop, abort, cut, Ending, How, reached, accepted, note, name, shown, hit_end, state, step, Stream, Search, ends, ◌▸◌, nothing, gives, ◌or_else◌, each, and_then, go_on, decide, catch, captured}
+use Rattle.ordered_search.specs.Setting.{Setting, held, hold, counts, reach, reach_if}
+use Rattle.ordered_search.specs.Parts.{back_to, follow}
+use Rattle.ordered_search.specs.Forward.{IsWithin}
 
 -- The text of a match begins at `low` or past it, and not past the place. In a lookaround, which leaves it as it was, nothing is
 -- asked of it.
@@ -49,12 +48,12 @@ module _ (g : Setting) (low : Option ℕ) where
   unfoldable pub Forward : ℕ → Stream → Type 0
   Forward p (ends exhausted) = Unit {0}
   Forward p (ends (by_verb v)) = LeadsInside g v
-  Forward p (ends (by_halt is_partial)) = ⊥
+  Forward p (ends (by_halt is_partial)) = Unit {0}
   Forward p (ends (by_halt too_many_units)) = Unit {0}
   Forward p (ends (by_halt loop)) = Unit {0}
-  Forward p (ends (by_halt (abort n))) = ⊥
+  Forward p (ends (by_halt (abort n))) = Unit {0}
   Forward p (ends (by_halt cut)) = Unit {0}
-  Forward p (note k ▸ x) = IsName k × Forward p x
+  Forward p (note k ▸ x) = Forward p x
   Forward p (state how s ▸ x) = (p ≤ s.place) × IsOnWay s × Forward p x
   Forward p (step ▸ x) = Forward p x
 
@@ -83,7 +82,18 @@ module _ (g : Setting) (low : Option ℕ) where
 
   pub forward_name : (p n : ℕ) (x : Stream) → Forward p x → Forward p (note (name n) ▸ x)
   unfolding Forward
-  forward_name p n x h = (tt, h)
+  forward_name p n x h = h
+
+  -- what a callout's answer makes of a stream
+  pub forward_follow : (p : ℕ) (n : ℤ) (x : Stream) → Forward p x → Forward p (follow n x)
+  unfolding Forward follow
+  forward_follow p (pos zero) x h = h
+  forward_follow p (pos (suc n)) x h = tt
+  forward_follow p (negsuc n) x h = tt
+
+  pub forward_shown : (p : ℕ) (b : Block) (n : ℤ) (x : Stream) → Forward p x → Forward p (note (shown b) ▸ follow n x)
+  unfolding Forward
+  forward_shown p b n x h = forward_follow p n x h
 
   pub forward_step : (p : ℕ) (x : Stream) → Forward p x → Forward p (step ▸ x)
   unfolding Forward
@@ -97,12 +107,12 @@ module _ (g : Setting) (low : Option ℕ) where
   unfolding Forward
   forward_less p q (ends exhausted) le h = tt
   forward_less p q (ends (by_verb v)) le h = h
-  forward_less p q (ends (by_halt is_partial)) le h = absurd h
+  forward_less p q (ends (by_halt is_partial)) le h = tt
   forward_less p q (ends (by_halt too_many_units)) le h = tt
   forward_less p q (ends (by_halt loop)) le h = tt
-  forward_less p q (ends (by_halt (abort n))) le h = absurd h
+  forward_less p q (ends (by_halt (abort n))) le h = tt
   forward_less p q (ends (by_halt cut)) le h = tt
-  forward_less p q (note k ▸ x) le h = (h.0, forward_less p q x le h.1)
+  forward_less p q (note k ▸ x) le h = forward_less p q x le h
   forward_less p q (state how s ▸ x) le h = (omega (arith, le, h.0), h.1, forward_less p q x le h.2)
   forward_less p q (step ▸ x) le h = forward_less p q x le h
 
@@ -111,14 +121,14 @@ module _ (g : Setting) (low : Option ℕ) where
   forward_or_else p (ends exhausted) y h k = k
   forward_or_else p (ends (by_verb v)) y h k = h
   forward_or_else p (ends (by_halt a)) y h k = h
-  forward_or_else p (note m ▸ x) y h k = (h.0, forward_or_else p x y h.1 k)
+  forward_or_else p (note m ▸ x) y h k = forward_or_else p x y h k
   forward_or_else p (state how s ▸ x) y h k = (h.0, h.1, forward_or_else p x y h.2 k)
   forward_or_else p (step ▸ x) y h k = forward_or_else p x y h k
 
   pub forward_each : (p : ℕ) (x : Stream) (f : How → Search) → Forward p x → ((how : How) (s : State) → p ≤ s.place → IsOnWay s → Forward p (f how s)) → Forward p (each x f)
   unfolding Forward each
   forward_each p (ends e) f h k = h
-  forward_each p (note m ▸ x) f h k = (h.0, forward_each p x f h.1 k)
+  forward_each p (note m ▸ x) f h k = forward_each p x f h k
   forward_each p (state how s ▸ x) f h k = forward_or_else p (f how s) (each x f) (k how s h.0 h.1) (forward_each p x f h.2 k)
   forward_each p (step ▸ x) f h k = forward_each p x f h k
 
@@ -133,7 +143,7 @@ module _ (g : Setting) (low : Option ℕ) where
   pub forward_catch : (p : ℕ) (caught : Ending → Bool) (x : Stream) → Forward p x → Forward p (catch caught x)
   unfolding Forward catch
   forward_catch p caught (ends e) h = forward_if p (caught e) nothing (ends e) (forward_nothing p) h
-  forward_catch p caught (note m ▸ x) h = (h.0, forward_catch p caught x h.1)
+  forward_catch p caught (note m ▸ x) h = forward_catch p caught x h
   forward_catch p caught (state how s ▸ x) h = (h.0, h.1, forward_catch p caught x h.2)
   forward_catch p caught (step ▸ x) h = forward_catch p caught x h
 
@@ -142,7 +152,7 @@ module _ (g : Setting) (low : Option ℕ) where
       ((how : How) (s : State) → p ≤ s.place → IsOnWay s → Forward p (f how s)) → Forward p (decide fails x f y)
   unfolding Forward decide
   forward_decide p fails (ends e) f y h k to = forward_if p (fails e) y (ends e) k h
-  forward_decide p fails (note m ▸ x) f y h k to = (h.0, forward_decide p fails x f y h.1 k to)
+  forward_decide p fails (note m ▸ x) f y h k to = forward_decide p fails x f y h k to
   forward_decide p fails (state how s ▸ x) f y h k to = to how s h.0 h.1
   forward_decide p fails (step ▸ x) f y h k to = forward_decide p fails x f y h k to
 
@@ -195,15 +205,22 @@ module _ (g : Setting) (low : Option ℕ) where
   pub forward_hold : (p : ℕ) (s : State) → p ≤ s.place → IsOnWay s → Forward p (hold g reached s)
   forward_hold p s le on = forward_hold_so p reached s le on
 
-  forward_off : (p : ℕ) (mode : PartialMode) (x y z : Stream) → mode ≡ Off → Forward p x → Forward p (elim mode [ Off ↦ x | Soft ↦ y | Hard ↦ z ])
-  forward_off p Off x y z e h = h
-  forward_off p Soft x y z e h = absurd (cc)
-  forward_off p Hard x y z e h = absurd (cc)
+  forward_reached : (p : ℕ) (mode : PartialMode) (b : Bool) (x : Stream) → Forward p x → Forward p (elim mode [
+    | Off ↦ x
+    | Soft ↦ elim b [ true ↦ note hit_end ▸ x | false ↦ x ]
+    | Hard ↦ elim b [ true ↦ ends (by_halt is_partial) | false ↦ x ]
+  ])
+  unfolding Forward
+  forward_reached p Off b x h = h
+  forward_reached p Soft true x h = h
+  forward_reached p Soft false x h = h
+  forward_reached p Hard true x h = tt
+  forward_reached p Hard false x h = h
 
-  pub forward_reach_if : g.matching.«partial» ≡ Off → (p : ℕ) (b : Bool) (s : State) (x : Stream) → Forward p x → Forward p (reach_if g b s x)
+  pub forward_reach_if : (p : ℕ) (b : Bool) (s : State) (x : Stream) → Forward p x → Forward p (reach_if g b s x)
   unfolding reach reach_if
-  forward_reach_if off p true s x h = forward_off p g.matching.«partial» x _ _ off h
-  forward_reach_if off p false s x h = h
+  forward_reach_if p true s x h = forward_reached p g.matching.«partial» (counts g s) x h
+  forward_reach_if p false s x h = h
 
 -- Lookarounds: what is inside goes its own way, and only its captures stay.
 module _ (g : Setting) (low : Option ℕ) where
@@ -218,16 +235,16 @@ module _ (g : Setting) (low : Option ℕ) where
   unfolding Forward
   forward_ending p exhausted h = tt
   forward_ending p (by_verb v) h = h
-  forward_ending p (by_halt is_partial) h = absurd h
+  forward_ending p (by_halt is_partial) h = tt
   forward_ending p (by_halt too_many_units) h = tt
   forward_ending p (by_halt loop) h = tt
-  forward_ending p (by_halt (abort n)) h = absurd h
+  forward_ending p (by_halt (abort n)) h = tt
   forward_ending p (by_halt cut) h = tt
 
   pub each_inside : (p : ℕ) (x : Stream) (f : How → Search) → Forward g None 0 x → ((how : How) (s : State) → IsOnWay g None s → Forward g low p (f how s)) → Forward g low p (each x f)
   unfolding Forward each
   each_inside p (ends e) f h k = forward_ending p e h
-  each_inside p (note m ▸ x) f h k = (h.0, each_inside p x f h.1 k)
+  each_inside p (note m ▸ x) f h k = each_inside p x f h k
   each_inside p (state how s ▸ x) f h k = forward_or_else g low p (f how s) (each x f) (k how s h.1) (each_inside p x f h.2 k)
   each_inside p (step ▸ x) f h k = each_inside p x f h k
 
@@ -236,6 +253,6 @@ module _ (g : Setting) (low : Option ℕ) where
       ((how : How) (s : State) → IsOnWay g None s → Forward g low p (f how s)) → Forward g low p (decide fails x f y)
   unfolding Forward decide
   decide_inside p fails (ends e) f y h k to = forward_if g low p (fails e) y (ends e) k (forward_ending p e h)
-  decide_inside p fails (note m ▸ x) f y h k to = (h.0, decide_inside p fails x f y h.1 k to)
+  decide_inside p fails (note m ▸ x) f y h k to = decide_inside p fails x f y h k to
   decide_inside p fails (state how s ▸ x) f y h k to = to how s h.1
   decide_inside p fails (step ▸ x) f y h k to = decide_inside p fails x f y h k to

@@ -7,13 +7,12 @@ pub mod HitlessStreams
 pub mod Hitless
 pub mod NoPartial
 pub mod StartPlaces
-pub mod BuiltGroups
 pub mod ForwardStreams
 pub mod ForwardSearch
 pub mod ForwardLaw
 pub mod Possessive
 pub mod Before
-pub mod Free
+pub mod Same
 pub mod Classes
 pub mod FollowStreams
 pub mod FollowSearch
@@ -23,5 +22,4 @@ pub mod TameStreams
 pub mod Growing
 pub mod Bounded
 pub mod SilentStreams
-pub mod BoundForms
 pub mod Needed

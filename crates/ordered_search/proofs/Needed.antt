@@ -1,24 +1,26 @@
 -- Where no text stands that every match needs, there is no match, and within the bound no limit is passed.
-use Rattle.std.proofs.Common.{◌≡◌, ℕ, zero, suc, ◌+◌, ◌-◌, ◌<◌, ◌≤◌, Bool, true, false, List, [], ◌∷◌, ◌++◌, length, drop, drop-cons, take-append-drop, get_or, reverse, Option, Some, None, ◌⊎◌, ⊎_elim, inl, inr, refl, sym, ap, subst, ◌∙◌, arith}
-use Rattle.std.specs.Prelude.{IfSome, IsTrue, nat_le, ◌==◌, ◌&&◌, slice_index, option_map}
+use Rattle.std.proofs.Common.{◌≡◌, ℕ, zero, suc, ◌+◌, ◌-◌, ◌<◌, ◌≤◌, Bool, true, false, List, [], ◌∷◌, ◌++◌, length, length-drop, drop, drop-cons, take-append-drop, get_or, reverse, Option, Some, None, ◌⊎◌, ⊎_elim, inl, inr, refl, sym, ap, subst, ◌∙◌, arith}
+use Rattle.std.specs.Prelude.{IfSome, IsTrue, if◌then◌else◌, nat_le, ◌==◌, slice_index, option_map}
 use Rattle.std.specs.Char.{len_utf8}
 use Rattle.std.proofs.Math.Utf8.{encode}
-use Rattle.std.proofs.lemmas.Bool.{cases_lt, eqb-true, eq-eqb, le-leb, leb-true, leb-false, or_left, or_right}
-use Rattle.std.proofs.lemmas.Str.{byte_from_char}
+use Rattle.std.proofs.lemmas.Bool.{cases_lt, eqb-true, eq-eqb, lt-ltb, le-ltb, le-leb, leb-true, leb-false, or_left, or_right}
+use Rattle.std.proofs.lemmas.Str.{byte_from_char, char_from_byte}
 use Rattle.uni_text.specs.Characters.{first_char, char_at}
 use Rattle.uni_text.specs.Ascii.{ascii_fold}
+use Rattle.uni_text.specs.Folding.{fold, meets_past_ascii}
+use Rattle.uni_text.proofs.FoldLemmas.{past_alike}
 use Rattle.pat_tree.specs.declared.options.PartialMode.TheVariants.{Off}
 use Rattle.pat_tree.specs.declared.nodes.Item.{Item}
 use Rattle.pat_tree.specs.declared.nodes.Item.TheVariants.{Char, AnyAll, NotNewline, Class}
-use Rattle.pat_tree.specs.Built.{IsBuilt}
 use Rattle.pat_tree.specs.Nested as tree
 use Rattle.pat_tree.specs.Nested.{Nested, Row}
 use Rattle.match_items.specs.Items.{is_end, takes, after_item, one_less, is_none_left, run_places, longest_run}
 use Rattle.match_items.specs.Subjects.{IsText, IsTextPlace}
+use Rattle.match_items.specs.Views.{fold_in}
 use Rattle.match_items.proofs.TextGround.{next_place as goes_to_place}
 use Rattle.match_needs.specs.declared.bounds.Bound.{Bound}
 use Rattle.match_needs.specs.Bounds.{at, followed, or_later, closed, grouped, both, change, offered, turns, once, bound, bound_in_turn, bound_of_one, bound_of_choices}
-use Rattle.match_needs.specs.Needs.{may_take, TakesOf, IsTaking, Begins, Needs, SomeNeeds, AllNeed}
+use Rattle.match_needs.specs.Needs.{may_begin, may_take, TakesOf, IsTaking, Begins, Needs, SomeNeeds, AllNeed}
 use Rattle.match_needs.specs.Texts.{Stands}
 use Rattle.byte_lanes.specs.Sets.{has_byte, IsIn}
 use Rattle.ordered_search.specs.Stream.{State, first_state, exhausted, by_verb, by_halt, too_many_units, How, reached, accepted, note, state, step, Stream, Search, ends, ◌▸◌, nothing, gives, ◌or_else◌, each, go_on, and_then, decide, catch, no_ending, is_next_branch, fails_alone, captured}
@@ -28,7 +30,7 @@ use Rattle.ordered_search.specs.Parts.{Searches, in_order, choices, branches, ru
 use Rattle.ordered_search.specs.Run.{level, levels, run}
 use Rattle.ordered_search.specs.Laws.{step_count}
 use Rattle.ordered_search.specs.PlaceAnswer.{Signal, Exhausted, Failed, Walked, answers, walk, place_answer}
-use Rattle.ordered_search.specs.Forward.{IsBuiltSearch}
+use Rattle.ordered_search.specs.Forward.{IsTextSearch}
 use Rattle.ordered_search.specs.Places.{next_place, last_place, within, is_excluded, place_after}
 use Rattle.ordered_search.specs.MatchAnswer.{Found, none_found, tried, found_at, from_place, match_answer}
 use Rattle.ordered_search.specs.Needed.{IsWithoutNeed, NeedLaw}
@@ -38,10 +40,23 @@ use Rattle.ordered_search.proofs.StartPlaces.{next_stands, up_to_keeps}
 use Rattle.ordered_search.proofs.ForwardStreams.{IsOnWay, Forward, IsForward, with_units, loosened}
 use Rattle.ordered_search.proofs.ForwardSearch.{forward_level, forward_run}
 use Rattle.ordered_search.proofs.ForwardLaw.{begun_at}
-use Rattle.ordered_search.proofs.BoundForms.{Where, built_where}
 use Rattle.ordered_search.proofs.Bounded.{FitsSome, size, unreached, fits_level}
 
-module _ (g : Setting) (sets : List (List Bool)) (off : g.matching.«partial» ≡ Off) (text : IsTrue g.options.utf → IsText g.options g.subject)
+-- the bytes with which a character may begin, each in its case of the definition
+
+folds_low : (c b : ℕ) → b < 128 → fold c ≡ fold b → may_begin true c b ≡ true
+folds_low c b low same = rw (lt-ltb b 128 low) (eq-eqb (fold c) (fold b) same)
+
+folds_past : (c b : ℕ) → 128 ≤ b → meets_past_ascii c ≡ true → may_begin true c b ≡ true
+folds_past c b past meets = rw (le-ltb b 128 past) meets
+
+is_low : (c b : ℕ) → b < 128 → c ≡ b → may_begin false c b ≡ true
+is_low c b low same = rw (lt-ltb b 128 low) (eq-eqb c b same)
+
+is_past : (c b : ℕ) → 128 ≤ b → 128 ≤ c → may_begin false c b ≡ true
+is_past c b past large = rw (le-ltb b 128 past) (le-leb 128 c large)
+
+module _ (g : Setting) (sets : List (List Bool)) (off : g.matching.«partial» ≡ Off) (folds : g.fold ≡ fold_in g.options.utf) (text : IsTrue g.options.utf → IsText g.options g.subject)
     (small : (k : ℕ) → k < length g.subject → slice_index g.subject k < 256) (missing : (k : ℕ) → ¬ Stands sets g.subject k) where
   -- An item takes a byte of its set, or nothing.
 
@@ -55,34 +70,83 @@ module _ (g : Setting) (sets : List (List Bool)) (off : g.matching.«partial» �
   abbrev Here : ℕ → Type 0
   Here p = IsTrue g.options.utf → IsTextPlace g.options g.subject p
 
+  off_utf : (c b : ℕ) (caseless : Bool) → g.options.utf ≡ false → (if caseless then ascii_fold c == ascii_fold b else c == b) ≡ true → may (Char c caseless) b ≡ true
+  off_utf c b caseless no_utf h =
+      subst (λ (u : Bool). (if u then may_begin caseless c b else if caseless then ascii_fold c == ascii_fold b else c == b) ≡ true) (sym no_utf) h
+
   -- outside UTF an item may take what it takes
   takes_may : (item : Item) (p b : ℕ) → g.options.utf ≡ false → takes g.scene item p b ≡ true → may item b ≡ true
-  takes_may (Char c true) p b no_utf h = or_right g.options.utf (ascii_fold c == ascii_fold b) (rw no_utf at h)
-  takes_may (Char c false) p b no_utf h = or_right (g.options.utf && nat_le 128 c) (c == b) h
+  takes_may (Char c true) p b no_utf h = off_utf c b true no_utf (rw no_utf at h)
+  takes_may (Char c false) p b no_utf h = off_utf c b false no_utf h
   takes_may AnyAll p b no_utf h = refl
   takes_may NotNewline p b no_utf h = refl
   takes_may (Class n) p b no_utf h = or_right g.options.utf (g.class_has n b) h
 
-  -- an ASCII character is its byte
-  byte_here : (p c : ℕ) → IsTrue g.options.utf → IsTextPlace g.options g.subject p → p < length g.subject → c < 128 → first_char (drop p g.subject) ≡ c → slice_index g.subject p ≡ c
-  byte_here p c utf here inside small first =
+  -- the encoding of the character that begins there
+  begun_with : (p : ℕ) → IsTrue g.options.utf → IsTextPlace g.options g.subject p → p < length g.subject
+      → (rest : List ℕ) × (drop p g.subject ≡ encode (first_char (drop p g.subject)) ++ rest)
+  begun_with p utf here inside =
       let span = (goes_to_place true g.subject p (λ _. (text utf).checked utf) (here.within, λ _. here.between utf) inside).1 in
-      let n = len_utf8 (first_char (drop p g.subject)) in
-      let split : drop p g.subject ≡ encode (first_char (drop p g.subject)) ++ drop ((p + n) - p) (drop p g.subject) =
-      sym (take-append-drop ((p + n) - p) (drop p g.subject)) ∙ ap (λ (xs : List ℕ). xs ++ drop ((p + n) - p) (drop p g.subject)) span.stands in
-      let low : first_char (drop p g.subject) < 128 = omega (arith, first, small) in
-      ap (λ (xs : List ℕ). get_or xs 0 0) (sym (drop-cons g.subject p 0 inside))
-      ∙ byte_from_char (drop p g.subject) _ (first_char (drop p g.subject)) split low ∙ first
+      let n = len_utf8 (first_char (drop p g.subject)) in (
+        drop ((p + n) - p) (drop p g.subject),
+        sym (take-append-drop ((p + n) - p) (drop p g.subject)) ∙ ap (λ (xs : List ℕ). xs ++ drop ((p + n) - p) (drop p g.subject)) span.stands,
+      )
+
+  first_byte : (p : ℕ) → p < length g.subject → slice_index g.subject p ≡ get_or (drop p g.subject) 0 0
+  first_byte p inside = ap (λ (xs : List ℕ). get_or xs 0 0) (sym (drop-cons g.subject p 0 inside))
+
+  -- an ASCII character is its byte, and a byte of ASCII is its character
+  byte_here : (p : ℕ) → IsTrue g.options.utf → IsTextPlace g.options g.subject p → p < length g.subject → first_char (drop p g.subject) < 128
+      → slice_index g.subject p ≡ first_char (drop p g.subject)
+  byte_here p utf here inside low =
+      let found = begun_with p utf here inside in
+      first_byte p inside ∙ byte_from_char (drop p g.subject) found.0 (first_char (drop p g.subject)) found.1 low
+
+  char_here : (p : ℕ) → IsTrue g.options.utf → IsTextPlace g.options g.subject p → p < length g.subject → slice_index g.subject p < 128
+      → first_char (drop p g.subject) ≡ slice_index g.subject p
+  char_here p utf here inside low =
+      let found = begun_with p utf here inside in
+      let same = first_byte p inside in
+      let some : 0 < length (drop p g.subject) = omega (arith, length-drop p g.subject) in
+      char_from_byte (drop p g.subject) found.0 (first_char (drop p g.subject)) found.1 (omega (arith, same, low)) some ∙ sym same
+
+  past_here : (p : ℕ) → IsTrue g.options.utf → IsTextPlace g.options g.subject p → p < length g.subject → 128 ≤ slice_index g.subject p
+      → 128 ≤ first_char (drop p g.subject)
+  past_here p utf here inside high = elim (cases_lt (first_char (drop p g.subject)) 128) [
+    | inl low ↦ absurd (let same = byte_here p utf here inside low in omega (arith, same, low, high))
+    | inr past ↦ omega (arith, past)
+  ]
+
+  -- in UTF characters fold as Unicode has it
+  unicode : IsTrue g.options.utf → (c : ℕ) → g.fold c ≡ fold c
+  unicode utf c = ap (λ (f : ℕ → ℕ). f c) folds ∙ ap (λ (u : Bool). fold_in u c) utf
+
+  begun_by : (c p : ℕ) (caseless : Bool) → IsTrue g.options.utf → IsTextPlace g.options g.subject p → p < length g.subject
+      → takes g.scene (Char c caseless) p (first_char (drop p g.subject)) ≡ true → may_begin caseless c (slice_index g.subject p) ≡ true
+  begun_by c p true utf here inside h =
+      let d = first_char (drop p g.subject) in
+      let b = slice_index g.subject p in
+      let same : fold c ≡ fold d = sym (unicode utf c) ∙ eqb-true (g.fold c) (g.fold d) (rw utf at h) ∙ unicode utf d in
+      elim (cases_lt b 128) [
+        | inl low ↦ folds_low c b low (same ∙ ap fold (char_here p utf here inside low))
+        | inr past ↦ folds_past c b (omega (arith, past)) (past_alike c d (past_here p utf here inside (omega (arith, past))) same)
+      ]
+  begun_by c p false utf here inside h =
+      let d = first_char (drop p g.subject) in
+      let b = slice_index g.subject p in
+      let same : c ≡ d = eqb-true c d h in
+      elim (cases_lt b 128) [
+        | inl low ↦ is_low c b low (same ∙ char_here p utf here inside low)
+        | inr past ↦ is_past c b (omega (arith, past)) (let beyond = past_here p utf here inside (omega (arith, past)) in omega (arith, same, beyond))
+      ]
 
   -- in UTF it may begin with the byte that stands there
   takes_begun : (item : Item) (p : ℕ) → IsTrue g.options.utf → IsTextPlace g.options g.subject p → p < length g.subject
       → takes g.scene item p (first_char (drop p g.subject)) ≡ true → may item (slice_index g.subject p) ≡ true
-  takes_begun (Char c true) p utf here inside h = or_left g.options.utf _ utf
-  takes_begun (Char c false) p utf here inside h = elim (cases_lt c 128) [
-    | inl small ↦ or_right (g.options.utf && nat_le 128 c) (c == slice_index g.subject p)
-        (eq-eqb c (slice_index g.subject p) (sym (byte_here p c utf here inside small (sym (eqb-true c (first_char (drop p g.subject)) h)))))
-    | inr past ↦ or_left (g.options.utf && nat_le 128 c) (c == slice_index g.subject p) (ap (λ b. b && nat_le 128 c) utf ∙ le-leb 128 c (omega (arith, past)))
-  ]
+  takes_begun (Char c caseless) p utf here inside h =
+      let b = slice_index g.subject p in
+      subst (λ (u : Bool). (if u then may_begin caseless c b else if caseless then ascii_fold c == ascii_fold b else c == b) ≡ true) (sym utf)
+      (begun_by c p caseless utf here inside h)
   takes_begun AnyAll p utf here inside h = refl
   takes_begun NotNewline p utf here inside h = refl
   takes_begun (Class n) p utf here inside h = or_left g.options.utf _ utf
@@ -222,9 +286,8 @@ module _ (g : Setting) (sets : List (List Bool)) (off : g.matching.«partial» �
   silent_first (Some a) (Some b) f fs h = λ s on le. silent_before (f s) (go_on (in_order fs)) (h s on (omega (arith, le)))
 
   -- its states stand where characters begin
-  abbrev Forwards : Option Bound → Search → Type 0
-  Forwards None f = Unit {0}
-  Forwards (Some b) f = IsTrue g.options.utf → IsForward g None f
+  abbrev Forwards : Search → Type 0
+  Forwards f = IsTrue g.options.utf → IsForward g None f
 
   silent_on_way : (u p : ℕ) (x : Stream) (f : How → Search) → Tame u x → (IsTrue g.options.utf → Forward g None p x)
       → ((s : State) → OnWay s → s.units ≤ u → Silent (f reached s)) → Silent (each x f)
@@ -236,7 +299,7 @@ module _ (g : Setting) (sets : List (List Bool)) (off : g.matching.«partial» �
   silent_on_way u p (state accepted s ▸ x) f h forth k = absurd h
   silent_on_way u p (step ▸ x) f h forth k = silent_on_way u p x f h forth k
 
-  silent_later : (x y : Option Bound) (f : Search) (fs : List Search) → FitsSome g off x f → Forwards x f → SilentSome y (in_order fs)
+  silent_later : (x y : Option Bound) (f : Search) (fs : List Search) → FitsSome g off x f → Forwards f → SilentSome y (in_order fs)
       → SilentSome (both followed x y) (in_order (f ∷ fs))
   unfolding in_order
   silent_later None y f fs h forth k = tt
@@ -291,13 +354,9 @@ module _ (g : Setting) (sets : List (List Bool)) (off : g.matching.«partial» �
           let is : q ≡ s.place + 1 = cc in
           silent_or_else (f (record s { place = q })) nothing (next _ (λ stands. gone (h.1.0, (h.1.1, subst (Stands rest g.subject) is stands)))) silent_nothing
 
-  module _ (below : Searches) (whole_built : IsBuilt g.whole) (deeper : IsTrue g.options.utf → (low : Option ℕ) (t : Nested) → IsBuilt t → IsForward g low (below t)) where
-    forwards : (t : Nested) → Forwards (bound t) (level g below t)
-    forwards t = by_bound (bound t) (built_where t)
-      where
-        by_bound : (x : Option Bound) → Where x (IsBuilt t) → Forwards x (level g below t)
-        by_bound None built = tt
-        by_bound (Some b) built = λ utf. forward_level g (text utf) off whole_built below (deeper utf) None t built
+  module _ (below : Searches) (deeper : IsTrue g.options.utf → (low : Option ℕ) (t : Nested) → IsForward g low (below t)) where
+    forwards : (t : Nested) → Forwards (level g below t)
+    forwards t = λ utf. forward_level g (text utf) below (deeper utf) None t
 
     silent_begins : (no_utf : g.options.utf ≡ false) (all : List (List Bool)) (ts : Row) → Begins may all ts → (s : State) → ¬ Stands all g.subject s.place → Silent (in_order (levels g below ts) s)
     unfolding level in_order
@@ -366,12 +425,9 @@ module _ (g : Setting) (sets : List (List Bool)) (off : g.matching.«partial» �
   module _ (b : Bound) (needs : Needs may g.options.utf sets g.whole) (bounded : bound g.whole ≡ Some b)
       (steps : at b.steps (length g.subject + 1) ≤ match_limit g) (units : b.units ≤ g.matching.frame_limit)
       (begun : IsTrue g.options.utf → IsTextPlace g.options g.subject g.start) where
-    built : IsBuilt g.whole
-    built = subst (λ o. Where o (IsBuilt g.whole)) bounded (built_where g.whole)
-
     begun_here : (p : ℕ) → Here p → OnWay (first_state g.groups p)
     begun_here p here = λ utf.
-        let search : IsBuiltSearch g = record { built = built; text = text utf; off = off; begun = begun utf } in
+        let search : IsTextSearch g = record { text = text utf; begun = begun utf } in
         loosened g (Some p) (first_state g.groups p) (begun_at g search p (here utf))
 
     place_fails : (p : ℕ) → Here p → place_answer g p ≡ answers (Failed Exhausted)
@@ -381,7 +437,7 @@ module _ (g : Setting) (sets : List (List Bool)) (off : g.matching.«partial» �
         let s = first_state g.groups p in
         let e : d + 1 ≡ suc d = omega arith in
         let fits = subst (λ o. FitsSome g off o (level g (run g d) g.whole)) bounded (fits_level g off (run g d) g.whole) in
-        let silent = subst (λ o. SilentSome o (level g (run g d) g.whole)) bounded (silent_level (run g d) built (λ utf. forward_run g (text utf) off built d) g.whole needs) in
+        let silent = subst (λ o. SilentSome o (level g (run g d) g.whole)) bounded (silent_level (run g d) (λ utf. forward_run g (text utf) d) g.whole needs) in
         let room : 0 + b.units ≤ g.matching.frame_limit = omega (arith, units) in
         let w = fits s room in
         ap (λ n. walk g d (run g n g.whole s)) e
@@ -415,4 +471,4 @@ module _ (g : Setting) (sets : List (List Bool)) (off : g.matching.«partial» �
     none_at_all = none_from _ (within g (Some g.start)) (here_some (Some g.start) begun)
 
 pub need_law : NeedLaw
-need_law g sets b h = none_at_all g sets h.off h.text h.small h.missing b h.needs h.bounded h.steps h.units h.begun
+need_law g sets b h = none_at_all g sets h.off h.folds h.text h.small h.missing b h.needs h.bounded h.steps h.units h.begun

@@ -1,13 +1,10 @@
--- What a search gives for a tree of the forms that are built.
-use Rattle.std.specs.Prelude.{◌≡◌, ℕ, ◌≤◌, List, [], ◌∷◌, All, length, Option, Some, None}
-use Rattle.pat_tree.specs.declared.options.PartialMode.TheVariants.{Off}
-use Rattle.pat_tree.specs.Built.{IsBuilt}
+-- What a search gives.
+use Rattle.std.specs.Prelude.{◌≡◌, ℕ, ◌≤◌, All, length, Option, Some, None}
 use Rattle.match_items.specs.Subjects.{IsText, IsTextPlace}
 use Rattle.frame_store.specs.declared.registers.Span.{Span}
-use Rattle.ordered_search.specs.Stream.{Note, name}
 use Rattle.ordered_search.specs.Setting.{Setting}
-use Rattle.ordered_search.specs.PlaceAnswer.{Outcome, MatchLimit, FrameLimit, Loop}
-use Rattle.ordered_search.specs.MatchAnswer.{MatchAnswer, Match, NoMatch, PartialFrom, Error, Found, match_answer}
+use Rattle.ordered_search.specs.PlaceAnswer.{Outcome, MatchLimit, FrameLimit, Loop, Abort}
+use Rattle.ordered_search.specs.MatchAnswer.{MatchAnswer, Match, NoMatch, PartialFrom, Error, match_answer}
 
 -- what a group captured, if anything, lies in the first n bytes
 abbrev pub IsWithin : ℕ → Option Span → Type 0
@@ -24,36 +21,22 @@ pub record IsPlaced (g : Setting) (o : Outcome) : Type 0 where
   pub caps : All (IsWithin (length g.subject)) o.caps
   pub groups : length o.caps ≡ g.groups
 
--- a match, none, a limit, or a recursion at the same place
+-- a match, none, a partial match from a place at the start or past it, a limit, a recursion at the same place, or a callout's
+-- number
 abbrev pub IsPlain : Setting → MatchAnswer → Type 0
 IsPlain g (Match o) = IsPlaced g o
 IsPlain g NoMatch = Unit {0}
-IsPlain g (PartialFrom p) = ⊥
+IsPlain g (PartialFrom p) = (g.start ≤ p) × IsTextPlace g.options g.subject p
 IsPlain g (Error MatchLimit) = Unit {0}
 IsPlain g (Error FrameLimit) = Unit {0}
 IsPlain g (Error Loop) = Unit {0}
+IsPlain g (Error (Abort n)) = Unit {0}
 IsPlain g (Error a) = ⊥
 
--- it is a name
-abbrev pub IsName : Note → Type 0
-IsName (name n) = Unit {0}
-IsName _ = ⊥
-
-abbrev pub AreNames : List Note → Type 0
-AreNames [] = Unit {0}
-AreNames (n ∷ ns) = IsName n × AreNames ns
-
--- nothing but names is told beside it: no callout, no hit of the subject's end
-pub record IsPlainFound (g : Setting) (f : Found) : Type 0 where
-  pub answer : IsPlain g f.answer
-  pub notes : AreNames f.notes
-
--- The search is one for a tree of the forms that are built, without partial matching.
-pub record IsBuiltSearch (g : Setting) : Type 0 where
-  pub built : IsBuilt g.whole
+-- The search begins at a place of a text.
+pub record IsTextSearch (g : Setting) : Type 0 where
   pub text : IsText g.options g.subject
-  pub off : g.matching.«partial» ≡ Off
   pub begun : IsTextPlace g.options g.subject g.start
 
 abbrev pub ForwardLaw : Type 0
-ForwardLaw = (g : Setting) → IsBuiltSearch g → IsPlainFound g (match_answer g)
+ForwardLaw = (g : Setting) → IsTextSearch g → IsPlain g (match_answer g).answer

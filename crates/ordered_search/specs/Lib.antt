@@ -14,7 +14,6 @@ pub mod Forward
 pub mod Moves
 pub mod Paths
 pub mod PathLaw
-pub mod Verbless
 pub mod Plain
 pub mod LaterPlaces
 pub mod Needed

@@ -2,6 +2,7 @@
 use Rattle.std.specs.Prelude.{◌≡◌, ◌<◌, ◌≤◌, ℕ, ◌+◌, Bool, IsTrue, List, length, Some, slice_index}
 use Rattle.pat_tree.specs.declared.options.PartialMode.TheVariants.{Off}
 use Rattle.match_items.specs.Subjects.{IsText, IsTextPlace}
+use Rattle.match_items.specs.Views.{fold_in}
 use Rattle.match_needs.specs.declared.bounds.Bound.{Bound}
 use Rattle.match_needs.specs.Bounds.{at, bound}
 use Rattle.match_needs.specs.Needs.{may_take, Needs}
@@ -9,7 +10,7 @@ use Rattle.match_needs.specs.Texts.{Stands}
 use Rattle.ordered_search.specs.Setting.{Setting, match_limit}
 use Rattle.ordered_search.specs.MatchAnswer.{none_found, match_answer}
 
--- Every match takes a text that stands nowhere in the subject, and what a search takes at most is within the limits. There is no partial matching, and in UTF the subject is UTF-8 and the start a place in it.
+-- Every match takes a text that stands nowhere in the subject, and what a search takes at most is within the limits. There is no partial matching, characters fold as they do in UTF or outside it, and in UTF the subject is UTF-8 and the start a place in it.
 pub record IsWithoutNeed (g : Setting) (sets : List (List Bool)) (b : Bound) : Type 0 where
   pub needs : Needs (may_take g.options.utf g.class_has) g.options.utf sets g.whole
   pub small : (k : ℕ) → k < length g.subject → slice_index g.subject k < 256
@@ -17,6 +18,7 @@ pub record IsWithoutNeed (g : Setting) (sets : List (List Bool)) (b : Bound) : T
   pub bounded : bound g.whole ≡ Some b
   pub steps : at b.steps (length g.subject + 1) ≤ match_limit g
   pub units : b.units ≤ g.matching.frame_limit
+  pub folds : g.fold ≡ fold_in g.options.utf
   pub text : IsTrue g.options.utf → IsText g.options g.subject
   pub begun : IsTrue g.options.utf → IsTextPlace g.options g.subject g.start
   pub off : g.matching.«partial» ≡ Off

@@ -1,5 +1,5 @@
 -- The ordered search as a machine goes through it: each tree before what follows it. Without its pauses it is the search
--- of the definitions. A callout is that search itself.
+-- of the definitions.
 use Rattle.std.specs.Prelude.{ℕ, zero, suc, ◌-◌, Bool, true, false, List, [], ◌∷◌, drop, take, reverse, Option, Some, None, option_map, ℤ, pos, negsuc, ◌==◌}
 use Rattle.pat_tree.specs.declared.nodes.Item.{Item}
 use Rattle.pat_tree.specs.declared.nodes.AnchorKind.{AnchorKind}
@@ -15,8 +15,7 @@ use Rattle.ordered_search.specs.Stream.{State, next_branch, prune, skip, commit,
 use Rattle.ordered_search.specs.Setting.{Setting, branch_lengths}
 use Rattle.ordered_search.specs.Tests.{move_to}
 use Rattle.ordered_search.specs.Parts.{is_over, begun_at, back_to, forget_passed, some_set, is_called, is_called_of, is_active, block_of, skip_to}
-use Rattle.ordered_search.specs.Run.{run}
-use Rattle.ordered_search.specs.Moves.{Moves, stops, pause, stepped, noted, Follow, Handler, Path, before, catching, going, holding, reaching}
+use Rattle.ordered_search.specs.Moves.{Moves, stops, pause, stepped, noted, Follow, Handler, Path, catching, going, holding, reaching}
 
 -- a path of each tree
 abbrev pub Paths : Type 0
@@ -227,9 +226,9 @@ module _ (g : Setting) where
   -- positive or negative, atomic or not
   unfoldable pub look_path : Bool → Bool → Path → Path
   look_path true true p s k f h =
-      pause (holding g 1 s (λ t. p t (λ how u e. leave s reached (back_to s u) k f) (pause f) (catching f h)))
+      pause (holding g 1 s (λ t. p t (λ how u e. leave s reached (back_to s u) k f) (pause f) (catching (pause f) h)))
   look_path true false p s k f h =
-      pause (holding g 1 s (λ t. p t (λ how u e. pause (k reached (back_to s u) e)) (pause f) (catching f h)))
+      pause (holding g 1 s (λ t. p t (λ how u e. pause (k reached (back_to s u) e)) (pause f) (catching (pause f) h)))
   look_path false once p s k f h =
       pause (holding g 1 s (λ t. p t (λ how u e. pause f) (pause (k reached s f)) (λ v. pause (k reached s f))))
 
@@ -314,7 +313,8 @@ module _ (g : Setting) where
       path (tree.condition test first second) s k f h = test_path test (path first) (other_path second) s k f h
       path (tree.call n) s k f h = call_path below n s k f h
       path (tree.verb v) s k f h = pause (verb_path v s k f h)
-      path (tree.callout c) s k f h = pause (before (run g (suc d) (tree.callout c) s) k f h)
+      path (tree.callout c) s k f h =
+          pause (noted (shown (block_of c s)) (answered (g.reply (block_of c s)) (k reached s f) f))
 
       pub row_paths : Row → List Path
       row_paths tree.none = []

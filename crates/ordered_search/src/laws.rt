@@ -34,9 +34,9 @@ pub fn no_partial_match()
     ensures { NoPartialLaw }
 {}
 
-/// A search without partial matching, in UTF or outside it, for a tree without callouts and THEN: a match lies in the subject
-/// at the start or past it, with its captures; else there is none, a limit is passed, or a group is called at the place of an
-/// active call of it. Nothing but names is told.
+/// A search, in UTF or outside it: a match lies in the subject at the start or past it, with its captures, and a partial match
+/// begins there; else there is none, a limit is passed, a group is called at the place of an active call of it, or a callout
+/// ends the search.
 pub fn searches_go_forward()
     ensures { ForwardLaw }
 {}

@@ -11,15 +11,16 @@ use Rattle.pat_tree.specs.Growing.{Makes, Replaces}
 use Rattle.pat_tree.specs.Rules.{kids_of}
 use Rattle.token_parts.specs.declared.token.Token.{Token}
 use Rattle.token_parts.specs.declared.token.VerbKind.{VerbKind}
-use Rattle.pat_build.specs.declared.machine.Atom.TheVariants.{Single, Whole}
+use Rattle.pat_nodes.specs.declared.frames.Atom.TheVariants.{Single, Whole}
 use Rattle.pat_build.specs.declared.machine.Machine.{Machine}
-use Rattle.pat_build.specs.Groups.{places_named}
-use Rattle.pat_build.specs.Parts.{atom, bare, of_class}
-use Rattle.pat_build.specs.State.{State}
-use Rattle.pat_build.specs.Verbs.{verb_of, number_of_name, names_after}
-use Rattle.pat_build.specs.Machine.{Means, Ready, Begins, Took, IsMany, AddsVerb, state_of, references_of, reference_in, verb_node}
-use Rattle.pat_build.proofs.States.{references_push}
-use Rattle.pat_build.proofs.Extending.{Extends, extends_node, extends_class, extends_verb}
+use Rattle.pat_grammar.specs.Groups.{places_named}
+use Rattle.pat_grammar.specs.Parts.{atom, bare, of_class}
+use Rattle.pat_grammar.specs.State.{State}
+use Rattle.pat_grammar.specs.Verbs.{verb_of, number_of_name, names_after}
+use Rattle.pat_build.specs.Machine.{Means, Ready, Begins, Took, state_of}
+use Rattle.pat_nodes.specs.Nodes.{IsMany, AddsVerb, references_of, reference_in, verb_node}
+use Rattle.pat_nodes.proofs.References.{references_push}
+use Rattle.pat_nodes.proofs.Extending.{Extends, extends_node, extends_class, extends_verb}
 use Rattle.pat_build.proofs.Taking.{atom_means, bare_means}
 
 -- the node that a draft has more
@@ -32,7 +33,7 @@ pub record OneMore (m : Machine) (draft : DraftParts) (p : Placed) (id : ℕ) (t
   pub named : refs_of p ≡ places_named (reference_in p)
   pub childless : kids_of p.node ≡ []
 
-state_more : (m : Machine) (draft : DraftParts) (p : Placed) → draft ≡ with_node m.draft p →
+pub state_more : (m : Machine) (draft : DraftParts) (p : Placed) → draft ≡ with_node m.draft p →
     state_of (record m { draft = draft }) ≡ record (state_of m) { references = references_of m.draft.nodes ++ reference_in p }
 state_more m draft p is =
     ap (λ d. state_of (record m { draft = d })) is ∙ ap (λ rs. record (state_of m) { references = rs }) (references_push m.draft.nodes p)
@@ -65,7 +66,7 @@ module _ (m : Machine) (means : Means m) where
   node_stands token after id t draft p parts ready more pushed begins =
       let state = state_more m draft p more.is in
       let extends = extends_node m.draft draft p id t means.refs_are more.is more.makes more.replaces more.no_group more.groups more.named more.childless in
-      bare_means m means token after id t draft parts ready extends more.makes pushed
+      bare_means m means token after id t draft parts m.called ready extends more.makes pushed
       (λ n h. begins n h ∙ ap (λ st. Ok (bare t (record st { at = after }))) (sym state))
 
   -- a new class waits for a quantifier
@@ -97,5 +98,5 @@ module _ (m : Machine) (means : Means m) where
       Took m (record m { draft = draft; level = record (m.level) { parts = parts }; at = after })
   verb_stands token after at id kind name draft parts ready adds pushed begins =
       let t = verb (verb_of kind (number_of_name m.draft.verb_names name)) in
-      bare_means m means token after id t draft parts ready (extends_verb m.draft draft kind name at id means.refs_are adds) adds.makes pushed
+      bare_means m means token after id t draft parts m.called ready (extends_verb m.draft draft kind name at id means.refs_are adds) adds.makes pushed
       (λ n h. begins n h ∙ ap (λ st. Ok (bare t (record st { at = after }))) (sym (state_verb m draft kind name at id adds)))

@@ -4,20 +4,21 @@ use Rattle.std.specs.List.{list_any}
 use Rattle.std.proofs.lemmas.Bool.Decides.{nat_tests}
 use Rattle.token_parts.specs.Tell.{fault}
 use Rattle.pat_tree.specs.Names.{with_name}
+use Rattle.pat_tree.specs.Nested.{Nested}
 use Rattle.pat_tree.specs.declared.names.NameEntry.{NameEntry}
 use Rattle.token_parts.specs.declared.fault.Fault.{Fault}
 use Rattle.token_parts.specs.declared.token.Token.TheVariants.{Open, CondStart}
 use Rattle.token_parts.specs.declared.token.CondText.TheVariants as tested
-use Rattle.pat_build.specs.declared.machine.Bars.TheVariants.{Free, First}
-use Rattle.pat_build.specs.declared.machine.Numbering.TheVariants.{Onward, Reset}
+use Rattle.pat_grammar.specs.declared.alternatives.Bars.TheVariants.{Free, First}
+use Rattle.pat_grammar.specs.declared.alternatives.Numbering.TheVariants.{Onward, Reset}
 use Rattle.token_parts.specs.declared.token.OpenKind.TheVariants.{Capture}
-use Rattle.pat_build.specs.State.{State}
+use Rattle.pat_grammar.specs.State.{State, Known}
 use Rattle.token_parts.specs.declared.token.CondText.{CondText}
-use Rattle.pat_build.specs.declared.error.ReadError.{ReadError}
-use Rattle.pat_build.specs.declared.error.ReadError.TheVariants.{Bad, Memory}
-use Rattle.pat_build.specs.Machine.{Refuses}
-use Rattle.pat_build.specs.Parts.{beginning, conditions, assertion, assertions, asserts, enters}
-use Rattle.pat_build.specs.Groups.{Opens, Opening, Form, grouped, asserted, asserting, IsWorded, is_look, bars_in, is_elsewhere, is_other, opened, captured, named, reset, form_in, beyond_after}
+use Rattle.pat_grammar.specs.declared.error.ReadError.{ReadError}
+use Rattle.pat_grammar.specs.declared.error.ReadError.TheVariants.{Bad, Memory}
+use Rattle.pat_grammar.specs.Places.{Refuses}
+use Rattle.pat_grammar.specs.Parts.{beginning, conditions, assertion, assertions, asserts, enters}
+use Rattle.pat_grammar.specs.Groups.{Opens, Opening, Form, grouped, asserted, asserting, IsWorded, is_look, bars_in, is_elsewhere, is_other, opened, captured, named, reset, form_in, beyond_after}
 
 pub opened_deep : (st : State) (form : Form) (after : State) → 250 ≤ st.depth → opened st form after ≡ fault 119 st.at
 unfolding opened
@@ -91,7 +92,7 @@ unfolding reset
 reset_fits st after h = rw (opened_fits st (grouped None) after h) refl
 
 -- `(` captures, unless groups don't
-module _ (known : List NameEntry) (text : List ℕ) (n : ℕ) (st next : State) where
+module _ (known : Known) (text : List ℕ) (n : ℕ) (st next : State) where
   pub capture_is : st.options.no_auto_capture ≡ false → (opens : Opens) → captured st next ≡ opens → beginning known text n st (Open Capture) next ≡ enters opens
   capture_is captures opens is = ap (λ b. enters (if b then opened st (grouped None) next else captured st next)) captures ∙ ap enters is
 
@@ -114,8 +115,8 @@ module _ (known : List NameEntry) (text : List ℕ) (st : State) (cond : CondTex
       rw (fits, is, opened_fits st form (record after { beyond = beyond_after known st cond word }) h) refl
 
 -- a test that is no lookaround
-pub worded_is : (known : List NameEntry) (text : List ℕ) (n : ℕ) (st : State) (cond : CondText) (from to : ℕ) (next : State) → IsWorded cond →
-    beginning known text n st (CondStart cond from to) next ≡ conditions known text st cond (slice_range text from to) next
+pub worded_is : (known : Known) (text : List ℕ) (n : ℕ) (st : State) (cond : CondText) (from to : ℕ) (next : State) → IsWorded cond →
+    beginning known text n st (CondStart cond from to) next ≡ conditions known.names text st cond (slice_range text from to) next
 worded_is known text n st tested.Lookaround from to next worded = absurd worded
 worded_is known text n st (tested.Group target) from to next worded = refl
 worded_is known text n st tested.InCall from to next worded = refl
@@ -131,23 +132,23 @@ before_test st after = record after { depth = st.depth + 1; looking = st.looking
 abbrev pub testing : State → Opening
 testing st = record { form = asserting; around = st.options; looking = st.looking; bars = st.bars; numbering = st.numbering; at = st.at }
 
-module _ (text : List ℕ) (n : ℕ) (st after : State) where
-  pub assertions_deep : 250 ≤ st.depth → assertions text n st after ≡ fault 119 st.at
+module _ (calling : Bool) (text : List ℕ) (n : ℕ) (st after : State) where
+  pub assertions_deep : 250 ≤ st.depth → assertions calling text n st after ≡ fault 119 st.at
   unfolding assertions
   assertions_deep h = rw (opened_deep st asserting after h) refl
 
-  pub assertions_bad : st.depth < 250 → (f : Fault) → assertion text n st.at (before_test st after) ≡ Err f → assertions text n st after ≡ Err f
+  pub assertions_bad : st.depth < 250 → (f : Fault) → assertion calling text n st.at (before_test st after) ≡ Err f → assertions calling text n st after ≡ Err f
   unfolding assertions
   assertions_bad h f bad = rw (opened_fits st asserting after h, bad) refl
 
-  module _ (fits : st.depth < 250) (ahead positive : Bool) (here beyond : State) (found : assertion text n st.at (before_test st after) ≡ Ok (ahead, positive, here, beyond)) where
-    pub assertions_deeper : 250 ≤ here.depth → assertions text n st after ≡ fault 119 here.at
+  module _ (fits : st.depth < 250) (ahead positive : Bool) (here beyond : State) (lead : List Nested) (found : assertion calling text n st.at (before_test st after) ≡ Ok (ahead, positive, here, beyond, lead)) where
+    pub assertions_deeper : 250 ≤ here.depth → assertions calling text n st after ≡ fault 119 here.at
     unfolding assertions
     assertions_deeper h = rw (opened_fits st asserting after fits, found, opened_deep here (asserted ahead positive) beyond h) refl
 
     pub assertions_fit : here.depth < 250 →
-        assertions text n st after
-        ≡ Ok (asserts (testing st) (record { form = asserted ahead positive; around = here.options; looking = here.looking; bars = here.bars; numbering = here.numbering; at = here.at })
+        assertions calling text n st after
+        ≡ Ok (asserts (testing st) lead (record { form = asserted ahead positive; around = here.options; looking = here.looking; bars = here.bars; numbering = here.numbering; at = here.at })
         (record beyond { depth = here.depth + 1; looking = true; bars = Free; numbering = Onward }))
     unfolding assertions
     assertions_fit h = rw (opened_fits st asserting after fits, found, opened_fits here (asserted ahead positive) beyond h) refl

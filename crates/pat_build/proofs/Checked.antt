@@ -1,5 +1,5 @@
 -- Whether a text is UTF-8, where it has to be.
-use Rattle.std.proofs.Common.{◌≡◌, Bool, true, false, ◌&&◌, not, ℕ, List, IsTrue, refl, ap}
+use Rattle.std.proofs.Common.{◌≡◌, true, false, not, ℕ, List, refl, ap}
 use Rattle.std.proofs.lemmas.Str.{IsUtf8-from_is_utf8, is_utf8-from_IsUtf8}
 use Rattle.std.specs.Str.{IsUtf8, is_utf8}
 

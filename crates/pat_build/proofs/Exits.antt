@@ -1,5 +1,5 @@
 -- What ends a reading ends what goes on from it.
-use Rattle.std.proofs.Common.{◌≡◌, ℕ, List, [], ◌∷◌, ◌≤◌, ◌<◌, ◌||◌, ◌&&◌, not, nat_lt, negsuc, Bool, true, false, length, Result, Ok, Err, refl, subst, ap, sym, ◌∙◌, arith, Option, All}
+use Rattle.std.proofs.Common.{◌≡◌, ℕ, List, [], ◌∷◌, ◌≤◌, ◌<◌, ◌&&◌, not, nat_lt, negsuc, Bool, true, false, length, Result, Ok, Err, refl, subst, ap, sym, ◌∙◌, arith, Option, All, ◌+◌}
 use Rattle.std.proofs.lemmas.Bool.Decides.{nat_tests}
 use Rattle.std.proofs.lemmas.List.Elements.{All-weaker}
 use Rattle.pat_tree.specs.declared.options.Options.{Options}
@@ -9,24 +9,25 @@ use Rattle.pat_tree.specs.Nested.{Nested}
 use Rattle.pat_tree.specs.Refs.{bad_ref, has_group, refs}
 use Rattle.token_parts.specs.declared.fault.Fault.{Fault}
 use Rattle.token_parts.specs.Tell.{fault, ◌>>=◌}
-use Rattle.pat_build.specs.declared.error.ReadError.{ReadError}
-use Rattle.pat_build.specs.declared.error.ReadError.TheVariants.{Bad, Memory}
-use Rattle.pat_build.specs.State.{State}
-use Rattle.pat_build.specs.Groups.{is_opened, missing, places_named}
+use Rattle.pat_grammar.specs.declared.error.ReadError.{ReadError}
+use Rattle.pat_grammar.specs.declared.error.ReadError.TheVariants.{Bad, Memory}
+use Rattle.pat_grammar.specs.State.{State, Known}
+use Rattle.pat_grammar.specs.Groups.{is_opened, missing, places_named}
 use Rattle.std.specs.Str.{is_utf8}
 use Rattle.std.specs.Str.Lossy.{utf8_valid_len}
-use Rattle.pat_build.specs.Reading.{Parsed, checked, reading, read, in_utf8, read_from, started, start, literally}
-use Rattle.pat_build.specs.Machine.{Refuses, IsGiven, tree_with, references_of}
-use Rattle.std.proofs.Common.{◌+◌}
+use Rattle.pat_grammar.specs.Reading.{Parsed, checked, reading, read_with, in_utf8, read_from, started, start, literally}
+use Rattle.pat_grammar.specs.Places.{Refuses}
+use Rattle.pat_build.specs.Machine.{IsGiven, tree_with}
+use Rattle.pat_nodes.specs.Nodes.{references_of}
 
 refuses_on : {A B : Type 0} (r : Result A Fault) (f : A → Result B Fault) (e : ReadError) → Refuses r e → Refuses (r >>= f) e
 refuses_on r f (Bad number at) h = rw h refl
 refuses_on r f Memory h = tt
 
-pub tree_refuses : (known : List NameEntry) (text : List ℕ) (st : State) (e : ReadError) → Refuses (reading known text st) e → Refuses (tree_with known text st) e
+pub tree_refuses : (known : Known) (text : List ℕ) (st : State) (e : ReadError) → Refuses (reading known text st) e → Refuses (tree_with known text st) e
 tree_refuses known text st e h = refuses_on (reading known text st) (λ (tree, last). checked st.options last.beyond (missing last.groups last.references) tree last) e h
 
-pub tree_is : (known : List NameEntry) (text : List ℕ) (st : State) (tree : Nested) (last : State) → reading known text st ≡ Ok (tree, last) →
+pub tree_is : (known : Known) (text : List ℕ) (st : State) (tree : Nested) (last : State) → reading known text st ≡ Ok (tree, last) →
     tree_with known text st ≡ checked st.options last.beyond (missing last.groups last.references) tree last
 tree_is known text st tree last h = rw h refl
 
@@ -48,12 +49,12 @@ pub names_stand : (table : List NameEntry) (ps : List Placed) (groups : ℕ) →
 names_stand table ps groups given same = All-weaker (IsGiven groups) (λ entry. has_group ps entry.group ≡ true) (λ e h. same e.group ∙ opened_is groups e.group h.1 h.0) table given
 
 -- the whole reading
-module _ (options : Options) (text : List ℕ) where
-  pub read_long : 65536 < length text → read options text ≡ fault 120 0
-  unfolding read
+module _ (calling : Bool) (options : Options) (text : List ℕ) where
+  pub read_long : 65536 < length text → read_with calling options text ≡ fault 120 0
+  unfolding read_with
   read_long long =
       let over : nat_lt 65536 (length text) ≡ true = grind (arith, nat_tests) in
-      rw (read, over) refl
+      rw (read_with, over) refl
 
   fits_is : length text ≤ 65536 → nat_lt 65536 (length text) ≡ false
   fits_is short = grind (arith, nat_tests)
@@ -63,46 +64,41 @@ module _ (options : Options) (text : List ℕ) where
   bad_utf = Err (record { number = negsuc 2; at = utf8_valid_len text })
 
   module _ (short : length text ≤ 65536) where
-    pub read_callout : options.auto_callout ≡ true → read options text ≡ fault 195 0
-    unfolding read
-    read_callout on = let fits : nat_lt 65536 (length text) ≡ false = fits_is short in rw (read, fits, on) refl
+    read_literally : options.literal ≡ true → read_with calling options text ≡ in_utf8 options.utf text (Ok (literally options text))
+    unfolding read_with
+    read_literally is = let fits : nat_lt 65536 (length text) ≡ false = fits_is short in rw (read_with, fits, is) refl
 
-    module _ (off : options.auto_callout ≡ false) where
-      read_literally : options.literal ≡ true → read options text ≡ in_utf8 options.utf text (Ok (literally options text))
-      unfolding read
-      read_literally is = let fits : nat_lt 65536 (length text) ≡ false = fits_is short in rw (read, fits, off, is) refl
+    pub read_literal : options.literal ≡ true → (options.utf && not (is_utf8 text)) ≡ false → read_with calling options text ≡ Ok (literally options text)
+    read_literal is good = read_literally is ∙ rw good refl
 
-      pub read_literal : options.literal ≡ true → (options.utf && not (is_utf8 text)) ≡ false → read options text ≡ Ok (literally options text)
-      read_literal is good = read_literally is ∙ rw good refl
+    pub read_literal_bad : options.literal ≡ true → (options.utf && not (is_utf8 text)) ≡ true → read_with calling options text ≡ bad_utf
+    read_literal_bad is bad = read_literally is ∙ rw bad refl
 
-      pub read_literal_bad : options.literal ≡ true → (options.utf && not (is_utf8 text)) ≡ true → read options text ≡ bad_utf
-      read_literal_bad is bad = read_literally is ∙ rw bad refl
+    module _ (is : options.literal ≡ false) where
+      read_started : read_with calling options text ≡ (started text (length text + 1) (start options) >>= λ st. in_utf8 st.options.utf text (read_from calling text st))
+      unfolding read_with
+      read_started = let fits : nat_lt 65536 (length text) ≡ false = fits_is short in rw (read_with, fits, is) refl
 
-      module _ (is : options.literal ≡ false) where
-        read_started : read options text ≡ (started text (length text + 1) (start options) >>= λ st. in_utf8 st.options.utf text (read_from text st))
-        unfolding read
-        read_started = let fits : nat_lt 65536 (length text) ≡ false = fits_is short in rw (read, fits, off, is) refl
+      pub start_refuses : (e : ReadError) → Refuses (started text (length text + 1) (start options)) e → Refuses (read_with calling options text) e
+      start_refuses e h =
+          subst (λ r. Refuses r e) (sym read_started)
+          (refuses_on (started text (length text + 1) (start options)) (λ st. in_utf8 st.options.utf text (read_from calling text st)) e h)
 
-        pub start_refuses : (e : ReadError) → Refuses (started text (length text + 1) (start options)) e → Refuses (read options text) e
-        start_refuses e h =
-            subst (λ r. Refuses r e) (sym read_started)
-            (refuses_on (started text (length text + 1) (start options)) (λ st. in_utf8 st.options.utf text (read_from text st)) e h)
+      module _ (st : State) (begun : started text (length text + 1) (start options) ≡ Ok st) where
+        read_begun : read_with calling options text ≡ in_utf8 st.options.utf text (read_from calling text st)
+        read_begun = read_started ∙ ap (λ r. r >>= λ st. in_utf8 st.options.utf text (read_from calling text st)) begun
 
-        module _ (st : State) (begun : started text (length text + 1) (start options) ≡ Ok st) where
-          read_begun : read options text ≡ in_utf8 st.options.utf text (read_from text st)
-          read_begun = read_started ∙ ap (λ r. r >>= λ st. in_utf8 st.options.utf text (read_from text st)) begun
+        pub utf_refuses : (st.options.utf && not (is_utf8 text)) ≡ true → read_with calling options text ≡ bad_utf
+        utf_refuses bad = read_begun ∙ rw bad refl
 
-          pub utf_refuses : (st.options.utf && not (is_utf8 text)) ≡ true → read options text ≡ bad_utf
-          utf_refuses bad = read_begun ∙ rw bad refl
+        module _ (good : (st.options.utf && not (is_utf8 text)) ≡ false) where
+          read_good : read_with calling options text ≡ read_from calling text st
+          read_good = read_begun ∙ rw good refl
 
-          module _ (good : (st.options.utf && not (is_utf8 text)) ≡ false) where
-            read_good : read options text ≡ read_from text st
-            read_good = read_begun ∙ rw good refl
+          pub names_refuse : (e : ReadError) → Refuses (reading (record { names = []; calling = calling }) text st) e → Refuses (read_with calling options text) e
+          unfolding read_from
+          names_refuse e h = subst (λ r. Refuses r e) (sym read_good) (refuses_on (reading (record { names = []; calling = calling }) text st) _ e h)
 
-            pub names_refuse : (e : ReadError) → Refuses (reading [] text st) e → Refuses (read options text) e
-            unfolding read_from
-            names_refuse e h = subst (λ r. Refuses r e) (sym read_good) (refuses_on (reading [] text st) _ e h)
-
-            pub read_is : (first : Nested × State) → reading [] text st ≡ Ok first → read options text ≡ tree_with first.1.names text st
-            unfolding read_from
-            read_is first h = read_good ∙ rw (read_from, h) refl
+          pub read_is : (first : Nested × State) → reading (record { names = []; calling = calling }) text st ≡ Ok first → read_with calling options text ≡ tree_with (record { names = first.1.names; calling = calling }) text st
+          unfolding read_from
+          read_is first h = read_good ∙ rw (read_from, h) refl

@@ -2,10 +2,10 @@
 use Rattle.std.proofs.Common.{◌≡◌, ℕ, ◌+◌, ◌≤◌, List, [], ◌∷◌, ◌++◌, length, Option, Some, None, arith, All}
 use Rattle.pat_tree.specs.declared.names.NameEntry.{NameEntry}
 use Rattle.pat_tree.proofs.Naming.{all_named, length_named}
-use Rattle.pat_build.specs.declared.names.Name.{Name}
-use Rattle.pat_build.specs.declared.machine.Frame.{Frame}
-use Rattle.pat_build.specs.declared.machine.Numbering.{Numbering}
-use Rattle.pat_build.specs.Names.{entry_of, with_given}
+use Rattle.pat_nodes.specs.declared.names.Name.{Name}
+use Rattle.pat_nodes.specs.declared.frames.Frame.{Frame}
+use Rattle.pat_grammar.specs.declared.alternatives.Numbering.{Numbering}
+use Rattle.pat_nodes.specs.Names.{entry_of, with_given}
 use Rattle.pat_build.specs.Machine.{greatest_given, IsGiven, Numbered, Gives}
 use Rattle.pat_build.proofs.Numbers.{greatest_enter, given_on}
 

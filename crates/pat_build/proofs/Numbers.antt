@@ -8,12 +8,13 @@ use Rattle.pat_tree.specs.declared.names.NameEntry.{NameEntry}
 use Rattle.pat_tree.specs.Parts.{DraftParts}
 use Rattle.pat_tree.specs.Refs.{has_group}
 use Rattle.pat_tree.specs.Rules.{number_in}
-use Rattle.pat_build.specs.declared.machine.Frame.{Frame}
-use Rattle.pat_build.specs.declared.machine.Numbering.{Numbering}
-use Rattle.pat_build.specs.declared.machine.Numbering.TheVariants.{Onward, Reset}
-use Rattle.pat_build.specs.Groups.{is_opened, next_numbering, groups_before, groups_after}
-use Rattle.pat_build.specs.Machine.{Adds, number_in_frame, is_number, is_open, greatest_of, greatest_in, greatest_given, IsFair, outermost, Numbers, IsGiven, Numbered}
-use Rattle.pat_build.proofs.States.{or_false}
+use Rattle.pat_nodes.specs.declared.frames.Frame.{Frame}
+use Rattle.pat_grammar.specs.declared.alternatives.Numbering.{Numbering}
+use Rattle.pat_grammar.specs.declared.alternatives.Numbering.TheVariants.{Onward, Reset}
+use Rattle.pat_grammar.specs.Groups.{is_opened, next_numbering, groups_before, groups_after}
+use Rattle.pat_nodes.specs.Nodes.{Adds, is_number}
+use Rattle.pat_build.specs.Machine.{number_in_frame, is_open, greatest_of, greatest_in, greatest_given, IsFair, outermost, Numbers, IsGiven, Numbered}
+use Rattle.pat_nodes.proofs.References.{or_false}
 
 or_assoc : (a b c : Bool) → ((a || b) || c) ≡ (a || (b || c))
 or_assoc true b c = refl

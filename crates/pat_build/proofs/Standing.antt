@@ -1,16 +1,12 @@
 -- What stands for trees stands for them as the draft grows and the text is read.
-use Rattle.std.proofs.Common.{◌≡◌, ℕ, zero, suc, ◌<◌, ◌≤◌, List, [], ◌∷◌, refl, arith}
+use Rattle.std.proofs.Common.{◌≡◌, ℕ, ◌≤◌, List, [], ◌∷◌, refl, arith}
 use Rattle.pat_tree.specs.declared.nodes.Placed.{Placed}
 use Rattle.pat_tree.specs.Growing.{Grows}
 use Rattle.pat_tree.proofs.Growing.{stand_on}
-use Rattle.pat_build.specs.declared.machine.Level.{Level}
-use Rattle.pat_build.specs.declared.machine.Frame.{Frame}
+use Rattle.pat_nodes.specs.declared.frames.Level.{Level}
+use Rattle.pat_nodes.specs.declared.frames.Frame.{Frame}
 use Rattle.pat_build.specs.Stack.{Layer, Opened}
 use Rattle.pat_build.specs.Machine.{LevelStands, FrameStands, StackStands}
-
-pub positive : (u n : ℕ) → u < n → (p : ℕ) × (n ≡ suc p)
-positive u zero h = absurd (omega arith)
-positive u (suc p) h = (p, refl)
 
 module _ {a b : List Placed} (g : Grows a b) (u v : ℕ) (falls : v ≤ u) where
   pub level_on : {level : Level} {layer : Layer} → LevelStands a u level layer → LevelStands b v level layer

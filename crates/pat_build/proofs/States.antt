@@ -1,23 +1,14 @@
 -- A machine's state and its reading, as its draft grows.
-use Rattle.std.proofs.Common.{◌≡◌, ℕ, ◌<◌, Bool, true, false, ◌||◌, List, [], ◌∷◌, ◌++◌, length, refl, sym, ap, ◌∙◌, append_assoc, append-nil, arith}
-use Rattle.std.proofs.lemmas.Grind.{flat_map-append}
-use Rattle.pat_tree.specs.declared.nodes.Placed.{Placed}
+use Rattle.std.proofs.Common.{◌≡◌, ℕ, ◌<◌, List, [], ◌∷◌, ◌++◌, length, refl, sym, ap, ◌∙◌, append_assoc, append-nil, arith}
 use Rattle.pat_tree.specs.Parts.{DraftParts}
 use Rattle.pat_tree.specs.Refs.{refs}
-use Rattle.pat_build.specs.declared.machine.Frame.{Frame}
+use Rattle.pat_nodes.specs.declared.frames.Frame.{Frame}
 use Rattle.pat_build.specs.declared.machine.Machine.{Machine}
-use Rattle.pat_build.specs.State.{Reference}
-use Rattle.pat_build.specs.Groups.{Form, noted, places_named}
-use Rattle.pat_build.specs.Machine.{Adds, Closes, references_of, reference_in, state_of, state_from, known_of, whole_of, ids_held, ids_in}
-use Rattle.pat_build.specs.Reading.{reading}
-
-pub or_false : (a : Bool) → (a || false) ≡ a
-or_false true = refl
-or_false false = refl
-
-pub nothing_in : {A : Type 0} (xs : List A) → length xs ≡ 0 → xs ≡ []
-nothing_in [] h = refl
-nothing_in (x ∷ xs) h = absurd (omega (arith, h))
+use Rattle.pat_grammar.specs.Groups.{Form, noted, places_named}
+use Rattle.pat_nodes.specs.Nodes.{Adds, Closes, references_of}
+use Rattle.pat_build.specs.Machine.{state_of, known_of, whole_of, ids_held, ids_in}
+use Rattle.pat_grammar.specs.Reading.{state_from, reading}
+use Rattle.pat_nodes.proofs.References.{places_append}
 
 -- a list that isn't empty has a last item
 pub record HasLast {A : Type 0} (xs : List A) : Type 0 where
@@ -29,15 +20,6 @@ pub last_in : {A : Type 0} (xs : List A) → 0 < length xs → HasLast xs
 last_in [] h = absurd (omega (arith, h))
 last_in (x ∷ []) h = record { front = []; last = x; is = refl }
 last_in (x ∷ y ∷ xs) h = let l = last_in (y ∷ xs) (omega arith) in record { front = x ∷ l.front; last = l.last; is = ap (λ zs. x ∷ zs) l.is }
-
-pub references_push : (ps : List Placed) (p : Placed) → references_of (ps ++ p ∷ []) ≡ references_of ps ++ reference_in p
-unfolding references_of
-references_push [] p = append-nil (reference_in p)
-references_push (q ∷ ps) p = ap (λ rs. reference_in q ++ rs) (references_push ps p) ∙ sym (append_assoc (reference_in q) (references_of ps) (reference_in p))
-
-pub places_append : (xs ys : List Reference) → places_named (xs ++ ys) ≡ places_named xs ++ places_named ys
-unfolding places_named
-places_append xs ys = flat_map-append _ xs ys
 
 pub held_push : (fs : List Frame) (f : Frame) → ids_held (fs ++ f ∷ []) ≡ ids_held fs ++ ids_in f.outer
 held_push [] f = append-nil (ids_in f.outer)

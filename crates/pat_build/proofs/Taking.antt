@@ -8,19 +8,21 @@ use Rattle.pat_tree.proofs.Growing.{stand_made, grows_not}
 use Rattle.token_parts.specs.declared.token.Token.{Token}
 use Rattle.token_parts.specs.declared.token.Token.TheVariants.{Quantifier, Passed, QuoteOn, QuoteOff}
 use Rattle.token_parts.specs.declared.token.QuantMode.{QuantMode}
-use Rattle.pat_build.specs.declared.machine.Atom.{Atom}
+use Rattle.pat_nodes.specs.declared.frames.Atom.{Atom}
 use Rattle.pat_build.specs.declared.machine.Machine.{Machine}
-use Rattle.pat_build.specs.State.{State, passed_over}
-use Rattle.pat_build.specs.Parts.{atom, bare, nothing, repeated}
-use Rattle.pat_build.specs.Reading.{reading}
+use Rattle.pat_grammar.specs.State.{State, passed_over}
+use Rattle.pat_grammar.specs.Parts.{atom, bare, nothing, repeated}
+use Rattle.pat_grammar.specs.Reading.{reading, state_from}
 use Rattle.pat_build.specs.Stack.{Layer, Opened, with_part, resume}
-use Rattle.pat_build.specs.Machine.{Adds, IsAtom, AtomStands, atom_tree, state_of, state_from, known_of, whole_of, left, Means, IsNext, Ready, Begins, Took, HasRoom, ids_of, ids_waiting, ids_in, ids_held}
+use Rattle.pat_nodes.specs.Nodes.{Adds, IsAtom, atom_tree, ids_of}
+use Rattle.pat_build.specs.Machine.{AtomStands, state_of, known_of, whole_of, left, Means, IsNext, Ready, Begins, Took, HasRoom, ids_waiting, ids_in, ids_held}
 use Rattle.pat_build.proofs.Steps.{step_atom, step_bare, step_nothing, step_quantifier, step_passed, step_quote_on, step_quote_off}
-use Rattle.pat_build.proofs.Standing.{positive, level_on, stack_on}
+use Rattle.pat_grammar.proofs.Starting.{positive}
+use Rattle.pat_build.proofs.Standing.{level_on, stack_on}
 use Rattle.pat_build.proofs.States.{state_kept, whole_kept, refs_kept}
 use Rattle.pat_build.proofs.Numbers.{numbers_on, numbers_kept}
 use Rattle.pat_build.proofs.Waiting.{waits_for, idle_value, loose_waiting, loose_idle, as_part}
-use Rattle.pat_build.proofs.Extending.{Extends}
+use Rattle.pat_nodes.proofs.Extending.{Extends}
 
 abbrev quoting_in : Option State → Bool
 quoting_in None = false
@@ -41,7 +43,7 @@ module _ (m : Machine) (means : Means m) where
       let level = level_on extends.grows (left m) u less means.level in
       let above : u < n = omega (arith, enough, later) in
       let new : Machine = record m { draft = draft; waiting = Some a; at = end; quoting = quoting } in
-      let step = step_atom (known_of m) m.text.now (state_of m) token after there.token_is means.opens means.layer n (atom_tree draft.nodes a) (state_of new) n_is (begins n enough) in
+      let step = step_atom (known_of m) m.text.now (state_of m) token after there.token_is ready.quiet means.opens means.layer n (atom_tree draft.nodes a) (state_of new) n_is (begins n enough) in
       let whole : whole_of new ≡ whole_of m = ap (λ v. reading (known_of m) m.text.now (state_from m.start v)) extends.options in record {
         means = record {
           opens = means.opens;
@@ -71,11 +73,11 @@ module _ (m : Machine) (means : Means m) where
       }
 
   -- what no quantifier may follow is a part
-  pub bare_means : (token : Token) (after id : ℕ) (t : Nested) (draft : DraftParts) (parts : List ℕ) →
+  pub bare_means : (token : Token) (after id : ℕ) (t : Nested) (draft : DraftParts) (parts : List ℕ) (called : Option ℕ) →
       Ready token after m → Extends m.draft draft (id ∷ []) → Makes m.draft.nodes draft.nodes id t → parts ≡ m.level.parts ++ id ∷ [] →
-      Begins m token after (Ok (bare t (state_of (record m { draft = draft; level = record (m.level) { parts = parts }; at = after })))) →
-      Took m (record m { draft = draft; level = record (m.level) { parts = parts }; at = after })
-  bare_means token after id t draft parts ready extends made more begins =
+      Begins m token after (Ok (bare t (state_of (record m { draft = draft; level = record (m.level) { parts = parts }; at = after; called = called })))) →
+      Took m (record m { draft = draft; level = record (m.level) { parts = parts }; at = after; called = called })
+  bare_means token after id t draft parts called ready extends made more begins =
       let (n, n_is) = positive (left m) means.layer.n means.level.n in
       let u : ℕ = 2 * (length m.text.now - after) in
       let there = ready.there in
@@ -83,8 +85,8 @@ module _ (m : Machine) (means : Means m) where
       let above : u < n = omega (arith, enough) in
       let less : u ≤ left m = omega (arith, there.goes) in
       let level = level_on extends.grows (left m) u less means.level in
-      let new : Machine = record m { draft = draft; level = record (m.level) { parts = parts }; at = after } in
-      let step = step_bare (known_of m) m.text.now (state_of m) token after there.token_is means.opens means.layer n t (state_of new) n_is (begins n enough) in
+      let new : Machine = record m { draft = draft; level = record (m.level) { parts = parts }; at = after; called = called } in
+      let step = step_bare (known_of m) m.text.now (state_of m) token after there.token_is ready.quiet means.opens means.layer n t (state_of new) n_is (begins n enough) in
       let whole : whole_of new ≡ whole_of m = ap (λ v. reading (known_of m) m.text.now (state_from m.start v)) extends.options in record {
         means = record {
           opens = means.opens;
@@ -128,7 +130,7 @@ module _ (m : Machine) (means : Means m) where
       let less : u ≤ left m = omega (arith, there.goes) in
       let level = level_on (grows_not m.draft.nodes) (left m) u less means.level in
       let new : Machine = record m { at = after; options = options; quoting = quoting } in
-      let step = step_nothing (known_of m) m.text.now (state_of m) token after there.token_is means.opens means.layer n (state_of new) n_is (begins n enough) in record {
+      let step = step_nothing (known_of m) m.text.now (state_of m) token after there.token_is ready.quiet means.opens means.layer n (state_of new) n_is (begins n enough) in record {
         means = record {
           opens = means.opens;
           layer = record (means.layer) { n = n };

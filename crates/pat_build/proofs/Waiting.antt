@@ -12,25 +12,29 @@ use Rattle.token_parts.specs.declared.token.Token.TheVariants.{Quantifier, Refer
 use Rattle.token_parts.specs.declared.token.QuantMode.{QuantMode}
 use Rattle.token_parts.specs.Tell.{fault, ◌>>=◌}
 use Rattle.pat_lex.specs.Tokens.{token_at}
-use Rattle.pat_build.specs.declared.error.ReadError.{ReadError}
-use Rattle.pat_build.specs.declared.error.ReadError.TheVariants.{Bad, Memory}
-use Rattle.pat_build.specs.declared.machine.Atom.{Atom}
-use Rattle.pat_build.specs.declared.machine.Bars.TheVariants.{Free, First}
-use Rattle.pat_build.specs.declared.machine.Numbering.TheVariants.{Onward}
+use Rattle.pat_grammar.specs.declared.error.ReadError.{ReadError}
+use Rattle.pat_grammar.specs.declared.error.ReadError.TheVariants.{Bad, Memory}
+use Rattle.pat_nodes.specs.declared.frames.Atom.{Atom}
+use Rattle.pat_grammar.specs.declared.alternatives.Bars.TheVariants.{Free, First}
+use Rattle.pat_grammar.specs.declared.alternatives.Numbering.TheVariants.{Onward}
 use Rattle.pat_build.specs.declared.machine.Machine.{Machine}
-use Rattle.pat_build.specs.declared.cursor.Place.{Place}
-use Rattle.pat_build.specs.declared.cursor.Assertion as looked
-use Rattle.pat_build.specs.State.{State, Reads, flags_of}
-use Rattle.pat_build.specs.Classes.{class_spec}
-use Rattle.pat_build.specs.Groups.{IsWorded, asserted, named_by}
+use Rattle.pat_grammar.specs.declared.cursor.Place.{Place}
+use Rattle.pat_grammar.specs.declared.cursor.Assertion as looked
+use Rattle.pat_grammar.specs.State.{State, Reads, flags_of}
+use Rattle.pat_grammar.specs.Classes.{class_spec}
+use Rattle.pat_grammar.specs.Groups.{IsWorded, asserted, named_by}
 use Rattle.token_parts.specs.declared.token.CondText.{CondText}
 use Rattle.token_parts.specs.declared.token.CondText.TheVariants.{Lookaround}
-use Rattle.pat_build.specs.Parts.{Assertion, Beginning, asserts, of_class, is_number, number_called, called, calls, conditions, assertion}
+use Rattle.pat_grammar.specs.Parts.{Assertion, Beginning, asserts, of_class, is_number, number_called, called, calls, conditions, assertion}
+use Rattle.pat_grammar.specs.Leads.{lead_of, assertion_at}
+use Rattle.pat_grammar.specs.Places.{Tells, Refuses}
 use Rattle.pat_build.specs.Stack.{with_part, resume, IsPlain}
-use Rattle.pat_build.specs.Machine.{Adds, Refuses, IsAtom, atom_tree, state_of, known_of, whole_of, left, Means, IsNext, Ready, Begins, asserting_from, ids_of, ids_waiting, ids_in, ids_held}
-use Rattle.pat_build.proofs.Steps.{step_flush, step_bad, step_fault, step_fault_waiting}
+use Rattle.pat_nodes.specs.Nodes.{Adds, IsAtom, atom_tree, ids_of}
+use Rattle.pat_build.specs.Machine.{state_of, known_of, whole_of, left, Means, IsNext, Ready, Begins, asserting_from, ids_waiting, ids_in, ids_held}
+use Rattle.pat_build.proofs.Steps.{quiet_token, step_flush, step_bad, step_fault, step_fault_waiting}
 use Rattle.pat_build.proofs.Beginning.{worded_is, before_test, testing, assertions_bad, assertions_deeper, assertions_fit}
-use Rattle.pat_build.proofs.Standing.{positive, level_on, stack_on}
+use Rattle.pat_grammar.proofs.Starting.{positive}
+use Rattle.pat_build.proofs.Standing.{level_on, stack_on}
 use Rattle.pat_build.proofs.States.{state_kept, whole_kept, refs_kept}
 use Rattle.pat_build.proofs.Numbers.{numbers_kept}
 
@@ -118,7 +122,7 @@ module _ (m : Machine) (means : Means m) where
   bad_means token after f ready begins =
       let n = positive (left m) means.layer.n means.level.n in
       let h : 2 * (length m.text.now - after) + 1 < n.0 = omega (arith, n.1, means.level.n, ready.there.goes, ready.there.within) in
-      sym (idle_value ready.idle) ∙ step_bad (known_of m) m.text.now (state_of m) token after ready.there.token_is means.opens means.layer n.0 f n.1 (begins n.0 h)
+      sym (idle_value ready.idle) ∙ step_bad (known_of m) m.text.now (state_of m) token after ready.there.token_is ready.quiet means.opens means.layer n.0 f n.1 (begins n.0 h)
 
   -- a fault of the lexer
   pub fault_means : (f : Fault) → token_at m.text.now (flags_of false (state_of m)) m.at ≡ Err f → whole_of m ≡ Err f
@@ -132,21 +136,22 @@ module _ (m : Machine) (means : Means m) where
   unrepeatable_means after low high mode idle there =
       let n = positive (left m) means.layer.n means.level.n in
       sym (idle_value idle)
-      ∙ step_bad (known_of m) m.text.now (state_of m) (Quantifier low high mode) after there.token_is means.opens means.layer n.0 _ n.1 refl
+      ∙ step_bad (known_of m) m.text.now (state_of m) (Quantifier low high mode) after there.token_is
+      (quiet_token (known_of m) m.text.now (state_of m) (Quantifier low high mode) after there.token_is m.calling refl) means.opens means.layer n.0 _ n.1 refl
 
   -- the fault of the groups that a reference names
-  pub refers_refuse : (target : Target) (after : ℕ) (e : ReadError) → Ready (Reference target) after m → Refuses (named_by (known_of m) m.text.now (state_of m) target) e → Refuses (whole_of m) e
+  pub refers_refuse : (target : Target) (after : ℕ) (e : ReadError) → Ready (Reference target) after m → Refuses (named_by (known_of m).names m.text.now (state_of m) target) e → Refuses (whole_of m) e
   refers_refuse target after (Bad number at) ready h = bad_means (Reference target) after _ ready (λ n k. rw h refl)
   refers_refuse target after Memory ready h = tt
 
   -- and a call's
-  pub calls_refuse : (target : Target) (after : ℕ) (e : ReadError) → Ready (CallTo target) after m → Refuses (named_by (known_of m) m.text.now (state_of m) target) e → Refuses (whole_of m) e
+  pub calls_refuse : (target : Target) (after : ℕ) (e : ReadError) → Ready (CallTo target) after m → Refuses (named_by (known_of m).names m.text.now (state_of m) target) e → Refuses (whole_of m) e
   unfolding calls
   calls_refuse target after (Bad number at) ready h = bad_means (CallTo target) after _ ready (λ n k. rw h refl)
   calls_refuse target after Memory ready h = tt
 
   -- what begins there
-  pub calls_fit : (target : Target) (after : ℕ) (groups : List ℕ) (number : Option ℕ) → named_by (known_of m) m.text.now (state_of m) target ≡ Ok groups →
+  pub calls_fit : (target : Target) (after : ℕ) (groups : List ℕ) (number : Option ℕ) → named_by (known_of m).names m.text.now (state_of m) target ≡ Ok groups →
       number ≡ number_called (is_number target) groups →
       Begins m (CallTo target) after (Ok (called (state_of m) (record (state_of m) { at = after }) groups number))
   unfolding calls
@@ -156,7 +161,7 @@ module _ (m : Machine) (means : Means m) where
 
   -- the fault of a conditional group's test
   pub condition_refuses : (cond : CondText) (from to after : ℕ) (e : ReadError) → IsWorded cond → Ready (CondStart cond from to) after m →
-      Refuses (conditions (known_of m) m.text.now (state_of m) cond (slice_range m.text.now from to) (record (state_of m) { at = after })) e → Refuses (whole_of m) e
+      Refuses (conditions (known_of m).names m.text.now (state_of m) cond (slice_range m.text.now from to) (record (state_of m) { at = after })) e → Refuses (whole_of m) e
   condition_refuses cond from to after (Bad number at) worded ready h =
       bad_means (CondStart cond from to) after _ ready (λ n k. worded_is (known_of m) m.text.now n (state_of m) cond from to (record (state_of m) { at = after }) worded ∙ h)
   condition_refuses cond from to after Memory worded ready h = tt
@@ -175,37 +180,38 @@ module _ (m : Machine) (means : Means m) where
     told_is : (p : Place) → told p ≡ there p
     told_is p = ap (λ o. record (there p) { options = o; groups = groups }) options_is ∙ ap (λ g. record (there p) { groups = g }) groups_is
 
-    assertion_same : (n : ℕ) → assertion m.text.now n m.at (before_test (state_of m) (record (state_of m) { at = after })) ≡ assertion text n m.at (told place)
+    assertion_same : (n : ℕ) → assertion m.calling m.text.now n m.at (before_test (state_of m) (record (state_of m) { at = after })) ≡ assertion m.calling text n m.at (told place)
     assertion_same n =
-        ap (λ t. assertion t n m.at (before_test (state_of m) (record (state_of m) { at = after }))) (sym text_is)
-        ∙ ap (λ p. assertion text n m.at (there p)) (sym place_is)
-        ∙ ap (assertion text n m.at) (sym (told_is place))
+        ap (λ t. assertion m.calling t n m.at (before_test (state_of m) (record (state_of m) { at = after }))) (sym text_is)
+        ∙ ap (λ p. assertion m.calling text n m.at (there p)) (sym place_is)
+        ∙ ap (assertion m.calling text n m.at) (sym (told_is place))
 
     enough_there : (n : ℕ) → 2 * (length m.text.now - after) + 1 < n → length text < n + place.at
     enough_there n h = omega (arith, h, ap length text_is, ap (λ p. p.at) place_is)
 
-    pub assertion_refuses : (f : Fault) → ((n : ℕ) → length text < n + place.at → assertion text n m.at (told place) ≡ Err f) → whole_of m ≡ Err f
-    assertion_refuses f h =
-        bad_means (CondStart Lookaround from to) after f ready
-        (λ n k. assertions_bad m.text.now n (state_of m) (record (state_of m) { at = after }) fits f (assertion_same n ∙ h n (enough_there n k)))
+    pub assertion_refuses : (e : ReadError) → ((n : ℕ) → length text < n + place.at → Tells (assertion m.calling text n m.at (told place)) e) → Refuses (whole_of m) e
+    assertion_refuses (Bad number at) h =
+        bad_means (CondStart Lookaround from to) after _ ready
+        (λ n k. assertions_bad m.calling m.text.now n (state_of m) (record (state_of m) { at = after }) fits _ (assertion_same n ∙ h n (enough_there n k)))
+    assertion_refuses Memory h = tt
 
-    module _ (a : looked.Assertion) (found : (n : ℕ) → length text < n + place.at → assertion text n m.at (told place) ≡ Ok (a.ahead, a.positive, told a.here, told a.after)) where
+    module _ (a : looked.Assertion) (found : (n : ℕ) → length text < n + place.at → assertion m.calling text n m.at (told place) ≡ Ok (assertion_at told a)) where
       found_is : (n : ℕ) → 2 * (length m.text.now - after) + 1 < n →
-          assertion m.text.now n m.at (before_test (state_of m) (record (state_of m) { at = after })) ≡ Ok (a.ahead, a.positive, there a.here, there a.after)
+          assertion m.calling m.text.now n m.at (before_test (state_of m) (record (state_of m) { at = after })) ≡ Ok (assertion_at there a)
       found_is n k =
           assertion_same n ∙ found n (enough_there n k)
-          ∙ ap (λ st. let x : Result Assertion Fault = Ok (a.ahead, a.positive, st, told a.after) in x) (told_is a.here)
-          ∙ ap (λ st. let x : Result Assertion Fault = Ok (a.ahead, a.positive, there a.here, st) in x) (told_is a.after)
+          ∙ ap (λ st. let x : Result Assertion Fault = Ok (a.ahead, a.positive, st, told a.after, lead_of a.lead) in x) (told_is a.here)
+          ∙ ap (λ st. let x : Result Assertion Fault = Ok (a.ahead, a.positive, there a.here, st, lead_of a.lead) in x) (told_is a.after)
 
       pub assertion_deep : 250 ≤ length m.stack.items + 1 → whole_of m ≡ fault 119 a.here.at
       assertion_deep deep =
           bad_means (CondStart Lookaround from to) after _ ready
-          (λ n k. assertions_deeper m.text.now n (state_of m) (record (state_of m) { at = after }) fits a.ahead a.positive (there a.here) (there a.after) (found_is n k) deep)
+          (λ n k. assertions_deeper m.calling m.text.now n (state_of m) (record (state_of m) { at = after }) fits a.ahead a.positive (there a.here) (there a.after) (lead_of a.lead) (found_is n k) deep)
 
       pub assertion_begins : length m.stack.items + 1 < 250 → Begins m (CondStart Lookaround from to) after (Ok (asserting_from m a))
       assertion_begins fit n k =
-          assertions_fit m.text.now n (state_of m) (record (state_of m) { at = after }) fits a.ahead a.positive (there a.here) (there a.after) (found_is n k) fit
-          ∙ ap (λ d. let x : Result Beginning Fault = Ok (asserts (testing (state_of m)) (record { form = asserted a.ahead a.positive; around = m.options; looking = m.looking; bars = First; numbering = Onward; at = a.here.at }) (record (there a.after) { depth = d; looking = true; bars = Free; numbering = Onward })) in x) (two_more (length m.stack.items))
+          assertions_fit m.calling m.text.now n (state_of m) (record (state_of m) { at = after }) fits a.ahead a.positive (there a.here) (there a.after) (lead_of a.lead) (found_is n k) fit
+          ∙ ap (λ d. let x : Result Beginning Fault = Ok (asserts (testing (state_of m)) (lead_of a.lead) (record { form = asserted a.ahead a.positive; around = m.options; looking = m.looking; bars = First; numbering = Onward; at = a.here.at }) (record (there a.after) { depth = d; looking = true; bars = Free; numbering = Onward })) in x) (two_more (length m.stack.items))
 
   -- where a class begins, by what a cursor at that place tells of it
   module _ (negated : Bool) (after : ℕ) (text : List ℕ) (place : Place) (options : Options) (groups : ℕ)
@@ -238,9 +244,9 @@ module _ (m : Machine) (means : Means m) where
 -- a cursor at the machine's place has the machine's token
 pub token_same : (m : Machine) (text : List ℕ) (place : Place) (options : Options) (groups : ℕ) → text ≡ m.text.now → place ≡ record { at = m.at; quoting = m.quoting } → options ≡ m.options → groups ≡ m.groups →
     token_at m.text.now (flags_of false (state_of m)) m.at
-    ≡ token_at text (flags_of false (record { at = place.at; quoting = place.quoting; options = options; groups = groups; depth = 0; looking = false; bars = Free; numbering = Onward; classes = []; names = []; verb_names = []; references = []; beyond = None })) place.at
+    ≡ token_at text (flags_of false (record { at = place.at; quoting = place.quoting; options = options; groups = groups; depth = 0; looking = false; bars = Free; numbering = Onward; classes = []; names = []; verb_names = []; references = []; beyond = None; called = None })) place.at
 token_same m text place options groups text_is place_is options_is groups_is =
     ap (λ t. token_at t (flags_of false (state_of m)) m.at) (sym text_is)
-    ∙ ap (λ p. token_at text (flags_of false (record { at = p.at; quoting = p.quoting; options = m.options; groups = m.groups; depth = 0; looking = false; bars = Free; numbering = Onward; classes = []; names = []; verb_names = []; references = []; beyond = None })) p.at) (sym place_is)
-    ∙ ap (λ o. token_at text (flags_of false (record { at = place.at; quoting = place.quoting; options = o; groups = m.groups; depth = 0; looking = false; bars = Free; numbering = Onward; classes = []; names = []; verb_names = []; references = []; beyond = None })) place.at) (sym options_is)
-    ∙ ap (λ g. token_at text (flags_of false (record { at = place.at; quoting = place.quoting; options = options; groups = g; depth = 0; looking = false; bars = Free; numbering = Onward; classes = []; names = []; verb_names = []; references = []; beyond = None })) place.at) (sym groups_is)
+    ∙ ap (λ p. token_at text (flags_of false (record { at = p.at; quoting = p.quoting; options = m.options; groups = m.groups; depth = 0; looking = false; bars = Free; numbering = Onward; classes = []; names = []; verb_names = []; references = []; beyond = None; called = None })) p.at) (sym place_is)
+    ∙ ap (λ o. token_at text (flags_of false (record { at = place.at; quoting = place.quoting; options = o; groups = m.groups; depth = 0; looking = false; bars = Free; numbering = Onward; classes = []; names = []; verb_names = []; references = []; beyond = None; called = None })) place.at) (sym options_is)
+    ∙ ap (λ g. token_at text (flags_of false (record { at = place.at; quoting = place.quoting; options = options; groups = g; depth = 0; looking = false; bars = Free; numbering = Onward; classes = []; names = []; verb_names = []; references = []; beyond = None; called = None })) place.at) (sym groups_is)

@@ -1,149 +1,40 @@
 -- What the reader's state stands for: the rest of the reading.
 use Rattle.std.specs.List.{list_any}
-use Rattle.std.specs.Prelude.{true, false, ◌||◌, ◌==◌, max, ◌≡◌, ℕ, ◌+◌, ◌-◌, ◌*◌, ◌<◌, ◌≤◌, Bool, List, [], ◌∷◌, ◌++◌, length, map, reverse, Option, Some, None, Result, Ok, Err, All, IsTrue}
-use Rattle.pat_tree.specs.declared.options.Options.{Options}
+use Rattle.std.specs.Prelude.{true, false, ◌||◌, max, ◌≡◌, ℕ, ◌+◌, ◌-◌, ◌*◌, ◌<◌, ◌≤◌, Bool, List, [], ◌∷◌, ◌++◌, length, reverse, Option, Some, None, Result, Ok, All}
 use Rattle.pat_tree.specs.declared.nodes.Placed.{Placed}
-use Rattle.pat_tree.specs.declared.nodes.Cond.{Cond}
-use Rattle.pat_tree.specs.declared.nodes.Cond.TheVariants as cond
-use Rattle.pat_tree.specs.declared.nodes.Node.TheVariants as node
 use Rattle.pat_tree.specs.declared.names.NameEntry.{NameEntry}
-use Rattle.pat_tree.specs.Nested.{Nested, Test, none, one, look, repeat, verb, any_set, in_call, in_call_of, tree_at, trees}
-use Rattle.pat_tree.specs.Parts.{DraftParts, TreeParts, with_node}
-use Rattle.pat_tree.specs.Pattern.{pattern_of}
-use Rattle.pat_tree.specs.Refs.{refs, has_group, beside_whole, named_in}
-use Rattle.pat_tree.specs.Rules.{class_in, is_test}
-use Rattle.pat_tree.specs.Growing.{Stand, Makes, Replaces, loose}
+use Rattle.pat_tree.specs.Nested.{Nested, none, look, callout, tree_at, trees}
+use Rattle.pat_tree.specs.Parts.{DraftParts}
+use Rattle.pat_tree.specs.Refs.{refs, has_group}
+use Rattle.pat_tree.specs.Growing.{Stand, loose}
 use Rattle.pat_tree.specs.Closing.{StandInTurn}
 use Rattle.token_parts.specs.declared.fault.Fault.{Fault}
 use Rattle.token_parts.specs.declared.token.Token.{Token}
 use Rattle.token_parts.specs.declared.token.Token.TheVariants.{End, Literal, Dot, NotNewline, LineBreak, Caret, Dollar, SubjectStart, SubjectEnd, EndOrNewline, StartGiven, Boundary}
 use Rattle.token_parts.specs.declared.token.Token.TheVariants as token
-use Rattle.token_parts.specs.declared.token.VerbKind.{VerbKind}
 use Rattle.token_parts.specs.Tell.{IsWell, ◌>>=◌}
 use Rattle.pat_lex.specs.Tokens.{token_at}
-use Rattle.pat_build.specs.declared.error.ReadError.{ReadError}
-use Rattle.pat_build.specs.declared.error.ReadError.TheVariants.{Bad, Memory}
-use Rattle.pat_build.specs.declared.names.Name.{Name}
-use Rattle.pat_build.specs.declared.machine.Level.{Level}
-use Rattle.pat_build.specs.declared.machine.Frame.{Frame}
-use Rattle.pat_build.specs.declared.machine.Atom.{Atom}
-use Rattle.pat_build.specs.declared.machine.Atom.TheVariants.{Single, Whole, Look}
-use Rattle.pat_build.specs.declared.machine.Form as machine
-use Rattle.pat_build.specs.declared.machine.Form.TheVariants as kept
-use Rattle.pat_build.specs.declared.machine.Test as machine_test
-use Rattle.pat_build.specs.declared.machine.Test.TheVariants as tested
-use Rattle.pat_build.specs.declared.machine.Bars.{Bars}
-use Rattle.pat_build.specs.declared.machine.Bars.TheVariants as barring
-use Rattle.pat_build.specs.declared.machine.Numbering.{Numbering}
-use Rattle.pat_build.specs.declared.machine.Numbering.TheVariants.{Onward, Reset}
-use Rattle.pat_build.specs.declared.machine.Inside.{Inside}
+use Rattle.pat_nodes.specs.declared.names.Name.{Name}
+use Rattle.pat_nodes.specs.declared.frames.Level.{Level}
+use Rattle.pat_nodes.specs.declared.frames.Frame.{Frame}
+use Rattle.pat_nodes.specs.declared.frames.Atom.{Atom}
+use Rattle.pat_nodes.specs.declared.frames.Form.TheVariants as kept
+use Rattle.pat_grammar.specs.declared.alternatives.Bars.{Bars}
+use Rattle.pat_grammar.specs.declared.alternatives.Bars.TheVariants as barring
+use Rattle.pat_grammar.specs.declared.alternatives.Numbering.{Numbering}
+use Rattle.pat_grammar.specs.declared.alternatives.Numbering.TheVariants.{Onward, Reset}
+use Rattle.pat_nodes.specs.declared.frames.Inside.{Inside}
 use Rattle.pat_build.specs.declared.machine.Machine.{Machine}
-use Rattle.pat_build.specs.State.{State, Reads, Reference, flags_of}
-use Rattle.pat_build.specs.Groups.{Opening, Form, grouped, atomically, looks, conditional, defines, asserted, asserting, is_look, is_tested, bars_in, number_of, noted, is_opened, places_named, missing}
-use Rattle.pat_build.specs.Verbs.{verb_of, number_of_name, names_after}
-use Rattle.pat_build.specs.Names.{Stands, with_given}
-use Rattle.pat_build.specs.declared.cursor.Assertion.{Assertion}
-use Rattle.pat_build.specs.Parts.{Beginning, inside, asserts, once_more, repeat_of, beginning}
-use Rattle.pat_build.specs.Reading.{Parsed, reading, checked}
+use Rattle.pat_grammar.specs.State.{State, Known, Reads, flags_of}
+use Rattle.pat_grammar.specs.Groups.{Opening, Form, grouped, atomically, looks, conditional, defines, asserted, asserting, is_look, is_tested, bars_in, number_of, is_opened, places_named, missing}
+use Rattle.pat_nodes.specs.Names.{Stands, with_given}
+use Rattle.pat_grammar.specs.declared.cursor.Assertion.{Assertion}
+use Rattle.pat_grammar.specs.Callouts.{automatic}
+use Rattle.pat_grammar.specs.Parts.{Beginning, inside, asserts, beginning}
+use Rattle.pat_grammar.specs.Leads.{lead_of}
+use Rattle.pat_grammar.specs.Reading.{Parsed, reading, checked, state_from}
 use Rattle.pat_build.specs.Stack.{Layer, Opened, Waiting, resume}
-
--- the references, calls, lookarounds and conditions among the nodes, in the order of adding
-abbrev pub reference_in : Placed → List Reference
-reference_in p = elim (p.node) [
-  | node.Ref groups caseless ↦ record { at = p.at; groups = groups } ∷ []
-  | node.Call n ↦ record { at = p.at; groups = beside_whole (n ∷ []) } ∷ []
-  | node.Look ahead positive once branches ↦ record { at = p.at; groups = [] } ∷ []
-  | node.Cond test yes' no' ↦ record { at = p.at; groups = named_in test } ∷ []
-  | _ ↦ []
-]
-
-unfoldable pub references_of : List Placed → List Reference
-references_of [] = []
-references_of (p ∷ ps) = reference_in p ++ references_of ps
-
--- what a tree says of its pattern
-abbrev pub parsed_of : TreeParts → Parsed
-parsed_of t = record { pattern = pattern_of t; names = t.names; places = map (λ r. r.at) (references_of t.nodes) }
-
--- the fault is that of the reading
-abbrev pub Refuses : {A : Type 0} → Result A Fault → ReadError → Type 0
-Refuses read (Bad number at) = read ≡ Err (record { number = number; at = at })
-Refuses read Memory = Unit {0}
-
-abbrev pub is_number : Option ℕ → ℕ → Bool
-is_number None n = false
-is_number (Some m) n = m == n
-
--- The draft has more nodes, among which no capturing group, reference, call, lookaround and condition is.
-pub record Adds (old new : DraftParts) : Type 0 where
-  pub options : new.options ≡ old.options
-  pub classes : new.classes ≡ old.classes
-  pub names : new.names ≡ old.names
-  pub verb_names : new.verb_names ≡ old.verb_names
-  pub references : references_of new.nodes ≡ references_of old.nodes
-  pub refs_are : refs new.nodes ≡ refs old.nodes
-  pub groups : (n : ℕ) → has_group new.nodes n ≡ has_group old.nodes n
-  pub turns : StandInTurn old.nodes → StandInTurn new.nodes
-
--- The draft has more nodes: a group that began at this place, and others that are no such node.
-pub record Closes (old new : DraftParts) (form : Form) (at : ℕ) : Type 0 where
-  pub options : new.options ≡ old.options
-  pub classes : new.classes ≡ old.classes
-  pub names : new.names ≡ old.names
-  pub verb_names : new.verb_names ≡ old.verb_names
-  pub references : references_of new.nodes ≡ references_of old.nodes ++ noted form at
-  pub refs_are : refs new.nodes ≡ refs old.nodes ++ places_named (noted form at)
-  pub groups : (n : ℕ) → has_group new.nodes n ≡ (has_group old.nodes n || is_number (number_of form) n)
-  pub turns : StandInTurn old.nodes → StandInTurn new.nodes
-
--- the table has the name of a verb more, unless it is empty, and this is its number
-abbrev pub NamesVerb : DraftParts → DraftParts → List ℕ → Option ℕ → Type 0
-NamesVerb old new name number =
-    (new ≡ record old { verb_names = names_after old.verb_names name })
-    × (number ≡ number_of_name old.verb_names name)
-
--- the node of a verb of this name, which is a new entry of these
-abbrev pub verb_node : VerbKind → List (List ℕ) → List ℕ → ℕ → Placed
-verb_node kind names name at = record {
-  node = node.VerbNode (verb_of kind (number_of_name names name));
-  at = at;
-}
-
--- the draft has the node of a verb more, and its name
-pub record AddsVerb (old new : DraftParts) (kind : VerbKind) (name : List ℕ) (at id : ℕ) : Type 0 where
-  pub is : new
-      ≡ with_node (record old { verb_names = names_after old.verb_names name })
-      (verb_node kind old.verb_names name at)
-  pub makes : Makes old.nodes new.nodes id (verb (verb_of kind (number_of_name old.verb_names name)))
-  pub replaces : Replaces old.nodes [] new.nodes id
-  pub groups : (n : ℕ) → has_group new.nodes n ≡ (has_group old.nodes n || false)
-
--- no one-item atom and no lookaround
-pub record IsMany (t : Nested) : Type 0 where
-  pub many : (low : ℕ) (high : Option ℕ) (lazy : Bool) → repeat_of low high lazy t ≡ repeat t low high lazy
-
--- a lookaround
-pub record IsLooking (t : Nested) : Type 0 where
-  pub looks : (low : ℕ) (high : Option ℕ) (lazy : Bool) → repeat_of low high lazy t ≡ repeat t low (once_more low high) lazy
-
-abbrev pub atom_tree : List Placed → Atom → Nested
-atom_tree ps (Single item at) = one item
-atom_tree ps (Whole id at) = tree_at (trees ps) id
-atom_tree ps (Look id at) = tree_at (trees ps) id
-
--- a lookaround of this node, or another group, before a quantifier
-abbrev pub atom_where : Bool → ℕ → ℕ → Atom
-atom_where true id at = Look id at
-atom_where false id at = Whole id at
-
-abbrev pub atom_of : Form → ℕ → ℕ → Atom
-atom_of form id at = atom_where (is_look form) id at
-
--- the node of the atom, where it has one
-abbrev pub ids_of : Atom → List ℕ
-ids_of (Single item at) = []
-ids_of (Whole id at) = id ∷ []
-ids_of (Look id at) = id ∷ []
+use Rattle.pat_nodes.specs.Nodes.{references_of, is_number, atom_tree, ids_of, IsAtom, form_of, HasTest}
 
 abbrev pub ids_waiting : Option Atom → List ℕ
 ids_waiting None = []
@@ -156,32 +47,6 @@ ids_in level = level.branches ++ level.parts
 abbrev pub ids_held : List Frame → List ℕ
 ids_held [] = []
 ids_held (f ∷ fs) = ids_in f.outer ++ ids_held fs
-
--- the atom has a node, or needs none
-abbrev pub IsAtom : DraftParts → Atom → Type 0
-IsAtom d (Single item at) = All (λ n. n < length d.classes) (class_in item)
-IsAtom d (Whole id at) = (id < length d.nodes) × IsMany (tree_at (trees d.nodes) id)
-IsAtom d (Look id at) = (id < length d.nodes) × IsLooking (tree_at (trees d.nodes) id)
-
-abbrev pub test_of : machine_test.Test → Test
-test_of (tested.AnySet groups) = any_set groups
-test_of tested.InCall = in_call
-test_of (tested.InCallOf groups) = in_call_of groups
-
--- the test as a node has it
-abbrev pub cond_in : machine_test.Test → Cond
-cond_in (tested.AnySet groups) = cond.AnySet groups
-cond_in tested.InCall = cond.InCall
-cond_in (tested.InCallOf groups) = cond.InCallOf groups
-
-abbrev pub form_of : machine.Form → Form
-form_of (kept.Group number) = grouped number
-form_of kept.Atomic = atomically
-form_of (kept.Look ahead positive once) = looks ahead positive once
-form_of (kept.Condition test) = conditional (test_of test)
-form_of kept.Define = defines
-form_of (kept.Asserted ahead positive) = asserted ahead positive
-form_of kept.Asserting = asserting
 
 abbrev pub opening_of : Frame → Opening
 opening_of f = record { form = form_of f.form; around = f.around; looking = f.looking; bars = f.bars; numbering = f.numbering; at = f.at }
@@ -249,13 +114,6 @@ pub record Numbers (ps : List Placed) (fs : List Frame) (numbering : Numbering) 
 abbrev pub IsGiven : ℕ → NameEntry → Type 0
 IsGiven greatest entry = (1 ≤ entry.group) × (entry.group ≤ greatest)
 
--- a group of this form can have so many alternatives
-abbrev pub CanHave : Form → ℕ → Type 0
-CanHave (conditional test) n = (0 < n) × (n ≤ 2)
-CanHave defines n = n ≡ 1
-CanHave asserting n = (1 < n) × (n ≤ 3)
-CanHave _ n = Unit {0}
-
 -- the group has so many alternatives before the one in progress, and may have those that this says
 abbrev pub IsBarred : Form → ℕ → Bars → Type 0
 IsBarred (grouped number) n bars = bars ≡ barring.Free
@@ -277,23 +135,19 @@ abbrev pub count_around : Bool → ℕ → ℕ
 count_around true n = n + 1
 count_around false n = n
 
--- before a lookaround that is tested the group around it has no parts
-abbrev pub BeginsAfter : Bool → List ℕ → Type 0
-BeginsAfter true parts = parts ≡ []
-BeginsAfter false parts = Unit {0}
-
 -- so it is in each group that is open, the innermost first
 abbrev pub AreBarred : List Frame → ℕ → Bars → Type 0
 AreBarred [] n bars = bars ≡ barring.Free
 AreBarred (f ∷ fs) n bars =
     let tested = is_tested (form_of f.form) in
-    IsBarred (form_of f.form) n bars × AreBarred fs (count_around tested (length f.outer.branches)) f.bars × BeginsAfter tested f.outer.parts
+    IsBarred (form_of f.form) n bars × AreBarred fs (count_around tested (length f.outer.branches)) f.bars
 
--- the first alternative of a group that tests a lookaround is that lookaround
-abbrev pub HasTest : Form → List Nested → Type 0
-HasTest asserting [] = ⊥
-HasTest asserting (t ∷ ts) = IsTrue (is_test t)
-HasTest _ ts = Unit {0}
+-- before a lookaround that is tested the group around it has a callout at most
+abbrev pub IsLead : Bool → List Nested → Type 0
+IsLead true [] = Unit {0}
+IsLead true (callout c ∷ []) = Unit {0}
+IsLead true _ = ⊥
+IsLead false parts = Unit {0}
 
 -- where the group ends, the group around it has these: some lookaround where it is one that is tested
 abbrev pub branches_around : Bool → List Nested → List Nested
@@ -303,7 +157,11 @@ branches_around false ts = ts
 -- so it is in each group that is open, the innermost first
 abbrev pub HaveTests : List Opened → List Nested → Type 0
 HaveTests [] ts = Unit {0}
-HaveTests (o ∷ os) ts = HasTest o.how.form ts × HaveTests os (branches_around (is_tested o.how.form) o.outer.branches)
+HaveTests (o ∷ os) ts =
+    let tested = is_tested o.how.form in
+    HasTest o.how.form ts
+    × HaveTests os (branches_around tested o.outer.branches)
+    × IsLead tested o.outer.parts
 
 -- a group that has nothing to do with a lookaround that is tested
 abbrev pub TestsNone : Form → Type 0
@@ -338,11 +196,8 @@ state_of m = record {
   verb_names = m.draft.verb_names;
   references = references_of m.draft.nodes;
   beyond = m.beyond;
+  called = m.called;
 }
-
--- the state in which the reading begins, after the start items
-abbrev pub state_from : ℕ → Options → State
-state_from at options = record { at = at; quoting = false; options = options; groups = 0; depth = 0; looking = false; bars = barring.Free; numbering = Onward; classes = []; names = []; verb_names = []; references = []; beyond = None }
 
 -- what begins where a group of this form does, with this name, if it gets one
 abbrev pub inside_from : Machine → Form → Option Name → Inside → Beginning
@@ -364,6 +219,7 @@ inside_from m form given start = inside
 abbrev pub asserting_from : Machine → Assertion → Beginning
 asserting_from m test = asserts
     (record { form = asserting; around = m.options; looking = m.looking; bars = m.bars; numbering = m.numbering; at = m.at })
+    (lead_of test.lead)
     (record { form = asserted test.ahead test.positive; around = m.options; looking = m.looking; bars = barring.First; numbering = Onward; at = test.here.at })
     (record (state_of m) {
       at = test.after.at;
@@ -374,15 +230,27 @@ asserting_from m test = asserts
       numbering = Onward;
     })
 
-abbrev pub known_of : Machine → List NameEntry
-known_of m = m.known.now
+-- the frame of a lookaround that a conditional group tests, with these parts before it
+abbrev pub tested_frame : Machine → Assertion → List ℕ → Frame
+tested_frame m test lead = record {
+  form = kept.Asserted test.ahead test.positive;
+  around = m.options;
+  looking = m.looking;
+  bars = barring.First;
+  numbering = Onward;
+  at = test.here.at;
+  outer = record { branches = []; parts = lead };
+}
+
+abbrev pub known_of : Machine → Known
+known_of m = record { names = m.known.now; calling = m.calling }
 
 -- the reading of the whole pattern
 abbrev pub whole_of : Machine → Reads Nested
 whole_of m = reading (known_of m) m.text.now (state_from m.start m.draft.options)
 
 -- what a pattern is read as, by the names of the whole pattern, from the place after the start items on
-abbrev pub tree_with : List NameEntry → List ℕ → State → Result Parsed Fault
+abbrev pub tree_with : Known → List ℕ → State → Result Parsed Fault
 tree_with known text st = reading known text st >>= λ (tree, last). checked st.options last.beyond (missing last.groups last.references) tree last
 
 -- twice the bytes that are left
@@ -417,7 +285,7 @@ pub record Means (m : Machine) : Type 0 where
 
 -- the draft has room for the nodes of the tokens that are left
 abbrev pub HasRoom : ℕ → Machine → Type 0
-HasRoom more m = length m.draft.nodes ≤ 3 * m.at + more
+HasRoom more m = length m.draft.nodes ≤ 5 * m.at + more
 
 -- the token at the place
 pub record IsNext (token : Token) (after : ℕ) (m : Machine) : Type 0 where
@@ -426,12 +294,17 @@ pub record IsNext (token : Token) (after : ℕ) (m : Machine) : Type 0 where
   pub within : after ≤ length m.text.now
   pub well : IsWell m.text.now token
 
+-- no automatic callout is due
+abbrev pub IsQuiet : Machine → Type 0
+IsQuiet m = automatic m.calling m.text.now (state_of m) ≡ None
+
 -- The token has been read, and what waited is a part: the machine can take the token in.
 pub record Ready (token : Token) (after : ℕ) (m : Machine) : Type 0 where
   pub means : Means m
   pub idle : m.waiting ≡ None
   pub there : IsNext token after m
-  pub room : HasRoom 1 m
+  pub room : HasRoom 2 m
+  pub quiet : IsQuiet m
 
 -- what begins at a token, where the number that bounds the items of a class is enough for the bytes that are left
 abbrev pub Begins : Machine → Token → ℕ → Result Beginning Fault → Type 0

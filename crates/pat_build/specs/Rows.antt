@@ -10,12 +10,12 @@ use Rattle.pat_tree.specs.declared.nodes.Part.TheVariants.{Range, Set}
 use Rattle.pat_tree.specs.declared.nodes.SetName.TheVariants.{Digit}
 use Rattle.pat_tree.specs.declared.nodes.ClassSpec.{ClassSpec}
 use Rattle.pat_tree.specs.declared.names.NameEntry.{NameEntry}
-use Rattle.pat_tree.specs.declared.nodes.Verb.TheVariants.{Accept, Fail, Mark}
+use Rattle.pat_tree.specs.declared.nodes.Verb.TheVariants.{Accept, Fail, Then, Mark}
 use Rattle.pat_tree.specs.Nested.{Nested, empty, one, seq, group, repeat, one_repeat, atomic, look, ref, verb, row}
 use Rattle.pat_tree.specs.Pattern.{Pattern}
 use Rattle.token_parts.specs.declared.fault.Fault.{Fault}
 use Rattle.token_parts.specs.Tell.{fault}
-use Rattle.pat_build.specs.Reading.{Parsed, read}
+use Rattle.pat_grammar.specs.Reading.{Parsed, read}
 
 abbrev pub reads : String → Result Parsed Fault
 reads pattern = read plain.PLAIN (codes pattern)
@@ -119,6 +119,6 @@ pub record WorkedRows : Type 0 where
   pub cases : reads "(?i)a|(?-i:b|c)d{2,}?|" ≡ Ok some_cases
   pub later_names : reads "(?J)\\k<n>(?<n>a)(?<n>b)" ≡ Ok two_named
   pub verbs : reads "a(*:m)(*ACCEPT:)??|(*F:n)" ≡ Ok some_verbs
-  pub later_verb : reads "a(*THEN)" ≡ fault 195 1
+  pub unnamed_verb : reads "a(*THEN)" ≡ Ok (branches (seq (row (letter "a" ∷ verb (Then None) ∷ [])) ∷ []))
   pub repeated_verb : reads "(*FAIL)*" ≡ fault 109 7
   pub start_items : reads "(*CRLF)(*LIMIT_MATCH=5).(?#x)?" ≡ Ok limited

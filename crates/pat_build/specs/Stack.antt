@@ -1,13 +1,13 @@
 -- The rest of a reading, with the groups that are open as a list: what a reader in one pass has still to do.
 use Rattle.std.specs.Prelude.{ℕ, Bool, true, false, List, [], ◌∷◌, ◌++◌, Option, Some, None}
-use Rattle.pat_tree.specs.declared.names.NameEntry.{NameEntry}
 use Rattle.pat_tree.specs.Nested.{Nested}
 use Rattle.token_parts.specs.declared.token.Token.{Token}
 use Rattle.token_parts.specs.declared.token.Token.TheVariants.{Quantifier, Passed, QuoteOn, QuoteOff}
 use Rattle.token_parts.specs.Tell.{◌>>=◌}
-use Rattle.pat_build.specs.State.{State, Reads}
-use Rattle.pat_build.specs.Groups.{Opening, is_tested}
-use Rattle.pat_build.specs.Reading.{quantified, closed, alternatives_from, sequence, alternatives, whole}
+use Rattle.pat_grammar.specs.State.{State, Known, Reads}
+use Rattle.pat_grammar.specs.Groups.{Opening, is_tested}
+use Rattle.pat_grammar.specs.Parts.{alternative}
+use Rattle.pat_grammar.specs.Reading.{quantified, closed, alternatives_from, sequence, alternatives, whole}
 
 -- a group whose inside is being read: its alternatives and the parts of the one in progress, and the numbers that bound the
 -- sequence that goes on and the alternatives after it
@@ -25,14 +25,16 @@ pub record Opened : Type 0 where
 abbrev pub with_part : Layer → Nested → Layer
 with_part layer t = record layer { parts = layer.parts ++ t ∷ [] }
 
-abbrev pub with_branch : Layer → Nested → Layer
-with_branch layer t = record layer { branches = layer.branches ++ t ∷ [] }
+-- a lookaround that is tested is an alternative, together with the callout before it
+abbrev pub with_test : Layer → Nested → Layer
+with_test layer t =
+    record layer { branches = layer.branches ++ alternative (layer.parts ++ t ∷ []) ∷ []; parts = [] }
 
 -- the atom that a quantifier may follow, and the number that bounds what is passed over before it
 abbrev pub Waiting : Type 0
 Waiting = Option (ℕ × Nested)
 
-module _ (known : List NameEntry) (text : List ℕ) where
+module _ (known : Known) (text : List ℕ) where
   -- the alternatives in progress are read to their end, and then handed on
   unfoldable pub resumed : (List Nested → State → Reads Nested) → Layer → State → Reads Nested
   resumed then layer st = do
@@ -40,9 +42,9 @@ module _ (known : List NameEntry) (text : List ℕ) where
     (branches, last) ← alternatives_from text (alternatives known text layer.k) (layer.parts ++ parts) end
     then (layer.branches ++ branches) last
 
-  -- A group is a part under the quantifier that may follow it. A lookaround that is tested is a branch.
+  -- A group is a part under the quantifier that may follow it. A lookaround that is tested is an alternative.
   unfoldable pub given : (List Nested → State → Reads Nested) → Bool → Layer → Nested → State → Reads Nested
-  given then true layer found st = resumed then (with_branch layer found) st
+  given then true layer found st = resumed then (with_test layer found) st
   given then false layer found st = quantified text layer.n found st >>= λ (part, end). resumed then (with_part layer part) end
 
   -- the innermost group ends, and the groups around it go on

@@ -1,34 +1,17 @@
 //! Calls of groups (pcre2pattern, "Recursive patterns", "Groups as subroutines").
-ghost use Rattle.std.specs.Prelude.{◌≡◌, ◌<◌, length, IfErr, OnOk, Ok};
+ghost use Rattle.std.specs.Prelude.{IfErr, OnOk, Ok};
 ghost use Rattle.token_parts.specs.declared.token.Token.{Token};
 ghost use Rattle.token_parts.specs.declared.token.Token.TheVariants.{CallTo};
-ghost use Rattle.pat_build.specs.Parts.{is_number, number_called, with_call};
-ghost use Rattle.pat_build.specs.Machine.{Ready, Begins, Took, Refuses, state_of, whole_of};
+ghost use Rattle.pat_grammar.specs.Parts.{with_call};
+ghost use Rattle.pat_build.specs.Machine.{Ready, Begins, Took, state_of, whole_of};
+ghost use Rattle.pat_grammar.specs.Places.{Refuses};
 
-use crate::error::ReadError;
-use crate::machine::{Atom, Machine};
+use crate::machine::Machine;
+use pat_grammar::error::ReadError;
 use pat_lex::Target;
-use pat_tree::{GroupList, Memory, Node};
-
-fn is_number(target: Target) -> bool
-    ensures { result ≡ is_number target }
-{
-    matches!(target, Target::Number(_))
-}
-
-/// The group that is called, the first of those that are named. The whole pattern is called by its number 0 alone: else 0
-/// stands for no group.
-fn number_called(groups: &GroupList, by_number: bool) -> Option<u16>
-    requires { 0 < length groups.now }
-    ensures { result ≡ number_called by_number groups.now }
-{
-    let first = *groups.get(0);
-    if first == 0 && !by_number {
-        None
-    } else {
-        Some(first)
-    }
-}
+use pat_nodes::calls::{is_number, number_called};
+use pat_nodes::frames::Atom;
+use pat_tree::{Memory, Node};
 
 impl<'a> Machine<'a> {
     /// A call of the group of this number.

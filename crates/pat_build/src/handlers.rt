@@ -1,125 +1,34 @@
 //! What each token does.
-ghost use Rattle.std.specs.Prelude.{◌≡◌, ◌||◌, ℕ, ◌+◌, ◌<◌, ◌≤◌, [], ◌∷◌, ◌++◌, length, IfOk, OnOk, IfErr, None, Some, Ok, false};
-ghost use Rattle.pat_tree.specs.declared.nodes.Node.TheVariants as node;
-ghost use Rattle.pat_tree.specs.Nested.{one, line_break, ref, anchor};
+ghost use Rattle.std.specs.Prelude.{◌≡◌, ℕ, ◌+◌, ◌<◌, ◌≤◌, [], length, IfOk, IfSome, OnOk, IfErr, None, Some, Ok, false};
+ghost use Rattle.pat_tree.specs.Nested.{one, line_break, anchor};
 ghost use Rattle.pat_tree.specs.Rules.{class_in};
 ghost use Rattle.token_parts.specs.declared.token.Token.{Token};
 ghost use Rattle.token_parts.specs.declared.token.Token.TheVariants.{Bar, Close, KeepOut, Quantifier};
 ghost use Rattle.pat_lex.specs.Tokens.{token_at};
-ghost use Rattle.pat_build.specs.State.{passed_over, flags_of};
-ghost use Rattle.pat_build.specs.Names.{with_given};
-ghost use Rattle.pat_build.specs.Groups.{number_of, is_look, is_tested, bars_in, barred, next_numbering, groups_before, groups_after};
-ghost use Rattle.pat_build.specs.Parts.{atom, bare, nothing, of_class, with_reference};
+ghost use Rattle.pat_grammar.specs.State.{passed_over, flags_of};
+ghost use Rattle.pat_grammar.specs.Groups.{number_of, barred};
+ghost use Rattle.pat_grammar.specs.Parts.{atom, bare, nothing, of_class, with_reference};
+ghost use Rattle.pat_grammar.specs.Leads.{IsWithin};
 ghost use Rattle.pat_build.specs.Stack.{IsPlain};
-ghost use Rattle.pat_build.specs.Machine.{Means, Ready, IsNext, Begins, Took, Same, HasRoom, TestsNone, Refuses, Numbered, Gives, form_of, inside_from, asserting_from, atom_where, state_of, whole_of};
+ghost use Rattle.pat_build.specs.Machine.{Means, Ready, IsNext, Begins, Took, Same, HasRoom, TestsNone, Numbered, Gives, inside_from, asserting_from, tested_frame, state_of, whole_of};
+ghost use Rattle.pat_grammar.specs.Places.{Refuses};
+ghost use Rattle.pat_nodes.specs.Nodes.{form_of};
 
-use crate::cursor::Assertion;
-use crate::error::ReadError;
-use crate::machine::{Atom, Bars, Form, Frame, Inside, Level, Machine, Numbering};
-use crate::names::Name;
-use crate::nodes::{alternative, group, place, repeated};
+use crate::machine::Machine;
+use pat_grammar::alternatives::{Bars, Numbering};
+use pat_grammar::cursor::Assertion;
+use pat_grammar::error::ReadError;
 use pat_lex::QuantMode;
-use pat_tree::{
-    AnchorKind, ClassSpec, Draft, GroupList, Item, Kids, Memory, Node, NodeId, Options,
+use pat_nodes::callouts::lead_parts;
+use pat_nodes::frames::{Atom, Form, Frame, Inside, Level};
+use pat_nodes::groups::{
+    atom_of, bars_in, give, groups_after, groups_before, is_look, is_looking, is_tested,
+    next_numbering, push_frame,
 };
+use pat_nodes::names::Name;
+use pat_nodes::nodes::{alternative, group, place, repeated, with_test};
+use pat_tree::{AnchorKind, ClassSpec, GroupList, Item, Kids, Memory, Node, Options};
 use std::mem;
-
-fn is_look(form: &Form) -> bool
-    ensures { result ≡ is_look (form_of form.now) }
-{
-    is_looking(form, false)
-}
-
-fn is_tested(form: &Form) -> bool
-    ensures { result ≡ is_tested (form_of form.now) }
-{
-    matches!(form, Form::Asserted { .. })
-}
-
-fn bars_in(form: &Form) -> Bars
-    ensures { result ≡ bars_in (form_of form.now) }
-{
-    match form {
-        Form::Condition(_) => Bars::First,
-        Form::Define => Bars::Define,
-        Form::Asserting => Bars::First,
-        Form::Group { .. } | Form::Atomic | Form::Look { .. } | Form::Asserted { .. } => Bars::Free,
-    }
-}
-
-/// Whether the inside of a group is inside a lookaround.
-fn is_looking(form: &Form, around: bool) -> bool
-    ensures { result ≡ (is_look (form_of form.now) || around) }
-{
-    match form {
-        Form::Look { .. } | Form::Asserted { .. } => true,
-        Form::Group { .. } | Form::Atomic | Form::Condition(_) | Form::Define | Form::Asserting =>
-            around,
-    }
-}
-
-/// The group of this node, before a quantifier.
-fn atom_of(looks: bool, id: NodeId, at: u32) -> Atom
-    ensures { result ≡ atom_where looks id at }
-{
-    if looks {
-        Atom::Look { id, at }
-    } else {
-        Atom::Whole { id, at }
-    }
-}
-
-fn push_frame(stack: &mut Vec<Frame>, frame: Frame) -> Result<(), Memory>
-    ensures { OnOk result (stack.new.items ≡ stack.old.items ++ frame ∷ []) }
-{
-    stack.push(frame)?;
-    Ok(())
-}
-
-/// Gives a group its name, if it gets one.
-fn give(text: &[u8], draft: &mut Draft, given: Option<Name>) -> Result<(), Memory>
-    requires room { length draft.old.names < 4294967295 }
-    requires stands { (name : Name) → given ≡ Some name → (name.from ≤ name.to) × (name.to ≤ length text.now) }
-    ensures { OnOk result (draft.new ≡ record draft.old { names = with_given text.now given draft.old.names }) }
-{
-    if let Some(name) = given {
-        draft.add_name(&text[name.from..name.to], name.group)?;
-    }
-    Ok(())
-}
-
-/// How the next alternative numbers its groups, where so many are opened.
-fn next_numbering(numbering: Numbering, groups: u16) -> Numbering
-    ensures { result ≡ next_numbering numbering groups }
-{
-    match numbering {
-        Numbering::Onward => Numbering::Onward,
-        Numbering::Reset { base, greatest } => Numbering::Reset {
-            base,
-            greatest: greatest.max(groups),
-        },
-    }
-}
-
-/// How many groups stand before the next alternative.
-fn groups_before(numbering: Numbering, groups: u16) -> u16
-    ensures { result ≡ groups_before numbering groups }
-{
-    match numbering {
-        Numbering::Onward => groups,
-        Numbering::Reset { base, .. } => base,
-    }
-}
-
-/// How many groups stand before what follows the last alternative.
-fn groups_after(numbering: Numbering, groups: u16) -> u16
-    ensures { result ≡ groups_after numbering groups }
-{
-    match numbering {
-        Numbering::Onward => groups,
-        Numbering::Reset { greatest, .. } => greatest.max(groups),
-    }
-}
 
 impl<'a> Machine<'a> {
     /// Makes what waits for a quantifier a part, before a token that is none.
@@ -318,15 +227,40 @@ impl<'a> Machine<'a> {
         Ok(())
     }
 
+    /// The frame of a lookaround that a conditional group tests, with these parts before it.
+    fn asserted(&self, test: Assertion, parts: Kids) -> Frame
+        requires { test.here.at ≤ 65536 }
+        ensures { result ≡ tested_frame self.now test parts }
+    {
+        Frame {
+            form: Form::Asserted {
+                ahead: test.ahead,
+                positive: test.positive,
+            },
+            around: self.options,
+            looking: self.looking,
+            bars: Bars::First,
+            numbering: Numbering::Onward,
+            at: test.here.at as u32,
+            outer: Level {
+                branches: Kids::new(self.alloc),
+                parts,
+            },
+        }
+    }
+
     /// A conditional group begins, and the lookaround that it tests.
     pub(crate) fn enter_assertion(&mut self, test: Assertion) -> Result<(), Memory>
         requires shallow { length self.old.stack.items + 1 < 250 }
+        requires small { IfSome test.lead (IsWithin (length self.old.text.now)) }
         requires onward { self.old.at < test.after.at }
         requires before { test.here.at < test.after.at }
         requires within { test.after.at ≤ length self.old.text.now }
         requires ready { (token : Token) × (after : ℕ) × Ready token after self.old × (after ≤ test.after.at) × Begins self.old token after (Ok (asserting_from self.old test)) }
         ensures { OnOk result (Took self.old self.new) }
     {
+        let here = test.here.at as u32;
+        let parts = lead_parts(self.alloc, &mut self.draft, test.lead, here)?;
         let inner = Level {
             branches: Kids::new(self.alloc),
             parts: Kids::new(self.alloc),
@@ -342,22 +276,7 @@ impl<'a> Machine<'a> {
             outer,
         };
         push_frame(&mut self.stack, group)?;
-        let none = Level {
-            branches: Kids::new(self.alloc),
-            parts: Kids::new(self.alloc),
-        };
-        let looks = Frame {
-            form: Form::Asserted {
-                ahead: test.ahead,
-                positive: test.positive,
-            },
-            around: self.options,
-            looking: self.looking,
-            bars: Bars::First,
-            numbering: Numbering::Onward,
-            at: test.here.at as u32,
-            outer: none,
-        };
+        let looks = self.asserted(test, parts);
         push_frame(&mut self.stack, looks)?;
         self.looking = true;
         self.bars = Bars::Free;
@@ -367,7 +286,8 @@ impl<'a> Machine<'a> {
         Ok(())
     }
 
-    /// A group ends. A lookaround that is tested is an alternative, any other group waits for a quantifier.
+    /// A group ends. A lookaround that is tested is an alternative, after its callout; any other
+    /// group waits for a quantifier.
     pub(crate) fn close(&mut self, after: usize) -> Result<(), ReadError>
         requires { Ready Close after self.old }
         ensures ok { OnOk result (Took self.old self.new) }
@@ -401,7 +321,7 @@ impl<'a> Machine<'a> {
         self.numbering = numbering;
         self.at = after;
         if tested {
-            self.level.branches.push(id)?;
+            with_test(self.alloc, &mut self.draft, &mut self.level, id, at)?;
             return Ok(());
         }
         self.waiting = Some(atom_of(looks, id, at));

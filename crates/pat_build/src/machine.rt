@@ -1,119 +1,13 @@
 //! What the reader holds.
 ghost use Rattle.std.specs.Prelude.{◌≡◌};
-ghost use Rattle.pat_build.specs.declared.machine.Numbering.TheVariants.{Onward};
+ghost use Rattle.pat_grammar.specs.declared.alternatives.Numbering.TheVariants.{Onward};
 
-use crate::cursor::{Cursor, Place};
-use crate::error::ReadError;
-use pat_tree::{Draft, GroupList, Item, Kids, NameEntry, NodeId, Options};
+use pat_grammar::alternatives::{Bars, Numbering};
+use pat_grammar::cursor::{Cursor, Place};
+use pat_grammar::error::ReadError;
+use pat_nodes::frames::{Atom, Frame, Inside, Level};
+use pat_tree::{Draft, NameEntry, Options};
 use std::alloc::Global;
-
-/// The alternatives that were read of a group, and the parts of the one in progress.
-#[derive(Drop)]
-pub(crate) struct Level {
-    pub branches: Kids,
-    pub parts: Kids,
-}
-
-/// What a conditional group tests.
-#[derive(Drop)]
-pub(crate) enum Test {
-    /// One of these groups is set.
-    AnySet(GroupList),
-    /// Some call is active.
-    InCall,
-    /// The latest active call is of one of these groups.
-    InCallOf(GroupList),
-}
-
-/// Which alternatives a group may still have.
-#[derive(Clone, Copy)]
-pub(crate) enum Bars {
-    /// Any.
-    Free,
-    /// The first one of a condition is read, and a second one may come.
-    First,
-    /// The second one of a condition is read.
-    Second,
-    /// The only one of DEFINE is read.
-    Define,
-}
-
-/// How the alternatives of a group number the groups in them.
-#[derive(Clone, Copy)]
-pub(crate) enum Numbering {
-    /// Each goes on from the one before.
-    Onward,
-    /// Each begins again after `base` groups. The greatest number of those before is kept.
-    Reset { base: u16, greatest: u16 },
-}
-
-/// What a group is.
-#[derive(Drop)]
-pub(crate) enum Form {
-    /// A group, with its number where it captures.
-    Group {
-        number: Option<u16>,
-    },
-    Atomic,
-    Look {
-        ahead: bool,
-        positive: bool,
-        atomic: bool,
-    },
-    Condition(Test),
-    /// A conditional group that only defines.
-    Define,
-    /// A lookaround that a conditional group tests.
-    Asserted {
-        ahead: bool,
-        positive: bool,
-    },
-    /// A conditional group that tests a lookaround, which is the first of its alternatives.
-    Asserting,
-}
-
-/// An open group: what holds around it (the options, whether that is inside a lookaround, which alternatives may come
-/// there and how they number groups), its place, and what encloses it.
-#[derive(Drop)]
-pub(crate) struct Frame {
-    pub form: Form,
-    pub around: Options,
-    pub looking: bool,
-    pub bars: Bars,
-    pub numbering: Numbering,
-    pub at: u32,
-    pub outer: Level,
-}
-
-/// What is told of the inside of a group where it begins.
-#[derive(Clone, Copy)]
-pub(crate) struct Inside {
-    pub options: Options,
-    pub groups: u16,
-    pub numbering: Numbering,
-    pub beyond: Option<usize>,
-    pub at: usize,
-}
-
-/// The atom before the place, which a quantifier may follow.
-#[derive(Clone, Copy)]
-pub(crate) enum Atom {
-    /// It takes one character, and has no node yet: under a quantifier it gets none of its own.
-    Single { item: Item, at: u32 },
-    /// It has a node.
-    Whole { id: NodeId, at: u32 },
-    /// It is a lookaround.
-    Look { id: NodeId, at: u32 },
-}
-
-impl Atom {
-    /// Where it stands.
-    pub(crate) fn at(self) -> u32 {
-        match self {
-            Atom::Single { at, .. } | Atom::Whole { at, .. } | Atom::Look { at, .. } => at,
-        }
-    }
-}
 
 /// A reading in progress.
 #[derive(Drop)]
@@ -143,6 +37,10 @@ pub(crate) struct Machine<'a> {
     pub numbering: Numbering,
     /// The first test of a call whose number no group can have.
     pub beyond: Option<usize>,
+    /// Callouts are read.
+    pub calling: bool,
+    /// The place of the last item before which a callout stands.
+    pub called: Option<usize>,
 }
 
 impl<'a> Machine<'a> {

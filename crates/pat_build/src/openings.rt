@@ -1,5 +1,5 @@
 //! What begins a group, and what refers to one.
-ghost use Rattle.std.specs.Prelude.{◌≡◌, ℕ, ◌<◌, not, ◌&&◌, [], ◌∷◌, length, slice_range, false, IfOk, OnOk, IfErr, None, Ok};
+ghost use Rattle.std.specs.Prelude.{◌≡◌, ◌<◌, not, ◌&&◌, [], ◌∷◌, length, slice_range, false, IfOk, OnOk, IfErr, None, Ok};
 ghost use Rattle.token_parts.specs.declared.token.Token.{Token};
 ghost use Rattle.token_parts.specs.declared.token.Token.TheVariants.{Open, CondStart, Reference};
 ghost use Rattle.token_parts.specs.declared.token.OpenKind.TheVariants as opening;
@@ -7,15 +7,20 @@ ghost use Rattle.token_parts.specs.declared.token.CondText.TheVariants as tested
 ghost use Rattle.token_parts.specs.Tell.{IsTarget, IsPart, IsTest};
 ghost use Rattle.pat_tree.specs.Nested.{in_call_of};
 ghost use Rattle.std.specs.List.{list_any};
-ghost use Rattle.pat_build.specs.Groups.{has_name, is_elsewhere, number_of, opened, conditional, unless_named, called_number, called_by, IsWorded, form_in, is_beyond, beyond_after, named_by};
-ghost use Rattle.pat_build.specs.Parts.{enters};
-ghost use Rattle.pat_build.specs.Machine.{Ready, Begins, Took, TestsNone, Refuses, form_of, test_of, state_of, whole_of, known_of};
+ghost use Rattle.pat_grammar.specs.Groups.{has_name, is_elsewhere, number_of, opened, conditional, unless_named, called_number, IsWorded, form_in, is_beyond, beyond_after, named_by};
+ghost use Rattle.pat_grammar.specs.Parts.{enters};
+ghost use Rattle.pat_build.specs.Machine.{Ready, Begins, Took, TestsNone, state_of, whole_of, known_of};
+ghost use Rattle.pat_grammar.specs.Places.{Refuses};
+ghost use Rattle.pat_nodes.specs.Nodes.{form_of, test_of};
 
-use crate::error::ReadError;
-use crate::machine::{Form, Inside, Machine, Numbering, Test};
-use crate::names::{Name, groups_of, is_elsewhere, is_given, is_other, one_group};
-use crate::nodes::plain;
+use crate::machine::Machine;
+use pat_grammar::alternatives::Numbering;
+use pat_grammar::error::ReadError;
 use pat_lex::{CondText, OpenKind, Target};
+use pat_nodes::calls::named_call;
+use pat_nodes::frames::{Form, Inside, Test};
+use pat_nodes::names::{Name, groups_of, is_elsewhere, is_given, is_other, one_group};
+use pat_nodes::nodes::plain;
 use pat_tree::{GroupList, Memory, Options};
 
 /// The most parentheses that may be open.
@@ -23,18 +28,6 @@ const DEEPEST: usize = 250;
 
 /// The greatest number of a capturing group.
 const GREATEST: u16 = 65535;
-
-/// What a test of a call by a name asks, where 0 stands for a name that no group has.
-fn named_call(groups: GroupList) -> Test
-    requires { 0 < length groups }
-    ensures { test_of result ≡ called_by groups }
-{
-    if *groups.get(0) == 0 {
-        Test::AnySet(groups)
-    } else {
-        Test::InCallOf(groups)
-    }
-}
 
 impl<'a> Machine<'a> {
     /// A group that has no number begins.
@@ -199,7 +192,7 @@ impl<'a> Machine<'a> {
     /// Whether a group of the whole pattern has the name between these places.
     fn is_named(&self, from: usize, to: usize) -> bool
         requires part { IsPart self.now.text.now from to }
-        ensures { result ≡ list_any (has_name (slice_range self.now.text.now from to)) (known_of self.now) }
+        ensures { result ≡ list_any (has_name (slice_range self.now.text.now from to)) (known_of self.now).names }
     {
         is_given(self.known, &self.text[from..to])
     }
@@ -209,7 +202,7 @@ impl<'a> Machine<'a> {
         requires part { IsPart self.now.text.now from to }
         ensures numberless { IfOk result (λ form. number_of (form_of form) ≡ None) }
         ensures tests_none { IfOk result (λ form. TestsNone (form_of form)) }
-        ensures is { IfOk result (λ form. form_of form ≡ conditional (unless_named (known_of self.now) (slice_range self.now.text.now from to) (test_of test))) }
+        ensures is { IfOk result (λ form. form_of form ≡ conditional (unless_named (known_of self.now).names (slice_range self.now.text.now from to) (test_of test))) }
     {
         if self.is_named(from, to) {
             let name = &self.text[from..to];
@@ -232,14 +225,14 @@ impl<'a> Machine<'a> {
     }
 
     /// A conditional group by the text of its test, which stands between these places.
-    #[tactic(auto, unfolding(crate::specs::Groups::form_in))]
+    #[tactic(auto, unfolding(pat_grammar::specs::Groups::form_in))]
     fn form(&self, cond: CondText, from: usize, to: usize) -> Result<Form, ReadError>
         requires well { IsTest self.now.text.now cond }
         requires part { IsPart self.now.text.now from to }
-        ensures ok { IfOk result (λ form. form_in (known_of self.now) self.now.text.now (state_of self.now) cond (slice_range self.now.text.now from to) ≡ Ok (form_of form)) }
+        ensures ok { IfOk result (λ form. form_in (known_of self.now).names self.now.text.now (state_of self.now) cond (slice_range self.now.text.now from to) ≡ Ok (form_of form)) }
         ensures numberless { IfOk result (λ form. number_of (form_of form) ≡ None) }
         ensures tests_none { IfOk result (λ form. TestsNone (form_of form)) }
-        ensures bad { IfErr result (Refuses (form_in (known_of self.now) self.now.text.now (state_of self.now) cond (slice_range self.now.text.now from to))) }
+        ensures bad { IfErr result (Refuses (form_in (known_of self.now).names self.now.text.now (state_of self.now) cond (slice_range self.now.text.now from to))) }
     {
         match cond {
             CondText::Group(target) => {
@@ -261,10 +254,10 @@ impl<'a> Machine<'a> {
     }
 
     /// Whether the test is of a call of a group whose number is too big, and no group has its text as a name.
-    #[tactic(auto, unfolding(crate::specs::Groups::is_beyond))]
+    #[tactic(auto, unfolding(pat_grammar::specs::Groups::is_beyond))]
     fn is_beyond(&self, cond: CondText, from: usize, to: usize) -> bool
         requires part { IsPart self.now.text.now from to }
-        ensures { result ≡ is_beyond (known_of self.now) cond (slice_range self.now.text.now from to) }
+        ensures { result ≡ is_beyond (known_of self.now).names cond (slice_range self.now.text.now from to) }
     {
         match cond {
             CondText::InCallOf(Target::Number(n)) => n > u32::from(GREATEST)
@@ -276,7 +269,7 @@ impl<'a> Machine<'a> {
     /// The first test of a call whose number no group can have, this one included.
     fn beyond_after(&self, cond: CondText, from: usize, to: usize) -> Option<usize>
         requires part { IsPart self.now.text.now from to }
-        ensures { result ≡ beyond_after (known_of self.now) (state_of self.now) cond (slice_range self.now.text.now from to) }
+        ensures { result ≡ beyond_after (known_of self.now).names (state_of self.now) cond (slice_range self.now.text.now from to) }
     {
         match self.beyond {
             Some(first) => Some(first),
@@ -295,7 +288,7 @@ impl<'a> Machine<'a> {
             return Err(self.fault(119));
         }
         let cursor = self.cursor(after);
-        let test = cursor.assertion(self.at)?;
+        let test = cursor.assertion(self.alloc, self.at, self.calling)?;
         if self.stack.len() + 1 >= DEEPEST {
             return Err(ReadError::Bad {
                 number: 119,
@@ -353,12 +346,12 @@ impl<'a> Machine<'a> {
     }
 
     /// The groups that a reference or a call names, by the names of the whole pattern.
-    #[tactic(auto, unfolding(crate::specs::Groups::named_by))]
+    #[tactic(auto, unfolding(pat_grammar::specs::Groups::named_by))]
     pub(crate) fn named_by(&self, target: Target) -> Result<GroupList, ReadError>
         requires target { IsTarget self.now.text.now target }
-        ensures ok { IfOk result (λ groups. named_by (known_of self.now) self.now.text.now (state_of self.now) target ≡ Ok groups) }
+        ensures ok { IfOk result (λ groups. named_by (known_of self.now).names self.now.text.now (state_of self.now) target ≡ Ok groups) }
         ensures some { IfOk result (λ groups. 0 < length groups) }
-        ensures bad { IfErr result (Refuses (named_by (known_of self.now) self.now.text.now (state_of self.now) target)) }
+        ensures bad { IfErr result (Refuses (named_by (known_of self.now).names self.now.text.now (state_of self.now) target)) }
     {
         let groups = u32::from(self.groups);
         match target {

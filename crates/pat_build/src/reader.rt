@@ -8,17 +8,21 @@ ghost use Rattle.pat_tree.specs.Closing.{StandInTurn};
 ghost use Rattle.token_parts.specs.declared.token.Token.TheVariants.{End};
 ghost use Rattle.token_parts.specs.Tell.{IsWell, Moves};
 ghost use Rattle.pat_lex.specs.Tokens.{token_at};
-ghost use Rattle.pat_build.specs.State.{State, flags_of};
+ghost use Rattle.pat_grammar.specs.State.{State, flags_of};
 ghost use Rattle.uni_text.specs.Characters.{IsChecked};
-ghost use Rattle.pat_build.specs.Reading.{read, reading};
-ghost use Rattle.pat_build.specs.Machine.{Means, HasRoom, Refuses, Ends, Same, state_of, state_from, whole_of, parsed_of, tree_with};
+ghost use Rattle.pat_grammar.specs.Reading.{read, read_with, reading, state_from};
+ghost use Rattle.pat_build.specs.Machine.{Means, HasRoom, Ends, Same, state_of, whole_of, tree_with};
+ghost use Rattle.pat_grammar.specs.Places.{Refuses};
+ghost use Rattle.pat_nodes.specs.Nodes.{parsed_of};
 
-use crate::error::ReadError;
-use crate::literal::literally;
-use crate::machine::{Bars, Level, Machine, Numbering};
-use crate::nodes::{group, plain};
-use crate::start::started;
+use crate::machine::Machine;
+use pat_grammar::alternatives::{Bars, Numbering};
+use pat_grammar::error::ReadError;
+use pat_grammar::start::started;
 use pat_lex::Token;
+use pat_nodes::frames::Level;
+use pat_nodes::literal::literally;
+use pat_nodes::nodes::{group, plain};
 use pat_tree::{Draft, Kids, NameEntry, NodeId, Options, Tree};
 use std::alloc::Global;
 use std::mem;
@@ -32,13 +36,14 @@ impl<'a> Machine<'a> {
         text: &'a [u8],
         start: usize,
         options: Options,
+        calling: bool,
     ) -> Machine<'a>
         requires within { start ≤ length text.now }
         requires short { length text.now ≤ 65536 }
         ensures means { Means result }
         ensures room { HasRoom 0 result }
         ensures text { result.text.now ≡ text.now }
-        ensures whole { whole_of result ≡ reading known.now text.now (state_from start options) }
+        ensures whole { whole_of result ≡ reading (record { names = known.now; calling = calling }) text.now (state_from start options) }
         ensures options { result.draft.options ≡ options }
     {
         let level = Level {
@@ -62,6 +67,8 @@ impl<'a> Machine<'a> {
             bars: Bars::Free,
             numbering: Numbering::Onward,
             beyond: None,
+            calling,
+            called: None,
         }
     }
 
@@ -109,7 +116,7 @@ impl<'a> Machine<'a> {
         ensures under { IfOk result (λ id. AllUnder self.new.draft.nodes id) }
         ensures bad { IfErr result (Refuses (whole_of self.old)) }
     {
-        self.flush()?;
+        self.settle(Token::End)?;
         if !self.stack.is_empty() {
             return Err(ReadError::Bad {
                 number: 114,
@@ -127,14 +134,20 @@ impl<'a> Machine<'a> {
 }
 
 /// A draft that has the names of the pattern.
-fn names_of(alloc: Global, text: &[u8], start: usize, options: Options) -> Result<Draft, ReadError>
+fn names_of(
+    alloc: Global,
+    text: &[u8],
+    start: usize,
+    options: Options,
+    calling: bool,
+) -> Result<Draft, ReadError>
     requires within { start ≤ length text.now }
     requires short { length text.now ≤ 65536 }
-    ensures ok { IfOk result (λ draft. (first : Nested × State) × (reading [] text.now (state_from start options) ≡ Ok first) × (first.1.names ≡ draft.names)) }
-    ensures bad { IfErr result (Refuses (reading [] text.now (state_from start options))) }
+    ensures ok { IfOk result (λ draft. (first : Nested × State) × (reading (record { names = []; calling = calling }) text.now (state_from start options) ≡ Ok first) × (first.1.names ≡ draft.names)) }
+    ensures bad { IfErr result (Refuses (reading (record { names = []; calling = calling }) text.now (state_from start options))) }
 {
     let none: [NameEntry; 0] = [];
-    let mut machine = Machine::new(alloc, &none, text, start, options);
+    let mut machine = Machine::new(alloc, &none, text, start, options, calling);
     machine.run()?;
     let _root = machine.end()?;
     let draft = mem::replace(&mut machine.draft, Draft::new(alloc, options));
@@ -159,15 +172,16 @@ fn tree_of(
     text: &[u8],
     start: usize,
     options: Options,
+    calling: bool,
 ) -> Result<Tree, ReadError>
     requires within { start ≤ length text.now }
     requires short { length text.now ≤ 65536 }
-    ensures ok { IfOk result (λ tree. tree_with known.now text.now (state_from start options) ≡ Ok (parsed_of tree)) }
+    ensures ok { IfOk result (λ tree. tree_with (record { names = known.now; calling = calling }) text.now (state_from start options) ≡ Ok (parsed_of tree)) }
     ensures under { IfOk result (λ tree. AllUnder tree.nodes tree.root) }
     ensures turns { IfOk result (λ tree. StandInTurn tree.nodes) }
-    ensures bad { IfErr result (Refuses (tree_with known.now text.now (state_from start options))) }
+    ensures bad { IfErr result (Refuses (tree_with (record { names = known.now; calling = calling }) text.now (state_from start options))) }
 {
-    let mut machine = Machine::new(alloc, known, text, start, options);
+    let mut machine = Machine::new(alloc, known, text, start, options, calling);
     machine.run()?;
     let root = machine.end()?;
     none_beyond(machine.beyond)?;
@@ -208,19 +222,26 @@ fn in_utf8(text: &[u8], utf: bool) -> Result<(), ReadError>
 /// `Bad` has the number and the place of the fault that the definition tells: first 120 for a pattern that is longer, at
 /// 0; then 160 at a start item that isn't well written; then under UTF -3 where the longest part that is UTF-8 ends; then
 /// the first fault from the left; then 161 at the first test of a call of a group past 65,535; last 115 at the leftmost
-/// reference, call or test that names no group. AUTO_CALLOUT is refused with 195 after 120. Want of memory may come at
-/// any pattern.
+/// reference, call or test that names no group. Want of memory may come at any pattern.
+#[tactic(auto, unfolding(pat_grammar::specs::Reading::read))]
 pub fn read(alloc: Global, text: &[u8], options: Options) -> Result<Tree, ReadError>
     ensures ok { IfOk result (λ tree. read options text.now ≡ Ok (parsed_of tree)) }
     ensures under { IfOk result (λ tree. AllUnder tree.nodes tree.root) }
     ensures turns { IfOk result (λ tree. StandInTurn tree.nodes) }
     ensures bad { IfErr result (Refuses (read options text.now)) }
 {
+    read_with(alloc, text, options, true)
+}
+
+/// Reads a pattern, whose callouts are read or refused.
+fn read_with(alloc: Global, text: &[u8], options: Options, calling: bool) -> Result<Tree, ReadError>
+    ensures ok { IfOk result (λ tree. read_with calling options text.now ≡ Ok (parsed_of tree)) }
+    ensures under { IfOk result (λ tree. AllUnder tree.nodes tree.root) }
+    ensures turns { IfOk result (λ tree. StandInTurn tree.nodes) }
+    ensures bad { IfErr result (Refuses (read_with calling options text.now)) }
+{
     if text.len() > 65536 {
         return Err(ReadError::Bad { number: 120, at: 0 });
-    }
-    if options.auto_callout {
-        return Err(ReadError::Bad { number: 195, at: 0 });
     }
     if options.literal {
         in_utf8(text, options.utf)?;
@@ -229,7 +250,7 @@ pub fn read(alloc: Global, text: &[u8], options: Options) -> Result<Tree, ReadEr
     }
     let (start, begun) = started(text, options)?;
     in_utf8(text, begun.utf)?;
-    let first = names_of(alloc, text, start, begun)?;
-    let tree = tree_of(alloc, first.names(), text, start, begun)?;
+    let first = names_of(alloc, text, start, begun, calling)?;
+    let tree = tree_of(alloc, first.names(), text, start, begun, calling)?;
     Ok(tree)
 }

@@ -1,58 +1,21 @@
 //! Which token does what.
-ghost use Rattle.std.specs.Prelude.{◌≡◌, ℕ, ◌<◌, ◌≤◌, false, [], ◌∷◌, length, IfOk, OnOk, IfErr, None, Some};
-ghost use Rattle.pat_tree.specs.Nested.{one};
-ghost use Rattle.pat_tree.specs.Rules.{class_in};
+ghost use Rattle.std.specs.Prelude.{◌≡◌, OnOk, IfErr, Some};
 ghost use Rattle.token_parts.specs.declared.token.Token.TheVariants as token;
-ghost use Rattle.pat_build.specs.State.{passed_over};
-ghost use Rattle.pat_build.specs.Parts.{boundary, any_or_line};
+ghost use Rattle.pat_grammar.specs.State.{passed_over};
 ghost use Rattle.pat_build.specs.Stack.{IsPlain};
-ghost use Rattle.pat_build.specs.Machine.{Means, Ready, IsNext, IsMore, IsAssertion, IsCharacter, Took, HasRoom, Refuses, state_of, whole_of};
+ghost use Rattle.pat_build.specs.Machine.{Means, Ready, IsNext, IsMore, IsAssertion, IsCharacter, Took, HasRoom, state_of, whole_of};
+ghost use Rattle.pat_grammar.specs.Places.{Refuses};
 
-use crate::brackets::read_class;
-use crate::error::ReadError;
 use crate::machine::Machine;
-use crate::nodes::plain;
-use crate::options::with_setting;
-use crate::properties::property_part;
+use pat_grammar::brackets::read_class;
+use pat_grammar::callouts::Called;
+use pat_grammar::error::ReadError;
+use pat_grammar::options::with_setting;
+use pat_grammar::properties::property_part;
 use pat_lex::{OptionMask, Token};
-use pat_tree::{AnchorKind, ClassSpec, Item, Memory, Part, PartList, SetName};
-use std::alloc::Global;
-
-/// `\b` or `\B`
-fn boundary(opposite: bool, ucp: bool) -> AnchorKind
-    ensures { result ≡ boundary opposite ucp }
-{
-    if opposite {
-        AnchorKind::NotWord { ucp }
-    } else {
-        AnchorKind::Word { ucp }
-    }
-}
-
-/// `.` (pcre2pattern, "Full stop (period, dot) and \N")
-fn any_or_line(dotall: bool) -> Item
-    ensures item { one result ≡ any_or_line dotall }
-    ensures classless { class_in result ≡ [] }
-{
-    if dotall {
-        Item::AnyAll
-    } else {
-        Item::NotNewline
-    }
-}
-
-/// A class of one part.
-fn class_of(alloc: Global, part: Part, caseless: bool) -> Result<ClassSpec, Memory>
-    ensures { IfOk result (λ spec. spec ≡ record { negated = false; caseless = caseless; parts = part ∷ [] }) }
-{
-    let mut parts = PartList::new(alloc);
-    parts.push(part)?;
-    Ok(ClassSpec {
-        negated: false,
-        caseless,
-        parts,
-    })
-}
+use pat_nodes::items::{any_or_line, boundary, class_of};
+use pat_nodes::nodes::plain;
+use pat_tree::{AnchorKind, Item, Memory, Part, SetName};
 
 impl<'a> Machine<'a> {
     /// A type outside a class is a class of its own.
@@ -192,6 +155,18 @@ impl<'a> Machine<'a> {
                 opens,
             } => self.option_set(reset, on, off, opens, after),
             Token::VerbItem { verb, from, to } => self.verb(verb, from, to, after),
+            Token::CalloutItem {
+                number,
+                text_from,
+                text_to,
+            } => {
+                let called = Called {
+                    number,
+                    text_from,
+                    text_to,
+                };
+                self.callout(called, after)
+            }
             Token::Bar => self.bar(after),
             Token::CondStart { cond, from, to } => self.condition(cond, from, to, after),
             Token::Close => self.close(after),
@@ -238,7 +213,7 @@ impl<'a> Machine<'a> {
                 Ok(())
             }
             plain => {
-                self.flush()?;
+                self.settle(plain)?;
                 self.plain(plain, after)
             }
         }

@@ -1,66 +1,16 @@
 //! Backtracking verbs (pcre2pattern, "Backtracking control").
-ghost use Rattle.std.specs.Prelude.{◌≡◌, ℕ, ◌+◌, ◌<◌, ◌≤◌, length, IfErr, IfOk, OnOk, Ok};
-ghost use Rattle.pat_tree.specs.Nested.{verb};
+ghost use Rattle.std.specs.Prelude.{ℕ, IfErr, OnOk, Ok};
 ghost use Rattle.token_parts.specs.declared.token.Token.TheVariants.{VerbItem};
-ghost use Rattle.pat_build.specs.Parts.{with_verb};
-ghost use Rattle.pat_build.specs.Verbs.{verb_of, number_of_name, names_after, is_left_out, may_be_repeated};
-ghost use Rattle.pat_build.specs.Machine.{Ready, Begins, Took, Refuses, NamesVerb, AddsVerb, state_of, whole_of};
+ghost use Rattle.pat_grammar.specs.Parts.{with_verb};
+ghost use Rattle.pat_build.specs.Machine.{Ready, Begins, Took, state_of, whole_of};
+ghost use Rattle.pat_grammar.specs.Places.{Refuses};
 
-use crate::error::ReadError;
-use crate::machine::{Atom, Machine};
+use crate::machine::Machine;
+use pat_grammar::error::ReadError;
 use pat_lex::VerbKind;
-use pat_tree::{Draft, Memory, Node, NodeId, Verb};
-
-/// The verb of a kind, with its name's number.
-fn verb_of(kind: VerbKind, name: Option<u32>) -> Verb
-    ensures { result ≡ verb_of kind name }
-{
-    match kind {
-        VerbKind::Accept => Verb::Accept { name },
-        VerbKind::Fail => Verb::Fail { name },
-        VerbKind::Commit => Verb::Commit { name },
-        VerbKind::Prune => Verb::Prune { name },
-        VerbKind::Skip => Verb::Skip { name },
-        VerbKind::Then => Verb::Then { name },
-        VerbKind::Mark => Verb::Mark { name },
-    }
-}
-
-/// Whether a verb of this kind isn't built.
-fn is_left_out(kind: VerbKind) -> bool
-    ensures { result ≡ is_left_out kind }
-{
-    matches!(kind, VerbKind::Then)
-}
-
-/// Whether a quantifier may follow a verb of this kind.
-fn may_be_repeated(kind: VerbKind) -> bool
-    ensures { result ≡ may_be_repeated kind }
-{
-    matches!(kind, VerbKind::Accept)
-}
-
-/// The number of a verb's name, which is a new entry. An empty name is none.
-fn add_name(draft: &mut Draft, name: &[u8]) -> Result<Option<u32>, Memory>
-    requires room { length draft.old.verb_names < 4294967295 }
-    ensures { IfOk result (NamesVerb draft.old draft.new name.now) }
-{
-    if name.is_empty() {
-        return Ok(None);
-    }
-    let id = draft.add_verb_name(name)?;
-    Ok(Some(id))
-}
-
-/// A verb's name and its node.
-fn add_verb(draft: &mut Draft, kind: VerbKind, name: &[u8], at: u32) -> Result<NodeId, Memory>
-    requires room { length draft.old.nodes < 4294967295 }
-    requires names { length draft.old.verb_names < 4294967295 }
-    ensures { IfOk result (λ id. AddsVerb draft.old draft.new kind name.now at id) }
-{
-    let number = add_name(draft, name)?;
-    draft.add(Node::VerbNode(verb_of(kind, number)), at)
-}
+use pat_nodes::frames::Atom;
+use pat_nodes::verbs::{add_verb, may_be_repeated};
+use pat_tree::Memory;
 
 impl<'a> Machine<'a> {
     /// A verb that is built, with its name.
@@ -83,7 +33,7 @@ impl<'a> Machine<'a> {
         Ok(())
     }
 
-    /// A verb. THEN is left out.
+    /// A verb.
     pub(crate) fn verb(
         &mut self,
         kind: VerbKind,
@@ -95,9 +45,6 @@ impl<'a> Machine<'a> {
         ensures ok { OnOk result (Took self.old self.new) }
         ensures bad { IfErr result (Refuses (whole_of self.old)) }
     {
-        if is_left_out(kind) {
-            return Err(self.fault(195));
-        }
         let text = self.text;
         self.begin_verb(kind, &text[from..to], after)?;
         Ok(())

@@ -1,9 +1,8 @@
 -- First bytes of characters, and their folding to ASCII.
-use Rattle.std.proofs.Common.{◌≡◌, ◌∙◌, ◌≢◌, ◌⊎◌, inl, inr, ℕ, ◌+◌, ◌/◌, ◌%◌, ◌<◌, ◌≤◌, ◌||◌, ◌&&◌, ◌==◌, nat_lt, nat_le, nat_eq, Bool, true, false, cond, List, [], ◌∷◌, refl, sym, ap, arith}
+use Rattle.std.proofs.Common.{◌≡◌, ◌⊎◌, inl, inr, ℕ, ◌+◌, ◌/◌, ◌%◌, ◌<◌, ◌≤◌, ◌||◌, ◌==◌, nat_lt, Bool, true, false, cond, [], ◌∷◌, refl, arith}
 use Rattle.std.specs.Char.{encode_utf8}
 use Rattle.std.specs.Int.{is_in_range}
 use Rattle.std.proofs.Math.Bool.{or-true}
-use Rattle.std.proofs.lemmas.Bool.{cases_lt, eqb-true, eqb-false}
 use Rattle.std.proofs.lemmas.Bool.Decides.{nat_tests}
 use Rattle.byte_lanes.specs.declared.line_end.EndKind.TheVariants as kind
 use Rattle.pat_check.specs.Lead.{begins_with}
@@ -68,11 +67,3 @@ pub break_bytes : (b : ℕ) →
 break_bytes b =
     rw (flip b 13, flip b 10, flip b 11, flip b 12, flip b 194, flip b 226)
     (reordered (226 == b) (13 == b) (194 == b) (10 == b) (11 == b) (12 == b))
-
--- in UTF the bytes past ASCII begin characters besides
-pub begun_is : (b : ℕ) (x : Bool) → b < 256 → (x || is_in_range 128 255 b) ≡ (nat_le 128 b || x)
-begun_is b true l = sym (or-true _)
-begun_is b false l = grind (arith, nat_tests)
-
-pub all_is : (b : ℕ) → b < 256 → (false || is_in_range 0 255 b) ≡ true
-all_is b l = grind (arith, nat_tests)

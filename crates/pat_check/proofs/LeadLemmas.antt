@@ -1,5 +1,5 @@
 -- First bytes as they are kept, joined as the definition joins them.
-use Rattle.std.proofs.Common.{◌≡◌, ◌∙◌, ℕ, suc, ◌-◌, ◌<◌, ◌≤◌, ◌||◌, Bool, true, false, List, Option, Some, None, All, length, drop, get_or, refl, sym, arith}
+use Rattle.std.proofs.Common.{◌≡◌, ◌∙◌, ℕ, suc, ◌-◌, ◌<◌, ◌≤◌, Bool, false, List, Option, Some, None, All, length, drop, get_or, refl, sym, arith}
 use Rattle.std.proofs.lemmas.List.{get_or_default}
 use Rattle.std.proofs.lemmas.List.Elements.{All-get_or}
 use Rattle.byte_lanes.specs.Sets.{has_byte}
@@ -9,19 +9,6 @@ use Rattle.pat_tree.specs.declared.nodes.Cond.TheVariants.{AnySet, InCall, InCal
 use Rattle.pat_check.specs.Starts.{IsSomeLead, AreKept, lead_of_parts, lead_of_branches, lead_of_second, lead_of_condition}
 use Rattle.pat_check.specs.declared.starts.Start.{Start}
 use Rattle.match_needs.proofs.Backwards.{back}
-
-or_turned : (p q : Bool) → (p || q) ≡ (q || p)
-or_turned true true = refl
-or_turned true false = refl
-or_turned false true = refl
-or_turned false false = refl
-
-or_swap : (p q p' q' : Bool) → q ≡ q' → p ≡ p' → (p || q) ≡ (q' || p')
-or_swap p q p' q' e f = rw (e, f) (or_turned p' q')
-
-pub then_unknown : (x y : SomeLead) → IsSomeLead None x → IsSomeLead None (then_lead x y)
-then_unknown None y h = tt
-then_unknown (Some a) y h = absurd h
 
 pub then_stops : (r : Option Start) (first : Start) (x y : SomeLead) → first.passing ≡ false →
     ((has : ℕ → Bool) → ((b : ℕ) → b < 256 → has_byte first.bytes b ≡ has b) → IsSomeLead r (begins has)) → IsSomeLead (Some first) x → IsSomeLead r (then_lead x y)
@@ -34,40 +21,6 @@ then_stops r first (Some a) y e made h = stops r (made a.has h.bytes)
     stops : (r : Option Start) → IsSomeLead r (begins a.has) → IsSomeLead r (then_lead (Some a) y)
     stops None k = absurd k
     stops (Some s) k = rw stopped (record { bytes = k.bytes; passing = k.passing ∙ sym stopped })
-
-pub then_unknown_rest : (first : Start) (x y : SomeLead) → first.passing ≡ true → IsSomeLead (Some first) x → IsSomeLead None y → IsSomeLead None (then_lead x y)
-then_unknown_rest first None y e h k = absurd h
-then_unknown_rest first (Some a) None e h k = rw (sym h.passing ∙ e) tt
-then_unknown_rest first (Some a) (Some b) e h k = absurd k
-
-pub then_goes_on : (first rest : Start) (bytes : List Bool) (x y : SomeLead) → first.passing ≡ true →
-    ((b : ℕ) → b < 256 → has_byte bytes b ≡ (has_byte rest.bytes b || has_byte first.bytes b)) →
-    IsSomeLead (Some first) x → IsSomeLead (Some rest) y → IsSomeLead (Some (record rest { bytes = bytes })) (then_lead x y)
-then_goes_on first rest bytes None y e added h k = absurd h
-then_goes_on first rest bytes (Some a) None e added h k = absurd k
-then_goes_on first rest bytes (Some a) (Some b) e added h k = rw (sym h.passing ∙ e) (record {
-  bytes = λ c l. added c l ∙ or_swap _ _ _ _ (h.bytes c l) (k.bytes c l);
-  passing = k.passing;
-})
-
-pub either_unknown : (x y : SomeLead) → IsSomeLead None x → IsSomeLead None (either_lead x y)
-either_unknown None y h = tt
-either_unknown (Some a) y h = absurd h
-
-pub either_unknown_rest : (x y : SomeLead) → IsSomeLead None y → IsSomeLead None (either_lead x y)
-either_unknown_rest None y h = tt
-either_unknown_rest (Some a) None h = tt
-either_unknown_rest (Some a) (Some b) h = absurd h
-
-pub either_joins : (one other : Start) (bytes : List Bool) (passing : Bool) (x y : SomeLead) → passing ≡ (one.passing || other.passing) →
-    ((b : ℕ) → b < 256 → has_byte bytes b ≡ (has_byte other.bytes b || has_byte one.bytes b)) →
-    IsSomeLead (Some one) x → IsSomeLead (Some other) y → IsSomeLead (Some (record { bytes = bytes; passing = passing })) (either_lead x y)
-either_joins one other bytes passing None y e added h k = absurd h
-either_joins one other bytes passing (Some a) None e added h k = absurd k
-either_joins one other bytes passing (Some a) (Some b) e added h k = record {
-  bytes = λ c l. added c l ∙ or_swap _ _ _ _ (h.bytes c l) (k.bytes c l);
-  passing = e ∙ rw (h.passing, k.passing) refl;
-}
 
 -- A list taken from its end.
 

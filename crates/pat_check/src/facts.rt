@@ -1,12 +1,13 @@
 //! What is known of a pattern.
-ghost use Rattle.std.specs.Prelude.{◌≡◌, ◌<◌, ◌≤◌, ℕ, true, false, All, List, None, IfOk, IfErr, IfSome, length, map};
+ghost use Rattle.std.specs.Prelude.{◌≡◌, ◌<◌, ◌≤◌, ℕ, true, false, All, List, None, IfOk, IfErr, IfSome, length, map, slice_index};
 ghost use Rattle.pat_tree.specs.declared.nodes.Placed.{Placed};
 ghost use Rattle.pat_tree.specs.Nested.{trees, tree_at};
 ghost use Rattle.pat_tree.specs.Parts.{TreeParts, tree_of};
 ghost use Rattle.pat_tree.specs.Sound.{TreeRules};
 ghost use Rattle.uni_text.specs.Folding.{fold};
+ghost use Rattle.node_flow.specs.Branches.{AreBranchesOf, branch_of};
 ghost use Rattle.node_flow.specs.Followers.{IsFlowOf, next_of};
-ghost use Rattle.node_flow.specs.Order.{order};
+ghost use Rattle.node_flow.specs.Order.{AreRanks, order};
 ghost use Rattle.char_sets.specs.Table.{IsTableOf};
 ghost use Rattle.pat_lengths.specs.Backs.{AreBacks, first_fault, greatest_back, lengths_at};
 ghost use Rattle.pat_lengths.specs.Lengths as lengths;
@@ -28,7 +29,7 @@ use crate::survey::survey_of;
 use byte_lanes::ByteSet;
 use char_sets::ClassTable;
 use match_needs::{Need, need_of};
-use node_flow::{Flow, preorder};
+use node_flow::{Branches, Flow, Ranks, preorder};
 use pat_lengths::{Backs, Groups, branch_spans, fault_in, greatest_in, group_table, passes_whole};
 use pat_tree::{Memory, NodeId, Tree};
 use std::alloc::Global;
@@ -60,6 +61,10 @@ pub struct Facts {
     pub greatest_back: u32,
     /// What runs when a part of the pattern is done.
     pub flow: Flow,
+    /// The branches around the parts of the pattern.
+    pub branches: Branches,
+    /// The places of its parts in the pattern.
+    pub ranks: Ranks,
     /// Bytes of which every match takes one, where such a set is known and worth a look.
     pub need: Option<Need>,
 }
@@ -72,6 +77,24 @@ impl Facts {
             → result ≡ next_of nodes root id }
     {
         self.flow.next(id)
+    }
+
+    /// The innermost branch around this part, if there is one in the innermost frame around it.
+    pub fn branch(&self, id: NodeId) -> Option<NodeId>
+        requires { id < length self.now.branches }
+        ensures { (nodes : List Placed) (root : ℕ) → AreBranchesOf nodes root self.now.branches
+            → result ≡ branch_of nodes root id }
+    {
+        self.branches.of(id)
+    }
+
+    /// The place of this part in the pattern, counted from 0.
+    pub fn rank(&self, id: NodeId) -> u32
+        requires { id < length self.now.ranks }
+        ensures { (nodes : List Placed) (root i : ℕ) → AreRanks nodes root self.now.ranks
+            → i < length (order nodes root) → slice_index (order nodes root) i ≡ id → result ≡ i }
+    {
+        self.ranks.of(id)
     }
 
     /// Where the group of a number stands, if there is one (pcre2pattern, "Groups as subroutines").
@@ -137,6 +160,9 @@ pub fn check(alloc: Global, tree: &Tree, classes: &ClassTable) -> Result<Facts, 
     ensures places { IfOk result (λ facts. ArePlaces tree.now facts.groups) }
     ensures greatest { IfOk result (λ facts. facts.greatest_back ≡ greatest_back tree.now) }
     ensures flow { IfOk result (λ facts. IsFlowOf tree.now.nodes tree.now.root facts.flow) }
+    ensures branches { IfOk result (λ facts.
+        AreBranchesOf tree.now.nodes tree.now.root facts.branches) }
+    ensures ranks { IfOk result (λ facts. AreRanks tree.now.nodes tree.now.root facts.ranks) }
     ensures need { IfOk result (λ facts. IfSome facts.need (IsNeedOf tree.now)) }
     ensures fixed { IfOk result (λ facts. first_fault tree.now ≡ None) }
     ensures refused { IfErr result (IsCheckError (first_fault tree.now)) }
@@ -165,6 +191,8 @@ pub fn check(alloc: Global, tree: &Tree, classes: &ClassTable) -> Result<Facts, 
         groups,
         greatest_back: greatest_in(tree, &order, &spans),
         flow: Flow::build(alloc, tree)?,
+        branches: Branches::build(alloc, tree)?,
+        ranks: Ranks::build(alloc, tree)?,
         need: need_of(alloc, tree, classes)?,
     })
 }

@@ -1,58 +1,15 @@
 -- The capturing groups of a tree.
-use Rattle.std.proofs.Common.{◌≡◌, ◌∙◌, ℕ, zero, suc, ◌+◌, ◌-◌, ◌<◌, ◌≤◌, ◌||◌, ◌==◌, Bool, true, false, if◌then◌else◌, is_some, List, [], ◌∷◌, ◌++◌, Option, Some, None, inl, inr, length, filter, get_or, set, refl, sym, ap, subst, arith}
+use Rattle.std.proofs.Common.{◌≡◌, ◌∙◌, ℕ, ◌+◌, ◌<◌, ◌≤◌, ◌||◌, ◌==◌, Bool, true, false, if◌then◌else◌, is_some, List, [], ◌∷◌, ◌++◌, Option, Some, None, length, get_or, set, refl, sym, ap, subst, arith}
 use Rattle.std.specs.List.{list_any}
 use Rattle.std.specs.Option.{option_or}
-use Rattle.std.proofs.lemmas.Bool.{cases_lt, eqb-true, eqb-false}
-use Rattle.std.proofs.lemmas.List.{get_or_append_left, get_or-append_right, get_or-set_same, get_or-set_other}
+use Rattle.std.proofs.lemmas.Bool.{eqb-true, eqb-false}
+use Rattle.std.proofs.lemmas.List.{get_or-set_same, get_or-set_other}
 use Rattle.pat_tree.specs.Nested as tree
 use Rattle.pat_tree.specs.Nested.{Nested, Row, Test, Other, tree_at}
 use Rattle.pat_tree.specs.Groups.{group_of, find_group, find_in, find_test, find_other}
-use Rattle.pat_lengths.specs.Nodes.{nodes, nodes_in, nodes_of_test, nodes_of_other, all_nodes, is_capture, is_capture_of, number_twice}
+use Rattle.pat_lengths.specs.Nodes.{nodes, nodes_in, nodes_of_test, nodes_of_other, all_nodes, is_capture_of}
 use Rattle.pat_lengths.specs.Passing.{first_of, IsAt, place_of, AreGroups, capture_number}
 use Rattle.pat_lengths.specs.declared.groups.Groups.{Groups}
-
-read_none : {X : Type 0} → (k : ℕ) → get_or {A = Option X} (None ∷ []) k None ≡ None
-read_none zero = refl
-read_none (suc k) = refl
-
-pub none_more : (places : List (Option ℕ)) → ((n : ℕ) → place_of places n ≡ None) → (n : ℕ) → place_of (places ++ None ∷ []) n ≡ None
-none_more places h n = elim (cases_lt n (length places)) [
-  | inl l ↦ get_or_append_left places (None ∷ []) None n l ∙ h n
-  | inr l ↦ get_or-append_right places (None ∷ []) (length places) n None refl l ∙ read_none (n - length places)
-]
-
--- A node that isn't a capturing group.
-
-pub other_node : (t : Nested) → is_capture t ≡ false → (nodes : List Nested) →
-    ((n : ℕ) → first_of n (t ∷ nodes) ≡ first_of n nodes) × (filter is_capture (t ∷ nodes) ≡ filter is_capture nodes) × (number_twice (t ∷ nodes) ≡ number_twice nodes)
-other_node tree.empty h nodes = (λ n. refl, refl, refl)
-other_node (tree.one item) h nodes = (λ n. refl, refl, refl)
-other_node tree.line_break h nodes = (λ n. refl, refl, refl)
-other_node (tree.seq ts) h nodes = (λ n. refl, refl, refl)
-other_node (tree.group None ts) h nodes = (λ n. refl, refl, refl)
-other_node (tree.group (Some m) ts) h nodes = absurd (cc)
-other_node (tree.repeat t low high lazily) h nodes = (λ n. refl, refl, refl)
-other_node (tree.one_repeat item low high lazily) h nodes = (λ n. refl, refl, refl)
-other_node (tree.atomic ts) h nodes = (λ n. refl, refl, refl)
-other_node (tree.look ahead positive once ts) h nodes = (λ n. refl, refl, refl)
-other_node (tree.condition test first second) h nodes = (λ n. refl, refl, refl)
-other_node (tree.call n) h nodes = (λ n. refl, refl, refl)
-other_node (tree.ref ns caseless) h nodes = (λ n. refl, refl, refl)
-other_node (tree.anchor a) h nodes = (λ n. refl, refl, refl)
-other_node tree.keep_out h nodes = (λ n. refl, refl, refl)
-other_node (tree.verb v) h nodes = (λ n. refl, refl, refl)
-other_node (tree.callout c) h nodes = (λ n. refl, refl, refl)
-
-pub pass_over : (trees : List Nested) (root : ℕ) (groups : Groups) (nodes : List Nested) (t : Nested) → is_capture t ≡ false →
-    AreGroups trees root groups nodes → AreGroups trees root groups (t ∷ nodes)
-pass_over trees root groups nodes t h are = record {
-  places = λ n. subst (IsAt trees root (place_of groups.places.items n)) (sym (same.0 n)) (are.places n);
-  count = are.count ∙ ap length (sym same.1);
-  shared = are.shared ∙ sym same.2;
-}
-  where
-    same : ((n : ℕ) → first_of n (t ∷ nodes) ≡ first_of n nodes) × (filter is_capture (t ∷ nodes) ≡ filter is_capture nodes) × (number_twice (t ∷ nodes) ≡ number_twice nodes)
-    same = other_node t h nodes
 
 -- A capturing group.
 
@@ -114,29 +71,6 @@ pub put_group : (trees : List Nested) (root : ℕ) (old new : Groups) (nodes : L
 put_group trees root old new nodes m id h below room places count shared are =
     let g = group_of_number (tree_at trees id) m h in
     put_at trees root old new nodes m g.0 id g.1 below room places count shared are
-
-no_capture : (t : Nested) → None ≡ capture_number t → is_capture t ≡ false
-no_capture (tree.group None ts) h = refl
-no_capture (tree.group (Some n) ts) h = absurd cc
-no_capture tree.empty h = refl
-no_capture (tree.one item) h = refl
-no_capture tree.line_break h = refl
-no_capture (tree.seq ts) h = refl
-no_capture (tree.repeat t low high lazily) h = refl
-no_capture (tree.one_repeat item low high lazily) h = refl
-no_capture (tree.atomic ts) h = refl
-no_capture (tree.look ahead positive once ts) h = refl
-no_capture (tree.condition test first second) h = refl
-no_capture (tree.call n) h = refl
-no_capture (tree.ref ns caseless) h = refl
-no_capture (tree.anchor a) h = refl
-no_capture tree.keep_out h = refl
-no_capture (tree.verb v) h = refl
-no_capture (tree.callout c) h = refl
-
-pub pass_by : (trees : List Nested) (root : ℕ) (groups : Groups) (nodes : List Nested) (t : Nested) → None ≡ capture_number t →
-    AreGroups trees root groups nodes → AreGroups trees root groups (t ∷ nodes)
-pass_by trees root groups nodes t h are = pass_over trees root groups nodes t (no_capture t h) are
 
 -- The first group of a number is the leftmost.
 

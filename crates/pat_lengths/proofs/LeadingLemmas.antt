@@ -22,17 +22,6 @@ use Rattle.pat_lengths.proofs.RoundLemmas.{lost}
 
 -- Nodes are reached.
 
-pub grows_kept : (r : Reached) (ids : List ℕ) → All (λ k. is_reached r k ≡ true) ids → Grows r r ids
-grows_kept r ids h = record {
-  kept = λ k e. e;
-  added = h;
-  only = λ k e. inl e;
-  later = [];
-  front = sym (append-nil r.nodes.items);
-  size = refl;
-  listed = λ l. l;
-}
-
 unset_one : (flags : List Bool) (i : ℕ) → i < length flags → flagged flags i ≡ false → unset (slice_set flags i true) + 1 ≡ unset flags
 unset_one [] i lt h = absurd (omega (arith, lt))
 unset_one (true ∷ flags) zero lt h = absurd (false≢true (sym h))

@@ -15,7 +15,7 @@ use Rattle.node_flow.proofs.Places.{distinct, flipped}
 use Rattle.pat_lengths.specs.Nodes.{captures, is_capture, is_capture_of, has_shared_number, all_nodes}
 use Rattle.pat_lengths.specs.Lengths.{SomeLengths, least_lengths, by_calls}
 use Rattle.pat_lengths.specs.HasLength.{Sum, Turns, AnyOr, RefHas, HasLength, InTurn, OneOf, OfOther, OfTest, AreSomeLengths, OfFound, ByCalls, CanMatch, IsLeast}
-use Rattle.pat_lengths.specs.Passing.{capture_number, first_of}
+use Rattle.pat_lengths.specs.Passing.{capture_number}
 use Rattle.pat_lengths.proofs.GroupLemmas.{first_is, first_there}
 use Rattle.pat_lengths.proofs.LengthLaw.{by_calls_law, calls_bounds}
 
@@ -149,9 +149,6 @@ number_in n (t ∷ ts) = here (capture_number t) (number_in n ts) ∙ ap (λ b. 
 -- group 0 is the whole
 abbrev all_numbers : Nested → List ℕ
 all_numbers whole = 0 ∷ numbers (all_nodes whole)
-
-none_some : {A : Type 0} (o : Option A) (x : A) → o ≡ Some x → is_some o ≡ true
-none_some o x h = ap is_some h
 
 stands : (whole : Nested) (n : ℕ) → (group_of whole n ≡ None → ⊥) → is_in n (all_numbers whole) ≡ true
 stands whole n there = elim (same_or_other 0 n) [

@@ -1,8 +1,7 @@
 -- Where the groups of a table stand.
-use Rattle.std.proofs.Common.{◌≡◌, ◌∙◌, ℕ, ◌<◌, ◌==◌, Bool, true, false, if◌then◌else◌, List, [], ◌∷◌, Option, Some, None, inl, inr, length, get_or, set, sym, ap, refl}
+use Rattle.std.proofs.Common.{◌≡◌, ◌∙◌, ℕ, ◌<◌, ◌==◌, Bool, if◌then◌else◌, List, ◌∷◌, Option, Some, None, inl, inr, length, get_or, set, sym, ap}
 use Rattle.std.proofs.lemmas.Bool.{cases_eq, eq-eqb, ne_eqb}
 use Rattle.std.proofs.lemmas.List.{get_or-set_same, get_or-set_other}
-use Rattle.pat_tree.specs.Nested as tree
 use Rattle.pat_tree.specs.Nested.{Nested, tree_at}
 use Rattle.pat_lengths.specs.Nodes.{is_capture_of}
 use Rattle.pat_lengths.specs.Passing.{capture_number, group_in, ArePlaced, called_place, place_of}
@@ -11,16 +10,8 @@ use Rattle.pat_lengths.proofs.GroupLemmas.{group_of_number}
 capture_of : (t : Nested) (m n : ℕ) → Some m ≡ capture_number t → is_capture_of n t ≡ (m == n)
 capture_of t m n h = ap (is_capture_of n) (group_of_number t m h).1
 
-no_capture_of : (t : Nested) (n : ℕ) → None ≡ capture_number t → is_capture_of n t ≡ false
-no_capture_of (tree.group (Some m) ts) n h = absurd cc
-no_capture_of _ n h = refl
-
 abbrev group_if : List Nested → ℕ → ℕ → List ℕ → Bool → Option ℕ
 group_if trees n id ids b = if b then Some id else group_in trees n ids
-
-pub placed_more : (trees : List Nested) (id : ℕ) (ids : List ℕ) (places : List (Option ℕ)) → None ≡ capture_number (tree_at trees id) →
-    ArePlaced trees ids places → ArePlaced trees (id ∷ ids) places
-placed_more trees id ids places h are n = are n ∙ sym (ap (group_if trees n id ids) (no_capture_of (tree_at trees id) n h))
 
 read_set : (places : List (Option ℕ)) (m n : ℕ) (value : Option ℕ) → n ≡ m → m < length places → get_or (set places m value) n None ≡ value
 read_set places m n value same within = ap (λ k. get_or (set places m value) k None) same ∙ get_or-set_same places m value None within

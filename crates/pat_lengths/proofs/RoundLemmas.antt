@@ -27,10 +27,6 @@ unfolding rounds by_calls
 passes_rounds unset whole zero n = refl
 passes_rounds unset whole (suc d) n = passes_next unset whole d (passes_rounds unset whole d) (group_of whole n)
 
-pub none_before : (unset : Bool) (whole : Nested) (n : ℕ) → rounds (Passes unset) whole 0 n ≡ false
-unfolding rounds
-none_before unset whole n = refl
-
 -- Groups that lead to a group.
 
 none_lead : (whole : Nested) (d m : ℕ) → lead_to whole d [] m ≡ false

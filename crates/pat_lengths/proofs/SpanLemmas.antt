@@ -1,12 +1,12 @@
 -- The lengths of a node by those of its children, as they are kept.
-use Rattle.std.proofs.Common.{◌≡◌, ◌∙◌, ◌≢◌, ℕ, zero, suc, ◌+◌, ◌*◌, ◌<◌, ◌≤◌, ◌||◌, nat_le, if◌then◌else◌, Bool, true, false, List, [], ◌∷◌, map, length, get_or, Option, Some, None, All, inl, inr, refl, sym, ap, subst, arith}
+use Rattle.std.proofs.Common.{◌≡◌, ◌∙◌, ℕ, zero, suc, ◌+◌, ◌*◌, ◌<◌, ◌||◌, Bool, true, false, List, [], ◌∷◌, map, length, get_or, Option, Some, None, All, inl, inr, refl, sym, ap, subst, arith}
 use Rattle.std.proofs.lemmas.Bool.{cases_lt, le-leb}
-use Rattle.std.proofs.lemmas.List.Elements.{All-head, All-tail}
+use Rattle.std.proofs.lemmas.List.Elements.{All-head}
 use Rattle.pat_tree.specs.declared.nodes.Cond.{Cond}
 use Rattle.pat_tree.specs.declared.nodes.Cond.TheVariants.{AnySet, InCall, InCallOf, Never, Assert}
 use Rattle.pat_tree.specs.declared.nodes.Node.{Node}
 use Rattle.pat_tree.specs.declared.nodes.Node.TheVariants as node
-use Rattle.pat_tree.specs.Nested.{Nested, tree_at, row, nest, test_of, cond_of, other_of}
+use Rattle.pat_tree.specs.Nested.{Nested, tree_at, row, nest, test_of, other_of}
 use Rattle.pat_tree.specs.Rules.{tests_of, is_test, AtMost}
 use Rattle.std.proofs.lemmas.List.{get_or_past}
 use Rattle.pat_tree.specs.Groups.{group_of}
@@ -126,13 +126,6 @@ span_step unset whole trees root d n spans next places back count keep is at sam
 pub none_before : (unset : Bool) (whole : Nested) (any : Bool) → any ≡ (unset || has_shared_number whole) → KeepGroups unset whole (behind unset whole 0) any []
 unfolding behind
 none_before unset whole any is = record { any_is = is; each = λ n. refl }
-
--- a branch with ACCEPT has any length
-pub freed_is : (a b : Bool) (x : Option Span) (y : SomeLengths) → a ≡ b → x ≡ kept y → (if a then kept any_length else x) ≡ kept (elim b [ true ↦ any_length | false ↦ y ])
-freed_is true true x y e f = refl
-freed_is true false x y e f = absurd (cc)
-freed_is false true x y e f = absurd (cc)
-freed_is false false x y e f = f
 
 pub no_definition : (of : ℕ → SomeLengths) (test : Cond) (first : ℕ) (second : Option ℕ) → (test ≡ Never → ⊥) → lengths_of_condition of test first second ≡ either (of first) (lengths_of_second of second)
 no_definition of Never first second h = absurd (h refl)

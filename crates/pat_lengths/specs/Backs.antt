@@ -1,13 +1,12 @@
 -- The branches of a pattern's lookbehinds: how far each begins before its place, and why a pattern is refused for them
 -- (pcre2pattern, "Lookbehind assertions").
-use Rattle.std.specs.Prelude.{◌≡◌, ◌≤◌, ℕ, ◌+◌, pos, ℤ, Bool, true, false, max, List, [], ◌∷◌, All, length, Option, Some, None, slice_index_or}
+use Rattle.std.specs.Prelude.{◌≡◌, ◌≤◌, ℕ, ◌+◌, pos, true, false, max, List, [], ◌∷◌, length, Option, Some, None, slice_index_or}
 use Rattle.std.specs.Option.{option_or}
 use Rattle.pat_tree.specs.declared.nodes.Node.{Node}
 use Rattle.pat_tree.specs.declared.nodes.Node.TheVariants as form
 use Rattle.pat_tree.specs.declared.nodes.Placed.{Placed}
 use Rattle.pat_tree.specs.Nested.{trees, tree_at}
 use Rattle.pat_tree.specs.Parts.{TreeParts, tree_of}
-use Rattle.pat_tree.specs.Refs.{is_in}
 use Rattle.node_flow.specs.Order.{order}
 use Rattle.pat_lengths.specs.Lengths.{SomeLengths, counted, only, branch_lengths, branch_fault}
 use Rattle.pat_lengths.specs.Spans.{kept, span_at}
@@ -73,11 +72,6 @@ module _ (tree : TreeParts) where
   -- the greatest length of a branch of a lookbehind in the pattern, 0 where it has none
   abbrev pub greatest_back : ℕ
   greatest_back = greatest_in (order tree.nodes tree.root)
-
-  -- no branch of a lookbehind in the pattern is refused
-  abbrev pub AreFixed : Type 0
-  AreFixed = (q : ℕ) → is_in q (order tree.nodes tree.root) ≡ true →
-      All (λ k. branch_fault (lengths_at k) ≡ None) (behind_branches (placed_at tree.nodes q).node)
 
   -- a list that has the length of each part up to the root that is not refused as a branch
   pub record AreBacks (backs : List ℕ) : Type 0 where

@@ -10,7 +10,7 @@ use Rattle.std.specs.Str.{IsUtf8, IsCharBoundary}
 use Rattle.std.specs.Str.Pattern.{StartsWithChar}
 use Rattle.uni_text.specs.Characters.{first_char, char_at}
 use Rattle.uni_text.proofs.CharLemmas.{first_char-stands, len-stands}
-use Rattle.pat_lex.specs.Characters.{are_there, wide, character}
+use Rattle.token_parts.specs.Characters.{are_there, wide, character}
 
 -- without UTF and in ASCII it is the byte
 pub alone : (text : List ℕ) (utf : Bool) (c at : ℕ) → (utf && nat_le 128 c) ≡ false → character text utf c at ≡ (c, at + 1)

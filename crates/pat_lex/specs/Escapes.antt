@@ -89,8 +89,8 @@ module _ (text : List ℕ) where
         else if is_ascii_digit c then numbered_escape text flags at
         else if c ∈ "p" then property false at
         else if c ∈ "P" then property true at
-        else if c ∈ "g" then group_escape text at
-        else if c ∈ "k" then name_escape text at
+        else if c ∈ "g" then group_escape text flags.utf at
+        else if c ∈ "k" then name_escape text flags.utf at
         else if c ∈ "N" then not_newline at
         else if c ∈ "CXLlUu" then fault 195 at
         else if is_ascii_alphabetic c then fault 103 at

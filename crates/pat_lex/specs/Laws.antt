@@ -5,7 +5,7 @@ use Rattle.token_parts.specs.declared.token.Token.TheVariants.{Literal}
 use Rattle.token_parts.specs.Bytes.{◌∈◌}
 use Rattle.token_parts.specs.Comments.{is_extended}
 use Rattle.uni_text.specs.Characters.{char_at}
-use Rattle.pat_lex.specs.Characters.{character}
+use Rattle.token_parts.specs.Characters.{character}
 use Rattle.pat_lex.specs.Tokens.{token_at}
 
 -- Between `\Q` and `\E` every byte but a backslash stands for itself, in a class too, whatever is ignored.

@@ -31,7 +31,7 @@ module _ (text : List ℕ) (flags : LexFlags) where
   unfoldable pub plain : ℕ → ℕ → Lexed
   plain c at =
       if c ∈ "\\" then escape text flags at
-      else if c ∈ "(" then group text at
+      else if c ∈ "(" then group text flags.utf at
       else if c ∈ ")" then Ok (Close, at + 1)
       else if c ∈ "|" then Ok (Bar, at + 1)
       else if c ∈ "[" then class_start text flags at

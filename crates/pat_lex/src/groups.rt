@@ -29,21 +29,21 @@ fn opened_by(c: u8) -> Option<OpenKind>
 
 /// A named group, whose name begins at a place.
 #[tactic(auto, unfolding(crate::specs::Groups::named_group))]
-fn named_group(text: &[u8], at: usize, from: usize, close: u8) -> Lexed
+fn named_group(text: &[u8], utf: bool, at: usize, from: usize, close: u8) -> Lexed
     requires order { at ≤ from }
     requires within { from ≤ length text.now }
-    ensures value { result ≡ named_group text.now at from close }
+    ensures value { result ≡ named_group text.now utf at from close }
     ensures sound { IsSound text.now at result }
 {
-    let to = name_end(text, at, from, close)?;
+    let to = name_end(text, utf, at, from, close)?;
     Ok((Token::Open(OpenKind::Named { from, to }), to + 1))
 }
 
 /// `(?<`: a lookbehind, or a named group.
 #[tactic(auto, unfolding(crate::specs::Groups::angle))]
-fn angle(text: &[u8], at: usize) -> Lexed
+fn angle(text: &[u8], utf: bool, at: usize) -> Lexed
     requires { at + 3 ≤ length text.now }
-    ensures value { result ≡ angle text.now at }
+    ensures value { result ≡ angle text.now utf at }
     ensures sound { IsSound text.now at result }
 {
     if stands(text, b'=', at + 3) {
@@ -53,23 +53,23 @@ fn angle(text: &[u8], at: usize) -> Lexed
     } else if stands(text, b'*', at + 3) {
         Ok((Token::Open(look(false, true, false)), at + 4))
     } else {
-        named_group(text, at, at + 3, b'>')
+        named_group(text, utf, at, at + 3, b'>')
     }
 }
 
 /// `(?P`: a named group, or a reference or a call by a name.
 #[tactic(auto, unfolding(crate::specs::Groups::python))]
-fn python(text: &[u8], at: usize) -> Lexed
+fn python(text: &[u8], utf: bool, at: usize) -> Lexed
     requires { at + 3 ≤ length text.now }
-    ensures value { result ≡ python text.now at }
+    ensures value { result ≡ python text.now utf at }
     ensures sound { IsSound text.now at result }
 {
     if stands(text, b'<', at + 3) {
-        named_group(text, at, at + 4, b'>')
+        named_group(text, utf, at, at + 4, b'>')
     } else if stands(text, b'=', at + 3) {
-        named_reference(text, at, at + 4, b')')
+        named_reference(text, utf, at, at + 4, b')')
     } else if stands(text, b'>', at + 3) {
-        named_call(text, at, at + 4)
+        named_call(text, utf, at, at + 4)
     } else if at + 3 == text.len() {
         Err(Fault::new(UNCLOSED_GROUP, text.len()))
     } else {
@@ -93,9 +93,9 @@ fn whole_call(text: &[u8], at: usize) -> Lexed
 
 /// `(?` and the byte after it.
 #[tactic(auto, unfolding(crate::specs::Groups::special))]
-fn special(text: &[u8], c: u8, at: usize) -> Lexed
+fn special(text: &[u8], utf: bool, c: u8, at: usize) -> Lexed
     requires { at + 3 ≤ length text.now }
-    ensures value { result ≡ special text.now c at }
+    ensures value { result ≡ special text.now utf c at }
     ensures sound { IsSound text.now at result }
 {
     if let Some(kind) = opened_by(c) {
@@ -103,13 +103,13 @@ fn special(text: &[u8], c: u8, at: usize) -> Lexed
     }
     match c {
         b'#' => comment(text, at),
-        b'<' => angle(text, at),
-        b'\'' => named_group(text, at, at + 3, b'\''),
-        b'P' => python(text, at),
-        b'&' => named_call(text, at, at + 3),
+        b'<' => angle(text, utf, at),
+        b'\'' => named_group(text, utf, at, at + 3, b'\''),
+        b'P' => python(text, utf, at),
+        b'&' => named_call(text, utf, at, at + 3),
         b'R' => whole_call(text, at),
         b'C' => callout(text, at),
-        b'(' => condition(text, at),
+        b'(' => condition(text, utf, at),
         _ if begins_number(text, at + 2) => numbered_call(text, at),
         _ => setting(text, at),
     }
@@ -117,14 +117,14 @@ fn special(text: &[u8], c: u8, at: usize) -> Lexed
 
 /// An opening parenthesis. An asterisk with neither a letter nor a colon after it is a quantifier after it.
 #[tactic(auto, unfolding(crate::specs::Groups::group))]
-pub(crate) fn group(text: &[u8], at: usize) -> Lexed
+pub(crate) fn group(text: &[u8], utf: bool, at: usize) -> Lexed
     requires { at < length text.now }
-    ensures value { result ≡ group text.now at }
+    ensures value { result ≡ group text.now utf at }
     ensures sound { IsSound text.now at result }
 {
     if stands(text, b'?', at + 1) {
         match byte(text, at + 2) {
-            Some(c) => special(text, c, at),
+            Some(c) => special(text, utf, c, at),
             None => Err(Fault::new(UNCLOSED_GROUP, text.len())),
         }
     } else if stands(text, b'*', at + 1)

@@ -56,7 +56,7 @@ fn plain(text: &[u8], flags: LexFlags, c: u8, at: usize) -> Lexed
 {
     match c {
         b'\\' => escape(text, flags, at),
-        b'(' => group(text, at),
+        b'(' => group(text, flags.utf, at),
         b')' => Ok((Token::Close, at + 1)),
         b'|' => Ok((Token::Bar, at + 1)),
         b'[' => class_start(text, flags, at),

@@ -1,5 +1,4 @@
 pub mod Nested
-pub mod Built
 pub mod Groups
 pub mod Names
 pub mod Newlines

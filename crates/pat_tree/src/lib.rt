@@ -11,8 +11,6 @@ mod newline;
 mod nodes;
 mod options;
 mod steps;
-#[cfg(test)]
-mod tests;
 mod tree;
 
 pub use draft::{BadRef, Draft};

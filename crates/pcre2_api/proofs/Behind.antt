@@ -12,9 +12,10 @@ use Rattle.pat_tree.specs.Sound.{TreeRules}
 use Rattle.pat_tree.specs.Closing.{StandInTurn}
 use Rattle.token_parts.specs.Tell.{◌>>=◌}
 use Rattle.pat_build.specs.Reading.{read}
-use Rattle.pat_build.specs.Machine.{Refuses, parsed_of, references_of, reference_in}
-use Rattle.pat_build.specs.declared.error.ReadError.{ReadError}
-use Rattle.pat_build.specs.declared.error.ReadError.TheVariants as reading
+use Rattle.pat_build.specs.Places.{Refuses}
+use Rattle.pat_build.specs.Nodes.{parsed_of, references_of, reference_in}
+use Rattle.pat_grammar.specs.declared.error.ReadError.{ReadError}
+use Rattle.pat_grammar.specs.declared.error.ReadError.TheVariants as reading
 use Rattle.pat_check.specs.Known.{IsCheckError}
 use Rattle.pat_check.specs.declared.facts.CheckError.{CheckError}
 use Rattle.pat_check.specs.declared.facts.CheckError.TheVariants as checking

@@ -1,15 +1,15 @@
 -- What a match by all ends answers, by what the start, the graph and the search say.
-use Rattle.std.proofs.Common.{◌≡◌, ℕ, Bool, true, false, ◌&&◌, not, if◌then◌else◌, nat_lt, length, Option, Some, None, refl, subst}
+use Rattle.std.proofs.Common.{◌≡◌, ℕ, Bool, true, false, ◌&&◌, not, if◌then◌else◌, nat_lt, length, Option, Some, None, subst}
 use Rattle.std.specs.Prelude.{slice_index}
 use Rattle.std.specs.Str.{is_utf8}
 use Rattle.std.specs.Str.Lossy.{utf8_valid_len}
-use Rattle.frame_machine.specs.Standing.{is_inside}
+use Rattle.frame_board.specs.Standing.{is_inside}
 use Rattle.ordered_search.specs.Setting.{Setting}
 use Rattle.dfa_ends.specs.DfaAnswer as meant
 use Rattle.dfa_ends.specs.DfaAnswer.{dfa_answer}
-use Rattle.dfa_lists.specs.declared.ends.GraphError.{GraphError}
-use Rattle.dfa_lists.specs.declared.ends.GraphError.TheVariants as graph
-use Rattle.dfa_lists.specs.Served.{refusal, IsRefused}
+use Rattle.dfa_graph.specs.declared.making.GraphError.{GraphError}
+use Rattle.dfa_graph.specs.declared.making.GraphError.TheVariants as graph
+use Rattle.dfa_graph.specs.Served.{refusal, IsRefused}
 use Rattle.pcre2_api.specs.Matched.{fault_in}
 use Rattle.pcre2_api.specs.declared.error.MatchError.{MatchError}
 use Rattle.pcre2_api.specs.declared.error.MatchError.TheVariants as beginning
@@ -20,7 +20,6 @@ module _ (g : Setting) (begun : fault_in g ≡ None) where
   barred graph.Item r = record { begun = begun; refused = r }
   barred graph.Cond r = record { begun = begun; refused = r }
   barred graph.TooLarge r = record { begun = begun; refused = r }
-  barred graph.NotBuilt r = record { begun = begun; refused = r }
   barred graph.Memory r = tt
 
   pub answered : (a : meant.DfaAnswer) → refusal g.whole ≡ None →

@@ -12,3 +12,5 @@ pub mod Rewriting
 pub mod SubstitutionRows
 pub mod DfaMatching
 pub mod Needing
+mod LendingSteps
+mod Lending

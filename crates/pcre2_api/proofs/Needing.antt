@@ -72,6 +72,7 @@ finds_none code matching most need told is more wide off steps units few subject
       small = lacks.small;
       missing = λ k stands. lacks.missing k (more subject k stands);
       bounded = is.bound;
+      folds = refl;
       steps = omega (arith, less, steps);
       units = units;
       text = λ on. record { short = omega (arith, short, few); checked = λ _. IsUtf8-from_ascii subject (ascii utf (sets_of need.text) told more wide subject lacks on) };

@@ -1,14 +1,14 @@
 -- Where a search can begin.
-use Rattle.std.proofs.Common.{◌≡◌, ◌∙◌, ℕ, ◌<◌, ◌≤◌, Bool, true, false, ◌&&◌, not, if◌then◌else◌, List, length, nat_le, nat_lt, Option, Some, None, IfSome, refl, sym, ap, subst, inl, inr, arith}
+use Rattle.std.proofs.Common.{◌≡◌, ◌∙◌, ℕ, ◌<◌, ◌≤◌, Bool, true, false, ◌&&◌, not, if◌then◌else◌, List, length, nat_lt, Option, Some, None, IfSome, refl, sym, ap, subst, inl, inr}
 use Rattle.std.specs.Prelude.{slice_index}
 use Rattle.std.specs.Str.{IsUtf8, is_utf8}
 use Rattle.std.specs.Str.Lossy.{utf8_valid_len}
-use Rattle.std.proofs.lemmas.Bool.{cases_Bool, lt-ltb, le-ltb, ltb-false, le-leb}
-use Rattle.std.proofs.lemmas.Str.{IsUtf8-from_is_utf8, is_utf8-from_IsUtf8}
+use Rattle.std.proofs.lemmas.Bool.{cases_Bool, le-ltb, ltb-false, le-leb}
+use Rattle.std.proofs.lemmas.Str.{IsUtf8-from_is_utf8}
 use Rattle.pat_tree.specs.declared.options.Options.{Options}
 use Rattle.uni_text.specs.Characters.{IsChecked, IsPlace}
 use Rattle.match_items.specs.Subjects.{IsText, IsTextPlace}
-use Rattle.frame_machine.specs.Standing.{is_inside, stands_in, place_of}
+use Rattle.frame_board.specs.Standing.{is_inside, stands_in, place_of}
 use Rattle.pat_build.proofs.Checked.{is_checked}
 use Rattle.pcre2_api.specs.declared.error.MatchError.{MatchError}
 use Rattle.pcre2_api.specs.declared.error.MatchError.TheVariants as told
@@ -49,9 +49,6 @@ module _ (utf : Bool) (subject : List ℕ) (start : ℕ) where
   abbrev inside : Bool
   inside = utf && is_inside (slice_index subject start)
 
-  pub past-end : length subject < start → start_fault utf subject start ≡ Some told.BadOffset
-  past-end h = ap (λ b. first_fault longest b bad inside) (lt-ltb (length subject) start h)
-
   here : start ≤ length subject → past ≡ false
   here h = le-ltb (length subject) start h
 
@@ -78,15 +75,6 @@ module _ (utf : Bool) (subject : List ℕ) (start : ℕ) where
 
   pub stands : start ≤ length subject → IsChecked utf subject → inside ≡ false → start_fault utf subject start ≡ None
   stands h checked e = by-place h checked ∙ ap (λ (b : Bool). if b then Some told.BadUtfOffset else None) e
-
-  pub text-checked : is_utf8 subject ≡ true → IsChecked utf subject
-  text-checked on asked = IsUtf8-from_is_utf8 subject on
-
-  pub bytes-checked : utf ≡ false → IsChecked utf subject
-  bytes-checked off on = absurd (let both : true ≡ false = sym on ∙ off in cc)
-
-  pub bytes-stand : start ≤ length subject → utf ≡ false → start_fault utf subject start ≡ None
-  bytes-stand h off = stands h (bytes-checked off) (ap (λ b. b && is_inside (slice_index subject start)) off)
 
   module _ (begun : start_fault utf subject start ≡ None) where
     tests : IsNone past bad inside
@@ -117,7 +105,7 @@ module _ (options : Options) (subject : List ℕ) (start : ℕ) (begun : start_f
 
 -- What is told where a search can't begin.
 
-abbrev IsStartFault : MatchError → Type 0
+abbrev pub IsStartFault : MatchError → Type 0
 IsStartFault told.BadOffset = Unit {0}
 IsStartFault (told.BadUtf at) = Unit {0}
 IsStartFault told.BadUtfOffset = Unit {0}
@@ -130,7 +118,7 @@ faults-are n false false true = tt
 faults-are n false false false = tt
 
 module _ (g : Setting) where
-  only : (e : MatchError) → fault_in g ≡ Some e → IsStartFault e
+  pub only : (e : MatchError) → fault_in g ≡ Some e → IsStartFault e
   only e is = subst (λ f. IfSome f IsStartFault) is
       (faults-are (utf8_valid_len g.subject) (nat_lt (length g.subject) g.start) (g.options.utf && not (is_utf8 g.subject)) (g.options.utf && is_inside (slice_index g.subject g.start)))
 

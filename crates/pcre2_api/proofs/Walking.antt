@@ -3,8 +3,8 @@ use Rattle.std.proofs.Common.{◌≡◌, ◌∙◌, ℕ, ◌++◌, ◌≤◌, Li
 use Rattle.pat_tree.specs.declared.options.MatchOptions.{MatchOptions}
 use Rattle.pat_tree.specs.Pattern.{Pattern, pattern_of}
 use Rattle.ordered_search.specs.Setting.{Setting}
-use Rattle.ordered_search.specs.PlaceAnswer.{Outcome}
-use Rattle.ordered_search.specs.MatchAnswer.{match_answer}
+use Rattle.ordered_search.specs.PlaceAnswer.{Outcome, last_name}
+use Rattle.ordered_search.specs.MatchAnswer.{MatchAnswer, match_answer}
 use Rattle.pcre2_api.specs.Compiled.{CodeParts}
 use Rattle.pcre2_api.specs.Matched.{MatchParts, search_of, fault_in, IsFound, IsMatchError}
 use Rattle.pcre2_api.specs.Patterns.{setting}
@@ -14,7 +14,7 @@ use Rattle.pcre2_api.specs.declared.error.MatchError.TheVariants as told
 use Rattle.pcre2_api.specs.declared.substitute.Search.{Search}
 use Rattle.pcre2_api.specs.declared.substitute.Search.TheVariants as search
 use Rattle.pcre2_api.specs.declared.subst_error.SubstError.{SubstError}
-use Rattle.pcre2_api.specs.Walks.{Answer, found, none, failed, answer_of, answer_at}
+use Rattle.pcre2_api.specs.Walks.{Answer, found, none, failed, answer_of, answer_in, answer_at}
 use Rattle.pcre2_api.specs.Substituted.{Work, added_by, search_refusal, IsAdded, IsSearch, Tells, TellsMatch, Refuses}
 
 -- what an error of a search says that it answers
@@ -28,7 +28,7 @@ module _ (code : CodeParts) (matching : MatchOptions) (subject : List ℕ) (star
   searching = search_of code matching subject start (λ _. pos 0)
 
   abbrev asked : Answer
-  asked = answer_of (match_answer searching).answer
+  asked = answer_in (length subject) (match_answer searching)
 
   abbrev here : Answer
   here = answer_at (pattern_of code.tree) matching subject start
@@ -40,23 +40,29 @@ module _ (code : CodeParts) (matching : MatchOptions) (subject : List ℕ) (star
   unfolding answer_at
   begun h = ap by_fault h
 
+  by_answer : {a : MatchAnswer} → (match_answer searching).answer ≡ a → asked ≡ answer_of (length subject) (last_name (match_answer searching).notes) a
+  by_answer e = ap (answer_of (length subject) (last_name (match_answer searching).notes)) e
+
   unbegun : (e : MatchError) → fault_in searching ≡ Some e → here ≡ failed e
   unfolding answer_at
   unbegun e h = ap by_fault h
 
   pub answer-found : (f : MatchParts) → IsFound searching f → here ≡ found f.outcome
-  answer-found f is = begun is.begun ∙ ap answer_of is.answer
+  answer-found f is = begun is.begun ∙ by_answer is.answer
 
   pub answer-error : (e : MatchError) → IsMatchError searching e → Says e here
   answer-error told.BadOffset is = unbegun told.BadOffset is
   answer-error (told.BadUtf at) is = unbegun (told.BadUtf at) is
   answer-error told.BadUtfOffset is = unbegun told.BadUtfOffset is
-  answer-error (told.NoMatch mark) is = begun is.0 ∙ ap answer_of is.1
-  answer-error (told.Partial from to mark) is = absurd is
-  answer-error told.MatchLimit is = begun is.0 ∙ ap answer_of is.1
-  answer-error told.FrameLimit is = begun is.0 ∙ ap answer_of is.1
-  answer-error told.RecurseLoop is = begun is.0 ∙ ap answer_of is.1
-  answer-error (told.Callout n) is = absurd is
+  answer-error (told.NoMatch mark) is = begun is.0 ∙ by_answer is.1
+  answer-error (told.Partial from to mark) is =
+      begun is.0 ∙ by_answer is.1
+      ∙ ap (λ (m : Option ℕ). failed (told.Partial from (length subject) m)) (sym is.2)
+      ∙ ap (λ (n : ℕ). failed (told.Partial from n mark)) (sym is.5)
+  answer-error told.MatchLimit is = begun is.0 ∙ by_answer is.1
+  answer-error told.FrameLimit is = begun is.0 ∙ by_answer is.1
+  answer-error told.RecurseLoop is = begun is.0 ∙ by_answer is.1
+  answer-error (told.Callout n) is = begun is.0 ∙ by_answer is.1
   answer-error told.Memory is = tt
 
 -- A search that finds nothing can begin, and one that can't begin fails.
@@ -67,11 +73,11 @@ module _ (p : Pattern) (matching : MatchOptions) (subject : List ℕ) (at : ℕ)
 
   pub begun-at-none : answer_at p matching subject at ≡ none → start_fault p.options.utf subject at ≡ None
   unfolding answer_at
-  begun-at-none is = none-begun (start_fault p.options.utf subject at) (answer_of (match_answer (setting p matching subject at)).answer) is
+  begun-at-none is = none-begun (start_fault p.options.utf subject at) (answer_in (length subject) (match_answer (setting p matching subject at))) is
 
   pub fails-at : (e : MatchError) → start_fault p.options.utf subject at ≡ Some e → answer_at p matching subject at ≡ failed e
   unfolding answer_at
-  fails-at e is = ap (λ (f : Option MatchError). elim f [ Some e ↦ failed e | None ↦ answer_of (match_answer (setting p matching subject at)).answer ]) is
+  fails-at e is = ap (λ (f : Option MatchError). elim f [ Some e ↦ failed e | None ↦ answer_in (length subject) (match_answer (setting p matching subject at)) ]) is
 
 -- What is told of an error, after which nothing is added.
 pub record IsTold (w : Work) (from : ℕ) (old : List ℕ) (a : Answer) (result : Result Search SubstError) : Type 0 where

@@ -24,11 +24,11 @@ error_number FrameLimit = minus 63
 error_number Loop = minus 52
 error_number _ = minus 37
 
--- no partial match is looked for
+-- a partial match is no match
 abbrev pub answer_of : MatchAnswer → Answer
 answer_of (Match o) = found o
 answer_of NoMatch = none
-answer_of (PartialFrom p) = none
+answer_of (PartialFrom p) = error (minus 2)
 answer_of (Error e) = error (error_number e)
 
 -- one search, which may not be able to begin

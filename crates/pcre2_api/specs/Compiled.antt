@@ -5,19 +5,18 @@ use Rattle.pat_tree.specs.Parts.{TreeParts, tree_of}
 use Rattle.pat_tree.specs.Pattern.{Pattern, pattern_of}
 use Rattle.pat_tree.specs.Sound.{greatest, group_numbers}
 use Rattle.token_parts.specs.declared.fault.Fault.{Fault}
-use Rattle.pat_build.specs.declared.error.ReadError.{ReadError}
-use Rattle.pat_build.specs.declared.error.ReadError.TheVariants as reading
+use Rattle.pat_grammar.specs.declared.error.ReadError.{ReadError}
+use Rattle.pat_grammar.specs.declared.error.ReadError.TheVariants as reading
 use Rattle.pat_build.specs.Reading.{read}
-use Rattle.pat_build.specs.Machine.{parsed_of}
+use Rattle.pat_build.specs.Nodes.{parsed_of}
 use Rattle.char_sets.specs.Table.{CharSet, IsTableOf}
 use Rattle.pat_check.specs.declared.facts.Facts.{Facts}
-use Rattle.pat_tree.specs.Built.{IsBuilt}
 use Rattle.pat_check.specs.declared.facts.CheckError.{CheckError}
 use Rattle.pat_check.specs.declared.facts.CheckError.TheVariants as checking
 use Rattle.pat_lengths.specs.Backs.{greatest_back}
 use Rattle.pat_lengths.specs.Lengths.{can_be_empty}
 use Rattle.pat_lengths.specs.Nodes.{tests_before}
-use Rattle.frame_machine.specs.Ready.{AreFactsOf}
+use Rattle.frame_board.specs.Ready.{AreFactsOf}
 use Rattle.pcre2_api.specs.Patterns.{compiled}
 use Rattle.pcre2_api.specs.declared.code.Info.{Info}
 use Rattle.pcre2_api.specs.declared.error.CompileError.{CompileError}
@@ -30,11 +29,10 @@ pub record CodeParts : Type 0 where
   pub classes : List CharSet
   pub facts : Facts
 
--- The table and the facts are those of the tree, which has the forms that are searched.
+-- The table and the facts are those of the tree.
 pub record IsCode (code : CodeParts) : Type 0 where
   pub table : IsTableOf code.tree code.classes
   pub facts : AreFactsOf code.tree code.facts
-  pub built : IsBuilt (tree_of code.tree)
 
 -- what the text is read as is the code's tree, and no lookbehind of it is refused
 abbrev pub Compiles : Options → List ℕ → CodeParts → Type 0

@@ -1,12 +1,11 @@
 -- The numbers and the texts of errors of a match by all ends (pcre2api, "Error returns from
 -- pcre2_dfa_match()"): error → number, text.
-use Rattle.std.specs.Prelude.{ℕ, List, codes, ℤ, pos}
+use Rattle.std.specs.Prelude.{ℕ, List, codes, ℤ}
 use Rattle.pcre2_api.specs.MatchErrors.{minus}
 use Rattle.pcre2_api.specs.declared.dfa.DfaError.{DfaError}
 use Rattle.pcre2_api.specs.declared.dfa.DfaError.TheVariants as told
 
 abbrev pub number_of : DfaError → ℤ
-number_of told.NotBuilt = pos 0
 number_of told.NoMatch = minus 1
 number_of (told.Partial start end) = minus 2
 number_of (told.BadUtf at) = minus 3
@@ -19,7 +18,6 @@ number_of told.Memory = minus 48
 
 -- the place of a fault of UTF-8 stands after its text
 abbrev pub text_of : DfaError → List ℕ
-text_of told.NotBuilt = codes "not built"
 text_of told.NoMatch = codes "no match"
 text_of (told.Partial start end) = codes "partial match"
 text_of (told.BadUtf at) = codes "invalid UTF-8 at offset "

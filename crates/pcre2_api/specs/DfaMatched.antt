@@ -1,11 +1,13 @@
 -- What a match by all ends answers (pcre2api, "Matching a pattern: the alternative function").
-use Rattle.std.specs.Prelude.{◌≡◌, length, Some, None}
+use Rattle.std.specs.Prelude.{◌≡◌, ◌≤◌, ℕ, length, Some, None}
+use Rattle.pat_tree.specs.declared.options.PartialMode.TheVariants.{Off}
+use Rattle.match_items.specs.Subjects.{IsTextPlace}
 use Rattle.ordered_search.specs.Setting.{Setting}
 use Rattle.dfa_ends.specs.DfaAnswer as meant
-use Rattle.dfa_ends.specs.DfaAnswer.{EndsFrom, dfa_answer}
-use Rattle.dfa_lists.specs.declared.ends.GraphError.{GraphError}
-use Rattle.dfa_lists.specs.declared.ends.GraphError.TheVariants as graph
-use Rattle.dfa_lists.specs.Served.{refusal}
+use Rattle.dfa_ends.specs.DfaAnswer.{EndsFrom, PartialFrom, dfa_answer}
+use Rattle.dfa_graph.specs.declared.making.GraphError.{GraphError}
+use Rattle.dfa_graph.specs.declared.making.GraphError.TheVariants as graph
+use Rattle.dfa_graph.specs.Served.{refusal}
 use Rattle.dfa_drive.specs.Answer.{AreWithin}
 use Rattle.pcre2_api.specs.Matched.{fault_in}
 use Rattle.pcre2_api.specs.declared.error.MatchError.{MatchError}
@@ -30,8 +32,16 @@ abbrev pub IsDfaFound : Setting → DfaFound → Type 0
 IsDfaFound g f =
     IsAnswered g (EndsFrom f.start f.ends) × AreWithin f.start (length g.subject) f.ends
 
--- Why there is no match: each refusal has its cause. Without partial matching there is no partial
--- match. Want of memory may come at any time.
+-- A partial match is looked for, and this is the answer. It goes from a place at the start or past
+-- it to the subject's end.
+pub record IsPartly (g : Setting) (start end : ℕ) : Type 0 where
+  pub asked : g.matching.«partial» ≡ Off → ⊥
+  pub answered : IsAnswered g (PartialFrom start)
+  pub from : g.start ≤ start
+  pub place : IsTextPlace g.options g.subject start
+  pub to : end ≡ length g.subject
+
+-- Why there is no match: each refusal has its cause. Want of memory may come at any time.
 abbrev pub IsDfaError : Setting → DfaError → Type 0
 IsDfaError g told.BadOffset = fault_in g ≡ Some beginning.BadOffset
 IsDfaError g (told.BadUtf at) = fault_in g ≡ Some (beginning.BadUtf at)
@@ -39,16 +49,14 @@ IsDfaError g told.BadUtfOffset = fault_in g ≡ Some beginning.BadUtfOffset
 IsDfaError g told.Item = IsBarred g graph.Item
 IsDfaError g told.Cond = IsBarred g graph.Cond
 IsDfaError g told.TooLarge = IsBarred g graph.TooLarge
-IsDfaError g told.NotBuilt = IsBarred g graph.NotBuilt
 IsDfaError g told.NoMatch = IsAnswered g meant.NoMatch
-IsDfaError g (told.Partial start end) = ⊥
+IsDfaError g (told.Partial start end) = IsPartly g start end
 IsDfaError g told.Memory = Unit {0}
 
 abbrev pub error_of : GraphError → DfaError
 error_of graph.Item = told.Item
 error_of graph.Cond = told.Cond
 error_of graph.TooLarge = told.TooLarge
-error_of graph.NotBuilt = told.NotBuilt
 error_of graph.Memory = told.Memory
 
 -- why a match can't begin at a start

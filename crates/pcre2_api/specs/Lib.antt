@@ -15,3 +15,5 @@ pub mod SubstErrors
 pub mod DfaMatched
 pub mod DfaErrors
 pub mod Needed
+pub mod Reserved
+pub mod Holding

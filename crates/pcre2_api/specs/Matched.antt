@@ -4,13 +4,15 @@ use Rattle.pat_tree.specs.declared.options.MatchOptions.{MatchOptions}
 use Rattle.pat_tree.specs.Sound.{greatest, group_numbers}
 use Rattle.pcre_io.specs.declared.callouts.Block.{Block}
 use Rattle.ordered_search.specs.Setting.{Setting, endanchored, notempty, notempty_atstart}
-use Rattle.frame_machine.specs.Ready.{setting_in}
+use Rattle.frame_board.specs.Ready.{setting_in}
 use Rattle.ordered_search.specs.PlaceAnswer as place
-use Rattle.ordered_search.specs.PlaceAnswer.{Outcome, last_name}
+use Rattle.frame_state.specs.Shown.{seen_after}
+use Rattle.ordered_search.specs.PlaceAnswer.{Outcome, last_name, blocks}
 use Rattle.ordered_search.specs.MatchAnswer as meant
 use Rattle.ordered_search.specs.MatchAnswer.{match_answer}
 use Rattle.ordered_search.specs.Forward.{IsPlaced, IsWithin}
 use Rattle.pcre2_api.specs.Compiled.{CodeParts}
+use Rattle.match_items.specs.Subjects.{IsTextPlace}
 use Rattle.pcre2_api.specs.Starts.{start_fault}
 use Rattle.pcre2_api.specs.declared.error.MatchError.{MatchError}
 use Rattle.pcre2_api.specs.declared.error.MatchError.TheVariants as told
@@ -42,6 +44,18 @@ pub record IsAdmitted (g : Setting) (o : Outcome) : Type 0 where
 abbrev pub fault_in : Setting → Option MatchError
 fault_in g = start_fault g.options.utf g.subject g.start
 
+-- What callouts showed, where it is told, grows by what the search shows. One that can't begin shows nothing.
+abbrev pub shown_by : Setting → Option (List Block) → Option (List Block)
+shown_by g before = elim (fault_in g) [
+  | Some e ↦ before
+  | None ↦ seen_after before (blocks (match_answer g).notes)
+]
+
+-- where want of memory is answered, nothing is said of it
+abbrev pub HasShown : MatchError → Option (List Block) → Option (List Block) → Type 0
+HasShown told.Memory now shown = Unit {0}
+HasShown _ now shown = now ≡ shown
+
 -- the search can begin, it is what the search answers, it lies in the subject, and the options admit it
 pub record IsFound (g : Setting) (f : MatchParts) : Type 0 where
   pub begun : fault_in g ≡ None
@@ -50,8 +64,8 @@ pub record IsFound (g : Setting) (f : MatchParts) : Type 0 where
   pub admitted : IsAdmitted g f.outcome
 
 -- Why there is no match: each refusal has its cause, and where nothing matches the last name is told that was met at any
--- place. Without partial matching, for the forms that are built there is no partial match and no callout. Want of memory
--- may come at any time.
+-- place. A partial match goes from a place at the start or past it to the subject's end. A callout that ends the match is
+-- told by its number. Want of memory may come at any time.
 abbrev pub IsMatchError : Setting → MatchError → Type 0
 IsMatchError g told.BadOffset = fault_in g ≡ Some told.BadOffset
 IsMatchError g (told.BadUtf at) = fault_in g ≡ Some (told.BadUtf at)
@@ -59,9 +73,12 @@ IsMatchError g told.BadUtfOffset = fault_in g ≡ Some told.BadUtfOffset
 IsMatchError g (told.NoMatch mark) =
     (fault_in g ≡ None) × ((match_answer g).answer ≡ meant.NoMatch)
     × (mark ≡ last_name (match_answer g).notes)
-IsMatchError g (told.Partial start end mark) = ⊥
+IsMatchError g (told.Partial start end mark) =
+    (fault_in g ≡ None) × ((match_answer g).answer ≡ meant.PartialFrom start)
+    × (mark ≡ last_name (match_answer g).notes)
+    × (g.start ≤ start) × IsTextPlace g.options g.subject start × (end ≡ length g.subject)
 IsMatchError g told.MatchLimit = (fault_in g ≡ None) × ((match_answer g).answer ≡ meant.Error place.MatchLimit)
 IsMatchError g told.FrameLimit = (fault_in g ≡ None) × ((match_answer g).answer ≡ meant.Error place.FrameLimit)
 IsMatchError g told.RecurseLoop = (fault_in g ≡ None) × ((match_answer g).answer ≡ meant.Error place.Loop)
-IsMatchError g (told.Callout n) = ⊥
+IsMatchError g (told.Callout n) = (fault_in g ≡ None) × ((match_answer g).answer ≡ meant.Error (place.Abort n))
 IsMatchError g told.Memory = Unit {0}

@@ -41,7 +41,7 @@ expand_refusal unwritten.NoGroup = refusal.NoGroup
 expand_refusal unwritten.Unset = refusal.Unset
 expand_refusal unwritten.Memory = refusal.Memory
 
--- the other errors are met by no search here: partial matching is off, and no callout is called
+-- the other errors are met by no search here: partial matching is taken as off, and no callout is called
 abbrev pub search_refusal : MatchError → SubstError
 search_refusal told.BadOffset = refusal.BadOffset
 search_refusal (told.BadUtf at) = refusal.BadUtf at

@@ -8,9 +8,9 @@ use Rattle.pat_tree.specs.declared.options.MatchOptions.{MatchOptions}
 use Rattle.pat_tree.specs.Newlines.{end_kind}
 use Rattle.pat_tree.specs.Pattern.{Pattern}
 use Rattle.ordered_search.specs.PlaceAnswer as place
-use Rattle.ordered_search.specs.PlaceAnswer.{Outcome, PlaceAnswer}
+use Rattle.ordered_search.specs.PlaceAnswer.{Outcome, PlaceAnswer, last_name}
 use Rattle.ordered_search.specs.MatchAnswer as meant
-use Rattle.ordered_search.specs.MatchAnswer.{MatchAnswer, match_answer}
+use Rattle.ordered_search.specs.MatchAnswer.{MatchAnswer, Found, match_answer}
 use Rattle.pcre2_api.specs.Patterns.{setting}
 use Rattle.pcre2_api.specs.Starts.{start_fault}
 use Rattle.pcre2_api.specs.declared.error.MatchError.{MatchError}
@@ -30,12 +30,15 @@ failure_of place.Loop = told.RecurseLoop
 failure_of (place.Abort n) = told.Callout n
 failure_of _ = told.Memory
 
--- no partial match is looked for
-abbrev pub answer_of : MatchAnswer → Answer
-answer_of (meant.Match o) = found o
-answer_of meant.NoMatch = none
-answer_of (meant.PartialFrom p) = none
-answer_of (meant.Error a) = failed (failure_of a)
+-- by the answer of a search, where the subject has this length and this name was met last: a partial match is no match
+abbrev pub answer_of : ℕ → Option ℕ → MatchAnswer → Answer
+answer_of end mark (meant.Match o) = found o
+answer_of end mark meant.NoMatch = none
+answer_of end mark (meant.PartialFrom p) = failed (told.Partial p end mark)
+answer_of end mark (meant.Error a) = failed (failure_of a)
+
+abbrev pub answer_in : ℕ → Found → Answer
+answer_in end f = answer_of end (last_name f.notes) f.answer
 
 -- where an empty match was found, the same place is tried again for another match that begins there
 abbrev pub matching_at : MatchOptions → Bool → MatchOptions
@@ -60,7 +63,7 @@ with_match o m = record m { outcomes = o ∷ m.outcomes }
 unfoldable pub answer_at : Pattern → MatchOptions → List ℕ → ℕ → Answer
 answer_at p matching subject at = elim (start_fault p.options.utf subject at) [
   | Some e ↦ failed e
-  | None ↦ answer_of (match_answer (setting p matching subject at)).answer
+  | None ↦ answer_in (length subject) (match_answer (setting p matching subject at))
 ]
 
 -- whether a CRLF that is a newline stands at a place

@@ -1,35 +1,39 @@
 //! A compiled pattern.
 ghost use Rattle.std.specs.Prelude.{◌≡◌, ◌≤◌, ◌<◌, IfOk, IfErr, IfSome, OnOk, Some, None, length, max, slice_get};
 ghost use Rattle.std.specs.Option.{option_copied};
+ghost use Rattle.std.specs.Borrow.{sem};
 ghost use Rattle.pat_tree.specs.declared.options.PartialMode.TheVariants.{Off};
 ghost use Rattle.pcre_io.specs.declared.callouts.Block.{Block};
 ghost use Rattle.pat_tree.specs.Pattern.{pattern_of};
-ghost use Rattle.pat_tree.specs.Built.{IsBuilt};
-ghost use Rattle.pat_tree.specs.Parts.{tree_of};
 ghost use Rattle.char_sets.specs.Table.{IsTableOf};
-ghost use Rattle.frame_machine.specs.Ready.{AreFactsOf};
+ghost use Rattle.frame_board.specs.Ready.{AreFactsOf};
 ghost use Rattle.pcre2_api.specs.Compiled.{Compiles, IsCompileError, info_of};
 ghost use Rattle.pcre2_api.specs.Patterns.{compiled};
 ghost use Rattle.pcre2_api.specs.Informs.{info_in};
-ghost use Rattle.match_drive.specs.Answer.{IsMatchAnswer};
-ghost use Rattle.ordered_search.specs.Forward.{IsPlainFound};
+ghost use Rattle.frame_state.specs.Room.{IsQuiet};
+ghost use Rattle.pcre2_api.specs.Reserved.{Fits, IsOfMatch};
+ghost use Rattle.pcre2_api.specs.Holding.{Leaves, found_in};
+ghost use Rattle.match_drive.specs.Answer.{IsMatchAnswer, IsOfMatching, IsShown};
+ghost use Rattle.ordered_search.specs.Forward.{IsPlain};
 ghost use Rattle.ordered_search.specs.MatchAnswer.{match_answer};
 ghost use Rattle.uni_text.specs.Characters.{IsChecked};
-ghost use Rattle.pcre2_api.specs.Matched.{search_of, IsFound, IsMatchError};
+ghost use Rattle.pcre2_api.specs.Matched.{search_of, shown_by, AreParts, IsFound, IsMatchError, HasShown};
 ghost use Rattle.match_needs.specs.Texts.{sets_of};
 ghost use Rattle.pcre2_api.specs.Needed.{FindsNone};
 ghost use Rattle.pcre2_api.specs.Starts.{start_fault};
+ghost use Rattle.match_drive.specs.Starts.{AreAlike};
 
 use crate::error::{CompileError, MatchError};
-use crate::found::{Found, Text};
+use crate::found::{Found, Text, found_of};
 use crate::need::{is_within, told_text};
+use crate::seek::{seek, seek_again};
 use crate::starts::{test_place, test_start};
 use char_sets::ClassTable;
 use frame_machine::{Ready, Scratch};
 use match_drive::{MatchAnswer, search};
 use match_items::View;
 use match_needs::ByteText;
-use pat_build::{read, what_is_read_can_be_searched};
+use pat_build::read;
 use pat_check::{Facts, check};
 use pat_lengths::first_refused_is_leftmost;
 use pat_tree::{MatchOptions, NameTable, Options, Tree};
@@ -75,8 +79,7 @@ impl Code {
         ensures refused { IfErr result (IsCompileError (compiled options pattern.now)) }
     {
         let tree = read(alloc, pattern, options)?;
-        // so the tree has the forms of which a table and facts are made, and its leftmost fault is that of the definition
-        what_is_read_can_be_searched();
+        // so a table and facts can be made of the tree, and its leftmost fault is that of the definition
         first_refused_is_leftmost();
         tree.is_sound();
         let classes = ClassTable::build(alloc, &tree)?;
@@ -92,8 +95,9 @@ impl Code {
 
     /// Looks for a match from a start on (pcre2_match). Places are in bytes. Any workspace serves, new or used; the
     /// captures of the match are read there as long as it is borrowed. In UTF the whole subject is looked at first
-    /// (pcre2unicode, "Validity of UTF strings"), also that before the start. Needs a subject of fewer than 4,294,967,295
-    /// bytes, and no partial matching.
+    /// (pcre2unicode, "Validity of UTF strings"), also that before the start. Under partial matching a partial match is told
+    /// as an error (pcre2partial). At each callout it calls `calls`, and follows the answer (pcre2callout). Needs a subject
+    /// of fewer than 4,294,967,295 bytes.
     pub fn match_at<'a, C: Callouts>(
         &'a self,
         subject: &'a [u8],
@@ -103,17 +107,19 @@ impl Code {
         calls: &mut C,
     ) -> Result<Found<'a>, MatchError>
         requires short { length subject.now < 4294967295 }
-        requires off { options.now.«partial» ≡ Off }
+        ensures* peak { sem 𝓛 (Leaves scratch.entry options.now.frame_limit) }
         ensures found { IfOk result (IsFound (search_of self.now options.now subject.now start (C.answers calls.old))) }
         ensures code { IfOk result (λ f. (f.code ≡ self.now) × (f.subject ≡ subject.now)) }
         ensures refused { IfErr result (IsMatchError (search_of self.now options.now subject.now start (C.answers calls.old))) }
+        ensures starts { start_fault self.now.tree.options.utf subject.now start ≡ None
+            → AreAlike (search_of self.now options.now subject.now start (C.answers calls.old)) }
         ensures rule { (block : Block) → C.answers calls.new block ≡ C.answers calls.old block }
-        ensures seen { C.seen calls.new ≡ C.seen calls.old }
+        ensures seen { OnOk result (C.seen calls.new ≡ shown_by (search_of self.now options.now subject.now start (C.answers calls.old)) (C.seen calls.old)) }
+        ensures shown { IfErr result (λ e. HasShown e (C.seen calls.new) (shown_by (search_of self.now options.now subject.now start (C.answers calls.old)) (C.seen calls.old))) }
+        ensures reserved { Fits self.now options.now scratch.old
+            → IsQuiet C.refuses (C.answers calls.old) → IfErr result IsOfMatch }
     {
-        match self.test_start(subject, start) {
-            Ok(()) => self.match_from(subject, start, options, scratch, calls),
-            Err(e) => Err(e),
-        }
+        found_of(seek(scratch, self, subject, start, options, calls))
     }
 
     /// Looks for a further match as [`Code::match_at`] does, in a subject that was looked at before: in UTF it must be
@@ -128,17 +134,15 @@ impl Code {
     ) -> Result<Found<'a>, MatchError>
         requires checked { IsChecked self.now.tree.options.utf subject.now }
         requires short { length subject.now < 4294967295 }
-        requires off { options.now.«partial» ≡ Off }
+        ensures* peak { sem 𝓛 (Leaves scratch.entry options.now.frame_limit) }
         ensures found { IfOk result (IsFound (search_of self.now options.now subject.now start (C.answers calls.old))) }
         ensures code { IfOk result (λ f. (f.code ≡ self.now) × (f.subject ≡ subject.now)) }
         ensures refused { IfErr result (IsMatchError (search_of self.now options.now subject.now start (C.answers calls.old))) }
         ensures rule { (block : Block) → C.answers calls.new block ≡ C.answers calls.old block }
-        ensures seen { C.seen calls.new ≡ C.seen calls.old }
+        ensures seen { OnOk result (C.seen calls.new ≡ shown_by (search_of self.now options.now subject.now start (C.answers calls.old)) (C.seen calls.old)) }
+        ensures shown { IfErr result (λ e. HasShown e (C.seen calls.new) (shown_by (search_of self.now options.now subject.now start (C.answers calls.old)) (C.seen calls.old))) }
     {
-        match test_place(self.options().utf, subject, start) {
-            Ok(()) => self.match_from(subject, start, options, scratch, calls),
-            Err(e) => Err(e),
-        }
+        found_of(seek_again(scratch, self, subject, start, options, calls))
     }
 
     /// Tests whether a search can begin: the start lies in the subject, and in UTF the subject is UTF-8 and a character
@@ -151,28 +155,107 @@ impl Code {
         test_start(self.options().utf, subject, start)
     }
 
-    /// A match from a start at which a search can begin.
-    fn match_from<'a, C: Callouts>(
-        &'a self,
-        subject: &'a [u8],
+    /// The text of a match, whose captures are in the workspace.
+    pub(crate) fn find<C: Callouts>(
+        &self,
+        subject: &[u8],
         start: usize,
         options: &MatchOptions,
-        scratch: &'a mut Scratch,
+        scratch: &mut Scratch,
         calls: &mut C,
-    ) -> Result<Found<'a>, MatchError>
+    ) -> Result<Text, MatchError>
+        requires short { length subject.now < 4294967295 }
+        ensures parts { IfOk result (λ t. AreParts (found_in self.now subject.now t scratch.new)) }
+        ensures found { IfOk result (λ t. IsFound
+            (search_of self.now options.now subject.now start (C.answers calls.old))
+            (found_in self.now subject.now t scratch.new)) }
+        ensures refused { IfErr result (IsMatchError
+            (search_of self.now options.now subject.now start (C.answers calls.old))) }
+        ensures peak { scratch.new.peak ≤ max scratch.old.peak options.now.frame_limit }
+        ensures rule { (block : Block) → C.answers calls.new block ≡ C.answers calls.old block }
+        ensures seen { OnOk result (C.seen calls.new
+            ≡ shown_by
+            (search_of self.now options.now subject.now start (C.answers calls.old))
+            (C.seen calls.old)) }
+        ensures shown { IfErr result (λ e. HasShown e (C.seen calls.new)
+            (shown_by
+            (search_of self.now options.now subject.now start (C.answers calls.old))
+            (C.seen calls.old))) }
+        ensures reserved { Fits self.now options.now scratch.old
+            → IsQuiet C.refuses (C.answers calls.old) → IfErr result IsOfMatch }
+    {
+        match self.test_start(subject, start) {
+            Ok(()) => self.find_from(subject, start, options, scratch, calls),
+            Err(e) => Err(e),
+        }
+    }
+
+    /// The text of a further match, in a subject that was looked at before.
+    pub(crate) fn find_again<C: Callouts>(
+        &self,
+        subject: &[u8],
+        start: usize,
+        options: &MatchOptions,
+        scratch: &mut Scratch,
+        calls: &mut C,
+    ) -> Result<Text, MatchError>
+        requires checked { IsChecked self.now.tree.options.utf subject.now }
+        requires short { length subject.now < 4294967295 }
+        ensures parts { IfOk result (λ t. AreParts (found_in self.now subject.now t scratch.new)) }
+        ensures found { IfOk result (λ t. IsFound
+            (search_of self.now options.now subject.now start (C.answers calls.old))
+            (found_in self.now subject.now t scratch.new)) }
+        ensures refused { IfErr result (IsMatchError
+            (search_of self.now options.now subject.now start (C.answers calls.old))) }
+        ensures peak { scratch.new.peak ≤ max scratch.old.peak options.now.frame_limit }
+        ensures rule { (block : Block) → C.answers calls.new block ≡ C.answers calls.old block }
+        ensures seen { OnOk result (C.seen calls.new
+            ≡ shown_by
+            (search_of self.now options.now subject.now start (C.answers calls.old))
+            (C.seen calls.old)) }
+        ensures shown { IfErr result (λ e. HasShown e (C.seen calls.new)
+            (shown_by
+            (search_of self.now options.now subject.now start (C.answers calls.old))
+            (C.seen calls.old))) }
+    {
+        match test_place(self.options().utf, subject, start) {
+            Ok(()) => self.find_from(subject, start, options, scratch, calls),
+            Err(e) => Err(e),
+        }
+    }
+
+    /// The text of a match, from a start at which a search can begin.
+    fn find_from<C: Callouts>(
+        &self,
+        subject: &[u8],
+        start: usize,
+        options: &MatchOptions,
+        scratch: &mut Scratch,
+        calls: &mut C,
+    ) -> Result<Text, MatchError>
         requires begun { start_fault self.now.tree.options.utf subject.now start ≡ None }
         requires short { length subject.now < 4294967295 }
-        requires off { options.now.«partial» ≡ Off }
-        ensures found { IfOk result (IsFound (search_of self.now options.now subject.now start (C.answers calls.old))) }
-        ensures code { IfOk result (λ f. (f.code ≡ self.now) × (f.subject ≡ subject.now)) }
-        ensures refused { IfErr result (IsMatchError (search_of self.now options.now subject.now start (C.answers calls.old))) }
+        ensures parts { IfOk result (λ t. AreParts (found_in self.now subject.now t scratch.new)) }
+        ensures found { IfOk result (λ t. IsFound
+            (search_of self.now options.now subject.now start (C.answers calls.old))
+            (found_in self.now subject.now t scratch.new)) }
+        ensures refused { IfErr result (IsMatchError
+            (search_of self.now options.now subject.now start (C.answers calls.old))) }
+        ensures peak { scratch.new.peak ≤ max scratch.old.peak options.now.frame_limit }
         ensures rule { (block : Block) → C.answers calls.new block ≡ C.answers calls.old block }
-        ensures seen { C.seen calls.new ≡ C.seen calls.old }
+        ensures seen { OnOk result (C.seen calls.new
+            ≡ shown_by
+            (search_of self.now options.now subject.now start (C.answers calls.old))
+            (C.seen calls.old)) }
+        ensures shown { IfErr result (λ e. HasShown e (C.seen calls.new)
+            (shown_by
+            (search_of self.now options.now subject.now start (C.answers calls.old))
+            (C.seen calls.old))) }
+        ensures reserved { Fits self.now options.now scratch.old
+            → IsQuiet C.refuses (C.answers calls.old) → IfErr result IsOfMatch }
     {
         match self.search(subject, start, options, scratch, calls) {
-            MatchAnswer::Match { keep, to, mark } => {
-                Ok(Found::of(self, subject, scratch, Text { keep, to, mark }))
-            }
+            MatchAnswer::Match { keep, to, mark } => Ok(Text { keep, to, mark }),
             MatchAnswer::NoMatch { mark } => Err(MatchError::NoMatch { mark }),
             MatchAnswer::Partial { start, mark } => Err(MatchError::Partial {
                 start,
@@ -198,12 +281,13 @@ impl Code {
     ) -> MatchAnswer
         requires begun { start_fault self.now.tree.options.utf subject.now start ≡ None }
         requires short { length subject.now < 4294967295 }
-        requires off { options.now.«partial» ≡ Off }
         ensures answer { IsMatchAnswer result scratch.new.spans (match_answer (search_of self.now options.now subject.now start (C.answers calls.old))) }
-        ensures plain { IsPlainFound (search_of self.now options.now subject.now start (C.answers calls.old)) (match_answer (search_of self.now options.now subject.now start (C.answers calls.old))) }
+        ensures plain { IsPlain (search_of self.now options.now subject.now start (C.answers calls.old)) (match_answer (search_of self.now options.now subject.now start (C.answers calls.old))).answer }
         ensures peak { scratch.new.peak ≤ max scratch.old.peak options.now.frame_limit }
         ensures rule { (block : Block) → C.answers calls.new block ≡ C.answers calls.old block }
-        ensures seen { C.seen calls.new ≡ C.seen calls.old }
+        ensures seen { IsShown result (C.seen calls.old) (C.seen calls.new) (match_answer (search_of self.now options.now subject.now start (C.answers calls.old))) }
+        ensures reserved { Fits self.now options.now scratch.old
+            → IsQuiet C.refuses (C.answers calls.old) → IsOfMatching result }
     {
         let ready = Ready {
             tree: &self.tree,
@@ -249,7 +333,6 @@ impl Code {
         ensures tree { result.tree.now ≡ self.now.tree }
         ensures table { IsTableOf result.tree.now result.classes.now }
         ensures facts { AreFactsOf result.tree.now result.facts.now }
-        ensures built { IsBuilt (tree_of result.tree.now) }
     {
         Ready {
             tree: &self.tree,

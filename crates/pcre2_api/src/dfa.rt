@@ -1,6 +1,5 @@
 //! A match by all ends at one place.
 ghost use Rattle.std.specs.Prelude.{◌≡◌, ◌<◌, None, IfOk, IfErr, length};
-ghost use Rattle.pat_tree.specs.declared.options.PartialMode.TheVariants.{Off};
 ghost use Rattle.match_drive.specs.Asked.{passed_over};
 ghost use Rattle.pcre2_api.specs.Matched.{search_of};
 ghost use Rattle.pcre2_api.specs.Starts.{start_fault};
@@ -40,24 +39,20 @@ pub enum DfaError {
     Cond,
     /// The pattern has more than 65,536 nodes with its repeats written out.
     TooLarge,
-    /// The pattern holds an atomic group or a lookaround: these can't be matched so yet.
-    NotBuilt,
-    /// No place has an end that the options admit.
+    /// No place has an end that the options admit, nor a partial match where one is looked for.
     NoMatch,
-    /// A partial match (pcre2partial).
+    /// A partial match, which runs from a place to the subject's end (pcre2partial).
     Partial { start: usize, end: usize },
     /// Want of memory.
     Memory,
 }
 
 impl DfaError {
-    /// The number of the C library, and 0 where it has none (pcre2api, "Error returns from
-    /// pcre2_dfa_match()").
+    /// The number of the C library (pcre2api, "Error returns from pcre2_dfa_match()").
     pub fn number(self) -> i32
         ensures { result ≡ number_of self }
     {
         match self {
-            DfaError::NotBuilt => 0,
             DfaError::NoMatch => -1,
             DfaError::Partial { .. } => -2,
             DfaError::BadUtf { .. } => -3,
@@ -75,7 +70,6 @@ impl DfaError {
         ensures { result.now ≡ text_of self }
     {
         match self {
-            DfaError::NotBuilt => b"not built",
             DfaError::NoMatch => b"no match",
             DfaError::Partial { .. } => b"partial match",
             DfaError::BadUtf { .. } => b"invalid UTF-8 at offset ",
@@ -111,7 +105,6 @@ impl From<GraphError> for DfaError {
             GraphError::Item => DfaError::Item,
             GraphError::Cond => DfaError::Cond,
             GraphError::TooLarge => DfaError::TooLarge,
-            GraphError::NotBuilt => DfaError::NotBuilt,
             GraphError::Memory => DfaError::Memory,
         }
     }
@@ -130,9 +123,11 @@ fn start_error(e: MatchError) -> DfaError
 
 impl Code {
     /// Looks for all ends of a match from a start on: at the first place with an end that the options
-    /// admit, whatever the greed (pcre2_dfa_match). A start where no match can begin is refused first,
-    /// as [`Code::match_at`] refuses it; then what isn't supported, the leftmost item deciding. Captures
-    /// are ignored. Needs a subject of fewer than 4,294,967,295 bytes, and no partial matching.
+    /// admit, whatever the greed (pcre2_dfa_match). Under hard partial matching a place is a partial
+    /// match before its ends count, where a test on the way from it reaches the subject's end; under
+    /// soft partial matching, where it has no end (pcre2partial). A start where no match can begin is
+    /// refused first, as [`Code::match_at`] refuses it; then what isn't supported, the leftmost item
+    /// deciding. Captures are ignored. Needs a subject of fewer than 4,294,967,295 bytes.
     pub fn dfa_match<L: Ledger>(
         &self,
         alloc: Global,
@@ -143,7 +138,6 @@ impl Code {
         steps: &mut Steps<L>,
     ) -> Result<DfaFound, DfaError>
         requires short { length subject.now < 4294967295 }
-        requires off { options.now.«partial» ≡ Off }
         ensures found { IfOk result (IsDfaFound
             (search_of self.now options.now subject.now start passed_over)) }
         ensures refused { IfErr result (IsDfaError
@@ -167,7 +161,6 @@ impl Code {
     ) -> Result<DfaFound, DfaError>
         requires begun { start_fault self.now.tree.options.utf subject.now start ≡ None }
         requires short { length subject.now < 4294967295 }
-        requires off { options.now.«partial» ≡ Off }
         ensures found { IfOk result (IsDfaFound
             (search_of self.now options.now subject.now start passed_over)) }
         ensures refused { IfErr result (IsDfaError

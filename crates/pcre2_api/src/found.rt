@@ -1,12 +1,15 @@
 //! A match.
-ghost use Rattle.std.specs.Prelude.{◌≡◌, length, nat_le};
+ghost use Rattle.std.specs.Prelude.{◌≡◌, IfOk, length, nat_le};
 ghost use Rattle.std.specs.List.{list_any};
 ghost use Rattle.std.specs.Str.{bytes_eq};
 ghost use Rattle.std.specs.Option.{option_copied};
 ghost use Rattle.pcre2_api.specs.Captured.{span_of, group_of, named_of, top_of, mark_of};
 ghost use Rattle.pcre2_api.specs.Matched.{AreParts};
+ghost use Rattle.pcre2_api.specs.Holding.{parts_of, as_found, as_reserved};
 
 use crate::code::Code;
+use crate::error::MatchError;
+use crate::reserved::ReservedError;
 use frame_machine::Scratch;
 use frame_store::Span;
 use std::marker::Model;
@@ -19,6 +22,15 @@ pub struct Found<'a> {
     subject: &'a [u8],
     scratch: &'a Scratch,
     text: Text,
+}
+
+/// What a search found, and the workspace that has its captures.
+#[derive(Drop)]
+pub(crate) struct Held<'a> {
+    pub code: &'a Code,
+    pub subject: &'a [u8],
+    pub scratch: &'a Scratch,
+    pub text: Text,
 }
 
 /// The text of a match, and its mark.
@@ -47,25 +59,41 @@ impl<'a> Model for Found<'a> {
     }) };
 }
 
-impl<'a> Found<'a> {
-    /// A match with this text, whose captures are in the workspace.
-    pub(crate) fn of(
-        code: &'a Code,
-        subject: &'a [u8],
-        scratch: &'a Scratch,
-        text: Text,
-    ) -> Found<'a>
-        requires { AreParts (record { code = code.now; subject = subject.now; outcome = record { keep = text.keep; to = text.to; mark = text.mark; caps = scratch.now.spans } }) }
-        ensures { result ≡ record { code = code.now; subject = subject.now; outcome = record { keep = text.keep; to = text.to; mark = text.mark; caps = scratch.now.spans } } }
-    {
-        Found {
-            code,
-            subject,
-            scratch,
-            text,
-        }
+/// The match that a search found.
+pub(crate) fn found_of<'a>(held: Result<Held<'a>, MatchError>) -> Result<Found<'a>, MatchError>
+    requires { IfOk held (λ h. AreParts (parts_of h)) }
+    ensures { result ≡ as_found held.entry }
+{
+    match held {
+        Ok(held) => Ok(Found {
+            code: held.code,
+            subject: held.subject,
+            scratch: held.scratch,
+            text: held.text,
+        }),
+        Err(e) => Err(e),
     }
+}
 
+/// The same of a search in reserved room.
+pub(crate) fn reserved_found<'a>(
+    held: Result<Held<'a>, ReservedError>,
+) -> Result<Found<'a>, ReservedError>
+    requires { IfOk held (λ h. AreParts (parts_of h)) }
+    ensures { result ≡ as_reserved held.entry }
+{
+    match held {
+        Ok(held) => Ok(Found {
+            code: held.code,
+            subject: held.subject,
+            scratch: held.scratch,
+            text: held.text,
+        }),
+        Err(e) => Err(e),
+    }
+}
+
+impl<'a> Found<'a> {
     /// Whether the subject is one in UTF.
     pub fn is_utf(&self) -> bool
         ensures { result ≡ self.now.code.tree.options.utf }

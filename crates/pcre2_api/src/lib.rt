@@ -2,12 +2,15 @@
 //! them or gets from them is handed on here, whichever crate it stands in.
 #![tactic(auto)]
 
+mod alike;
 mod code;
 mod dfa;
 mod error;
 mod found;
 mod laws;
 mod need;
+mod reserved;
+mod seek;
 mod starts;
 mod subst_error;
 mod substitute;
@@ -26,6 +29,7 @@ pub use laws::worked_substitutions;
 pub use match_needs::ByteText;
 pub use pat_tree::{Bsr, MatchOptions, Newline, Options, PartialMode, Steps};
 pub use pcre_io::{Block, Callouts, NoCallouts};
+pub use reserved::ReservedError;
 pub use starts::is_text;
 pub use subst_error::SubstError;
 pub use substitute::{SubstOptions, Substituted};

@@ -3,7 +3,6 @@ ghost use Rattle.std.specs.Prelude.{◌≡◌, ◌≤◌, ◌<◌, ◌++◌, ◌
 ghost use Rattle.std.specs.Str.{is_utf8};
 ghost use Rattle.std.specs.Str.Lossy.{utf8_valid_len};
 ghost use Rattle.uni_text.specs.Characters.{IsChecked};
-ghost use Rattle.pat_tree.specs.declared.options.PartialMode.TheVariants.{Off};
 ghost use Rattle.pat_tree.specs.Pattern.{pattern_of};
 ghost use Rattle.pcre2_api.specs.declared.subst_error.SubstError.TheVariants as refusal;
 ghost use Rattle.pcre2_api.specs.Walks.{answer};
@@ -189,7 +188,6 @@ impl Rewriting<'_> {
     ) -> Result<Search, SubstError>
         requires checked { IsChecked self.now.code.now.tree.options.utf self.now.subject.now }
         requires short { length self.now.subject.now < 4294967295 }
-        requires off { self.now.options.«partial» ≡ Off }
         requires from { from ≤ at }
         ensures comes { IfOk result (λ s. IsSearch (length self.now.subject.now) s
             (answer (pattern_of self.now.code.now.tree) self.now.options self.now.subject.now again
@@ -250,7 +248,6 @@ impl Rewriting<'_> {
     ) -> Result<Substituted, SubstError>
         requires checked { IsChecked self.now.code.now.tree.options.utf self.now.subject.now }
         requires short { length self.now.subject.now < 4294967295 }
-        requires off { self.now.options.«partial» ≡ Off }
         ensures replaced { IfOk result (λ s.
             all_replaced (work_of self.now) self.now.options start ≡ Ok s) }
         ensures refused { IfErr result (Refuses

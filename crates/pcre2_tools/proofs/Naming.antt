@@ -7,6 +7,8 @@ use Rattle.line_feed.specs.Rows.{Input}
 use Rattle.line_feed.specs.Hears.{Hears}
 use Rattle.dir_walk.specs.declared.lists.Target.{Target}
 use Rattle.tool_in.specs.Asked.{Asked, StandFor}
+use Rattle.tool_in.specs.Absent.{AbsentBy}
+use Rattle.tool_in.proofs.Absence.{absent-none}
 use Rattle.tool_in.proofs.Taking.{hears-any}
 use Rattle.tool_out.specs.Printed.{Printed}
 use Rattle.tool_out.specs.Outcomes.{RunOutcome, said, Runs}
@@ -19,11 +21,11 @@ use Rattle.pcre2_tools.specs.ToolText.{is_grep, is_test, text_by, tool_text, Ask
 pub record SaysTo (words : List (List ℕ)) (text : List ℕ) (status : ℕ) : Type 0 where
   pub asks : (contents : Option Contents) (first last : ℕ) → ToolAsks contents first last words []
   pub says : (given : List Asked) → tool_text words given ≡ said text status
-  pub ties : (contents : Option Contents) (first last : ℕ) (given : List Asked) (answer : ℕ) (before after : Told) → ToolTies contents first last words given answer before after
+  pub ties : (contents : Option Contents) (first last answer : ℕ) (before after : Told) → ToolTies contents first last words [] answer before after
 
 pub says-none : {A : Type 0} (f : A → List ℕ) (words : List A) → length words < 1 → SaysTo (map f words) (codes "unknown tool") 2
 says-none f words few =
-    subst (λ ws. SaysTo ws (codes "unknown tool") 2) (sym (no-word f words few)) (record { asks = λ contents first last. refl; says = λ given. refl; ties = λ contents first last given answer before after. tt })
+    subst (λ ws. SaysTo ws (codes "unknown tool") 2) (sym (no-word f words few)) (record { asks = λ contents first last. refl; says = λ given. refl; ties = λ contents first last answer before after. tt })
 
 pub says-other : {A : Type 0} (f : A → List ℕ) (words : List A) (tool : A) → 1 ≤ length words → tool ≡ get_or words 0 tool → is_grep (f tool) ≡ false → is_test (f tool) ≡ false
     → SaysTo (map f words) (codes "unknown tool") 2
@@ -32,7 +34,7 @@ says-other f words tool some is other test =
     subst (λ ws. SaysTo ws (codes "unknown tool") 2) (sym (first-word f words tool some is)) (record {
       asks = λ contents first last. subst (λ t. AsksIf t (is_test (f tool)) contents first last rest []) (sym other) (subst (λ t. AsksIf false t contents first last rest []) (sym test) refl);
       says = λ given. (λ i. text_by (other i) (test i) rest given);
-      ties = λ contents first last given answer before after. subst (λ t. TiesIf t contents first last rest given answer before after) (sym other) tt;
+      ties = λ contents first last answer before after. subst (λ t. TiesIf t contents first last rest [] answer before after) (sym other) (absent-none contents first last);
     })
 
 -- it was written
@@ -43,7 +45,7 @@ pub runs-said : (t : Told) (contents : Option Contents) (first last : ℕ) (word
 runs-said t contents first last words text status result old new says runs = let any = hears-any t in (
   any.0,
   any.1,
-  ([], says.asks contents first last, ([], tt, subst (λ o. Runs o result old new) (sym (says.says [])) runs, says.ties contents first last [] result t t)),
+  ([], says.asks contents first last, ([], tt, subst (λ o. Runs o result old new) (sym (says.says [])) runs, says.ties contents first last result t t)),
 )
 
 -- The words after the tool's name.
@@ -76,10 +78,10 @@ module _ {A : Type 0} (f : A → List ℕ) (words : List A) (tool : A) (some : 1
 
     -- so does pcre2test
     pub runs-test : is_grep (f tool) ≡ false → is_test (f tool) ≡ true
-        → (heard : Input) × Hears before after heard × ((given : List Asked) × StandFor contents heard (script.asked_targets after_name) given × Runs (script.text_of after_name given) result old new)
+        → (heard : Input) × Hears before after heard × ((given : List Asked) × StandFor contents heard (script.asked_targets after_name) given × Runs (script.text_of after_name given) result old new × AbsentBy contents first last given)
         → Found (ToolAsks contents first last (map f words)) (tool_text (map f words)) (ties_of (map f words))
     runs-test other named found =
         found-whole
         (subst (λ t. Found (AsksIf t (is_test (f tool)) contents first last after_name) (text_by t (is_test (f tool)) after_name) (ties_if t)) (sym other)
         (subst (λ t. Found (AsksIf false t contents first last after_name) (text_by false t after_name) (ties_if false)) (sym named)
-        (found.0, found.1, (script.asked_targets after_name, refl, (found.2.0, found.2.1, found.2.2, tt)))))
+        (found.0, found.1, (script.asked_targets after_name, refl, (found.2.0, found.2.1, found.2.2, found.2.3)))))

@@ -5,6 +5,7 @@ use Rattle.pcre_io.specs.Told.{Told}
 use Rattle.pcre_io.specs.Files.{Contents}
 use Rattle.dir_walk.specs.declared.lists.Target.{Target}
 use Rattle.tool_in.specs.Asked.{Asked}
+use Rattle.tool_in.specs.Absent.{AbsentBy}
 use Rattle.tool_out.specs.Outcomes.{RunOutcome, said}
 use Rattle.grep_run.specs.Asks.{AsksFor}
 use Rattle.grep_run.specs.Leaves.{LeavesInput, RunTies}
@@ -36,9 +37,10 @@ abbrev pub TiesIf : Bool → Option Contents → ℕ → ℕ → List (List ℕ)
     → Type 0
 TiesIf true contents first last words given status before after =
     RunTies contents first last given status (LeavesInput words given before after)
-TiesIf false contents first last words given status before after = ⊤
+TiesIf false contents first last words given status before after =
+    AbsentBy contents first last given
 
--- A file that pcre2grep was to search is absent only where a fault was counted. Where its scan of standard input ends early,
+-- A file that a tool was to read is absent only where a fault was counted. Where pcre2grep's scan of standard input ends early,
 -- little past its last line was taken of it.
 abbrev pub ToolTies : Option Contents → ℕ → ℕ → List (List ℕ) → List Asked → ℕ → Told → Told
     → Type 0

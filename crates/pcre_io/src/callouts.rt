@@ -1,5 +1,5 @@
 //! What a search calls at callouts.
-ghost use Rattle.std.specs.Prelude.{◌≡◌, ℕ, ℤ, List, Option, IfOk, OnOk, OnErr};
+ghost use Rattle.std.specs.Prelude.{◌≡◌, ℕ, ℤ, Bool, true, List, Option, IfOk, OnOk, OnErr};
 ghost use Rattle.pcre_io.specs.declared.callouts.Block.{Block};
 ghost use Rattle.pcre_io.specs.Called.{SeenGrows};
 
@@ -31,13 +31,17 @@ pub trait Callouts {
     /// The blocks that it was shown, in order, where it tells them.
     ghost seen: { Self → Option (List Block) };
 
+    /// Whether want of memory may refuse a call.
+    ghost refuses: { Bool };
+
     /// Shows a block. The search goes on after 0, fails here after a positive answer, and ends with a negative one (pcre2callout,
     /// "Return value from callouts"). Want of memory alone refuses it.
     fn call(&mut self, block: &Block) -> Result<i32, Memory>
         ensures answer { IfOk result (λ n. n ≡ answers self.old block.now) }
         ensures rule { (other : Block) → answers self.new other ≡ answers self.old other }
         ensures seen { OnOk result (SeenGrows (seen self.old) (seen self.new) block.now) }
-        ensures refused { OnErr result (seen self.new ≡ seen self.old) };
+        ensures refused { OnErr result (seen self.new ≡ seen self.old) }
+        ensures memory { OnErr result (refuses ≡ true) };
 }
 
 /// Callouts that are passed over: each is answered by 0, and none is kept.
@@ -45,11 +49,13 @@ pub trait Callouts {
 pub struct NoCallouts;
 
 impl Callouts for NoCallouts {
-    ghost use Rattle.std.specs.Prelude.{pos, None};
+    ghost use Rattle.std.specs.Prelude.{false, pos, None};
 
     ghost answers = { λ _ _. pos 0 };
 
     ghost seen = { λ _. None };
+
+    ghost refuses = { false };
 
     fn call(&mut self, _block: &Block) -> Result<i32, Memory> {
         Ok(0)

@@ -14,8 +14,6 @@ mod names;
 mod std_files;
 mod std_sink;
 mod std_source;
-#[cfg(test)]
-mod tests;
 mod traits;
 mod whole;
 

@@ -35,11 +35,3 @@ pub fn fault_of(alloc: Global, pattern: &[u8], options: Options) -> Option<(i32,
         _ => None,
     }
 }
-
-/// Without options each pattern has a fault of this number at this place.
-pub fn are_refused(rt: &impl Abort, alloc: Global, rows: &[(&str, i32, usize)]) {
-    for (pattern, number, at) in rows {
-        let fault = fault_of(alloc, pattern.as_bytes(), Options::PLAIN);
-        assert_eq!(rt; fault, Some((*number, *at)), "{pattern}");
-    }
-}

@@ -155,7 +155,19 @@ fn node_text(alloc: Global, tree: &Tree, node: &Node, texts: &[String]) -> Resul
         Node::Anchor(kind) => text.push_str(anchor(*kind))?,
         Node::KeepOut => text.push_str("\\K")?,
         Node::VerbNode(verb) => verb_text(&mut text, tree, *verb)?,
-        _ => text.push_str("other")?,
+        Node::Callout {
+            number,
+            text_from,
+            text_to,
+            item_at,
+            item_len,
+        } => {
+            write!(text, "C{number}")?;
+            if *text_to > 0 {
+                write!(text, "[{text_from},{text_to}]")?;
+            }
+            write!(text, ":{item_at}+{item_len}")?;
+        }
     }
     Ok(text)
 }

@@ -1,5 +1,4 @@
-//! Patterns in UTF and UCP (pcre2unicode).
-use crate::answers::fault_of;
+//! Patterns in UTF and UCP that are read (pcre2unicode).
 use crate::shown::shown;
 use pat_build::read;
 use pat_tree::Options;
@@ -65,6 +64,43 @@ fn start_items_set_utf_and_ucp(rt: HostRuntime) -> Result<(), Fail> {
     are_read(&rt, rt.alloc(), Options::PLAIN, &ROWS)
 }
 
+/// Letters, decimal digits and underscores of Unicode make names.
+#[test]
+fn names_past_ascii(rt: HostRuntime) -> Result<(), Fail> {
+    static ROWS: [(&'static str, &'static str); 8] = [
+        (
+            "(?<stra\u{df}e>a)\\k<stra\u{df}e>",
+            "(<(1:a) =1>) stra\u{df}e=1",
+        ),
+        (
+            "(?'\u{3c3}\u{663}_'a)(?&\u{3c3}\u{663}_)",
+            "(<(1:a) @1>) \u{3c3}\u{663}_=1",
+        ),
+        (
+            "(?P<\u{10400}_\u{1d7d9}>a)(?P=\u{10400}_\u{1d7d9})",
+            "(<(1:a) =1>) \u{10400}_\u{1d7d9}=1",
+        ),
+        (
+            "(?<\u{e9}>a)(?(<\u{e9}>)b|c)(?(\u{e9})d)",
+            "(<(1:a) (?[1]b|c) (?[1]d)>) \u{e9}=1",
+        ),
+        ("(?<\u{e9}>a(?(R&\u{e9})b))", "((1:<a (?R[1]b)>)) \u{e9}=1"),
+        (
+            "(?<\u{e9}>b)\\g<\u{e9}>\\g{\u{e9}}(?P>\u{e9})",
+            "(<(1:b) @1 =1 @1>) \u{e9}=1",
+        ),
+        (
+            "(?<\u{f6}>a)(?<z>b)(?<\u{e9}>c)",
+            "(<(1:a) (2:b) (3:c)>) z=2 \u{e9}=3 \u{f6}=1",
+        ),
+        (
+            "(?J)(?<\u{e9}>a)(?<\u{e9}>b)\\k<\u{e9}>",
+            "(<(1:a) (2:b) =1=2>) \u{e9}=1 \u{e9}=2",
+        ),
+    ];
+    are_read(&rt, rt.alloc(), UTF, &ROWS)
+}
+
 #[test]
 fn literal_text_is_characters(rt: HostRuntime) -> Result<(), Fail> {
     let literal = Options {
@@ -77,65 +113,4 @@ fn literal_text_is_characters(rt: HostRuntime) -> Result<(), Fail> {
         ("", "(-)"),
     ];
     are_read(&rt, rt.alloc(), literal, &ROWS)
-}
-
-/// Each kind of bad UTF-8 and where the longest part that is good ends (RFC 3629, section 3).
-const BAD: [(&[u8], usize); 13] = [
-    (b"\x80", 0),
-    (b"a\xFF", 1),
-    (b"\xC3", 0),
-    (b"a\xC3(", 1),
-    (b"a\xE2\x82", 1),
-    (b"\xE2\x28\xA1", 0),
-    (b"\xC0\x80", 0),
-    (b"\xC3\xA9\xC1\xBF", 2),
-    (b"\xE0\x9F\xBF", 0),
-    (b"ab\xED\xA0\x80", 2),
-    (b"\xF0\x8F\xBF\xBF", 0),
-    (b"\xE2\x82\xAC\xF4\x90\x80\x80", 3),
-    (b"\xF5\x80\x80\x80", 0),
-];
-
-#[test]
-fn bad_utf_8(rt: HostRuntime) {
-    let literal = Options {
-        literal: true,
-        ..UTF
-    };
-    for (pattern, at) in BAD {
-        assert_eq!(rt;
-            fault_of(rt.alloc(), pattern, UTF),
-            Some((-3, at)),
-            "{pattern:?}"
-        );
-        assert_eq!(rt;
-            fault_of(rt.alloc(), pattern, literal),
-            Some((-3, at)),
-            "{pattern:?}"
-        );
-    }
-}
-
-#[test]
-fn faults_and_their_order(rt: HostRuntime) {
-    const ROWS: [(&[u8], i32, usize); 14] = [
-        (b"(*UTF)(\xFF", -3, 7),
-        (b"(*UTF)[\xFF", -3, 7),
-        (b"(*UTF)\\\xFF", -3, 7),
-        (b"(*UTF)(?<\xFF", -3, 9),
-        (b"(*UTF)(*FOO)\xFF", -3, 12),
-        (b"(*UTF)(*LIMIT_MATCH=x)\xFF", 160, 6),
-        (b"(*LIMIT_MATCH=x)(*UTF)\xFF", 160, 0),
-        (b"(*UCP)(\xFF", 114, 8),
-        (b"a(*UTF)\xFF", 160, 1),
-        (b"(*UTF)a(", 114, 8),
-        (b"(*UTF)\\p{Nosuch}", 147, 6),
-        (b"(*UTF)\\x{110000}", 134, 6),
-        (b"(*UTF)[\\x{d800}]", 173, 7),
-        (b"(*UTF)\xC3\xA9*+*", 109, 10),
-    ];
-    for (pattern, number, at) in ROWS {
-        let fault = fault_of(rt.alloc(), pattern, Options::PLAIN);
-        assert_eq!(rt; fault, Some((number, at)), "{pattern:?}");
-    }
 }

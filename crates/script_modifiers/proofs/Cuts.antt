@@ -1,11 +1,8 @@
 -- Lists cut at commas.
-use Rattle.std.proofs.Common.{◌≡◌, ℕ, ◌+◌, ◌<◌, ◌≤◌, Bool, true, false, cond, ltb, List, [], ◌∷◌, length, take, drop, Some, None, refl, ap, ◌∙◌, subst, arith}
+use Rattle.std.proofs.Common.{◌≡◌, ℕ, ◌+◌, ◌<◌, ◌≤◌, Bool, true, false, cond, ltb, List, [], ◌∷◌, length, take, drop, Some, None, refl, ap, ◌∙◌, arith}
 use Rattle.std.specs.List.{position, position_or_len, slice_split}
 use Rattle.std.proofs.lemmas.List.Splits.{slice_split_first, slice_split-cons_no}
 use borrow.Author.Tests.{ltb-true, ltb-false}
-use Rattle.script_modifiers.specs.declared.refusal.ListError.{ListError}
-use Rattle.script_modifiers.specs.declared.refusal.ListError.TheVariants.{Refused, Memory}
-use Rattle.script_modifiers.specs.Refusals.{Reads, ◌>>=◌, Refuses}
 
 given_place : (n m i : ℕ) (b : Bool) → ltb n m ≡ b → cond b (Some n) None ≡ Some i → (n < m) × (n ≡ i)
 given_place n m i true less same = (ltb-true n m less, cc)
@@ -30,11 +27,3 @@ split_past p (x ∷ xs) past = one_more p x xs (p x) refl past (split_past p xs)
 
 pub split_nowhere : (p : ℕ → Bool) (xs : List ℕ) → position p xs ≡ None → slice_split p xs ≡ xs ∷ []
 split_nowhere p xs none = split_past p xs (no_place (position_or_len p xs) (length xs) (ltb (position_or_len p xs) (length xs)) refl none)
-
--- a refusal of the first is one of the whole
-pub refuses_first : {A B : Type 0} (first : Reads A) (rest : A → Reads B) (error : ListError) → Refuses first error → Refuses (first >>= rest) error
-refuses_first first rest (Refused refusal) h = ap (λ read. read >>= rest) h
-refuses_first first rest Memory h = tt
-
-pub refuses_as : {A : Type 0} (read whole : Reads A) (error : ListError) → read ≡ whole → Refuses read error → Refuses whole error
-refuses_as read whole error same h = subst (λ r. Refuses r error) same h

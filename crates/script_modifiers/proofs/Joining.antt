@@ -1,5 +1,5 @@
 -- Letters that are joined, from the front on.
-use Rattle.std.proofs.Common.{◌≡◌, ℕ, ◌<◌, Bool, true, false, cond, ◌&&◌, List, [], ◌∷◌, length, drop, get_or, eqb, Option, Some, None, refl, ap, ◌∙◌, arith}
+use Rattle.std.proofs.Common.{◌≡◌, ℕ, ◌<◌, Bool, true, false, cond, ◌&&◌, List, [], ◌∷◌, length, drop, get_or, eqb, Option, Some, refl, ap, ◌∙◌, arith}
 use Rattle.std.specs.Option.{option_map, option_and_then}
 use Rattle.script_modifiers.specs.declared.modifiers.Modifiers.{Modifiers}
 use Rattle.script_modifiers.specs.declared.kinds.Flag.{Flag}
@@ -28,8 +28,3 @@ pub letters_one : (p : Bool) (ls : List ℕ) (m : Modifiers) (f : Flag) → 0 < 
 letters_one p [] m f some h known = absurd (omega arith)
 letters_one p (c ∷ []) m f some h known = ap (option_map (λ f. flag_given f true m)) known
 letters_one p (c ∷ d ∷ rest) m f some h known = ap (λ b. cond b (pair_given p rest m) (letter_then p (d ∷ rest) m (by_letter p c))) h ∙ ap (letter_then p (d ∷ rest) m) known
-
-pub letters_none : (p : Bool) (ls : List ℕ) (m : Modifiers) → 0 < length ls → (p && begins_xx ls) ≡ false → by_letter p (get_or ls 0 0) ≡ None → letters_given p ls m ≡ None
-letters_none p [] m some h known = absurd (omega arith)
-letters_none p (c ∷ []) m some h known = ap (option_map (λ f. flag_given f true m)) known
-letters_none p (c ∷ d ∷ rest) m some h known = ap (λ b. cond b (pair_given p rest m) (letter_then p (d ∷ rest) m (by_letter p c))) h ∙ ap (letter_then p (d ∷ rest) m) known

@@ -13,6 +13,8 @@ use Rattle.line_feed.specs.Hears.{Hears}
 use Rattle.dir_walk.specs.declared.lists.Target.{Target}
 use Rattle.dir_walk.specs.declared.lists.Target.TheVariants as targets
 use Rattle.tool_in.specs.Asked.{Asked, asked, input_of, Opened, StandFor}
+use Rattle.tool_in.specs.Absent.{AbsentBy}
+use Rattle.tool_in.proofs.Absence.{absent-none, stand-there}
 use Rattle.tool_in.proofs.Taking.{hears-any, stand-any}
 use Rattle.tool_out.specs.Outcomes.{RunOutcome, Runs, RunsSome, RunsAll, Stops, said}
 use Rattle.tool_out.specs.Outcomes as outcomes
@@ -161,28 +163,29 @@ module _ (n : ℕ) (old new err : Kept) where
   pub generated-part : (e : IoError) → Writes {T = Unit {0}} (generated_text n) old new (Err e) → RunsBy (generated_outcome n) (printed old err) (printed new err) (Err e)
   generated-part e w = record { out = w.part; err = prefix-none err.held []; cause = counts-out old old new err e refl w.cause }
 
--- by what the words are read as
-abbrev pub Found : Told → Told → Option Contents → Option TestWords → Printed → Printed → Result ℕ IoError → Type 0
-Found before after contents words old new result =
-    (heard : Input) × Hears before after heard × ((given : List Asked) × StandFor contents heard (asked_by words) given × RunsBy (text_by words given) old new result)
+-- by what the words are read as, where the count of faults of the files rose from `first` to `last`
+abbrev pub Found : Told → Told → Option Contents → ℕ → ℕ → Option TestWords → Printed → Printed → Result ℕ IoError → Type 0
+Found before after contents first last words old new result =
+    (heard : Input) × Hears before after heard × ((given : List Asked) × StandFor contents heard (asked_by words) given × RunsBy (text_by words given) old new result × AbsentBy contents first last given)
 
-abbrev pub FoundOf : Told → Told → Option Contents → List (List ℕ) → Printed → Printed → Result ℕ IoError → Type 0
-FoundOf before after contents words old new result =
-    (heard : Input) × Hears before after heard × ((given : List Asked) × StandFor contents heard (asked_targets words) given × RunsBy (text_of words given) old new result)
+abbrev pub FoundOf : Told → Told → Option Contents → ℕ → ℕ → List (List ℕ) → Printed → Printed → Result ℕ IoError → Type 0
+FoundOf before after contents first last words old new result =
+    (heard : Input) × Hears before after heard × ((given : List Asked) × StandFor contents heard (asked_targets words) given × RunsBy (text_of words given) old new result × AbsentBy contents first last given)
 
-pub found-read : (before after : Told) (contents : Option Contents) (words : List (List ℕ)) (read : Option TestWords) (old new : Printed) (result : Result ℕ IoError) → words_of words ≡ read
-    → Found before after contents read old new result → FoundOf before after contents words old new result
+pub found-read : (before after : Told) (contents : Option Contents) (first last : ℕ) (words : List (List ℕ)) (read : Option TestWords) (old new : Printed) (result : Result ℕ IoError) → words_of words ≡ read
+    → Found before after contents first last read old new result → FoundOf before after contents first last words old new result
 unfolding asked_targets text_of
-found-read before after contents words read old new result is found = subst (λ r. Found before after contents r old new result) (sym is) found
+found-read before after contents first last words read old new result is found = subst (λ r. Found before after contents first last r old new result) (sym is) found
 
 -- nothing is asked for
-pub found-refused : (t : Told) (contents : Option Contents) (words : List (List ℕ)) (old new : Printed) (result : Result ℕ IoError) → words_of words ≡ None
-    → RunsBy (said (codes "pcre2test: bad arguments") 1) old new result → FoundOf t t contents words old new result
-found-refused t contents words old new result is runs = let any = hears-any t in found-read t t contents words None old new result is (any.0, any.1, ([], tt, runs))
+pub found-refused : (t : Told) (contents : Option Contents) (first last : ℕ) (words : List (List ℕ)) (old new : Printed) (result : Result ℕ IoError) → words_of words ≡ None
+    → RunsBy (said (codes "pcre2test: bad arguments") 1) old new result → FoundOf t t contents first last words old new result
+found-refused t contents first last words old new result is runs =
+    let any = hears-any t in found-read t t contents first last words None old new result is (any.0, any.1, ([], tt, runs, absent-none contents first last))
 
 -- memory lacked before anything was read
-pub found-lacks : (t : Told) (contents : Option Contents) (words : List (List ℕ)) (p : Printed) → FoundOf t t contents words p p (Err Memory)
-found-lacks t contents words p =
+pub found-lacks : (t : Told) (contents : Option Contents) (first last : ℕ) (words : List (List ℕ)) (p : Printed) → FoundOf t t contents first last words p p (Err Memory)
+found-lacks t contents first last words p =
     let any = hears-any t in
     let stands = stand-any contents any.0 (asked_targets words) in
-    (any.0, any.1, (stands.0, stands.1, lacks (text_of words stands.0) p))
+    (any.0, any.1, (stands.0, stands.1, lacks (text_of words stands.0) p, stand-there contents first last any.0 (asked_targets words)))

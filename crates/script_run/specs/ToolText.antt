@@ -5,7 +5,7 @@ use Rattle.tool_out.specs.Texts.{line, text_if}
 use Rattle.tool_out.specs.Outcomes.{RunOutcome, said}
 use Rattle.dir_walk.specs.declared.lists.Target.{Target}
 use Rattle.dir_walk.specs.declared.lists.Target.TheVariants as targets
-use Rattle.tool_in.specs.Asked.{Asked}
+use Rattle.tool_in.specs.Asked.{Asked, asked}
 use Rattle.test_script.specs.declared.plan.TestPlan.{TestPlan}
 use Rattle.test_run.specs.TestText.{Tested, test_text}
 use Rattle.test_gen.specs.Texts.{generated_text}
@@ -61,6 +61,10 @@ text_on plan name (Some input) = script_text plan name input
 -- without a banner
 abbrev pub generated_outcome : ℕ → RunOutcome
 generated_outcome n = record { out = generated_text n; err = []; status = 0 }
+
+-- what a file of this name stands for
+abbrev pub file_given : List ℕ → Option Input → List Asked
+file_given path input = asked (targets.File path) input ∷ []
 
 -- the input that the script's target stands for
 abbrev pub input_in : List Asked → Option Input

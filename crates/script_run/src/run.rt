@@ -3,11 +3,12 @@ ghost use Rattle.std.specs.Prelude.{◌≡◌, ◌∷◌, [], map, string_bytes,
 ghost use Rattle.line_feed.specs.Rows.{Input};
 ghost use Rattle.line_feed.specs.Hears.{Hears};
 ghost use Rattle.tool_in.specs.Asked.{Asked, Opened, StandFor};
+ghost use Rattle.tool_in.specs.Absent.{AbsentBy};
 ghost use Rattle.pcre_io.specs.Told.{Kept};
 ghost use Rattle.tool_out.specs.Outcomes.{Runs};
 ghost use Rattle.tool_out.specs.Printed.{printed};
 ghost use Rattle.script_run.specs.RunsBy.{RunsBy};
-ghost use Rattle.script_run.specs.ToolText.{script_text, generated_outcome, text_on, text_by, text_of, asked_by, asked_targets};
+ghost use Rattle.script_run.specs.ToolText.{script_text, generated_outcome, text_on, text_by, text_of, asked_by, asked_targets, file_given};
 
 use crate::messages::{write_banner, write_message, write_too_long};
 use crate::words::{Script, TestWords, WordsError, read_words};
@@ -64,7 +65,9 @@ fn run_file<F: FileSet, O: Sink, E: Sink>(
     ensures runs { (given : Option Input) × Opened (F.tells files.old).contents name.now given
         × RunsBy (text_on plan.now name.now given)
         (printed (O.tells out.old) (E.tells err.old))
-        (printed (O.tells out.new) (E.tells err.new)) result }
+        (printed (O.tells out.new) (E.tells err.new)) result
+        × AbsentBy (F.tells files.old).contents (F.tells files.old).faults
+        (F.tells files.new).faults (file_given name.now given) }
     ensures files { (F.tells files.new).contents ≡ (F.tells files.old).contents }
 {
     match files.open_file(alloc, name) {
@@ -100,7 +103,9 @@ fn run_asked<F: FileSet, S: Source, O: Sink, E: Sink>(
         (asked_by (Some asked.now)) given
         × RunsBy (text_by (Some asked.now) given)
         (printed (O.tells out.old) (E.tells err.old))
-        (printed (O.tells out.new) (E.tells err.new)) result) }
+        (printed (O.tells out.new) (E.tells err.new)) result
+        × AbsentBy (F.tells files.old).contents (F.tells files.old).faults
+        (F.tells files.new).faults given) }
     ensures files { (F.tells files.new).contents ≡ (F.tells files.old).contents }
 {
     match &asked.script {
@@ -124,7 +129,9 @@ fn run_words<F: FileSet, S: Source, O: Sink, E: Sink>(
         (asked_targets (map string_bytes words.now)) given
         × RunsBy (text_of (map string_bytes words.now) given)
         (printed (O.tells out.old) (E.tells err.old))
-        (printed (O.tells out.new) (E.tells err.new)) result) }
+        (printed (O.tells out.new) (E.tells err.new)) result
+        × AbsentBy (F.tells files.old).contents (F.tells files.old).faults
+        (F.tells files.new).faults given) }
     ensures files { (F.tells files.new).contents ≡ (F.tells files.old).contents }
 {
     match read_words(alloc, words) {
@@ -153,13 +160,16 @@ pub fn run_test<F: FileSet, S: Source, O: Sink, E: Sink>(
 ) -> u8
     // The target that its words ask for stands for the input that the source stands for, or for the
     // file. For this the sinks grew by its text, and the answer is its status; or memory lacked or
-    // a write failed, and they grew by a part of it.
+    // a write failed, and they grew by a part of it. A file of which it isn't known is absent only
+    // where a fault was counted.
     ensures text { (heard : Input) × Hears (S.tells input.old) (S.tells input.new) heard
         × ((given : List Asked) × StandFor (F.tells files.old).contents heard
         (asked_targets (map string_bytes words.now)) given
         × Runs (text_of (map string_bytes words.now) given) result
         (printed (O.tells out.old) (E.tells err.old))
-        (printed (O.tells out.new) (E.tells err.new))) }
+        (printed (O.tells out.new) (E.tells err.new))
+        × AbsentBy (F.tells files.old).contents (F.tells files.old).faults
+        (F.tells files.new).faults given) }
     ensures files { (F.tells files.new).contents ≡ (F.tells files.old).contents }
 {
     match run_words(alloc, words, files, input, out, err) {

@@ -248,8 +248,8 @@ Failed: error 143 at offset 7: two groups have the same name
 Failed: error 101 at offset 3: backslash at end of pattern
 >abc\\\\
 >
->/a/auto_callout
-Failed: error 195 at offset 0: not in this profile
+>/a\\X/
+Failed: error 195 at offset 1: not in this profile
 >a
 >
 ";

@@ -22,6 +22,3 @@ pub use laws::{
 };
 pub use pieces::{Case, Forcing, Inner, Key, Piece};
 pub use plan::Plan;
-
-#[cfg(test)]
-mod tests;

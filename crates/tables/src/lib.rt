@@ -8,6 +8,8 @@ mod limits;
 #[cfg(test)]
 mod pairs;
 #[cfg(test)]
+mod partial;
+#[cfg(test)]
 mod resets;
 #[cfg(test)]
 mod searching;

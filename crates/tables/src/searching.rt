@@ -1,10 +1,7 @@
 //! What searches find.
 ghost use Rattle.std.specs.Prelude.{◌≡◌, ◌≤◌, ◌<◌, false, length};
-ghost use Rattle.pat_tree.specs.Parts.{tree_of};
 ghost use Rattle.char_sets.specs.Table.{IsTableOf};
-ghost use Rattle.pat_tree.specs.Built.{IsBuilt};
-ghost use Rattle.frame_machine.specs.Ready.{AreFactsOf};
-ghost use Rattle.pat_tree.specs.declared.options.PartialMode.TheVariants.{Off};
+ghost use Rattle.frame_board.specs.Ready.{AreFactsOf};
 
 use Change::{Captured, Limited};
 use char_sets::ClassTable;
@@ -12,9 +9,9 @@ use frame_machine::{Ready, Scratch};
 use frame_store::Span;
 use match_drive::{MatchAnswer, search};
 use match_items::View;
-use pat_build::{read, what_is_read_can_be_searched};
+use pat_build::read;
 use pat_check::{Facts, check};
-use pat_tree::{MatchOptions, Options, PartialMode, Tree};
+use pat_tree::{MatchOptions, Options, Tree};
 use pcre_io::NoCallouts;
 use std::alloc::Global;
 use std::process::Abort;
@@ -88,8 +85,6 @@ fn answer_of<'a>(
     requires start { start ≤ length subject.now }
     requires short { length subject.now < 4294967295 }
     requires bytes { tree.now.options.utf ≡ false }
-    requires off { matching.now.«partial» ≡ Off }
-    requires built { IsBuilt (tree_of tree.now) }
 {
     let ready = Ready {
         tree,
@@ -117,11 +112,8 @@ pub(crate) fn searched(
 ) -> Result<(MatchAnswer, Option<Span>), Fail>
     requires start { start ≤ length subject.now }
     requires short { length subject.now < 4294967295 }
-    requires off { matching.now.«partial» ≡ Off }
 {
     let tree = read(alloc, pattern, options)?;
-    // so the tree has the forms that are searched
-    what_is_read_can_be_searched();
     // the rows are searched byte by byte
     if tree.options().utf {
         return Ok((MatchAnswer::NoMatch { mark: None }, None));
@@ -136,10 +128,6 @@ pub(crate) fn searched(
 fn case(rt: &impl Abort, alloc: Global, row: &Row, scratch: &mut Scratch) -> Result<(), Fail> {
     let (pattern, subject, expected, changes) = *row;
     let wanted = search_with(changes);
-    let matching = MatchOptions {
-        partial: PartialMode::Off,
-        ..wanted.matching
-    };
     assert!(rt; subject.len() < 100);
     let (answer, group) = searched(
         alloc,
@@ -147,7 +135,7 @@ fn case(rt: &impl Abort, alloc: Global, row: &Row, scratch: &mut Scratch) -> Res
         Options::PLAIN,
         subject,
         0,
-        &matching,
+        &wanted.matching,
         scratch,
     )?;
     assert_eq!(rt; answer, expected);

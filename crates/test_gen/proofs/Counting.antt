@@ -6,9 +6,9 @@ use Rattle.token_parts.specs.declared.fault.Fault.{Fault}
 use Rattle.ordered_search.specs.Setting.{Setting}
 use Rattle.dfa_ends.specs.DfaAnswer as meant
 use Rattle.dfa_ends.specs.DfaAnswer.{EndsFrom, dfa_answer}
-use Rattle.dfa_lists.specs.declared.ends.GraphError.{GraphError}
-use Rattle.dfa_lists.specs.declared.ends.GraphError.TheVariants as graph
-use Rattle.dfa_lists.specs.Served.{refusal}
+use Rattle.dfa_graph.specs.declared.making.GraphError.{GraphError}
+use Rattle.dfa_graph.specs.declared.making.GraphError.TheVariants as graph
+use Rattle.dfa_graph.specs.Served.{refusal}
 use Rattle.pcre2_api.specs.Compiled.{CodeParts}
 use Rattle.pcre2_api.specs.DfaMatched.{IsBarred, IsAnswered, IsDfaError}
 use Rattle.pcre2_api.specs.Matched.{MatchParts, search_of, fault_in, IsFound, IsMatchError}
@@ -82,9 +82,9 @@ module _ (g : Setting) where
   nothing ends.Item some is = sym (count-barred graph.Item is)
   nothing ends.Cond some is = sym (count-barred graph.Cond is)
   nothing ends.TooLarge some is = sym (count-barred graph.TooLarge is)
-  nothing ends.NotBuilt some is = sym (count-barred graph.NotBuilt is)
   nothing ends.NoMatch some is = sym (count-answered meant.NoMatch is)
-  nothing (ends.Partial from to) some is = absurd is
+  nothing (ends.Partial from to) some is =
+      sym (count-answered (meant.PartialFrom from) is.answered)
 
   pub count-none : {E : Type 0} (e : DfaError) (r : Result ℕ E) → IfOk r (λ count. count ≡ 0) → OnOk r (e ≡ ends.Memory → ⊥) → IsDfaError g e → IfOk r (λ count. count ≡ count_in g)
   count-none e (Ok count) same some is = same ∙ nothing e some is

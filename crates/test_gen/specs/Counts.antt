@@ -10,7 +10,7 @@ use Rattle.pat_tree.specs.declared.options.TheConstants.MatchOptions as plain_ma
 use Rattle.pat_build.specs.Reading.{Parsed, read}
 use Rattle.ordered_search.specs.Setting.{Setting}
 use Rattle.dfa_ends.specs.DfaAnswer.{DfaAnswer, EndsFrom, dfa_answer}
-use Rattle.dfa_lists.specs.Served.{refusal}
+use Rattle.dfa_graph.specs.Served.{refusal}
 use Rattle.pcre2_api.specs.Compiled.{CodeParts}
 use Rattle.pcre2_api.specs.Matched.{fault_in}
 use Rattle.pcre2_api.specs.Patterns.{setting, compiled}

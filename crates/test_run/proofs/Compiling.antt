@@ -1,5 +1,5 @@
 -- What is written of a pattern, by what it is compiled to.
-use Rattle.std.proofs.Common.{◌≡◌, ◌∙◌, ℕ, Bool, false, if◌then◌else◌, List, ℤ, Result, Ok, Err, sym, ap, subst}
+use Rattle.std.proofs.Common.{◌≡◌, ◌∙◌, ℕ, Bool, List, ℤ, Result, Ok, Err, sym, ap, subst}
 use Rattle.pat_tree.specs.declared.options.Options.{Options}
 use Rattle.pat_tree.specs.Pattern.{Pattern, pattern_of}
 use Rattle.token_parts.specs.declared.fault.Fault.{Fault}
@@ -10,22 +10,19 @@ use Rattle.pcre2_api.specs.declared.error.CompileError.TheVariants.{Bad}
 use Rattle.pcre2_api.specs.Compiled.{IsCompileError}
 use Rattle.pcre2_api.specs.Patterns.{compiled}
 use Rattle.pcre2_api.specs.Informs.{info_in}
-use Rattle.test_run.specs.Asked.{is_on, is_unbuilt, options_of}
-use Rattle.test_run.specs.Lines.{fault_line, info_text, unbuilt_line}
+use Rattle.test_run.specs.Asked.{is_on, options_of}
+use Rattle.test_lines.specs.Lines.{fault_line, info_text}
 use Rattle.pat_build.specs.Reading.{Parsed, read}
-use Rattle.pat_build.specs.Machine.{parsed_of}
+use Rattle.pat_build.specs.Nodes.{parsed_of}
 use Rattle.pat_tree.specs.Parts.{TreeParts}
-use Rattle.test_run.specs.Courses.{Course, tests, passed, names_of, course_by, pattern_course, told_of, pattern_text}
+use Rattle.test_run.specs.Courses.{tests, names_of, course_by, pattern_course, told_of, pattern_text}
 
-module _ (entry : PatternEntry) (unbuilt : Bool) (options : Options) (text : List ℕ)
-    (tested : unbuilt ≡ is_unbuilt entry.modifiers) (built : unbuilt ≡ false) (asked : options ≡ options_of entry.modifiers) (given : text ≡ entry.pattern) where
+module _ (entry : PatternEntry) (options : Options) (text : List ℕ) (asked : options ≡ options_of entry.modifiers) (given : text ≡ entry.pattern) where
   compiled-so : (r : Result Pattern Fault) → compiled options text ≡ r → compiled (options_of entry.modifiers) entry.pattern ≡ r
   compiled-so r is = sym (λ i. compiled (asked i) (given i)) ∙ is
 
   text-is : (r : Result Pattern Fault) → compiled options text ≡ r → told_of entry.modifiers r ≡ pattern_text entry
-  text-is r is =
-      sym (ap (λ b. if b then unbuilt_line else told_of entry.modifiers (compiled (options_of entry.modifiers) entry.pattern)) (sym tested ∙ built)
-      ∙ ap (told_of entry.modifiers) (compiled-so r is))
+  text-is r is = sym (ap (told_of entry.modifiers) (compiled-so r is))
 
   -- it is compiled
   pub text-told : (p : Pattern) (is_asked : Bool) → compiled options text ≡ Ok p → is_asked ≡ is_on entry.modifiers.info → text_if is_asked (info_text (info_in p)) ≡ pattern_text entry
@@ -41,10 +38,8 @@ module _ (entry : PatternEntry) (unbuilt : Bool) (options : Options) (text : Lis
 
   -- its subject lines are searched for it
   pub course-told : (t : TreeParts) → read options text ≡ Ok (parsed_of t) → compiled options text ≡ Ok (pattern_of t)
-      → tests (pattern_of t) t.names entry.modifiers ≡ pattern_course entry
+      → tests entry.pattern (pattern_of t) t.names entry.modifiers ≡ pattern_course entry
   course-told t is compiles =
       let reads = read-so (Ok (parsed_of t)) is in
       let takes = compiled-so (Ok (pattern_of t)) compiles in
-      sym
-      (ap (λ b. if b then passed else course_by entry.modifiers (names_of (read (options_of entry.modifiers) entry.pattern)) (compiled (options_of entry.modifiers) entry.pattern)) (sym tested ∙ built)
-      ∙ (λ i. course_by entry.modifiers (names_of (reads i)) (takes i)))
+      sym (λ i. course_by entry.pattern entry.modifiers (names_of (reads i)) (takes i))

@@ -10,15 +10,15 @@ use Rattle.pat_tree.specs.Pattern.{Pattern}
 use Rattle.pcre2_api.specs.declared.dfa.DfaError.{DfaError}
 use Rattle.dfa_ends.specs.DfaAnswer.{dfa_answer}
 use Rattle.dfa_ends.specs.Ends.{Among}
-use Rattle.dfa_lists.specs.Served.{refusal}
+use Rattle.dfa_graph.specs.Served.{refusal}
 use Rattle.pcre2_api.specs.Patterns.{setting}
 use Rattle.pcre2_api.specs.Starts.{start_fault}
 use Rattle.pcre2_api.specs.DfaMatched.{start_error_of}
 use Rattle.pcre2_api.specs.declared.error.MatchError.{MatchError}
 use Rattle.pcre2_api.specs.Walks.{goes_on, place_behind}
-use Rattle.test_run.proofs.Writing.{writes-first}
+use Rattle.test_lines.proofs.Writing.{writes-first}
 use Rattle.test_run.specs.declared.dfa.Search.TheVariants as search
-use Rattle.test_run.specs.Dfa.{Told, ends, nothing, failed, told_of, unless_barred, told_at, end_line, ends_text, failed_text, none_text, told_text, longest, here, all_text, first_text, dfa_text}
+use Rattle.test_run.specs.Dfa.{Told, ends, nothing, failed, told_of, unless_barred, told_at, end_line, ends_text, unmatched_text, none_text, told_text, longest, here, all_text, first_text, dfa_text}
 use Rattle.test_run.specs.DfaSearches.{IsSearch}
 
 -- The ends of a match from one on.
@@ -94,7 +94,7 @@ module _ (p : Pattern) (matching : MatchOptions) (subject : List ℕ) where
   all-ends n is_shown again at start qs e = rw (e, all_text) refl
 
   all-failed : (n : ℕ) (is_shown again : Bool) (at : ℕ) (f : DfaError) → asked again at ≡ failed f →
-      all (suc n) is_shown again at ≡ failed_text f
+      all (suc n) is_shown again at ≡ unmatched_text p.options.utf subject f
   unfolding all_text
   all-failed n is_shown again at f e = rw (e, all_text) refl
 
@@ -157,9 +157,9 @@ module _ (p : Pattern) (matching : MatchOptions) (subject : List ℕ) where
           Writes (none_text is_shown) mid new result → Writes (total from) old new result
       at-end result e goes w = left-last result on.left (rest-is (none_text is_shown) (all-none _ is_shown again at e goes)) w
 
-      pub at-failed : (f : DfaError) (u : Unit {0}) → asked again at ≡ failed f → Writes (failed_text f) mid new (Ok u) →
+      pub at-failed : (f : DfaError) (u : Unit {0}) → asked again at ≡ failed f → Writes (unmatched_text p.options.utf subject f) mid new (Ok u) →
           Writes (total from) old new (Ok u)
-      at-failed f u e w = left-last (Ok u) on.left (rest-is (failed_text f) (all-failed _ is_shown again at f e)) w
+      at-failed f u e w = left-last (Ok u) on.left (rest-is (unmatched_text p.options.utf subject f) (all-failed _ is_shown again at f e)) w
 
       pub at-refused : (fault : IoError) →
           Writes {T = Unit {0}} (told_text p.options.utf subject (asked again at)) mid new (Err fault) →
@@ -174,8 +174,8 @@ module _ (p : Pattern) (matching : MatchOptions) (subject : List ℕ) where
               (rest-is (ends_text p.options.utf subject start 0 qs ++ later) (all-ends _ is_shown again at start qs e)) w
           by_answer nothing e w = left-refused [] (all (most - i) is_shown again at) fault on.left refl w
           by_answer (failed f) e w =
-              left-refused (failed_text f) [] fault on.left
-              (rest-is (failed_text f) (all-failed _ is_shown again at f e) ∙ sym (append-nil (failed_text f))) w
+              left-refused (unmatched_text p.options.utf subject f) [] fault on.left
+              (rest-is (unmatched_text p.options.utf subject f) (all-failed _ is_shown again at f e) ∙ sym (append-nil (unmatched_text p.options.utf subject f))) w
 
     -- a search wrote nothing
     pub at-quiet : (u : Unit {0}) → Writes [] mid new (Ok u) → IsAt from i at again is_shown old new
@@ -204,7 +204,7 @@ module _ (p : Pattern) (matching : MatchOptions) (subject : List ℕ) where
   by_first a = elim a [
     | ends start qs ↦ ends_text p.options.utf subject start 0 qs
     | nothing ↦ none_text false
-    | failed e ↦ failed_text e
+    | failed e ↦ unmatched_text p.options.utf subject e
   ]
 
   pub first-ends : (from start : ℕ) (qs : List ℕ) → told_at p matching subject from ≡ ends start qs →
@@ -214,7 +214,7 @@ module _ (p : Pattern) (matching : MatchOptions) (subject : List ℕ) where
   pub first-none : (from : ℕ) → told_at p matching subject from ≡ nothing → first from ≡ none_text false
   first-none from e = ap by_first e
 
-  pub first-failed : (from : ℕ) (f : DfaError) → told_at p matching subject from ≡ failed f → first from ≡ failed_text f
+  pub first-failed : (from : ℕ) (f : DfaError) → told_at p matching subject from ≡ failed f → first from ≡ unmatched_text p.options.utf subject f
   first-failed from f e = ap by_first e
 
   pub first-refused : (from : ℕ) (old new : Kept) (fault : IoError) →
@@ -237,7 +237,7 @@ module _ (p : Pattern) (matching : MatchOptions) (subject : List ℕ) where
       by_fault : (o : Option MatchError) → start_fault p.options.utf subject at ≡ o →
           elim o as (λ _. Told) [
             | Some f ↦ failed (start_error_of f)
-            | None ↦ unless_barred (refusal p.tree) (told_of (dfa_answer (setting p matching subject at) matching.dfa_shortest))
+            | None ↦ unless_barred (refusal p.tree) (told_of (length subject) (dfa_answer (setting p matching subject at) matching.dfa_shortest))
           ] ≡ nothing → start_fault p.options.utf subject at ≡ None
       by_fault None is e = is
       by_fault (Some f) is e = absurd (failed-not (start_error_of f) e)

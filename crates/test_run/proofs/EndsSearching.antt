@@ -1,21 +1,21 @@
 -- What a search for all ends answers, by what the library's call says.
-use Rattle.std.proofs.Common.{◌≡◌, ◌∙◌, ℕ, List, [], Option, Some, None, Result, Ok, Err, IfOk, refl, sym, ap, subst}
+use Rattle.std.proofs.Common.{◌≡◌, ◌∙◌, ℕ, Bool, List, [], length, Option, Some, None, Result, Ok, Err, IfOk, refl, sym, ap, subst, false, arith}
 use Rattle.pat_tree.specs.declared.options.MatchOptions.{MatchOptions}
 use Rattle.pat_tree.specs.Pattern.{pattern_of}
 use Rattle.pat_tree.specs.Parts.{tree_of}
 use Rattle.ordered_search.specs.Setting.{Setting}
 use Rattle.match_drive.specs.Asked.{passed_over}
 use Rattle.dfa_ends.specs.DfaAnswer as meant
-use Rattle.dfa_ends.specs.DfaAnswer.{EndsFrom, dfa_answer}
-use Rattle.dfa_lists.specs.declared.ends.GraphError.{GraphError}
-use Rattle.dfa_lists.specs.declared.ends.GraphError.TheVariants as graph
-use Rattle.dfa_lists.specs.Served.{refusal}
+use Rattle.dfa_ends.specs.DfaAnswer.{EndsFrom, PartialFrom, dfa_answer}
+use Rattle.dfa_graph.specs.declared.making.GraphError.{GraphError}
+use Rattle.dfa_graph.specs.declared.making.GraphError.TheVariants as graph
+use Rattle.dfa_graph.specs.Served.{refusal}
 use Rattle.pcre_io.specs.Told.{Kept}
 use Rattle.pcre_io.specs.declared.traits.IoError.{IoError}
 use Rattle.tool_out.specs.Writes.{Writes}
 use Rattle.pcre2_api.specs.Compiled.{CodeParts}
 use Rattle.pcre2_api.specs.Matched.{search_of, fault_in}
-use Rattle.pcre2_api.specs.DfaMatched.{IsBarred, IsAnswered, IsDfaFound, IsDfaError, error_of, start_error_of}
+use Rattle.pcre2_api.specs.DfaMatched.{IsBarred, IsAnswered, IsPartly, IsDfaFound, IsDfaError, error_of, start_error_of}
 use Rattle.pcre2_api.specs.declared.dfa.DfaFound.{DfaFound}
 use Rattle.pcre2_api.specs.declared.dfa.DfaError.{DfaError}
 use Rattle.pcre2_api.specs.declared.dfa.DfaError.TheVariants as told
@@ -23,9 +23,9 @@ use Rattle.pcre2_api.specs.declared.error.MatchError.{MatchError}
 use Rattle.pcre2_api.specs.declared.error.MatchError.TheVariants as beginning
 use Rattle.test_run.specs.declared.dfa.Search.{Search}
 use Rattle.test_run.specs.declared.dfa.Search.TheVariants as search
-use Rattle.test_run.specs.Dfa.{Told, ends, nothing, failed, told_of, unless_barred, told_at, ends_text, failed_text, told_text}
-use Rattle.test_run.specs.DfaSearches.{error_text, IsSearch, TellsEnds, TellsError}
-use Rattle.test_run.proofs.Writing.{writes-first, writes-equal}
+use Rattle.test_run.specs.Dfa.{Told, ends, nothing, failed, told_of, unless_barred, told_at, ends_text, unmatched_text, told_text}
+use Rattle.test_run.specs.DfaSearches.{error_text, IsSearch, LiesIn, TellsEnds, TellsError}
+use Rattle.test_lines.proofs.Writing.{writes-first, writes-equal}
 
 -- what an error of a search says that it answers
 abbrev Says : DfaError → Told → Type 0
@@ -41,7 +41,7 @@ module _ (code : CodeParts) (matching : MatchOptions) (subject : List ℕ) (star
   here = told_at (pattern_of code.tree) matching subject start
 
   abbrev found : Told
-  found = told_of (dfa_answer searching matching.dfa_shortest)
+  found = told_of (length subject) (dfa_answer searching matching.dfa_shortest)
 
   abbrev asked : Told
   asked = unless_barred (refusal (tree_of code.tree)) found
@@ -60,8 +60,13 @@ module _ (code : CodeParts) (matching : MatchOptions) (subject : List ℕ) (star
   barred : (e : GraphError) → IsBarred searching e → here ≡ failed (error_of e)
   barred e is = begun is.begun ∙ ap (λ o. unless_barred o found) is.refused
 
-  answered : (a : meant.DfaAnswer) → IsAnswered searching a → here ≡ told_of a
-  answered a is = begun is.begun ∙ ap (λ o. unless_barred o found) is.served ∙ ap told_of is.answer
+  answered : (a : meant.DfaAnswer) → IsAnswered searching a → here ≡ told_of (length subject) a
+  answered a is = begun is.begun ∙ ap (λ o. unless_barred o found) is.served ∙ ap (told_of (length subject)) is.answer
+
+  partly : (from to : ℕ) → IsPartly searching from to → here ≡ failed (told.Partial from to)
+  partly from to is =
+      answered (PartialFrom from) is.answered
+      ∙ ap (λ n. failed (told.Partial from n)) (sym is.to)
 
   says-error : (e : DfaError) → IsDfaError searching e → Says e here
   says-error told.BadOffset is = unbegun beginning.BadOffset is
@@ -70,9 +75,8 @@ module _ (code : CodeParts) (matching : MatchOptions) (subject : List ℕ) (star
   says-error told.Item is = barred graph.Item is
   says-error told.Cond is = barred graph.Cond is
   says-error told.TooLarge is = barred graph.TooLarge is
-  says-error told.NotBuilt is = barred graph.NotBuilt is
   says-error told.NoMatch is = answered meant.NoMatch is
-  says-error (told.Partial from to) is = absurd is
+  says-error (told.Partial from to) is = partly from to is
   says-error told.Memory is = tt
 
   -- What is written of a search, and what is told of it.
@@ -95,7 +99,7 @@ module _ (code : CodeParts) (matching : MatchOptions) (subject : List ℕ) (star
   told-ends f search.Nothing is h = absurd h
   told-ends f search.Failed is h = absurd h
 
-  text-by : (e : DfaError) (r : Result Search IoError) (old new : Kept) → Says e here → IfOk r (TellsError e) → Writes (error_text e) old new r → Writes said old new r
+  text-by : (e : DfaError) (r : Result Search IoError) (old new : Kept) → Says e here → IfOk r (TellsError e) → Writes (error_text code.tree.options.utf subject e) old new r → Writes said old new r
   text-by told.Memory (Ok s) old new is comes w = absurd comes
   text-by told.Memory (Err f) old new is comes w = writes-first {A = Search} [] said old new f w
   text-by told.NoMatch r old new is comes w = writes-equal (said-as nothing is) w
@@ -105,11 +109,24 @@ module _ (code : CodeParts) (matching : MatchOptions) (subject : List ℕ) (star
   text-by told.Item r old new is comes w = writes-equal (said-as (failed told.Item) is) w
   text-by told.Cond r old new is comes w = writes-equal (said-as (failed told.Cond) is) w
   text-by told.TooLarge r old new is comes w = writes-equal (said-as (failed told.TooLarge) is) w
-  text-by told.NotBuilt r old new is comes w = writes-equal (said-as (failed told.NotBuilt) is) w
   text-by (told.Partial from to) r old new is comes w = writes-equal (said-as (failed (told.Partial from to)) is) w
 
-  pub text-error : (e : DfaError) (r : Result Search IoError) (old new : Kept) → IsDfaError searching e → IfOk r (TellsError e) → Writes (error_text e) old new r → Writes said old new r
+  pub text-error : (e : DfaError) (r : Result Search IoError) (old new : Kept) → IsDfaError searching e → IfOk r (TellsError e) → Writes (error_text code.tree.options.utf subject e) old new r → Writes said old new r
   text-error e r old new is comes w = text-by e r old new (says-error e is) comes w
+
+  pub lies-in : (e : DfaError) → IsDfaError searching e → LiesIn (length subject) e
+  lies-in (told.Partial from to) is =
+      let within = is.place.within in
+      let end = is.to in
+      (omega (arith, within, end), omega (arith, end))
+  lies-in told.BadOffset is = tt
+  lies-in (told.BadUtf at) is = tt
+  lies-in told.BadUtfOffset is = tt
+  lies-in told.Item is = tt
+  lies-in told.Cond is = tt
+  lies-in told.TooLarge is = tt
+  lies-in told.NoMatch is = tt
+  lies-in told.Memory is = tt
 
   told-nothing : (s : Search) → s ≡ search.Nothing → here ≡ nothing → IsSearch s here
   told-nothing s same is = told-by s nothing is (subst (λ t. IsSearch t nothing) (sym same) tt)
@@ -126,7 +143,6 @@ module _ (code : CodeParts) (matching : MatchOptions) (subject : List ℕ) (star
   told-so told.Item s is same = told-failed told.Item s same is
   told-so told.Cond s is same = told-failed told.Cond s same is
   told-so told.TooLarge s is same = told-failed told.TooLarge s same is
-  told-so told.NotBuilt s is same = told-failed told.NotBuilt s same is
   told-so (told.Partial from to) s is same = told-failed (told.Partial from to) s same is
 
   pub told-error : (e : DfaError) (r : Result Search IoError) → IsDfaError searching e → IfOk r (TellsError e) → IfOk r (λ s. IsSearch s here)
@@ -134,18 +150,18 @@ module _ (code : CodeParts) (matching : MatchOptions) (subject : List ℕ) (star
   told-error e (Err f) is comes = tt
 
 -- an error that tells neither that there is no match nor want of memory
-pub error-failed : (e : DfaError) → (e ≡ told.Memory → ⊥) → (e ≡ told.NoMatch → ⊥) → (failed_text e ≡ error_text e) × TellsError e search.Failed
-error-failed told.Memory memory none = absurd (memory refl)
-error-failed told.NoMatch memory none = absurd (none refl)
-error-failed told.BadOffset memory none = (refl, refl)
-error-failed (told.BadUtf at) memory none = (refl, refl)
-error-failed told.BadUtfOffset memory none = (refl, refl)
-error-failed told.Item memory none = (refl, refl)
-error-failed told.Cond memory none = (refl, refl)
-error-failed told.TooLarge memory none = (refl, refl)
-error-failed told.NotBuilt memory none = (refl, refl)
-error-failed (told.Partial from to) memory none = (refl, refl)
+pub error-failed : (utf : Bool) (subject : List ℕ) (e : DfaError) → (e ≡ told.Memory → ⊥) → (e ≡ told.NoMatch → ⊥)
+    → (unmatched_text utf subject e ≡ error_text utf subject e) × TellsError e search.Failed
+error-failed utf subject told.Memory memory none = absurd (memory refl)
+error-failed utf subject told.NoMatch memory none = absurd (none refl)
+error-failed utf subject told.BadOffset memory none = (refl, refl)
+error-failed utf subject (told.BadUtf at) memory none = (refl, refl)
+error-failed utf subject told.BadUtfOffset memory none = (refl, refl)
+error-failed utf subject told.Item memory none = (refl, refl)
+error-failed utf subject told.Cond memory none = (refl, refl)
+error-failed utf subject told.TooLarge memory none = (refl, refl)
+error-failed utf subject (told.Partial from to) memory none = (refl, refl)
 
 pub told-failure : (e : DfaError) → (e ≡ told.Memory → ⊥) → (e ≡ told.NoMatch → ⊥) → (r : Result Search IoError) → IfOk r (λ s. s ≡ search.Failed) → IfOk r (TellsError e)
-told-failure e memory none (Ok s) same = subst (TellsError e) (sym same) (error-failed e memory none).1
+told-failure e memory none (Ok s) same = subst (TellsError e) (sym same) (error-failed false [] e memory none).1
 told-failure e memory none (Err f) same = tt

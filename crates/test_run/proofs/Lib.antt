@@ -1,7 +1,4 @@
-pub mod Writing
-pub mod Showing
 pub mod Saying
-pub mod Naming
 pub mod Tested
 pub mod Searching
 pub mod Listing

@@ -1,22 +1,30 @@
 -- The matches of a subject, as they are written one after another.
-use Rattle.std.proofs.Common.{◌≡◌, ◌∙◌, ℕ, zero, suc, ◌+◌, ◌-◌, ◌*◌, ◌<◌, ◌≤◌, Bool, true, false, ◌||◌, List, [], ◌∷◌, ◌++◌, length, flat_map, Option, None, Result, Ok, Err, refl, sym, ap, subst, arith, append_assoc, append-nil}
-use Rattle.std.specs.Prelude.{◌==◌, ◌&&◌, nat_lt}
+use Rattle.std.proofs.Common.{◌≡◌, ◌∙◌, ℕ, zero, suc, ◌+◌, ◌-◌, ◌*◌, ◌<◌, ◌≤◌, Bool, true, false, List, [], ◌++◌, length, Option, Some, None, Result, Ok, Err, refl, sym, ap, subst, arith, append-nil}
+use Rattle.std.specs.Prelude.{◌==◌, ◌&&◌, nat_lt, if◌then◌else◌, unwrap_or}
 use Rattle.std.proofs.lemmas.Bool.{lt-ltb, le-ltb}
+use Rattle.pcre_io.specs.declared.callouts.Block.{Block}
 use Rattle.pcre_io.specs.Told.{Kept}
 use Rattle.pcre_io.specs.declared.traits.IoError.{IoError}
 use Rattle.tool_out.specs.Writes.{Writes}
-use Rattle.tool_out.proofs.Writing.{IsLeft, left-all, left-more, left-refused, left-last, writes-same}
-use Rattle.test_run.proofs.Writing.{writes-first, writes-then, writes-equal}
+use Rattle.tool_out.proofs.Writing.{IsLeft, left-all, left-more, left-refused, left-last, left-none, writes-same}
+use Rattle.test_lines.proofs.Writing.{writes-as, writes-first, writes-then, writes-equal}
 use Rattle.pat_tree.specs.declared.options.MatchOptions.{MatchOptions}
 use Rattle.pat_tree.specs.Pattern.{Pattern}
 use Rattle.ordered_search.specs.PlaceAnswer.{Outcome}
+use Rattle.pcre2_api.specs.Starts.{start_fault}
+use Rattle.pcre2_api.specs.Matched.{fault_in, shown_by}
+use Rattle.ordered_search.specs.Setting.{Setting}
 use Rattle.pcre2_api.specs.declared.error.MatchError.{MatchError}
+use Rattle.test_run.specs.declared.options.How.{How}
 use Rattle.test_run.specs.declared.matches.Search.{Search}
 use Rattle.test_run.specs.declared.matches.Search.TheVariants as search
-use Rattle.test_run.specs.Lines.{end_text, failed_line, matches_text}
-use Rattle.pcre2_api.specs.Walks.{Answer, found, none, failed, Matches, no_more, fails, with_match, answer, answer_at, matching_at, goes_on, place_behind, all_from, first_from, matches_from}
-use Rattle.test_run.specs.Searches.{answer_text, IsSearch, rest_text}
-use Rattle.test_run.specs.Marks.{Showing, showing, missed, match_text}
+use Rattle.test_lines.specs.Lines.{nothing_text, unmatched_line}
+use Rattle.pcre2_api.specs.Walks.{Answer, found, none, failed, answer_in, matching_at, goes_on, place_behind}
+use Rattle.ordered_search.specs.MatchAnswer.{match_answer}
+use Rattle.test_run.specs.Searches.{IsSearch}
+use Rattle.test_run.specs.Matches.{asking, answered, last_met, answer_text, search_text, missed_text, all_text, first_text, searched}
+use Rattle.test_lines.specs.Callouts.{calls_text}
+use Rattle.test_lines.specs.Marks.{Showing, showing}
 
 -- What is told of a search says what it answers.
 
@@ -49,151 +57,8 @@ is-failed len (failed e) h = record { error = e; is = refl }
 is-failed len none h = absurd h
 is-failed len (found o) h = absurd h
 
-or-true : (b : Bool) → (b || true) ≡ true
-or-true true = refl
-or-true false = refl
-
-or-false : (b : Bool) → (b || false) ≡ b
-or-false true = refl
-or-false false = refl
-
-module _ (show : Showing) (subject : List ℕ) (mark : Option ℕ) (is_shown : Bool) where
-  rest-found : (o : Outcome) (m : Matches) → rest_text show subject mark is_shown (with_match o m) ≡ match_text show subject o ++ rest_text show subject mark true m
-  rest-found o m =
-      ap (λ b. flat_map (match_text show subject) (o ∷ m.outcomes) ++ end_text show mark b m.ended) (or-true is_shown)
-      ∙ append_assoc (match_text show subject o) (flat_map (match_text show subject) m.outcomes) (end_text show mark true m.ended)
-
-  rest-none : rest_text show subject mark is_shown no_more ≡ end_text show mark is_shown None
-  rest-none = ap (λ b. end_text show mark b None) (or-false is_shown)
-
-  rest-failed : (e : MatchError) → rest_text show subject mark is_shown (fails e) ≡ failed_line e
-  rest-failed e = refl
-
-module _ (p : Pattern) (marks : Bool) (matching : MatchOptions) (subject : List ℕ) where
-  -- how matches are shown
-  abbrev show : Showing
-  show = showing p marks
-
-  -- the name that is told where a search from a place on finds nothing
-  abbrev last : ℕ → Option ℕ
-  last from = missed p matching subject from
-
-  abbrev all : ℕ → Bool → ℕ → Matches
-  all n again at = all_from p matching subject n again at
-
-  all-found : (n : ℕ) (again : Bool) (at : ℕ) (o : Outcome) → answer p matching subject again at ≡ found o → all (suc n) again at ≡ with_match o (all n (o.keep == o.to) o.to)
-  unfolding all_from
-  all-found n again at o e = rw (e, all_from) refl
-
-  all-failed : (n : ℕ) (again : Bool) (at : ℕ) (f : MatchError) → answer p matching subject again at ≡ failed f → all (suc n) again at ≡ fails f
-  unfolding all_from
-  all-failed n again at f e = rw (e, all_from) refl
-
-  all-next : (n : ℕ) (again : Bool) (at : ℕ) → answer p matching subject again at ≡ none → goes_on p matching subject again at ≡ true → all (suc n) again at ≡ all n false (place_behind p subject at)
-  unfolding all_from
-  all-next n again at e goes = rw (e, goes, all_from) refl
-
-  all-none : (n : ℕ) (again : Bool) (at : ℕ) → answer p matching subject again at ≡ none → goes_on p matching subject again at ≡ false → all (suc n) again at ≡ no_more
-  unfolding all_from
-  all-none n again at e goes = rw (e, goes, all_from) refl
-
-  all-zero : (again : Bool) (at : ℕ) → all zero again at ≡ no_more
-  unfolding all_from
-  all-zero again at = refl
-
-  abbrev most : ℕ
-  most = 2 * length subject + 2
-
-  abbrev total : ℕ → List ℕ
-  total from = matches_text show subject (last from) (matches_from p matching subject true from)
-
-  -- no search goes on at another place after one that isn't a second one
-  goes-not : (again : Bool) (at : ℕ) → again ≡ false → goes_on p matching subject again at ≡ true → ⊥
-  goes-not true at h goes = cc
-  goes-not false at h goes = cc
-
-  -- after so many searches the next one is from this place on
-  pub record IsOn (from i at : ℕ) (again is_shown : Bool) (old now : Kept) : Type 0 where
-    pub left : IsLeft (total from) (rest_text show subject (last from) is_shown (all (most - i) again at)) old now
-    -- before a match is shown the first search is the only one
-    pub alone : is_shown ≡ false → (i ≡ 0) × (at ≡ from) × (again ≡ false)
-
-  one-more : (i : ℕ) → i < most → most - i ≡ suc (most - (i + 1))
-  one-more i h = omega arith
-
-  pub on-first : (from : ℕ) (old : Kept) → IsOn from 0 from false false old old
-  on-first from old =
-      let e : most ≡ most - 0 = omega arith in record {
-        left = subst (λ n. IsLeft (total from) (rest_text show subject (last from) false (all n false from)) old old) e (left-all (total from) old);
-        alone = λ h. (refl, refl, refl);
-      }
-
-  module _ (from i at : ℕ) (again is_shown : Bool) (old mid new : Kept) (on : IsOn from i at again is_shown old mid) where
-    module _ (more : i < most) where
-      rest-is : (m : Matches) → all (suc (most - (i + 1))) again at ≡ m → rest_text show subject (last from) is_shown (all (most - i) again at) ≡ rest_text show subject (last from) is_shown m
-      rest-is m e = ap (λ n. rest_text show subject (last from) is_shown (all n again at)) (one-more i more) ∙ ap (rest_text show subject (last from) is_shown) e
-
-      pub on-found : (o : Outcome) (u : Unit {0}) → answer p matching subject again at ≡ found o → Writes (match_text show subject o) mid new (Ok u) → IsOn from (i + 1) o.to (o.keep == o.to) true old new
-      on-found o u e w =
-          let later = all (most - (i + 1)) (o.keep == o.to) o.to in record {
-            left = left-more (match_text show subject o) (rest_text show subject (last from) true later) u on.left (rest-is (with_match o later) (all-found _ again at o e) ∙ rest-found show subject (last from) is_shown o later) w;
-            alone = λ h. cc;
-          }
-
-      pub on-next : answer p matching subject again at ≡ none → goes_on p matching subject again at ≡ true → IsOn from (i + 1) (place_behind p subject at) false is_shown old mid
-      on-next e goes = record {
-        left = subst (λ l. IsLeft (total from) l old mid) (rest-is (all (most - (i + 1)) false (place_behind p subject at)) (all-next _ again at e goes)) on.left;
-        alone = λ h. absurd (goes-not again at (on.alone h).2 goes);
-      }
-
-      -- the first search tells the name that is shown
-      end-is : (mark : Option ℕ) (b : Bool) → is_shown ≡ b → mark ≡ missed p (matching_at matching again) subject at → end_text show (last from) b None ≡ end_text show mark b None
-      end-is mark true h e = refl
-      end-is mark false h e =
-          let alone = on.alone h in
-          ap (λ (m : Option ℕ). end_text show m false None)
-          (sym (e ∙ ap (λ b. missed p (matching_at matching b) subject at) alone.2 ∙ ap (λ n. missed p matching subject n) alone.1))
-
-      pub on-end : (mark : Option ℕ) (result : Result (Unit {0}) IoError) → answer p matching subject again at ≡ none → goes_on p matching subject again at ≡ false → mark ≡ missed p (matching_at matching again) subject at →
-          Writes (end_text show mark is_shown None) mid new result → Writes (total from) old new result
-      on-end mark result e goes named w =
-          left-last result on.left (rest-is no_more (all-none _ again at e goes) ∙ rest-none show subject (last from) is_shown ∙ end-is mark is_shown refl named) w
-
-      pub on-failed : (f : MatchError) (u : Unit {0}) → answer p matching subject again at ≡ failed f → Writes (failed_line f) mid new (Ok u) → Writes (total from) old new (Ok u)
-      on-failed f u e w = left-last (Ok u) on.left (rest-is (fails f) (all-failed _ again at f e) ∙ rest-failed show subject (last from) is_shown f) w
-
-      pub on-refused : (fault : IoError) → Writes {T = Unit {0}} (answer_text show subject (answer p matching subject again at)) mid new (Err fault) → Writes {T = Unit {0}} (total from) old new (Err fault)
-      on-refused fault w = by_answer (answer p matching subject again at) refl w
-        where
-          by_answer : (a : Answer) → answer p matching subject again at ≡ a → Writes {T = Unit {0}} (answer_text show subject a) mid new (Err fault) → Writes {T = Unit {0}} (total from) old new (Err fault)
-          by_answer (found o) e w =
-              let later = all (most - (i + 1)) (o.keep == o.to) o.to in
-              left-refused (match_text show subject o) (rest_text show subject (last from) true later) fault on.left (rest-is (with_match o later) (all-found _ again at o e) ∙ rest-found show subject (last from) is_shown o later) w
-          by_answer none e w = left-refused [] _ fault on.left refl w
-          by_answer (failed f) e w = left-refused (failed_line f) [] fault on.left (rest-is (fails f) (all-failed _ again at f e) ∙ sym (append-nil (failed_line f))) w
-
-    -- a search wrote nothing
-    pub on-quiet : (u : Unit {0}) → Writes [] mid new (Ok u) → IsOn from i at again is_shown old new
-    on-quiet u w = record { left = left-more [] (rest_text show subject (last from) is_shown (all (most - i) again at)) u on.left refl w; alone = on.alone }
-
-    -- no search is left
-    last-is : (mark : Option ℕ) (b : Bool) → is_shown ≡ b → most ≤ i → end_text show (last from) b None ≡ end_text show mark b None
-    last-is mark true h past = refl
-    last-is mark false h past = let none : i ≡ 0 = (on.alone h).0 in absurd (omega (arith, none, past))
-
-    pub on-last : (mark : Option ℕ) (result : Result (Unit {0}) IoError) → most ≤ i → Writes (end_text show mark is_shown None) mid new result → Writes (total from) old new result
-    on-last mark result past w =
-        let e : most - i ≡ 0 = omega arith in
-        left-last result on.left (ap (λ n. rest_text show subject (last from) is_shown (all n again at)) e ∙ ap (rest_text show subject (last from) is_shown) (all-zero again at) ∙ rest-none show subject (last from) is_shown ∙ last-is mark is_shown refl past) w
-
-  pub on-as : (from i at at' : ℕ) (again again' is_shown is_shown' : Bool) (old new : Kept) → at ≡ at' → again ≡ again' → is_shown ≡ is_shown' → IsOn from i at' again' is_shown' old new
-      → IsOn from i at again is_shown old new
-  on-as from i at at' again again' is_shown is_shown' old new a b c on =
-      subst (λ n. IsOn from i n again is_shown old new) (sym a)
-      (subst (λ t. IsOn from i at' t is_shown old new) (sym b) (subst (λ t. IsOn from i at' again' t old new) (sym c) on))
-
-  -- Where a search goes on that found nothing.
-
+-- Where a search goes on that found nothing.
+module _ (p : Pattern) (matching : MatchOptions) (subject : List ℕ) where
   pub goes-once : (again : Bool) (at : ℕ) → again ≡ false → goes_on p matching subject again at ≡ false
   goes-once again at once = ap (λ b. b && nat_lt at (length subject)) once
 
@@ -203,43 +68,210 @@ module _ (p : Pattern) (marks : Bool) (matching : MatchOptions) (subject : List 
   pub goes-inside : (again : Bool) (at : ℕ) → again ≡ true → at < length subject → goes_on p matching subject again at ≡ true
   goes-inside again at twice inside = ap (λ b. b && nat_lt at (length subject)) twice ∙ lt-ltb at (length subject) inside
 
-  -- Where the first search can't begin.
+-- A search that finds nothing can begin, and one that can't begin fails and shows no callout.
+module _ (pattern : List ℕ) (p : Pattern) (how : How) (matching : MatchOptions) (subject : List ℕ) (at : ℕ) where
+  abbrev here : Answer
+  here = answered p how.replies matching subject at
 
-  pub all-unbegun : (global : Bool) (from : ℕ) (f : MatchError) → answer_at p matching subject from ≡ failed f → matches_text show subject (last from) (matches_from p matching subject global from) ≡ failed_line f
-  all-unbegun true from f e =
-      let more : most ≡ suc (2 * length subject + 1) = omega arith in
-      ap (λ n. matches_text show subject (last from) (all n false from)) more ∙ ap (matches_text show subject (last from)) (all-failed (2 * length subject + 1) false from f e)
-  all-unbegun false from f e = ap (λ (a : Answer). matches_text show subject (last from) (elim a as (λ _. Matches) [ found o ↦ with_match o no_more | none ↦ no_more | failed g ↦ fails g ])) e
+  abbrev fault : Option MatchError
+  fault = start_fault p.options.utf subject at
+
+  abbrev by_fault : Option MatchError → Answer
+  by_fault f = elim f [ Some e ↦ failed e | None ↦ answer_in (length subject) (match_answer (asking p how.replies matching subject at)) ]
+
+  none-begun : (f : Option MatchError) (a : Answer) → (elim f [ Some e ↦ failed e | None ↦ a ]) ≡ none → f ≡ None
+  none-begun None a is = refl
+  none-begun (Some e) a is = cc
+
+  pub begun-none : here ≡ none → fault ≡ None
+  unfolding answered
+  begun-none is = none-begun fault (answer_in (length subject) (match_answer (asking p how.replies matching subject at))) is
+
+  pub answers-fault : (e : MatchError) → fault ≡ Some e → here ≡ failed e
+  unfolding answered
+  answers-fault e is = ap by_fault is
+
+  abbrev show : Showing
+  show = showing p how.marks
+
+  -- what is told of callouts, by what the search shows
+  abbrev text_by : Option (List Block) → List ℕ
+  text_by o = calls_text p.options.utf p.verb_names pattern subject how.replies (unwrap_or o [])
+
+  no-calls : (passes : Bool) → (if◌then◌else◌ {A = List ℕ} passes [] []) ≡ []
+  no-calls true = refl
+  no-calls false = refl
+
+  shown-none : (g : Setting) (e : MatchError) → fault_in g ≡ Some e → shown_by g (Some []) ≡ Some []
+  shown-none g e is = rw (is, shown_by) refl
+
+  pub unbegun-text : (e : MatchError) → fault ≡ Some e → search_text pattern p how subject matching at ≡ unmatched_line show subject e
+  unbegun-text e is =
+      ap (λ o. text_by o ++ answer_text show subject here) (shown-none (asking p how.replies matching subject at) e is)
+      ∙ ap (λ l. l ++ answer_text show subject here) (no-calls how.replies.none)
+      ∙ ap (answer_text show subject) (answers-fault e is)
+
+-- All matches.
+module _ (pattern : List ℕ) (p : Pattern) (how : How) (subject : List ℕ) where
+  abbrev all : ℕ → Bool → Bool → ℕ → List ℕ
+  all n is_shown again at = all_text pattern p how subject n is_shown again at
+
+  abbrev answer : Bool → ℕ → Answer
+  answer again at = answered p how.replies (matching_at how.matching again) subject at
+
+  abbrev text : Bool → ℕ → List ℕ
+  text again at = search_text pattern p how subject (matching_at how.matching again) at
+
+  abbrev missed : Bool → Bool → ℕ → List ℕ
+  missed is_shown again at = missed_text pattern p how subject (matching_at how.matching again) is_shown at
+
+  -- what follows a search, by its answer
+  abbrev after : ℕ → Bool → Bool → ℕ → Answer → List ℕ
+  after n is_shown again at a = elim a [
+    | found o ↦ all n true (o.keep == o.to) o.to
+    | none ↦ elim (goes_on p how.matching subject again at) [
+      | true ↦ all n is_shown false (place_behind p subject at)
+      | false ↦ missed is_shown again at
+    ]
+    | failed e ↦ []
+  ]
+
+  all-step : (n : ℕ) (is_shown again : Bool) (at : ℕ) → all (suc n) is_shown again at ≡ text again at ++ after n is_shown again at (answer again at)
+  unfolding all_text
+  all-step n is_shown again at = refl
+
+  all-zero : (is_shown again : Bool) (at : ℕ) → all zero is_shown again at ≡ nothing_text (showing p how.marks) None is_shown
+  unfolding all_text
+  all-zero is_shown again at = refl
+
+  abbrev most : ℕ
+  most = 2 * length subject + 2
+
+  abbrev total : ℕ → List ℕ
+  total from = all most false false from
+
+  -- after so many searches the next one is from this place on
+  pub record IsOn (from i at : ℕ) (again is_shown : Bool) (old now : Kept) : Type 0 where
+    pub left : IsLeft (total from) (all (most - i) is_shown again at) old now
+
+  pub on-first : (from : ℕ) (old : Kept) → IsOn from 0 from false false old old
+  on-first from old =
+      let e : most ≡ most - 0 = omega arith in record {
+        left = subst (λ n. IsLeft (total from) (all n false false from) old old) e (left-all (total from) old);
+      }
+
+  module _ (from i at : ℕ) (again is_shown : Bool) (old mid new : Kept) (on : IsOn from i at again is_shown old mid) where
+    module _ (more : i < most) where
+      abbrev later : Answer → List ℕ
+      later a = after (most - (i + 1)) is_shown again at a
+
+      rest-is : all (most - i) is_shown again at ≡ text again at ++ later (answer again at)
+      rest-is =
+          let e : most - i ≡ suc (most - (i + 1)) = omega arith in
+          ap (λ n. all n is_shown again at) e ∙ all-step (most - (i + 1)) is_shown again at
+
+      -- the search wrote its text
+      pub on-text : (a : Answer) (u : Unit {0}) → answer again at ≡ a → Writes (text again at) mid new (Ok u) → IsLeft (total from) (later a) old new
+      on-text a u e w = subst (λ b. IsLeft (total from) (later b) old new) e (left-more (text again at) (later (answer again at)) u on.left rest-is w)
+
+      pub on-refused : (fault : IoError) → Writes {T = Unit {0}} (text again at) mid new (Err fault) → Writes {T = Unit {0}} (total from) old new (Err fault)
+      on-refused fault w = left-refused (text again at) (later (answer again at)) fault on.left rest-is w
+
+      pub on-found : (o : Outcome) (u : Unit {0}) → answer again at ≡ found o → Writes (text again at) mid new (Ok u) → IsOn from (i + 1) o.to (o.keep == o.to) true old new
+      on-found o u e w = record { left = on-text (found o) u e w }
+
+      abbrev goes : Bool → List ℕ
+      goes b = elim b [ true ↦ all (most - (i + 1)) is_shown false (place_behind p subject at) | false ↦ missed is_shown again at ]
+
+      on-none : (b : Bool) (u : Unit {0}) → answer again at ≡ none → goes_on p how.matching subject again at ≡ b → Writes (text again at) mid new (Ok u) → IsLeft (total from) (goes b) old new
+      on-none b u e g w = subst (λ t. IsLeft (total from) (goes t) old new) g (on-text none u e w)
+
+      pub on-next : (u : Unit {0}) → answer again at ≡ none → goes_on p how.matching subject again at ≡ true → Writes (text again at) mid new (Ok u) →
+          IsOn from (i + 1) (place_behind p subject at) false is_shown old new
+      on-next u e g w = record { left = on-none true u e g w }
+
+      pub on-end : (last : Kept) (mark : Option ℕ) (u : Unit {0}) (result : Result (Unit {0}) IoError) → answer again at ≡ none → goes_on p how.matching subject again at ≡ false →
+          mark ≡ last_met p how.replies (matching_at how.matching again) subject at → Writes (text again at) mid new (Ok u) →
+          Writes (nothing_text (showing p how.marks) mark is_shown) new last result → Writes (total from) old last result
+      on-end last mark u result e g named w v =
+          left-last result (on-none false u e g w) (sym (ap (λ (m : Option ℕ). nothing_text (showing p how.marks) m is_shown) named)) v
+
+      pub on-failed : (f : MatchError) (u : Unit {0}) → answer again at ≡ failed f → Writes (text again at) mid new (Ok u) → Writes (total from) old new (Ok u)
+      on-failed f u e w = left-none u (on-text (failed f) u e w) refl
+
+    -- no search is left
+    pub on-last : (result : Result (Unit {0}) IoError) → most ≤ i → Writes (nothing_text (showing p how.marks) None is_shown) mid new result → Writes (total from) old new result
+    on-last result past w =
+        let e : most - i ≡ 0 = omega arith in
+        left-last result on.left (ap (λ n. all n is_shown again at) e ∙ all-zero is_shown again at) w
+
+  pub on-as : (from i at at' : ℕ) (again again' is_shown is_shown' : Bool) (old new : Kept) → at ≡ at' → again ≡ again' → is_shown ≡ is_shown' → IsOn from i at' again' is_shown' old new
+      → IsOn from i at again is_shown old new
+  on-as from i at at' again again' is_shown is_shown' old new a b c on =
+      subst (λ n. IsOn from i n again is_shown old new) (sym a) (subst (λ t. IsOn from i at' t is_shown old new) (sym b) (subst (λ t. IsOn from i at' again' t old new) (sym c) on))
 
   -- The first match alone.
 
   abbrev first : ℕ → List ℕ
-  first from = matches_text show subject (last from) (first_from p matching subject from)
+  first from = first_text pattern p how subject from
 
-  -- by what the search gives
-  abbrev by_first : ℕ → Answer → List ℕ
-  by_first from a = matches_text show subject (last from) (elim a [ found o ↦ with_match o no_more | none ↦ no_more | failed e ↦ fails e ])
+  abbrev only : ℕ → List ℕ
+  only from = search_text pattern p how subject how.matching from
 
-  pub first-found : (from : ℕ) (o : Outcome) → answer_at p matching subject from ≡ found o → first from ≡ match_text show subject o
-  first-found from o e = ap (by_first from) e ∙ append-nil (match_text show subject o ++ []) ∙ append-nil (match_text show subject o)
+  -- what follows it
+  abbrev behind : ℕ → Answer → List ℕ
+  behind from a = elim a [
+    | found o ↦ []
+    | none ↦ missed_text pattern p how subject how.matching false from
+    | failed e ↦ []
+  ]
 
-  pub first-none : (from : ℕ) → answer_at p matching subject from ≡ none → first from ≡ end_text show (last from) false None
-  first-none from e = ap (by_first from) e
+  first-done : (from : ℕ) (old new : Kept) (u : Unit {0}) → behind from (answered p how.replies how.matching subject from) ≡ [] → Writes (only from) old new (Ok u) → Writes (first from) old new (Ok u)
+  first-done from old new u e w = writes-same (sym (ap (λ l. only from ++ l) e ∙ append-nil (only from))) w
+
+  done-behind : (from : ℕ) (s : Search) (a : Answer) → ((mark : Option ℕ) → s ≡ search.Nothing mark → ⊥) → IsSearch (length subject) s a → behind from a ≡ []
+  done-behind from (search.Nothing mark) a other is = absurd (other mark refl)
+  done-behind from (search.Found to is_empty) (found o) other is = refl
+  done-behind from (search.Found to is_empty) none other is = absurd is
+  done-behind from (search.Found to is_empty) (failed e) other is = absurd is
+  done-behind from search.Failed (failed e) other is = refl
+  done-behind from search.Failed none other is = absurd is
+  done-behind from search.Failed (found o) other is = absurd is
+
+  -- one that finds a match or fails is all that is written
+  pub first-other : (from : ℕ) (s : Search) (old new : Kept) (u : Unit {0}) → ((mark : Option ℕ) → s ≡ search.Nothing mark → ⊥) →
+      IsSearch (length subject) s (answered p how.replies how.matching subject from) → Writes {T = Search} (only from) old new (Ok s) → Writes (first from) old new (Ok u)
+  first-other from s old new u other is w = first-done from old new u (done-behind from s (answered p how.replies how.matching subject from) other is) (writes-as s u w)
 
   -- a first search that finds nothing tells the name that is shown
-  pub first-ends : (from : ℕ) (old mid new : Kept) (mark : Option ℕ) (s : Search) (result : Result (Unit {0}) IoError) → answer_at p matching subject from ≡ none → mark ≡ last from →
-      Writes {T = Search} (answer_text show subject (answer_at p matching subject from)) old mid (Ok s) → Writes (end_text show mark false None) mid new result → Writes (first from) old new result
+  pub first-ends : (from : ℕ) (old mid new : Kept) (mark : Option ℕ) (s : Search) (result : Result (Unit {0}) IoError) → answered p how.replies how.matching subject from ≡ none →
+      mark ≡ last_met p how.replies how.matching subject from → Writes {T = Search} (only from) old mid (Ok s) → Writes (nothing_text (showing p how.marks) mark false) mid new result → Writes (first from) old new result
   first-ends from old mid new mark s result e named w v =
-      let same : end_text show mark false None ≡ first from = ap (λ (m : Option ℕ). end_text show m false None) named ∙ sym (first-none from e) in
-      writes-equal same (writes-then [] (end_text show mark false None) old mid new s result (writes-equal (ap (answer_text show subject) e) w) v)
+      let next : nothing_text (showing p how.marks) mark false ≡ behind from (answered p how.replies how.matching subject from) =
+      ap (λ (m : Option ℕ). nothing_text (showing p how.marks) m false) named ∙ sym (ap (behind from) e) in
+      writes-then (only from) (behind from (answered p how.replies how.matching subject from)) old mid new s result w (writes-equal next v)
 
-  pub first-failed : (from : ℕ) (f : MatchError) → answer_at p matching subject from ≡ failed f → first from ≡ failed_line f
-  first-failed from f e = ap (by_first from) e
+  pub first-refused : (from : ℕ) (old new : Kept) (fault : IoError) → Writes {T = Search} (only from) old new (Err fault) → Writes {T = Unit {0}} (first from) old new (Err fault)
+  first-refused from old new fault w = writes-first (only from) (behind from (answered p how.replies how.matching subject from)) old new fault w
 
-  pub first-refused : (from : ℕ) (old new : Kept) (fault : IoError) → Writes {T = Unit {0}} (answer_text show subject (answer_at p matching subject from)) old new (Err fault) → Writes {T = Unit {0}} (first from) old new (Err fault)
-  first-refused from old new fault w = by_answer (answer_at p matching subject from) refl w
-    where
-      by_answer : (a : Answer) → answer_at p matching subject from ≡ a → Writes {T = Unit {0}} (answer_text show subject a) old new (Err fault) → Writes {T = Unit {0}} (first from) old new (Err fault)
-      by_answer (found o) e w = writes-same (sym (first-found from o e)) w
-      by_answer none e w = writes-same (sym (first-none from e)) (writes-first [] (end_text show (last from) false None) old new fault w)
-      by_answer (failed f) e w = writes-same (sym (first-failed from f e)) w
+  -- Where the first search can't begin.
+
+  pub all-unbegun : (from : ℕ) (f : MatchError) → start_fault p.options.utf subject from ≡ Some f → total from ≡ unmatched_line (showing p how.marks) subject f
+  all-unbegun from f e =
+      let more : most ≡ suc (2 * length subject + 1) = omega arith in
+      ap (λ n. all n false false from) more ∙ all-step (2 * length subject + 1) false false from
+      ∙ ap (λ a. text false from ++ after (2 * length subject + 1) false false from a) (answers-fault pattern p how how.matching subject from f e)
+      ∙ append-nil (text false from) ∙ unbegun-text pattern p how how.matching subject from f e
+
+  pub first-unbegun : (from : ℕ) (f : MatchError) → start_fault p.options.utf subject from ≡ Some f → first from ≡ unmatched_line (showing p how.marks) subject f
+  first-unbegun from f e =
+      ap (λ a. only from ++ behind from a) (answers-fault pattern p how how.matching subject from f e)
+      ∙ append-nil (only from) ∙ unbegun-text pattern p how how.matching subject from f e
+
+  unbegun-by : (global : Bool) (f : MatchError) → start_fault p.options.utf subject how.start ≡ Some f →
+      (if global then total how.start else first how.start) ≡ unmatched_line (showing p how.marks) subject f
+  unbegun-by true f e = all-unbegun how.start f e
+  unbegun-by false f e = first-unbegun how.start f e
+
+  pub searched-unbegun : (f : MatchError) → start_fault p.options.utf subject how.start ≡ Some f → searched pattern p how subject ≡ unmatched_line (showing p how.marks) subject f
+  searched-unbegun f e = unbegun-by how.global f e

@@ -21,7 +21,10 @@ use Rattle.pat_build.specs.State.{next, item}
 use Rattle.pat_build.specs.Options.{with_setting, with_item}
 use Rattle.pat_build.specs.Classes.{range_or_hyphen, from_character, from_set, class_parts, class_spec}
 use Rattle.pat_build.specs.Groups.{opened, captured, named, groups_of, named_by, places_named, missing}
-use Rattle.pat_build.specs.Reading.{quantified, closed, part_then, alternatives_from, sequence, alternatives, whole, started, reading, read_from, read}
+use Rattle.token_parts.specs.Callouts.{numbered_callout, callout}
+use Rattle.pat_build.specs.Callouts.{quantified_end, item_from, next_item, automatic}
+use Rattle.pat_build.specs.Parts.{callouts}
+use Rattle.pat_build.specs.Reading.{quantified, closed, part_then, alternatives_from, sequence, sequence_at, alternatives, whole, started, reading, read_from, read_with, read}
 use Rattle.pat_tree.specs.Nested.{trees_after, trees}
 use Rattle.pat_tree.specs.Sound.{group_numbers}
 use Rattle.pat_lengths.specs.Nodes.{nodes}
@@ -29,7 +32,7 @@ use Rattle.pat_lengths.specs.Lookbehinds.{found_in}
 use Rattle.pat_lengths.specs.Lengths.{lengths, by_calls, lead_to, behind}
 use Rattle.pat_check.specs.Lead.{lead}
 use Rattle.pat_check.specs.Size.{whole_size}
-use Rattle.dfa_lists.specs.Served.{has_graph}
+use Rattle.dfa_graph.specs.Served.{has_fragment}
 use Rattle.dfa_ends.specs.EndList as ends
 use Rattle.dfa_ends.specs.DfaAnswer as all_ends
 use Rattle.match_items.specs.Items.{places_back, run_places, run_reaches}
@@ -45,13 +48,13 @@ use Rattle.script_modifiers.specs.Lists.{list_of}
 use Rattle.test_script.specs.Subjects.{octal as octal_escape, hexadecimal, braced_octal, times, escape as subject_escape, piece_at, subject_text}
 use Rattle.test_script.specs.Script.{line_of}
 use Rattle.pcre2_api.specs.Captured.{top_within}
-use Rattle.pcre2_api.specs.Walks.{answer_at, all_from}
 use Rattle.test_run.specs.TestText.{told}
+use Rattle.test_run.specs.Matches.{answered, all_text}
 use Rattle.test_run.specs.Dfa.{told_at, ends_text}
 use Rattle.test_run.specs.Worked.{WorkedRows}
 
 reading_computes : Unit {0}
-unfolding stands run_end numeral name_end newline_at first_newline line_end comment blank_end blanks_end is_counted with_mode counted everywhere outside octal numbered_escape longer escape named_reference name_escape digits_start begins_number posix_end ignored_end all_ignored_end class_start bracket class_escape in_class set_by unset_by setting_closed setting start_word closed_word limit star_word opened_by named_group angle special group quoted rest plain token_at next with_setting with_item item range_or_hyphen from_character from_set class_parts class_spec opened captured named groups_of named_by places_named missing quantified closed part_then alternatives_from sequence alternatives whole started reading read_from read
+unfolding stands run_end numeral name_end newline_at first_newline line_end comment blank_end blanks_end is_counted with_mode counted everywhere outside octal numbered_escape longer escape named_reference name_escape digits_start begins_number posix_end ignored_end all_ignored_end class_start bracket class_escape in_class set_by unset_by setting_closed setting start_word closed_word limit star_word opened_by named_group angle special group quoted rest plain token_at next with_setting with_item item range_or_hyphen from_character from_set class_parts class_spec opened captured named groups_of named_by places_named missing callouts numbered_callout callout quantified_end item_from next_item quantified closed part_then alternatives_from automatic sequence sequence_at alternatives whole started reading read_from read_with read
 reading_computes = tt
 
 searching_computes : Unit {0}
@@ -59,11 +62,11 @@ unfolding trees_after trees group_numbers least_of nodes lengths by_calls lead_t
 searching_computes = tt
 
 ends_compute : Unit {0}
-unfolding whole_size has_graph ends.has_spot ends.union ends.every ends.keep_if ends.after_turns ends.further ends.all_within ends.repeated ends.item_ends ends.try_list ends.ends_list ends.insert ends.falling all_ends.some_spot all_ends.some_turn all_ends.reach_test all_ends.admitted all_ends.last_of all_ends.from_place told_at ends_text
+unfolding whole_size has_fragment ends.has_spot ends.union ends.every ends.keep_if ends.after_turns ends.further ends.all_within ends.repeated ends.item_ends ends.try_list ends.ends_list ends.insert ends.falling all_ends.some_spot all_ends.some_turn all_ends.reach_test all_ends.admitted all_ends.last_of all_ends.from_place told_at ends_text
 ends_compute = tt
 
 computing : Unit {0}
-unfolding reading_computes searching_computes ends_compute is_utf8 digits rows_within list_of octal_escape hexadecimal braced_octal times subject_escape piece_at subject_text line_of top_within answer_at all_from told
+unfolding reading_computes searching_computes ends_compute is_utf8 digits rows_within list_of octal_escape hexadecimal braced_octal times subject_escape piece_at subject_text line_of top_within answered all_text told
 computing = tt
 
 pub rows_hold : WorkedRows
@@ -78,10 +81,11 @@ rows_hold = record {
   unknown = refl;
   limit = refl;
   within_limit = refl;
-  unbuilt = refl;
+  partly = refl;
   all_ends = refl;
   no_replacing = refl;
   defaults = refl;
   codes_shown = refl;
+  callout = refl;
   cut_off = refl;
 }

@@ -1,5 +1,5 @@
 -- Lines about patterns and searches, as they are written piece by piece.
-use Rattle.std.proofs.Common.{◌≡◌, ◌∙◌, ℕ, ◌<◌, List, [], ◌++◌, ℤ, codes, decimal, refl, sym, ap, arith, append_assoc, append-nil}
+use Rattle.std.proofs.Common.{◌≡◌, ◌∙◌, ℕ, ◌<◌, List, [], ◌++◌, ℤ, codes, decimal, sym, ap, arith, append_assoc, append-nil}
 use Rattle.std.proofs.lemmas.Bool.{lt-ltb}
 use Rattle.std.specs.Fmt.{signed_decimal}
 use Rattle.pcre2_api.specs.FaultTexts.{fault_text}
@@ -9,11 +9,10 @@ use Rattle.pcre2_api.specs.declared.subst_error.SubstError.{SubstError}
 use Rattle.pcre2_api.specs.declared.error.MatchError.{MatchError}
 use Rattle.pcre2_api.specs.DfaErrors as dfa_errors
 use Rattle.pcre2_api.specs.declared.dfa.DfaError.{DfaError}
-use Rattle.pcre2_api.specs.declared.dfa.DfaError.TheVariants as dfa
 use Rattle.script_modifiers.specs.declared.refusal.Refusal.TheVariants.{UnknownModifier, BadModifierValue}
 use Rattle.tool_out.specs.Texts.{line, text_if}
 use Rattle.test_run.specs.Dfa as ends
-use Rattle.test_run.specs.Lines.{fault_line, failed_line, place_text, groups_line, lookbehind_line, refusal_line, refusal_place, unreplaced_line}
+use Rattle.test_lines.specs.Lines.{fault_line, failed_line, place_text, groups_line, lookbehind_line, refusal_line, refusal_place, unreplaced_line}
 
 pub fault-text : (number : ℤ) (at : ℕ) (code place text : List ℕ) → code ≡ signed_decimal number → place ≡ decimal at → text ≡ fault_text number
     → codes "Failed: error " ++ (code ++ (codes " at offset " ++ (place ++ (codes ": " ++ (text ++ (codes "\n" ++ [])))))) ≡ fault_line number at
@@ -33,18 +32,9 @@ pub unreplaced-text : (e : SubstError) (code text place : List ℕ) → code ≡
     → codes "Failed: error " ++ (code ++ (codes ": " ++ (text ++ (place ++ (codes "\n" ++ []))))) ≡ unreplaced_line e
 unreplaced-text e code text place c t p = error-text (subst.number_of e) (subst.text_of e) (refusal_place e) code text place c t p
 
-pub no-ends-text : (e : DfaError) (code text place : List ℕ) → (e ≡ dfa.NotBuilt → ⊥) → code ≡ signed_decimal (dfa_errors.number_of e) → text ≡ dfa_errors.text_of e → place ≡ ends.place_text e
+pub no-ends-text : (e : DfaError) (code text place : List ℕ) → code ≡ signed_decimal (dfa_errors.number_of e) → text ≡ dfa_errors.text_of e → place ≡ ends.place_text e
     → codes "Failed: error " ++ (code ++ (codes ": " ++ (text ++ (place ++ (codes "\n" ++ []))))) ≡ ends.failed_text e
-no-ends-text dfa.NotBuilt code text place built c t p = absurd (built refl)
-no-ends-text dfa.BadOffset code text place built c t p = error-text (dfa_errors.number_of dfa.BadOffset) (dfa_errors.text_of dfa.BadOffset) [] code text place c t p
-no-ends-text (dfa.BadUtf at) code text place built c t p = error-text (dfa_errors.number_of (dfa.BadUtf at)) (dfa_errors.text_of (dfa.BadUtf at)) (decimal at) code text place c t p
-no-ends-text dfa.BadUtfOffset code text place built c t p = error-text (dfa_errors.number_of dfa.BadUtfOffset) (dfa_errors.text_of dfa.BadUtfOffset) [] code text place c t p
-no-ends-text dfa.Item code text place built c t p = error-text (dfa_errors.number_of dfa.Item) (dfa_errors.text_of dfa.Item) [] code text place c t p
-no-ends-text dfa.Cond code text place built c t p = error-text (dfa_errors.number_of dfa.Cond) (dfa_errors.text_of dfa.Cond) [] code text place c t p
-no-ends-text dfa.TooLarge code text place built c t p = error-text (dfa_errors.number_of dfa.TooLarge) (dfa_errors.text_of dfa.TooLarge) [] code text place c t p
-no-ends-text dfa.NoMatch code text place built c t p = error-text (dfa_errors.number_of dfa.NoMatch) (dfa_errors.text_of dfa.NoMatch) [] code text place c t p
-no-ends-text (dfa.Partial from to) code text place built c t p = error-text (dfa_errors.number_of (dfa.Partial from to)) (dfa_errors.text_of (dfa.Partial from to)) [] code text place c t p
-no-ends-text dfa.Memory code text place built c t p = error-text (dfa_errors.number_of dfa.Memory) (dfa_errors.text_of dfa.Memory) [] code text place c t p
+no-ends-text e code text place c t p = error-text (dfa_errors.number_of e) (dfa_errors.text_of e) (ends.place_text e) code text place c t p
 
 pub groups-text : (groups : ℕ) (count : List ℕ) → count ≡ decimal groups → codes "Capture group count = " ++ (count ++ (codes "\n" ++ [])) ≡ groups_line groups
 groups-text groups count c = (λ i. codes "Capture group count = " ++ (c i ++ (codes "\n" ++ []))) ∙ simp (append_assoc, append-nil)

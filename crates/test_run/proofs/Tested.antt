@@ -6,23 +6,22 @@ use Rattle.pat_tree.specs.declared.names.NameEntry.{NameEntry}
 use Rattle.script_modifiers.specs.declared.modifiers.Modifiers.{Modifiers}
 use Rattle.test_script.specs.declared.entries.SubjectEntry.{SubjectEntry}
 use Rattle.test_run.specs.declared.options.How.{How}
-use Rattle.test_run.specs.Asked.{is_unbuilt, is_dfa, how_of, subst_of, replacement_of}
-use Rattle.test_run.specs.Lines.{unbuilt_line}
-use Rattle.test_run.specs.Courses.{searched, rewritten, found_by_dfa, tested_text}
+use Rattle.test_run.specs.Asked.{is_dfa, how_of, subst_of, replacement_of}
+use Rattle.test_run.specs.Courses.{rewritten, found_by_dfa, tested_text}
+use Rattle.test_run.specs.Matches.{searched}
 
-module _ (p : Pattern) (names : List NameEntry) (m : Modifiers) (s : SubjectEntry) where
+module _ (pattern : List ℕ) (p : Pattern) (names : List NameEntry) (m : Modifiers) (s : SubjectEntry) where
   -- by what is asked for
-  abbrev tested-by : Bool → Bool → Option (List ℕ) → List ℕ
-  tested-by unbuilt dfa replacement =
-      if unbuilt then unbuilt_line
-      else if dfa then found_by_dfa p s.subject (how_of s.modifiers m) replacement
+  abbrev tested-by : Bool → Option (List ℕ) → List ℕ
+  tested-by dfa replacement =
+      if dfa then found_by_dfa p s.subject (how_of s.modifiers m) replacement
       else elim replacement [
         | Some text ↦ rewritten p names s.subject (how_of s.modifiers m) (subst_of s.modifiers m) text
-        | None ↦ searched p s.subject (how_of s.modifiers m)
+        | None ↦ searched pattern p (how_of s.modifiers m) s.subject
       ]
 
-  pub searched-is : (subject : List ℕ) (how : How) → subject ≡ s.subject → how ≡ how_of s.modifiers m → is_unbuilt s.modifiers ≡ false → is_dfa s.modifiers m ≡ false → replacement_of s.modifiers m ≡ None →
-      searched p subject how ≡ tested_text p names m s
-  searched-is subject how same is built no_ends none =
-      ap (λ l. searched p l how) same ∙ ap (λ (h : How). searched p s.subject h) is
-      ∙ sym (ap (λ b. tested-by b (is_dfa s.modifiers m) (replacement_of s.modifiers m)) built ∙ ap (λ b. tested-by false b (replacement_of s.modifiers m)) no_ends ∙ ap (tested-by false false) none)
+  pub searched-is : (subject : List ℕ) (how : How) → subject ≡ s.subject → how ≡ how_of s.modifiers m → is_dfa s.modifiers m ≡ false → replacement_of s.modifiers m ≡ None →
+      searched pattern p how subject ≡ tested_text pattern p names m s
+  searched-is subject how same is no_ends none =
+      ap (λ l. searched pattern p how l) same ∙ ap (λ (h : How). searched pattern p h s.subject) is
+      ∙ sym (ap (λ b. tested-by b (replacement_of s.modifiers m)) no_ends ∙ ap (tested-by false) none)

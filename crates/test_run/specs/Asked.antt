@@ -1,22 +1,25 @@
 -- What modifiers ask for (pcre2test, "PATTERN MODIFIERS" and "SUBJECT MODIFIERS").
-use Rattle.std.specs.Prelude.{ℕ, Bool, false, ◌||◌, List, Option, None, unwrap_or}
+use Rattle.std.specs.Prelude.{ℕ, Bool, false, if◌then◌else◌, List, Option, None, unwrap_or}
 use Rattle.pat_tree.specs.declared.options.Options.{Options}
 use Rattle.pat_tree.specs.declared.options.MatchOptions.{MatchOptions}
+use Rattle.pat_tree.specs.declared.options.PartialMode.{PartialMode}
+use Rattle.pat_tree.specs.declared.options.PartialMode.TheVariants.{Off, Soft, Hard}
 use Rattle.pat_tree.specs.declared.options.Newline.TheVariants.{Lf}
 use Rattle.pat_tree.specs.declared.options.Bsr.TheVariants.{Unicode}
 use Rattle.pat_tree.specs.declared.options.TheConstants.MatchOptions as plain_match
 use Rattle.script_modifiers.specs.declared.modifiers.Modifiers.{Modifiers}
 use Rattle.script_modifiers.specs.Modifiers.{over}
 use Rattle.pcre2_api.specs.declared.substitute.SubstOptions.{SubstOptions}
+use Rattle.test_lines.specs.declared.gathered.Replies.{Replies}
 use Rattle.test_run.specs.declared.options.How.{How}
 
 -- an on-off modifier is on where it is given without `-`
 abbrev pub is_on : Option Bool → Bool
 is_on flag = unwrap_or flag false
 
--- partial matching isn't built
-abbrev pub is_unbuilt : Modifiers → Bool
-is_unbuilt m = is_on m.partial_soft || is_on m.partial_hard
+-- how partial matches are looked for: hard goes before soft
+abbrev pub partial_of : Modifiers → PartialMode
+partial_of m = if is_on m.partial_hard then Hard else if is_on m.partial_soft then Soft else Off
 
 -- the options of a pattern
 abbrev pub options_of : Modifiers → Options
@@ -47,6 +50,10 @@ options_of m = record {
   match_limit = None;
 }
 
+-- what callouts answer
+abbrev pub replies_of : Modifiers → Replies
+replies_of m = record { none = is_on m.callout_none; fails = m.callout_fail; errs = m.callout_error }
+
 -- How a subject is searched: its own modifiers are over those of the pattern. Where those anchor,
 -- the pattern is anchored, so only the subject's own do so here.
 module _ (own earlier : Modifiers) where
@@ -61,6 +68,7 @@ module _ (own earlier : Modifiers) where
         notempty = is_on m.notempty;
         notempty_atstart = is_on m.notempty_atstart;
         dfa_shortest = is_on m.dfa_shortest;
+        «partial» = partial_of m;
         match_limit = unwrap_or m.match_limit plain_match.PLAIN.match_limit;
         frame_limit = unwrap_or m.frame_limit plain_match.PLAIN.frame_limit;
       }
@@ -71,6 +79,7 @@ module _ (own earlier : Modifiers) where
     start = unwrap_or (over own earlier).offset 0;
     global = is_on (over own earlier).global;
     marks = is_on (over own earlier).mark;
+    replies = replies_of (over own earlier);
   }
 
   -- whether all ends are looked for

@@ -16,19 +16,18 @@ use Rattle.test_script.specs.declared.entries.PatternEntry.{PatternEntry}
 use Rattle.test_script.specs.declared.entries.SubjectEntry.{SubjectEntry}
 use Rattle.pcre2_api.specs.Patterns.{compiled}
 use Rattle.pcre2_api.specs.Informs.{info_in}
-use Rattle.test_run.specs.Asked.{is_on, is_unbuilt, is_dfa, options_of, how_of, subst_of, replacement_of}
+use Rattle.test_run.specs.Asked.{is_on, is_dfa, options_of, how_of, subst_of, replacement_of}
 use Rattle.test_run.specs.declared.options.How.{How}
-use Rattle.pcre2_api.specs.Walks.{matches_from}
-use Rattle.test_run.specs.Marks.{showing, missed}
-use Rattle.test_run.specs.Lines.{unbuilt_line, fault_line, info_text, refusal_line, matches_text, replaced_text}
+use Rattle.test_run.specs.Matches.{searched}
+use Rattle.test_lines.specs.Lines.{fault_line, info_text, refusal_line, replaced_text}
 use Rattle.test_run.specs.Dfa.{dfa_text, replace_with_dfa_line}
 
 -- what subject lines are searched for
 pub data Course : Type 0 where
   -- no pattern stands before
   between : Course
-  -- a pattern with the names of its groups and its modifiers
-  tests : Pattern → List NameEntry → Modifiers → Course
+  -- a pattern, as it is written and as it is read, with the names of its groups and its modifiers
+  tests : List ℕ → Pattern → List NameEntry → Modifiers → Course
   -- nothing: the pattern before was refused, so its subject lines are passed over
   passed : Course
 
@@ -38,32 +37,23 @@ abbrev pub names_of : Result Parsed Fault → List NameEntry
 names_of (Ok parsed) = parsed.names
 names_of (Err fault) = []
 
-abbrev pub course_by : Modifiers → List NameEntry → Result Pattern Fault → Course
-course_by m names (Ok p) = tests p names m
-course_by m names (Err fault) = passed
+abbrev pub course_by : List ℕ → Modifiers → List NameEntry → Result Pattern Fault → Course
+course_by text m names (Ok p) = tests text p names m
+course_by text m names (Err fault) = passed
 
 abbrev pub told_of : Modifiers → Result Pattern Fault → List ℕ
 told_of m (Ok p) = text_if (is_on m.info) (info_text (info_in p))
 told_of m (Err fault) = fault_line fault.number fault.at
 
--- a pattern that asks for what isn't built isn't compiled
 abbrev pub pattern_course : PatternEntry → Course
 pattern_course p =
-    if is_unbuilt p.modifiers then passed
-    else course_by p.modifiers (names_of (read (options_of p.modifiers) p.pattern))
+    course_by p.pattern p.modifiers (names_of (read (options_of p.modifiers) p.pattern))
     (compiled (options_of p.modifiers) p.pattern)
 
 abbrev pub pattern_text : PatternEntry → List ℕ
-pattern_text p =
-    if is_unbuilt p.modifiers then unbuilt_line
-    else told_of p.modifiers (compiled (options_of p.modifiers) p.pattern)
+pattern_text p = told_of p.modifiers (compiled (options_of p.modifiers) p.pattern)
 
 -- Subjects.
-
-abbrev pub searched : Pattern → List ℕ → How → List ℕ
-searched p subject how =
-    matches_text (showing p how.marks) subject (missed p how.matching subject how.start)
-    (matches_from p how.matching subject how.global how.start)
 
 abbrev pub rewritten : Pattern → List NameEntry → List ℕ → How → SubstOptions → List ℕ → List ℕ
 rewritten p names subject how subst replacement =
@@ -76,18 +66,17 @@ found_by_dfa p subject how (Some replacement) = replace_with_dfa_line
 found_by_dfa p subject how None = dfa_text p how.matching subject how.global how.start
 
 -- where a replacement is given the matches are replaced, else they are shown
-abbrev pub tested_text : Pattern → List NameEntry → Modifiers → SubjectEntry → List ℕ
-tested_text p names m s =
-    if is_unbuilt s.modifiers then unbuilt_line
-    else if is_dfa s.modifiers m
+abbrev pub tested_text : List ℕ → Pattern → List NameEntry → Modifiers → SubjectEntry → List ℕ
+tested_text pattern p names m s =
+    if is_dfa s.modifiers m
     then found_by_dfa p s.subject (how_of s.modifiers m) (replacement_of s.modifiers m)
     else elim (replacement_of s.modifiers m) [
       | Some text ↦ rewritten p names s.subject (how_of s.modifiers m) (subst_of s.modifiers m) text
-      | None ↦ searched p s.subject (how_of s.modifiers m)
+      | None ↦ searched pattern p (how_of s.modifiers m) s.subject
     ]
 
 abbrev pub subject_text : Course → SubjectEntry → List ℕ
-subject_text (tests p names m) s = tested_text p names m s
+subject_text (tests pattern p names m) s = tested_text pattern p names m s
 subject_text _ s = []
 
 -- Entries.

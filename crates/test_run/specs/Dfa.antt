@@ -6,8 +6,8 @@ use Rattle.tool_out.specs.Texts.{line}
 use Rattle.pat_tree.specs.declared.options.MatchOptions.{MatchOptions}
 use Rattle.pat_tree.specs.Pattern.{Pattern}
 use Rattle.dfa_ends.specs.DfaAnswer.{DfaAnswer, EndsFrom, NoMatch, PartialFrom, dfa_answer}
-use Rattle.dfa_lists.specs.declared.ends.GraphError.{GraphError}
-use Rattle.dfa_lists.specs.Served.{refusal}
+use Rattle.dfa_graph.specs.declared.making.GraphError.{GraphError}
+use Rattle.dfa_graph.specs.Served.{refusal}
 use Rattle.pcre2_api.specs.Patterns.{setting}
 use Rattle.pcre2_api.specs.Starts.{start_fault}
 use Rattle.pcre2_api.specs.Walks.{matching_at, place_behind, goes_on}
@@ -15,8 +15,8 @@ use Rattle.pcre2_api.specs.DfaMatched.{error_of, start_error_of}
 use Rattle.pcre2_api.specs.DfaErrors.{number_of, text_of}
 use Rattle.pcre2_api.specs.declared.dfa.DfaError.{DfaError}
 use Rattle.pcre2_api.specs.declared.dfa.DfaError.TheVariants as told
-use Rattle.test_run.specs.Lines.{unbuilt_line}
-use Rattle.test_run.specs.Shown.{number_before, shown}
+use Rattle.test_lines.specs.Marks.{name_line}
+use Rattle.test_lines.specs.Shown.{number_before, shown}
 
 -- what one search gives: the place where the match begins, and its ends, the longest first
 pub data Told : Type 0 where
@@ -24,11 +24,11 @@ pub data Told : Type 0 where
   nothing : Told
   failed : DfaError → Told
 
--- no partial match is looked for
-abbrev pub told_of : DfaAnswer → Told
-told_of (EndsFrom start qs) = ends start qs
-told_of NoMatch = nothing
-told_of (PartialFrom p) = nothing
+-- in a subject of this length, up to whose end a partial match runs
+abbrev pub told_of : ℕ → DfaAnswer → Told
+told_of len (EndsFrom start qs) = ends start qs
+told_of len NoMatch = nothing
+told_of len (PartialFrom p) = failed (told.Partial p len)
 
 abbrev pub unless_barred : Option GraphError → Told → Told
 unless_barred None a = a
@@ -39,7 +39,7 @@ unfoldable pub told_at : Pattern → MatchOptions → List ℕ → ℕ → Told
 told_at p matching subject at = elim (start_fault p.options.utf subject at) [
   | Some e ↦ failed (start_error_of e)
   | None ↦ unless_barred (refusal p.tree)
-      (told_of (dfa_answer (setting p matching subject at) matching.dfa_shortest))
+      (told_of (length subject) (dfa_answer (setting p matching subject at) matching.dfa_shortest))
 ]
 
 -- an end: the text up to it, by its number from 0
@@ -59,10 +59,15 @@ place_text (told.BadUtf at) = decimal at
 place_text _ = []
 
 abbrev pub failed_text : DfaError → List ℕ
-failed_text told.NotBuilt = unbuilt_line
 failed_text e =
     line (codes "Failed: error " ++ signed_decimal (number_of e) ++ codes ": " ++ text_of e
     ++ place_text e)
+
+-- a search without ends but for a partial match, or one that fails
+abbrev pub unmatched_text : Bool → List ℕ → DfaError → List ℕ
+unmatched_text utf subject (told.Partial from to) =
+    name_line utf (codes "Partial match: ") (slice_range subject from to)
+unmatched_text utf subject e = failed_text e
 
 -- all ends and replacements are asked for together
 abbrev pub replace_with_dfa_line : List ℕ
@@ -77,7 +82,7 @@ none_text false = line (codes "No match")
 abbrev pub told_text : Bool → List ℕ → Told → List ℕ
 told_text utf subject (ends start qs) = ends_text utf subject start 0 qs
 told_text utf subject nothing = []
-told_text utf subject (failed e) = failed_text e
+told_text utf subject (failed e) = unmatched_text utf subject e
 
 abbrev pub longest : ℕ → List ℕ → ℕ
 longest start [] = start
@@ -99,14 +104,14 @@ module _ (p : Pattern) (matching : MatchOptions) (subject : List ℕ) where
       | true ↦ all_text n is_shown false (place_behind p subject at)
       | false ↦ none_text is_shown
     ]
-    | failed e ↦ failed_text e
+    | failed e ↦ unmatched_text p.options.utf subject e
   ]
 
   abbrev pub first_text : ℕ → List ℕ
   first_text at = elim (told_at p matching subject at) [
     | ends start qs ↦ ends_text p.options.utf subject start 0 qs
     | nothing ↦ none_text false
-    | failed e ↦ failed_text e
+    | failed e ↦ unmatched_text p.options.utf subject e
   ]
 
   -- under `global` all matches count

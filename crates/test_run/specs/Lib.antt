@@ -1,7 +1,5 @@
-pub mod Shown
-pub mod Marks
 pub mod Asked
-pub mod Lines
+pub mod Matches
 pub mod Courses
 pub mod TestText
 pub mod Worked

@@ -1,4 +1,5 @@
 //! How a script stands between two lines.
+use pat_tree::ByteList;
 use pcre2_api::Code;
 use script_modifiers::Modifiers;
 
@@ -13,9 +14,10 @@ pub enum Course {
     Passed,
 }
 
-/// A pattern with its modifiers.
+/// A pattern, as it is written and as it is read, with its modifiers.
 #[derive(Drop)]
 pub struct Tested {
+    pub pattern: ByteList,
     pub code: Code,
     pub modifiers: Modifiers,
 }

@@ -1,25 +1,24 @@
 //! The ends of a subject, by the matcher that finds them all.
 ghost use Rattle.std.specs.Prelude.{◌≡◌, ◌<◌, ◌≤◌, length, true, IfOk, IfErr};
-ghost use Rattle.pat_tree.specs.declared.options.PartialMode.TheVariants.{Off};
 ghost use Rattle.pat_tree.specs.Pattern.{pattern_of};
 ghost use Rattle.match_drive.specs.Asked.{passed_over};
 ghost use Rattle.dfa_drive.specs.Answer.{AreWithin};
 ghost use Rattle.pcre2_api.specs.Matched.{search_of};
 ghost use Rattle.pcre2_api.specs.DfaMatched.{IsDfaFound, IsDfaError};
-ghost use Rattle.test_run.specs.Dfa.{end_line, ends_text, failed_text, none_text, place_text, told_at, told_text, first_text, dfa_text, replace_with_dfa_line};
+ghost use Rattle.test_run.specs.Dfa.{end_line, ends_text, failed_text, unmatched_text, none_text, place_text, told_at, told_text, first_text, dfa_text, replace_with_dfa_line};
 ghost use Rattle.test_run.specs.declared.dfa.Search.TheVariants.{Failed};
-ghost use Rattle.test_run.specs.DfaSearches.{error_text, IsSearch, TellsEnds, TellsError};
+ghost use Rattle.test_run.specs.DfaSearches.{error_text, IsSearch, LiesIn, TellsEnds, TellsError};
 ghost use Rattle.tool_out.specs.Writes.{Writes};
 
-use crate::lines::write_unbuilt;
 use crate::options::How;
-use crate::shown::{write_count, write_shown};
 use itoa::Buffer;
 use pcre_io::{IoError, Sink};
 use pcre2_api::{Code, DfaError, DfaFound, Lists, MatchOptions, Steps, matching_at, place_behind};
 use std::alloc::Global;
 use std::marker::Brand;
 use std::sync::ledger::{Blank, Ledger};
+use test_lines::marks::write_name;
+use test_lines::shown::{write_count, write_shown};
 use tool_out::write_texts;
 
 /// What a search for all ends comes to.
@@ -28,6 +27,7 @@ enum Search {
     /// A match whose longest end this is.
     Ends { longest: usize, is_empty: bool },
     Nothing,
+    /// A partial match, or a failure: no further match is searched for.
     Failed,
 }
 
@@ -78,13 +78,10 @@ fn place_text(e: DfaError, room: &mut Buffer) -> &[u8]
     }
 }
 
-// Writes why there is no match.
+// Writes why a search failed.
 fn write_failed<O: Sink>(out: &mut O, e: DfaError) -> Result<(), IoError>
     ensures { Writes (failed_text e) (O.tells out.old) (O.tells out.new) result }
 {
-    if let DfaError::NotBuilt = e {
-        return write_unbuilt(out);
-    }
     let mut number = Buffer::new();
     let mut place = Buffer::new();
     write_texts(
@@ -114,7 +111,6 @@ fn counted<L: Ledger>(
     requires parts { blank.parts ≡ L.parts }
     requires one { blank.parts ≡ 1 }
     requires short { length subject.now < 4294967295 }
-    requires off { options.now.«partial» ≡ Off }
     ensures found { IfOk result (IsDfaFound
         (search_of code.now options.now subject.now at passed_over)) }
     ensures refused { IfErr result (IsDfaError
@@ -134,7 +130,6 @@ fn find_ends(
     lists: &mut Lists,
 ) -> Result<DfaFound, DfaError>
     requires short { length subject.now < 4294967295 }
-    requires off { options.now.«partial» ≡ Off }
     ensures found { IfOk result (IsDfaFound
         (search_of code.now options.now subject.now at passed_over)) }
     ensures refused { IfErr result (IsDfaError
@@ -158,28 +153,56 @@ fn told_of(found: &DfaFound) -> Search
     }
 }
 
-// Writes why a search failed.
-fn fail<O: Sink>(out: &mut O, e: DfaError) -> Result<Search, IoError>
-    ensures wrote { Writes (failed_text e) (O.tells out.old) (O.tells out.new) result }
+// Writes a partial match, or why a search failed.
+fn write_unmatched<O: Sink>(
+    out: &mut O,
+    subject: &[u8],
+    e: DfaError,
+    utf: bool,
+) -> Result<(), IoError>
+    requires lies { LiesIn (length subject.now) e }
+    ensures { Writes (unmatched_text utf subject.now e) (O.tells out.old) (O.tells out.new) result }
+{
+    match e {
+        DfaError::Partial { start, end } => {
+            write_name(out, b"Partial match: ", &subject[start..end], utf)
+        }
+        _ => write_failed(out, e),
+    }
+}
+
+// The same; no further search follows.
+fn fail<O: Sink>(out: &mut O, subject: &[u8], e: DfaError, utf: bool) -> Result<Search, IoError>
+    requires lies { LiesIn (length subject.now) e }
+    ensures wrote { Writes (unmatched_text utf subject.now e) (O.tells out.old) (O.tells out.new)
+        result }
     ensures comes { IfOk result (λ s. s ≡ Failed) }
 {
-    write_failed(out, e)?;
+    write_unmatched(out, subject, e, utf)?;
     Ok(Search::Failed)
 }
 
-// Tells what an error of a search comes to, and writes why it failed.
-fn tell_error<O: Sink>(out: &mut O, e: DfaError) -> Result<Search, IoError>
-    ensures wrote { Writes (error_text e) (O.tells out.old) (O.tells out.new) result }
+// Tells what an error of a search comes to, and writes a partial match, or why the search failed.
+fn tell_error<O: Sink>(
+    out: &mut O,
+    subject: &[u8],
+    e: DfaError,
+    utf: bool,
+) -> Result<Search, IoError>
+    requires lies { LiesIn (length subject.now) e }
+    ensures wrote { Writes (error_text utf subject.now e) (O.tells out.old) (O.tells out.new)
+        result }
     ensures comes { IfOk result (TellsError e) }
 {
     match e {
         DfaError::NoMatch => Ok(Search::Nothing),
         DfaError::Memory => Err(IoError::Memory),
-        _ => fail(out, e),
+        _ => fail(out, subject, e, utf),
     }
 }
 
-// Searches a subject from a place on, and writes the ends, or why the search failed.
+// Searches a subject from a place on, and writes the ends, or a partial match, or why the search
+// failed.
 fn search_at<O: Sink>(
     alloc: Global,
     out: &mut O,
@@ -190,19 +213,19 @@ fn search_at<O: Sink>(
     lists: &mut Lists,
 ) -> Result<Search, IoError>
     requires short { length subject.now < 4294967295 }
-    requires off { options.now.«partial» ≡ Off }
     ensures wrote { Writes (told_text code.now.tree.options.utf subject.now
         (told_at (pattern_of code.now.tree) options.now subject.now at))
         (O.tells out.old) (O.tells out.new) result }
     ensures comes { IfOk result (λ s. IsSearch s
         (told_at (pattern_of code.now.tree) options.now subject.now at)) }
 {
+    let utf = code.options().utf;
     match find_ends(alloc, code, subject, at, options, lists) {
         Ok(found) => {
-            write_ends(out, subject, &found, code.options().utf)?;
+            write_ends(out, subject, &found, utf)?;
             Ok(told_of(&found))
         }
-        Err(e) => tell_error(out, e),
+        Err(e) => tell_error(out, subject, e, utf),
     }
 }
 
@@ -226,7 +249,6 @@ fn write_first<O: Sink>(
     lists: &mut Lists,
 ) -> Result<(), IoError>
     requires short { length subject.now < 4294967295 }
-    requires off { how.now.matching.«partial» ≡ Off }
     ensures { Writes (first_text (pattern_of code.now.tree) how.now.matching subject.now
         how.now.start) (O.tells out.old) (O.tells out.new) result }
 {
@@ -247,7 +269,6 @@ fn write_all<O: Sink>(
     lists: &mut Lists,
 ) -> Result<(), IoError>
     requires short { length subject.now < 4294967295 }
-    requires off { how.now.matching.«partial» ≡ Off }
     ensures { Writes (dfa_text (pattern_of code.now.tree) how.now.matching subject.now true
         how.now.start) (O.tells out.old) (O.tells out.new) result }
 {
@@ -291,7 +312,6 @@ pub fn write_all_ends<O: Sink>(
     how: &How,
 ) -> Result<(), IoError>
     requires short { length subject.now < 4294967295 }
-    requires off { how.now.matching.«partial» ≡ Off }
     ensures { Writes (dfa_text (pattern_of code.now.tree) how.now.matching subject.now
         how.now.global how.now.start) (O.tells out.old) (O.tells out.new) result }
 {

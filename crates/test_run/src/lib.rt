@@ -5,17 +5,13 @@ mod course;
 mod dfa;
 mod laws;
 mod lines;
-mod marks;
 mod matches;
 mod options;
 mod patterns;
 mod replacing;
 mod script;
-mod shown;
 mod stop;
 mod subjects;
-#[cfg(test)]
-mod tests;
 
 pub use laws::worked_rows;
 pub use script::run_script;

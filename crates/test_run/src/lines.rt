@@ -1,6 +1,6 @@
 //! Lines about patterns and script lines.
 ghost use Rattle.std.specs.Prelude.{◌≡◌};
-ghost use Rattle.test_run.specs.Lines.{failed_line, fault_line, groups_line, lookbehind_line, info_text, place_text, refusal_line, refusal_place, unbuilt_line, unreplaced_line};
+ghost use Rattle.test_lines.specs.Lines.{failed_line, fault_line, groups_line, lookbehind_line, info_text, place_text, refusal_line, refusal_place, unreplaced_line};
 ghost use Rattle.tool_out.specs.Writes.{Writes};
 
 use itoa::Buffer;
@@ -142,11 +142,4 @@ pub fn write_refusal<O: Sink>(out: &mut O, refusal: &Refusal) -> Result<(), IoEr
         }
         Refusal::BadSubject => write_texts(out, &[b"** bad subject\n"]),
     }
-}
-
-/// Writes that what a line asks for isn't built.
-pub fn write_unbuilt<O: Sink>(out: &mut O) -> Result<(), IoError>
-    ensures { Writes unbuilt_line (O.tells out.old) (O.tells out.new) result }
-{
-    write_texts(out, &[b"** not built\n"])
 }

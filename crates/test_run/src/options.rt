@@ -1,10 +1,12 @@
 //! What modifiers ask for.
 ghost use Rattle.std.specs.Prelude.{◌≡◌};
 ghost use Rattle.std.specs.Option.{option_copied};
-ghost use Rattle.test_run.specs.Asked.{is_on, options_of, matching_of, is_unbuilt, is_dfa, how_of, replacement_of, subst_of};
+ghost use Rattle.script_modifiers.specs.Modifiers.{over};
+ghost use Rattle.test_run.specs.Asked.{is_on, options_of, matching_of, partial_of, replies_of, is_dfa, how_of, replacement_of, subst_of};
 
-use pcre2_api::{Bsr, MatchOptions, Newline, Options, SubstOptions};
+use pcre2_api::{Bsr, MatchOptions, Newline, Options, PartialMode, SubstOptions};
 use script_modifiers::Modifiers;
+use test_lines::gathered::Replies;
 
 /// How a subject is searched.
 #[derive(Clone, Copy)]
@@ -16,6 +18,8 @@ pub struct How {
     pub global: bool,
     /// Whether marks are shown.
     pub marks: bool,
+    /// What callouts answer.
+    pub replies: Replies,
 }
 
 fn is_on(flag: Option<bool>) -> bool
@@ -31,11 +35,17 @@ pub fn is_info(modifiers: &Modifiers) -> bool
     is_on(modifiers.info)
 }
 
-/// Whether modifiers ask for partial matching, which isn't built.
-pub fn is_unbuilt(modifiers: &Modifiers) -> bool
-    ensures { result ≡ is_unbuilt modifiers.now }
+/// How partial matches are looked for (pcre2partial).
+fn partial_of(own: &Modifiers, earlier: &Modifiers) -> PartialMode
+    ensures { result ≡ partial_of (over own.now earlier.now) }
 {
-    is_on(modifiers.partial_soft) || is_on(modifiers.partial_hard)
+    if is_on(own.partial_hard.or(earlier.partial_hard)) {
+        PartialMode::Hard
+    } else if is_on(own.partial_soft.or(earlier.partial_soft)) {
+        PartialMode::Soft
+    } else {
+        PartialMode::Off
+    }
 }
 
 /// Whether all ends of a subject's match are looked for (pcre2test, "SUBJECT MODIFIERS").
@@ -88,6 +98,7 @@ fn matching_of(own: &Modifiers, earlier: &Modifiers) -> MatchOptions
         notempty: is_on(own.notempty.or(earlier.notempty)),
         notempty_atstart: is_on(own.notempty_atstart.or(earlier.notempty_atstart)),
         dfa_shortest: is_on(own.dfa_shortest.or(earlier.dfa_shortest)),
+        partial: partial_of(own, earlier),
         match_limit: own
             .match_limit
             .or(earlier.match_limit)
@@ -97,6 +108,16 @@ fn matching_of(own: &Modifiers, earlier: &Modifiers) -> MatchOptions
             .or(earlier.frame_limit)
             .unwrap_or(MatchOptions::PLAIN.frame_limit),
         ..MatchOptions::PLAIN
+    }
+}
+
+fn replies_of(own: &Modifiers, earlier: &Modifiers) -> Replies
+    ensures { result ≡ replies_of (over own.now earlier.now) }
+{
+    Replies {
+        none: is_on(own.callout_none.or(earlier.callout_none)),
+        fails: own.callout_fail.or(earlier.callout_fail),
+        errs: own.callout_error.or(earlier.callout_error),
     }
 }
 
@@ -110,6 +131,7 @@ pub fn how_of(own: &Modifiers, earlier: &Modifiers) -> How
         start: own.offset.or(earlier.offset).unwrap_or(0),
         global: is_on(own.global.or(earlier.global)),
         marks: is_on(own.mark.or(earlier.mark)),
+        replies: replies_of(own, earlier),
     }
 }
 

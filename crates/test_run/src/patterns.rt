@@ -3,14 +3,14 @@ ghost use Rattle.std.specs.Prelude.{◌≡◌, IfOk};
 ghost use Rattle.pat_tree.specs.Pattern.{pattern_of};
 ghost use Rattle.pcre2_api.specs.Informs.{info_in};
 ghost use Rattle.test_run.specs.Courses.{pattern_course, pattern_text};
-ghost use Rattle.test_run.specs.Lines.{info_text};
+ghost use Rattle.test_lines.specs.Lines.{info_text};
 ghost use Rattle.test_run.specs.Searches.{course_of};
 ghost use Rattle.tool_out.specs.Texts.{text_if};
 ghost use Rattle.tool_out.specs.Writes.{Writes};
 
 use crate::course::{Course, Tested};
-use crate::lines::{write_fault, write_info, write_unbuilt};
-use crate::options::{is_info, is_unbuilt, options_of};
+use crate::lines::{write_fault, write_info};
+use crate::options::{is_info, options_of};
 use pcre_io::{IoError, Sink};
 use pcre2_api::{Code, CompileError};
 use std::alloc::Global;
@@ -35,14 +35,14 @@ pub fn begin<O: Sink>(alloc: Global, entry: PatternEntry, out: &mut O) -> Result
     ensures course { IfOk result (λ course. course_of course ≡ pattern_course entry) }
 {
     let PatternEntry { pattern, modifiers } = entry;
-    if is_unbuilt(&modifiers) {
-        write_unbuilt(out)?;
-        return Ok(Course::Passed);
-    }
     match Code::compile(alloc, pattern.bytes(), options_of(&modifiers)) {
         Ok(code) => {
             write_told(out, &code, is_info(&modifiers))?;
-            Ok(Course::Tests(Tested { code, modifiers }))
+            Ok(Course::Tests(Tested {
+                pattern,
+                code,
+                modifiers,
+            }))
         }
         Err(CompileError::Bad { number, at }) => {
             write_fault(out, number, at)?;

@@ -5,15 +5,15 @@ ghost use Rattle.pcre2_api.specs.Substituted.{Refuses};
 ghost use Rattle.pcre2_api.specs.declared.subst_error.SubstError.{SubstError};
 ghost use Rattle.pcre2_api.specs.declared.substitute.Substituted.{Substituted};
 ghost use Rattle.test_run.specs.Courses.{rewritten};
-ghost use Rattle.test_run.specs.Lines.{done_line, replaced_text};
+ghost use Rattle.test_lines.specs.Lines.{done_line, replaced_text};
 ghost use Rattle.tool_out.specs.Writes.{Writes};
 
 use crate::lines::write_unreplaced;
 use crate::options::How;
-use crate::shown::{write_count, write_shown};
 use pcre_io::{IoError, Sink};
 use pcre2_api::{Code, Scratch, SubstError, SubstOptions, Substituted};
 use std::alloc::Global;
+use test_lines::shown::{write_count, write_shown};
 use tool_out::write_texts;
 
 // Writes a subject that was rewritten.

@@ -1,7 +1,6 @@
 //! The subjects of a script.
-ghost use Rattle.std.specs.Prelude.{◌≡◌, ◌<◌, length};
+ghost use Rattle.std.specs.Prelude.{◌<◌, length};
 ghost use Rattle.std.specs.Option.{option_copied};
-ghost use Rattle.pat_tree.specs.declared.options.PartialMode.TheVariants.{Off};
 ghost use Rattle.pat_tree.specs.Pattern.{pattern_of};
 ghost use Rattle.test_run.specs.Courses.{found_by_dfa, tested_text, subject_text};
 ghost use Rattle.test_run.specs.Searches.{course_of};
@@ -9,9 +8,8 @@ ghost use Rattle.tool_out.specs.Writes.{Writes};
 
 use crate::course::{Course, Tested};
 use crate::dfa::{write_all_ends, write_replace_with_dfa};
-use crate::lines::write_unbuilt;
 use crate::matches::write_matches;
-use crate::options::{How, how_of, is_dfa, is_unbuilt, replacement_of, subst_of};
+use crate::options::{How, how_of, is_dfa, replacement_of, subst_of};
 use crate::replacing::write_replaced;
 use pcre_io::{IoError, Sink};
 use pcre2_api::{Code, Scratch};
@@ -28,7 +26,6 @@ fn write_found<O: Sink>(
     replacement: Option<&[u8]>,
 ) -> Result<(), IoError>
     requires short { length subject.now < 4294967295 }
-    requires off { how.now.matching.«partial» ≡ Off }
     ensures { Writes (found_by_dfa (pattern_of code.now.tree) subject.now how.now
         (option_copied replacement.entry)) (O.tells out.old) (O.tells out.new) result }
 {
@@ -47,12 +44,9 @@ fn write_tested<O: Sink>(
     scratch: &mut Scratch,
 ) -> Result<(), IoError>
     requires { length entry.now.subject < 4294967295 }
-    ensures { Writes (tested_text (pattern_of tested.now.code.tree) tested.now.code.tree.names
-        tested.now.modifiers entry.now) (O.tells out.old) (O.tells out.new) result }
+    ensures { Writes (tested_text tested.now.pattern (pattern_of tested.now.code.tree)
+        tested.now.code.tree.names tested.now.modifiers entry.now) (O.tells out.old) (O.tells out.new) result }
 {
-    if is_unbuilt(&entry.modifiers) {
-        return write_unbuilt(out);
-    }
     let how = how_of(&entry.modifiers, &tested.modifiers);
     let subject = entry.subject.bytes();
     let replacement = replacement_of(&entry.modifiers, &tested.modifiers);
@@ -73,7 +67,7 @@ fn write_tested<O: Sink>(
                 scratch,
             )
         }
-        None => write_matches(out, &tested.code, subject, &how, scratch),
+        None => write_matches(alloc, out, tested, subject, &how, scratch),
     }
 }
 

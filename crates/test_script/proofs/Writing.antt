@@ -5,14 +5,6 @@ use Rattle.std.proofs.lemmas.Bool.Decides.{nat_tests}
 use Rattle.token_parts.specs.Bytes.{stands}
 use Rattle.test_script.specs.Subjects.{before, times, copies_of, copies, piece_at, repeated_after, repeated, greatest_subject}
 
-pub before_nothing : {A : Type 0} (found : Option (List ℕ × A)) → before [] found ≡ found
-before_nothing None = refl
-before_nothing (Some found) = refl
-
-pub before_twice : {A : Type 0} (first next : List ℕ) (found : Option (List ℕ × A)) → before first (before next found) ≡ before (first ++ next) found
-before_twice first next None = refl
-before_twice first next (Some found) = ap (λ bytes. Some (bytes, found.1)) (sym (append_assoc first next found.0))
-
 pub turn_more : (n turn : ℕ) → turn < n → n - turn ≡ suc (n - (turn + 1))
 turn_more n turn more = omega arith
 

@@ -16,6 +16,3 @@ pub use pat_tree::Memory;
 pub use plan::TestPlan;
 pub use reader::ScriptReader;
 pub use script_modifiers::{ListError, Modifiers, Refusal, read_list};
-
-#[cfg(test)]
-mod tests;

@@ -1,5 +1,5 @@
 -- The tests of conditional groups (pcre2pattern, "Conditional groups").
-use Rattle.std.specs.Prelude.{ℕ, ◌+◌, ◌-◌, ◌^◌, min, ◌&&◌, ◌||◌, ◌==◌, List, length, Some, None, Ok, slice_get, slice_range, if◌then◌else◌, codes}
+use Rattle.std.specs.Prelude.{ℕ, ◌+◌, ◌-◌, ◌^◌, min, Bool, ◌&&◌, ◌||◌, ◌==◌, List, length, Some, None, Ok, slice_get, slice_range, if◌then◌else◌, codes}
 use Rattle.std.specs.Str.{byte, bytes_eq}
 use Rattle.token_parts.specs.declared.token.CondText.{CondText}
 use Rattle.token_parts.specs.declared.token.CondText.TheVariants.{Group, InCall, InCallOf, Define, Lookaround}
@@ -27,21 +27,21 @@ module _ (text : List ℕ) where
   test_closed at test to = if is_at text ")" to then Ok (CondStart test (at + 3) to, to + 1) else fault 128 at
 
   -- `<name>` or `'name'`
-  unfoldable pub quoted_test : ℕ → ℕ → Lexed
-  quoted_test at close = do
-    to ← name_end text at (at + 4) close
+  unfoldable pub quoted_test : Bool → ℕ → ℕ → Lexed
+  quoted_test utf at close = do
+    to ← name_end text utf at (at + 4) close
     test_closed at (Group (Named (at + 4) to)) (to + 1)
 
   -- `R&name`
-  unfoldable pub call_test : ℕ → Lexed
-  call_test at = do
-    to ← name_end text at (at + 5) (byte ")")
+  unfoldable pub call_test : Bool → ℕ → Lexed
+  call_test utf at = do
+    to ← name_end text utf at (at + 5) (byte ")")
     Ok (CondStart (InCallOf (Named (at + 5) to)) (at + 3) to, to + 1)
 
   -- `name`, `R`, `Rn` or `DEFINE`
-  unfoldable pub bare_test : ℕ → Lexed
-  bare_test at = do
-    to ← name_end text at (at + 3) (byte ")")
+  unfoldable pub bare_test : Bool → ℕ → Lexed
+  bare_test utf at = do
+    to ← name_end text utf at (at + 3) (byte ")")
     Ok (CondStart (named_test (at + 3) to) (at + 3) to, to + 1)
 
   -- `n`, `+n` or `-n`
@@ -51,19 +51,19 @@ module _ (text : List ℕ) where
     test_closed at (Group target) to
 
   -- what stands for a test that is no lookaround
-  unfoldable pub test : ℕ → Lexed
-  test at =
+  unfoldable pub plain_test : Bool → ℕ → Lexed
+  plain_test utf at =
       if begins_number text (at + 3) then numbered_test at
       else if is_at text "+" (at + 3) || is_at text "-" (at + 3) then fault 128 at
-      else if is_at text "<" (at + 3) then quoted_test at (byte ">")
-      else if is_at text "'" (at + 3) then quoted_test at (byte "'")
-      else if begins text "R&" (at + 3) then call_test at
+      else if is_at text "<" (at + 3) then quoted_test utf at (byte ">")
+      else if is_at text "'" (at + 3) then quoted_test utf at (byte "'")
+      else if begins text "R&" (at + 3) then call_test utf at
       else if begins text "VERSION=" (at + 3) || begins text "VERSION>" (at + 3) then fault 195 at
-      else bare_test at
+      else bare_test utf at
 
   -- `(?(`: before a lookaround, or a callout or a comment, only `(?` is taken
-  unfoldable pub condition : ℕ → Lexed
-  condition at = elim (slice_get text (at + 3)) [
+  unfoldable pub condition : Bool → ℕ → Lexed
+  condition utf at = elim (slice_get text (at + 3)) [
     | None ↦ fault 114 (length text)
-    | Some c ↦ if c ∈ "?" || c ∈ "*" then Ok (CondStart Lookaround (at + 2) (at + 2), at + 2) else test at
+    | Some c ↦ if c ∈ "?" || c ∈ "*" then Ok (CondStart Lookaround (at + 2) (at + 2), at + 2) else plain_test utf at
   ]

@@ -1,6 +1,7 @@
 pub mod Bytes
 pub mod Runs
 pub mod Tell
+pub mod Characters
 pub mod Names
 pub mod Targets
 pub mod Comments

@@ -38,43 +38,43 @@ module _ (text : List ℕ) where
       else Ok (Number n, to)
 
   -- after `\g{`, `\g<` or `\g'`: a number or a name, and what closes it
-  unfoldable pub enclosed : ℕ → ℕ → Result (Target × ℕ) Fault
-  enclosed at close =
+  unfoldable pub enclosed : Bool → ℕ → ℕ → Result (Target × ℕ) Fault
+  enclosed utf at close =
       if begins_number (at + 3) then (do
         (target, to) ← numbered at (at + 3)
         if stands text close to then Ok (target, to + 1) else fault 169 at)
       else if is_at text "+" (at + 3) || is_at text "-" (at + 3) then fault 169 at
       else (do
-        to ← name_end text at (at + 3) close
+        to ← name_end text utf at (at + 3) close
         Ok (Named (at + 3) to, to + 1))
 
   -- a reference by a name that begins at a place
-  unfoldable pub named_reference : ℕ → ℕ → ℕ → Lexed
-  named_reference at from close = do
-    to ← name_end text at from close
+  unfoldable pub named_reference : Bool → ℕ → ℕ → ℕ → Lexed
+  named_reference utf at from close = do
+    to ← name_end text utf at from close
     Ok (Reference (Named from to), to + 1)
 
   -- a call by a name that begins at a place
-  unfoldable pub named_call : ℕ → ℕ → Lexed
-  named_call at from = do
-    to ← name_end text at from (byte ")")
+  unfoldable pub named_call : Bool → ℕ → ℕ → Lexed
+  named_call utf at from = do
+    to ← name_end text utf at from (byte ")")
     Ok (CallTo (Named from to), to + 1)
 
   -- `\g{..}` and `\gn` are references, `\g<..>` and `\g'..'` are calls
-  unfoldable pub group_escape : ℕ → Lexed
-  group_escape at =
-      if is_at text "{" (at + 2) then refer_to (enclosed at (byte "}"))
-      else if is_at text "<" (at + 2) then call_to (enclosed at (byte ">"))
-      else if is_at text "'" (at + 2) then call_to (enclosed at (byte "'"))
+  unfoldable pub group_escape : Bool → ℕ → Lexed
+  group_escape utf at =
+      if is_at text "{" (at + 2) then refer_to (enclosed utf at (byte "}"))
+      else if is_at text "<" (at + 2) then call_to (enclosed utf at (byte ">"))
+      else if is_at text "'" (at + 2) then call_to (enclosed utf at (byte "'"))
       else if begins_number (at + 2) then refer_to (numbered at (at + 2))
       else fault 169 at
 
   -- `\k{name}`, `\k<name>` and `\k'name'`
-  unfoldable pub name_escape : ℕ → Lexed
-  name_escape at =
-      if is_at text "{" (at + 2) then named_reference at (at + 3) (byte "}")
-      else if is_at text "<" (at + 2) then named_reference at (at + 3) (byte ">")
-      else if is_at text "'" (at + 2) then named_reference at (at + 3) (byte "'")
+  unfoldable pub name_escape : Bool → ℕ → Lexed
+  name_escape utf at =
+      if is_at text "{" (at + 2) then named_reference utf at (at + 3) (byte "}")
+      else if is_at text "<" (at + 2) then named_reference utf at (at + 3) (byte ">")
+      else if is_at text "'" (at + 2) then named_reference utf at (at + 3) (byte "'")
       else fault 169 at
 
   -- `(?n)`, `(?+n)` and `(?-n)`

@@ -1,7 +1,7 @@
 //! The tests of conditional groups (pcre2pattern, "Conditional groups").
 ghost use Rattle.std.specs.Prelude.{◌≡◌, ◌+◌, ◌<◌, ◌≤◌, length};
 ghost use Rattle.token_parts.specs.Tell.{IsSound, IsTest};
-ghost use Rattle.token_parts.specs.Conditions.{named_test, test_closed, quoted_test, call_test, bare_test, numbered_test, test, condition};
+ghost use Rattle.token_parts.specs.Conditions.{named_test, test_closed, quoted_test, call_test, bare_test, numbered_test, plain_test, condition};
 
 use crate::bytes::{Run, begins, byte, numeral, run_end, stands};
 use crate::fault::{Fault, LEFT_OUT, MALFORMED_CONDITION, UNCLOSED_GROUP};
@@ -50,12 +50,12 @@ fn test_closed(text: &[u8], at: usize, cond: CondText, to: usize) -> Lexed
 
 /// `<name>` or `'name'`
 #[tactic(auto, unfolding(crate::specs::Conditions::quoted_test))]
-fn quoted_test(text: &[u8], at: usize, close: u8) -> Lexed
+fn quoted_test(text: &[u8], utf: bool, at: usize, close: u8) -> Lexed
     requires { at + 4 ≤ length text.now }
-    ensures value { result ≡ quoted_test text.now at close }
+    ensures value { result ≡ quoted_test text.now utf at close }
     ensures sound { IsSound text.now at result }
 {
-    let to = name_end(text, at, at + 4, close)?;
+    let to = name_end(text, utf, at, at + 4, close)?;
     test_closed(
         text,
         at,
@@ -66,12 +66,12 @@ fn quoted_test(text: &[u8], at: usize, close: u8) -> Lexed
 
 /// `R&name`
 #[tactic(auto, unfolding(crate::specs::Conditions::call_test))]
-fn call_test(text: &[u8], at: usize) -> Lexed
+fn call_test(text: &[u8], utf: bool, at: usize) -> Lexed
     requires { at + 5 ≤ length text.now }
-    ensures value { result ≡ call_test text.now at }
+    ensures value { result ≡ call_test text.now utf at }
     ensures sound { IsSound text.now at result }
 {
-    let to = name_end(text, at, at + 5, b')')?;
+    let to = name_end(text, utf, at, at + 5, b')')?;
     let cond = CondText::InCallOf(Target::Named { from: at + 5, to });
     let from = at + 3;
     Ok((Token::CondStart { cond, from, to }, to + 1))
@@ -79,12 +79,12 @@ fn call_test(text: &[u8], at: usize) -> Lexed
 
 /// `name`, `R`, `Rn` or `DEFINE`
 #[tactic(auto, unfolding(crate::specs::Conditions::bare_test))]
-fn bare_test(text: &[u8], at: usize) -> Lexed
+fn bare_test(text: &[u8], utf: bool, at: usize) -> Lexed
     requires { at + 3 ≤ length text.now }
-    ensures value { result ≡ bare_test text.now at }
+    ensures value { result ≡ bare_test text.now utf at }
     ensures sound { IsSound text.now at result }
 {
-    let to = name_end(text, at, at + 3, b')')?;
+    let to = name_end(text, utf, at, at + 3, b')')?;
     let cond = named_test(text, at + 3, to);
     let from = at + 3;
     Ok((Token::CondStart { cond, from, to }, to + 1))
@@ -102,10 +102,10 @@ fn numbered_test(text: &[u8], at: usize) -> Lexed
 }
 
 /// A test that is no lookaround.
-#[tactic(auto, unfolding(crate::specs::Conditions::test))]
-fn test(text: &[u8], at: usize) -> Lexed
+#[tactic(auto, unfolding(crate::specs::Conditions::plain_test))]
+fn plain_test(text: &[u8], utf: bool, at: usize) -> Lexed
     requires { at + 3 ≤ length text.now }
-    ensures value { result ≡ test text.now at }
+    ensures value { result ≡ plain_test text.now utf at }
     ensures sound { IsSound text.now at result }
 {
     if begins_number(text, at + 3) {
@@ -113,24 +113,24 @@ fn test(text: &[u8], at: usize) -> Lexed
     } else if stands(text, b'+', at + 3) || stands(text, b'-', at + 3) {
         Err(Fault::new(MALFORMED_CONDITION, at))
     } else if stands(text, b'<', at + 3) {
-        quoted_test(text, at, b'>')
+        quoted_test(text, utf, at, b'>')
     } else if stands(text, b'\'', at + 3) {
-        quoted_test(text, at, b'\'')
+        quoted_test(text, utf, at, b'\'')
     } else if begins(text, b"R&", at + 3) {
-        call_test(text, at)
+        call_test(text, utf, at)
     } else if begins(text, b"VERSION=", at + 3) || begins(text, b"VERSION>", at + 3) {
         Err(Fault::new(LEFT_OUT, at))
     } else {
-        bare_test(text, at)
+        bare_test(text, utf, at)
     }
 }
 
 /// `(?(`: the start of a conditional group. Faults: 114 at the pattern's end, 128 a sign without digits or a test that isn't
 /// closed, 195 a test of the version, and those of the test's name or number.
 #[tactic(auto, unfolding(crate::specs::Conditions::condition))]
-pub fn condition(text: &[u8], at: usize) -> Lexed
+pub fn condition(text: &[u8], utf: bool, at: usize) -> Lexed
     requires { at + 3 ≤ length text.now }
-    ensures value { result ≡ condition text.now at }
+    ensures value { result ≡ condition text.now utf at }
     ensures sound { IsSound text.now at result }
 {
     match byte(text, at + 3) {
@@ -139,6 +139,6 @@ pub fn condition(text: &[u8], at: usize) -> Lexed
             let (cond, from, to) = (CondText::Lookaround, at + 2, at + 2);
             Ok((Token::CondStart { cond, from, to }, to))
         }
-        Some(_) => test(text, at),
+        Some(_) => plain_test(text, utf, at),
     }
 }

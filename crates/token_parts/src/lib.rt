@@ -4,6 +4,7 @@
 
 mod bytes;
 mod callouts;
+mod characters;
 mod codes;
 mod comments;
 mod conditions;
@@ -15,6 +16,7 @@ mod token;
 
 pub use bytes::{Run, byte, is_letter, numeral, run_end, stands};
 pub use callouts::callout;
+pub use characters::character;
 pub use codes::{coded, octal};
 pub use comments::{blank_end, blanks_end, comment, is_extended};
 pub use conditions::condition;
@@ -28,6 +30,3 @@ pub use targets::{
 pub use token::{
     CondText, LexFlags, Lexed, OpenKind, OptionMask, QuantMode, StartItem, Target, Token, VerbKind,
 };
-
-#[cfg(test)]
-mod tests;

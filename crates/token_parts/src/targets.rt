@@ -71,9 +71,9 @@ pub(crate) fn numbered(text: &[u8], at: usize, from: usize) -> Result<(Target, u
 
 /// The number or the name after `\g{`, `\g<` or `\g'`, and the place after what closes it.
 #[tactic(auto, unfolding(crate::specs::Targets::enclosed))]
-fn enclosed(text: &[u8], at: usize, close: u8) -> Result<(Target, usize), Fault>
+fn enclosed(text: &[u8], utf: bool, at: usize, close: u8) -> Result<(Target, usize), Fault>
     requires { at + 3 ≤ length text.now }
-    ensures value { result ≡ enclosed text.now at close }
+    ensures value { result ≡ enclosed text.now utf at close }
     ensures found { IfOk result (λ r. (at < r.1) × (r.1 ≤ length text.now) × IsTarget text.now r.0) }
     ensures told { IfErr result (IsTold text.now) }
 {
@@ -87,51 +87,51 @@ fn enclosed(text: &[u8], at: usize, close: u8) -> Result<(Target, usize), Fault>
     } else if stands(text, b'+', at + 3) || stands(text, b'-', at + 3) {
         Err(Fault::new(MALFORMED_REFERENCE, at))
     } else {
-        let to = name_end(text, at, at + 3, close)?;
+        let to = name_end(text, utf, at, at + 3, close)?;
         Ok((Target::Named { from: at + 3, to }, to + 1))
     }
 }
 
 /// A reference by the name that begins at `from`, which a character closes. Its faults are those of names.
 #[tactic(auto, unfolding(crate::specs::Targets::named_reference))]
-pub fn named_reference(text: &[u8], at: usize, from: usize, close: u8) -> Lexed
+pub fn named_reference(text: &[u8], utf: bool, at: usize, from: usize, close: u8) -> Lexed
     requires order { at ≤ from }
     requires within { from ≤ length text.now }
-    ensures value { result ≡ named_reference text.now at from close }
+    ensures value { result ≡ named_reference text.now utf at from close }
     ensures sound { IsSound text.now at result }
 {
-    let to = name_end(text, at, from, close)?;
+    let to = name_end(text, utf, at, from, close)?;
     Ok((Token::Reference(Target::Named { from, to }), to + 1))
 }
 
 /// A call by the name that begins at `from`, with `)` after it. Its faults are those of names.
 #[tactic(auto, unfolding(crate::specs::Targets::named_call))]
-pub fn named_call(text: &[u8], at: usize, from: usize) -> Lexed
+pub fn named_call(text: &[u8], utf: bool, at: usize, from: usize) -> Lexed
     requires order { at ≤ from }
     requires within { from ≤ length text.now }
-    ensures value { result ≡ named_call text.now at from }
+    ensures value { result ≡ named_call text.now utf at from }
     ensures sound { IsSound text.now at result }
 {
-    let to = name_end(text, at, from, b')')?;
+    let to = name_end(text, utf, at, from, b')')?;
     Ok((Token::CallTo(Target::Named { from, to }), to + 1))
 }
 
 /// `\g`: in braces or bare a reference, in angle brackets or quotes a call. Faults: 169 neither a number nor a name, or a
 /// number that isn't closed, 161 past the greatest number, 126 a relative zero, and those of names.
 #[tactic(auto, unfolding(crate::specs::Targets::group_escape))]
-pub fn group_escape(text: &[u8], at: usize) -> Lexed
+pub fn group_escape(text: &[u8], utf: bool, at: usize) -> Lexed
     requires { at + 2 ≤ length text.now }
-    ensures value { result ≡ group_escape text.now at }
+    ensures value { result ≡ group_escape text.now utf at }
     ensures sound { IsSound text.now at result }
 {
     if stands(text, b'{', at + 2) {
-        let (target, after) = enclosed(text, at, b'}')?;
+        let (target, after) = enclosed(text, utf, at, b'}')?;
         Ok((Token::Reference(target), after))
     } else if stands(text, b'<', at + 2) {
-        let (target, after) = enclosed(text, at, b'>')?;
+        let (target, after) = enclosed(text, utf, at, b'>')?;
         Ok((Token::CallTo(target), after))
     } else if stands(text, b'\'', at + 2) {
-        let (target, after) = enclosed(text, at, b'\'')?;
+        let (target, after) = enclosed(text, utf, at, b'\'')?;
         Ok((Token::CallTo(target), after))
     } else if begins_number(text, at + 2) {
         let (target, after) = numbered(text, at, at + 2)?;
@@ -143,17 +143,17 @@ pub fn group_escape(text: &[u8], at: usize) -> Lexed
 
 /// `\k`: a reference by a name in braces, angle brackets or quotes. Faults: 169 none of these, and those of names.
 #[tactic(auto, unfolding(crate::specs::Targets::name_escape))]
-pub fn name_escape(text: &[u8], at: usize) -> Lexed
+pub fn name_escape(text: &[u8], utf: bool, at: usize) -> Lexed
     requires { at + 2 ≤ length text.now }
-    ensures value { result ≡ name_escape text.now at }
+    ensures value { result ≡ name_escape text.now utf at }
     ensures sound { IsSound text.now at result }
 {
     if stands(text, b'{', at + 2) {
-        named_reference(text, at, at + 3, b'}')
+        named_reference(text, utf, at, at + 3, b'}')
     } else if stands(text, b'<', at + 2) {
-        named_reference(text, at, at + 3, b'>')
+        named_reference(text, utf, at, at + 3, b'>')
     } else if stands(text, b'\'', at + 2) {
-        named_reference(text, at, at + 3, b'\'')
+        named_reference(text, utf, at, at + 3, b'\'')
     } else {
         Err(Fault::new(MALFORMED_REFERENCE, at))
     }

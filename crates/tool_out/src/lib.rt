@@ -2,8 +2,6 @@
 #![tactic(auto)]
 
 mod status;
-#[cfg(test)]
-mod tests;
 mod write;
 
 pub use status::{say, status_of};

@@ -1,19 +1,11 @@
 -- The list of names, and the table that the code reads.
-use Rattle.std.proofs.Common.{◌≡◌, ℕ, ◌<◌, ◌≤◌, Bool, true, false, not, ◌&&◌, ◌==◌, nat_eq, List, [], ◌∷◌, map, filter, length, drop, Option, Some, None, bytes_eq, refl, sym, ap, ap₂, ◌∙◌, subst, cond, get_or}
+use Rattle.std.proofs.Common.{◌≡◌, ℕ, ◌<◌, ◌≤◌, List, map, length, Some, None, refl, sym, ap, ◌∙◌, get_or}
 use Rattle.std.proofs.lemmas.Option.{slice_get_past, slice_get_read, slice_get-map}
 use Rattle.std.specs.Option.{option_map}
-use Rattle.std.specs.Char.{to_ascii_lowercase}
 use Rattle.std.specs.Borrow.{Bor}
 use Rattle.uni_text.specs.declared.properties.Prop.{Prop}
-use Rattle.uni_text.specs.Names.{names}
-use Rattle.uni_text.specs.Properties.{plain_name, is_passed_over, numbered}
+use Rattle.uni_text.specs.Properties.{numbered}
 use Rattle.uni_text.specs.Table.{row_of}
-
-pub plain_name-skip : (b : ℕ) (rest : List ℕ) → is_passed_over b ≡ true → plain_name (b ∷ rest) ≡ plain_name rest
-plain_name-skip b rest h = ap (λ t. map to_ascii_lowercase (cond (not t) (b ∷ filter (λ b. not (is_passed_over b)) rest) (filter (λ b. not (is_passed_over b)) rest))) h
-
-pub plain_name-keep : (b : ℕ) (rest : List ℕ) → is_passed_over b ≡ false → plain_name (b ∷ rest) ≡ to_ascii_lowercase b ∷ plain_name rest
-plain_name-keep b rest h = ap (λ t. map to_ascii_lowercase (cond (not t) (b ∷ filter (λ b. not (is_passed_over b)) rest) (filter (λ b. not (is_passed_over b)) rest))) h
 
 pub numbered-past : (rows : List (Bor (List ℕ) × Prop)) (n : ℕ) → length rows ≤ n → None ≡ numbered (map row_of rows) n
 numbered-past rows n past = sym (ap (λ o. option_map (λ (row : List ℕ × Prop). row.1) o) (slice_get-map row_of rows n ∙ ap (option_map row_of) (slice_get_past rows n past)))

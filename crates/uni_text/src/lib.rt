@@ -9,10 +9,6 @@ mod folding;
 mod laws;
 mod names;
 mod properties;
-#[cfg(test)]
-mod test_tables;
-#[cfg(test)]
-mod tests;
 mod utf;
 mod words;
 

@@ -1,12 +1,12 @@
 use Rattle.std.proofs.Common.{IfErr, refl, sym, ap, subst, arith}
-use Rattle.frame_machine.specs.Stops.{Told, tells, IsStop}
-use Rattle.frame_machine.proofs.Advance.{advance_same}
-use Rattle.frame_machine.proofs.MostOf.{ok_more}
+use Rattle.frame_state.specs.Stops.{Told, tells, IsStop}
+use Rattle.frame_state.proofs.Advance.{advance_same}
+use Rattle.frame_state.proofs.MostOf.{ok_more}
 use Rattle.frame_machine.proofs.AcceptTurns.{as_end, valid_end}
 use Rattle.frame_machine.proofs.accepts.accept.Goals as goal
 
 pub finish-requires : goal.finish-requires
-finish-requires g c = record { valid = valid_end (g.S.Searchable.searched c.args.on.now) (g.met.S.Searchable.sound c.args.on.now) c.args.spot.now c.args.store.now.records c.args.registers.now c.requires.valid _ (omega (arith, c.if-spot-eq0.false)) _ c.get.ensures }
+finish-requires g c = record { valid = valid_end (g.S.Searchable.searched c.args.on.now) (g.met.S.Searchable.sound c.args.on.now) c.args.spot.now c.args.store.now.records c.args.registers.now c.requires.valid _ (omega (arith, c.if-spot-eq0.false)) _ c.get.ensures; bank = c.requires.bank }
 
 pub returns-clause-on : goal.returns-clause-on
 returns-clause-on g c =

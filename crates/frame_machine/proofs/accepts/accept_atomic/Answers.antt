@@ -1,6 +1,6 @@
 use Rattle.std.proofs.Common.{arith}
 use Rattle.frame_store.specs.Entry.{entry_in}
-use Rattle.frame_machine.proofs.HeldStops.{held_stop}
+use Rattle.frame_state.proofs.HeldStops.{held_stop}
 use Rattle.frame_machine.proofs.AcceptTurns.{stop_accept_atomic, turn_accept_atomic}
 use Rattle.frame_machine.proofs.accepts.accept_atomic.Goals as goal
 

@@ -1,6 +1,6 @@
 use Rattle.std.proofs.Common.{sym}
 use Rattle.frame_store.specs.Entry.{entries}
-use Rattle.frame_machine.proofs.HeldStops.{tells_stop}
+use Rattle.frame_state.proofs.HeldStops.{tells_stop}
 use Rattle.frame_machine.proofs.AcceptTurns.{turn_accept_empty, stop_accept_end, stop_accept_found}
 use Rattle.frame_machine.proofs.accepts.accept_pattern.Goals as goal
 

@@ -1,7 +1,9 @@
 use Rattle.frame_store.specs.Entry.{entries}
-use Rattle.frame_machine.proofs.Frames.{slots_sound}
-use Rattle.frame_machine.proofs.BackTurns.{stop_none, pop_branch, pop_exit, pop_later, pop_fewer, pop_more, pop_plain, pop_left, pop_denial, left_within, left_slots, denial_inside, pop_look_test, pop_denial_test, pop_commit, pop_prune, pop_skip, pop_unskipped, look_test_sound, denial_test_sound, exit_inside, fewer_stands, more_inside, more_many, more_stands, more_few}
-use Rattle.frame_machine.proofs.HeldStops.{tells_stop}
+use Rattle.frame_state.proofs.Frames.{slots_sound}
+use Rattle.frame_parts.proofs.BackTurns.{stop_none, pop_branch, pop_exit, pop_later, pop_fewer, pop_more, pop_more_stops, pop_plain, pop_left, pop_denial, left_within, left_slots, denial_inside, pop_look_test, pop_denial_test, pop_commit, pop_prune, pop_then, pop_skip, pop_unskipped, look_test_sound, denial_test_sound, exit_inside, fewer_stands, more_inside, more_many, more_stands, more_few}
+use Rattle.frame_state.proofs.HeldStops.{tells_stop}
+use Rattle.frame_state.proofs.MostOf.{ok_more}
+use Rattle.frame_state.proofs.ReachTurns.{err_more}
 use Rattle.frame_machine.proofs.back.back.Goals as goal
 
 pub pop-requires : goal.pop-requires
@@ -28,21 +30,27 @@ fewer_before-requires g c = fewer_stands (g.S.Searchable.searched c.args.on.now)
 pub returns-then-newest-eq-KIND_FEWER_ITEMS-clause-on : goal.returns-then-newest-eq-KIND_FEWER_ITEMS-clause-on
 returns-then-newest-eq-KIND_FEWER_ITEMS-clause-on g c = rw (c.fewer_before.ensures, c.restore-then-newest-eq-KIND_FEWER_ITEMS.ensures) (pop_fewer (g.S.Searchable.searched c.args.on.now) (g.met.S.Searchable.sound c.args.on.now) c.args.spot.now c.args.store.now.records c.pop.new.store.records c.in-Some.newest c.args.registers.now c.pop.new.registers c.requires.valid c.in-Some.ensures.popped c.in-Some.ensures.back c.if-newest-eq-KIND_FEWER_ITEMS.true)
 
-pub take_further-requires-clause-inside : goal.take_further-requires-clause-inside
-take_further-requires-clause-inside g c = more_inside (g.S.Searchable.searched c.args.on.now) (g.met.S.Searchable.sound c.args.on.now) c.args.spot.now c.args.store.now.records c.pop.new.store.records c.in-Some.newest c.args.registers.now c.pop.new.registers c.requires.valid c.in-Some.ensures.popped c.in-Some.ensures.back c.if-newest-eq-KIND_MORE_ITEMS.true
+pub take_more-requires-clause-inside : goal.take_more-requires-clause-inside
+take_more-requires-clause-inside g c = more_inside (g.S.Searchable.searched c.args.on.now) (g.met.S.Searchable.sound c.args.on.now) c.args.spot.now c.args.store.now.records c.pop.new.store.records c.in-Some.newest c.args.registers.now c.pop.new.registers c.requires.valid c.in-Some.ensures.popped c.in-Some.ensures.back c.if-newest-eq-KIND_MORE_ITEMS.true
 
-pub take_further-requires-clause-many : goal.take_further-requires-clause-many
-take_further-requires-clause-many g c = more_many (g.S.Searchable.searched c.args.on.now) (g.met.S.Searchable.sound c.args.on.now) c.args.spot.now c.args.store.now.records c.pop.new.store.records c.in-Some.newest c.args.registers.now c.pop.new.registers c.requires.valid c.in-Some.ensures.popped c.in-Some.ensures.back c.if-newest-eq-KIND_MORE_ITEMS.true
+pub take_more-requires-clause-many : goal.take_more-requires-clause-many
+take_more-requires-clause-many g c = more_many (g.S.Searchable.searched c.args.on.now) (g.met.S.Searchable.sound c.args.on.now) c.args.spot.now c.args.store.now.records c.pop.new.store.records c.in-Some.newest c.args.registers.now c.pop.new.registers c.requires.valid c.in-Some.ensures.popped c.in-Some.ensures.back c.if-newest-eq-KIND_MORE_ITEMS.true
 
-pub take_further-requires-clause-place : goal.take_further-requires-clause-place
-take_further-requires-clause-place g c = more_stands (g.S.Searchable.searched c.args.on.now) (g.met.S.Searchable.sound c.args.on.now) c.args.spot.now c.args.store.now.records c.pop.new.store.records c.in-Some.newest c.args.registers.now c.pop.new.registers c.requires.valid c.in-Some.ensures.popped c.in-Some.ensures.back c.if-newest-eq-KIND_MORE_ITEMS.true
+pub take_more-requires-clause-place : goal.take_more-requires-clause-place
+take_more-requires-clause-place g c = more_stands (g.S.Searchable.searched c.args.on.now) (g.met.S.Searchable.sound c.args.on.now) c.args.spot.now c.args.store.now.records c.pop.new.store.records c.in-Some.newest c.args.registers.now c.pop.new.registers c.requires.valid c.in-Some.ensures.popped c.in-Some.ensures.back c.if-newest-eq-KIND_MORE_ITEMS.true
 
-pub more_or_back-requires : goal.more_or_back-requires
-more_or_back-requires g c = more_few (g.S.Searchable.searched c.args.on.now) (g.met.S.Searchable.sound c.args.on.now) c.args.spot.now c.args.store.now.records c.pop.new.store.records c.in-Some.newest c.args.registers.now c.pop.new.registers c.requires.valid c.in-Some.ensures.popped c.in-Some.ensures.back c.if-newest-eq-KIND_MORE_ITEMS.true
+pub take_more-requires-clause-count : goal.take_more-requires-clause-count
+take_more-requires-clause-count g c = more_few (g.S.Searchable.searched c.args.on.now) (g.met.S.Searchable.sound c.args.on.now) c.args.spot.now c.args.store.now.records c.pop.new.store.records c.in-Some.newest c.args.registers.now c.pop.new.registers c.requires.valid c.in-Some.ensures.popped c.in-Some.ensures.back c.if-newest-eq-KIND_MORE_ITEMS.true
 
 pub returns-then-newest-eq-KIND_MORE_ITEMS-clause-on : goal.returns-then-newest-eq-KIND_MORE_ITEMS-clause-on
 returns-then-newest-eq-KIND_MORE_ITEMS-clause-on g c =
-    rw (c.more_or_back.ensures, c.restore-then-newest-eq-KIND_MORE_ITEMS.ensures) (pop_more (g.S.Searchable.searched c.args.on.now) (g.met.S.Searchable.sound c.args.on.now) c.args.spot.now c.args.store.now.records c.pop.new.store.records c.in-Some.newest c.args.registers.now c.pop.new.registers c.requires.valid c.in-Some.ensures.popped c.in-Some.ensures.back c.if-newest-eq-KIND_MORE_ITEMS.true _ c.take_further.ensures)
+    ok_more _ _ c.take_more.result
+    (λ next t. pop_more (g.S.Searchable.searched c.args.on.now) (g.met.S.Searchable.sound c.args.on.now) c.args.spot.now c.args.store.now.records c.pop.new.store.records c.in-Some.newest c.args.registers.now c.pop.new.registers c.requires.valid c.in-Some.ensures.popped c.in-Some.ensures.back c.if-newest-eq-KIND_MORE_ITEMS.true next _ (rw c.restore-then-newest-eq-KIND_MORE_ITEMS.ensures at t)) c.take_more.ensures.on
+
+pub returns-then-newest-eq-KIND_MORE_ITEMS-clause-stop : goal.returns-then-newest-eq-KIND_MORE_ITEMS-clause-stop
+returns-then-newest-eq-KIND_MORE_ITEMS-clause-stop g c =
+    err_more _ _ c.take_more.result
+    (λ s h. pop_more_stops (g.S.Searchable.searched c.args.on.now) (g.met.S.Searchable.sound c.args.on.now) c.args.spot.now c.args.store.now.records c.pop.new.store.records c.in-Some.newest c.args.registers.now c.pop.new.registers c.requires.valid c.in-Some.ensures.popped c.in-Some.ensures.back c.if-newest-eq-KIND_MORE_ITEMS.true _ s (rw c.restore-then-newest-eq-KIND_MORE_ITEMS.ensures at h)) c.take_more.ensures.stop
 
 pub returns-then-newest-eq-KIND_COMMIT_PASSED-clause-on : goal.returns-then-newest-eq-KIND_COMMIT_PASSED-clause-on
 returns-then-newest-eq-KIND_COMMIT_PASSED-clause-on g c = rw c.restore-then-newest-eq-KIND_COMMIT_PASSED.ensures (pop_commit (g.S.Searchable.searched c.args.on.now) (g.met.S.Searchable.sound c.args.on.now) c.args.spot.now c.args.store.now.records c.pop.new.store.records c.in-Some.newest c.args.registers.now c.pop.new.registers c.requires.valid c.in-Some.ensures.popped c.in-Some.ensures.back c.if-newest-eq-KIND_COMMIT_PASSED.true)
@@ -58,16 +66,16 @@ returns-then-newest-gt0-clause-on g c = pop_unskipped (g.S.Searchable.searched c
 
 pub returns-clause-on : goal.returns-clause-on
 returns-clause-on g c =
-    pop_plain (g.S.Searchable.searched c.args.on.now) (g.met.S.Searchable.sound c.args.on.now) c.args.spot.now c.args.store.now.records c.pop.new.store.records c.in-Some.newest c.args.registers.now c.pop.new.registers c.requires.valid c.in-Some.ensures.popped c.in-Some.ensures.back c.if-newest-eq-KIND_LATER_BRANCH.false c.if-newest-eq-KIND_TURN_OR_EXIT.false c.if-newest-eq-KIND_LATER_TURN.false c.if-newest-eq-KIND_FEWER_ITEMS.false c.if-newest-eq-KIND_MORE_ITEMS.false c.if-newest-eq-KIND_ATOMIC_LEFT.false c.if-newest-eq-KIND_DENIAL_OPEN.false c.if-newest-eq-KIND_LOOK_TEST.false c.if-newest-eq-KIND_DENIAL_TEST.false c.if-newest-eq-KIND_COMMIT_PASSED.false c.if-newest-eq-KIND_PRUNE_PASSED.false c.if-newest-eq-KIND_SKIP_PASSED.false
+    pop_plain (g.S.Searchable.searched c.args.on.now) (g.met.S.Searchable.sound c.args.on.now) c.args.spot.now c.args.store.now.records c.pop.new.store.records c.in-Some.newest c.args.registers.now c.pop.new.registers c.requires.valid c.in-Some.ensures.popped c.in-Some.ensures.back c.if-newest-eq-KIND_LATER_BRANCH.false c.if-newest-eq-KIND_TURN_OR_EXIT.false c.if-newest-eq-KIND_LATER_TURN.false c.if-newest-eq-KIND_FEWER_ITEMS.false c.if-newest-eq-KIND_MORE_ITEMS.false c.if-newest-eq-KIND_ATOMIC_LEFT.false c.if-newest-eq-KIND_DENIAL_OPEN.false c.if-newest-eq-KIND_LOOK_TEST.false c.if-newest-eq-KIND_DENIAL_TEST.false c.if-newest-eq-KIND_COMMIT_PASSED.false c.if-newest-eq-KIND_PRUNE_PASSED.false c.if-newest-eq-KIND_SKIP_PASSED.false c.if-newest-eq-KIND_THEN_PASSED.false
 
-pub undo_to-requires-clause-within : goal.undo_to-requires-clause-within
-undo_to-requires-clause-within g c = left_within (g.S.Searchable.searched c.args.on.now) (g.met.S.Searchable.sound c.args.on.now) c.args.spot.now c.args.store.now.records c.pop.new.store.records c.in-Some.newest c.args.registers.now c.pop.new.registers c.requires.valid c.in-Some.ensures.popped c.in-Some.ensures.back c.if-newest-eq-KIND_ATOMIC_LEFT.true
+pub undo_spans-requires-clause-within : goal.undo_spans-requires-clause-within
+undo_spans-requires-clause-within g c = left_within (g.S.Searchable.searched c.args.on.now) (g.met.S.Searchable.sound c.args.on.now) c.args.spot.now c.args.store.now.records c.pop.new.store.records c.in-Some.newest c.args.registers.now c.pop.new.registers c.requires.valid c.in-Some.ensures.popped c.in-Some.ensures.back c.if-newest-eq-KIND_ATOMIC_LEFT.true
 
-pub undo_to-requires-clause-slots : goal.undo_to-requires-clause-slots
-undo_to-requires-clause-slots g c = left_slots (g.S.Searchable.searched c.args.on.now) (g.met.S.Searchable.sound c.args.on.now) c.args.spot.now c.args.store.now.records c.pop.new.store.records c.in-Some.newest c.args.registers.now c.pop.new.registers c.requires.valid c.in-Some.ensures.popped c.in-Some.ensures.back
+pub undo_spans-requires-clause-slots : goal.undo_spans-requires-clause-slots
+undo_spans-requires-clause-slots g c = left_slots (g.S.Searchable.searched c.args.on.now) (g.met.S.Searchable.sound c.args.on.now) c.args.spot.now c.args.store.now.records c.pop.new.store.records c.in-Some.newest c.args.registers.now c.pop.new.registers c.requires.valid c.in-Some.ensures.popped c.in-Some.ensures.back
 
 pub returns-then-newest-eq-KIND_ATOMIC_LEFT-clause-on : goal.returns-then-newest-eq-KIND_ATOMIC_LEFT-clause-on
-returns-then-newest-eq-KIND_ATOMIC_LEFT-clause-on g c = pop_left (g.S.Searchable.searched c.args.on.now) (g.met.S.Searchable.sound c.args.on.now) c.args.spot.now c.args.store.now.records c.pop.new.store.records c.in-Some.newest c.args.registers.now c.pop.new.registers c.requires.valid c.in-Some.ensures.popped c.in-Some.ensures.back c.if-newest-eq-KIND_ATOMIC_LEFT.true _ c.undo_to.ensures.cut _ c.undo_to.ensures.undone
+returns-then-newest-eq-KIND_ATOMIC_LEFT-clause-on g c = pop_left (g.S.Searchable.searched c.args.on.now) (g.met.S.Searchable.sound c.args.on.now) c.args.spot.now c.args.store.now.records c.pop.new.store.records c.in-Some.newest c.args.registers.now c.pop.new.registers c.requires.valid c.in-Some.ensures.popped c.in-Some.ensures.back c.if-newest-eq-KIND_ATOMIC_LEFT.true _ c.undo_spans.ensures.cut _ c.undo_spans.ensures.undone
 
 pub go_on-requires-then-newest-eq-KIND_DENIAL_OPEN : goal.go_on-requires-then-newest-eq-KIND_DENIAL_OPEN
 go_on-requires-then-newest-eq-KIND_DENIAL_OPEN g c = denial_inside (g.S.Searchable.searched c.args.on.now) (g.met.S.Searchable.sound c.args.on.now) c.args.spot.now c.args.store.now.records c.pop.new.store.records c.in-Some.newest c.args.registers.now c.pop.new.registers c.requires.valid c.in-Some.ensures.popped c.in-Some.ensures.back c.if-newest-eq-KIND_DENIAL_OPEN.true
@@ -92,3 +100,6 @@ choose-requires-then-newest-eq-KIND_DENIAL_TEST-clause-condition g c = (denial_t
 
 pub returns-then-newest-eq-KIND_DENIAL_TEST-clause-on : goal.returns-then-newest-eq-KIND_DENIAL_TEST-clause-on
 returns-then-newest-eq-KIND_DENIAL_TEST-clause-on g c = rw c.restore-then-newest-eq-KIND_DENIAL_TEST.ensures (pop_denial_test (g.S.Searchable.searched c.args.on.now) (g.met.S.Searchable.sound c.args.on.now) c.args.spot.now c.args.store.now.records c.pop.new.store.records c.in-Some.newest c.args.registers.now c.pop.new.registers c.requires.valid c.in-Some.ensures.popped c.in-Some.ensures.back c.if-newest-eq-KIND_DENIAL_TEST.true _ c.choose-then-newest-eq-KIND_DENIAL_TEST.ensures)
+
+pub returns-then-newest-eq-KIND_THEN_PASSED-clause-on : goal.returns-then-newest-eq-KIND_THEN_PASSED-clause-on
+returns-then-newest-eq-KIND_THEN_PASSED-clause-on g c = rw c.restore-then-newest-eq-KIND_THEN_PASSED.ensures (pop_then (g.S.Searchable.searched c.args.on.now) (g.met.S.Searchable.sound c.args.on.now) c.args.spot.now c.args.store.now.records c.pop.new.store.records c.in-Some.newest c.args.registers.now c.pop.new.registers c.requires.valid c.in-Some.ensures.popped c.in-Some.ensures.back c.if-newest-eq-KIND_THEN_PASSED.true)

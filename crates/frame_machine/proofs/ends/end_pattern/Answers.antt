@@ -1,8 +1,8 @@
 use Rattle.std.proofs.Common.{sym}
 use Rattle.frame_store.specs.Entry.{entries}
-use Rattle.frame_machine.specs.Frames.{spot_state}
-use Rattle.frame_machine.proofs.EndTurns.{stop_found, turn_refused, admits, refuses}
-use Rattle.frame_machine.proofs.HeldStops.{tells_stop}
+use Rattle.frame_state.specs.Frames.{spot_state}
+use Rattle.frame_parts.proofs.EndTurns.{stop_found, turn_refused, admits, refuses}
+use Rattle.frame_state.proofs.HeldStops.{tells_stop}
 use Rattle.frame_machine.proofs.ends.end_pattern.Goals as goal
 
 pub returns-then-is_admitted-clause-stop : goal.returns-then-is_admitted-clause-stop

@@ -1,5 +1,5 @@
 use Rattle.std.proofs.Common.{arith}
-use Rattle.frame_machine.proofs.EndTurns.{turn_no_frame}
+use Rattle.frame_parts.proofs.EndTurns.{turn_no_frame}
 use Rattle.frame_machine.proofs.ends.finish.Goals as goal
 
 pub returns-clause-on : goal.returns-clause-on

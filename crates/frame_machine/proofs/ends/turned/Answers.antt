@@ -1,5 +1,5 @@
 use Rattle.std.proofs.Common.{arith, sym}
-use Rattle.frame_machine.proofs.EndTurns.{turn_sound, turn_ended, turn_goes_on, count_few}
+use Rattle.frame_parts.proofs.EndTurns.{turn_sound, turn_ended, turn_goes_on, count_few}
 use Rattle.frame_machine.proofs.ends.turned.Goals as goal
 
 pub turns_of-turns-requires-clause-inside : goal.turns_of-turns-requires-clause-inside

@@ -1,46 +1,71 @@
-use Rattle.std.proofs.Common.{sym, refl, subst}
+use Rattle.std.proofs.Common.{refl, subst, ap}
+use Rattle.frame_state.specs.Stops.{tells}
 use Rattle.frame_store.specs.Entry.{entries}
-use Rattle.frame_machine.proofs.Advance.{advance_same}
-use Rattle.frame_machine.proofs.MostOf.{ok_more}
-use Rattle.frame_machine.proofs.Turns.{turn_empty, turn_keep, turn_one, turn_break, turn_ref, turn_anchor, turn_parts, ahead_repeat, stray_node}
-use Rattle.frame_machine.specs.Forms.{IsRunnable}
-use Rattle.frame_machine.proofs.ItemTurns.{turn_many}
-use Rattle.frame_machine.specs.Ground.{IsNode}
+use Rattle.frame_state.proofs.Advance.{advance_same}
+use Rattle.frame_state.proofs.MostOf.{ok_more}
+use Rattle.frame_state.proofs.ReachTurns.{err_more}
+use Rattle.frame_state.proofs.Turns.{turn_empty, turn_keep, turn_one, stop_one, turn_break, stop_break, turn_ref, stop_ref, turn_anchor, stop_anchor, turn_parts, ahead_repeat}
+use Rattle.pat_tree.specs.Rules.{IsOrdered}
+use Rattle.frame_parts.proofs.ItemTurns.{turn_led, stop_many}
+use Rattle.frame_state.specs.Ground.{IsNode}
+use Rattle.frame_parts.proofs.CalloutTurns.{still, still_stop, ok_still, err_still, err_same, callout_goes, callout_stops}
 use Rattle.frame_machine.proofs.enter.enter.Goals as goal
 
 pub returns-in-Empty-clause-on : goal.returns-in-Empty-clause-on
-returns-in-Empty-clause-on g c = rw c.go_on.ensures (turn_empty (g.S.Searchable.searched c.args.on.now) (g.met.S.Searchable.sound c.args.on.now) c.args.at c.args.spot.now (entries c.args.store.now.records) c.args.registers.now c.requires.valid _ c.node.ensures c.in-Empty.is)
+returns-in-Empty-clause-on g c = rw c.go_on.ensures (still _ _ _ _ (turn_empty (g.S.Searchable.searched c.args.on.now) (g.met.S.Searchable.sound c.args.on.now) c.args.at c.args.spot.now (entries c.args.store.now.records) c.args.registers.now c.requires.valid _ c.node.ensures c.in-Empty.is))
 
 pub returns-in-KeepOut-clause-on : goal.returns-in-KeepOut-clause-on
-returns-in-KeepOut-clause-on g c = rw c.go_on-in-KeepOut.ensures (turn_keep (g.S.Searchable.searched c.args.on.now) (g.met.S.Searchable.sound c.args.on.now) c.args.at c.args.spot.now (entries c.args.store.now.records) c.args.registers.now c.requires.valid _ c.node.ensures c.in-KeepOut.is)
+returns-in-KeepOut-clause-on g c = rw c.go_on-in-KeepOut.ensures (still _ _ _ _ (turn_keep (g.S.Searchable.searched c.args.on.now) (g.met.S.Searchable.sound c.args.on.now) c.args.at c.args.spot.now (entries c.args.store.now.records) c.args.registers.now c.requires.valid _ c.node.ensures c.in-KeepOut.is))
 
 pub returns-in-One-clause-on : goal.returns-in-One-clause-on
-returns-in-One-clause-on g c = rw (c.move_to.ensures.next, c.move_to.ensures.spot, c.take.ensures) (turn_one (g.S.Searchable.searched c.args.on.now) (g.met.S.Searchable.sound c.args.on.now) c.args.at c.args.spot.now (entries c.args.store.now.records) c.args.registers.now c.requires.valid _ c.node.ensures _ c.in-One.is)
+returns-in-One-clause-on g c =
+    ok_more _ _ c.pass.result (λ next t. still _ _ _ _ (turn_one (g.S.Searchable.searched c.args.on.now) (g.met.S.Searchable.sound c.args.on.now) c.args.at c.args.spot.now (entries c.args.store.now.records) c.args.registers.now c.requires.valid _ c.node.ensures _ c.in-One.is _ c.item_reaches-reached.ensures _ c.take.ensures next _ t)) c.pass.ensures.on
+
+pub returns-in-One-clause-stop : goal.returns-in-One-clause-stop
+returns-in-One-clause-stop g c =
+    err_more _ _ c.pass.result (λ s h. still_stop _ _ _ _ _ (stop_one (g.S.Searchable.searched c.args.on.now) (g.met.S.Searchable.sound c.args.on.now) c.args.at c.args.spot.now (entries c.args.store.now.records) c.args.registers.now c.requires.valid _ c.node.ensures _ c.in-One.is _ c.item_reaches-reached.ensures _ s h)) c.pass.ensures.stop
 
 pub returns-in-Break-clause-on : goal.returns-in-Break-clause-on
-returns-in-Break-clause-on g c = rw (c.move_to-in-Break.ensures.next, c.move_to-in-Break.ensures.spot, c.take_break.ensures) (turn_break (g.S.Searchable.searched c.args.on.now) (g.met.S.Searchable.sound c.args.on.now) c.args.at c.args.spot.now (entries c.args.store.now.records) c.args.registers.now c.requires.valid _ c.node.ensures c.in-Break.is)
+returns-in-Break-clause-on g c =
+    ok_more _ _ c.pass-in-Break.result (λ next t. still _ _ _ _ (turn_break (g.S.Searchable.searched c.args.on.now) (g.met.S.Searchable.sound c.args.on.now) c.args.at c.args.spot.now (entries c.args.store.now.records) c.args.registers.now c.requires.valid _ c.node.ensures c.in-Break.is _ c.break_reaches-reached.ensures _ c.take_break.ensures next _ t)) c.pass-in-Break.ensures.on
+
+pub returns-in-Break-clause-stop : goal.returns-in-Break-clause-stop
+returns-in-Break-clause-stop g c =
+    err_more _ _ c.pass-in-Break.result (λ s h. still_stop _ _ _ _ _ (stop_break (g.S.Searchable.searched c.args.on.now) (g.met.S.Searchable.sound c.args.on.now) c.args.at c.args.spot.now (entries c.args.store.now.records) c.args.registers.now c.requires.valid _ c.node.ensures c.in-Break.is _ c.break_reaches-reached.ensures _ s h)) c.pass-in-Break.ensures.stop
 
 pub returns-in-Ref-clause-on : goal.returns-in-Ref-clause-on
 returns-in-Ref-clause-on g c =
-    rw (c.move_to-in-Ref.ensures.next, c.move_to-in-Ref.ensures.spot, c.refer-to.ensures, c.as_slice.ensures) (turn_ref (g.S.Searchable.searched c.args.on.now) (g.met.S.Searchable.sound c.args.on.now) c.args.at c.args.spot.now (entries c.args.store.now.records) c.args.registers.now c.requires.valid _ c.node.ensures _ _ c.in-Ref.is)
+    ok_more _ _ c.enter_ref.result (λ next t. still _ _ _ _ (turn_ref (g.S.Searchable.searched c.args.on.now) (g.met.S.Searchable.sound c.args.on.now) c.args.at c.args.spot.now (entries c.args.store.now.records) c.args.registers.now c.requires.valid _ c.node.ensures _ _ c.in-Ref.is next _ (rw c.as_slice.ensures at t))) c.enter_ref.ensures.on
+
+pub returns-in-Ref-clause-stop : goal.returns-in-Ref-clause-stop
+returns-in-Ref-clause-stop g c =
+    err_more _ _ c.enter_ref.result (λ s h. still_stop _ _ _ _ _ (stop_ref (g.S.Searchable.searched c.args.on.now) (g.met.S.Searchable.sound c.args.on.now) c.args.at c.args.spot.now (entries c.args.store.now.records) c.args.registers.now c.requires.valid _ c.node.ensures _ _ c.in-Ref.is _ s (rw c.as_slice.ensures at h))) c.enter_ref.ensures.stop
 
 pub returns-in-Anchor-clause-on : goal.returns-in-Anchor-clause-on
-returns-in-Anchor-clause-on g c = rw (c.anchor.ensures.next, c.anchor.ensures.spot) (turn_anchor (g.S.Searchable.searched c.args.on.now) (g.met.S.Searchable.sound c.args.on.now) c.args.at c.args.spot.now (entries c.args.store.now.records) c.args.registers.now c.requires.valid _ c.node.ensures _ c.in-Anchor.is _ refl)
+returns-in-Anchor-clause-on g c =
+    ok_more _ _ c.anchor.result (λ next t. still _ _ _ _ (turn_anchor (g.S.Searchable.searched c.args.on.now) (g.met.S.Searchable.sound c.args.on.now) c.args.at c.args.spot.now (entries c.args.store.now.records) c.args.registers.now c.requires.valid _ c.node.ensures _ c.in-Anchor.is next _ t)) c.anchor.ensures.on
+
+pub returns-in-Anchor-clause-stop : goal.returns-in-Anchor-clause-stop
+returns-in-Anchor-clause-stop g c =
+    err_more _ _ c.anchor.result (λ s h. still_stop _ _ _ _ _ (stop_anchor (g.S.Searchable.searched c.args.on.now) (g.met.S.Searchable.sound c.args.on.now) c.args.at c.args.spot.now (entries c.args.store.now.records) c.args.registers.now c.requires.valid _ c.node.ensures _ c.in-Anchor.is _ s h)) c.anchor.ensures.stop
 
 pub returns-in-Seq-clause-on : goal.returns-in-Seq-clause-on
-returns-in-Seq-clause-on g c = rw c.first_part.ensures (turn_parts (g.S.Searchable.searched c.args.on.now) (g.met.S.Searchable.sound c.args.on.now) c.args.at c.args.spot.now (entries c.args.store.now.records) c.args.registers.now c.requires.valid _ c.node.ensures _ c.in-Seq.is)
+returns-in-Seq-clause-on g c = rw c.first_part.ensures (still _ _ _ _ (turn_parts (g.S.Searchable.searched c.args.on.now) (g.met.S.Searchable.sound c.args.on.now) c.args.at c.args.spot.now (entries c.args.store.now.records) c.args.registers.now c.requires.valid _ c.node.ensures _ c.in-Seq.is))
 
 pub returns-in-OneRepeat-clause-on : goal.returns-in-OneRepeat-clause-on
-returns-in-OneRepeat-clause-on g c = rw (c.many.ensures) (turn_many (g.S.Searchable.searched c.args.on.now) (g.met.S.Searchable.sound c.args.on.now) c.args.at c.args.spot.now (entries c.args.store.now.records) c.args.registers.now c.requires.valid _ c.node.ensures _ _ _ _ c.in-OneRepeat.is)
+returns-in-OneRepeat-clause-on g c =
+    ok_more _ _ c.enter_many.result (λ next t. still _ _ _ _ (turn_led (g.S.Searchable.searched c.args.on.now) (g.met.S.Searchable.sound c.args.on.now) c.args.at c.args.spot.now (entries c.args.store.now.records) c.args.registers.now c.requires.valid _ c.node.ensures _ _ _ _ c.in-OneRepeat.is next _ t)) c.enter_many.ensures.on
+
+pub returns-in-OneRepeat-clause-stop : goal.returns-in-OneRepeat-clause-stop
+returns-in-OneRepeat-clause-stop g c =
+    err_more _ _ c.enter_many.result (λ s h. still_stop _ _ _ _ _ (stop_many (g.S.Searchable.searched c.args.on.now) (g.met.S.Searchable.sound c.args.on.now) c.args.at c.args.spot.now (entries c.args.store.now.records) c.args.registers.now c.requires.valid _ c.node.ensures _ _ _ _ c.in-OneRepeat.is _ s h)) c.enter_many.ensures.stop
+
+pub enter_many-requires-clause-ordered : goal.enter_many-requires-clause-ordered
+enter_many-requires-clause-ordered g c = subst IsOrdered c.in-OneRepeat.is c.node.ensures.ordered
 
 pub returns-in-Repeat-clause-on : goal.returns-in-Repeat-clause-on
 returns-in-Repeat-clause-on g c =
-    ok_more _ _ c.offer.result (λ x a. advance_same (g.S.Searchable.searched c.args.on.now) _ _ _ (ahead_repeat (g.S.Searchable.searched c.args.on.now) (g.met.S.Searchable.sound c.args.on.now) c.args.at c.args.spot.now (entries c.args.store.now.records) c.args.registers.now c.requires.valid _ c.node.ensures _ _ _ _ c.in-Repeat.is) refl a) c.offer.ensures.on
-
-pub unreachable-requires : goal.unreachable-requires
-unreachable-requires g c =
-    stray_node (g.S.Searchable.searched c.args.on.now).trees _ (subst IsRunnable (sym c.node.ensures.is) c.requires.valid.running.0.runs) c.in_default.not-Empty c.in_default.not-KeepOut c.in_default.not-One c.in_default.not-Break
-    c.in_default.not-Ref c.in_default.not-Anchor c.in_default.not-Seq c.in_default.not-Group c.in_default.not-Repeat c.in_default.not-OneRepeat c.in_default.not-Atomic c.in_default.not-Look c.in_default.not-Cond c.in_default.not-Call c.in_default.not-VerbNode
+    ok_more _ _ c.offer.result (λ x a. still _ _ _ _ (advance_same (g.S.Searchable.searched c.args.on.now) _ _ _ (ahead_repeat (g.S.Searchable.searched c.args.on.now) (g.met.S.Searchable.sound c.args.on.now) c.args.at c.args.spot.now (entries c.args.store.now.records) c.args.registers.now c.requires.valid _ c.node.ensures _ _ _ _ c.in-Repeat.is) refl a)) c.offer.ensures.on
 
 pub enter_atomic-requires-clause-node : goal.enter_atomic-requires-clause-node
 enter_atomic-requires-clause-node g c = subst (IsNode (g.S.Searchable.searched c.args.on.now) c.args.at) c.in-Atomic.is c.node.ensures
@@ -59,3 +84,52 @@ enter_call-requires-clause-node g c = subst (IsNode (g.S.Searchable.searched c.a
 
 pub enter_verb-requires-clause-node : goal.enter_verb-requires-clause-node
 enter_verb-requires-clause-node g c = subst (IsNode (g.S.Searchable.searched c.args.on.now) c.args.at) c.in-VerbNode.is c.node.ensures
+
+pub returns-in-Group-clause-on : goal.returns-in-Group-clause-on
+returns-in-Group-clause-on g c = ok_still _ _ _ _ c.enter_group.result c.enter_group.ensures.on
+
+pub returns-in-Group-clause-stop : goal.returns-in-Group-clause-stop
+returns-in-Group-clause-stop g c = err_still _ _ _ _ c.enter_group.result c.enter_group.ensures.stop
+
+pub returns-in-Atomic-clause-on : goal.returns-in-Atomic-clause-on
+returns-in-Atomic-clause-on g c = ok_still _ _ _ _ c.enter_atomic.result c.enter_atomic.ensures.on
+
+pub returns-in-Atomic-clause-stop : goal.returns-in-Atomic-clause-stop
+returns-in-Atomic-clause-stop g c = err_still _ _ _ _ c.enter_atomic.result c.enter_atomic.ensures.stop
+
+pub returns-in-Look-clause-on : goal.returns-in-Look-clause-on
+returns-in-Look-clause-on g c = ok_still _ _ _ _ c.enter_look.result c.enter_look.ensures.on
+
+pub returns-in-Look-clause-stop : goal.returns-in-Look-clause-stop
+returns-in-Look-clause-stop g c = err_still _ _ _ _ c.enter_look.result c.enter_look.ensures.stop
+
+pub returns-in-Call-clause-on : goal.returns-in-Call-clause-on
+returns-in-Call-clause-on g c = ok_still _ _ _ _ c.enter_call.result c.enter_call.ensures.on
+
+pub returns-in-Call-clause-stop : goal.returns-in-Call-clause-stop
+returns-in-Call-clause-stop g c = err_still _ _ _ _ c.enter_call.result c.enter_call.ensures.stop
+
+pub returns-in-VerbNode-clause-on : goal.returns-in-VerbNode-clause-on
+returns-in-VerbNode-clause-on g c = ok_still _ _ _ _ c.enter_verb.result c.enter_verb.ensures.on
+
+pub returns-in-VerbNode-clause-stop : goal.returns-in-VerbNode-clause-stop
+returns-in-VerbNode-clause-stop g c = err_still _ _ _ _ c.enter_verb.result c.enter_verb.ensures.stop
+
+pub returns-in-Repeat-clause-stop : goal.returns-in-Repeat-clause-stop
+returns-in-Repeat-clause-stop g c =
+    err_same _ _ _ _ _ c.offer.result
+    (ap (tells (g.S.Searchable.searched c.args.on.now).setting c.args.spot.now) (ahead_repeat (g.S.Searchable.searched c.args.on.now) (g.met.S.Searchable.sound c.args.on.now) c.args.at c.args.spot.now (entries c.args.store.now.records) c.args.registers.now c.requires.valid _ c.node.ensures _ _ _ _ c.in-Repeat.is))
+    c.offer.ensures.stop
+
+pub enter_callout-requires : goal.enter_callout-requires
+enter_callout-requires g c = record { inside = c.requires.valid.running.0 }
+
+pub returns-in-Callout-clause-on : goal.returns-in-Callout-clause-on
+returns-in-Callout-clause-on g c =
+    callout_goes (g.S.Searchable.searched c.args.on.now) (g.met.S.Searchable.sound c.args.on.now) c.args.at c.args.spot.now (entries c.args.store.now.records) c.args.registers.now c.requires.valid (g.C.Callouts.answers c.args.calls.now) c.requires.replied _ _ _ _ _ (subst (IsNode (g.S.Searchable.searched c.args.on.now) c.args.at) c.in-Callout.is c.node.ensures) _ _ c.block_of-block.result c.block_of-block.ensures
+    c.enter_callout.result c.enter_callout.ensures.next c.enter_callout.ensures.seen
+
+pub returns-in-Callout-clause-stop : goal.returns-in-Callout-clause-stop
+returns-in-Callout-clause-stop g c =
+    callout_stops (g.S.Searchable.searched c.args.on.now) (g.met.S.Searchable.sound c.args.on.now) c.args.at c.args.spot.now (entries c.args.store.now.records) c.args.registers.now c.requires.valid (g.C.Callouts.answers c.args.calls.now) c.requires.replied _ _ _ _ _ (subst (IsNode (g.S.Searchable.searched c.args.on.now) c.args.at) c.in-Callout.is c.node.ensures) _ _ c.block_of-block.result c.block_of-block.ensures
+    c.enter_callout.result c.enter_callout.ensures.stop

@@ -1,8 +1,8 @@
 use Rattle.std.proofs.Common.{arith, sym, refl}
 use Rattle.std.proofs.lemmas.List.{length-map}
 use Rattle.frame_store.specs.Entry.{entry_in, entry_of, entries}
-use Rattle.frame_machine.proofs.HeldStops.{held_stop}
-use Rattle.frame_machine.proofs.Turns.{turn_group_of, turn_capture_of, stop_capture_of}
+use Rattle.frame_state.proofs.HeldStops.{held_stop}
+use Rattle.frame_state.proofs.Turns.{turn_group_of, turn_capture_of, stop_capture_of}
 use Rattle.frame_machine.proofs.enter.enter_group.Goals as goal
 
 pub returns-in_default-clause-on : goal.returns-in_default-clause-on

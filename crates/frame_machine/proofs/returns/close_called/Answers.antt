@@ -1,5 +1,5 @@
 use Rattle.std.proofs.Common.{arith}
-use Rattle.frame_machine.proofs.HeldStops.{held_stop}
+use Rattle.frame_state.proofs.HeldStops.{held_stop}
 use Rattle.frame_machine.proofs.ReturnTurns.{called_sound, stop_closed, turn_closed}
 use Rattle.frame_machine.proofs.returns.close_called.Goals as goal
 
@@ -16,5 +16,5 @@ returns-in-Err-clause-stop g c =
 
 pub returns-clause-on : goal.returns-clause-on
 returns-clause-on g c =
-    rw (c.set.ensures, c.in_default.ensures.spot, c.in_default.ensures.pushed, c.undo_record-undo.ensures, c.get-old.ensures, c.from.ensures, c.from-2.ensures)
+    rw (c.set_captured.ensures, c.in_default.ensures.spot, c.in_default.ensures.pushed, c.undo_record-undo.ensures, c.captured-old.ensures, c.from.ensures, c.from-2.ensures)
     (turn_closed (g.S.Searchable.searched c.args.on.now) (g.met.S.Searchable.sound c.args.on.now) c.args.spot.now c.args.store.now.records c.args.registers.now c.requires.valid c.args.height c.requires.frame c.args.frame.now c.requires.at c.requires.kind c.number_of-number.result c.number_of-number.ensures.is c.number_of-number.ensures.some c.number_of-number.ensures.few (omega (arith, c.in_default.ensures.room, c.unit_limit.ensures)))

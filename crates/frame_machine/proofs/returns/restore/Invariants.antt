@@ -1,14 +1,15 @@
 use Rattle.std.proofs.Common.{◌≡◌, ◌≤◌, ◌+◌, max, drop, length}
 use Rattle.frame_store.specs.Entry.{entries}
+use Rattle.frame_store.specs.Stack.{room}
 use Rattle.ordered_search.specs.Stream.{changes}
-use Rattle.frame_machine.specs.Calls.{AreRestored}
+use Rattle.frame_state.specs.Calls.{AreRestored}
 use Rattle.frame_machine.proofs.returns.restore.Given as goal
 
 abbrev pub invariant-groups : goal.invariant-groups
 invariant-groups l = record {
   restored :
-      AreRestored l.frame.link l.fn.registers l.entry l.registers l.group (entries l.fn.store.records)
-      (entries l.store.records);
+      AreRestored l.frame.link l.frame.node l.fn.registers l.entry l.registers l.group
+      (entries l.fn.store.records) (entries l.store.records);
   spot :
       l.spot ≡ record l.fn.spot {
         units = l.fn.spot.units + changes (drop l.group l.fn.registers) (drop l.group l.entry);
@@ -16,6 +17,7 @@ invariant-groups l = record {
   few : l.spot.units ≤ l.limit;
   within : l.group ≤ length l.entry;
   peak : l.store.peak ≤ max l.fn.store.peak l.limit;
+  no_less : room l.fn.store ≤ room l.store;
 }
 
 abbrev pub decreases-groups : goal.decreases-groups

@@ -2,12 +2,7 @@ use Rattle.std.proofs.Common.{subst, sym, inl, inr}
 use Rattle.std.proofs.lemmas.Bool.{cases_Bool}
 use Rattle.match_items.specs.Views.{fold_in}
 use Rattle.pat_check.specs.Known.{IsByteSet, lead_set_of}
-use Rattle.pat_build.specs.Machine.{parsed_of}
-use Rattle.pat_tree.specs.declared.options.TheConstants.Options as plain
 use Rattle.machine_tables.proofs.places.placed.Goals as goal
-
-pub answer_of-answer-requires-clause-built : goal.answer_of-answer-requires-clause-built
-answer_of-answer-requires-clause-built c = (c.what_is_read_can_be_searched.ensures plain.PLAIN c.args.pattern.now (parsed_of c.in_ok-tree.tree) c.in_ok-tree.ensures.ok).built
 
 pub answer_of-answer-requires-clause-facts : goal.answer_of-answer-requires-clause-facts
 answer_of-answer-requires-clause-facts c =
@@ -30,5 +25,7 @@ answer_of-answer-requires-clause-facts c =
       places = told.places;
       greatest = told.greatest;
       flow = told.flow;
+      branches = told.branches;
+      ranks = told.ranks;
       need = told.need;
     }

@@ -5,7 +5,7 @@ use Rattle.match_items.specs.Subjects.{IsTextPlace}
 use Rattle.match_drive.specs.Asked.{passed_over, replied}
 use Rattle.ordered_search.specs.Places.{last_place, is_excluded}
 use Rattle.ordered_search.specs.MatchAnswer.{match_answer}
-use Rattle.match_drive.specs.Rest.{IsLeft, found_from}
+use Rattle.match_drive.specs.Rest.{IsLeft, IsShownTo, found_from}
 use Rattle.match_drive.proofs.Steps.{places_left}
 use Rattle.match_drive.proofs.drive.search_on.Given as goal
 
@@ -22,7 +22,8 @@ invariant-places g l = record {
   groups : l.scratch.groups ≡ l.fn.scratch.groups;
   frames : l.scratch.frames ≡ l.fn.scratch.frames;
   rule : (block : Block) → g.C.Callouts.answers l.calls block ≡ g.C.Callouts.answers l.fn.calls block;
-  seen : g.C.Callouts.seen l.calls ≡ g.C.Callouts.seen l.fn.calls;
+  seen : (let s = replied (g.S.Driven.asked l.on (g.C.Callouts.answers l.fn.calls)).reply (g.S.Driven.asked l.on passed_over) in
+      IsShownTo (g.C.Callouts.seen l.fn.calls) (g.C.Callouts.seen l.calls) (match_answer s) (found_from s l.next));
 }
 
 abbrev pub decreases-places : goal.decreases-places

@@ -1,8 +1,8 @@
 use Rattle.std.proofs.Common.{◌≡◌, ◌≤◌, ◌<◌, ℕ, false, length, Some, sym, ap, subst, ◌∙◌, arith, inl, inr}
 use Rattle.std.proofs.lemmas.Bool.{cases_Bool}
 use Rattle.std.proofs.lemmas.Option.{IfSome_then}
-use Rattle.frame_machine.specs.declared.answer.Signal.TheVariants as told
-use Rattle.frame_machine.specs.Answer.{signal_of}
+use Rattle.frame_state.specs.declared.answer.Signal.TheVariants as told
+use Rattle.frame_state.specs.Answer.{signal_of}
 use Rattle.ordered_search.specs.PlaceAnswer.{Signal, Exhausted, Failed, place_answer}
 use Rattle.ordered_search.specs.Places.{last_place, place_after, up_to}
 use Rattle.ordered_search.proofs.StartPlaces.{last_within}

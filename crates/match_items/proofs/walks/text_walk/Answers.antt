@@ -1,6 +1,7 @@
 use Rattle.std.proofs.Common.{◌≡◌, ◌∙◌, ◌+◌, ◌-◌, ◌<◌, Bool, length, refl, sym, ap, subst, arith}
 use Rattle.uni_text.specs.Characters.{char_at, IsCharSpan}
 use Rattle.match_items.specs.Views.{text_scene, maximum, step_tests}
+use Rattle.match_items.proofs.PlainRuns.{along_plain}
 use Rattle.match_items.proofs.TextPlaces.{place_before-next}
 use Rattle.match_items.proofs.TextRuns.{IsAlong, at_end, full, along_start, along_next, some_left, all_taken, refused_at, taken_at, few_tests, step_tests-end, goes_forward, walk_of, ends_tested, full_tested, refused_tested}
 use Rattle.match_items.proofs.walks.text_walk.Goals as goal
@@ -96,3 +97,25 @@ returns-clause-tests g c =
     let left = all_taken s c.args.item.now c.args.max c.loop-count.count (omega arith) short (omega (arith, i.most, c.loop-count-test.false)) in
     let tested = full_tested s c.args.item.now c.args.max c.args.at c.loop-count.count c.loop-count.to _ i.along (full left) left in
     omega (arith, tested, i.later)
+
+pub loop-count-preserved-then-near-to : goal.loop-count-preserved-then-near-to
+loop-count-preserved-then-near-to g c =
+    let s = text_scene c.args.view.now c.args.classes.now in
+    let i = c.loop-count.invariant in
+    let told = c.plain_run-near.ensures in
+    let n = c.plain_run-near.result - c.loop-count.to in
+    let past : c.plain_run-near.result ≡ c.loop-count.to + n = omega (arith, told.low) in
+    let moved = along_plain s c.args.item.now c.requires.utf c.requires.subject n (maximum c.args.max) c.args.at c.loop-count.count c.loop-count.to (c.loop-count.steps - c.args.steps.now)
+    (c.loop-count.count + n) c.plain_run-near.result refl past i.along
+    (λ j l.
+    let few = i.along.few in
+    let short : c.loop-count.count + j < 4294967295 = omega (arith, few, l, past, told.within, c.requires.subject.short) in
+    some_left s c.args.item.now c.args.max (c.loop-count.count + j) (omega arith) short (omega (arith, l, past, told.few, c.loop-count-test.true)))
+    i.place told.within told.plain in
+    record {
+      place = moved.1;
+      most = omega (arith, past, told.few, c.loop-count-test.true);
+      later = i.later;
+      few = omega (arith, i.few);
+      along = moved.0;
+    }

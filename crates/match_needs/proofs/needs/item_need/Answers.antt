@@ -7,8 +7,8 @@ use Rattle.match_needs.proofs.needs.item_need.Goals as goal
 
 pub returns-then-utf : goal.returns-then-utf
 returns-then-utf c tree table utf =
-    subst (λ (u : Bool). IfSome c.ascii_need.result (IsItemNeed (may_take u (class_has tree)) c.args.item.now)) (sym (utf ∙ c.if-utf.true))
-    (c.ascii_need.ensures (class_has tree))
+    subst (λ (u : Bool). IfSome c.utf_need.result (IsItemNeed (may_take u (class_has tree)) c.args.item.now)) (sym (utf ∙ c.if-utf.true))
+    (c.utf_need.ensures (class_has tree))
 
 pub returns-else-utf : goal.returns-else-utf
 returns-else-utf c tree table utf =

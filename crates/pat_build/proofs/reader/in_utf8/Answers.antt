@@ -1,4 +1,3 @@
-use Rattle.std.proofs.Common.{refl}
 use Rattle.pat_build.proofs.Checked.{is_checked, is_refused}
 use Rattle.pat_build.proofs.reader.in_utf8.Goals as goal
 

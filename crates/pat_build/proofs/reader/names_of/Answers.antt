@@ -1,7 +1,8 @@
 use Rattle.std.proofs.Common.{◌∙◌, ap, sym, subst}
 use Rattle.std.proofs.lemmas.Result.{err_from_is_err_and}
 use Rattle.pat_tree.specs.Nested.{tree_at, trees}
-use Rattle.pat_build.specs.Machine.{state_of, Refuses}
+use Rattle.pat_build.specs.Machine.{state_of}
+use Rattle.pat_grammar.specs.Places.{Refuses}
 use Rattle.pat_build.proofs.reader.names_of.Goals as goal
 
 pub returns-in_err-run-clause-bad : goal.returns-in_err-run-clause-bad

@@ -1,5 +1,6 @@
 use Rattle.std.proofs.Common.{◌≡◌, [], Some, rules}
 use Rattle.dir_walk.specs.declared.lists.Target.TheVariants as targets
+use Rattle.tool_in.proofs.Absence.{absent-none, absent-there}
 use Rattle.tool_in.proofs.Taking.{hears-any}
 use Rattle.tool_out.specs.Printed.{printed}
 use Rattle.script_run.specs.declared.words.Script.TheVariants.{Standard, File, Generated}
@@ -17,6 +18,7 @@ returns-in-Standard-clause-runs g c =
         given_of targets.Input (Some r.0),
         stands-standard (g.F.FileSet.tells c.args.files.now).contents r.0 words is,
         runs-script words Standard targets.Input (Some r.0) (printed (g.O.Sink.tells c.args.out.now) (g.E.Sink.tells c.args.err.now)) (printed (g.O.Sink.tells c.run_source.new.out) (g.E.Sink.tells c.run_source.new.err)) c.run_source.result is r.2,
+        absent-there (g.F.FileSet.tells c.args.files.now).contents (g.F.FileSet.tells c.args.files.now).faults (g.F.FileSet.tells c.args.files.now).faults targets.Input r.0,
       ),
     )
 
@@ -33,6 +35,7 @@ returns-in-File-clause-runs g c =
         given_of (targets.File path) r.0,
         stands-file (g.F.FileSet.tells c.args.files.now).contents any.0 words path r.0 is r.1,
         runs-script words (File path) (targets.File path) r.0 (printed (g.O.Sink.tells c.args.out.now) (g.E.Sink.tells c.args.err.now)) (printed (g.O.Sink.tells c.run_file.new.out) (g.E.Sink.tells c.run_file.new.err)) c.run_file.result is r.2,
+        r.3,
       ),
     )
 
@@ -49,5 +52,6 @@ returns-in-Generated-clause-runs g c =
         stands-generated (g.F.FileSet.tells c.args.files.now).contents any.0 words n is,
         runs-generated words n (printed (g.O.Sink.tells c.args.out.now) (g.E.Sink.tells c.args.err.now)) (printed (g.O.Sink.tells c.run_generated.new.out) (g.E.Sink.tells c.args.err.now)) c.run_generated.result is
             (c.run_generated.ensures (g.E.Sink.tells c.args.err.now)),
+        absent-none (g.F.FileSet.tells c.args.files.now).contents (g.F.FileSet.tells c.args.files.now).faults (g.F.FileSet.tells c.args.files.now).faults,
       ),
     )

@@ -12,7 +12,7 @@ returns-in-Ok-clause-text g c =
     let text = text_of (map string_bytes c.args.words.now) given in
     let old = printed (g.O.Sink.tells c.args.out.now) (g.E.Sink.tells c.args.err.now) in
     let new = printed (g.O.Sink.tells c.run_words.new.out) (g.E.Sink.tells c.run_words.new.err) in
-    (r.0, r.1, (given, r.2.1, runs-ran text c.in-Ok.status old new r.2.2))
+    (r.0, r.1, (given, r.2.1, runs-ran text c.in-Ok.status old new r.2.2, r.2.3))
 
 pub returns-in-Err-clause-text : goal.returns-in-Err-clause-text
 returns-in-Err-clause-text g c =
@@ -21,4 +21,4 @@ returns-in-Err-clause-text g c =
     let text = text_of (map string_bytes c.args.words.now) given in
     let old = printed (g.O.Sink.tells c.args.out.now) (g.E.Sink.tells c.args.err.now) in
     let new = printed (g.O.Sink.tells c.run_words.new.out) (g.E.Sink.tells c.run_words.new.err) in
-    (r.0, r.1, (given, r.2.1, subst (λ s. Runs text s old new) (sym c.status_of.ensures) (runs-stopped text c.in-Err.e old new r.2.2)))
+    (r.0, r.1, (given, r.2.1, subst (λ s. Runs text s old new) (sym c.status_of.ensures) (runs-stopped text c.in-Err.e old new r.2.2), r.2.3))

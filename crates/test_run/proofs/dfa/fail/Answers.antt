@@ -1,14 +1,14 @@
 use Rattle.std.proofs.Common.{◌≡◌, Err, sym, subst, rules}
 use Rattle.tool_out.specs.Writes.{Writes}
-use Rattle.test_run.specs.Dfa.{failed_text}
-use Rattle.test_run.proofs.Writing.{writes-as, refused-as}
+use Rattle.test_run.specs.Dfa.{unmatched_text}
+use Rattle.test_lines.proofs.Writing.{writes-as, refused-as}
 use Rattle.test_run.proofs.dfa.fail.Goals as goal
 
-pub returns-in_err-write_failed-clause-wrote : goal.returns-in_err-write_failed-clause-wrote
-returns-in_err-write_failed-clause-wrote g c =
-    let e = c.in_err-write_failed.field-0.0 in
+pub returns-in_err-write_unmatched-clause-wrote : goal.returns-in_err-write_unmatched-clause-wrote
+returns-in_err-write_unmatched-clause-wrote g c =
+    let e = c.in_err-write_unmatched.field-0.0 in
     let same : c.from_residual.result ≡ Err e = search rules in
-    subst (λ r. Writes (failed_text c.args.e) (g.O.Sink.tells c.args.out.now) (g.O.Sink.tells c.write_failed.new.out) r) (sym same) (refused-as {A = Unit {0}} e c.in_err-write_failed.ensures)
+    subst (λ r. Writes (unmatched_text c.args.utf c.args.subject.now c.args.e) (g.O.Sink.tells c.args.out.now) (g.O.Sink.tells c.write_unmatched.new.out) r) (sym same) (refused-as {A = Unit {0}} e c.in_err-write_unmatched.ensures)
 
 pub returns-clause-wrote : goal.returns-clause-wrote
-returns-clause-wrote g c = writes-as {A = Unit {0}} _ _ c.in_ok-write_failed.ensures
+returns-clause-wrote g c = writes-as {A = Unit {0}} _ _ c.in_ok-write_unmatched.ensures

@@ -3,8 +3,9 @@ use Rattle.pat_tree.specs.declared.options.Options.{Options}
 use Rattle.pat_tree.specs.Pattern.{pattern_of}
 use Rattle.tool_out.specs.Writes.{Writes}
 use Rattle.test_run.specs.Dfa.{ends_text, told_at, told_text}
-use Rattle.test_run.proofs.EndsSearching.{text-ends, told-ends, text-error, told-error}
-use Rattle.test_run.proofs.Writing.{writes-as, refused-as, writes-equal}
+use Rattle.test_run.specs.DfaSearches.{error_text}
+use Rattle.test_run.proofs.EndsSearching.{text-ends, told-ends, text-error, told-error, lies-in}
+use Rattle.test_lines.proofs.Writing.{writes-as, refused-as, writes-equal}
 use Rattle.test_run.proofs.dfa.search_at.Goals as goal
 
 pub returns-in_err-write_ends-in-Ok-clause-wrote : goal.returns-in_err-write_ends-in-Ok-clause-wrote
@@ -32,7 +33,12 @@ returns-in_ok-write_ends-in-Ok-clause-comes g c =
 
 pub returns-in-Err-clause-wrote : goal.returns-in-Err-clause-wrote
 returns-in-Err-clause-wrote g c =
-    text-error c.args.code.now c.args.options.now c.args.subject.now c.args.at c.in-Err.e c.tell_error.result (g.O.Sink.tells c.args.out.now) (g.O.Sink.tells c.tell_error.new.out) c.in-Err.ensures.refused c.tell_error.ensures.comes c.tell_error.ensures.wrote
+    let utf = ap (λ (o : Options). error_text o.utf c.args.subject.now c.in-Err.e) c.options.ensures in
+    text-error c.args.code.now c.args.options.now c.args.subject.now c.args.at c.in-Err.e c.tell_error.result (g.O.Sink.tells c.args.out.now) (g.O.Sink.tells c.tell_error.new.out) c.in-Err.ensures.refused c.tell_error.ensures.comes
+    (writes-equal utf c.tell_error.ensures.wrote)
 
 pub returns-in-Err-clause-comes : goal.returns-in-Err-clause-comes
 returns-in-Err-clause-comes g c = told-error c.args.code.now c.args.options.now c.args.subject.now c.args.at c.in-Err.e c.tell_error.result c.in-Err.ensures.refused c.tell_error.ensures.comes
+
+pub tell_error-requires : goal.tell_error-requires
+tell_error-requires g c = record { lies = lies-in c.args.code.now c.args.options.now c.args.subject.now c.args.at c.in-Err.e c.in-Err.ensures.refused }

@@ -9,7 +9,7 @@ use Rattle.test_run.specs.Dfa.{told_at, told_text, dfa_text, longest}
 use Rattle.test_run.specs.DfaSearches.{IsSearch}
 use Rattle.test_run.proofs.Listing.{goes-once, goes-past, goes-inside}
 use Rattle.test_run.proofs.Ends.{at-first, at-found, at-next, at-end, at-failed, at-refused, at-quiet, at-last, at-as, are-ends, are-none, is-failure, begun-none}
-use Rattle.test_run.proofs.Writing.{writes-as, writes-equal, refused-as}
+use Rattle.test_lines.proofs.Writing.{writes-as, writes-equal, refused-as}
 use Rattle.test_run.proofs.dfa.write_all.Goals as goal
 use Rattle.test_run.proofs.dfa.write_all.Goals.{then-again+else-at-subject, else-again, in-Ends, in-Nothing}
 
@@ -48,8 +48,8 @@ returns-in-Nothing-2 g c =
     let nothing = are-none here (subst (λ s. IsSearch s here) c.in-Nothing-2.is c.in_ok-longest.ensures.comes) in
     let quiet = at-quiet p how.matching subject how.start c.loop-turn._turn at again c.loop-turn.is_shown (g.O.Sink.tells c.args.out.now) (g.O.Sink.tells c.loop-turn.out) mid c.loop-turn.invariant tt (writes-as {A = Search} _ tt (writes-equal (ap (told_text p.options.utf subject) nothing) c.in_ok-longest.ensures.wrote)) in
     let goes : goes_on p how.matching subject again at ≡ false = elim c.if-again.branch [
-      | then-again+else-at-subject w ↦ goes-past p how.marks how.matching subject again at w.if-again.true w.if-at-subject.false
-      | else-again w ↦ goes-once p how.marks how.matching subject again at w.if-again.false
+      | then-again+else-at-subject w ↦ goes-past p how.matching subject again at w.if-again.true w.if-at-subject.false
+      | else-again w ↦ goes-once p how.matching subject again at w.if-again.false
     ] in
     at-end p how.matching subject how.start c.loop-turn._turn at again c.loop-turn.is_shown (g.O.Sink.tells c.args.out.now) mid (g.O.Sink.tells c.write_end.new.out) quiet (omega arith) c.write_end.result (sym asks ∙ nothing) goes c.write_end.ensures
 
@@ -104,7 +104,7 @@ loop-turn-preserved g c =
       | in-Nothing w ↦
           let nothing = are-none here (subst (λ s. IsSearch s here) w.in-Nothing.is c.in_ok-longest.ensures.comes) in
           let quiet = at-quiet p how.matching subject how.start i at again is_shown old mid new c.loop-turn.invariant tt (writes-as {A = Search} _ tt (writes-equal (ap (told_text p.options.utf subject) nothing) c.in_ok-longest.ensures.wrote)) in
-          let goes = goes-inside p how.marks how.matching subject again at w.if-again.true w.if-at-subject.true in
+          let goes = goes-inside p how.matching subject again at w.if-again.true w.if-at-subject.true in
           at-as p how.matching subject how.start (i + 1) c.match-branch-2.at (place_behind p subject at) c.match-branch-2.again false c.match-branch-2.is_shown is_shown old new
           (w.at-is ∙ w.place_behind-at.ensures) w.again-is w.is_shown-is
           (at-next p how.matching subject how.start i at again is_shown old new new quiet more (sym asks ∙ nothing) goes)

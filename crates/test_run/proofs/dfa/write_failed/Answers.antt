@@ -9,5 +9,5 @@ pub returns : goal.returns
 returns g c =
     let fits : SFits w32 c.number.result = search rules in
     writes-same
-    (no-ends-text c.args.e c.as_bytes.result.now c.text.result.now c.place_text.result.now c.in_default.not-NotBuilt (c.as_bytes.ensures.value ∙ c.format.ensures.text ∙ ap signed_decimal (to_z-of_z w32 c.number.result fits ∙ c.number.ensures)) c.text.ensures c.place_text.ensures)
+    (no-ends-text c.args.e c.as_bytes.result.now c.text.result.now c.place_text.result.now (c.as_bytes.ensures.value ∙ c.format.ensures.text ∙ ap signed_decimal (to_z-of_z w32 c.number.result fits ∙ c.number.ensures)) c.text.ensures c.place_text.ensures)
     c.write_texts.ensures

@@ -3,7 +3,7 @@ use Rattle.tool_out.specs.Writes.{Writes}
 use Rattle.pat_tree.specs.Pattern.{pattern_of}
 use Rattle.test_run.specs.Dfa.{first_text}
 use Rattle.test_run.proofs.Ends.{first-refused}
-use Rattle.test_run.proofs.Writing.{refused-as}
+use Rattle.test_lines.proofs.Writing.{refused-as}
 use Rattle.test_run.proofs.dfa.write_first.Goals as goal
 
 pub returns-in_err-search_at : goal.returns-in_err-search_at

@@ -2,8 +2,8 @@ use Rattle.std.proofs.Common.{◌≡◌, ◌++◌, [], ◌∷◌, Err, sym, subs
 use Rattle.std.specs.Prelude.{slice_range}
 use Rattle.tool_out.specs.Writes.{Writes}
 use Rattle.test_run.specs.Dfa.{end_line}
-use Rattle.test_run.specs.Shown.{number_before, shown}
-use Rattle.test_run.proofs.Writing.{writes-then, writes-first}
+use Rattle.test_lines.specs.Shown.{number_before, shown}
+use Rattle.test_lines.proofs.Writing.{writes-then, writes-first}
 use Rattle.test_run.proofs.dfa.write_one.Goals as goal
 
 pub returns-in_err-write_count : goal.returns-in_err-write_count

@@ -1,44 +1,44 @@
-use Rattle.std.proofs.Common.{◌≡◌, Err, sym, subst, rules}
-use Rattle.pat_tree.specs.Pattern.{pattern_of}
-use Rattle.tool_out.specs.Writes.{Writes}
-use Rattle.pcre2_api.specs.Walks.{answer_at}
-use Rattle.test_run.specs.Searches.{answer_text}
-use Rattle.test_run.specs.Marks.{showing}
-use Rattle.test_run.proofs.Searching.{text-found, told-found, missed-found, text-error, told-error, missed-error}
-use Rattle.test_run.proofs.Writing.{writes-as, refused-as, writes-equal}
+use Rattle.pcre2_api.specs.Matched.{search_of}
+use Rattle.test_lines.specs.Callouts.{reply_of}
+use Rattle.test_run.proofs.Searching.{shows-from, shows-by-from, text-found, told-of-found, missed-of-found, text-error, told-error, missed-error, lies-in}
+use Rattle.test_lines.proofs.Writing.{writes-equal}
 use Rattle.test_run.proofs.matches.search_from.Goals as goal
 
-pub returns-in_err-write_match-in-Ok-clause-wrote : goal.returns-in_err-write_match-in-Ok-clause-wrote
-returns-in_err-write_match-in-Ok-clause-wrote g c =
-    let code = c.args.code.now in
-    let matching = c.args.options.now in
-    let subject = c.args.subject.now in
-    let f = c.in-Ok.found in
-    let e = c.in_err-write_match-in-Ok.field-0.0 in
-    let same : c.from_residual.result ≡ Err e = search rules in
-    subst (λ r. Writes (answer_text (showing (pattern_of code.tree) c.args.marks) subject (answer_at (pattern_of code.tree) matching subject c.args.start)) (g.O.Sink.tells c.args.out.now) (g.O.Sink.tells c.write_match.new.out) r) (sym same)
-    (writes-equal (text-found code c.args.marks matching subject c.args.start f c.in-Ok.ensures.found c.in-Ok.ensures.code.0 c.in-Ok.ensures.code.1) (refused-as {A = Unit {0}} e c.in_err-write_match-in-Ok.ensures))
+pub returns-in-Ok-clause-wrote : goal.returns-in-Ok-clause-wrote
+returns-in-Ok-clause-wrote g c =
+    let t = c.args.tested.now in
+    writes-equal
+    (text-found t.code t.pattern c.args.how.now c.args.options.now c.args.subject.now c.args.start c.in-Ok.found c.match_again.new.calls.replies c.match_again.new.calls.blocks.items c.in-Ok.ensures.found c.in-Ok.ensures.code.0 c.in-Ok.ensures.code.1
+    (shows-from t.code t.pattern c.args.how.now c.args.options.now c.args.subject.now c.args.start c.new.result.items c.match_again.new.calls.replies c.match_again.new.calls.blocks.items c.new.ensures.items c.in-Ok.ensures.seen))
+    c.tell_found.ensures.wrote
 
-pub returns-in_ok-write_match-in-Ok-clause-wrote : goal.returns-in_ok-write_match-in-Ok-clause-wrote
-returns-in_ok-write_match-in-Ok-clause-wrote g c =
-    let f = c.in-Ok.found in
-    writes-equal (text-found c.args.code.now c.args.marks c.args.options.now c.args.subject.now c.args.start f c.in-Ok.ensures.found c.in-Ok.ensures.code.0 c.in-Ok.ensures.code.1)
-    (writes-as {A = Unit {0}} _ c.found_at.result c.in_ok-write_match-in-Ok.ensures)
+pub returns-in-Ok-clause-comes : goal.returns-in-Ok-clause-comes
+returns-in-Ok-clause-comes g c =
+    let t = c.args.tested.now in
+    told-of-found t.code t.pattern c.args.how.now c.args.options.now c.args.subject.now c.args.start c.in-Ok.found c.tell_found.result c.in-Ok.ensures.found c.tell_found.ensures.comes
 
-pub returns-in_ok-write_match-in-Ok-clause-comes : goal.returns-in_ok-write_match-in-Ok-clause-comes
-returns-in_ok-write_match-in-Ok-clause-comes g c =
-    told-found c.args.code.now c.args.marks c.args.options.now c.args.subject.now c.args.start c.in-Ok.found c.found_at.result c.in-Ok.ensures.found c.found_at.ensures
+pub returns-in-Ok-clause-missed : goal.returns-in-Ok-clause-missed
+returns-in-Ok-clause-missed g c =
+    let t = c.args.tested.now in
+    missed-of-found t.code t.pattern c.args.how.now c.args.options.now c.args.subject.now c.args.start c.in-Ok.found c.tell_found.result c.tell_found.ensures.comes
 
-pub returns-in-Err-clause-wrote : goal.returns-in-Err-clause-wrote
-returns-in-Err-clause-wrote g c =
-    text-error c.args.code.now c.args.marks c.args.options.now c.args.subject.now c.args.start c.in-Err.e c.tell_error.result (g.O.Sink.tells c.args.out.now) (g.O.Sink.tells c.tell_error.new.out) c.in-Err.ensures.refused c.tell_error.ensures.comes c.tell_error.ensures.wrote
+pub returns-clause-wrote : goal.returns-clause-wrote
+returns-clause-wrote g c =
+    let t = c.args.tested.now in
+    text-error t.code t.pattern c.args.how.now c.args.options.now c.args.subject.now c.args.start c.in-Err.e c.match_again.new.calls.replies c.match_again.new.calls.blocks.items c.tell_refused.result (g.O.Sink.tells c.args.out.now) (g.O.Sink.tells c.tell_refused.new.out)
+    c.in-Err.ensures.refused
+    (shows-by-from t.code t.pattern c.args.how.now c.args.options.now c.args.subject.now c.args.start c.in-Err.e c.new.result.items c.match_again.new.calls.replies c.match_again.new.calls.blocks.items c.new.ensures.items c.in-Err.ensures.shown) c.tell_refused.ensures.comes c.tell_refused.ensures.wrote
 
-pub returns-in-Err-clause-comes : goal.returns-in-Err-clause-comes
-returns-in-Err-clause-comes g c = told-error c.args.code.now c.args.marks c.args.options.now c.args.subject.now c.args.start c.in-Err.e c.tell_error.result c.in-Err.ensures.refused c.tell_error.ensures.comes
+pub returns-clause-comes : goal.returns-clause-comes
+returns-clause-comes g c =
+    let t = c.args.tested.now in
+    told-error t.code t.pattern c.args.how.now c.args.options.now c.args.subject.now c.args.start c.in-Err.e c.tell_refused.result c.in-Err.ensures.refused c.tell_refused.ensures.comes
 
-pub returns-in_ok-write_match-in-Ok-clause-missed : goal.returns-in_ok-write_match-in-Ok-clause-missed
-returns-in_ok-write_match-in-Ok-clause-missed g c =
-    missed-found c.args.code.now c.args.marks c.args.options.now c.args.subject.now c.args.start c.in-Ok.found c.found_at.result c.found_at.ensures
+pub returns-clause-missed : goal.returns-clause-missed
+returns-clause-missed g c =
+    let t = c.args.tested.now in
+    missed-error t.code t.pattern c.args.how.now c.args.options.now c.args.subject.now c.args.start c.in-Err.e c.tell_refused.result c.in-Err.ensures.refused c.tell_refused.ensures.comes
 
-pub returns-in-Err-clause-missed : goal.returns-in-Err-clause-missed
-returns-in-Err-clause-missed g c = missed-error c.args.code.now c.args.marks c.args.options.now c.args.subject.now c.args.start c.in-Err.e c.tell_error.result c.in-Err.ensures.refused c.tell_error.ensures.comes
+pub tell_refused-requires-clause-lies : goal.tell_refused-requires-clause-lies
+tell_refused-requires-clause-lies g c =
+    lies-in (search_of c.args.tested.now.code c.args.options.now c.args.subject.now c.args.start (reply_of c.args.how.now.replies)) c.in-Err.e c.in-Err.ensures.refused

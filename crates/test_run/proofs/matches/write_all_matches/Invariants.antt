@@ -5,5 +5,5 @@ use Rattle.test_run.proofs.matches.write_all_matches.Given as goal
 
 abbrev pub invariant-loop-turn : goal.invariant-loop-turn
 invariant-loop-turn g l =
-    IsOn (pattern_of l.code.tree) l.how.marks l.how.matching l.subject l.how.start l._turn l.at l.again l.is_shown
+    IsOn l.tested.pattern (pattern_of l.tested.code.tree) l.how l.subject l.how.start l._turn l.at l.again l.is_shown
     (g.O.Sink.tells l.initial.out) (g.O.Sink.tells l.out)

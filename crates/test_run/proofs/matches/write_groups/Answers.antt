@@ -3,8 +3,8 @@ use Rattle.std.specs.List.{range_with_len}
 use Rattle.tool_out.specs.Writes.{Writes}
 use Rattle.tool_out.proofs.Writing.{IsLeft, left-all, left-more, left-refused, left-last}
 use Rattle.pcre2_api.specs.Captured.{top_of}
-use Rattle.test_run.specs.Shown.{group_line, groups_text}
-use Rattle.test_run.proofs.Showing.{flat-range, flat-range-last}
+use Rattle.test_lines.specs.Shown.{group_line, groups_text}
+use Rattle.test_lines.proofs.Showing.{flat-range, flat-range-last}
 use Rattle.test_run.proofs.matches.write_groups.Goals as goal
 
 pub loop-n-init : goal.loop-n-init

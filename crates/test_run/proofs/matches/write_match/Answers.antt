@@ -1,9 +1,9 @@
 use Rattle.std.proofs.Common.{◌≡◌, Err, sym, subst, rules}
 use Rattle.pat_tree.specs.Pattern.{pattern_of}
 use Rattle.tool_out.specs.Writes.{Writes}
-use Rattle.test_run.specs.Shown.{groups_text}
-use Rattle.test_run.specs.Marks.{showing, name_of, mark_line, match_text}
-use Rattle.test_run.proofs.Writing.{writes-then, writes-first}
+use Rattle.test_lines.specs.Shown.{groups_text}
+use Rattle.test_lines.specs.Marks.{showing, name_of, mark_line, match_text}
+use Rattle.test_lines.proofs.Writing.{writes-then, writes-first}
 use Rattle.test_run.proofs.matches.write_match.Goals as goal
 
 pub returns-in_err-write_groups : goal.returns-in_err-write_groups

@@ -3,7 +3,7 @@ use Rattle.pat_tree.specs.Pattern.{pattern_of}
 use Rattle.pcre2_api.specs.Informs.{info_in}
 use Rattle.tool_out.specs.Texts.{text_if}
 use Rattle.tool_out.proofs.Writing.{writes-same}
-use Rattle.test_run.specs.Lines.{info_text}
+use Rattle.test_lines.specs.Lines.{info_text}
 use Rattle.test_run.proofs.patterns.write_told.Goals as goal
 
 pub returns : goal.returns

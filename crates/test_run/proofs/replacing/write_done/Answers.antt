@@ -1,9 +1,9 @@
 use Rattle.std.proofs.Common.{◌≡◌, ◌++◌, [], ◌∷◌, Err, ap, sym, subst, rules}
 use Rattle.tool_out.specs.Writes.{Writes}
 use Rattle.tool_out.proofs.Writing.{writes-same}
-use Rattle.test_run.specs.Lines.{done_line}
-use Rattle.test_run.specs.Shown.{number_before, shown}
-use Rattle.test_run.proofs.Writing.{writes-then, writes-first}
+use Rattle.test_lines.specs.Lines.{done_line}
+use Rattle.test_lines.specs.Shown.{number_before, shown}
+use Rattle.test_lines.proofs.Writing.{writes-then, writes-first}
 use Rattle.test_run.proofs.replacing.write_done.Goals as goal
 
 pub returns-in_err-write_count : goal.returns-in_err-write_count

@@ -1,6 +1,6 @@
 use Rattle.test_run.proofs.Rewriting.{text-refused}
-use Rattle.test_run.proofs.Writing.{writes-equal, lacks-first}
-use Rattle.test_run.specs.Lines.{replaced_text}
+use Rattle.test_lines.proofs.Writing.{writes-equal, lacks-first}
+use Rattle.test_lines.specs.Lines.{replaced_text}
 use Rattle.test_run.proofs.replacing.write_refused.Goals as goal
 
 pub returns-in-Memory : goal.returns-in-Memory

@@ -1,8 +1,8 @@
 use Rattle.std.proofs.Common.{◌∙◌, ap}
 use Rattle.pat_tree.specs.declared.options.Options.{Options}
-use Rattle.test_run.specs.Lines.{done_line}
+use Rattle.test_lines.specs.Lines.{done_line}
 use Rattle.test_run.proofs.Rewriting.{text-done}
-use Rattle.test_run.proofs.Writing.{writes-equal}
+use Rattle.test_lines.proofs.Writing.{writes-equal}
 use Rattle.test_run.proofs.replacing.write_replaced.Goals as goal
 
 pub returns-in-Ok : goal.returns-in-Ok

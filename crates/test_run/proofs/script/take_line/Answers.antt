@@ -8,7 +8,7 @@ use Rattle.test_run.specs.Courses.{entry_text}
 use Rattle.test_run.specs.Runs.{IsShort}
 use Rattle.test_run.specs.Searches.{course_of}
 use Rattle.test_run.proofs.Shorts.{line-short}
-use Rattle.test_run.proofs.Writing.{writes-then, writes-first, writes-lacks}
+use Rattle.test_lines.proofs.Writing.{writes-then, writes-first, writes-lacks}
 use Rattle.test_run.proofs.script.take_line.Goals as goal
 
 pub returns-in_err-write_texts-clause-wrote : goal.returns-in_err-write_texts-clause-wrote

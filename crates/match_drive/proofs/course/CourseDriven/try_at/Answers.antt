@@ -1,29 +1,28 @@
 use Rattle.std.proofs.Common.{sym, ap, subst, ◌∙◌}
 use Rattle.pat_tree.specs.declared.options.Options.{Options}
 use Rattle.match_items.specs.Subjects.{IsTextPlace}
-use Rattle.frame_machine.specs.Answer.{SkipsToPlace}
+use Rattle.frame_state.specs.Answer.{SkipsToPlace}
 use Rattle.std.specs.Option.{option_or}
-use Rattle.ordered_search.specs.PlaceAnswer.{Walked, has_hit, last_name}
-use Rattle.match_drive.proofs.PastPrefix.{refused}
+use Rattle.ordered_search.specs.PlaceAnswer.{Walked, has_hit, last_name, blocks}
+use Rattle.frame_state.specs.Shown.{seen_after}
+use Rattle.match_drive.proofs.Shown.{seen_none}
 use Rattle.match_drive.proofs.course.CourseDriven.try_at.Goals as goal
 
-pub returns-then-item_refuses-clause-answer : goal.returns-then-item_refuses-clause-answer
-returns-then-item_refuses-clause-answer g c =
-    let x = c.args.self.now in
-    let fits = c.requires.fits in
-    let e = refused x.ready.now.tree.now x.ready.now.classes.now x.view.now (g.C.Callouts.answers c.args.calls.now) x.first.now c.args.place fits.table fits.options fits.off fits.parts (sym c.item_refuses.ensures ∙ c.if-item_refuses.true) in
+pub returns-then-refuses-clause-answer : goal.returns-then-refuses-clause-answer
+returns-then-refuses-clause-answer g c =
+    let e = c.refuses.ensures c.if-refuses.true (g.C.Callouts.answers c.args.calls.now) in
     (ap (λ (w : Walked). w.answer) e, sym (ap (λ (w : Walked). has_hit w.notes) e))
 
-pub returns-then-item_refuses-clause-mark : goal.returns-then-item_refuses-clause-mark
-returns-then-item_refuses-clause-mark g c =
-    let x = c.args.self.now in
-    let fits = c.requires.fits in
-    let e = refused x.ready.now.tree.now x.ready.now.classes.now x.view.now (g.C.Callouts.answers c.args.calls.now) x.first.now c.args.place fits.table fits.options fits.off fits.parts (sym c.item_refuses.ensures ∙ c.if-item_refuses.true) in
+pub returns-then-refuses-clause-mark : goal.returns-then-refuses-clause-mark
+returns-then-refuses-clause-mark g c =
+    let e = c.refuses.ensures c.if-refuses.true (g.C.Callouts.answers c.args.calls.now) in
     sym (ap (λ (w : Walked). option_or (last_name w.notes) c.args.scratch.now.last_mark) e)
 
-pub item_refuses-requires-clause-place : goal.item_refuses-requires-clause-place
-item_refuses-requires-clause-place g c =
-    subst (λ (o : Options). IsTextPlace o c.args.self.now.view.now.subject.now c.args.place) (sym c.requires.fits.options) c.requires.place
+pub returns-then-refuses-clause-seen : goal.returns-then-refuses-clause-seen
+returns-then-refuses-clause-seen g c =
+    let e = c.refuses.ensures c.if-refuses.true (g.C.Callouts.answers c.args.calls.now) in
+    let seen = g.C.Callouts.seen c.args.calls.now in
+    sym (ap (λ (w : Walked). seen_after seen (blocks w.notes)) e ∙ seen_none seen)
 
 pub run_at-requires-clause-place : goal.run_at-requires-clause-place
 run_at-requires-clause-place g c =

@@ -1,8 +1,9 @@
 use Rattle.std.proofs.Common.{refl, sym, ap, ◌∙◌, append-nil, Ok}
 use Rattle.pat_tree.specs.Nested.{anchor}
-use Rattle.pat_build.specs.Groups.{places_named}
-use Rattle.pat_build.specs.Parts.{bare}
-use Rattle.pat_build.specs.Machine.{state_of, references_of}
+use Rattle.pat_grammar.specs.Groups.{places_named}
+use Rattle.pat_grammar.specs.Parts.{bare}
+use Rattle.pat_build.specs.Machine.{state_of}
+use Rattle.pat_nodes.specs.Nodes.{references_of}
 use Rattle.pat_build.proofs.Adding.{node_stands}
 use Rattle.pat_build.proofs.machine.Machine.anchor.Goals as goal
 

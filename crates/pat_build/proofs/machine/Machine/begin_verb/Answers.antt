@@ -1,8 +1,8 @@
 use Rattle.std.proofs.Common.{ap, sym, ◌∙◌, Ok}
 use Rattle.pat_tree.specs.Nested.{verb}
 use Rattle.token_parts.specs.declared.token.Token.TheVariants.{VerbItem}
-use Rattle.pat_build.specs.Parts.{part_if}
-use Rattle.pat_build.specs.Verbs.{verb_of, number_of_name}
+use Rattle.pat_grammar.specs.Parts.{part_if}
+use Rattle.pat_grammar.specs.Verbs.{verb_of, number_of_name}
 use Rattle.pat_build.proofs.Adding.{state_named, verb_waits, verb_stands}
 use Rattle.pat_build.proofs.machine.Machine.begin_verb.Goals as goal
 

@@ -1,7 +1,7 @@
 use Rattle.std.proofs.Common.{Some, None, ap, ◌∙◌}
 use Rattle.std.proofs.lemmas.Result.{err_from_is_err_and}
 use Rattle.token_parts.specs.declared.token.Token.TheVariants.{CallTo}
-use Rattle.pat_build.specs.Parts.{number_called}
+use Rattle.pat_grammar.specs.Parts.{number_called}
 use Rattle.pat_build.proofs.Waiting.{calls_refuse, calls_fit}
 use Rattle.pat_build.proofs.machine.Machine.call.Goals as goal
 

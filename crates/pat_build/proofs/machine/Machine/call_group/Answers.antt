@@ -1,7 +1,7 @@
 use Rattle.std.proofs.Common.{refl, sym, append-nil, map, [], ◌∷◌}
 use Rattle.pat_tree.specs.Nested.{call}
 use Rattle.pat_tree.specs.Refs.{beside_whole}
-use Rattle.pat_build.specs.Groups.{places_named}
+use Rattle.pat_grammar.specs.Groups.{places_named}
 use Rattle.pat_build.proofs.Adding.{node_waits}
 use Rattle.pat_build.proofs.machine.Machine.call_group.Goals as goal
 

@@ -2,9 +2,10 @@ use Rattle.std.proofs.Common.{refl, sym, ap, ◌∙◌, append-nil, Ok, if◌the
 use Rattle.token_parts.specs.declared.token.Token.TheVariants.{KeepOut}
 use Rattle.token_parts.specs.Tell.{fault}
 use Rattle.pat_tree.specs.Nested.{keep_out}
-use Rattle.pat_build.specs.Groups.{places_named}
-use Rattle.pat_build.specs.Parts.{bare}
-use Rattle.pat_build.specs.Machine.{state_of, references_of}
+use Rattle.pat_grammar.specs.Groups.{places_named}
+use Rattle.pat_grammar.specs.Parts.{bare}
+use Rattle.pat_build.specs.Machine.{state_of}
+use Rattle.pat_nodes.specs.Nodes.{references_of}
 use Rattle.pat_build.proofs.Adding.{node_stands}
 use Rattle.pat_build.proofs.Waiting.{bad_means}
 use Rattle.pat_build.proofs.machine.Machine.keep_out.Goals as goal

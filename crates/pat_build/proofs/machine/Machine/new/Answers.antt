@@ -3,8 +3,10 @@ use Rattle.std.proofs.lemmas.List.Elements.{All-nil}
 use Rattle.pat_tree.specs.Refs.{refs}
 use Rattle.pat_tree.specs.Growing.{loose, loose_after}
 use Rattle.pat_tree.proofs.Growing.{stand_none}
-use Rattle.pat_build.specs.Groups.{places_named}
-use Rattle.pat_build.specs.Machine.{references_of, state_from, IsGiven}
+use Rattle.pat_grammar.specs.Groups.{places_named}
+use Rattle.pat_nodes.specs.Nodes.{references_of}
+use Rattle.pat_grammar.specs.Reading.{state_from}
+use Rattle.pat_build.specs.Machine.{IsGiven}
 use Rattle.pat_build.proofs.Steps.{begins}
 use Rattle.pat_build.proofs.Numbers.{numbers_none}
 use Rattle.pat_build.proofs.machine.Machine.new.Goals as goal
@@ -23,7 +25,7 @@ returns-clause-means c =
       pending = refl;
       barred = rw c.new-4.ensures.items refl;
       tested = tt;
-      value = rw c.new-4.ensures.items (begins c.args.known.now c.args.text.now (state_from c.args.start c.args.options) n e);
+      value = rw c.new-4.ensures.items (begins (record { names = c.args.known.now; calling = c.args.calling }) c.args.text.now (state_from c.args.start c.args.options) n e);
       within = c.requires.within;
       short = c.requires.short;
       depth = rw c.new-4.ensures.items (omega arith);

@@ -2,7 +2,7 @@ use Rattle.std.proofs.Common.{◌≡◌, ℕ, refl}
 use Rattle.token_parts.specs.declared.token.Token.{Token}
 use Rattle.token_parts.specs.declared.token.Token.TheVariants as token
 use Rattle.token_parts.specs.Tell.{fault}
-use Rattle.pat_build.specs.Parts.{beginning}
+use Rattle.pat_grammar.specs.Parts.{beginning}
 use Rattle.pat_build.specs.Stack.{IsPlain}
 use Rattle.pat_build.specs.Machine.{known_of, state_of, IsMore}
 use Rattle.pat_build.proofs.Waiting.{bad_means}
@@ -42,6 +42,7 @@ returns-in_default-clause-bad c =
       | token.QuoteOff ↦ λ e p q. absurd p
       | token.ClassStart negated ↦ λ e p q. absurd (no.not-ClassStart negated e)
       | token.Open kind ↦ λ e p q. absurd (no.not-Open kind e)
+      | token.CalloutItem number from to ↦ λ e p q. absurd (no.not-CalloutItem number from to e)
       | token.VerbItem verb from to ↦ λ e p q. absurd (no.not-VerbItem verb from to e)
       | token.CondStart cond from to ↦ λ e p q. absurd (no.not-CondStart cond from to e)
       | token.Bar ↦ λ e p q. absurd (no.not-Bar e)

@@ -1,5 +1,6 @@
 use Rattle.std.proofs.Common.{◌∙◌, ◌≤◌, ◌<◌, length, arith, refl}
-use Rattle.pat_build.specs.Machine.{form_of, state_of}
+use Rattle.pat_nodes.specs.Nodes.{form_of}
+use Rattle.pat_build.specs.Machine.{state_of}
 use Rattle.pat_build.proofs.Beginning.{opened_deep, opened_fits}
 use Rattle.pat_build.proofs.Waiting.{bad_means}
 use Rattle.pat_build.proofs.machine.Machine.plain_group.Goals as goal

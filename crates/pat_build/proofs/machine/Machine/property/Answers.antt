@@ -2,7 +2,7 @@ use Rattle.std.proofs.Common.{Result, Ok, refl, sym, ap, arith}
 use Rattle.std.proofs.lemmas.Result.{err_from_is_err_and}
 use Rattle.token_parts.specs.declared.fault.Fault.{Fault}
 use Rattle.token_parts.specs.declared.token.Token.TheVariants.{Property}
-use Rattle.pat_build.specs.Parts.{Beginning, of_class}
+use Rattle.pat_grammar.specs.Parts.{Beginning, of_class}
 use Rattle.pat_build.specs.Machine.{state_of}
 use Rattle.pat_build.proofs.Waiting.{bad_means}
 use Rattle.pat_build.proofs.machine.Machine.property.Goals as goal

@@ -1,6 +1,6 @@
 use Rattle.std.proofs.Common.{refl, sym, append-nil, map}
 use Rattle.pat_tree.specs.Nested.{ref}
-use Rattle.pat_build.specs.Groups.{places_named}
+use Rattle.pat_grammar.specs.Groups.{places_named}
 use Rattle.pat_build.proofs.Adding.{node_waits}
 use Rattle.pat_build.proofs.machine.Machine.reference.Goals as goal
 

@@ -1,7 +1,7 @@
 use Rattle.std.proofs.Common.{arith, length, ◌<◌}
 use Rattle.std.proofs.lemmas.List.Elements.{All-nil}
-use Rattle.pat_build.specs.declared.machine.Atom.TheVariants.{Single}
-use Rattle.pat_build.proofs.Extending.{extends_none}
+use Rattle.pat_nodes.specs.declared.frames.Atom.TheVariants.{Single}
+use Rattle.pat_nodes.proofs.Extending.{extends_none}
 use Rattle.pat_build.proofs.Taking.{atom_means}
 use Rattle.pat_build.proofs.machine.Machine.single.Goals as goal
 

@@ -13,7 +13,7 @@ returns-then-len-ge-DEEPEST-clause-bad c =
     let deep : 250 ≤ length m.stack.items = omega (arith, c.len.ensures, c.if-len-ge-DEEPEST.true, m.stack.ok.0) in
     rw c.fault.ensures
     (bad_means m c.requires.means (CondStart Lookaround c.args.from c.args.to) c.args.after _ c.requires
-    (λ n h. assertions_deep m.text.now n (state_of m) (record (state_of m) { at = c.args.after }) deep))
+    (λ n h. assertions_deep m.calling m.text.now n (state_of m) (record (state_of m) { at = c.args.after }) deep))
 
 pub returns-in_err-test-clause-bad : goal.returns-in_err-test-clause-bad
 returns-in_err-test-clause-bad c =

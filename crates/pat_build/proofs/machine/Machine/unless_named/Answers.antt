@@ -1,5 +1,5 @@
 use Rattle.std.proofs.Common.{sym, refl}
-use Rattle.pat_build.specs.Groups.{unless_named}
+use Rattle.pat_grammar.specs.Groups.{unless_named}
 use Rattle.pat_build.proofs.machine.Machine.unless_named.Goals as goal
 
 pub returns-then-is_named-clause-is : goal.returns-then-is_named-clause-is

@@ -3,7 +3,7 @@ use Rattle.pat_tree.specs.Nested.{trees, tree_at}
 use Rattle.pat_tree.specs.Sound.{greatest, group_numbers}
 use Rattle.pat_lengths.specs.Passing.{capture_number}
 use Rattle.pat_lengths.proofs.GroupLemmas.{put_group}
-use Rattle.pat_lengths.proofs.PlacedLemmas.{placed_put, placed_more}
+use Rattle.pat_lengths.proofs.PlacedLemmas.{placed_put}
 use Rattle.pat_lengths.specs.Passing.{ArePlaced}
 use Rattle.pat_lengths.proofs.groups.Groups.see.Goals as goal
 

@@ -3,7 +3,6 @@ use Rattle.std.proofs.lemmas.Bool.{cases_Bool}
 use Rattle.pat_check.specs.Known.{IsByteSet, lead_set_of}
 use Rattle.pat_tree.specs.Pattern.{pattern_of}
 use Rattle.match_items.specs.Views.{fold_in}
-use Rattle.pat_build.specs.Machine.{parsed_of}
 use Rattle.pat_lengths.specs.Backs.{first_fault}
 use Rattle.pcre2_api.specs.Compiled.{IsCompileError, check_error_of, compile_error_of}
 use Rattle.pcre2_api.specs.Patterns.{compiled, unless_refused}
@@ -12,7 +11,6 @@ use Rattle.pcre2_api.proofs.code.Code.compile.Goals as goal
 
 pub invariant_of-result : goal.invariant_of-result
 invariant_of-result c =
-    let kept = c.what_is_read_can_be_searched.ensures c.args.options c.args.pattern.now (parsed_of c.in_ok-tree.tree) c.in_ok-tree.ensures.ok in
     let told = c.in_ok-facts.ensures in
     let t = c.in_ok-tree.tree in
     let begins : IsByteSet c.in_ok-facts.facts.lead (lead_set_of t (fold_in t.options.utf)) = elim (cases_Bool t.options.utf) [
@@ -34,9 +32,10 @@ invariant_of-result c =
         places = told.places;
         greatest = told.greatest;
         flow = told.flow;
+        branches = told.branches;
+        ranks = told.ranks;
         need = told.need;
       };
-      built = kept.built;
     }
 
 pub returns-clause-compiled : goal.returns-clause-compiled

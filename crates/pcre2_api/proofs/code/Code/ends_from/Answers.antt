@@ -1,11 +1,10 @@
-use Rattle.std.proofs.Common.{rules, ◌≡◌, ◌∙◌, Err, IfErr, sym, ap, subst}
-use Rattle.pat_tree.specs.Parts.{TreeParts, tree_of}
+use Rattle.std.proofs.Common.{rules, ◌≡◌, ◌∙◌, Err, IfErr, sym, ap, subst, arith}
+use Rattle.pat_tree.specs.Parts.{TreeParts}
 use Rattle.pat_tree.specs.declared.options.Options.{Options}
 use Rattle.match_items.specs.Subjects.{IsText, IsTextPlace}
-use Rattle.frame_machine.specs.Ready.{setting_in}
-use Rattle.frame_machine.proofs.Forms.{built_runs}
+use Rattle.frame_board.specs.Ready.{setting_in}
 use Rattle.match_drive.specs.Asked.{passed_over}
-use Rattle.dfa_ends.specs.DfaAnswer.{EndsFrom, NoMatch, dfa_answer}
+use Rattle.dfa_ends.specs.DfaAnswer.{EndsFrom, NoMatch, PartialFrom, dfa_answer}
 use Rattle.pcre2_api.specs.Matched.{search_of}
 use Rattle.pcre2_api.specs.DfaMatched.{IsDfaError, error_of}
 use Rattle.pcre2_api.proofs.Starting.{begun-text, begun-place}
@@ -28,11 +27,9 @@ dfa_search-requires-clause-ready g c =
     record {
       table = c.ready-ready.ensures.table;
       facts = c.ready-ready.ensures.facts;
-      runs = built_runs (tree_of c.ready-ready.result.tree.now) c.ready-ready.ensures.built;
       options = c.options-compiled.ensures;
       subject = subst (λ (o : Options). IsText o subject) (sym same) (begun-text _ _ _ c.requires.begun c.requires.short);
       start = subst (λ (o : Options). IsTextPlace o subject c.args.start) (sym same) (begun-place _ _ _ c.requires.begun);
-      off = c.requires.off;
     }
 
 pub returns-in-Ends-clause-found : goal.returns-in-Ends-clause-found
@@ -57,3 +54,24 @@ returns-in-NoMatch-clause-refused g c =
     (λ (t : TreeParts). dfa_answer (setting_in t matching subject c.args.start passed_over) matching.dfa_shortest ≡ NoMatch)
     c.ready-ready.ensures.tree (rw c.in-NoMatch.is at c.in_ok-answer.ensures.answer) in
     answered asked c.requires.begun NoMatch served is
+
+pub returns-clause-refused : goal.returns-clause-refused
+returns-clause-refused g c =
+    let matching = c.args.options.now in
+    let subject = c.args.subject.now in
+    let asked = search_of c.args.self.now matching subject c.args.start passed_over in
+    let answer = PartialFrom c.in-Partial.start in
+    let served = rw c.ready-ready.ensures.tree at c.in_ok-graph.ensures.served in
+    let is : dfa_answer asked matching.dfa_shortest ≡ answer = subst
+    (λ (t : TreeParts). dfa_answer (setting_in t matching subject c.args.start passed_over) matching.dfa_shortest ≡ answer)
+    c.ready-ready.ensures.tree (rw c.in-Partial.is at c.in_ok-answer.ensures.answer) in
+    let same : c.options-compiled.result.now ≡ c.args.self.now.tree.options = c.options-compiled.ensures
+    ∙ ap (λ (t : TreeParts). t.options) c.ready-ready.ensures.tree in
+    let placed = rw c.in-Partial.is at c.in_ok-answer.ensures.placed in
+    record {
+      asked = rw c.in-Partial.is at c.in_ok-answer.ensures.whole;
+      answered = answered asked c.requires.begun answer served is;
+      from = placed.0;
+      place = subst (λ (o : Options). IsTextPlace o subject c.in-Partial.start) same placed.1;
+      to = omega arith;
+    }

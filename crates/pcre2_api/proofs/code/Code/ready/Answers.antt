@@ -5,6 +5,3 @@ returns-clause-table c = c.self.invariant.table
 
 pub returns-clause-facts : goal.returns-clause-facts
 returns-clause-facts c = c.self.invariant.facts
-
-pub returns-clause-built : goal.returns-clause-built
-returns-clause-built c = c.self.invariant.built

@@ -1,6 +1,4 @@
-use Rattle.std.proofs.Common.{subst, rules}
-use Rattle.frame_machine.proofs.Forms.{built_runs}
-use Rattle.pcre2_api.specs.Compiled.{IsCode}
+use Rattle.std.proofs.Common.{rules}
 use Rattle.ordered_search.proofs.ForwardLaw.{forward_law}
 use Rattle.pcre2_api.specs.Matched.{search_of}
 use Rattle.pcre2_api.proofs.Starting.{begun-text, begun-place}
@@ -8,9 +6,8 @@ use Rattle.pcre2_api.proofs.code.Code.search.Goals as goal
 
 pub returns-clause-plain : goal.returns-clause-plain
 returns-clause-plain g c =
-    let kept : IsCode c.args.self.now = subst IsCode c.self.view_is c.self.invariant in
     forward_law (search_of c.args.self.now c.args.options.now c.args.subject.now c.args.start (g.C.Callouts.answers c.args.calls.now))
-    (record { built = kept.built; text = begun-text _ _ _ c.requires.begun c.requires.short; off = c.requires.off; begun = begun-place _ _ _ c.requires.begun })
+    (record { text = begun-text _ _ _ c.requires.begun c.requires.short; begun = begun-place _ _ _ c.requires.begun })
 
 pub search-requires : goal.search-requires
-search-requires g c = search (rules, built_runs, begun-text, begun-place)
+search-requires g c = search (rules, begun-text, begun-place)

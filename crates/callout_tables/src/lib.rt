@@ -1,0 +1,9 @@
+//! Scripts of pcre2test with their whole output: callouts.
+#![tactic(auto)]
+
+#[cfg(test)]
+mod automatic;
+#[cfg(test)]
+mod callouts;
+#[cfg(test)]
+mod running;

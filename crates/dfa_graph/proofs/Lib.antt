@@ -1,0 +1,15 @@
+pub mod Places
+pub mod Fragments
+pub mod Probes
+pub mod Counting
+pub mod Meeting
+pub mod Passing
+pub mod EndReaching
+pub mod Hits
+pub mod Behind
+pub mod Steps
+pub mod Building
+pub mod Costs
+pub mod Takers
+pub mod Plain
+pub mod Having

@@ -1,0 +1,5 @@
+pub mod ByteTexts
+pub mod Measured
+pub mod GroundLemmas
+pub mod GroupParts
+pub mod SameNames

@@ -1,0 +1,13 @@
+pub mod RepeatTurns
+pub mod EndTurns
+pub mod Runs
+pub mod ItemTurns
+pub mod BackTurns
+pub mod AtomicTurns
+pub mod PossessiveTurns
+pub mod LookTurns
+pub mod CondTurns
+pub mod CalloutTurns
+pub mod CalledTests
+pub mod CallTurns
+pub mod PassTurns

@@ -1,0 +1,4 @@
+pub mod Looks
+pub mod Passing
+pub mod Conditions
+pub mod Possessive

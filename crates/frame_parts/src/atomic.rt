@@ -1,0 +1,105 @@
+//! Atomic groups (pcre2pattern, "Atomic grouping and possessive quantifiers").
+ghost use Rattle.std.specs.Prelude.{◌≡◌, ◌≤◌, ◌+◌, max, IfOk, IfErr, None, Some, map, reverse, slice_get};
+ghost use Rattle.pat_tree.specs.declared.nodes.Node.TheVariants as node;
+ghost use Rattle.pat_tree.specs.Nested.{row, tree_at};
+ghost use Rattle.frame_store.specs.Stack.{room};
+ghost use Rattle.frame_state.specs.Room.{IsShort};
+ghost use Rattle.frame_store.specs.Entry.{entries};
+ghost use Rattle.frame_state.specs.Ground.{IsNode};
+ghost use Rattle.frame_state.specs.Machine.{conf};
+ghost use Rattle.frame_state.specs.Frames.{ahead};
+ghost use Rattle.frame_state.specs.Validity.{IsValid, Advances};
+ghost use Rattle.ordered_search.specs.Paths.{only_many};
+ghost use Rattle.frame_state.specs.Stops.{IsStop, tells};
+
+use crate::possessive::{only_repeat, pass_possessive};
+use frame_state::framing::{first_branch, go_on, leave, open_frame};
+use frame_state::machine::{Next, Spot, Stop};
+use frame_state::searchable::Searchable;
+use frame_store::kinds::KIND_ATOMIC_OPEN;
+use frame_store::{Record, Span, Store};
+use pat_tree::Kids;
+
+/// Enters an atomic group.
+pub fn enter_atomic<S: Searchable>(
+    on: &S,
+    at: u32,
+    branches: &Kids,
+    spot: &mut Spot,
+    store: &mut Store,
+    registers: &[Option<Span>],
+) -> Result<Next, Stop>
+    requires valid { IsValid (S.searched on.now) (conf (Next.Enter at) spot.old (entries store.old.records) registers.now) }
+    requires node { IsNode (S.searched on.now) at (node.Atomic branches.now) }
+    ensures on { IfOk result (λ next. Advances (S.searched on.now) (conf (Next.Enter at) spot.old (entries store.old.records) registers.now) (conf next spot.new (entries store.new.records) registers.now)) }
+    ensures stop { IfErr result (λ stop. IsStop stop spot.new registers.now (tells (S.searched on.now).setting spot.old (ahead (S.searched on.now) (conf (Next.Enter at) spot.old (entries store.old.records) registers.now)))) }
+    ensures peak { store.new.peak ≤ max store.old.peak (S.searched on.now).setting.matching.frame_limit }
+    ensures no_less { room store.old ≤ room store.new }
+    ensures short { IfErr result (λ stop.
+        IsShort stop (S.searched on.now).setting.matching.frame_limit store.new) }
+{
+    match only_repeat(on, branches) {
+        None => open_atomic(on, at, branches, spot, store, registers),
+        Some(repeat) => pass_possessive(on, at, branches, &repeat, spot, store, registers),
+    }
+}
+
+/// Opens the frame of an atomic group, whose branches are not a repeat of one item alone.
+fn open_atomic<S: Searchable>(
+    on: &S,
+    at: u32,
+    branches: &Kids,
+    spot: &mut Spot,
+    store: &mut Store,
+    registers: &[Option<Span>],
+) -> Result<Next, Stop>
+    requires valid { IsValid (S.searched on.now)
+        (conf (Next.Enter at) spot.old (entries store.old.records) registers.now) }
+    requires node { IsNode (S.searched on.now) at (node.Atomic branches.now) }
+    requires other { only_many (row (map (tree_at (S.searched on.now).trees) branches.now)) ≡ None }
+    ensures on { IfOk result
+        (λ next. Advances (S.searched on.now)
+        (conf (Next.Enter at) spot.old (entries store.old.records) registers.now)
+        (conf next spot.new (entries store.new.records) registers.now)) }
+    ensures stop { IfErr result
+        (λ stop. IsStop stop spot.new registers.now
+        (tells (S.searched on.now).setting spot.old
+        (ahead (S.searched on.now)
+        (conf (Next.Enter at) spot.old (entries store.old.records) registers.now)))) }
+    ensures peak { store.new.peak
+        ≤ max store.old.peak (S.searched on.now).setting.matching.frame_limit }
+    ensures no_less { room store.old ≤ room store.new }
+    ensures short { IfErr result (λ stop.
+        IsShort stop (S.searched on.now).setting.matching.frame_limit store.new) }
+{
+    if let Err(stop) = open_frame(on.unit_limit(), KIND_ATOMIC_OPEN, at, spot, store) {
+        return Err(stop);
+    }
+    Ok(first_branch(at, branches))
+}
+
+/// Leaves an atomic group by its first outcome.
+pub fn leave_atomic<S: Searchable>(
+    on: &S,
+    frame: &Record,
+    height: usize,
+    spot: &mut Spot,
+    store: &mut Store,
+    registers: &[Option<Span>],
+) -> Result<Next, Stop>
+    requires valid { IsValid (S.searched on.now) (conf Next.End spot.old (entries store.old.records) registers.now) }
+    requires frame { spot.old.frame ≡ height + 1 }
+    requires at { slice_get (reverse store.old.records) height ≡ Some frame.now }
+    requires kind { frame.now.kind ≡ KIND_ATOMIC_OPEN }
+    ensures on { IfOk result (λ next. Advances (S.searched on.now) (conf Next.End spot.old (entries store.old.records) registers.now) (conf next spot.new (entries store.new.records) registers.now)) }
+    ensures stop { IfErr result (λ stop. IsStop stop spot.new registers.now (tells (S.searched on.now).setting spot.old (ahead (S.searched on.now) (conf Next.End spot.old (entries store.old.records) registers.now)))) }
+    ensures peak { store.new.peak ≤ max store.old.peak (S.searched on.now).setting.matching.frame_limit }
+    ensures no_less { room store.old ≤ room store.new }
+    ensures short { IfErr result (λ stop.
+        IsShort stop (S.searched on.now).setting.matching.frame_limit store.new) }
+{
+    if let Err(stop) = leave(on.unit_limit(), frame, height, spot, store) {
+        return Err(stop);
+    }
+    Ok(go_on(on, frame.node))
+}

@@ -1,0 +1,13 @@
+//! The parts of a pattern as the ordered search runs them: alternatives, repeats, atomic groups, lookarounds,
+//! conditions, calls and callouts (pcre2pattern).
+#![tactic(auto)]
+
+pub mod atomic;
+pub mod callouts;
+pub mod calls;
+pub mod conds;
+pub mod items;
+pub mod looks;
+mod passing;
+mod possessive;
+pub mod repeats;

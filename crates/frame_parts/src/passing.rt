@@ -1,0 +1,283 @@
+//! Runs of one item, and branches, that are refused at once: the item that has to come next takes
+//! nothing there.
+//!
+//! By the definition each is a Step, and holds units on the way to that item. Where there is room
+//! for these, nothing but the Step is left of it.
+ghost use Rattle.std.specs.Prelude.{◌≡◌, ◌<◌, ◌+◌, true, IsTrue, MatchOption};
+ghost use Rattle.pat_tree.specs.declared.options.PartialMode.TheVariants.{Off};
+ghost use Rattle.frame_store.specs.Entry.{entries};
+ghost use Rattle.frame_state.specs.Ground.{next_of, tree_of, IsPart};
+ghost use Rattle.frame_state.specs.Machine.{conf, towards};
+ghost use Rattle.frame_state.specs.Validity.{IsMany, IsValid};
+ghost use Rattle.frame_state.specs.Stops.{IsFurther};
+ghost use Rattle.frame_parts.specs.Passing.{HasNumber, BeginsWith, FailsAt, IsFollower, Reaches};
+
+use crate::items::most_of;
+use crate::repeats::{branches_of, is_last};
+use frame_state::behind::is_behind;
+use frame_state::machine::{Next, Spot};
+use frame_state::searchable::Searchable;
+use frame_store::kinds::KIND_GROUP_OPEN;
+use frame_store::{Span, Store};
+use pat_tree::{Item, Node};
+
+/// What a repeat of one item takes at a place.
+fn take_further<S: Searchable>(on: &S, part: u32, at: u64) -> Option<u64>
+    requires inside { IsPart (S.searched on.now) part }
+    requires many { IsMany (S.searched on.now) (tree_of (S.searched on.now) part) }
+    requires place { (S.searched on.now).stands at ≡ true }
+    ensures { IsFurther (S.searched on.now) (tree_of (S.searched on.now) part) at result }
+{
+    match on.node(part) {
+        Node::OneRepeat { item, .. } => on.take(item, at),
+        _ => unreachable!(),
+    }
+}
+
+/// A run of one item, or a part of it.
+#[derive(Clone, Copy)]
+pub(crate) struct Further {
+    pub count: u32,
+    /// The place after it.
+    pub to: u64,
+}
+
+/// The item that has to come next.
+#[derive(Clone, Copy)]
+struct Follower {
+    item: Item,
+    /// The units that are held before it is tried.
+    units: u32,
+}
+
+/// The item that a part begins with, where it needs one.
+fn first_item<S: Searchable>(on: &S, part: u32) -> Option<Item>
+    requires off { (S.searched on.now).setting.matching.partial ≡ Off }
+    requires inside { IsPart (S.searched on.now) part }
+    ensures { MatchOption result (Unit {0}) (λ item. BeginsWith (S.searched on.now) part item) }
+{
+    match on.node(part) {
+        Node::One(item) => Some(*item),
+        Node::OneRepeat { item, min, .. } if *min > 0 => Some(*item),
+        _ => None,
+    }
+}
+
+/// Whether a part is a capturing group.
+fn is_capture<S: Searchable>(on: &S, part: u32) -> bool
+    requires { IsPart (S.searched on.now) part }
+    ensures { IsTrue result → HasNumber (S.searched on.now) part }
+{
+    matches!(
+        on.node(part),
+        Node::Group {
+            number: Some(_),
+            ..
+        }
+    )
+}
+
+/// What follows the capturing group whose frame is the innermost.
+fn after_group<S: Searchable>(
+    on: &S,
+    spot: &Spot,
+    store: &Store,
+    registers: &[Option<Span>],
+) -> Option<Follower>
+    requires off { (S.searched on.now).setting.matching.partial ≡ Off }
+    requires valid { IsValid (S.searched on.now)
+        (conf Next.End spot.now (entries store.now.records) registers.now) }
+    ensures { MatchOption result (Unit {0})
+        (λ f. IsFollower (S.searched on.now) Next.End spot.now.frame store.now.records registers.now
+        f.item f.units) }
+{
+    if spot.frame == 0 {
+        return None;
+    }
+    let frame = store.get(spot.frame as usize - 1);
+    if frame.kind != KIND_GROUP_OPEN {
+        return None;
+    }
+    if !is_capture(on, frame.node) {
+        return None;
+    }
+    let Some(next) = on.next(frame.node) else {
+        return None;
+    };
+    let Some(item) = first_item(on, next) else {
+        return None;
+    };
+    Some(Follower { item, units: 1 })
+}
+
+/// What follows a part in the innermost frame.
+fn after_part<S: Searchable>(
+    on: &S,
+    at: u32,
+    spot: &Spot,
+    store: &Store,
+    registers: &[Option<Span>],
+) -> Option<Follower>
+    requires off { (S.searched on.now).setting.matching.partial ≡ Off }
+    requires inside { IsPart (S.searched on.now) at }
+    requires valid { IsValid (S.searched on.now)
+        (conf Next.End spot.now (entries store.now.records) registers.now) }
+    ensures { MatchOption result (Unit {0})
+        (λ f. IsFollower (S.searched on.now) (towards (next_of (S.searched on.now) at))
+        spot.now.frame store.now.records registers.now f.item f.units) }
+{
+    let Some(next) = on.next(at) else {
+        return after_group(on, spot, store, registers);
+    };
+    let Some(item) = first_item(on, next) else {
+        return None;
+    };
+    Some(Follower { item, units: 0 })
+}
+
+/// Whether the units are there that are held on the way to a follower, and that of a record before
+/// it.
+fn has_room(limit: u32, spot: &Spot, follower: &Follower) -> bool
+    ensures { IsTrue result → spot.now.units + follower.now.units < limit }
+{
+    spot.units.saturating_add(follower.units) < limit
+}
+
+/// Passes over the runs of a greedy repeat that are refused at once, a Step for each, and gives the
+/// end of the first that isn't, or of the shortest.
+pub(crate) fn pass_fewer<S: Searchable>(
+    on: &S,
+    at: u32,
+    least: u64,
+    last: u64,
+    spot: &mut Spot,
+    store: &Store,
+    registers: &[Option<Span>],
+) -> u64
+    requires valid { IsValid (S.searched on.now)
+        (conf (Next.Fewer at least last) spot.old (entries store.now.records) registers.now) }
+    ensures { Reaches (S.searched on.now)
+        (conf (Next.Fewer at least last) spot.old (entries store.now.records) registers.now)
+        (conf (Next.Fewer at least result) spot.new (entries store.now.records) registers.now) }
+{
+    // At the subject's end what is refused may still tell a partial match.
+    if !on.is_off() {
+        return last;
+    }
+    let Some(follower) = after_part(on, at, spot, store, registers) else {
+        return last;
+    };
+    if !has_room(on.unit_limit(), spot, &follower) {
+        return last;
+    }
+    let mut to = last;
+    'runs: while least < to && spot.left > 0 && on.take(&follower.item, to).is_none() {
+        spot.left -= 1;
+        to = on.before(to);
+    }
+    to
+}
+
+/// Passes over the runs of a lazy repeat that are refused at once, a Step for each, and gives the
+/// first that isn't, or the longest.
+pub(crate) fn pass_more<S: Searchable>(
+    on: &S,
+    at: u32,
+    count: u32,
+    last: u64,
+    spot: &mut Spot,
+    store: &Store,
+    registers: &[Option<Span>],
+) -> Further
+    requires valid { IsValid (S.searched on.now)
+        (conf (Next.More at count last) spot.old (entries store.now.records) registers.now) }
+    ensures { Reaches (S.searched on.now)
+        (conf (Next.More at count last) spot.old (entries store.now.records) registers.now)
+        (conf (Next.More at result.count result.to) spot.new (entries store.now.records)
+        registers.now) }
+{
+    let mut run = Further { count, to: last };
+    if !on.is_off() {
+        return run;
+    }
+    let Some(follower) = after_part(on, at, spot, store, registers) else {
+        return run;
+    };
+    if !has_room(on.unit_limit(), spot, &follower) {
+        return run;
+    }
+    let most = most_of(on, at);
+    'runs: while spot.left > 0
+        && !is_last(most, run.count)
+        && on.take(&follower.item, run.to).is_none()
+    {
+        let Some(to) = take_further(on, at, run.to) else {
+            return run;
+        };
+        spot.left -= 1;
+        run = Further {
+            count: run.count + 1,
+            to,
+        };
+    }
+    run
+}
+
+/// The item that a branch begins with, where it needs one.
+fn leading_item<S: Searchable>(on: &S, part: u32) -> Option<Item>
+    requires off { (S.searched on.now).setting.matching.partial ≡ Off }
+    requires inside { IsPart (S.searched on.now) part }
+    ensures { MatchOption result (Unit {0}) (λ item. BeginsWith (S.searched on.now) part item) }
+{
+    match on.node(part) {
+        Node::Seq(kids) => match kids.as_slice() {
+            [] => None,
+            [first, ..] => first_item(on, *first),
+        },
+        _ => first_item(on, part),
+    }
+}
+
+/// Whether a branch is known to fail at a place.
+fn is_refused<S: Searchable>(on: &S, branch: u32, place: u64) -> bool
+    requires off { (S.searched on.now).setting.matching.partial ≡ Off }
+    requires inside { IsPart (S.searched on.now) branch }
+    requires place { (S.searched on.now).stands place ≡ true }
+    ensures { IsTrue result → FailsAt (S.searched on.now) branch place }
+{
+    let Some(item) = leading_item(on, branch) else {
+        return false;
+    };
+    on.take(&item, place).is_none()
+}
+
+/// Passes over the branches of a part that fail at once, a Step for each, and gives the first that
+/// isn't known to, or the last.
+pub(crate) fn pass_branches<S: Searchable>(
+    on: &S,
+    at: u32,
+    index: u32,
+    spot: &mut Spot,
+    store: &Store,
+    registers: &[Option<Span>],
+) -> u32
+    requires valid { IsValid (S.searched on.now)
+        (conf (Next.Branch at index) spot.old (entries store.now.records) registers.now) }
+    ensures { Reaches (S.searched on.now)
+        (conf (Next.Branch at index) spot.old (entries store.now.records) registers.now)
+        (conf (Next.Branch at result) spot.new (entries store.now.records) registers.now) }
+{
+    if is_behind(on, at) || spot.units >= on.unit_limit() || !on.is_off() {
+        return index;
+    }
+    let branches = branches_of(on, at, index);
+    let mut to = index;
+    'branches: while to as usize + 1 < branches.len()
+        && spot.left > 0
+        && is_refused(on, *branches.get(to as usize), spot.place)
+    {
+        spot.left -= 1;
+        to += 1;
+    }
+    to
+}

@@ -1,0 +1,14 @@
+pub mod Behind
+pub mod Ground
+pub mod Begun
+pub mod Machine
+pub mod Frames
+pub mod Validity
+pub mod Branches
+pub mod Calls
+pub mod Shown
+pub mod Stops
+pub mod Room
+pub mod Over
+pub mod Reach
+pub mod Answer

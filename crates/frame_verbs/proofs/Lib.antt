@@ -1,0 +1,4 @@
+pub mod VerbTurns
+pub mod CatchTurns
+pub mod SkipTurns
+pub mod Leaving

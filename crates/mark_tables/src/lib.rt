@@ -1,0 +1,9 @@
+//! Scripts of pcre2test with their whole output: names of verbs, marks, and SKIP.
+#![tactic(auto)]
+
+#[cfg(test)]
+mod marks;
+#[cfg(test)]
+mod running;
+#[cfg(test)]
+mod skips;

@@ -1,0 +1,41 @@
+//! A text with all matches of a pattern replaced.
+use frame_machine::Scratch;
+use pat_tree::{MatchOptions, Options};
+use pcre2_api::{Code, SubstOptions, Substituted};
+use std::alloc::Global;
+use std::io::Read;
+
+/// Longer texts aren't rewritten.
+const LONGEST: usize = 2_147_483_647;
+
+/// What the reader holds, as one subject, with all matches replaced. None where the pattern or the replacement is refused,
+/// or the text can't be had.
+pub fn rewritten<R: Read + Drop>(
+    alloc: Global,
+    pattern: &str,
+    replacement: &str,
+    mut reader: R,
+) -> Option<Substituted> {
+    let code = Code::compile(alloc, pattern.as_bytes(), Options::PLAIN).ok()?;
+    let mut text = Vec::new(alloc);
+    reader.read_to_end(&mut text).ok()?;
+    if text.len() > LONGEST {
+        return None;
+    }
+    let how = SubstOptions {
+        global: true,
+        ..SubstOptions::PLAIN
+    };
+    let mut scratch = Scratch::new(alloc);
+    let options = MatchOptions::PLAIN;
+    code.substitute(
+        alloc,
+        &text,
+        0,
+        &options,
+        &how,
+        replacement.as_bytes(),
+        &mut scratch,
+    )
+    .ok()
+}

@@ -1,6 +1,0 @@
-use Rattle.std.proofs.Common.{◌≡◌, take, map, filter}
-use Rattle.pat_build.specs.Groups.{has_name}
-use Rattle.pat_build.proofs.names.groups_with.Given as goal
-
-abbrev pub invariant-loop-entry : goal.invariant-loop-entry
-invariant-loop-entry l = l.groups.items ≡ map (λ entry. entry.group) (filter (has_name l.wanted) (take l.entry-index l.names))

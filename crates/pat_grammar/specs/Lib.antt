@@ -1,0 +1,10 @@
+pub mod State
+pub mod Options
+pub mod Classes
+pub mod Callouts
+pub mod Groups
+pub mod Verbs
+pub mod Parts
+pub mod Leads
+pub mod Reading
+pub mod Places

@@ -1,0 +1,5 @@
+pub mod References
+pub mod Extending
+pub mod Conditions
+pub mod Literally
+pub mod Numbering

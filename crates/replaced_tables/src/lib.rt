@@ -1,0 +1,9 @@
+//! Scripts of pcre2test with their whole output: replacement, and UTF.
+#![tactic(auto)]
+
+#[cfg(test)]
+mod replaced;
+#[cfg(test)]
+mod running;
+#[cfg(test)]
+mod utf;

@@ -1,0 +1,4 @@
+pub mod Shown
+pub mod Marks
+pub mod Lines
+pub mod Callouts

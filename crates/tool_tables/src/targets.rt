@@ -1,0 +1,237 @@
+//! What words stand for, over files in memory.
+use dir_walk::{FilterError, FilterOption, NameFilter, Target, TargetList, targets};
+use grep_args::{GrepPlan, read};
+use pat_tree::ByteList;
+use pcre_io::{MemFiles, Memory, Name};
+use std::alloc::{AllocError, Global};
+use std::process::Abort;
+use std::test::Fail;
+
+const FILES: &str = "d/a.c d/b.h d/sub/c.c d/sub-x.c d/.hidden/.c top.c e/f/g h/i";
+
+/// The filter's options and the words of a row, then what the words stand for. Directory `h` is refused.
+const RECURSIVE: &str = "\
+d | File:d/.hidden/.c File:d/a.c File:d/b.h File:d/sub/c.c File:d/sub-x.c
+d/// | File:d/.hidden/.c File:d/a.c File:d/b.h File:d/sub/c.c File:d/sub-x.c
+include=\\.c$ d | File:d/.hidden/.c File:d/a.c File:d/sub/c.c File:d/sub-x.c
+include=\\.h$ include=^a d | File:d/a.c File:d/b.h
+include=sub d | File:d/sub-x.c
+include=^d d |
+exclude=\\.c$ d | File:d/b.h
+exclude=^a include=^[ab] d | File:d/b.h
+exclude-dir=^sub$ d | File:d/.hidden/.c File:d/a.c File:d/b.h File:d/sub-x.c
+exclude-dir=^d$ d |
+exclude-dir=a d | File:d/.hidden/.c File:d/a.c File:d/b.h File:d/sub/c.c File:d/sub-x.c
+include-dir=^d$ d | File:d/a.c File:d/b.h File:d/sub-x.c
+include-dir=^(d|sub)$ d d/sub | File:d/a.c File:d/b.h File:d/sub/c.c File:d/sub-x.c File:d/sub/c.c
+include-dir=. exclude-dir=^\\. d/sub d/.hidden | File:d/sub/c.c
+include-dir=x top.c | File:top.c
+exclude=c top.c d/b.h | File:d/b.h
+top.c nope | File:top.c NoOpen:nope
+- top.c - | Input File:top.c Input
+e e/ | File:e/f/g File:e/f/g
+h | NoOpen:h
+";
+
+const PLAIN: &str = "\
+d top.c | File:d File:top.c
+d/ nope | File:d File:nope
+/ // | File:/ File:/
+- | Input
+include=c top.c d/b.h h | File:top.c
+exclude=c - top.c d/b.h | Input File:d/b.h
+";
+
+fn text(alloc: Global, text: &str) -> Result<ByteList, AllocError> {
+    Ok(ByteList::from_vec(Vec::from_slice(alloc, text.as_bytes())?))
+}
+
+// Gives the plan a pattern for names, where the word is one.
+fn add_filter(alloc: Global, plan: &mut GrepPlan, word: &str) -> Result<bool, Fail> {
+    let Some((option, pattern)) = word.split_once('=') else {
+        return Ok(false);
+    };
+    let pattern = text(alloc, pattern)?;
+    match option {
+        "include" => plan.include.push(pattern)?,
+        "exclude" => plan.exclude.push(pattern)?,
+        "include-dir" => plan.include_dir.push(pattern)?,
+        "exclude-dir" => plan.exclude_dir.push(pattern)?,
+        _ => return Ok(false),
+    }
+    Ok(true)
+}
+
+fn plan_of(alloc: Global) -> Result<GrepPlan, Fail> {
+    let mut words = Vec::new(alloc);
+    words.push(String::from_str(alloc, "x")?)?;
+    match read(alloc, words.as_slice()) {
+        Ok(plan) => Ok(plan),
+        Err(_) => Err(Fail::from(AllocError)),
+    }
+}
+
+fn files_of(alloc: Global) -> Result<MemFiles, Fail> {
+    let mut files = MemFiles::new(alloc);
+    for name in FILES.split(' ') {
+        files.add(String::from_str(alloc, name)?, Vec::new(alloc), None)?;
+    }
+    files.refuse(String::from_str(alloc, "h")?)?;
+    Ok(files)
+}
+
+fn push_target(shown: &mut String, kind: &str, name: &Name) -> Result<(), AllocError> {
+    shown.push_str(kind)?;
+    shown.push(':')?;
+    shown.push_str(name.as_str())
+}
+
+fn shown(alloc: Global, list: &TargetList) -> Result<String, AllocError> {
+    let mut shown = String::new(alloc);
+    for target in list.as_slice() {
+        if !shown.is_empty() {
+            shown.push(' ')?;
+        }
+        match target {
+            Target::Input => shown.push_str("Input")?,
+            Target::File(name) => push_target(&mut shown, "File", name)?,
+            Target::NoOpen(name) => push_target(&mut shown, "NoOpen", name)?,
+            Target::NoList(name) => push_target(&mut shown, "NoList", name)?,
+            Target::TooDeep(name) => push_target(&mut shown, "TooDeep", name)?,
+            Target::Unnamed(name) => push_target(&mut shown, "Unnamed", name)?,
+        }
+    }
+    Ok(shown)
+}
+
+fn filter_of(alloc: Global, plan: &GrepPlan) -> Result<NameFilter, Fail> {
+    match NameFilter::build(alloc, plan) {
+        Ok(filter) => Ok(filter),
+        Err(_) => Err(Fail::from(AllocError)),
+    }
+}
+
+// What the words of a row stand for.
+fn answer(alloc: Global, row: &str, recursive: bool) -> Result<String, Fail> {
+    let mut plan = plan_of(alloc)?;
+    let mut words = Vec::new(alloc);
+    for word in row.split(' ') {
+        if !add_filter(alloc, &mut plan, word)? {
+            words.push(String::from_str(alloc, word)?)?;
+        }
+    }
+    let filter = filter_of(alloc, &plan)?;
+    let mut files = files_of(alloc)?;
+    let list = targets(alloc, &filter, words.as_slice(), recursive, &mut files)?;
+    Ok(shown(alloc, &list)?)
+}
+
+fn check(rt: &impl Abort, alloc: Global, rows: &str, recursive: bool) -> Result<(), Fail> {
+    for row in rows.lines() {
+        let Some((words, wanted)) = row.split_once(" |") else {
+            continue;
+        };
+        let shown = answer(alloc, words, recursive)?;
+        assert_eq!(rt; shown.as_str(), wanted.trim_start(), "of {words}");
+    }
+    Ok(())
+}
+
+#[test]
+fn words_stand_for_files(rt: HostRuntime) -> Result<(), Fail> {
+    check(&rt, rt.alloc(), PLAIN, false)
+}
+
+#[test]
+fn directories_are_gone_through(rt: HostRuntime) -> Result<(), Fail> {
+    check(&rt, rt.alloc(), RECURSIVE, true)
+}
+
+// A directory `d` under so many others of this name.
+fn nested(alloc: Global, levels: u32, last: &str) -> Result<String, AllocError> {
+    let mut path = String::from_str(alloc, "d")?;
+    for _ in 0..levels {
+        path.push_str("/d")?;
+    }
+    path.push_str(last)?;
+    Ok(path)
+}
+
+// What the word `d` stands for, where a file lies so many levels below it, and a directory is refused.
+fn below(alloc: Global, levels: u32, refused: &str) -> Result<TargetList, Fail> {
+    let filter = filter_of(alloc, &plan_of(alloc)?)?;
+    let mut files = MemFiles::new(alloc);
+    files.add(nested(alloc, levels, "/f")?, Vec::new(alloc), None)?;
+    files.refuse(String::from_str(alloc, refused)?)?;
+    let mut words = Vec::new(alloc);
+    words.push(String::from_str(alloc, "d")?)?;
+    Ok(targets(alloc, &filter, words.as_slice(), true, &mut files)?)
+}
+
+#[test]
+fn directories_that_cannot_be_listed_are_told(rt: HostRuntime) -> Result<(), Fail> {
+    let alloc = rt.alloc();
+    let rows: [(u32, &str, &str, u32, &str); 4] = [
+        (64, "", "File:", 64, "/f"),
+        (65, "", "TooDeep:", 65, ""),
+        (70, "", "TooDeep:", 65, ""),
+        (70, "d/d/d", "NoList:", 2, ""),
+    ];
+    for (levels, refused, kind, depth, last) in rows {
+        let list = below(alloc, levels, refused)?;
+        let mut wanted = String::from_str(alloc, kind)?;
+        wanted.push_str(nested(alloc, depth, last)?.as_str())?;
+        assert_eq!(&rt; shown(alloc, &list)?.as_str(), wanted.as_str());
+    }
+    Ok(())
+}
+
+#[test]
+fn the_input_is_scanned_without_words(rt: HostRuntime) -> Result<(), Fail> {
+    let alloc = rt.alloc();
+    let filter = filter_of(alloc, &plan_of(alloc)?)?;
+    for recursive in [false, true] {
+        let list = targets(alloc, &filter, &[], recursive, &mut MemFiles::new(alloc))?;
+        assert_eq!(&rt; shown(alloc, &list)?.as_str(), "Input");
+    }
+    Ok(())
+}
+
+// The refusal of a filter with these patterns.
+fn refusal(alloc: Global, row: &str) -> Result<Option<FilterError>, Fail> {
+    let mut plan = plan_of(alloc)?;
+    for word in row.split(' ') {
+        add_filter(alloc, &mut plan, word)?;
+    }
+    Ok(NameFilter::build(alloc, &plan).err())
+}
+
+#[test]
+fn the_first_bad_pattern_is_told(rt: HostRuntime) -> Result<(), Fail> {
+    let alloc = rt.alloc();
+    let rows = [
+        ("include=a exclude=b", None),
+        (
+            "exclude-dir=( exclude=a exclude=x( include=y",
+            Some((FilterOption::Exclude, 2, 114, 2)),
+        ),
+        (
+            "include-dir=a include-dir=[ exclude-dir=(",
+            Some((FilterOption::IncludeDir, 2, 106, 1)),
+        ),
+        (
+            "include=( include=)",
+            Some((FilterOption::Include, 1, 114, 1)),
+        ),
+    ];
+    for (row, wanted) in rows {
+        let wanted = wanted.map(|(option, index, number, at)| FilterError::Bad {
+            option,
+            index,
+            number,
+            at,
+        });
+        assert_eq!(&rt; refusal(alloc, row)?, wanted, "of {row}");
+    }
+    Ok(())
+}
