@@ -31,7 +31,7 @@ use Rattle.dfa_ends.specs.Ends.{spot, Among}
 use Rattle.dfa_ends.specs.EndList.{end_places}
 use Rattle.dfa_ends.specs.DfaAnswer.{admitted, last_of, ends_from, reach_test}
 use Rattle.dfa_ends.proofs.ReachLaw.{reach_law}
-use Rattle.dfa_graph.specs.Fragment.{GraphParts, IsGraphOf, AreEnds, IsHit}
+use Rattle.dfa_paths.specs.Fragment.{GraphParts, IsGraphOf, AreEnds, IsHit}
 use Rattle.dfa_drive.specs.Admitted.{admits, kept_if, admitted_down}
 use Rattle.dfa_drive.specs.Answer.{AreWithin}
 use Rattle.dfa_drive.proofs.Downward.{ends_down, down_within, last_within}

@@ -44,10 +44,10 @@ use Rattle.pat_check.specs.Size.{size, whole_size}
 use Rattle.pat_check.specs.Support.{dfa_support}
 use Rattle.pat_check.specs.declared.support.DfaSupport.{DfaSupport}
 use Rattle.pat_check.specs.declared.support.DfaSupport.TheVariants as support
-use Rattle.dfa_graph.specs.declared.graph.Node.{Node}
+use Rattle.dfa_paths.specs.declared.graph.Node.{Node}
 use Rattle.dfa_graph.specs.declared.making.GraphError.{GraphError}
 use Rattle.dfa_graph.specs.declared.making.GraphError.TheVariants.{Item, Cond, TooLarge}
-use Rattle.dfa_graph.specs.Fragment.{
+use Rattle.dfa_paths.specs.Fragment.{
   Part,
   Copies,
   Options,
@@ -64,7 +64,7 @@ use Rattle.dfa_graph.specs.Fragment.{
   AreStatesOf,
   most_nested,
 }
-use Rattle.dfa_graph.specs.Plain.{is_never}
+use Rattle.dfa_paths.specs.Plain.{is_never}
 use Rattle.dfa_graph.specs.Served.{
   is_fail,
   has_fragment,

@@ -31,17 +31,17 @@ use Rattle.pat_tree.specs.Nested.{
   cond_of,
   other_of,
 }
-use Rattle.dfa_graph.specs.declared.graph.Node.{Node}
-use Rattle.dfa_graph.specs.declared.graph.Node.TheVariants.{Split, Dead, Match}
+use Rattle.dfa_paths.specs.declared.graph.Node.{Node}
+use Rattle.dfa_paths.specs.declared.graph.Node.TheVariants.{Split, Dead, Match}
 use Rattle.dfa_graph.specs.declared.build.Work.{Work}
 use Rattle.dfa_graph.specs.declared.build.Work.TheVariants as work
 use Rattle.dfa_graph.specs.declared.build.Work.TheVariants.{All, Any, Turn, Ask, Behind}
 use Rattle.dfa_graph.specs.declared.build.Task.{Task}
 use Rattle.dfa_graph.specs.declared.build.Step.{Step}
 use Rattle.dfa_graph.specs.declared.build.Step.TheVariants as step
-use Rattle.dfa_graph.specs.Graph.{nests, IsFlat}
-use Rattle.dfa_graph.specs.Plain.{is_never, is_plain, all_plain, test_plain, other_plain}
-use Rattle.dfa_graph.specs.Fragment.{most_nested}
+use Rattle.dfa_paths.specs.Graph.{nests, IsFlat}
+use Rattle.dfa_paths.specs.Plain.{is_never, is_plain, all_plain, test_plain, other_plain}
+use Rattle.dfa_paths.specs.Fragment.{most_nested}
 use Rattle.dfa_graph.specs.Building.{
   part_of,
   IsRange,

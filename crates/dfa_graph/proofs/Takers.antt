@@ -60,17 +60,17 @@ use Rattle.pat_tree.specs.Nested.{
 }
 use Rattle.pat_tree.specs.Rules.{is_test}
 use Rattle.pat_check.specs.Size.{copies, whole_size, size_of_all, size_of_test, size_of_other}
-use Rattle.dfa_graph.specs.declared.graph.Node.{Node}
-use Rattle.dfa_graph.specs.declared.graph.Node.TheVariants.{Split, Goto, Look, Atomic, Dead, Match}
+use Rattle.dfa_paths.specs.declared.graph.Node.{Node}
+use Rattle.dfa_paths.specs.declared.graph.Node.TheVariants.{Split, Goto, Look, Atomic, Dead, Match}
 use Rattle.dfa_graph.specs.declared.build.Work.{Work}
 use Rattle.dfa_graph.specs.declared.build.Work.TheVariants as work
 use Rattle.dfa_graph.specs.declared.build.Work.TheVariants.{All, Any, Turn, Ask, Behind}
 use Rattle.dfa_graph.specs.declared.build.Task.{Task}
 use Rattle.dfa_graph.specs.declared.build.Step.{Step}
 use Rattle.dfa_graph.specs.declared.build.Step.TheVariants as step
-use Rattle.dfa_graph.specs.Graph.{takes, count_if, takers}
+use Rattle.dfa_paths.specs.Graph.{takes, count_if, takers}
 use Rattle.dfa_graph.specs.Building.{part_of, IsRange, ids_of, part_step, second_step, cond_step, ask_step, ask_second, nested_step, look_node, verb_step, all_step, any_step, turn_step, turns_step, behind_step, so_at, else_at, node_of, step_of, task_in, states_after, tasks_after, tree_of, row_from, IsPart}
-use Rattle.dfa_graph.specs.Fragment.{most_nested}
+use Rattle.dfa_paths.specs.Fragment.{most_nested}
 use Rattle.dfa_graph.proofs.Steps.{IsWork}
 use Rattle.dfa_graph.proofs.Costs.{rest_of, first_of}
 

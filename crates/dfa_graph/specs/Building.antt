@@ -50,8 +50,8 @@ use Rattle.pat_tree.specs.Nested.{
 }
 use Rattle.pat_tree.specs.declared.nodes.Cond.{Cond}
 use Rattle.pat_tree.specs.declared.nodes.Cond.TheVariants as cond
-use Rattle.dfa_graph.specs.declared.graph.Node.{Node}
-use Rattle.dfa_graph.specs.declared.graph.Node.TheVariants.{
+use Rattle.dfa_paths.specs.declared.graph.Node.{Node}
+use Rattle.dfa_paths.specs.declared.graph.Node.TheVariants.{
   One,
   Break,
   Anchor,
@@ -81,8 +81,8 @@ use Rattle.dfa_graph.specs.declared.build.Step.TheVariants.{
   Decide,
   Reach,
 }
-use Rattle.dfa_graph.specs.Fragment as fragment
-use Rattle.dfa_graph.specs.Fragment.{
+use Rattle.dfa_paths.specs.Fragment as fragment
+use Rattle.dfa_paths.specs.Fragment.{
   Part,
   IsNode,
   Placed,

@@ -23,8 +23,8 @@ use Rattle.pat_check.specs.Size.{size}
 use Rattle.pat_check.specs.Support.{dfa_support}
 use Rattle.pat_check.specs.declared.support.DfaSupport.{DfaSupport}
 use Rattle.pat_check.specs.declared.support.DfaSupport.TheVariants as support
-use Rattle.dfa_graph.specs.Plain.{is_never}
-use Rattle.dfa_graph.specs.Fragment.{most_nested}
+use Rattle.dfa_paths.specs.Plain.{is_never}
+use Rattle.dfa_paths.specs.Fragment.{most_nested}
 use Rattle.dfa_graph.specs.declared.making.GraphError.{GraphError}
 use Rattle.dfa_graph.specs.declared.making.GraphError.TheVariants.{Item, Cond, TooLarge, Memory}
 

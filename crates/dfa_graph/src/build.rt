@@ -3,17 +3,17 @@
 ghost use Rattle.std.specs.Prelude.{◌≡◌, List, true, None, IfSome, ◌+◌, ◌-◌, ◌<◌, ◌≤◌, ◌==◌, ◌++◌, ◌∷◌, [], All, IfOk, length, option_map, slice_get};
 ghost use Rattle.pat_tree.specs.declared.nodes.Placed.{Placed};
 ghost use Rattle.dfa_graph.specs.Building.{part_of, ids_of, IsRange, IsTurnRange, part_step, all_step, any_step, turn_step, turns_step, behind_step, so_at, else_at, step_of, node_of, IsPart, tree_of, cond_step, ask_step, nested_step, verb_step, is_refused, states_after, look_node, task_in, tasks_after};
-ghost use Rattle.dfa_graph.specs.declared.graph.Node.TheVariants.{Dead};
+ghost use Rattle.dfa_paths.specs.declared.graph.Node.TheVariants.{Dead};
 ghost use Rattle.dfa_graph.specs.declared.build.Step.TheVariants.{Choose, Seek, Decide};
 ghost use Rattle.dfa_graph.specs.declared.build.Work.TheVariants as work;
 ghost use Rattle.pat_lengths.specs.Backs.{AreBacks, first_fault};
 ghost use Rattle.pat_check.specs.Support.{dfa_support};
 ghost use Rattle.pat_check.specs.declared.support.DfaSupport.TheVariants.{Yes};
-ghost use Rattle.dfa_graph.specs.Fragment.{AreStatesOf};
+ghost use Rattle.dfa_paths.specs.Fragment.{AreStatesOf};
 ghost use Rattle.dfa_graph.specs.Served.{has_graph};
 ghost use Rattle.pat_check.specs.Size.{whole_size};
 
-use crate::graph::Node;
+use dfa_paths::Node;
 use pat_lengths::Backs;
 use pat_tree::{Cond, Memory, Node as Part, NodeId, Tree, Verb};
 use std::alloc::Global;

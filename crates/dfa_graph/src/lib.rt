@@ -2,11 +2,7 @@
 #![tactic(auto)]
 
 mod build;
-mod graph;
-mod laws;
 mod making;
 
 pub use build::MOST_NESTED;
-pub use graph::Node;
-pub use laws::{fragments_mean, paths_end};
 pub use making::{Graph, GraphError};

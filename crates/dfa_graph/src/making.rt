@@ -1,6 +1,6 @@
 //! The graph of a tree.
 ghost use Rattle.std.specs.Prelude.{◌≡◌, true, ◌||◌, None, IfOk, IfErr, length};
-ghost use Rattle.dfa_graph.specs.Fragment.{IsGraphOf};
+ghost use Rattle.dfa_paths.specs.Fragment.{IsGraphOf};
 ghost use Rattle.dfa_graph.specs.Building.{tree_of};
 ghost use Rattle.dfa_graph.specs.Served.{refusal, IsRefused};
 ghost use Rattle.pat_lengths.specs.Backs.{AreBacks, first_fault};
@@ -10,7 +10,7 @@ ghost use Rattle.pat_check.specs.Size.{size};
 ghost use Rattle.pat_check.specs.Support.{dfa_support};
 
 use crate::build::place_tree;
-use crate::graph::Node;
+use dfa_paths::Node;
 use pat_check::{DfaSupport, Facts};
 use pat_tree::{Memory, Tree};
 use std::alloc::Global;
@@ -26,7 +26,7 @@ pub struct Graph {
 }
 
 impl Model for Graph {
-    ghost use Rattle.dfa_graph.specs.Fragment.{GraphParts};
+    ghost use Rattle.dfa_paths.specs.Fragment.{GraphParts};
 
     ghost Value = { GraphParts };
 

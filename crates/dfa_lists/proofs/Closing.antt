@@ -36,8 +36,8 @@ use Rattle.std.proofs.lemmas.List.{length-replicate}
 use Rattle.match_items.specs.Scene.{Scene}
 use Rattle.match_items.specs.Items.{holds}
 use Rattle.dfa_ends.specs.Ends.{Among}
-use Rattle.dfa_graph.specs.declared.graph.Node.{Node}
-use Rattle.dfa_graph.specs.declared.graph.Node.TheVariants.{
+use Rattle.dfa_paths.specs.declared.graph.Node.{Node}
+use Rattle.dfa_paths.specs.declared.graph.Node.TheVariants.{
   One,
   Break,
   Anchor,
@@ -49,7 +49,7 @@ use Rattle.dfa_graph.specs.declared.graph.Node.TheVariants.{
   Match,
 }
 use Rattle.dfa_lists.specs.declared.lists.Seed.{Seed}
-use Rattle.dfa_graph.specs.Graph.{
+use Rattle.dfa_paths.specs.Graph.{
   takes,
   is_match,
   moves,
@@ -75,7 +75,7 @@ use Rattle.dfa_lists.specs.Lists.{
   kept,
 }
 use Rattle.dfa_lists.proofs.Landing.{waits_first, waits_second, waits_append}
-use Rattle.dfa_graph.proofs.Places.{among_first, among_second, among_append, among_one, among_last, among_push, or_left, or_right, or_cases}
+use Rattle.dfa_paths.proofs.Places.{among_first, among_second, among_append, among_one, among_last, among_push, or_left, or_right, or_cases}
 use Rattle.dfa_lists.proofs.Kept.{kept_old, kept_new, kept_cases}
 
 unfoldable pub Marked : List Bool → ℕ → Type 0

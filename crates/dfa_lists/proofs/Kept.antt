@@ -3,7 +3,7 @@ use Rattle.std.proofs.Common.{◌≡◌, ℕ, Bool, true, false, List, [], ◌�
 use Rattle.std.proofs.lemmas.Bool.{false≢true}
 use Rattle.dfa_ends.specs.Ends.{Among}
 use Rattle.dfa_lists.specs.Lists.{kept}
-use Rattle.dfa_graph.proofs.Places.{among_first, among_last, among_push}
+use Rattle.dfa_paths.proofs.Places.{among_first, among_last, among_push}
 
 pub kept_old : (b : Bool) (q : ℕ) (qs : List ℕ) (p : ℕ) → Among p qs → Among p (kept b q qs)
 kept_old true q qs p h = among_first qs (q ∷ []) p h

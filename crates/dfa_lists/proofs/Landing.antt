@@ -33,11 +33,11 @@ use Rattle.std.proofs.Common.{
 use Rattle.std.specs.Prelude.{◌==◌, slice_get, slice_index_or}
 use Rattle.match_items.specs.Scene.{Scene}
 use Rattle.dfa_ends.specs.Ends.{Among}
-use Rattle.dfa_graph.specs.declared.graph.Node.{Node}
+use Rattle.dfa_paths.specs.declared.graph.Node.{Node}
 use Rattle.dfa_lists.specs.declared.lists.Seed.{Seed}
-use Rattle.dfa_graph.specs.Graph.{lands, target, AllBelow}
+use Rattle.dfa_paths.specs.Graph.{lands, target, AllBelow}
 use Rattle.dfa_lists.specs.Lists.{waiting_at, elsewhere, Waits, with_landing, node_at, landed}
-use Rattle.dfa_graph.proofs.Places.{read_is, read_same, get_of}
+use Rattle.dfa_paths.proofs.Places.{read_is, read_same, get_of}
 
 -- one leaf more
 landed_suc : (g : Scene) (nodes : List Node) (i : ℕ) (qs : List ℕ) (k d : ℕ) (ss : List Seed) →

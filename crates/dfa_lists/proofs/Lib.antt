@@ -1,5 +1,7 @@
 pub mod Kept
 pub mod Closing
 pub mod Landing
+pub mod Following
 pub mod Running
+pub mod Visits
 pub mod Telling

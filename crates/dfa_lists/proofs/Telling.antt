@@ -39,8 +39,8 @@ use Rattle.match_items.specs.Items.{places_back}
 use Rattle.match_items.specs.Views.{bare_text, text_scene}
 use Rattle.match_items.specs.Laws.{Stands, StandsAlong}
 use Rattle.dfa_ends.specs.Ends.{Among}
-use Rattle.dfa_graph.specs.declared.graph.Node.{Node}
-use Rattle.dfa_graph.specs.declared.graph.Node.TheVariants.{
+use Rattle.dfa_paths.specs.declared.graph.Node.{Node}
+use Rattle.dfa_paths.specs.declared.graph.Node.TheVariants.{
   One,
   Break,
   Anchor,
@@ -53,8 +53,8 @@ use Rattle.dfa_graph.specs.declared.graph.Node.TheVariants.{
 }
 use Rattle.dfa_lists.specs.declared.lists.Seed.{Seed}
 use Rattle.dfa_lists.specs.declared.lists.Branch.{Branch}
-use Rattle.dfa_graph.specs.Graph.{nests, lands, target, Inner, Furthest, IsEndBehind, Follows, Leaps, Comes, here, on, IsGraph, IsFlat}
-use Rattle.dfa_graph.specs.Meets.{
+use Rattle.dfa_paths.specs.Graph.{nests, lands, target, Inner, Furthest, IsEndBehind, Follows, Leaps, Comes, here, on, IsGraph, IsFlat}
+use Rattle.dfa_paths.specs.Meets.{
   tells,
   Meeting,
   MeetsBehind,
@@ -81,8 +81,8 @@ use Rattle.dfa_lists.specs.Lists.{
   elsewhere,
   Waits,
 }
-use Rattle.dfa_graph.proofs.Probes.{at_branch, no_branch}
-use Rattle.dfa_graph.proofs.Places.{among_last}
+use Rattle.dfa_paths.proofs.Probes.{at_branch, no_branch}
+use Rattle.dfa_paths.proofs.Places.{among_last}
 use Rattle.dfa_lists.proofs.Landing.{
   landed_old,
   landed_new,
@@ -100,16 +100,9 @@ use Rattle.dfa_lists.proofs.Closing.{
   all_false,
   comes_marked,
 }
-use Rattle.dfa_lists.proofs.Running.{
-  Running,
-  EndsStand,
-  lands_takes,
-  at_or_past,
-  causes_of,
-  goes_on,
-  places_same,
-  begins_by,
-}
+use Rattle.dfa_lists.proofs.Running.{Running, causes_of, goes_on}
+use Rattle.dfa_lists.proofs.Following.{EndsStand, lands_takes, at_or_past}
+use Rattle.dfa_lists.proofs.Visits.{places_same, begins_by}
 
 -- A flag.
 

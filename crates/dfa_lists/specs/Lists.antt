@@ -30,11 +30,11 @@ use Rattle.std.specs.Prelude.{
 }
 use Rattle.match_items.specs.Scene.{Scene}
 use Rattle.dfa_ends.specs.Ends.{Among}
-use Rattle.dfa_graph.specs.declared.graph.Node.{Node}
-use Rattle.dfa_graph.specs.declared.graph.Node.TheVariants.{Look, Dead}
+use Rattle.dfa_paths.specs.declared.graph.Node.{Node}
+use Rattle.dfa_paths.specs.declared.graph.Node.TheVariants.{Look, Dead}
 use Rattle.dfa_lists.specs.declared.lists.Seed.{Seed}
 use Rattle.dfa_lists.specs.declared.lists.Branch.{Branch}
-use Rattle.dfa_graph.specs.Graph.{
+use Rattle.dfa_paths.specs.Graph.{
   Inner,
   Follows,
   Leaps,

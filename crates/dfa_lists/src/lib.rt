@@ -5,6 +5,7 @@ mod lists;
 mod matching;
 mod reaching;
 
-pub use dfa_graph::{Graph, GraphError, Node, fragments_mean, paths_end};
+pub use dfa_graph::{Graph, GraphError};
+pub use dfa_paths::{Node, fragments_mean, paths_end};
 pub use lists::{EndList, EndSet, Lists};
 pub use matching::ends;

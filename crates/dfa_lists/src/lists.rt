@@ -4,14 +4,14 @@ ghost use Rattle.std.specs.Prelude.{◌≡◌, ℕ, suc, ◌+◌, ◌*◌, ◌<�
 ghost use Rattle.match_items.specs.Subjects.{IsText, IsTextPlace};
 ghost use Rattle.match_items.specs.Views.{bare_text, text_scene};
 ghost use Rattle.dfa_ends.specs.Ends.{Among};
-ghost use Rattle.dfa_graph.specs.Graph.{takes, is_match, nests, moves, lands, target, takers, Deep, AllBelow, IsNodeIn, IsGraph, IsFlat, IsFurthest, IsEndBehind};
-ghost use Rattle.dfa_graph.specs.Meets.{tells, Probes, Asks, Telling, DeepMeets, MeetsBehind, SomeTells, IsTold};
-ghost use Rattle.dfa_graph.specs.Fragment.{Rising};
+ghost use Rattle.dfa_paths.specs.Graph.{takes, is_match, nests, moves, lands, target, takers, Deep, AllBelow, IsNodeIn, IsGraph, IsFlat, IsFurthest, IsEndBehind};
+ghost use Rattle.dfa_paths.specs.Meets.{tells, Probes, Asks, Telling, DeepMeets, MeetsBehind, SomeTells, IsTold};
+ghost use Rattle.dfa_paths.specs.Fragment.{Rising};
 ghost use Rattle.dfa_lists.specs.Lists.{IsClosed, IsTakenAt, IsVisited, way_of, gone_here, gone_later, kept, waiting_at, elsewhere, landed, stops_from, branch_in};
 
 use crate::reaching::{break_reaches, item_reaches, looks_back, tell};
 use char_sets::ClassTable;
-use dfa_graph::Node;
+use dfa_paths::Node;
 use match_items::{Taken, View, places_stand, step, text_anchor, text_back, text_break_step};
 use pat_tree::{ListOf, Memory, Steps};
 use std::alloc::Global;

@@ -4,8 +4,8 @@ ghost use Rattle.pat_tree.specs.Nested.{Nested};
 ghost use Rattle.match_items.specs.Subjects.{IsText, IsTextPlace};
 ghost use Rattle.match_items.specs.Views.{text_scene};
 ghost use Rattle.dfa_ends.specs.Ends.{Among};
-ghost use Rattle.dfa_graph.specs.Fragment.{IsGraphOf, AreEnds, IsHit};
-ghost use Rattle.dfa_graph.specs.Plain.{is_plain};
+ghost use Rattle.dfa_paths.specs.Fragment.{IsGraphOf, AreEnds, IsHit};
+ghost use Rattle.dfa_paths.specs.Plain.{is_plain};
 ghost use Rattle.dfa_lists.specs.Lists.{stops_from};
 ghost use Rattle.pat_check.specs.Size.{whole_size};
 

@@ -4,7 +4,7 @@ ghost use Rattle.std.specs.Prelude.{◌≡◌, ◌&&◌, ◌||◌};
 ghost use Rattle.match_items.specs.Subjects.{IsTextPlace};
 ghost use Rattle.match_items.specs.Items as items;
 ghost use Rattle.match_items.specs.Views.{bare_text};
-ghost use Rattle.dfa_graph.specs.Meets as meets;
+ghost use Rattle.dfa_paths.specs.Meets as meets;
 
 use match_items::View;
 use pat_tree::{AnchorKind, Item, Newline};

@@ -18,7 +18,7 @@ use Rattle.frame_state.specs.Validity.{SpanStands, IsValid}
 use Rattle.frame_state.proofs.KidParts.{root_part}
 use Rattle.frame_state.proofs.PartPaths.{after_nil}
 use Rattle.frame_state.proofs.Frames.{cont_whole, caught_whole, hand_frame}
-use Rattle.ordered_search.proofs.Before.{tread_whole}
+use Rattle.search_paths.proofs.Before.{tread_whole}
 
 module _ (c : Ground) (ok : IsGround c) (place : ℕ) where
   abbrev start_spot : Spot

@@ -1,21 +1,19 @@
 //! Where ACCEPT has ended a frame or the pattern (pcre2pattern, "Verbs that act immediately").
-ghost use Rattle.std.specs.Prelude.{◌≡◌, ◌≤◌, ◌+◌, max, length, IfOk, IfErr, Some, reverse, slice_get, ◌⊎◌};
+ghost use Rattle.std.specs.Prelude.{◌≡◌, ◌≤◌, ◌+◌, length, IfErr, Some, reverse, slice_get, ◌⊎◌};
 ghost use Rattle.frame_store.specs.Stack.{room};
-ghost use Rattle.frame_state.specs.Room.{IsShort, IsSteady};
-ghost use Rattle.frame_store.specs.Entry.{entries};
-ghost use Rattle.frame_state.specs.Machine.{conf};
-ghost use Rattle.frame_state.specs.Frames.{ahead};
-ghost use Rattle.frame_state.specs.Validity.{IsValid, Advances};
-ghost use Rattle.frame_state.specs.Stops.{IsStop, tells};
+ghost use Rattle.frame_state.specs.Room.{IsSteady};
+ghost use Rattle.frame_state.specs.Steps.{over, StepsOn, StopsThere, KeepsPeak, IsShortAt};
+ghost use Rattle.frame_state.specs.Validity.{IsValid};
 
-use crate::ends::{finish, is_refused_as_empty, is_refused_by_end, number_of, undo_record};
+use crate::captures::close_frame;
+use crate::ends::{finish, is_refused_as_empty, is_refused_by_end, number_of};
 use frame_state::framing::leave;
-use frame_state::machine::{Next, Spot, Stop, hold};
+use frame_state::machine::{Next, Spot, Stop};
 use frame_state::searchable::Searchable;
 use frame_store::kinds::{
     KIND_ATOMIC_OPEN, KIND_CALLED_GROUP, KIND_GROUP_OPEN, KIND_TURN_OPEN, KIND_TURN_OR_EXIT,
 };
-use frame_store::{Record, Span, Store, captured, set_captured};
+use frame_store::{Record, Span, Store};
 
 /// Ends the pattern. Where the outcome is refused for its end alone, its start place has failed.
 fn accept_pattern<S: Searchable>(
@@ -25,17 +23,12 @@ fn accept_pattern<S: Searchable>(
     registers: &[Option<Span>],
 ) -> Result<Next, Stop>
     requires valid { IsValid (S.searched on.now)
-        (conf Next.Accept spot.now (entries store.now.records) registers.now) }
+        (over Next.Accept spot.now store.now registers.now) }
     requires whole { spot.now.frame ≡ 0 }
-    ensures on { IfOk result
-        (λ next. Advances (S.searched on.now)
-        (conf Next.Accept spot.now (entries store.now.records) registers.now)
-        (conf next spot.now (entries store.now.records) registers.now)) }
-    ensures stop { IfErr result
-        (λ stop. IsStop stop spot.now registers.now
-        (tells (S.searched on.now).setting spot.now
-        (ahead (S.searched on.now)
-        (conf Next.Accept spot.now (entries store.now.records) registers.now)))) }
+    ensures on { StepsOn (S.searched on.now) (over Next.Accept spot.now store.now registers.now)
+        spot.now store.now registers.now result }
+    ensures stop { StopsThere (S.searched on.now)
+        (over Next.Accept spot.now store.now registers.now) spot.now registers.now result }
     ensures steady { IfErr result IsSteady }
 {
     if is_refused_as_empty(on, spot.keep, spot.place) {
@@ -57,40 +50,22 @@ fn accept_group<S: Searchable>(
     registers: &mut [Option<Span>],
 ) -> Result<Next, Stop>
     requires valid { IsValid (S.searched on.now)
-        (conf Next.Accept spot.old (entries store.old.records) registers.old) }
+        (over Next.Accept spot.old store.old registers.old) }
     requires frame { spot.old.frame ≡ height + 1 }
     requires at { slice_get (reverse store.old.records) height ≡ Some frame.now }
     requires kind { (frame.now.kind ≡ KIND_GROUP_OPEN) ⊎ (frame.now.kind ≡ KIND_CALLED_GROUP) }
-    ensures on { IfOk result
-        (λ next. Advances (S.searched on.now)
-        (conf Next.Accept spot.old (entries store.old.records) registers.old)
-        (conf next spot.new (entries store.new.records) registers.new)) }
-    ensures stop { IfErr result
-        (λ stop. IsStop stop spot.new registers.new
-        (tells (S.searched on.now).setting spot.old
-        (ahead (S.searched on.now)
-        (conf Next.Accept spot.old (entries store.old.records) registers.old)))) }
-    ensures peak { store.new.peak
-        ≤ max store.old.peak (S.searched on.now).setting.matching.frame_limit }
+    ensures on { StepsOn (S.searched on.now) (over Next.Accept spot.old store.old registers.old)
+        spot.new store.new registers.new result }
+    ensures stop { StopsThere (S.searched on.now)
+        (over Next.Accept spot.old store.old registers.old) spot.new registers.new result }
+    ensures peak { KeepsPeak (S.searched on.now) store.old store.new }
     ensures no_less { room store.old ≤ room store.new }
-    ensures short { IfErr result (λ stop.
-        IsShort stop (S.searched on.now).setting.matching.frame_limit store.new) }
+    ensures short { IsShortAt (S.searched on.now) store.new result }
 {
     let number = number_of(on, frame.node);
-    let old = captured(registers, u32::from(number));
-    let undo = undo_record(spot, frame.link, frame.node, number, old);
-    if let Err(stop) = hold(on.unit_limit(), undo, spot, store) {
+    if let Err(stop) = close_frame(on.unit_limit(), frame, number, spot, store, registers) {
         return Err(stop);
     }
-    set_captured(
-        registers,
-        u32::from(number),
-        Some(Span {
-            from: frame.place,
-            to: spot.place,
-        }),
-    );
-    spot.frame = frame.link;
     Ok(Next::Accept)
 }
 
@@ -104,19 +79,14 @@ fn accept_turn<S: Searchable>(
     registers: &[Option<Span>],
 ) -> Result<Next, Stop>
     requires valid { IsValid (S.searched on.now)
-        (conf Next.Accept spot.old (entries store.now.records) registers.now) }
+        (over Next.Accept spot.old store.now registers.now) }
     requires frame { spot.old.frame ≡ height + 1 }
     requires at { slice_get (reverse store.now.records) height ≡ Some frame.now }
     requires kind { (frame.now.kind ≡ KIND_TURN_OPEN) ⊎ (frame.now.kind ≡ KIND_TURN_OR_EXIT) }
-    ensures on { IfOk result
-        (λ next. Advances (S.searched on.now)
-        (conf Next.Accept spot.old (entries store.now.records) registers.now)
-        (conf next spot.new (entries store.now.records) registers.now)) }
-    ensures stop { IfErr result
-        (λ stop. IsStop stop spot.new registers.now
-        (tells (S.searched on.now).setting spot.old
-        (ahead (S.searched on.now)
-        (conf Next.Accept spot.old (entries store.now.records) registers.now)))) }
+    ensures on { StepsOn (S.searched on.now) (over Next.Accept spot.old store.now registers.now)
+        spot.new store.now registers.now result }
+    ensures stop { StopsThere (S.searched on.now)
+        (over Next.Accept spot.old store.now registers.now) spot.new registers.now result }
     ensures steady { IfErr result IsSteady }
 {
     spot.frame = frame.link;
@@ -133,24 +103,17 @@ fn accept_atomic<S: Searchable>(
     registers: &[Option<Span>],
 ) -> Result<Next, Stop>
     requires valid { IsValid (S.searched on.now)
-        (conf Next.Accept spot.old (entries store.old.records) registers.now) }
+        (over Next.Accept spot.old store.old registers.now) }
     requires frame { spot.old.frame ≡ height + 1 }
     requires at { slice_get (reverse store.old.records) height ≡ Some frame.now }
     requires kind { frame.now.kind ≡ KIND_ATOMIC_OPEN }
-    ensures on { IfOk result
-        (λ next. Advances (S.searched on.now)
-        (conf Next.Accept spot.old (entries store.old.records) registers.now)
-        (conf next spot.new (entries store.new.records) registers.now)) }
-    ensures stop { IfErr result
-        (λ stop. IsStop stop spot.new registers.now
-        (tells (S.searched on.now).setting spot.old
-        (ahead (S.searched on.now)
-        (conf Next.Accept spot.old (entries store.old.records) registers.now)))) }
-    ensures peak { store.new.peak
-        ≤ max store.old.peak (S.searched on.now).setting.matching.frame_limit }
+    ensures on { StepsOn (S.searched on.now) (over Next.Accept spot.old store.old registers.now)
+        spot.new store.new registers.now result }
+    ensures stop { StopsThere (S.searched on.now)
+        (over Next.Accept spot.old store.old registers.now) spot.new registers.now result }
+    ensures peak { KeepsPeak (S.searched on.now) store.old store.new }
     ensures no_less { room store.old ≤ room store.new }
-    ensures short { IfErr result (λ stop.
-        IsShort stop (S.searched on.now).setting.matching.frame_limit store.new) }
+    ensures short { IsShortAt (S.searched on.now) store.new result }
 {
     if let Err(stop) = leave(on.unit_limit(), frame, height, spot, store) {
         return Err(stop);
@@ -168,23 +131,16 @@ pub(crate) fn accept<S: Searchable>(
     bank: &mut [Option<Span>],
 ) -> Result<Next, Stop>
     requires valid { IsValid (S.searched on.now)
-        (conf Next.Accept spot.old (entries store.old.records) registers.old) }
+        (over Next.Accept spot.old store.old registers.old) }
     requires bank { length bank.old ≡ (S.searched on.now).setting.groups }
     ensures bank { length bank.new ≡ length bank.old }
-    ensures on { IfOk result
-        (λ next. Advances (S.searched on.now)
-        (conf Next.Accept spot.old (entries store.old.records) registers.old)
-        (conf next spot.new (entries store.new.records) registers.new)) }
-    ensures stop { IfErr result
-        (λ stop. IsStop stop spot.new registers.new
-        (tells (S.searched on.now).setting spot.old
-        (ahead (S.searched on.now)
-        (conf Next.Accept spot.old (entries store.old.records) registers.old)))) }
-    ensures peak { store.new.peak
-        ≤ max store.old.peak (S.searched on.now).setting.matching.frame_limit }
+    ensures on { StepsOn (S.searched on.now) (over Next.Accept spot.old store.old registers.old)
+        spot.new store.new registers.new result }
+    ensures stop { StopsThere (S.searched on.now)
+        (over Next.Accept spot.old store.old registers.old) spot.new registers.new result }
+    ensures peak { KeepsPeak (S.searched on.now) store.old store.new }
     ensures no_less { room store.old ≤ room store.new }
-    ensures short { IfErr result (λ stop.
-        IsShort stop (S.searched on.now).setting.matching.frame_limit store.new) }
+    ensures short { IsShortAt (S.searched on.now) store.new result }
 {
     if spot.frame == 0 {
         return accept_pattern(on, spot, store, registers);

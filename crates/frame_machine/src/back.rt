@@ -1,16 +1,14 @@
 //! Back to the newest record.
-ghost use Rattle.std.specs.Prelude.{◌≡◌, ◌≤◌, ◌<◌, ◌+◌, max, All, IfOk, IfErr, MatchOption, Some, true, [], ◌∷◌};
+ghost use Rattle.std.specs.Prelude.{◌≡◌, ◌≤◌, ◌<◌, ◌+◌, All, IfOk, IfErr, MatchOption, Some, true, [], ◌∷◌};
 ghost use Rattle.match_items.specs.Items.{place_before};
 ghost use Rattle.frame_store.specs.Stack.{room};
-ghost use Rattle.frame_state.specs.Room.{IsShort};
 ghost use Rattle.frame_store.specs.Entry.{entries, entry_of};
 ghost use Rattle.frame_store.specs.Undo.{taken_back, HasSlot};
 ghost use Rattle.frame_state.specs.Reach.{IsFurtherTaken, IsFurtherStop};
+ghost use Rattle.frame_state.specs.Steps.{over, StepsOn, StopsThere, KeepsPeak, IsShortAt};
 ghost use Rattle.frame_state.specs.Ground.{tree_of, IsPart};
-ghost use Rattle.frame_state.specs.Machine.{conf};
-ghost use Rattle.frame_state.specs.Frames.{ahead};
-ghost use Rattle.frame_state.specs.Validity.{IsValid, Advances, IsMany};
-ghost use Rattle.frame_state.specs.Stops.{IsStop, more_next, tells};
+ghost use Rattle.frame_state.specs.Validity.{IsValid, IsMany};
+ghost use Rattle.frame_state.specs.Stops.{more_next};
 
 use frame_parts::conds::choose;
 use frame_state::framing::go_on;
@@ -28,8 +26,10 @@ use pat_tree::Node;
 /// Takes the newest record off, and takes back what it wrote.
 fn pop(store: &mut Store, registers: &mut [Option<Span>]) -> Option<Record>
     requires { All (HasSlot registers.old) (entries store.old.records) }
-    ensures popped { MatchOption result (store.old.records ≡ []) (λ r. store.old.records ≡ r ∷ store.new.records) }
-    ensures back { MatchOption result (registers.new ≡ registers.old) (λ r. registers.new ≡ taken_back (entry_of r) registers.old) }
+    ensures popped { MatchOption result (store.old.records ≡ [])
+        (λ r. store.old.records ≡ r ∷ store.new.records) }
+    ensures back { MatchOption result (registers.new ≡ registers.old)
+        (λ r. registers.new ≡ taken_back (entry_of r) registers.old) }
     ensures peak { store.new.peak ≡ store.old.peak }
     ensures room { room store.new ≡ room store.old }
 {
@@ -45,7 +45,8 @@ fn pop(store: &mut Store, registers: &mut [Option<Span>]) -> Option<Record>
 /// Where a greedy repeat of one item leads that gives a character back.
 fn fewer_before<S: Searchable>(on: &S, kept: &Record) -> Next
     requires { (S.searched on.now).stands kept.now.to ≡ true }
-    ensures { result ≡ Next.Fewer kept.now.node kept.now.from (place_before (S.searched on.now).setting.scene kept.now.to) }
+    ensures { result ≡ Next.Fewer kept.now.node kept.now.from
+        (place_before (S.searched on.now).setting.scene kept.now.to) }
 {
     let last = on.before(kept.to);
     Next::Fewer(kept.node, kept.from, last)
@@ -90,13 +91,14 @@ pub(crate) fn back<S: Searchable>(
     store: &mut Store,
     registers: &mut [Option<Span>],
 ) -> Result<Next, Stop>
-    requires valid { IsValid (S.searched on.now) (conf Next.Back spot.old (entries store.old.records) registers.old) }
-    ensures on { IfOk result (λ next. Advances (S.searched on.now) (conf Next.Back spot.old (entries store.old.records) registers.old) (conf next spot.new (entries store.new.records) registers.new)) }
-    ensures stop { IfErr result (λ stop. IsStop stop spot.new registers.new (tells (S.searched on.now).setting spot.old (ahead (S.searched on.now) (conf Next.Back spot.old (entries store.old.records) registers.old)))) }
-    ensures peak { store.new.peak ≤ max store.old.peak (S.searched on.now).setting.matching.frame_limit }
+    requires valid { IsValid (S.searched on.now) (over Next.Back spot.old store.old registers.old) }
+    ensures on { StepsOn (S.searched on.now) (over Next.Back spot.old store.old registers.old)
+        spot.new store.new registers.new result }
+    ensures stop { StopsThere (S.searched on.now) (over Next.Back spot.old store.old registers.old)
+        spot.new registers.new result }
+    ensures peak { KeepsPeak (S.searched on.now) store.old store.new }
     ensures no_less { room store.old ≤ room store.new }
-    ensures short { IfErr result (λ stop.
-        IsShort stop (S.searched on.now).setting.matching.frame_limit store.new) }
+    ensures short { IsShortAt (S.searched on.now) store.new result }
 {
     let Some(newest) = pop(store, registers) else {
         return Err(Stop::NoMatch);

@@ -1,28 +1,27 @@
 //! Where a frame or the pattern ends.
-ghost use Rattle.std.specs.Prelude.{◌≡◌, ◌≤◌, ◌<◌, ◌+◌, max, length, All, IfOk, IfErr, MatchOption, Some, [], ◌∷◌, reverse, slice_get, ◌⊎◌};
+ghost use Rattle.std.specs.Prelude.{◌≡◌, ◌≤◌, ◌<◌, ◌+◌, max, length, All, IfErr, MatchOption, Some, [], ◌∷◌, reverse, slice_get, ◌⊎◌};
 ghost use Rattle.frame_store.specs.Stack.{room};
-ghost use Rattle.frame_state.specs.Room.{IsShort, IsSteady};
-ghost use Rattle.frame_store.specs.Entry.{Undo, entries, entry_of};
+ghost use Rattle.frame_state.specs.Room.{IsSteady};
+ghost use Rattle.frame_state.specs.Steps.{over, StepsOn, StopsThere, KeepsPeak, IsShortAt};
 ghost use Rattle.frame_state.specs.Ground.{tree_of, IsPart};
-ghost use Rattle.frame_state.specs.Machine.{conf};
-ghost use Rattle.frame_state.specs.Frames.{ahead};
-ghost use Rattle.frame_state.specs.Validity.{IsValid, Advances, IsCapture};
-ghost use Rattle.frame_state.specs.Stops.{IsStop, IsNumber, took_nothing, refused_as_empty, refused_by_end, admitted, tells};
+ghost use Rattle.frame_state.specs.Validity.{IsValid, IsCapture};
+ghost use Rattle.frame_state.specs.Stops.{IsNumber, took_nothing, refused_as_empty, refused_by_end, admitted};
 
+use crate::captures::close_frame;
 use crate::returns::{close_called, leave_call};
 use frame_parts::atomic::leave_atomic;
 use frame_parts::conds::leave_test;
 use frame_parts::looks::{deny, leave_look, pass_look};
 use frame_parts::repeats::turns_of;
 use frame_state::framing::go_on;
-use frame_state::machine::{Next, Spot, Stop, hold};
+use frame_state::machine::{Next, Spot, Stop};
 use frame_state::searchable::Searchable;
 use frame_store::kinds::{
     KIND_ATOMIC_OPEN, KIND_CALL_OPEN, KIND_CALLED_GROUP, KIND_DENIAL_OPEN, KIND_DENIAL_TEST,
     KIND_GROUP_OPEN, KIND_LOOK_ALL_OPEN, KIND_LOOK_OPEN, KIND_LOOK_TEST, KIND_TURN_OPEN,
-    KIND_TURN_OR_EXIT, KIND_UNDO,
+    KIND_TURN_OR_EXIT,
 };
-use frame_store::{Record, Span, Store, captured, set_captured};
+use frame_store::{Record, Span, Store};
 use pat_tree::Node;
 
 /// Whether an outcome is refused since its text is empty.
@@ -77,24 +76,6 @@ pub(crate) fn number_of<S: Searchable>(on: &S, part: u32) -> u16
     }
 }
 
-/// The record that keeps what a register holds before it is written.
-pub(crate) fn undo_record(spot: &Spot, link: u32, node: u32, slot: u16, old: Option<Span>) -> Record
-    ensures { entry_of result ≡ Undo (record { node = node; link = link }) slot old }
-{
-    let mut undo = spot.record(KIND_UNDO, node, 0, 0, 0);
-    undo.slot = slot;
-    undo.link = link;
-    match old {
-        None => undo,
-        Some(span) => {
-            undo.count = 1;
-            undo.from = span.from;
-            undo.to = span.to;
-            undo
-        }
-    }
-}
-
 /// Writes a capture where its group has ended.
 fn close<S: Searchable>(
     on: &S,
@@ -104,32 +85,22 @@ fn close<S: Searchable>(
     store: &mut Store,
     registers: &mut [Option<Span>],
 ) -> Result<Next, Stop>
-    requires valid { IsValid (S.searched on.now) (conf Next.End spot.old (entries store.old.records) registers.old) }
+    requires valid { IsValid (S.searched on.now) (over Next.End spot.old store.old registers.old) }
     requires frame { spot.old.frame ≡ height + 1 }
     requires at { slice_get (reverse store.old.records) height ≡ Some frame.now }
     requires kind { frame.now.kind ≡ KIND_GROUP_OPEN }
-    ensures on { IfOk result (λ next. Advances (S.searched on.now) (conf Next.End spot.old (entries store.old.records) registers.old) (conf next spot.new (entries store.new.records) registers.new)) }
-    ensures stop { IfErr result (λ stop. IsStop stop spot.new registers.new (tells (S.searched on.now).setting spot.old (ahead (S.searched on.now) (conf Next.End spot.old (entries store.old.records) registers.old)))) }
-    ensures peak { store.new.peak ≤ max store.old.peak (S.searched on.now).setting.matching.frame_limit }
+    ensures on { StepsOn (S.searched on.now) (over Next.End spot.old store.old registers.old)
+        spot.new store.new registers.new result }
+    ensures stop { StopsThere (S.searched on.now) (over Next.End spot.old store.old registers.old)
+        spot.new registers.new result }
+    ensures peak { KeepsPeak (S.searched on.now) store.old store.new }
     ensures no_less { room store.old ≤ room store.new }
-    ensures short { IfErr result (λ stop.
-        IsShort stop (S.searched on.now).setting.matching.frame_limit store.new) }
+    ensures short { IsShortAt (S.searched on.now) store.new result }
 {
     let number = number_of(on, frame.node);
-    let old = captured(registers, u32::from(number));
-    let undo = undo_record(spot, frame.link, frame.node, number, old);
-    if let Err(stop) = hold(on.unit_limit(), undo, spot, store) {
+    if let Err(stop) = close_frame(on.unit_limit(), frame, number, spot, store, registers) {
         return Err(stop);
     }
-    set_captured(
-        registers,
-        u32::from(number),
-        Some(Span {
-            from: frame.place,
-            to: spot.place,
-        }),
-    );
-    spot.frame = frame.link;
     Ok(go_on(on, frame.node))
 }
 
@@ -142,16 +113,17 @@ fn turned<S: Searchable>(
     store: &mut Store,
     registers: &[Option<Span>],
 ) -> Result<Next, Stop>
-    requires valid { IsValid (S.searched on.now) (conf Next.End spot.old (entries store.old.records) registers.now) }
+    requires valid { IsValid (S.searched on.now) (over Next.End spot.old store.old registers.now) }
     requires frame { spot.old.frame ≡ height + 1 }
     requires at { slice_get (reverse store.old.records) height ≡ Some frame.now }
     requires kind { (frame.now.kind ≡ KIND_TURN_OPEN) ⊎ (frame.now.kind ≡ KIND_TURN_OR_EXIT) }
-    ensures on { IfOk result (λ next. Advances (S.searched on.now) (conf Next.End spot.old (entries store.old.records) registers.now) (conf next spot.new (entries store.new.records) registers.now)) }
-    ensures stop { IfErr result (λ stop. IsStop stop spot.new registers.now (tells (S.searched on.now).setting spot.old (ahead (S.searched on.now) (conf Next.End spot.old (entries store.old.records) registers.now)))) }
-    ensures peak { store.new.peak ≤ max store.old.peak (S.searched on.now).setting.matching.frame_limit }
+    ensures on { StepsOn (S.searched on.now) (over Next.End spot.old store.old registers.now)
+        spot.new store.new registers.now result }
+    ensures stop { StopsThere (S.searched on.now) (over Next.End spot.old store.old registers.now)
+        spot.new registers.now result }
+    ensures peak { KeepsPeak (S.searched on.now) store.old store.new }
     ensures no_less { room store.old ≤ room store.new }
-    ensures short { IfErr result (λ stop.
-        IsShort stop (S.searched on.now).setting.matching.frame_limit store.new) }
+    ensures short { IsShortAt (S.searched on.now) store.new result }
 {
     let turns = turns_of(on, frame.node);
     spot.frame = frame.link;
@@ -168,10 +140,12 @@ fn end_pattern<S: Searchable>(
     store: &Store,
     registers: &[Option<Span>],
 ) -> Result<Next, Stop>
-    requires valid { IsValid (S.searched on.now) (conf Next.End spot.now (entries store.now.records) registers.now) }
+    requires valid { IsValid (S.searched on.now) (over Next.End spot.now store.now registers.now) }
     requires whole { spot.now.frame ≡ 0 }
-    ensures on { IfOk result (λ next. Advances (S.searched on.now) (conf Next.End spot.now (entries store.now.records) registers.now) (conf next spot.now (entries store.now.records) registers.now)) }
-    ensures stop { IfErr result (λ stop. IsStop stop spot.now registers.now (tells (S.searched on.now).setting spot.now (ahead (S.searched on.now) (conf Next.End spot.now (entries store.now.records) registers.now)))) }
+    ensures on { StepsOn (S.searched on.now) (over Next.End spot.now store.now registers.now)
+        spot.now store.now registers.now result }
+    ensures stop { StopsThere (S.searched on.now) (over Next.End spot.now store.now registers.now)
+        spot.now registers.now result }
     ensures steady { IfErr result IsSteady }
 {
     if is_admitted(on, spot.keep, spot.place) {
@@ -188,15 +162,16 @@ pub(crate) fn finish<S: Searchable>(
     registers: &mut [Option<Span>],
     bank: &mut [Option<Span>],
 ) -> Result<Next, Stop>
-    requires valid { IsValid (S.searched on.now) (conf Next.End spot.old (entries store.old.records) registers.old) }
+    requires valid { IsValid (S.searched on.now) (over Next.End spot.old store.old registers.old) }
     requires bank { length bank.old ≡ (S.searched on.now).setting.groups }
     ensures bank { length bank.new ≡ length bank.old }
-    ensures on { IfOk result (λ next. Advances (S.searched on.now) (conf Next.End spot.old (entries store.old.records) registers.old) (conf next spot.new (entries store.new.records) registers.new)) }
-    ensures stop { IfErr result (λ stop. IsStop stop spot.new registers.new (tells (S.searched on.now).setting spot.old (ahead (S.searched on.now) (conf Next.End spot.old (entries store.old.records) registers.old)))) }
-    ensures peak { store.new.peak ≤ max store.old.peak (S.searched on.now).setting.matching.frame_limit }
+    ensures on { StepsOn (S.searched on.now) (over Next.End spot.old store.old registers.old)
+        spot.new store.new registers.new result }
+    ensures stop { StopsThere (S.searched on.now) (over Next.End spot.old store.old registers.old)
+        spot.new registers.new result }
+    ensures peak { KeepsPeak (S.searched on.now) store.old store.new }
     ensures no_less { room store.old ≤ room store.new }
-    ensures short { IfErr result (λ stop.
-        IsShort stop (S.searched on.now).setting.matching.frame_limit store.new) }
+    ensures short { IsShortAt (S.searched on.now) store.new result }
 {
     if spot.frame == 0 {
         return end_pattern(on, spot, store, registers);

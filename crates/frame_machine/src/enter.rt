@@ -4,25 +4,24 @@ ghost use Rattle.pat_tree.specs.declared.nodes.Node.TheVariants as node;
 ghost use Rattle.frame_store.specs.Stack.{room};
 ghost use Rattle.frame_state.specs.Room.{IsQuiet, IsShort};
 ghost use Rattle.frame_store.specs.Captures.{HasGroup};
-ghost use Rattle.frame_store.specs.Entry.{entries};
 ghost use Rattle.pcre_io.specs.declared.callouts.Block.{Block};
+ghost use Rattle.frame_state.specs.Steps.{over, StepsOn, StopsThere, GoesOver, StopsOver, KeepsPeak, IsShortAt};
 ghost use Rattle.frame_state.specs.Ground.{IsNode, IsPart};
-ghost use Rattle.frame_state.specs.Machine.{conf, first_set};
+ghost use Rattle.frame_state.specs.Machine.{first_set};
 ghost use Rattle.frame_state.specs.Frames.{ahead};
-ghost use Rattle.frame_state.specs.Over.{IsStopOver, AdvancesOver};
 ghost use Rattle.frame_state.specs.Shown.{IsReplied};
-ghost use Rattle.frame_state.specs.Validity.{IsValid, Advances, AreSpans, SpanStands};
+ghost use Rattle.frame_state.specs.Validity.{IsValid, AreSpans, SpanStands};
 ghost use Rattle.match_items.specs.Items.{anchor_reaches, earliest};
 ghost use Rattle.frame_state.specs.Reach.{asks, referred_reaches, IsNoted, IsHardStop, IsTested, IsAnchored};
-ghost use Rattle.frame_state.specs.Stops.{IsStop, referred, part_next, tells};
+ghost use Rattle.frame_state.specs.Stops.{referred, part_next};
 
 use frame_parts::atomic::enter_atomic;
-use frame_parts::callouts::{block_of, enter_callout};
 use frame_parts::calls::enter_call;
 use frame_parts::conds::enter_condition;
 use frame_parts::items::enter_many;
 use frame_parts::looks::enter_look;
 use frame_parts::repeats::offer;
+use frame_state::callouts::{block_of, enter_callout};
 use frame_state::framing::{first_branch, first_set, go_on};
 use frame_state::machine::{Met, Next, Spot, Stop, hold};
 use frame_state::reach::{pass, reach};
@@ -157,14 +156,16 @@ fn enter_group<S: Searchable>(
     store: &mut Store,
     registers: &[Option<Span>],
 ) -> Result<Next, Stop>
-    requires valid { IsValid (S.searched on.now) (conf (Next.Enter at) spot.old (entries store.old.records) registers.now) }
+    requires valid { IsValid (S.searched on.now)
+        (over (Next.Enter at) spot.old store.old registers.now) }
     requires node { IsNode (S.searched on.now) at (node.Group number branches.now) }
-    ensures on { IfOk result (λ next. Advances (S.searched on.now) (conf (Next.Enter at) spot.old (entries store.old.records) registers.now) (conf next spot.new (entries store.new.records) registers.now)) }
-    ensures stop { IfErr result (λ stop. IsStop stop spot.new registers.now (tells (S.searched on.now).setting spot.old (ahead (S.searched on.now) (conf (Next.Enter at) spot.old (entries store.old.records) registers.now)))) }
-    ensures peak { store.new.peak ≤ max store.old.peak (S.searched on.now).setting.matching.frame_limit }
+    ensures on { StepsOn (S.searched on.now) (over (Next.Enter at) spot.old store.old registers.now)
+        spot.new store.new registers.now result }
+    ensures stop { StopsThere (S.searched on.now)
+        (over (Next.Enter at) spot.old store.old registers.now) spot.new registers.now result }
+    ensures peak { KeepsPeak (S.searched on.now) store.old store.new }
     ensures no_less { room store.old ≤ room store.new }
-    ensures short { IfErr result (λ stop.
-        IsShort stop (S.searched on.now).setting.matching.frame_limit store.new) }
+    ensures short { IsShortAt (S.searched on.now) store.new result }
 {
     let Some(_) = number else {
         return Ok(first_branch(at, branches));
@@ -186,12 +187,16 @@ pub(crate) fn enter<S: Searchable, C: Callouts>(
     registers: &[Option<Span>],
     calls: &mut C,
 ) -> Result<Next, Stop>
-    requires valid { IsValid (S.searched on.now) (conf (Next.Enter at) spot.old (entries store.old.records) registers.now) }
+    requires valid { IsValid (S.searched on.now)
+        (over (Next.Enter at) spot.old store.old registers.now) }
     requires replied { IsReplied (S.searched on.now).setting (C.answers calls.old) }
-    ensures on { IfOk result (λ next. AdvancesOver (S.searched on.now) (C.seen calls.old) (C.seen calls.new) (conf (Next.Enter at) spot.old (entries store.old.records) registers.now) (conf next spot.new (entries store.new.records) registers.now)) }
-    ensures stop { IfErr result (λ stop. IsStopOver stop spot.new registers.now (C.seen calls.old) (C.seen calls.new) (tells (S.searched on.now).setting spot.old (ahead (S.searched on.now) (conf (Next.Enter at) spot.old (entries store.old.records) registers.now)))) }
+    ensures on { GoesOver (S.searched on.now) (C.seen calls.old) (C.seen calls.new)
+        (over (Next.Enter at) spot.old store.old registers.now)
+        spot.new store.new registers.now result }
+    ensures stop { StopsOver (S.searched on.now) (C.seen calls.old) (C.seen calls.new)
+        (over (Next.Enter at) spot.old store.old registers.now) spot.new registers.now result }
     ensures rule { (block : Block) → C.answers calls.new block ≡ C.answers calls.old block }
-    ensures peak { store.new.peak ≤ max store.old.peak (S.searched on.now).setting.matching.frame_limit }
+    ensures peak { KeepsPeak (S.searched on.now) store.old store.new }
     ensures no_less { room store.old ≤ room store.new }
     ensures short { IsQuiet C.refuses (C.answers calls.old)
         → IfErr result (λ stop.

@@ -3,6 +3,7 @@
 
 mod accepts;
 mod back;
+mod captures;
 mod ends;
 mod enter;
 mod ready;

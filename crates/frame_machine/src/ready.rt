@@ -34,14 +34,17 @@ pub fn run_at<C: Callouts>(
     requires search { IsReadySearch ready.now view.now }
     requires start { view.now.start ≤ place }
     requires place { IsTextPlace view.now.options.now view.now.subject.now place }
-    ensures answer { IsAnswer result scratch.new.spans (place_answer (setting_for ready.now.tree.now view.now (C.answers calls.old)) place) }
-    ensures mark { IsMark result scratch.old.last_mark scratch.new.last_mark (place_answer (setting_for ready.now.tree.now view.now (C.answers calls.old)) place) }
+    ensures answer { IsAnswer result scratch.new.spans
+        (place_answer (setting_for ready.now.tree.now view.now (C.answers calls.old)) place) }
+    ensures mark { IsMark result scratch.old.last_mark scratch.new.last_mark
+        (place_answer (setting_for ready.now.tree.now view.now (C.answers calls.old)) place) }
     ensures skip { SkipsToPlace view.now.options.now view.now.subject.now result }
     ensures peak { scratch.new.peak ≤ max scratch.old.peak view.now.matching.now.frame_limit }
     ensures groups { scratch.new.groups ≡ scratch.old.groups }
     ensures frames { scratch.new.frames ≡ scratch.old.frames }
     ensures rule { (block : Block) → C.answers calls.new block ≡ C.answers calls.old block }
-    ensures seen { IsSeen result (C.seen calls.old) (C.seen calls.new) (place_answer (setting_for ready.now.tree.now view.now (C.answers calls.old)) place) }
+    ensures seen { IsSeen result (C.seen calls.old) (C.seen calls.new)
+        (place_answer (setting_for ready.now.tree.now view.now (C.answers calls.old)) place) }
     ensures reserved { HasRoom scratch.old
         (setting_for ready.now.tree.now view.now (C.answers calls.old)).groups
         view.now.matching.now.frame_limit

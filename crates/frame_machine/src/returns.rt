@@ -1,5 +1,5 @@
 //! Calls of groups, as they end: the captures are those of the call's begin again (pcre2pattern, "Recursive patterns").
-ghost use Rattle.std.specs.Prelude.{◌≡◌, ◌≤◌, ◌<◌, ◌+◌, ◌∷◌, max, length, All, true, false, Option, IfOk, IfErr, OnOk, Some, reverse, slice_get};
+ghost use Rattle.std.specs.Prelude.{◌≡◌, ◌≤◌, ◌<◌, ◌+◌, ◌∷◌, max, length, All, true, false, Option, IfErr, OnOk, Some, reverse, slice_get};
 ghost use Rattle.frame_store.specs.Stack.{room};
 ghost use Rattle.frame_state.specs.Room.{IsShort};
 ghost use Rattle.frame_store.specs.Captures.{HasGroup, capture, with_capture};
@@ -8,17 +8,17 @@ ghost use Rattle.frame_store.specs.Stack.{past};
 ghost use Rattle.frame_store.specs.Undo.{HasSlot, undone};
 ghost use Rattle.ordered_search.specs.Stream.{changes, same_span};
 ghost use Rattle.frame_state.specs.Calls.{AreRestored, IsReturnStop};
-ghost use Rattle.frame_state.specs.Frames.{ahead};
-ghost use Rattle.frame_state.specs.Machine.{conf};
-ghost use Rattle.frame_state.specs.Stops.{IsHeldStop, IsStop, held_spot, tells};
-ghost use Rattle.frame_state.specs.Validity.{IsValid, Advances};
+ghost use Rattle.frame_state.specs.Steps.{over, StepsOn, StopsThere, KeepsPeak, IsShortAt};
+ghost use Rattle.frame_state.specs.Stops.{IsHeldStop, held_spot};
+ghost use Rattle.frame_state.specs.Validity.{IsValid};
 
-use crate::ends::{number_of, undo_record};
+use crate::captures::{close_frame, write};
+use crate::ends::number_of;
 use frame_state::framing::go_on;
-use frame_state::machine::{Next, Spot, Stop, hold};
+use frame_state::machine::{Next, Spot, Stop};
 use frame_state::searchable::Searchable;
 use frame_store::kinds::{KIND_CALL_OPEN, KIND_CALLED_GROUP};
-use frame_store::{Record, Span, Store, captured, set_captured};
+use frame_store::{Record, Span, Store, captured};
 
 /// Writes the capture of a called group where it has ended, and then its call ends.
 pub(crate) fn close_called<S: Searchable>(
@@ -29,32 +29,22 @@ pub(crate) fn close_called<S: Searchable>(
     store: &mut Store,
     registers: &mut [Option<Span>],
 ) -> Result<Next, Stop>
-    requires valid { IsValid (S.searched on.now) (conf Next.End spot.old (entries store.old.records) registers.old) }
+    requires valid { IsValid (S.searched on.now) (over Next.End spot.old store.old registers.old) }
     requires frame { spot.old.frame ≡ height + 1 }
     requires at { slice_get (reverse store.old.records) height ≡ Some frame.now }
     requires kind { frame.now.kind ≡ KIND_CALLED_GROUP }
-    ensures on { IfOk result (λ next. Advances (S.searched on.now) (conf Next.End spot.old (entries store.old.records) registers.old) (conf next spot.new (entries store.new.records) registers.new)) }
-    ensures stop { IfErr result (λ stop. IsStop stop spot.new registers.new (tells (S.searched on.now).setting spot.old (ahead (S.searched on.now) (conf Next.End spot.old (entries store.old.records) registers.old)))) }
-    ensures peak { store.new.peak ≤ max store.old.peak (S.searched on.now).setting.matching.frame_limit }
+    ensures on { StepsOn (S.searched on.now) (over Next.End spot.old store.old registers.old)
+        spot.new store.new registers.new result }
+    ensures stop { StopsThere (S.searched on.now) (over Next.End spot.old store.old registers.old)
+        spot.new registers.new result }
+    ensures peak { KeepsPeak (S.searched on.now) store.old store.new }
     ensures no_less { room store.old ≤ room store.new }
-    ensures short { IfErr result (λ stop.
-        IsShort stop (S.searched on.now).setting.matching.frame_limit store.new) }
+    ensures short { IsShortAt (S.searched on.now) store.new result }
 {
     let number = number_of(on, frame.node);
-    let old = captured(registers, u32::from(number));
-    let undo = undo_record(spot, frame.link, frame.node, number, old);
-    if let Err(stop) = hold(on.unit_limit(), undo, spot, store) {
+    if let Err(stop) = close_frame(on.unit_limit(), frame, number, spot, store, registers) {
         return Err(stop);
     }
-    set_captured(
-        registers,
-        u32::from(number),
-        Some(Span {
-            from: frame.place,
-            to: spot.place,
-        }),
-    );
-    spot.frame = frame.link;
     Ok(Next::End)
 }
 
@@ -82,10 +72,16 @@ fn restore_one(
     requires group { HasGroup registers.old group }
     requires counted { length store.old.records ≤ spot.old.units }
     ensures set { OnOk result (registers.new ≡ with_capture registers.old group value) }
-    ensures kept { OnOk result (same_span (capture registers.old group) value ≡ true → (spot.new ≡ spot.old) × (store.new.records ≡ store.old.records)) }
-    ensures room { OnOk result (same_span (capture registers.old group) value ≡ false → spot.old.units < limit) }
-    ensures spot { OnOk result (same_span (capture registers.old group) value ≡ false → spot.new ≡ held_spot spot.old) }
-    ensures pushed { OnOk result (same_span (capture registers.old group) value ≡ false → entries store.new.records ≡ Undo (record { node = frame.now.node; link = frame.now.link }) group (capture registers.old group) ∷ entries store.old.records) }
+    ensures kept { OnOk result (same_span (capture registers.old group) value ≡ true →
+        (spot.new ≡ spot.old) × (store.new.records ≡ store.old.records)) }
+    ensures room { OnOk result
+        (same_span (capture registers.old group) value ≡ false → spot.old.units < limit) }
+    ensures spot { OnOk result
+        (same_span (capture registers.old group) value ≡ false → spot.new ≡ held_spot spot.old) }
+    ensures pushed { OnOk result (same_span (capture registers.old group) value ≡ false →
+        entries store.new.records
+        ≡ Undo (record { node = frame.now.node; link = frame.now.link }) group
+        (capture registers.old group) ∷ entries store.old.records) }
     ensures stop { IfErr result (λ stop. IsHeldStop stop limit spot.old.units) }
     ensures last { spot.new.last ≡ spot.old.last }
     ensures differs { IfErr result (λ stop. same_span (capture registers.old group) value ≡ false) }
@@ -97,11 +93,9 @@ fn restore_one(
     if same_span(now, value) {
         return Ok(());
     }
-    let undo = undo_record(spot, frame.link, frame.node, group, now);
-    if let Err(stop) = hold(limit, undo, spot, store) {
+    if let Err(stop) = write(limit, frame, group, value, spot, store, registers) {
         return Err(stop);
     }
-    set_captured(registers, u32::from(group), value);
     Ok(())
 }
 
@@ -126,10 +120,13 @@ fn restore(
     requires numbered { length entry.now ≤ 65535 }
     requires counted { length store.old.records ≤ spot.old.units }
     requires few { spot.old.units ≤ limit }
-    ensures restored { OnOk result (AreRestored frame.now.link frame.now.node registers.old entry.now registers.new 0 (entries store.old.records) (entries store.new.records)) }
-    ensures spot { OnOk result (spot.new ≡ record spot.old { units = spot.old.units + changes registers.old entry.now }) }
+    ensures restored { OnOk result (AreRestored frame.now.link frame.now.node registers.old
+        entry.now registers.new 0 (entries store.old.records) (entries store.new.records)) }
+    ensures spot { OnOk result
+        (spot.new ≡ record spot.old { units = spot.old.units + changes registers.old entry.now }) }
     ensures few { OnOk result (spot.new.units ≤ limit) }
-    ensures stop { IfErr result (λ stop. IsReturnStop stop limit (spot.old.units + changes registers.old entry.now)) }
+    ensures stop { IfErr result
+        (λ stop. IsReturnStop stop limit (spot.old.units + changes registers.old entry.now)) }
     ensures last { spot.new.last ≡ spot.old.last }
     ensures peak { store.new.peak ≤ max store.old.peak limit }
     ensures no_less { room store.old ≤ room store.new }
@@ -177,18 +174,19 @@ pub(crate) fn leave_call<S: Searchable>(
     registers: &mut [Option<Span>],
     bank: &mut [Option<Span>],
 ) -> Result<Next, Stop>
-    requires valid { IsValid (S.searched on.now) (conf Next.End spot.old (entries store.old.records) registers.old) }
+    requires valid { IsValid (S.searched on.now) (over Next.End spot.old store.old registers.old) }
     requires frame { spot.old.frame ≡ height + 1 }
     requires at { slice_get (reverse store.old.records) height ≡ Some frame.now }
     requires kind { frame.now.kind ≡ KIND_CALL_OPEN }
     requires bank { length bank.old ≡ (S.searched on.now).setting.groups }
     ensures bank { length bank.new ≡ length bank.old }
-    ensures on { IfOk result (λ next. Advances (S.searched on.now) (conf Next.End spot.old (entries store.old.records) registers.old) (conf next spot.new (entries store.new.records) registers.new)) }
-    ensures stop { IfErr result (λ stop. IsStop stop spot.new registers.new (tells (S.searched on.now).setting spot.old (ahead (S.searched on.now) (conf Next.End spot.old (entries store.old.records) registers.old)))) }
-    ensures peak { store.new.peak ≤ max store.old.peak (S.searched on.now).setting.matching.frame_limit }
+    ensures on { StepsOn (S.searched on.now) (over Next.End spot.old store.old registers.old)
+        spot.new store.new registers.new result }
+    ensures stop { StopsThere (S.searched on.now) (over Next.End spot.old store.old registers.old)
+        spot.new registers.new result }
+    ensures peak { KeepsPeak (S.searched on.now) store.old store.new }
     ensures no_less { room store.old ≤ room store.new }
-    ensures short { IfErr result (λ stop.
-        IsShort stop (S.searched on.now).setting.matching.frame_limit store.new) }
+    ensures short { IsShortAt (S.searched on.now) store.new result }
 {
     captures_at(store, height, registers, bank);
     if let Err(stop) = restore(on.unit_limit(), frame, bank, spot, store, registers) {

@@ -1,11 +1,11 @@
 //! The machine's loop, and the workspace that it runs in.
-ghost use Rattle.std.specs.Prelude.{◌≡◌, ◌≤◌, ◌<◌, true, max, length, replicate, None, [], IfOk, IfErr, OnOk, OnErr};
+ghost use Rattle.std.specs.Prelude.{◌≡◌, ◌≤◌, ◌<◌, true, length, replicate, None, [], IfErr, OnOk, OnErr};
 ghost use Rattle.frame_store.specs.Stack.{room};
 ghost use Rattle.frame_state.specs.Room.{IsQuiet, IsShort};
 ghost use Rattle.frame_store.specs.Captures.{capture};
-ghost use Rattle.frame_store.specs.Entry.{entries};
 ghost use Rattle.pcre_io.specs.declared.callouts.Block.{Block};
-ghost use Rattle.frame_state.specs.Machine.{conf, mark_of};
+ghost use Rattle.frame_state.specs.Machine.{mark_of};
+ghost use Rattle.frame_state.specs.Steps.{over, KeepsPeak};
 ghost use Rattle.frame_state.specs.Frames.{ahead};
 ghost use Rattle.frame_state.specs.Validity.{IsValid};
 ghost use Rattle.ordered_search.specs.PlaceAnswer.{place_answer};
@@ -37,14 +37,18 @@ fn turn<S: Searchable, C: Callouts>(
     bank: &mut [Option<Span>],
     calls: &mut C,
 ) -> Result<(), Stop>
-    requires valid { IsValid (S.searched on.now) (conf next.old spot.old (entries store.old.records) registers.old) }
+    requires valid { IsValid (S.searched on.now) (over next.old spot.old store.old registers.old) }
     requires replied { IsReplied (S.searched on.now).setting (C.answers calls.old) }
     requires bank { length bank.old ≡ (S.searched on.now).setting.groups }
     ensures bank { length bank.new ≡ length bank.old }
-    ensures on { OnOk result (AdvancesOver (S.searched on.now) (C.seen calls.old) (C.seen calls.new) (conf next.old spot.old (entries store.old.records) registers.old) (conf next.new spot.new (entries store.new.records) registers.new)) }
-    ensures stop { IfErr result (λ stop. IsEndOver (S.searched on.now) stop spot.new registers.new (C.seen calls.old) (C.seen calls.new) (tells (S.searched on.now).setting spot.old (ahead (S.searched on.now) (conf next.old spot.old (entries store.old.records) registers.old)))) }
+    ensures on { OnOk result (AdvancesOver (S.searched on.now) (C.seen calls.old) (C.seen calls.new)
+        (over next.old spot.old store.old registers.old)
+        (over next.new spot.new store.new registers.new)) }
+    ensures stop { IfErr result (λ stop. IsEndOver (S.searched on.now) stop spot.new registers.new
+        (C.seen calls.old) (C.seen calls.new) (tells (S.searched on.now).setting spot.old
+        (ahead (S.searched on.now) (over next.old spot.old store.old registers.old)))) }
     ensures rule { (block : Block) → C.answers calls.new block ≡ C.answers calls.old block }
-    ensures peak { store.new.peak ≤ max store.old.peak (S.searched on.now).setting.matching.frame_limit }
+    ensures peak { KeepsPeak (S.searched on.now) store.old store.new }
     ensures no_less { room store.old ≤ room store.new }
     ensures short { IsQuiet C.refuses (C.answers calls.old)
         → IfErr result (λ stop.
@@ -83,9 +87,10 @@ pub(crate) fn run<S: Searchable, C: Callouts>(
     requires replied { IsReplied (S.searched on.now).setting (C.answers calls.old) }
     requires bank { length bank.old ≡ (S.searched on.now).setting.groups }
     ensures bank { length bank.new ≡ length bank.old }
-    ensures stop { IsEndOver (S.searched on.now) result spot.new registers.new (C.seen calls.old) (C.seen calls.new) (told none_met (place_answer (S.searched on.now).setting place)) }
+    ensures stop { IsEndOver (S.searched on.now) result spot.new registers.new (C.seen calls.old)
+        (C.seen calls.new) (told none_met (place_answer (S.searched on.now).setting place)) }
     ensures rule { (block : Block) → C.answers calls.new block ≡ C.answers calls.old block }
-    ensures peak { store.new.peak ≤ max store.old.peak (S.searched on.now).setting.matching.frame_limit }
+    ensures peak { KeepsPeak (S.searched on.now) store.old store.new }
     ensures no_less { room store.old ≤ room store.new }
     ensures short { IsQuiet C.refuses (C.answers calls.old)
         → IsShort result (S.searched on.now).setting.matching.frame_limit store.new }

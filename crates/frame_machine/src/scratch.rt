@@ -172,12 +172,16 @@ pub fn search_at<S: Searchable, C: Callouts>(
 ) -> PlaceAnswer
     requires place { (S.searched on.now).stands place ≡ true }
     requires replied { IsReplied (S.searched on.now).setting (C.answers calls.old) }
-    ensures answer { IsAnswer result scratch.new.spans (place_answer (S.searched on.now).setting place) }
-    ensures mark { IsMark result scratch.old.last_mark scratch.new.last_mark (place_answer (S.searched on.now).setting place) }
+    ensures answer { IsAnswer result scratch.new.spans
+        (place_answer (S.searched on.now).setting place) }
+    ensures mark { IsMark result scratch.old.last_mark scratch.new.last_mark
+        (place_answer (S.searched on.now).setting place) }
     ensures skip { SkipStands (S.searched on.now).stands result }
-    ensures seen { IsSeen result (C.seen calls.old) (C.seen calls.new) (place_answer (S.searched on.now).setting place) }
+    ensures seen { IsSeen result (C.seen calls.old) (C.seen calls.new)
+        (place_answer (S.searched on.now).setting place) }
     ensures rule { (block : Block) → C.answers calls.new block ≡ C.answers calls.old block }
-    ensures peak { scratch.new.peak ≤ max scratch.old.peak (S.searched on.now).setting.matching.frame_limit }
+    ensures peak { scratch.new.peak ≤ max scratch.old.peak
+        (S.searched on.now).setting.matching.frame_limit }
     ensures groups { scratch.new.groups ≡ scratch.old.groups }
     ensures frames { scratch.new.frames ≡ scratch.old.frames }
     ensures reserved { HasRoom scratch.old (S.searched on.now).setting.groups

@@ -22,7 +22,7 @@ use Rattle.frame_state.specs.Shown.{callout_at, block_at, shown_as, IsReplied, I
 use Rattle.frame_state.specs.Stops.{tells, IsStop}
 use Rattle.frame_state.specs.Over.{IsStopOver, AdvancesOver, GoesBy, tested_ahead}
 use Rattle.frame_state.specs.Validity.{IsValid}
-use Rattle.frame_parts.proofs.CalloutTurns.{over_told, over_more, call_stop}
+use Rattle.frame_state.proofs.CalloutTurns.{over_told, over_more, call_stop}
 use Rattle.frame_parts.proofs.CondTurns.{calls_first, is_tested, called_is}
 
 module _ (c : Ground) (ok : IsGround c) (q : ℕ) (spot : Spot) (stack : List Entry) (caps : Captures) (v : IsValid c (conf (Enter q) spot stack caps)) (answer : Block → ℤ) (replied : IsReplied c.setting answer)

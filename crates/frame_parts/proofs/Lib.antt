@@ -7,7 +7,6 @@ pub mod AtomicTurns
 pub mod PossessiveTurns
 pub mod LookTurns
 pub mod CondTurns
-pub mod CalloutTurns
 pub mod CalledTests
 pub mod CallTurns
 pub mod PassTurns

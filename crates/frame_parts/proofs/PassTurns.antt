@@ -19,10 +19,11 @@ use Rattle.frame_store.specs.Undo.{taken_back}
 use Rattle.frame_store.proofs.StackLemmas.{slice_get-reverse-below}
 use Rattle.frame_state.specs.declared.machine.Next.TheVariants.{Enter, Branch, Fewer, More, End, Back}
 use Rattle.frame_state.specs.declared.machine.Spot.{Spot}
+use Rattle.frame_state.specs.declared.machine.Stop.{Stop}
 use Rattle.frame_state.specs.Ground.{Ground, tree_of, next_of, IsNode, IsGround, IsPart}
 use Rattle.frame_state.specs.Machine.{Conf, less, kept_at, conf, towards}
 use Rattle.frame_state.specs.Validity.{IsValid, Advances}
-use Rattle.frame_state.specs.Stops.{moved_next, moved_spot, record_at, restored, IsMost, IsFurther}
+use Rattle.frame_state.specs.Stops.{Told, moved_next, moved_spot, record_at, restored, IsMost, IsStop, IsFurther}
 use Rattle.frame_parts.specs.Passing.{HasNumber, BeginsWith, FailsAt, IsFollower, FallsBack, Reaches}
 use Rattle.frame_state.proofs.KidParts.{kid_parts, next_part}
 use Rattle.frame_state.proofs.MostOf.{most}
@@ -41,6 +42,9 @@ some_none p e = cc
 
 some_same : (p x : ℕ) → Some p ≡ Some x → p ≡ x
 some_same p x e = cc
+
+pub stops_then : (s : Stop) (spot : Spot) (caps : Captures) (t u : Told) → t ≡ u → IsStop s spot caps u → IsStop s spot caps t
+stops_then s spot caps t u e a = subst (λ (w : Told). IsStop s spot caps w) (sym e) a
 
 module _ (c : Ground) where
   pub stays : (m : Conf) → IsValid c m → Reaches c m m

@@ -6,11 +6,11 @@ ghost use Rattle.frame_state.specs.Room.{IsShort};
 ghost use Rattle.frame_store.specs.Entry.{CallOpen, entries, entry_of};
 ghost use Rattle.ordered_search.specs.Parts.{contains, is_active, is_called, is_called_of};
 ghost use Rattle.frame_state.specs.Calls.{AreNested, AreWithin, IsCalling, IsLatest, IsCallee, GoesOn, call_entry, call_spot, called_ahead, calls_at};
-ghost use Rattle.frame_state.specs.Frames.{ahead};
+ghost use Rattle.frame_state.specs.Steps.{over, StepsOn, StopsThere, StopsBy, KeepsPeak, IsShortAt};
 ghost use Rattle.frame_state.specs.Ground.{IsNode};
-ghost use Rattle.frame_state.specs.Machine.{conf, kept_at};
-ghost use Rattle.frame_state.specs.Stops.{IsHeldStop, IsStop, tells};
-ghost use Rattle.frame_state.specs.Validity.{IsValid, Advances};
+ghost use Rattle.frame_state.specs.Machine.{kept_at};
+ghost use Rattle.frame_state.specs.Stops.{IsHeldStop, tells};
+ghost use Rattle.frame_state.specs.Validity.{IsValid};
 
 use frame_state::framing::{first_branch, open_frame};
 use frame_state::machine::{Next, Spot, Stop, hold};
@@ -113,7 +113,8 @@ fn last_place(store: &Store, frame: u32, place: u64) -> u64
 
 /// The record of a call of a group at a part.
 fn call_record(spot: &Spot, at: u32, group: u16, last: u64) -> Record
-    ensures { entry_of result ≡ CallOpen (record { node = at; link = spot.now.frame }) (kept_at spot.now) group last }
+    ensures { entry_of result ≡ CallOpen (record { node = at; link = spot.now.frame })
+        (kept_at spot.now) group last }
 {
     let mut event = spot.record(KIND_CALL_OPEN, at, 0, last, 0);
     event.slot = group;
@@ -133,7 +134,8 @@ fn open_call(
     requires some { 0 < spot.old.left }
     ensures room { OnOk result (spot.old.units < limit) }
     ensures spot { OnOk result (spot.new ≡ call_spot spot.old (length store.old.records)) }
-    ensures pushed { OnOk result (entries store.new.records ≡ call_entry spot.old at group last ∷ entries store.old.records) }
+    ensures pushed { OnOk result (entries store.new.records ≡ call_entry spot.old at group last ∷
+        entries store.old.records) }
     ensures stop { IfErr result (λ stop. IsHeldStop stop limit spot.old.units) }
     ensures last { spot.new.last ≡ spot.old.last }
     ensures peak { store.new.peak ≤ max store.old.peak limit }
@@ -158,14 +160,16 @@ pub fn enter_call<S: Searchable>(
     store: &mut Store,
     registers: &[Option<Span>],
 ) -> Result<Next, Stop>
-    requires valid { IsValid (S.searched on.now) (conf (Next.Enter at) spot.old (entries store.old.records) registers.now) }
+    requires valid { IsValid (S.searched on.now)
+        (over (Next.Enter at) spot.old store.old registers.now) }
     requires node { IsNode (S.searched on.now) at (node.Call group) }
-    ensures on { IfOk result (λ next. Advances (S.searched on.now) (conf (Next.Enter at) spot.old (entries store.old.records) registers.now) (conf next spot.new (entries store.new.records) registers.now)) }
-    ensures stop { IfErr result (λ stop. IsStop stop spot.new registers.now (tells (S.searched on.now).setting spot.old (ahead (S.searched on.now) (conf (Next.Enter at) spot.old (entries store.old.records) registers.now)))) }
-    ensures peak { store.new.peak ≤ max store.old.peak (S.searched on.now).setting.matching.frame_limit }
+    ensures on { StepsOn (S.searched on.now) (over (Next.Enter at) spot.old store.old registers.now)
+        spot.new store.new registers.now result }
+    ensures stop { StopsThere (S.searched on.now)
+        (over (Next.Enter at) spot.old store.old registers.now) spot.new registers.now result }
+    ensures peak { KeepsPeak (S.searched on.now) store.old store.new }
     ensures no_less { room store.old ≤ room store.new }
-    ensures short { IfErr result (λ stop.
-        IsShort stop (S.searched on.now).setting.matching.frame_limit store.new) }
+    ensures short { IsShortAt (S.searched on.now) store.new result }
 {
     if spot.left == 0 {
         return Err(Stop::MatchLimit);
@@ -191,14 +195,18 @@ fn run_called<S: Searchable>(
     store: &mut Store,
     registers: &[Option<Span>],
 ) -> Result<Next, Stop>
-    requires calling { IsCalling (S.searched on.now) spot.old (entries store.old.records) registers.now }
+    requires calling { IsCalling (S.searched on.now) spot.old (entries store.old.records)
+        registers.now }
     requires callee { IsCallee (S.searched on.now) part }
-    ensures on { IfOk result (λ next. GoesOn (S.searched on.now) spot.old (called_ahead (S.searched on.now) part spot.old (entries store.old.records) registers.now) (conf next spot.new (entries store.new.records) registers.now)) }
-    ensures stop { IfErr result (λ stop. IsStop stop spot.new registers.now (tells (S.searched on.now).setting spot.old (called_ahead (S.searched on.now) part spot.old (entries store.old.records) registers.now))) }
-    ensures peak { store.new.peak ≤ max store.old.peak (S.searched on.now).setting.matching.frame_limit }
+    ensures on { IfOk result (λ next. GoesOn (S.searched on.now) spot.old
+        (called_ahead (S.searched on.now) part spot.old (entries store.old.records) registers.now)
+        (over next spot.new store.new registers.now)) }
+    ensures stop { StopsBy (S.searched on.now) spot.old
+        (called_ahead (S.searched on.now) part spot.old (entries store.old.records) registers.now)
+        spot.new registers.now result }
+    ensures peak { KeepsPeak (S.searched on.now) store.old store.new }
     ensures no_less { room store.old ≤ room store.new }
-    ensures short { IfErr result (λ stop.
-        IsShort stop (S.searched on.now).setting.matching.frame_limit store.new) }
+    ensures short { IsShortAt (S.searched on.now) store.new result }
 {
     match on.node(part) {
         Node::Group { number, branches } => {
@@ -218,15 +226,19 @@ fn run_group<S: Searchable>(
     store: &mut Store,
     registers: &[Option<Span>],
 ) -> Result<Next, Stop>
-    requires calling { IsCalling (S.searched on.now) spot.old (entries store.old.records) registers.now }
+    requires calling { IsCalling (S.searched on.now) spot.old (entries store.old.records)
+        registers.now }
     requires callee { IsCallee (S.searched on.now) part }
     requires node { IsNode (S.searched on.now) part (node.Group number branches.now) }
-    ensures on { IfOk result (λ next. GoesOn (S.searched on.now) spot.old (called_ahead (S.searched on.now) part spot.old (entries store.old.records) registers.now) (conf next spot.new (entries store.new.records) registers.now)) }
-    ensures stop { IfErr result (λ stop. IsStop stop spot.new registers.now (tells (S.searched on.now).setting spot.old (called_ahead (S.searched on.now) part spot.old (entries store.old.records) registers.now))) }
-    ensures peak { store.new.peak ≤ max store.old.peak (S.searched on.now).setting.matching.frame_limit }
+    ensures on { IfOk result (λ next. GoesOn (S.searched on.now) spot.old
+        (called_ahead (S.searched on.now) part spot.old (entries store.old.records) registers.now)
+        (over next spot.new store.new registers.now)) }
+    ensures stop { StopsBy (S.searched on.now) spot.old
+        (called_ahead (S.searched on.now) part spot.old (entries store.old.records) registers.now)
+        spot.new registers.now result }
+    ensures peak { KeepsPeak (S.searched on.now) store.old store.new }
     ensures no_less { room store.old ≤ room store.new }
-    ensures short { IfErr result (λ stop.
-        IsShort stop (S.searched on.now).setting.matching.frame_limit store.new) }
+    ensures short { IsShortAt (S.searched on.now) store.new result }
 {
     let Some(_) = number else {
         return Ok(Next::Enter(part));

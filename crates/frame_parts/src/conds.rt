@@ -1,5 +1,5 @@
 //! Conditions (pcre2pattern, "Conditional groups").
-ghost use Rattle.std.specs.Prelude.{◌≡◌, ◌≤◌, ◌+◌, max, All, IfOk, IfErr, Some, reverse, slice_get, true};
+ghost use Rattle.std.specs.Prelude.{◌≡◌, ◌≤◌, ◌+◌, All, IfOk, IfErr, Some, reverse, slice_get, true};
 ghost use Rattle.pat_tree.specs.declared.nodes.Node.TheVariants as node;
 ghost use Rattle.frame_store.specs.Stack.{room};
 ghost use Rattle.frame_state.specs.Room.{IsQuiet, IsShort};
@@ -7,19 +7,18 @@ ghost use Rattle.frame_store.specs.Captures.{HasGroup};
 ghost use Rattle.frame_store.specs.Entry.{entries};
 ghost use Rattle.pcre_io.specs.declared.callouts.Block.{Block};
 ghost use Rattle.ordered_search.specs.Parts.{some_set};
+ghost use Rattle.frame_state.specs.Steps.{over, StepsOn, StopsThere, StopsBy, GoesOver, StopsOver, KeepsPeak, IsShortAt};
 ghost use Rattle.frame_state.specs.Ground.{tree_of, IsNode, IsPart};
-ghost use Rattle.frame_state.specs.Machine.{conf};
 ghost use Rattle.frame_state.specs.Frames.{ahead};
-ghost use Rattle.frame_state.specs.Over.{IsStopOver, AdvancesOver, GoesBy, tested_ahead};
+ghost use Rattle.frame_state.specs.Over.{GoesBy, tested_ahead};
 ghost use Rattle.frame_state.specs.Shown.{IsReplied};
-ghost use Rattle.frame_state.specs.Validity.{IsCondition, IsValid, Advances};
+ghost use Rattle.frame_state.specs.Validity.{IsCondition, IsValid};
 ghost use Rattle.frame_parts.specs.Conditions.{IsAsserted, IsChoice, IsTest, IsLook, test_kind};
-ghost use Rattle.frame_state.specs.Stops.{IsStop, tells};
 
-use crate::callouts::{block_of, show};
 use crate::calls::{in_call, in_call_of};
 use crate::looks::go_back;
 use frame_state::behind::begin_branches;
+use frame_state::callouts::{block_of, show};
 use frame_state::framing::{first_set, go_on, leave, open_frame};
 use frame_state::machine::{Next, Spot, Stop};
 use frame_state::searchable::Searchable;
@@ -83,13 +82,17 @@ pub fn enter_condition<S: Searchable, C: Callouts>(
     registers: &[Option<Span>],
     calls: &mut C,
 ) -> Result<Next, Stop>
-    requires valid { IsValid (S.searched on.now) (conf (Next.Enter at) spot.old (entries store.old.records) registers.now) }
+    requires valid { IsValid (S.searched on.now)
+        (over (Next.Enter at) spot.old store.old registers.now) }
     requires node { IsNode (S.searched on.now) at (node.Cond test.now yes no) }
     requires replied { IsReplied (S.searched on.now).setting (C.answers calls.old) }
-    ensures on { IfOk result (λ next. AdvancesOver (S.searched on.now) (C.seen calls.old) (C.seen calls.new) (conf (Next.Enter at) spot.old (entries store.old.records) registers.now) (conf next spot.new (entries store.new.records) registers.now)) }
-    ensures stop { IfErr result (λ stop. IsStopOver stop spot.new registers.now (C.seen calls.old) (C.seen calls.new) (tells (S.searched on.now).setting spot.old (ahead (S.searched on.now) (conf (Next.Enter at) spot.old (entries store.old.records) registers.now)))) }
+    ensures on { GoesOver (S.searched on.now) (C.seen calls.old) (C.seen calls.new)
+        (over (Next.Enter at) spot.old store.old registers.now)
+        spot.new store.new registers.now result }
+    ensures stop { StopsOver (S.searched on.now) (C.seen calls.old) (C.seen calls.new)
+        (over (Next.Enter at) spot.old store.old registers.now) spot.new registers.now result }
     ensures rule { (block : Block) → C.answers calls.new block ≡ C.answers calls.old block }
-    ensures peak { store.new.peak ≤ max store.old.peak (S.searched on.now).setting.matching.frame_limit }
+    ensures peak { KeepsPeak (S.searched on.now) store.old store.new }
     ensures no_less { room store.old ≤ room store.new }
     ensures short { IsQuiet C.refuses (C.answers calls.old)
         → IfErr result (λ stop.
@@ -124,13 +127,17 @@ fn enter_test<S: Searchable, C: Callouts>(
     registers: &[Option<Span>],
     calls: &mut C,
 ) -> Result<Next, Stop>
-    requires valid { IsValid (S.searched on.now) (conf (Next.Enter at) spot.old (entries store.old.records) registers.now) }
+    requires valid { IsValid (S.searched on.now)
+        (over (Next.Enter at) spot.old store.old registers.now) }
     requires asserted { IsAsserted (S.searched on.now) at part }
     requires replied { IsReplied (S.searched on.now).setting (C.answers calls.old) }
-    ensures on { IfOk result (λ next. AdvancesOver (S.searched on.now) (C.seen calls.old) (C.seen calls.new) (conf (Next.Enter at) spot.old (entries store.old.records) registers.now) (conf next spot.new (entries store.new.records) registers.now)) }
-    ensures stop { IfErr result (λ stop. IsStopOver stop spot.new registers.now (C.seen calls.old) (C.seen calls.new) (tells (S.searched on.now).setting spot.old (ahead (S.searched on.now) (conf (Next.Enter at) spot.old (entries store.old.records) registers.now)))) }
+    ensures on { GoesOver (S.searched on.now) (C.seen calls.old) (C.seen calls.new)
+        (over (Next.Enter at) spot.old store.old registers.now)
+        spot.new store.new registers.now result }
+    ensures stop { StopsOver (S.searched on.now) (C.seen calls.old) (C.seen calls.new)
+        (over (Next.Enter at) spot.old store.old registers.now) spot.new registers.now result }
     ensures rule { (block : Block) → C.answers calls.new block ≡ C.answers calls.old block }
-    ensures peak { store.new.peak ≤ max store.old.peak (S.searched on.now).setting.matching.frame_limit }
+    ensures peak { KeepsPeak (S.searched on.now) store.old store.new }
     ensures no_less { room store.old ≤ room store.new }
     ensures short { IsQuiet C.refuses (C.answers calls.old)
         → IfErr result (λ stop.
@@ -161,14 +168,18 @@ fn enter_called<S: Searchable, C: Callouts>(
     registers: &[Option<Span>],
     calls: &mut C,
 ) -> Result<Next, Stop>
-    requires valid { IsValid (S.searched on.now) (conf (Next.Enter at) spot.old (entries store.old.records) registers.now) }
+    requires valid { IsValid (S.searched on.now)
+        (over (Next.Enter at) spot.old store.old registers.now) }
     requires asserted { IsAsserted (S.searched on.now) at part }
     requires node { IsNode (S.searched on.now) part (node.Seq parts.now) }
     requires replied { IsReplied (S.searched on.now).setting (C.answers calls.old) }
-    ensures on { IfOk result (λ next. AdvancesOver (S.searched on.now) (C.seen calls.old) (C.seen calls.new) (conf (Next.Enter at) spot.old (entries store.old.records) registers.now) (conf next spot.new (entries store.new.records) registers.now)) }
-    ensures stop { IfErr result (λ stop. IsStopOver stop spot.new registers.now (C.seen calls.old) (C.seen calls.new) (tells (S.searched on.now).setting spot.old (ahead (S.searched on.now) (conf (Next.Enter at) spot.old (entries store.old.records) registers.now)))) }
+    ensures on { GoesOver (S.searched on.now) (C.seen calls.old) (C.seen calls.new)
+        (over (Next.Enter at) spot.old store.old registers.now)
+        spot.new store.new registers.now result }
+    ensures stop { StopsOver (S.searched on.now) (C.seen calls.old) (C.seen calls.new)
+        (over (Next.Enter at) spot.old store.old registers.now) spot.new registers.now result }
     ensures rule { (block : Block) → C.answers calls.new block ≡ C.answers calls.old block }
-    ensures peak { store.new.peak ≤ max store.old.peak (S.searched on.now).setting.matching.frame_limit }
+    ensures peak { KeepsPeak (S.searched on.now) store.old store.new }
     ensures no_less { room store.old ≤ room store.new }
     ensures short { IsQuiet C.refuses (C.answers calls.old)
         → IfErr result (λ stop.
@@ -216,15 +227,20 @@ fn open_test<S: Searchable>(
     store: &mut Store,
     registers: &[Option<Span>],
 ) -> Result<Next, Stop>
-    requires valid { IsValid (S.searched on.now) (conf (Next.Enter at) spot.old (entries store.old.records) registers.now) }
+    requires valid { IsValid (S.searched on.now)
+        (over (Next.Enter at) spot.old store.old registers.now) }
     requires test { IsTest (S.searched on.now) at look }
     requires look { IsLook (S.searched on.now) look forward positive branches.now }
-    ensures on { IfOk result (λ next. GoesBy (S.searched on.now) spot.old (tested_ahead (S.searched on.now) at look positive branches.now spot.old (entries store.old.records) registers.now) (conf next spot.new (entries store.new.records) registers.now)) }
-    ensures stop { IfErr result (λ stop. IsStop stop spot.new registers.now (tells (S.searched on.now).setting spot.old (tested_ahead (S.searched on.now) at look positive branches.now spot.old (entries store.old.records) registers.now))) }
-    ensures peak { store.new.peak ≤ max store.old.peak (S.searched on.now).setting.matching.frame_limit }
+    ensures on { IfOk result (λ next. GoesBy (S.searched on.now) spot.old
+        (tested_ahead (S.searched on.now) at look positive branches.now spot.old
+        (entries store.old.records) registers.now)
+        (over next spot.new store.new registers.now)) }
+    ensures stop { StopsBy (S.searched on.now) spot.old
+        (tested_ahead (S.searched on.now) at look positive branches.now spot.old
+        (entries store.old.records) registers.now) spot.new registers.now result }
+    ensures peak { KeepsPeak (S.searched on.now) store.old store.new }
     ensures no_less { room store.old ≤ room store.new }
-    ensures short { IfErr result (λ stop.
-        IsShort stop (S.searched on.now).setting.matching.frame_limit store.new) }
+    ensures short { IsShortAt (S.searched on.now) store.new result }
 {
     let kind = test_kind(positive);
     if let Err(stop) = open_frame(on.unit_limit(), kind, at, spot, store) {
@@ -243,16 +259,17 @@ pub fn leave_test<S: Searchable>(
     store: &mut Store,
     registers: &[Option<Span>],
 ) -> Result<Next, Stop>
-    requires valid { IsValid (S.searched on.now) (conf Next.End spot.old (entries store.old.records) registers.now) }
+    requires valid { IsValid (S.searched on.now) (over Next.End spot.old store.old registers.now) }
     requires frame { spot.old.frame ≡ height + 1 }
     requires at { slice_get (reverse store.old.records) height ≡ Some frame.now }
     requires kind { frame.now.kind ≡ test_kind holds }
-    ensures on { IfOk result (λ next. Advances (S.searched on.now) (conf Next.End spot.old (entries store.old.records) registers.now) (conf next spot.new (entries store.new.records) registers.now)) }
-    ensures stop { IfErr result (λ stop. IsStop stop spot.new registers.now (tells (S.searched on.now).setting spot.old (ahead (S.searched on.now) (conf Next.End spot.old (entries store.old.records) registers.now)))) }
-    ensures peak { store.new.peak ≤ max store.old.peak (S.searched on.now).setting.matching.frame_limit }
+    ensures on { StepsOn (S.searched on.now) (over Next.End spot.old store.old registers.now)
+        spot.new store.new registers.now result }
+    ensures stop { StopsThere (S.searched on.now) (over Next.End spot.old store.old registers.now)
+        spot.new registers.now result }
+    ensures peak { KeepsPeak (S.searched on.now) store.old store.new }
     ensures no_less { room store.old ≤ room store.new }
-    ensures short { IfErr result (λ stop.
-        IsShort stop (S.searched on.now).setting.matching.frame_limit store.new) }
+    ensures short { IsShortAt (S.searched on.now) store.new result }
 {
     if let Err(stop) = leave(on.unit_limit(), frame, height, spot, store) {
         return Err(stop);

@@ -1,17 +1,13 @@
 //! Repeats of one item.
-ghost use Rattle.std.specs.Prelude.{◌≡◌, ◌≤◌, ◌<◌, ◌+◌, max, length, All, IfOk, IfErr, OnOk, Some, true, false, []};
+ghost use Rattle.std.specs.Prelude.{◌≡◌, ◌≤◌, ◌<◌, ◌+◌, max, All, IfOk, IfErr, Some, true, []};
 ghost use Rattle.frame_store.specs.Stack.{room};
-ghost use Rattle.frame_state.specs.Room.{IsShort};
-ghost use Rattle.frame_store.specs.Entry.{entries, entry_of};
-ghost use Rattle.pat_tree.specs.Nested as tree;
 ghost use Rattle.pat_tree.specs.Rules.{class_in, AtMost};
-ghost use Rattle.match_items.specs.Items.{is_none_left, longest_run};
 ghost use Rattle.frame_state.specs.Reach.{IsLed, IsHardStop, many_reaches};
+ghost use Rattle.frame_state.specs.Steps.{over, StepsOn, StopsThere, KeepsPeak, IsShortAt};
 ghost use Rattle.frame_state.specs.Ground.{tree_of, IsPart};
-ghost use Rattle.frame_state.specs.Machine.{conf, less};
-ghost use Rattle.frame_state.specs.Frames.{ahead};
-ghost use Rattle.frame_state.specs.Validity.{IsValid, Advances, IsRepeat, IsMany};
-ghost use Rattle.frame_state.specs.Stops.{IsStop, IsMost, many_next, tells};
+ghost use Rattle.frame_state.specs.Machine.{less};
+ghost use Rattle.frame_state.specs.Validity.{IsValid, IsMany};
+ghost use Rattle.frame_state.specs.Stops.{IsMost, many_next};
 
 use crate::passing::{pass_fewer, pass_more};
 use crate::repeats::{is_last, widen};
@@ -129,36 +125,19 @@ pub fn fewer<S: Searchable>(
     store: &mut Store,
     registers: &[Option<Span>],
 ) -> Result<Next, Stop>
-    requires valid { IsValid (S.searched on.now) (conf (Next.Fewer at least last) spot.old (entries store.old.records) registers.now) }
-    ensures on { IfOk result (λ next. Advances (S.searched on.now) (conf (Next.Fewer at least last) spot.old (entries store.old.records) registers.now) (conf next spot.new (entries store.new.records) registers.now)) }
-    ensures stop { IfErr result (λ stop. IsStop stop spot.new registers.now (tells (S.searched on.now).setting spot.old (ahead (S.searched on.now) (conf (Next.Fewer at least last) spot.old (entries store.old.records) registers.now)))) }
-    ensures peak { store.new.peak ≤ max store.old.peak (S.searched on.now).setting.matching.frame_limit }
+    requires valid { IsValid (S.searched on.now)
+        (over (Next.Fewer at least last) spot.old store.old registers.now) }
+    ensures on { StepsOn (S.searched on.now)
+        (over (Next.Fewer at least last) spot.old store.old registers.now)
+        spot.new store.new registers.now result }
+    ensures stop { StopsThere (S.searched on.now)
+        (over (Next.Fewer at least last) spot.old store.old registers.now)
+        spot.new registers.now result }
+    ensures peak { KeepsPeak (S.searched on.now) store.old store.new }
     ensures no_less { room store.old ≤ room store.new }
-    ensures short { IfErr result (λ stop.
-        IsShort stop (S.searched on.now).setting.matching.frame_limit store.new) }
+    ensures short { IsShortAt (S.searched on.now) store.new result }
 {
     let last = pass_fewer(on, at, least, last, spot, store, registers);
-    hand_on(on, at, least, last, spot, store, registers)
-}
-
-/// Goes on after a run of a greedy repeat, and leaves the shorter ones.
-fn hand_on<S: Searchable>(
-    on: &S,
-    at: u32,
-    least: u64,
-    last: u64,
-    spot: &mut Spot,
-    store: &mut Store,
-    registers: &[Option<Span>],
-) -> Result<Next, Stop>
-    requires valid { IsValid (S.searched on.now) (conf (Next.Fewer at least last) spot.old (entries store.old.records) registers.now) }
-    ensures on { IfOk result (λ next. Advances (S.searched on.now) (conf (Next.Fewer at least last) spot.old (entries store.old.records) registers.now) (conf next spot.new (entries store.new.records) registers.now)) }
-    ensures stop { IfErr result (λ stop. IsStop stop spot.new registers.now (tells (S.searched on.now).setting spot.old (ahead (S.searched on.now) (conf (Next.Fewer at least last) spot.old (entries store.old.records) registers.now)))) }
-    ensures peak { store.new.peak ≤ max store.old.peak (S.searched on.now).setting.matching.frame_limit }
-    ensures no_less { room store.old ≤ room store.new }
-    ensures short { IfErr result (λ stop.
-        IsShort stop (S.searched on.now).setting.matching.frame_limit store.new) }
-{
     if spot.left == 0 {
         return Err(Stop::MatchLimit);
     }
@@ -186,50 +165,33 @@ pub fn more<S: Searchable>(
     store: &mut Store,
     registers: &[Option<Span>],
 ) -> Result<Next, Stop>
-    requires valid { IsValid (S.searched on.now) (conf (Next.More at count last) spot.old (entries store.old.records) registers.now) }
-    ensures on { IfOk result (λ next. Advances (S.searched on.now) (conf (Next.More at count last) spot.old (entries store.old.records) registers.now) (conf next spot.new (entries store.new.records) registers.now)) }
-    ensures stop { IfErr result (λ stop. IsStop stop spot.new registers.now (tells (S.searched on.now).setting spot.old (ahead (S.searched on.now) (conf (Next.More at count last) spot.old (entries store.old.records) registers.now)))) }
-    ensures peak { store.new.peak ≤ max store.old.peak (S.searched on.now).setting.matching.frame_limit }
+    requires valid { IsValid (S.searched on.now)
+        (over (Next.More at count last) spot.old store.old registers.now) }
+    ensures on { StepsOn (S.searched on.now)
+        (over (Next.More at count last) spot.old store.old registers.now)
+        spot.new store.new registers.now result }
+    ensures stop { StopsThere (S.searched on.now)
+        (over (Next.More at count last) spot.old store.old registers.now)
+        spot.new registers.now result }
+    ensures peak { KeepsPeak (S.searched on.now) store.old store.new }
     ensures no_less { room store.old ≤ room store.new }
-    ensures short { IfErr result (λ stop.
-        IsShort stop (S.searched on.now).setting.matching.frame_limit store.new) }
+    ensures short { IsShortAt (S.searched on.now) store.new result }
 {
     let run = pass_more(on, at, count, last, spot, store, registers);
-    wait_for_more(on, at, run.count, run.to, spot, store, registers)
-}
-
-/// Goes on after a run of a lazy repeat, and leaves the longer ones.
-fn wait_for_more<S: Searchable>(
-    on: &S,
-    at: u32,
-    count: u32,
-    last: u64,
-    spot: &mut Spot,
-    store: &mut Store,
-    registers: &[Option<Span>],
-) -> Result<Next, Stop>
-    requires valid { IsValid (S.searched on.now) (conf (Next.More at count last) spot.old (entries store.old.records) registers.now) }
-    ensures on { IfOk result (λ next. Advances (S.searched on.now) (conf (Next.More at count last) spot.old (entries store.old.records) registers.now) (conf next spot.new (entries store.new.records) registers.now)) }
-    ensures stop { IfErr result (λ stop. IsStop stop spot.new registers.now (tells (S.searched on.now).setting spot.old (ahead (S.searched on.now) (conf (Next.More at count last) spot.old (entries store.old.records) registers.now)))) }
-    ensures peak { store.new.peak ≤ max store.old.peak (S.searched on.now).setting.matching.frame_limit }
-    ensures no_less { room store.old ≤ room store.new }
-    ensures short { IfErr result (λ stop.
-        IsShort stop (S.searched on.now).setting.matching.frame_limit store.new) }
-{
     let most = most_of(on, at);
     if spot.left == 0 {
         return Err(Stop::MatchLimit);
     }
-    if is_last(most, count) {
+    if is_last(most, run.count) {
         spot.left -= 1;
-        spot.place = last;
+        spot.place = run.to;
         return Ok(go_on(on, at));
     }
-    let record = spot.record(KIND_MORE_ITEMS, at, count, 0, last);
+    let record = spot.record(KIND_MORE_ITEMS, at, run.count, 0, run.to);
     if let Err(stop) = hold(on.unit_limit(), record, spot, store) {
         return Err(stop);
     }
     spot.left -= 1;
-    spot.place = last;
+    spot.place = run.to;
     Ok(go_on(on, at))
 }

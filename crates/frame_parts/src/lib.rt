@@ -1,9 +1,8 @@
 //! The parts of a pattern as the ordered search runs them: alternatives, repeats, atomic groups, lookarounds,
-//! conditions, calls and callouts (pcre2pattern).
+//! conditions and calls (pcre2pattern).
 #![tactic(auto)]
 
 pub mod atomic;
-pub mod callouts;
 pub mod calls;
 pub mod conds;
 pub mod items;

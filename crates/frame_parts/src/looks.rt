@@ -1,14 +1,10 @@
 //! Lookarounds (pcre2pattern, "Assertions").
-ghost use Rattle.std.specs.Prelude.{◌≡◌, ◌≤◌, ◌+◌, max, IfOk, IfErr, Some, reverse, slice_get, true};
+ghost use Rattle.std.specs.Prelude.{◌≡◌, ◌≤◌, ◌+◌, Some, reverse, slice_get};
 ghost use Rattle.pat_tree.specs.declared.nodes.Node.TheVariants as node;
 ghost use Rattle.frame_store.specs.Stack.{room};
-ghost use Rattle.frame_state.specs.Room.{IsShort};
-ghost use Rattle.frame_store.specs.Entry.{entries};
+ghost use Rattle.frame_state.specs.Steps.{over, StepsOn, StopsThere, KeepsPeak, IsShortAt};
 ghost use Rattle.frame_state.specs.Ground.{IsNode};
-ghost use Rattle.frame_state.specs.Machine.{conf};
-ghost use Rattle.frame_state.specs.Frames.{ahead};
-ghost use Rattle.frame_state.specs.Validity.{IsValid, Advances};
-ghost use Rattle.frame_state.specs.Stops.{IsStop, tells};
+ghost use Rattle.frame_state.specs.Validity.{IsValid};
 ghost use Rattle.frame_parts.specs.Looks.{look_kind};
 
 use frame_state::behind::begin_branches;
@@ -45,14 +41,16 @@ pub fn enter_look<S: Searchable>(
     store: &mut Store,
     registers: &[Option<Span>],
 ) -> Result<Next, Stop>
-    requires valid { IsValid (S.searched on.now) (conf (Next.Enter at) spot.old (entries store.old.records) registers.now) }
+    requires valid { IsValid (S.searched on.now)
+        (over (Next.Enter at) spot.old store.old registers.now) }
     requires node { IsNode (S.searched on.now) at (node.Look forward positive once branches.now) }
-    ensures on { IfOk result (λ next. Advances (S.searched on.now) (conf (Next.Enter at) spot.old (entries store.old.records) registers.now) (conf next spot.new (entries store.new.records) registers.now)) }
-    ensures stop { IfErr result (λ stop. IsStop stop spot.new registers.now (tells (S.searched on.now).setting spot.old (ahead (S.searched on.now) (conf (Next.Enter at) spot.old (entries store.old.records) registers.now)))) }
-    ensures peak { store.new.peak ≤ max store.old.peak (S.searched on.now).setting.matching.frame_limit }
+    ensures on { StepsOn (S.searched on.now) (over (Next.Enter at) spot.old store.old registers.now)
+        spot.new store.new registers.now result }
+    ensures stop { StopsThere (S.searched on.now)
+        (over (Next.Enter at) spot.old store.old registers.now) spot.new registers.now result }
+    ensures peak { KeepsPeak (S.searched on.now) store.old store.new }
     ensures no_less { room store.old ≤ room store.new }
-    ensures short { IfErr result (λ stop.
-        IsShort stop (S.searched on.now).setting.matching.frame_limit store.new) }
+    ensures short { IsShortAt (S.searched on.now) store.new result }
 {
     let kind = look_kind(positive, once);
     if let Err(stop) = open_frame(on.unit_limit(), kind, at, spot, store) {
@@ -78,16 +76,17 @@ pub fn leave_look<S: Searchable>(
     store: &mut Store,
     registers: &[Option<Span>],
 ) -> Result<Next, Stop>
-    requires valid { IsValid (S.searched on.now) (conf Next.End spot.old (entries store.old.records) registers.now) }
+    requires valid { IsValid (S.searched on.now) (over Next.End spot.old store.old registers.now) }
     requires frame { spot.old.frame ≡ height + 1 }
     requires at { slice_get (reverse store.old.records) height ≡ Some frame.now }
     requires kind { frame.now.kind ≡ KIND_LOOK_OPEN }
-    ensures on { IfOk result (λ next. Advances (S.searched on.now) (conf Next.End spot.old (entries store.old.records) registers.now) (conf next spot.new (entries store.new.records) registers.now)) }
-    ensures stop { IfErr result (λ stop. IsStop stop spot.new registers.now (tells (S.searched on.now).setting spot.old (ahead (S.searched on.now) (conf Next.End spot.old (entries store.old.records) registers.now)))) }
-    ensures peak { store.new.peak ≤ max store.old.peak (S.searched on.now).setting.matching.frame_limit }
+    ensures on { StepsOn (S.searched on.now) (over Next.End spot.old store.old registers.now)
+        spot.new store.new registers.now result }
+    ensures stop { StopsThere (S.searched on.now) (over Next.End spot.old store.old registers.now)
+        spot.new registers.now result }
+    ensures peak { KeepsPeak (S.searched on.now) store.old store.new }
     ensures no_less { room store.old ≤ room store.new }
-    ensures short { IfErr result (λ stop.
-        IsShort stop (S.searched on.now).setting.matching.frame_limit store.new) }
+    ensures short { IsShortAt (S.searched on.now) store.new result }
 {
     if let Err(stop) = leave(on.unit_limit(), frame, height, spot, store) {
         return Err(stop);
@@ -105,16 +104,17 @@ pub fn pass_look<S: Searchable>(
     store: &mut Store,
     registers: &[Option<Span>],
 ) -> Result<Next, Stop>
-    requires valid { IsValid (S.searched on.now) (conf Next.End spot.old (entries store.old.records) registers.now) }
+    requires valid { IsValid (S.searched on.now) (over Next.End spot.old store.old registers.now) }
     requires frame { spot.old.frame ≡ height + 1 }
     requires at { slice_get (reverse store.old.records) height ≡ Some frame.now }
     requires kind { frame.now.kind ≡ KIND_LOOK_ALL_OPEN }
-    ensures on { IfOk result (λ next. Advances (S.searched on.now) (conf Next.End spot.old (entries store.old.records) registers.now) (conf next spot.new (entries store.new.records) registers.now)) }
-    ensures stop { IfErr result (λ stop. IsStop stop spot.new registers.now (tells (S.searched on.now).setting spot.old (ahead (S.searched on.now) (conf Next.End spot.old (entries store.old.records) registers.now)))) }
-    ensures peak { store.new.peak ≤ max store.old.peak (S.searched on.now).setting.matching.frame_limit }
+    ensures on { StepsOn (S.searched on.now) (over Next.End spot.old store.old registers.now)
+        spot.new store.new registers.now result }
+    ensures stop { StopsThere (S.searched on.now) (over Next.End spot.old store.old registers.now)
+        spot.new registers.now result }
+    ensures peak { KeepsPeak (S.searched on.now) store.old store.new }
     ensures no_less { room store.old ≤ room store.new }
-    ensures short { IfErr result (λ stop.
-        IsShort stop (S.searched on.now).setting.matching.frame_limit store.new) }
+    ensures short { IsShortAt (S.searched on.now) store.new result }
 {
     go_back(spot, frame);
     spot.frame = frame.link;
@@ -130,16 +130,17 @@ pub fn deny<S: Searchable>(
     store: &mut Store,
     registers: &mut [Option<Span>],
 ) -> Result<Next, Stop>
-    requires valid { IsValid (S.searched on.now) (conf Next.End spot.old (entries store.old.records) registers.old) }
+    requires valid { IsValid (S.searched on.now) (over Next.End spot.old store.old registers.old) }
     requires frame { spot.old.frame ≡ height + 1 }
     requires at { slice_get (reverse store.old.records) height ≡ Some frame.now }
     requires kind { frame.now.kind ≡ KIND_DENIAL_OPEN }
-    ensures on { IfOk result (λ next. Advances (S.searched on.now) (conf Next.End spot.old (entries store.old.records) registers.old) (conf next spot.new (entries store.new.records) registers.new)) }
-    ensures stop { IfErr result (λ stop. IsStop stop spot.new registers.new (tells (S.searched on.now).setting spot.old (ahead (S.searched on.now) (conf Next.End spot.old (entries store.old.records) registers.old)))) }
-    ensures peak { store.new.peak ≤ max store.old.peak (S.searched on.now).setting.matching.frame_limit }
+    ensures on { StepsOn (S.searched on.now) (over Next.End spot.old store.old registers.old)
+        spot.new store.new registers.new result }
+    ensures stop { StopsThere (S.searched on.now) (over Next.End spot.old store.old registers.old)
+        spot.new registers.new result }
+    ensures peak { KeepsPeak (S.searched on.now) store.old store.new }
     ensures no_less { room store.old ≤ room store.new }
-    ensures short { IfErr result (λ stop.
-        IsShort stop (S.searched on.now).setting.matching.frame_limit store.new) }
+    ensures short { IsShortAt (S.searched on.now) store.new result }
 {
     store.undo_spans(height, registers);
     Ok(Next::Back)

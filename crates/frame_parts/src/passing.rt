@@ -5,9 +5,9 @@
 //! for these, nothing but the Step is left of it.
 ghost use Rattle.std.specs.Prelude.{◌≡◌, ◌<◌, ◌+◌, true, IsTrue, MatchOption};
 ghost use Rattle.pat_tree.specs.declared.options.PartialMode.TheVariants.{Off};
-ghost use Rattle.frame_store.specs.Entry.{entries};
+ghost use Rattle.frame_state.specs.Steps.{over};
 ghost use Rattle.frame_state.specs.Ground.{next_of, tree_of, IsPart};
-ghost use Rattle.frame_state.specs.Machine.{conf, towards};
+ghost use Rattle.frame_state.specs.Machine.{towards};
 ghost use Rattle.frame_state.specs.Validity.{IsMany, IsValid};
 ghost use Rattle.frame_state.specs.Stops.{IsFurther};
 ghost use Rattle.frame_parts.specs.Passing.{HasNumber, BeginsWith, FailsAt, IsFollower, Reaches};
@@ -85,8 +85,7 @@ fn after_group<S: Searchable>(
     registers: &[Option<Span>],
 ) -> Option<Follower>
     requires off { (S.searched on.now).setting.matching.partial ≡ Off }
-    requires valid { IsValid (S.searched on.now)
-        (conf Next.End spot.now (entries store.now.records) registers.now) }
+    requires valid { IsValid (S.searched on.now) (over Next.End spot.now store.now registers.now) }
     ensures { MatchOption result (Unit {0})
         (λ f. IsFollower (S.searched on.now) Next.End spot.now.frame store.now.records registers.now
         f.item f.units) }
@@ -120,8 +119,7 @@ fn after_part<S: Searchable>(
 ) -> Option<Follower>
     requires off { (S.searched on.now).setting.matching.partial ≡ Off }
     requires inside { IsPart (S.searched on.now) at }
-    requires valid { IsValid (S.searched on.now)
-        (conf Next.End spot.now (entries store.now.records) registers.now) }
+    requires valid { IsValid (S.searched on.now) (over Next.End spot.now store.now registers.now) }
     ensures { MatchOption result (Unit {0})
         (λ f. IsFollower (S.searched on.now) (towards (next_of (S.searched on.now) at))
         spot.now.frame store.now.records registers.now f.item f.units) }
@@ -155,10 +153,10 @@ pub(crate) fn pass_fewer<S: Searchable>(
     registers: &[Option<Span>],
 ) -> u64
     requires valid { IsValid (S.searched on.now)
-        (conf (Next.Fewer at least last) spot.old (entries store.now.records) registers.now) }
+        (over (Next.Fewer at least last) spot.old store.now registers.now) }
     ensures { Reaches (S.searched on.now)
-        (conf (Next.Fewer at least last) spot.old (entries store.now.records) registers.now)
-        (conf (Next.Fewer at least result) spot.new (entries store.now.records) registers.now) }
+        (over (Next.Fewer at least last) spot.old store.now registers.now)
+        (over (Next.Fewer at least result) spot.new store.now registers.now) }
 {
     // At the subject's end what is refused may still tell a partial match.
     if !on.is_off() {
@@ -190,11 +188,10 @@ pub(crate) fn pass_more<S: Searchable>(
     registers: &[Option<Span>],
 ) -> Further
     requires valid { IsValid (S.searched on.now)
-        (conf (Next.More at count last) spot.old (entries store.now.records) registers.now) }
+        (over (Next.More at count last) spot.old store.now registers.now) }
     ensures { Reaches (S.searched on.now)
-        (conf (Next.More at count last) spot.old (entries store.now.records) registers.now)
-        (conf (Next.More at result.count result.to) spot.new (entries store.now.records)
-        registers.now) }
+        (over (Next.More at count last) spot.old store.now registers.now)
+        (over (Next.More at result.count result.to) spot.new store.now registers.now) }
 {
     let mut run = Further { count, to: last };
     if !on.is_off() {
@@ -262,10 +259,10 @@ pub(crate) fn pass_branches<S: Searchable>(
     registers: &[Option<Span>],
 ) -> u32
     requires valid { IsValid (S.searched on.now)
-        (conf (Next.Branch at index) spot.old (entries store.now.records) registers.now) }
+        (over (Next.Branch at index) spot.old store.now registers.now) }
     ensures { Reaches (S.searched on.now)
-        (conf (Next.Branch at index) spot.old (entries store.now.records) registers.now)
-        (conf (Next.Branch at result) spot.new (entries store.now.records) registers.now) }
+        (over (Next.Branch at index) spot.old store.now registers.now)
+        (over (Next.Branch at result) spot.new store.now registers.now) }
 {
     if is_behind(on, at) || spot.units >= on.unit_limit() || !on.is_off() {
         return index;

@@ -3,17 +3,14 @@
 //!
 //! Nothing goes back into such a group, so no record stands for it. By the definition its begin and
 //! its end hold a unit each, and so do the further places of its run, if it has some.
-ghost use Rattle.std.specs.Prelude.{◌≡◌, All, true, None, Some, map, MatchOption, IfOk, IfErr};
+ghost use Rattle.std.specs.Prelude.{◌≡◌, All, true, None, Some, map, MatchOption, IfErr};
 ghost use Rattle.pat_tree.specs.declared.nodes.Node.TheVariants as node;
 ghost use Rattle.pat_tree.specs.Nested.{row, tree_at};
-ghost use Rattle.frame_store.specs.Entry.{entries};
 ghost use Rattle.ordered_search.specs.Paths.{many_in, only_many};
+ghost use Rattle.frame_state.specs.Steps.{over, StepsOn, StopsThere};
 ghost use Rattle.frame_state.specs.Ground.{tree_of, IsNode, IsPart};
-ghost use Rattle.frame_state.specs.Machine.{conf};
-ghost use Rattle.frame_state.specs.Frames.{ahead};
-ghost use Rattle.frame_state.specs.Validity.{IsValid, Advances};
+ghost use Rattle.frame_state.specs.Validity.{IsValid};
 ghost use Rattle.frame_state.specs.Room.{IsSteady};
-ghost use Rattle.frame_state.specs.Stops.{IsStop, tells};
 ghost use Rattle.frame_parts.specs.Possessive.{IsMeet, IsRepeatOf, IsOnly, first_place, repeat_reaches, units_of};
 
 use crate::items::less;
@@ -138,18 +135,13 @@ pub(crate) fn pass_possessive<S: Searchable>(
     registers: &[Option<Span>],
 ) -> Result<Next, Stop>
     requires valid { IsValid (S.searched on.now)
-        (conf (Next.Enter at) spot.old (entries store.now.records) registers.now) }
+        (over (Next.Enter at) spot.old store.now registers.now) }
     requires node { IsNode (S.searched on.now) at (node.Atomic branches.now) }
     requires only { IsOnly (S.searched on.now) branches.now repeat.now }
-    ensures on { IfOk result
-        (λ next. Advances (S.searched on.now)
-        (conf (Next.Enter at) spot.old (entries store.now.records) registers.now)
-        (conf next spot.new (entries store.now.records) registers.now)) }
-    ensures stop { IfErr result
-        (λ stop. IsStop stop spot.new registers.now
-        (tells (S.searched on.now).setting spot.old
-        (ahead (S.searched on.now)
-        (conf (Next.Enter at) spot.old (entries store.now.records) registers.now)))) }
+    ensures on { StepsOn (S.searched on.now) (over (Next.Enter at) spot.old store.now registers.now)
+        spot.new store.now registers.now result }
+    ensures stop { StopsThere (S.searched on.now)
+        (over (Next.Enter at) spot.old store.now registers.now) spot.new registers.now result }
     ensures steady { IfErr result IsSteady }
 {
     let limit = on.unit_limit();

@@ -1,17 +1,15 @@
 //! Alternatives and repeats of a group.
-ghost use Rattle.std.specs.Prelude.{◌≡◌, ◌≤◌, ◌<◌, ◌+◌, max, length, All, IfOk, IfErr, OnOk, Some, None, true, false, []};
+ghost use Rattle.std.specs.Prelude.{◌≡◌, ◌≤◌, ◌<◌, ◌+◌, max, Some, None, true, false, []};
 ghost use Rattle.frame_store.specs.Stack.{room};
-ghost use Rattle.frame_state.specs.Room.{IsShort};
-ghost use Rattle.frame_store.specs.Entry.{entries, entry_of};
+ghost use Rattle.frame_store.specs.Entry.{entry_of};
 ghost use Rattle.pat_tree.specs.Nested as tree;
-ghost use Rattle.pat_tree.specs.Rules.{class_in, AtMost};
-ghost use Rattle.match_items.specs.Items.{is_none_left, longest_run};
+ghost use Rattle.match_items.specs.Items.{is_none_left};
+ghost use Rattle.frame_state.specs.Steps.{over, StepsOn, StopsThere, KeepsPeak, IsShortAt};
 ghost use Rattle.frame_state.specs.Ground.{tree_of, IsPart};
-ghost use Rattle.frame_state.specs.Machine.{conf, less};
-ghost use Rattle.frame_state.specs.Frames.{ahead};
+ghost use Rattle.frame_state.specs.Machine.{less};
 ghost use Rattle.frame_state.specs.Branches.{AreBranches};
-ghost use Rattle.frame_state.specs.Validity.{IsValid, Advances, HasBranch, IsRepeat, IsMany};
-ghost use Rattle.frame_state.specs.Stops.{IsStop, many_next, turn_entry, tells};
+ghost use Rattle.frame_state.specs.Validity.{IsValid, HasBranch, IsRepeat};
+ghost use Rattle.frame_state.specs.Stops.{turn_entry};
 
 use crate::passing::pass_branches;
 use frame_state::behind::{begin_branch, is_behind};
@@ -55,7 +53,8 @@ pub(crate) fn is_last(max: Option<u32>, count: u32) -> bool
 pub fn turns_of<S: Searchable>(on: &S, part: u32) -> Turns
     requires inside { IsPart (S.searched on.now) part }
     requires repeat { IsRepeat (S.searched on.now) (tree_of (S.searched on.now) part) }
-    ensures is { tree.repeat (tree_of (S.searched on.now) result.body) result.min result.max result.lazy ≡ tree_of (S.searched on.now) part }
+    ensures is { tree.repeat (tree_of (S.searched on.now) result.body) result.min result.max
+        result.lazy ≡ tree_of (S.searched on.now) part }
     ensures body { IsPart (S.searched on.now) result.body }
     ensures alone { (S.searched on.now).rest result.body ≡ [] }
     ensures framed { (S.searched on.now).branch result.body ≡ None }
@@ -99,35 +98,19 @@ pub fn branch<S: Searchable>(
     store: &mut Store,
     registers: &[Option<Span>],
 ) -> Result<Next, Stop>
-    requires valid { IsValid (S.searched on.now) (conf (Next.Branch at index) spot.old (entries store.old.records) registers.now) }
-    ensures on { IfOk result (λ next. Advances (S.searched on.now) (conf (Next.Branch at index) spot.old (entries store.old.records) registers.now) (conf next spot.new (entries store.new.records) registers.now)) }
-    ensures stop { IfErr result (λ stop. IsStop stop spot.new registers.now (tells (S.searched on.now).setting spot.old (ahead (S.searched on.now) (conf (Next.Branch at index) spot.old (entries store.old.records) registers.now)))) }
-    ensures peak { store.new.peak ≤ max store.old.peak (S.searched on.now).setting.matching.frame_limit }
+    requires valid { IsValid (S.searched on.now)
+        (over (Next.Branch at index) spot.old store.old registers.now) }
+    ensures on { StepsOn (S.searched on.now)
+        (over (Next.Branch at index) spot.old store.old registers.now)
+        spot.new store.new registers.now result }
+    ensures stop { StopsThere (S.searched on.now)
+        (over (Next.Branch at index) spot.old store.old registers.now)
+        spot.new registers.now result }
+    ensures peak { KeepsPeak (S.searched on.now) store.old store.new }
     ensures no_less { room store.old ≤ room store.new }
-    ensures short { IfErr result (λ stop.
-        IsShort stop (S.searched on.now).setting.matching.frame_limit store.new) }
+    ensures short { IsShortAt (S.searched on.now) store.new result }
 {
     let index = pass_branches(on, at, index, spot, store, registers);
-    try_branch(on, at, index, spot, store, registers)
-}
-
-/// Goes on with a branch of a part, and leaves those after it.
-fn try_branch<S: Searchable>(
-    on: &S,
-    at: u32,
-    index: u32,
-    spot: &mut Spot,
-    store: &mut Store,
-    registers: &[Option<Span>],
-) -> Result<Next, Stop>
-    requires valid { IsValid (S.searched on.now) (conf (Next.Branch at index) spot.old (entries store.old.records) registers.now) }
-    ensures on { IfOk result (λ next. Advances (S.searched on.now) (conf (Next.Branch at index) spot.old (entries store.old.records) registers.now) (conf next spot.new (entries store.new.records) registers.now)) }
-    ensures stop { IfErr result (λ stop. IsStop stop spot.new registers.now (tells (S.searched on.now).setting spot.old (ahead (S.searched on.now) (conf (Next.Branch at index) spot.old (entries store.old.records) registers.now)))) }
-    ensures peak { store.new.peak ≤ max store.old.peak (S.searched on.now).setting.matching.frame_limit }
-    ensures no_less { room store.old ≤ room store.new }
-    ensures short { IfErr result (λ stop.
-        IsShort stop (S.searched on.now).setting.matching.frame_limit store.new) }
-{
     let branches = branches_of(on, at, index);
     let behind = is_behind(on, at);
     let first = *branches.get(index as usize);
@@ -155,13 +138,17 @@ pub fn offer<S: Searchable>(
     store: &mut Store,
     registers: &[Option<Span>],
 ) -> Result<Next, Stop>
-    requires valid { IsValid (S.searched on.now) (conf (Next.Offer at count) spot.old (entries store.old.records) registers.now) }
-    ensures on { IfOk result (λ next. Advances (S.searched on.now) (conf (Next.Offer at count) spot.old (entries store.old.records) registers.now) (conf next spot.new (entries store.new.records) registers.now)) }
-    ensures stop { IfErr result (λ stop. IsStop stop spot.new registers.now (tells (S.searched on.now).setting spot.old (ahead (S.searched on.now) (conf (Next.Offer at count) spot.old (entries store.old.records) registers.now)))) }
-    ensures peak { store.new.peak ≤ max store.old.peak (S.searched on.now).setting.matching.frame_limit }
+    requires valid { IsValid (S.searched on.now)
+        (over (Next.Offer at count) spot.old store.old registers.now) }
+    ensures on { StepsOn (S.searched on.now)
+        (over (Next.Offer at count) spot.old store.old registers.now)
+        spot.new store.new registers.now result }
+    ensures stop { StopsThere (S.searched on.now)
+        (over (Next.Offer at count) spot.old store.old registers.now)
+        spot.new registers.now result }
+    ensures peak { KeepsPeak (S.searched on.now) store.old store.new }
     ensures no_less { room store.old ≤ room store.new }
-    ensures short { IfErr result (λ stop.
-        IsShort stop (S.searched on.now).setting.matching.frame_limit store.new) }
+    ensures short { IsShortAt (S.searched on.now) store.new result }
 {
     let turns = turns_of(on, at);
     if count < turns.min {
@@ -201,13 +188,17 @@ pub fn begin<S: Searchable>(
     store: &mut Store,
     registers: &[Option<Span>],
 ) -> Result<Next, Stop>
-    requires valid { IsValid (S.searched on.now) (conf (Next.Begin at count exits) spot.old (entries store.old.records) registers.now) }
-    ensures on { IfOk result (λ next. Advances (S.searched on.now) (conf (Next.Begin at count exits) spot.old (entries store.old.records) registers.now) (conf next spot.new (entries store.new.records) registers.now)) }
-    ensures stop { IfErr result (λ stop. IsStop stop spot.new registers.now (tells (S.searched on.now).setting spot.old (ahead (S.searched on.now) (conf (Next.Begin at count exits) spot.old (entries store.old.records) registers.now)))) }
-    ensures peak { store.new.peak ≤ max store.old.peak (S.searched on.now).setting.matching.frame_limit }
+    requires valid { IsValid (S.searched on.now)
+        (over (Next.Begin at count exits) spot.old store.old registers.now) }
+    ensures on { StepsOn (S.searched on.now)
+        (over (Next.Begin at count exits) spot.old store.old registers.now)
+        spot.new store.new registers.now result }
+    ensures stop { StopsThere (S.searched on.now)
+        (over (Next.Begin at count exits) spot.old store.old registers.now)
+        spot.new registers.now result }
+    ensures peak { KeepsPeak (S.searched on.now) store.old store.new }
     ensures no_less { room store.old ≤ room store.new }
-    ensures short { IfErr result (λ stop.
-        IsShort stop (S.searched on.now).setting.matching.frame_limit store.new) }
+    ensures short { IsShortAt (S.searched on.now) store.new result }
 {
     let turns = turns_of(on, at);
     if spot.left == 0 {

@@ -12,7 +12,8 @@ use Rattle.frame_state.specs.Ground.{Ground}
 use Rattle.frame_state.specs.Machine.{Around, link_of}
 use Rattle.frame_state.specs.Frames.{frame_around, around}
 use Rattle.frame_state.specs.Validity.{IsSound, AreSound}
-use Rattle.frame_state.proofs.Frames.{around_here, around_below, link_sound, split}
+use Rattle.frame_state.proofs.Frames.{around_here, around_below, link_sound}
+use Rattle.frame_state.proofs.Splits.{split}
 
 calls_here : (r : Entry) (below : List Entry) (l : ℕ) → l ≡ suc (length below) → calls_at (r ∷ below) l ≡ calls_with r (calls_at below (link_of r))
 unfolding calls_at

@@ -10,5 +10,6 @@ pub mod Shown
 pub mod Stops
 pub mod Room
 pub mod Over
+pub mod Steps
 pub mod Reach
 pub mod Answer

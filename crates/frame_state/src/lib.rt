@@ -4,6 +4,7 @@
 
 pub mod answer;
 pub mod behind;
+pub mod callouts;
 pub mod framing;
 pub mod machine;
 pub mod reach;

@@ -23,7 +23,8 @@ use Rattle.frame_state.specs.Frames.{is_catching, caught, fail, fail_to, ahead, 
 use Rattle.frame_verbs.specs.Catching.{AreSoundParts, catcher, left_height}
 use Rattle.frame_state.specs.Calls.{AreNested}
 use Rattle.frame_state.specs.Validity.{AreSound, IsValid, Advances}
-use Rattle.frame_state.proofs.Frames.{caught_here, caught_below, hand_of, part_sound, link_sound, contained_sound, began_low, fail_to_here, fail_to_below, split}
+use Rattle.frame_state.proofs.Frames.{caught_here, caught_below, hand_of, part_sound, link_sound, contained_sound, began_low, fail_to_here, fail_to_below}
+use Rattle.frame_state.proofs.Splits.{split}
 use Rattle.frame_state.proofs.Drops.{fail_to_is, dropped, past_slots}
 use Rattle.frame_state.proofs.CallFrames.{link_is, nested, nested_deep}
 use Rattle.frame_state.proofs.Advance.{advance_pause}

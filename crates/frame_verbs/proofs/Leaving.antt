@@ -12,7 +12,8 @@ use Rattle.frame_state.specs.Machine.{link_of}
 use Rattle.frame_state.specs.Frames.{began, is_catching, is_catching_then}
 use Rattle.frame_state.specs.Validity.{IsContained}
 use Rattle.frame_verbs.specs.Catching.{AreSoundParts, left_height}
-use Rattle.frame_state.proofs.Frames.{IsFresh, began_in, began_before, began_deeper, began_fresh, began_none, split, up_to_base, up_to_below}
+use Rattle.frame_state.proofs.Frames.{IsFresh, began_in, began_before, began_deeper, began_fresh, began_none}
+use Rattle.frame_state.proofs.Splits.{split, up_to_base, up_to_below}
 use Rattle.frame_state.proofs.CallFrames.{site_is, link_is}
 use Rattle.frame_verbs.proofs.CatchTurns.{left_by, left_is, left_here, left_below}
 

@@ -23,7 +23,8 @@ use Rattle.frame_state.specs.Frames.{past, around, outside, hand, fail, spot_sta
 use Rattle.frame_state.specs.Validity.{IsSound, AreSound, IsValid, Advances}
 use Rattle.frame_state.specs.Stops.{told, tells, held_spot}
 use Rattle.frame_verbs.specs.Names.{AreHeard, skip_by, skip_record}
-use Rattle.frame_state.proofs.Frames.{Split, split, heard_here, heard_below, heard_sound}
+use Rattle.frame_state.proofs.Frames.{heard_here, heard_below, heard_sound}
+use Rattle.frame_state.proofs.Splits.{Split, split}
 use Rattle.frame_verbs.proofs.VerbTurns.{at_verb, turn_acting}
 use Rattle.frame_state.proofs.Advance.{holding_full, over_units}
 

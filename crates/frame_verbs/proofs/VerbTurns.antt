@@ -27,6 +27,7 @@ use Rattle.frame_state.specs.Machine.{Around, Conf, conf, kept_at, state_at, mar
 use Rattle.frame_state.specs.Frames.{past, around, around_at, outside, hand, fail, focus, spot_state, ahead, parts_of}
 use Rattle.frame_state.specs.Validity.{IsContained, IsLater, IsStanding, IsSound, IsRunning, IsValid, Advances}
 use Rattle.frame_state.specs.Stops.{Told, told, tells, IsStop, IsHeldStop, held_spot, record_at}
+use Rattle.frame_verbs.specs.Acting.{Leaves, IsActing}
 use Rattle.frame_verbs.specs.Names.{met, named_last, named_entry, named_spot}
 use Rattle.frame_state.proofs.PartPaths.{enter_verb, after_accepted}
 use Rattle.frame_state.proofs.Frames.{around_push, focus_kept, focus_named, focus_towards, running_towards, begun_towards, later_push, contained_push}
@@ -339,73 +340,114 @@ module _ (c : Ground) (ok : IsGround c) (q : ℕ) (spot : Spot) (stack : List En
   met_standing : (n : ℕ) → IsStanding c spot.left spot.frame (kept_at (record spot { mark = n + 1; last = record spot.last { name = n + 1 } })) (around c stack spot.frame).depth stack
   met_standing n = let w = v.running.1 in record { inside = w.inside; deep = w.deep; counted = w.counted; few = w.few; here = w.here; marked = w.marked; contained = w.contained }
 
-  pub turn_commit : (o : Option ℕ) → IsNode c q (node.VerbNode (verb.Commit o)) → spot.units < c.setting.matching.frame_limit →
+  turn_commit : (o : Option ℕ) → IsNode c q (node.VerbNode (verb.Commit o)) → spot.units < c.setting.matching.frame_limit →
       Advances c (conf (Enter q) spot stack caps) (conf (towards (next_of c q)) (held_spot (met spot o)) (CommitPassed site (kept_at (met spot o)) 0 ∷ stack) caps)
   unfolding fail
   turn_commit None i room = turn_acting (CommitPassed site (kept_at spot) 0) (hand c stack caps spot.frame q commit) refl refl refl (v.running.0, v.running.1, tt, v.running.2) room (at_verb (verb.Commit None) i)
   turn_commit (Some n) i room =
       turn_acting_named (CommitPassed site (kept_at (met spot (Some n))) 0) (hand c stack caps spot.frame q commit) refl refl refl (v.running.0, met_standing n, tt, v.running.2) n room (at_verb (verb.Commit (Some n)) i)
 
-  pub turn_prune : (o : Option ℕ) → IsNode c q (node.VerbNode (verb.Prune o)) → spot.units < c.setting.matching.frame_limit →
+  turn_prune : (o : Option ℕ) → IsNode c q (node.VerbNode (verb.Prune o)) → spot.units < c.setting.matching.frame_limit →
       Advances c (conf (Enter q) spot stack caps) (conf (towards (next_of c q)) (held_spot (met spot o)) (PrunePassed site (kept_at (met spot o)) 0 ∷ stack) caps)
   unfolding fail
   turn_prune None i room = turn_acting (PrunePassed site (kept_at spot) 0) (hand c stack caps spot.frame q prune) refl refl refl (v.running.0, v.running.1, tt, v.running.2) room (at_verb (verb.Prune None) i)
   turn_prune (Some n) i room =
       turn_acting_named (PrunePassed site (kept_at (met spot (Some n))) 0) (hand c stack caps spot.frame q prune) refl refl refl (v.running.0, met_standing n, tt, v.running.2) n room (at_verb (verb.Prune (Some n)) i)
 
-  pub turn_then : (o : Option ℕ) → IsNode c q (node.VerbNode (verb.Then o)) → spot.units < c.setting.matching.frame_limit →
+  turn_then : (o : Option ℕ) → IsNode c q (node.VerbNode (verb.Then o)) → spot.units < c.setting.matching.frame_limit →
       Advances c (conf (Enter q) spot stack caps) (conf (towards (next_of c q)) (held_spot (met spot o)) (ThenPassed site (kept_at (met spot o)) ∷ stack) caps)
   unfolding fail
   turn_then None i room = turn_acting (ThenPassed site (kept_at spot)) (hand c stack caps spot.frame q next_branch) refl refl refl (v.running.0, v.running.1, tt, v.running.2) room (at_verb (verb.Then None) i)
   turn_then (Some n) i room =
       turn_acting_named (ThenPassed site (kept_at (met spot (Some n)))) (hand c stack caps spot.frame q next_branch) refl refl refl (v.running.0, met_standing n, tt, v.running.2) n room (at_verb (verb.Then (Some n)) i)
 
-  pub turn_skip : IsNode c q (node.VerbNode (verb.Skip None)) → spot.units < c.setting.matching.frame_limit →
+  turn_skip : IsNode c q (node.VerbNode (verb.Skip None)) → spot.units < c.setting.matching.frame_limit →
       Advances c (conf (Enter q) spot stack caps) (conf (towards (next_of c q)) (held_spot spot) (SkipPassed site (kept_at spot) 0 spot.place ∷ stack) caps)
   unfolding fail
   turn_skip i room = turn_acting (SkipPassed site (kept_at spot) 0 spot.place) (hand c stack caps spot.frame q (skip spot.place)) refl refl refl (v.running.0, v.running.1, v.running.1.here, v.running.2) room (at_verb (verb.Skip None) i)
 
-  pub stop_commit : (o : Option ℕ) → IsNode c q (node.VerbNode (verb.Commit o)) → c.setting.matching.frame_limit ≤ spot.units →
+  stop_commit : (o : Option ℕ) → IsNode c q (node.VerbNode (verb.Commit o)) → c.setting.matching.frame_limit ≤ spot.units →
       tells c.setting spot (ahead c (conf (Enter q) spot stack caps)) ≡ told (named_last spot.last o) (answers FrameLimit)
   unfolding tread
   stop_commit None i full = ap (told spot.last) (over_units c spot.left _ _ (at_verb (verb.Commit None) i) (holding_full c.setting _ _ full))
   stop_commit (Some n) i full = over_named c spot.left spot.last n _ _ (at_verb (verb.Commit (Some n)) i) (ap (tread c.setting spot.left) (holding_full c.setting _ _ full))
 
-  pub stop_prune : (o : Option ℕ) → IsNode c q (node.VerbNode (verb.Prune o)) → c.setting.matching.frame_limit ≤ spot.units →
+  stop_prune : (o : Option ℕ) → IsNode c q (node.VerbNode (verb.Prune o)) → c.setting.matching.frame_limit ≤ spot.units →
       tells c.setting spot (ahead c (conf (Enter q) spot stack caps)) ≡ told (named_last spot.last o) (answers FrameLimit)
   unfolding tread
   stop_prune None i full = ap (told spot.last) (over_units c spot.left _ _ (at_verb (verb.Prune None) i) (holding_full c.setting _ _ full))
   stop_prune (Some n) i full = over_named c spot.left spot.last n _ _ (at_verb (verb.Prune (Some n)) i) (ap (tread c.setting spot.left) (holding_full c.setting _ _ full))
 
-  pub stop_then : (o : Option ℕ) → IsNode c q (node.VerbNode (verb.Then o)) → c.setting.matching.frame_limit ≤ spot.units →
+  stop_then : (o : Option ℕ) → IsNode c q (node.VerbNode (verb.Then o)) → c.setting.matching.frame_limit ≤ spot.units →
       tells c.setting spot (ahead c (conf (Enter q) spot stack caps)) ≡ told (named_last spot.last o) (answers FrameLimit)
   unfolding tread
   stop_then None i full = ap (told spot.last) (over_units c spot.left _ _ (at_verb (verb.Then None) i) (holding_full c.setting _ _ full))
   stop_then (Some n) i full = over_named c spot.left spot.last n _ _ (at_verb (verb.Then (Some n)) i) (ap (tread c.setting spot.left) (holding_full c.setting _ _ full))
 
-  pub stop_skip : IsNode c q (node.VerbNode (verb.Skip None)) → c.setting.matching.frame_limit ≤ spot.units →
+  stop_skip : IsNode c q (node.VerbNode (verb.Skip None)) → c.setting.matching.frame_limit ≤ spot.units →
       tells c.setting spot (ahead c (conf (Enter q) spot stack caps)) ≡ told spot.last (answers FrameLimit)
   stop_skip i full = ap (told spot.last) (over_units c spot.left _ _ (at_verb (verb.Skip None) i) (holding_full c.setting _ _ full))
 
 -- their records
-pub commit_record : (spot : Spot) (o : Option ℕ) (q : ℕ) → entry_of (record_at (met spot o) KIND_COMMIT_PASSED q 0 0 0) ≡ CommitPassed (record { node = q; link = spot.frame }) (kept_at (met spot o)) 0
+commit_record : (spot : Spot) (o : Option ℕ) (q : ℕ) → entry_of (record_at (met spot o) KIND_COMMIT_PASSED q 0 0 0) ≡ CommitPassed (record { node = q; link = spot.frame }) (kept_at (met spot o)) 0
 unfolding entry_in
 commit_record spot None q = refl
 commit_record spot (Some n) q = refl
 
-pub prune_record : (spot : Spot) (o : Option ℕ) (q : ℕ) → entry_of (record_at (met spot o) KIND_PRUNE_PASSED q 0 0 0) ≡ PrunePassed (record { node = q; link = spot.frame }) (kept_at (met spot o)) 0
+prune_record : (spot : Spot) (o : Option ℕ) (q : ℕ) → entry_of (record_at (met spot o) KIND_PRUNE_PASSED q 0 0 0) ≡ PrunePassed (record { node = q; link = spot.frame }) (kept_at (met spot o)) 0
 unfolding entry_in
 prune_record spot None q = refl
 prune_record spot (Some n) q = refl
 
-pub then_record : (spot : Spot) (o : Option ℕ) (q : ℕ) → entry_of (record_at (met spot o) KIND_THEN_PASSED q 0 0 0) ≡ ThenPassed (record { node = q; link = spot.frame }) (kept_at (met spot o))
+then_record : (spot : Spot) (o : Option ℕ) (q : ℕ) → entry_of (record_at (met spot o) KIND_THEN_PASSED q 0 0 0) ≡ ThenPassed (record { node = q; link = spot.frame }) (kept_at (met spot o))
 unfolding entry_in
 then_record spot None q = refl
 then_record spot (Some n) q = refl
 
-pub skip_record : (spot : Spot) (q next : ℕ) → entry_of (record_at spot KIND_SKIP_PASSED q 0 0 next) ≡ SkipPassed (record { node = q; link = spot.frame }) (kept_at spot) 0 next
+skip_record : (spot : Spot) (q next : ℕ) → entry_of (record_at spot KIND_SKIP_PASSED q 0 0 next) ≡ SkipPassed (record { node = q; link = spot.frame }) (kept_at spot) 0 next
 unfolding entry_in
 skip_record spot q next = refl
+
+-- what one of them leaves, and why it stops
+module _ (c : Ground) (ok : IsGround c) (q : ℕ) (spot : Spot) (stack : List Entry) (caps : Captures) (v : IsValid c (conf (Enter q) spot stack caps)) where
+  abbrev Goes : ℕ × Option ℕ × ℕ → Type 0
+  Goes x =
+      Advances c (conf (Enter q) spot stack caps)
+      (conf (towards (next_of c q)) (held_spot (met spot x.1)) (entry_of (record_at (met spot x.1) x.0 q 0 0 x.2) ∷ stack) caps)
+
+  abbrev goes_with : Option ℕ → Entry → Type 0
+  goes_with o r = Advances c (conf (Enter q) spot stack caps) (conf (towards (next_of c q)) (held_spot (met spot o)) (r ∷ stack) caps)
+
+  leaves_turn : (x : Verb) (left : ℕ × Option ℕ × ℕ) → IsNode c q (node.VerbNode x) → Leaves x spot.place left → spot.units < c.setting.matching.frame_limit → Goes left
+  leaves_turn (verb.Commit o) left i e room = subst Goes (sym e) (subst (goes_with o) (sym (commit_record spot o q)) (turn_commit c ok q spot stack caps v o i room))
+  leaves_turn (verb.Prune o) left i e room = subst Goes (sym e) (subst (goes_with o) (sym (prune_record spot o q)) (turn_prune c ok q spot stack caps v o i room))
+  leaves_turn (verb.Then o) left i e room = subst Goes (sym e) (subst (goes_with o) (sym (then_record spot o q)) (turn_then c ok q spot stack caps v o i room))
+  leaves_turn (verb.Skip None) left i e room =
+      subst Goes (sym e) (subst (goes_with None) (sym (skip_record spot q spot.place)) (turn_skip c ok q spot stack caps v i room))
+  leaves_turn (verb.Skip (Some n)) left i e room = absurd e
+  leaves_turn (verb.Mark o) left i e room = absurd e
+  leaves_turn (verb.Accept o) left i e room = absurd e
+  leaves_turn (verb.Fail o) left i e room = absurd e
+
+  abbrev Ends : ℕ × Option ℕ × ℕ → Type 0
+  Ends x = tells c.setting spot (ahead c (conf (Enter q) spot stack caps)) ≡ told (named_last spot.last x.1) (answers FrameLimit)
+
+  leaves_stop : (x : Verb) (left : ℕ × Option ℕ × ℕ) → IsNode c q (node.VerbNode x) → Leaves x spot.place left → c.setting.matching.frame_limit ≤ spot.units → Ends left
+  leaves_stop (verb.Commit o) left i e full = subst Ends (sym e) (stop_commit c ok q spot stack caps v o i full)
+  leaves_stop (verb.Prune o) left i e full = subst Ends (sym e) (stop_prune c ok q spot stack caps v o i full)
+  leaves_stop (verb.Then o) left i e full = subst Ends (sym e) (stop_then c ok q spot stack caps v o i full)
+  leaves_stop (verb.Skip None) left i e full = subst Ends (sym e) (stop_skip c ok q spot stack caps v i full)
+  leaves_stop (verb.Skip (Some n)) left i e full = absurd e
+  leaves_stop (verb.Mark o) left i e full = absurd e
+  leaves_stop (verb.Accept o) left i e full = absurd e
+  leaves_stop (verb.Fail o) left i e full = absurd e
+
+  module _ (kind : ℕ) (name : Option ℕ) (next : ℕ) (a : IsActing c q spot.place kind name next) where
+    pub turn_of : spot.units < c.setting.matching.frame_limit → Goes (kind, name, next)
+    turn_of room = leaves_turn a.of (kind, name, next) a.is a.leaves room
+
+    pub stop_of : c.setting.matching.frame_limit ≤ spot.units → Ends (kind, name, next)
+    stop_of full = leaves_stop a.of (kind, name, next) a.is a.leaves full
 
 -- what stops the machine where no unit more is held after a name
 module _ (limit units : ℕ) (spot : Spot) (last : Met) (caps : Captures) (t : Told) (met : spot.last ≡ last) where

@@ -1,17 +1,15 @@
 //! Where a verb leads that was backtracked onto (pcre2pattern, "Backtracking verbs in repeated groups", "Backtracking
 //! verbs in assertions" and "Backtracking verbs in subroutines").
-ghost use Rattle.std.specs.Prelude.{◌≡◌, ◌≤◌, true, max, length, IfOk, IfErr};
+ghost use Rattle.std.specs.Prelude.{◌≡◌, ◌≤◌, true, length};
 ghost use Rattle.frame_store.specs.Stack.{room};
-ghost use Rattle.frame_state.specs.Room.{IsShort};
 ghost use Rattle.frame_store.specs.Entry.{entries, entry_of};
 ghost use Rattle.frame_state.specs.Calls.{AreNested};
 ghost use Rattle.frame_verbs.specs.Catching.{AreSoundParts, catcher, left_height};
 ghost use Rattle.frame_store.specs.Stack.{up_to};
-ghost use Rattle.frame_state.specs.Frames.{ahead, began, is_catching, is_catching_then};
+ghost use Rattle.frame_state.specs.Steps.{over, StepsOn, EndsThere, KeepsPeak, IsShortAt};
+ghost use Rattle.frame_state.specs.Frames.{began, is_catching, is_catching_then};
 ghost use Rattle.frame_state.specs.Ground.{IsPart};
-ghost use Rattle.frame_state.specs.Machine.{conf};
-ghost use Rattle.frame_state.specs.Stops.{IsEnd, tells};
-ghost use Rattle.frame_state.specs.Validity.{IsContained, IsValid, Advances};
+ghost use Rattle.frame_state.specs.Validity.{IsContained, IsValid};
 
 use frame_state::machine::{Acting, Next, Spot, Stop};
 use frame_state::searchable::Searchable;
@@ -68,21 +66,15 @@ pub fn act<S: Searchable>(
     registers: &mut [Option<Span>],
 ) -> Result<Next, Stop>
     requires valid { IsValid (S.searched on.now)
-        (conf (Next.Act acting) spot.now (entries store.old.records) registers.old) }
-    ensures on { IfOk result
-        (λ next. Advances (S.searched on.now)
-        (conf (Next.Act acting) spot.now (entries store.old.records) registers.old)
-        (conf next spot.now (entries store.new.records) registers.new)) }
-    ensures stop { IfErr result
-        (λ stop. IsEnd (S.searched on.now) stop spot.now registers.new
-        (tells (S.searched on.now).setting spot.now
-        (ahead (S.searched on.now)
-        (conf (Next.Act acting) spot.now (entries store.old.records) registers.old)))) }
-    ensures peak { store.new.peak
-        ≤ max store.old.peak (S.searched on.now).setting.matching.frame_limit }
+        (over (Next.Act acting) spot.now store.old registers.old) }
+    ensures on { StepsOn (S.searched on.now)
+        (over (Next.Act acting) spot.now store.old registers.old)
+        spot.now store.new registers.new result }
+    ensures stop { EndsThere (S.searched on.now)
+        (over (Next.Act acting) spot.now store.old registers.old) spot.now registers.new result }
+    ensures peak { KeepsPeak (S.searched on.now) store.old store.new }
     ensures no_less { room store.old ≤ room store.new }
-    ensures short { IfErr result (λ stop.
-        IsShort stop (S.searched on.now).setting.matching.frame_limit store.new) }
+    ensures short { IsShortAt (S.searched on.now) store.new result }
 {
     let height = catcher(store, spot.frame);
     if height == 0 {
@@ -174,21 +166,14 @@ pub fn leave<S: Searchable>(
     registers: &mut [Option<Span>],
 ) -> Result<Next, Stop>
     requires valid { IsValid (S.searched on.now)
-        (conf (Next.Leave at) spot.now (entries store.old.records) registers.old) }
-    ensures on { IfOk result
-        (λ next. Advances (S.searched on.now)
-        (conf (Next.Leave at) spot.now (entries store.old.records) registers.old)
-        (conf next spot.now (entries store.new.records) registers.new)) }
-    ensures stop { IfErr result
-        (λ stop. IsEnd (S.searched on.now) stop spot.now registers.new
-        (tells (S.searched on.now).setting spot.now
-        (ahead (S.searched on.now)
-        (conf (Next.Leave at) spot.now (entries store.old.records) registers.old)))) }
-    ensures peak { store.new.peak
-        ≤ max store.old.peak (S.searched on.now).setting.matching.frame_limit }
+        (over (Next.Leave at) spot.now store.old registers.old) }
+    ensures on { StepsOn (S.searched on.now) (over (Next.Leave at) spot.now store.old registers.old)
+        spot.now store.new registers.new result }
+    ensures stop { EndsThere (S.searched on.now)
+        (over (Next.Leave at) spot.now store.old registers.old) spot.now registers.new result }
+    ensures peak { KeepsPeak (S.searched on.now) store.old store.new }
     ensures no_less { room store.old ≤ room store.new }
-    ensures short { IfErr result (λ stop.
-        IsShort stop (S.searched on.now).setting.matching.frame_limit store.new) }
+    ensures short { IsShortAt (S.searched on.now) store.new result }
 {
     let Some(height) = left_height(on, at, spot, store) else {
         return Err(Stop::Verb(Acting::Prune));

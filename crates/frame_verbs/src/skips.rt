@@ -1,17 +1,15 @@
 //! SKIP of a name (pcre2pattern, "Verbs that act after backtracking").
-ghost use Rattle.std.specs.Prelude.{◌≡◌, ◌≤◌, max, length, Some, IfOk, IfErr};
+ghost use Rattle.std.specs.Prelude.{◌≡◌, ◌≤◌, length, Some};
 ghost use Rattle.pat_tree.specs.declared.nodes.Node.TheVariants as node;
 ghost use Rattle.pat_tree.specs.declared.nodes.Verb.TheVariants as verb;
 ghost use Rattle.frame_store.specs.Stack.{room};
-ghost use Rattle.frame_state.specs.Room.{IsShort};
 ghost use Rattle.frame_store.specs.Entry.{entries};
 ghost use Rattle.ordered_search.specs.Parts.{skip_to};
+ghost use Rattle.frame_state.specs.Steps.{over, StepsOn, StopsThere, KeepsPeak, IsShortAt};
 ghost use Rattle.frame_state.specs.Ground.{IsNode};
-ghost use Rattle.frame_state.specs.Machine.{conf, heard};
-ghost use Rattle.frame_state.specs.Frames.{ahead};
+ghost use Rattle.frame_state.specs.Machine.{heard};
 ghost use Rattle.frame_verbs.specs.Names.{AreHeard, skip_by, skip_record};
-ghost use Rattle.frame_state.specs.Stops.{IsStop, tells};
-ghost use Rattle.frame_state.specs.Validity.{IsValid, Advances};
+ghost use Rattle.frame_state.specs.Validity.{IsValid};
 
 use frame_state::framing::go_on;
 use frame_state::machine::{Next, Spot, Stop, hold};
@@ -60,22 +58,15 @@ pub(crate) fn pass_skip_to<S: Searchable>(
     registers: &[Option<Span>],
 ) -> Result<Next, Stop>
     requires valid { IsValid (S.searched on.now)
-        (conf (Next.Enter at) spot.old (entries store.old.records) registers.now) }
+        (over (Next.Enter at) spot.old store.old registers.now) }
     requires node { IsNode (S.searched on.now) at (node.VerbNode (verb.Skip (Some name))) }
-    ensures on { IfOk result
-        (λ next. Advances (S.searched on.now)
-        (conf (Next.Enter at) spot.old (entries store.old.records) registers.now)
-        (conf next spot.new (entries store.new.records) registers.now)) }
-    ensures stop { IfErr result
-        (λ stop. IsStop stop spot.new registers.now
-        (tells (S.searched on.now).setting spot.old
-        (ahead (S.searched on.now)
-        (conf (Next.Enter at) spot.old (entries store.old.records) registers.now)))) }
-    ensures peak { store.new.peak
-        ≤ max store.old.peak (S.searched on.now).setting.matching.frame_limit }
+    ensures on { StepsOn (S.searched on.now) (over (Next.Enter at) spot.old store.old registers.now)
+        spot.new store.new registers.now result }
+    ensures stop { StopsThere (S.searched on.now)
+        (over (Next.Enter at) spot.old store.old registers.now) spot.new registers.now result }
+    ensures peak { KeepsPeak (S.searched on.now) store.old store.new }
     ensures no_less { room store.old ≤ room store.new }
-    ensures short { IfErr result (λ stop.
-        IsShort stop (S.searched on.now).setting.matching.frame_limit store.new) }
+    ensures short { IsShortAt (S.searched on.now) store.new result }
 {
     let found = last_passed(on, name, spot.passed, store);
     let event = skip_record(found, at, spot);

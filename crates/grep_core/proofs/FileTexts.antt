@@ -13,35 +13,35 @@ use Rattle.line_feed.proofs.Given.{HasGiven-none, HasGiven-lacks, HasBegun-given
 use Rattle.line_feed.proofs.Shown.{HasShown-shows, HasShown-begun}
 use Rattle.line_feed.specs.Answers.{Shows, Lacks}
 use Rattle.grep_args.specs.declared.plan.GrepPlan.{GrepPlan}
-use Rattle.grep_core.specs.declared.shows.Treatment.{Treatment}
-use Rattle.grep_core.specs.declared.shows.Treatment.TheVariants.{AsText, AsBinary, Skipped}
-use Rattle.grep_core.specs.declared.ended.Stop.{Stop}
-use Rattle.grep_core.specs.declared.ended.Stop.TheVariants.{SinkFault, TooManyErrors, Memory}
-use Rattle.grep_core.specs.declared.ended.FileEnd.{FileEnd}
-use Rattle.grep_core.specs.declared.state.State.{State}
-use Rattle.grep_core.specs.declared.ended.Ended.{Ended}
-use Rattle.grep_core.specs.declared.ended.Ended.TheVariants as told
-use Rattle.grep_core.specs.declared.shows.Show.{Show}
-use Rattle.grep_core.specs.declared.shows.Show.TheVariants as show
+use Rattle.grep_output.specs.declared.shows.Treatment.{Treatment}
+use Rattle.grep_output.specs.declared.shows.Treatment.TheVariants.{AsText, AsBinary, Skipped}
+use Rattle.grep_output.specs.declared.ended.Stop.{Stop}
+use Rattle.grep_output.specs.declared.ended.Stop.TheVariants.{SinkFault, TooManyErrors, Memory}
+use Rattle.grep_output.specs.declared.ended.FileEnd.{FileEnd}
+use Rattle.grep_output.specs.declared.state.State.{State}
+use Rattle.grep_output.specs.declared.ended.Ended.{Ended}
+use Rattle.grep_output.specs.declared.ended.Ended.TheVariants as told
+use Rattle.grep_output.specs.declared.shows.Show.{Show}
+use Rattle.grep_output.specs.declared.shows.Show.TheVariants as show
 use Rattle.grep_match.specs.declared.modes.Mode.{Mode}
 use Rattle.grep_match.specs.declared.modes.Mode.TheVariants as mode_of
 use Rattle.grep_match.specs.PatternTexts.{line_end}
 use Rattle.pat_tree.specs.Pattern.{Pattern}
 use Rattle.line_feed.specs.declared.phase.Phase.TheVariants.{Open, Closed}
 use Rattle.grep_match.specs.Modes.{mode}
-use Rattle.grep_core.specs.Shows.{is_told, tells_binary, show_in, most_selected, greatest_selected}
-use Rattle.grep_core.specs.Messages.{error_message, ended_message, message}
-use Rattle.grep_core.specs.Scans as meant
-use Rattle.grep_core.specs.Scans.{Scan, at_finish, early, too_many_errors, scan, scan_of_rows, selected_in}
-use Rattle.grep_core.specs.InputText.{Written, input_text, written_by, out_text, shown_out, end_out, state_by}
-use Rattle.grep_core.specs.Course.{scan_so_far, AreNumbered}
-use Rattle.grep_core.specs.Lines.{is_nul, lines, treatment, treatment_by}
-use Rattle.grep_core.specs.Ends.{stop_of, ended_of}
+use Rattle.grep_output.specs.Shows.{is_told, tells_binary, show_in, most_selected, greatest_selected}
+use Rattle.grep_output.specs.Messages.{error_message, ended_message, message}
+use Rattle.grep_output.specs.Scans as meant
+use Rattle.grep_output.specs.Scans.{Scan, at_finish, early, too_many_errors, scan, scan_of_rows, selected_in}
+use Rattle.grep_output.specs.InputText.{Written, input_text, written_by, out_text, shown_out, end_out, state_by}
+use Rattle.grep_output.specs.Course.{scan_so_far, AreNumbered}
+use Rattle.grep_output.specs.Lines.{is_nul, lines, treatment, treatment_by}
+use Rattle.grep_output.specs.Ends.{stop_of, ended_of}
 use Rattle.tool_out.specs.Writes.{Writes}
 use Rattle.tool_out.specs.Prints.{Wrote, Breaks}
 use Rattle.grep_core.specs.WholeScans.{Stood, StopsIn, ScansTo, ScansInput, left_by, AtLeastOne, IsJob, LeavesRest, StopsSoon}
-use Rattle.grep_core.specs.LittlePast.{TakesLittlePast}
-use Rattle.grep_core.specs.Refused.{RefusesSoon, WhereRefused}
+use Rattle.grep_output.specs.LittlePast.{TakesLittlePast}
+use Rattle.grep_output.specs.Refused.{RefusesSoon, WhereRefused}
 use Rattle.grep_core.specs.OneInput.{IsNew, is_skipped, WritesBoth, CountsPart, ScansAs, ScansSo, LeavesTo, GrepsInput, GrepsTo, Treats}
 use Rattle.grep_core.proofs.ScansRows.{stood-little, rows-numbered}
 use Rattle.grep_core.proofs.ScansTexts.{grew-part}

@@ -10,22 +10,22 @@ use Rattle.pcre_io.specs.declared.traits.IoError.{IoError}
 use Rattle.pcre_io.specs.declared.traits.IoError.TheVariants as io
 use Rattle.line_feed.specs.Rows.{Row}
 use Rattle.grep_args.specs.declared.plan.GrepPlan.{GrepPlan}
-use Rattle.grep_core.specs.declared.shows.Show.{Show}
-use Rattle.grep_core.specs.declared.shows.Show.TheVariants as show
-use Rattle.grep_core.specs.declared.ended.Stop.{Stop}
-use Rattle.grep_core.specs.declared.ended.Stop.TheVariants.{SinkFault, TooManyErrors, Memory}
+use Rattle.grep_output.specs.declared.shows.Show.{Show}
+use Rattle.grep_output.specs.declared.shows.Show.TheVariants as show
+use Rattle.grep_output.specs.declared.ended.Stop.{Stop}
+use Rattle.grep_output.specs.declared.ended.Stop.TheVariants.{SinkFault, TooManyErrors, Memory}
 use Rattle.grep_core.specs.declared.scan.Course.{Course}
 use Rattle.grep_core.specs.declared.scan.Next.TheVariants.{Line, Context}
-use Rattle.grep_core.specs.declared.state.State.{State}
+use Rattle.grep_output.specs.declared.state.State.{State}
 use Rattle.grep_match.specs.Matches.{Matches, Tried, is_selected, has_error}
-use Rattle.grep_core.specs.Messages.{error_message}
-use Rattle.grep_core.specs.Course.{line_as, passed_out, row_out, course_after, course_after_passed, state_after_line, is_lines}
+use Rattle.grep_output.specs.Messages.{error_message}
+use Rattle.grep_output.specs.Course.{line_as, passed_out, row_out, course_after, course_after_passed, state_after_line, is_lines}
 use Rattle.tool_out.specs.Texts.{text_if}
-use Rattle.grep_core.specs.Ends.{stop_of}
+use Rattle.grep_output.specs.Ends.{stop_of}
 use Rattle.grep_core.specs.Turns.{course_of, Halts, Passes, PassesOn, Takes, TakesLast, TakesLine, is_last, is_full}
 use Rattle.tool_out.specs.Writes.{Writes, WritesAll}
 use Rattle.tool_out.specs.Prints.{Breaks}
-use Rattle.grep_core.proofs.Reached.{unselected-error}
+use Rattle.grep_output.proofs.Reached.{unselected-error}
 use Rattle.tool_out.specs.Printed.{printed}
 use Rattle.tool_out.proofs.Printing.{prefix-of}
 

@@ -1,10 +1,3 @@
-pub mod ScanEnds
-pub mod ReachRows
-pub mod ReachTexts
-pub mod ReachCourse
-pub mod Reached
-pub mod Extends
-pub mod Growing
 pub mod ScansRows
 pub mod ScansTexts
 pub mod ScansTaken
@@ -13,13 +6,10 @@ pub mod ScansSent
 pub mod ScansLoop
 pub mod ScansFollow
 pub mod ScansWhole
-pub mod Said
-pub mod Parted
 pub mod Shortness
 pub mod Steps
 pub mod Halting
 pub mod Taking
-pub mod Deciding
 pub mod Refusing
 pub mod FileTexts
 pub mod Watching

@@ -11,26 +11,26 @@ use Rattle.pcre_io.specs.Told.{Told, Kept}
 use Rattle.line_feed.specs.Rows.{Row, Rows, Finish, At, End, rows_with}
 use Rattle.grep_args.specs.declared.plan.GrepPlan.{GrepPlan}
 use Rattle.pat_tree.specs.Pattern.{Pattern}
-use Rattle.grep_core.specs.declared.shows.Show.{Show}
-use Rattle.grep_core.specs.declared.shows.Show.TheVariants as show
-use Rattle.grep_core.specs.declared.shows.Treatment.{Treatment}
-use Rattle.grep_core.specs.declared.shows.Treatment.TheVariants.{AsText, AsBinary, Skipped}
-use Rattle.grep_core.specs.declared.state.State.{State}
+use Rattle.grep_output.specs.declared.shows.Show.{Show}
+use Rattle.grep_output.specs.declared.shows.Show.TheVariants as show
+use Rattle.grep_output.specs.declared.shows.Treatment.{Treatment}
+use Rattle.grep_output.specs.declared.shows.Treatment.TheVariants.{AsText, AsBinary, Skipped}
+use Rattle.grep_output.specs.declared.state.State.{State}
 use Rattle.grep_match.specs.Matches.{is_selected}
 use Rattle.grep_match.specs.Modes.{mode}
-use Rattle.grep_core.specs.Shows.{is_told, show_in, greatest_selected, lines_after}
-use Rattle.grep_core.specs.Scans.{Scan, IsBelow, scan, scan_of_rows, errors_left, rows_of, selected_in, early, too_many_errors}
-use Rattle.grep_core.specs.InputText.{out_text, shown_out}
-use Rattle.grep_core.specs.Course.{AreNumbered, begun}
-use Rattle.grep_core.specs.LittlePast.{bytes_in, TakesLittlePast}
-use Rattle.grep_core.specs.Refused.{GrewBy, GrewTo, IsCut, needs_all}
+use Rattle.grep_output.specs.Shows.{is_told, show_in, greatest_selected, lines_after}
+use Rattle.grep_output.specs.Scans.{Scan, IsBelow, scan, scan_of_rows, errors_left, rows_of, selected_in, early, too_many_errors}
+use Rattle.grep_output.specs.InputText.{out_text, shown_out}
+use Rattle.grep_output.specs.Course.{AreNumbered, begun}
+use Rattle.grep_output.specs.LittlePast.{bytes_in, TakesLittlePast}
+use Rattle.grep_output.specs.Refused.{GrewBy, GrewTo, IsCut, needs_all}
 use Rattle.grep_core.specs.WholeScans.{AtLeastOne, StopsSoon}
-use Rattle.grep_core.proofs.ReachRows.{numbered-left}
-use Rattle.grep_core.proofs.Reached.{reached-begun}
-use Rattle.grep_core.proofs.ScanEnds.{count}
-use Rattle.grep_core.proofs.Extends.{Goes}
-use Rattle.grep_core.proofs.Growing.{grows}
-use Rattle.grep_core.proofs.Deciding.{TellsNothing, TellsOnce, tells-of, only-shown, Decides, decides, EndsIn, ends-in}
+use Rattle.grep_output.proofs.ReachRows.{numbered-left}
+use Rattle.grep_output.proofs.Reached.{reached-begun}
+use Rattle.grep_output.proofs.ScanEnds.{count}
+use Rattle.grep_output.proofs.Extends.{Goes}
+use Rattle.grep_output.proofs.Growing.{grows}
+use Rattle.grep_output.proofs.Deciding.{TellsNothing, TellsOnce, tells-of, only-shown, Decides, decides, EndsIn, ends-in}
 use Rattle.grep_core.proofs.ScansTaken.{tries, tries-more, rows-tried}
 use Rattle.grep_core.proofs.ScansEnd.{full_of, scan-is}
 

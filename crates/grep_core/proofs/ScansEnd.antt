@@ -9,32 +9,32 @@ use Rattle.line_feed.specs.Answers.{Gives, Refuses}
 use Rattle.line_feed.specs.declared.phase.FeedError.TheVariants as feed
 use Rattle.grep_args.specs.declared.plan.GrepPlan.{GrepPlan}
 use Rattle.pat_tree.specs.Pattern.{Pattern}
-use Rattle.grep_core.specs.declared.shows.Show.{Show}
-use Rattle.grep_core.specs.declared.shows.Show.TheVariants as show
-use Rattle.grep_core.specs.declared.shows.Treatment.{Treatment}
-use Rattle.grep_core.specs.declared.ended.Ended.{Ended}
-use Rattle.grep_core.specs.declared.ended.Ended.TheVariants as told
-use Rattle.grep_core.specs.declared.ended.Stop.{Stop}
-use Rattle.grep_core.specs.declared.ended.Stop.TheVariants.{SinkFault, TooManyErrors, Memory}
+use Rattle.grep_output.specs.declared.shows.Show.{Show}
+use Rattle.grep_output.specs.declared.shows.Show.TheVariants as show
+use Rattle.grep_output.specs.declared.shows.Treatment.{Treatment}
+use Rattle.grep_output.specs.declared.ended.Ended.{Ended}
+use Rattle.grep_output.specs.declared.ended.Ended.TheVariants as told
+use Rattle.grep_output.specs.declared.ended.Stop.{Stop}
+use Rattle.grep_output.specs.declared.ended.Stop.TheVariants.{SinkFault, TooManyErrors, Memory}
 use Rattle.grep_core.specs.declared.scan.Course.{Course}
-use Rattle.grep_core.specs.declared.state.State.{State}
+use Rattle.grep_output.specs.declared.state.State.{State}
 use Rattle.grep_match.specs.PatternTexts.{line_end}
-use Rattle.grep_core.specs.Lines.{lines}
-use Rattle.grep_core.specs.Shows.{is_told, show_in, greatest_selected, lines_after}
+use Rattle.grep_output.specs.Lines.{lines}
+use Rattle.grep_output.specs.Shows.{is_told, show_in, greatest_selected, lines_after}
 use Rattle.grep_match.specs.Modes.{mode}
 use Rattle.grep_match.specs.Matches.{Tried, tried_row, is_selected, has_error}
-use Rattle.grep_core.specs.Scans.{Scan, IsBelow, rows_of, errors_left, nth_place, place_of_most, scan_to, whole_scan, broken_scan, errors_in, selected_in, at_finish, early}
-use Rattle.grep_core.specs.Context.{shown_lines}
-use Rattle.grep_core.specs.Messages.{error_message}
-use Rattle.grep_core.specs.InputText.{shown_out, shows_group}
-use Rattle.grep_core.specs.Course.{AreNumbered, row_out, state_after_line, is_lines, scan_so_far}
+use Rattle.grep_output.specs.Scans.{Scan, IsBelow, rows_of, errors_left, nth_place, place_of_most, scan_to, whole_scan, broken_scan, errors_in, selected_in, at_finish, early}
+use Rattle.grep_output.specs.Context.{shown_lines}
+use Rattle.grep_output.specs.Messages.{error_message}
+use Rattle.grep_output.specs.InputText.{shown_out, shows_group}
+use Rattle.grep_output.specs.Course.{AreNumbered, row_out, state_after_line, is_lines, scan_so_far}
 use Rattle.grep_core.specs.Turns.{course_of, LeavesLine, TakesLine, TakesLast, is_last, EndsSo, Idles, Turns}
 use Rattle.grep_core.specs.WholeScans.{Stood, Scans, StopsIn, StopsSoon, ScansTo, ScansInput, scan_of, left_by, IsJob, BeginsWith, EndsWith, LeavesRest}
-use Rattle.grep_core.specs.Refused.{GrewBy, WhereRefused}
+use Rattle.grep_output.specs.Refused.{GrewBy, WhereRefused}
 use Rattle.tool_out.specs.Prints.{Wrote, Breaks}
-use Rattle.grep_core.proofs.Reached.{out-broken}
-use Rattle.grep_core.proofs.ScanEnds.{count, count-more, count-one, count-none, early-tried, broken-within}
-use Rattle.grep_core.proofs.Extends.{TextsBegin, Goes, LastError, full, whole-is, whole-out, broken-is, broken_out, row-broken, row-extends, extends, said-more, error-unselected}
+use Rattle.grep_output.proofs.Reached.{out-broken}
+use Rattle.grep_output.proofs.ScanEnds.{count, count-more, count-one, count-none, early-tried, broken-within}
+use Rattle.grep_output.proofs.Extends.{TextsBegin, Goes, LastError, full, whole-is, whole-out, broken-is, broken_out, row-broken, row-extends, extends, said-more, error-unselected}
 use Rattle.grep_core.proofs.ScansRows.{stood-moves, stood-begins, stood-stops, stood-little, begins-numbered}
 use Rattle.grep_core.proofs.ScansTexts.{breaks-more, breaks-memory, breaks-ext, grew-part}
 use Rattle.tool_out.proofs.Printing.{wrote-more}

@@ -7,22 +7,22 @@ use Rattle.line_feed.specs.Rows.{Row}
 use Rattle.line_feed.specs.View.{Feed}
 use Rattle.line_feed.proofs.Given.{kind-gives, max-gives}
 use Rattle.grep_args.specs.declared.plan.GrepPlan.{GrepPlan}
-use Rattle.grep_core.specs.declared.shows.Show.{Show}
-use Rattle.grep_core.specs.declared.shows.Show.TheVariants as show
-use Rattle.grep_core.specs.declared.shows.Treatment.{Treatment}
-use Rattle.grep_core.specs.declared.ended.Ended.{Ended}
-use Rattle.grep_core.specs.declared.ended.Ended.TheVariants as told
-use Rattle.grep_core.specs.declared.ended.Stop.{Stop}
-use Rattle.grep_core.specs.declared.ended.Stop.TheVariants.{SinkFault, Memory}
+use Rattle.grep_output.specs.declared.shows.Show.{Show}
+use Rattle.grep_output.specs.declared.shows.Show.TheVariants as show
+use Rattle.grep_output.specs.declared.shows.Treatment.{Treatment}
+use Rattle.grep_output.specs.declared.ended.Ended.{Ended}
+use Rattle.grep_output.specs.declared.ended.Ended.TheVariants as told
+use Rattle.grep_output.specs.declared.ended.Stop.{Stop}
+use Rattle.grep_output.specs.declared.ended.Stop.TheVariants.{SinkFault, Memory}
 use Rattle.grep_match.specs.PatternTexts.{line_end}
-use Rattle.grep_core.specs.Shows.{lines_after}
-use Rattle.grep_core.specs.Course.{line_as}
+use Rattle.grep_output.specs.Shows.{lines_after}
+use Rattle.grep_output.specs.Course.{line_as}
 use Rattle.tool_out.specs.Writes.{WritesAll}
 use Rattle.grep_core.specs.Turns.{Halts, EndsSo}
 use Rattle.grep_core.specs.WholeScans.{Stood}
 use Rattle.grep_core.specs.Follows.{ShowsRow, FollowsOne, FollowsAll, FollowsSome, FollowsPart, Follows}
 use Rattle.grep_core.proofs.ScansRows.{stood-gives, stood-begins, stood-little, whole-gives}
-use Rattle.grep_core.specs.LittlePast.{bytes_in}
+use Rattle.grep_output.specs.LittlePast.{bytes_in}
 use Rattle.grep_core.proofs.ScansTexts.{writes-none, writes-more, halts-more, halts-memory, grew-part, halts-part}
 use Rattle.grep_core.proofs.ScansEnd.{ends-so, lacks-so}
 

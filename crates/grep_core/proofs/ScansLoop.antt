@@ -9,21 +9,21 @@ use Rattle.line_feed.specs.Answers.{Gives}
 use Rattle.circular_buffer.specs.Buffer.{keep_last}
 use Rattle.grep_args.specs.declared.plan.GrepPlan.{GrepPlan}
 use Rattle.pat_tree.specs.Pattern.{Pattern}
-use Rattle.grep_core.specs.declared.shows.Show.{Show}
-use Rattle.grep_core.specs.declared.shows.Show.TheVariants as show
-use Rattle.grep_core.specs.declared.shows.Treatment.{Treatment}
+use Rattle.grep_output.specs.declared.shows.Show.{Show}
+use Rattle.grep_output.specs.declared.shows.Show.TheVariants as show
+use Rattle.grep_output.specs.declared.shows.Treatment.{Treatment}
 use Rattle.grep_core.specs.declared.scan.Course.{Course}
 use Rattle.grep_core.specs.declared.scan.Next.{Next}
-use Rattle.grep_core.specs.declared.state.State.{State}
+use Rattle.grep_output.specs.declared.state.State.{State}
 use Rattle.grep_match.specs.Matches.{Tried, is_selected}
-use Rattle.grep_core.specs.InputText.{shown_out, shows_group}
-use Rattle.grep_core.specs.Course as course
-use Rattle.grep_core.specs.Course.{begun, course_after, course_after_selected, course_after_passed, scan_so_far}
+use Rattle.grep_output.specs.InputText.{shown_out, shows_group}
+use Rattle.grep_output.specs.Course as course
+use Rattle.grep_output.specs.Course.{begun, course_after, course_after_selected, course_after_passed, scan_so_far}
 use Rattle.grep_core.specs.Turns.{course_of, Takes}
 use Rattle.grep_core.specs.WholeScans.{Stood, IsJob, AtLeastOne}
 use Rattle.tool_out.specs.Prints.{Wrote}
-use Rattle.grep_core.proofs.Reached.{Reached, reached-begun}
-use Rattle.grep_core.specs.Scans.{IsBelow}
+use Rattle.grep_output.proofs.Reached.{Reached, reached-begun}
+use Rattle.grep_output.specs.Scans.{IsBelow}
 use Rattle.tool_out.proofs.Printing.{wrote-none}
 use Rattle.grep_core.proofs.ScansTaken.{Standing}
 use Rattle.tool_out.specs.Printed.{printed}

@@ -11,19 +11,19 @@ use Rattle.line_feed.specs.View.{Feed, HasNoMore}
 use Rattle.line_feed.specs.Steps.{Moves}
 use Rattle.line_feed.specs.Answers.{Gives}
 use Rattle.line_feed.specs.Hears.{HasGiven}
-use Rattle.grep_core.specs.LittlePast.{bytes_in, TakesLittlePast}
+use Rattle.grep_output.specs.LittlePast.{bytes_in, TakesLittlePast}
 use Rattle.std.proofs.lemmas.List.Sums.{fold-append}
 use Rattle.line_feed.proofs.Given.{HasGiven-gives, HasGiven-moves, HasHeard-stops, HasBegun-given}
 use Rattle.line_feed.proofs.Shown.{HasShown-gives, HasShown-moves, HasShown-stops, HasShown-begun}
 use Rattle.grep_args.specs.declared.plan.GrepPlan.{GrepPlan}
-use Rattle.grep_core.specs.declared.shows.Treatment.{Treatment}
-use Rattle.grep_core.specs.declared.shows.Treatment.TheVariants.{AsText}
-use Rattle.grep_core.specs.declared.ended.Ended.{Ended}
-use Rattle.grep_core.specs.Ends.{ended_of}
-use Rattle.grep_core.specs.Scans.{at_finish}
+use Rattle.grep_output.specs.declared.shows.Treatment.{Treatment}
+use Rattle.grep_output.specs.declared.shows.Treatment.TheVariants.{AsText}
+use Rattle.grep_output.specs.declared.ended.Ended.{Ended}
+use Rattle.grep_output.specs.Ends.{ended_of}
+use Rattle.grep_output.specs.Scans.{at_finish}
 use Rattle.grep_match.specs.PatternTexts.{line_end}
-use Rattle.grep_core.specs.Lines.{is_nul, lines, treatment, treatment_by}
-use Rattle.grep_core.specs.Course.{AreNumbered}
+use Rattle.grep_output.specs.Lines.{is_nul, lines, treatment, treatment_by}
+use Rattle.grep_output.specs.Course.{AreNumbered}
 use Rattle.grep_core.specs.WholeScans.{Stood, BeginsWith, EndsWith}
 
 Numbers : ℕ → Rows → Type 0

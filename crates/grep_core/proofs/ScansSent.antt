@@ -5,28 +5,28 @@ use Rattle.pcre_io.specs.Told.{Told, Kept, AppendsPrefix}
 use Rattle.line_feed.specs.View.{Feed}
 use Rattle.grep_args.specs.declared.plan.GrepPlan.{GrepPlan}
 use Rattle.pat_tree.specs.Pattern.{Pattern}
-use Rattle.grep_core.specs.declared.shows.Show.{Show}
-use Rattle.grep_core.specs.declared.shows.Treatment.{Treatment}
-use Rattle.grep_core.specs.declared.ended.Ended.{Ended}
-use Rattle.grep_core.specs.declared.ended.Stop.{Stop}
-use Rattle.grep_core.specs.declared.ended.Stop.TheVariants.{SinkFault, TooManyErrors, Memory}
+use Rattle.grep_output.specs.declared.shows.Show.{Show}
+use Rattle.grep_output.specs.declared.shows.Treatment.{Treatment}
+use Rattle.grep_output.specs.declared.ended.Ended.{Ended}
+use Rattle.grep_output.specs.declared.ended.Stop.{Stop}
+use Rattle.grep_output.specs.declared.ended.Stop.TheVariants.{SinkFault, TooManyErrors, Memory}
 use Rattle.grep_core.specs.declared.scan.Course.{Course}
-use Rattle.grep_core.specs.declared.state.State.{State}
+use Rattle.grep_output.specs.declared.state.State.{State}
 use Rattle.grep_match.specs.Matches.{Tried, is_selected}
-use Rattle.grep_core.specs.Lines.{lines}
-use Rattle.grep_core.specs.Scans.{Scan, IsBelow}
-use Rattle.grep_core.specs.Messages.{error_message}
-use Rattle.grep_core.specs.InputText.{shown_out}
-use Rattle.grep_core.specs.Course.{scan_so_far}
+use Rattle.grep_output.specs.Lines.{lines}
+use Rattle.grep_output.specs.Scans.{Scan, IsBelow}
+use Rattle.grep_output.specs.Messages.{error_message}
+use Rattle.grep_output.specs.InputText.{shown_out}
+use Rattle.grep_output.specs.Course.{scan_so_far}
 use Rattle.grep_core.specs.Turns.{course_of, Halts}
-use Rattle.grep_core.specs.LittlePast.{TakesLittlePast}
-use Rattle.grep_core.specs.Refused.{GrewBy, WhereRefused}
+use Rattle.grep_output.specs.LittlePast.{TakesLittlePast}
+use Rattle.grep_output.specs.Refused.{GrewBy, WhereRefused}
 use Rattle.grep_core.specs.WholeScans.{StopsIn, StopsSoon, ScansInput, ScansTo, IsJob, BeginsWith}
 use Rattle.tool_out.specs.Prints.{Wrote, Breaks}
 use Rattle.tool_out.specs.Printed.{printed}
 use Rattle.tool_out.specs.Writes.{WritesAll}
-use Rattle.grep_core.proofs.ScanEnds.{count}
-use Rattle.grep_core.proofs.Extends.{extends}
+use Rattle.grep_output.proofs.ScanEnds.{count}
+use Rattle.grep_output.proofs.Extends.{extends}
 use Rattle.grep_core.proofs.ScansRows.{stood-begins, stood-little}
 use Rattle.grep_core.proofs.ScansTexts.{wrote-out, breaks-out, breaks-ext, grew-part}
 use Rattle.grep_core.proofs.ScansTaken.{tries, stops-in, Standing}

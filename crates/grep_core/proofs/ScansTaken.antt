@@ -10,27 +10,27 @@ use Rattle.line_feed.specs.Answers.{Gives}
 use Rattle.line_feed.proofs.Given.{kind-gives, max-gives}
 use Rattle.grep_args.specs.declared.plan.GrepPlan.{GrepPlan}
 use Rattle.pat_tree.specs.Pattern.{Pattern}
-use Rattle.grep_core.specs.declared.shows.Show.{Show}
-use Rattle.grep_core.specs.declared.shows.Treatment.{Treatment}
+use Rattle.grep_output.specs.declared.shows.Show.{Show}
+use Rattle.grep_output.specs.declared.shows.Treatment.{Treatment}
 use Rattle.grep_core.specs.declared.scan.Course.{Course}
 use Rattle.grep_core.specs.declared.scan.Next.{Next}
 use Rattle.grep_core.specs.declared.scan.Next.TheVariants.{Line, Context}
-use Rattle.grep_core.specs.declared.state.State.{State}
+use Rattle.grep_output.specs.declared.state.State.{State}
 use Rattle.grep_match.specs.PatternTexts.{line_end}
 use Rattle.grep_match.specs.Matches.{Tried, tried_row, is_selected, has_error}
-use Rattle.grep_core.specs.Scans.{Scan, IsBelow, rows_of, errors_left}
-use Rattle.grep_core.specs.Messages.{error_message}
-use Rattle.grep_core.specs.InputText.{shown_out, shows_group}
-use Rattle.grep_core.specs.Course as course
-use Rattle.grep_core.specs.Course.{AreNumbered, row_out, state_after_line, is_lines, scan_so_far}
+use Rattle.grep_output.specs.Scans.{Scan, IsBelow, rows_of, errors_left}
+use Rattle.grep_output.specs.Messages.{error_message}
+use Rattle.grep_output.specs.InputText.{shown_out, shows_group}
+use Rattle.grep_output.specs.Course as course
+use Rattle.grep_output.specs.Course.{AreNumbered, row_out, state_after_line, is_lines, scan_so_far}
 use Rattle.grep_core.specs.Turns.{course_of, is_full, Takes}
 use Rattle.grep_core.specs.WholeScans.{Stood, StopsIn, left_by, Pauses}
 use Rattle.tool_out.specs.Prints.{Wrote}
-use Rattle.grep_core.proofs.ReachRows.{numbered-left}
-use Rattle.grep_core.proofs.Reached.{Reached, reached-more, out-more, group-more}
-use Rattle.grep_core.proofs.ScanEnds.{count, count-more, count-one, count-none}
-use Rattle.grep_core.proofs.Extends.{error-unselected, said-more, number-of, numbered-first, still-below}
-use Rattle.grep_core.specs.LittlePast.{bytes_in}
+use Rattle.grep_output.proofs.ReachRows.{numbered-left}
+use Rattle.grep_output.proofs.Reached.{Reached, reached-more, out-more, group-more}
+use Rattle.grep_output.proofs.ScanEnds.{count, count-more, count-one, count-none}
+use Rattle.grep_output.proofs.Extends.{error-unselected, said-more, number-of, numbered-first, still-below}
+use Rattle.grep_output.specs.LittlePast.{bytes_in}
 use Rattle.grep_core.proofs.ScansRows.{stood-gives, stood-begins, begins-numbered, whole-gives}
 use Rattle.tool_out.proofs.Printing.{wrote-more}
 use Rattle.tool_out.specs.Printed.{printed}

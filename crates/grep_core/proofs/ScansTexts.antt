@@ -7,19 +7,19 @@ use Rattle.std.specs.Io.KnownBytes.{Appends}
 use Rattle.pcre_io.specs.Told.{Kept, AppendsPrefix}
 use Rattle.pcre_io.specs.Causes.{Rose}
 use Rattle.grep_args.specs.declared.plan.GrepPlan.{GrepPlan}
-use Rattle.grep_core.specs.declared.shows.Show.{Show}
-use Rattle.grep_core.specs.declared.ended.Stop.{Stop}
-use Rattle.grep_core.specs.declared.ended.Stop.TheVariants.{SinkFault, TooManyErrors, Memory}
+use Rattle.grep_output.specs.declared.shows.Show.{Show}
+use Rattle.grep_output.specs.declared.ended.Stop.{Stop}
+use Rattle.grep_output.specs.declared.ended.Stop.TheVariants.{SinkFault, TooManyErrors, Memory}
 use Rattle.grep_match.specs.Matches.{Tried}
-use Rattle.grep_core.specs.Scans.{Scan}
-use Rattle.grep_core.specs.Messages.{error_message}
-use Rattle.grep_core.specs.InputText.{shown_out}
+use Rattle.grep_output.specs.Scans.{Scan}
+use Rattle.grep_output.specs.Messages.{error_message}
+use Rattle.grep_output.specs.InputText.{shown_out}
 use Rattle.tool_out.specs.Prints.{Wrote, Breaks}
 use Rattle.tool_out.specs.Writes.{WritesAll}
 use Rattle.grep_core.specs.Turns.{Halts}
 use Rattle.tool_out.proofs.Writing.{prefix-front, prefix-more}
 use Rattle.tool_out.proofs.Printing.{prefix-of, wrote-breaks}
-use Rattle.grep_core.proofs.Extends.{TextsBegin}
+use Rattle.grep_output.proofs.Extends.{TextsBegin}
 use Rattle.tool_out.specs.Printed.{printed}
 
 module _ (a b c d : List ℕ) (out0 out out1 err0 err err1 : Kept) (wrote : Wrote a b (printed out0 err0) (printed out err)) where

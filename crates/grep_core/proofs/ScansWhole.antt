@@ -9,35 +9,35 @@ use Rattle.std.proofs.Math.Seq.{take-append_seam, take-append-add}
 use Rattle.pcre_io.specs.Told.{Told, Kept}
 use Rattle.line_feed.specs.Rows.{Row, Finish, At, End, rows_with}
 use Rattle.line_feed.specs.View.{Feed}
-use Rattle.grep_core.specs.LittlePast.{TakesLittlePast}
+use Rattle.grep_output.specs.LittlePast.{TakesLittlePast}
 use Rattle.grep_args.specs.declared.plan.GrepPlan.{GrepPlan}
 use Rattle.pat_tree.specs.Pattern.{Pattern}
-use Rattle.grep_core.specs.declared.shows.Show.{Show}
-use Rattle.grep_core.specs.declared.shows.Show.TheVariants as show
-use Rattle.grep_core.specs.declared.shows.Treatment.{Treatment}
-use Rattle.grep_core.specs.declared.ended.Ended.{Ended}
-use Rattle.grep_core.specs.declared.ended.Ended.TheVariants as told
-use Rattle.grep_core.specs.declared.ended.Stop.{Stop}
-use Rattle.grep_core.specs.declared.ended.Stop.TheVariants.{SinkFault, TooManyErrors, Memory}
-use Rattle.grep_core.specs.declared.state.State.{State}
-use Rattle.grep_core.specs.Lines.{lines}
-use Rattle.grep_core.specs.Shows.{lines_after}
+use Rattle.grep_output.specs.declared.shows.Show.{Show}
+use Rattle.grep_output.specs.declared.shows.Show.TheVariants as show
+use Rattle.grep_output.specs.declared.shows.Treatment.{Treatment}
+use Rattle.grep_output.specs.declared.ended.Ended.{Ended}
+use Rattle.grep_output.specs.declared.ended.Ended.TheVariants as told
+use Rattle.grep_output.specs.declared.ended.Stop.{Stop}
+use Rattle.grep_output.specs.declared.ended.Stop.TheVariants.{SinkFault, TooManyErrors, Memory}
+use Rattle.grep_output.specs.declared.state.State.{State}
+use Rattle.grep_output.specs.Lines.{lines}
+use Rattle.grep_output.specs.Shows.{lines_after}
 use Rattle.grep_match.specs.Matches.{Tried, tried_row, is_selected, has_error}
-use Rattle.grep_core.specs.Scans.{Scan, rows_of, errors_left, early_scan, early, at_finish, errors_in}
-use Rattle.grep_core.specs.Context.{is_shown, shown_row, shown_lines}
-use Rattle.grep_core.specs.Messages.{error_message}
-use Rattle.grep_core.specs.InputText.{shown_out, shows_group}
-use Rattle.grep_core.specs.Course as course
-use Rattle.grep_core.specs.Course.{AreNumbered, line_as, scan_so_far, begun, course_after}
+use Rattle.grep_output.specs.Scans.{Scan, rows_of, errors_left, early_scan, early, at_finish, errors_in}
+use Rattle.grep_output.specs.Context.{is_shown, shown_row, shown_lines}
+use Rattle.grep_output.specs.Messages.{error_message}
+use Rattle.grep_output.specs.InputText.{shown_out, shows_group}
+use Rattle.grep_output.specs.Course as course
+use Rattle.grep_output.specs.Course.{AreNumbered, line_as, scan_so_far, begun, course_after}
 use Rattle.tool_out.specs.Prints.{Wrote, Breaks}
 use Rattle.tool_out.specs.Writes.{WritesAll}
 use Rattle.grep_core.specs.Turns.{Halts}
-use Rattle.grep_core.specs.Refused.{GrewBy}
+use Rattle.grep_output.specs.Refused.{GrewBy}
 use Rattle.grep_core.specs.WholeScans.{Scans, StopsIn, StopsSoon, ScansTo, ScansInput, scan_of, left_by, IsJob, Pauses}
 use Rattle.grep_core.specs.Follows.{FollowsAll, FollowsSome, FollowsPart, Follows}
-use Rattle.grep_core.proofs.Reached.{Reached, reached-begun, reached-more, group-more}
-use Rattle.grep_core.proofs.ScanEnds.{count, early-tried, early-within}
-use Rattle.grep_core.proofs.Extends.{LastSelected, follow_out, early-is, early_out, number-of, numbered-first, TextsBegin}
+use Rattle.grep_output.proofs.Reached.{Reached, reached-begun, reached-more, group-more}
+use Rattle.grep_output.proofs.ScanEnds.{count, early-tried, early-within}
+use Rattle.grep_output.proofs.Extends.{LastSelected, follow_out, early-is, early_out, number-of, numbered-first, TextsBegin}
 use Rattle.grep_core.proofs.ScansRows.{ends-numbered}
 use Rattle.grep_core.proofs.ScansTexts.{wrote-out, breaks-out, breaks-ext, grew-then}
 use Rattle.grep_core.proofs.ScansTaken.{tries, tries-more, rows-tried}

@@ -11,7 +11,7 @@ use Rattle.line_feed.specs.Rows.{Row, Rows, Ending, End, Fault, Limit, Long, At,
 use Rattle.line_feed.specs.View.{Feed, Follows}
 use Rattle.line_feed.specs.Answers.{Gives}
 use Rattle.line_feed.proofs.Newlines.{newline-most}
-use Rattle.grep_core.specs.Earlier.{IsShort}
+use Rattle.grep_output.specs.Earlier.{IsShort}
 
 -- the newline of the first row has at most three bytes
 abbrev BeginsShort : List Row → Type 0

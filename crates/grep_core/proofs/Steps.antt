@@ -12,18 +12,18 @@ use Rattle.grep_match.specs.Matches.{Tried, Matches}
 use Rattle.grep_match.specs.Found.{Listed, Lists, ListsMatches}
 use Rattle.tool_out.specs.Writes.{Writes, WritesAll}
 use denote.Enum.Bare.{sameb}
-use Rattle.grep_core.specs.contracts.shows.Show.{the_type}
-use Rattle.grep_core.specs.declared.shows.Show.{Show}
-use Rattle.grep_core.specs.declared.shows.Show.TheVariants as show
+use Rattle.grep_output.specs.contracts.shows.Show.{the_type}
+use Rattle.grep_output.specs.declared.shows.Show.{Show}
+use Rattle.grep_output.specs.declared.shows.Show.TheVariants as show
 use Rattle.grep_core.specs.declared.scan.Course.{Course}
 use Rattle.grep_core.specs.declared.scan.Next.{Next}
 use Rattle.grep_core.specs.declared.scan.Next.TheVariants.{Line, Context}
-use Rattle.grep_core.specs.declared.state.State.{State}
-use Rattle.grep_core.specs.Earlier.{EarlierRows}
-use Rattle.grep_core.specs.Course.{is_lines, selected_out}
+use Rattle.grep_output.specs.declared.state.State.{State}
+use Rattle.grep_output.specs.Earlier.{EarlierRows}
+use Rattle.grep_output.specs.Course.{is_lines, selected_out}
 use Rattle.grep_core.specs.Turns.{course_of, is_full, SelectsIt}
 use Rattle.tool_out.specs.Texts.{text_if}
-use Rattle.grep_core.specs.Texts.{match_text, matches_text}
+use Rattle.grep_output.specs.Texts.{match_text, matches_text}
 
 -- the text of the next row is left in front of that of the later ones
 pub rest-more : (f : Row → List ℕ) (rows : List Row) (i : ℕ) (row : Row) → slice_get rows i ≡ Some row → flat_map f (drop i rows) ≡ f row ++ flat_map f (drop (i + 1) rows)

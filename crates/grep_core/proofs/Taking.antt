@@ -7,17 +7,17 @@ use Rattle.std.specs.Io.KnownBytes.{Appends}
 use Rattle.pcre_io.specs.Told.{Kept}
 use Rattle.ordered_search.specs.PlaceAnswer.{Outcome}
 use Rattle.grep_args.specs.declared.plan.GrepPlan.{GrepPlan}
-use Rattle.grep_core.specs.declared.shows.Show.{Show}
-use Rattle.grep_core.specs.declared.ended.Stop.{Stop}
-use Rattle.grep_core.specs.declared.ended.Stop.TheVariants.{SinkFault, TooManyErrors, Memory}
+use Rattle.grep_output.specs.declared.shows.Show.{Show}
+use Rattle.grep_output.specs.declared.ended.Stop.{Stop}
+use Rattle.grep_output.specs.declared.ended.Stop.TheVariants.{SinkFault, TooManyErrors, Memory}
 use Rattle.grep_core.specs.declared.scan.Course.{Course}
 use Rattle.grep_core.specs.declared.scan.Next.{Next}
 use Rattle.grep_core.specs.declared.scan.Next.TheVariants.{Line, Context}
 use Rattle.grep_match.specs.declared.search.Verdict.TheVariants.{Match, NoMatch, Error}
-use Rattle.grep_core.specs.declared.state.State.{State}
+use Rattle.grep_output.specs.declared.state.State.{State}
 use Rattle.grep_match.specs.Matches.{Matches, Tried, is_selected, has_error, selects}
-use Rattle.grep_core.specs.Messages.{error_message}
-use Rattle.grep_core.specs.Course.{selected_out, passed_out, row_out, state_after_line, is_lines}
+use Rattle.grep_output.specs.Messages.{error_message}
+use Rattle.grep_output.specs.Course.{selected_out, passed_out, row_out, state_after_line, is_lines}
 use Rattle.grep_match.specs.Found.{Listed, Lists, ListsMatches, IsVerdict}
 use Rattle.grep_core.specs.Turns.{course_of, Halts, Passes, PassesOn, Takes, TakesLine, Selects, is_last, is_full}
 use Rattle.tool_out.specs.Prints.{Breaks}

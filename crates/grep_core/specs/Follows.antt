@@ -3,20 +3,20 @@ use Rattle.std.specs.Prelude.{◌≡◌, ℕ, ◌≤◌, ◌<◌, false, List, �
 use Rattle.pcre_io.specs.Told.{Told, Kept}
 use Rattle.line_feed.specs.Rows.{Row}
 use Rattle.line_feed.specs.View.{Feed}
-use Rattle.grep_core.specs.LittlePast.{TakesLittlePast}
+use Rattle.grep_output.specs.LittlePast.{TakesLittlePast}
 use Rattle.line_feed.specs.Answers.{Gives, Refuses}
 use Rattle.line_feed.specs.declared.phase.FeedError.TheVariants as feed
 use Rattle.grep_args.specs.declared.plan.GrepPlan.{GrepPlan}
-use Rattle.grep_core.specs.declared.shows.Show.{Show}
-use Rattle.grep_core.specs.declared.shows.Treatment.{Treatment}
-use Rattle.grep_core.specs.declared.ended.Ended.{Ended}
-use Rattle.grep_core.specs.declared.ended.Ended.TheVariants as told
-use Rattle.grep_core.specs.declared.ended.Stop.{Stop}
-use Rattle.grep_core.specs.declared.ended.Stop.TheVariants.{SinkFault, Memory}
-use Rattle.grep_core.specs.Shows.{lines_after}
-use Rattle.grep_core.specs.Course.{line_as}
+use Rattle.grep_output.specs.declared.shows.Show.{Show}
+use Rattle.grep_output.specs.declared.shows.Treatment.{Treatment}
+use Rattle.grep_output.specs.declared.ended.Ended.{Ended}
+use Rattle.grep_output.specs.declared.ended.Ended.TheVariants as told
+use Rattle.grep_output.specs.declared.ended.Stop.{Stop}
+use Rattle.grep_output.specs.declared.ended.Stop.TheVariants.{SinkFault, Memory}
+use Rattle.grep_output.specs.Shows.{lines_after}
+use Rattle.grep_output.specs.Course.{line_as}
 use Rattle.tool_out.specs.Writes.{WritesAll}
-use Rattle.grep_core.specs.Refused.{GrewBy}
+use Rattle.grep_output.specs.Refused.{GrewBy}
 use Rattle.grep_core.specs.WholeScans.{BeginsWith, EndsWith}
 use Rattle.grep_core.specs.Turns.{Halts, EndsSo}
 

@@ -8,25 +8,25 @@ use Rattle.line_feed.specs.View.{Feed}
 use Rattle.line_feed.specs.Hears.{Hears}
 use Rattle.line_feed.specs.declared.phase.Phase.TheVariants.{Open, Closed}
 use Rattle.grep_args.specs.declared.plan.GrepPlan.{GrepPlan}
-use Rattle.grep_core.specs.declared.ended.FileEnd.{FileEnd}
-use Rattle.grep_core.specs.declared.ended.Stop.{Stop}
-use Rattle.grep_core.specs.declared.ended.Stop.TheVariants.{SinkFault, TooManyErrors, Memory}
-use Rattle.grep_core.specs.declared.shows.Treatment.{Treatment}
-use Rattle.grep_core.specs.declared.shows.Treatment.TheVariants.{Skipped}
-use Rattle.grep_core.specs.declared.state.State.{State}
+use Rattle.grep_output.specs.declared.ended.FileEnd.{FileEnd}
+use Rattle.grep_output.specs.declared.ended.Stop.{Stop}
+use Rattle.grep_output.specs.declared.ended.Stop.TheVariants.{SinkFault, TooManyErrors, Memory}
+use Rattle.grep_output.specs.declared.shows.Treatment.{Treatment}
+use Rattle.grep_output.specs.declared.shows.Treatment.TheVariants.{Skipped}
+use Rattle.grep_output.specs.declared.state.State.{State}
 use Rattle.pat_tree.specs.Pattern.{Pattern}
-use Rattle.grep_core.specs.Lines.{lines, treatment}
-use Rattle.grep_core.specs.Messages.{error_message}
-use Rattle.grep_core.specs.Scans.{Scan, too_many_errors, scan, selected_in}
-use Rattle.grep_core.specs.InputText.{Written, input_text, shown_out, state_by}
-use Rattle.grep_core.specs.declared.shows.Show.{Show}
-use Rattle.grep_core.specs.Shows.{is_told, show_in}
+use Rattle.grep_output.specs.Lines.{lines, treatment}
+use Rattle.grep_output.specs.Messages.{error_message}
+use Rattle.grep_output.specs.Scans.{Scan, too_many_errors, scan, selected_in}
+use Rattle.grep_output.specs.InputText.{Written, input_text, shown_out, state_by}
+use Rattle.grep_output.specs.declared.shows.Show.{Show}
+use Rattle.grep_output.specs.Shows.{is_told, show_in}
 use Rattle.grep_match.specs.Modes.{mode}
 use Rattle.grep_match.specs.Matches.{Tried}
-use Rattle.grep_core.specs.Course.{scan_so_far}
-use Rattle.grep_core.specs.Ends.{ended_of, stop_of}
+use Rattle.grep_output.specs.Course.{scan_so_far}
+use Rattle.grep_output.specs.Ends.{ended_of, stop_of}
 use Rattle.tool_out.specs.Prints.{Wrote, Breaks}
-use Rattle.grep_core.specs.Refused.{RefusesSoon, WhereRefused}
+use Rattle.grep_output.specs.Refused.{RefusesSoon, WhereRefused}
 use Rattle.grep_core.specs.WholeScans.{Stood, LeavesRest, StopsSoon}
 use Rattle.tool_out.specs.Printed.{Printed}
 

@@ -2,7 +2,7 @@
 use Rattle.std.specs.Prelude.{[], Result, Ok, Err}
 use Rattle.pcre_io.specs.Told.{Kept}
 use Rattle.tool_out.specs.Writes.{WritesAll}
-use Rattle.grep_core.specs.declared.ended.Stop.{Stop}
+use Rattle.grep_output.specs.declared.ended.Stop.{Stop}
 use Rattle.grep_core.specs.Turns.{Halts}
 
 -- nothing was written; where that is refused, a sink counted a fault

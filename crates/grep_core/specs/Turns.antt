@@ -9,11 +9,11 @@ use Rattle.line_feed.specs.Answers.{Gives, Ends, Refuses}
 use Rattle.line_feed.specs.declared.phase.FeedError.{FeedError}
 use Rattle.line_feed.specs.declared.phase.FeedError.TheVariants as feed
 use Rattle.grep_args.specs.declared.plan.GrepPlan.{GrepPlan}
-use Rattle.grep_core.specs.declared.shows.Show.{Show}
-use Rattle.grep_core.specs.declared.ended.Ended.{Ended}
-use Rattle.grep_core.specs.declared.ended.Ended.TheVariants as told
-use Rattle.grep_core.specs.declared.ended.Stop.{Stop}
-use Rattle.grep_core.specs.declared.ended.Stop.TheVariants.{SinkFault, TooManyErrors, Memory}
+use Rattle.grep_output.specs.declared.shows.Show.{Show}
+use Rattle.grep_output.specs.declared.ended.Ended.{Ended}
+use Rattle.grep_output.specs.declared.ended.Ended.TheVariants as told
+use Rattle.grep_output.specs.declared.ended.Stop.{Stop}
+use Rattle.grep_output.specs.declared.ended.Stop.TheVariants.{SinkFault, TooManyErrors, Memory}
 use Rattle.grep_core.specs.declared.scan.Course.{Course}
 use Rattle.grep_core.specs.declared.scan.Next.{Next}
 use Rattle.grep_core.specs.declared.scan.Next.TheVariants.{Line, Context}
@@ -21,10 +21,10 @@ use Rattle.grep_core.specs.declared.scan.Turn.{Turn}
 use Rattle.grep_core.specs.declared.scan.Turn.TheVariants.{Took, Finished}
 use Rattle.pat_tree.specs.Pattern.{Pattern}
 use Rattle.grep_match.specs.Matches.{Tried, tried_row, is_selected, has_error}
-use Rattle.grep_core.specs.Messages.{error_message}
-use Rattle.grep_core.specs.declared.state.State.{State}
-use Rattle.grep_core.specs.Course as course
-use Rattle.grep_core.specs.Course.{row_out, selected_out, passed_out, is_lines, course_after, course_after_selected, course_after_passed, state_after_line}
+use Rattle.grep_output.specs.Messages.{error_message}
+use Rattle.grep_output.specs.declared.state.State.{State}
+use Rattle.grep_output.specs.Course as course
+use Rattle.grep_output.specs.Course.{row_out, selected_out, passed_out, is_lines, course_after, course_after_selected, course_after_passed, state_after_line}
 use Rattle.tool_out.specs.Printed.{Printed}
 use Rattle.tool_out.specs.Writes.{WritesAll}
 use Rattle.tool_out.specs.Prints.{Wrote, Breaks}

@@ -7,27 +7,27 @@ use Rattle.line_feed.specs.Rows.{Row, Rows, Input, Finish, At, End, rows_with}
 use Rattle.line_feed.specs.View.{Feed}
 use Rattle.line_feed.specs.Hears.{Hears, HasGiven, HasShown}
 use Rattle.grep_args.specs.declared.plan.GrepPlan.{GrepPlan}
-use Rattle.grep_core.specs.declared.shows.Show.{Show}
-use Rattle.grep_core.specs.declared.shows.Treatment.{Treatment}
-use Rattle.grep_core.specs.declared.shows.Treatment.TheVariants.{AsText, Skipped}
-use Rattle.grep_core.specs.declared.ended.Ended.{Ended}
-use Rattle.grep_core.specs.declared.ended.Stop.{Stop}
-use Rattle.grep_core.specs.declared.ended.Stop.TheVariants.{SinkFault, TooManyErrors}
+use Rattle.grep_output.specs.declared.shows.Show.{Show}
+use Rattle.grep_output.specs.declared.shows.Treatment.{Treatment}
+use Rattle.grep_output.specs.declared.shows.Treatment.TheVariants.{AsText, Skipped}
+use Rattle.grep_output.specs.declared.ended.Ended.{Ended}
+use Rattle.grep_output.specs.declared.ended.Stop.{Stop}
+use Rattle.grep_output.specs.declared.ended.Stop.TheVariants.{SinkFault, TooManyErrors}
 use Rattle.grep_match.specs.PatternTexts.{line_end}
-use Rattle.grep_core.specs.Shows.{is_told, show_in, greatest_selected, lines_after}
+use Rattle.grep_output.specs.Shows.{is_told, show_in, greatest_selected, lines_after}
 use Rattle.grep_match.specs.Modes.{mode}
 use Rattle.pat_tree.specs.Pattern.{Pattern}
-use Rattle.grep_core.specs.Lines.{is_nul, lines, treatment, treatment_by}
+use Rattle.grep_output.specs.Lines.{is_nul, lines, treatment, treatment_by}
 use Rattle.grep_match.specs.Matches.{Tried, tried_row, is_selected}
-use Rattle.grep_core.specs.Scans as meant
-use Rattle.grep_core.specs.Scans.{Scan, IsBelow, scan_of_rows, selected_in, errors_in, too_many_errors}
-use Rattle.grep_core.specs.Messages.{error_message}
-use Rattle.grep_core.specs.declared.state.State.{State}
-use Rattle.grep_core.specs.InputText.{shown_out, shows_group}
-use Rattle.grep_core.specs.Course.{scan_so_far}
-use Rattle.grep_core.specs.LittlePast.{bytes_in, TakesLittlePast}
-use Rattle.grep_core.specs.Refused.{GrewBy, WhereRefused}
-use Rattle.grep_core.specs.Ends.{ended_of}
+use Rattle.grep_output.specs.Scans as meant
+use Rattle.grep_output.specs.Scans.{Scan, IsBelow, scan_of_rows, selected_in, errors_in, too_many_errors}
+use Rattle.grep_output.specs.Messages.{error_message}
+use Rattle.grep_output.specs.declared.state.State.{State}
+use Rattle.grep_output.specs.InputText.{shown_out, shows_group}
+use Rattle.grep_output.specs.Course.{scan_so_far}
+use Rattle.grep_output.specs.LittlePast.{bytes_in, TakesLittlePast}
+use Rattle.grep_output.specs.Refused.{GrewBy, WhereRefused}
+use Rattle.grep_output.specs.Ends.{ended_of}
 use Rattle.tool_out.specs.Printed.{Printed}
 use Rattle.tool_out.specs.Prints.{Wrote, Breaks}
 

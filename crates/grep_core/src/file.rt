@@ -3,25 +3,24 @@ ghost use Rattle.std.specs.Prelude.{◌≡◌, ◌≢◌, ◌+◌, ◌≤◌, �
 ghost use Rattle.std.specs.List.{list_any};
 ghost use Rattle.pcre_io.specs.Told.{Told};
 ghost use Rattle.line_feed.specs.declared.phase.Phase.TheVariants.{Closed};
-ghost use Rattle.grep_core.specs.declared.shows.Treatment.TheVariants.{Skipped};
+ghost use Rattle.grep_output.specs.declared.shows.Treatment.TheVariants.{Skipped};
 ghost use Rattle.grep_match.specs.Compiled.{patterns_in};
-ghost use Rattle.grep_core.specs.Ends.{ended_of};
-ghost use Rattle.grep_core.specs.InputText.{end_out};
-ghost use Rattle.grep_core.specs.Lines.{is_nul};
-ghost use Rattle.grep_core.specs.Messages.{ended_message};
+ghost use Rattle.grep_output.specs.Ends.{ended_of};
+ghost use Rattle.grep_output.specs.InputText.{end_out};
+ghost use Rattle.grep_output.specs.Lines.{is_nul};
+ghost use Rattle.grep_output.specs.Messages.{ended_message};
 ghost use Rattle.grep_core.specs.WholeScans.{AtLeastOne, IsJob, Stood};
 ghost use Rattle.grep_core.specs.OneInput.{Greps, standing, IsNew, is_skipped, TreatsTo, WritesBoth, ScansAs};
 ghost use Rattle.tool_out.specs.Printed.{printed};
 
-use crate::earlier::EarlierLines;
-use crate::ended::{Ended, FileEnd, Stop};
-use crate::messages::{write_ended, write_too_many};
 use crate::scan::{Course, Job, scan};
-use crate::shows::{Treatment, most_selected, show_in, tells_binary, treatment_by};
-use crate::state::{GrepState, State};
-use crate::summary::write_summary;
+use crate::state::GrepState;
 use grep_args::GrepPlan;
 use grep_match::{Mode, Patterns, Workspace, line_end, mode_of};
+use grep_output::{
+    EarlierLines, Ended, FileEnd, State, Stop, Treatment, most_selected, show_in, tells_binary,
+    treatment_by, write_ended, write_summary, write_too_many,
+};
 use line_feed::LineFeed;
 use pat_tree::Newline;
 use pcre_io::{IoError, Sink, Source};

@@ -1,39 +1,34 @@
 //! The scan of an input, line by line.
-ghost use Rattle.std.specs.Prelude.{◌≡◌, ◌≢◌, List, ◌<◌, ◌≤◌, ◌+◌, ◌^◌, ◌||◌, ◌&&◌, true, false, [], length, flat_map, IfOk, OnOk, Ok, Err, None, IsTrue};
+ghost use Rattle.std.specs.Prelude.{◌≡◌, ◌≢◌, List, ◌<◌, ◌≤◌, ◌+◌, ◌^◌, ◌||◌, ◌&&◌, true, false, [], length, flat_map, if◌then◌else◌, IfOk, OnOk, Ok, Err, None, IsTrue};
 ghost use Rattle.pcre_io.specs.Told.{Told};
 ghost use Rattle.line_feed.specs.Rows.{Row};
 ghost use Rattle.line_feed.specs.Lines.{row_of};
 ghost use Rattle.line_feed.specs.declared.phase.Phase.TheVariants.{Closed};
-ghost use Rattle.grep_core.specs.declared.shows.Show.TheVariants.{Lines, Parts, Nothing};
+ghost use Rattle.grep_output.specs.declared.shows.Show.TheVariants.{Lines, Parts, Nothing};
 ghost use Rattle.grep_core.specs.declared.scan.Next.{Next};
+ghost use Rattle.grep_core.specs.declared.scan.Next.TheVariants as follows;
 ghost use Rattle.grep_match.specs.Compiled.{patterns_in};
 ghost use Rattle.grep_match.specs.PatternTexts.{line_end};
 ghost use Rattle.grep_match.specs.Matches.{Tried, tried_row, is_selected, matches};
-ghost use Rattle.grep_core.specs.Context.{parts_groups};
-ghost use Rattle.grep_core.specs.Course.{begins_group, line_as, selected_out, passed_out, course_after_selected, course_after_passed, is_lines};
+ghost use Rattle.grep_output.specs.Context.{parts_groups};
+ghost use Rattle.grep_output.specs.Course.{begins_group, line_as, separator, selected_out, passed_out, course_after_selected, course_after_passed, is_lines};
 ghost use Rattle.ordered_search.specs.PlaceAnswer.{Outcome};
 ghost use Rattle.grep_match.specs.Found.{Lists, ListsMatches, IsVerdict};
 ghost use Rattle.tool_out.specs.Writes.{Writes};
-ghost use Rattle.grep_core.specs.declared.shows.Treatment.{Treatment};
+ghost use Rattle.grep_output.specs.declared.shows.Treatment.{Treatment};
 ghost use Rattle.grep_core.specs.Turns.{course_of, is_full, TakesLine, Passes, Selects, Turns, ended_by};
-ghost use Rattle.grep_core.specs.Earlier.{IsShort};
+ghost use Rattle.grep_output.specs.Earlier.{IsShort};
 ghost use Rattle.grep_core.specs.Follows.{FollowsOne, Follows};
 ghost use Rattle.grep_core.specs.Sending.{SendsOn};
 ghost use Rattle.grep_core.specs.Watched.{Watches};
-ghost use Rattle.grep_core.specs.LittlePast.{bytes_in};
+ghost use Rattle.grep_output.specs.LittlePast.{bytes_in};
 ghost use Rattle.grep_core.specs.WholeScans.{Stood, IsJob, ScansInput, TakesAll};
 ghost use Rattle.tool_out.specs.Printed.{printed};
 
-use crate::earlier::EarlierLines;
-use crate::ended::{Ended, Stop};
-use crate::lines::write_line;
-use crate::messages::write_error;
-use crate::parts::write_matches;
-use crate::shows::Show;
-use crate::state::State;
 use crate::watch::Watch;
 use grep_args::GrepPlan;
 use grep_match::{MatchList, Patterns, Verdict, Workspace, search_line};
+use grep_output::{EarlierLines, Ended, Show, State, Stop, write_error, write_line, write_matches};
 use line_feed::{FeedError, Line, LineFeed};
 use pcre_io::{IoError, Memory, Sink, Source};
 use std::alloc::Global;
@@ -119,6 +114,23 @@ fn write_earlier<O: Sink>(job: &Job<'_>, out: &mut O, earlier: &EarlierLines) ->
     Ok(())
 }
 
+// Writes what parts the lines that a selected one shows from those that were shown before.
+fn write_separator<O: Sink>(
+    job: &Job<'_>,
+    out: &mut O,
+    has_shown: bool,
+    course: &Course,
+    number: u64,
+) -> Result<(), IoError>
+    requires earlier { length course.now.earlier.rows < number }
+    requires context { course.now.context_to ≤ 2 ^ 62 }
+    ensures { Writes (separator job.now.plan.now job.now.name.now has_shown
+        (course_of course.now) number) (O.tells out.old) (O.tells out.new) result }
+{
+    let is_parted = is_parted(job.plan, has_shown, course, number);
+    write_texts(out, &[text_if(is_parted, b"--\n")])
+}
+
 // Writes a selected line, with the lines before it, parted from those that were shown before.
 fn write_selected<O: Sink>(
     job: &Job<'_>,
@@ -133,8 +145,7 @@ fn write_selected<O: Sink>(
         → Writes (selected_out job.now.plan.now job.now.name.now Lines has_shown
         (course_of course.now) t) (O.tells out.old) (O.tells out.new) result }
 {
-    let is_parted = is_parted(job.plan, has_shown, course, line.number);
-    write_texts(out, &[text_if(is_parted, b"--\n")])?;
+    write_separator(job, out, has_shown, course, line.number)?;
     write_earlier(job, out, &course.earlier)?;
     write_line(out, job.plan, job.name, line, true)
 }
@@ -201,6 +212,18 @@ fn is_full(most: Option<u32>, selected: u64) -> bool
     }
 }
 
+// What follows a selected line, with which so many are selected.
+fn next_after(most: Option<u32>, selected: u64) -> Next
+    ensures { result ≡ (if is_full most selected then follows.Context
+        else follows.Line) }
+{
+    if is_full(most, selected) {
+        Next::Context
+    } else {
+        Next::Line
+    }
+}
+
 // Takes a selected line, of which these are the matches.
 fn select<O: Sink>(
     job: &Job<'_>,
@@ -230,11 +253,7 @@ fn select<O: Sink>(
         course.context_to = line.number + u64::from(job.plan.after_context);
         state.has_shown = true;
     }
-    if is_full(job.most, course.selected) {
-        Ok(Next::Context)
-    } else {
-        Ok(Next::Line)
-    }
+    Ok(next_after(job.most, course.selected))
 }
 
 // Takes a line with a match error. After the last one that there may be nothing more is shown.

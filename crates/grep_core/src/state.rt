@@ -1,23 +1,13 @@
 //! What the inputs before leave.
 ghost use Rattle.std.specs.Prelude.{◌≡◌};
-ghost use Rattle.grep_core.specs.InputText.{first_state};
+ghost use Rattle.grep_output.specs.InputText.{first_state};
 
 use byte_lanes::EndKind;
 use grep_match::Workspace;
+use grep_output::State;
 use line_feed::LineFeed;
 use std::alloc::Global;
 use std::marker::Model;
-
-/// What the inputs so far leave to the next one.
-#[derive(Clone, Copy, Debug, PartialEq, Eq)]
-pub struct State {
-    /// How many match errors there were.
-    pub errors: u32,
-    /// How many lines were selected.
-    pub total: u128,
-    /// Whether a group of lines was shown.
-    pub has_shown: bool,
-}
 
 /// What one input leaves to the next, and the feed and the workspace of the searches, which keep their room.
 #[derive(Drop)]
@@ -29,7 +19,7 @@ pub struct GrepState {
 }
 
 impl Model for GrepState {
-    ghost use Rattle.grep_core.specs.declared.state.State.{State};
+    ghost use Rattle.grep_output.specs.declared.state.State.{State};
 
     ghost Value = { State };
 

@@ -14,13 +14,13 @@ use Rattle.dir_walk.specs.declared.lists.Target.{Target}
 use Rattle.dir_walk.specs.Filters.{Filter, BadFilter, filter_of}
 use Rattle.dir_walk.specs.Targets.{targets}
 use Rattle.dir_walk.specs.Walks.{has_failed}
-use Rattle.grep_core.specs.declared.ended.Stop.{Stop}
-use Rattle.grep_core.specs.declared.ended.Stop.TheVariants.{Memory}
+use Rattle.grep_output.specs.declared.ended.Stop.{Stop}
+use Rattle.grep_output.specs.declared.ended.Stop.TheVariants.{Memory}
 use Rattle.tool_in.specs.Absent.{AbsentBy}
 use Rattle.tool_in.specs.Asked.{Asked, StandFor, named_target, nothing, standard_after}
 use Rattle.pat_tree.specs.Pattern.{Pattern}
 use Rattle.grep_match.specs.Compiled.{BadPattern, Compiled, patterns_of}
-use Rattle.grep_core.specs.InputText.{first_state}
+use Rattle.grep_output.specs.InputText.{first_state}
 use Rattle.tool_out.specs.Outcomes.{RunOutcome}
 use Rattle.tool_out.specs.Printed.{Printed, printed}
 use Rattle.grep_run.specs.Refusals.{refusal, pattern_message, filter_message, usage_message, help_text}

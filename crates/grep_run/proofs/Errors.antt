@@ -7,17 +7,17 @@ use Rattle.std.proofs.lemmas.List.Elements.{filter-append}
 use Rattle.line_feed.specs.Rows.{Rows, Finish, Input}
 use Rattle.grep_args.specs.declared.plan.GrepPlan.{GrepPlan}
 use Rattle.pat_tree.specs.Pattern.{Pattern}
-use Rattle.grep_core.specs.declared.shows.Treatment.{Treatment}
-use Rattle.grep_core.specs.declared.shows.Treatment.TheVariants.{AsText, AsBinary, Skipped}
-use Rattle.grep_core.specs.declared.state.State.{State}
-use Rattle.grep_core.specs.Lines.{lines, treatment}
-use Rattle.grep_core.specs.Shows.{greatest_selected, trailing}
+use Rattle.grep_output.specs.declared.shows.Treatment.{Treatment}
+use Rattle.grep_output.specs.declared.shows.Treatment.TheVariants.{AsText, AsBinary, Skipped}
+use Rattle.grep_output.specs.declared.state.State.{State}
+use Rattle.grep_output.specs.Lines.{lines, treatment}
+use Rattle.grep_output.specs.Shows.{greatest_selected, trailing}
 use Rattle.grep_match.specs.Matches.{Tried, tried_row, is_selected, has_error}
-use Rattle.grep_core.specs.Scans.{Ended, at_finish, early, too_many_errors, Scan, nth_place, place_of_most, early_scan, broken_scan, scan_to, errors_left, errors_in, scan}
-use Rattle.grep_core.specs.InputText.{input_text}
+use Rattle.grep_output.specs.Scans.{Ended, at_finish, early, too_many_errors, Scan, nth_place, place_of_most, early_scan, broken_scan, scan_to, errors_left, errors_in, scan}
+use Rattle.grep_output.specs.InputText.{input_text}
 use Rattle.grep_run.specs.Reports.{scanned, is_broken}
-use Rattle.grep_core.proofs.ScanEnds.{IsPast, count, count-one, count-none}
-use Rattle.grep_core.proofs.Reached.{unselected-error}
+use Rattle.grep_output.proofs.ScanEnds.{IsPast, count, count-one, count-none}
+use Rattle.grep_output.proofs.Reached.{unselected-error}
 
 -- whether a test holds of the line at a place
 abbrev holds_at : (Tried → Bool) → List Tried → ℕ → Bool

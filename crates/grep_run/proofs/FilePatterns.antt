@@ -17,17 +17,17 @@ use Rattle.line_feed.specs.Answers.{Gives, Ends, Refuses}
 use Rattle.line_feed.specs.Hears.{HasGiven, HasHeard}
 use Rattle.line_feed.proofs.Given.{HasGiven-none, HasGiven-gives, HasGiven-lacks, HasHeard-ends, HasHeard-breaks, HasHeard-overflows, HasHeard-exceeds, HasBegun-given, live-gives, kind-gives, max-gives}
 use Rattle.grep_args.specs.declared.plan.GrepPlan.{GrepPlan}
-use Rattle.grep_core.specs.declared.ended.Ended.{Ended}
-use Rattle.grep_core.specs.declared.ended.Ended.TheVariants as told
-use Rattle.grep_core.specs.declared.ended.Stop.{Stop}
-use Rattle.grep_core.specs.declared.ended.Stop.TheVariants.{Memory}
+use Rattle.grep_output.specs.declared.ended.Ended.{Ended}
+use Rattle.grep_output.specs.declared.ended.Ended.TheVariants as told
+use Rattle.grep_output.specs.declared.ended.Stop.{Stop}
+use Rattle.grep_output.specs.declared.ended.Stop.TheVariants.{Memory}
 use Rattle.dir_walk.specs.declared.lists.Target.{Target}
 use Rattle.dir_walk.specs.declared.lists.Target.TheVariants as targets
 use Rattle.tool_in.specs.Asked.{Asked, Opened, asked, named_target}
 use Rattle.grep_run.specs.PatternFiles.{shown_name, FileTexts, is_white, with_byte, trimmed, is_given, patterns_in, texts_or_message, texts_of_rows, texts_of, texts_then, texts_in_files}
-use Rattle.grep_core.specs.Ends.{ended_of, stop_of}
-use Rattle.grep_core.specs.Messages.{ended_message}
-use Rattle.grep_core.specs.Scans as meant
+use Rattle.grep_output.specs.Ends.{ended_of, stop_of}
+use Rattle.grep_output.specs.Messages.{ended_message}
+use Rattle.grep_output.specs.Scans as meant
 use Rattle.tool_out.specs.Writes.{Writes, WritesAll}
 use Rattle.grep_core.specs.Turns.{Halts, ended_by}
 use Rattle.grep_core.proofs.Halting.{halts-of}

@@ -2,8 +2,8 @@
 use Rattle.std.proofs.Common.{ℕ, List, [], Ok, Err, refl, inr}
 use Rattle.std.proofs.KnownBytes.{Appends-nil}
 use Rattle.pcre_io.specs.Told.{Kept}
-use Rattle.grep_core.specs.declared.ended.Stop.{Stop}
-use Rattle.grep_core.specs.declared.ended.Stop.TheVariants.{SinkFault, TooManyErrors, Memory}
+use Rattle.grep_output.specs.declared.ended.Stop.{Stop}
+use Rattle.grep_output.specs.declared.ended.Stop.TheVariants.{SinkFault, TooManyErrors, Memory}
 use Rattle.tool_out.specs.Outcomes.{RunOutcome}
 use Rattle.tool_out.specs.Writes.{WritesAll}
 use Rattle.grep_core.specs.Turns.{Halts}

@@ -5,16 +5,16 @@ use Rattle.pcre_io.specs.Told.{Told, Kept}
 use Rattle.pcre_io.specs.Files.{Contents, IsMissing}
 use Rattle.line_feed.specs.Rows.{Input}
 use Rattle.grep_args.specs.declared.plan.GrepPlan.{GrepPlan}
-use Rattle.grep_core.specs.declared.ended.FileEnd.{FileEnd}
-use Rattle.grep_core.specs.declared.ended.Stop.{Stop}
-use Rattle.grep_core.specs.declared.ended.Stop.TheVariants.{Memory}
-use Rattle.grep_core.specs.declared.state.State.{State}
+use Rattle.grep_output.specs.declared.ended.FileEnd.{FileEnd}
+use Rattle.grep_output.specs.declared.ended.Stop.{Stop}
+use Rattle.grep_output.specs.declared.ended.Stop.TheVariants.{Memory}
+use Rattle.grep_output.specs.declared.state.State.{State}
 use Rattle.dir_walk.specs.declared.lists.Target.{Target}
 use Rattle.dir_walk.specs.declared.lists.Target.TheVariants as targets
 use Rattle.tool_in.specs.Absent.{AbsentBy}
 use Rattle.tool_in.specs.Asked.{asked, is_standard, input_of, Opened, OpensTo}
 use Rattle.pat_tree.specs.Pattern.{Pattern}
-use Rattle.grep_core.specs.InputText.{Written, input_text}
+use Rattle.grep_output.specs.InputText.{Written, input_text}
 use Rattle.grep_core.specs.OneInput.{GrepsTo}
 use Rattle.grep_run.specs.PatternFiles.{shown_name}
 use Rattle.grep_run.specs.Leaves.{LeavesScan, LeavesTarget, Uses}

@@ -6,14 +6,14 @@ use Rattle.pcre_io.specs.Told.{Told, Kept}
 use Rattle.grep_args.specs.declared.plan.GrepPlan.{GrepPlan}
 use Rattle.grep_args.specs.declared.plan.HelpKind.{HelpKind}
 use Rattle.grep_args.specs.Words.{Reads, plan_of}
-use Rattle.grep_core.specs.declared.ended.Stop.TheVariants.{SinkFault, TooManyErrors, Memory}
+use Rattle.grep_output.specs.declared.ended.Stop.TheVariants.{SinkFault, TooManyErrors, Memory}
 use Rattle.pat_tree.specs.Pattern.{Pattern}
 use Rattle.dir_walk.specs.Filters.{Filter, BadFilter, filter_of}
 use Rattle.tool_in.specs.Asked.{Asked}
 use Rattle.grep_match.specs.Compiled.{BadPattern, Compiled, patterns_of}
-use Rattle.pcre2_api.specs.FaultTexts.{fault_text}
-use Rattle.grep_core.specs.InputText.{first_state}
-use Rattle.grep_core.specs.Messages.{message}
+use Rattle.pcre2_errors.specs.FaultTexts.{fault_text}
+use Rattle.grep_output.specs.InputText.{first_state}
+use Rattle.grep_output.specs.Messages.{message}
 use Rattle.tool_out.specs.Outcomes.{RunOutcome, said, Stops, RunsSome, RunsAll, Runs}
 use Rattle.grep_run.specs.Refusals.{refusal, usage_message, pattern_message, filter_name, filter_message}
 use Rattle.grep_run.specs.Reports.{Report, reports}

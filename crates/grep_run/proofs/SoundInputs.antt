@@ -13,15 +13,15 @@ use Rattle.pat_tree.specs.Pattern.{Pattern}
 use Rattle.tool_in.specs.Asked.{Asked}
 use Rattle.grep_match.specs.Matches.{Tried, tried_row, is_selected, has_error}
 use Rattle.grep_match.specs.PatternTexts.{line_end}
-use Rattle.grep_core.specs.declared.shows.Treatment.{Treatment}
-use Rattle.grep_core.specs.declared.shows.Treatment.TheVariants.{AsText, AsBinary, Skipped}
-use Rattle.grep_core.specs.declared.state.State.{State}
-use Rattle.grep_core.specs.Lines.{lines, treatment}
-use Rattle.grep_core.specs.Shows.{greatest_selected, trailing}
-use Rattle.grep_core.specs.Scans.{Ended, at_finish, early, too_many_errors, Scan, nth_place, place_of_most, scan_to, errors_left, scan}
-use Rattle.grep_core.specs.Scans as scans
-use Rattle.grep_core.specs.InputText.{input_text}
-use Rattle.grep_core.proofs.ScanEnds.{count, nth-none}
+use Rattle.grep_output.specs.declared.shows.Treatment.{Treatment}
+use Rattle.grep_output.specs.declared.shows.Treatment.TheVariants.{AsText, AsBinary, Skipped}
+use Rattle.grep_output.specs.declared.state.State.{State}
+use Rattle.grep_output.specs.Lines.{lines, treatment}
+use Rattle.grep_output.specs.Shows.{greatest_selected, trailing}
+use Rattle.grep_output.specs.Scans.{Ended, at_finish, early, too_many_errors, Scan, nth_place, place_of_most, scan_to, errors_left, scan}
+use Rattle.grep_output.specs.Scans as scans
+use Rattle.grep_output.specs.InputText.{input_text}
+use Rattle.grep_output.proofs.ScanEnds.{count, nth-none}
 use Rattle.grep_run.specs.Laws.{IsWhole, errors_in}
 use Rattle.grep_run.specs.PatternFiles.{shown_name}
 use Rattle.grep_run.specs.Reports.{Report, scanned, is_broken, state_after_report, report_on, report_of, reports}

@@ -14,27 +14,27 @@ use Rattle.pcre_io.specs.declared.traits.IoError.{IoError}
 use Rattle.pcre_io.specs.declared.traits.IoError.TheVariants as io
 use Rattle.line_feed.specs.Rows.{Input}
 use Rattle.grep_args.specs.declared.plan.GrepPlan.{GrepPlan}
-use Rattle.grep_core.specs.declared.ended.Ended.{Ended}
-use Rattle.grep_core.specs.declared.ended.Ended.TheVariants as told
-use Rattle.grep_core.specs.declared.ended.FileEnd.{FileEnd}
-use Rattle.grep_core.specs.declared.ended.Stop.{Stop}
-use Rattle.grep_core.specs.declared.ended.Stop.TheVariants.{SinkFault, TooManyErrors, Memory}
+use Rattle.grep_output.specs.declared.ended.Ended.{Ended}
+use Rattle.grep_output.specs.declared.ended.Ended.TheVariants as told
+use Rattle.grep_output.specs.declared.ended.FileEnd.{FileEnd}
+use Rattle.grep_output.specs.declared.ended.Stop.{Stop}
+use Rattle.grep_output.specs.declared.ended.Stop.TheVariants.{SinkFault, TooManyErrors, Memory}
 use Rattle.grep_match.specs.declared.modes.Mode.TheVariants.{Counts}
-use Rattle.grep_core.specs.declared.shows.Treatment.{Treatment}
-use Rattle.grep_core.specs.declared.shows.Treatment.TheVariants.{AsText, AsBinary, Skipped}
-use Rattle.grep_core.specs.declared.state.State.{State}
+use Rattle.grep_output.specs.declared.shows.Treatment.{Treatment}
+use Rattle.grep_output.specs.declared.shows.Treatment.TheVariants.{AsText, AsBinary, Skipped}
+use Rattle.grep_output.specs.declared.state.State.{State}
 use Rattle.dir_walk.specs.declared.lists.Target.{Target}
 use Rattle.tool_in.specs.Absent.{AbsentBy}
 use Rattle.tool_in.specs.Asked.{Asked, asked, is_standard}
 use Rattle.grep_run.specs.PatternFiles.{shown_name, is_given}
 use Rattle.pat_tree.specs.Pattern.{Pattern}
-use Rattle.grep_core.specs.Ends.{ended_of, stop_of}
-use Rattle.grep_core.specs.InputText.{Written, input_text, first_state, out_text, shown_out, end_out}
-use Rattle.grep_core.specs.Lines.{lines, treatment}
+use Rattle.grep_output.specs.Ends.{ended_of, stop_of}
+use Rattle.grep_output.specs.InputText.{Written, input_text, first_state, out_text, shown_out, end_out}
+use Rattle.grep_output.specs.Lines.{lines, treatment}
 use Rattle.grep_match.specs.Modes.{mode, is_with, is_matching}
-use Rattle.grep_core.specs.Shows.{is_told, show_in, tells_binary}
-use Rattle.grep_core.specs.Scans as meant
-use Rattle.grep_core.specs.Scans.{Scan, at_finish, early, too_many_errors, scan, selected_in}
+use Rattle.grep_output.specs.Shows.{is_told, show_in, tells_binary}
+use Rattle.grep_output.specs.Scans as meant
+use Rattle.grep_output.specs.Scans.{Scan, at_finish, early, too_many_errors, scan, selected_in}
 use Rattle.tool_out.specs.Texts.{line, text_if}
 use Rattle.grep_run.specs.Reports.{Report, scanned, missing, is_broken, state_after_report, report_of, reports}
 use Rattle.grep_run.specs.ToolText.{is_failed, has_failed, selected_by, total_of, status_of, out_of, err_of, writes, count_lines, total_after, last_text, outcome_of}

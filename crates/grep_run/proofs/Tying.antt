@@ -9,16 +9,16 @@ use Rattle.line_feed.specs.Rows.{At, End, rows_within}
 use Rattle.grep_args.specs.declared.plan.GrepPlan.{GrepPlan}
 use Rattle.dir_walk.specs.declared.lists.Target.{Target}
 use Rattle.pat_tree.specs.Pattern.{Pattern}
-use Rattle.grep_core.specs.declared.ended.Stop.{Stop}
-use Rattle.grep_core.specs.declared.ended.Stop.TheVariants.{SinkFault, TooManyErrors, Memory}
-use Rattle.grep_core.specs.declared.shows.Treatment.{Treatment}
-use Rattle.grep_core.specs.declared.shows.Treatment.TheVariants.{AsText}
-use Rattle.grep_core.specs.declared.state.State.{State}
-use Rattle.grep_core.specs.Ends.{stop_of}
-use Rattle.grep_core.specs.InputText.{input_text}
-use Rattle.grep_core.specs.Lines.{is_nul, lines, treatment, treatment_by}
-use Rattle.grep_core.specs.Scans.{Scan, at_finish, early, nth_place, place_of_most, scan, scan_to, errors_left}
-use Rattle.grep_core.specs.Shows.{greatest_selected, trailing}
+use Rattle.grep_output.specs.declared.ended.Stop.{Stop}
+use Rattle.grep_output.specs.declared.ended.Stop.TheVariants.{SinkFault, TooManyErrors, Memory}
+use Rattle.grep_output.specs.declared.shows.Treatment.{Treatment}
+use Rattle.grep_output.specs.declared.shows.Treatment.TheVariants.{AsText}
+use Rattle.grep_output.specs.declared.state.State.{State}
+use Rattle.grep_output.specs.Ends.{stop_of}
+use Rattle.grep_output.specs.InputText.{input_text}
+use Rattle.grep_output.specs.Lines.{is_nul, lines, treatment, treatment_by}
+use Rattle.grep_output.specs.Scans.{Scan, at_finish, early, nth_place, place_of_most, scan, scan_to, errors_left}
+use Rattle.grep_output.specs.Shows.{greatest_selected, trailing}
 use Rattle.grep_match.specs.Matches.{Tried, is_selected, has_error}
 use Rattle.tool_in.specs.Asked.{Asked, asked, is_standard, nothing, standard_after, StandFor, Stands}
 use Rattle.tool_in.specs.Absent.{AbsentBy}

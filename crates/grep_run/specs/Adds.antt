@@ -7,14 +7,14 @@ use Rattle.byte_lanes.specs.declared.line_end.EndKind.TheVariants.{Lf}
 use Rattle.line_feed.specs.Rows.{Input, rows}
 use Rattle.line_feed.specs.Hears.{Hears}
 use Rattle.grep_args.specs.declared.plan.GrepPlan.{GrepPlan}
-use Rattle.grep_core.specs.declared.ended.Ended.{Ended}
-use Rattle.grep_core.specs.declared.ended.Stop.{Stop}
-use Rattle.grep_core.specs.declared.ended.Stop.TheVariants.{Memory}
+use Rattle.grep_output.specs.declared.ended.Ended.{Ended}
+use Rattle.grep_output.specs.declared.ended.Stop.{Stop}
+use Rattle.grep_output.specs.declared.ended.Stop.TheVariants.{Memory}
 use Rattle.tool_in.specs.Absent.{AbsentBy}
 use Rattle.tool_in.specs.Asked.{Asked, asked, named_target}
 use Rattle.grep_run.specs.PatternFiles.{shown_name, FileTexts, patterns_in, texts_of, texts_in_files}
-use Rattle.grep_core.specs.Ends.{ended_of}
-use Rattle.grep_core.specs.Scans as meant
+use Rattle.grep_output.specs.Ends.{ended_of}
+use Rattle.grep_output.specs.Scans as meant
 use Rattle.tool_out.specs.Writes.{WritesAll}
 use Rattle.grep_core.specs.Turns.{Halts}
 use Rattle.tool_in.specs.Takes.{Takes, TakesAll, Inputs}

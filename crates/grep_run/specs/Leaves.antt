@@ -3,17 +3,17 @@
 use Rattle.std.specs.Prelude.{◌≡◌, ℕ, ◌<◌, Bool, true, false, List, [], ◌∷◌, ◌++◌, length, take, drop, Option, Some, None, Result, Ok, Err, ⊤}
 use Rattle.pcre_io.specs.Told.{Told}
 use Rattle.pcre_io.specs.Files.{Contents}
-use Rattle.grep_core.specs.LittlePast.{TakesLittlePast}
+use Rattle.grep_output.specs.LittlePast.{TakesLittlePast}
 use Rattle.grep_args.specs.declared.plan.GrepPlan.{GrepPlan}
 use Rattle.grep_args.specs.declared.plan.HelpKind.{HelpKind}
 use Rattle.grep_args.specs.Words.{Reads, plan_of}
-use Rattle.grep_core.specs.declared.ended.Stop.{Stop}
-use Rattle.grep_core.specs.declared.ended.Stop.TheVariants.{SinkFault, TooManyErrors, Memory}
-use Rattle.grep_core.specs.declared.state.State.{State}
-use Rattle.grep_core.specs.declared.ended.FileEnd.{FileEnd}
-use Rattle.grep_core.specs.InputText.{Written, first_state}
+use Rattle.grep_output.specs.declared.ended.Stop.{Stop}
+use Rattle.grep_output.specs.declared.ended.Stop.TheVariants.{SinkFault, TooManyErrors, Memory}
+use Rattle.grep_output.specs.declared.state.State.{State}
+use Rattle.grep_output.specs.declared.ended.FileEnd.{FileEnd}
+use Rattle.grep_output.specs.InputText.{Written, first_state}
 use Rattle.grep_core.specs.WholeScans.{LeavesRest}
-use Rattle.grep_core.specs.Scans.{early}
+use Rattle.grep_output.specs.Scans.{early}
 use Rattle.grep_match.specs.Compiled.{Compiled, patterns_of}
 use Rattle.pat_tree.specs.Pattern.{Pattern}
 use Rattle.tool_in.specs.Absent.{AbsentBy}

@@ -7,7 +7,7 @@ use Rattle.grep_args.specs.declared.plan.GrepPlan.{GrepPlan}
 use Rattle.dir_walk.specs.declared.lists.Target.{Target}
 use Rattle.dir_walk.specs.declared.lists.Target.TheVariants as targets
 use Rattle.tool_in.specs.Asked.{Asked}
-use Rattle.grep_core.specs.Messages.{message_on, finish_message}
+use Rattle.grep_output.specs.Messages.{message_on, finish_message}
 
 -- standard input is shown under its label
 abbrev pub shown_name : GrepPlan → Target → List ℕ

@@ -11,8 +11,8 @@ use Rattle.grep_args.specs.Words.{Fault}
 use Rattle.dir_walk.specs.Filters.{BadFilter}
 use Rattle.grep_match.specs.Compiled.{BadPattern}
 use Rattle.tool_out.specs.Texts.{line}
-use Rattle.grep_core.specs.Messages.{message}
-use Rattle.pcre2_api.specs.FaultTexts.{fault_text}
+use Rattle.grep_output.specs.Messages.{message}
+use Rattle.pcre2_errors.specs.FaultTexts.{fault_text}
 use Rattle.tool_out.specs.Outcomes.{RunOutcome}
 
 -- nothing but a message is written

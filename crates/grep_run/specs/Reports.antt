@@ -9,11 +9,11 @@ use Rattle.dir_walk.specs.declared.lists.Target.TheVariants as targets
 use Rattle.tool_in.specs.Asked.{Asked}
 use Rattle.grep_run.specs.PatternFiles.{shown_name}
 use Rattle.pat_tree.specs.Pattern.{Pattern}
-use Rattle.grep_core.specs.Scans.{at_finish, early, too_many_errors}
+use Rattle.grep_output.specs.Scans.{at_finish, early, too_many_errors}
 use Rattle.tool_out.specs.Texts.{text_if}
-use Rattle.grep_core.specs.Messages.{message_on, finish_message}
-use Rattle.grep_core.specs.declared.state.State.{State}
-use Rattle.grep_core.specs.InputText.{Written, input_text}
+use Rattle.grep_output.specs.Messages.{message_on, finish_message}
+use Rattle.grep_output.specs.declared.state.State.{State}
+use Rattle.grep_output.specs.InputText.{Written, input_text}
 
 -- All inputs.
 

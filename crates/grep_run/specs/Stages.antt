@@ -11,7 +11,7 @@ use Rattle.tool_in.specs.Asked.{Asked, StandFor}
 use Rattle.tool_in.specs.Takes.{TakesAll}
 use Rattle.tool_out.specs.Printed.{Printed}
 use Rattle.grep_match.specs.Compiled.{Compiled}
-use Rattle.grep_core.specs.declared.ended.Stop.{Stop}
+use Rattle.grep_output.specs.declared.ended.Stop.{Stop}
 use Rattle.grep_run.specs.Asks.{AsksFor, Lists, asked_by_plan}
 use Rattle.grep_run.specs.Leaves.{Ties, Unless, LeavesBy, LeavesPlan, LeavesInput}
 use Rattle.grep_run.specs.RunsBy.{RunsBy}

@@ -3,11 +3,11 @@ use Rattle.std.specs.Prelude.{◌≡◌, ℕ, ◌+◌, Bool, true, false, ◌||�
 use Rattle.std.specs.List.{list_any}
 use Rattle.pcre_io.specs.Told.{Kept}
 use Rattle.grep_args.specs.declared.plan.GrepPlan.{GrepPlan}
-use Rattle.grep_core.specs.declared.ended.FileEnd.{FileEnd}
-use Rattle.grep_core.specs.declared.ended.Stop.{Stop}
-use Rattle.grep_core.specs.declared.ended.Stop.TheVariants.{SinkFault, TooManyErrors}
+use Rattle.grep_output.specs.declared.ended.FileEnd.{FileEnd}
+use Rattle.grep_output.specs.declared.ended.Stop.{Stop}
+use Rattle.grep_output.specs.declared.ended.Stop.TheVariants.{SinkFault, TooManyErrors}
 use Rattle.grep_match.specs.declared.modes.Mode.TheVariants.{Counts}
-use Rattle.grep_core.specs.Ends.{ended_of}
+use Rattle.grep_output.specs.Ends.{ended_of}
 use Rattle.grep_match.specs.Modes.{mode, is_matching}
 use Rattle.tool_out.specs.Texts.{line, text_if}
 use Rattle.grep_run.specs.Reports.{Report, is_broken}

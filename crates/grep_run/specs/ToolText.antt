@@ -12,11 +12,11 @@ use Rattle.grep_match.specs.Compiled.{Compiled, patterns_of}
 use Rattle.grep_match.specs.declared.modes.Mode.{Mode}
 use Rattle.grep_match.specs.declared.modes.Mode.TheVariants.{Nothing, NamesWithout, Counts}
 use Rattle.grep_match.specs.Modes.{mode, is_with, is_matching}
-use Rattle.grep_core.specs.Scans.{Ended, at_finish, early, too_many_errors}
+use Rattle.grep_output.specs.Scans.{Ended, at_finish, early, too_many_errors}
 use Rattle.tool_out.specs.Texts.{line, text_if}
 use Rattle.tool_out.specs.Outcomes.{RunOutcome}
 use Rattle.grep_run.specs.Refusals.{refusal, usage_message, pattern_message, filter_message, help_text}
-use Rattle.grep_core.specs.InputText.{first_state}
+use Rattle.grep_output.specs.InputText.{first_state}
 use Rattle.pat_tree.specs.Pattern.{Pattern}
 use Rattle.dir_walk.specs.declared.lists.Target.{Target}
 use Rattle.dir_walk.specs.declared.lists.Target.TheVariants as targets

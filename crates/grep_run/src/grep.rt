@@ -7,7 +7,7 @@ ghost use Rattle.dir_walk.specs.Paths.{word_path};
 ghost use Rattle.tool_in.specs.Asked.{Asked};
 ghost use Rattle.pcre_io.specs.Told.{Kept};
 ghost use Rattle.grep_match.specs.Compiled.{patterns_in, patterns_of};
-ghost use Rattle.grep_core.specs.InputText.{first_state};
+ghost use Rattle.grep_output.specs.InputText.{first_state};
 ghost use Rattle.grep_run.specs.Leaves.{LeavesAll, Ties, Unless};
 ghost use Rattle.grep_run.specs.Refusals.{refusal, usage_message, help_text};
 ghost use Rattle.grep_run.specs.Reports.{reports};

@@ -2,7 +2,7 @@
 ghost use Rattle.std.specs.Prelude.{◌≡◌, [], ◌++◌, map, string_bytes, slice_index_or};
 ghost use Rattle.grep_args.specs.Words.{Fault};
 ghost use Rattle.grep_match.specs.Compiled.{BadPattern};
-ghost use Rattle.grep_core.specs.Messages.{message};
+ghost use Rattle.grep_output.specs.Messages.{message};
 ghost use Rattle.grep_run.specs.Refusals.{usage_text, usage_message, pattern_message, filter_message, filter_name, help_text};
 ghost use Rattle.grep_run.specs.PatternFiles.{missing_message};
 ghost use Rattle.tool_out.specs.Writes.{Writes};

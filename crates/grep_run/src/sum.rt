@@ -1,7 +1,7 @@
 //! What the inputs come to, taken together.
 ghost use Rattle.std.specs.Prelude.{◌≡◌, ◌<◌, ◌+◌, ◌^◌, List};
 ghost use Rattle.grep_args.specs.declared.plan.GrepPlan.{GrepPlan};
-ghost use Rattle.grep_core.specs.Ends.{ended_of};
+ghost use Rattle.grep_output.specs.Ends.{ended_of};
 ghost use Rattle.grep_run.specs.Reports.{Report};
 ghost use Rattle.grep_run.specs.ToolText.{is_failed, status_of, last_text};
 ghost use Rattle.tool_out.specs.Writes.{Writes};

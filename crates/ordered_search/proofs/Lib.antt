@@ -10,8 +10,6 @@ pub mod StartPlaces
 pub mod ForwardStreams
 pub mod ForwardSearch
 pub mod ForwardLaw
-pub mod Possessive
-pub mod Before
 pub mod Same
 pub mod Classes
 pub mod FollowStreams

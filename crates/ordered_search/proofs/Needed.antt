@@ -60,9 +60,6 @@ module _ (g : Setting) (sets : List (List Bool)) (off : g.matching.«partial» �
     (small : (k : ℕ) → k < length g.subject → slice_index g.subject k < 256) (missing : (k : ℕ) → ¬ Stands sets g.subject k) where
   -- An item takes a byte of its set, or nothing.
 
-  clash : (b : Bool) → b ≡ true → b ≡ false → ⊥
-  clash b h k = cc
-
   abbrev may : Item → ℕ → Bool
   may = may_take g.options.utf g.class_has
 

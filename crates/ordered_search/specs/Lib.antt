@@ -13,7 +13,6 @@ pub mod Laws
 pub mod Forward
 pub mod Moves
 pub mod Paths
-pub mod PathLaw
 pub mod Plain
 pub mod LaterPlaces
 pub mod Needed

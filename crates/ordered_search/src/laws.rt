@@ -4,7 +4,6 @@ ghost use Rattle.ordered_search.specs.LaterPlaces.{LaterPlacesLaw};
 ghost use Rattle.ordered_search.specs.Laws.{CutLaw, NoCutAnswer, NoPartialLaw, WalkLaw};
 ghost use Rattle.ordered_search.specs.MatchRows as over_places;
 ghost use Rattle.ordered_search.specs.Needed.{NeedLaw};
-ghost use Rattle.ordered_search.specs.PathLaw.{PathLaw};
 ghost use Rattle.ordered_search.specs.PlaceRows as at_place;
 
 /// The depth that a stream is given is used up only after as many Steps.
@@ -21,12 +20,6 @@ pub fn no_place_is_cut()
 /// callouts and hits of the subject's end are those before that event.
 pub fn walk_is_told()
     ensures { WalkLaw }
-{}
-
-/// What a machine meets that goes through each part before what follows it, as pcre2matching tells of "The standard matching
-/// algorithm", is the search: it answers the same at each place.
-pub fn paths_are_the_search()
-    ensures { PathLaw }
 {}
 
 /// Without partial matching a search finds no partial match (pcre2partial, "Partial matching in PCRE2").

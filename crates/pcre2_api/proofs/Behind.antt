@@ -23,7 +23,8 @@ use Rattle.pat_lengths.specs.Backs.{first_fault}
 use Rattle.pat_lengths.specs.Lookbehinds.{first_refused, lookbehinds, place_in, places_of, FirstRefusedLaw}
 use Rattle.pat_lengths.specs.declared.backs.LengthFault.{LengthFault}
 use Rattle.token_parts.specs.declared.fault.Fault.{Fault}
-use Rattle.pcre2_api.specs.Compiled.{IsCompileError, check_error_of, compile_error_of}
+use Rattle.pcre2_errors.specs.CompileErrors.{check_error_of, compile_error_of}
+use Rattle.pcre2_api.specs.Compiled.{IsCompileError}
 use Rattle.pcre2_api.specs.Patterns.{fault_behind, unless_refused, compiled}
 
 place_is : (n : Node) (at : ℕ) → map (λ r. r.at) (reference_in (record { node = n; at = at })) ≡ place_in (record { node = n; at = at })

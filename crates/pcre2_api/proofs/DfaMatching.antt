@@ -11,9 +11,10 @@ use Rattle.dfa_graph.specs.declared.making.GraphError.{GraphError}
 use Rattle.dfa_graph.specs.declared.making.GraphError.TheVariants as graph
 use Rattle.dfa_graph.specs.Served.{refusal, IsRefused}
 use Rattle.pcre2_api.specs.Matched.{fault_in}
-use Rattle.pcre2_api.specs.declared.error.MatchError.{MatchError}
-use Rattle.pcre2_api.specs.declared.error.MatchError.TheVariants as beginning
-use Rattle.pcre2_api.specs.DfaMatched.{IsAnswered, IsDfaError, error_of, start_error_of}
+use Rattle.pcre2_errors.specs.declared.error.MatchError.{MatchError}
+use Rattle.pcre2_errors.specs.declared.error.MatchError.TheVariants as beginning
+use Rattle.pcre2_errors.specs.DfaErrors.{error_of}
+use Rattle.pcre2_api.specs.DfaMatched.{IsAnswered, IsDfaError, start_error_of}
 
 module _ (g : Setting) (begun : fault_in g ≡ None) where
   pub barred : (e : GraphError) → IsRefused g.whole e → IsDfaError g (error_of e)

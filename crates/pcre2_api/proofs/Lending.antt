@@ -1,7 +1,7 @@
 -- A match says what the search says that it holds.
 use Rattle.std.proofs.Common.{◌≡◌, sym, subst}
 use Rattle.std.specs.Prelude.{Result, Ok, Err, IfOk, IfErr, OnOk}
-use Rattle.pcre2_api.specs.declared.error.MatchError.{MatchError}
+use Rattle.pcre2_errors.specs.declared.error.MatchError.{MatchError}
 use Rattle.pcre2_api.specs.declared.reserved.ReservedError.{ReservedError}
 use Rattle.pcre2_api.specs.declared.found.Held.{Held}
 use Rattle.pcre2_api.specs.Matched.{MatchParts}

@@ -1,5 +1,6 @@
 -- What the answer of a search that goes forward says of a match, and what callouts showed.
 use Rattle.std.proofs.Common.{◌≡◌, List, Option, Some, None, ap, sym, subst}
+use Rattle.std.specs.Prelude.{⊤, Result, Ok, Err, OnOk, IfErr}
 use Rattle.pcre_io.specs.declared.callouts.Block.{Block}
 use Rattle.ordered_search.specs.Setting.{Setting}
 use Rattle.ordered_search.specs.PlaceAnswer.{Outcome, blocks}
@@ -7,8 +8,8 @@ use Rattle.ordered_search.specs.MatchAnswer.{MatchAnswer, Match, Found, match_an
 use Rattle.ordered_search.specs.Forward.{IsPlaced, IsPlain}
 use Rattle.frame_state.specs.Shown.{seen_after}
 use Rattle.pcre2_api.specs.Matched.{fault_in, shown_by, HasShown}
-use Rattle.pcre2_api.specs.declared.error.MatchError.{MatchError}
-use Rattle.pcre2_api.specs.declared.error.MatchError.TheVariants as told
+use Rattle.pcre2_errors.specs.declared.error.MatchError.{MatchError}
+use Rattle.pcre2_errors.specs.declared.error.MatchError.TheVariants as told
 
 module _ (g : Setting) (f : Found) (plain : IsPlain g f.answer) where
   pub is_placed : (o : Outcome) → f.answer ≡ Match o → IsPlaced g o
@@ -17,6 +18,14 @@ module _ (g : Setting) (f : Found) (plain : IsPlain g f.answer) where
   pub is_plain : (a : MatchAnswer) → f.answer ≡ a → IsPlain g a
   is_plain a e = subst (IsPlain g) e plain
 
+-- whether a search can begin, by what was told of it
+module _ (g : Setting) (r : Result ⊤ MatchError) where
+  pub begun : r ≡ Ok tt → OnOk r (fault_in g ≡ None) → fault_in g ≡ None
+  begun e h = subst (λ (x : Result ⊤ MatchError). OnOk x (fault_in g ≡ None)) e h
+
+  pub unbegun : (e : MatchError) → r ≡ Err e → IfErr r (λ f. fault_in g ≡ Some f) → fault_in g ≡ Some e
+  unbegun e is h = subst (λ (x : Result ⊤ MatchError). IfErr x (λ f. fault_in g ≡ Some f)) is h
+
 module _ (g : Setting) (before : Option (List Block)) where
   abbrev by_fault : Option MatchError → Option (List Block)
   by_fault f = elim f [ Some e ↦ before | None ↦ seen_after before (blocks (match_answer g).notes) ]
@@ -24,17 +33,17 @@ module _ (g : Setting) (before : Option (List Block)) where
   pub shown-begun : fault_in g ≡ None → seen_after before (blocks (match_answer g).notes) ≡ shown_by g before
   shown-begun h = sym (ap by_fault h)
 
-  unbegun : (e : MatchError) → fault_in g ≡ Some e → before ≡ shown_by g before
-  unbegun e h = sym (ap by_fault h)
+  unshown : (e : MatchError) → fault_in g ≡ Some e → before ≡ shown_by g before
+  unshown e h = sym (ap by_fault h)
 
   pub shown-unbegun : (e : MatchError) → fault_in g ≡ Some e → HasShown e before (shown_by g before)
   shown-unbegun told.Memory h = tt
-  shown-unbegun told.BadOffset h = unbegun told.BadOffset h
-  shown-unbegun (told.BadUtf at) h = unbegun (told.BadUtf at) h
-  shown-unbegun told.BadUtfOffset h = unbegun told.BadUtfOffset h
-  shown-unbegun (told.NoMatch mark) h = unbegun (told.NoMatch mark) h
-  shown-unbegun (told.Partial from to mark) h = unbegun (told.Partial from to mark) h
-  shown-unbegun told.MatchLimit h = unbegun told.MatchLimit h
-  shown-unbegun told.FrameLimit h = unbegun told.FrameLimit h
-  shown-unbegun told.RecurseLoop h = unbegun told.RecurseLoop h
-  shown-unbegun (told.Callout n) h = unbegun (told.Callout n) h
+  shown-unbegun told.BadOffset h = unshown told.BadOffset h
+  shown-unbegun (told.BadUtf at) h = unshown (told.BadUtf at) h
+  shown-unbegun told.BadUtfOffset h = unshown told.BadUtfOffset h
+  shown-unbegun (told.NoMatch mark) h = unshown (told.NoMatch mark) h
+  shown-unbegun (told.Partial from to mark) h = unshown (told.Partial from to mark) h
+  shown-unbegun told.MatchLimit h = unshown told.MatchLimit h
+  shown-unbegun told.FrameLimit h = unshown told.FrameLimit h
+  shown-unbegun told.RecurseLoop h = unshown told.RecurseLoop h
+  shown-unbegun (told.Callout n) h = unshown (told.Callout n) h

@@ -26,7 +26,7 @@ use Rattle.pcre2_api.specs.Matched.{search_of}
 use Rattle.pcre2_api.proofs.Searched.{begun}
 use Rattle.pcre2_api.specs.Needed.{Lacks, FindsNone}
 use Rattle.pcre2_api.specs.Starts.{start_fault}
-use Rattle.pcre2_api.specs.declared.error.MatchError.TheVariants.{BadOffset}
+use Rattle.pcre2_errors.specs.declared.error.MatchError.TheVariants.{BadOffset}
 
 class_told : (tree : TreeParts) → class_has tree ≡ (λ n c. class_holds tree.options.utf (slice_get tree.classes n) c)
 class_told tree = fun_ext (λ n. fun_ext (λ c. class_is tree n c))

@@ -6,10 +6,10 @@ use Rattle.pat_tree.specs.declared.options.MatchOptions.{MatchOptions}
 use Rattle.pat_tree.specs.Pattern.{Pattern}
 use Rattle.uni_text.specs.Characters.{char_at}
 use Rattle.ordered_search.specs.PlaceAnswer.{Outcome}
-use Rattle.pcre2_api.specs.declared.error.MatchError.{MatchError}
+use Rattle.pcre2_errors.specs.declared.error.MatchError.{MatchError}
 use Rattle.pcre2_api.specs.declared.substitute.Substituted.{Substituted}
-use Rattle.pcre2_api.specs.declared.subst_error.SubstError.{SubstError}
-use Rattle.pcre2_api.specs.declared.subst_error.SubstError.TheVariants as refusal
+use Rattle.pcre2_errors.specs.declared.subst_error.SubstError.{SubstError}
+use Rattle.pcre2_errors.specs.declared.subst_error.SubstError.TheVariants as refusal
 use Rattle.pcre2_api.specs.declared.substitute.Search.{Search}
 use Rattle.pcre2_api.specs.declared.substitute.Search.TheVariants as search
 use Rattle.pcre2_api.specs.Walks.{Answer, found, none, failed, Matches, no_more, fails, with_match, answer, answer_at, goes_on, is_crlf, place_behind, all_from, first_from, matches_from}

@@ -7,7 +7,8 @@ use Rattle.subst_plan.specs.Expansion.{after}
 use Rattle.pcre2_api.specs.Compiled.{CodeParts}
 use Rattle.pcre2_api.specs.Matched.{MatchParts}
 use Rattle.pcre2_api.specs.Taken.{taken, taken_from}
-use Rattle.pcre2_api.specs.Substituted.{expand_refusal, refused_as, Refuses}
+use Rattle.pcre2_errors.specs.SubstErrors.{expand_refusal}
+use Rattle.pcre2_api.specs.Substituted.{refused_as, Refuses}
 
 -- an expansion that is refused after the text before a match
 pub refuses-added : (first : List ℕ) (r : Result (List ℕ) ExpandError) (e : ExpandError) → expansions.Refuses r e → Refuses (refused_as expand_refusal (after first r)) (expand_refusal e)

@@ -2,8 +2,8 @@
 use Rattle.std.proofs.Common.{◌≡◌, ap, Option, Some, None}
 use Rattle.ordered_search.specs.Setting.{Setting}
 use Rattle.ordered_search.specs.MatchAnswer.{match_answer}
-use Rattle.pcre2_api.specs.declared.error.MatchError.{MatchError}
-use Rattle.pcre2_api.specs.MatchErrors.{number_of}
+use Rattle.pcre2_errors.specs.declared.error.MatchError.{MatchError}
+use Rattle.pcre2_errors.specs.MatchErrors.{number_of}
 use Rattle.pcre2_api.specs.Matched.{fault_in}
 use Rattle.pcre2_api.specs.Answers.{Answer, error, answer_of, search_answer}
 

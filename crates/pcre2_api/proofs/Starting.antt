@@ -10,8 +10,8 @@ use Rattle.uni_text.specs.Characters.{IsChecked, IsPlace}
 use Rattle.match_items.specs.Subjects.{IsText, IsTextPlace}
 use Rattle.frame_board.specs.Standing.{is_inside, stands_in, place_of}
 use Rattle.pat_build.proofs.Checked.{is_checked}
-use Rattle.pcre2_api.specs.declared.error.MatchError.{MatchError}
-use Rattle.pcre2_api.specs.declared.error.MatchError.TheVariants as told
+use Rattle.pcre2_errors.specs.declared.error.MatchError.{MatchError}
+use Rattle.pcre2_errors.specs.declared.error.MatchError.TheVariants as told
 use Rattle.ordered_search.specs.Setting.{Setting}
 use Rattle.pcre2_api.specs.Matched.{IsMatchError, fault_in}
 use Rattle.pcre2_api.specs.Starts.{start_fault}

@@ -9,11 +9,11 @@ use Rattle.pcre2_api.specs.Compiled.{CodeParts}
 use Rattle.pcre2_api.specs.Matched.{MatchParts, search_of, fault_in, IsFound, IsMatchError}
 use Rattle.pcre2_api.specs.Patterns.{setting}
 use Rattle.pcre2_api.specs.Starts.{start_fault}
-use Rattle.pcre2_api.specs.declared.error.MatchError.{MatchError}
-use Rattle.pcre2_api.specs.declared.error.MatchError.TheVariants as told
+use Rattle.pcre2_errors.specs.declared.error.MatchError.{MatchError}
+use Rattle.pcre2_errors.specs.declared.error.MatchError.TheVariants as told
 use Rattle.pcre2_api.specs.declared.substitute.Search.{Search}
 use Rattle.pcre2_api.specs.declared.substitute.Search.TheVariants as search
-use Rattle.pcre2_api.specs.declared.subst_error.SubstError.{SubstError}
+use Rattle.pcre2_errors.specs.declared.subst_error.SubstError.{SubstError}
 use Rattle.pcre2_api.specs.Walks.{Answer, found, none, failed, answer_of, answer_in, answer_at}
 use Rattle.pcre2_api.specs.Substituted.{Work, added_by, search_refusal, IsAdded, IsSearch, Tells, TellsMatch, Refuses}
 

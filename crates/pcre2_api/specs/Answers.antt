@@ -5,7 +5,7 @@ use Rattle.ordered_search.specs.PlaceAnswer.{Outcome, PlaceAnswer, MatchLimit, F
 use Rattle.ordered_search.specs.MatchAnswer.{MatchAnswer, Match, NoMatch, PartialFrom, Error, match_answer}
 use Rattle.ordered_search.specs.Setting.{Setting}
 use Rattle.pat_tree.specs.Pattern.{Pattern}
-use Rattle.pcre2_api.specs.MatchErrors.{minus, number_of}
+use Rattle.pcre2_errors.specs.MatchErrors.{minus, number_of}
 use Rattle.pcre2_api.specs.Patterns.{setting}
 use Rattle.pcre2_api.specs.Starts.{start_fault}
 

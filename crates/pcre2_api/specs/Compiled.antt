@@ -5,22 +5,18 @@ use Rattle.pat_tree.specs.Parts.{TreeParts, tree_of}
 use Rattle.pat_tree.specs.Pattern.{Pattern, pattern_of}
 use Rattle.pat_tree.specs.Sound.{greatest, group_numbers}
 use Rattle.token_parts.specs.declared.fault.Fault.{Fault}
-use Rattle.pat_grammar.specs.declared.error.ReadError.{ReadError}
-use Rattle.pat_grammar.specs.declared.error.ReadError.TheVariants as reading
 use Rattle.pat_build.specs.Reading.{read}
 use Rattle.pat_build.specs.Nodes.{parsed_of}
 use Rattle.char_sets.specs.Table.{CharSet, IsTableOf}
 use Rattle.pat_check.specs.declared.facts.Facts.{Facts}
-use Rattle.pat_check.specs.declared.facts.CheckError.{CheckError}
-use Rattle.pat_check.specs.declared.facts.CheckError.TheVariants as checking
 use Rattle.pat_lengths.specs.Backs.{greatest_back}
 use Rattle.pat_lengths.specs.Lengths.{can_be_empty}
 use Rattle.pat_lengths.specs.Nodes.{tests_before}
 use Rattle.frame_board.specs.Ready.{AreFactsOf}
 use Rattle.pcre2_api.specs.Patterns.{compiled}
 use Rattle.pcre2_api.specs.declared.code.Info.{Info}
-use Rattle.pcre2_api.specs.declared.error.CompileError.{CompileError}
-use Rattle.pcre2_api.specs.declared.error.CompileError.TheVariants.{Bad, Memory}
+use Rattle.pcre2_errors.specs.declared.error.CompileError.{CompileError}
+use Rattle.pcre2_errors.specs.declared.error.CompileError.TheVariants.{Bad, Memory}
 
 pub record CodeParts : Type 0 where
   -- the pattern as it was given
@@ -43,14 +39,6 @@ Compiles options text code =
 abbrev pub IsCompileError : Result Pattern Fault → CompileError → Type 0
 IsCompileError pattern (Bad number at) = pattern ≡ Err (record { number = number; at = at })
 IsCompileError pattern Memory = Unit {0}
-
-abbrev pub compile_error_of : ReadError → CompileError
-compile_error_of (reading.Bad number at) = Bad number at
-compile_error_of reading.Memory = Memory
-
-abbrev pub check_error_of : CheckError → CompileError
-check_error_of (checking.Bad number at) = Bad number at
-check_error_of checking.Memory = Memory
 
 -- A match looks at most so far before its start: as far as a branch of a lookbehind begins, and at one character for `\b`, `\B`
 -- and `\A`.

@@ -10,11 +10,11 @@ use Rattle.dfa_graph.specs.declared.making.GraphError.TheVariants as graph
 use Rattle.dfa_graph.specs.Served.{refusal}
 use Rattle.dfa_drive.specs.Answer.{AreWithin}
 use Rattle.pcre2_api.specs.Matched.{fault_in}
-use Rattle.pcre2_api.specs.declared.error.MatchError.{MatchError}
-use Rattle.pcre2_api.specs.declared.error.MatchError.TheVariants as beginning
+use Rattle.pcre2_errors.specs.declared.error.MatchError.{MatchError}
+use Rattle.pcre2_errors.specs.declared.error.MatchError.TheVariants as beginning
 use Rattle.pcre2_api.specs.declared.dfa.DfaFound.{DfaFound}
-use Rattle.pcre2_api.specs.declared.dfa.DfaError.{DfaError}
-use Rattle.pcre2_api.specs.declared.dfa.DfaError.TheVariants as told
+use Rattle.pcre2_errors.specs.declared.dfa_error.DfaError.{DfaError}
+use Rattle.pcre2_errors.specs.declared.dfa_error.DfaError.TheVariants as told
 
 -- The pattern is refused for this; no match is looked for.
 pub record IsBarred (g : Setting) (e : GraphError) : Type 0 where
@@ -52,12 +52,6 @@ IsDfaError g told.TooLarge = IsBarred g graph.TooLarge
 IsDfaError g told.NoMatch = IsAnswered g meant.NoMatch
 IsDfaError g (told.Partial start end) = IsPartly g start end
 IsDfaError g told.Memory = Unit {0}
-
-abbrev pub error_of : GraphError → DfaError
-error_of graph.Item = told.Item
-error_of graph.Cond = told.Cond
-error_of graph.TooLarge = told.TooLarge
-error_of graph.Memory = told.Memory
 
 -- why a match can't begin at a start
 abbrev pub start_error_of : MatchError → DfaError

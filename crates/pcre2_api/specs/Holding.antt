@@ -6,7 +6,7 @@ use Rattle.frame_machine.specs.Scratch.{Workspace}
 use Rattle.frame_machine.specs.contracts.scratch.Scratch.{the_row}
 use Rattle.pcre2_api.specs.Compiled.{CodeParts}
 use Rattle.pcre2_api.specs.Matched.{MatchParts}
-use Rattle.pcre2_api.specs.declared.error.MatchError.{MatchError}
+use Rattle.pcre2_errors.specs.declared.error.MatchError.{MatchError}
 use Rattle.pcre2_api.specs.declared.reserved.ReservedError.{ReservedError}
 use Rattle.pcre2_api.specs.declared.found.Held.{Held}
 use Rattle.pcre2_api.specs.declared.found.Text.{Text}

@@ -14,8 +14,8 @@ use Rattle.ordered_search.specs.Forward.{IsPlaced, IsWithin}
 use Rattle.pcre2_api.specs.Compiled.{CodeParts}
 use Rattle.match_items.specs.Subjects.{IsTextPlace}
 use Rattle.pcre2_api.specs.Starts.{start_fault}
-use Rattle.pcre2_api.specs.declared.error.MatchError.{MatchError}
-use Rattle.pcre2_api.specs.declared.error.MatchError.TheVariants as told
+use Rattle.pcre2_errors.specs.declared.error.MatchError.{MatchError}
+use Rattle.pcre2_errors.specs.declared.error.MatchError.TheVariants as told
 
 -- what the search of a match is about; the blocks of callouts are answered so
 abbrev pub search_of : CodeParts → MatchOptions → List ℕ → ℕ → (Block → ℤ) → Setting

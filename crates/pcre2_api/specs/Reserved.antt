@@ -3,8 +3,8 @@ use Rattle.pat_tree.specs.declared.options.MatchOptions.{MatchOptions}
 use Rattle.pat_tree.specs.Sound.{greatest, group_numbers}
 use Rattle.frame_machine.specs.Scratch.{Workspace, HasRoom}
 use Rattle.pcre2_api.specs.Compiled.{CodeParts}
-use Rattle.pcre2_api.specs.declared.error.MatchError.{MatchError}
-use Rattle.pcre2_api.specs.declared.error.MatchError.TheVariants as told
+use Rattle.pcre2_errors.specs.declared.error.MatchError.{MatchError}
+use Rattle.pcre2_errors.specs.declared.error.MatchError.TheVariants as told
 use Rattle.pcre2_api.specs.declared.reserved.ReservedError.{ReservedError}
 use Rattle.pcre2_api.specs.declared.reserved.ReservedError.TheVariants as reserved
 

@@ -4,8 +4,8 @@ use Rattle.std.specs.Prelude.{ℕ, Bool, ◌&&◌, not, if◌then◌else◌, nat
 use Rattle.std.specs.Str.{is_utf8}
 use Rattle.std.specs.Str.Lossy.{utf8_valid_len}
 use Rattle.frame_board.specs.Standing.{is_inside}
-use Rattle.pcre2_api.specs.declared.error.MatchError.{MatchError}
-use Rattle.pcre2_api.specs.declared.error.MatchError.TheVariants.{BadOffset, BadUtf, BadUtfOffset}
+use Rattle.pcre2_errors.specs.declared.error.MatchError.{MatchError}
+use Rattle.pcre2_errors.specs.declared.error.MatchError.TheVariants.{BadOffset, BadUtf, BadUtfOffset}
 
 -- The start lies in the subject; in UTF the subject is UTF-8, and a character begins at the start or
 -- the subject ends there. The first of these that fails is told, a subject that isn't UTF-8 by the

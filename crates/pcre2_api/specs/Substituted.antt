@@ -8,18 +8,16 @@ use Rattle.pat_tree.specs.declared.options.PartialMode.TheVariants.{Off}
 use Rattle.pat_tree.specs.declared.names.NameEntry.{NameEntry}
 use Rattle.pat_tree.specs.Pattern.{Pattern, pattern_of}
 use Rattle.ordered_search.specs.PlaceAnswer.{Outcome}
-use Rattle.subst_plan.specs.declared.faults.PlanError.{PlanError}
-use Rattle.subst_plan.specs.declared.faults.PlanError.TheVariants as unread
 use Rattle.subst_plan.specs.declared.faults.ExpandError.{ExpandError}
-use Rattle.subst_plan.specs.declared.faults.ExpandError.TheVariants as unwritten
 use Rattle.subst_plan.specs.Plans.{Replacement, plan_of, literal}
 use Rattle.subst_plan.specs.Expansion.{after, expansion, rules_of}
-use Rattle.pcre2_api.specs.declared.error.MatchError.{MatchError}
-use Rattle.pcre2_api.specs.declared.error.MatchError.TheVariants as told
+use Rattle.pcre2_errors.specs.declared.error.MatchError.{MatchError}
+use Rattle.pcre2_errors.specs.declared.error.MatchError.TheVariants as told
+use Rattle.pcre2_errors.specs.SubstErrors.{plan_refusal, expand_refusal}
 use Rattle.pcre2_api.specs.declared.substitute.SubstOptions.{SubstOptions}
 use Rattle.pcre2_api.specs.declared.substitute.Substituted.{Substituted}
-use Rattle.pcre2_api.specs.declared.subst_error.SubstError.{SubstError}
-use Rattle.pcre2_api.specs.declared.subst_error.SubstError.TheVariants as refusal
+use Rattle.pcre2_errors.specs.declared.subst_error.SubstError.{SubstError}
+use Rattle.pcre2_errors.specs.declared.subst_error.SubstError.TheVariants as refusal
 use Rattle.pcre2_api.specs.declared.substitute.Rewriting.{Rewriting}
 use Rattle.pcre2_api.specs.declared.substitute.Search.{Search}
 use Rattle.pcre2_api.specs.declared.substitute.Search.TheVariants as search
@@ -27,21 +25,8 @@ use Rattle.pcre2_api.specs.Starts.{start_fault}
 use Rattle.pcre2_api.specs.Taken.{taken}
 use Rattle.pcre2_api.specs.Walks.{Answer, found, none, failed, Matches, matches_from}
 
--- Why matches aren't replaced, by the refusal of a part of the work.
-
-abbrev pub plan_refusal : PlanError → SubstError
-plan_refusal unread.BadReplacement = refusal.BadReplacement
-plan_refusal unread.BadEscape = refusal.BadEscape
-plan_refusal unread.MissingBrace = refusal.MissingBrace
-plan_refusal unread.BadSyntax = refusal.BadSyntax
-plan_refusal unread.Memory = refusal.Memory
-
-abbrev pub expand_refusal : ExpandError → SubstError
-expand_refusal unwritten.NoGroup = refusal.NoGroup
-expand_refusal unwritten.Unset = refusal.Unset
-expand_refusal unwritten.Memory = refusal.Memory
-
--- the other errors are met by no search here: partial matching is taken as off, and no callout is called
+-- Why matches aren't replaced, by the error of a search. The others are met by no search here: partial
+-- matching is taken as off, and no callout is called.
 abbrev pub search_refusal : MatchError → SubstError
 search_refusal told.BadOffset = refusal.BadOffset
 search_refusal (told.BadUtf at) = refusal.BadUtf at

@@ -13,8 +13,8 @@ use Rattle.ordered_search.specs.MatchAnswer as meant
 use Rattle.ordered_search.specs.MatchAnswer.{MatchAnswer, Found, match_answer}
 use Rattle.pcre2_api.specs.Patterns.{setting}
 use Rattle.pcre2_api.specs.Starts.{start_fault}
-use Rattle.pcre2_api.specs.declared.error.MatchError.{MatchError}
-use Rattle.pcre2_api.specs.declared.error.MatchError.TheVariants as told
+use Rattle.pcre2_errors.specs.declared.error.MatchError.{MatchError}
+use Rattle.pcre2_errors.specs.declared.error.MatchError.TheVariants as told
 
 -- what one search gives
 pub data Answer : Type 0 where

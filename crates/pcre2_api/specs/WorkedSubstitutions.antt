@@ -10,8 +10,8 @@ use Rattle.ordered_search.specs.Written.{◌&◌, text}
 use Rattle.pcre2_api.specs.declared.substitute.SubstOptions.{SubstOptions}
 use Rattle.pcre2_api.specs.declared.substitute.TheConstants.SubstOptions as plain_subst
 use Rattle.pcre2_api.specs.declared.substitute.Substituted.{Substituted}
-use Rattle.pcre2_api.specs.declared.subst_error.SubstError.{SubstError}
-use Rattle.pcre2_api.specs.declared.subst_error.SubstError.TheVariants.{BadReplacement, MissingBrace, NoGroup, Unset}
+use Rattle.pcre2_errors.specs.declared.subst_error.SubstError.{SubstError}
+use Rattle.pcre2_errors.specs.declared.subst_error.SubstError.TheVariants.{BadReplacement, MissingBrace, NoGroup, Unset}
 use Rattle.pcre2_api.specs.Substituted.{substituted}
 
 -- these top alternatives with so many groups

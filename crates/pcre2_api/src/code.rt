@@ -23,11 +23,10 @@ ghost use Rattle.pcre2_api.specs.Needed.{FindsNone};
 ghost use Rattle.pcre2_api.specs.Starts.{start_fault};
 ghost use Rattle.match_drive.specs.Starts.{AreAlike};
 
-use crate::error::{CompileError, MatchError};
 use crate::found::{Found, Text, found_of};
 use crate::need::{is_within, told_text};
 use crate::seek::{seek, seek_again};
-use crate::starts::{test_place, test_start};
+use crate::starts::test_start;
 use char_sets::ClassTable;
 use frame_machine::{Ready, Scratch};
 use match_drive::{MatchAnswer, search};
@@ -38,6 +37,7 @@ use pat_check::{Facts, check};
 use pat_lengths::first_refused_is_leftmost;
 use pat_tree::{MatchOptions, NameTable, Options, Tree};
 use pcre_io::Callouts;
+use pcre2_errors::{CompileError, MatchError};
 use std::alloc::Global;
 use std::marker::Model;
 
@@ -155,15 +155,20 @@ impl Code {
         test_start(self.options().utf, subject, start)
     }
 
-    /// The text of a match, whose captures are in the workspace.
+    /// The text of a match, whose captures are in the workspace. Whether the search can begin is known.
     pub(crate) fn find<C: Callouts>(
         &self,
+        begun: Result<(), MatchError>,
         subject: &[u8],
         start: usize,
         options: &MatchOptions,
         scratch: &mut Scratch,
         calls: &mut C,
     ) -> Result<Text, MatchError>
+        requires begun { OnOk begun
+            (start_fault self.now.tree.options.utf subject.now start ≡ None) }
+        requires unbegun { IfErr begun
+            (λ e. start_fault self.now.tree.options.utf subject.now start ≡ Some e) }
         requires short { length subject.now < 4294967295 }
         ensures parts { IfOk result (λ t. AreParts (found_in self.now subject.now t scratch.new)) }
         ensures found { IfOk result (λ t. IsFound
@@ -184,89 +189,22 @@ impl Code {
         ensures reserved { Fits self.now options.now scratch.old
             → IsQuiet C.refuses (C.answers calls.old) → IfErr result IsOfMatch }
     {
-        match self.test_start(subject, start) {
-            Ok(()) => self.find_from(subject, start, options, scratch, calls),
+        match begun {
+            Ok(()) => match self.search(subject, start, options, scratch, calls) {
+                MatchAnswer::Match { keep, to, mark } => Ok(Text { keep, to, mark }),
+                MatchAnswer::NoMatch { mark } => Err(MatchError::NoMatch { mark }),
+                MatchAnswer::Partial { start, mark } => Err(MatchError::Partial {
+                    start,
+                    end: subject.len(),
+                    mark,
+                }),
+                MatchAnswer::MatchLimit => Err(MatchError::MatchLimit),
+                MatchAnswer::FrameLimit => Err(MatchError::FrameLimit),
+                MatchAnswer::RecurseLoop => Err(MatchError::RecurseLoop),
+                MatchAnswer::Callout(n) => Err(MatchError::Callout(n)),
+                MatchAnswer::Memory => Err(MatchError::Memory),
+            },
             Err(e) => Err(e),
-        }
-    }
-
-    /// The text of a further match, in a subject that was looked at before.
-    pub(crate) fn find_again<C: Callouts>(
-        &self,
-        subject: &[u8],
-        start: usize,
-        options: &MatchOptions,
-        scratch: &mut Scratch,
-        calls: &mut C,
-    ) -> Result<Text, MatchError>
-        requires checked { IsChecked self.now.tree.options.utf subject.now }
-        requires short { length subject.now < 4294967295 }
-        ensures parts { IfOk result (λ t. AreParts (found_in self.now subject.now t scratch.new)) }
-        ensures found { IfOk result (λ t. IsFound
-            (search_of self.now options.now subject.now start (C.answers calls.old))
-            (found_in self.now subject.now t scratch.new)) }
-        ensures refused { IfErr result (IsMatchError
-            (search_of self.now options.now subject.now start (C.answers calls.old))) }
-        ensures peak { scratch.new.peak ≤ max scratch.old.peak options.now.frame_limit }
-        ensures rule { (block : Block) → C.answers calls.new block ≡ C.answers calls.old block }
-        ensures seen { OnOk result (C.seen calls.new
-            ≡ shown_by
-            (search_of self.now options.now subject.now start (C.answers calls.old))
-            (C.seen calls.old)) }
-        ensures shown { IfErr result (λ e. HasShown e (C.seen calls.new)
-            (shown_by
-            (search_of self.now options.now subject.now start (C.answers calls.old))
-            (C.seen calls.old))) }
-    {
-        match test_place(self.options().utf, subject, start) {
-            Ok(()) => self.find_from(subject, start, options, scratch, calls),
-            Err(e) => Err(e),
-        }
-    }
-
-    /// The text of a match, from a start at which a search can begin.
-    fn find_from<C: Callouts>(
-        &self,
-        subject: &[u8],
-        start: usize,
-        options: &MatchOptions,
-        scratch: &mut Scratch,
-        calls: &mut C,
-    ) -> Result<Text, MatchError>
-        requires begun { start_fault self.now.tree.options.utf subject.now start ≡ None }
-        requires short { length subject.now < 4294967295 }
-        ensures parts { IfOk result (λ t. AreParts (found_in self.now subject.now t scratch.new)) }
-        ensures found { IfOk result (λ t. IsFound
-            (search_of self.now options.now subject.now start (C.answers calls.old))
-            (found_in self.now subject.now t scratch.new)) }
-        ensures refused { IfErr result (IsMatchError
-            (search_of self.now options.now subject.now start (C.answers calls.old))) }
-        ensures peak { scratch.new.peak ≤ max scratch.old.peak options.now.frame_limit }
-        ensures rule { (block : Block) → C.answers calls.new block ≡ C.answers calls.old block }
-        ensures seen { OnOk result (C.seen calls.new
-            ≡ shown_by
-            (search_of self.now options.now subject.now start (C.answers calls.old))
-            (C.seen calls.old)) }
-        ensures shown { IfErr result (λ e. HasShown e (C.seen calls.new)
-            (shown_by
-            (search_of self.now options.now subject.now start (C.answers calls.old))
-            (C.seen calls.old))) }
-        ensures reserved { Fits self.now options.now scratch.old
-            → IsQuiet C.refuses (C.answers calls.old) → IfErr result IsOfMatch }
-    {
-        match self.search(subject, start, options, scratch, calls) {
-            MatchAnswer::Match { keep, to, mark } => Ok(Text { keep, to, mark }),
-            MatchAnswer::NoMatch { mark } => Err(MatchError::NoMatch { mark }),
-            MatchAnswer::Partial { start, mark } => Err(MatchError::Partial {
-                start,
-                end: subject.len(),
-                mark,
-            }),
-            MatchAnswer::MatchLimit => Err(MatchError::MatchLimit),
-            MatchAnswer::FrameLimit => Err(MatchError::FrameLimit),
-            MatchAnswer::RecurseLoop => Err(MatchError::RecurseLoop),
-            MatchAnswer::Callout(n) => Err(MatchError::Callout(n)),
-            MatchAnswer::Memory => Err(MatchError::Memory),
         }
     }
 

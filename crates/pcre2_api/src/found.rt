@@ -8,10 +8,10 @@ ghost use Rattle.pcre2_api.specs.Matched.{AreParts};
 ghost use Rattle.pcre2_api.specs.Holding.{parts_of, as_found, as_reserved};
 
 use crate::code::Code;
-use crate::error::MatchError;
 use crate::reserved::ReservedError;
 use frame_machine::Scratch;
 use frame_store::Span;
+use pcre2_errors::MatchError;
 use std::marker::Model;
 
 /// A match, with its captures (pcre2api, "How pcre2_match() returns a string and captured substrings"). All places are in

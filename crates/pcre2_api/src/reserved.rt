@@ -6,12 +6,12 @@ ghost use Rattle.pcre2_api.specs.Reserved.{Fits, IsOfMatch, as_match_error};
 ghost use Rattle.pcre2_api.specs.Holding.{Leaves, found_in};
 
 use crate::code::Code;
-use crate::error::MatchError;
 use crate::found::{Found, Text, reserved_found};
 use crate::seek::seek_reserved;
 use frame_machine::Scratch;
 use pat_tree::MatchOptions;
 use pcre_io::NoCallouts;
+use pcre2_errors::MatchError;
 
 /// Why there is no match in reserved room (pcre2api, "Error return values from pcre2_match()"): the refusals of
 /// [`MatchError`], in the same order, without those of callouts and for want of memory.
@@ -131,7 +131,8 @@ impl Code {
             (as_match_error e)) }
         ensures peak { scratch.new.peak ≤ max scratch.old.peak options.now.frame_limit }
     {
-        match self.find(subject, start, options, scratch, &mut NoCallouts) {
+        let begun = self.test_start(subject, start);
+        match self.find(begun, subject, start, options, scratch, &mut NoCallouts) {
             Ok(text) => Ok(text),
             Err(e) => Err(refusal_of(e)),
         }

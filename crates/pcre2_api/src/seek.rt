@@ -13,12 +13,13 @@ ghost use Rattle.pcre2_api.specs.Starts.{start_fault};
 ghost use Rattle.pcre2_api.specs.Holding.{Leaves, parts_of};
 
 use crate::code::Code;
-use crate::error::MatchError;
 use crate::found::Held;
 use crate::reserved::ReservedError;
+use crate::starts::test_place;
 use frame_machine::Scratch;
 use pat_tree::MatchOptions;
 use pcre_io::Callouts;
+use pcre2_errors::MatchError;
 
 /// The search of [`Code::match_at`].
 pub(crate) fn seek<'a, C: Callouts>(
@@ -52,7 +53,8 @@ pub(crate) fn seek<'a, C: Callouts>(
         → IsQuiet C.refuses (C.answers calls.old) → IfErr result IsOfMatch }
 {
     code.starts_are_alike(subject, start, options);
-    match code.find(subject, start, options, scratch, calls) {
+    let begun = code.test_start(subject, start);
+    match code.find(begun, subject, start, options, scratch, calls) {
         Ok(text) => Ok(Held {
             code,
             subject,
@@ -91,7 +93,8 @@ pub(crate) fn seek_again<'a, C: Callouts>(
         (search_of code.now options.now subject.now start (C.answers calls.old))
         (C.seen calls.old))) }
 {
-    match code.find_again(subject, start, options, scratch, calls) {
+    let begun = test_place(code.options().utf, subject, start);
+    match code.find(begun, subject, start, options, scratch, calls) {
         Ok(text) => Ok(Held {
             code,
             subject,

@@ -5,7 +5,7 @@ ghost use Rattle.frame_board.specs.Standing as standing;
 ghost use Rattle.uni_text.specs.Characters.{IsChecked};
 ghost use Rattle.pcre2_api.specs.Starts.{start_fault};
 
-use crate::error::MatchError;
+use pcre2_errors::MatchError;
 use uni_text::check;
 
 /// Whether bytes are UTF-8 (RFC 3629).

@@ -14,13 +14,13 @@ use Rattle.pcre2_api.specs.DfaMatched.{IsBarred, IsAnswered, IsDfaError}
 use Rattle.pcre2_api.specs.Matched.{MatchParts, search_of, fault_in, IsFound, IsMatchError}
 use Rattle.pcre2_api.specs.Substituted.{Refuses}
 use Rattle.pcre2_api.specs.Walks.{Answer, answer_at}
-use Rattle.pcre2_api.specs.declared.dfa.DfaError.{DfaError}
-use Rattle.pcre2_api.specs.declared.dfa.DfaError.TheVariants as ends
-use Rattle.pcre2_api.specs.declared.error.MatchError.{MatchError}
-use Rattle.pcre2_api.specs.declared.error.MatchError.TheVariants as told
+use Rattle.pcre2_errors.specs.declared.dfa_error.DfaError.{DfaError}
+use Rattle.pcre2_errors.specs.declared.dfa_error.DfaError.TheVariants as ends
+use Rattle.pcre2_errors.specs.declared.error.MatchError.{MatchError}
+use Rattle.pcre2_errors.specs.declared.error.MatchError.TheVariants as told
 use Rattle.pcre2_api.specs.declared.substitute.Substituted.{Substituted}
-use Rattle.pcre2_api.specs.declared.subst_error.SubstError.{SubstError}
-use Rattle.pcre2_api.specs.declared.subst_error.SubstError.TheVariants as refused
+use Rattle.pcre2_errors.specs.declared.subst_error.SubstError.{SubstError}
+use Rattle.pcre2_errors.specs.declared.subst_error.SubstError.TheVariants as refused
 use Rattle.pcre2_api.proofs.Walking.{Says, answer-found, answer-error}
 use Rattle.test_gen.specs.Counts.{length_of, count_of, count_in, replaced_in}
 

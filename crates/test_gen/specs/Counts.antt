@@ -18,7 +18,7 @@ use Rattle.pcre2_api.specs.Walks.{Answer, found, answer_at}
 use Rattle.pcre2_api.specs.Substituted.{substituted}
 use Rattle.pcre2_api.specs.declared.substitute.SubstOptions.{SubstOptions}
 use Rattle.pcre2_api.specs.declared.substitute.Substituted.{Substituted}
-use Rattle.pcre2_api.specs.declared.subst_error.SubstError.{SubstError}
+use Rattle.pcre2_errors.specs.declared.subst_error.SubstError.{SubstError}
 use Rattle.test_gen.specs.Generated.{lines}
 
 -- Patterns, without options. One that is refused finds nothing.

@@ -1,9 +1,9 @@
 //! What patterns come to over all lines. Each count makes the lines anew, so one line is held at a time.
 ghost use Rattle.std.specs.Prelude.{◌≡◌, ◌<◌, ℕ, List, None, IfOk, OnOk, length};
 ghost use Rattle.pat_tree.specs.declared.names.NameEntry.{NameEntry};
-ghost use Rattle.pcre2_api.specs.declared.dfa.DfaError.TheVariants as dfa_error;
-ghost use Rattle.pcre2_api.specs.declared.error.MatchError.TheVariants as match_error;
-ghost use Rattle.pcre2_api.specs.declared.subst_error.SubstError.TheVariants as subst_error;
+ghost use Rattle.pcre2_errors.specs.declared.dfa_error.DfaError.TheVariants as dfa_error;
+ghost use Rattle.pcre2_errors.specs.declared.error.MatchError.TheVariants as match_error;
+ghost use Rattle.pcre2_errors.specs.declared.subst_error.SubstError.TheVariants as subst_error;
 ghost use Rattle.test_gen.specs.Counts.{pattern, names, pattern_in, IsNamed, first_length, lines_matched, characters, ends_in, all_ends, replacements_in, replacements};
 
 use crate::lines::Generator;

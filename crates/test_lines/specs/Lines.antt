@@ -6,14 +6,14 @@ use Rattle.tool_out.specs.Texts.{line, text_if}
 use Rattle.script_modifiers.specs.declared.refusal.Refusal.{Refusal}
 use Rattle.script_modifiers.specs.declared.refusal.Refusal.TheVariants.{BadLine, UnknownModifier, BadModifierValue, BadSubject}
 use Rattle.pcre2_api.specs.declared.code.Info.{Info}
-use Rattle.pcre2_api.specs.declared.error.MatchError.{MatchError}
-use Rattle.pcre2_api.specs.declared.error.MatchError.TheVariants as told
-use Rattle.pcre2_api.specs.MatchErrors.{number_of, text_of}
-use Rattle.pcre2_api.specs.SubstErrors as subst
-use Rattle.pcre2_api.specs.declared.subst_error.SubstError.{SubstError}
-use Rattle.pcre2_api.specs.declared.subst_error.SubstError.TheVariants as refusal
+use Rattle.pcre2_errors.specs.declared.error.MatchError.{MatchError}
+use Rattle.pcre2_errors.specs.declared.error.MatchError.TheVariants as told
+use Rattle.pcre2_errors.specs.MatchErrors.{number_of, text_of}
+use Rattle.pcre2_errors.specs.SubstErrors as subst
+use Rattle.pcre2_errors.specs.declared.subst_error.SubstError.{SubstError}
+use Rattle.pcre2_errors.specs.declared.subst_error.SubstError.TheVariants as refusal
 use Rattle.pcre2_api.specs.declared.substitute.Substituted.{Substituted}
-use Rattle.pcre2_api.specs.FaultTexts.{fault_text}
+use Rattle.pcre2_errors.specs.FaultTexts.{fault_text}
 use Rattle.test_lines.specs.Shown.{shown, number_before}
 use Rattle.test_lines.specs.Marks.{Showing, name_of, missed_line, partial_line}
 

@@ -5,8 +5,8 @@ use Rattle.pat_tree.specs.Pattern.{Pattern, pattern_of}
 use Rattle.token_parts.specs.declared.fault.Fault.{Fault}
 use Rattle.tool_out.specs.Texts.{text_if}
 use Rattle.test_script.specs.declared.entries.PatternEntry.{PatternEntry}
-use Rattle.pcre2_api.specs.declared.error.CompileError.{CompileError}
-use Rattle.pcre2_api.specs.declared.error.CompileError.TheVariants.{Bad}
+use Rattle.pcre2_errors.specs.declared.error.CompileError.{CompileError}
+use Rattle.pcre2_errors.specs.declared.error.CompileError.TheVariants.{Bad}
 use Rattle.pcre2_api.specs.Compiled.{IsCompileError}
 use Rattle.pcre2_api.specs.Patterns.{compiled}
 use Rattle.pcre2_api.specs.Informs.{info_in}

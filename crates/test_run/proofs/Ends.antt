@@ -7,14 +7,14 @@ use Rattle.tool_out.specs.Writes.{Writes}
 use Rattle.tool_out.proofs.Writing.{IsLeft, left-all, left-more, left-refused, left-last, writes-same}
 use Rattle.pat_tree.specs.declared.options.MatchOptions.{MatchOptions}
 use Rattle.pat_tree.specs.Pattern.{Pattern}
-use Rattle.pcre2_api.specs.declared.dfa.DfaError.{DfaError}
+use Rattle.pcre2_errors.specs.declared.dfa_error.DfaError.{DfaError}
 use Rattle.dfa_ends.specs.DfaAnswer.{dfa_answer}
 use Rattle.dfa_ends.specs.Ends.{Among}
 use Rattle.dfa_graph.specs.Served.{refusal}
 use Rattle.pcre2_api.specs.Patterns.{setting}
 use Rattle.pcre2_api.specs.Starts.{start_fault}
 use Rattle.pcre2_api.specs.DfaMatched.{start_error_of}
-use Rattle.pcre2_api.specs.declared.error.MatchError.{MatchError}
+use Rattle.pcre2_errors.specs.declared.error.MatchError.{MatchError}
 use Rattle.pcre2_api.specs.Walks.{goes_on, place_behind}
 use Rattle.test_lines.proofs.Writing.{writes-first}
 use Rattle.test_run.specs.declared.dfa.Search.TheVariants as search

@@ -15,12 +15,13 @@ use Rattle.pcre_io.specs.declared.traits.IoError.{IoError}
 use Rattle.tool_out.specs.Writes.{Writes}
 use Rattle.pcre2_api.specs.Compiled.{CodeParts}
 use Rattle.pcre2_api.specs.Matched.{search_of, fault_in}
-use Rattle.pcre2_api.specs.DfaMatched.{IsBarred, IsAnswered, IsPartly, IsDfaFound, IsDfaError, error_of, start_error_of}
+use Rattle.pcre2_errors.specs.DfaErrors.{error_of}
+use Rattle.pcre2_api.specs.DfaMatched.{IsBarred, IsAnswered, IsPartly, IsDfaFound, IsDfaError, start_error_of}
 use Rattle.pcre2_api.specs.declared.dfa.DfaFound.{DfaFound}
-use Rattle.pcre2_api.specs.declared.dfa.DfaError.{DfaError}
-use Rattle.pcre2_api.specs.declared.dfa.DfaError.TheVariants as told
-use Rattle.pcre2_api.specs.declared.error.MatchError.{MatchError}
-use Rattle.pcre2_api.specs.declared.error.MatchError.TheVariants as beginning
+use Rattle.pcre2_errors.specs.declared.dfa_error.DfaError.{DfaError}
+use Rattle.pcre2_errors.specs.declared.dfa_error.DfaError.TheVariants as told
+use Rattle.pcre2_errors.specs.declared.error.MatchError.{MatchError}
+use Rattle.pcre2_errors.specs.declared.error.MatchError.TheVariants as beginning
 use Rattle.test_run.specs.declared.dfa.Search.{Search}
 use Rattle.test_run.specs.declared.dfa.Search.TheVariants as search
 use Rattle.test_run.specs.Dfa.{Told, ends, nothing, failed, told_of, unless_barred, told_at, ends_text, unmatched_text, told_text}

@@ -14,7 +14,7 @@ use Rattle.ordered_search.specs.PlaceAnswer.{Outcome}
 use Rattle.pcre2_api.specs.Starts.{start_fault}
 use Rattle.pcre2_api.specs.Matched.{fault_in, shown_by}
 use Rattle.ordered_search.specs.Setting.{Setting}
-use Rattle.pcre2_api.specs.declared.error.MatchError.{MatchError}
+use Rattle.pcre2_errors.specs.declared.error.MatchError.{MatchError}
 use Rattle.test_run.specs.declared.options.How.{How}
 use Rattle.test_run.specs.declared.matches.Search.{Search}
 use Rattle.test_run.specs.declared.matches.Search.TheVariants as search

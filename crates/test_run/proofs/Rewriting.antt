@@ -1,8 +1,8 @@
 -- What is written of a substitution, by what the library's call says.
 use Rattle.std.proofs.Common.{◌≡◌, Result, Ok, Err, refl, sym, ap}
 use Rattle.pcre2_api.specs.declared.substitute.Substituted.{Substituted}
-use Rattle.pcre2_api.specs.declared.subst_error.SubstError.{SubstError}
-use Rattle.pcre2_api.specs.declared.subst_error.SubstError.TheVariants as refusal
+use Rattle.pcre2_errors.specs.declared.subst_error.SubstError.{SubstError}
+use Rattle.pcre2_errors.specs.declared.subst_error.SubstError.TheVariants as refusal
 use Rattle.pcre2_api.specs.Substituted.{Refuses}
 use Rattle.std.specs.Prelude.{Bool}
 use Rattle.test_lines.specs.Lines.{done_line, unreplaced_line, replaced_text}

@@ -2,13 +2,13 @@
 use Rattle.std.proofs.Common.{◌≡◌, ◌∙◌, ℕ, ◌<◌, List, [], ◌++◌, ℤ, codes, decimal, sym, ap, arith, append_assoc, append-nil}
 use Rattle.std.proofs.lemmas.Bool.{lt-ltb}
 use Rattle.std.specs.Fmt.{signed_decimal}
-use Rattle.pcre2_api.specs.FaultTexts.{fault_text}
-use Rattle.pcre2_api.specs.MatchErrors.{number_of, text_of}
-use Rattle.pcre2_api.specs.SubstErrors as subst
-use Rattle.pcre2_api.specs.declared.subst_error.SubstError.{SubstError}
-use Rattle.pcre2_api.specs.declared.error.MatchError.{MatchError}
-use Rattle.pcre2_api.specs.DfaErrors as dfa_errors
-use Rattle.pcre2_api.specs.declared.dfa.DfaError.{DfaError}
+use Rattle.pcre2_errors.specs.FaultTexts.{fault_text}
+use Rattle.pcre2_errors.specs.MatchErrors.{number_of, text_of}
+use Rattle.pcre2_errors.specs.SubstErrors as subst
+use Rattle.pcre2_errors.specs.declared.subst_error.SubstError.{SubstError}
+use Rattle.pcre2_errors.specs.declared.error.MatchError.{MatchError}
+use Rattle.pcre2_errors.specs.DfaErrors as dfa_errors
+use Rattle.pcre2_errors.specs.declared.dfa_error.DfaError.{DfaError}
 use Rattle.script_modifiers.specs.declared.refusal.Refusal.TheVariants.{UnknownModifier, BadModifierValue}
 use Rattle.tool_out.specs.Texts.{line, text_if}
 use Rattle.test_run.specs.Dfa as ends

@@ -12,8 +12,8 @@ use Rattle.pcre_io.specs.declared.traits.IoError.{IoError}
 use Rattle.tool_out.specs.Writes.{Writes}
 use Rattle.pcre2_api.specs.Compiled.{CodeParts}
 use Rattle.pcre2_api.specs.Matched.{MatchParts, search_of, fault_in, shown_by, HasShown, IsFound, IsMatchError}
-use Rattle.pcre2_api.specs.declared.error.MatchError.{MatchError}
-use Rattle.pcre2_api.specs.declared.error.MatchError.TheVariants as told
+use Rattle.pcre2_errors.specs.declared.error.MatchError.{MatchError}
+use Rattle.pcre2_errors.specs.declared.error.MatchError.TheVariants as told
 use Rattle.pcre2_api.specs.Walks.{Answer, found, none, failed, answer_of, answer_in}
 use Rattle.pcre2_api.proofs.Walking.{Says}
 use Rattle.test_lines.specs.declared.gathered.Replies.{Replies}

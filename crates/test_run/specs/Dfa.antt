@@ -11,10 +11,11 @@ use Rattle.dfa_graph.specs.Served.{refusal}
 use Rattle.pcre2_api.specs.Patterns.{setting}
 use Rattle.pcre2_api.specs.Starts.{start_fault}
 use Rattle.pcre2_api.specs.Walks.{matching_at, place_behind, goes_on}
-use Rattle.pcre2_api.specs.DfaMatched.{error_of, start_error_of}
-use Rattle.pcre2_api.specs.DfaErrors.{number_of, text_of}
-use Rattle.pcre2_api.specs.declared.dfa.DfaError.{DfaError}
-use Rattle.pcre2_api.specs.declared.dfa.DfaError.TheVariants as told
+use Rattle.pcre2_errors.specs.DfaErrors.{error_of}
+use Rattle.pcre2_api.specs.DfaMatched.{start_error_of}
+use Rattle.pcre2_errors.specs.DfaErrors.{number_of, text_of}
+use Rattle.pcre2_errors.specs.declared.dfa_error.DfaError.{DfaError}
+use Rattle.pcre2_errors.specs.declared.dfa_error.DfaError.TheVariants as told
 use Rattle.test_lines.specs.Marks.{name_line}
 use Rattle.test_lines.specs.Shown.{number_before, shown}
 

@@ -1,7 +1,7 @@
 -- What a search for all ends comes to, as the code says it: an answer → what is told of it.
 use Rattle.std.specs.Prelude.{◌≡◌, ◌≤◌, ℕ, Bool, ◌==◌, ⊤, List, []}
-use Rattle.pcre2_api.specs.declared.dfa.DfaError.{DfaError}
-use Rattle.pcre2_api.specs.declared.dfa.DfaError.TheVariants as told
+use Rattle.pcre2_errors.specs.declared.dfa_error.DfaError.{DfaError}
+use Rattle.pcre2_errors.specs.declared.dfa_error.DfaError.TheVariants as told
 use Rattle.pcre2_api.specs.declared.dfa.DfaFound.{DfaFound}
 use Rattle.test_run.specs.declared.dfa.Search.{Search}
 use Rattle.test_run.specs.declared.dfa.Search.TheVariants as search

@@ -3,8 +3,8 @@
 use Rattle.std.specs.Prelude.{◌≡◌, ℕ, ◌≤◌, ◌==◌, List, [], ◌++◌, Option, ⊤}
 use Rattle.pat_tree.specs.Pattern.{pattern_of}
 use Rattle.ordered_search.specs.PlaceAnswer.{Outcome}
-use Rattle.pcre2_api.specs.declared.error.MatchError.{MatchError}
-use Rattle.pcre2_api.specs.declared.error.MatchError.TheVariants as told
+use Rattle.pcre2_errors.specs.declared.error.MatchError.{MatchError}
+use Rattle.pcre2_errors.specs.declared.error.MatchError.TheVariants as told
 use Rattle.test_run.specs.declared.course.Course.{Course as Kept}
 use Rattle.test_run.specs.declared.course.Course.TheVariants as kept
 use Rattle.test_run.specs.declared.matches.Search.{Search}

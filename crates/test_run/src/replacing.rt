@@ -2,7 +2,7 @@
 ghost use Rattle.std.specs.Prelude.{◌<◌, Bool, length, Result};
 ghost use Rattle.pat_tree.specs.Pattern.{pattern_of};
 ghost use Rattle.pcre2_api.specs.Substituted.{Refuses};
-ghost use Rattle.pcre2_api.specs.declared.subst_error.SubstError.{SubstError};
+ghost use Rattle.pcre2_errors.specs.declared.subst_error.SubstError.{SubstError};
 ghost use Rattle.pcre2_api.specs.declared.substitute.Substituted.{Substituted};
 ghost use Rattle.test_run.specs.Courses.{rewritten};
 ghost use Rattle.test_lines.specs.Lines.{done_line, replaced_text};

@@ -1,16 +1,17 @@
 use Rattle.std.proofs.Common.{◌≡◌, ◌∙◌, [], ◌∷◌, ◌++◌, ap, sym, length, arith}
 use Rattle.std.proofs.lemmas.Bool.{false≢true}
 use Rattle.std.proofs.lemmas.Grind.{common_steps}
-use Rattle.dfa_graph.specs.declared.graph.Node.TheVariants.{Dead, Match}
+use Rattle.dfa_paths.specs.declared.graph.Node.TheVariants.{Dead, Match}
 use Rattle.dfa_graph.specs.declared.build.Work.TheVariants as work
 use Rattle.pat_check.specs.Size.{whole_size}
-use Rattle.dfa_graph.specs.Fragment.{most_nested}
+use Rattle.dfa_paths.specs.Fragment.{most_nested}
 use Rattle.dfa_graph.specs.Building.{task_in, tree_of}
 use Rattle.dfa_graph.proofs.Costs.{first_can, can_step, none_left, not_refused}
 use Rattle.dfa_graph.proofs.Takers.{first_bounded, bounded_step, all_bounded}
 use Rattle.dfa_graph.proofs.Plain.{first_plain_build, plain_step}
-use Rattle.dfa_graph.proofs.Building.{starts, ended, next_step, popped, three_more}
-use Rattle.dfa_graph.proofs.Behind.{ready_whole, are_told}
+use Rattle.dfa_graph.proofs.Building.{starts, ended, popped, three_more}
+use Rattle.dfa_graph.proofs.Doing.{next_step}
+use Rattle.dfa_paths.proofs.Behind.{ready_whole, are_told}
 use Rattle.dfa_graph.proofs.build.place_tree.Goals as goal
 
 pub tasks-init : goal.tasks-init

@@ -4,7 +4,7 @@ use Rattle.dfa_graph.specs.Building.{tree_of}
 use Rattle.dfa_graph.specs.Served.{has_graph}
 use Rattle.dfa_graph.proofs.Building.{Building}
 use Rattle.dfa_graph.proofs.Costs.{Can}
-use Rattle.dfa_graph.specs.Plain.{is_plain}
+use Rattle.dfa_paths.specs.Plain.{is_plain}
 use Rattle.dfa_graph.proofs.Takers.{IsBounded}
 use Rattle.dfa_graph.proofs.Plain.{IsPlainBuild}
 use Rattle.dfa_graph.proofs.build.place_tree.Given as goal

@@ -4,10 +4,10 @@ use Rattle.std.specs.Prelude.{slice_index_or}
 use Rattle.pat_tree.specs.declared.nodes.Item.TheVariants.{Char}
 use Rattle.match_items.specs.Subjects.{IsTextPlace}
 use Rattle.match_items.specs.Views.{text_scene}
-use Rattle.dfa_graph.specs.declared.graph.Node.TheVariants.{One}
-use Rattle.dfa_graph.specs.Graph.{Deep, AllBelow, IsNodeIn, IsFurthest}
+use Rattle.dfa_paths.specs.declared.graph.Node.TheVariants.{One}
+use Rattle.dfa_paths.specs.Graph.{Deep, AllBelow, IsNodeIn, IsFurthest}
 use Rattle.dfa_lists.specs.Lists.{landed}
-use Rattle.dfa_graph.proofs.Places.{get_of}
+use Rattle.dfa_paths.proofs.Places.{get_of}
 use Rattle.dfa_lists.proofs.Closing as closing
 use Rattle.dfa_lists.proofs.Closing.{
   popped_in,
@@ -29,9 +29,11 @@ use Rattle.dfa_lists.proofs.Running.{
   place_follows,
   none_taken,
   all_found,
-  no_more,
-  deep_stand,
   no_end,
+  last_found,
+}
+use Rattle.dfa_lists.proofs.Following.{no_more, deep_stand}
+use Rattle.dfa_lists.proofs.Visits.{
   look_visit,
   none_where,
   ends_here,
@@ -40,9 +42,8 @@ use Rattle.dfa_lists.proofs.Running.{
   atomic_visit,
   plain_node,
   plain_visits,
-  last_found,
 }
-use Rattle.dfa_graph.specs.Meets.{DeepMeets, IsTold}
+use Rattle.dfa_paths.specs.Meets.{DeepMeets, IsTold}
 use Rattle.dfa_lists.proofs.Telling.{
   told_not,
   told_or,

@@ -1,8 +1,8 @@
 use Rattle.std.proofs.Common.{◌≡◌, ◌+◌, ◌-◌, ◌*◌, ◌<◌, length}
 use Rattle.match_items.specs.Views.{text_scene}
-use Rattle.dfa_graph.specs.Graph.{Deep, IsFlat}
+use Rattle.dfa_paths.specs.Graph.{Deep, IsFlat}
 use Rattle.dfa_lists.proofs.Closing.{Going, unmarked}
-use Rattle.dfa_graph.specs.Meets.{DeepMeets}
+use Rattle.dfa_paths.specs.Meets.{DeepMeets}
 use Rattle.dfa_lists.proofs.Running.{Running}
 use Rattle.dfa_lists.proofs.Telling.{GoingTold, RunningTold, Probing}
 use Rattle.dfa_lists.proofs.lists.+ends.Given as goal

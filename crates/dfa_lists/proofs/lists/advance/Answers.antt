@@ -1,5 +1,5 @@
 use Rattle.std.proofs.Common.{◌∙◌, refl, sym, length, arith}
-use Rattle.dfa_graph.proofs.Places.{among_at, get_of}
+use Rattle.dfa_paths.proofs.Places.{among_at, get_of}
 use Rattle.dfa_lists.proofs.Landing.{landed_on, landed_all, with_some, with_none}
 use Rattle.dfa_lists.proofs.lists.advance.Goals as goal
 use Rattle.dfa_lists.proofs.lists.advance.Goals.{in-Some+in_ok-push, in_default}

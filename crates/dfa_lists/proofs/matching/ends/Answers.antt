@@ -1,11 +1,11 @@
 use Rattle.std.proofs.Common.{◌≤◌, sym, subst}
 use Rattle.pat_check.specs.Size.{whole_size}
-use Rattle.dfa_graph.specs.Graph.{IsFlat, takers}
+use Rattle.dfa_paths.specs.Graph.{IsFlat, takers}
 use Rattle.dfa_graph.proofs.Takers.{by_size}
 use Rattle.match_items.specs.Views.{text_scene}
-use Rattle.dfa_graph.proofs.Fragments.{ends_are_of}
-use Rattle.dfa_lists.proofs.Running.{deep_within}
-use Rattle.dfa_graph.proofs.Hits.{is_hit, place_before_end}
+use Rattle.dfa_paths.proofs.Fragments.{ends_are_of}
+use Rattle.dfa_lists.proofs.Following.{deep_within}
+use Rattle.dfa_paths.proofs.Hits.{is_hit, place_before_end}
 use Rattle.dfa_lists.proofs.matching.ends.Goals as goal
 
 pub returns-clause-ends : goal.returns-clause-ends

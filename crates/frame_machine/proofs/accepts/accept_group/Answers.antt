@@ -16,5 +16,5 @@ returns-in-Err-clause-stop g c =
 
 pub returns-clause-on : goal.returns-clause-on
 returns-clause-on g c =
-    rw (c.set_captured.ensures, c.in_default.ensures.spot, c.in_default.ensures.pushed, c.undo_record-undo.ensures, c.captured-old.ensures, c.from.ensures, c.from-2.ensures)
+    rw (c.in_default.ensures.set, c.in_default.ensures.spot, c.in_default.ensures.pushed)
     (turn_accept_group (g.S.Searchable.searched c.args.on.now) (g.met.S.Searchable.sound c.args.on.now) c.args.spot.now c.args.store.now.records c.args.registers.now c.requires.valid c.args.height c.requires.frame c.args.frame.now c.requires.at c.requires.kind c.number_of-number.result c.number_of-number.ensures.is c.number_of-number.ensures.some c.number_of-number.ensures.few (omega (arith, c.in_default.ensures.room, c.unit_limit.ensures)))

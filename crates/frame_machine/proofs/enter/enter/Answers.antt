@@ -8,7 +8,7 @@ use Rattle.frame_state.proofs.Turns.{turn_empty, turn_keep, turn_one, stop_one, 
 use Rattle.pat_tree.specs.Rules.{IsOrdered}
 use Rattle.frame_parts.proofs.ItemTurns.{turn_led, stop_many}
 use Rattle.frame_state.specs.Ground.{IsNode}
-use Rattle.frame_parts.proofs.CalloutTurns.{still, still_stop, ok_still, err_still, err_same, callout_goes, callout_stops}
+use Rattle.frame_state.proofs.CalloutTurns.{still, still_stop, ok_still, err_still, err_same, callout_goes, callout_stops}
 use Rattle.frame_machine.proofs.enter.enter.Goals as goal
 
 pub returns-in-Empty-clause-on : goal.returns-in-Empty-clause-on

@@ -1,6 +1,6 @@
 use Rattle.std.proofs.Common.{◌≡◌, Err, rules}
 use Rattle.frame_state.specs.declared.machine.Next.{Next}
-use Rattle.frame_parts.proofs.CalloutTurns.{still, end_still}
+use Rattle.frame_state.proofs.CalloutTurns.{still, end_still}
 use Rattle.frame_machine.proofs.run.turn.Goals as goal
 
 pub returns-in_err-branch-in-Branch-clause-stop : goal.returns-in_err-branch-in-Branch-clause-stop

@@ -2,7 +2,7 @@ use Rattle.std.proofs.Common.{refl, length}
 use Rattle.frame_store.specs.Entry.{entries}
 use Rattle.frame_parts.proofs.CondTurns.{set_slots, turn_any_set, turn_in_call, turn_in_call_of, turn_never, condition_here, test_is}
 use Rattle.frame_state.proofs.CallFrames.{nested}
-use Rattle.frame_parts.proofs.CalloutTurns.{still}
+use Rattle.frame_state.proofs.CalloutTurns.{still}
 use Rattle.frame_parts.proofs.conds.enter_condition.Goals as goal
 
 pub is_set-holds-requires : goal.is_set-holds-requires

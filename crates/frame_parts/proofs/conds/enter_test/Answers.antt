@@ -2,7 +2,7 @@ use Rattle.std.proofs.Common.{ap, subst}
 use Rattle.frame_store.specs.Entry.{entries}
 use Rattle.frame_state.specs.Ground.{IsNode}
 use Rattle.frame_state.specs.Stops.{tells}
-use Rattle.frame_parts.proofs.CalloutTurns.{ok_by, err_same}
+use Rattle.frame_state.proofs.CalloutTurns.{ok_by, err_same}
 use Rattle.frame_parts.proofs.CondTurns.{asserted_inside, is_tested, looks_first, stray_test, look_is}
 use Rattle.frame_parts.proofs.conds.enter_test.Goals as goal
 

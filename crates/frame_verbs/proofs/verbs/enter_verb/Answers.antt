@@ -1,5 +1,6 @@
-use Rattle.std.proofs.Common.{◌<◌, All, subst}
+use Rattle.std.proofs.Common.{◌<◌, All, None, refl, subst}
 use Rattle.pat_tree.specs.declared.nodes.Node.TheVariants as node
+use Rattle.pat_tree.specs.declared.nodes.Verb.TheVariants as verb
 use Rattle.pat_tree.specs.Rules.{name_in}
 use Rattle.frame_state.specs.Ground.{IsNode}
 use Rattle.frame_verbs.proofs.VerbTurns.{name_few}
@@ -26,26 +27,48 @@ pub pass_fail-requires-clause-few : goal.pass_fail-requires-clause-few
 pass_fail-requires-clause-few g c =
     name_few c.in-Fail.name (subst (λ v. All (λ k. k < 4294967295) (name_in v)) c.in-Fail.is c.requires.node.names)
 
-pub pass_commit-requires-clause-node : goal.pass_commit-requires-clause-node
-pass_commit-requires-clause-node g c = subst (λ v. IsNode (g.S.Searchable.searched c.args.on.now) c.args.at (node.VerbNode v)) c.in-Commit.is c.requires.node
+pub pass_acting-requires-clause-node : goal.pass_acting-requires-clause-node
+pass_acting-requires-clause-node g c = record {
+  of = verb.Commit c.in-Commit.name;
+  is = subst (λ v. IsNode (g.S.Searchable.searched c.args.on.now) c.args.at (node.VerbNode v)) c.in-Commit.is c.requires.node;
+  leaves = refl;
+}
 
-pub pass_commit-requires-clause-few : goal.pass_commit-requires-clause-few
-pass_commit-requires-clause-few g c =
+pub pass_acting-requires-clause-few : goal.pass_acting-requires-clause-few
+pass_acting-requires-clause-few g c =
     name_few c.in-Commit.name (subst (λ v. All (λ k. k < 4294967295) (name_in v)) c.in-Commit.is c.requires.node.names)
 
-pub pass_prune-requires-clause-node : goal.pass_prune-requires-clause-node
-pass_prune-requires-clause-node g c = subst (λ v. IsNode (g.S.Searchable.searched c.args.on.now) c.args.at (node.VerbNode v)) c.in-Prune.is c.requires.node
+pub pass_acting-requires-in-Prune-clause-node : goal.pass_acting-requires-in-Prune-clause-node
+pass_acting-requires-in-Prune-clause-node g c = record {
+  of = verb.Prune c.in-Prune.name;
+  is = subst (λ v. IsNode (g.S.Searchable.searched c.args.on.now) c.args.at (node.VerbNode v)) c.in-Prune.is c.requires.node;
+  leaves = refl;
+}
 
-pub pass_prune-requires-clause-few : goal.pass_prune-requires-clause-few
-pass_prune-requires-clause-few g c =
+pub pass_acting-requires-in-Prune-clause-few : goal.pass_acting-requires-in-Prune-clause-few
+pass_acting-requires-in-Prune-clause-few g c =
     name_few c.in-Prune.name (subst (λ v. All (λ k. k < 4294967295) (name_in v)) c.in-Prune.is c.requires.node.names)
 
-pub enter_skip-requires-clause-node : goal.enter_skip-requires-clause-node
-enter_skip-requires-clause-node g c = subst (λ v. IsNode (g.S.Searchable.searched c.args.on.now) c.args.at (node.VerbNode v)) c.in-Skip.is c.requires.node
+pub pass_acting-requires-in-Then-clause-node : goal.pass_acting-requires-in-Then-clause-node
+pass_acting-requires-in-Then-clause-node g c = record {
+  of = verb.Then c.in-Then.name;
+  is = subst (λ v. IsNode (g.S.Searchable.searched c.args.on.now) c.args.at (node.VerbNode v)) c.in-Then.is c.requires.node;
+  leaves = refl;
+}
 
-pub pass_then-requires-clause-node : goal.pass_then-requires-clause-node
-pass_then-requires-clause-node g c = subst (λ v. IsNode (g.S.Searchable.searched c.args.on.now) c.args.at (node.VerbNode v)) c.in-Then.is c.requires.node
-
-pub pass_then-requires-clause-few : goal.pass_then-requires-clause-few
-pass_then-requires-clause-few g c =
+pub pass_acting-requires-in-Then-clause-few : goal.pass_acting-requires-in-Then-clause-few
+pass_acting-requires-in-Then-clause-few g c =
     name_few c.in-Then.name (subst (λ v. All (λ k. k < 4294967295) (name_in v)) c.in-Then.is c.requires.node.names)
+
+pub pass_acting-requires-in-None-clause-node : goal.pass_acting-requires-in-None-clause-node
+pass_acting-requires-in-None-clause-node g c = record {
+  of = verb.Skip None;
+  is = subst (λ o. IsNode (g.S.Searchable.searched c.args.on.now) c.args.at (node.VerbNode (verb.Skip o))) c.in-None.is
+      (subst (λ v. IsNode (g.S.Searchable.searched c.args.on.now) c.args.at (node.VerbNode v)) c.in-Skip.is c.requires.node);
+  leaves = refl;
+}
+
+pub pass_skip_to-requires-clause-node : goal.pass_skip_to-requires-clause-node
+pass_skip_to-requires-clause-node g c =
+    subst (λ o. IsNode (g.S.Searchable.searched c.args.on.now) c.args.at (node.VerbNode (verb.Skip o))) c.in-Some.is
+    (subst (λ v. IsNode (g.S.Searchable.searched c.args.on.now) c.args.at (node.VerbNode v)) c.in-Skip.is c.requires.node)

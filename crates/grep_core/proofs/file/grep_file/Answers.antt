@@ -1,5 +1,5 @@
 use Rattle.std.proofs.Common.{rules, ◌≡◌, Err, ap, ◌∙◌}
-use Rattle.grep_core.specs.declared.ended.Stop.TheVariants.{SinkFault, Memory}
+use Rattle.grep_output.specs.declared.ended.Stop.TheVariants.{SinkFault, Memory}
 use Rattle.grep_match.specs.Compiled.{patterns_in}
 use Rattle.grep_core.proofs.FileTexts.{Scanned, job-is, greps-all, greps-moved, greps-breaks, greps-many, greps-untold, greps-cut, greps-lacks, fault-other, memory-other}
 use Rattle.grep_core.proofs.file.grep_file.Given as given

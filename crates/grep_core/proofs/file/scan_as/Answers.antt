@@ -1,5 +1,5 @@
 use Rattle.std.proofs.Common.{rules, ◌≡◌, Err, Ok, refl, sym, ◌∙◌}
-use Rattle.grep_core.specs.declared.ended.Stop.TheVariants.{Memory}
+use Rattle.grep_output.specs.declared.ended.Stop.TheVariants.{Memory}
 use Rattle.grep_match.specs.Compiled.{patterns_in}
 use Rattle.grep_core.proofs.FileTexts.{scans-skipped, scans-lacks, scans-whole, skipped-is, skipped-not}
 use Rattle.grep_core.proofs.file.scan_as.Goals as goal

@@ -1,8 +1,8 @@
 use Rattle.std.proofs.Common.{rules, ◌≡◌, ◌≢◌, ◌<◌, Err, None, arith, sym, subst}
 use Rattle.line_feed.specs.View.{Feed}
 use Rattle.line_feed.specs.declared.phase.Phase.TheVariants.{Closed}
-use Rattle.grep_core.specs.declared.shows.Show.TheVariants.{Lines}
-use Rattle.grep_core.specs.Shows.{lines_after}
+use Rattle.grep_output.specs.declared.shows.Show.TheVariants.{Lines}
+use Rattle.grep_output.specs.Shows.{lines_after}
 use Rattle.grep_core.specs.Follows.{Follows}
 use Rattle.line_feed.proofs.Given.{live-gives}
 use Rattle.grep_core.proofs.ScansFollow.{after-lines, after-others, following-none, following-more, follows-ends, follows-stops, follows-all, following-sent, follows-unsent}

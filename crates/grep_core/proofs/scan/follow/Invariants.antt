@@ -2,9 +2,9 @@ use Rattle.std.proofs.Common.{◌≡◌, ◌≢◌, ◌≤◌, List, length}
 use Rattle.pcre_io.specs.Told.{Told}
 use Rattle.line_feed.specs.Rows.{Row}
 use Rattle.line_feed.specs.declared.phase.Phase.TheVariants.{Closed}
-use Rattle.grep_core.specs.declared.shows.Treatment.{Treatment}
+use Rattle.grep_output.specs.declared.shows.Treatment.{Treatment}
 use Rattle.grep_match.specs.PatternTexts.{line_end}
-use Rattle.grep_core.specs.LittlePast.{bytes_in}
+use Rattle.grep_output.specs.LittlePast.{bytes_in}
 use Rattle.grep_core.specs.WholeScans.{Stood}
 use Rattle.grep_core.proofs.ScansFollow.{Following}
 use Rattle.grep_core.proofs.scan.follow.Given as goal

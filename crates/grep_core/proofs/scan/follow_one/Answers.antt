@@ -1,7 +1,7 @@
 use Rattle.std.proofs.Common.{◌≡◌, false, Ok, Err, inl, refl, sym, subst, rules}
 use Rattle.line_feed.specs.Lines.{Answers, row_of}
 use Rattle.line_feed.specs.Answers.{Gives}
-use Rattle.grep_core.specs.Ends.{stop_of}
+use Rattle.grep_output.specs.Ends.{stop_of}
 use Rattle.grep_core.specs.Follows.{FollowsOne}
 use Rattle.grep_core.proofs.Halting.{halts-of}
 use Rattle.tool_out.proofs.Printing.{wrote-of}

@@ -1,7 +1,7 @@
 use Rattle.std.proofs.Common.{◌≡◌, false, Err, refl, sym, subst, rules}
 use Rattle.line_feed.specs.Lines.{row_of}
-use Rattle.grep_core.specs.declared.shows.Show.TheVariants.{Lines}
-use Rattle.grep_core.specs.Ends.{stop_of}
+use Rattle.grep_output.specs.declared.shows.Show.TheVariants.{Lines}
+use Rattle.grep_output.specs.Ends.{stop_of}
 use Rattle.grep_core.specs.Turns.{Halts, Passes}
 use Rattle.tool_out.specs.Writes.{WritesAll}
 use Rattle.grep_core.proofs.Halting.{halts-of, context-text, context-after}

@@ -1,9 +1,9 @@
 use Rattle.std.proofs.Common.{◌≡◌, ◌≢◌, ◌≤◌, ◌-◌, ◌^◌, []}
 use Rattle.pcre_io.specs.Told.{Told}
 use Rattle.line_feed.specs.declared.phase.Phase.TheVariants.{Closed}
-use Rattle.grep_core.specs.declared.shows.Show.TheVariants.{Lines}
+use Rattle.grep_output.specs.declared.shows.Show.TheVariants.{Lines}
 use Rattle.grep_match.specs.Compiled.{patterns_in}
-use Rattle.grep_core.specs.declared.shows.Treatment.{Treatment}
+use Rattle.grep_output.specs.declared.shows.Treatment.{Treatment}
 use Rattle.grep_core.specs.WholeScans.{Stood, IsJob}
 use Rattle.grep_core.specs.Watched.{Watches}
 use Rattle.grep_core.proofs.ScansTaken.{Standing}

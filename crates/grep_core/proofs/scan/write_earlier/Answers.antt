@@ -2,7 +2,7 @@ use Rattle.std.proofs.Common.{◌≡◌, ◌+◌, ◌∙◌, drop, flat_map, fal
 use Rattle.std.specs.Prelude.{slice_get, option_map}
 use Rattle.line_feed.specs.Rows.{Row}
 use Rattle.line_feed.specs.Lines.{row_of}
-use Rattle.grep_core.specs.Course.{line_as}
+use Rattle.grep_output.specs.Course.{line_as}
 use Rattle.tool_out.specs.Writes.{Writes}
 use Rattle.tool_out.proofs.Writing.{left-more, left-refused}
 use Rattle.grep_core.proofs.Steps.{rest-more, is-there}

@@ -1,5 +1,5 @@
 use Rattle.std.proofs.Common.{drop, flat_map, false}
-use Rattle.grep_core.specs.Course.{line_as}
+use Rattle.grep_output.specs.Course.{line_as}
 use Rattle.tool_out.proofs.Writing.{IsLeft}
 use Rattle.grep_core.proofs.scan.write_earlier.Given as goal
 

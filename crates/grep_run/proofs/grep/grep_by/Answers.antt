@@ -1,5 +1,5 @@
 use Rattle.std.proofs.Common.{rules, ◌≡◌, false, map, string_bytes, Ok, Err, sym, subst}
-use Rattle.grep_core.specs.declared.ended.Stop.TheVariants.{Memory}
+use Rattle.grep_output.specs.declared.ended.Stop.TheVariants.{Memory}
 use Rattle.grep_run.specs.Adds.{AddsAllFrom}
 use Rattle.grep_run.specs.Stages.{SearchesBy, streams}
 use Rattle.grep_run.proofs.Asking.{by-lacks, by-unread, by-stopped, by-search}

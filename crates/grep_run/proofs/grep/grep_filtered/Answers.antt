@@ -2,7 +2,7 @@ use Rattle.std.proofs.Common.{rules, ◌≡◌, w32, SFits, map, string_bytes, O
 use Rattle.std.proofs.lemmas.Int.{to_z-of_z}
 use Rattle.dir_walk.specs.Filters.{BadFilter, IsFilterError, filter_of}
 use Rattle.grep_match.specs.Compiled.{patterns_in}
-use Rattle.grep_core.specs.Ends.{stop_of}
+use Rattle.grep_output.specs.Ends.{stop_of}
 use Rattle.grep_run.specs.Refusals.{filter_message}
 use Rattle.grep_run.specs.Stages.{SearchesFor, streams}
 use Rattle.grep_core.proofs.Halting.{halts-of}

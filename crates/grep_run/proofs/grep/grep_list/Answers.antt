@@ -1,7 +1,7 @@
 use Rattle.std.proofs.Common.{rules, ◌≡◌, Err}
 use Rattle.grep_match.specs.Compiled.{patterns_in}
-use Rattle.grep_core.specs.Ends.{stop_of}
-use Rattle.grep_core.specs.InputText.{first_state}
+use Rattle.grep_output.specs.Ends.{stop_of}
+use Rattle.grep_output.specs.InputText.{first_state}
 use Rattle.grep_run.specs.Reports.{reports}
 use Rattle.grep_run.proofs.Summing.{outcome-whole, outcome-refused, outcome-stopped}
 use Rattle.grep_run.proofs.Tying.{tied-stop, tied-refused}

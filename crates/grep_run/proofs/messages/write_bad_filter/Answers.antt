@@ -1,7 +1,7 @@
 use Rattle.std.proofs.Common.{ap, ◌∙◌, rules, SFits, w32}
 use Rattle.std.specs.Fmt.{signed_decimal}
 use Rattle.std.proofs.lemmas.Int.{to_z-of_z}
-use Rattle.pcre2_api.specs.FaultTexts.{fault_text}
+use Rattle.pcre2_errors.specs.FaultTexts.{fault_text}
 use Rattle.tool_out.proofs.Writing.{writes-same}
 use Rattle.grep_run.proofs.Saying.{filter-said}
 use Rattle.grep_run.proofs.messages.write_bad_filter.Goals as goal

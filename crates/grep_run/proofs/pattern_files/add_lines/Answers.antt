@@ -1,8 +1,8 @@
 use Rattle.std.proofs.Common.{rules, ◌≡◌, Ok, Err, refl, subst, sym}
 use Rattle.line_feed.specs.declared.phase.FeedError.TheVariants as feed
 use Rattle.line_feed.specs.Lines.{row_of}
-use Rattle.grep_core.specs.declared.ended.Ended.TheVariants.{TooLong}
-use Rattle.grep_core.specs.declared.ended.Stop.TheVariants.{Memory}
+use Rattle.grep_output.specs.declared.ended.Ended.TheVariants.{TooLong}
+use Rattle.grep_output.specs.declared.ended.Stop.TheVariants.{Memory}
 use Rattle.grep_run.specs.Adds.{AddsLines}
 use Rattle.grep_run.proofs.FilePatterns.{adding-none, adding-more, adds-end, adds-refused, adds-stopped}
 use Rattle.grep_run.proofs.pattern_files.add_lines.Goals as goal

@@ -1,5 +1,5 @@
 use Rattle.std.proofs.Common.{Some, refl}
-use Rattle.grep_core.specs.declared.ended.Stop.TheVariants.{Memory}
+use Rattle.grep_output.specs.declared.ended.Stop.TheVariants.{Memory}
 use Rattle.grep_run.specs.PatternFiles.{texts_of}
 use Rattle.dir_walk.specs.declared.lists.Target.TheVariants as targets
 use Rattle.tool_in.proofs.Taking.{opened-heard, opened-any}

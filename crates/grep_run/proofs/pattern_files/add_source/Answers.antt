@@ -1,8 +1,8 @@
 use Rattle.std.proofs.Common.{rules, ◌≡◌, ◌≢◌, ◌∙◌, true, false, Err, sym, subst}
 use Rattle.byte_lanes.specs.declared.line_end.EndKind.TheVariants.{Lf}
 use Rattle.line_feed.specs.Rows.{rows}
-use Rattle.grep_core.specs.declared.ended.Ended.TheVariants.{End}
-use Rattle.grep_core.specs.Ends.{stop_of}
+use Rattle.grep_output.specs.declared.ended.Ended.TheVariants.{End}
+use Rattle.grep_output.specs.Ends.{stop_of}
 use Rattle.grep_run.specs.PatternFiles.{texts_of_rows}
 use Rattle.grep_run.specs.Adds.{AddsTo}
 use Rattle.grep_run.proofs.FilePatterns.{source-cut, source-untold}

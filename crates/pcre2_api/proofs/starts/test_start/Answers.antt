@@ -1,5 +1,5 @@
 use Rattle.std.proofs.Common.{◌∙◌, ap, sym, Some}
-use Rattle.pcre2_api.specs.declared.error.MatchError.TheVariants.{BadUtf}
+use Rattle.pcre2_errors.specs.declared.error.MatchError.TheVariants.{BadUtf}
 use Rattle.pcre2_api.proofs.Starting.{not-utf8}
 use Rattle.pcre2_api.proofs.starts.test_start.Goals as goal
 

@@ -1,6 +1,6 @@
 use Rattle.std.proofs.Common.{[], refl}
 use Rattle.pat_tree.specs.Pattern.{pattern_of}
-use Rattle.pcre2_api.specs.declared.error.MatchError.TheVariants as told
+use Rattle.pcre2_errors.specs.declared.error.MatchError.TheVariants as told
 use Rattle.test_lines.specs.Marks.{showing}
 use Rattle.test_run.proofs.Searching.{error-failed, told-failure}
 use Rattle.test_lines.proofs.Writing.{writes-equal, writes-nothing, lacks-first}

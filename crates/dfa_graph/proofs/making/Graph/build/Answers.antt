@@ -1,7 +1,7 @@
 use Rattle.std.proofs.Common.{length, arith}
 use Rattle.dfa_graph.specs.Building.{tree_of}
 use Rattle.dfa_graph.proofs.Having.{not_refused}
-use Rattle.dfa_graph.proofs.Behind.{always_same}
+use Rattle.dfa_paths.proofs.Behind.{always_same}
 use Rattle.dfa_graph.proofs.making.Graph.build.Goals as goal
 
 pub returns-in-Some-clause-graph : goal.returns-in-Some-clause-graph

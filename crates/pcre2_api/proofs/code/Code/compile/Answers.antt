@@ -4,7 +4,8 @@ use Rattle.pat_check.specs.Known.{IsByteSet, lead_set_of}
 use Rattle.pat_tree.specs.Pattern.{pattern_of}
 use Rattle.match_items.specs.Views.{fold_in}
 use Rattle.pat_lengths.specs.Backs.{first_fault}
-use Rattle.pcre2_api.specs.Compiled.{IsCompileError, check_error_of, compile_error_of}
+use Rattle.pcre2_errors.specs.CompileErrors.{check_error_of, compile_error_of}
+use Rattle.pcre2_api.specs.Compiled.{IsCompileError}
 use Rattle.pcre2_api.specs.Patterns.{compiled, unless_refused}
 use Rattle.pcre2_api.proofs.Behind.{compiled_is, check_refused, read_refused}
 use Rattle.pcre2_api.proofs.code.Code.compile.Goals as goal

@@ -6,7 +6,8 @@ use Rattle.frame_board.specs.Ready.{setting_in}
 use Rattle.match_drive.specs.Asked.{passed_over}
 use Rattle.dfa_ends.specs.DfaAnswer.{EndsFrom, NoMatch, PartialFrom, dfa_answer}
 use Rattle.pcre2_api.specs.Matched.{search_of}
-use Rattle.pcre2_api.specs.DfaMatched.{IsDfaError, error_of}
+use Rattle.pcre2_errors.specs.DfaErrors.{error_of}
+use Rattle.pcre2_api.specs.DfaMatched.{IsDfaError}
 use Rattle.pcre2_api.proofs.Starting.{begun-text, begun-place}
 use Rattle.pcre2_api.proofs.DfaMatching.{barred, answered}
 use Rattle.pcre2_api.proofs.code.Code.ends_from.Goals as goal

@@ -17,8 +17,8 @@ use Rattle.pcre2_api.specs.contracts.found.Held as held-type
 use Rattle.pcre2_api.specs.contracts.found.Found as found-type
 use Rattle.pcre2_api.proofs.found.Held.TheLaws as held_laws
 use Rattle.pcre2_api.proofs.found.Found.TheLaws as found_laws
-use Rattle.pcre2_api.specs.contracts.error.MatchError as error-type
-use Rattle.pcre2_api.proofs.error.MatchError.TheLaws as error_laws
+use Rattle.pcre2_errors.specs.contracts.error.MatchError as error-type
+use Rattle.pcre2_errors.proofs.error.MatchError.TheLaws as error_laws
 use Rattle.pcre2_api.proofs.Lending.{if_found, on_found, if_refused}
 use Rattle.pcre2_api.specs.contracts.code.Code.match_at as f
 use Rattle.pcre2_api.proofs.code.Code.match_at.Statement.{statement}

@@ -1,5 +1,0 @@
-use Rattle.dfa_graph.proofs.Fragments.{path_law}
-use Rattle.dfa_graph.proofs.laws.paths_end.Goals as goal
-
-pub returns : goal.returns
-returns c = path_law

@@ -1,0 +1,12 @@
+pub mod Places
+pub mod Turns
+pub mod Coming
+pub mod Going
+pub mod Fragments
+pub mod Probes
+pub mod Counting
+pub mod Meeting
+pub mod Passing
+pub mod EndReaching
+pub mod Hits
+pub mod Behind

@@ -1,0 +1,4 @@
+pub mod Graph
+pub mod Meets
+pub mod Fragment
+pub mod Plain

@@ -1,0 +1,10 @@
+pub mod ScanEnds
+pub mod ReachRows
+pub mod ReachTexts
+pub mod ReachCourse
+pub mod Reached
+pub mod Extends
+pub mod Growing
+pub mod Said
+pub mod Parted
+pub mod Deciding

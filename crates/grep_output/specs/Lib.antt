@@ -1,0 +1,12 @@
+pub mod Lines
+pub mod Shows
+pub mod Scans
+pub mod Context
+pub mod Texts
+pub mod Messages
+pub mod InputText
+pub mod Earlier
+pub mod Ends
+pub mod Course
+pub mod LittlePast
+pub mod Refused

@@ -1,0 +1,5 @@
+pub mod CompileErrors
+pub mod MatchErrors
+pub mod DfaErrors
+pub mod SubstErrors
+pub mod FaultTexts

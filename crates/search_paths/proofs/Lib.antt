@@ -1,0 +1,4 @@
+pub mod Possessive
+pub mod Streams
+pub mod Groups
+pub mod Before
