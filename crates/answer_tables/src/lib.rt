@@ -1,13 +1,9 @@
-//! Scripts of pcre2test with their whole output: what a match call answers.
+//! Scripts of pcre2test with their whole output: all ends and global matching.
 #![tactic(auto)]
 
 #[cfg(test)]
 mod all_ends;
 #[cfg(test)]
 mod global;
-#[cfg(test)]
-mod partial;
-#[cfg(test)]
-mod partial_ends;
 #[cfg(test)]
 mod running;

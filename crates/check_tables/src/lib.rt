@@ -4,4 +4,6 @@
 #[cfg(test)]
 mod build;
 #[cfg(test)]
+mod needs;
+#[cfg(test)]
 mod rows;

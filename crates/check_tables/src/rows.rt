@@ -4,8 +4,7 @@ ghost use Rattle.std.specs.Prelude.{◌≡◌, ◌<◌, false, length};
 use crate::build::{Step, tree_of};
 use byte_lanes::ByteSet;
 use char_sets::ClassTable;
-use match_needs::ByteText;
-use pat_check::{CheckError, DfaSupport, Facts, Growth, check};
+use pat_check::{CheckError, DfaSupport, Facts, check};
 use pat_tree::{AnchorKind, Options};
 use std::alloc::Global;
 use std::process::Abort;
@@ -22,7 +21,7 @@ type Row = (
 );
 
 /// Whether a set has these bytes and no other.
-fn is_set(set: &ByteSet, bytes: &[u8]) -> bool {
+pub(crate) fn is_set(set: &ByteSet, bytes: &[u8]) -> bool {
     let mut all = true;
     for b in 0..256u32 {
         let b = b as u8;
@@ -40,7 +39,7 @@ fn begins_as(facts: &Facts, begins: Option<&'static [u8]>) -> bool {
 }
 
 /// The facts of the tree of these steps.
-fn facts_of(
+pub(crate) fn facts_of(
     alloc: Global,
     options: Options,
     steps: &[Step],
@@ -67,15 +66,15 @@ fn tells_row(rt: &impl Abort, alloc: Global, row: &Row) -> Result<(), Fail> {
     Ok(())
 }
 
-const A: Step = Step::Char(97);
+pub(crate) const A: Step = Step::Char(97);
 
-const B: Step = Step::Char(98);
+pub(crate) const B: Step = Step::Char(98);
 
-const C: Step = Step::Char(99);
+pub(crate) const C: Step = Step::Char(99);
 
 const CARET: Step = Step::Anchor(AnchorKind::Caret { multi: false });
 // `a?`
-const MAYBE: Step = Step::Chars(97, 0, Some(1));
+pub(crate) const MAYBE: Step = Step::Chars(97, 0, Some(1));
 
 #[test]
 fn single_nodes_are_known(rt: HostRuntime) -> Result<(), Fail> {
@@ -611,206 +610,5 @@ fn lookbehinds_have_a_length_or_are_refused(rt: HostRuntime) -> Result<(), Fail>
         &[A, Capture(1, 1), Call(1), Seq(2), Behind(1)],
         Back(2),
     )?;
-    Ok(())
-}
-
-/// The bytes that stand in a text one behind the other; none where it is shorter.
-type TextRow = (&'static [u8], &'static [u8], &'static [u8]);
-
-/// A tree by its steps, the text that every match takes if one is told, and the bounds of its Steps, as times and degree,
-/// and of its units.
-type NeedRow = (&'static [Step], Option<TextRow>, u32, u32, u32);
-
-fn is_next(set: &Option<ByteSet>, bytes: &[u8]) -> bool {
-    match set {
-        Some(set) => is_set(set, bytes),
-        None => bytes.is_empty(),
-    }
-}
-
-fn is_text(text: &ByteText, row: &TextRow) -> bool {
-    is_set(&text.first, row.0) && is_next(&text.second, row.1) && is_next(&text.third, row.2)
-}
-
-fn needs_as(facts: &Facts, row: &NeedRow) -> bool {
-    match (&facts.need, &row.1) {
-        (None, None) => true,
-        (Some(need), Some(text)) => {
-            let steps = Growth {
-                times: row.2,
-                degree: row.3,
-            };
-            is_text(&need.text, text) && need.bound.steps == steps && need.bound.units == row.4
-        }
-        _ => false,
-    }
-}
-
-fn tells_need(rt: &impl Abort, alloc: Global, options: Options, row: &NeedRow) -> Result<(), Fail> {
-    assert!(rt; row.0.len() < 1000);
-    match facts_of(alloc, options, row.0)? {
-        Ok(facts) => assert!(rt; needs_as(&facts, row)),
-        Err(_) => assert!(rt; false),
-    }
-    Ok(())
-}
-
-#[test]
-fn the_rarest_text_that_every_match_takes_is_told(rt: HostRuntime) -> Result<(), Fail> {
-    use Step::*;
-    static ROWS: [NeedRow; 24] = [
-        // `a`, `(?i)k`, a class, `a?b`, `a+b`, `a{2,3}`, `a*`, `.`
-        (&[A], Some((b"a", b"", b"")), 0, 0, 0),
-        (&[AnyCase(107)], Some((b"Kk", b"", b"")), 0, 0, 0),
-        (&[Class], Some((b"\n\x0B\x0C\r", b"", b"")), 0, 0, 0),
-        (&[MAYBE, B, Seq(2)], Some((b"b", b"", b"")), 2, 0, 1),
-        (
-            &[Chars(97, 1, None), B, Seq(2)],
-            Some((b"b", b"", b"")),
-            1,
-            1,
-            1,
-        ),
-        (&[Chars(97, 2, Some(3))], Some((b"a", b"", b"")), 2, 0, 1),
-        (&[Chars(97, 0, None)], None, 0, 0, 0),
-        (&[AnyAll], None, 0, 0, 0),
-        // `ab|cb`, `a|`, `(a)`, `(?>a+)b`, `(?=b)a*`
-        (
-            &[A, B, Seq(2), C, B, Seq(2), Group(2)],
-            Some((b"ac", b"b", b"")),
-            2,
-            0,
-            2,
-        ),
-        (&[A, Empty, Group(2)], None, 0, 0, 0),
-        (&[A, Capture(1, 1)], Some((b"a", b"", b"")), 0, 0, 2),
-        (
-            &[Chars(97, 1, None), Atomic(1), B, Seq(2)],
-            Some((b"b", b"", b"")),
-            1,
-            1,
-            3,
-        ),
-        (
-            &[B, Ahead(1), Chars(97, 0, None), Seq(2)],
-            Some((b"b", b"", b"")),
-            1,
-            1,
-            3,
-        ),
-        // `a+b+c`
-        (
-            &[Chars(97, 1, None), Chars(98, 1, None), C, Seq(3)],
-            Some((b"c", b"", b"")),
-            2,
-            2,
-            2,
-        ),
-        // `abc`, `abcB`, `ab(b)`, `a+bc`
-        (&[A, B, C, Seq(3)], Some((b"a", b"b", b"c")), 0, 0, 0),
-        (
-            &[A, B, C, AnyCase(98), Seq(4)],
-            Some((b"b", b"c", b"Bb")),
-            0,
-            0,
-            0,
-        ),
-        (
-            &[A, B, B, Capture(1, 1), Seq(3)],
-            Some((b"a", b"b", b"")),
-            0,
-            0,
-            2,
-        ),
-        (
-            &[Chars(97, 1, None), B, C, Seq(3)],
-            Some((b"b", b"c", b"")),
-            1,
-            1,
-            1,
-        ),
-        // forms without a bound: `(?:a){2,}`, `(?<=b)a`, `(?1)`, an accept, a callout
-        (&[A, Repeat(2, None)], None, 0, 0, 0),
-        (&[B, Behind(1), A, Seq(2)], None, 0, 0, 0),
-        (&[A, Call(0), Seq(2)], None, 0, 0, 0),
-        (&[A, Accept, Seq(2)], None, 0, 0, 0),
-        (&[A, Callout, Seq(2)], None, 0, 0, 0),
-        // a lookahead that is gone into again, `(?*b)a`
-        (&[B, AheadAnyWay(1), A, Seq(2)], None, 0, 0, 0),
-    ];
-    for row in &ROWS {
-        tells_need(&rt, rt.alloc(), Options::PLAIN, row)?;
-    }
-    Ok(())
-}
-
-#[test]
-fn in_utf_the_byte_of_an_ascii_character_is_told(rt: HostRuntime) -> Result<(), Fail> {
-    use Step::*;
-    let utf = Options {
-        utf: true,
-        ..Options::PLAIN
-    };
-    // `a`, `(?i)@`, `(?i)b`, `(?i)k`, `(?i)S`, the Kelvin sign and the long s without regard to case, a class, a class and `b`
-    static ROWS: [NeedRow; 9] = [
-        (&[A], Some((b"a", b"", b"")), 0, 0, 0),
-        (&[AnyCase(64)], Some((b"@", b"", b"")), 0, 0, 0),
-        (&[AnyCase(98)], Some((b"Bb", b"", b"")), 0, 0, 0),
-        (&[AnyCase(107)], None, 0, 0, 0),
-        (&[AnyCase(83)], None, 0, 0, 0),
-        (&[AnyCase(0x212A)], None, 0, 0, 0),
-        (&[AnyCase(0x17F)], None, 0, 0, 0),
-        (&[Class], None, 0, 0, 0),
-        (&[Class, B, Seq(2)], Some((b"b", b"", b"")), 0, 0, 0),
-    ];
-    for row in &ROWS {
-        tells_need(&rt, rt.alloc(), utf, row)?;
-    }
-    Ok(())
-}
-
-/// Every match takes a byte past ASCII or one of these.
-fn needs_past_ascii(
-    rt: &impl Abort,
-    alloc: Global,
-    steps: &'static [Step],
-    or: &[u8],
-) -> Result<(), Fail> {
-    let utf = Options {
-        utf: true,
-        ..Options::PLAIN
-    };
-    assert!(rt; steps.len() < 1000);
-    match facts_of(alloc, utf, steps)? {
-        Ok(facts) => {
-            let Some(need) = &facts.need else {
-                assert!(rt; false);
-                return Ok(());
-            };
-            for b in 0..256u32 {
-                let b = b as u8;
-                assert_eq!(rt; need.text.first.has(b), b >= 128 || or.contains(&b), "{b}");
-            }
-            assert!(rt; need.text.second.is_none());
-        }
-        Err(_) => assert!(rt; false),
-    }
-    Ok(())
-}
-
-#[test]
-fn in_utf_a_character_past_ascii_begins_past_it(rt: HostRuntime) -> Result<(), Fail> {
-    use Step::*;
-    // `\u{e9}+`, `(?i)\u{df}`, `a\u{e9}`, `\u{e9}|b`, `(?i)\u{e9}|b`
-    static ROWS: [(&'static [Step], &'static [u8]); 5] = [
-        (&[Chars(233, 1, None)], b""),
-        (&[AnyCase(223)], b""),
-        (&[A, Chars(233, 1, None), Seq(2)], b""),
-        (&[Chars(233, 1, None), B, Group(2)], b"b"),
-        (&[AnyCase(233), B, Group(2)], b"b"),
-    ];
-    for (steps, or) in &ROWS {
-        needs_past_ascii(&rt, rt.alloc(), steps, or)?;
-    }
     Ok(())
 }

@@ -24,27 +24,44 @@ fn nested(alloc: Global, open: &str, depth: usize) -> Result<String, Fail> {
     Ok(whole)
 }
 
+// A text so many times, with a text after it, has this fault.
+fn has_fault(
+    alloc: Global,
+    text: &str,
+    times: usize,
+    after: &str,
+    fault: Option<(i32, usize)>,
+) -> Result<bool, Fail> {
+    let mut pattern = repeated(alloc, text, times)?;
+    pattern.push_str(after)?;
+    Ok(fault_of(alloc, pattern.as_bytes(), PLAIN) == fault)
+}
+
+// Whether so many parentheses, one in the other, have this fault.
+fn is_nested(
+    alloc: Global,
+    open: &str,
+    depth: usize,
+    fault: Option<(i32, usize)>,
+) -> Result<bool, Fail> {
+    let pattern = nested(alloc, open, depth)?;
+    Ok(fault_of(alloc, pattern.as_bytes(), PLAIN) == fault)
+}
+
+const OPENS: &[(&str, usize)] = &[("(", 250), ("(?:", 750), ("(?i:", 1000), ("(?#a)(", 1505)];
+
 #[test]
 fn parentheses_are_nested_250_deep(rt: HostRuntime) -> Result<(), Fail> {
     let alloc = rt.alloc();
-    let rows = [("(", 250), ("(?:", 750), ("(?i:", 1000), ("(?#a)(", 1505)];
-    for (open, place) in rows {
-        let deepest = nested(alloc, open, 250)?;
-        assert_eq!(rt; fault_of(alloc, deepest.as_bytes(), PLAIN), None, "{open}");
-        let deeper = nested(alloc, open, 251)?;
-        let fault = fault_of(alloc, deeper.as_bytes(), PLAIN);
-        assert_eq!(rt; fault, Some((119, place)), "{open}");
+    for (open, place) in OPENS {
+        assert!(rt; is_nested(alloc, open, 250, None)?);
+        assert!(rt; is_nested(alloc, open, 251, Some((119, *place)))?);
     }
     let tree = read(alloc, nested(alloc, "(", 250)?.as_bytes(), PLAIN)?;
-    assert_eq!(rt; tree.groups(), 250);
+    assert!(rt; tree.groups() == 250);
     // Groups one after the other aren't nested, and the fault of the token comes first.
-    let side_by_side = repeated(alloc, "(a)", 300)?;
-    assert_eq!(rt; fault_of(alloc, side_by_side.as_bytes(), PLAIN), None);
-    let cut_off = repeated(alloc, "(", 250)?;
-    assert_eq!(rt;
-        fault_of(alloc, cut_off.as_bytes(), PLAIN),
-        Some((114, 250))
-    );
+    assert!(rt; has_fault(alloc, "(a)", 300, "", None)?);
+    assert!(rt; has_fault(alloc, "(", 250, "", Some((114, 250)))?);
     Ok(())
 }
 
@@ -54,59 +71,59 @@ fn tree_of(alloc: Global, text: &str, times: usize) -> Result<Tree, Fail> {
     Ok(read(alloc, pattern.as_bytes(), PLAIN)?)
 }
 
+// A text so many times, with the root of its tree, the number of its groups and that of its classes.
+type Whole = (&'static str, usize, u32, u32, u32);
+
+const WHOLE: &[Whole] = &[
+    // a node for each character, one for the sequence and one for the whole pattern
+    ("a", 65536, 65537, 0, 0),
+    // an empty alternative more than there are bars
+    ("|", 65536, 65537, 0, 0),
+    ("a*", 32768, 32769, 0, 0),
+    // the most groups that stand in 65,536 bytes
+    ("()", 32768, 65537, 32768, 0),
+    ("[a]", 21845, 21846, 0, 21845),
+    ("\\d", 32768, 32769, 0, 32768),
+];
+
 #[test]
 fn a_pattern_has_65536_bytes(rt: HostRuntime) -> Result<(), Fail> {
-    let alloc = rt.alloc();
-    // a node for each character, one for the sequence and one for the whole pattern
-    assert_eq!(rt; tree_of(alloc, "a", 65536)?.root(), 65537);
-    // an empty alternative more than there are bars
-    assert_eq!(rt; tree_of(alloc, "|", 65536)?.root(), 65537);
-    assert_eq!(rt; tree_of(alloc, "a*", 32768)?.root(), 32769);
-    for text in ["a", "|", "(", "\\", "[", "\0"] {
-        let pattern = repeated(alloc, text, 65537)?;
-        assert_eq!(rt;
-            fault_of(alloc, pattern.as_bytes(), PLAIN),
-            Some((120, 0)),
-            "{text}"
-        );
+    for (text, times, root, groups, classes) in WHOLE {
+        let tree = tree_of(rt.alloc(), text, *times)?;
+        assert!(rt; tree.root() == *root);
+        assert!(rt; u32::from(tree.groups()) == *groups && tree.classes() == *classes);
+    }
+    Ok(())
+}
+
+const TOO_LONG: &[&str] = &["a", "|", "(", "\\", "[", "\0"];
+
+#[test]
+fn a_pattern_of_a_byte_more_is_refused(rt: HostRuntime) -> Result<(), Fail> {
+    for text in TOO_LONG {
+        assert!(rt; has_fault(rt.alloc(), text, 65537, "", Some((120, 0)))?);
     }
     let literal = Options {
         literal: true,
         utf: true,
         ..PLAIN
     };
-    let pattern = repeated(alloc, "a", 65537)?;
-    assert_eq!(rt;
-        fault_of(alloc, pattern.as_bytes(), literal),
-        Some((120, 0))
-    );
+    let pattern = repeated(rt.alloc(), "a", 65537)?;
+    let fault = fault_of(rt.alloc(), pattern.as_bytes(), literal);
+    assert!(rt; fault == Some((120, 0)));
     Ok(())
 }
 
 #[test]
 fn groups_and_classes_fill_a_pattern(rt: HostRuntime) -> Result<(), Fail> {
     let alloc = rt.alloc();
-    // the most groups that stand in 65,536 bytes
-    assert_eq!(rt; tree_of(alloc, "()", 32768)?.groups(), 32768);
-    assert_eq!(rt; tree_of(alloc, "[a]", 21845)?.classes(), 21845);
-    assert_eq!(rt; tree_of(alloc, "\\d", 32768)?.classes(), 32768);
     let mut class = repeated(alloc, "a", 65534)?;
     class.insert(0, '[')?;
     class.push(']')?;
     let tree = read(alloc, class.as_bytes(), PLAIN)?;
-    assert_eq!(rt; tree.classes(), 1);
+    assert!(rt; tree.classes() == 1);
     // groups are counted on from the last opened one up to 65,535
-    let mut pattern = repeated(alloc, "()", 32760)?;
-    pattern.push_str("\\g{+32775}")?;
-    assert_eq!(rt;
-        fault_of(alloc, pattern.as_bytes(), PLAIN),
-        Some((115, 65520))
-    );
-    let mut pattern = repeated(alloc, "()", 32760)?;
-    pattern.push_str("\\g{+32776}")?;
-    assert_eq!(rt;
-        fault_of(alloc, pattern.as_bytes(), PLAIN),
-        Some((161, 65520))
-    );
+    assert!(rt; has_fault(alloc, "()", 32760, "\\g{+32775}", Some((115, 65520)))?);
+    assert!(rt; has_fault(alloc, "()", 32760, "\\g{+32776}", Some((161, 65520)))?);
     Ok(())
 }

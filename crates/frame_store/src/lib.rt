@@ -8,8 +8,6 @@ mod laws;
 mod records;
 mod registers;
 mod store;
-#[cfg(test)]
-mod tests;
 
 pub use laws::{entry_laws, undo_laws, worked_rows};
 pub use records::Record;

@@ -6,6 +6,7 @@ ghost use Rattle.pat_tree.specs.Growing.{loose};
 use node_flow::{Branches, Flow, Ranks};
 use pat_tree::{Cond, Draft, Item, Kids, Memory, Node, NodeId, Options, Tree};
 use std::alloc::Global;
+use std::process::Abort;
 use std::test::Fail;
 
 /// What stands round two branches.
@@ -116,84 +117,104 @@ fn tree_of(alloc: Global, kind: Kind) -> Result<Tree, Fail>
     Ok(tree)
 }
 
+/// The follower of each of the ten parts, or the part that is its branch.
+type Parts = &'static [Option<NodeId>];
+
+const PLACES: [u32; 10] = [4, 5, 3, 2, 7, 8, 6, 1, 9, 0];
+
+// Of the branches only those of a plain group and of a condition are followed by `e`.
+const PAST: Parts = &[
+    Some(1),
+    None,
+    None,
+    Some(8),
+    Some(5),
+    Some(8),
+    Some(8),
+    Some(8),
+    None,
+    None,
+];
+
+const FRAMED: Parts = &[
+    Some(1),
+    None,
+    None,
+    None,
+    Some(5),
+    None,
+    None,
+    Some(8),
+    None,
+    None,
+];
+
+const FOLLOWERS: &[(Kind, Parts)] = &[
+    (Kind::Plain, PAST),
+    (Kind::Condition, PAST),
+    (Kind::Capturing, FRAMED),
+    (Kind::Atomic, FRAMED),
+    (Kind::Look, FRAMED),
+];
+
+fn follows(rt: &impl Abort, alloc: Global, kind: Kind, followers: Parts) -> Result<(), Fail> {
+    assert!(rt; followers.len() == 10);
+    let tree = tree_of(alloc, kind)?;
+    let flow = Flow::build(alloc, &tree)?;
+    let ranks = Ranks::build(alloc, &tree)?;
+    for part in 0..10usize {
+        assert!(rt; flow.next(part as u32) == followers[part]);
+        assert!(rt; ranks.of(part as u32) == PLACES[part]);
+    }
+    Ok(())
+}
+
 #[test]
 fn parts_are_followed_to_the_end_of_their_frame_and_stand_in_order(
     rt: HostRuntime,
 ) -> Result<(), Fail> {
-    let places = [4, 5, 3, 2, 7, 8, 6, 1, 9, 0];
-    // of the branches only those of a plain group and of a condition are followed by `e`
-    let past = [
-        Some(1),
-        None,
-        None,
-        Some(8),
-        Some(5),
-        Some(8),
-        Some(8),
-        Some(8),
-        None,
-        None,
-    ];
-    let framed = [
-        Some(1),
-        None,
-        None,
-        None,
-        Some(5),
-        None,
-        None,
-        Some(8),
-        None,
-        None,
-    ];
-    let rows = [
-        (Kind::Plain, past),
-        (Kind::Condition, past),
-        (Kind::Capturing, framed),
-        (Kind::Atomic, framed),
-        (Kind::Look, framed),
-    ];
-    for (kind, followers) in rows {
-        let tree = tree_of(rt.alloc(), kind)?;
-        let flow = Flow::build(rt.alloc(), &tree)?;
-        let ranks = Ranks::build(rt.alloc(), &tree)?;
-        for (part, next) in followers.iter().enumerate() {
-            assert_eq!(rt; flow.next(part as u32), *next);
-            assert_eq!(rt; ranks.of(part as u32), places[part]);
-        }
+    for (kind, followers) in FOLLOWERS {
+        follows(&rt, rt.alloc(), *kind, *followers)?;
+    }
+    Ok(())
+}
+
+// A turn is a frame of its own.
+const OWN: Parts = &[
+    None,
+    None,
+    None,
+    Some(3),
+    Some(6),
+    Some(6),
+    Some(6),
+    None,
+    None,
+    None,
+];
+
+const BRANCHES: &[(Kind, Parts)] = &[
+    (Kind::Plain, OWN),
+    (Kind::Condition, &[None; 10]),
+    (Kind::Capturing, OWN),
+    (Kind::Atomic, OWN),
+    (Kind::Look, OWN),
+];
+
+fn is_in(rt: &impl Abort, alloc: Global, kind: Kind, branches: Parts) -> Result<(), Fail> {
+    assert!(rt; branches.len() == 10);
+    let tree = tree_of(alloc, kind)?;
+    let around = Branches::build(alloc, &tree)?;
+    for part in 0..10usize {
+        assert!(rt; around.of(part as u32) == branches[part]);
     }
     Ok(())
 }
 
 #[test]
 fn branches_are_around_parts_in_their_frame(rt: HostRuntime) -> Result<(), Fail> {
-    // a turn is a frame of its own
-    let own = [
-        None,
-        None,
-        None,
-        Some(3),
-        Some(6),
-        Some(6),
-        Some(6),
-        None,
-        None,
-        None,
-    ];
-    let none = [None; 10];
-    let rows = [
-        (Kind::Plain, own),
-        (Kind::Condition, none),
-        (Kind::Capturing, own),
-        (Kind::Atomic, own),
-        (Kind::Look, own),
-    ];
-    for (kind, branches) in rows {
-        let tree = tree_of(rt.alloc(), kind)?;
-        let around = Branches::build(rt.alloc(), &tree)?;
-        for (part, branch) in branches.iter().enumerate() {
-            assert_eq!(rt; around.of(part as u32), *branch);
-        }
+    for (kind, branches) in BRANCHES {
+        is_in(&rt, rt.alloc(), *kind, *branches)?;
     }
     Ok(())
 }

@@ -3,24 +3,33 @@ ghost use Rattle.std.specs.Prelude.{◌≡◌, ◌<◌, false, All, length, IsTr
 ghost use Rattle.pat_tree.specs.Rules.{class_in};
 ghost use Rattle.match_items.specs.Views.{asks_ucp};
 
+use crate::letters;
+use crate::sets::{class, table_of};
 use char_sets::ClassTable;
 use match_items::{Taken, View, anchor, break_step, ref_step, run_len, step};
-use pat_tree::{
-    AnchorKind, Bsr, ClassSpec, Draft, Item, ListOf, MatchOptions, Newline, Node, Options, Part,
-    Steps,
-};
+use pat_tree::{AnchorKind, Bsr, Item, MatchOptions, Newline, Options, Part, Steps};
 use std::alloc::Global;
 use std::marker::Brand;
 use std::process::Abort;
 use std::sync::ledger::{Blank, Ledger};
 use std::test::Fail;
 
-// What `\R` answers at each place of a subject: the length of its newline, `.` for none, `E` at the end.
-fn breaks(rt: &impl Abort, subject: &[u8], bsr: Bsr, answers: &[u8]) {
-    let options = Options {
+fn options_of(newline: Newline, bsr: Bsr) -> Options
+    ensures { result.utf ≡ false }
+{
+    Options {
+        newline,
         bsr,
         ..Options::PLAIN
-    };
+    }
+}
+
+/// A subject, what `\R` takes, and its answer at each place.
+type Breaks = (&'static [u8], Bsr, &'static [u8]);
+
+fn breaks(rt: &impl Abort, row: &Breaks) {
+    let (subject, bsr, answers) = *row;
+    let options = options_of(Newline::Lf, bsr);
     let view = View {
         subject,
         start: 0,
@@ -29,41 +38,39 @@ fn breaks(rt: &impl Abort, subject: &[u8], bsr: Bsr, answers: &[u8]) {
     };
     assert!(rt; subject.len() < 100 && answers.len() == subject.len() + 1);
     for at in 0..answers.len() {
-        let answer = match break_step(&view, at) {
-            Taken::Took(to) if to == at + 1 => b'1',
-            Taken::Took(to) if to == at + 2 => b'2',
-            Taken::Took(_) => b'?',
-            Taken::No => b'.',
-            Taken::AtEnd => b'E',
-        };
-        assert_eq!(rt; answer, answers[at], "at {at}");
+        assert!(rt; letters::taken(break_step(&view, at), at) == answers[at]);
     }
 }
 
+const BREAKS: &[Breaks] = &[
+    (b"\r\n\x0b\x0c\n\x85x\r", Bsr::Unicode, b"211111.1E"),
+    (b"\r\n\x0b\x0c\n\x85x\r", Bsr::AnyCrLf, b"21..1..1E"),
+    (b"\r\r\n", Bsr::AnyCrLf, b"121E"),
+];
+
 #[test]
 fn newline_sequences_are_taken_whole(rt: HostRuntime) {
-    let all = b"\r\n\x0b\x0c\n\x85x\r";
-    breaks(&rt, all, Bsr::Unicode, b"211111.1E");
-    breaks(&rt, all, Bsr::AnyCrLf, b"21..1..1E");
-    breaks(&rt, b"\r\r\n", Bsr::AnyCrLf, b"121E");
+    for row in BREAKS {
+        breaks(&rt, row);
+    }
 }
 
-// What an assertion answers at each place: `+` where it holds, `*` where it also reaches the end, `E` where it reaches the end
-// alone, `.` for neither. The start given is 2.
-fn anchors(
-    rt: &impl Abort,
-    subject: &[u8],
-    newline: Newline,
-    closed: bool,
-    kind: AnchorKind,
-    answers: &[u8],
-)
-    requires { asks_ucp kind ≡ false }
+/// A subject, what ends its lines, whether neither of its ends is one of a line, an assertion, and its answer at each place.
+/// The start given is 2.
+type Anchors = (&'static [u8], Newline, bool, AnchorKind, &'static [u8]);
+
+fn is_ascii(kind: AnchorKind) -> bool
+    ensures { IsTrue result → asks_ucp kind ≡ false }
 {
-    let options = Options {
-        newline,
-        ..Options::PLAIN
-    };
+    !matches!(
+        kind,
+        AnchorKind::Word { ucp: true } | AnchorKind::NotWord { ucp: true }
+    )
+}
+
+fn anchors(rt: &impl Abort, row: &Anchors) {
+    let (subject, newline, closed, kind, answers) = *row;
+    let options = options_of(newline, Bsr::Unicode);
     let matching = MatchOptions {
         notbol: closed,
         noteol: closed,
@@ -75,16 +82,15 @@ fn anchors(
         options: &options,
         matching: &matching,
     };
-    assert!(rt; subject.len() < 100 && answers.len() == subject.len() + 1);
+    assert!(rt; subject.len() < 100 && answers.len() == subject.len() + 1 && is_ascii(kind));
     for at in 0..answers.len() {
-        let held = anchor(&view, kind, at);
-        let answer = match (held.holds, held.at_end) {
-            (true, true) => b'*',
-            (true, false) => b'+',
-            (false, true) => b'E',
-            (false, false) => b'.',
-        };
-        assert_eq!(rt; answer, answers[at], "at {at}");
+        assert!(rt; letters::held(anchor(&view, kind, at)) == answers[at]);
+    }
+}
+
+fn all_anchors(rt: &impl Abort, rows: &[Anchors]) {
+    for row in rows {
+        anchors(rt, row);
     }
 }
 
@@ -107,113 +113,145 @@ const LINE_END: AnchorKind = AnchorKind::Dollar {
     end_only: true,
 };
 
+const LINES: &[Anchors] = &[
+    (b"a\nb\n", Newline::Lf, false, CARET, b"+...."),
+    (b"a\nb\n", Newline::Lf, false, LINE_START, b"+.+.."),
+    (b"a\nb\n", Newline::Lf, false, DOLLAR, b"...**"),
+    (b"a\nb\n", Newline::Lf, false, END_ONLY, b"....*"),
+    (b"a\nb\n", Newline::Lf, false, LINE_END, b".+.+*"),
+    (
+        b"a\nb\n",
+        Newline::Lf,
+        false,
+        AnchorKind::SubjectStart,
+        b"+....",
+    ),
+    (
+        b"a\nb\n",
+        Newline::Lf,
+        false,
+        AnchorKind::SubjectEnd,
+        b"....*",
+    ),
+    (
+        b"a\nb\n",
+        Newline::Lf,
+        false,
+        AnchorKind::EndOrNewline,
+        b"...**",
+    ),
+    (
+        b"a\nb\n",
+        Newline::Lf,
+        false,
+        AnchorKind::StartGiven,
+        b"..+..",
+    ),
+    (b"a\nb\n", Newline::Lf, true, CARET, b"....."),
+    (b"a\nb\n", Newline::Lf, true, LINE_START, b"..+.."),
+    (b"a\nb\n", Newline::Lf, true, DOLLAR, b"....."),
+    (b"a\nb\n", Newline::Lf, true, LINE_END, b".+.+."),
+    (
+        b"a\nb\n",
+        Newline::Lf,
+        true,
+        AnchorKind::EndOrNewline,
+        b"...**",
+    ),
+];
+
 #[test]
 fn assertions_hold_at_lines_and_ends(rt: HostRuntime) {
-    let lines = b"a\nb\n";
-    for (kind, answers) in [
-        (CARET, b"+...."),
-        (LINE_START, b"+.+.."),
-        (DOLLAR, b"...**"),
-        (END_ONLY, b"....*"),
-        (LINE_END, b".+.+*"),
-        (AnchorKind::SubjectStart, b"+...."),
-        (AnchorKind::SubjectEnd, b"....*"),
-        (AnchorKind::EndOrNewline, b"...**"),
-        (AnchorKind::StartGiven, b"..+.."),
-    ] {
-        assert!(rt; !matches!(kind, AnchorKind::Word { .. } | AnchorKind::NotWord { .. }));
-        anchors(&rt, lines, Newline::Lf, false, kind, answers);
-    }
-    for (kind, answers) in [
-        (CARET, b"....."),
-        (LINE_START, b"..+.."),
-        (DOLLAR, b"....."),
-        (LINE_END, b".+.+."),
-        (AnchorKind::EndOrNewline, b"...**"),
-    ] {
-        assert!(rt; !matches!(kind, AnchorKind::Word { .. } | AnchorKind::NotWord { .. }));
-        anchors(&rt, lines, Newline::Lf, true, kind, answers);
-    }
+    all_anchors(&rt, LINES);
 }
+
+const HALVES: &[Anchors] = &[
+    (b"a\r", Newline::CrLf, false, LINE_START, b"+.."),
+    (b"a\r\n", Newline::CrLf, false, LINE_START, b"+..."),
+    (b"a\r", Newline::CrLf, false, DOLLAR, b".E*"),
+    (b"a\r\n", Newline::CrLf, false, DOLLAR, b".*.*"),
+    (b"a\r", Newline::CrLf, false, LINE_END, b".E*"),
+    (b"a\r\n", Newline::CrLf, false, LINE_END, b".+.*"),
+    (
+        b"a\r",
+        Newline::CrLf,
+        false,
+        AnchorKind::EndOrNewline,
+        b".E*",
+    ),
+    (
+        b"a\r\n",
+        Newline::CrLf,
+        false,
+        AnchorKind::EndOrNewline,
+        b".*.*",
+    ),
+    (b"a\r", Newline::CrLf, false, AnchorKind::SubjectEnd, b"..*"),
+    (
+        b"a\r\n",
+        Newline::CrLf,
+        false,
+        AnchorKind::SubjectEnd,
+        b"...*",
+    ),
+    (b"a\r", Newline::AnyCrLf, false, DOLLAR, b".**"),
+    (b"a\r\nb", Newline::AnyCrLf, false, LINE_START, b"+.++."),
+];
 
 #[test]
 fn a_last_cr_may_be_half_a_newline(rt: HostRuntime) {
-    for (kind, half, whole) in [
-        (LINE_START, b"+..", b"+..."),
-        (DOLLAR, b".E*", b".*.*"),
-        (LINE_END, b".E*", b".+.*"),
-        (AnchorKind::EndOrNewline, b".E*", b".*.*"),
-        (AnchorKind::SubjectEnd, b"..*", b"...*"),
-    ] {
-        assert!(rt; !matches!(kind, AnchorKind::Word { .. } | AnchorKind::NotWord { .. }));
-        anchors(&rt, b"a\r", Newline::CrLf, false, kind, half);
-        anchors(&rt, b"a\r\n", Newline::CrLf, false, kind, whole);
-    }
-    anchors(&rt, b"a\r", Newline::AnyCrLf, false, DOLLAR, b".**");
-    anchors(
-        &rt,
-        b"a\r\nb",
-        Newline::AnyCrLf,
-        false,
-        LINE_START,
-        b"+.++.",
-    );
+    all_anchors(&rt, HALVES);
 }
+
+const WORD: AnchorKind = AnchorKind::Word { ucp: false };
+
+const INSIDE: AnchorKind = AnchorKind::NotWord { ucp: false };
+
+const WORDS: &[Anchors] = &[
+    (b"a_9 \xe9Z", Newline::Lf, false, WORD, b"+..+.+*"),
+    (b"a_9 \xe9Z", Newline::Lf, false, INSIDE, b".++.+.E"),
+    (b" ", Newline::Lf, false, WORD, b".E"),
+    (b"", Newline::Lf, false, INSIDE, b"*"),
+];
 
 #[test]
 fn words_have_edges(rt: HostRuntime) {
-    let word = AnchorKind::Word { ucp: false };
-    let inside = AnchorKind::NotWord { ucp: false };
-    anchors(&rt, b"a_9 \xe9Z", Newline::Lf, false, word, b"+..+.+*");
-    anchors(&rt, b"a_9 \xe9Z", Newline::Lf, false, inside, b".++.+.E");
-    anchors(&rt, b" ", Newline::Lf, false, word, b".E");
-    anchors(&rt, b"", Newline::Lf, false, inside, b"*");
+    all_anchors(&rt, WORDS);
 }
+
+/// A subject, the end of its part from 0 on that is to stand again, whether in any case, where, and the answer.
+type Again = (&'static [u8], usize, bool, usize, Taken);
+
+const AGAIN: &[Again] = &[
+    (b"abab", 2, false, 2, Taken::Took(4)),
+    (b"ababc", 2, false, 2, Taken::Took(4)),
+    (b"abac", 2, false, 2, Taken::No),
+    (b"abAB", 2, false, 2, Taken::No),
+    (b"abAB", 2, true, 2, Taken::Took(4)),
+    (b"[{", 1, true, 1, Taken::No),
+    (b"\xc9\xe9", 1, true, 1, Taken::No),
+    (b"aba", 2, false, 2, Taken::AtEnd),
+    (b"abc", 2, false, 2, Taken::No),
+    (b"ab", 2, false, 2, Taken::AtEnd),
+    (b"ab", 0, false, 2, Taken::Took(2)),
+];
 
 #[test]
 fn texts_stand_again(rt: HostRuntime) {
-    let again: [(&[u8], usize, bool, usize, Taken); 11] = [
-        (b"abab", 2, false, 2, Taken::Took(4)),
-        (b"ababc", 2, false, 2, Taken::Took(4)),
-        (b"abac", 2, false, 2, Taken::No),
-        (b"abAB", 2, false, 2, Taken::No),
-        (b"abAB", 2, true, 2, Taken::Took(4)),
-        (b"[{", 1, true, 1, Taken::No),
-        (b"\xc9\xe9", 1, true, 1, Taken::No),
-        (b"aba", 2, false, 2, Taken::AtEnd),
-        (b"abc", 2, false, 2, Taken::No),
-        (b"ab", 2, false, 2, Taken::AtEnd),
-        (b"ab", 0, false, 2, Taken::Took(2)),
-    ];
-    for (subject, to, caseless, at, answer) in again {
+    for (subject, to, caseless, at, answer) in AGAIN {
         let view = View {
             subject,
             start: 0,
             options: &Options::PLAIN,
             matching: &MatchOptions::PLAIN,
         };
-        assert!(rt; subject.len() < 100 && to <= subject.len() && at <= subject.len());
-        assert_eq!(rt; ref_step(&view, 0, to, caseless, at), answer);
+        assert!(rt; subject.len() < 100 && *to <= subject.len() && *at <= subject.len());
+        assert!(rt; ref_step(&view, 0, *to, *caseless, *at) == *answer);
     }
 }
 
-// The table of one class, the digits 0 to 9.
-fn digits(alloc: Global) -> Result<ClassTable, Fail> {
-    let parts = ListOf::from_vec(Vec::from_slice(alloc, &[Part::Range { from: 48, to: 57 }])?);
-    let mut draft = Draft::new(alloc, Options::PLAIN);
-    let id = draft.add_class(ClassSpec {
-        negated: false,
-        caseless: false,
-        parts,
-    })?;
-    let root = draft.add(Node::One(Item::Class(id)), 0)?;
-    let tree = draft.finish(root)?;
-    let table = ClassTable::build(alloc, &tree)?;
-    Ok(table)
-}
-
-// Whether an item's class is one of the table.
-fn fits(table: &ClassTable, item: Item) -> bool
+/// Whether an item's class is one of the table.
+pub(crate) fn fits(table: &ClassTable, item: Item) -> bool
     ensures { IsTrue result → All (λ n. n < length table.now) (class_in item) }
 {
     match item {
@@ -222,22 +260,20 @@ fn fits(table: &ClassTable, item: Item) -> bool
     }
 }
 
-// At each place of CR LF `aA17` CR: what the item takes, `+` for a character, `.` for none, `E` at the end; how long its run is, of two
-// characters at most; and `*` where that reaches the end.
-fn items<L: Ledger>(
-    rt: &impl Abort,
-    table: &ClassTable,
-    steps: &mut Steps<L>,
-    newline: Newline,
-    item: Item,
-    taken: &[u8; 8],
-    counts: &[u8; 8],
-    reach: &[u8; 8],
-) {
-    let options = Options {
-        newline,
-        ..Options::PLAIN
-    };
+/// What ends a line, and an item; and at each place what the item takes, how many characters its run has, of a few at most,
+/// and `*` where the run reaches the end.
+pub(crate) type ItemRow = (
+    Newline,
+    Item,
+    &'static [u8; 8],
+    &'static [u8; 8],
+    &'static [u8; 8],
+);
+
+// The places are those of CR LF `aA17` CR, and a run has two characters at most.
+fn items<L: Ledger>(rt: &impl Abort, table: &ClassTable, steps: &mut Steps<L>, row: &ItemRow) {
+    let (newline, item, taken, counts, reach) = *row;
+    let options = options_of(newline, Bsr::Unicode);
     let view = View {
         subject: b"\r\naA17\r",
         start: 0,
@@ -246,19 +282,43 @@ fn items<L: Ledger>(
     };
     assert!(rt; fits(table, item));
     for at in 0..8usize {
-        let answer = match step(&view, table, &item, at, steps) {
-            Taken::Took(to) if to == at + 1 => b'+',
-            Taken::Took(_) => b'?',
-            Taken::No => b'.',
-            Taken::AtEnd => b'E',
-        };
-        assert_eq!(rt; answer, taken[at], "at {at}");
+        let answer = letters::taken(step(&view, table, &item, at, steps), at);
         let run = run_len(&view, table, &item, at, 2, steps);
-        let shown = b"012?"[run.count.min(3) as usize];
-        assert_eq!(rt; shown, counts[at], "from {at}");
-        assert_eq!(rt; run.at_end, reach[at] == b'*', "from {at}");
+        let count = b"012?"[run.count.min(3) as usize];
+        assert!(rt; answer == taken[at] && count == counts[at]);
+        assert!(rt; run.at_end == (reach[at] == b'*'));
     }
 }
+
+const SMALL: Item = Item::Char {
+    c: 97,
+    caseless: false,
+};
+
+const ANY_CASE: Item = Item::Char {
+    c: 65,
+    caseless: true,
+};
+
+const DOT: Item = Item::NotNewline;
+
+const DIGIT: Item = Item::Class(0);
+
+const ITEMS: &[ItemRow] = &[
+    (
+        Newline::Lf,
+        Item::AnyAll,
+        b"1111111E",
+        b"22222210",
+        b"......**",
+    ),
+    (Newline::Lf, DOT, b"1.11111E", b"10222210", b"......**"),
+    (Newline::CrLf, DOT, b".111111E", b"02222210", b".....***"),
+    (Newline::AnyCrLf, DOT, b"..1111.E", b"00222100", b".......*"),
+    (Newline::Lf, SMALL, b"..1....E", b"00100000", b".......*"),
+    (Newline::Lf, ANY_CASE, b"..11...E", b"00210000", b".......*"),
+    (Newline::Lf, DIGIT, b"....11.E", b"00002100", b".......*"),
+];
 
 fn all_items<L: Ledger>(rt: &impl Abort, table: &ClassTable, blank: Blank)
     requires name { blank.name ≡ L.name }
@@ -266,43 +326,20 @@ fn all_items<L: Ledger>(rt: &impl Abort, table: &ClassTable, blank: Blank)
     requires some { 0 < blank.parts }
 {
     let mut steps: Steps<L> = Steps::new(blank);
-    let small = Item::Char {
-        c: 97,
-        caseless: false,
-    };
-    let any_case = Item::Char {
-        c: 65,
-        caseless: true,
-    };
-    let dot = Item::NotNewline;
-    for (newline, item, taken, counts, reach) in [
-        (
-            Newline::Lf,
-            Item::AnyAll,
-            b"+++++++E",
-            b"22222210",
-            b"......**",
-        ),
-        (Newline::Lf, dot, b"+.+++++E", b"10222210", b"......**"),
-        (Newline::CrLf, dot, b".++++++E", b"02222210", b".....***"),
-        (Newline::AnyCrLf, dot, b"..++++.E", b"00222100", b".......*"),
-        (Newline::Lf, small, b"..+....E", b"00100000", b".......*"),
-        (Newline::Lf, any_case, b"..++...E", b"00210000", b".......*"),
-        (
-            Newline::Lf,
-            Item::Class(0),
-            b"....++.E",
-            b"00002100",
-            b".......*",
-        ),
-    ] {
-        items(rt, table, &mut steps, newline, item, taken, counts, reach);
+    for row in ITEMS {
+        items(rt, table, &mut steps, row);
     }
 }
 
 #[test]
 fn items_take_characters_and_run(rt: HostRuntime) -> Result<(), Fail> {
-    let table = digits(rt.alloc())?;
+    let digits = class(
+        rt.alloc(),
+        false,
+        false,
+        &[Part::Range { from: 48, to: 57 }],
+    )?;
+    let table = table_of(rt.alloc(), digits, false)?;
     all_items::<Brand>(&rt, &table, Blank::new(1));
     Ok(())
 }

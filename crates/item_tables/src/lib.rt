@@ -6,6 +6,8 @@ mod flows;
 #[cfg(test)]
 mod items;
 #[cfg(test)]
+mod letters;
+#[cfg(test)]
 mod sets;
 #[cfg(test)]
 mod texts;

@@ -12,7 +12,7 @@ use std::test::Fail;
 type Ranges = &'static [(u32, u32)];
 
 // The sets of the C locale's <ctype.h>, printed once from the C library, and those of the manual page pcre2pattern.
-const SETS: [(SetName, Ranges); 16] = [
+const SETS: &[(SetName, Ranges)] = &[
     (SetName::Digit, &[(0x30, 0x39)]),
     (SetName::Space, &[(0x09, 0x0D), (0x20, 0x20)]),
     (
@@ -50,7 +50,12 @@ const SETS: [(SetName, Ranges); 16] = [
     (SetName::V, &[(0x0A, 0x0D), (0x85, 0x85), (0x2028, 0x2029)]),
 ];
 
-fn class(alloc: Global, negated: bool, caseless: bool, parts: &[Part]) -> Result<ClassSpec, Fail>
+pub(crate) fn class(
+    alloc: Global,
+    negated: bool,
+    caseless: bool,
+    parts: &[Part],
+) -> Result<ClassSpec, Fail>
     ensures { IfOk result (λ spec. spec.parts ≡ parts.now) }
 {
     let parts = ListOf::from_vec(Vec::from_slice(alloc, parts)?);
@@ -80,7 +85,7 @@ fn tree_of(alloc: Global, class: ClassSpec, utf: bool) -> Result<Tree, Fail>
     Ok(tree)
 }
 
-fn table_of(alloc: Global, class: ClassSpec, utf: bool) -> Result<ClassTable, Fail>
+pub(crate) fn table_of(alloc: Global, class: ClassSpec, utf: bool) -> Result<ClassTable, Fail>
     ensures { IfOk result (λ table. 0 < length table) }
 {
     let tree = tree_of(alloc, class, utf)?;
@@ -88,8 +93,22 @@ fn table_of(alloc: Global, class: ClassSpec, utf: bool) -> Result<ClassTable, Fa
     Ok(table)
 }
 
-// Whether the first class of a table takes each of these characters, by a counter of its own: where they are listed, or
-// under `others` where they aren't.
+// Each character up to 3001, past the last of a set, and some beyond, by a number below `COUNT`.
+const COUNT: u32 = 0x3002 + 5;
+
+fn character(n: u32) -> u32 {
+    match n {
+        0x3002 => 0xD800,
+        0x3003 => 0x10_FFFF,
+        0x3004 => 0x11_0000,
+        0x3005 => u32::MAX - 1,
+        0x3006 => u32::MAX,
+        c => c,
+    }
+}
+
+// Whether the first class of a table takes each character, by a counter of its own: where they are listed, or under `others`
+// where they aren't.
 fn asks<L: Ledger>(rt: &impl Abort, table: &ClassTable, ranges: Ranges, others: bool, blank: Blank)
     requires name { blank.name ≡ L.name }
     requires parts { blank.parts ≡ L.parts }
@@ -97,28 +116,31 @@ fn asks<L: Ledger>(rt: &impl Abort, table: &ClassTable, ranges: Ranges, others: 
     requires some { 0 < length table.now }
 {
     let mut steps = Steps::<L>::new(blank);
-    for c in 0..0x3002u32 {
+    for n in 0..COUNT {
+        let c = character(n);
         let took = table.has(0, c, &mut steps);
-        assert_eq!(rt; took, is_listed(ranges, c) != others, "at {c}");
-    }
-    for c in [0xD800, 0x10_FFFF, 0x11_0000, u32::MAX - 1, u32::MAX] {
-        let took = table.has(0, c, &mut steps);
-        assert_eq!(rt; took, is_listed(ranges, c) != others, "at {c}");
+        assert!(rt; took == (is_listed(ranges, c) != others), "at {c}");
     }
 }
 
-// The class takes the characters of these ranges, or under `others` all but these. Asks of each character up to 3001, past
-// the last of a set, and of some beyond.
-fn case(
-    rt: &impl Abort,
-    alloc: Global,
-    class: ClassSpec,
-    ranges: Ranges,
-    others: bool,
-) -> Result<(), Fail> {
+/// The parts of a class, whether in any case, and the characters that it takes.
+type ClassRow = (&'static [Part], bool, Ranges);
+
+// The class takes the characters of these ranges, or negated all but these.
+fn case(rt: &impl Abort, alloc: Global, row: &ClassRow, negated: bool) -> Result<(), Fail> {
+    let (parts, caseless, ranges) = *row;
+    let class = class(alloc, negated, caseless, parts)?;
     let table = table_of(alloc, class, false)?;
-    assert_eq!(rt; table.count(), 1);
-    asks::<Brand>(rt, &table, ranges, others, Blank::new(1));
+    assert!(rt; table.count() == 1);
+    asks::<Brand>(rt, &table, ranges, negated, Blank::new(1));
+    Ok(())
+}
+
+fn cases(rt: &impl Abort, alloc: Global, rows: &[ClassRow]) -> Result<(), Fail> {
+    for row in rows {
+        case(rt, alloc, row, false)?;
+        case(rt, alloc, row, true)?;
+    }
     Ok(())
 }
 
@@ -133,91 +155,95 @@ fn takes<L: Ledger>(table: &ClassTable, c: u32, blank: Blank) -> bool
     table.has(0, c, &mut steps)
 }
 
+// The class of this set, or of its complement, takes the characters of these ranges, or negated all but these.
+fn set_case(
+    rt: &impl Abort,
+    alloc: Global,
+    row: &(SetName, Ranges),
+    negated: bool,
+    not: bool,
+) -> Result<(), Fail> {
+    let (set, ranges) = *row;
+    let ucp = false;
+    let class = class(alloc, negated, false, &[Part::Set { set, not, ucp }])?;
+    let table = table_of(alloc, class, false)?;
+    asks::<Brand>(rt, &table, ranges, negated != not, Blank::new(1));
+    Ok(())
+}
+
 #[test]
 fn sets_have_the_characters_of_the_c_locale(rt: HostRuntime) -> Result<(), Fail> {
-    let alloc = rt.alloc();
-    for (set, ranges) in SETS {
-        for (negated, not) in [(false, false), (false, true), (true, false), (true, true)] {
-            let part = Part::Set {
-                set,
-                not,
-                ucp: false,
-            };
-            let set = class(alloc, negated, false, &[part])?;
-            case(&rt, alloc, set, ranges, negated != not)?;
-        }
+    for row in SETS {
+        set_case(&rt, rt.alloc(), row, false, false)?;
+        set_case(&rt, rt.alloc(), row, false, true)?;
+        set_case(&rt, rt.alloc(), row, true, false)?;
+        set_case(&rt, rt.alloc(), row, true, true)?;
     }
     Ok(())
 }
 
+const W_TO_C: &[Part] = &[Part::Range { from: 87, to: 99 }];
+
+const LOWER_OR_5: &[Part] = &[
+    Part::Set {
+        set: SetName::Lower,
+        not: false,
+        ucp: false,
+    },
+    Part::Range { from: 53, to: 53 },
+];
+
 // The ranges are those that pcre2test finds for [W-c] and [[:lower:]5].
+const FOLDED: &[ClassRow] = &[
+    (W_TO_C, false, &[(87, 99)]),
+    (W_TO_C, true, &[(65, 67), (87, 99), (119, 122)]),
+    (LOWER_OR_5, true, &[(53, 53), (65, 90), (97, 122)]),
+];
+
 #[test]
 fn ranges_fold_before_they_are_negated(rt: HostRuntime) -> Result<(), Fail> {
-    let alloc = rt.alloc();
-    let some = [Part::Range { from: 87, to: 99 }];
-    let lower_or_5 = [
-        Part::Set {
-            set: SetName::Lower,
-            not: false,
-            ucp: false,
-        },
-        Part::Range { from: 53, to: 53 },
-    ];
-    let folded: Ranges = &[(65, 67), (87, 99), (119, 122)];
-    let letters: Ranges = &[(53, 53), (65, 90), (97, 122)];
-    for negated in [false, true] {
-        let exact = class(alloc, negated, false, &some)?;
-        case(&rt, alloc, exact, &[(87, 99)], negated)?;
-        let caseless = class(alloc, negated, true, &some)?;
-        case(&rt, alloc, caseless, folded, negated)?;
-        let sets = class(alloc, negated, true, &lower_or_5)?;
-        case(&rt, alloc, sets, letters, negated)?;
-    }
-    Ok(())
+    cases(&rt, rt.alloc(), FOLDED)
 }
+
+const ENDS: &[Part] = &[
+    Part::Range { from: 250, to: 260 },
+    Part::Range { from: 258, to: 300 },
+    Part::Range {
+        from: 0x11_0000,
+        to: u32::MAX,
+    },
+    Part::Range { from: 9, to: 1 },
+];
+
+const GREATEST: &[ClassRow] = &[
+    (ENDS, true, &[(250, 300), (0x11_0000, u32::MAX)]),
+    (&[], false, &[]),
+];
 
 #[test]
 fn ranges_go_up_to_the_greatest_number(rt: HostRuntime) -> Result<(), Fail> {
-    let alloc = rt.alloc();
-    let ends = [
-        Part::Range { from: 250, to: 260 },
-        Part::Range { from: 258, to: 300 },
-        Part::Range {
-            from: 0x11_0000,
-            to: u32::MAX,
-        },
-        Part::Range { from: 9, to: 1 },
-    ];
-    let listed: Ranges = &[(250, 300), (0x11_0000, u32::MAX)];
-    for negated in [false, true] {
-        let some = class(alloc, negated, true, &ends)?;
-        case(&rt, alloc, some, listed, negated)?;
-        let none = class(alloc, negated, false, &[])?;
-        case(&rt, alloc, none, &[], negated)?;
-    }
-    Ok(())
+    cases(&rt, rt.alloc(), GREATEST)
 }
+
+const TWO_RANGES: &[Part] = &[
+    Part::Range { from: 48, to: 57 },
+    Part::Range { from: 300, to: 310 },
+];
 
 #[test]
 fn a_tree_gives_a_table_of_its_classes(rt: HostRuntime) -> Result<(), Fail> {
-    let alloc = rt.alloc();
-    let listed: Ranges = &[(48, 57), (300, 310)];
-    for others in [false, true] {
-        let parts = [
-            Part::Range { from: 48, to: 57 },
-            Part::Range { from: 300, to: 310 },
-        ];
-        let spec = class(alloc, others, false, &parts)?;
-        case(&rt, alloc, spec, listed, others)?;
-    }
-    Ok(())
+    cases(
+        &rt,
+        rt.alloc(),
+        &[(TWO_RANGES, false, &[(48, 57), (300, 310)])],
+    )
 }
 
 // Characters at the edges of a set, and whether it has them without UCP and with it.
 type Edges = &'static [(u32, bool, bool)];
 
 // The rows of the manual page pcre2pattern, with the categories that Python's unicodedata knows.
-const UCP_EDGES: [(SetName, Edges); 16] = [
+const UCP_EDGES: &[(SetName, Edges)] = &[
     (
         SetName::Digit,
         &[
@@ -338,25 +364,38 @@ fn asks_edges<L: Ledger>(
     for (c, ascii, unicode) in edges {
         let listed = if ucp { *unicode } else { *ascii };
         let took = table.has(0, *c, &mut steps);
-        assert_eq!(rt; took, listed != not, "at {c}");
+        assert!(rt; took == (listed != not), "at {c}");
     }
+}
+
+// The class of this set, or of its complement, takes the characters at its edges that are in it, or the others.
+fn edges_case(
+    rt: &impl Abort,
+    alloc: Global,
+    row: &(SetName, Edges),
+    ucp: bool,
+    not: bool,
+) -> Result<(), Fail> {
+    let (set, edges) = *row;
+    let spec = class(alloc, false, false, &[Part::Set { set, not, ucp }])?;
+    let table = table_of(alloc, spec, true)?;
+    asks_edges::<Brand>(rt, &table, edges, ucp, not, Blank::new(1));
+    Ok(())
 }
 
 #[test]
 fn sets_differ_with_ucp(rt: HostRuntime) -> Result<(), Fail> {
-    let alloc = rt.alloc();
-    for (set, edges) in UCP_EDGES {
-        for (ucp, not) in [(false, false), (false, true), (true, false), (true, true)] {
-            let spec = class(alloc, false, false, &[Part::Set { set, not, ucp }])?;
-            let table = table_of(alloc, spec, true)?;
-            asks_edges::<Brand>(&rt, &table, edges, ucp, not, Blank::new(1));
-        }
+    for row in UCP_EDGES {
+        edges_case(&rt, rt.alloc(), row, false, false)?;
+        edges_case(&rt, rt.alloc(), row, false, true)?;
+        edges_case(&rt, rt.alloc(), row, true, false)?;
+        edges_case(&rt, rt.alloc(), row, true, true)?;
     }
     Ok(())
 }
 
 // Characters that fold alike, by CaseFolding.txt.
-const FOLDS: [[u32; 3]; 5] = [
+const FOLDS: &[[u32; 3]] = &[
     [0x4B, 0x6B, 0x212A],
     [0x53, 0x73, 0x17F],
     [0x3A3, 0x3C3, 0x3C2],
@@ -364,60 +403,69 @@ const FOLDS: [[u32; 3]; 5] = [
     [0x1C4, 0x1C5, 0x1C6],
 ];
 
+// In UTF and in any case one of three takes each other. In its own case it takes itself alone, and without UTF what is ASCII
+// beside.
+fn takes_folded(alloc: Global, one: u32, other: u32) -> Result<bool, Fail> {
+    let part = Part::Range { from: one, to: one };
+    let same = one == other;
+    let is_ascii = one < 128 && other < 128;
+    Ok(
+        takes_part(alloc, part, true, true, other)?
+            && takes_part(alloc, part, false, true, other)? == same
+            && takes_part(alloc, part, true, false, other)? == (same || is_ascii),
+    )
+}
+
 #[test]
 fn each_of_three_folds_takes_the_others(rt: HostRuntime) -> Result<(), Fail> {
-    let alloc = rt.alloc();
     for letters in FOLDS {
-        for one in letters {
-            let part = Part::Range { from: one, to: one };
-            for other in letters {
-                let took = takes_part(alloc, part, true, true, other)?;
-                assert!(rt; took, "{one} takes {other}");
-                let took = takes_part(alloc, part, false, true, other)?;
-                assert_eq!(rt; took, one == other, "{one} takes {other}");
-                let took = takes_part(alloc, part, true, false, other)?;
-                let is_ascii = one < 128 && other < 128;
-                assert_eq!(rt; took, one == other || is_ascii, "{one} takes {other}");
-            }
+        for n in 0..9usize {
+            let (one, other) = (letters[n / 3], letters[n % 3]);
+            assert!(rt;
+                takes_folded(rt.alloc(), one, other)?,
+                "{one} takes {other}"
+            );
         }
     }
     Ok(())
 }
 
-// \p{Lu}, [[:upper:]] and their complements, by perl's \p. 13 is the number of Lu.
+const LU: SetName = SetName::Property(13);
+
+// A set, a character, and whether the set has it in its own case and in any case. They are \p{Lu} and [[:upper:]], by perl's
+// \p. 13 is the number of Lu.
+const CASES: &[(SetName, u32, bool, bool)] = &[
+    (LU, 0x41, true, true),
+    (LU, 0x61, false, false),
+    (LU, 0x391, true, true),
+    (LU, 0x3B1, false, false),
+    (SetName::Upper, 0x391, true, true),
+    (SetName::Upper, 0x3B1, false, true),
+    (SetName::Upper, 0x660, false, false),
+    (LU, 0xD800, false, false),
+    (SetName::Upper, u32::MAX, false, false),
+];
+
+// Whether a set by its properties takes `c` or not as is told, and its complement the other way round.
+fn takes_set(
+    alloc: Global,
+    set: SetName,
+    c: u32,
+    caseless: bool,
+    takes: bool,
+) -> Result<bool, Fail> {
+    let (not, ucp) = (false, true);
+    let itself = takes_part(alloc, Part::Set { set, not, ucp }, caseless, true, c)?;
+    let not = true;
+    let complement = takes_part(alloc, Part::Set { set, not, ucp }, caseless, true, c)?;
+    Ok(itself == takes && complement != takes)
+}
+
 #[test]
 fn properties_stay_in_any_case(rt: HostRuntime) -> Result<(), Fail> {
-    let alloc = rt.alloc();
-    let property = SetName::Property(13);
-    let cases = [
-        (property, 0x41, true, true),
-        (property, 0x61, false, false),
-        (property, 0x391, true, true),
-        (property, 0x3B1, false, false),
-        (SetName::Upper, 0x391, true, true),
-        (SetName::Upper, 0x3B1, false, true),
-        (SetName::Upper, 0x660, false, false),
-        (property, 0xD800, false, false),
-        (SetName::Upper, u32::MAX, false, false),
-    ];
-    for (set, c, exact, any_case) in cases {
-        for not in [false, true] {
-            let part = Part::Set {
-                set,
-                not,
-                ucp: true,
-            };
-            assert_eq!(rt;
-                takes_part(alloc, part, false, true, c)?,
-                exact != not,
-                "at {c}"
-            );
-            assert_eq!(rt;
-                takes_part(alloc, part, true, true, c)?,
-                any_case != not,
-                "at {c}"
-            );
-        }
+    for (set, c, exact, any_case) in CASES {
+        assert!(rt; takes_set(rt.alloc(), *set, *c, false, *exact)?, "at {c}");
+        assert!(rt; takes_set(rt.alloc(), *set, *c, true, *any_case)?, "at {c}");
     }
     Ok(())
 }

@@ -1,16 +1,14 @@
 //! Items, `\R`, references and assertions on UTF-8.
-ghost use Rattle.std.specs.Prelude.{◌≡◌, ◌<◌, All, length, IsTrue, IsUtf8};
-ghost use Rattle.pat_tree.specs.Rules.{class_in};
+ghost use Rattle.std.specs.Prelude.{◌≡◌, ◌<◌, IsUtf8};
 
+use crate::items::{ItemRow, fits};
+use crate::letters;
+use crate::sets::{class, table_of};
 use char_sets::ClassTable;
 use match_items::{
     ItemRun, Taken, View, run_len, step, text_anchor, text_back, text_break_step, text_ref_step,
 };
-use pat_tree::{
-    AnchorKind, Bsr, ClassSpec, Draft, Item, ListOf, MatchOptions, Newline, Node, Options, Part,
-    Steps,
-};
-use std::alloc::Global;
+use pat_tree::{AnchorKind, Bsr, Item, MatchOptions, Newline, Options, Part, Steps};
 use std::marker::Brand;
 use std::process::Abort;
 use std::sync::ledger::{Blank, Ledger};
@@ -35,70 +33,34 @@ fn view_of<'a>(text: &'a str, options: &'a Options) -> View<'a>
     }
 }
 
-// The table of one class, in UTF and in any case: all but `k`.
-fn all_but_k(alloc: Global) -> Result<ClassTable, Fail> {
-    let part = Part::Range { from: 107, to: 107 };
-    let mut draft = Draft::new(
-        alloc,
-        Options {
-            utf: true,
-            ..Options::PLAIN
-        },
-    );
-    let id = draft.add_class(ClassSpec {
-        negated: true,
-        caseless: true,
-        parts: ListOf::from_vec(Vec::from_slice(alloc, &[part])?),
-    })?;
-    let root = draft.add(Node::One(Item::Class(id)), 0)?;
-    let tree = draft.finish(root)?;
-    let table = ClassTable::build(alloc, &tree)?;
-    Ok(table)
-}
+const UTF: Options = Options {
+    utf: true,
+    ..Options::PLAIN
+};
 
-// Whether an item's class is one of the table.
-fn fits(table: &ClassTable, item: Item) -> bool
-    ensures { IsTrue result → All (λ n. n < length table.now) (class_in item) }
-{
-    match item {
-        Item::Class(class) => class < table.count(),
-        _ => true,
+fn options_of(newline: Newline, bsr: Bsr) -> Options {
+    Options {
+        newline,
+        bsr,
+        ..UTF
     }
 }
 
-// At each place of `TEXT`: how many bytes the item takes, `.` for none, `E` at the end; how many
-// characters its run has, of three at most; and `*` where the run reaches the end.
-fn items<L: Ledger>(
-    rt: &impl Abort,
-    table: &ClassTable,
-    steps: &mut Steps<L>,
-    newline: Newline,
-    item: Item,
-    taken: &[u8; 8],
-    counts: &[u8; 8],
-    reach: &[u8; 8],
-) {
-    let options = Options {
-        utf: true,
-        newline,
-        ..Options::PLAIN
-    };
+// The places are those of `TEXT`, and a run has three characters at most.
+fn items<L: Ledger>(rt: &impl Abort, table: &ClassTable, steps: &mut Steps<L>, row: &ItemRow) {
+    let (newline, item, taken, counts, reach) = *row;
+    let options = options_of(newline, Bsr::Unicode);
     let view = view_of(TEXT, &options);
     assert!(rt; fits(table, item));
     for i in 0..8usize {
         let at = PLACES[i];
         assert!(rt; TEXT.is_char_boundary(at) && TEXT.len() < 100);
-        let answer = match step(&view, table, &item, at, steps) {
-            Taken::Took(to) if at < to && to - at < 5 => b"01234"[to - at],
-            Taken::Took(_) => b'?',
-            Taken::No => b'.',
-            Taken::AtEnd => b'E',
-        };
-        assert_eq!(rt; answer, taken[i], "at {at}");
+        let answer = letters::taken(step(&view, table, &item, at, steps), at);
         let run = run_len(&view, table, &item, at, 3, steps);
-        assert_eq!(rt; b"0123?"[run.count.min(4) as usize], counts[i], "from {at}");
-        assert_eq!(rt; PLACES.get(i + run.count as usize).copied(), Some(run.to));
-        assert_eq!(rt; run.at_end, reach[i] == b'*', "from {at}");
+        let count = b"0123?"[run.count.min(4) as usize];
+        assert!(rt; answer == taken[i] && count == counts[i]);
+        assert!(rt; run.at_end == (reach[i] == b'*'));
+        assert!(rt; PLACES.get(i + run.count as usize).copied() == Some(run.to));
     }
 }
 
@@ -150,11 +112,7 @@ fn dots<L: Ledger>(
     text: &str,
     at_end: bool,
 ) {
-    let options = Options {
-        utf: true,
-        newline: Newline::CrLf,
-        ..Options::PLAIN
-    };
+    let options = options_of(Newline::CrLf, Bsr::Unicode);
     assert!(rt; text.is_char_boundary(0) && text.len() < 100);
     let view = view_of(text, &options);
     let run = ItemRun {
@@ -162,8 +120,21 @@ fn dots<L: Ledger>(
         to: 3,
         at_end,
     };
-    assert_eq!(rt; run_len(&view, table, &DOT, 0, 2, steps), run);
+    assert!(rt; run_len(&view, table, &DOT, 0, 2, steps) == run);
 }
+
+const ITEMS: &[ItemRow] = &[
+    (Newline::Any, ANY, b"1234331E", b"33333210", b".....***"),
+    (Newline::Any, DOT, b"12343.1E", b"33321010", b"......**"),
+    (Newline::Lf, DOT, b"1234331E", b"33333210", b".....***"),
+    (Newline::Lf, ACUTE, b".2.....E", b"01000000", b".......*"),
+    (Newline::Lf, CAPITAL, b".2.....E", b"01000000", b".......*"),
+    (Newline::Lf, K, b"......1E", b"00000010", b"......**"),
+    (Newline::Lf, ANY_K, b"....3.1E", b"00001010", b"......**"),
+    (Newline::Lf, KELVIN, b"....3..E", b"00001000", b".......*"),
+    (Newline::Lf, FOLDED, b"....3.1E", b"00001010", b"......**"),
+    (Newline::Lf, CLASS, b"1234.3.E", b"33210100", b".......*"),
+];
 
 fn all_items<L: Ledger>(rt: &impl Abort, table: &ClassTable, blank: Blank)
     requires name { blank.name ≡ L.name }
@@ -171,19 +142,8 @@ fn all_items<L: Ledger>(rt: &impl Abort, table: &ClassTable, blank: Blank)
     requires some { 0 < blank.parts }
 {
     let mut steps: Steps<L> = Steps::new(blank);
-    for (newline, item, taken, counts, reach) in [
-        (Newline::Any, ANY, b"1234331E", b"33333210", b".....***"),
-        (Newline::Any, DOT, b"12343.1E", b"33321010", b"......**"),
-        (Newline::Lf, DOT, b"1234331E", b"33333210", b".....***"),
-        (Newline::Lf, ACUTE, b".2.....E", b"01000000", b".......*"),
-        (Newline::Lf, CAPITAL, b".2.....E", b"01000000", b".......*"),
-        (Newline::Lf, K, b"......1E", b"00000010", b"......**"),
-        (Newline::Lf, ANY_K, b"....3.1E", b"00001010", b"......**"),
-        (Newline::Lf, KELVIN, b"....3..E", b"00001000", b".......*"),
-        (Newline::Lf, FOLDED, b"....3.1E", b"00001010", b"......**"),
-        (Newline::Lf, CLASS, b"1234.3.E", b"33210100", b".......*"),
-    ] {
-        items(rt, table, &mut steps, newline, item, taken, counts, reach);
+    for row in ITEMS {
+        items(rt, table, &mut steps, row);
     }
     dots(rt, table, &mut steps, "\u{E9}\r", true);
     dots(rt, table, &mut steps, "\r\u{E9}", false);
@@ -191,7 +151,13 @@ fn all_items<L: Ledger>(rt: &impl Abort, table: &ClassTable, blank: Blank)
 
 #[test]
 fn items_take_whole_characters(rt: HostRuntime) -> Result<(), Fail> {
-    let table = all_but_k(rt.alloc())?;
+    let all_but_k = class(
+        rt.alloc(),
+        true,
+        true,
+        &[Part::Range { from: 107, to: 107 }],
+    )?;
+    let table = table_of(rt.alloc(), all_but_k, true)?;
     all_items::<Brand>(&rt, &table, Blank::new(1));
     Ok(())
 }
@@ -199,35 +165,28 @@ fn items_take_whole_characters(rt: HostRuntime) -> Result<(), Fail> {
 // The places of an e acute, U+0085, CR, LF, U+2028, U+2029, and the end.
 const BREAKS: [usize; 7] = [0, 2, 4, 5, 6, 9, 12];
 
+fn breaks(rt: &impl Abort, bsr: Bsr, answers: &[u8; 7]) {
+    let text = "\u{E9}\u{85}\r\n\u{2028}\u{2029}";
+    let options = options_of(Newline::Lf, bsr);
+    let view = view_of(text, &options);
+    for i in 0..7usize {
+        let at = BREAKS[i];
+        assert!(rt; text.is_char_boundary(at) && text.len() < 100);
+        assert!(rt; letters::taken(text_break_step(&view, at), at) == answers[i]);
+    }
+}
+
 #[test]
 fn newline_sequences_of_unicode_are_taken_whole(rt: HostRuntime) {
-    let text = "\u{E9}\u{85}\r\n\u{2028}\u{2029}";
-    for (bsr, answers) in [(Bsr::Unicode, b".22133E"), (Bsr::AnyCrLf, b"..21..E")] {
-        let options = Options {
-            utf: true,
-            bsr,
-            ..Options::PLAIN
-        };
-        let view = view_of(text, &options);
-        for i in 0..7usize {
-            let at = BREAKS[i];
-            assert!(rt; text.is_char_boundary(at) && text.len() < 100);
-            let answer = match text_break_step(&view, at) {
-                Taken::Took(to) if at < to && to - at < 4 => b"0123"[to - at],
-                Taken::Took(_) => b'?',
-                Taken::No => b'.',
-                Taken::AtEnd => b'E',
-            };
-            assert_eq!(rt; answer, answers[i], "at {at}");
-        }
-    }
+    breaks(&rt, Bsr::Unicode, b".22133E");
+    breaks(&rt, Bsr::AnyCrLf, b"..21..E");
 }
 
 // A text, the end of its part from 0 on that is to stand again, whether in any case, where, and the
 // answer.
 type Again = (&'static str, usize, bool, usize, Taken);
 
-const AGAIN: [Again; 14] = [
+const AGAIN: &[Again] = &[
     ("k\u{212A}", 1, true, 1, Taken::Took(4)),
     ("k\u{212A}", 1, false, 1, Taken::No),
     ("\u{212A}K", 3, true, 3, Taken::Took(4)),
@@ -246,46 +205,32 @@ const AGAIN: [Again; 14] = [
 
 #[test]
 fn texts_stand_again_by_characters(rt: HostRuntime) {
-    let options = Options {
-        utf: true,
-        ..Options::PLAIN
-    };
     for (text, to, caseless, at, answer) in AGAIN {
-        let view = view_of(text, &options);
+        let view = view_of(text, &UTF);
         assert!(rt; text.len() < 100 && text.is_char_boundary(0));
-        assert!(rt; text.is_char_boundary(to) && text.is_char_boundary(at));
-        assert_eq!(rt; text_ref_step(&view, 0, to, caseless, at), answer, "{text}");
+        assert!(rt; text.is_char_boundary(*to) && text.is_char_boundary(*at));
+        assert!(rt; text_ref_step(&view, 0, *to, *caseless, *at) == *answer);
     }
 }
 
-// What an assertion answers at some places of a text: `+` where it holds, `*` where it also reaches
-// the end, `E` where it reaches the end alone, `.` for neither.
-fn anchors(
-    rt: &impl Abort,
-    text: &str,
-    newline: Newline,
-    kind: AnchorKind,
-    places: &[usize],
-    answers: &[u8],
-) {
-    let options = Options {
-        utf: true,
-        newline,
-        ..Options::PLAIN
-    };
+/// A text, what ends its lines, an assertion, some places, and its answer at each of them.
+type Anchors = (
+    &'static str,
+    Newline,
+    AnchorKind,
+    &'static [usize],
+    &'static [u8],
+);
+
+fn anchors(rt: &impl Abort, row: &Anchors) {
+    let (text, newline, kind, places, answers) = *row;
+    let options = options_of(newline, Bsr::Unicode);
     let view = view_of(text, &options);
     assert!(rt; text.len() < 100 && places.len() == answers.len());
     for i in 0..places.len() {
         let at = places[i];
         assert!(rt; text.is_char_boundary(at));
-        let held = text_anchor(&view, kind, at);
-        let answer = match (held.holds, held.at_end) {
-            (true, true) => b'*',
-            (true, false) => b'+',
-            (false, true) => b'E',
-            (false, false) => b'.',
-        };
-        assert_eq!(rt; answer, answers[i], "at {at}");
+        assert!(rt; letters::held(text_anchor(&view, kind, at)) == answers[i]);
     }
 }
 
@@ -302,47 +247,39 @@ const LINE_END: AnchorKind = AnchorKind::Dollar {
     end_only: false,
 };
 
+// `e`, an accent, an underscore, a space, e acute
+const WORDS: &str = "e\u{301}_ \u{E9}";
+
+const EDGES: &[usize] = &[0, 1, 3, 4, 5, 7];
+
+const LETTERS: &str = "\u{3B1}\u{3B2}";
+
+const LINES: &str = "\u{E9}\u{2028}x\u{85}";
+
+const ENDS: &[usize] = &[0, 2, 5, 6, 8];
+
+const LAST: AnchorKind = AnchorKind::EndOrNewline;
+
+const ANCHORS: &[Anchors] = &[
+    (WORDS, Newline::Lf, WORD, EDGES, b"++++.E"),
+    (WORDS, Newline::Lf, WORD_OF_UNICODE, EDGES, b"+++++*"),
+    (WORDS, Newline::Lf, INSIDE_OF_UNICODE, EDGES, b".....E"),
+    (LETTERS, Newline::Lf, WORD_OF_UNICODE, &[0, 2, 4], b"+.*"),
+    (LINES, Newline::Any, LINE_START, ENDS, b"+.+.."),
+    (LINES, Newline::Any, LINE_END, ENDS, b".+.+*"),
+    (LINES, Newline::AnyCrLf, LINE_END, ENDS, b"....*"),
+    (LINES, Newline::Any, LAST, ENDS, b"...**"),
+];
+
 #[test]
 fn words_and_lines_of_unicode_have_edges(rt: HostRuntime) {
-    // `e`, an accent, an underscore, a space, e acute
-    let words = "e\u{301}_ \u{E9}";
-    let places = [0, 1, 3, 4, 5, 7];
-    anchors(&rt, words, Newline::Lf, WORD, &places, b"++++.E");
-    anchors(&rt, words, Newline::Lf, WORD_OF_UNICODE, &places, b"+++++*");
-    anchors(
-        &rt,
-        words,
-        Newline::Lf,
-        INSIDE_OF_UNICODE,
-        &places,
-        b".....E",
-    );
-    let letters = "\u{3B1}\u{3B2}";
-    anchors(
-        &rt,
-        letters,
-        Newline::Lf,
-        WORD_OF_UNICODE,
-        &[0, 2, 4],
-        b"+.*",
-    );
-    let lines = "\u{E9}\u{2028}x\u{85}";
-    let places = [0, 2, 5, 6, 8];
-    anchors(&rt, lines, Newline::Any, LINE_START, &places, b"+.+..");
-    anchors(&rt, lines, Newline::Any, LINE_END, &places, b".+.+*");
-    anchors(&rt, lines, Newline::AnyCrLf, LINE_END, &places, b"....*");
-    anchors(
-        &rt,
-        lines,
-        Newline::Any,
-        AnchorKind::EndOrNewline,
-        &places,
-        b"...**",
-    );
+    for row in ANCHORS {
+        anchors(&rt, row);
+    }
 }
 
 // Places of `TEXT`, so many characters back from them, and where that is.
-const BACK: [(usize, u32, Option<usize>); 6] = [
+const BACK: &[(usize, u32, Option<usize>)] = &[
     (17, 0, Some(17)),
     (17, 1, Some(16)),
     (17, 7, Some(0)),
@@ -353,13 +290,9 @@ const BACK: [(usize, u32, Option<usize>); 6] = [
 
 #[test]
 fn places_go_back_by_characters(rt: HostRuntime) {
-    let options = Options {
-        utf: true,
-        ..Options::PLAIN
-    };
-    let view = view_of(TEXT, &options);
+    let view = view_of(TEXT, &UTF);
     for (at, count, place) in BACK {
-        assert!(rt; TEXT.is_char_boundary(at) && TEXT.len() < 100);
-        assert_eq!(rt; text_back(&view, at, count), place, "{count} before {at}");
+        assert!(rt; TEXT.is_char_boundary(*at) && TEXT.len() < 100);
+        assert!(rt; text_back(&view, *at, *count) == *place);
     }
 }

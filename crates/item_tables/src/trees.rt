@@ -102,51 +102,56 @@ fn leftmost(alloc: Global, nodes: &[(Kind, u16, u32)]) -> Result<Option<u32>, Me
     }
 }
 
+/// Nodes, with the groups that they name or are and their places; and the leftmost place of a bad reference.
+type Nodes = (&'static [(Kind, u16, u32)], Option<u32>);
+
+const GROUP: (Kind, u16, u32) = (Kind::Group, 2, 90);
+
+const NODES: &[Nodes] = &[
+    (&[], None),
+    (
+        &[
+            GROUP,
+            (Kind::Reference, 2, 5),
+            (Kind::Call, 2, 6),
+            (Kind::IfSet, 2, 7),
+            (Kind::IfInCallOf, 2, 8),
+        ],
+        None,
+    ),
+    // a group may come after what names it
+    (&[(Kind::Reference, 2, 5), GROUP], None),
+    // 0 is the whole pattern in a call and in a condition on a call, and no group elsewhere
+    (&[(Kind::Call, 0, 5), (Kind::IfInCallOf, 0, 9)], None),
+    (&[GROUP, (Kind::Reference, 0, 5)], Some(5)),
+    (&[GROUP, (Kind::IfSet, 0, 5)], Some(5)),
+    (&[GROUP, (Kind::Reference, 1, 5)], Some(5)),
+    (&[GROUP, (Kind::Call, 3, 5)], Some(5)),
+    (&[GROUP, (Kind::IfInCallOf, 1, 5)], Some(5)),
+    // the leftmost place, whatever was added first
+    (
+        &[
+            (Kind::Reference, 1, 30),
+            (Kind::Call, 1, 10),
+            GROUP,
+            (Kind::IfSet, 1, 20),
+        ],
+        Some(10),
+    ),
+    (
+        &[(Kind::IfInCallOf, 1, 7), (Kind::Reference, 2, 3), GROUP],
+        Some(7),
+    ),
+    (
+        &[(Kind::Reference, 2, 8), (Kind::Reference, 65535, 4)],
+        Some(4),
+    ),
+];
+
 #[test]
 fn the_leftmost_name_of_no_group_is_told(rt: HostRuntime) -> Result<(), Fail> {
-    let group = (Kind::Group, 2, 90);
-    let rows: [(&[(Kind, u16, u32)], Option<u32>); 12] = [
-        (&[], None),
-        (
-            &[
-                group,
-                (Kind::Reference, 2, 5),
-                (Kind::Call, 2, 6),
-                (Kind::IfSet, 2, 7),
-                (Kind::IfInCallOf, 2, 8),
-            ],
-            None,
-        ),
-        // a group may come after what names it
-        (&[(Kind::Reference, 2, 5), group], None),
-        // 0 is the whole pattern in a call and in a condition on a call, and no group elsewhere
-        (&[(Kind::Call, 0, 5), (Kind::IfInCallOf, 0, 9)], None),
-        (&[group, (Kind::Reference, 0, 5)], Some(5)),
-        (&[group, (Kind::IfSet, 0, 5)], Some(5)),
-        (&[group, (Kind::Reference, 1, 5)], Some(5)),
-        (&[group, (Kind::Call, 3, 5)], Some(5)),
-        (&[group, (Kind::IfInCallOf, 1, 5)], Some(5)),
-        // the leftmost place, whatever was added first
-        (
-            &[
-                (Kind::Reference, 1, 30),
-                (Kind::Call, 1, 10),
-                group,
-                (Kind::IfSet, 1, 20),
-            ],
-            Some(10),
-        ),
-        (
-            &[(Kind::IfInCallOf, 1, 7), (Kind::Reference, 2, 3), group],
-            Some(7),
-        ),
-        (
-            &[(Kind::Reference, 2, 8), (Kind::Reference, 65535, 4)],
-            Some(4),
-        ),
-    ];
-    for (nodes, want) in rows {
-        assert_eq!(rt; leftmost(rt.alloc(), nodes)?, want);
+    for (nodes, want) in NODES {
+        assert!(rt; leftmost(rt.alloc(), nodes)? == *want);
     }
     Ok(())
 }
@@ -177,9 +182,9 @@ fn a_tree_has_what_was_added(rt: HostRuntime) -> Result<(), Fail> {
         caseless: true,
         parts: PartList::new(rt.alloc()),
     })?;
-    assert_eq!(rt; class, 0);
-    assert_eq!(rt; draft.add_verb_name(b"stop")?, 0);
-    assert_eq!(rt; draft.add_verb_name(b"go")?, 1);
+    let stop = draft.add_verb_name(b"stop")?;
+    let go = draft.add_verb_name(b"go")?;
+    assert!(rt; (class, stop, go) == (0, 0, 1));
     add_names(&mut draft, [b"b", b"a", b"ab", b"", b"b", b"a"])?;
     assert!(rt; draft.finish(root).is_ok_and(|tree| is_whole(&tree)));
     Ok(())
@@ -202,55 +207,63 @@ fn has_names(names: &NameTable) -> bool {
         && (0..4).all(|i| i < names.len() && names.name(i) == wanted[i] && names.group(i) == 7)
 }
 
+/// A name, and the newline that it names in capitals and in any case.
+type Name = (&'static [u8], Option<Newline>, Option<Newline>);
+
+const NAMES: &[Name] = &[
+    (b"CR", Some(Newline::Cr), Some(Newline::Cr)),
+    (b"LF", Some(Newline::Lf), Some(Newline::Lf)),
+    (b"CRLF", Some(Newline::CrLf), Some(Newline::CrLf)),
+    (b"ANYCRLF", Some(Newline::AnyCrLf), Some(Newline::AnyCrLf)),
+    (b"ANY", Some(Newline::Any), Some(Newline::Any)),
+    (b"NUL", Some(Newline::Nul), Some(Newline::Nul)),
+    (b"anyCRLF", None, Some(Newline::AnyCrLf)),
+    (b"nul", None, Some(Newline::Nul)),
+    (b"", None, None),
+    (b"CRL", None, None),
+];
+
 #[test]
 fn newlines_have_names(rt: HostRuntime) {
-    let rows: [(&[u8], Option<Newline>, Option<Newline>); 10] = [
-        (b"CR", Some(Newline::Cr), Some(Newline::Cr)),
-        (b"LF", Some(Newline::Lf), Some(Newline::Lf)),
-        (b"CRLF", Some(Newline::CrLf), Some(Newline::CrLf)),
-        (b"ANYCRLF", Some(Newline::AnyCrLf), Some(Newline::AnyCrLf)),
-        (b"ANY", Some(Newline::Any), Some(Newline::Any)),
-        (b"NUL", Some(Newline::Nul), Some(Newline::Nul)),
-        (b"anyCRLF", None, Some(Newline::AnyCrLf)),
-        (b"nul", None, Some(Newline::Nul)),
-        (b"", None, None),
-        (b"CRL", None, None),
-    ];
-    for (name, capital, any_case) in rows {
-        assert_eq!(rt; Newline::by_name(name), capital);
-        assert_eq!(rt; Newline::by_name_in_any_case(name), any_case);
+    for (name, capital, any_case) in NAMES {
+        assert!(rt; Newline::by_name(name) == *capital);
+        assert!(rt; Newline::by_name_in_any_case(name) == *any_case);
     }
 }
+
+/// A convention, whether in UTF, a place, and how many bytes the newlines have that begin and end there.
+type Ends = (Newline, bool, usize, usize, usize);
+
+const ENDS: &[Ends] = &[
+    (Newline::Cr, false, 1, 1, 0),
+    (Newline::Cr, false, 2, 0, 1),
+    (Newline::Lf, false, 2, 1, 0),
+    (Newline::Lf, false, 3, 0, 1),
+    (Newline::CrLf, false, 1, 2, 0),
+    (Newline::CrLf, false, 2, 0, 0),
+    (Newline::CrLf, false, 3, 0, 2),
+    (Newline::AnyCrLf, false, 1, 2, 0),
+    (Newline::AnyCrLf, false, 2, 1, 1),
+    (Newline::AnyCrLf, false, 3, 0, 2),
+    (Newline::Any, true, 4, 3, 0),
+    (Newline::Any, false, 4, 0, 0),
+    (Newline::Any, true, 7, 2, 3),
+    (Newline::Any, false, 8, 1, 0),
+    (Newline::Any, true, 9, 1, 2),
+    (Newline::Any, false, 9, 1, 1),
+    (Newline::Any, true, 10, 0, 1),
+    (Newline::Nul, true, 10, 1, 0),
+    (Newline::Nul, false, 11, 0, 1),
+    (Newline::Any, true, 0, 0, 0),
+];
 
 #[test]
 fn newlines_begin_and_end(rt: HostRuntime) {
     // a CR LF b LS NEL VT 0
     let text = b"a\r\nb\xe2\x80\xa8\xc2\x85\x0b\x00";
-    let rows = [
-        (Newline::Cr, false, 1, 1, 0),
-        (Newline::Cr, false, 2, 0, 1),
-        (Newline::Lf, false, 2, 1, 0),
-        (Newline::Lf, false, 3, 0, 1),
-        (Newline::CrLf, false, 1, 2, 0),
-        (Newline::CrLf, false, 2, 0, 0),
-        (Newline::CrLf, false, 3, 0, 2),
-        (Newline::AnyCrLf, false, 1, 2, 0),
-        (Newline::AnyCrLf, false, 2, 1, 1),
-        (Newline::AnyCrLf, false, 3, 0, 2),
-        (Newline::Any, true, 4, 3, 0),
-        (Newline::Any, false, 4, 0, 0),
-        (Newline::Any, true, 7, 2, 3),
-        (Newline::Any, false, 8, 1, 0),
-        (Newline::Any, true, 9, 1, 2),
-        (Newline::Any, false, 9, 1, 1),
-        (Newline::Any, true, 10, 0, 1),
-        (Newline::Nul, true, 10, 1, 0),
-        (Newline::Nul, false, 11, 0, 1),
-        (Newline::Any, true, 0, 0, 0),
-    ];
-    for (newline, utf, at, begins, ends) in rows {
-        assert!(rt; at <= text.len());
-        assert_eq!(rt; newline_at(text, at, newline, utf), begins);
-        assert_eq!(rt; newline_before(text, at, newline, utf), ends);
+    for (newline, utf, at, begins, ends) in ENDS {
+        assert!(rt; *at <= text.len());
+        assert!(rt; newline_at(text, *at, *newline, *utf) == *begins);
+        assert!(rt; newline_before(text, *at, *newline, *utf) == *ends);
     }
 }

@@ -1,9 +1,12 @@
 //! Tables of what the parts of tokens are read as, from pcre2pattern.
 use pat_tree::Newline;
 use std::process::Abort;
+use token_parts::CondText::{Group, InCall, InCallOf};
+use token_parts::Target::{Minus, Named, Number, Plus};
+use token_parts::Token::{self, CallTo, CalloutItem, Literal, Reference};
 use token_parts::{
-    CondText, Fault, LexFlags, OptionMask, Target, Token, begins_number, byte, callout, coded,
-    comment, condition, group_escape, name_escape, numbered_call, octal, setting, stands,
+    CondText, Fault, LexFlags, OptionMask, Target, begins_number, byte, callout, coded, comment,
+    condition, group_escape, name_escape, numbered_call, octal, setting, stands,
 };
 
 const PLAIN: LexFlags = LexFlags {
@@ -15,6 +18,8 @@ const PLAIN: LexFlags = LexFlags {
     newline: Newline::Lf,
     groups: 0,
 };
+
+const UTF: LexFlags = LexFlags { utf: true, ..PLAIN };
 
 /// The token of a text that begins with `(?`.
 fn group_token(rt: &impl Abort, utf: bool, text: &[u8]) -> Result<(Token, usize), Fault> {
@@ -42,167 +47,183 @@ fn token_of(rt: &impl Abort, flags: LexFlags, text: &[u8]) -> Result<(Token, usi
     }
 }
 
+/// A text, the token that it begins with, and where that ends.
+type Row = (&'static str, Token, usize);
+
 /// The text begins with this token, which ends at a place.
-fn begins_with(rt: &impl Abort, flags: LexFlags, text: &str, token: Token, after: usize) {
-    assert_eq!(rt;
-        token_of(rt, flags, text.as_bytes()),
-        Ok((token, after)),
-        "{text}"
-    );
+fn begins(rt: &impl Abort, flags: LexFlags, text: &str, token: Token, after: usize) {
+    let read = token_of(rt, flags, text.as_bytes());
+    assert!(rt; read == Ok((token, after)), "{text}");
+}
+
+/// Each text begins with its token.
+fn all_begin(rt: &impl Abort, flags: LexFlags, rows: &[Row]) {
+    for (text, token, after) in rows {
+        begins(rt, flags, text, *token, *after);
+    }
+}
+
+/// The text's first token is refused.
+fn refused(rt: &impl Abort, flags: LexFlags, text: &str, number: i32, at: usize) {
+    let read = token_of(rt, flags, text.as_bytes());
+    assert!(rt; read == Err(Fault { number, at }), "{text}");
 }
 
 /// The first token of each of the texts, which stand between blanks, is refused at its begin.
-fn refused(rt: &impl Abort, flags: LexFlags, number: i32, texts: &str) {
+fn texts_refused(rt: &impl Abort, flags: LexFlags, number: i32, texts: &str) {
     for text in texts.split(' ') {
-        let fault = Fault { number, at: 0 };
-        assert_eq!(rt; token_of(rt, flags, text.as_bytes()), Err(fault), "{text}");
+        refused(rt, flags, text, number, 0);
     }
 }
+
+const CHARACTERS: &[Row] = &[
+    ("\\cz", Literal(26), 3),
+    ("\\c[", Literal(27), 3),
+    ("\\c{", Literal(59), 3),
+    ("\\c ", Literal(96), 3),
+    ("\\0", Literal(0), 2),
+    ("\\0128", Literal(10), 4),
+    ("\\00123", Literal(1), 4),
+    ("\\377", Literal(255), 4),
+    ("\\o{101}", Literal(65), 7),
+    ("\\x", Literal(0), 2),
+    ("\\xg", Literal(0), 2),
+    ("\\x4g", Literal(4), 3),
+    ("\\x4a1", Literal(74), 4),
+    ("\\x{4A}", Literal(74), 6),
+    ("\\x{0000fF}", Literal(255), 10),
+];
+
+const CHARACTERS_OF_UTF: &[Row] = &[
+    ("\\x{10ffff}", Literal(0x10_FFFF), 10),
+    ("\\777", Literal(511), 4),
+    ("\\x{e000}", Literal(0xE000), 8),
+];
 
 #[test]
 fn characters_by_their_codes(rt: HostRuntime) {
-    let rows = [
-        ("\\cz", 26, 3),
-        ("\\c[", 27, 3),
-        ("\\c{", 59, 3),
-        ("\\c ", 96, 3),
-        ("\\0", 0, 2),
-        ("\\0128", 10, 4),
-        ("\\00123", 1, 4),
-        ("\\377", 255, 4),
-        ("\\o{101}", 65, 7),
-        ("\\x", 0, 2),
-        ("\\xg", 0, 2),
-        ("\\x4g", 4, 3),
-        ("\\x4a1", 74, 4),
-        ("\\x{4A}", 74, 6),
-        ("\\x{0000fF}", 255, 10),
-    ];
-    for (text, code, after) in rows {
-        begins_with(&rt, PLAIN, text, Token::Literal(code), after);
-    }
-    let utf = LexFlags { utf: true, ..PLAIN };
-    let rows = [
-        ("\\x{10ffff}", 0x10_FFFF, 10),
-        ("\\777", 511, 4),
-        ("\\x{e000}", 0xE000, 8),
-    ];
-    for (text, code, after) in rows {
-        begins_with(&rt, utf, text, Token::Literal(code), after);
-    }
-    refused(&rt, PLAIN, 134, "\\x{100} \\x{100g} \\o{400} \\400");
-    refused(&rt, utf, 134, "\\x{110000}");
-    refused(&rt, utf, 173, "\\x{d800} \\o{157777}");
+    all_begin(&rt, PLAIN, CHARACTERS);
+    all_begin(&rt, UTF, CHARACTERS_OF_UTF);
+    texts_refused(&rt, PLAIN, 134, "\\x{100} \\x{100g} \\o{400} \\400");
+    texts_refused(&rt, UTF, 134, "\\x{110000}");
+    texts_refused(&rt, UTF, 173, "\\x{d800} \\o{157777}");
 }
+
+const BY_NUMBER: &[Row] = &[
+    ("\\g1", Reference(Number(1)), 3),
+    ("\\g0", Reference(Number(0)), 3),
+    ("\\g-12", Reference(Minus(12)), 5),
+    ("\\g+2a", Reference(Plus(2)), 4),
+    ("\\g{65535}", Reference(Number(65_535)), 9),
+    ("\\g{-2}", Reference(Minus(2)), 6),
+    ("\\g{+2}", Reference(Plus(2)), 6),
+    ("\\g<3>", CallTo(Number(3)), 5),
+    ("\\g'3'", CallTo(Number(3)), 5),
+    ("\\g<+3>", CallTo(Plus(3)), 6),
+    ("\\g'-3'", CallTo(Minus(3)), 6),
+    ("(?0)", CallTo(Number(0)), 4),
+    ("(?12)", CallTo(Number(12)), 5),
+    ("(?+1)", CallTo(Plus(1)), 5),
+    ("(?-1)", CallTo(Minus(1)), 5),
+];
 
 #[test]
 fn references_and_calls_by_number(rt: HostRuntime) {
-    let references = [
-        ("\\g1", Target::Number(1), 3),
-        ("\\g0", Target::Number(0), 3),
-        ("\\g-12", Target::Minus(12), 5),
-        ("\\g+2a", Target::Plus(2), 4),
-        ("\\g{65535}", Target::Number(65_535), 9),
-        ("\\g{-2}", Target::Minus(2), 6),
-        ("\\g{+2}", Target::Plus(2), 6),
-    ];
-    for (text, target, after) in references {
-        begins_with(&rt, PLAIN, text, Token::Reference(target), after);
-    }
-    let calls = [
-        ("\\g<3>", Target::Number(3), 5),
-        ("\\g'3'", Target::Number(3), 5),
-        ("\\g<+3>", Target::Plus(3), 6),
-        ("\\g'-3'", Target::Minus(3), 6),
-        ("(?0)", Target::Number(0), 4),
-        ("(?12)", Target::Number(12), 5),
-        ("(?+1)", Target::Plus(1), 5),
-        ("(?-1)", Target::Minus(1), 5),
-    ];
-    for (text, target, after) in calls {
-        begins_with(&rt, PLAIN, text, Token::CallTo(target), after);
-    }
+    all_begin(&rt, PLAIN, BY_NUMBER);
 }
+
+const NAME: Target = Named { from: 3, to: 6 };
+
+const BY_NAME: &[Row] = &[
+    ("\\g{_a1}", Reference(NAME), 7),
+    ("\\k{_a1}", Reference(NAME), 7),
+    ("\\k<_a1>", Reference(NAME), 7),
+    ("\\k'_a1'", Reference(NAME), 7),
+    ("\\g<_a1>", CallTo(NAME), 7),
+    ("\\g'_a1'", CallTo(NAME), 7),
+];
 
 #[test]
 fn references_and_calls_by_name(rt: HostRuntime) {
-    let named = Target::Named { from: 3, to: 6 };
-    for text in ["\\g{_a1}", "\\k{_a1}", "\\k<_a1>", "\\k'_a1'"] {
-        begins_with(&rt, PLAIN, text, Token::Reference(named), 7);
-    }
-    for text in ["\\g<_a1>", "\\g'_a1'"] {
-        begins_with(&rt, PLAIN, text, Token::CallTo(named), 7);
-    }
+    all_begin(&rt, PLAIN, BY_NAME);
 }
+
+/// A text, the callout that it begins with: its number and the places of its text, and where it ends.
+type Callout = (&'static str, u8, u32, u32, usize);
+
+const CALLOUTS: &[Callout] = &[
+    ("(?C)", 0, 0, 0, 4),
+    ("(?C007)", 7, 0, 0, 7),
+    ("(?C255)", 255, 0, 0, 7),
+    ("(?C'')", 0, 4, 4, 6),
+    ("(?C`a`)", 0, 4, 5, 7),
+    ("(?C'it''s')", 0, 4, 9, 11),
+    ("(?C\"a\")", 0, 4, 5, 7),
+    ("(?C^a^)", 0, 4, 5, 7),
+    ("(?C%a%)", 0, 4, 5, 7),
+    ("(?C#a#)", 0, 4, 5, 7),
+    ("(?C$a$)", 0, 4, 5, 7),
+    ("(?C{a}}b{})", 0, 4, 9, 11),
+];
 
 #[test]
 fn callouts(rt: HostRuntime) {
-    let rows = [
-        ("(?C)", 0, 0, 0, 4),
-        ("(?C007)", 7, 0, 0, 7),
-        ("(?C255)", 255, 0, 0, 7),
-        ("(?C'')", 0, 4, 4, 6),
-        ("(?C`a`)", 0, 4, 5, 7),
-        ("(?C'it''s')", 0, 4, 9, 11),
-        ("(?C\"a\")", 0, 4, 5, 7),
-        ("(?C^a^)", 0, 4, 5, 7),
-        ("(?C%a%)", 0, 4, 5, 7),
-        ("(?C#a#)", 0, 4, 5, 7),
-        ("(?C$a$)", 0, 4, 5, 7),
-        ("(?C{a}}b{})", 0, 4, 9, 11),
-    ];
-    for (text, number, text_from, text_to, after) in rows {
-        let token = Token::CalloutItem {
-            number,
-            text_from,
-            text_to,
+    for (text, number, from, to, after) in CALLOUTS {
+        let token = CalloutItem {
+            number: *number,
+            text_from: *from,
+            text_to: *to,
         };
-        begins_with(&rt, PLAIN, text, token, after);
+        begins(&rt, PLAIN, text, token, *after);
     }
 }
 
-/// The text begins with a condition, whose test ends at a place, with `)` after it.
-fn condition_is(rt: &impl Abort, text: &str, cond: CondText, to: u8) {
-    let (from, to) = (3, usize::from(to));
-    let token = Token::CondStart { cond, from, to };
-    begins_with(rt, PLAIN, text, token, to + 1);
-}
+/// A text that begins with a condition, its test, and where that ends, with `)` after it.
+type Condition = (&'static str, CondText, u8);
+
+const CONDITIONS: &[Condition] = &[
+    ("(?(12)", Group(Number(12)), 5),
+    ("(?(+1)", Group(Plus(1)), 5),
+    ("(?(-1)", Group(Minus(1)), 5),
+    ("(?(<ab>)", Group(Named { from: 4, to: 6 }), 7),
+    ("(?('ab')", Group(Named { from: 4, to: 6 }), 7),
+    ("(?(ab)", Group(Named { from: 3, to: 5 }), 5),
+    ("(?(Rx)", Group(Named { from: 3, to: 5 }), 5),
+    ("(?(R1x)", Group(Named { from: 3, to: 6 }), 6),
+    ("(?(<DEFINE>)", Group(Named { from: 4, to: 10 }), 11),
+    ("(?(VERSION)", Group(Named { from: 3, to: 10 }), 10),
+    ("(?(R12)", InCallOf(Number(12)), 6),
+    ("(?(R9999999999)", InCallOf(Number(u32::MAX)), 14),
+    ("(?(R&ab)", InCallOf(Named { from: 5, to: 7 }), 7),
+    ("(?(R)", InCall, 4),
+    ("(?(DEFINE)", CondText::Define, 9),
+];
+
+const LOOKAROUND: Token = Token::CondStart {
+    cond: CondText::Lookaround,
+    from: 2,
+    to: 2,
+};
+
+const ON_LOOKAROUNDS: &[Row] = &[
+    ("(?(?=a)", LOOKAROUND, 2),
+    ("(?(*pla:a)", LOOKAROUND, 2),
+    ("(?(?C1)(?=a)", LOOKAROUND, 2),
+];
 
 #[test]
 fn conditions(rt: HostRuntime) {
-    let rows = [
-        ("(?(12)", Target::Number(12), 5),
-        ("(?(+1)", Target::Plus(1), 5),
-        ("(?(-1)", Target::Minus(1), 5),
-        ("(?(<ab>)", Target::Named { from: 4, to: 6 }, 7),
-        ("(?('ab')", Target::Named { from: 4, to: 6 }, 7),
-        ("(?(ab)", Target::Named { from: 3, to: 5 }, 5),
-        ("(?(Rx)", Target::Named { from: 3, to: 5 }, 5),
-        ("(?(R1x)", Target::Named { from: 3, to: 6 }, 6),
-        ("(?(<DEFINE>)", Target::Named { from: 4, to: 10 }, 11),
-        ("(?(VERSION)", Target::Named { from: 3, to: 10 }, 10),
-    ];
-    for (text, target, to) in rows {
-        condition_is(&rt, text, CondText::Group(target), to);
+    for (text, cond, to) in CONDITIONS {
+        let (cond, from, to) = (*cond, 3, usize::from(*to));
+        begins(
+            &rt,
+            PLAIN,
+            text,
+            Token::CondStart { cond, from, to },
+            to + 1,
+        );
     }
-    let rows = [
-        ("(?(R12)", Target::Number(12), 6),
-        ("(?(R9999999999)", Target::Number(u32::MAX), 14),
-        ("(?(R&ab)", Target::Named { from: 5, to: 7 }, 7),
-    ];
-    for (text, target, to) in rows {
-        condition_is(&rt, text, CondText::InCallOf(target), to);
-    }
-    condition_is(&rt, "(?(R)", CondText::InCall, 4);
-    condition_is(&rt, "(?(DEFINE)", CondText::Define, 9);
-    let lookaround = Token::CondStart {
-        cond: CondText::Lookaround,
-        from: 2,
-        to: 2,
-    };
-    for text in ["(?(?=a)", "(?(*pla:a)", "(?(?C1)(?=a)"] {
-        begins_with(&rt, PLAIN, text, lookaround, 2);
-    }
+    all_begin(&rt, PLAIN, ON_LOOKAROUNDS);
 }
 
 /// The options of these letters, where a capital `X` stands for xx.
@@ -220,60 +241,65 @@ fn options(letters: &str) -> OptionMask {
     }
 }
 
+/// A text that begins with a setting: whether it resets, the letters of what it sets and unsets, whether it opens a
+/// group, and where it ends.
+type Setting = (&'static str, bool, &'static str, &'static str, bool, usize);
+
+const SETTINGS: &[Setting] = &[
+    ("(?i)", false, "i", "", false, 4),
+    ("(?)", false, "", "", false, 3),
+    ("(?-)", false, "", "", false, 4),
+    ("(?i-s:", false, "i", "s", true, 6),
+    ("(?-J)", false, "", "J", false, 5),
+    ("(?U)", false, "U", "", false, 4),
+    ("(?imsxxnJU)", false, "imsxXnJU", "", false, 11),
+    ("(?-imsxnJU)", false, "", "imsxXnJU", false, 11),
+    ("(?x)", false, "x", "X", false, 4),
+    ("(?xix)", false, "ix", "X", false, 6),
+    ("(?xx)", false, "xX", "", false, 5),
+    ("(?-x)", false, "", "xX", false, 5),
+    ("(?-xx)", false, "", "xX", false, 6),
+    ("(?^)", true, "", "", false, 4),
+    ("(?^:", true, "", "", true, 4),
+    ("(?^im:", true, "im", "", true, 6),
+];
+
 #[test]
 fn option_settings(rt: HostRuntime) {
-    let rows = [
-        ("(?i)", false, "i", "", false, 4),
-        ("(?)", false, "", "", false, 3),
-        ("(?-)", false, "", "", false, 4),
-        ("(?i-s:", false, "i", "s", true, 6),
-        ("(?-J)", false, "", "J", false, 5),
-        ("(?U)", false, "U", "", false, 4),
-        ("(?imsxxnJU)", false, "imsxXnJU", "", false, 11),
-        ("(?-imsxnJU)", false, "", "imsxXnJU", false, 11),
-        ("(?x)", false, "x", "X", false, 4),
-        ("(?xix)", false, "ix", "X", false, 6),
-        ("(?xx)", false, "xX", "", false, 5),
-        ("(?-x)", false, "", "xX", false, 5),
-        ("(?-xx)", false, "", "xX", false, 6),
-        ("(?^)", true, "", "", false, 4),
-        ("(?^:", true, "", "", true, 4),
-        ("(?^im:", true, "im", "", true, 6),
-    ];
-    for (text, reset, on, off, opens, after) in rows {
+    for (text, reset, on, off, opens, after) in SETTINGS {
         let token = Token::OptionSet {
-            reset,
+            reset: *reset,
             on: options(on),
             off: options(off),
-            opens,
+            opens: *opens,
         };
-        begins_with(&rt, PLAIN, text, token, after);
+        begins(&rt, PLAIN, text, token, *after);
     }
 }
 
+const FAULTS: &[(i32, &str)] = &[
+    (102, "\\c \\c\n \\c\x7f"),
+    (111, "(?a) (?^-i) (?i--s) (?+-a) (?+"),
+    (126, "\\g{+0} \\g-0 (?-0) (?(+0)"),
+    (128, "(?(1 (?(1x) (?(+) (?(<ab>"),
+    (135, "\\o \\o7 \\o{} \\o{8} \\x{} \\x{g} \\x{1"),
+    (138, "(?C256) (?C256"),
+    (139, "(?C1 (?C1x) (?Ca) (?C'a) (?C'a'b) (?C'a''"),
+    (142, "\\k{a (?(ab"),
+    (144, "\\k<> \\g{} \\g< (?() (?(R&)"),
+    (161, "\\g{65536} (?-65536 (?(99999999999999999999)"),
+    (169, "\\g \\ga \\g{-} \\g<+ \\g{1 \\k \\ka"),
+    (195, "(?(VERSION=1) (?(VERSION>=1)"),
+];
+
 #[test]
 fn faults(rt: HostRuntime) {
-    let rows = [
-        (102, "\\c \\c\n \\c\x7f"),
-        (111, "(?a) (?^-i) (?i--s) (?+-a) (?+"),
-        (126, "\\g{+0} \\g-0 (?-0) (?(+0)"),
-        (128, "(?(1 (?(1x) (?(+) (?(<ab>"),
-        (135, "\\o \\o7 \\o{} \\o{8} \\x{} \\x{g} \\x{1"),
-        (138, "(?C256) (?C256"),
-        (139, "(?C1 (?C1x) (?Ca) (?C'a) (?C'a'b) (?C'a''"),
-        (142, "\\k{a (?(ab"),
-        (144, "\\k<> \\g{} \\g< (?() (?(R&)"),
-        (161, "\\g{65536} (?-65536 (?(99999999999999999999)"),
-        (169, "\\g \\ga \\g{-} \\g<+ \\g{1 \\k \\ka"),
-        (195, "(?(VERSION=1) (?(VERSION>=1)"),
-    ];
-    for (number, texts) in rows {
-        refused(&rt, PLAIN, number, texts);
+    for (number, texts) in FAULTS {
+        texts_refused(&rt, PLAIN, *number, texts);
     }
-    for text in ["(?i", "(?i-", "(?-", "(?^", "(?C", "(?(", "(?1", "(?1x)"] {
-        let fault = Fault::new(114, text.len());
-        assert_eq!(rt; token_of(&rt, PLAIN, text.as_bytes()), Err(fault), "{text}");
+    for text in "(?i (?i- (?- (?^ (?C (?( (?1 (?1x)".split(' ') {
+        refused(&rt, PLAIN, text, 114, text.len());
     }
-    assert_eq!(rt; comment(b"(?#a", 0), Err(Fault::new(118, 4)));
-    assert_eq!(rt; comment(b"(?#a\\)b)", 0), Ok((Token::Passed, 6)));
+    assert!(rt; comment(b"(?#a", 0) == Err(Fault::new(118, 4)));
+    assert!(rt; comment(b"(?#a\\)b)", 0) == Ok((Token::Passed, 6)));
 }

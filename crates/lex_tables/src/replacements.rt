@@ -5,17 +5,7 @@ ghost use Rattle.std.specs.Prelude.{◌≡◌, ◌∷◌, [], Some, None, codes}
 use std::alloc::Global;
 use std::process::Abort;
 use std::test::Fail;
-use subst_plan::{ExpandError, Groups, Lookup, Plan, PlanError, expand, expand_into};
-
-/// What becomes of a replacement.
-#[derive(Clone, Copy, Debug, PartialEq, Eq)]
-enum Outcome {
-    Writes(&'static [u8]),
-    Unread(PlanError),
-    Unwritten(ExpandError),
-}
-
-use Outcome::{Unread, Unwritten, Writes};
+use subst_plan::{Groups, Lookup, Plan, PlanError, expand, expand_into};
 
 /// The match of `(*MARK:Tag)(?J)(?<one>wO)(?<two>x)?(?<both>y)?(?<both>Rd)` on `wORd`.
 struct Sample;
@@ -54,256 +44,256 @@ impl Groups for Sample {
     }
 }
 
-/// A replacement, its options (x extended, u UTF, e unset groups are empty, n unknown groups are
-/// unset) and its outcome.
-type Row = (&'static [u8], &'static str, Outcome);
+// A row has its options (x extended, u UTF, e unset groups are empty, n unknown groups are unset; `-` for none), a
+// replacement, ` => ` and what it writes, or `!` and why it is refused. Each of its characters is the byte of its code.
 
 /// Groups and marks.
-const REFERENCES: &[Row] = &[
-    (b"", "", Writes(b"")),
-    (b"plain", "", Writes(b"plain")),
-    (b"$$", "", Writes(b"$")),
-    (b"$", "", Unread(PlanError::BadReplacement)),
-    (b"a$", "", Unread(PlanError::BadReplacement)),
-    (b"$ ", "", Unread(PlanError::BadReplacement)),
-    (b"$-1", "", Unread(PlanError::BadReplacement)),
-    (b"$0", "", Writes(b"wORd")),
-    (b"[$1]", "", Writes(b"[wO]")),
-    (b"$1a", "", Writes(b"wOa")),
-    (b"${1}0", "", Writes(b"wO0")),
-    (b"$10", "", Unwritten(ExpandError::NoGroup)),
-    (b"$00001", "", Writes(b"wO")),
-    (b"$5", "", Unwritten(ExpandError::NoGroup)),
-    (b"$65535", "", Unwritten(ExpandError::NoGroup)),
-    (b"$65536", "n", Unwritten(ExpandError::Unset)),
-    (b"$4294967297", "", Unwritten(ExpandError::NoGroup)),
-    (b"$18446744073709551617", "ne", Writes(b"")),
-    (b"$2", "", Unwritten(ExpandError::Unset)),
-    (b"$2", "e", Writes(b"")),
-    (b"$3a", "e", Writes(b"a")),
-    (b"$5", "n", Unwritten(ExpandError::Unset)),
-    (b"$5", "ne", Writes(b"")),
-    (b"$one", "", Writes(b"wO")),
-    (b"$one-", "", Writes(b"wO-")),
-    (b"$onea", "", Unwritten(ExpandError::NoGroup)),
-    (b"${one}a", "", Writes(b"wOa")),
-    (b"$two", "", Unwritten(ExpandError::Unset)),
-    (b"$both", "", Writes(b"Rd")),
-    (b"${both}", "", Writes(b"Rd")),
-    (b"$none", "", Unwritten(ExpandError::NoGroup)),
-    (b"$none", "ne", Writes(b"")),
-    (b"$_", "", Unwritten(ExpandError::NoGroup)),
-    (b"$1_", "", Writes(b"wO_")),
-    (b"$*MARK", "", Writes(b"Tag")),
-    (b"${*MARK}", "", Writes(b"Tag")),
-    (b"$*MARKS", "", Unread(PlanError::BadReplacement)),
-    (b"$*MAR", "", Unread(PlanError::BadReplacement)),
-    (b"$*mark", "", Unread(PlanError::BadReplacement)),
-    (b"$*MARK!", "", Writes(b"Tag!")),
-    (b"${*MARK", "", Unread(PlanError::MissingBrace)),
-    (b"${*MARK:-x}", "x", Unread(PlanError::MissingBrace)),
-    (b"${*}", "", Unread(PlanError::BadReplacement)),
-    (b"$*", "", Unread(PlanError::BadReplacement)),
-    (b"${", "", Unread(PlanError::BadReplacement)),
-    (b"${}", "", Unread(PlanError::BadReplacement)),
-    (b"${1", "", Unread(PlanError::MissingBrace)),
-    (b"${1a}", "", Unread(PlanError::MissingBrace)),
-    (b"${one", "", Unread(PlanError::MissingBrace)),
-    (b"${one }", "", Unread(PlanError::MissingBrace)),
-    (b"${ one}", "", Unread(PlanError::BadReplacement)),
-    (b"${$}", "", Unread(PlanError::BadReplacement)),
-    (b"${-1}", "", Unread(PlanError::BadReplacement)),
-    (
-        b"$aaaaaaaaaaaaaaaaaaaaaaaaaaaaaaaa",
-        "",
-        Unwritten(ExpandError::NoGroup),
-    ),
-    (
-        b"$aaaaaaaaaaaaaaaaaaaaaaaaaaaaaaaaa",
-        "",
-        Unread(PlanError::BadReplacement),
-    ),
-    (
-        b"${aaaaaaaaaaaaaaaaaaaaaaaaaaaaaaaa}",
-        "",
-        Unwritten(ExpandError::NoGroup),
-    ),
-    (
-        b"${aaaaaaaaaaaaaaaaaaaaaaaaaaaaaaaaa}",
-        "",
-        Unread(PlanError::BadReplacement),
-    ),
+const REFERENCES: &[&str] = &[
+    "-  => ",
+    "- plain => plain",
+    "- $$ => $",
+    "- $ => !BadReplacement",
+    "- a$ => !BadReplacement",
+    "- $  => !BadReplacement",
+    "- $-1 => !BadReplacement",
+    "- $0 => wORd",
+    "- [$1] => [wO]",
+    "- $1a => wOa",
+    "- ${1}0 => wO0",
+    "- $10 => !NoGroup",
+    "- $00001 => wO",
+    "- $5 => !NoGroup",
+    "- $65535 => !NoGroup",
+    "n $65536 => !Unset",
+    "- $4294967297 => !NoGroup",
+    "ne $18446744073709551617 => ",
+    "- $2 => !Unset",
+    "e $2 => ",
+    "e $3a => a",
+    "n $5 => !Unset",
+    "ne $5 => ",
+    "- $one => wO",
+    "- $one- => wO-",
+    "- $onea => !NoGroup",
+    "- ${one}a => wOa",
+    "- $two => !Unset",
+    "- $both => Rd",
+    "- ${both} => Rd",
+    "- $none => !NoGroup",
+    "ne $none => ",
+    "- $_ => !NoGroup",
+    "- $1_ => wO_",
+    "- $*MARK => Tag",
+    "- ${*MARK} => Tag",
+    "- $*MARKS => !BadReplacement",
+    "- $*MAR => !BadReplacement",
+    "- $*mark => !BadReplacement",
+    "- $*MARK! => Tag!",
+    "- ${*MARK => !MissingBrace",
+    "x ${*MARK:-x} => !MissingBrace",
+    "- ${*} => !BadReplacement",
+    "- $* => !BadReplacement",
+    "- ${ => !BadReplacement",
+    "- ${} => !BadReplacement",
+    "- ${1 => !MissingBrace",
+    "- ${1a} => !MissingBrace",
+    "- ${one => !MissingBrace",
+    "- ${one } => !MissingBrace",
+    "- ${ one} => !BadReplacement",
+    "- ${$} => !BadReplacement",
+    "- ${-1} => !BadReplacement",
+    "- $aaaaaaaaaaaaaaaaaaaaaaaaaaaaaaaa => !NoGroup",
+    "- $aaaaaaaaaaaaaaaaaaaaaaaaaaaaaaaaa => !BadReplacement",
+    "- ${aaaaaaaaaaaaaaaaaaaaaaaaaaaaaaaa} => !NoGroup",
+    "- ${aaaaaaaaaaaaaaaaaaaaaaaaaaaaaaaaa} => !BadReplacement",
 ];
 
 /// Inner texts.
-const TEXTS: &[Row] = &[
-    (b"\\n", "", Writes(b"\\n")),
-    (b"a:b}c", "", Writes(b"a:b}c")),
-    (b"a:b}c", "x", Writes(b"a:b}c")),
-    (b"${1:-x}", "", Unread(PlanError::MissingBrace)),
-    (b"${1:", "", Unread(PlanError::MissingBrace)),
-    (b"${1:xyz", "x", Unread(PlanError::BadSyntax)),
-    (b"${1:=xyz", "x", Unread(PlanError::BadSyntax)),
-    (b"${2:-none}", "x", Writes(b"none")),
-    (b"${1:-none}", "x", Writes(b"wO")),
-    (b"${1:+yes}", "x", Writes(b"yes")),
-    (b"${2:+yes}", "x", Writes(b"")),
-    (b"${1:+yes:no}", "x", Writes(b"yes")),
-    (b"${2:+yes:no}", "x", Writes(b"no")),
-    (b"${2:+:no}", "x", Writes(b"no")),
-    (b"${1:+:no}", "x", Writes(b"")),
-    (b"${2:+yes:}", "x", Writes(b"")),
-    (b"${2:-}", "x", Writes(b"")),
-    (b"${2:-a:b}", "x", Writes(b"a:b")),
-    (b"${2:+a:b:c}", "x", Writes(b"b:c")),
-    (b"${1:+a\\:b:c}", "x", Writes(b"a:b")),
-    (b"${2:-a\\}b}", "x", Writes(b"a}b")),
-    (b"${2:-a{b}c", "x", Writes(b"a{bc")),
-    (b"${5:-x}", "x", Unwritten(ExpandError::NoGroup)),
-    (b"${5:-x}", "xn", Writes(b"x")),
-    (b"${5:+a:b}", "xn", Writes(b"b")),
-    (b"${5:+a:b}", "xe", Unwritten(ExpandError::NoGroup)),
-    (b"${none:-x}", "x", Unwritten(ExpandError::NoGroup)),
-    (b"${two:-$1}", "x", Writes(b"wO")),
-    (b"${two:-$two}", "x", Unwritten(ExpandError::Unset)),
-    (b"${two:-$two}", "xe", Writes(b"")),
-    (b"${two:+$two}", "x", Writes(b"")),
-    (b"${one:-$two}", "x", Writes(b"wO")),
-    (b"${two:-${2:-${3:-deep}}}", "x", Writes(b"deep")),
-    (b"${one:+${two:+a:b}:c}", "x", Writes(b"b")),
-    (b"${two:+${one:+a:b}:c}", "x", Writes(b"c")),
-    (b"${2:-x", "x", Unread(PlanError::MissingBrace)),
-    (b"${2:-", "x", Unread(PlanError::MissingBrace)),
-    (b"${1:+x", "x", Unread(PlanError::MissingBrace)),
-    (b"${1:+x:y", "x", Unread(PlanError::MissingBrace)),
-    (b"${two:+${one:+a:b", "x", Unread(PlanError::MissingBrace)),
+const TEXTS: &[&str] = &[
+    r"- \n => \n",
+    "- a:b}c => a:b}c",
+    "x a:b}c => a:b}c",
+    "- ${1:-x} => !MissingBrace",
+    "- ${1: => !MissingBrace",
+    "x ${1:xyz => !BadSyntax",
+    "x ${1:=xyz => !BadSyntax",
+    "x ${2:-none} => none",
+    "x ${1:-none} => wO",
+    "x ${1:+yes} => yes",
+    "x ${2:+yes} => ",
+    "x ${1:+yes:no} => yes",
+    "x ${2:+yes:no} => no",
+    "x ${2:+:no} => no",
+    "x ${1:+:no} => ",
+    "x ${2:+yes:} => ",
+    "x ${2:-} => ",
+    "x ${2:-a:b} => a:b",
+    "x ${2:+a:b:c} => b:c",
+    r"x ${1:+a\:b:c} => a:b",
+    r"x ${2:-a\}b} => a}b",
+    "x ${2:-a{b}c => a{bc",
+    "x ${5:-x} => !NoGroup",
+    "xn ${5:-x} => x",
+    "xn ${5:+a:b} => b",
+    "xe ${5:+a:b} => !NoGroup",
+    "x ${none:-x} => !NoGroup",
+    "x ${two:-$1} => wO",
+    "x ${two:-$two} => !Unset",
+    "xe ${two:-$two} => ",
+    "x ${two:+$two} => ",
+    "x ${one:-$two} => wO",
+    "x ${two:-${2:-${3:-deep}}} => deep",
+    "x ${one:+${two:+a:b}:c} => b",
+    "x ${two:+${one:+a:b}:c} => c",
+    "x ${2:-x => !MissingBrace",
+    "x ${2:- => !MissingBrace",
+    "x ${1:+x => !MissingBrace",
+    "x ${1:+x:y => !MissingBrace",
+    "x ${two:+${one:+a:b => !MissingBrace",
 ];
 
 /// Escapes.
-const ESCAPES: &[Row] = &[
-    (b"\\", "x", Unread(PlanError::BadEscape)),
-    (b"a\\", "x", Unread(PlanError::BadEscape)),
-    (b"\\a\\e\\f\\n\\r\\t", "x", Writes(b"\x07\x1B\x0C\n\r\t")),
-    (b"\\b", "x", Unread(PlanError::BadEscape)),
-    (b"\\v", "x", Unread(PlanError::BadEscape)),
-    (b"\\i", "x", Unread(PlanError::BadEscape)),
-    (b"\\N", "x", Unread(PlanError::BadEscape)),
-    (b"\\Z", "x", Unread(PlanError::BadEscape)),
-    (b"\\g1", "x", Unread(PlanError::BadEscape)),
-    (b"\\d", "x", Unread(PlanError::BadEscape)),
-    (b"\\.\\$\\\\\\{\\_", "x", Writes(b".$\\{_")),
-    (b"\\\xFF", "x", Writes(b"\xFF")),
-    (b"\\ ", "x", Writes(b" ")),
-    (b"\\x", "x", Writes(b"\x00")),
-    (b"\\x4", "x", Writes(b"\x04")),
-    (b"\\x414", "x", Writes(b"A4")),
-    (b"\\xg", "x", Writes(b"\x00g")),
-    (b"\\x{41}", "x", Writes(b"A")),
-    (b"\\x{ff}", "x", Writes(b"\xFF")),
-    (b"\\x{ff}", "xu", Writes(b"\xC3\xBF")),
-    (b"\\xe9", "xu", Writes(b"\xC3\xA9")),
-    (b"\\x{100}", "x", Unread(PlanError::BadEscape)),
-    (b"\\x{100}", "xu", Writes(b"\xC4\x80")),
-    (b"\\x{10ffff}", "xu", Writes(b"\xF4\x8F\xBF\xBF")),
-    (b"\\x{110000}", "xu", Unread(PlanError::BadEscape)),
-    (b"\\x{d800}", "xu", Unread(PlanError::BadEscape)),
-    (b"\\x{}", "x", Unread(PlanError::BadEscape)),
-    (b"\\x{4z}", "x", Unread(PlanError::BadEscape)),
-    (b"\\x{41", "x", Unread(PlanError::BadEscape)),
-    (b"\\o{101}", "x", Writes(b"A")),
-    (b"\\o{400}", "x", Unread(PlanError::BadEscape)),
-    (b"\\o{8}", "x", Unread(PlanError::BadEscape)),
-    (b"\\o101", "x", Unread(PlanError::BadEscape)),
-    (b"\\o", "x", Unread(PlanError::BadEscape)),
-    (b"\\o{}", "x", Unread(PlanError::BadEscape)),
-    (b"\\Q$1\\n\\E$1", "x", Writes(b"$1\\nwO")),
-    (b"\\Q$1", "x", Writes(b"$1")),
-    (b"\\Q\\E", "x", Writes(b"")),
-    (b"\\Q\\Q\\E", "x", Writes(b"\\Q")),
-    (b"\\Qa\\", "x", Writes(b"a\\")),
-    (b"${2:-\\Q}:\\E}", "x", Writes(b"}:")),
-    (b"${1:+\\Q:}", "x", Unread(PlanError::MissingBrace)),
-    (b"${2:-\\Qa}", "x", Unread(PlanError::MissingBrace)),
+const ESCAPES: &[&str] = &[
+    r"x \ => !BadEscape",
+    r"x a\ => !BadEscape",
+    "x \\a\\e\\f\\n\\r\\t => \x07\x1b\x0c\n\r\t",
+    r"x \b => !BadEscape",
+    r"x \v => !BadEscape",
+    r"x \i => !BadEscape",
+    r"x \N => !BadEscape",
+    r"x \Z => !BadEscape",
+    r"x \g1 => !BadEscape",
+    r"x \d => !BadEscape",
+    r"x \.\$\\\{\_ => .$\{_",
+    "x \\\u{ff} => \u{ff}",
+    r"x \  =>  ",
+    "x \\x => \x00",
+    "x \\x4 => \x04",
+    r"x \x414 => A4",
+    "x \\xg => \x00g",
+    r"x \x{41} => A",
+    "x \\x{ff} => \u{ff}",
+    "xu \\x{ff} => \u{c3}\u{bf}",
+    "xu \\xe9 => \u{c3}\u{a9}",
+    r"x \x{100} => !BadEscape",
+    "xu \\x{100} => \u{c4}\u{80}",
+    "xu \\x{10ffff} => \u{f4}\u{8f}\u{bf}\u{bf}",
+    r"xu \x{110000} => !BadEscape",
+    r"xu \x{d800} => !BadEscape",
+    r"x \x{} => !BadEscape",
+    r"x \x{4z} => !BadEscape",
+    r"x \x{41 => !BadEscape",
+    r"x \o{101} => A",
+    r"x \o{400} => !BadEscape",
+    r"x \o{8} => !BadEscape",
+    r"x \o101 => !BadEscape",
+    r"x \o => !BadEscape",
+    r"x \o{} => !BadEscape",
+    r"x \Q$1\n\E$1 => $1\nwO",
+    r"x \Q$1 => $1",
+    r"x \Q\E => ",
+    r"x \Q\Q\E => \Q",
+    r"x \Qa\ => a\",
+    r"x ${2:-\Q}:\E} => }:",
+    r"x ${1:+\Q:} => !MissingBrace",
+    r"x ${2:-\Qa} => !MissingBrace",
 ];
 
 /// Case forcing.
-const CASES: &[Row] = &[
-    (b"\\Uab$1\\Ecd", "x", Writes(b"ABWOcd")),
-    (b"\\LAB$1\\ECD", "x", Writes(b"abwoCD")),
-    (b"\\Uab\\LCD\\Eef\\E", "x", Writes(b"ABcdef")),
-    (b"\\Uaa\\LBB\\Ecc\\E", "x", Writes(b"AAbbcc")),
-    (b"\\uabc", "x", Writes(b"Abc")),
-    (b"\\lABC", "x", Writes(b"aBC")),
-    (b"\\u$1x", "x", Writes(b"WOx")),
-    (b"\\l$0", "x", Writes(b"wORd")),
-    (b"\\u-ab", "x", Writes(b"-ab")),
-    (b"\\u\\uab", "x", Writes(b"Ab")),
-    (b"\\u\\lab", "x", Writes(b"ab")),
-    (b"\\l\\uab", "x", Writes(b"Ab")),
-    (b"\\u\\Uab", "x", Writes(b"AB")),
-    (b"\\U\\uab", "x", Writes(b"Ab")),
-    (b"\\L\\uAB", "x", Writes(b"AB")),
-    (b"\\u\\LaB", "x", Writes(b"ab")),
-    (b"\\u\\Eab", "x", Writes(b"ab")),
-    (b"\\U\\Qab\\Ecd", "x", Writes(b"ABCD")),
-    (b"\\u\\Qab\\E", "x", Writes(b"Ab")),
-    (b"\\u\\Q\\Eab", "x", Writes(b"Ab")),
-    (b"\\u${2:+z}ab", "x", Writes(b"Ab")),
-    (b"\\u$2ab", "xe", Writes(b"Ab")),
-    (b"\\u${2:-ab}", "x", Writes(b"Ab")),
-    (b"${1:+\\u}ab", "x", Writes(b"Ab")),
-    (b"${1:+\\U:\\L}aB", "x", Writes(b"AB")),
-    (b"${2:+\\U:\\L}aB", "x", Writes(b"ab")),
-    (b"\\U${2:-ab}c", "x", Writes(b"ABC")),
-    (b"${2:-\\U}ab", "x", Writes(b"AB")),
-    (b"${1:-\\U}ab", "x", Writes(b"wOab")),
-    (b"\\u$*MARK", "x", Writes(b"Tag")),
-    (b"\\U\\x{61}\\n", "x", Writes(b"A\n")),
-    (b"\\u\\x{61}b", "x", Writes(b"Ab")),
-    (b"\\U\\x{e9}a", "x", Writes(b"\xE9A")),
-    (b"\\u$1${2:-none}", "x", Writes(b"WOnone")),
-    (b"\\uab", "", Writes(b"\\uab")),
+const CASES: &[&str] = &[
+    r"x \Uab$1\Ecd => ABWOcd",
+    r"x \LAB$1\ECD => abwoCD",
+    r"x \Uab\LCD\Eef\E => ABcdef",
+    r"x \Uaa\LBB\Ecc\E => AAbbcc",
+    r"x \uabc => Abc",
+    r"x \lABC => aBC",
+    r"x \u$1x => WOx",
+    r"x \l$0 => wORd",
+    r"x \u-ab => -ab",
+    r"x \u\uab => Ab",
+    r"x \u\lab => ab",
+    r"x \l\uab => Ab",
+    r"x \u\Uab => AB",
+    r"x \U\uab => Ab",
+    r"x \L\uAB => AB",
+    r"x \u\LaB => ab",
+    r"x \u\Eab => ab",
+    r"x \U\Qab\Ecd => ABCD",
+    r"x \u\Qab\E => Ab",
+    r"x \u\Q\Eab => Ab",
+    r"x \u${2:+z}ab => Ab",
+    r"xe \u$2ab => Ab",
+    r"x \u${2:-ab} => Ab",
+    r"x ${1:+\u}ab => Ab",
+    r"x ${1:+\U:\L}aB => AB",
+    r"x ${2:+\U:\L}aB => ab",
+    r"x \U${2:-ab}c => ABC",
+    r"x ${2:-\U}ab => AB",
+    r"x ${1:-\U}ab => wOab",
+    r"x \u$*MARK => Tag",
+    "x \\U\\x{61}\\n => A\n",
+    r"x \u\x{61}b => Ab",
+    "x \\U\\x{e9}a => \u{e9}A",
+    r"x \u$1${2:-none} => WOnone",
+    r"- \uab => \uab",
 ];
 
-/// Whether a replacement has this outcome.
-fn comes_out(alloc: Global, row: (&[u8], &str, Outcome)) -> bool {
-    let (text, options, outcome) = row;
-    let has = |c: char| options.contains(c);
-    let plan = match Plan::read(alloc, text, has('x'), has('u')) {
-        Ok(plan) => plan,
-        Err(e) => return outcome == Unread(e),
-    };
-    match expand(alloc, &plan, &Sample, has('e'), has('n')) {
-        Ok(bytes) => matches!(outcome, Writes(text) if text == bytes.as_slice()),
-        Err(e) => outcome == Unwritten(e),
+/// The bytes of these codes.
+fn bytes_of(alloc: Global, text: &str) -> Result<Vec<u8>, Fail> {
+    let mut bytes = Vec::new(alloc);
+    for c in text.chars() {
+        bytes.push(u8::try_from(u32::from(c))?)?;
     }
+    Ok(bytes)
+}
+
+/// What a replacement writes, or why it is refused.
+fn outcome(alloc: Global, options: &str, text: &[u8]) -> Result<Vec<u8>, Fail> {
+    let has = |c: char| options.contains(c);
+    let refused = match Plan::read(alloc, text, has('x'), has('u')) {
+        Ok(plan) => match expand(alloc, &plan, &Sample, has('e'), has('n')) {
+            Ok(bytes) => return Ok(bytes),
+            Err(e) => format!(in alloc; "!{e:?}")?,
+        },
+        Err(e) => format!(in alloc; "!{e:?}")?,
+    };
+    Ok(refused.into_bytes())
+}
+
+/// Whether a replacement has this outcome.
+fn comes_out(alloc: Global, row: &str) -> Result<bool, Fail> {
+    let (head, told) = row.split_once(" => ").unwrap_or((row, "?"));
+    let (options, text) = head.split_once(' ').unwrap_or((head, "?"));
+    let text = bytes_of(alloc, text)?;
+    Ok(outcome(alloc, options, &text)? == bytes_of(alloc, told)?)
 }
 
 /// Whether each row has its outcome.
-fn check_rows(rt: &impl Abort, alloc: Global, rows: &[Row]) {
-    for (i, row) in rows.iter().enumerate() {
-        assert!(rt; comes_out(alloc, *row), "row {i}");
+fn check_rows(rt: &impl Abort, alloc: Global, rows: &[&str]) -> Result<(), Fail> {
+    for row in rows {
+        assert!(rt; comes_out(alloc, row)?, "{row}");
     }
+    Ok(())
 }
 
 #[test]
-fn writes_groups_and_marks(rt: HostRuntime) {
-    check_rows(&rt, rt.alloc(), REFERENCES);
+fn writes_groups_and_marks(rt: HostRuntime) -> Result<(), Fail> {
+    check_rows(&rt, rt.alloc(), REFERENCES)
 }
 
 #[test]
-fn chooses_inner_texts(rt: HostRuntime) {
-    check_rows(&rt, rt.alloc(), TEXTS);
+fn chooses_inner_texts(rt: HostRuntime) -> Result<(), Fail> {
+    check_rows(&rt, rt.alloc(), TEXTS)
 }
 
 #[test]
-fn writes_what_escapes_say(rt: HostRuntime) {
-    check_rows(&rt, rt.alloc(), ESCAPES);
+fn writes_what_escapes_say(rt: HostRuntime) -> Result<(), Fail> {
+    check_rows(&rt, rt.alloc(), ESCAPES)
 }
 
 #[test]
-fn forces_the_case(rt: HostRuntime) {
-    check_rows(&rt, rt.alloc(), CASES);
+fn forces_the_case(rt: HostRuntime) -> Result<(), Fail> {
+    check_rows(&rt, rt.alloc(), CASES)
 }
 
 /// The fault of a replacement of two bytes, by their kinds.
@@ -324,35 +314,36 @@ fn fault_of(first: u8, second: u8, extended: bool) -> Option<PlanError> {
     }
 }
 
+/// Whether a replacement is read, or is refused with this fault.
+fn has_fault(alloc: Global, text: &[u8], extended: bool, fault: Option<PlanError>) -> bool {
+    Plan::read(alloc, text, extended, false).err() == fault
+}
+
 #[test]
 fn reads_or_refuses_each_replacement_of_one_byte(rt: HostRuntime) {
     for byte in 0..=255u8 {
-        for extended in [false, true] {
-            let fault = match byte {
-                b'$' => Some(PlanError::BadReplacement),
-                b'\\' if extended => Some(PlanError::BadEscape),
-                _ => None,
-            };
-            let text = [byte];
-            let told = Plan::read(rt.alloc(), text.as_slice(), extended, false).err();
-            assert!(rt; told == fault, "{byte} {extended}");
-        }
+        let dollar = (byte == b'$').then_some(PlanError::BadReplacement);
+        let escape = (byte == b'\\').then_some(PlanError::BadEscape);
+        assert!(rt; has_fault(rt.alloc(), &[byte], false, dollar), "{byte}");
+        assert!(rt;
+            has_fault(rt.alloc(), &[byte], true, dollar.or(escape)),
+            "{byte} extended"
+        );
     }
+}
+
+/// Whether a replacement of two bytes is read or refused as it is to be.
+fn has_fault_of(alloc: Global, text: [u8; 2], extended: bool) -> bool {
+    let fault = fault_of(text[0], text[1], extended);
+    has_fault(alloc, &text, extended, fault)
 }
 
 #[test]
 fn reads_or_refuses_each_replacement_of_two_bytes(rt: HostRuntime) {
-    for first in 0..=255u8 {
-        for second in 0..=255u8 {
-            for extended in [false, true] {
-                let text = [first, second];
-                let fault = Plan::read(rt.alloc(), text.as_slice(), extended, false).err();
-                assert!(rt;
-                    fault == fault_of(first, second, extended),
-                    "{first} {second} {extended}"
-                );
-            }
-        }
+    for pair in 0..=u16::MAX {
+        let text = pair.to_be_bytes();
+        assert!(rt; has_fault_of(rt.alloc(), text, false), "{text:?}");
+        assert!(rt; has_fault_of(rt.alloc(), text, true), "{text:?} extended");
     }
 }
 
@@ -364,24 +355,32 @@ fn after(x: u32) -> u32 {
     x.wrapping_mul(1_664_525).wrapping_add(1_013_904_223)
 }
 
+/// The next text of up to 31 bytes.
+fn random_text(alloc: Global, x: &mut u32) -> Result<Vec<u8>, Fail> {
+    let mut text = Vec::new(alloc);
+    *x = after(*x);
+    for _ in 0..*x / 134_217_728 {
+        *x = after(*x);
+        let place = (*x / 67_108_864) as usize;
+        text.push(KINDS.get(place).copied().unwrap_or(b'1'))?;
+    }
+    Ok(text)
+}
+
+/// Whether a text is refused for what it is, or is read and written.
+fn is_judged(alloc: Global, text: &[u8]) -> bool {
+    match Plan::read(alloc, text, true, false) {
+        Ok(plan) => expand(alloc, &plan, &Sample, true, true).is_ok(),
+        Err(e) => e != PlanError::Memory,
+    }
+}
+
 #[test]
 fn reads_or_refuses_random_replacements(rt: HostRuntime) -> Result<(), Fail> {
-    let alloc = rt.alloc();
     let mut x = 1;
     for _ in 0..10_000 {
-        let mut text = Vec::new(alloc);
-        x = after(x);
-        for _ in 0..x / 134_217_728 {
-            x = after(x);
-            let place = (x / 67_108_864) as usize;
-            text.push(KINDS.get(place).copied().unwrap_or(b'1'))?;
-        }
-        let read = Plan::read(alloc, text.as_slice(), true, false);
-        assert!(rt; read.as_ref().err() != Some(&PlanError::Memory));
-        if let Ok(plan) = read {
-            let written = expand(alloc, &plan, &Sample, true, true);
-            assert!(rt; written.is_ok());
-        }
+        let text = random_text(rt.alloc(), &mut x)?;
+        assert!(rt; is_judged(rt.alloc(), &text), "{text:?}");
     }
     Ok(())
 }
@@ -399,25 +398,23 @@ fn nested(alloc: Global, depth: usize) -> Result<Vec<u8>, Fail> {
     Ok(text)
 }
 
+/// So many inner texts, and what they write or why they are refused.
+const NESTED: &[(usize, &[u8])] = &[(20, b"x"), (21, b"!BadSyntax")];
+
 #[test]
 fn nests_twenty_texts_and_no_more(rt: HostRuntime) -> Result<(), Fail> {
-    let alloc = rt.alloc();
-    let most = nested(alloc, 20)?;
-    assert!(rt; comes_out(alloc, (most.as_slice(), "x", Writes(b"x"))));
-    let more = nested(alloc, 21)?;
-    assert!(rt; comes_out(alloc, (more.as_slice(), "x", Unread(PlanError::BadSyntax))));
+    for (depth, told) in NESTED {
+        let text = nested(rt.alloc(), *depth)?;
+        assert!(rt; outcome(rt.alloc(), "x", &text)?.as_slice() == *told);
+    }
     Ok(())
 }
 
 #[test]
 fn adds_a_literal_text_as_it_is(rt: HostRuntime) -> Result<(), Fail> {
-    let plan = Plan::literal(rt.alloc(), b"$1\\U${");
-    assert!(rt; plan.is_ok());
-    if let Ok(plan) = plan {
-        let mut out = b"a".to_vec(rt.alloc())?;
-        let added = expand_into(&plan, &Sample, false, false, &mut out);
-        assert!(rt; added.is_ok());
-        assert_eq!(rt; out.as_slice(), b"a$1\\U${".as_slice());
-    }
+    let plan = Plan::literal(rt.alloc(), b"$1\\U${")?;
+    let mut out = b"a".to_vec(rt.alloc())?;
+    let added = expand_into(&plan, &Sample, false, false, &mut out);
+    assert!(rt; added.is_ok() && out.as_slice() == b"a$1\\U${".as_slice());
     Ok(())
 }

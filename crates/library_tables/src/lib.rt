@@ -8,4 +8,6 @@ mod library;
 #[cfg(test)]
 mod places;
 #[cfg(test)]
+mod rows;
+#[cfg(test)]
 mod utf;

@@ -1,20 +1,62 @@
 //! The library as a program uses it.
-ghost use Rattle.std.specs.Prelude.{◌≡◌, ◌<◌, length};
-ghost use Rattle.pat_tree.specs.declared.options.PartialMode.TheVariants.{Off};
+ghost use Rattle.std.specs.Prelude.{◌<◌, length, IfOk, IfSome};
 
-use frame_machine::Scratch;
-use pat_tree::{MatchOptions, Options};
-use pcre_io::NoCallouts;
-use pcre2_api::{Code, CompileError, MatchError, SubstError, SubstOptions, Substituted};
+use pcre2_api::{
+    Code, Found, MatchError, MatchOptions, NoCallouts, Options, Scratch, SubstOptions, Substituted,
+};
 use std::alloc::Global;
-use std::process::Abort;
 use std::test::Fail;
 
 /// A month of a year, in the digits of the text.
-#[derive(Drop, Debug, PartialEq, Eq)]
+#[derive(Drop)]
 struct Month {
     year: Vec<u8>,
     month: Vec<u8>,
+}
+
+/// The month that a match tells.
+fn month_of(alloc: Global, found: &Found<'_>) -> Result<Option<Month>, Fail> {
+    let Some(year) = found.group_named(b"year") else {
+        return Ok(None);
+    };
+    let Some(month) = found.group_named(b"month") else {
+        return Ok(None);
+    };
+    let year = year.to_vec(alloc)?;
+    let month = month.to_vec(alloc)?;
+    Ok(Some(Month { year, month }))
+}
+
+/// Adds the month that the first match from a start on tells. Gives where to go on, or none where
+/// there is no match.
+fn add_month(
+    alloc: Global,
+    code: &Code,
+    text: &[u8],
+    start: usize,
+    scratch: &mut Scratch,
+    months: &mut Vec<Month>,
+) -> Result<Option<usize>, Fail>
+    requires { length text.now < 4294967295 }
+    ensures onward { IfOk result (λ next. IfSome next (λ place. start < place)) }
+{
+    match code.match_at(text, start, &MatchOptions::PLAIN, scratch, &mut NoCallouts) {
+        Ok(found) => {
+            if let Some(month) = month_of(alloc, &found)? {
+                months.push(month)?;
+            }
+            // an empty match would be found at the same place again
+            let is_empty = found.start() == found.end();
+            let next = if is_empty {
+                found.end() + 1
+            } else {
+                found.end()
+            };
+            Ok(Some(next))
+        }
+        Err(MatchError::NoMatch { .. }) => Ok(None),
+        Err(e) => Err(Fail::from(e)),
+    }
 }
 
 /// All months in a text, in order.
@@ -27,103 +69,47 @@ fn months(alloc: Global, text: &[u8]) -> Result<Vec<Month>, Fail>
     let mut months = Vec::new(alloc);
     let mut start = 0;
     while start <= text.len() {
-        match code.match_at(
-            text,
-            start,
-            &MatchOptions::PLAIN,
-            &mut scratch,
-            &mut NoCallouts,
-        ) {
-            Ok(found) => {
-                if let Some(year) = found.group_named(b"year") {
-                    if let Some(month) = found.group_named(b"month") {
-                        months.push(Month {
-                            year: year.to_vec(alloc)?,
-                            month: month.to_vec(alloc)?,
-                        })?;
-                    }
-                }
-                // an empty match would be found at the same place again
-                let is_empty = found.start() == found.end();
-                start = if is_empty {
-                    found.end() + 1
-                } else {
-                    found.end()
-                };
-            }
-            Err(MatchError::NoMatch { .. }) => break,
-            Err(e) => return Err(Fail::from(e)),
+        match add_month(alloc, &code, text, start, &mut scratch, &mut months)? {
+            Some(next) => start = next,
+            None => break,
         }
     }
     Ok(months)
 }
 
+fn are(months: &[Month], wanted: &[(&[u8], &[u8])]) -> bool {
+    for (month, (year, digits)) in months.iter().zip(wanted) {
+        if month.year.as_slice() != *year || month.month.as_slice() != *digits {
+            return false;
+        }
+    }
+    months.len() == wanted.len()
+}
+
 #[test]
 fn months_are_collected(rt: HostRuntime) -> Result<(), Fail> {
-    let text = b"from 2023-11 to 2024-02, not 20240-3";
-    let found = months(rt.alloc(), text)?;
-    assert_eq!(&rt; found.len(), 2);
-    assert_eq!(&rt; found[0].year.as_slice(), b"2023".as_slice());
-    assert_eq!(&rt; found[0].month.as_slice(), b"11".as_slice());
-    assert_eq!(&rt; found[1].year.as_slice(), b"2024".as_slice());
-    assert_eq!(&rt; found[1].month.as_slice(), b"02".as_slice());
-    assert!(&rt; months(rt.alloc(), b"")?.is_empty());
+    static WANTED: [(&[u8], &[u8]); 2] = [(b"2023", b"11"), (b"2024", b"02")];
+    let found = months(rt.alloc(), b"from 2023-11 to 2024-02, not 20240-3")?;
+    assert!(&rt; are(found.as_slice(), &WANTED));
+    let none = months(rt.alloc(), b"")?;
+    assert!(&rt; none.is_empty());
     Ok(())
 }
 
-fn refusal(
-    rt: &impl Abort,
+/// The text with what a pattern matches replaced.
+fn rewritten(
     alloc: Global,
+    text: &[u8],
     pattern: &[u8],
-    start: usize,
-    options: &MatchOptions,
-) -> Result<MatchError, Fail>
-    requires { options.now.«partial» ≡ Off }
+    how: &SubstOptions,
+    replacement: &[u8],
+) -> Result<Substituted, Fail>
+    requires { length text.now < 4294967295 }
 {
     let code = Code::compile(alloc, pattern, Options::PLAIN)?;
     let mut scratch = Scratch::new(alloc);
-    match code.match_at(
-        b"aaaaaaaaaaaaaaaaaaaaaaaa",
-        start,
-        options,
-        &mut scratch,
-        &mut NoCallouts,
-    ) {
-        Ok(_) => panic!(rt; "matched"),
-        Err(e) => Ok(e),
-    }
-}
-
-#[test]
-fn each_error_has_its_meaning(rt: HostRuntime) -> Result<(), Fail> {
-    match Code::compile(rt.alloc(), b"(?<year>\\d{4}", Options::PLAIN) {
-        Ok(_) => panic!(&rt; "accepted"),
-        Err(e) => assert_eq!(&rt;
-            e,
-            CompileError::Bad {
-                number: 114,
-                at: 13
-            }
-        ),
-    }
     let plain = MatchOptions::PLAIN;
-    let none = refusal(&rt, rt.alloc(), b"b", 0, &plain)?;
-    assert_eq!(&rt; none, MatchError::NoMatch { mark: None });
-    let past = refusal(&rt, rt.alloc(), b"a", 25, &plain)?;
-    assert_eq!(&rt; past, MatchError::BadOffset);
-    let few_steps = MatchOptions {
-        match_limit: 1000,
-        ..plain
-    };
-    let slow = refusal(&rt, rt.alloc(), b"(a+)+[bc]", 0, &few_steps)?;
-    assert_eq!(&rt; slow, MatchError::MatchLimit);
-    let few_units = MatchOptions {
-        frame_limit: 10,
-        ..plain
-    };
-    let deep = refusal(&rt, rt.alloc(), b"(a|b)*c", 0, &few_units)?;
-    assert_eq!(&rt; deep, MatchError::FrameLimit);
-    Ok(())
+    Ok(code.substitute(alloc, text, 0, &plain, how, replacement, &mut scratch)?)
 }
 
 /// The text with its dates the other way round, and how many there are: `2026-11-28` becomes
@@ -132,21 +118,11 @@ fn turned_dates(alloc: Global, text: &[u8]) -> Result<Substituted, Fail>
     requires { length text.now < 4294967295 }
 {
     let pattern = b"(?<year>\\d{4})-(?<month>\\d\\d)-(?<day>\\d\\d)";
-    let code = Code::compile(alloc, pattern, Options::PLAIN)?;
-    let mut scratch = Scratch::new(alloc);
     let how = SubstOptions {
         global: true,
         ..SubstOptions::PLAIN
     };
-    Ok(code.substitute(
-        alloc,
-        text,
-        0,
-        &MatchOptions::PLAIN,
-        &how,
-        b"$day.$month.$year",
-        &mut scratch,
-    )?)
+    rewritten(alloc, text, pattern, &how, b"$day.$month.$year")
 }
 
 /// Names with their first letters in upper case. Where there is no first name it says so.
@@ -154,85 +130,23 @@ fn proper_names(alloc: Global, text: &[u8]) -> Result<Substituted, Fail>
     requires { length text.now < 4294967295 }
 {
     let pattern = b"(?<last>\\w+),(?: (?<first>\\w+))?";
-    let code = Code::compile(alloc, pattern, Options::PLAIN)?;
-    let mut scratch = Scratch::new(alloc);
     let how = SubstOptions {
         global: true,
         extended: true,
         ..SubstOptions::PLAIN
     };
-    Ok(code.substitute(
-        alloc,
-        text,
-        0,
-        &MatchOptions::PLAIN,
-        &how,
-        b"\\u${first:-N.N.} \\u$last",
-        &mut scratch,
-    )?)
+    rewritten(alloc, text, pattern, &how, b"\\u${first:-N.N.} \\u$last")
+}
+
+fn is_done(done: &Substituted, text: &[u8], count: u64) -> bool {
+    done.text.bytes() == text && done.count == count
 }
 
 #[test]
 fn texts_are_rewritten(rt: HostRuntime) -> Result<(), Fail> {
-    let done = turned_dates(rt.alloc(), b"from 2025-11-28 to 2026-11-28!")?;
-    assert_eq!(&rt;
-        done.text.bytes(),
-        b"from 28.11.2025 to 28.11.2026!".as_slice()
-    );
-    assert_eq!(&rt; done.count, 2);
+    let dates = turned_dates(rt.alloc(), b"from 2025-11-28 to 2026-11-28!")?;
+    assert!(&rt; is_done(&dates, b"from 28.11.2025 to 28.11.2026!", 2));
     let names = proper_names(rt.alloc(), b"lovelace, ada; turing,; hopper, grace")?;
-    assert_eq!(&rt;
-        names.text.bytes(),
-        b"Ada Lovelace; N.N. Turing; Grace Hopper".as_slice()
-    );
-    assert_eq!(&rt; names.count, 3);
-    Ok(())
-}
-
-/// Why a replacement of `(a)|b` in `ab` is refused.
-fn refused_replacement(
-    rt: &impl Abort,
-    alloc: Global,
-    replacement: &[u8],
-    how: &SubstOptions,
-) -> Result<SubstError, Fail> {
-    let code = Code::compile(alloc, b"(a)|b", Options::PLAIN)?;
-    let mut scratch = Scratch::new(alloc);
-    match code.substitute(
-        alloc,
-        b"ab",
-        0,
-        &MatchOptions::PLAIN,
-        how,
-        replacement,
-        &mut scratch,
-    ) {
-        Ok(_) => panic!(rt; "replaced"),
-        Err(e) => Ok(e),
-    }
-}
-
-#[test]
-fn each_refused_replacement_has_its_meaning(rt: HostRuntime) -> Result<(), Fail> {
-    let all = SubstOptions {
-        global: true,
-        ..SubstOptions::PLAIN
-    };
-    let extended = SubstOptions {
-        extended: true,
-        ..SubstOptions::PLAIN
-    };
-    let bare = refused_replacement(&rt, rt.alloc(), b"$", &all)?;
-    assert_eq!(&rt; bare, SubstError::BadReplacement);
-    let open = refused_replacement(&rt, rt.alloc(), b"${1", &all)?;
-    assert_eq!(&rt; open, SubstError::MissingBrace);
-    let escape = refused_replacement(&rt, rt.alloc(), b"\\i", &extended)?;
-    assert_eq!(&rt; escape, SubstError::BadEscape);
-    let colon = refused_replacement(&rt, rt.alloc(), b"${1:x}", &extended)?;
-    assert_eq!(&rt; colon, SubstError::BadSyntax);
-    let unknown = refused_replacement(&rt, rt.alloc(), b"$2", &all)?;
-    assert_eq!(&rt; unknown, SubstError::NoGroup);
-    let unset = refused_replacement(&rt, rt.alloc(), b"$1", &all)?;
-    assert_eq!(&rt; unset, SubstError::Unset);
+    assert!(&rt; is_done(&names, b"Ada Lovelace; N.N. Turing; Grace Hopper", 3));
     Ok(())
 }

@@ -1,5 +1,6 @@
 //! Where searches begin in UTF, by the forms of RFC 3629, section 3.
 use pcre2_api::{Code, MatchError, Options};
+use std::process::Abort;
 use std::test::Fail;
 
 /// A subject, a start, and why a search can't begin there, if it can't.
@@ -63,14 +64,17 @@ const STARTS: &[Row] = &[
     (b"\xff", 2, Err(MatchError::BadOffset)),
 ];
 
+fn check_all(rt: &impl Abort, code: &Code, rows: &[Row]) {
+    for (subject, start, expected) in rows {
+        assert!(rt; code.test_start(subject, *start) == *expected);
+    }
+}
+
 #[test]
 fn a_search_begins_at_a_character(rt: HostRuntime) -> Result<(), Fail> {
     let code = Code::compile(rt.alloc(), b".", UTF)?;
-    for rows in [SUBJECTS, STARTS] {
-        for (subject, start, expected) in rows {
-            assert_eq!(&rt; code.test_start(subject, *start), *expected);
-        }
-    }
+    check_all(&rt, &code, SUBJECTS);
+    check_all(&rt, &code, STARTS);
     Ok(())
 }
 
@@ -78,7 +82,7 @@ fn a_search_begins_at_a_character(rt: HostRuntime) -> Result<(), Fail> {
 fn without_utf_a_search_begins_anywhere(rt: HostRuntime) -> Result<(), Fail> {
     let code = Code::compile(rt.alloc(), b".", Options::PLAIN)?;
     for (subject, _, _) in SUBJECTS {
-        assert_eq!(&rt; code.test_start(subject, subject.len()), Ok(()));
+        assert!(&rt; code.test_start(subject, subject.len()).is_ok());
     }
     Ok(())
 }

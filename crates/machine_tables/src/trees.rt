@@ -254,10 +254,7 @@ fn case(rt: &impl Abort, alloc: Global, row: &Row, scratch: &mut Scratch) -> Res
         to,
         mark: None,
     };
-    assert_eq!(rt;
-        found(alloc, &tree, subject, scratch, &mut NoCallouts)?,
-        answer
-    );
+    assert!(rt; found(alloc, &tree, subject, scratch, &mut NoCallouts)? == answer);
     Ok(())
 }
 
@@ -386,10 +383,7 @@ fn failing(
         signal,
         hit_end: false,
     };
-    assert_eq!(rt;
-        found(alloc, &tree, subject, scratch, &mut NoCallouts)?,
-        answer
-    );
+    assert!(rt; found(alloc, &tree, subject, scratch, &mut NoCallouts)? == answer);
     Ok(())
 }
 
@@ -627,7 +621,7 @@ fn calling(
         shown: Vec::new(alloc),
         answer: reply,
     };
-    assert_eq!(rt; found(alloc, &tree, subject, scratch, &mut calls)?, answer);
+    assert!(rt; found(alloc, &tree, subject, scratch, &mut calls)? == answer);
     let mut blocks = Vec::new(alloc);
     for (number, start, current) in shown {
         blocks.push(Block {
@@ -641,7 +635,7 @@ fn calling(
             mark: None,
         })?;
     }
-    assert_eq!(rt; calls.shown.as_slice(), blocks.as_slice());
+    assert!(rt; calls.shown.as_slice() == blocks.as_slice());
     Ok(())
 }
 

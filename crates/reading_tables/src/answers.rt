@@ -16,16 +16,27 @@ pub fn is_read(
 ) -> Result<(), Fail> {
     let tree = read(alloc, pattern.as_bytes(), options)?;
     let text = shown(alloc, &tree)?;
-    assert_eq!(rt; text.as_str(), expected, "{pattern}");
+    assert!(rt; text.as_str() == expected, "{pattern}: {text}");
     Ok(())
 }
 
-/// Without options each pattern is read as this tree.
-pub fn are_read(rt: &impl Abort, alloc: Global, rows: &[(&str, &str)]) -> Result<(), Fail> {
-    for (pattern, expected) in rows {
-        is_read(rt, alloc, pattern, Options::PLAIN, expected)?;
+/// Under these options each pattern is read as the tree that stands after ` => ` in its row.
+pub fn are_trees(
+    rt: &impl Abort,
+    alloc: Global,
+    options: Options,
+    rows: &[&str],
+) -> Result<(), Fail> {
+    for row in rows {
+        let (pattern, expected) = row.split_once(" => ").unwrap_or((*row, ""));
+        is_read(rt, alloc, pattern, options, expected)?;
     }
     Ok(())
+}
+
+/// Without options each pattern is read as the tree of its row.
+pub fn are_read(rt: &impl Abort, alloc: Global, rows: &[&str]) -> Result<(), Fail> {
+    are_trees(rt, alloc, Options::PLAIN, rows)
 }
 
 /// The number and the place of the pattern's fault.

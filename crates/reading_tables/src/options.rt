@@ -1,12 +1,14 @@
 //! What the options of a pattern and its start items change (pcre2api, "Compiling a pattern"; pcre2pattern, "Special
 //! start-of-pattern items").
-use crate::answers::is_read;
+use crate::answers::{are_read, are_trees};
 use Setting::{
     AllowEmptyClass, Caseless, DollarEndOnly, DotAll, DupNames, Extended, ExtendedCrLf,
     ExtendedMore, Literal, LiteralCaseless, Multiline, NoAutoCapture, Ungreedy,
 };
 use pat_build::read;
 use pat_tree::{Bsr, Newline, Options};
+use std::alloc::Global;
+use std::process::Abort;
 use std::test::Fail;
 
 const PLAIN: Options = Options::PLAIN;
@@ -55,151 +57,153 @@ fn options_of(setting: Setting) -> Options {
     options
 }
 
-#[test]
-fn options_of_patterns(rt: HostRuntime) -> Result<(), Fail> {
-    static ROWS: [(&'static str, Setting, &'static str); 20] = [
-        ("aB1", Caseless, "(<~a ~B ~1>)"),
-        ("(?-i)a", Caseless, "(a)"),
-        (r"(a)\1[b]", Caseless, "(<(1:~a) ~=1 ~[b]>)"),
-        ("^a$", Multiline, "(<^m a $m>)"),
-        ("(?-m:^)^", Multiline, "(<(^) ^m>)"),
-        (r".\N", DotAll, "(<any .>)"),
-        ("(?-s).", DotAll, "(.)"),
-        ("a$", DollarEndOnly, "(<a $e>)"),
-        ("(?m)$", DollarEndOnly, "($me)"),
-        (r"a\Z", DollarEndOnly, r"(<a \Z>)"),
-        ("(?<n>a)(?<n>b)", DupNames, "(<(1:a) (2:b)>) n=1 n=2"),
-        ("(a)(?<n>b)(?:c)", NoAutoCapture, "(<(a) (1:b) (c)>) n=1"),
-        ("(?-n)(a)", NoAutoCapture, "((1:a))"),
-        ("a+b+?", Ungreedy, "(<a{1,}? b{1,}>)"),
-        ("(?-U)a+", Ungreedy, "(a{1,})"),
-        ("(a){2}", Ungreedy, "((1:a)*{2,2}?)"),
-        ("[]", AllowEmptyClass, "([])"),
-        ("[^]", AllowEmptyClass, "([^])"),
-        ("[]a]", AllowEmptyClass, "(<[] a ']'>)"),
-        ("[a]]", AllowEmptyClass, "(<[a] ']'>)"),
-    ];
-    for (pattern, setting, expected) in ROWS {
-        is_read(&rt, rt.alloc(), pattern, options_of(setting), expected)?;
+// Each pattern is read as the tree that stands after ` => ` in its row.
+fn are_read_with(rt: &impl Abort, alloc: Global, rows: &[(Setting, &str)]) -> Result<(), Fail> {
+    for (setting, row) in rows {
+        are_trees(rt, alloc, options_of(*setting), &[*row])?;
     }
     Ok(())
 }
+
+const OPTIONS: &[(Setting, &str)] = &[
+    (Caseless, "aB1 => (<~a ~B ~1>)"),
+    (Caseless, "(?-i)a => (a)"),
+    (Caseless, r"(a)\1[b] => (<(1:~a) ~=1 ~[b]>)"),
+    (Multiline, "^a$ => (<^m a $m>)"),
+    (Multiline, "(?-m:^)^ => (<(^) ^m>)"),
+    (DotAll, r".\N => (<any .>)"),
+    (DotAll, "(?-s). => (.)"),
+    (DollarEndOnly, "a$ => (<a $e>)"),
+    (DollarEndOnly, "(?m)$ => ($me)"),
+    (DollarEndOnly, r"a\Z => (<a \Z>)"),
+    (DupNames, "(?<n>a)(?<n>b) => (<(1:a) (2:b)>) n=1 n=2"),
+    (NoAutoCapture, "(a)(?<n>b)(?:c) => (<(a) (1:b) (c)>) n=1"),
+    (NoAutoCapture, "(?-n)(a) => ((1:a))"),
+    (Ungreedy, "a+b+? => (<a{1,}? b{1,}>)"),
+    (Ungreedy, "(?-U)a+ => (a{1,})"),
+    (Ungreedy, "(a){2} => ((1:a)*{2,2}?)"),
+    (AllowEmptyClass, "[] => ([])"),
+    (AllowEmptyClass, "[^] => ([^])"),
+    (AllowEmptyClass, "[]a] => (<[] a ']'>)"),
+    (AllowEmptyClass, "[a]] => (<[a] ']'>)"),
+];
+
+#[test]
+fn options_of_patterns(rt: HostRuntime) -> Result<(), Fail> {
+    are_read_with(&rt, rt.alloc(), OPTIONS)
+}
+
+const BLANKS_AND_LITERALS: &[(Setting, &str)] = &[
+    (Extended, " a b  => (<a b>)"),
+    (Extended, "a\t\n\x0b\x0c\rb => (<a b>)"),
+    (Extended, "a#b\nc => (<a c>)"),
+    (ExtendedCrLf, "a#b\nc => (a)"),
+    (ExtendedCrLf, "a#b\r\nc => (<a c>)"),
+    (Extended, "a #b\n #c\n * => (a{0,})"),
+    (Extended, r"\#\ [ #] => (<'#' ' ' [' ' '#']>)"),
+    (Extended, r"\Q #\E => (<' ' '#'>)"),
+    (Extended, "( a | b ) => ((1:a|b))"),
+    (Extended, "(?-x) a => (<' ' a>)"),
+    (Extended, "a{2 } => (<a '{' 2 '}'>)"),
+    (Extended, "(?<n> a) => ((1:a)) n=1"),
+    (Extended, "[ a\tb] => ([' ' a '09' b])"),
+    (ExtendedMore, "[ a\tb] => ([a b])"),
+    (ExtendedMore, " a [ - z] => (<a ['-' z]>)"),
+    (ExtendedMore, r"[\ a\Q \E] => ([' ' a ' '])"),
+    (ExtendedMore, "[ ]a] => ([']' a])"),
+    (Literal, "a( => (<a '('>)"),
+    (Literal, r"(?i)\d* => (<'(' '?' i ')' '\' d '*'>)"),
+    (Literal, "(*CR) => (<'(' '*' C R ')'>)"),
+    (LiteralCaseless, "a|[B => (<~a ~'|' ~'[' ~B>)"),
+    (Literal, " => (-)"),
+];
 
 #[test]
 fn white_space_and_literal_text(rt: HostRuntime) -> Result<(), Fail> {
-    static ROWS: [(&'static str, Setting, &'static str); 22] = [
-        (" a b ", Extended, "(<a b>)"),
-        ("a\t\n\u{b}\u{c}\rb", Extended, "(<a b>)"),
-        ("a#b\nc", Extended, "(<a c>)"),
-        ("a#b\nc", ExtendedCrLf, "(a)"),
-        ("a#b\r\nc", ExtendedCrLf, "(<a c>)"),
-        ("a #b\n #c\n *", Extended, "(a{0,})"),
-        (r"\#\ [ #]", Extended, "(<'#' ' ' [' ' '#']>)"),
-        (r"\Q #\E", Extended, "(<' ' '#'>)"),
-        ("( a | b )", Extended, "((1:a|b))"),
-        ("(?-x) a", Extended, "(<' ' a>)"),
-        ("a{2 }", Extended, "(<a '{' 2 '}'>)"),
-        ("(?<n> a)", Extended, "((1:a)) n=1"),
-        ("[ a\tb]", Extended, "([' ' a '09' b])"),
-        ("[ a\tb]", ExtendedMore, "([a b])"),
-        (" a [ - z]", ExtendedMore, "(<a ['-' z]>)"),
-        (r"[\ a\Q \E]", ExtendedMore, "([' ' a ' '])"),
-        ("[ ]a]", ExtendedMore, "([']' a])"),
-        ("a(", Literal, "(<a '('>)"),
-        (r"(?i)\d*", Literal, r"(<'(' '?' i ')' '\' d '*'>)"),
-        ("(*CR)", Literal, "(<'(' '*' C R ')'>)"),
-        ("a|[B", LiteralCaseless, "(<~a ~'|' ~'[' ~B>)"),
-        ("", Literal, "(-)"),
-    ];
-    for (pattern, setting, expected) in ROWS {
-        is_read(&rt, rt.alloc(), pattern, options_of(setting), expected)?;
-    }
-    Ok(())
+    are_read_with(&rt, rt.alloc(), BLANKS_AND_LITERALS)
 }
+
+// Whether the pattern is read with these options of its own.
+fn has_options(alloc: Global, pattern: &str, expected: Options) -> Result<bool, Fail> {
+    let tree = read(alloc, pattern.as_bytes(), PLAIN)?;
+    Ok(*tree.options() == expected)
+}
+
+/// A pattern, what ends its lines, what its `\R` takes, and its limit.
+type StartItems = (&'static str, Newline, Bsr, Option<u32>);
+
+const START_ITEMS: &[StartItems] = &[
+    ("(*CR)a", Newline::Cr, Bsr::Unicode, None),
+    ("(*LF)a", Newline::Lf, Bsr::Unicode, None),
+    ("(*CRLF)a", Newline::CrLf, Bsr::Unicode, None),
+    ("(*ANYCRLF)a", Newline::AnyCrLf, Bsr::Unicode, None),
+    ("(*ANY)a", Newline::Any, Bsr::Unicode, None),
+    ("(*NUL)a", Newline::Nul, Bsr::Unicode, None),
+    ("(*CR)(*LF)a", Newline::Lf, Bsr::Unicode, None),
+    ("(*BSR_ANYCRLF)a", Newline::Lf, Bsr::AnyCrLf, None),
+    (
+        "(*BSR_ANYCRLF)(*BSR_UNICODE)a",
+        Newline::Lf,
+        Bsr::Unicode,
+        None,
+    ),
+    ("(*LIMIT_MATCH=5)a", Newline::Lf, Bsr::Unicode, Some(5)),
+    (
+        "(*LIMIT_MATCH=5)(*LIMIT_MATCH=07)a",
+        Newline::Lf,
+        Bsr::Unicode,
+        Some(5),
+    ),
+    (
+        "(*LIMIT_MATCH=4294967295)(*CRLF)(*LIMIT_MATCH=0)a",
+        Newline::CrLf,
+        Bsr::Unicode,
+        Some(0),
+    ),
+    ("(*NO_AUTO_POSSESS)a", Newline::Lf, Bsr::Unicode, None),
+    (
+        "(*NO_DOTSTAR_ANCHOR)(*NO_JIT)a",
+        Newline::Lf,
+        Bsr::Unicode,
+        None,
+    ),
+];
 
 #[test]
 fn start_items(rt: HostRuntime) -> Result<(), Fail> {
-    let lf = PLAIN;
-    static ROWS: [(&'static str, Newline, Bsr, Option<u32>); 14] = [
-        ("(*CR)a", Newline::Cr, Bsr::Unicode, None),
-        ("(*LF)a", Newline::Lf, Bsr::Unicode, None),
-        ("(*CRLF)a", Newline::CrLf, Bsr::Unicode, None),
-        ("(*ANYCRLF)a", Newline::AnyCrLf, Bsr::Unicode, None),
-        ("(*ANY)a", Newline::Any, Bsr::Unicode, None),
-        ("(*NUL)a", Newline::Nul, Bsr::Unicode, None),
-        ("(*CR)(*LF)a", Newline::Lf, Bsr::Unicode, None),
-        ("(*BSR_ANYCRLF)a", Newline::Lf, Bsr::AnyCrLf, None),
-        (
-            "(*BSR_ANYCRLF)(*BSR_UNICODE)a",
-            Newline::Lf,
-            Bsr::Unicode,
-            None,
-        ),
-        ("(*LIMIT_MATCH=5)a", Newline::Lf, Bsr::Unicode, Some(5)),
-        (
-            "(*LIMIT_MATCH=5)(*LIMIT_MATCH=07)a",
-            Newline::Lf,
-            Bsr::Unicode,
-            Some(5),
-        ),
-        (
-            "(*LIMIT_MATCH=4294967295)(*CRLF)(*LIMIT_MATCH=0)a",
-            Newline::CrLf,
-            Bsr::Unicode,
-            Some(0),
-        ),
-        ("(*NO_AUTO_POSSESS)a", Newline::Lf, Bsr::Unicode, None),
-        (
-            "(*NO_DOTSTAR_ANCHOR)(*NO_JIT)a",
-            Newline::Lf,
-            Bsr::Unicode,
-            None,
-        ),
-    ];
-    for (pattern, newline, bsr, match_limit) in ROWS {
-        let tree = read(rt.alloc(), pattern.as_bytes(), lf)?;
+    for (pattern, newline, bsr, match_limit) in START_ITEMS {
         let expected = Options {
-            newline,
-            bsr,
-            match_limit,
-            ..lf
+            newline: *newline,
+            bsr: *bsr,
+            match_limit: *match_limit,
+            ..PLAIN
         };
-        assert_eq!(rt; *tree.options(), expected, "{pattern}");
+        assert!(rt; has_options(rt.alloc(), pattern, expected)?, "{pattern}");
     }
     Ok(())
 }
 
+/// A pattern, and whether it has `notempty`, `notempty_atstart` and `no_start_optimize` of its own.
+type Settings = (&'static str, bool, bool, bool);
+
+const SETTINGS: &[Settings] = &[
+    ("(*NOTEMPTY)", true, false, false),
+    ("(*NOTEMPTY_ATSTART)", false, true, false),
+    ("(*NO_START_OPT)(*NOTEMPTY)", true, false, true),
+    ("(?i)(?x)", false, false, false),
+];
+
 #[test]
 fn start_items_that_set_options(rt: HostRuntime) -> Result<(), Fail> {
-    static ROWS: [(&'static str, Options); 4] = [
-        (
-            "(*NOTEMPTY)",
-            Options {
-                notempty: true,
-                ..PLAIN
-            },
-        ),
-        (
-            "(*NOTEMPTY_ATSTART)",
-            Options {
-                notempty_atstart: true,
-                ..PLAIN
-            },
-        ),
-        (
-            "(*NO_START_OPT)(*NOTEMPTY)",
-            Options {
-                no_start_optimize: true,
-                notempty: true,
-                ..PLAIN
-            },
-        ),
-        ("(?i)(?x)", PLAIN),
-    ];
-    for (pattern, expected) in ROWS {
-        let tree = read(rt.alloc(), pattern.as_bytes(), PLAIN)?;
-        assert_eq!(rt; *tree.options(), expected, "{pattern}");
+    for (pattern, notempty, notempty_atstart, no_start_optimize) in SETTINGS {
+        let expected = Options {
+            notempty: *notempty,
+            notempty_atstart: *notempty_atstart,
+            no_start_optimize: *no_start_optimize,
+            ..PLAIN
+        };
+        assert!(rt; has_options(rt.alloc(), pattern, expected)?, "{pattern}");
     }
-    is_read(&rt, rt.alloc(), "(*CR)(*NO_JIT)a|", PLAIN, "(a|-)")?;
-    is_read(&rt, rt.alloc(), "(*CR)(?x)#a\rb", PLAIN, "(b)")
+    let rows = ["(*CR)(*NO_JIT)a| => (a|-)", "(*CR)(?x)#a\rb => (b)"];
+    are_read(&rt, rt.alloc(), &rows)
 }

@@ -27,21 +27,36 @@ use std::test::Fail;
 pub fn shown(alloc: Global, tree: &Tree) -> Result<String, Fail> {
     let mut texts = Vec::new(alloc);
     for id in 0..=tree.root() {
-        let text = node_text(alloc, tree, tree.node(id), &texts)?;
+        let mut text = String::new(alloc);
+        add_node(&mut text, tree, tree.node(id), &texts);
         texts.push(text)?;
     }
     let mut text = String::new(alloc);
-    text.push_str(text_of(&texts, tree.root()))?;
-    names(&mut text, tree.names())?;
+    add(&mut text, text_of(&texts, tree.root()));
+    add_names(&mut text, tree.names());
     Ok(text)
 }
 
-fn names(text: &mut String, table: &NameTable) -> Result<(), Fail> {
+// Without memory for it a part is left out, and the text is none that a row has.
+fn add(text: &mut String, part: &str) {
+    let _ = text.push_str(part);
+}
+
+fn add_number(text: &mut String, number: u32) {
+    let _ = write!(text, "{number}");
+}
+
+fn add_name(text: &mut String, name: &[u8]) {
+    add(text, str::from_utf8(name).unwrap_or("none"));
+}
+
+fn add_names(text: &mut String, table: &NameTable) {
     for i in 0..table.len() {
-        let name = str::from_utf8(table.name(i))?;
-        write!(text, " {name}={}", table.group(i))?;
+        add(text, " ");
+        add_name(text, table.name(i));
+        add(text, "=");
+        add_number(text, u32::from(table.group(i)));
     }
-    Ok(())
 }
 
 // The text of a node that stands before.
@@ -52,27 +67,28 @@ fn text_of(texts: &[String], id: NodeId) -> &str {
     }
 }
 
-fn numbers(text: &mut String, groups: &GroupList) -> Result<(), Fail> {
+// Groups, each after one of these.
+fn add_groups(text: &mut String, groups: &GroupList, first: &str, next: &str) {
     for (i, group) in groups.as_slice().iter().enumerate() {
-        text.push(if i == 0 { '[' } else { ',' })?;
-        write!(text, "{group}")?;
+        add(text, if i == 0 { first } else { next });
+        add_number(text, u32::from(*group));
     }
-    text.push(']')?;
-    Ok(())
 }
 
-fn tested(text: &mut String, test: &Cond, texts: &[String]) -> Result<(), Fail> {
+fn add_tested(text: &mut String, test: &Cond, texts: &[String]) {
     match test {
-        Cond::AnySet(groups) => numbers(text, groups)?,
-        Cond::InCall => text.push('R')?,
-        Cond::InCallOf(groups) => {
-            text.push('R')?;
-            numbers(text, groups)?;
+        Cond::AnySet(groups) => {
+            add_groups(text, groups, "[", ",");
+            add(text, "]");
         }
-        Cond::Never => text.push_str("never")?,
-        Cond::Assert(id) => text.push_str(text_of(texts, *id))?,
+        Cond::InCall => add(text, "R"),
+        Cond::InCallOf(groups) => {
+            add_groups(text, groups, "R[", ",");
+            add(text, "]");
+        }
+        Cond::Never => add(text, "never"),
+        Cond::Assert(id) => add(text, text_of(texts, *id)),
     }
-    Ok(())
 }
 
 // How a lookaround begins.
@@ -87,59 +103,33 @@ fn look(ahead: bool, positive: bool, atomic: bool) -> &'static str {
     }
 }
 
-fn node_text(alloc: Global, tree: &Tree, node: &Node, texts: &[String]) -> Result<String, Fail> {
-    let mut text = String::new(alloc);
+fn add_node(text: &mut String, tree: &Tree, node: &Node, texts: &[String]) {
     match node {
-        Node::Empty => text.push('-')?,
-        Node::One(item) => item_text(&mut text, tree, item)?,
-        Node::Break => text.push_str("\\R")?,
+        Node::Empty => add(text, "-"),
+        Node::One(item) => add_item(text, tree, item),
+        Node::Break => add(text, "\\R"),
         Node::Seq(parts) => {
-            text.push('<')?;
-            joined(&mut text, texts, parts, ' ')?;
-            text.push('>')?;
+            add_joined(text, texts, "<", parts, " ");
+            add(text, ">");
         }
-        Node::Group { number, branches } => {
-            text.push('(')?;
-            if let Some(number) = number {
-                write!(text, "{number}:")?;
-            }
-            joined(&mut text, texts, branches, '|')?;
-            text.push(')')?;
-        }
-        Node::Atomic(branches) => {
-            text.push_str("(>")?;
-            joined(&mut text, texts, branches, '|')?;
-            text.push(')')?;
-        }
+        Node::Group { number, branches } => add_group(text, texts, *number, branches),
+        Node::Atomic(branches) => add_branches(text, texts, "(>", branches),
         Node::Look {
             ahead,
             positive,
             atomic,
             branches,
-        } => {
-            text.push_str(look(*ahead, *positive, *atomic))?;
-            joined(&mut text, texts, branches, '|')?;
-            text.push(')')?;
-        }
-        Node::Cond { test, yes, no } => {
-            text.push_str("(?")?;
-            tested(&mut text, test, texts)?;
-            text.push_str(text_of(texts, *yes))?;
-            if let Some(no) = no {
-                text.push('|')?;
-                text.push_str(text_of(texts, *no))?;
-            }
-            text.push(')')?;
-        }
+        } => add_branches(text, texts, look(*ahead, *positive, *atomic), branches),
+        Node::Cond { test, yes, no } => add_condition(text, texts, test, *yes, *no),
         Node::Repeat {
             body,
             min,
             max,
             lazy,
         } => {
-            text.push_str(text_of(texts, *body))?;
-            text.push('*')?;
-            bounds(&mut text, *min, *max, *lazy)?;
+            add(text, text_of(texts, *body));
+            add(text, "*");
+            add_bounds(text, *min, *max, *lazy);
         }
         Node::OneRepeat {
             item,
@@ -147,14 +137,27 @@ fn node_text(alloc: Global, tree: &Tree, node: &Node, texts: &[String]) -> Resul
             max,
             lazy,
         } => {
-            item_text(&mut text, tree, item)?;
-            bounds(&mut text, *min, *max, *lazy)?;
+            add_item(text, tree, item);
+            add_bounds(text, *min, *max, *lazy);
         }
-        Node::Call { group } => write!(text, "@{group}")?,
-        Node::Ref { groups, caseless } => reference(&mut text, groups, *caseless)?,
-        Node::Anchor(kind) => text.push_str(anchor(*kind))?,
-        Node::KeepOut => text.push_str("\\K")?,
-        Node::VerbNode(verb) => verb_text(&mut text, tree, *verb)?,
+        _ => add_other(text, tree, node),
+    }
+}
+
+// What holds no other node and takes no character.
+fn add_other(text: &mut String, tree: &Tree, node: &Node) {
+    match node {
+        Node::Call { group } => {
+            add(text, "@");
+            add_number(text, u32::from(*group));
+        }
+        Node::Ref { groups, caseless } => {
+            add(text, if *caseless { "~" } else { "" });
+            add_groups(text, groups, "=", "=");
+        }
+        Node::Anchor(kind) => add(text, anchor(*kind)),
+        Node::KeepOut => add(text, "\\K"),
+        Node::VerbNode(verb) => add_verb(text, tree, *verb),
         Node::Callout {
             number,
             text_from,
@@ -162,14 +165,63 @@ fn node_text(alloc: Global, tree: &Tree, node: &Node, texts: &[String]) -> Resul
             item_at,
             item_len,
         } => {
-            write!(text, "C{number}")?;
+            add(text, "C");
+            add_number(text, u32::from(*number));
             if *text_to > 0 {
-                write!(text, "[{text_from},{text_to}]")?;
+                add_pair(text, "[", *text_from, ",", *text_to);
+                add(text, "]");
             }
-            write!(text, ":{item_at}+{item_len}")?;
+            add_pair(text, ":", *item_at, "+", *item_len);
         }
+        _ => add(text, "none"),
     }
-    Ok(text)
+}
+
+fn add_pair(text: &mut String, before: &str, first: u32, between: &str, second: u32) {
+    add(text, before);
+    add_number(text, first);
+    add(text, between);
+    add_number(text, second);
+}
+
+// Parts that begin with this and have that between them.
+fn add_joined(text: &mut String, texts: &[String], begin: &str, kids: &Kids, between: &str) {
+    add(text, begin);
+    for (i, id) in kids.as_slice().iter().enumerate() {
+        add(text, if i == 0 { "" } else { between });
+        add(text, text_of(texts, *id));
+    }
+}
+
+fn add_branches(text: &mut String, texts: &[String], begin: &str, branches: &Kids) {
+    add_joined(text, texts, begin, branches, "|");
+    add(text, ")");
+}
+
+fn add_group(text: &mut String, texts: &[String], number: Option<u16>, branches: &Kids) {
+    add(text, "(");
+    if let Some(number) = number {
+        add_number(text, u32::from(number));
+        add(text, ":");
+    }
+    add_branches(text, texts, "", branches);
+}
+
+fn add_condition(
+    text: &mut String,
+    texts: &[String],
+    test: &Cond,
+    yes: NodeId,
+    no: Option<NodeId>,
+) {
+    add(text, "(?");
+    add_tested(text, test, texts);
+    add(text, text_of(texts, yes));
+    if let Some(no) = no {
+        add(text, "|");
+        add(text, text_of(texts, no));
+    }
+    add(text, ")");
 }
 
 // What a verb is called, and the number of its name.
@@ -185,48 +237,26 @@ fn verb_parts(verb: Verb) -> (&'static str, Option<u32>) {
     }
 }
 
-fn verb_text(text: &mut String, tree: &Tree, verb: Verb) -> Result<(), Fail> {
+fn add_verb(text: &mut String, tree: &Tree, verb: Verb) {
     let (kind, name) = verb_parts(verb);
-    text.push_str(kind)?;
-    if let Some(id) = name {
-        if id < tree.verb_names() {
-            text.push(':')?;
-            text.push_str(str::from_utf8(tree.verb_name(id))?)?;
+    add(text, kind);
+    match name {
+        Some(id) if id < tree.verb_names() => {
+            add(text, ":");
+            add_name(text, tree.verb_name(id));
         }
+        _ => {}
     }
-    Ok(())
 }
 
-fn joined(text: &mut String, texts: &[String], kids: &Kids, between: char) -> Result<(), Fail> {
-    for (i, id) in kids.as_slice().iter().enumerate() {
-        if i > 0 {
-            text.push(between)?;
-        }
-        text.push_str(text_of(texts, *id))?;
-    }
-    Ok(())
-}
-
-fn bounds(text: &mut String, min: u16, max: Option<u16>, lazy: bool) -> Result<(), Fail> {
-    write!(text, "{{{min},")?;
+fn add_bounds(text: &mut String, min: u16, max: Option<u16>, lazy: bool) {
+    add(text, "{");
+    add_number(text, u32::from(min));
+    add(text, ",");
     if let Some(max) = max {
-        write!(text, "{max}")?;
+        add_number(text, u32::from(max));
     }
-    text.push('}')?;
-    if lazy {
-        text.push('?')?;
-    }
-    Ok(())
-}
-
-fn reference(text: &mut String, groups: &GroupList, caseless: bool) -> Result<(), Fail> {
-    if caseless {
-        text.push('~')?;
-    }
-    for group in groups.as_slice() {
-        write!(text, "={group}")?;
-    }
-    Ok(())
+    add(text, if lazy { "}?" } else { "}" });
 }
 
 fn anchor(kind: AnchorKind) -> &'static str {
@@ -259,58 +289,50 @@ fn anchor(kind: AnchorKind) -> &'static str {
     }
 }
 
-fn item_text(text: &mut String, tree: &Tree, item: &Item) -> Result<(), Fail> {
+fn add_item(text: &mut String, tree: &Tree, item: &Item) {
     match *item {
         Item::Char { c, caseless } => {
-            if caseless {
-                text.push('~')?;
-            }
-            character(text, c)
+            add(text, if caseless { "~" } else { "" });
+            add_character(text, c);
         }
-        Item::AnyAll => Ok(text.push_str("any")?),
-        Item::NotNewline => Ok(text.push('.')?),
-        Item::Class(id) if id < tree.classes() => class(text, tree.class(id)),
-        Item::Class(_) => Ok(text.push_str("none")?),
+        Item::AnyAll => add(text, "any"),
+        Item::NotNewline => add(text, "."),
+        Item::Class(id) if id < tree.classes() => add_class(text, tree.class(id)),
+        Item::Class(_) => add(text, "none"),
     }
 }
 
-fn character(text: &mut String, c: u32) -> Result<(), Fail> {
-    match char::from_u32(c) {
-        Some(c) if c.is_ascii_alphanumeric() => text.push(c)?,
-        Some(c) if c.is_ascii_graphic() || c == ' ' => write!(text, "'{c}'")?,
-        _ => write!(text, "'{c:02x}'")?,
-    }
-    Ok(())
+fn add_character(text: &mut String, c: u32) {
+    let _ = match char::from_u32(c) {
+        Some(c) if c.is_ascii_alphanumeric() => text.push(c),
+        Some(c) if c.is_ascii_graphic() || c == ' ' => write!(text, "'{c}'"),
+        _ => write!(text, "'{c:02x}'"),
+    };
 }
 
-fn class(text: &mut String, class: &ClassSpec) -> Result<(), Fail> {
-    if class.caseless {
-        text.push('~')?;
+fn add_class(text: &mut String, class: &ClassSpec) {
+    add(text, if class.caseless { "~" } else { "" });
+    add(text, if class.negated { "[^" } else { "[" });
+    for (i, part) in class.parts.as_slice().iter().enumerate() {
+        add(text, if i == 0 { "" } else { " " });
+        add_part(text, *part);
     }
-    text.push_str(if class.negated { "[^" } else { "[" })?;
-    for (i, member) in class.parts.as_slice().iter().enumerate() {
-        if i > 0 {
-            text.push(' ')?;
-        }
-        part(text, *member)?;
-    }
-    text.push(']')?;
-    Ok(())
+    add(text, "]");
 }
 
-fn part(text: &mut String, part: Part) -> Result<(), Fail> {
+fn add_part(text: &mut String, part: Part) {
     match part {
-        Part::Range { from, to } if from == to => character(text, from),
         Part::Range { from, to } => {
-            character(text, from)?;
-            text.push('-')?;
-            character(text, to)
+            add_character(text, from);
+            if from != to {
+                add(text, "-");
+                add_character(text, to);
+            }
         }
         Part::Set { set, not, ucp } => {
-            text.push_str(if not { "!" } else { "" })?;
-            write!(text, "{set:?}")?;
-            text.push_str(if ucp { " by properties" } else { "" })?;
-            Ok(())
+            add(text, if not { "!" } else { "" });
+            let _ = write!(text, "{set:?}");
+            add(text, if ucp { " by properties" } else { "" });
         }
     }
 }

@@ -58,7 +58,7 @@ fn is_shown(rt: &impl Abort, alloc: Global, options: Options, row: &Row) -> Resu
             mark: None,
         })?;
     }
-    assert_eq!(rt; calls.shown.as_slice(), blocks.as_slice());
+    assert!(rt; calls.shown.as_slice() == blocks.as_slice());
     Ok(())
 }
 

@@ -1,8 +1,5 @@
 //! Patterns with many of everything. A body that says that memory lacks past a few is proved, so a test shows that it doesn't.
-use frame_machine::Scratch;
-use pat_tree::{MatchOptions, Options};
-use pcre_io::NoCallouts;
-use pcre2_api::Code;
+use pcre2_api::{Code, MatchOptions, NoCallouts, Options, Scratch};
 use std::alloc::Global;
 use std::test::Fail;
 
@@ -10,10 +7,8 @@ use std::test::Fail;
 fn alternatives(alloc: Global, count: u32) -> Result<String, Fail> {
     let mut text = String::new(alloc);
     for i in 0..count {
-        if i > 0 {
-            text.push_str("|")?;
-        }
-        let one = format!(in alloc; "(?<g{i}>[a-c{i}]{i};)")?;
+        let bar = if i > 0 { "|" } else { "" };
+        let one = format!(in alloc; "{bar}(?<g{i}>[a-c{i}]{i};)")?;
         text.push_str(one.as_str())?;
     }
     Ok(text)
@@ -32,9 +27,9 @@ fn three_hundred_classes_groups_names_and_alternatives(rt: HostRuntime) -> Resul
         &mut scratch,
         &mut NoCallouts,
     )?;
-    assert_eq!(&rt; (found.start(), found.end(), found.top()), (5, 10, 300));
-    assert_eq!(&rt; found.group(300), Some(&b"b299;"[..]));
-    assert_eq!(&rt; found.group_named(b"g299"), Some(&b"b299;"[..]));
-    assert_eq!(&rt; found.group_named(b"g29"), None);
+    let last = Some(&b"b299;"[..]);
+    assert!(&rt; (found.start(), found.end(), found.top()) == (5, 10, 300));
+    assert!(&rt; found.group(300) == last && found.group_named(b"g299") == last);
+    assert!(&rt; found.group_named(b"g29").is_none());
     Ok(())
 }

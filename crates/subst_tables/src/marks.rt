@@ -3,33 +3,28 @@
 use pcre2_api::{Code, MatchError, MatchOptions, NoCallouts, Options, Scratch};
 use std::test::Fail;
 
-/// A pattern, a subject, and the names of its match's mark or of its failure's.
-type Row = (
-    &'static [u8],
-    &'static [u8],
-    Option<&'static [u8]>,
-    Option<&'static [u8]>,
-);
+/// A pattern, a subject, whether it matches, and the name of its match's mark or of its failure's.
+type Row = (&'static [u8], &'static [u8], bool, Option<&'static [u8]>);
 
 const ROWS: &[Row] = &[
-    (b"X(*MARK:A)Y|X(*MARK:B)Z", b"XY", Some(b"A"), None),
-    (b"X(*MARK:A)Y|X(*MARK:B)Z", b"XZ", Some(b"B"), None),
-    (b"X(*MARK:A)Y|X(*MARK:B)Z", b"XP", None, Some(b"B")),
-    (b"X(*MARK:A)Y|X(*MARK:B)Z", b"Q", None, None),
-    (b"a(*:A)(*:B)b", b"ab", Some(b"B"), None),
-    (b"a(*:A)b|ac", b"ac", None, None),
-    (b"a(*:A)(*F)|ab(*F:B)", b"ab", None, Some(b"B")),
-    (b"a(*ACCEPT:A)b", b"a", Some(b"A"), None),
-    (b"a(*:A)(*ACCEPT)b", b"a", Some(b"A"), None),
-    (b"(?=a(*:A))a", b"a", Some(b"A"), None),
-    (b"(?!a(*:A)b)ac", b"ac", None, None),
+    (b"X(*MARK:A)Y|X(*MARK:B)Z", b"XY", true, Some(b"A")),
+    (b"X(*MARK:A)Y|X(*MARK:B)Z", b"XZ", true, Some(b"B")),
+    (b"X(*MARK:A)Y|X(*MARK:B)Z", b"XP", false, Some(b"B")),
+    (b"X(*MARK:A)Y|X(*MARK:B)Z", b"Q", false, None),
+    (b"a(*:A)(*:B)b", b"ab", true, Some(b"B")),
+    (b"a(*:A)b|ac", b"ac", true, None),
+    (b"a(*:A)(*F)|ab(*F:B)", b"ab", false, Some(b"B")),
+    (b"a(*ACCEPT:A)b", b"a", true, Some(b"A")),
+    (b"a(*:A)(*ACCEPT)b", b"a", true, Some(b"A")),
+    (b"(?=a(*:A))a", b"a", true, Some(b"A")),
+    (b"(?!a(*:A)b)ac", b"ac", true, None),
 ];
 
 #[test]
 fn marks(rt: HostRuntime) -> Result<(), Fail> {
     let alloc = rt.alloc();
     let mut scratch = Scratch::new(alloc);
-    for (pattern, subject, mark, missed) in ROWS {
+    for (pattern, subject, matches, name) in ROWS {
         assert!(&rt; subject.len() < 1000);
         let code = Code::compile(alloc, pattern, Options::PLAIN)?;
         let answer = code.match_at(
@@ -41,16 +36,16 @@ fn marks(rt: HostRuntime) -> Result<(), Fail> {
         );
         match answer {
             Ok(found) => {
-                assert_eq!(&rt; found.mark(), *mark);
-                assert!(&rt; missed.is_none());
+                assert_eq!(&rt; found.mark(), *name);
+                assert!(&rt; *matches);
             }
             Err(MatchError::NoMatch { mark: last }) => {
-                let name = match last {
+                let told = match last {
                     Some(id) => code.mark_name(id),
                     None => None,
                 };
-                assert_eq!(&rt; name, *missed);
-                assert!(&rt; mark.is_none());
+                assert_eq!(&rt; told, *name);
+                assert!(&rt; !*matches);
             }
             Err(e) => return Err(Fail::from(e)),
         }

@@ -1,7 +1,5 @@
 //! Matches in reserved room.
-use frame_machine::Scratch;
-use pat_tree::{MatchOptions, Options};
-use pcre2_api::{Code, ReservedError, Span};
+use pcre2_api::{Code, MatchOptions, Options, ReservedError, Scratch, Span};
 use std::process::Abort;
 use std::test::Fail;
 
@@ -47,16 +45,13 @@ fn matches_in_reserved_room_take_no_memory(rt: HostRuntime) -> Result<(), Fail> 
     let alloc = rt.alloc();
     let code = Code::compile(alloc, b"(?C1)(a)(?C2)", Options::PLAIN)?;
     let mut scratch = Scratch::new(alloc);
-    assert!(rt; !code.fits(&limited(0), &scratch));
+    let fits_before = code.fits(&limited(0), &scratch);
     scratch.reserve(1, 4)?;
-    assert_eq!(rt; (scratch.groups(), scratch.frames()), (1, 4));
+    assert!(rt; !fits_before && scratch.groups() == 1 && scratch.frames() == 4);
     for (subject, frame_limit, answer) in &ROWS {
-        assert_eq!(rt;
-            captured(&rt, &code, subject, *frame_limit, &mut scratch),
-            *answer
-        );
+        let told = captured(&rt, &code, subject, *frame_limit, &mut scratch);
+        assert!(rt; told == *answer);
     }
-    assert!(rt; !code.fits(&limited(5), &scratch));
-    assert!(rt; scratch.peak() <= 4);
+    assert!(rt; !code.fits(&limited(5), &scratch) && scratch.peak() <= 4);
     Ok(())
 }

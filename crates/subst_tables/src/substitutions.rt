@@ -1,276 +1,168 @@
 //! Substitutions. The rows are those of pcre2test 10.42, but that the faults of a replacement come
 //! before any search, that an empty replacement is one, and that CRLF is no newline under NUL.
-ghost use Rattle.std.specs.Prelude.{◌≡◌, ◌<◌, length};
+ghost use Rattle.std.specs.Prelude.{◌<◌, length};
 
-use pcre2_api::{Code, MatchOptions, Options, PartialMode, Scratch, SubstError, SubstOptions};
+use pcre2_api::{
+    Code, MatchOptions, Options, PartialMode, Scratch, SubstError, SubstOptions, Substituted,
+};
 use std::alloc::Global;
 use std::process::Abort;
 use std::test::Fail;
 
-/// What becomes of a subject: the number of replacements and the text, or a refusal.
-#[derive(Clone, Copy, Debug, PartialEq, Eq)]
-enum Outcome {
-    Gives(u64, &'static [u8]),
-    Refused(SubstError),
+/// A pattern, options (g global, x extended, l literal, e unset groups are empty, n unknown groups
+/// are unset, o the replacements alone), a replacement, a subject, and what becomes of it: the number
+/// of replacements and the text, or why it is refused.
+#[derive(Clone, Copy)]
+struct Row<'a> {
+    pattern: &'a [u8],
+    letters: &'a str,
+    replacement: &'a [u8],
+    subject: &'a [u8],
+    answer: &'a [u8],
 }
 
-use Outcome::{Gives, Refused};
+/// A row whose parts have ` :: ` between them.
+type Line = &'static str;
 
-/// A pattern, options (g global, x extended, l literal, e unset groups are empty, n unknown groups
-/// are unset, o the replacements alone), a replacement, a subject, and what becomes of it.
-type Row = (
-    &'static [u8],
-    &'static str,
-    &'static [u8],
-    &'static [u8],
-    Outcome,
-);
+const PLAIN: MatchOptions = MatchOptions::PLAIN;
 
 /// The first match alone.
-const FIRST: &[Row] = &[
-    (b"b", "", b"<$0>", b"abcb", Gives(1, b"a<b>cb")),
-    (b"b", "", b"", b"abc", Gives(1, b"ac")),
-    (b"x", "", b"y", b"abc", Gives(0, b"abc")),
-    (b"", "", b"-", b"abc", Gives(1, b"-abc")),
-    (b"", "", b"-", b"", Gives(1, b"-")),
-    (b"abc", "", b"$0$0", b"abc", Gives(1, b"abcabc")),
-    (b"(a)(b)", "", b"$2$1", b"xaby", Gives(1, b"xbay")),
-    (b"(\\d+)-(\\d+)", "", b"$2:$1", b"12-34", Gives(1, b"34:12")),
-    (
-        b"(?<y>\\d+)-(?<m>\\d+)",
-        "",
-        b"$m/${y}",
-        b"on 2026-11 and 2025-12",
-        Gives(1, b"on 11/2026 and 2025-12"),
-    ),
-    (b"a|(b)", "", b"$1", b"a", Refused(SubstError::Unset)),
-    (b"(a)|(b)", "", b"$2", b"a", Refused(SubstError::Unset)),
-    (b"(a)|(b)", "", b"$1", b"a", Gives(1, b"a")),
-    (b"b", "", b"$1", b"abc", Refused(SubstError::NoGroup)),
-    (b"b", "", b"$name", b"abc", Refused(SubstError::NoGroup)),
-    (b"b", "", b"$", b"abc", Refused(SubstError::BadReplacement)),
-    (b"b", "", b"${1", b"abc", Refused(SubstError::MissingBrace)),
-    (
-        b"b",
-        "",
-        b"${1x}",
-        b"abc",
-        Refused(SubstError::MissingBrace),
-    ),
-    (
-        b"b",
-        "x",
-        b"${1:=x}",
-        b"abc",
-        Refused(SubstError::BadSyntax),
-    ),
-    (b"b", "x", b"\\i", b"abc", Refused(SubstError::BadEscape)),
-    (b"x", "", b"$", b"abc", Refused(SubstError::BadReplacement)),
-    (b"x", "", b"$9", b"abc", Gives(0, b"abc")),
-    (b"a\\Kb", "", b"-", b"ab", Gives(1, b"a-")),
-    (b"(?=b)", "", b"-", b"ab", Gives(1, b"a-b")),
-    (b"$", "", b"E", b"abc", Gives(1, b"abcE")),
-    (b"^", "", b"B", b"abc", Gives(1, b"Babc")),
-    (b"c$", "", b"-", b"abc", Gives(1, b"ab-")),
-    (
-        b"(a)(x)?",
-        "x",
-        b"\\u$1${2:-none}",
-        b"abc",
-        Gives(1, b"Anonebc"),
-    ),
-    (b"(a)(x)?", "x", b"${2:+yes:no}", b"abc", Gives(1, b"nobc")),
-    (b"(a)(x)?", "x", b"${2:-\\U$1}b", b"abc", Gives(1, b"ABbc")),
-    (b"(a)(x)?", "", b"$2", b"abc", Refused(SubstError::Unset)),
-    (b"(a)(x)?", "e", b"{$2", b"abc", Gives(1, b"{bc")),
-    (b"(a)(x)?", "n", b"$3", b"abc", Refused(SubstError::Unset)),
-    (b"(a)(x)?", "ne", b"<$3>", b"abc", Gives(1, b"<>bc")),
-    (b"b", "l", b"$0\\U", b"abc", Gives(1, b"a$0\\Uc")),
-    (b"b", "lx", b"$0\\U", b"abc", Gives(1, b"a$0\\Uc")),
-    (b"b", "o", b"<$0>", b"abc", Gives(1, b"<b>")),
-    (b"x", "o", b"<$0>", b"abc", Gives(0, b"")),
-    (b"(?J)(?<n>a)|(?<n>b)", "", b"<$n>", b"b", Gives(1, b"<b>")),
-    (
-        b"(?J)(?<n>a)|(?<n>b)|c",
-        "",
-        b"<$n>",
-        b"c",
-        Refused(SubstError::Unset),
-    ),
-    (
-        b"(?J)(?<n>a)|(?<n>b)|c",
-        "e",
-        b"<$n>",
-        b"c",
-        Gives(1, b"<>"),
-    ),
-    (b".+", "x", b"\\U$0", b"stra\xDFe", Gives(1, b"STRA\xDFE")),
-    (b"(?i)b", "x", b"\\l$0\\u$0", b"aBc", Gives(1, b"abBc")),
+const FIRST: &[Line] = &[
+    "b :: - :: <$0> :: abcb :: 1 a<b>cb",
+    "b :: - ::  :: abc :: 1 ac",
+    "x :: - :: y :: abc :: 0 abc",
+    " :: - :: - :: abc :: 1 -abc",
+    " :: - :: - ::  :: 1 -",
+    "abc :: - :: $0$0 :: abc :: 1 abcabc",
+    "(a)(b) :: - :: $2$1 :: xaby :: 1 xbay",
+    r"(\d+)-(\d+) :: - :: $2:$1 :: 12-34 :: 1 34:12",
+    r"(?<y>\d+)-(?<m>\d+) :: - :: $m/${y} :: on 2026-11 and 2025-12 :: 1 on 11/2026 and 2025-12",
+    "a|(b) :: - :: $1 :: a :: Unset",
+    "(a)|(b) :: - :: $2 :: a :: Unset",
+    "(a)|(b) :: - :: $1 :: a :: 1 a",
+    "b :: - :: $1 :: abc :: NoGroup",
+    "b :: - :: $name :: abc :: NoGroup",
+    "b :: - :: $ :: abc :: BadReplacement",
+    "b :: - :: ${1 :: abc :: MissingBrace",
+    "b :: - :: ${1x} :: abc :: MissingBrace",
+    "b :: x :: ${1:=x} :: abc :: BadSyntax",
+    r"b :: x :: \i :: abc :: BadEscape",
+    "x :: - :: $ :: abc :: BadReplacement",
+    "x :: - :: $9 :: abc :: 0 abc",
+    r"a\Kb :: - :: - :: ab :: 1 a-",
+    "(?=b) :: - :: - :: ab :: 1 a-b",
+    "$ :: - :: E :: abc :: 1 abcE",
+    "^ :: - :: B :: abc :: 1 Babc",
+    "c$ :: - :: - :: abc :: 1 ab-",
+    r"(a)(x)? :: x :: \u$1${2:-none} :: abc :: 1 Anonebc",
+    "(a)(x)? :: x :: ${2:+yes:no} :: abc :: 1 nobc",
+    r"(a)(x)? :: x :: ${2:-\U$1}b :: abc :: 1 ABbc",
+    "(a)(x)? :: - :: $2 :: abc :: Unset",
+    "(a)(x)? :: e :: {$2 :: abc :: 1 {bc",
+    "(a)(x)? :: n :: $3 :: abc :: Unset",
+    "(a)(x)? :: ne :: <$3> :: abc :: 1 <>bc",
+    r"b :: l :: $0\U :: abc :: 1 a$0\Uc",
+    r"b :: lx :: $0\U :: abc :: 1 a$0\Uc",
+    "b :: o :: <$0> :: abc :: 1 <b>",
+    "x :: o :: <$0> :: abc :: 0 ",
+    "(?J)(?<n>a)|(?<n>b) :: - :: <$n> :: b :: 1 <b>",
+    "(?J)(?<n>a)|(?<n>b)|c :: - :: <$n> :: c :: Unset",
+    "(?J)(?<n>a)|(?<n>b)|c :: e :: <$n> :: c :: 1 <>",
+    r"(?i)b :: x :: \l$0\u$0 :: aBc :: 1 abBc",
 ];
 
 /// All matches, among them empty ones.
-const ALL: &[Row] = &[
-    (b"b", "g", b"x", b"abcb", Gives(2, b"axcx")),
-    (b"b", "g", b"", b"abcb", Gives(2, b"ac")),
-    (b"b", "go", b"x", b"abcb", Gives(2, b"xx")),
-    (b"b", "g", b"$0$0", b"abcb", Gives(2, b"abbcbb")),
-    (b"x*", "g", b"-", b"abc", Gives(4, b"-a-b-c-")),
-    (b"x*", "g", b"-", b"abxd", Gives(5, b"-a-b--d-")),
-    (b"b*", "g", b"<$0>", b"abb", Gives(3, b"<>a<bb><>")),
-    (b"b*", "g", b"<$0>", b"abbcb", Gives(5, b"<>a<bb><>c<b><>")),
-    (b"", "g", b"-", b"abc", Gives(4, b"-a-b-c-")),
-    (b"", "g", b"-", b"", Gives(1, b"-")),
-    (
-        b"(?<=a)|b",
-        "g",
-        b"<$0>",
-        b"aabb",
-        Gives(4, b"a<>a<><b><b>"),
-    ),
-    (b"a\\Kb?", "g", b"-", b"aab", Gives(2, b"a-a-")),
-    (b"a\\K", "g", b"-", b"aab", Gives(2, b"a-a-b")),
-    (b"$", "g", b"E", b"abc", Gives(1, b"abcE")),
-    (b"(?m)^", "g", b">", b"a\nb\n", Gives(2, b">a\n>b\n")),
-    (b"(?m)$", "g", b"<", b"a\nb\n", Gives(3, b"a<\nb<\n<")),
-    (
-        b"(*CRLF)(?m)^",
-        "g",
-        b">",
-        b"a\r\nb\r\n",
-        Gives(2, b">a\r\n>b\r\n"),
-    ),
-    (b"(*CRLF)x*", "g", b".", b"a\r\nb", Gives(4, b".a.\r\n.b.")),
-    (
-        b"(*ANYCRLF)x*",
-        "g",
-        b".",
-        b"a\r\nb\rc\nd",
-        Gives(8, b".a.\r\n.b.\r.c.\n.d."),
-    ),
-    (
-        b"(*ANY)x*",
-        "g",
-        b".",
-        b"\r\n\n\r",
-        Gives(4, b".\r\n.\n.\r."),
-    ),
-    (b"(*LF)x*", "g", b".", b"a\r\nb", Gives(5, b".a.\r.\n.b.")),
-    (b"(*CR)x*", "g", b".", b"\r\n", Gives(3, b".\r.\n.")),
-    (
-        b"(*CRLF)x*",
-        "g",
-        b".",
-        b"\r\r\n\n",
-        Gives(4, b".\r.\r\n.\n."),
-    ),
-    (b"(*NUL)x*", "g", b".", b"\r\n", Gives(3, b".\r.\n.")),
-    (b"(a)|(b)", "ge", b"<$1$2>", b"abc", Gives(2, b"<a><b>c")),
-    (b"(a)|(b)", "g", b"<$1>", b"aab", Refused(SubstError::Unset)),
-    (b"(a)|(b)", "gx", b"${1:-b}", b"abc", Gives(2, b"abc")),
-    (b"(a)|(b)", "gx", b"${1:+A:B}", b"abcab", Gives(4, b"ABcAB")),
-    (
-        b"\\w+",
-        "gx",
-        b"\\u\\L$0",
-        b"hELLO big WORLD",
-        Gives(3, b"hello big world"),
-    ),
-    (
-        b"\\w+",
-        "gx",
-        b"\\U$0",
-        b"hello big world",
-        Gives(3, b"HELLO BIG WORLD"),
-    ),
-    (
-        b"(\\w)(\\w*)",
-        "gx",
-        b"\\U$1\\E$2",
-        b"hello big world",
-        Gives(3, b"Hello Big World"),
-    ),
+const ALL: &[Line] = &[
+    "b :: g :: x :: abcb :: 2 axcx",
+    "b :: g ::  :: abcb :: 2 ac",
+    "b :: go :: x :: abcb :: 2 xx",
+    "b :: g :: $0$0 :: abcb :: 2 abbcbb",
+    "x* :: g :: - :: abc :: 4 -a-b-c-",
+    "x* :: g :: - :: abxd :: 5 -a-b--d-",
+    "b* :: g :: <$0> :: abb :: 3 <>a<bb><>",
+    "b* :: g :: <$0> :: abbcb :: 5 <>a<bb><>c<b><>",
+    " :: g :: - :: abc :: 4 -a-b-c-",
+    " :: g :: - ::  :: 1 -",
+    "(?<=a)|b :: g :: <$0> :: aabb :: 4 a<>a<><b><b>",
+    r"a\Kb? :: g :: - :: aab :: 2 a-a-",
+    r"a\K :: g :: - :: aab :: 2 a-a-b",
+    "$ :: g :: E :: abc :: 1 abcE",
+    "(?m)^ :: g :: > :: a\nb\n :: 2 >a\n>b\n",
+    "(?m)$ :: g :: < :: a\nb\n :: 3 a<\nb<\n<",
+    "(*CRLF)(?m)^ :: g :: > :: a\r\nb\r\n :: 2 >a\r\n>b\r\n",
+    "(*CRLF)x* :: g :: . :: a\r\nb :: 4 .a.\r\n.b.",
+    "(*ANYCRLF)x* :: g :: . :: a\r\nb\rc\nd :: 8 .a.\r\n.b.\r.c.\n.d.",
+    "(*ANY)x* :: g :: . :: \r\n\n\r :: 4 .\r\n.\n.\r.",
+    "(*LF)x* :: g :: . :: a\r\nb :: 5 .a.\r.\n.b.",
+    "(*CR)x* :: g :: . :: \r\n :: 3 .\r.\n.",
+    "(*CRLF)x* :: g :: . :: \r\r\n\n :: 4 .\r.\r\n.\n.",
+    "(*NUL)x* :: g :: . :: \r\n :: 3 .\r.\n.",
+    "(a)|(b) :: ge :: <$1$2> :: abc :: 2 <a><b>c",
+    "(a)|(b) :: g :: <$1> :: aab :: Unset",
+    "(a)|(b) :: gx :: ${1:-b} :: abc :: 2 abc",
+    "(a)|(b) :: gx :: ${1:+A:B} :: abcab :: 4 ABcAB",
+    r"\w+ :: gx :: \u\L$0 :: hELLO big WORLD :: 3 hello big world",
+    r"\w+ :: gx :: \U$0 :: hello big world :: 3 HELLO BIG WORLD",
+    r"(\w)(\w*) :: gx :: \U$1\E$2 :: hello big world :: 3 Hello Big World",
 ];
 
 /// All matches, with what patterns and replacements are made of.
-const FORMS: &[Row] = &[
-    (b"\\w", "gx", b"\\u", b"ab", Gives(2, b"")),
-    (b"a", "gx", b"\\Ub$0", b"xaxaX", Gives(2, b"xBAxBAX")),
-    (
-        b"(\\w)\\1",
-        "g",
-        b"($1)",
-        b"aabbcdde",
-        Gives(3, b"(a)(b)c(d)e"),
-    ),
-    (b"(?|(a)|(b))", "g", b"<$1>", b"abc", Gives(2, b"<a><b>c")),
-    (b"\\s+", "g", b" ", b"a  b \t c ", Gives(3, b"a b c ")),
-    (
-        b"(?<w>\\w+)",
-        "go",
-        b"$w;",
-        b"one two three",
-        Gives(3, b"one;two;three;"),
-    ),
-    (b"^", "g", b">", b"abc", Gives(1, b">abc")),
-    (b"\\G.", "g", b"<$0>", b"abc", Gives(3, b"<a><b><c>")),
-    (b"\\Ga", "g", b"b", b"aaba", Gives(2, b"bbba")),
-    (b"\\b", "g", b"|", b"ab cd", Gives(4, b"|ab| |cd|")),
-    (b"\\B", "g", b"|", b"abc", Gives(2, b"a|b|c")),
-    (b"(?=a)", "g", b"-", b"aba", Gives(2, b"-ab-a")),
-    (b"(?<=a)", "g", b"-", b"aba", Gives(2, b"a-ba-")),
-    (b"(?!a)", "g", b"-", b"aba", Gives(2, b"a-ba-")),
-    (b"a??", "g", b"-", b"aa", Gives(5, b"-----")),
-    (
-        b"(a?)(b?)",
-        "g",
-        b"($2$1)",
-        b"abba",
-        Gives(4, b"(ba)(b)(a)()"),
-    ),
-    (b".", "g", b"$$", b"abc", Gives(3, b"$$$")),
-    (
-        b"[aeiou]",
-        "g",
-        b"<$0>",
-        b"education",
-        Gives(5, b"<e>d<u>c<a>t<i><o>n"),
-    ),
-    (b"a{2}", "g", b"x", b"aaaaa", Gives(2, b"xxa")),
-    (b"aa?", "g", b"x", b"aaaaa", Gives(3, b"xxx")),
-    (b"x", "g", b"y", b"abc", Gives(0, b"abc")),
-    (b"x", "go", b"y", b"abc", Gives(0, b"")),
-    (b"b", "gl", b"$0", b"abcb", Gives(2, b"a$0c$0")),
-    (b"(b)|c", "g", b"$1", b"abc", Refused(SubstError::Unset)),
-    (b"(b)|c", "ge", b"<$1>", b"abc", Gives(2, b"a<b><>")),
-    (b"b", "gx", b"${0:+\\:\\}}", b"abcb", Gives(2, b"a:}c:}")),
-    (
-        b"b",
-        "gx",
-        b"\\Q$0\\U\\E$0",
-        b"abcb",
-        Gives(2, b"a$0\\Ubc$0\\Ub"),
-    ),
-    (
-        b"b",
-        "gx",
-        b"a\\tb\\x{41}\\n",
-        b"abc",
-        Gives(1, b"aa\tbA\nc"),
-    ),
-    (b"b|(x)", "gn", b"$7", b"abc", Refused(SubstError::Unset)),
-    (b"b|(x)", "gne", b"<$7>", b"abc", Gives(1, b"a<>c")),
-    (
-        b"(a)|b|(c)",
-        "gx",
-        b"${1:-${2:-none}}",
-        b"abc",
-        Gives(3, b"anonec"),
-    ),
-    (b"a(?=b)|(?<=b)c", "g", b"-", b"abcac", Gives(2, b"-b-ac")),
-    (b"(?s).", "g", b"-", b"\r\n", Gives(2, b"--")),
-    (b".", "g", b"-", b"\r\na", Gives(2, b"-\n-")),
-    (b"\\R", "g", b"N", b"a\r\nb\nc\r", Gives(3, b"aNbNcN")),
+const FORMS: &[Line] = &[
+    r"\w :: gx :: \u :: ab :: 2 ",
+    r"a :: gx :: \Ub$0 :: xaxaX :: 2 xBAxBAX",
+    r"(\w)\1 :: g :: ($1) :: aabbcdde :: 3 (a)(b)c(d)e",
+    "(?|(a)|(b)) :: g :: <$1> :: abc :: 2 <a><b>c",
+    "\\s+ :: g ::   :: a  b \t c  :: 3 a b c ",
+    r"(?<w>\w+) :: go :: $w; :: one two three :: 3 one;two;three;",
+    "^ :: g :: > :: abc :: 1 >abc",
+    r"\G. :: g :: <$0> :: abc :: 3 <a><b><c>",
+    r"\Ga :: g :: b :: aaba :: 2 bbba",
+    r"\b :: g :: | :: ab cd :: 4 |ab| |cd|",
+    r"\B :: g :: | :: abc :: 2 a|b|c",
+    "(?=a) :: g :: - :: aba :: 2 -ab-a",
+    "(?<=a) :: g :: - :: aba :: 2 a-ba-",
+    "(?!a) :: g :: - :: aba :: 2 a-ba-",
+    "a?? :: g :: - :: aa :: 5 -----",
+    "(a?)(b?) :: g :: ($2$1) :: abba :: 4 (ba)(b)(a)()",
+    ". :: g :: $$ :: abc :: 3 $$$",
+    "[aeiou] :: g :: <$0> :: education :: 5 <e>d<u>c<a>t<i><o>n",
+    "a{2} :: g :: x :: aaaaa :: 2 xxa",
+    "aa? :: g :: x :: aaaaa :: 3 xxx",
+    "x :: g :: y :: abc :: 0 abc",
+    "x :: go :: y :: abc :: 0 ",
+    "b :: gl :: $0 :: abcb :: 2 a$0c$0",
+    "(b)|c :: g :: $1 :: abc :: Unset",
+    "(b)|c :: ge :: <$1> :: abc :: 2 a<b><>",
+    r"b :: gx :: ${0:+\:\}} :: abcb :: 2 a:}c:}",
+    r"b :: gx :: \Q$0\U\E$0 :: abcb :: 2 a$0\Ubc$0\Ub",
+    "b :: gx :: a\\tb\\x{41}\\n :: abc :: 1 aa\tbA\nc",
+    "b|(x) :: gn :: $7 :: abc :: Unset",
+    "b|(x) :: gne :: <$7> :: abc :: 1 a<>c",
+    "(a)|b|(c) :: gx :: ${1:-${2:-none}} :: abc :: 3 anonec",
+    "a(?=b)|(?<=b)c :: g :: - :: abcac :: 2 -b-ac",
+    "(?s). :: g :: - :: \r\n :: 2 --",
+    ". :: g :: - :: \r\na :: 2 -\n-",
+    "\\R :: g :: N :: a\r\nb\nc\r :: 3 aNbNcN",
 ];
+
+// The part of a row that stands first, and the rest.
+fn cut(line: &str) -> (&str, &str) {
+    line.split_once(" :: ").unwrap_or((line, ""))
+}
+
+fn row_of(line: &str) -> Row<'_> {
+    let (pattern, rest) = cut(line);
+    let (letters, rest) = cut(rest);
+    let (replacement, rest) = cut(rest);
+    let (subject, answer) = cut(rest);
+    Row {
+        pattern: pattern.as_bytes(),
+        letters,
+        replacement: replacement.as_bytes(),
+        subject: subject.as_bytes(),
+        answer: answer.as_bytes(),
+    }
+}
 
 /// The options that letters stand for.
 fn how_of(letters: &str) -> SubstOptions {
@@ -285,193 +177,220 @@ fn how_of(letters: &str) -> SubstOptions {
     }
 }
 
-/// Checks a row, from a start on.
-fn check(
-    rt: &impl Abort,
-    alloc: Global,
-    row: &Row,
-    start: usize,
-    options: &MatchOptions,
-) -> Result<(), Fail> {
-    let subject = row.3;
-    assert!(rt; subject.len() < 1000);
-    let code = Code::compile(alloc, row.0, Options::PLAIN)?;
-    let mut scratch = Scratch::new(alloc);
-    let how = how_of(row.1);
-    match code.substitute(alloc, subject, start, options, &how, row.2, &mut scratch) {
-        Ok(done) => {
-            let Gives(count, text) = row.4 else {
-                return Err(Fail::from(SubstError::Memory));
-            };
-            assert_eq!(rt; done.text.bytes(), text);
-            assert_eq!(rt; done.count, count);
-        }
-        Err(e) => assert_eq!(rt; Refused(e), row.4),
-    }
-    Ok(())
+fn text_of(alloc: Global, done: &Substituted) -> Result<Vec<u8>, Fail> {
+    let count = format!(in alloc; "{} ", done.count)?;
+    let mut text = count.as_bytes().to_vec(alloc)?;
+    text.extend_from_slice(done.text.bytes())?;
+    Ok(text)
 }
 
-fn check_all(rt: &impl Abort, alloc: Global, rows: &[Row]) -> Result<(), Fail> {
-    for row in rows {
-        check(rt, alloc, row, 0, &MatchOptions::PLAIN)?;
+fn error_text(alloc: Global, error: SubstError) -> Result<Vec<u8>, Fail> {
+    let text = format!(in alloc; "{error:?}")?;
+    Ok(text.as_bytes().to_vec(alloc)?)
+}
+
+// What becomes of the subject, as in a row.
+fn told(
+    alloc: Global,
+    code: &Code,
+    row: &Row<'_>,
+    start: usize,
+    options: &MatchOptions,
+) -> Result<Vec<u8>, Fail>
+    requires short { length row.now.subject.now < 1000 }
+{
+    let how = how_of(row.letters);
+    let mut scratch = Scratch::new(alloc);
+    match code.substitute(
+        alloc,
+        row.subject,
+        start,
+        options,
+        &how,
+        row.replacement,
+        &mut scratch,
+    ) {
+        Ok(done) => text_of(alloc, &done),
+        Err(e) => error_text(alloc, e),
+    }
+}
+
+fn is_told(
+    alloc: Global,
+    row: &Row<'_>,
+    start: usize,
+    options: &MatchOptions,
+) -> Result<bool, Fail> {
+    if row.subject.len() >= 1000 {
+        return Ok(false);
+    }
+    let code = Code::compile(alloc, row.pattern, Options::PLAIN)?;
+    let told = told(alloc, &code, row, start, options)?;
+    Ok(told.as_slice() == row.answer)
+}
+
+fn check_all(
+    rt: &impl Abort,
+    alloc: Global,
+    options: &MatchOptions,
+    lines: &[Line],
+) -> Result<(), Fail> {
+    for line in lines {
+        let is_told = is_told(alloc, &row_of(line), 0, options)?;
+        assert!(rt; is_told);
     }
     Ok(())
 }
 
 #[test]
 fn the_first_match_is_replaced(rt: HostRuntime) -> Result<(), Fail> {
-    check_all(&rt, rt.alloc(), FIRST)
+    check_all(&rt, rt.alloc(), &PLAIN, FIRST)
 }
 
 #[test]
 fn all_matches_are_replaced(rt: HostRuntime) -> Result<(), Fail> {
-    check_all(&rt, rt.alloc(), ALL)
+    check_all(&rt, rt.alloc(), &PLAIN, ALL)
 }
 
 #[test]
 fn all_forms_are_replaced(rt: HostRuntime) -> Result<(), Fail> {
-    check_all(&rt, rt.alloc(), FORMS)
+    check_all(&rt, rt.alloc(), &PLAIN, FORMS)
 }
 
 /// Starts, with what is replaced from there on.
-const LATER: &[(usize, Row)] = &[
-    (2, (b"a", "g", b"x", b"aaaa", Gives(2, b"aaxx"))),
-    (2, (b"a", "go", b"x", b"aaaa", Gives(2, b"xx"))),
-    (4, (b"", "g", b"-", b"aaaa", Gives(1, b"aaaa-"))),
-    (2, (b"^a", "g", b"x", b"aaaa", Gives(0, b"aaaa"))),
-    (1, (b"\\Ga", "g", b"x", b"aaba", Gives(1, b"axba"))),
-    (1, (b"(?<=a)b", "g", b"x", b"abab", Gives(2, b"axax"))),
-    (
-        5,
-        (b"a", "g", b"$", b"aaaa", Refused(SubstError::BadOffset)),
-    ),
+const LATER: &[(usize, Line)] = &[
+    (2, "a :: g :: x :: aaaa :: 2 aaxx"),
+    (2, "a :: go :: x :: aaaa :: 2 xx"),
+    (4, " :: g :: - :: aaaa :: 1 aaaa-"),
+    (2, "^a :: g :: x :: aaaa :: 0 aaaa"),
+    (1, r"\Ga :: g :: x :: aaba :: 1 axba"),
+    (1, "(?<=a)b :: g :: x :: abab :: 2 axax"),
+    (5, "a :: g :: $ :: aaaa :: BadOffset"),
 ];
 
 #[test]
 fn text_before_the_start_is_kept(rt: HostRuntime) -> Result<(), Fail> {
-    for (start, row) in LATER {
-        check(&rt, rt.alloc(), row, *start, &MatchOptions::PLAIN)?;
+    for (start, line) in LATER {
+        let is_told = is_told(rt.alloc(), &row_of(line), *start, &PLAIN)?;
+        assert!(&rt; is_told);
+    }
+    Ok(())
+}
+
+/// Characters, and the faults of a replacement after those of the subject.
+const IN_UTF: &[Line] = &[
+    "(*UTF)x* :: g :: - :: éx€ :: 4 -é--€-",
+    "(*UTF). :: g :: <$0> :: éx :: 2 <é><x>",
+    "(*UTF)a :: - :: $ :: a :: BadReplacement",
+];
+
+#[test]
+fn characters_are_replaced_in_utf(rt: HostRuntime) -> Result<(), Fail> {
+    check_all(&rt, rt.alloc(), &PLAIN, IN_UTF)
+}
+
+/// Bytes that aren't UTF-8: in UTF those of the subject are told before those of the replacement, and
+/// these before the faults of its syntax.
+const BYTES: &[Row<'static>] = &[
+    Row {
+        pattern: b".+",
+        letters: "x",
+        replacement: b"\\U$0",
+        subject: b"stra\xdfe",
+        answer: b"1 STRA\xdfE",
+    },
+    Row {
+        pattern: b"x*",
+        letters: "g",
+        replacement: b"-",
+        subject: b"\xc3\xa9",
+        answer: b"3 -\xc3-\xa9-",
+    },
+    Row {
+        pattern: b"(*UTF).",
+        letters: "-",
+        replacement: b"x",
+        subject: b"a\xff",
+        answer: b"BadUtf { at: 1 }",
+    },
+    Row {
+        pattern: b"(*UTF)a",
+        letters: "-",
+        replacement: b"\xff$",
+        subject: b"\xff",
+        answer: b"BadUtf { at: 0 }",
+    },
+    Row {
+        pattern: b"(*UTF)a",
+        letters: "-",
+        replacement: b"b\xff$",
+        subject: b"a",
+        answer: b"ReplacementUtf { at: 1 }",
+    },
+    Row {
+        pattern: b"(*UTF)a",
+        letters: "l",
+        replacement: b"\xc3",
+        subject: b"b",
+        answer: b"ReplacementUtf { at: 0 }",
+    },
+    Row {
+        pattern: b"a",
+        letters: "-",
+        replacement: b"\xff",
+        subject: b"a\xfe",
+        answer: b"1 \xff\xfe",
+    },
+];
+
+#[test]
+fn bytes_are_replaced_or_refused_in_utf(rt: HostRuntime) -> Result<(), Fail> {
+    for row in BYTES {
+        let is_told = is_told(rt.alloc(), row, 0, &PLAIN)?;
+        assert!(&rt; is_told);
     }
     Ok(())
 }
 
 /// Replacements where the second search meets the limit.
-/// Characters, and bytes that aren't UTF-8: those of the subject are told before those of the
-/// replacement, and these before the faults of its syntax.
-const IN_UTF: &[Row] = &[
-    (
-        b"(*UTF)x*",
-        "g",
-        b"-",
-        b"\xc3\xa9x\xe2\x82\xac",
-        Gives(4, b"-\xc3\xa9--\xe2\x82\xac-"),
-    ),
-    (
-        b"(*UTF).",
-        "g",
-        b"<$0>",
-        b"\xc3\xa9x",
-        Gives(2, b"<\xc3\xa9><x>"),
-    ),
-    (b"x*", "g", b"-", b"\xc3\xa9", Gives(3, b"-\xc3-\xa9-")),
-    (
-        b"(*UTF).",
-        "",
-        b"x",
-        b"a\xff",
-        Refused(SubstError::BadUtf { at: 1 }),
-    ),
-    (
-        b"(*UTF)a",
-        "",
-        b"\xff$",
-        b"\xff",
-        Refused(SubstError::BadUtf { at: 0 }),
-    ),
-    (
-        b"(*UTF)a",
-        "",
-        b"b\xff$",
-        b"a",
-        Refused(SubstError::ReplacementUtf { at: 1 }),
-    ),
-    (
-        b"(*UTF)a",
-        "l",
-        b"\xc3",
-        b"b",
-        Refused(SubstError::ReplacementUtf { at: 0 }),
-    ),
-    (
-        b"(*UTF)a",
-        "",
-        b"$",
-        b"a",
-        Refused(SubstError::BadReplacement),
-    ),
-    (b"a", "", b"\xff", b"a\xfe", Gives(1, b"\xff\xfe")),
-];
-
-#[test]
-fn characters_are_replaced_in_utf(rt: HostRuntime) -> Result<(), Fail> {
-    check_all(&rt, rt.alloc(), IN_UTF)
-}
-
-const LIMITED: &[Row] = &[
-    (
-        b"a|(x+x+)+y",
-        "",
-        b"-",
-        b"axxxxxxxx",
-        Gives(1, b"-xxxxxxxx"),
-    ),
-    (
-        b"a|(x+x+)+y",
-        "g",
-        b"-",
-        b"axxxxxxxx",
-        Refused(SubstError::MatchLimit),
-    ),
-    (
-        b"a|(x+x+)+y",
-        "g",
-        b"$2",
-        b"axxxxxxxx",
-        Refused(SubstError::NoGroup),
-    ),
-    (
-        b"a|(x+x+)+y",
-        "g",
-        b"$",
-        b"axxxxxxxx",
-        Refused(SubstError::BadReplacement),
-    ),
+const LIMITED: &[Line] = &[
+    "a|(x+x+)+y :: - :: - :: axxxxxxxx :: 1 -xxxxxxxx",
+    "a|(x+x+)+y :: g :: - :: axxxxxxxx :: MatchLimit",
+    "a|(x+x+)+y :: g :: $2 :: axxxxxxxx :: NoGroup",
+    "a|(x+x+)+y :: g :: $ :: axxxxxxxx :: BadReplacement",
 ];
 
 #[test]
 fn a_later_search_may_fail(rt: HostRuntime) -> Result<(), Fail> {
     let few = MatchOptions {
         match_limit: 40,
-        ..MatchOptions::PLAIN
+        ..PLAIN
     };
-    for row in LIMITED {
-        check(&rt, rt.alloc(), row, 0, &few)?;
-    }
-    Ok(())
+    check_all(&rt, rt.alloc(), &few, LIMITED)
 }
-
-const PARTIAL: &[Row] = &[(b"bc?", "g", b"x", b"ab", Gives(1, b"ax"))];
 
 #[test]
 fn partial_matching_is_taken_as_off(rt: HostRuntime) -> Result<(), Fail> {
     let hard = MatchOptions {
         partial: PartialMode::Hard,
-        ..MatchOptions::PLAIN
+        ..PLAIN
     };
-    for row in PARTIAL {
-        check(&rt, rt.alloc(), row, 0, &hard)?;
-    }
-    Ok(())
+    check_all(&rt, rt.alloc(), &hard, &["bc? :: g :: x :: ab :: 1 ax"])
+}
+
+/// Each refusal of a replacement.
+const REFUSED: &[Line] = &[
+    "(a)|b :: g :: $ :: ab :: BadReplacement",
+    "(a)|b :: g :: ${1 :: ab :: MissingBrace",
+    r"(a)|b :: x :: \i :: ab :: BadEscape",
+    "(a)|b :: x :: ${1:x} :: ab :: BadSyntax",
+    "(a)|b :: g :: $2 :: ab :: NoGroup",
+    "(a)|b :: g :: $1 :: ab :: Unset",
+];
+
+#[test]
+fn each_refused_replacement_has_its_meaning(rt: HostRuntime) -> Result<(), Fail> {
+    check_all(&rt, rt.alloc(), &PLAIN, REFUSED)
 }
 
 /// Refusals with their numbers and texts.
@@ -494,7 +413,6 @@ const REFUSALS: &[(SubstError, i32, &[u8])] = &[
 #[test]
 fn refusals_have_numbers_and_texts(rt: HostRuntime) {
     for (refusal, number, text) in REFUSALS {
-        assert_eq!(&rt; refusal.number(), *number);
-        assert_eq!(&rt; refusal.text(), *text);
+        assert!(&rt; refusal.number() == *number && refusal.text() == *text);
     }
 }

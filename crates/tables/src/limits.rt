@@ -44,11 +44,11 @@ fn case(rt: &impl Abort, alloc: Global, row: &Row, scratch: &mut Scratch) -> Res
             mark: None,
         },
     };
-    assert_eq!(rt; limited(rt, alloc, row, (steps, units), scratch)?, answer);
+    assert!(rt; limited(rt, alloc, row, (steps, units), scratch)? == answer);
     let few_steps = limited(rt, alloc, row, (steps - 1, 99), scratch)?;
-    assert_eq!(rt; few_steps, MatchAnswer::MatchLimit);
+    assert!(rt; few_steps == MatchAnswer::MatchLimit);
     let few_units = limited(rt, alloc, row, (99, units - 1), scratch)?;
-    assert_eq!(rt; few_units, MatchAnswer::FrameLimit);
+    assert!(rt; few_units == MatchAnswer::FrameLimit);
     Ok(())
 }
 
@@ -60,107 +60,117 @@ fn cases(rt: &impl Abort, alloc: Global, rows: &[Row]) -> Result<(), Fail> {
     Ok(())
 }
 
+const EACH_SHORTER_RUN_IS_A_STEP: &[Row] = &[
+    (b"\\w+;", b"ab;", Some((0, 3)), 1, 1),
+    (b"\\w+;", b"abc", None, 3, 1),
+    (b"a+ab", b"aaab", Some((0, 4)), 2, 1),
+    (b".*\\.h", b"x.h.c", Some((0, 3)), 5, 1),
+    (b"[^ ]+ [^ ]+ s", b"ab cd s", Some((0, 7)), 2, 2),
+    (b"a{2,}b", b"aaaac", None, 3, 1),
+    (b"a*b+c", b"aabx", None, 4, 1),
+    (b"(\\w+)\\.", b"ab", None, 2, 3),
+    (b"(\\w+)\\.(\\w+)\\(", b"ab.cd(", Some((0, 6)), 2, 6),
+    (b"(\\w+)\\.(\\w+)\\(", b"ab.cd", None, 4, 6),
+    (b"((a+))b", b"aac", None, 2, 5),
+    (b"(?:(a+)b)*c", b"aabaac", Some((5, 6)), 6, 8),
+];
+
 #[test]
 fn each_shorter_run_is_a_step(rt: HostRuntime) -> Result<(), Fail> {
-    static ROWS: [Row; 12] = [
-        (b"\\w+;", b"ab;", Some((0, 3)), 1, 1),
-        (b"\\w+;", b"abc", None, 3, 1),
-        (b"a+ab", b"aaab", Some((0, 4)), 2, 1),
-        (b".*\\.h", b"x.h.c", Some((0, 3)), 5, 1),
-        (b"[^ ]+ [^ ]+ s", b"ab cd s", Some((0, 7)), 2, 2),
-        (b"a{2,}b", b"aaaac", None, 3, 1),
-        (b"a*b+c", b"aabx", None, 4, 1),
-        (b"(\\w+)\\.", b"ab", None, 2, 3),
-        (b"(\\w+)\\.(\\w+)\\(", b"ab.cd(", Some((0, 6)), 2, 6),
-        (b"(\\w+)\\.(\\w+)\\(", b"ab.cd", None, 4, 6),
-        (b"((a+))b", b"aac", None, 2, 5),
-        (b"(?:(a+)b)*c", b"aabaac", Some((5, 6)), 6, 8),
-    ];
-    cases(&rt, rt.alloc(), &ROWS)
+    cases(&rt, rt.alloc(), EACH_SHORTER_RUN_IS_A_STEP)
 }
+
+const EACH_LONGER_RUN_IS_A_STEP: &[Row] = &[
+    (b"a+?b", b"aaab", Some((0, 4)), 3, 1),
+    (b"a+?b", b"aac", None, 2, 1),
+    (b"(a+?)b", b"aaab", Some((0, 4)), 3, 3),
+    (b"a{1,3}?b", b"aaab", Some((0, 4)), 3, 1),
+    (b"a{1,2}?b", b"aab", Some((0, 3)), 2, 1),
+    (b".*?\\.h", b"x.c.h", Some((0, 5)), 4, 1),
+];
 
 #[test]
 fn each_longer_run_is_a_step(rt: HostRuntime) -> Result<(), Fail> {
-    static ROWS: [Row; 6] = [
-        (b"a+?b", b"aaab", Some((0, 4)), 3, 1),
-        (b"a+?b", b"aac", None, 2, 1),
-        (b"(a+?)b", b"aaab", Some((0, 4)), 3, 3),
-        (b"a{1,3}?b", b"aaab", Some((0, 4)), 3, 1),
-        (b"a{1,2}?b", b"aab", Some((0, 3)), 2, 1),
-        (b".*?\\.h", b"x.c.h", Some((0, 5)), 4, 1),
-    ];
-    cases(&rt, rt.alloc(), &ROWS)
+    cases(&rt, rt.alloc(), EACH_LONGER_RUN_IS_A_STEP)
 }
+
+const EACH_BRANCH_IS_A_STEP: &[Row] = &[
+    (b"(?:ab|cd|ef)x", b"efx", Some((0, 3)), 3, 1),
+    (b"(?:ab|cd|ef)x", b"efy", None, 3, 1),
+    (b"foo|bar|baz", b"baz", Some((0, 3)), 3, 1),
+    (b"(a|b|c)d", b"cd", Some((0, 2)), 3, 2),
+];
 
 #[test]
 fn each_branch_is_a_step(rt: HostRuntime) -> Result<(), Fail> {
-    static ROWS: [Row; 4] = [
-        (b"(?:ab|cd|ef)x", b"efx", Some((0, 3)), 3, 1),
-        (b"(?:ab|cd|ef)x", b"efy", None, 3, 1),
-        (b"foo|bar|baz", b"baz", Some((0, 3)), 3, 1),
-        (b"(a|b|c)d", b"cd", Some((0, 2)), 3, 2),
-    ];
-    cases(&rt, rt.alloc(), &ROWS)
+    cases(&rt, rt.alloc(), EACH_BRANCH_IS_A_STEP)
 }
+
+const A_MISSING_BYTE_IS_NO_MATCH_WITHIN_THE_LIMITS: &[Row] = &[
+    (b"\\w+;", b"abcdefgh", None, 8, 1),
+    (b"(?i)\\w+k", b"abc", None, 3, 1),
+    (b"(?i)\\w+k", b"abK", Some((0, 3)), 2, 1),
+    (b"a*(?:;|=)", b"aa", None, 9, 2),
+    (b"a*(?:;|=)", b"aa=", Some((0, 3)), 3, 2),
+    (b"a+;?=", b"aa", None, 4, 1),
+    (b"a+;?=", b"aa=", Some((0, 3)), 2, 1),
+    (b"a+(?=;)", b"aa", None, 2, 2),
+    (b"a+(?!;)", b"aa", Some((0, 2)), 1, 2),
+    (b"(?>a+);", b"aa", None, 1, 3),
+];
 
 #[test]
 fn a_missing_byte_is_no_match_within_the_limits(rt: HostRuntime) -> Result<(), Fail> {
-    static ROWS: [Row; 10] = [
-        (b"\\w+;", b"abcdefgh", None, 8, 1),
-        (b"(?i)\\w+k", b"abc", None, 3, 1),
-        (b"(?i)\\w+k", b"abK", Some((0, 3)), 2, 1),
-        (b"a*(?:;|=)", b"aa", None, 9, 2),
-        (b"a*(?:;|=)", b"aa=", Some((0, 3)), 3, 2),
-        (b"a+;?=", b"aa", None, 4, 1),
-        (b"a+;?=", b"aa=", Some((0, 3)), 2, 1),
-        (b"a+(?=;)", b"aa", None, 2, 2),
-        (b"a+(?!;)", b"aa", Some((0, 2)), 1, 2),
-        (b"(?>a+);", b"aa", None, 1, 3),
-    ];
-    cases(&rt, rt.alloc(), &ROWS)
+    cases(
+        &rt,
+        rt.alloc(),
+        A_MISSING_BYTE_IS_NO_MATCH_WITHIN_THE_LIMITS,
+    )
 }
+
+const THE_FIRST_PLACE_OF_A_RUN_MEETS_THE_LIMITS: &[Row] = &[
+    (b"\\w+@", b"abcd ef@", Some((5, 8)), 4, 1),
+    (b"\\w+@", b"ab abcd", None, 4, 1),
+    (b"(\\w+)\\.(\\w+)\\(", b"ab.cd.ef(", Some((3, 9)), 4, 6),
+    (b".*\\.h", b"x.c\ny.h", Some((4, 7)), 4, 1),
+    (b"((a+)b?)c", b"aaabac", Some((4, 6)), 7, 6),
+    (b"(?:x*)\\b", b"--xx", Some((2, 4)), 1, 1),
+    (b"a+(?<=aaa)b", b"aab aaab", Some((4, 8)), 2, 3),
+    (b"a{2,}b", b"aaaac aab", Some((6, 9)), 3, 1),
+    (b"[^ ]+ [^ ]+ s", b"ab cd x ef s", Some((6, 12)), 4, 2),
+];
 
 // The first place of a run takes the most Steps and units. Where it passes a limit, no later one is
 // asked.
 #[test]
 fn the_first_place_of_a_run_meets_the_limits(rt: HostRuntime) -> Result<(), Fail> {
-    static ROWS: [Row; 9] = [
-        (b"\\w+@", b"abcd ef@", Some((5, 8)), 4, 1),
-        (b"\\w+@", b"ab abcd", None, 4, 1),
-        (b"(\\w+)\\.(\\w+)\\(", b"ab.cd.ef(", Some((3, 9)), 4, 6),
-        (b".*\\.h", b"x.c\ny.h", Some((4, 7)), 4, 1),
-        (b"((a+)b?)c", b"aaabac", Some((4, 6)), 7, 6),
-        (b"(?:x*)\\b", b"--xx", Some((2, 4)), 1, 1),
-        (b"a+(?<=aaa)b", b"aab aaab", Some((4, 8)), 2, 3),
-        (b"a{2,}b", b"aaaac aab", Some((6, 9)), 3, 1),
-        (b"[^ ]+ [^ ]+ s", b"ab cd x ef s", Some((6, 12)), 4, 2),
-    ];
-    cases(&rt, rt.alloc(), &ROWS)
+    cases(&rt, rt.alloc(), THE_FIRST_PLACE_OF_A_RUN_MEETS_THE_LIMITS)
 }
+
+const FORMS_WITH_BRANCHES_HOLD_UNITS: &[Row] = &[
+    (b"a++b", b"aab", Some((0, 3)), 1, 3),
+    (b"a++a", b"aaa", None, 1, 3),
+    (b"(?:ab)++c", b"ababc", Some((0, 5)), 3, 4),
+    (b"(?>a|ab)c", b"ac", Some((0, 2)), 1, 3),
+    (b"(?=ab|ac)a", b"ac", Some((0, 1)), 2, 2),
+    (b"(?!ab|ac)a", b"ad", Some((0, 1)), 2, 2),
+    (b"(?*a|ab)a", b"ab", Some((0, 1)), 1, 2),
+    (b"(?*(a)|(ab))ab\\2", b"abab", Some((0, 4)), 2, 4),
+    (b"(?<*a|b)c", b"bc", Some((1, 2)), 2, 2),
+    (b"(a)?(?(1)b|c)", b"ab", Some((0, 2)), 1, 3),
+    (b"(a)?(?(1)b|c)", b"c", Some((0, 1)), 1, 2),
+    (b"(?<n>a)?(?(<n>)b|c)", b"ab", Some((0, 2)), 1, 3),
+    (b"(?(?=a|b)b|c)", b"b", Some((0, 1)), 2, 2),
+    (b"(?(?=a|b)b|c)", b"c", Some((0, 1)), 2, 2),
+    (b"(?(?=a)b|(c+))", b"c", Some((0, 1)), 1, 2),
+    (b"(?(?!a)b|(a+))", b"a", Some((0, 1)), 1, 4),
+    (b"(?(?<!a|b)c|d)", b"c", Some((0, 1)), 2, 2),
+    (b"(?|(a)|(b))c", b"bc", Some((0, 2)), 2, 2),
+    (b"(?|(a)|(b)(c)|d)e", b"bce", Some((0, 3)), 2, 5),
+];
 
 // A test of a condition that fails gives the unit of entering it back.
 #[test]
 fn forms_with_branches_hold_units(rt: HostRuntime) -> Result<(), Fail> {
-    static ROWS: [Row; 19] = [
-        (b"a++b", b"aab", Some((0, 3)), 1, 3),
-        (b"a++a", b"aaa", None, 1, 3),
-        (b"(?:ab)++c", b"ababc", Some((0, 5)), 3, 4),
-        (b"(?>a|ab)c", b"ac", Some((0, 2)), 1, 3),
-        (b"(?=ab|ac)a", b"ac", Some((0, 1)), 2, 2),
-        (b"(?!ab|ac)a", b"ad", Some((0, 1)), 2, 2),
-        (b"(?*a|ab)a", b"ab", Some((0, 1)), 1, 2),
-        (b"(?*(a)|(ab))ab\\2", b"abab", Some((0, 4)), 2, 4),
-        (b"(?<*a|b)c", b"bc", Some((1, 2)), 2, 2),
-        (b"(a)?(?(1)b|c)", b"ab", Some((0, 2)), 1, 3),
-        (b"(a)?(?(1)b|c)", b"c", Some((0, 1)), 1, 2),
-        (b"(?<n>a)?(?(<n>)b|c)", b"ab", Some((0, 2)), 1, 3),
-        (b"(?(?=a|b)b|c)", b"b", Some((0, 1)), 2, 2),
-        (b"(?(?=a|b)b|c)", b"c", Some((0, 1)), 2, 2),
-        (b"(?(?=a)b|(c+))", b"c", Some((0, 1)), 1, 2),
-        (b"(?(?!a)b|(a+))", b"a", Some((0, 1)), 1, 4),
-        (b"(?(?<!a|b)c|d)", b"c", Some((0, 1)), 2, 2),
-        (b"(?|(a)|(b))c", b"bc", Some((0, 2)), 2, 2),
-        (b"(?|(a)|(b)(c)|d)e", b"bce", Some((0, 3)), 2, 5),
-    ];
-    cases(&rt, rt.alloc(), &ROWS)
+    cases(&rt, rt.alloc(), FORMS_WITH_BRANCHES_HOLD_UNITS)
 }

@@ -138,9 +138,9 @@ fn case(rt: &impl Abort, alloc: Global, row: &Row, scratch: &mut Scratch) -> Res
         &wanted.matching,
         scratch,
     )?;
-    assert_eq!(rt; answer, expected);
+    assert!(rt; answer == expected);
     if matches!(answer, MatchAnswer::Match { .. }) {
-        assert_eq!(rt; group.map(|span| (span.from, span.to)), wanted.group);
+        assert!(rt; group.map(|span| (span.from, span.to)) == wanted.group);
     }
     Ok(())
 }
@@ -155,151 +155,154 @@ fn cases(rt: &impl Abort, alloc: Global, rows: &[Row]) -> Result<(), Fail> {
     Ok(())
 }
 
+const LIMITS_ON_STEPS_ARE_EXACT: &[Row] = &[
+    (b"(?:ab)*c", b"ababc", found!(0, 5), &[Limited(3, 99)]),
+    (
+        b"(?:ab)*c",
+        b"ababc",
+        MatchAnswer::MatchLimit,
+        &[Limited(2, 99)],
+    ),
+    (b"a*b", b"aacab", found!(3, 5), &[Limited(3, 99)]),
+    (b"a*b", b"aacab", MatchAnswer::MatchLimit, &[Limited(2, 99)]),
+    (b"a*?b", b"aaab", found!(0, 4), &[Limited(4, 99)]),
+    (b"a*?b", b"aaab", MatchAnswer::MatchLimit, &[Limited(3, 99)]),
+    (b"(?:a|b)c", b"bc", found!(0, 2), &[Limited(2, 99)]),
+    (
+        b"(?:a|b)c",
+        b"bc",
+        MatchAnswer::MatchLimit,
+        &[Limited(1, 99)],
+    ),
+    (b"(?:a|b)*c", b"aac", found!(0, 3), &[Limited(7, 99)]),
+    (
+        b"(?:a|b)*c",
+        b"aac",
+        MatchAnswer::MatchLimit,
+        &[Limited(6, 99)],
+    ),
+    (b"(?:a|b)*?c", b"aac", found!(0, 3), &[Limited(4, 99)]),
+    (
+        b"(?:a|b)*?c",
+        b"aac",
+        MatchAnswer::MatchLimit,
+        &[Limited(3, 99)],
+    ),
+    (b"(*LIMIT_MATCH=3)(?:ab)*c", b"ababc", found!(0, 5), &[]),
+    (
+        b"(*LIMIT_MATCH=2)(?:ab)*c",
+        b"ababc",
+        MatchAnswer::MatchLimit,
+        &[],
+    ),
+    (
+        b"(*LIMIT_MATCH=9)(?:ab)*c",
+        b"ababc",
+        MatchAnswer::MatchLimit,
+        &[Limited(2, 99)],
+    ),
+    (
+        b"(a+)*zz",
+        b"aaaaaaaaaaaaaaaaaaaaaaaaaaaaaa",
+        MatchAnswer::MatchLimit,
+        &[Limited(1000, 99)],
+    ),
+];
+
 // Steps are counted anew at each place, and a limit of the pattern only lowers that of the match.
 #[test]
 fn limits_on_steps_are_exact(rt: HostRuntime) -> Result<(), Fail> {
-    static ROWS: [Row; 16] = [
-        (b"(?:ab)*c", b"ababc", found!(0, 5), &[Limited(3, 99)]),
-        (
-            b"(?:ab)*c",
-            b"ababc",
-            MatchAnswer::MatchLimit,
-            &[Limited(2, 99)],
-        ),
-        (b"a*b", b"aacab", found!(3, 5), &[Limited(3, 99)]),
-        (b"a*b", b"aacab", MatchAnswer::MatchLimit, &[Limited(2, 99)]),
-        (b"a*?b", b"aaab", found!(0, 4), &[Limited(4, 99)]),
-        (b"a*?b", b"aaab", MatchAnswer::MatchLimit, &[Limited(3, 99)]),
-        (b"(?:a|b)c", b"bc", found!(0, 2), &[Limited(2, 99)]),
-        (
-            b"(?:a|b)c",
-            b"bc",
-            MatchAnswer::MatchLimit,
-            &[Limited(1, 99)],
-        ),
-        (b"(?:a|b)*c", b"aac", found!(0, 3), &[Limited(7, 99)]),
-        (
-            b"(?:a|b)*c",
-            b"aac",
-            MatchAnswer::MatchLimit,
-            &[Limited(6, 99)],
-        ),
-        (b"(?:a|b)*?c", b"aac", found!(0, 3), &[Limited(4, 99)]),
-        (
-            b"(?:a|b)*?c",
-            b"aac",
-            MatchAnswer::MatchLimit,
-            &[Limited(3, 99)],
-        ),
-        (b"(*LIMIT_MATCH=3)(?:ab)*c", b"ababc", found!(0, 5), &[]),
-        (
-            b"(*LIMIT_MATCH=2)(?:ab)*c",
-            b"ababc",
-            MatchAnswer::MatchLimit,
-            &[],
-        ),
-        (
-            b"(*LIMIT_MATCH=9)(?:ab)*c",
-            b"ababc",
-            MatchAnswer::MatchLimit,
-            &[Limited(2, 99)],
-        ),
-        (
-            b"(a+)*zz",
-            b"aaaaaaaaaaaaaaaaaaaaaaaaaaaaaa",
-            MatchAnswer::MatchLimit,
-            &[Limited(1000, 99)],
-        ),
-    ];
-    cases(&rt, rt.alloc(), &ROWS)
+    cases(&rt, rt.alloc(), LIMITS_ON_STEPS_ARE_EXACT)
 }
+
+const LIMITS_ON_UNITS_ARE_EXACT: &[Row] = &[
+    (
+        b"(a)",
+        b"a",
+        found!(0, 1),
+        &[Captured(0, 1), Limited(99, 2)],
+    ),
+    (b"(a)", b"a", MatchAnswer::FrameLimit, &[Limited(99, 1)]),
+    (
+        b"(a)(b)",
+        b"ab",
+        found!(0, 2),
+        &[Captured(0, 1), Limited(99, 4)],
+    ),
+    (b"(a)(b)", b"ab", MatchAnswer::FrameLimit, &[Limited(99, 3)]),
+    (b"a*b", b"aaab", found!(0, 4), &[Limited(99, 1)]),
+    (b"a*b", b"aaab", MatchAnswer::FrameLimit, &[Limited(99, 0)]),
+    (b"a{3}b", b"aaab", found!(0, 4), &[Limited(99, 0)]),
+    (b"a{3}b", b"aaab", MatchAnswer::MatchLimit, &[Limited(0, 0)]),
+    (b"(?:a|b)c", b"bc", found!(0, 2), &[Limited(99, 1)]),
+    (
+        b"(?:a|b)c",
+        b"bc",
+        MatchAnswer::FrameLimit,
+        &[Limited(99, 0)],
+    ),
+    (
+        b"(?:a|b)c",
+        b"bc",
+        MatchAnswer::MatchLimit,
+        &[Limited(0, 0)],
+    ),
+    (b"(?:a|b)*c", b"aac", found!(0, 3), &[Limited(99, 6)]),
+    (
+        b"(?:a|b)*c",
+        b"aac",
+        MatchAnswer::FrameLimit,
+        &[Limited(99, 5)],
+    ),
+    (b"(?:a|b)*?c", b"aac", found!(0, 3), &[Limited(99, 5)]),
+    (
+        b"(?:a|b)*?c",
+        b"aac",
+        MatchAnswer::FrameLimit,
+        &[Limited(99, 4)],
+    ),
+    (b"abc", b"xabc", found!(1, 4), &[Limited(0, 0)]),
+];
 
 // At one event the Step is compared first, then the unit.
 #[test]
 fn limits_on_units_are_exact(rt: HostRuntime) -> Result<(), Fail> {
-    static ROWS: [Row; 16] = [
-        (
-            b"(a)",
-            b"a",
-            found!(0, 1),
-            &[Captured(0, 1), Limited(99, 2)],
-        ),
-        (b"(a)", b"a", MatchAnswer::FrameLimit, &[Limited(99, 1)]),
-        (
-            b"(a)(b)",
-            b"ab",
-            found!(0, 2),
-            &[Captured(0, 1), Limited(99, 4)],
-        ),
-        (b"(a)(b)", b"ab", MatchAnswer::FrameLimit, &[Limited(99, 3)]),
-        (b"a*b", b"aaab", found!(0, 4), &[Limited(99, 1)]),
-        (b"a*b", b"aaab", MatchAnswer::FrameLimit, &[Limited(99, 0)]),
-        (b"a{3}b", b"aaab", found!(0, 4), &[Limited(99, 0)]),
-        (b"a{3}b", b"aaab", MatchAnswer::MatchLimit, &[Limited(0, 0)]),
-        (b"(?:a|b)c", b"bc", found!(0, 2), &[Limited(99, 1)]),
-        (
-            b"(?:a|b)c",
-            b"bc",
-            MatchAnswer::FrameLimit,
-            &[Limited(99, 0)],
-        ),
-        (
-            b"(?:a|b)c",
-            b"bc",
-            MatchAnswer::MatchLimit,
-            &[Limited(0, 0)],
-        ),
-        (b"(?:a|b)*c", b"aac", found!(0, 3), &[Limited(99, 6)]),
-        (
-            b"(?:a|b)*c",
-            b"aac",
-            MatchAnswer::FrameLimit,
-            &[Limited(99, 5)],
-        ),
-        (b"(?:a|b)*?c", b"aac", found!(0, 3), &[Limited(99, 5)]),
-        (
-            b"(?:a|b)*?c",
-            b"aac",
-            MatchAnswer::FrameLimit,
-            &[Limited(99, 4)],
-        ),
-        (b"abc", b"xabc", found!(1, 4), &[Limited(0, 0)]),
-    ];
-    cases(&rt, rt.alloc(), &ROWS)
+    cases(&rt, rt.alloc(), LIMITS_ON_UNITS_ARE_EXACT)
 }
+
+const LIMITS_OF_A_LOOKBEHIND_ARE_EXACT: &[Row] = &[
+    (b"(?<=a|b)c", b"bc", found!(1, 2), &[Limited(2, 2)]),
+    (
+        b"(?<=a|b)c",
+        b"bc",
+        MatchAnswer::MatchLimit,
+        &[Limited(1, 99)],
+    ),
+    (
+        b"(?<=a|b)c",
+        b"bc",
+        MatchAnswer::FrameLimit,
+        &[Limited(99, 1)],
+    ),
+    (b"(?<!a|b)c", b"dc", found!(1, 2), &[Limited(2, 2)]),
+    (
+        b"(?<!a|b)c",
+        b"dc",
+        MatchAnswer::MatchLimit,
+        &[Limited(1, 99)],
+    ),
+    (
+        b"(?<!a|b)c",
+        b"dc",
+        MatchAnswer::FrameLimit,
+        &[Limited(99, 1)],
+    ),
+];
 
 // Each branch of a lookbehind is a Step, and to enter it, to leave it where it is true and to keep a branch are units.
 #[test]
 fn limits_of_a_lookbehind_are_exact(rt: HostRuntime) -> Result<(), Fail> {
-    static ROWS: [Row; 6] = [
-        (b"(?<=a|b)c", b"bc", found!(1, 2), &[Limited(2, 2)]),
-        (
-            b"(?<=a|b)c",
-            b"bc",
-            MatchAnswer::MatchLimit,
-            &[Limited(1, 99)],
-        ),
-        (
-            b"(?<=a|b)c",
-            b"bc",
-            MatchAnswer::FrameLimit,
-            &[Limited(99, 1)],
-        ),
-        (b"(?<!a|b)c", b"dc", found!(1, 2), &[Limited(2, 2)]),
-        (
-            b"(?<!a|b)c",
-            b"dc",
-            MatchAnswer::MatchLimit,
-            &[Limited(1, 99)],
-        ),
-        (
-            b"(?<!a|b)c",
-            b"dc",
-            MatchAnswer::FrameLimit,
-            &[Limited(99, 1)],
-        ),
-    ];
-    cases(&rt, rt.alloc(), &ROWS)
+    cases(&rt, rt.alloc(), LIMITS_OF_A_LOOKBEHIND_ARE_EXACT)
 }
 
 // A million turns take two Steps each, and the exit that they wait for takes a unit more.
@@ -320,7 +323,7 @@ fn a_million_lazy_turns_take_two_steps_each(rt: HostRuntime) -> Result<(), Fail>
         &matching,
         &mut scratch,
     )?;
-    assert_eq!(rt; enough.0, found!(0, 1_000_001));
+    assert!(rt; enough.0 == found!(0, 1_000_001));
     matching.match_limit = 1_999_999;
     let few = searched(
         alloc,
@@ -331,6 +334,6 @@ fn a_million_lazy_turns_take_two_steps_each(rt: HostRuntime) -> Result<(), Fail>
         &matching,
         &mut scratch,
     )?;
-    assert_eq!(rt; few.0, MatchAnswer::MatchLimit);
+    assert!(rt; few.0 == MatchAnswer::MatchLimit);
     Ok(())
 }

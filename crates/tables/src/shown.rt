@@ -9,42 +9,47 @@ use std::fmt::Write;
 use std::process::Abort;
 use std::test::Fail;
 
-/// A pattern, a subject, and what a search finds.
-pub(crate) type Row = (&'static str, &'static str, &'static str);
-
-fn shown(alloc: Global, answer: MatchAnswer, scratch: &Scratch) -> Result<String, Fail> {
+// Without memory for it a part is left out, and the text is none that a row has.
+fn shown(alloc: Global, answer: MatchAnswer, scratch: &Scratch) -> String {
     let mut text = String::new(alloc);
-    match answer {
-        MatchAnswer::Match { keep, to, .. } => write!(text, "{keep}-{to}")?,
-        _ => {
-            text.push_str("no")?;
-            return Ok(text);
+    let _ = match answer {
+        MatchAnswer::Match { keep, to, .. } => write!(text, "{keep}-{to}"),
+        _ => write!(text, "no"),
+    };
+    if matches!(answer, MatchAnswer::Match { .. }) {
+        for group in 1..9 {
+            if let Some(span) = scratch.span(group) {
+                let _ = write!(text, " {group}:{}-{}", span.from, span.to);
+            }
         }
     }
-    for group in 1..9 {
-        if let Some(span) = scratch.span(group) {
-            write!(text, " {group}:{}-{}", span.from, span.to)?;
-        }
-    }
-    Ok(text)
+    text
 }
 
-/// Each pattern finds this in its subject.
-pub(crate) fn are_found(rt: &impl Abort, alloc: Global, rows: &[Row]) -> Result<(), Fail> {
+/// What a search finds for a pattern in a subject.
+fn found(
+    rt: &impl Abort,
+    alloc: Global,
+    pattern: &str,
+    subject: &str,
+    scratch: &mut Scratch,
+) -> Result<String, Fail> {
+    let (pattern, subject) = (pattern.as_bytes(), subject.as_bytes());
+    assert!(rt; subject.len() < 100);
+    let plain = Options::PLAIN;
+    let matching = MatchOptions::PLAIN;
+    let found = searched(alloc, pattern, plain, subject, 0, &matching, scratch)?;
+    Ok(shown(alloc, found.0, scratch))
+}
+
+/// Each row has a pattern, ` on `, a subject, ` => ` and what the pattern finds in it.
+pub(crate) fn are_found(rt: &impl Abort, alloc: Global, rows: &[&str]) -> Result<(), Fail> {
     let mut scratch = Scratch::new(alloc);
-    for (pattern, subject, expected) in rows {
-        assert!(rt; subject.as_bytes().len() < 100);
-        let found = searched(
-            alloc,
-            pattern.as_bytes(),
-            Options::PLAIN,
-            subject.as_bytes(),
-            0,
-            &MatchOptions::PLAIN,
-            &mut scratch,
-        )?;
-        let text = shown(alloc, found.0, &scratch)?;
-        assert_eq!(rt; text.as_str(), *expected, "{pattern} on {subject}");
+    for row in rows {
+        let (head, expected) = row.split_once(" => ").unwrap_or((*row, ""));
+        let (pattern, subject) = head.split_once(" on ").unwrap_or((head, ""));
+        let text = found(rt, alloc, pattern, subject, &mut scratch)?;
+        assert!(rt; text.as_str() == expected, "{row}: {text}");
     }
     Ok(())
 }

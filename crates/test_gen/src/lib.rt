@@ -4,8 +4,6 @@
 mod counts;
 mod laws;
 mod lines;
-#[cfg(test)]
-mod tests;
 mod text;
 
 pub use laws::worked_lines;

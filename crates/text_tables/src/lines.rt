@@ -4,24 +4,19 @@ use byte_lanes::EndKind;
 use line_feed::{FeedError, LineFeed};
 use pcre_io::{Failed, MemSource, Source};
 use std::alloc::Global;
+use std::process::Abort;
 use std::test::Fail;
 
+/// A line: its bytes, its newline, its number, and where it begins.
+type LineRow<'a> = (&'a [u8], &'a [u8], u64, u64);
+
 // Whether the next line is this one.
-fn gives<S: Source>(
-    feed: &mut LineFeed,
-    source: &mut S,
-    bytes: &[u8],
-    end: &[u8],
-    number: u64,
-    offset: u64,
-) -> bool {
+fn gives<S: Source>(feed: &mut LineFeed, source: &mut S, row: LineRow<'_>) -> bool {
     if !feed.is_live() {
         return false;
     }
     match feed.next(source) {
-        Ok(Some(line)) => {
-            line.bytes == bytes && line.end == end && line.number == number && line.offset == offset
-        }
+        Ok(Some(line)) => (line.bytes, line.end, line.number, line.offset) == row,
         _ => false,
     }
 }
@@ -51,41 +46,114 @@ fn fails<S: Source>(feed: &mut LineFeed, source: &mut S, error: FeedError) -> bo
     }
 }
 
-#[test]
-fn lines_of_each_convention(rt: HostRuntime) -> Result<(), Fail> {
-    let alloc = rt.alloc();
-    let mut feed = LineFeed::new(alloc, EndKind::AnyCrLf, 9);
-    let mut source = MemSource::new(b"a\rb\r\nc".to_vec(alloc)?, None, 1);
-    assert!(rt; gives(&mut feed, &mut source, b"a", b"\r", 1, 0));
-    assert!(rt; gives(&mut feed, &mut source, b"b", b"\r\n", 2, 2));
-    assert!(rt; gives(&mut feed, &mut source, b"c", b"", 3, 5));
-    assert!(rt; ends(&mut feed, &mut source));
-    let mut feed = LineFeed::new(alloc, EndKind::CrLf, 9);
-    let mut source = MemSource::new(b"a\rb\r\n".to_vec(alloc)?, None, 9);
-    assert!(rt; gives(&mut feed, &mut source, b"a\rb", b"\r\n", 1, 0));
-    assert!(rt; ends(&mut feed, &mut source));
-    let mut feed = LineFeed::new(alloc, EndKind::AnyUtf, 9);
-    let mut source = MemSource::new(b"a\xe2\x80\xa8b".to_vec(alloc)?, None, 2);
-    assert!(rt; gives(&mut feed, &mut source, b"a", b"\xe2\x80\xa8", 1, 0));
-    assert!(rt; gives(&mut feed, &mut source, b"b", b"", 2, 4));
-    assert!(rt; ends(&mut feed, &mut source));
+// Whether the next lines are these, and the end or this fault comes after them.
+fn gives_all<S: Source>(
+    feed: &mut LineFeed,
+    source: &mut S,
+    rows: &[LineRow<'_>],
+    fault: Option<FeedError>,
+) -> bool {
+    for row in rows {
+        if !gives(feed, source, *row) {
+            return false;
+        }
+    }
+    match fault {
+        Some(error) => fails(feed, source, error),
+        None => ends(feed, source),
+    }
+}
+
+/// A convention, the most bytes of a line, an input, how many of its bytes are read before a fault, how many a read gives at
+/// most, its lines, and the fault that comes after them.
+type Input = (
+    EndKind,
+    usize,
+    &'static [u8],
+    Option<u64>,
+    u32,
+    &'static [LineRow<'static>],
+    Option<FeedError>,
+);
+
+fn is_read(rt: &impl Abort, alloc: Global, row: &Input) -> Result<(), Fail> {
+    let (kind, max, bytes, fail_at, piece, rows, fault) = *row;
+    assert!(rt; max >= 1 && piece >= 1);
+    let mut feed = LineFeed::new(alloc, kind, max);
+    let mut source = MemSource::new(bytes.to_vec(alloc)?, fail_at, piece);
+    assert!(rt; gives_all(&mut feed, &mut source, rows, fault));
     Ok(())
 }
 
+const CR_OR_CRLF: &[LineRow<'static>] = &[
+    (b"a", b"\r", 1, 0),
+    (b"b", b"\r\n", 2, 2),
+    (b"c", b"", 3, 5),
+];
+
+const LINE_SEPARATOR: &[LineRow<'static>] = &[(b"a", b"\xe2\x80\xa8", 1, 0), (b"b", b"", 2, 4)];
+
+const CONVENTIONS: &[Input] = &[
+    (EndKind::AnyCrLf, 9, b"a\rb\r\nc", None, 1, CR_OR_CRLF, None),
+    (
+        EndKind::CrLf,
+        9,
+        b"a\rb\r\n",
+        None,
+        9,
+        &[(b"a\rb", b"\r\n", 1, 0)],
+        None,
+    ),
+    (
+        EndKind::AnyUtf,
+        9,
+        b"a\xe2\x80\xa8b",
+        None,
+        2,
+        LINE_SEPARATOR,
+        None,
+    ),
+];
+
+#[test]
+fn lines_of_each_convention(rt: HostRuntime) -> Result<(), Fail> {
+    for row in CONVENTIONS {
+        is_read(&rt, rt.alloc(), row)?;
+    }
+    Ok(())
+}
+
+const READ_FAULT: Option<FeedError> = Some(FeedError::ReadFault);
+
+const TOO_LONG: Option<FeedError> = Some(FeedError::TooLong { line: 2 });
+
+const FAULTS: &[Input] = &[
+    (EndKind::AnyCrLf, 9, b"a\r", Some(2), 9, &[], READ_FAULT),
+    (
+        EndKind::Cr,
+        9,
+        b"a\r",
+        Some(2),
+        9,
+        &[(b"a", b"\r", 1, 0)],
+        READ_FAULT,
+    ),
+    (
+        EndKind::Lf,
+        4,
+        b"ab\nabcde\nb\n",
+        None,
+        9,
+        &[(b"ab", b"\n", 1, 0)],
+        TOO_LONG,
+    ),
+];
+
 #[test]
 fn lines_before_a_fault_and_lines_too_long(rt: HostRuntime) -> Result<(), Fail> {
-    let alloc = rt.alloc();
-    let mut feed = LineFeed::new(alloc, EndKind::AnyCrLf, 9);
-    let mut source = MemSource::new(b"a\r".to_vec(alloc)?, Some(2), 9);
-    assert!(rt; fails(&mut feed, &mut source, FeedError::ReadFault));
-    let mut feed = LineFeed::new(alloc, EndKind::Cr, 9);
-    let mut source = MemSource::new(b"a\r".to_vec(alloc)?, Some(2), 9);
-    assert!(rt; gives(&mut feed, &mut source, b"a", b"\r", 1, 0));
-    assert!(rt; fails(&mut feed, &mut source, FeedError::ReadFault));
-    let mut feed = LineFeed::new(alloc, EndKind::Lf, 4);
-    let mut source = MemSource::new(b"ab\nabcde\nb\n".to_vec(alloc)?, None, 9);
-    assert!(rt; gives(&mut feed, &mut source, b"ab", b"\n", 1, 0));
-    assert!(rt; fails(&mut feed, &mut source, FeedError::TooLong { line: 2 }));
+    for row in FAULTS {
+        is_read(&rt, rt.alloc(), row)?;
+    }
     Ok(())
 }
 
@@ -108,15 +176,27 @@ fn the_front_and_the_lines_behind_it(rt: HostRuntime) -> Result<(), Fail> {
     let mut feed = LineFeed::new(alloc, EndKind::Lf, 9);
     let mut source = MemSource::new(b"one\ntwo".to_vec(alloc)?, Some(7), 3);
     assert!(rt; shows(&mut feed, &mut source, 7));
-    assert!(rt; gives(&mut feed, &mut source, b"one", b"\n", 1, 0));
-    assert!(rt; fails(&mut feed, &mut source, FeedError::ReadFault));
+    assert!(rt; gives_all(&mut feed, &mut source, &[(b"one", b"\n", 1, 0)], READ_FAULT));
+    Ok(())
+}
+
+#[test]
+fn the_front_of_a_long_line(rt: HostRuntime) -> Result<(), Fail> {
+    let alloc = rt.alloc();
     let mut feed = LineFeed::new(alloc, EndKind::Lf, 2_000);
     let mut source = MemSource::new(vec![in alloc; 120u8; 1_500]?, None, 600);
     assert!(rt; shows(&mut feed, &mut source, 1_024));
-    assert!(rt; gives(&mut feed, &mut source, [120; 1_500].as_slice(), b"", 1, 0));
-    assert!(rt; ends(&mut feed, &mut source));
+    let line = [120; 1_500];
+    assert!(rt; gives_all(&mut feed, &mut source, &[(&line, b"", 1, 0)], None));
     Ok(())
 }
+
+// Whether the next line is this one, and these bytes are held behind it.
+fn leaves<S: Source>(feed: &mut LineFeed, source: &mut S, row: LineRow<'_>, held: &[u8]) -> bool {
+    gives(feed, source, row) && feed.held() == held
+}
+
+const ANOTHER: &[LineRow<'static>] = &[(b"a", b"\r", 1, 0), (b"b", b"", 2, 2)];
 
 #[test]
 fn bytes_held_and_another_input(rt: HostRuntime) -> Result<(), Fail> {
@@ -124,16 +204,12 @@ fn bytes_held_and_another_input(rt: HostRuntime) -> Result<(), Fail> {
     let mut feed = LineFeed::new(alloc, EndKind::Lf, 9);
     let mut source = MemSource::new(b"ad\ncd\nx".to_vec(alloc)?, None, 9);
     assert!(rt; feed.held().is_empty());
-    assert!(rt; gives(&mut feed, &mut source, b"ad", b"\n", 1, 0));
-    assert!(rt; feed.held() == b"cd\nx".as_slice());
-    assert!(rt; gives(&mut feed, &mut source, b"cd", b"\n", 2, 3));
-    assert!(rt; feed.held() == b"x".as_slice());
+    assert!(rt; leaves(&mut feed, &mut source, (b"ad", b"\n", 1, 0), b"cd\nx"));
+    assert!(rt; leaves(&mut feed, &mut source, (b"cd", b"\n", 2, 3), b"x"));
     feed.restart(EndKind::Cr, 9);
     let mut source = MemSource::new(b"a\rb".to_vec(alloc)?, None, 9);
     assert!(rt; feed.held().is_empty());
-    assert!(rt; gives(&mut feed, &mut source, b"a", b"\r", 1, 0));
-    assert!(rt; gives(&mut feed, &mut source, b"b", b"", 2, 2));
-    assert!(rt; ends(&mut feed, &mut source));
+    assert!(rt; gives_all(&mut feed, &mut source, ANOTHER, None));
     Ok(())
 }
 
@@ -163,15 +239,15 @@ fn the_room_that_was_kept_is_filled_by_one_read(rt: HostRuntime) -> Result<(), F
         left: 9_000,
         reads: 0,
     };
-    assert!(rt; gives(&mut feed, &mut source, [0; 9_000].as_slice(), b"", 1, 0));
+    let line = [0; 9_000];
+    assert!(rt; gives(&mut feed, &mut source, (&line, b"", 1, 0)));
     feed.restart(EndKind::Lf, 9_000);
     let mut source = Zeros {
         left: 8_000,
         reads: 0,
     };
-    assert!(rt; gives(&mut feed, &mut source, [0; 8_000].as_slice(), b"", 1, 0));
-    assert!(rt; ends(&mut feed, &mut source));
-    assert_eq!(rt; source.reads, 2);
+    assert!(rt; gives_all(&mut feed, &mut source, &[(&line[..8_000], b"", 1, 0)], None));
+    assert!(rt; source.reads == 2);
     Ok(())
 }
 
@@ -228,42 +304,55 @@ fn is_cut(
         let (Some(bytes), Some(end)) = (TEXT.get(*from..*to), TEXT.get(*to..*next)) else {
             return false;
         };
-        if !gives(&mut feed, &mut source, bytes, end, number, *from as u64) {
+        if !gives(&mut feed, &mut source, (bytes, end, number, *from as u64)) {
             return false;
         }
     }
     ends(&mut feed, &mut source)
 }
 
-#[test]
-fn every_split_of_a_text(rt: HostRuntime) -> Result<(), Fail> {
-    let any = [
-        (0, 1, 3),
-        (3, 4, 5),
-        (5, 5, 7),
-        (7, 8, 9),
-        (9, 9, 10),
-        (10, 11, 12),
-    ];
+/// A convention, and where its lines begin, end and have their newlines' ends.
+type Cut = (EndKind, &'static [(usize, usize, usize)]);
+
+const ANY: &[(usize, usize, usize)] = &[
+    (0, 1, 3),
+    (3, 4, 5),
+    (5, 5, 7),
+    (7, 8, 9),
+    (9, 9, 10),
+    (10, 11, 12),
+];
+
+const CR: &[(usize, usize, usize)] = &[(0, 1, 2), (2, 4, 5), (5, 5, 6), (6, 11, 12)];
+
+const LF: &[(usize, usize, usize)] = &[(0, 2, 3), (3, 6, 7), (7, 8, 9), (9, 9, 10), (10, 12, 12)];
+
+const CUTS: &[Cut] = &[
+    (EndKind::AnyCrLf, ANY),
+    (EndKind::Any, ANY),
+    (EndKind::AnyUtf, ANY),
+    (EndKind::Cr, CR),
+    (EndKind::Lf, LF),
+    (EndKind::CrLf, &[(0, 1, 3), (3, 5, 7), (7, 12, 12)]),
+    (EndKind::Nul, &[(0, 12, 12)]),
+];
+
+// Whether a convention cuts each split of the text as it is to.
+fn cuts_all(alloc: Global, cut: &Cut) -> bool {
     for first in 0..13usize {
         for second in first..13 {
-            let pieces = || Pieces {
-                at: 0,
-                first,
-                second,
-            };
-            let alloc = rt.alloc();
-            assert!(rt; is_cut(alloc, EndKind::AnyCrLf, &any, pieces()));
-            assert!(rt; is_cut(alloc, EndKind::Any, &any, pieces()));
-            assert!(rt; is_cut(alloc, EndKind::AnyUtf, &any, pieces()));
-            let cr = [(0, 1, 2), (2, 4, 5), (5, 5, 6), (6, 11, 12)];
-            assert!(rt; is_cut(alloc, EndKind::Cr, &cr, pieces()));
-            let lf = [(0, 2, 3), (3, 6, 7), (7, 8, 9), (9, 9, 10), (10, 12, 12)];
-            assert!(rt; is_cut(alloc, EndKind::Lf, &lf, pieces()));
-            let crlf = [(0, 1, 3), (3, 5, 7), (7, 12, 12)];
-            assert!(rt; is_cut(alloc, EndKind::CrLf, &crlf, pieces()));
-            assert!(rt; is_cut(alloc, EndKind::Nul, &[(0, 12, 12)], pieces()));
+            let at = 0;
+            if !is_cut(alloc, cut.0, cut.1, Pieces { at, first, second }) {
+                return false;
+            }
         }
     }
-    Ok(())
+    true
+}
+
+#[test]
+fn every_split_of_a_text(rt: HostRuntime) {
+    for cut in CUTS {
+        assert!(rt; cuts_all(rt.alloc(), cut));
+    }
 }

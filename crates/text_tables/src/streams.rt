@@ -1,5 +1,7 @@
 //! Files and directories, in memory and of the system.
-use pcre_io::{FileSet, IoError, Kind, MemFiles, MemSink, Sink, Source, StdFiles, StdSink};
+use pcre_io::{
+    FileSet, IoError, Kind, Listing, MemFiles, MemSink, Sink, Source, StdFiles, StdSink,
+};
 use std::alloc::Global;
 use std::fs;
 use std::process::Abort;
@@ -37,7 +39,7 @@ fn reads<F: FileSet>(
     wanted: Option<&'static [u8]>,
 ) -> Result<(), Fail> {
     let bytes = read_file(alloc, files, name)?;
-    assert_eq!(rt; bytes.as_deref(), wanted, "of {name}");
+    assert!(rt; bytes.as_deref() == wanted, "of {name}");
     Ok(())
 }
 
@@ -51,30 +53,29 @@ fn letter(kind: Kind) -> char {
     }
 }
 
-// The kind of a name and then its entries, each its kind and its name, in order of the names; `!` where asking failed.
-fn shown<F: FileSet>(alloc: Global, files: &mut F, name: &str) -> Result<String, Fail> {
-    let mut text = String::new(alloc);
-    match files.kind(alloc, name) {
-        Ok(kind) => text.push(letter(kind))?,
-        Err(_) => text.push('!')?,
-    }
-    let Ok(listing) = files.list(alloc, name) else {
-        text.push_str(" !")?;
-        return Ok(text);
-    };
+// The entries of a directory, each its name and its kind, in order of the names.
+fn entries(alloc: Global, listing: &Listing) -> Result<Vec<String>, Fail> {
     let mut entries = Vec::new(alloc);
     for i in 0..listing.len() {
         let entry = listing.get(i);
-        let mut shown = String::new(alloc);
-        shown.push_str(entry.name.as_str())?;
-        shown.push(':')?;
-        shown.push(letter(entry.kind))?;
-        entries.push(shown)?;
+        let letter = letter(entry.kind);
+        entries.push(format!(in alloc; " {}:{letter}", entry.name.as_str())?)?;
     }
     entries.sort()?;
-    for entry in &entries {
-        text.push(' ')?;
-        text.push_str(entry.as_str())?;
+    Ok(entries)
+}
+
+// The kind of a name and then its entries; `!` where asking failed.
+fn shown<F: FileSet>(alloc: Global, files: &mut F, name: &str) -> Result<String, Fail> {
+    let kind = files.kind(alloc, name).map_or('!', letter);
+    let mut text = format!(in alloc; "{kind}")?;
+    match files.list(alloc, name) {
+        Ok(listing) => {
+            for entry in &entries(alloc, &listing)? {
+                text.push_str(entry.as_str())?;
+            }
+        }
+        Err(_) => text.push_str(" !")?,
     }
     Ok(text)
 }
@@ -87,23 +88,37 @@ fn shows<F: FileSet>(
     wanted: &str,
 ) -> Result<(), Fail> {
     let text = shown(alloc, files, name)?;
-    assert_eq!(rt; text.as_str(), wanted, "of {name}");
+    assert!(rt; text.as_str() == wanted, "of {name}: {text}");
     Ok(())
 }
+
+fn show_all<F: FileSet>(
+    rt: &impl Abort,
+    alloc: Global,
+    files: &mut F,
+    rows: &[(&str, &str)],
+) -> Result<(), Fail> {
+    for (name, wanted) in rows {
+        shows(rt, alloc, files, name, wanted)?;
+    }
+    Ok(())
+}
+
+/// Names of files, their bytes, and where reading them fails.
+const FILES: &[(&str, &[u8], Option<u64>)] = &[
+    ("a", b"first", None),
+    ("b", b"second file", None),
+    ("a", b"third", None),
+    ("c", b"fails", Some(2)),
+];
 
 #[test]
 fn files_in_memory_are_found_by_name(rt: HostRuntime) -> Result<(), Fail> {
     let alloc = rt.alloc();
     let mut files = MemFiles::new(alloc);
-    let rows: [(&str, &[u8], Option<u64>); 4] = [
-        ("a", b"first", None),
-        ("b", b"second file", None),
-        ("a", b"third", None),
-        ("c", b"fails", Some(2)),
-    ];
-    for (name, bytes, fail_at) in rows {
+    for (name, bytes, fail_at) in FILES {
         let name = String::from_str(alloc, name)?;
-        files.add(name, bytes.to_vec(alloc)?, fail_at)?;
+        files.add(name, bytes.to_vec(alloc)?, *fail_at)?;
     }
     reads(&rt, alloc, &mut files, "a", Some(b"third"))?;
     reads(&rt, alloc, &mut files, "b", Some(b"second file"))?;
@@ -114,47 +129,48 @@ fn files_in_memory_are_found_by_name(rt: HostRuntime) -> Result<(), Fail> {
     reads(&rt, alloc, &mut files, "a", Some(b"third"))
 }
 
+fn add_empty(alloc: Global, files: &mut MemFiles, names: &[&str]) -> Result<(), Fail> {
+    for name in names {
+        files.add(String::from_str(alloc, name)?, Vec::new(alloc), None)?;
+    }
+    Ok(())
+}
+
+const DIRECTORIES: &[(&str, &str)] = &[
+    ("d", "d a:f b:f sub:d"),
+    ("d/sub", "d x:f y:f"),
+    ("d/sub/x", "f !"),
+    ("dd", "f !"),
+    ("d/", "! !"),
+    ("", "! !"),
+    ("s", "! !"),
+];
+
+// A file's name is no directory's.
+const HIDDEN: &[(&str, &str)] = &[
+    ("d", "f !"),
+    ("d/sub", "d x:f y:f"),
+    ("e", "d f:d"),
+    ("e/f", "! !"),
+    ("e/f/g", "f !"),
+    ("", "d top:f"),
+    ("h", "d :d"),
+    ("h/", "d i:f"),
+];
+
 #[test]
 fn directories_in_memory_come_from_names(rt: HostRuntime) -> Result<(), Fail> {
     let alloc = rt.alloc();
     let mut files = MemFiles::new(alloc);
-    let names = [
-        "d/b", "d/sub/x", "d/a", "d/sub/y", "dd", "d", "e/f/g", "/top", "h//i",
-    ];
-    for name in &names[..5] {
-        files.add(String::from_str(alloc, name)?, Vec::new(alloc), None)?;
-    }
-    let rows = [
-        ("d", "d a:f b:f sub:d"),
-        ("d/sub", "d x:f y:f"),
-        ("d/sub/x", "f !"),
-        ("dd", "f !"),
-        ("d/", "! !"),
-        ("", "! !"),
-        ("s", "! !"),
-    ];
-    for (name, wanted) in rows {
-        shows(&rt, alloc, &mut files, name, wanted)?;
-    }
-    // A file's name is no directory's.
-    for name in &names[5..] {
-        files.add(String::from_str(alloc, name)?, Vec::new(alloc), None)?;
-    }
+    add_empty(
+        alloc,
+        &mut files,
+        &["d/b", "d/sub/x", "d/a", "d/sub/y", "dd"],
+    )?;
+    show_all(&rt, alloc, &mut files, DIRECTORIES)?;
+    add_empty(alloc, &mut files, &["d", "e/f/g", "/top", "h//i"])?;
     files.refuse(String::from_str(alloc, "e/f")?)?;
-    let rows = [
-        ("d", "f !"),
-        ("d/sub", "d x:f y:f"),
-        ("e", "d f:d"),
-        ("e/f", "! !"),
-        ("e/f/g", "f !"),
-        ("", "d top:f"),
-        ("h", "d :d"),
-        ("h/", "d i:f"),
-    ];
-    for (name, wanted) in rows {
-        shows(&rt, alloc, &mut files, name, wanted)?;
-    }
-    Ok(())
+    show_all(&rt, alloc, &mut files, HIDDEN)
 }
 
 #[test]
@@ -168,6 +184,17 @@ fn files_of_the_system_are_opened(rt: HostRuntime) -> Result<(), Fail> {
     reads(&rt, alloc, &mut files, "missing", None)
 }
 
+const SYSTEM: &[(&str, &str)] = &[
+    ("top", "d .hidden:f file:f inner:d link:o lost:o way:o"),
+    ("top/inner", "d"),
+    ("top/file", "f !"),
+    ("top/link", "f !"),
+    ("top/way", "d"),
+    ("top/lost", "! !"),
+    ("missing", "! !"),
+    ("/dev/null", "o !"),
+];
+
 #[test]
 fn directories_of_the_system_are_listed(rt: HostRuntime) -> Result<(), Fail> {
     let alloc = rt.alloc();
@@ -179,20 +206,7 @@ fn directories_of_the_system_are_listed(rt: HostRuntime) -> Result<(), Fail> {
     rt.symlink("inner", "top/way")?;
     rt.symlink("nowhere", "top/lost")?;
     let mut files = StdFiles::new(&rt);
-    let rows = [
-        ("top", "d .hidden:f file:f inner:d link:o lost:o way:o"),
-        ("top/inner", "d"),
-        ("top/file", "f !"),
-        ("top/link", "f !"),
-        ("top/way", "d"),
-        ("top/lost", "! !"),
-        ("missing", "! !"),
-        ("/dev/null", "o !"),
-    ];
-    for (name, wanted) in rows {
-        shows(&rt, alloc, &mut files, name, wanted)?;
-    }
-    Ok(())
+    show_all(&rt, alloc, &mut files, SYSTEM)
 }
 
 // Writes pieces until one is refused, and says what was taken.
@@ -214,12 +228,10 @@ fn fill<O: Sink>(out: &mut O, bytes: &[u8]) -> Result<usize, IoError> {
 fn a_sink_is_flushed(rt: HostRuntime) -> Result<(), Fail> {
     let alloc = rt.alloc();
     let mut sink = MemSink::new(alloc, Some(3), 2);
-    assert_eq!(rt; fill(&mut sink, b"abcd"), Err(IoError::Failed));
-    assert!(rt; sink.flush().is_ok());
-    assert_eq!(rt; sink.bytes(), b"abc".as_slice());
+    assert!(rt; fill(&mut sink, b"abcd") == Err(IoError::Failed));
+    assert!(rt; sink.flush().is_ok() && sink.bytes() == b"abc".as_slice());
     let mut buffer = Vec::new(alloc);
     let mut sink = StdSink::new(&mut buffer);
-    assert_eq!(rt; fill(&mut sink, b"abcd"), Ok(4));
-    assert!(rt; sink.flush().is_ok());
+    assert!(rt; fill(&mut sink, b"abcd") == Ok(4) && sink.flush().is_ok());
     Ok(())
 }

@@ -224,7 +224,7 @@ Common 0 41
 Unknown 378 61";
 
 // Names as they may be written, and the names that they are.
-pub const WRITTEN: [(&str, &str); 12] = [
+pub const WRITTEN: &[(&str, &str)] = &[
     ("lu", "Lu"),
     ("LU", "Lu"),
     (" L u ", "Lu"),
@@ -239,7 +239,7 @@ pub const WRITTEN: [(&str, &str); 12] = [
     ("n-K-o", "Nko"),
 ];
 
-pub const UNKNOWN: [&[u8]; 14] = [
+pub const UNKNOWN: &[&[u8]] = &[
     b"",
     b" _-",
     b"Nosuch",
@@ -257,7 +257,7 @@ pub const UNKNOWN: [&[u8]; 14] = [
 ];
 
 // Lines of CaseFolding.txt with the status C or S, and numbers that it has no such line for.
-pub const FOLDINGS: [(u32, u32); 33] = [
+pub const FOLDINGS: &[(u32, u32)] = &[
     (0x41, 0x61),
     (0x5A, 0x7A),
     (0x61, 0x61),
@@ -293,7 +293,7 @@ pub const FOLDINGS: [(u32, u32); 33] = [
     (0xFFFFFFFF, 0xFFFFFFFF),
 ];
 
-pub const GOOD: [&[u8]; 5] = [
+pub const GOOD: &[&[u8]] = &[
     b"",
     b"a",
     b"\x00\x7F",
@@ -303,7 +303,7 @@ pub const GOOD: [&[u8]; 5] = [
 
 // Bytes that are not UTF-8, with the length of the longest part that is: continuation bytes alone, overlong forms, surrogates, characters past
 // U+10FFFF, bytes of no form, forms cut off, and forms with a byte that doesn't continue them. The places are those that Python's decoder gives.
-pub const BAD: [(&[u8], usize); 32] = [
+pub const BAD: &[(&[u8], usize)] = &[
     (b"\x80", 0),
     (b"\xBF", 0),
     (b"a\x80", 1),

@@ -1,5 +1,7 @@
 //! One input, and what is written of it.
-use grep_args::read;
+ghost use Rattle.std.specs.Prelude.{◌≤◌};
+
+use grep_args::{GrepPlan, read};
 use grep_core::{FileEnd, GrepState, Patterns, Stop, grep_file};
 use pat_tree::{ByteList, TextList};
 use pcre_io::{MemSink, MemSource, Source};
@@ -7,8 +9,9 @@ use std::alloc::Global;
 use std::process::Abort;
 use std::test::Fail;
 
-/// Words with a space between them, an input, what is written to the output, and the messages.
-type Row = (&'static str, &'static [u8], &'static [u8], &'static [u8]);
+/// Words with a space between them, after ` < ` an input, after ` > ` what is written to the output,
+/// and after ` ! ` the messages.
+type Row = &'static str;
 
 fn words_of(alloc: Global, line: &str) -> Result<Vec<String>, Fail> {
     let mut words = Vec::new(alloc);
@@ -18,81 +21,95 @@ fn words_of(alloc: Global, line: &str) -> Result<Vec<String>, Fail> {
     Ok(words)
 }
 
+fn patterns_of(alloc: Global, plan: &GrepPlan) -> Result<Option<Patterns>, Fail> {
+    let mut texts = TextList::new(alloc);
+    for text in plan.patterns.as_slice() {
+        texts.push(ByteList::from_vec(text.bytes().to_vec(alloc)?))?;
+    }
+    Ok(Patterns::build(alloc, plan, &texts).ok())
+}
+
+// Searches an input, or gives none where the words are refused.
 fn search(
-    rt: &impl Abort,
     alloc: Global,
     line: &str,
     source: &mut MemSource,
     out: &mut MemSink,
     err: &mut MemSink,
-) -> Result<(Result<FileEnd, Stop>, GrepState), Fail> {
+) -> Result<Option<(Result<FileEnd, Stop>, GrepState)>, Fail> {
     let words = words_of(alloc, line)?;
     let Ok(plan) = read(alloc, words.as_slice()) else {
-        panic!(rt; "{}", line);
+        return Ok(None);
     };
-    let mut texts = TextList::new(alloc);
-    for text in plan.patterns.as_slice() {
-        texts.push(ByteList::from_vec(text.bytes().to_vec(alloc)?))?;
-    }
-    let Ok(patterns) = Patterns::build(alloc, &plan, &texts) else {
-        panic!(rt; "{}", line);
+    let Some(patterns) = patterns_of(alloc, &plan)? else {
+        return Ok(None);
     };
     let mut state = GrepState::new(alloc);
     let answer = grep_file(&patterns, &plan, "f", source, out, err, &mut state);
-    Ok((answer, state))
+    Ok(Some((answer, state)))
 }
 
-fn check(rt: &impl Abort, alloc: Global, row: &Row, piece: u32) -> Result<(), Fail> {
-    assert!(rt; piece > 0);
-    let mut source = MemSource::new(row.1.to_vec(alloc)?, None, piece);
+// The words of a row, and its input.
+fn run_of(row: &str) -> (&str, &str) {
+    row.split_once(" < ").unwrap_or((row, ""))
+}
+
+fn is_written(
+    alloc: Global,
+    line: &str,
+    source: &mut MemSource,
+    output: &str,
+    messages: &str,
+    piece: u32,
+) -> Result<bool, Fail>
+    requires some { 1 ≤ piece }
+{
     let mut out = MemSink::new(alloc, None, piece);
     let mut err = MemSink::new(alloc, None, piece);
-    let (answer, _) = search(rt, alloc, row.0, &mut source, &mut out, &mut err)?;
-    assert!(rt; answer.is_ok(), "{}", row.0);
-    assert_eq!(rt; out.bytes(), row.2, "{}", row.0);
-    assert_eq!(rt; err.bytes(), row.3, "{}", row.0);
-    Ok(())
+    let found = search(alloc, line, source, &mut out, &mut err)?;
+    let written = out.bytes() == output.as_bytes() && err.bytes() == messages.as_bytes();
+    Ok(written && matches!(found, Some((Ok(_), _))))
+}
+
+fn is_told(alloc: Global, row: &str, piece: u32) -> Result<bool, Fail>
+    requires some { 1 ≤ piece }
+{
+    let (row, messages) = row.split_once(" ! ").unwrap_or((row, ""));
+    let (row, output) = row.split_once(" > ").unwrap_or((row, ""));
+    let (line, input) = run_of(row);
+    let mut source = MemSource::new(input.as_bytes().to_vec(alloc)?, None, piece);
+    is_written(alloc, line, &mut source, output, messages, piece)
 }
 
 fn check_all(rt: &impl Abort, alloc: Global, rows: &[Row]) -> Result<(), Fail> {
     for row in rows {
-        for piece in [1, 3, 100] {
-            check(rt, alloc, row, piece)?;
-        }
+        let by_bytes = is_told(alloc, row, 1)?;
+        let by_threes = is_told(alloc, row, 3)?;
+        let at_once = is_told(alloc, row, 100)?;
+        assert!(rt; by_bytes && by_threes && at_once);
     }
     Ok(())
 }
 
-/// Six lines, of which the second and the last are `x`.
-const TEXT: &[u8] = b"a\nx\nb\nc\nd\nx\n";
-
-/// Lines of which some lack each byte that a match needs.
-const RARE: &[u8] = b"a\nxz\n\nbb\nyq\nxy\n";
-
 #[test]
 fn lines_are_shown_with_context(rt: HostRuntime) -> Result<(), Fail> {
     static ROWS: [Row; 16] = [
-        ("-n -C 1 x", TEXT, b"1-a\n2:x\n3-b\n--\n5-d\n6:x\n", b""),
-        ("-n -C 2 x", TEXT, b"1-a\n2:x\n3-b\n4-c\n5-d\n6:x\n", b""),
-        ("-B 1 x", TEXT, b"a\nx\n--\nd\nx\n", b""),
-        ("-A 1 x", TEXT, b"x\nb\n--\nx\n", b""),
-        ("-m 1 -A 2 x", TEXT, b"x\nb\nc\n", b""),
-        ("-v -n x", TEXT, b"1:a\n3:b\n4:c\n5:d\n", b""),
-        ("-c x", TEXT, b"2\n", b""),
-        ("-cH x", TEXT, b"f:2\n", b""),
-        ("-l x", TEXT, b"f\n", b""),
-        ("-L x", TEXT, b"", b""),
-        ("-L y", TEXT, b"f\n", b""),
-        ("-q x", TEXT, b"", b""),
-        ("-n -e xz -e yq", RARE, b"2:xz\n5:yq\n", b""),
-        ("-v -n -e xz -e yq", RARE, b"1:a\n3:\n4:bb\n6:xy\n", b""),
-        ("-C 1 yq", RARE, b"bb\nyq\nxy\n", b""),
-        (
-            "-n -N CRLF z",
-            b"a\r\nz\r\n\r\nz\r\n",
-            b"2:z\r\n4:z\r\n",
-            b"",
-        ),
+        "-n -C 1 x < a\nx\nb\nc\nd\nx\n > 1-a\n2:x\n3-b\n--\n5-d\n6:x\n",
+        "-n -C 2 x < a\nx\nb\nc\nd\nx\n > 1-a\n2:x\n3-b\n4-c\n5-d\n6:x\n",
+        "-B 1 x < a\nx\nb\nc\nd\nx\n > a\nx\n--\nd\nx\n",
+        "-A 1 x < a\nx\nb\nc\nd\nx\n > x\nb\n--\nx\n",
+        "-m 1 -A 2 x < a\nx\nb\nc\nd\nx\n > x\nb\nc\n",
+        "-v -n x < a\nx\nb\nc\nd\nx\n > 1:a\n3:b\n4:c\n5:d\n",
+        "-c x < a\nx\nb\nc\nd\nx\n > 2\n",
+        "-cH x < a\nx\nb\nc\nd\nx\n > f:2\n",
+        "-l x < a\nx\nb\nc\nd\nx\n > f\n",
+        "-L x < a\nx\nb\nc\nd\nx\n",
+        "-L y < a\nx\nb\nc\nd\nx\n > f\n",
+        "-q x < a\nx\nb\nc\nd\nx\n",
+        "-n -e xz -e yq < a\nxz\n\nbb\nyq\nxy\n > 2:xz\n5:yq\n",
+        "-v -n -e xz -e yq < a\nxz\n\nbb\nyq\nxy\n > 1:a\n3:\n4:bb\n6:xy\n",
+        "-C 1 yq < a\nxz\n\nbb\nyq\nxy\n > bb\nyq\nxy\n",
+        "-n -N CRLF z < a\r\nz\r\n\r\nz\r\n > 2:z\r\n4:z\r\n",
     ];
     check_all(&rt, rt.alloc(), &ROWS)
 }
@@ -100,26 +117,16 @@ fn lines_are_shown_with_context(rt: HostRuntime) -> Result<(), Fail> {
 #[test]
 fn matches_are_shown(rt: HostRuntime) -> Result<(), Fail> {
     static ROWS: [Row; 10] = [
-        ("-no b*", b"abb\nc", b"1:\n1:bb\n2:\n", b""),
-        ("-o o", b"foo\nbar\n", b"o\no\n", b""),
-        ("-o1 -o2 (a)(b)?", b"ab a\n", b"ab\na\n", b""),
-        (
-            "-o1 -o2 --om-separator=, (a)(b)?",
-            b"ab a\n",
-            b"a,b\na\n",
-            b"",
-        ),
-        ("-Ho1 x(y)?", b"x xy\n", b"f:\nf:y\n", b""),
-        ("--line-offsets o", b"foo\nbar\n", b"1:1,1\n1:2,1\n", b""),
-        ("--file-offsets r", b"foo\nbar\n", b"6,1\n", b""),
-        ("-F a.b", b"a.b\nadb\n", b"a.b\n", b""),
-        ("-w a", b"a b\nab\n", b"a b\n", b""),
-        (
-            "--match-limit=0 -v a+b",
-            b"ab\ncb\n",
-            b"cb\n",
-            b"pcre2grep: f: line 1: error -47\n",
-        ),
+        "-no b* < abb\nc > 1:\n1:bb\n2:\n",
+        "-o o < foo\nbar\n > o\no\n",
+        "-o1 -o2 (a)(b)? < ab a\n > ab\na\n",
+        "-o1 -o2 --om-separator=, (a)(b)? < ab a\n > a,b\na\n",
+        "-Ho1 x(y)? < x xy\n > f:\nf:y\n",
+        "--line-offsets o < foo\nbar\n > 1:1,1\n1:2,1\n",
+        "--file-offsets r < foo\nbar\n > 6,1\n",
+        "-F a.b < a.b\nadb\n > a.b\n",
+        "-w a < a b\nab\n > a b\n",
+        "--match-limit=0 -v a+b < ab\ncb\n > cb\n ! pcre2grep: f: line 1: error -47\n",
     ];
     check_all(&rt, rt.alloc(), &ROWS)
 }
@@ -128,23 +135,22 @@ fn matches_are_shown(rt: HostRuntime) -> Result<(), Fail> {
 const ERRORS: &[u8] =
     b"cb\ncb\nab\nab\nab\nab\nab\nab\nab\nab\nab\nab\nab\nab\nab\nab\nab\nab\nab\nab\nab\nab\nab\n";
 
+fn errors_are_counted(alloc: Global, line: &str) -> Result<bool, Fail> {
+    let mut source = MemSource::new(ERRORS.to_vec(alloc)?, None, 100);
+    let mut out = MemSink::new(alloc, None, 100);
+    let mut err = MemSink::new(alloc, None, 100);
+    let Some((answer, state)) = search(alloc, line, &mut source, &mut out, &mut err)? else {
+        return Ok(false);
+    };
+    let counted = state.errors() == 21 && state.total() == 2;
+    Ok(counted && out.bytes().is_empty() && matches!(answer, Err(Stop::TooManyErrors)))
+}
+
 #[test]
 fn lines_before_the_last_match_error_count(rt: HostRuntime) -> Result<(), Fail> {
-    let alloc = rt.alloc();
-    static LINES: [&str; 2] = [
-        "--match-limit=0 -v -c a+b",
-        "--match-limit=0 -v --total-count a+b",
-    ];
-    for line in &LINES {
-        let mut source = MemSource::new(ERRORS.to_vec(alloc)?, None, 100);
-        let mut out = MemSink::new(alloc, None, 100);
-        let mut err = MemSink::new(alloc, None, 100);
-        let (answer, state) = search(&rt, alloc, line, &mut source, &mut out, &mut err)?;
-        assert_eq!(rt; answer, Err(Stop::TooManyErrors), "{}", line);
-        assert_eq!(rt; out.bytes(), b"".as_slice(), "{}", line);
-        assert_eq!(rt; state.errors(), 21, "{}", line);
-        assert_eq!(rt; state.total(), 2, "{}", line);
-    }
+    let alone = errors_are_counted(rt.alloc(), "--match-limit=0 -v -c a+b")?;
+    let total = errors_are_counted(rt.alloc(), "--match-limit=0 -v --total-count a+b")?;
+    assert!(rt; alone && total);
     Ok(())
 }
 
@@ -156,9 +162,7 @@ fn left_of(rt: &impl Abort, source: &mut MemSource) -> Result<usize, Fail> {
     let mut piece = [0; 4096];
     let mut left: usize = 0;
     for _ in 0..LONG {
-        let Ok(n) = source.read(&mut piece) else {
-            panic!(rt; "a read failed");
-        };
+        let n = source.read(&mut piece).ok().expect(rt, "a read");
         if n == 0 {
             return Ok(left);
         }
@@ -167,38 +171,43 @@ fn left_of(rt: &impl Abort, source: &mut MemSource) -> Result<usize, Fail> {
     Ok(left)
 }
 
+// How many bytes of a long input are taken, or more than all where the run doesn't end well.
+fn taken_by(rt: &impl Abort, alloc: Global, row: &str) -> Result<usize, Fail> {
+    let (line, first) = run_of(row);
+    let mut bytes = first.as_bytes().to_vec(alloc)?;
+    bytes.resize(LONG, b'\n')?;
+    let mut source = MemSource::new(bytes, None, 1_000_000);
+    let mut out = MemSink::new(alloc, None, 100);
+    let mut err = MemSink::new(alloc, None, 100);
+    let found = search(alloc, line, &mut source, &mut out, &mut err)?;
+    if !matches!(found, Some((Ok(_), _))) {
+        return Ok(usize::MAX);
+    }
+    let left = left_of(rt, &mut source)?;
+    Ok(LONG.saturating_sub(left))
+}
+
 #[test]
 fn the_rest_of_an_input_is_left(rt: HostRuntime) -> Result<(), Fail> {
-    let alloc = rt.alloc();
-    // Words, the first lines of a long input of empty ones, and where the scan of it ends.
-    static ROWS: [(&str, &[u8], usize); 12] = [
-        ("-q x", b"b\nx\nc\n", 4),
-        ("-l x", b"b\nx\nc\n", 4),
-        ("-L x", b"b\nx\nc\n", 4),
-        ("-m 1 x", b"b\nx\nx\n", 4),
-        ("-m 2 x", b"b\nx\nx\n", 6),
-        ("-m 1 -A 2 x", b"b\nx\nx\nd\n", 8),
-        ("-m 1 -B 2 x", b"b\nx\nx\nd\n", 4),
-        ("-c -m 1 x", b"b\nx\nx\nd\n", 4),
-        ("-o -m 1 -A 2 x", b"b\nx\nx\nd\n", 4),
-        ("-q -v x", b"x\nx\nb\n", 6),
-        ("-I x", b"x\n\0\n", 0),
-        ("x", b"x\n\0\n", 2),
+    // Words and the first lines of a long input of empty ones, and where the scan of it ends.
+    static ROWS: [(Row, usize); 12] = [
+        ("-q x < b\nx\nc\n", 4),
+        ("-l x < b\nx\nc\n", 4),
+        ("-L x < b\nx\nc\n", 4),
+        ("-m 1 x < b\nx\nx\n", 4),
+        ("-m 2 x < b\nx\nx\n", 6),
+        ("-m 1 -A 2 x < b\nx\nx\nd\n", 8),
+        ("-m 1 -B 2 x < b\nx\nx\nd\n", 4),
+        ("-c -m 1 x < b\nx\nx\nd\n", 4),
+        ("-o -m 1 -A 2 x < b\nx\nx\nd\n", 4),
+        ("-q -v x < x\nx\nb\n", 6),
+        ("-I x < x\n\0\n", 0),
+        ("x < x\n\0\n", 2),
     ];
-    for row in &ROWS {
-        let mut bytes = row.1.to_vec(alloc)?;
-        bytes.resize(LONG, b'\n')?;
-        let mut source = MemSource::new(bytes, None, 1_000_000);
-        let mut out = MemSink::new(alloc, None, 100);
-        let mut err = MemSink::new(alloc, None, 100);
-        let (answer, _) = search(&rt, alloc, row.0, &mut source, &mut out, &mut err)?;
-        assert!(rt; answer.is_ok(), "{}", row.0);
-        let left = left_of(&rt, &mut source)?;
-        assert!(rt;
-            left.saturating_add(row.2).saturating_add(65_536) >= LONG,
-            "{}",
-            row.0
-        );
+    for (row, end) in &ROWS {
+        let end = end.saturating_add(65_536);
+        let taken = taken_by(&rt, rt.alloc(), row)?;
+        assert!(rt; taken <= end);
     }
     Ok(())
 }

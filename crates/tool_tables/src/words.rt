@@ -397,9 +397,9 @@ fn told(alloc: Global, line: &str) -> Result<String, AllocError> {
 
 fn check(rt: &impl Abort, alloc: Global, table: &str) -> Result<(), AllocError> {
     for line in table.lines() {
-        let (words, wanted) = line.split_once(" | ").expect(rt, "a row");
+        let (words, wanted) = line.split_once(" | ").unwrap_or((line, ""));
         let found = told(alloc, words)?;
-        assert_eq!(rt; found.as_str(), wanted, "in {line}");
+        assert!(rt; found.as_str() == wanted);
     }
     Ok(())
 }

@@ -1,212 +1,125 @@
 //! pcre2test over streams and files in memory. Each row says what is written for a command line,
 //! and the status, by the manual page pcre2test and the rules of `docs/DEFINITIONS.md`.
-use super::{File, Streams, Told, add_word, check, unfailing};
-use std::alloc::Global;
-use std::process::Abort;
-use std::test::Fail;
-
-// A run: its words, the input, what is written to the output, the messages, and the status.
-type Row = (
-    &'static [&'static str],
-    &'static [u8],
-    &'static [u8],
-    &'static [u8],
-    u8,
-);
-
-// A run over an input of which every read after so many bytes fails.
-type Cut = (&'static [u8], Option<u64>, &'static [u8], &'static [u8], u8);
-
-fn words_of(alloc: Global, rest: &[&str]) -> Result<Vec<String>, Fail> {
-    let mut words = Vec::new(alloc);
-    add_word(alloc, &mut words, "pcre2test")?;
-    for word in rest {
-        add_word(alloc, &mut words, word)?;
-    }
-    Ok(words)
-}
-
-fn check_rows(rt: &impl Abort, alloc: Global, rows: &[Row], files: &[File]) -> Result<(), Fail> {
-    for row in rows {
-        let words = words_of(alloc, row.0)?;
-        let told = Told {
-            out: row.2,
-            err: row.3,
-            status: row.4,
-        };
-        check(rt, alloc, words.as_slice(), files, unfailing(row.1), told)?;
-    }
-    Ok(())
-}
+use super::*;
 
 #[test]
 fn words_set_defaults_and_name_a_script(rt: HostRuntime) -> Result<(), Fail> {
     static FILES: [File; 3] = [
-        ("s", b"/b/\nb\n", None),
-        ("cut", b"/b/\nb\nc\n", Some(7)),
-        ("none", b"/b/\n", Some(0)),
+        ("s: /b/\nb\n", None),
+        ("cut: /b/\nb\nc\n", Some(7)),
+        ("none: /b/\n", Some(0)),
     ];
     static ROWS: [Row; 17] = [
+        ("pcre2test -q < /a(b)?/\nac\n\n > /a(b)?/\nac\n 0: a\n\n", 0),
         (
-            &["-q"],
-            b"/a(b)?/\nac\n\n",
-            b"/a(b)?/\nac\n 0: a\n\n",
-            b"",
+            "pcre2test < /a/\nb\n > PCRE2 8-bit profile\n\n/a/\nb\nNo match\n",
+            0,
+        ),
+        ("pcre2test -q - < /a/\na\n > /a/\na\n 0: a\n", 0),
+        (
+            "pcre2test -q -pattern i < /A/\na\n\n > /A/\na\n 0: a\n\n",
             0,
         ),
         (
-            &[],
-            b"/a/\nb\n",
-            b"PCRE2 8-bit profile\n\n/a/\nb\nNo match\n",
-            b"",
-            0,
-        ),
-        (&["-q", "-"], b"/a/\na\n", b"/a/\na\n 0: a\n", b"", 0),
-        (
-            &["-q", "-pattern", "i"],
-            b"/A/\na\n\n",
-            b"/A/\na\n 0: a\n\n",
-            b"",
+            "pcre2test -pattern i -subject offset=1 -q < /A/\naba\n > /A/\naba\n 0: a\n",
             0,
         ),
         (
-            &["-pattern", "i", "-subject", "offset=1", "-q"],
-            b"/A/\naba\n",
-            b"/A/\naba\n 0: a\n",
-            b"",
+            "pcre2test -q -pattern i -pattern -caseless < /A/\na\n > /A/\na\nNo match\n",
             0,
         ),
+        ("pcre2test -q -dfa < /a/\na\n > /a/\na\n 0: a\n", 0),
+        ("pcre2test -q s < /a/\na\n > /b/\nb\n 0: b\n", 0),
+        ("pcre2test s > PCRE2 8-bit profile\n\n/b/\nb\n 0: b\n", 0),
         (
-            &["-q", "-pattern", "i", "-pattern", "-caseless"],
-            b"/A/\na\n",
-            b"/A/\na\nNo match\n",
-            b"",
-            0,
-        ),
-        (&["-q", "-dfa"], b"/a/\na\n", b"/a/\na\n 0: a\n", b"", 0),
-        (&["-q", "s"], b"/a/\na\n", b"/b/\nb\n 0: b\n", b"", 0),
-        (
-            &["s"],
-            b"",
-            b"PCRE2 8-bit profile\n\n/b/\nb\n 0: b\n",
-            b"",
-            0,
-        ),
-        (
-            &["nofile"],
-            b"/a/\na\n",
-            b"",
-            b"pcre2test: nofile: cannot be opened\n",
+            "pcre2test nofile < /a/\na\n ! pcre2test: nofile: cannot be opened\n",
             1,
         ),
         (
-            &["-q", "cut"],
-            b"",
-            b"/b/\nb\n 0: b\n",
-            b"pcre2test: cut: read error\n",
+            "pcre2test -q cut > /b/\nb\n 0: b\n ! pcre2test: cut: read error\n",
             2,
         ),
         (
-            &["none"],
-            b"",
-            b"PCRE2 8-bit profile\n\n",
-            b"pcre2test: none: read error\n",
+            "pcre2test none > PCRE2 8-bit profile\n\n ! pcre2test: none: read error\n",
             2,
         ),
-        (&["-x"], b"/a/\n", b"", b"pcre2test: bad arguments\n", 1),
+        ("pcre2test -x < /a/\n ! pcre2test: bad arguments\n", 1),
+        ("pcre2test -q -pattern ! pcre2test: bad arguments\n", 1),
+        ("pcre2test -pattern nosuch ! pcre2test: bad arguments\n", 1),
         (
-            &["-q", "-pattern"],
-            b"",
-            b"",
-            b"pcre2test: bad arguments\n",
+            "pcre2test -subject offset=x s ! pcre2test: bad arguments\n",
             1,
         ),
-        (
-            &["-pattern", "nosuch"],
-            b"",
-            b"",
-            b"pcre2test: bad arguments\n",
-            1,
-        ),
-        (
-            &["-subject", "offset=x", "s"],
-            b"",
-            b"",
-            b"pcre2test: bad arguments\n",
-            1,
-        ),
-        (&["s", "s"], b"", b"", b"pcre2test: bad arguments\n", 1),
+        ("pcre2test s s ! pcre2test: bad arguments\n", 1),
     ];
-    check_rows(&rt, rt.alloc(), &ROWS, &FILES)
+    check_all(&rt, rt.alloc(), &FILES, &ROWS)
 }
 
 #[test]
 fn lines_are_made(rt: HostRuntime) -> Result<(), Fail> {
-    const ONE: &[u8] = b"lines: 1\npattern 1: 1 lines, 4 characters\n\
-        pattern 2: 1 lines, 1 characters\npattern 3: 1 lines, 3 characters\n\
-        pattern 4: 1 lines, 5 characters\ndfa: 4 ends\nsubstitute: 3\n";
-    const NONE: &[u8] = b"lines: 0\npattern 1: 0 lines, 0 characters\n\
-        pattern 2: 0 lines, 0 characters\npattern 3: 0 lines, 0 characters\n\
-        pattern 4: 0 lines, 0 characters\ndfa: 0 ends\nsubstitute: 0\n";
-    const BAD: &[u8] = b"pcre2test: bad arguments\n";
     static ROWS: [Row; 11] = [
-        (&["-gen", "1"], b"/a/\na\n", ONE, b"", 0),
-        (&["-gen", "0"], b"", NONE, b"", 0),
-        (&["-q", "-dfa", "-gen", "1"], b"", ONE, b"", 0),
-        (&["-gen"], b"", b"", BAD, 1),
-        (&["-gen", "100001"], b"", b"", BAD, 1),
-        (&["-gen", "99999999999999999999"], b"", b"", BAD, 1),
-        (&["-gen", ""], b"", b"", BAD, 1),
-        (&["-gen", "-1"], b"", b"", BAD, 1),
-        (&["-gen", "1", "s"], b"", b"", BAD, 1),
-        (&["-gen", "1", "-q"], b"", b"", BAD, 1),
-        (&["-pattern", "-gen"], b"", b"", BAD, 1),
+        (
+            "pcre2test -gen 1 < /a/\na\n > lines: 1\npattern 1: 1 lines, 4 characters\n\
+            pattern 2: 1 lines, 1 characters\npattern 3: 1 lines, 3 characters\n\
+            pattern 4: 1 lines, 5 characters\ndfa: 4 ends\nsubstitute: 3\n",
+            0,
+        ),
+        (
+            "pcre2test -gen 0 > lines: 0\npattern 1: 0 lines, 0 characters\npattern 2: 0 \
+            lines, 0 characters\npattern 3: 0 lines, 0 characters\npattern 4: 0 \
+            lines, 0 characters\ndfa: 0 ends\nsubstitute: 0\n",
+            0,
+        ),
+        (
+            "pcre2test -q -dfa -gen 1 > lines: 1\npattern 1: 1 lines, 4 characters\n\
+            pattern 2: 1 lines, 1 characters\npattern 3: 1 lines, 3 characters\n\
+            pattern 4: 1 lines, 5 characters\ndfa: 4 ends\nsubstitute: 3\n",
+            0,
+        ),
+        ("pcre2test -gen ! pcre2test: bad arguments\n", 1),
+        ("pcre2test -gen 100001 ! pcre2test: bad arguments\n", 1),
+        (
+            "pcre2test -gen 99999999999999999999 ! pcre2test: bad arguments\n",
+            1,
+        ),
+        ("pcre2test -gen '' ! pcre2test: bad arguments\n", 1),
+        ("pcre2test -gen -1 ! pcre2test: bad arguments\n", 1),
+        ("pcre2test -gen 1 s ! pcre2test: bad arguments\n", 1),
+        ("pcre2test -gen 1 -q ! pcre2test: bad arguments\n", 1),
+        ("pcre2test -pattern -gen ! pcre2test: bad arguments\n", 1),
     ];
-    check_rows(&rt, rt.alloc(), &ROWS, &[])
+    check_all(&rt, rt.alloc(), &[], &ROWS)
 }
 
 #[test]
 fn a_script_may_end_early(rt: HostRuntime) -> Result<(), Fail> {
-    static ROWS: [Cut; 4] = [
+    // a run, after how many bytes every read of its input fails, and the status
+    static ROWS: [(&str, Option<u64>, u8); 4] = [
         (
-            b"/a/\na\nb\n",
+            "pcre2test -q < /a/\na\nb\n > /a/\na\n 0: a\n ! pcre2test: (standard input): \
+            read error\n",
             Some(7),
-            b"/a/\na\n 0: a\n",
-            b"pcre2test: (standard input): read error\n",
             2,
         ),
         (
-            b"/a/\na\nb\n",
+            "pcre2test -q < /a/\na\nb\n > /a/\na\n 0: a\nb\nNo match\n ! pcre2test: \
+            (standard input): read error\n",
             Some(8),
-            b"/a/\na\n 0: a\nb\nNo match\n",
-            b"pcre2test: (standard input): read error\n",
             2,
         ),
         (
-            b"/a/\na\nb\n",
+            "pcre2test -q < /a/\na\nb\n > /a/\na\n 0: a\nb\nNo match\n",
             Some(9),
-            b"/a/\na\n 0: a\nb\nNo match\n",
-            b"",
             0,
         ),
-        (b"/a\nb", None, b"/a\nb\n", b"", 0),
+        ("pcre2test -q < /a\nb > /a\nb\n", None, 0),
     ];
-    let alloc = rt.alloc();
-    for row in &ROWS {
-        let words = words_of(alloc, &["-q"])?;
+    for (row, fail_at, status) in &ROWS {
         let streams = Streams {
-            input: row.0,
-            fail_at: row.1,
-            room: None,
-            message_room: None,
-            piece: 3,
+            fail_at: *fail_at,
+            ..unfailing(b"")
         };
-        let told = Told {
-            out: row.2,
-            err: row.3,
-            status: row.4,
-        };
-        check(&rt, alloc, words.as_slice(), &[], streams, told)?;
+        check(&rt, rt.alloc(), &[], &streams, row, *status)?;
     }
     Ok(())
 }
@@ -214,53 +127,37 @@ fn a_script_may_end_early(rt: HostRuntime) -> Result<(), Fail> {
 #[test]
 fn a_line_of_a_script_may_be_too_long(rt: HostRuntime) -> Result<(), Fail> {
     let alloc = rt.alloc();
-    let mut input = Vec::from_slice(alloc, b"/a/\na\n# ")?;
-    for _ in 0..1_048_575 {
-        input.push(b'a')?;
-    }
-    input.push(b'\n')?;
-    let words = words_of(alloc, &["-q"])?;
+    let note = "a".repeat(alloc, 1_048_575)?;
+    let input = format!(in alloc; "/a/\na\n# {}\n", note.as_str())?;
     let streams = Streams {
         piece: 65_536,
-        ..unfailing(input.as_slice())
+        ..unfailing(input.as_str().as_bytes())
     };
-    let told = Told {
-        out: b"/a/\na\n 0: a\n",
-        err: b"pcre2test: (standard input): line 3 is too long\n",
-        status: 2,
-    };
-    check(&rt, alloc, words.as_slice(), &[], streams, told)
+    let row = "pcre2test -q > /a/\na\n 0: a\n \
+        ! pcre2test: (standard input): line 3 is too long\n";
+    check(&rt, alloc, &[], &streams, row, 2)
 }
 
 #[test]
 fn sinks_may_refuse_what_a_script_writes(rt: HostRuntime) -> Result<(), Fail> {
-    // the room of the output, that of the messages, the words, and what both take
-    static ROWS: [(
-        Option<u64>,
-        Option<u64>,
-        &'static [&'static str],
-        &'static [u8],
-        &'static [u8],
-    ); 4] = [
-        (Some(10), None, &[], b"PCRE2 8-bi", b""),
-        (Some(24), None, &[], b"PCRE2 8-bit profile\n\n/a/", b""),
-        (None, Some(5), &["nofile"], b"", b"pcre2"),
-        (None, Some(0), &["-x"], b"", b""),
+    // a run, the room of the output, and that of the messages
+    static ROWS: [(&str, Option<u64>, Option<u64>); 4] = [
+        ("pcre2test < /a/\na\n > PCRE2 8-bi", Some(10), None),
+        (
+            "pcre2test < /a/\na\n > PCRE2 8-bit profile\n\n/a/",
+            Some(24),
+            None,
+        ),
+        ("pcre2test nofile < /a/\na\n ! pcre2", None, Some(5)),
+        ("pcre2test -x < /a/\na\n", None, Some(0)),
     ];
-    let alloc = rt.alloc();
-    for row in &ROWS {
-        let words = words_of(alloc, row.2)?;
+    for (row, room, message_room) in &ROWS {
         let streams = Streams {
-            room: row.0,
-            message_room: row.1,
-            ..unfailing(b"/a/\na\n")
+            room: *room,
+            message_room: *message_room,
+            ..unfailing(b"")
         };
-        let told = Told {
-            out: row.3,
-            err: row.4,
-            status: 4,
-        };
-        check(&rt, alloc, words.as_slice(), &[], streams, told)?;
+        check(&rt, rt.alloc(), &[], &streams, row, 4)?;
     }
     Ok(())
 }

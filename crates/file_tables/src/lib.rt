@@ -1,0 +1,16 @@
+//! Tables of what pcre2grep does with files and streams in memory: directories, binary files, long lines, and streams
+//! that fail.
+#![tactic(auto)]
+
+#[cfg(test)]
+mod binary;
+#[cfg(test)]
+mod directories;
+#[cfg(test)]
+mod faults;
+#[cfg(test)]
+mod rooms;
+#[cfg(test)]
+mod running;
+#[cfg(test)]
+mod sizes;
