@@ -53,7 +53,22 @@ fn tells_need(rt: &impl Abort, alloc: Global, options: Options, row: &NeedRow) -
 #[test]
 fn the_rarest_text_that_every_match_takes_is_told(rt: HostRuntime) -> Result<(), Fail> {
     use Step::*;
-    static ROWS: [NeedRow; 24] = [
+    static ROWS: [NeedRow; 26] = [
+        // `a+ba+b`, where each repeat has one end that goes on, and `a+aa+b`, where the first has many
+        (
+            &[Chars(97, 1, None), B, Chars(97, 1, None), B, Seq(4)],
+            Some((b"b", b"", b"")),
+            2,
+            1,
+            2,
+        ),
+        (
+            &[Chars(97, 1, None), A, Chars(97, 1, None), B, Seq(4)],
+            Some((b"b", b"", b"")),
+            2,
+            2,
+            2,
+        ),
         // `a`, `(?i)k`, a class, `a?b`, `a+b`, `a{2,3}`, `a*`, `.`
         (&[A], Some((b"a", b"", b"")), 0, 0, 0),
         (&[AnyCase(107)], Some((b"Kk", b"", b"")), 0, 0, 0),
@@ -66,7 +81,7 @@ fn the_rarest_text_that_every_match_takes_is_told(rt: HostRuntime) -> Result<(),
             1,
             1,
         ),
-        (&[Chars(97, 2, Some(3))], Some((b"a", b"", b"")), 2, 0, 1),
+        (&[Chars(97, 2, Some(3))], Some((b"a", b"a", b"")), 2, 0, 1),
         (&[Chars(97, 0, None)], None, 0, 0, 0),
         (&[AnyAll], None, 0, 0, 0),
         // `ab|cb`, `a|`, `(a)`, `(?>a+)b`, `(?=b)a*`
@@ -146,20 +161,104 @@ fn in_utf_the_byte_of_an_ascii_character_is_told(rt: HostRuntime) -> Result<(), 
         utf: true,
         ..Options::PLAIN
     };
-    // `a`, `(?i)@`, `(?i)b`, `(?i)k`, `(?i)S`, the Kelvin sign and the long s without regard to case, a class, a class and `b`
-    static ROWS: [NeedRow; 9] = [
+    // `a`, `(?i)@`, `(?i)b`, `(?i)k`, `(?i)S`, the Kelvin sign and the long s without regard to case, a class, a class and `b`,
+    // `abc`, `(?i)kb` and `(?i)bs`
+    static ROWS: [NeedRow; 12] = [
         (&[A], Some((b"a", b"", b"")), 0, 0, 0),
         (&[AnyCase(64)], Some((b"@", b"", b"")), 0, 0, 0),
         (&[AnyCase(98)], Some((b"Bb", b"", b"")), 0, 0, 0),
-        (&[AnyCase(107)], None, 0, 0, 0),
-        (&[AnyCase(83)], None, 0, 0, 0),
+        (&[AnyCase(107)], Some((b"Kk\xE2", b"", b"")), 0, 0, 0),
+        (&[AnyCase(83)], Some((b"Ss\xC5", b"", b"")), 0, 0, 0),
         (&[AnyCase(0x212A)], None, 0, 0, 0),
         (&[AnyCase(0x17F)], None, 0, 0, 0),
         (&[Class], None, 0, 0, 0),
         (&[Class, B, Seq(2)], Some((b"b", b"", b"")), 0, 0, 0),
+        (&[A, B, C, Seq(3)], Some((b"a", b"b", b"c")), 0, 0, 0),
+        (
+            &[AnyCase(107), AnyCase(98), Seq(2)],
+            Some((b"Bb", b"", b"")),
+            0,
+            0,
+            0,
+        ),
+        (
+            &[AnyCase(98), AnyCase(115), Seq(2)],
+            Some((b"Bb", b"Ss\xC5", b"")),
+            0,
+            0,
+            0,
+        ),
     ];
     for row in &ROWS {
         tells_need(&rt, rt.alloc(), utf, row)?;
+    }
+    Ok(())
+}
+
+/// A tree by its steps, in UTF or not, and the text with which every match begins if one is told.
+type BeginRow = (&'static [Step], bool, Option<TextRow>);
+
+fn begins_as(facts: &Facts, told: &Option<TextRow>) -> bool {
+    let Some(need) = &facts.need else {
+        return false;
+    };
+    match (&need.begin, told) {
+        (None, None) => true,
+        (Some(text), Some(told)) => is_text(text, told),
+        _ => false,
+    }
+}
+
+fn tells_begin(rt: &impl Abort, alloc: Global, row: &BeginRow) -> Result<(), Fail> {
+    let options = Options {
+        utf: row.1,
+        ..Options::PLAIN
+    };
+    assert!(rt; row.0.len() < 1000);
+    match facts_of(alloc, options, row.0)? {
+        Ok(facts) => assert!(rt; begins_as(&facts, &row.2)),
+        Err(_) => assert!(rt; false),
+    }
+    Ok(())
+}
+
+#[test]
+fn a_text_with_which_every_match_begins_is_told(rt: HostRuntime) -> Result<(), Fail> {
+    use Step::*;
+    static ROWS: [BeginRow; 11] = [
+        // `a`, `ab|cb`, `a+b`, `a*b`, which may begin with both
+        (&[A], false, None),
+        (
+            &[A, B, Seq(2), C, B, Seq(2), Group(2)],
+            false,
+            Some((b"ac", b"b", b"")),
+        ),
+        (&[Chars(97, 1, None), B, Seq(2)], false, None),
+        (&[Chars(97, 0, None), B, Seq(2)], false, None),
+        // in UTF one byte tells more than the first bytes do: `a`, `a|(?i)k`, `a+b`, `(?=b)a*`, `[..]b`
+        (&[A], true, Some((b"a", b"", b""))),
+        (
+            &[A, AnyCase(107), Group(2)],
+            true,
+            Some((b"aKk\xE2", b"", b"")),
+        ),
+        (
+            &[Chars(97, 1, None), B, Seq(2)],
+            true,
+            Some((b"a", b"", b"")),
+        ),
+        (
+            &[B, Ahead(1), Chars(97, 0, None), Seq(2)],
+            true,
+            Some((b"b", b"", b"")),
+        ),
+        (&[Class, B, Seq(2)], true, None),
+        // `a{4}`, `a{3,}` in UTF
+        (&[Chars(97, 4, Some(4))], false, Some((b"a", b"a", b"a"))),
+        (&[Chars(97, 3, None)], true, Some((b"a", b"a", b"a"))),
+    ];
+    for row in &ROWS {
+        tells_begin(&rt, rt.alloc(), row)?;
     }
     Ok(())
 }

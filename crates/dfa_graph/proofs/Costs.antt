@@ -97,6 +97,7 @@ use Rattle.dfa_graph.specs.Building.{
 use Rattle.dfa_paths.specs.Fragment.{most_nested}
 use Rattle.dfa_paths.specs.Plain.{is_never}
 use Rattle.dfa_graph.specs.Served.{is_fail, has_fragment, has_graph, all_have, test_has, other_has}
+use Rattle.dfa_graph.proofs.Tasks.{AllTasks, all_append, all_front, all_back, sum_of, sum_append}
 use Rattle.dfa_graph.proofs.Steps.{drop_some, drop_none, less_depth, one_part, no_part, IsWork}
 use Rattle.dfa_graph.proofs.TreeCosts.{
   turns_cost,
@@ -535,37 +536,11 @@ module _ (ps : List placed.Placed) where
 
   -- The tasks that are left.
 
-  unfoldable pub tasks_cost : List Task → ℕ
-  tasks_cost [] = 0
-  tasks_cost (t ∷ ts) = work_cost t.work + tasks_cost ts
+  abbrev pub tasks_cost : List Task → ℕ
+  tasks_cost = sum_of work_cost
 
-  unfoldable pub AllHave : List Task → Type 0
-  AllHave [] = Unit {0}
-  AllHave (t ∷ ts) = (work_has t.work t.depth ≡ true) × AllHave ts
-
-  cost_append : (ts us : List Task) → tasks_cost (ts ++ us) ≡ tasks_cost ts + tasks_cost us
-  unfolding tasks_cost
-  cost_append [] us = let m : tasks_cost us ≡ 0 + tasks_cost us = omega arith in m
-  cost_append (t ∷ ts) us =
-      let e = cost_append ts us in
-      let m : work_cost t.work + tasks_cost (ts ++ us)
-      ≡ work_cost t.work + tasks_cost ts + tasks_cost us = omega (arith, e) in
-      m
-
-  have_append : (ts us : List Task) → AllHave ts → AllHave us → AllHave (ts ++ us)
-  unfolding AllHave
-  have_append [] us h k = k
-  have_append (t ∷ ts) us h k = (h.0, have_append ts us h.1 k)
-
-  have_front : (ts us : List Task) → AllHave (ts ++ us) → AllHave ts
-  unfolding AllHave
-  have_front [] us h = tt
-  have_front (t ∷ ts) us h = (h.0, have_front ts us h.1)
-
-  have_back : (ts us : List Task) → AllHave (ts ++ us) → AllHave us
-  unfolding AllHave
-  have_back [] us h = h
-  have_back (t ∷ ts) us h = have_back ts us h.1
+  abbrev pub AllHave : List Task → Type 0
+  AllHave = AllTasks (λ t. work_has t.work t.depth ≡ true)
 
   -- all that is left can be done, in so many steps
   abbrev pub Can : ℕ → List Task → Type 0
@@ -575,7 +550,7 @@ module _ (ps : List placed.Placed) where
       AllHave us → 1 + tasks_cost us ≤ n →
       Can (left - 1) (rest ++ us)
   can_more left n rest us h l k m =
-      (have_append rest us h k, let e = cost_append rest us in omega (arith, e, l, m))
+      (all_append _ rest us h k, let e = sum_append work_cost rest us in omega (arith, e, l, m))
 
   one_task : (n a : ℕ) → 1 + a ≤ n → 1 + (a + 0) ≤ n
   one_task n a l = omega (arith, l)
@@ -592,7 +567,7 @@ module _ (ps : List placed.Placed) where
   step_can : (left n new : ℕ) (t : Task) (s : Step) (rest : List Task) → Leaves t.depth n s →
       AllHave rest → tasks_cost rest + n ≤ left →
       Can (left - 1) (tasks_after s t new rest)
-  unfolding AllHave tasks_cost
+  unfolding AllTasks sum_of
   step_can left n new t step.Refuse rest k h l = absurd k
   step_can left n new t (step.Write m) rest k h l = (h, omega (arith, k, l))
   step_can left n new t (step.Hand a) rest k h l =
@@ -680,14 +655,14 @@ module _ (ps : List placed.Placed) where
     here = subst (Can left) pop can
 
     top_has : work_has t.work t.depth ≡ true
-    unfolding AllHave
-    top_has = let k = have_back rest (t ∷ []) here.0 in k.0
+    unfolding AllTasks
+    top_has = let k = all_back _ rest (t ∷ []) here.0 in k.0
 
     top_cost : tasks_cost rest + work_cost t.work ≤ left
-    unfolding tasks_cost
+    unfolding sum_of
     top_cost =
-        let e : tasks_cost (rest ++ t ∷ []) ≡ tasks_cost rest + (work_cost t.work + 0) = cost_append
-        rest (t ∷ []) in
+        let e : tasks_cost (rest ++ t ∷ []) ≡ tasks_cost rest + (work_cost t.work + 0)
+        = sum_append work_cost rest (t ∷ []) in
         let l = here.1 in omega (arith, e, l)
 
     pub can_step : (s : Step) → IsPart ps classes (part_of t.work) →
@@ -699,7 +674,7 @@ module _ (ps : List placed.Placed) where
         (step_can left (work_cost t.work) new t s rest
         (subst (Leaves t.depth (work_cost t.work)) (sym is)
         (step_leaves classes backs t.work t.depth t.next root part ok top_has))
-        (have_front rest (t ∷ []) here.0) top_cost)
+        (all_front _ rest (t ∷ []) here.0) top_cost)
 
     pub not_refused : (s : Step) → IsPart ps classes (part_of t.work) →
         s ≡ step_of ps backs t.work t.depth t.next → is_refused s ≡ false
@@ -733,24 +708,6 @@ module _ (ps : List placed.Placed) where
   row_some tree.none = omega arith
   row_some (tree.more t ts) = omega arith
 
-  turn_some : (t : Nested) → 1 ≤ turn_cost t
-  turn_some (tree.repeat body low high lazily) = omega arith
-  turn_some (tree.one_repeat item low high lazily) = omega arith
-  turn_some (tree.seq ts) = omega arith
-  turn_some (tree.group number ts) = omega arith
-  turn_some (tree.condition test first second) = omega arith
-  turn_some tree.empty = omega arith
-  turn_some (tree.one item) = omega arith
-  turn_some tree.line_break = omega arith
-  turn_some (tree.atomic ts) = omega arith
-  turn_some (tree.look ahead positive once ts) = omega arith
-  turn_some (tree.call n) = omega arith
-  turn_some (tree.ref ns caseless) = omega arith
-  turn_some (tree.anchor kind) = omega arith
-  turn_some tree.keep_out = omega arith
-  turn_some (tree.verb v) = omega arith
-  turn_some (tree.callout c) = omega arith
-
   turns_some : (c low : ℕ) (high : Option ℕ) → 1 ≤ turns_cost c low high
   turns_some c low None = omega arith
   turns_some c low (Some high) = omega arith
@@ -759,25 +716,25 @@ module _ (ps : List placed.Placed) where
   work_some (work.Part p) = cost_some (tree_of ps p)
   work_some (All p from) = row_some (row_from ps p from)
   work_some (Any p from) = row_some (row_from ps p from)
-  work_some (Turn p) = turn_some (tree_of ps p)
+  work_some (Turn p) = omega arith
   work_some (work.Turns p low high) = turns_some (turn_cost (tree_of ps p)) low high
   work_some (Ask p yes' no') = let c = cost_some (tree_of ps yes') in omega (arith, c)
   work_some (Behind p from) = row_some (row_from ps p from)
 
   pub none_left : (left : ℕ) (ts rest : List Task) (t : Task) → Can left ts →
       ts ≡ rest ++ t ∷ [] → left ≡ 0 → ⊥
-  unfolding tasks_cost
+  unfolding sum_of
   none_left left ts rest t can pop zero_left =
       let k = subst (Can left) pop can in
-      let e : tasks_cost (rest ++ t ∷ []) ≡ tasks_cost rest + (work_cost t.work + 0) = cost_append
-      rest (t ∷ []) in
+      let e : tasks_cost (rest ++ t ∷ []) ≡ tasks_cost rest + (work_cost t.work + 0)
+      = sum_append work_cost rest (t ∷ []) in
       let l = k.1 in
       let m = work_some t.work in
       omega (arith, e, l, m, zero_left)
 
   pub first_can : (root : ℕ) (ts : List Task) → ts ≡ task_in most_nested (work.Part root) 0 1 ∷ [] →
       whole_size (tree_of ps root) ≤ 65536 → has_graph (tree_of ps root) ≡ true → Can 349000 ts
-  unfolding AllHave tasks_cost
+  unfolding AllTasks sum_of
   first_can root ts e small has =
       subst (Can 349000) (sym e) (
         (has, tt),

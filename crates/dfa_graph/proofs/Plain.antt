@@ -64,6 +64,7 @@ use Rattle.dfa_graph.specs.Building.{
   row_from,
   IsPart,
 }
+use Rattle.dfa_graph.proofs.Tasks.{AllTasks, all_append, all_front, all_back}
 use Rattle.dfa_graph.proofs.Costs.{rest_of, first_of}
 
 -- Truth.
@@ -306,24 +307,8 @@ module _ (ps : List placed.Placed) where
 
   -- The tasks that are left.
 
-  unfoldable pub AllPlain : List Task → Type 0
-  AllPlain [] = Unit {0}
-  AllPlain (t ∷ ts) = (work_plain t.work ≡ true) × AllPlain ts
-
-  plain_append : (ts us : List Task) → AllPlain ts → AllPlain us → AllPlain (ts ++ us)
-  unfolding AllPlain
-  plain_append [] us h k = k
-  plain_append (t ∷ ts) us h k = (h.0, plain_append ts us h.1 k)
-
-  plain_front : (ts us : List Task) → AllPlain (ts ++ us) → AllPlain ts
-  unfolding AllPlain
-  plain_front [] us h = tt
-  plain_front (t ∷ ts) us h = (h.0, plain_front ts us h.1)
-
-  plain_back : (ts us : List Task) → AllPlain (ts ++ us) → AllPlain us
-  unfolding AllPlain
-  plain_back [] us h = h
-  plain_back (t ∷ ts) us h = plain_back ts us h.1
+  abbrev pub AllPlain : List Task → Type 0
+  AllPlain = AllTasks (λ t. work_plain t.work ≡ true)
 
   -- the states so far nest nothing, and what is left won't
   abbrev pub IsPlainBuild : List Node → List Task → Type 0
@@ -331,14 +316,14 @@ module _ (ps : List placed.Placed) where
 
   tasks_stay : (s : Step) (t : Task) (new : ℕ) (rest : List Task) → Stays s → AllPlain rest →
       AllPlain (tasks_after s t new rest)
-  unfolding AllPlain
+  unfolding AllTasks
   tasks_stay step.Refuse t new rest k h = h
   tasks_stay (step.Write n) t new rest k h = h
-  tasks_stay (step.Hand a) t new rest k h = plain_append rest _ h (k, tt)
-  tasks_stay (step.Chain a b) t new rest k h = plain_append rest _ h (k.0, (k.1, tt))
-  tasks_stay (step.Loop a) t new rest k h = plain_append rest _ h (k, tt)
-  tasks_stay (step.Fork a b) t new rest k h = plain_append rest _ h (k.0, (k.1, tt))
-  tasks_stay (step.Skip a b) t new rest k h = plain_append rest _ h (k.0, (k.1, tt))
+  tasks_stay (step.Hand a) t new rest k h = all_append _ rest _ h (k, tt)
+  tasks_stay (step.Chain a b) t new rest k h = all_append _ rest _ h (k.0, (k.1, tt))
+  tasks_stay (step.Loop a) t new rest k h = all_append _ rest _ h (k, tt)
+  tasks_stay (step.Fork a b) t new rest k h = all_append _ rest _ h (k.0, (k.1, tt))
+  tasks_stay (step.Skip a b) t new rest k h = all_append _ rest _ h (k.0, (k.1, tt))
   tasks_stay (step.Keep a) t new rest k h = absurd k
   tasks_stay (step.Assert a positive) t new rest k h = absurd k
   tasks_stay (step.Choose a positive b c) t new rest k h = absurd k
@@ -349,7 +334,7 @@ module _ (ps : List placed.Placed) where
   pub first_plain_build : (root : ℕ) (nodes : List Node) (ts : List Task) →
       nodes ≡ Dead ∷ Match ∷ [] → ts ≡ task_in most_nested (work.Part root) 0 1 ∷ [] →
       is_plain (tree_of ps root) ≡ true → IsPlainBuild nodes ts
-  unfolding AllPlain
+  unfolding AllTasks
   first_plain_build root nodes ts en et plain =
       (subst IsFlat (sym en) first_flat, subst AllPlain (sym et) (plain, tt))
 
@@ -361,13 +346,13 @@ module _ (ps : List placed.Placed) where
       IsPart ps classes (part_of t.work) → s ≡ step_of ps backs t.work t.depth t.next →
       nodes' ≡ states_after s t nodes →
       ts' ≡ tasks_after s t (length nodes) rest → IsPlainBuild nodes' ts'
-  unfolding AllPlain
+  unfolding AllTasks
   plain_step classes backs nodes nodes' ts rest ts' t s h pop range ok is en et =
       let all = subst AllPlain pop h.1 in
-      let top = plain_back rest (t ∷ []) all in
+      let top = all_back _ rest (t ∷ []) all in
       let stays = subst Stays (sym is) (step_stays classes backs t.work t.depth t.next ok range
       top.0) in (
         subst IsFlat (sym en) (states_stay s t nodes stays h.0),
         subst AllPlain (sym et)
-            (tasks_stay s t (length nodes) rest stays (plain_front rest (t ∷ []) all)),
+            (tasks_stay s t (length nodes) rest stays (all_front _ rest (t ∷ []) all)),
       )

@@ -72,6 +72,7 @@ use Rattle.dfa_paths.specs.Graph.{takes, count_if, takers}
 use Rattle.dfa_graph.specs.Building.{part_of, IsRange, ids_of, part_step, second_step, cond_step, ask_step, ask_second, nested_step, look_node, verb_step, all_step, any_step, turn_step, turns_step, behind_step, so_at, else_at, node_of, step_of, task_in, states_after, tasks_after, tree_of, row_from, IsPart}
 use Rattle.dfa_paths.specs.Fragment.{most_nested}
 use Rattle.dfa_graph.proofs.Steps.{IsWork}
+use Rattle.dfa_graph.proofs.Tasks.{sum_of, sum_append}
 use Rattle.dfa_graph.proofs.Costs.{rest_of, first_of}
 
 -- Numbers.
@@ -399,25 +400,18 @@ module _ (ps : List placed.Placed) where
   turns_hold p zero next (Some zero) ok = none_most _
   turns_hold p zero next (Some (suc high)) ok = turn_more high (turn_size (tree_of ps p))
 
-  -- a condition on a lookaround
-  choose_holds : (p yes' : ℕ) (no' : Option ℕ) (positive : Bool) (m : parts.Node) →
+  -- a condition on a lookahead, and on a lookbehind
+  decided_holds : (p yes' : ℕ) (no' : Option ℕ) (positive : Bool) (m : parts.Node) →
       node_of ps p ≡ m →
-      Holds (1 + size_of_all (row (map f (ids_of m))) + whole_size (f yes')
-      + size_of_other (other_of (trees ps) no'))
-      (step.Choose (Any p 0) positive (work.Part yes') (option_map work.Part no'))
+      let n = 1 + size_of_all (row (map f (ids_of m))) + whole_size (f yes')
+      + size_of_other (other_of (trees ps) no') in
+      Holds n (step.Choose (Any p 0) positive (work.Part yes') (option_map work.Part no'))
+      × Holds n (step.Decide (Behind p 0) positive (work.Part yes') (option_map work.Part no'))
   unfolding whole_size
-  choose_holds p yes' None positive m e = none_more _ _ _ (row_holds p m e)
-  choose_holds p yes' (Some q) positive m e = some_more _ _ _ _ (row_holds p m e)
-
-  -- and on a lookbehind
-  decide_holds : (p yes' : ℕ) (no' : Option ℕ) (positive : Bool) (m : parts.Node) →
-      node_of ps p ≡ m →
-      Holds (1 + size_of_all (row (map f (ids_of m))) + whole_size (f yes')
-      + size_of_other (other_of (trees ps) no'))
-      (step.Decide (Behind p 0) positive (work.Part yes') (option_map work.Part no'))
-  unfolding whole_size
-  decide_holds p yes' None positive m e = none_more _ _ _ (row_holds p m e)
-  decide_holds p yes' (Some q) positive m e = some_more _ _ _ _ (row_holds p m e)
+  decided_holds p yes' None positive m e =
+      let l = none_more _ _ _ (row_holds p m e) in (l, l)
+  decided_holds p yes' (Some q) positive m e =
+      let l = some_more _ _ _ _ (row_holds p m e) in (l, l)
 
   after_holds : (yes' n : ℕ) (no' : Option ℕ) (kids : List ℕ) →
       is_test (tree.seq (row (map f kids))) ≡ true →
@@ -436,11 +430,11 @@ module _ (ps : List placed.Placed) where
   unfolding whole_size
   ask_holds p d yes' no' (part.Look true positive once branches) e t =
       nested_holds _ d (step.Choose (Any p 0) positive (work.Part yes') (option_map work.Part no'))
-      (choose_holds p yes' no' positive (part.Look true positive once branches) e)
+      (decided_holds p yes' no' positive (part.Look true positive once branches) e).0
   ask_holds p d yes' no' (part.Look false positive once branches) e t =
       nested_holds _ d
       (step.Decide (Behind p 0) positive (work.Part yes') (option_map work.Part no'))
-      (decide_holds p yes' no' positive (part.Look false positive once branches) e)
+      (decided_holds p yes' no' positive (part.Look false positive once branches) e).1
   ask_holds p d yes' no' (part.Seq kids) e t = after_holds yes' _ no' kids t refl
   ask_holds p d yes' no' part.Empty e t = tt
   ask_holds p d yes' no' (part.One item) e t = tt
@@ -482,39 +476,29 @@ module _ (ps : List placed.Placed) where
 
   -- The tasks that are left.
 
-  unfoldable pub tasks_size : List Task → ℕ
-  tasks_size [] = 0
-  tasks_size (t ∷ ts) = work_size t.work + tasks_size ts
-
-  size_append : (ts us : List Task) → tasks_size (ts ++ us) ≡ tasks_size ts + tasks_size us
-  unfolding tasks_size
-  size_append [] us = let m : tasks_size us ≡ 0 + tasks_size us = omega arith in m
-  size_append (t ∷ ts) us =
-      let e = size_append ts us in
-      let m : work_size t.work + tasks_size (ts ++ us)
-      ≡ work_size t.work + tasks_size ts + tasks_size us = omega (arith, e) in
-      m
+  abbrev pub tasks_size : List Task → ℕ
+  tasks_size = sum_of work_size
 
   one_size : (rest : List Task) (d : ℕ) (a : Work) (at next : ℕ) →
       tasks_size (rest ++ task_in d a at next ∷ []) ≡ tasks_size rest + (work_size a + 0)
-  unfolding tasks_size
-  one_size rest d a at next = size_append rest (task_in d a at next ∷ [])
+  unfolding sum_of
+  one_size rest d a at next = sum_append work_size rest (task_in d a at next ∷ [])
 
   two_sizes : (rest : List Task) (d d' : ℕ) (a b : Work) (at next at' next' : ℕ) →
       tasks_size (rest ++ task_in d a at next ∷ task_in d' b at' next' ∷ [])
       ≡ tasks_size rest + (work_size a + (work_size b + 0))
-  unfolding tasks_size
+  unfolding sum_of
   two_sizes rest d d' a b at next at' next' =
-      size_append rest (task_in d a at next ∷ task_in d' b at' next' ∷ [])
+      sum_append work_size rest (task_in d a at next ∷ task_in d' b at' next' ∷ [])
 
   three_sizes : (rest : List Task) (d d' d'' : ℕ) (a b c : Work)
       (at next at' next' at'' next'' : ℕ) →
       tasks_size (rest ++ task_in d a at next ∷ task_in d' b at' next'
       ∷ task_in d'' c at'' next'' ∷ [])
       ≡ tasks_size rest + (work_size a + (work_size b + (work_size c + 0)))
-  unfolding tasks_size
+  unfolding sum_of
   three_sizes rest d d' d'' a b c at next at' next' at'' next'' =
-      size_append rest (task_in d a at next ∷ task_in d' b at' next'
+      sum_append work_size rest (task_in d a at next ∷ task_in d' b at' next'
       ∷ task_in d'' c at'' next'' ∷ [])
 
   -- what is made, and what the tasks still make, is at most so much
@@ -574,7 +558,7 @@ module _ (ps : List placed.Placed) where
   pub first_bounded : (root : ℕ) (nodes : List Node) (ts : List Task) →
       nodes ≡ Dead ∷ Match ∷ [] → ts ≡ task_in most_nested (work.Part root) 0 1 ∷ [] →
       IsBounded (whole_size (tree_of ps root)) nodes ts
-  unfolding tasks_size
+  unfolding sum_of
   first_bounded root nodes ts en et =
       let n = ap takers en ∙ none_first in
       let e : tasks_size ts ≡ whole_size (tree_of ps root) + 0 = ap tasks_size et in
@@ -588,21 +572,21 @@ module _ (ps : List placed.Placed) where
       IsPart ps classes (part_of t.work) → s ≡ step_of ps backs t.work t.depth t.next →
       nodes' ≡ states_after s t nodes →
       ts' ≡ tasks_after s t (length nodes) rest → IsBounded n nodes' ts'
-  unfolding tasks_size
+  unfolding sum_of
   bounded_step classes root n backs nodes nodes' ts rest ts' t s h pop ok part is en et =
       let holds = subst (Holds (work_size t.work)) (sym is)
       (step_holds classes backs t.work t.depth t.next root part ok) in
       let left = tasks_hold (work_size t.work) (length nodes) t s rest holds in
       let made = states_hold s t nodes in
       let size : tasks_size ts ≡ tasks_size rest + (work_size t.work + 0) = ap tasks_size pop
-      ∙ size_append rest (t ∷ []) in
+      ∙ sum_append work_size rest (t ∷ []) in
       let en' = ap takers en in
       let et' = ap tasks_size et in
       omega (arith, h, left, made, size, en', et')
 
   pub all_bounded : (n : ℕ) (nodes : List Node) (ts : List Task) → IsBounded n nodes ts → ts ≡ [] →
       takers nodes ≤ n
-  unfolding tasks_size
+  unfolding sum_of
   all_bounded n nodes ts h e =
       let z : tasks_size ts ≡ 0 = ap tasks_size e in omega (arith, h, z)
 

@@ -44,6 +44,7 @@ use Rattle.dfa_paths.specs.declared.graph.Node.TheVariants.{
   Match,
 }
 use Rattle.dfa_graph.specs.declared.build.Task.{Task}
+use Rattle.dfa_graph.specs.declared.build.Work.{Work}
 use Rattle.dfa_paths.specs.Graph.{IsNodeIn, IsGraph}
 use Rattle.dfa_graph.specs.Building.{so_at, else_at, look_node}
 
@@ -52,6 +53,20 @@ use Rattle.dfa_graph.specs.Building.{so_at, else_at, look_node}
 unfoldable pub AllTasks : (Task → Type 0) → List Task → Type 0
 AllTasks P [] = Unit {0}
 AllTasks P (t ∷ ts) = P t × AllTasks P ts
+
+-- what their works come to together
+unfoldable pub sum_of : (Work → ℕ) → List Task → ℕ
+sum_of f [] = 0
+sum_of f (t ∷ ts) = f t.work + sum_of f ts
+
+pub sum_append : (f : Work → ℕ) (ts us : List Task) →
+    sum_of f (ts ++ us) ≡ sum_of f ts + sum_of f us
+unfolding sum_of
+sum_append f [] us = let m : sum_of f us ≡ 0 + sum_of f us = omega arith in m
+sum_append f (t ∷ ts) us =
+    let e = sum_append f ts us in
+    let m : f t.work + sum_of f (ts ++ us) ≡ f t.work + sum_of f ts + sum_of f us = omega (arith, e)
+    in m
 
 -- some task fills the state
 unfoldable pub Fills : ℕ → List Task → Type 0

@@ -49,10 +49,12 @@ unfoldable mutual
   other_cost tree.no_other = 0
   other_cost (tree.other t) = cost t
 
+abbrev pub body_cost : Nested → ℕ
+body_cost (tree.repeat body low high lazily) = cost body
+body_cost _ = 0
+
 abbrev pub turn_cost : Nested → ℕ
-turn_cost (tree.repeat body low high lazily) = 1 + cost body
-turn_cost (tree.one_repeat item low high lazily) = 1
-turn_cost _ = 1
+turn_cost t = 1 + body_cost t
 
 -- four steps a node at most
 

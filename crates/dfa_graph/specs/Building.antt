@@ -153,6 +153,11 @@ abbrev pub verb_step : Verb → Step
 verb_step (Fail name) = Write Dead
 verb_step _ = Refuse
 
+-- a lookaround
+abbrev pub look_step : ℕ → Bool → Bool → Step
+look_step p true positive = Assert (Any p 0) positive
+look_step p false positive = Seek (Behind p 0) positive
+
 -- so many levels may be nested in the part
 abbrev pub part_step : ℕ → ℕ → ℕ → parts.Node → Step
 part_step p d next part.Empty = Write (Goto next)
@@ -163,10 +168,8 @@ part_step p d next (part.Group number branches) = Hand (Any p 0)
 part_step p d next (part.Repeat body min max lazy) = Hand (work.Turns p min max)
 part_step p d next (part.OneRepeat item min max lazy) = Hand (work.Turns p min max)
 part_step p d next (part.Atomic branches) = nested_step d (Keep (Any p 0))
-part_step p d next (part.Look true positive once branches) =
-    nested_step d (Assert (Any p 0) positive)
-part_step p d next (part.Look false positive once branches) =
-    nested_step d (Seek (Behind p 0) positive)
+part_step p d next (part.Look ahead positive once branches) =
+    nested_step d (look_step p ahead positive)
 part_step p d next (part.Cond test yes' no') = cond_step next test yes' no'
 part_step p d next (part.Anchor kind) = Write (Anchor kind next)
 part_step p d next (part.VerbNode v) = verb_step v

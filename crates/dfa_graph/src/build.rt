@@ -1,10 +1,8 @@
 //! A graph of a tree: tasks, each of which places a part from a state that is there on to a state
 //! that follows.
-ghost use Rattle.std.specs.Prelude.{◌≡◌, List, true, None, IfSome, ◌+◌, ◌-◌, ◌<◌, ◌≤◌, ◌==◌, ◌++◌, ◌∷◌, [], All, IfOk, length, option_map, slice_get};
+ghost use Rattle.std.specs.Prelude.{◌≡◌, List, true, None, IfSome, ◌+◌, ◌<◌, ◌≤◌, ◌==◌, All, IfOk, length, option_map, slice_get};
 ghost use Rattle.pat_tree.specs.declared.nodes.Placed.{Placed};
-ghost use Rattle.dfa_graph.specs.Building.{part_of, ids_of, IsRange, IsTurnRange, part_step, all_step, any_step, turn_step, turns_step, behind_step, so_at, else_at, step_of, node_of, IsPart, tree_of, cond_step, ask_step, nested_step, verb_step, is_refused, states_after, look_node, task_in, tasks_after};
-ghost use Rattle.dfa_paths.specs.declared.graph.Node.TheVariants.{Dead};
-ghost use Rattle.dfa_graph.specs.declared.build.Step.TheVariants.{Choose, Seek, Decide};
+ghost use Rattle.dfa_graph.specs.Building.{part_of, ids_of, IsRange, IsTurnRange, part_step, all_step, any_step, turn_step, turns_step, behind_step, step_of, node_of, IsPart, tree_of, cond_step, ask_step, nested_step, look_step, verb_step, is_refused};
 ghost use Rattle.dfa_graph.specs.declared.build.Work.TheVariants as work;
 ghost use Rattle.pat_lengths.specs.Backs.{AreBacks, first_fault};
 ghost use Rattle.pat_check.specs.Support.{dfa_support};
@@ -13,6 +11,7 @@ ghost use Rattle.dfa_paths.specs.Fragment.{AreStatesOf};
 ghost use Rattle.dfa_graph.specs.Served.{has_graph};
 ghost use Rattle.pat_check.specs.Size.{whole_size};
 
+use crate::forms::do_step;
 use dfa_paths::Node;
 use pat_lengths::Backs;
 use pat_tree::{Cond, Memory, Node as Part, NodeId, Tree, Verb};
@@ -199,26 +198,30 @@ fn part_work(node: &Part, part: NodeId, depth: u32, next: u32) -> Step
         },
         Part::Atomic(_) => nested(depth, Step::Keep { work: branches }),
         Part::Look {
-            ahead: true,
+            ahead,
             positive,
             ..
-        } => nested(
-            depth,
-            Step::Assert {
-                work: branches,
-                positive: *positive,
-            },
-        ),
-        Part::Look { positive, .. } => nested(
-            depth,
-            Step::Seek {
-                work: Work::Behind { part, from: 0 },
-                positive: *positive,
-            },
-        ),
+        } => nested(depth, look_work(part, *ahead, *positive)),
         Part::Cond { test, yes, no } => cond_work(test, *yes, *no, next),
         Part::VerbNode(verb) => verb_work(verb),
         _ => Step::Refuse,
+    }
+}
+
+/// What a lookaround comes to, if it may be nested.
+fn look_work(part: NodeId, ahead: bool, positive: bool) -> Step
+    ensures { result ≡ look_step part ahead positive }
+{
+    if ahead {
+        Step::Assert {
+            work: Work::Any { part, from: 0 },
+            positive,
+        }
+    } else {
+        Step::Seek {
+            work: Work::Behind { part, from: 0 },
+            positive,
+        }
     }
 }
 
@@ -472,257 +475,6 @@ fn node_step(node: &Part, backs: &Backs, part: NodeId, work: Work, depth: u32, n
         Work::Turns { low, high, .. } => turns_work(part, low, high, next),
         Work::Ask { yes, no, .. } => ask_work(node, part, yes, no, depth),
         Work::Behind { from, .. } => behind_work(node, backs, part, from, next),
-    }
-}
-
-/// A state that is not written yet.
-fn fresh(nodes: &mut Vec<Node>) -> Result<u32, Memory>
-    requires few { length nodes.old.items < 4294967295 }
-    ensures state { IfOk result (λ state. state ≡ length nodes.old.items) }
-    ensures nodes { IfOk result (λ _. nodes.new.items ≡ nodes.old.items ++ Dead ∷ []) }
-{
-    let state = nodes.len() as u32;
-    nodes.push(Node::Dead)?;
-    Ok(state)
-}
-
-/// Does a step: the state of its task is written, and what is left becomes new tasks.
-fn do_step(
-    step: Step,
-    done: Task,
-    nodes: &mut Vec<Node>,
-    tasks: &mut Vec<Task>,
-) -> Result<(), Memory>
-    requires few { length nodes.old.items < 4294967290 }
-    requires at { done.at < length nodes.old.items }
-    ensures nodes { IfOk result (λ _. nodes.new.items ≡ states_after step done nodes.old.items) }
-    ensures tasks { IfOk result (λ _. tasks.new.items
-        ≡ tasks_after step done (length nodes.old.items) tasks.old.items) }
-{
-    let at = done.at;
-    let next = done.next;
-    match step {
-        Step::Refuse => {}
-        Step::Write { node } => nodes[at as usize] = node,
-        Step::Hand { work } => tasks.push(follow(done, work, at, next))?,
-        Step::Chain { first, second } => {
-            let middle = fresh(nodes)?;
-            tasks.push(follow(done, first, at, middle))?;
-            tasks.push(follow(done, second, middle, next))?;
-        }
-        Step::Loop { work } => {
-            let turn = fresh(nodes)?;
-            nodes[at as usize] = Node::Split {
-                first: turn,
-                second: next,
-            };
-            tasks.push(follow(done, work, turn, at))?;
-        }
-        Step::Fork { first, second } => {
-            let left = fresh(nodes)?;
-            let right = fresh(nodes)?;
-            nodes[at as usize] = Node::Split {
-                first: left,
-                second: right,
-            };
-            tasks.push(follow(done, first, left, next))?;
-            tasks.push(follow(done, second, right, next))?;
-        }
-        Step::Skip { first, second } => {
-            let turn = fresh(nodes)?;
-            let middle = fresh(nodes)?;
-            nodes[at as usize] = Node::Split {
-                first: turn,
-                second: next,
-            };
-            tasks.push(follow(done, first, turn, middle))?;
-            tasks.push(follow(done, second, middle, next))?;
-        }
-        Step::Keep { work } => {
-            let entry = fresh(nodes)?;
-            nodes[at as usize] = Node::Atomic { entry, next };
-            tasks.push(nest(done, work, entry))?;
-        }
-        Step::Assert { work, positive } => {
-            let entry = fresh(nodes)?;
-            let dead = fresh(nodes)?;
-            nodes[at as usize] = look_node(entry, positive, next, dead);
-            tasks.push(nest(done, work, entry))?;
-        }
-        Step::Choose {
-            work,
-            positive,
-            yes,
-            no,
-        } => choose(done, work, positive, yes, no, nodes, tasks)?,
-        Step::Seek { work, positive } => seek(done, work, positive, nodes, tasks)?,
-        Step::Decide {
-            work,
-            positive,
-            yes,
-            no,
-        } => decide(done, work, positive, yes, no, nodes, tasks)?,
-        Step::Reach { back, branch, rest } => {
-            let entry = fresh(nodes)?;
-            let miss = fresh(nodes)?;
-            nodes[at as usize] = Node::Look {
-                back: Some(back),
-                entry,
-                hit: next,
-                miss,
-            };
-            tasks.push(follow(done, rest, miss, next))?;
-            tasks.push(nest(done, branch, entry))?;
-        }
-    }
-    Ok(())
-}
-
-/// The step of a condition on a lookaround.
-fn choose(
-    done: Task,
-    work: Work,
-    positive: bool,
-    yes: Work,
-    no: Option<Work>,
-    nodes: &mut Vec<Node>,
-    tasks: &mut Vec<Task>,
-) -> Result<(), Memory>
-    requires few { length nodes.old.items < 4294967290 }
-    requires at { done.at < length nodes.old.items }
-    ensures nodes { IfOk result (λ _. nodes.new.items
-        ≡ states_after (Choose work positive yes no) done nodes.old.items) }
-    ensures tasks { IfOk result (λ _. tasks.new.items
-        ≡ tasks_after (Choose work positive yes no) done (length nodes.old.items)
-        tasks.old.items) }
-{
-    let entry = fresh(nodes)?;
-    let first = fresh(nodes)?;
-    match no {
-        Some(no) => {
-            let second = fresh(nodes)?;
-            nodes[done.at as usize] = look_node(entry, positive, first, second);
-            tasks.push(follow(done, yes, first, done.next))?;
-            tasks.push(follow(done, no, second, done.next))?;
-        }
-        None => {
-            nodes[done.at as usize] = look_node(entry, positive, first, done.next);
-            tasks.push(follow(done, yes, first, done.next))?;
-        }
-    }
-    tasks.push(nest(done, work, entry))?;
-    Ok(())
-}
-
-/// The step of a lookbehind.
-fn seek(
-    done: Task,
-    work: Work,
-    positive: bool,
-    nodes: &mut Vec<Node>,
-    tasks: &mut Vec<Task>,
-) -> Result<(), Memory>
-    requires few { length nodes.old.items < 4294967290 }
-    ensures nodes { IfOk result (λ _. nodes.new.items
-        ≡ states_after (Seek work positive) done nodes.old.items) }
-    ensures tasks { IfOk result (λ _. tasks.new.items
-        ≡ tasks_after (Seek work positive) done (length nodes.old.items) tasks.old.items) }
-{
-    let miss = fresh(nodes)?;
-    let hit = fresh(nodes)?;
-    nodes[so_at(positive, miss) as usize] = Node::Goto { next: done.next };
-    tasks.push(follow(done, work, done.at, hit))?;
-    Ok(())
-}
-
-/// The step of a condition on a lookbehind.
-fn decide(
-    done: Task,
-    work: Work,
-    positive: bool,
-    yes: Work,
-    no: Option<Work>,
-    nodes: &mut Vec<Node>,
-    tasks: &mut Vec<Task>,
-) -> Result<(), Memory>
-    requires few { length nodes.old.items < 4294967290 }
-    ensures nodes { IfOk result (λ _. nodes.new.items
-        ≡ states_after (Decide work positive yes no) done nodes.old.items) }
-    ensures tasks { IfOk result (λ _. tasks.new.items
-        ≡ tasks_after (Decide work positive yes no) done (length nodes.old.items)
-        tasks.old.items) }
-{
-    let miss = fresh(nodes)?;
-    let hit = fresh(nodes)?;
-    let second = else_at(positive, miss);
-    tasks.push(follow(done, yes, so_at(positive, miss), done.next))?;
-    match no {
-        Some(no) => tasks.push(follow(done, no, second, done.next))?,
-        None => nodes[second as usize] = Node::Goto { next: done.next },
-    }
-    tasks.push(follow(done, work, done.at, hit))?;
-    Ok(())
-}
-
-/// Where a lookbehind goes on if it is true, by whether an end is wanted: of its two ways, which
-/// stand side by side, the second is that of an end.
-fn so_at(wanted: bool, miss: u32) -> u32
-    requires { miss < 4294967295 }
-    ensures { result ≡ so_at wanted miss }
-{
-    if wanted { miss + 1 } else { miss }
-}
-
-/// Where it goes on else.
-fn else_at(wanted: bool, miss: u32) -> u32
-    requires { miss < 4294967295 }
-    ensures { result ≡ else_at wanted miss }
-{
-    if wanted { miss } else { miss + 1 }
-}
-
-/// The state of a lookaround that goes on in the first way where it is true, else in the second.
-fn look_node(entry: u32, positive: bool, yes: u32, no: u32) -> Node
-    ensures { result ≡ look_node entry positive yes no }
-{
-    if positive {
-        Node::Look {
-            back: None,
-            entry,
-            hit: yes,
-            miss: no,
-        }
-    } else {
-        Node::Look {
-            back: None,
-            entry,
-            hit: no,
-            miss: yes,
-        }
-    }
-}
-
-/// A task that a task leaves.
-fn follow(done: Task, work: Work, at: u32, next: u32) -> Task
-    ensures { result ≡ task_in done.depth work at next }
-{
-    Task {
-        work,
-        depth: done.depth,
-        at,
-        next,
-    }
-}
-
-/// A task that a task nests: its paths end at state 1.
-fn nest(done: Task, work: Work, entry: u32) -> Task
-    ensures { result ≡ task_in (done.depth - 1) work entry 1 }
-{
-    Task {
-        work,
-        depth: done.depth.saturating_sub(1),
-        at: entry,
-        next: 1,
     }
 }
 

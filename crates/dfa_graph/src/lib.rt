@@ -2,6 +2,7 @@
 #![tactic(auto)]
 
 mod build;
+mod forms;
 mod making;
 
 pub use build::MOST_NESTED;

@@ -79,12 +79,13 @@ use Rattle.dfa_paths.specs.Graph.{
   count_if,
 }
 use Rattle.dfa_paths.specs.Fragment.{Rising}
-use Rattle.dfa_lists.specs.Lists.{IsClosed, kept, Waits, is_stop, stops, stops_from}
+use Rattle.dfa_lists.specs.Lists.{IsClosed, kept, is_stop, stops, stops_from}
 use Rattle.dfa_paths.proofs.Places.{among_push}
+use Rattle.dfa_lists.proofs.Landing.{SomeHolds, Leads}
 
 -- something that waits accepts
 abbrev pub SomeWaits : Scene → List Node → Inner → ℕ → List Seed → Type 0
-SomeWaits g nodes B end ss = (q : ℕ) × (j : ℕ) × Waits q j ss × Accepts g nodes B end q j
+SomeWaits g nodes B end = SomeHolds (Accepts g nodes B end)
 
 -- nested paths end where a search can stand, at their place or later
 abbrev pub EndsStand : Scene → Inner → Type 0
@@ -187,25 +188,19 @@ followed_by g B i Match a h = h
 
 -- Paths at one place.
 module _ (g : Scene) (nodes : List Node) (B : Inner) (end : ℕ) where
-  -- a leaf takes something, after which the rest accepts
-  unfoldable pub Leaving : ℕ → List ℕ → Type 0
-  Leaving i leaves =
-      (q : ℕ) × (n : Node) × (j : ℕ) × Among q leaves × (slice_get nodes q ≡ Some n) ×
-      (lands g n i ≡ Some j)
-      × Accepts g nodes B end (target n) j
-
   -- a path that goes through a state of this place: it ends there, a leaf takes something, or it
   -- leaps
   abbrev pub Gone : ℕ → List ℕ → List Seed → Bool → Type 0
   Gone i leaves leaps hit =
-      ((hit ≡ true) × (i ≡ end)) ⊎ (Leaving i leaves ⊎ SomeWaits g nodes B end leaps)
+      ((hit ≡ true) × (i ≡ end))
+      ⊎ (Leads g nodes i (Accepts g nodes B end) leaves ⊎ SomeWaits g nodes B end leaps)
 
   module _ (i : ℕ) (start leaves : List ℕ) (leaps : List Seed) (hit : Bool)
       (on_from : (entry k : ℕ) → B entry i k → i ≤ k)
       (h : IsClosed g nodes B i start leaves leaps hit) where
     pub leave : (q j : ℕ) → Accepts g nodes B end q j → j ≡ i → Comes g nodes B i start q →
         Gone i leaves leaps hit
-    unfolding Leaving
+    unfolding Leads
     leave _ _ (matched q j e same) here_is c =
         inl (h.comes_hit q c (Match, e, refl), sym here_is ∙ same)
     leave _ _ (moved q j a n e m t) here_is c =

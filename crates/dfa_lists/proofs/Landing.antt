@@ -143,6 +143,10 @@ with_cases None q ss p k h = inl h
 with_cases (Some j) q ss p k h =
     elim (waits_push p k q j ss h) [ inl a ↦ inl a | inr b ↦ inr (b.0, ap Some (sym b.1)) ]
 
+-- a state waits of which something holds
+abbrev pub SomeHolds : (ℕ → ℕ → Type 0) → List Seed → Type 0
+SomeHolds P ss = (q : ℕ) × (j : ℕ) × Waits q j ss × P q j
+
 -- no leaf takes anything
 pub landed_none : (g : Scene) (nodes : List Node) (i : ℕ) (ss : List Seed) →
     landed g nodes i [] ss ≡ ss
@@ -173,6 +177,41 @@ module _ (g : Scene) (nodes : List Node) (i : ℕ) where
             (ap (λ m. lands g m i) is ∙ l)))
         | inr b ↦ landed_new qs _ q j n b e l
       ]
+
+  -- a leaf takes something, after which it holds
+  unfoldable pub Leads : (ℕ → ℕ → Type 0) → List ℕ → Type 0
+  Leads P qs =
+      (q : ℕ) × (n : Node) × (j : ℕ) × Among q qs × (slice_get nodes q ≡ Some n) ×
+      (lands g n i ≡ Some j) × P (target n) j
+
+  -- so it holds of something that waits later
+  pub holds_later : (P : ℕ → ℕ → Type 0) (qs : List ℕ) (others leaps : List Seed) →
+      Leads P qs ⊎ SomeHolds P leaps → SomeHolds P (landed g nodes i qs (others ++ leaps))
+  unfolding Leads
+  holds_later P qs others leaps h =
+      elim h [
+        | inl e ↦ (
+          target e.1,
+          e.2,
+          landed_new qs (others ++ leaps) e.0 e.2 e.1 e.3 e.4 e.5,
+          e.6,
+        )
+        | inr e ↦ (
+          e.0,
+          e.1,
+          landed_old qs (others ++ leaps) e.0 e.1 (waits_second e.0 e.1 others leaps e.2),
+          e.3,
+        )
+      ]
+
+  pub holds_still : (P : ℕ → ℕ → Type 0) (qs : List ℕ) (others leaps : List Seed) →
+      SomeHolds P others → SomeHolds P (landed g nodes i qs (others ++ leaps))
+  holds_still P qs others leaps e = (
+    e.0,
+    e.1,
+    landed_old qs (others ++ leaps) e.0 e.1 (waits_first e.0 e.1 others leaps e.2),
+    e.3,
+  )
 
   -- it waited before, or a leaf took what leads to it
   unfoldable pub Landing : List ℕ → ℕ → ℕ → Type 0

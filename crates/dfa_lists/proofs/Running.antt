@@ -36,7 +36,6 @@ use Rattle.dfa_ends.specs.Ends.{Among}
 use Rattle.dfa_paths.specs.declared.graph.Node.{Node}
 use Rattle.dfa_lists.specs.declared.lists.Seed.{Seed}
 use Rattle.dfa_paths.specs.Graph.{
-  target,
   Inner,
   IsFurthest,
   Accepts,
@@ -66,15 +65,13 @@ use Rattle.dfa_paths.proofs.Places.{among_at, get_in}
 use Rattle.dfa_lists.proofs.Kept.{kept_old, kept_new, kept_cases}
 use Rattle.dfa_lists.proofs.Landing.{
   landed_none,
-  landed_old,
-  landed_new,
+  holds_later,
+  holds_still,
   Landing,
   landed_cases,
   parted,
   waits_here,
   waits_elsewhere,
-  waits_first,
-  waits_second,
   waits_append,
 }
 use Rattle.dfa_lists.proofs.Following.{
@@ -84,7 +81,6 @@ use Rattle.dfa_lists.proofs.Following.{
   match_is,
   lands_past,
   target_in,
-  Leaving,
   Gone,
   leave,
   leap_before,
@@ -234,25 +230,12 @@ module _ (g : Scene) (nodes : List Node) (B : Inner) (classes entry place at : �
 
   gone_full : (end : ℕ) → Gone g nodes B end at leaves leaps hit →
       Among end (kept hit at found) ⊎ SomeWaits g nodes B end Later
-  unfolding Later Leaving
+  unfolding Later
   gone_full end gone =
       elim gone [
         | inl e ↦ inl (subst (λ k. Among k (kept hit at found)) e.1 (kept_new hit at found e.0))
-        | inr r ↦ elim r [
-          | inl e ↦ inr (
-            target e.1,
-            e.2,
-            landed_new g nodes at leaves (elsewhere at pending ++ leaps) e.0 e.2 e.1 e.3 e.4 e.5,
-            e.6,
-          )
-          | inr e ↦ inr (
-            e.0,
-            e.1,
-            landed_old g nodes at leaves (elsewhere at pending ++ leaps) e.0 e.1
-                (waits_second e.0 e.1 (elsewhere at pending) leaps e.2),
-            e.3,
-          )
-        ]
+        | inr r ↦ inr
+            (holds_later g nodes at (Accepts g nodes B end) leaves (elsewhere at pending) leaps r)
       ]
 
   later_full : (end : ℕ) → Accepts g nodes B end entry place →
@@ -267,13 +250,9 @@ module _ (g : Scene) (nodes : List Node) (B : Inner) (classes entry place at : �
               gone_full end
               (leave g nodes B end at (waiting_at at pending) leaves leaps hit
               (inner_on (subst (Stands g) d.0 s)) c b.0 b.1 b.3 d.0 (here b.0 d.1))
-          | inr d ↦ inr (
-            b.0,
-            b.1,
-            landed_old g nodes at leaves (elsewhere at pending ++ leaps) b.0 b.1
-                (waits_first b.0 b.1 (elsewhere at pending) leaps d.1),
-            b.3,
-          )
+          | inr d ↦ inr
+              (holds_still g nodes at (Accepts g nodes B end) leaves (elsewhere at pending) leaps
+              (b.0, b.1, d.1, b.3))
         ]
       ]
 

@@ -53,7 +53,7 @@ use Rattle.dfa_paths.specs.declared.graph.Node.TheVariants.{
 }
 use Rattle.dfa_lists.specs.declared.lists.Seed.{Seed}
 use Rattle.dfa_lists.specs.declared.lists.Branch.{Branch}
-use Rattle.dfa_paths.specs.Graph.{nests, lands, target, Inner, Furthest, IsEndBehind, Follows, Leaps, Comes, here, on, IsGraph, IsFlat}
+use Rattle.dfa_paths.specs.Graph.{nests, lands, Inner, Furthest, IsEndBehind, Follows, Leaps, Comes, here, on, IsGraph, IsFlat}
 use Rattle.dfa_paths.specs.Meets.{
   tells,
   Meeting,
@@ -84,13 +84,13 @@ use Rattle.dfa_lists.specs.Lists.{
 use Rattle.dfa_paths.proofs.Probes.{at_branch, no_branch}
 use Rattle.dfa_paths.proofs.Places.{among_last}
 use Rattle.dfa_lists.proofs.Landing.{
-  landed_old,
-  landed_new,
+  SomeHolds,
+  Leads,
+  holds_later,
+  holds_still,
   Landing,
   parted,
   waits_here,
-  waits_first,
-  waits_second,
 }
 use Rattle.dfa_lists.proofs.Closing.{
   Marked,
@@ -232,23 +232,17 @@ module _ (g : Scene) (nodes : List Node) (counts : Bool) (B : Inner) (M : Meetin
 
   -- something that waits meets the end
   abbrev pub SomeMeets : List Seed → Type 0
-  SomeMeets ss = (q : ℕ) × (j : ℕ) × Waits q j ss × Meets g nodes counts B M q j
-
-  -- a leaf takes something, after which the rest meets the end
-  Leaving : ℕ → List ℕ → Type 0
-  Leaving i leaves =
-      (q : ℕ) × (n : Node) × (j : ℕ) × Among q leaves × (slice_get nodes q ≡ Some n) ×
-      (lands g n i ≡ Some j) × On (target n) j
+  SomeMeets = SomeHolds On
 
   abbrev Gone : ℕ → List ℕ → List ℕ → List Seed → Type 0
   Gone i start leaves leaps =
-      SomeTells g nodes counts B M i start ⊎ (Leaving i leaves ⊎ SomeMeets leaps)
+      SomeTells g nodes counts B M i start ⊎ (Leads g nodes i On leaves ⊎ SomeMeets leaps)
 
   module _ (i : ℕ) (start leaves : List ℕ) (leaps : List Seed) (hit : Bool)
       (on_from : (entry k : ℕ) → B entry i k → i ≤ k)
       (h : IsClosed g nodes B i start leaves leaps hit) where
     leave : (q j : ℕ) → On q j → j ≡ i → Comes g nodes B i start q → Gone i start leaves leaps
-    unfolding Leaving
+    unfolding Leads
     leave _ _ (met q j n e y) here_is c =
         inl (q, n, c, e, subst (Telling g nodes counts B M n) here_is y)
     leave _ _ (followed q j a n e f t) here_is c =
@@ -316,25 +310,10 @@ module _ (g : Scene) (nodes : List Node) (counts : Bool) (B : Inner) (M : Meetin
 
   gone_full : Gone g nodes counts B M at (waiting_at at pending) leaves leaps →
       (told' ≡ true) ⊎ SomeMeets g nodes counts B M Later
-  unfolding Leaving
   gone_full gone =
       elim gone [
         | inl e ↦ inl (y.raised e)
-        | inr r ↦ elim r [
-          | inl e ↦ inr (
-            target e.1,
-            e.2,
-            landed_new g nodes at leaves (elsewhere at pending ++ leaps) e.0 e.2 e.1 e.3 e.4 e.5,
-            e.6,
-          )
-          | inr e ↦ inr (
-            e.0,
-            e.1,
-            landed_old g nodes at leaves (elsewhere at pending ++ leaps) e.0 e.1
-                (waits_second e.0 e.1 (elsewhere at pending) leaps e.2),
-            e.3,
-          )
-        ]
+        | inr r ↦ inr (holds_later g nodes at Here leaves (elsewhere at pending) leaps r)
       ]
 
   later_full : Here entry place → (told' ≡ true) ⊎ SomeMeets g nodes counts B M Later
@@ -347,13 +326,9 @@ module _ (g : Scene) (nodes : List Node) (counts : Bool) (B : Inner) (M : Meetin
               gone_full
               (leave g nodes counts B M at (waiting_at at pending) leaves leaps hit
               (inner_on (subst (Stands g) d.0 s)) c b.0 b.1 b.3 d.0 (here b.0 d.1))
-          | inr d ↦ inr (
-            b.0,
-            b.1,
-            landed_old g nodes at leaves (elsewhere at pending ++ leaps) b.0 b.1
-                (waits_first b.0 b.1 (elsewhere at pending) leaps d.1),
-            b.3,
-          )
+          | inr d ↦ inr
+              (holds_still g nodes at Here leaves (elsewhere at pending) leaps
+              (b.0, b.1, d.1, b.3))
         ]
       ]
 

@@ -4,9 +4,10 @@ ghost use Rattle.std.specs.Prelude.{◌≡◌, ℕ, suc, ◌+◌, ◌*◌, ◌<�
 ghost use Rattle.match_items.specs.Subjects.{IsText, IsTextPlace};
 ghost use Rattle.match_items.specs.Views.{bare_text, text_scene};
 ghost use Rattle.dfa_ends.specs.Ends.{Among};
-ghost use Rattle.dfa_paths.specs.Graph.{takes, is_match, nests, moves, lands, target, takers, Deep, AllBelow, IsNodeIn, IsGraph, IsFlat, IsFurthest, IsEndBehind};
-ghost use Rattle.dfa_paths.specs.Meets.{tells, Probes, Asks, Telling, DeepMeets, MeetsBehind, SomeTells, IsTold};
+ghost use Rattle.dfa_paths.specs.Graph.{takes, is_match, nests, moves, lands, target, takers, AllBelow, IsNodeIn, IsFlat, IsFurthest, IsEndBehind};
+ghost use Rattle.dfa_paths.specs.Meets.{tells, Probes, Asks, Telling, MeetsBehind, SomeTells, IsTold};
 ghost use Rattle.dfa_paths.specs.Fragment.{Rising};
+ghost use Rattle.dfa_lists.specs.Searches.{scene_of, PathsOf, MeetsOf, IsSearch, IsPlaceOf};
 ghost use Rattle.dfa_lists.specs.Lists.{IsClosed, IsTakenAt, IsVisited, way_of, gone_here, gone_later, kept, waiting_at, elsewhere, landed, stops_from, branch_in};
 
 use crate::reaching::{break_reaches, item_reaches, looks_back, tell};
@@ -37,46 +38,41 @@ pub(crate) struct Seed {
     pub(crate) state: u32,
 }
 
+/// What a search for all ends goes over.
+#[derive(Clone, Copy)]
+pub(crate) struct Search<'a> {
+    pub alloc: Global,
+    /// The states of the graph.
+    pub nodes: &'a [Node],
+    /// The classes of the graph's tree.
+    pub classes: &'a ClassTable,
+    pub view: &'a View<'a>,
+    /// Whether each test that reaches the subject's end counts.
+    pub counts: bool,
+}
+
 /// The furthest place where nested paths from a state and a place end, if they do.
 #[cycle(ends)]
 fn furthest<L: Ledger>(
-    alloc: Global,
-    nodes: &[Node],
+    search: &Search<'_>,
     depth: u32,
     entry: u32,
-    counts: bool,
-    classes: &ClassTable,
-    view: &View<'_>,
     place: usize,
     told: &mut bool,
     pool: &mut Lists,
     steps: &mut Steps<L>,
 ) -> Result<Option<usize>, Memory>
-    requires subject { IsText view.now.options.now view.now.subject.now }
-    requires place { IsTextPlace view.now.options.now view.now.subject.now place }
-    requires few { length nodes.now ≤ 1048576 }
-    requires graph { IsGraph (length classes.now) nodes.now }
-    requires entry { entry < length nodes.now }
-    ensures furthest { IfOk result (IsFurthest
-        (Deep (text_scene view.now classes.now) nodes.now depth) entry place) }
-    ensures told { IfOk result (λ _. IsTold (DeepMeets (text_scene view.now classes.now) nodes.now
-        counts depth entry place) told.old told.new) }
+    requires search { IsSearch search.now }
+    requires place { IsPlaceOf search.now place }
+    requires entry { entry < length search.now.nodes.now }
+    ensures furthest { IfOk result (IsFurthest (PathsOf search.now depth) entry place) }
+    ensures told { IfOk result (λ _. IsTold (MeetsOf search.now depth entry place)
+        told.old told.new) }
 {
     if depth == 0 {
         return Ok(None);
     }
-    let set = ends_of(
-        alloc,
-        nodes,
-        depth - 1,
-        entry,
-        counts,
-        classes,
-        view,
-        place,
-        pool,
-        steps,
-    )?;
+    let set = ends_of(search, depth - 1, entry, place, pool, steps)?;
     tell(told, set.hit_end);
     match set.ends.len() {
         0 => Ok(None),
@@ -87,36 +83,27 @@ fn furthest<L: Ledger>(
 /// An end of nested paths that begin so many characters before a place, if they have one.
 #[cycle(ends)]
 fn end_behind<L: Ledger>(
-    alloc: Global,
-    nodes: &[Node],
+    search: &Search<'_>,
     depth: u32,
     back: u32,
     entry: u32,
-    counts: bool,
-    classes: &ClassTable,
-    view: &View<'_>,
     at: usize,
     told: &mut bool,
     pool: &mut Lists,
     steps: &mut Steps<L>,
 ) -> Result<Option<usize>, Memory>
-    requires subject { IsText view.now.options.now view.now.subject.now }
-    requires place { IsTextPlace view.now.options.now view.now.subject.now at }
-    requires few { length nodes.now ≤ 1048576 }
-    requires graph { IsGraph (length classes.now) nodes.now }
-    requires entry { entry < length nodes.now }
-    ensures behind { IfOk result (IsEndBehind (text_scene view.now classes.now)
-        (Deep (text_scene view.now classes.now) nodes.now depth) (Some back) entry at) }
-    ensures told { IfOk result (λ _. IsTold (MeetsBehind (text_scene view.now classes.now)
-        (DeepMeets (text_scene view.now classes.now) nodes.now counts depth) back entry at)
-        told.old told.new) }
+    requires search { IsSearch search.now }
+    requires place { IsPlaceOf search.now at }
+    requires entry { entry < length search.now.nodes.now }
+    ensures behind { IfOk result (IsEndBehind (scene_of search.now)
+        (PathsOf search.now depth) (Some back) entry at) }
+    ensures told { IfOk result (λ _. IsTold (MeetsBehind (scene_of search.now)
+        (MeetsOf search.now depth) back entry at) told.old told.new) }
 {
-    let Some(place) = text_back(view, at, back) else {
+    let Some(place) = text_back(search.view, at, back) else {
         return Ok(None);
     };
-    furthest(
-        alloc, nodes, depth, entry, counts, classes, view, place, told, pool, steps,
-    )
+    furthest(search, depth, entry, place, told, pool, steps)
 }
 
 /// A branch of a lookbehind.
@@ -146,38 +133,27 @@ fn branch_of(node: Node) -> Option<Branch>
 /// branches rise: whether one reaches the subject's end.
 #[cycle(ends)]
 fn probe<L: Ledger>(
-    alloc: Global,
-    nodes: &[Node],
+    search: &Search<'_>,
     depth: u32,
     branch: u32,
-    counts: bool,
-    classes: &ClassTable,
-    view: &View<'_>,
     at: usize,
     told: &mut bool,
     pool: &mut Lists,
     steps: &mut Steps<L>,
 ) -> Result<(), Memory>
-    requires subject { IsText view.now.options.now view.now.subject.now }
-    requires place { IsTextPlace view.now.options.now view.now.subject.now at }
-    requires few { length nodes.now ≤ 1048576 }
-    requires graph { IsGraph (length classes.now) nodes.now }
-    requires branch { branch < length nodes.now }
-    ensures { IfOk result (λ _. IsTold (Probes (text_scene view.now classes.now) nodes.now counts
-        (DeepMeets (text_scene view.now classes.now) nodes.now counts depth) at branch)
-        told.old told.new) }
+    requires search { IsSearch search.now }
+    requires place { IsPlaceOf search.now at }
+    requires branch { branch < length search.now.nodes.now }
+    ensures { IfOk result (λ _. IsTold (Probes (scene_of search.now) search.now.nodes.now
+        search.now.counts (MeetsOf search.now depth) at branch) told.old told.new) }
 {
     let mut state = branch;
-    'branches: while let Some(tried) = branch_of(nodes[state as usize]) {
+    'branches: while let Some(tried) = branch_of(search.nodes[state as usize]) {
         end_behind(
-            alloc,
-            nodes,
+            search,
             depth,
             tried.back,
             tried.entry,
-            counts,
-            classes,
-            view,
             at,
             told,
             pool,
@@ -196,45 +172,32 @@ fn probe<L: Ledger>(
 /// end.
 #[cycle(ends)]
 fn ask<L: Ledger>(
-    alloc: Global,
-    nodes: &[Node],
+    search: &Search<'_>,
     depth: u32,
     back: Option<u32>,
     entry: u32,
     miss: u32,
-    counts: bool,
-    classes: &ClassTable,
-    view: &View<'_>,
     at: usize,
     told: &mut bool,
     pool: &mut Lists,
     steps: &mut Steps<L>,
 ) -> Result<Option<usize>, Memory>
-    requires subject { IsText view.now.options.now view.now.subject.now }
-    requires place { IsTextPlace view.now.options.now view.now.subject.now at }
-    requires few { length nodes.now ≤ 1048576 }
-    requires graph { IsGraph (length classes.now) nodes.now }
-    requires entry { entry < length nodes.now }
-    requires miss { miss < length nodes.now }
-    ensures behind { IfOk result (IsEndBehind (text_scene view.now classes.now)
-        (Deep (text_scene view.now classes.now) nodes.now depth) back entry at) }
-    ensures told { IfOk result (λ _. IsTold (Asks (text_scene view.now classes.now) nodes.now counts
-        (Deep (text_scene view.now classes.now) nodes.now depth)
-        (DeepMeets (text_scene view.now classes.now) nodes.now counts depth) back entry miss at)
+    requires search { IsSearch search.now }
+    requires place { IsPlaceOf search.now at }
+    requires entry { entry < length search.now.nodes.now }
+    requires miss { miss < length search.now.nodes.now }
+    ensures behind { IfOk result (IsEndBehind (scene_of search.now)
+        (PathsOf search.now depth) back entry at) }
+    ensures told { IfOk result (λ _. IsTold (Asks (scene_of search.now) search.now.nodes.now
+        search.now.counts (PathsOf search.now depth) (MeetsOf search.now depth) back entry miss at)
         told.old told.new) }
 {
     let Some(back) = back else {
-        return furthest(
-            alloc, nodes, depth, entry, counts, classes, view, at, told, pool, steps,
-        );
+        return furthest(search, depth, entry, at, told, pool, steps);
     };
-    let some = end_behind(
-        alloc, nodes, depth, back, entry, counts, classes, view, at, told, pool, steps,
-    )?;
+    let some = end_behind(search, depth, back, entry, at, told, pool, steps)?;
     if let Some(_) = some {
-        probe(
-            alloc, nodes, depth, miss, counts, classes, view, at, told, pool, steps,
-        )?;
+        probe(search, depth, miss, at, told, pool, steps)?;
     }
     Ok(some)
 }
@@ -273,12 +236,8 @@ fn go_on(
 /// a path.
 #[cycle(ends)]
 fn visit<L: Ledger>(
-    alloc: Global,
-    nodes: &[Node],
+    search: &Search<'_>,
     depth: u32,
-    counts: bool,
-    classes: &ClassTable,
-    view: &View<'_>,
     node: Node,
     state: u32,
     at: usize,
@@ -286,21 +245,18 @@ fn visit<L: Ledger>(
     pool: &mut Lists,
     steps: &mut Steps<L>,
 ) -> Result<bool, Memory>
-    requires subject { IsText view.now.options.now view.now.subject.now }
-    requires place { IsTextPlace view.now.options.now view.now.subject.now at }
-    requires few { length nodes.now ≤ 1048576 }
-    requires graph { IsGraph (length classes.now) nodes.now }
-    requires node { IsNodeIn (length nodes.now) (length classes.now) node }
-    ensures visited { IfOk result (λ _. IsVisited (text_scene view.now classes.now)
-        (Deep (text_scene view.now classes.now) nodes.now depth) node at lists.old.seeds.items
-        lists.new.seeds.items lists.old.later.items lists.new.later.items) }
+    requires search { IsSearch search.now }
+    requires place { IsPlaceOf search.now at }
+    requires node { IsNodeIn (length search.now.nodes.now) (length search.now.classes.now) node }
+    ensures visited { IfOk result (λ _. IsVisited (scene_of search.now)
+        (PathsOf search.now depth) node at lists.old.seeds.items lists.new.seeds.items
+        lists.old.later.items lists.new.later.items) }
     ensures leaves { IfOk result (λ _. lists.new.leaves.items
         ≡ kept (takes node) state lists.old.leaves.items) }
     ensures marks { IfOk result (λ _. lists.new.marks.items ≡ lists.old.marks.items) }
     ensures hit { IfOk result (λ hit. hit ≡ is_match node) }
-    ensures told { IfOk result (λ _. IsTold (Telling (text_scene view.now classes.now) nodes.now
-        counts (Deep (text_scene view.now classes.now) nodes.now depth)
-        (DeepMeets (text_scene view.now classes.now) nodes.now counts depth) node at)
+    ensures told { IfOk result (λ _. IsTold (Telling (scene_of search.now) search.now.nodes.now
+        search.now.counts (PathsOf search.now depth) (MeetsOf search.now depth) node at)
         lists.old.told lists.new.told) }
     ensures tests { IfOk result (λ _. nests node ≡ false → steps.new ≡ steps.old) }
 {
@@ -312,10 +268,7 @@ fn visit<L: Ledger>(
             miss,
         } => {
             let told = &mut lists.told;
-            let some = ask(
-                alloc, nodes, depth, back, entry, miss, counts, classes, view, at, told, pool,
-                steps,
-            )?;
+            let some = ask(search, depth, back, entry, miss, at, told, pool, steps)?;
             lists.seeds.push(way(some, hit, miss))?;
             Ok(false)
         }
@@ -323,13 +276,11 @@ fn visit<L: Ledger>(
             // so nested paths end at a place
             places_stand();
             let told = &mut lists.told;
-            let far = furthest(
-                alloc, nodes, depth, entry, counts, classes, view, at, told, pool, steps,
-            )?;
+            let far = furthest(search, depth, entry, at, told, pool, steps)?;
             go_on(&mut lists.seeds, &mut lists.later, at, far, next)?;
             Ok(false)
         }
-        _ => visit_plain(view, counts, node, state, at, lists),
+        _ => visit_plain(search.view, search.counts, node, state, at, lists),
     }
 }
 
@@ -386,44 +337,35 @@ fn visit_plain(
 /// take something. Answers whether the end of a path was met.
 #[cycle(ends)]
 fn close<L: Ledger>(
-    alloc: Global,
-    nodes: &[Node],
+    search: &Search<'_>,
     depth: u32,
-    counts: bool,
-    classes: &ClassTable,
-    view: &View<'_>,
     at: usize,
     lists: &mut StateLists,
     pool: &mut Lists,
     steps: &mut Steps<L>,
 ) -> Result<bool, Memory>
-    requires subject { IsText view.now.options.now view.now.subject.now }
-    requires place { IsTextPlace view.now.options.now view.now.subject.now at }
-    requires few { length nodes.now ≤ 1048576 }
-    requires graph { IsGraph (length classes.now) nodes.now }
-    requires seeds { AllBelow (length nodes.now) lists.old.seeds.items }
-    requires marks { lists.old.marks.items ≡ replicate (length nodes.now) false }
+    requires search { IsSearch search.now }
+    requires place { IsPlaceOf search.now at }
+    requires seeds { AllBelow (length search.now.nodes.now) lists.old.seeds.items }
+    requires marks { lists.old.marks.items ≡ replicate (length search.now.nodes.now) false }
     requires leaves { lists.old.leaves.items ≡ [] }
     ensures closed { IfOk result (λ hit. (leaps : List Seed)
         × (lists.new.later.items ≡ lists.old.later.items ++ leaps)
-        × IsClosed (text_scene view.now classes.now) nodes.now
-        (Deep (text_scene view.now classes.now) nodes.now depth) at lists.old.seeds.items
-        lists.new.leaves.items leaps hit) }
-    ensures told { IfOk result (λ _. IsTold (SomeTells (text_scene view.now classes.now) nodes.now
-        counts (Deep (text_scene view.now classes.now) nodes.now depth)
-        (DeepMeets (text_scene view.now classes.now) nodes.now counts depth) at
+        × IsClosed (scene_of search.now) search.now.nodes.now (PathsOf search.now depth) at
+        lists.old.seeds.items lists.new.leaves.items leaps hit) }
+    ensures told { IfOk result (λ _. IsTold (SomeTells (scene_of search.now) search.now.nodes.now
+        search.now.counts (PathsOf search.now depth) (MeetsOf search.now depth) at
         lists.old.seeds.items) lists.old.told lists.new.told) }
-    ensures tests { IfOk result (λ _. IsFlat nodes.now → steps.new ≡ steps.old) }
+    ensures tests { IfOk result (λ _. IsFlat search.now.nodes.now → steps.new ≡ steps.old) }
 {
     let mut hit = false;
     'seeds: while let Some(state) = lists.seeds.pop() {
         let q = state as usize;
         if !lists.marks[q] {
             lists.marks[q] = true;
-            let is_end = visit(
-                alloc, nodes, depth, counts, classes, view, nodes[q], state, at, lists, pool, steps,
-            )?;
-            hit = hit || is_end;
+            let node = search.nodes[q];
+            let is_end = visit(search, depth, node, state, at, lists, pool, steps)?;
+            tell(&mut hit, is_end);
         }
     }
     Ok(hit)
@@ -491,27 +433,23 @@ fn target_of(node: Node) -> u32
 
 /// Takes what stands at a place from each leaf on. Each leaf makes one test at most.
 fn advance<L: Ledger>(
-    view: &View<'_>,
-    classes: &ClassTable,
-    nodes: &[Node],
+    search: &Search<'_>,
     leaves: &[u32],
     at: usize,
     later: &mut Vec<Seed>,
     steps: &mut Steps<L>,
 ) -> Result<(), Memory>
-    requires subject { IsText view.now.options.now view.now.subject.now }
-    requires place { IsTextPlace view.now.options.now view.now.subject.now at }
-    requires few { length nodes.now ≤ 1048576 }
-    requires graph { IsGraph (length classes.now) nodes.now }
-    requires leaves { AllBelow (length nodes.now) leaves.now }
-    ensures later { IfOk result (λ _. later.new.items ≡ landed (text_scene view.now classes.now)
-        nodes.now at leaves.now later.old.items) }
+    requires search { IsSearch search.now }
+    requires place { IsPlaceOf search.now at }
+    requires leaves { AllBelow (length search.now.nodes.now) leaves.now }
+    ensures later { IfOk result (λ _. later.new.items ≡ landed (scene_of search.now)
+        search.now.nodes.now at leaves.now later.old.items) }
     ensures tests { steps.new ≤ steps.old + length leaves.now }
 {
     let mut k = 0;
     'leaves: while k < leaves.len() {
-        let node = nodes[leaves[k] as usize];
-        if let Some(to) = land(view, classes, node, at, steps) {
+        let node = search.nodes[leaves[k] as usize];
+        if let Some(to) = land(search.view, search.classes, node, at, steps) {
             later.push(Seed {
                 at: to,
                 state: target_of(node),
@@ -608,47 +546,29 @@ fn mark_none(marks: &mut Vec<bool>, states: usize) -> Result<(), Memory>
 /// end of a path is among them.
 #[cycle(ends)]
 fn take_place<L: Ledger>(
-    alloc: Global,
-    nodes: &[Node],
+    search: &Search<'_>,
     depth: u32,
-    counts: bool,
-    classes: &ClassTable,
-    view: &View<'_>,
     at: usize,
     lists: &mut StateLists,
     found: &mut EndList,
     pool: &mut Lists,
     steps: &mut Steps<L>,
 ) -> Result<(), Memory>
-    requires subject { IsText view.now.options.now view.now.subject.now }
-    requires place { IsTextPlace view.now.options.now view.now.subject.now at }
-    requires few { length nodes.now ≤ 1048576 }
-    requires graph { IsGraph (length classes.now) nodes.now }
-    requires seeds { AllBelow (length nodes.now) lists.old.seeds.items }
-    ensures taken { IfOk result (λ _. IsTakenAt (text_scene view.now classes.now) nodes.now
-        (Deep (text_scene view.now classes.now) nodes.now depth) at
-        lists.old.seeds.items lists.old.later.items lists.new.later.items found.old found.new
-        steps.old steps.new) }
-    ensures told { IfOk result (λ _. IsTold (SomeTells (text_scene view.now classes.now) nodes.now
-        counts (Deep (text_scene view.now classes.now) nodes.now depth)
-        (DeepMeets (text_scene view.now classes.now) nodes.now counts depth) at
+    requires search { IsSearch search.now }
+    requires place { IsPlaceOf search.now at }
+    requires seeds { AllBelow (length search.now.nodes.now) lists.old.seeds.items }
+    ensures taken { IfOk result (λ _. IsTakenAt (scene_of search.now) search.now.nodes.now
+        (PathsOf search.now depth) at lists.old.seeds.items lists.old.later.items
+        lists.new.later.items found.old found.new steps.old steps.new) }
+    ensures told { IfOk result (λ _. IsTold (SomeTells (scene_of search.now) search.now.nodes.now
+        search.now.counts (PathsOf search.now depth) (MeetsOf search.now depth) at
         lists.old.seeds.items) lists.old.told lists.new.told) }
 {
-    mark_none(&mut lists.marks, nodes.len())?;
+    mark_none(&mut lists.marks, search.nodes.len())?;
     lists.leaves.clear();
-    let hit = close(
-        alloc, nodes, depth, counts, classes, view, at, lists, pool, steps,
-    )?;
+    let hit = close(search, depth, at, lists, pool, steps)?;
     note(found, at, hit)?;
-    advance(
-        view,
-        classes,
-        nodes,
-        &lists.leaves,
-        at,
-        &mut lists.later,
-        steps,
-    )?;
+    advance(search, &lists.leaves, at, &mut lists.later, steps)?;
     Ok(())
 }
 
@@ -680,47 +600,39 @@ fn part_lists(lists: &mut StateLists, at: usize) -> Result<(), Memory>
 /// something, and so does the subject's end.
 #[cycle(ends)]
 pub(crate) fn ends_of<L: Ledger>(
-    alloc: Global,
-    nodes: &[Node],
+    search: &Search<'_>,
     depth: u32,
     entry: u32,
-    counts: bool,
-    classes: &ClassTable,
-    view: &View<'_>,
     place: usize,
     pool: &mut Lists,
     steps: &mut Steps<L>,
 ) -> Result<EndSet, Memory>
-    requires subject { IsText view.now.options.now view.now.subject.now }
-    requires place { IsTextPlace view.now.options.now view.now.subject.now place }
-    requires few { length nodes.now ≤ 1048576 }
-    requires graph { IsGraph (length classes.now) nodes.now }
-    requires entry { entry < length nodes.now }
+    requires search { IsSearch search.now }
+    requires place { IsPlaceOf search.now place }
+    requires entry { entry < length search.now.nodes.now }
     ensures sound { IfOk result (λ set. (end : ℕ) → Among end set.ends
-        → Deep (text_scene view.now classes.now) nodes.now (suc depth) entry place end) }
+        → PathsOf search.now (suc depth) entry place end) }
     ensures full { IfOk result (λ set. (end : ℕ)
-        → Deep (text_scene view.now classes.now) nodes.now (suc depth) entry place end
-        → Among end set.ends) }
+        → PathsOf search.now (suc depth) entry place end → Among end set.ends) }
     ensures rising { IfOk result (λ set. Rising set.ends) }
     ensures hit { IfOk result (λ set. set.hit_end ≡ true
-        → DeepMeets (text_scene view.now classes.now) nodes.now counts (suc depth) entry place) }
-    ensures all_hit { IfOk result (λ set. DeepMeets (text_scene view.now classes.now) nodes.now
-        counts (suc depth) entry place → set.hit_end ≡ true) }
-    ensures tests { IfOk result (λ _. IsFlat nodes.now → steps.new ≤ steps.old
-        + takers nodes.now * stops_from view.now.options.now.utf view.now.subject.now place) }
+        → MeetsOf search.now (suc depth) entry place) }
+    ensures all_hit { IfOk result (λ set. MeetsOf search.now (suc depth) entry place
+        → set.hit_end ≡ true) }
+    ensures tests { IfOk result (λ _. IsFlat search.now.nodes.now
+        → steps.new ≤ steps.old + takers search.now.nodes.now
+        * stops_from search.now.view.now.options.now.utf search.now.view.now.subject.now place) }
 {
     // so what a state takes ends at a place
     places_stand();
-    let mut lists = pool.take(alloc);
-    let mut found: EndList = ListOf::new(alloc);
+    let mut lists = pool.take(search.alloc);
+    let mut found: EndList = ListOf::new(search.alloc);
     begin(&mut lists, place, entry)?;
     let mut at = place;
     'places: while !lists.pending.is_empty() {
         part_lists(&mut lists, at)?;
         if !lists.seeds.is_empty() {
-            take_place(
-                alloc, nodes, depth, counts, classes, view, at, &mut lists, &mut found, pool, steps,
-            )?;
+            take_place(search, depth, at, &mut lists, &mut found, pool, steps)?;
         }
         swap(&mut lists.pending, &mut lists.later);
         at += 1;

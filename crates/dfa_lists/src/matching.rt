@@ -9,7 +9,7 @@ ghost use Rattle.dfa_paths.specs.Plain.{is_plain};
 ghost use Rattle.dfa_lists.specs.Lists.{stops_from};
 ghost use Rattle.pat_check.specs.Size.{whole_size};
 
-use crate::lists::{EndSet, Lists, ends_of};
+use crate::lists::{EndSet, Lists, Search, ends_of};
 use char_sets::ClassTable;
 use dfa_graph::{Graph, MOST_NESTED};
 use match_items::{View, places_stand};
@@ -57,17 +57,13 @@ pub fn ends<L: Ledger>(
 {
     // so what a state takes ends at a place
     places_stand();
-    let set = ends_of(
+    let search = Search {
         alloc,
-        graph.states(),
-        MOST_NESTED,
-        0,
-        counts_from(graph, view, place),
+        nodes: graph.states(),
         classes,
         view,
-        place,
-        lists,
-        steps,
-    )?;
+        counts: counts_from(graph, view, place),
+    };
+    let set = ends_of(&search, MOST_NESTED, 0, place, lists, steps)?;
     Ok(set)
 }

@@ -47,7 +47,7 @@ pub(crate) fn looks_back(kind: AnchorKind) -> bool
     matches!(kind, AnchorKind::Word { .. } | AnchorKind::NotWord { .. })
 }
 
-/// Notes that a test reaches the end.
+/// Notes that a test reaches the end, or that a path ends.
 pub(crate) fn tell(told: &mut bool, reaches: bool)
     ensures { told.new ≡ (told.old || reaches) }
 {

@@ -89,6 +89,28 @@ fn the_longest_line_has_2_to_the_20_bytes(rt: HostRuntime) -> Result<(), Fail> {
     Ok(())
 }
 
+// A line of so many letters among others of which nothing is shown, and then one that is.
+#[test]
+fn a_long_line_is_counted(rt: HostRuntime) -> Result<(), Fail> {
+    static ROWS: [(&str, usize); 4] = [
+        ("-n status=5 > 4:status=5\n", 65_535),
+        ("-n status=5 > 4:status=5\n", 65_536),
+        ("--file-offsets status=5 > 70009,8\n", 70_000),
+        ("-nA1 status=5 > 4:status=5\n5-end\n", 200_000),
+    ];
+    let alloc = rt.alloc();
+    for (row, letters) in &ROWS {
+        let long = "s".repeat(alloc, *letters)?;
+        let input = format!(in alloc; "quiet\n{}\nq\nstatus=5\nend\n", long.as_str())?;
+        let streams = Streams {
+            piece: 65_536,
+            ..unfailing(input.as_str().as_bytes())
+        };
+        check_row(&rt, alloc, &[], streams, row, 0)?;
+    }
+    Ok(())
+}
+
 #[test]
 fn the_rest_of_a_long_input_is_left(rt: HostRuntime) -> Result<(), Fail> {
     let alloc = rt.alloc();

@@ -9,6 +9,7 @@ ghost use Rattle.frame_state.specs.Steps.{over, StepsOn, StopsThere, KeepsPeak, 
 ghost use Rattle.frame_state.specs.Ground.{tree_of, IsPart};
 ghost use Rattle.frame_state.specs.Validity.{IsValid, IsMany};
 ghost use Rattle.frame_state.specs.Stops.{more_next};
+ghost use Rattle.frame_machine.specs.Back.{IsNewest, IsOther, LeadsBack};
 
 use frame_parts::conds::choose;
 use frame_state::framing::go_on;
@@ -84,6 +85,46 @@ fn take_more<S: Searchable>(on: &S, kept: &Record, spot: &mut Spot) -> Result<Ne
     Ok(more_or_back(kept, on.take(item, kept.to)))
 }
 
+/// Goes back to the record of a lookaround or a verb. One of another kind leaves nothing to try.
+fn look_or_verb<S: Searchable>(on: &S, kept: &Record, spot: &mut Spot) -> Next
+    requires newest { IsNewest (S.searched on.now) spot.old kept.now }
+    requires other { IsOther kept.now.kind }
+    ensures { LeadsBack (S.searched on.now) kept.now spot.old result spot.new }
+{
+    if kept.kind == KIND_DENIAL_OPEN {
+        spot.restore(kept);
+        return go_on(on, kept.node);
+    }
+    if kept.kind == KIND_LOOK_TEST {
+        spot.restore(kept);
+        return choose(on, kept.node, false);
+    }
+    if kept.kind == KIND_DENIAL_TEST {
+        spot.restore(kept);
+        return choose(on, kept.node, true);
+    }
+    if kept.kind == KIND_COMMIT_PASSED {
+        spot.restore(kept);
+        return Next::Act(Acting::Commit);
+    }
+    if kept.kind == KIND_PRUNE_PASSED {
+        spot.restore(kept);
+        return Next::Act(Acting::Prune);
+    }
+    if kept.kind == KIND_SKIP_PASSED {
+        if kept.from > 0 {
+            return Next::Back;
+        }
+        spot.restore(kept);
+        return Next::Act(Acting::Skip(kept.to));
+    }
+    if kept.kind == KIND_THEN_PASSED {
+        spot.restore(kept);
+        return Next::Leave(kept.node);
+    }
+    Next::Back
+}
+
 /// Goes back to the newest record.
 pub(crate) fn back<S: Searchable>(
     on: &S,
@@ -127,36 +168,5 @@ pub(crate) fn back<S: Searchable>(
         store.undo_spans(newest.from as usize, registers);
         return Ok(Next::Back);
     }
-    if newest.kind == KIND_DENIAL_OPEN {
-        spot.restore(&newest);
-        return Ok(go_on(on, newest.node));
-    }
-    if newest.kind == KIND_LOOK_TEST {
-        spot.restore(&newest);
-        return Ok(choose(on, newest.node, false));
-    }
-    if newest.kind == KIND_DENIAL_TEST {
-        spot.restore(&newest);
-        return Ok(choose(on, newest.node, true));
-    }
-    if newest.kind == KIND_COMMIT_PASSED {
-        spot.restore(&newest);
-        return Ok(Next::Act(Acting::Commit));
-    }
-    if newest.kind == KIND_PRUNE_PASSED {
-        spot.restore(&newest);
-        return Ok(Next::Act(Acting::Prune));
-    }
-    if newest.kind == KIND_SKIP_PASSED {
-        if newest.from > 0 {
-            return Ok(Next::Back);
-        }
-        spot.restore(&newest);
-        return Ok(Next::Act(Acting::Skip(newest.to)));
-    }
-    if newest.kind == KIND_THEN_PASSED {
-        spot.restore(&newest);
-        return Ok(Next::Leave(newest.node));
-    }
-    Ok(Next::Back)
+    Ok(look_or_verb(on, &newest, spot))
 }

@@ -1,19 +1,21 @@
 //! The parts of a pattern, run one after the other.
-ghost use Rattle.std.specs.Prelude.{◌≡◌, ◌≤◌, ◌&&◌, true, max, All, IfOk, IfErr, OnOk};
+ghost use Rattle.std.specs.Prelude.{◌≡◌, ◌<◌, ◌≤◌, ◌&&◌, true, max, All, IfOk, IfErr, OnOk};
+ghost use Rattle.pat_tree.specs.Rules.{class_in};
 ghost use Rattle.pat_tree.specs.declared.nodes.Node.TheVariants as node;
 ghost use Rattle.frame_store.specs.Stack.{room};
 ghost use Rattle.frame_state.specs.Room.{IsQuiet, IsShort};
 ghost use Rattle.frame_store.specs.Captures.{HasGroup};
 ghost use Rattle.pcre_io.specs.declared.callouts.Block.{Block};
 ghost use Rattle.frame_state.specs.Steps.{over, StepsOn, StopsThere, GoesOver, StopsOver, KeepsPeak, IsShortAt};
-ghost use Rattle.frame_state.specs.Ground.{IsNode, IsPart};
+ghost use Rattle.frame_state.specs.Ground.{IsNode, IsPart, tree_of};
 ghost use Rattle.frame_state.specs.Machine.{first_set};
 ghost use Rattle.frame_state.specs.Frames.{ahead};
 ghost use Rattle.frame_state.specs.Shown.{IsReplied};
 ghost use Rattle.frame_state.specs.Validity.{IsValid, AreSpans, SpanStands};
-ghost use Rattle.match_items.specs.Items.{anchor_reaches, earliest};
+ghost use Rattle.match_items.specs.Items.{after_break, after_item, anchor_reaches, break_reaches, earliest, item_reaches};
 ghost use Rattle.frame_state.specs.Reach.{asks, referred_reaches, IsNoted, IsHardStop, IsTested, IsAnchored};
 ghost use Rattle.frame_state.specs.Stops.{referred, part_next};
+ghost use Rattle.frame_machine.specs.Callouts.{IsCallout, IsShown};
 
 use frame_parts::atomic::enter_atomic;
 use frame_parts::calls::enter_call;
@@ -29,8 +31,45 @@ use frame_state::searchable::Searchable;
 use frame_store::kinds::KIND_GROUP_OPEN;
 use frame_store::{Span, Store};
 use frame_verbs::verbs::enter_verb;
-use pat_tree::{AnchorKind, Kids, Node};
-use pcre_io::Callouts;
+use pat_tree::{AnchorKind, Item, Kids, Node};
+use pcre_io::{Block, Callouts};
+
+/// Runs one item.
+fn enter_one<S: Searchable>(on: &S, part: u32, item: &Item, spot: &mut Spot) -> Result<Next, Stop>
+    requires inside { IsPart (S.searched on.now) part }
+    requires class { All (λ n. n < (S.searched on.now).class_count) (class_in item.now) }
+    requires place { (S.searched on.now).stands spot.old.place ≡ true }
+    ensures on { IfOk result (λ next. IsTested (S.searched on.now) part
+        (asks (S.searched on.now).setting
+        && item_reaches (S.searched on.now).setting.scene item.now spot.old.place)
+        (after_item (S.searched on.now).setting.scene item.now spot.old.place)
+        spot.old next spot.new) }
+    ensures stop { IfErr result (λ stop. IsHardStop (S.searched on.now)
+        (asks (S.searched on.now).setting
+        && item_reaches (S.searched on.now).setting.scene item.now spot.old.place)
+        spot.old.early spot.old.last spot.new.last stop) }
+{
+    let reached = on.item_reaches(item, spot.place);
+    pass(on, part, reached, on.take(item, spot.place), spot)
+}
+
+/// Runs `\R`.
+fn enter_break<S: Searchable>(on: &S, part: u32, spot: &mut Spot) -> Result<Next, Stop>
+    requires inside { IsPart (S.searched on.now) part }
+    requires place { (S.searched on.now).stands spot.old.place ≡ true }
+    ensures on { IfOk result (λ next. IsTested (S.searched on.now) part
+        (asks (S.searched on.now).setting
+        && break_reaches (S.searched on.now).setting.scene spot.old.place)
+        (after_break (S.searched on.now).setting.scene spot.old.place)
+        spot.old next spot.new) }
+    ensures stop { IfErr result (λ stop. IsHardStop (S.searched on.now)
+        (asks (S.searched on.now).setting
+        && break_reaches (S.searched on.now).setting.scene spot.old.place)
+        spot.old.early spot.old.last spot.new.last stop) }
+{
+    let reached = on.break_reaches(spot.place);
+    pass(on, part, reached, on.take_break(spot.place), spot)
+}
 
 /// Where a reference leads, whose first set group has captured this.
 fn refer<S: Searchable>(on: &S, captured: Option<Span>, caseless: bool, place: u64) -> Option<u64>
@@ -178,6 +217,25 @@ fn enter_group<S: Searchable>(
     Ok(first_branch(at, branches))
 }
 
+/// What the callout at a part is shown.
+fn block_at<S: Searchable>(on: &S, part: u32, spot: &Spot) -> Block
+    requires inside { IsPart (S.searched on.now) part }
+    requires callout { IsCallout (tree_of (S.searched on.now) part) }
+    ensures { IsShown (tree_of (S.searched on.now) part) spot.now result }
+{
+    let Node::Callout {
+        number,
+        text_from,
+        text_to,
+        item_at,
+        item_len,
+    } = on.node(part)
+    else {
+        unreachable!()
+    };
+    block_of(*number, *text_from, *text_to, *item_at, *item_len, spot)
+}
+
 /// Runs a part.
 pub(crate) fn enter<S: Searchable, C: Callouts>(
     on: &S,
@@ -208,14 +266,8 @@ pub(crate) fn enter<S: Searchable, C: Callouts>(
             spot.keep = spot.place;
             Ok(go_on(on, at))
         }
-        Node::One(item) => {
-            let reached = on.item_reaches(item, spot.place);
-            pass(on, at, reached, on.take(item, spot.place), spot)
-        }
-        Node::Break => {
-            let reached = on.break_reaches(spot.place);
-            pass(on, at, reached, on.take_break(spot.place), spot)
-        }
+        Node::One(item) => enter_one(on, at, item, spot),
+        Node::Break => enter_break(on, at, spot),
         Node::Ref { groups, caseless } => {
             enter_ref(on, at, groups.as_slice(), *caseless, spot, registers)
         }
@@ -245,15 +297,6 @@ pub(crate) fn enter<S: Searchable, C: Callouts>(
         }
         Node::Call { group } => enter_call(on, at, *group, spot, store, registers),
         Node::VerbNode(verb) => enter_verb(on, at, *verb, spot, store, registers),
-        Node::Callout {
-            number,
-            text_from,
-            text_to,
-            item_at,
-            item_len,
-        } => {
-            let block = block_of(*number, *text_from, *text_to, *item_at, *item_len, spot);
-            enter_callout(on, at, &block, calls)
-        }
+        Node::Callout { .. } => enter_callout(on, at, &block_at(on, at, spot), calls),
     }
 }

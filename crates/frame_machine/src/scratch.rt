@@ -129,6 +129,18 @@ impl Scratch {
     {
         self.last_mark = None;
     }
+
+    /// Leaves so many groups, none of them set, as a match that captures nothing does. Want of memory alone refuses it,
+    /// where no room was made for them.
+    pub fn unset(&mut self, groups: u32) -> Result<(), Memory>
+        requires { groups ≤ 65535 }
+        ensures unset { OnOk result (self.new.spans ≡ replicate groups None) }
+        ensures kept { self.new ≡ record self.old { spans = self.new.spans } }
+        ensures succeeds { groups ≤ self.old.groups → IsOk result }
+    {
+        self.registers.clear();
+        self.registers.grow(groups)
+    }
 }
 
 /// Makes a workspace ready for a search: no records, and so many unset registers, with a bank for as many. Want of memory

@@ -1,11 +1,12 @@
 -- Runs of one item, and branches, that are refused at once.
-use Rattle.std.specs.Prelude.{◌≡◌, ℕ, ◌+◌, ◌<◌, ◌≤◌, List, ◌∷◌, All, None}
-use Rattle.pat_tree.specs.declared.nodes.Item.{Item}
+use Rattle.std.specs.Prelude.{◌≡◌, ℕ, ◌+◌, ◌<◌, ◌≤◌, List, [], ◌∷◌, All, None, false}
 use Rattle.pat_tree.specs.Rules.{class_in}
-use Rattle.match_items.specs.Items.{after_item}
+use Rattle.match_items.specs.Items.{after_item, holds}
 use Rattle.frame_store.specs.declared.records.Record.{Record}
 use Rattle.frame_store.specs.Captures.{Captures}
 use Rattle.frame_store.specs.Entry.{Entry, entries}
+use Rattle.frame_parts.specs.declared.passing.Need.{Need}
+use Rattle.frame_parts.specs.declared.passing.Need.TheVariants.{Takes, Holds}
 use Rattle.frame_state.specs.declared.machine.Next.{Next}
 use Rattle.frame_state.specs.declared.machine.Next.TheVariants.{Enter, Back}
 use Rattle.frame_state.specs.declared.machine.Spot.{Spot}
@@ -16,7 +17,17 @@ use Rattle.frame_state.specs.Frames.{ahead}
 use Rattle.frame_state.specs.Validity.{IsValid, Advances}
 use Rattle.frame_state.specs.Stops.{IsNumber, tells}
 
+-- the classes of what is needed
+abbrev pub needed_classes : Need → List ℕ
+needed_classes (Takes item) = class_in item
+needed_classes (Holds kind) = []
+
 module _ (c : Ground) where
+  -- What is needed isn't there at the place: the item takes nothing, the simple assertion doesn't hold.
+  abbrev pub IsMissing : Need → ℕ → Type 0
+  IsMissing (Takes item) place = after_item c.setting.scene item place ≡ None
+  IsMissing (Holds kind) place = holds c.setting.scene kind place ≡ false
+
   -- The machine is there, or comes there by its turns.
   pub record Reaches (m n : Conf) : Type 0 where
     pub answer : tells c.setting m.spot (ahead c m) ≡ tells c.setting n.spot (ahead c n)
@@ -37,20 +48,26 @@ module _ (c : Ground) where
     pub some : 0 < number
     pub few : number ≤ c.setting.groups
 
-  -- Where the item takes nothing, the part fails.
-  pub record BeginsWith (q : ℕ) (item : Item) : Type 0 where
-    pub class : All (λ n. n < c.class_count) (class_in item)
+  -- Where what is needed isn't there, the part fails.
+  pub record BeginsWith (q : ℕ) (need : Need) : Type 0 where
+    pub class : All (λ n. n < c.class_count) (needed_classes need)
     pub fails : (spot : Spot) (stack : List Entry) (caps : Captures) → IsValid c (conf (Enter q) spot stack caps) →
-        after_item c.setting.scene item spot.place ≡ None → Advances c (conf (Enter q) spot stack caps) (conf Back spot stack caps)
+        IsMissing need spot.place → Advances c (conf (Enter q) spot stack caps) (conf Back spot stack caps)
+
+  -- The same, after so many units of the part's own.
+  pub record Needs (q : ℕ) (need : Need) (units : ℕ) : Type 0 where
+    pub class : All (λ n. n < c.class_count) (needed_classes need)
+    pub fails : (spot : Spot) (stack : List Entry) (caps : Captures) → IsValid c (conf (Enter q) spot stack caps) → spot.units + units ≤ c.setting.matching.frame_limit →
+        IsMissing need spot.place → FallsBack (conf (Enter q) spot stack caps)
 
   -- The part fails at the place.
   pub record FailsAt (q place : ℕ) : Type 0 where
     pub fails : (spot : Spot) (stack : List Entry) (caps : Captures) → spot.place ≡ place → IsValid c (conf (Enter q) spot stack caps) →
         Advances c (conf (Enter q) spot stack caps) (conf Back spot stack caps)
 
-  -- What comes next, in the frame at a height, begins with the item, after so many further units.
-  pub record IsFollower (next : Next) (height : ℕ) (records : List Record) (caps : Captures) (item : Item) (units : ℕ) : Type 0 where
-    pub class : All (λ n. n < c.class_count) (class_in item)
+  -- What comes next, in the frame at a height, needs this first, after so many further units.
+  pub record IsFollower (next : Next) (height : ℕ) (records : List Record) (caps : Captures) (need : Need) (units : ℕ) : Type 0 where
+    pub class : All (λ n. n < c.class_count) (needed_classes need)
     pub fails : (newest : Record) (spot : Spot) → spot.frame ≡ height → IsValid c (conf next spot (entries (newest ∷ records)) caps) →
-        spot.units + units ≤ c.setting.matching.frame_limit → after_item c.setting.scene item spot.place ≡ None →
+        spot.units + units ≤ c.setting.matching.frame_limit → IsMissing need spot.place →
         FallsBack (conf next spot (entries (newest ∷ records)) caps)

@@ -1,16 +1,16 @@
 //! Runs of one item, and branches, that are refused at once: the item that has to come next takes
-//! nothing there.
+//! nothing there, or the simple assertion doesn't hold.
 //!
-//! By the definition each is a Step, and holds units on the way to that item. Where there is room
-//! for these, nothing but the Step is left of it.
-ghost use Rattle.std.specs.Prelude.{◌≡◌, ◌<◌, ◌+◌, true, IsTrue, MatchOption};
+//! By the definition each is a Step, and holds units on the way to what comes next. Where there is
+//! room for these, nothing but the Step is left of it.
+ghost use Rattle.std.specs.Prelude.{◌≡◌, ◌<◌, ◌≤◌, ◌+◌, true, All, IsTrue, MatchOption};
 ghost use Rattle.pat_tree.specs.declared.options.PartialMode.TheVariants.{Off};
 ghost use Rattle.frame_state.specs.Steps.{over};
 ghost use Rattle.frame_state.specs.Ground.{next_of, tree_of, IsPart};
 ghost use Rattle.frame_state.specs.Machine.{towards};
 ghost use Rattle.frame_state.specs.Validity.{IsMany, IsValid};
 ghost use Rattle.frame_state.specs.Stops.{IsFurther};
-ghost use Rattle.frame_parts.specs.Passing.{HasNumber, BeginsWith, FailsAt, IsFollower, Reaches};
+ghost use Rattle.frame_parts.specs.Passing.{HasNumber, needed_classes, IsMissing, BeginsWith, Needs, FailsAt, IsFollower, Reaches};
 
 use crate::items::most_of;
 use crate::repeats::{branches_of, is_last};
@@ -19,7 +19,7 @@ use frame_state::machine::{Next, Spot};
 use frame_state::searchable::Searchable;
 use frame_store::kinds::KIND_GROUP_OPEN;
 use frame_store::{Span, Store};
-use pat_tree::{Item, Node};
+use pat_tree::{AnchorKind, Item, Node};
 
 /// What a repeat of one item takes at a place.
 fn take_further<S: Searchable>(on: &S, part: u32, at: u64) -> Option<u64>
@@ -42,24 +42,87 @@ pub(crate) struct Further {
     pub to: u64,
 }
 
-/// The item that has to come next.
+/// What a part needs at its place, or it fails.
+#[derive(Clone, Copy)]
+enum Need {
+    /// That the item takes something.
+    Takes(Item),
+    /// That the simple assertion holds.
+    Holds(AnchorKind),
+}
+
+/// What is needed next.
 #[derive(Clone, Copy)]
 struct Follower {
-    item: Item,
+    need: Need,
     /// The units that are held before it is tried.
     units: u32,
 }
 
-/// The item that a part begins with, where it needs one.
-fn first_item<S: Searchable>(on: &S, part: u32) -> Option<Item>
+/// Whether what is needed isn't there.
+fn is_missing<S: Searchable>(on: &S, need: &Need, at: u64) -> bool
+    requires class { All (λ n. n < (S.searched on.now).class_count) (needed_classes need.now) }
+    requires place { (S.searched on.now).stands at ≡ true }
+    ensures { IsTrue result → IsMissing (S.searched on.now) need.now at }
+{
+    match need {
+        Need::Takes(item) => on.take(item, at).is_none(),
+        Need::Holds(kind) => !on.holds(*kind, at),
+    }
+}
+
+/// What a part needs first.
+fn first_need<S: Searchable>(on: &S, part: u32) -> Option<Need>
     requires off { (S.searched on.now).setting.matching.partial ≡ Off }
     requires inside { IsPart (S.searched on.now) part }
-    ensures { MatchOption result (Unit {0}) (λ item. BeginsWith (S.searched on.now) part item) }
+    ensures { MatchOption result (Unit {0}) (λ need. BeginsWith (S.searched on.now) part need) }
 {
     match on.node(part) {
-        Node::One(item) => Some(*item),
-        Node::OneRepeat { item, min, .. } if *min > 0 => Some(*item),
+        Node::One(item) => Some(Need::Takes(*item)),
+        Node::OneRepeat { item, min, .. } if *min > 0 => Some(Need::Takes(*item)),
+        Node::Anchor(kind) => Some(Need::Holds(*kind)),
         _ => None,
+    }
+}
+
+/// What a branch needs first.
+fn leading_need<S: Searchable>(on: &S, part: u32) -> Option<Need>
+    requires off { (S.searched on.now).setting.matching.partial ≡ Off }
+    requires inside { IsPart (S.searched on.now) part }
+    ensures { MatchOption result (Unit {0}) (λ need. BeginsWith (S.searched on.now) part need) }
+{
+    match on.node(part) {
+        Node::Seq(kids) => match kids.as_slice() {
+            [] => None,
+            [first, ..] => first_need(on, *first),
+        },
+        _ => first_need(on, part),
+    }
+}
+
+/// What a part needs first, inside a group of one branch too.
+fn need_of<S: Searchable>(on: &S, part: u32) -> Option<Follower>
+    requires off { (S.searched on.now).setting.matching.partial ≡ Off }
+    requires inside { IsPart (S.searched on.now) part }
+    ensures needs { MatchOption result (Unit {0})
+        (λ f. Needs (S.searched on.now) part f.need f.units) }
+    ensures few { MatchOption result (Unit {0}) (λ f. f.units ≤ 1) }
+{
+    if let Some(need) = first_need(on, part) {
+        return Some(Follower { need, units: 0 });
+    }
+    let Node::Group { number, branches } = on.node(part) else {
+        return None;
+    };
+    let [branch] = branches.as_slice() else {
+        return None;
+    };
+    let Some(need) = leading_need(on, *branch) else {
+        return None;
+    };
+    match number {
+        None => Some(Follower { need, units: 0 }),
+        Some(_) => Some(Follower { need, units: 1 }),
     }
 }
 
@@ -88,7 +151,7 @@ fn after_group<S: Searchable>(
     requires valid { IsValid (S.searched on.now) (over Next.End spot.now store.now registers.now) }
     ensures { MatchOption result (Unit {0})
         (λ f. IsFollower (S.searched on.now) Next.End spot.now.frame store.now.records registers.now
-        f.item f.units) }
+        f.need f.units) }
 {
     if spot.frame == 0 {
         return None;
@@ -103,10 +166,13 @@ fn after_group<S: Searchable>(
     let Some(next) = on.next(frame.node) else {
         return None;
     };
-    let Some(item) = first_item(on, next) else {
+    let Some(follower) = need_of(on, next) else {
         return None;
     };
-    Some(Follower { item, units: 1 })
+    Some(Follower {
+        need: follower.need,
+        units: follower.units + 1,
+    })
 }
 
 /// What follows a part in the innermost frame.
@@ -122,15 +188,12 @@ fn after_part<S: Searchable>(
     requires valid { IsValid (S.searched on.now) (over Next.End spot.now store.now registers.now) }
     ensures { MatchOption result (Unit {0})
         (λ f. IsFollower (S.searched on.now) (towards (next_of (S.searched on.now) at))
-        spot.now.frame store.now.records registers.now f.item f.units) }
+        spot.now.frame store.now.records registers.now f.need f.units) }
 {
     let Some(next) = on.next(at) else {
         return after_group(on, spot, store, registers);
     };
-    let Some(item) = first_item(on, next) else {
-        return None;
-    };
-    Some(Follower { item, units: 0 })
+    need_of(on, next)
 }
 
 /// Whether the units are there that are held on the way to a follower, and that of a record before
@@ -169,7 +232,7 @@ pub(crate) fn pass_fewer<S: Searchable>(
         return last;
     }
     let mut to = last;
-    'runs: while least < to && spot.left > 0 && on.take(&follower.item, to).is_none() {
+    'runs: while least < to && spot.left > 0 && is_missing(on, &follower.need, to) {
         spot.left -= 1;
         to = on.before(to);
     }
@@ -206,7 +269,7 @@ pub(crate) fn pass_more<S: Searchable>(
     let most = most_of(on, at);
     'runs: while spot.left > 0
         && !is_last(most, run.count)
-        && on.take(&follower.item, run.to).is_none()
+        && is_missing(on, &follower.need, run.to)
     {
         let Some(to) = take_further(on, at, run.to) else {
             return run;
@@ -220,21 +283,6 @@ pub(crate) fn pass_more<S: Searchable>(
     run
 }
 
-/// The item that a branch begins with, where it needs one.
-fn leading_item<S: Searchable>(on: &S, part: u32) -> Option<Item>
-    requires off { (S.searched on.now).setting.matching.partial ≡ Off }
-    requires inside { IsPart (S.searched on.now) part }
-    ensures { MatchOption result (Unit {0}) (λ item. BeginsWith (S.searched on.now) part item) }
-{
-    match on.node(part) {
-        Node::Seq(kids) => match kids.as_slice() {
-            [] => None,
-            [first, ..] => first_item(on, *first),
-        },
-        _ => first_item(on, part),
-    }
-}
-
 /// Whether a branch is known to fail at a place.
 fn is_refused<S: Searchable>(on: &S, branch: u32, place: u64) -> bool
     requires off { (S.searched on.now).setting.matching.partial ≡ Off }
@@ -242,10 +290,10 @@ fn is_refused<S: Searchable>(on: &S, branch: u32, place: u64) -> bool
     requires place { (S.searched on.now).stands place ≡ true }
     ensures { IsTrue result → FailsAt (S.searched on.now) branch place }
 {
-    let Some(item) = leading_item(on, branch) else {
+    let Some(need) = leading_need(on, branch) else {
         return false;
     };
-    on.take(&item, place).is_none()
+    is_missing(on, &need, place)
 }
 
 /// Passes over the branches of a part that fail at once, a Step for each, and gives the first that

@@ -13,3 +13,5 @@ pub mod Taking
 pub mod Refusing
 pub mod FileTexts
 pub mod Watching
+pub mod Passing
+pub mod Unseen

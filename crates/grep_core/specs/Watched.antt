@@ -1,10 +1,18 @@
 -- Lines that are passed over without a search.
-use Rattle.std.specs.Prelude.{◌≡◌, ℕ, ◌+◌, ◌≤◌, Bool, List, length, Some}
+use Rattle.std.specs.Prelude.{◌≡◌, ℕ, ◌+◌, ◌<◌, ◌≤◌, Bool, false, List, [], length, Some, Ok}
+use Rattle.std.specs.List.{All}
 use Rattle.match_needs.specs.Texts.{sets_of, Stands}
 use Rattle.pat_tree.specs.Pattern.{Pattern}
+use Rattle.pcre_io.specs.Told.{Told}
+use Rattle.line_feed.specs.Rows.{Row}
+use Rattle.line_feed.specs.View.{Feed}
+use Rattle.line_feed.specs.Passes.{GivesAll}
 use Rattle.grep_args.specs.declared.plan.GrepPlan.{GrepPlan}
 use Rattle.grep_match.specs.declared.unsearched.Needed.{Needed}
 use Rattle.grep_match.specs.Needed.{AreNeeded}
+use Rattle.grep_match.specs.Matches.{Tried, tried_row, is_selected, matches}
+use Rattle.grep_output.specs.declared.shows.Show.{Show}
+use Rattle.grep_output.specs.Course.{Course, passed_out, course_after_passed}
 use Rattle.grep_core.specs.declared.watch.Watch.{Watch}
 
 -- the text, by its sets, stands nowhere in the first n bytes
@@ -17,3 +25,31 @@ pub record Watches (plan : GrepPlan) (patterns : List Pattern) (w : Watch) (held
     : Type 0 where
   pub needed : (some : Needed) → w.needed ≡ Some some → AreNeeded plan patterns some
   pub quiet : (some : Needed) → w.needed ≡ Some some → IsQuiet (sets_of some.text) held w.quiet
+
+-- rows without a match were given one after the other, and nothing was read
+pub record PassesOver (plan : GrepPlan) (patterns : List Pattern) (w : Watch) (f g : Feed)
+    : Type 0 where
+  pub within : ℕ
+  pub longest : ℕ
+  pub rows : List Row
+  pub gives : (now : Told) → GivesAll now within longest f g rows
+  pub none : All (λ (row : Row). matches plan patterns row.bytes ≡ Ok []) rows
+  pub watches : Watches plan patterns w g.held
+
+-- a line isn't selected, nothing is shown of it, and it leaves the course as it is
+pub record IsUnseen (plan : GrepPlan) (name : List ℕ) (show : Show) (c : Course) (t : Tried)
+    : Type 0 where
+  pub selected : is_selected plan t ≡ false
+  pub out : passed_out plan name show c t ≡ []
+  pub course : course_after_passed plan show c t.row ≡ c
+
+-- each line behind so many that has no match is unseen
+abbrev pub HidesUnmatched : GrepPlan → List ℕ → Show → Course → ℕ → Type 0
+HidesUnmatched plan name show c number =
+    (t : Tried) → t.matches ≡ Ok [] → number < t.row.number → IsUnseen plan name show c t
+
+-- rows without a match were passed over, all of them unseen
+pub record PassesUnseen (plan : GrepPlan) (patterns : List Pattern) (name : List ℕ) (show : Show)
+    (c : Course) (w : Watch) (f g : Feed) : Type 0 where
+  pub over : PassesOver plan patterns w f g
+  pub unseen : All (λ (row : Row). IsUnseen plan name show c (tried_row plan patterns row)) over.rows

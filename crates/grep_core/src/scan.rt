@@ -20,7 +20,7 @@ ghost use Rattle.grep_core.specs.Turns.{course_of, is_full, TakesLine, Passes, S
 ghost use Rattle.grep_output.specs.Earlier.{IsShort};
 ghost use Rattle.grep_core.specs.Follows.{FollowsOne, Follows};
 ghost use Rattle.grep_core.specs.Sending.{SendsOn};
-ghost use Rattle.grep_core.specs.Watched.{Watches};
+ghost use Rattle.grep_core.specs.Watched.{Watches, HidesUnmatched, PassesUnseen};
 ghost use Rattle.grep_output.specs.LittlePast.{bytes_in};
 ghost use Rattle.grep_core.specs.WholeScans.{Stood, IsJob, ScansInput, TakesAll};
 ghost use Rattle.tool_out.specs.Printed.{printed};
@@ -370,6 +370,34 @@ fn send_on<S: Source, O: Sink>(feed: &mut LineFeed, source: &S, out: &mut O) -> 
     Ok(())
 }
 
+// Whether of the lines behind so many those without a match are unseen: they aren't selected, aren't
+// context of a selected line, and aren't kept for a later one.
+fn hides_unmatched(job: &Job<'_>, course: &Course, number: u64) -> bool
+    ensures { IsTrue result → HidesUnmatched job.now.plan.now job.now.name.now job.now.show
+        (course_of course.now) number }
+{
+    if job.plan.invert_match {
+        return false;
+    }
+    if job.show != Show::Lines {
+        return true;
+    }
+    job.plan.before_context == 0 && course.earlier.len() == 0 && course.context_to <= number
+}
+
+// Passes over lines that are known to have no match, where they are unseen. It reads nothing.
+fn pass_unseen(job: &Job<'_>, feed: &mut LineFeed, course: &Course, watch: &mut Watch)
+    requires live { feed.old.phase ≢ Closed }
+    requires watch { Watches job.now.plan.now (patterns_in job.now.patterns.now) watch.old
+        feed.old.held }
+    ensures { PassesUnseen job.now.plan.now (patterns_in job.now.patterns.now) job.now.name.now
+        job.now.show (course_of course.now) watch.new feed.old feed.new }
+{
+    if hides_unmatched(job, course, feed.number()) {
+        watch.pass(feed);
+    }
+}
+
 // Takes the next line, where there is one.
 #[tactic(auto, using(crate::proofs::Watching::watches_gives))]
 fn take_turn<S: Source, O: Sink, E: Sink>(
@@ -497,6 +525,7 @@ fn take_lines<S: Source, O: Sink, E: Sink>(
     prove!(job.plan.after_context <= u32::MAX);
     let mut watch = Watch::new(job.plan, job.patterns);
     'line: loop {
+        pass_unseen(job, feed, course, &mut watch);
         send_on(feed, source, out)?;
         match take_turn(job, feed, source, out, err, work, state, course, &mut watch)? {
             Turn::Took(Next::Line) => {}

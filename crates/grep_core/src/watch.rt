@@ -1,10 +1,11 @@
 //! Lines that are passed over without a search.
-ghost use Rattle.std.specs.Prelude.{◌≡◌, ◌++◌, ℕ, ◌<◌, List, [], length, IsTrue, Ok, slice_index};
+ghost use Rattle.std.specs.Prelude.{◌≡◌, ◌≢◌, ◌++◌, ℕ, ◌<◌, List, [], length, IsTrue, Ok, slice_index};
 ghost use Rattle.pat_tree.specs.Pattern.{Pattern};
 ghost use Rattle.grep_args.specs.declared.plan.GrepPlan.{GrepPlan};
 ghost use Rattle.grep_match.specs.Compiled.{patterns_in};
 ghost use Rattle.grep_match.specs.Matches.{matches};
-ghost use Rattle.grep_core.specs.Watched.{Watches};
+ghost use Rattle.grep_core.specs.Watched.{Watches, PassesOver};
+ghost use Rattle.line_feed.specs.declared.phase.Phase.TheVariants.{Closed};
 
 use grep_args::GrepPlan;
 use grep_match::{Needed, Patterns, needed_text};
@@ -49,6 +50,23 @@ impl Watch {
         }
         if let Some(needed) = &self.needed {
             self.quiet = needed.text.find(feed.held());
+        }
+    }
+
+    /// Passes over whole lines that are known to have no match. It reads nothing, and may leave some.
+    pub fn pass(&mut self, feed: &mut LineFeed)
+        requires live { feed.old.phase ≢ Closed }
+        requires watch { (plan : GrepPlan) × (patterns : List Pattern)
+            × Watches plan patterns self.old feed.old.held }
+        ensures { (plan : GrepPlan) (patterns : List Pattern)
+            → Watches plan patterns self.old feed.old.held
+            → PassesOver plan patterns self.new feed.old feed.new }
+    {
+        self.look(feed);
+        are_bytes(feed.held());
+        if let Some(needed) = &self.needed {
+            let passed = feed.pass(self.quiet, needed.most as usize);
+            self.quiet = self.quiet.saturating_sub(passed);
         }
     }
 

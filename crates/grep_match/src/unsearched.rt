@@ -10,10 +10,8 @@ use crate::search::limits;
 use grep_args::GrepPlan;
 use pcre2_api::{ByteText, Code, MatchOptions};
 
-// Longer lines are searched. Some patterns pass no limit on short lines alone.
-const LONG: u32 = 65_535;
-
-const SHORT: u32 = 2_047;
+// Longer lines than the first of these that serves are searched: some patterns pass no limit on short lines alone.
+const LENGTHS: [u32; 3] = [65_535, 2_047, 127];
 
 // Of more patterns some text stands in nearly every line.
 const MANY: usize = 16;
@@ -52,11 +50,10 @@ pub fn needed_text(plan: &GrepPlan, patterns: &Patterns) -> Option<Needed>
         return None;
     }
     let matching = limits(plan);
-    if let Some(text) = needed_within(codes, &matching, LONG) {
-        return Some(Needed { text, most: LONG });
+    for most in LENGTHS {
+        if let Some(text) = needed_within(codes, &matching, most) {
+            return Some(Needed { text, most });
+        }
     }
-    match needed_within(codes, &matching, SHORT) {
-        Some(text) => Some(Needed { text, most: SHORT }),
-        None => None,
-    }
+    None
 }

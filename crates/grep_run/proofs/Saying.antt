@@ -10,12 +10,13 @@ use Rattle.grep_output.specs.declared.ended.Stop.TheVariants.{SinkFault, TooMany
 use Rattle.pat_tree.specs.Pattern.{Pattern}
 use Rattle.dir_walk.specs.Filters.{Filter, BadFilter, filter_of}
 use Rattle.tool_in.specs.Asked.{Asked}
-use Rattle.grep_match.specs.Compiled.{BadPattern, Compiled, patterns_of}
+use Rattle.token_parts.specs.declared.fault.Fault.{Fault}
+use Rattle.grep_match.specs.Compiled.{Compiled, patterns_of}
 use Rattle.pcre2_errors.specs.FaultTexts.{fault_text}
 use Rattle.grep_output.specs.InputText.{first_state}
 use Rattle.grep_output.specs.Messages.{message}
 use Rattle.tool_out.specs.Outcomes.{RunOutcome, said, Stops, RunsSome, RunsAll, Runs}
-use Rattle.grep_run.specs.Refusals.{refusal, usage_message, pattern_message, filter_name, filter_message}
+use Rattle.grep_run.specs.Refusals.{refusal, usage_message, refused_message}
 use Rattle.grep_run.specs.Reports.{Report, reports}
 use Rattle.grep_run.specs.PatternFiles.{FileTexts, texts_in_files}
 use Rattle.grep_run.specs.ToolText.{status_of, with_names, targets_of, text_by_filter, text_by_patterns, text_by_texts, text_by_help, text_of}
@@ -27,27 +28,16 @@ use Rattle.tool_out.specs.Printed.{Printed, printed}
 pub usage-of : (start word : List ℕ) → codes "pcre2grep: " ++ (start ++ (word ++ (codes "\n" ++ []))) ≡ message (start ++ word)
 usage-of start word = simp (append_assoc, append-nil)
 
-pattern-of : (number error at text : List ℕ)
-    → codes "pcre2grep: pattern " ++ (number ++ (codes ": error " ++ (error ++ (codes " at offset " ++ (at ++ (codes ": " ++ (text ++ (codes "\n" ++ []))))))))
-    ≡ message (codes "pattern " ++ number ++ codes ": error " ++ error ++ codes " at offset " ++ at ++ codes ": " ++ text)
-pattern-of number error at text = simp (append_assoc, append-nil)
+refused-of : (kind index error at text : List ℕ)
+    → codes "pcre2grep: " ++ (kind ++ (codes " " ++ (index ++ (codes ": error " ++ (error ++ (codes " at offset " ++ (at ++ (codes ": " ++ (text ++ (codes "\n" ++ []))))))))))
+    ≡ message (kind ++ codes " " ++ index ++ codes ": error " ++ error ++ codes " at offset " ++ at ++ codes ": " ++ text)
+refused-of kind index error at text = simp (append_assoc, append-nil)
 
-pub pattern-said : (bad : BadPattern) (number error at text : List ℕ) → number ≡ decimal bad.number → error ≡ signed_decimal bad.fault.number → at ≡ decimal bad.fault.at → text ≡ fault_text bad.fault.number
-    → codes "pcre2grep: pattern " ++ (number ++ (codes ": error " ++ (error ++ (codes " at offset " ++ (at ++ (codes ": " ++ (text ++ (codes "\n" ++ []))))))))
-    ≡ pattern_message bad
-pattern-said bad number error at text n e a t =
-    pattern-of number error at text ∙ (λ i. message (codes "pattern " ++ n i ++ codes ": error " ++ e i ++ codes " at offset " ++ a i ++ codes ": " ++ t i))
-
-filter-of : (name index error at text : List ℕ)
-    → codes "pcre2grep: " ++ (name ++ (codes " " ++ (index ++ (codes ": error " ++ (error ++ (codes " at offset " ++ (at ++ (codes ": " ++ (text ++ (codes "\n" ++ []))))))))))
-    ≡ message (name ++ codes " " ++ index ++ codes ": error " ++ error ++ codes " at offset " ++ at ++ codes ": " ++ text)
-filter-of name index error at text = simp (append_assoc, append-nil)
-
-pub filter-said : (bad : BadFilter) (name index error at text : List ℕ) → name ≡ filter_name bad.option → index ≡ decimal bad.index → error ≡ signed_decimal bad.fault.number → at ≡ decimal bad.fault.at → text ≡ fault_text bad.fault.number
-    → codes "pcre2grep: " ++ (name ++ (codes " " ++ (index ++ (codes ": error " ++ (error ++ (codes " at offset " ++ (at ++ (codes ": " ++ (text ++ (codes "\n" ++ []))))))))))
-    ≡ filter_message bad
-filter-said bad name index error at text o n e a t =
-    filter-of name index error at text ∙ (λ i. message (o i ++ codes " " ++ n i ++ codes ": error " ++ e i ++ codes " at offset " ++ a i ++ codes ": " ++ t i))
+pub refused-said : (kind : List ℕ) (number : ℕ) (fault : Fault) (index error at text : List ℕ) → index ≡ decimal number → error ≡ signed_decimal fault.number → at ≡ decimal fault.at → text ≡ fault_text fault.number
+    → codes "pcre2grep: " ++ (kind ++ (codes " " ++ (index ++ (codes ": error " ++ (error ++ (codes " at offset " ++ (at ++ (codes ": " ++ (text ++ (codes "\n" ++ []))))))))))
+    ≡ refused_message kind number fault
+refused-said kind number fault index error at text n e a t =
+    refused-of kind index error at text ∙ (λ i. message (kind ++ codes " " ++ n i ++ codes ": error " ++ e i ++ codes " at offset " ++ a i ++ codes ": " ++ t i))
 
 -- The status of a run that can go on is at most 2.
 

@@ -8,6 +8,7 @@ use Rattle.grep_args.specs.declared.usage.UsageKind.TheVariants.{UnknownOption, 
 use Rattle.grep_args.specs.declared.options.FilterOption.{FilterOption}
 use Rattle.grep_args.specs.declared.options.FilterOption.TheVariants.{Include, Exclude, IncludeDir, ExcludeDir}
 use Rattle.grep_args.specs.Words.{Fault}
+use Rattle.token_parts.specs.declared.fault.Fault.{Fault as PatternFault}
 use Rattle.dir_walk.specs.Filters.{BadFilter}
 use Rattle.grep_match.specs.Compiled.{BadPattern}
 use Rattle.tool_out.specs.Texts.{line}
@@ -30,11 +31,15 @@ usage_text NoPattern word = codes "no pattern"
 abbrev pub usage_message : List (List ℕ) → Fault → List ℕ
 usage_message words fault = message (usage_text fault.kind (slice_index_or words fault.word []))
 
+-- the pattern of a kind that has this number is refused
+abbrev pub refused_message : List ℕ → ℕ → PatternFault → List ℕ
+refused_message kind number fault =
+    message (kind ++ codes " " ++ decimal number ++ codes ": error "
+    ++ signed_decimal fault.number
+    ++ codes " at offset " ++ decimal fault.at ++ codes ": " ++ fault_text fault.number)
+
 abbrev pub pattern_message : BadPattern → List ℕ
-pattern_message bad =
-    message (codes "pattern " ++ decimal bad.number ++ codes ": error "
-    ++ signed_decimal bad.fault.number
-    ++ codes " at offset " ++ decimal bad.fault.at ++ codes ": " ++ fault_text bad.fault.number)
+pattern_message bad = refused_message (codes "pattern") bad.number bad.fault
 
 -- the option of a pattern for names
 abbrev pub filter_name : FilterOption → List ℕ
@@ -44,10 +49,7 @@ filter_name IncludeDir = codes "--include-dir"
 filter_name ExcludeDir = codes "--exclude-dir"
 
 abbrev pub filter_message : BadFilter → List ℕ
-filter_message bad =
-    message (filter_name bad.option ++ codes " " ++ decimal bad.index ++ codes ": error "
-    ++ signed_decimal bad.fault.number
-    ++ codes " at offset " ++ decimal bad.fault.at ++ codes ": " ++ fault_text bad.fault.number)
+filter_message bad = refused_message (filter_name bad.option) bad.index bad.fault
 
 abbrev pub help_text : HelpKind → List ℕ
 help_text Help = line (codes "usage: pcre2grep [options] [pattern] [files]")

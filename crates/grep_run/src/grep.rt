@@ -330,8 +330,8 @@ fn refuse<E: Sink>(err: &mut E, words: &[String], kind: UsageKind, word: usize) 
     Ok(2)
 }
 
-/// Runs pcre2grep on the words after its name, and answers its status. It stops where memory lacks, where a write is
-/// refused, and at the 21st match error, at which all of its text was written.
+/// Runs pcre2grep on the words after its name, and answers its status. It stops where memory lacks,
+/// where a write is refused, and at the 21st match error, at which all of its text was written.
 pub fn grep<F: FileSet, S: Source, O: Sink, E: Sink>(
     alloc: Global,
     words: &[String],

@@ -2,8 +2,9 @@
 ghost use Rattle.grep_run.specs.Laws.{SoundEndWell, ToldAskForOne};
 ghost use Rattle.grep_run.specs.Worked.{WorkedRows};
 
-/// A run of pcre2grep ends with status 0 or 1 where its words and patterns are accepted, each input is there with its end,
-/// no line is longer than the maximum, and at most 20 of all lines have a match error.
+/// A run of pcre2grep ends with status 0 or 1 where its words and patterns are accepted, each input
+/// is there with its end, no line is longer than the maximum, and at most 20 of all lines have a
+/// match error.
 pub fn sound_runs_end_well()
     ensures { SoundEndWell }
 {}

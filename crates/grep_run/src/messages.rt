@@ -1,9 +1,7 @@
 //! Messages of a run, and the texts that are asked for in place of a search.
 ghost use Rattle.std.specs.Prelude.{◌≡◌, [], ◌++◌, map, string_bytes, slice_index_or};
-ghost use Rattle.grep_args.specs.Words.{Fault};
-ghost use Rattle.grep_match.specs.Compiled.{BadPattern};
 ghost use Rattle.grep_output.specs.Messages.{message};
-ghost use Rattle.grep_run.specs.Refusals.{usage_text, usage_message, pattern_message, filter_message, filter_name, help_text};
+ghost use Rattle.grep_run.specs.Refusals.{usage_text, usage_message, refused_message, pattern_message, filter_message, filter_name, help_text};
 ghost use Rattle.grep_run.specs.PatternFiles.{missing_message};
 ghost use Rattle.tool_out.specs.Writes.{Writes};
 
@@ -69,6 +67,38 @@ pub fn write_usage<E: Sink>(
     write_fault(err, usage_start(kind), usage_word(words, kind, word))
 }
 
+// Writes which pattern of a kind is refused, and why.
+fn write_refused<E: Sink>(
+    err: &mut E,
+    kind: &'static [u8],
+    index: u64,
+    number: i32,
+    at: usize,
+) -> Result<(), IoError>
+    ensures { Writes (refused_message kind.now index (record { number = number; at = at }))
+        (E.tells err.old) (E.tells err.new) result }
+{
+    let mut place = Buffer::new();
+    let mut fault = Buffer::new();
+    let mut offset = Buffer::new();
+    write_texts(
+        err,
+        &[
+            b"pcre2grep: ",
+            kind,
+            b" ",
+            place.format(index).as_bytes(),
+            b": error ",
+            fault.format(number).as_bytes(),
+            b" at offset ",
+            offset.format(at).as_bytes(),
+            b": ",
+            fault_text(number),
+            b"\n",
+        ],
+    )
+}
+
 /// Writes which pattern is refused, and why.
 pub fn write_bad_pattern<E: Sink>(
     err: &mut E,
@@ -82,23 +112,7 @@ pub fn write_bad_pattern<E: Sink>(
           record { number = number; at = at };
     })) (E.tells err.old) (E.tells err.new) result }
 {
-    let mut place = Buffer::new();
-    let mut fault = Buffer::new();
-    let mut offset = Buffer::new();
-    write_texts(
-        err,
-        &[
-            b"pcre2grep: pattern ",
-            place.format(pattern).as_bytes(),
-            b": error ",
-            fault.format(number).as_bytes(),
-            b" at offset ",
-            offset.format(at).as_bytes(),
-            b": ",
-            fault_text(number),
-            b"\n",
-        ],
-    )
+    write_refused(err, b"pattern", pattern, number, at)
 }
 
 // The option of a pattern for names.
@@ -128,25 +142,7 @@ pub fn write_bad_filter<E: Sink>(
           record { number = number; at = at };
     })) (E.tells err.old) (E.tells err.new) result }
 {
-    let mut place = Buffer::new();
-    let mut fault = Buffer::new();
-    let mut offset = Buffer::new();
-    write_texts(
-        err,
-        &[
-            b"pcre2grep: ",
-            filter_name(option),
-            b" ",
-            place.format(index).as_bytes(),
-            b": error ",
-            fault.format(number).as_bytes(),
-            b" at offset ",
-            offset.format(at).as_bytes(),
-            b": ",
-            fault_text(number),
-            b"\n",
-        ],
-    )
+    write_refused(err, filter_name(option), index, number, at)
 }
 
 /// Writes a text that is asked for in place of a search.

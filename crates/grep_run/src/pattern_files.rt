@@ -65,7 +65,8 @@ fn add_line(alloc: Global, line: &[u8], texts: &mut TextList) -> Result<(), Stop
     add_text(alloc, text, texts)
 }
 
-// Adds the patterns of a source's lines, one a line; blank lines are ignored. Says how the lines end.
+// Adds the patterns of a source's lines, one a line; blank lines are ignored. Says how the lines
+// end.
 fn add_lines<S: Source>(
     alloc: Global,
     max: u32,
@@ -189,7 +190,8 @@ fn add_file<F: FileSet, S: Source, E: Sink>(
     }
 }
 
-/// Adds the patterns of the plan's files, in order. False where a file can't be read to its end, which a message tells.
+/// Adds the patterns of the plan's files, in order. False where a file can't be read to its end,
+/// which a message tells.
 pub fn add_files<F: FileSet, S: Source, E: Sink>(
     alloc: Global,
     plan: &GrepPlan,

@@ -17,9 +17,9 @@ use std::alloc::Global;
 
 /// Runs pcre2grep on the words after its name, and answers its status (pcre2grep, "DIAGNOSTICS").
 ///
-/// `files` are opened by the names among the words, `input` is the standard input, results go to `out` and messages to
-/// `err`. At status 3 memory lacked, at status 4 a write failed; then each sink holds a part of its text. At every other
-/// status each holds all of it.
+/// `files` are opened by the names among the words, `input` is the standard input, results go to
+/// `out` and messages to `err`. At status 3 memory lacked, at status 4 a write failed; then each
+/// sink holds a part of its text. At every other status each holds all of it.
 pub fn run_grep<F: FileSet, S: Source, O: Sink, E: Sink>(
     alloc: Global,
     words: &[String],
@@ -28,10 +28,11 @@ pub fn run_grep<F: FileSet, S: Source, O: Sink, E: Sink>(
     out: &mut O,
     err: &mut E,
 ) -> u8
-    // The targets that its words ask for stand for the input that the source stands for, and for the files. For these the
-    // sinks grew by its text, and the answer is its status; or memory lacked or a write failed, and they grew by a part of
-    // it. A file is absent only where it is known to be, or a fault was counted; and where the scan of standard input ends
-    // early, little past its last line was taken of it.
+    // The targets that its words ask for stand for the input that the source stands for, and for
+    // the files. For these the sinks grew by its text, and the answer is its status; or memory
+    // lacked or a write failed, and they grew by a part of it. A file is absent only where it is
+    // known to be, or a fault was counted; and where the scan of standard input ends early, little
+    // past its last line was taken of it.
     ensures text { (heard : Input) × Hears (S.tells input.old) (S.tells input.new) heard
         × ((asked : List Target) × AsksFor (F.tells files.old).contents (F.tells files.old).faults
         (F.tells files.new).faults (map string_bytes words.now) asked

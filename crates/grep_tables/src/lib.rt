@@ -17,6 +17,8 @@ mod running;
 #[cfg(test)]
 mod selection;
 #[cfg(test)]
+mod unseen;
+#[cfg(test)]
 mod usage;
 #[cfg(test)]
 mod utf;

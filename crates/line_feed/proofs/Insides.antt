@@ -1,5 +1,5 @@
 -- The fields of a feed.
-use Rattle.std.proofs.Common.{◌≡◌, ◌≢◌, ◌⊎◌, inl, inr, ℕ, ◌+◌, ◌-◌, ◌<◌, ◌≤◌, List, ◌++◌, length, take, drop, slice_range, sym, ap, subst, ◌∙◌, arith, ⊎_elim, length-append, length-drop, length-take-le}
+use Rattle.std.proofs.Common.{◌≡◌, ◌≢◌, ◌⊎◌, inl, inr, ℕ, ◌+◌, ◌-◌, ◌<◌, ◌≤◌, List, [], ◌++◌, length, take, drop, slice_range, sym, ap, subst, ◌∙◌, arith, ⊎_elim, length-append, length-drop, length-take-le}
 use Rattle.std.proofs.lemmas.Bool.{cases_lt, cases_eq}
 use Rattle.std.proofs.lemmas.List.{drop-take, drop-drop, take-take}
 use Rattle.byte_lanes.specs.declared.line_end.EndKind.{EndKind}
@@ -8,6 +8,7 @@ use Rattle.line_feed.specs.declared.feed.LineFeed.TheInside.{Inside}
 use Rattle.line_feed.specs.declared.phase.Phase.{Phase}
 use Rattle.line_feed.specs.declared.phase.Phase.TheVariants.{Open, Ended, Full}
 use Rattle.line_feed.specs.View.{HoldsRow, given}
+use Rattle.line_feed.specs.Passes.{skipped}
 use Rattle.line_feed.specs.Inside.{IsWhole, IsNear, IsSearched, held_of, view_of}
 use Rattle.line_feed.specs.Steps.{MeetsBehind}
 use Rattle.line_feed.proofs.Newlines.{newline-far, newline-shorter, newline-drop}
@@ -118,6 +119,64 @@ whole-given f end newline i some le =
       searched = omega arith;
       nothing = λ k l. absurd (omega arith);
       near = subst (IsNear f.kind) (sym (rest-given f end newline i le)) (near-drop f.kind (held_of f) (end + newline) i.near);
+    }
+
+-- rows were passed over
+abbrev pub inside_skipped : Inside → ℕ → ℕ → Inside
+inside_skipped f bytes rows = record f {
+  from = f.start + bytes;
+  to = f.start + bytes;
+  start = f.start + bytes;
+  searched = 0;
+  number = f.number + rows;
+  row_at = f.offset + bytes;
+  offset = f.offset + bytes;
+}
+
+rest-skipped : (f : Inside) (bytes rows : ℕ) → IsWhole f → bytes ≤ length (held_of f) → held_of (inside_skipped f bytes rows) ≡ drop bytes (held_of f)
+rest-skipped f bytes rows i le =
+    let long = held-long f i in
+    let ordered = i.held in
+    range-rest f.buffer.items f.start f.filled bytes (omega arith)
+
+pub view-skipped : (f : Inside) (bytes rows : ℕ) → IsWhole f → bytes ≤ length (held_of f) → view_of (inside_skipped f bytes rows) ≡ skipped (view_of f) bytes rows
+view-skipped f bytes rows i le =
+    let at = f.start + bytes in
+    let none : slice_range f.buffer.items at at ≡ [] = ap (λ n. take n (drop at f.buffer.items)) {x = at - at} {y = 0} (omega arith) in
+    let rest = rest-skipped f bytes rows i le in
+    λ k. record {
+      kind = f.kind;
+      max = f.max;
+      row = record { bytes = none k; newline = none k; number = f.number + rows; offset = f.offset + bytes };
+      held = rest k;
+      stored = length f.buffer.items;
+      number = f.number + rows;
+      offset = f.offset + bytes;
+      phase = f.phase;
+    }
+
+pub whole-skipped : (f : Inside) (bytes rows : ℕ) → IsWhole f → bytes ≤ length (held_of f) → rows ≤ bytes → IsWhole (inside_skipped f bytes rows)
+whole-skipped f bytes rows i le few_rows =
+    let long = held-long f i in
+    let ordered = i.held in
+    let within = i.filled in
+    let number = i.number in
+    let taken = i.taken in
+    record {
+      row = omega arith;
+      newline = omega arith;
+      held = omega arith;
+      filled = i.filled;
+      stored = i.stored;
+      number = omega arith;
+      taken = omega arith;
+      open_few = λ p. (let few = i.open_few p in omega arith);
+      ended_few = λ p. (let few = i.ended_few p in omega arith);
+      missed_few = λ p. (let few = i.missed_few p in omega arith);
+      full = λ p. (let all = i.full p in omega arith);
+      searched = omega arith;
+      nothing = λ k l. absurd (omega arith);
+      near = subst (IsNear f.kind) (sym (rest-skipped f bytes rows i le)) (near-drop f.kind (held_of f) bytes i.near);
     }
 
 -- what is met behind a piece

@@ -6,3 +6,12 @@ pub enum Held {
     Over,
     Part,
 }
+
+// Whole rows that the bytes held begin with: how many bytes they have with their newlines, how many they are, and
+// whether no further row can be passed over.
+#[derive(Debug, Clone, Copy)]
+pub struct Run {
+    pub bytes: usize,
+    pub rows: usize,
+    pub is_all: bool,
+}

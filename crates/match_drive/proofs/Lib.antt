@@ -8,6 +8,7 @@ mod Shown
 mod Walk
 mod Leads
 mod PastBegin
+mod BeginText
 mod PastPrefix
 mod PastRepeats
 mod PastRun

@@ -1,5 +1,5 @@
 -- Where no text stands that every match of a finished tree needs, nothing is found.
-use Rattle.std.proofs.Common.{◌≡◌, ℕ, ℤ, ◌+◌, ◌<◌, ◌≤◌, Bool, List, length, refl, subst, arith}
+use Rattle.std.proofs.Common.{◌≡◌, ℕ, ℤ, ◌+◌, ◌<◌, ◌≤◌, Bool, true, List, Some, length, refl, subst, arith}
 use Rattle.std.specs.Prelude.{slice_index}
 use Rattle.pat_tree.specs.declared.options.Options.{Options}
 use Rattle.pat_tree.specs.declared.options.PartialMode.TheVariants.{Off}
@@ -9,7 +9,7 @@ use Rattle.match_items.specs.Subjects.{IsText, IsTextPlace}
 use Rattle.pcre_io.specs.declared.callouts.Block.{Block}
 use Rattle.byte_lanes.specs.Places.{IsLeast}
 use Rattle.match_needs.specs.declared.text.ByteText.{ByteText}
-use Rattle.match_needs.specs.Bounds.{at}
+use Rattle.match_needs.specs.Bounds.{at, bound}
 use Rattle.match_needs.specs.Needs.{may_take, Needs}
 use Rattle.match_needs.specs.Texts.{sets_of, Stands}
 use Rattle.match_needs.specs.NeedTables.{IsNeedOf}
@@ -34,10 +34,10 @@ pub none_without : (tree : TreeParts) (view : View) (need : Need) (answers : Blo
     match_answer (setting_for tree view answers) ≡ none_found
 none_without tree view need answers is shown text begun off steps units small missing =
     need_law (setting_for tree view answers) (sets_of need.text) need.bound (record {
-      needs = subst (λ (has : ℕ → ℕ → Bool). Needs (may_take tree.options.utf has) tree.options.utf (sets_of need.text) (tree_of tree)) (class_told tree) is.text;
+      needs = subst (λ (has : ℕ → ℕ → Bool). Needs (may_take tree.options.utf has) tree.options.utf true (sets_of need.text) (tree_of tree)) (class_told tree) is.text;
       small = small;
       missing = missing;
-      bounded = is.bound;
+      bounded = subst (λ (has : ℕ → ℕ → Bool). bound has (tree_of tree) ≡ Some need.bound) (class_told tree) is.bound;
       folds = refl;
       steps = subst (λ (o : Options). at need.bound.steps (length view.subject.now + 1) ≤ lower_of o.match_limit view.matching.now.match_limit) shown steps;
       units = units;

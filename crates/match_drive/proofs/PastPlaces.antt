@@ -1,4 +1,4 @@
--- Places that are excluded, one character after the other.
+-- Places that fail and tell nothing, one character after the other.
 use Rattle.std.proofs.Common.{inl, inr, ◌≡◌, ℕ, zero, suc, ◌+◌, ◌-◌, ◌<◌, ◌≤◌, Bool, true, false, ◌&&◌, List, [], ◌∷◌, ◌++◌, length, take, drop, get_or, Option, Some, nat_lt, max, if◌then◌else◌, refl, sym, ap, subst, ◌∙◌, arith, length-append, take-append-drop, length-drop}
 use Rattle.std.specs.Prelude.{IfSome, IsUtf8, slice_index}
 use Rattle.std.specs.Char.{len_utf8}
@@ -12,13 +12,10 @@ use Rattle.uni_text.specs.Characters.{first_char, char_at}
 use Rattle.match_items.specs.Subjects.{IsText, IsTextPlace}
 use Rattle.match_items.proofs.TextGround.{next_place as goes_to_place}
 use Rattle.ordered_search.specs.Setting.{Setting}
-use Rattle.ordered_search.specs.Places.{passes_crlf, next_place, last_place, within, is_excluded, up_to}
+use Rattle.ordered_search.specs.Places.{passes_crlf, next_place, last_place, within, up_to}
 use Rattle.ordered_search.proofs.StartPlaces.{no_stand, up_to_is, up_to_past, next_char, next_later, crlf_stands}
-use Rattle.pat_check.specs.Known.{IsByteSet}
-use Rattle.ordered_search.specs.Setting.{lead_set}
-use Rattle.match_drive.specs.Rest.{IsByteOutside, behind, found_from, IsPassed}
-use Rattle.match_drive.proofs.Excluded.{excluded_by_byte}
-use Rattle.match_drive.proofs.Steps.{behind_later, behind_none, passed_once, found_excluded}
+use Rattle.match_drive.specs.Rest.{behind, found_from, FailBefore, IsPassed}
+use Rattle.match_drive.proofs.Steps.{behind_later, behind_none, passed_once, found_failed}
 
 -- The first character of a text ends no later than a part that is a text.
 
@@ -103,7 +100,7 @@ module _ (g : Setting) (begun : g.start ≤ length g.subject) (text : IsText g.o
     low : p ≤ last_place g
     ends_at : q ≤ last_place g → Stands q
     high : q ≤ length g.subject
-    all : (k : ℕ) → p ≤ k → k < q → Stands k → is_excluded g k ≡ true
+    all : FailBefore g p q
 
   -- from the next place on
   step_on : (p p' q : ℕ) → AreOut p q → p < q → p < p' → p' ≤ q → Stands p' → (p' ≡ q → behind g p q ≡ q)
@@ -136,7 +133,7 @@ module _ (g : Setting) (begun : g.start ≤ length g.subject) (text : IsText g.o
       inside = omega (arith, l, out.high)
 
       step : found_from g (Some p) ≡ found_from g (within g (next_place g p))
-      step = found_excluded g begun p out.low (out.all p (omega arith) l out.begins)
+      step = found_failed g begun p out.low (out.all p (omega arith) l out.begins)
 
       goes : (b : Bool) → passes_crlf g p ≡ b → next_place g p ≡ (elim b [ true ↦ Some (p + 2) | false ↦ Some (char_end p) ])
       goes b e = next_char g begun p inside ∙ ap (λ c. elim c [ true ↦ Some (p + 2) | false ↦ Some (char_end p) ]) e
@@ -192,17 +189,16 @@ module _ (g : Setting) (begun : g.start ≤ length g.subject) (text : IsText g.o
     | inr not_before ↦ no_step p q out (omega (arith, not_before, l))
   ]
 
-  -- no byte of the set stands at a place from one on and before another
-  pub passed_places : (set : List Bool) (p q : ℕ) → g.options.no_start_optimize ≡ false → IsByteSet (Some set) (lead_set g)
-      → Stands p → p ≤ last_place g → p ≤ q → q ≤ length g.subject → (q ≤ last_place g → Stands q)
-      → ((k : ℕ) → p ≤ k → k < q → Stands k → IsByteOutside set (slice_index g.subject k)) → IsPassed g p (behind g p q)
-  passed_places set p q on lead at low ordered high to all = record {
+  -- the places from one on and before another
+  pub passed_places : (p q : ℕ) → Stands p → p ≤ last_place g → p ≤ q → q ≤ length g.subject
+      → (q ≤ last_place g → Stands q) → FailBefore g p q → IsPassed g p (behind g p q)
+  passed_places p q at low ordered high to all = record {
     same = steps_over (q - p) p q (omega arith) ordered (record {
       begins = at;
       low = low;
       ends_at = to;
       high = high;
-      all = λ k a b stands. excluded_by_byte g set k on lead (omega (arith, b, high)) (all k a b stands);
+      all = all;
     });
     later = behind_later g p q ordered;
   }

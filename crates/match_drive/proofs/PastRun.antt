@@ -125,7 +125,7 @@ module _ (trees : List Nested) (n : ℕ) (plain : (k : ℕ) → k < n → IsPlai
 -- Where the search goes on.
 
 module _ (g : Setting) where
-  tried_fails : (p : ℕ) → place_answer g p ≡ answers (place.Failed Exhausted)
+  pub tried_fails : (p : ℕ) → place_answer g p ≡ answers (place.Failed Exhausted)
       → tried g p ≡ answers (place.Failed Exhausted)
   tried_fails p e = by_test (is_excluded g p)
     where

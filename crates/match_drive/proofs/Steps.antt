@@ -139,7 +139,7 @@ module _ (g : Setting) (begun : g.start ≤ length g.subject) where
       ∙ ap (λ w. found_at p w (λ signal. found_from g (place_after g p signal))) e
       ∙ failed_silently p (found_from g (within g (next_place g p)))
 
-  excluded_fails : (p : ℕ) → is_excluded g p ≡ true → tried g p ≡ answers (place.Failed Exhausted)
+  pub excluded_fails : (p : ℕ) → is_excluded g p ≡ true → tried g p ≡ answers (place.Failed Exhausted)
   excluded_fails p e =
       ap (λ b. elim b [ true ↦ answers (place.Failed Exhausted) | false ↦ place_answer g p ]) e
 

@@ -4,6 +4,7 @@ use Rattle.std.specs.Option.{option_or}
 use Rattle.byte_lanes.specs.Sets.{has_byte}
 use Rattle.pat_check.specs.Known.{IsByteSet}
 use Rattle.pcre_io.specs.declared.callouts.Block as told
+use Rattle.match_items.specs.Subjects.{IsTextPlace}
 use Rattle.frame_state.specs.Shown.{seen_after}
 use Rattle.ordered_search.specs.Stream.{Block}
 use Rattle.ordered_search.specs.Setting.{Setting, lead_set}
@@ -18,7 +19,7 @@ use Rattle.ordered_search.specs.PlaceAnswer.{
 }
 use Rattle.match_drive.specs.Asked.{replied}
 use Rattle.ordered_search.specs.Places.{up_to, passes_crlf, last_place, place_after, is_excluded}
-use Rattle.ordered_search.specs.MatchAnswer.{MatchAnswer, Found, none_found, undecided, from_place}
+use Rattle.ordered_search.specs.MatchAnswer.{MatchAnswer, Found, none_found, tried, undecided, from_place}
 
 -- a byte that is not in the set
 abbrev pub IsByteOutside : List Bool → ℕ → Type 0
@@ -56,6 +57,12 @@ module _ (g : Setting) where
   IsNextTried from None = found_from from ≡ none_found
   IsNextTried from (Some q) = IsTried from q
 
+  -- all places from one on and before another fail and tell nothing
+  abbrev pub FailBefore : ℕ → ℕ → Type 0
+  FailBefore p q =
+      (k : ℕ) → p ≤ k → k < q → IsTextPlace g.options g.subject k
+      → tried g k ≡ answers (Failed Exhausted)
+
   -- where p fails and q is later, all places from p up to q fail and tell nothing
   abbrev pub FailsTo : ℕ → ℕ → Type 0
   FailsTo p q =
@@ -68,6 +75,9 @@ module _ (g : Setting) where
       → found_from next ≡ found_from (place_after g p signal)
 
 -- The same whatever callouts answer.
+
+abbrev pub FailBeforeAlways : Setting → ℕ → ℕ → Type 0
+FailBeforeAlways g p q = (reply : Block → ℤ) → FailBefore (replied reply g) p q
 
 abbrev pub FailsToAlways : Setting → ℕ → ℕ → Type 0
 FailsToAlways g p q = (reply : Block → ℤ) → FailsTo (replied reply g) p q

@@ -1,21 +1,23 @@
 //! A finished tree and a subject, as the walk over the start places goes over them.
 ghost use Rattle.std.specs.Prelude.{◌≡◌, ◌≤◌, ℤ, IsTrue, IfSome, length};
+ghost use Rattle.std.specs.Option.{option_copied};
 ghost use Rattle.pat_tree.specs.declared.options.PartialMode.TheVariants.{Off};
 ghost use Rattle.pcre_io.specs.declared.callouts.Block.{Block};
 ghost use Rattle.match_items.specs.Subjects.{IsTextPlace};
 ghost use Rattle.frame_board.specs.Ready.{setting_for};
-ghost use Rattle.ordered_search.specs.PlaceAnswer.{Exhausted, Failed, answers, place_answer};
 ghost use Rattle.match_drive.specs.Asked.{passed_over};
 ghost use Rattle.match_drive.specs.Course.{IsByteCourse};
+ghost use Rattle.match_drive.specs.Prefix.{IsTold};
 ghost use Rattle.match_drive.specs.Repeats.{FailsUpTo};
 ghost use Rattle.match_drive.specs.Rest.{FailsToAlways};
 
 use crate::driven::Driven;
-use crate::prefix::item_refuses;
+use crate::prefix::{Tested, is_admitted, test_branches};
 use crate::repeats::{FirstRepeat, refused_to};
 use byte_lanes::ByteSet;
 use frame_machine::{PlaceAnswer, Ready, Scratch, Signal, run_at};
 use match_items::{View, item_run};
+use match_needs::ByteText;
 use pat_tree::{Item, MatchOptions, NodeId, Options, PartialMode};
 use pcre_io::Callouts;
 
@@ -33,9 +35,10 @@ pub(crate) struct Course<'a> {
     pub view: &'a View<'a>,
     /// The pattern stands at the subject's begin alone.
     pub at_begin: bool,
-    /// The parts of the pattern's only alternative, where it has one and that begins with a single item, else none; and
-    /// none where partial matches are looked for.
+    /// The pattern's branches, where they are tested before the machine runs, else none.
     pub first: &'a [NodeId],
+    /// A text with which every match begins, where places at which it doesn't stand are known to fail.
+    pub begin: Option<&'a ByteText>,
     /// The repeat of an item that the pattern begins with, where one is known.
     pub repeat: Option<FirstRepeat>,
     /// The item whose run the pattern begins with, where places in it fail with the first of them.
@@ -46,7 +49,7 @@ impl Course<'_> {
     /// The end of the run that the pattern begins with at a place, where it is known to fail at each place up to there.
     fn refused_to(&self, place: usize) -> Option<usize>
         requires fits { IsByteCourse self.now.ready.now self.now.view.now self.now.at_begin
-            self.now.first.now self.now.repeat self.now.run }
+            self.now.first.now (option_copied self.now.begin) self.now.repeat self.now.run }
         requires place { IsTextPlace self.now.ready.now.tree.now.options
             self.now.view.now.subject.now place }
         ensures { IfSome result (FailsUpTo self.now.ready.now.tree.now self.now.view.now place) }
@@ -60,7 +63,7 @@ impl Course<'_> {
     /// The end of the run from a place that failed, where all places in the run fail with it, else the place.
     fn run_to(&self, place: usize) -> usize
         requires fits { IsByteCourse self.now.ready.now self.now.view.now self.now.at_begin
-            self.now.first.now self.now.repeat self.now.run }
+            self.now.first.now (option_copied self.now.begin) self.now.repeat self.now.run }
         requires place { IsTextPlace self.now.ready.now.tree.now.options
             self.now.view.now.subject.now place }
         ensures low { place ≤ result }
@@ -75,33 +78,54 @@ impl Course<'_> {
         }
     }
 
-    /// Whether what the pattern begins with is known not to stand at a place, so that it fails there.
-    fn refuses(&self, place: usize) -> bool
+    /// What the pattern's branches tell of a place, by the single items that they begin with.
+    fn branches_at(&self, place: usize) -> Tested
         requires fits { IsByteCourse self.now.ready.now self.now.view.now self.now.at_begin
-            self.now.first.now self.now.repeat self.now.run }
+            self.now.first.now (option_copied self.now.begin) self.now.repeat self.now.run }
         requires place { IsTextPlace self.now.ready.now.tree.now.options
             self.now.view.now.subject.now place }
-        ensures { IsTrue result → (given : Block → ℤ)
-            → place_answer (setting_for self.now.ready.now.tree.now self.now.view.now given) place
-            ≡ answers (Failed Exhausted) }
+        ensures { (given : Block → ℤ) → IsTold result
+            (setting_for self.now.ready.now.tree.now self.now.view.now given) place }
     {
-        if item_refuses(self.ready, self.view, self.first, place) {
-            return true;
+        if self.first.is_empty() {
+            return Tested::Open;
+        }
+        match test_branches(self.ready, self.view, self.first, place) {
+            Tested::Took(to) if is_admitted(self.ready, self.view, place, to) => Tested::Took(to),
+            Tested::Refused => Tested::Refused,
+            _ => Tested::Open,
+        }
+    }
+
+    /// What is known of a place by what the pattern begins with.
+    fn tested(&self, place: usize) -> Tested
+        requires fits { IsByteCourse self.now.ready.now self.now.view.now self.now.at_begin
+            self.now.first.now (option_copied self.now.begin) self.now.repeat self.now.run }
+        requires place { IsTextPlace self.now.ready.now.tree.now.options
+            self.now.view.now.subject.now place }
+        ensures { (given : Block → ℤ) → IsTold result
+            (setting_for self.now.ready.now.tree.now self.now.view.now given) place }
+    {
+        match self.branches_at(place) {
+            Tested::Open => {}
+            told => return told,
         }
         match self.refused_to(place) {
-            Some(_) => true,
-            None => false,
+            Some(_) => Tested::Refused,
+            None => Tested::Open,
         }
     }
 }
 
 impl Driven for Course<'_> {
     ghost use Rattle.std.proofs.Common.{refl, subst};
+    ghost use Rattle.std.specs.Option.{option_copied};
     ghost use Rattle.match_items.specs.Subjects.{IsText, IsTextPlace};
 
     ghost asked = { λ x. setting_for x.ready.now.tree.now x.view.now };
 
-    ghost fits = { λ x. IsByteCourse x.ready.now x.view.now x.at_begin x.first.now x.repeat x.run };
+    ghost fits = { λ x. IsByteCourse x.ready.now x.view.now x.at_begin x.first.now
+        (option_copied x.begin) x.repeat x.run };
 
     fn subject(&self) -> &[u8] {
         self.view.subject
@@ -121,6 +145,10 @@ impl Driven for Course<'_> {
 
     fn lead(&self) -> Option<&ByteSet> {
         self.ready.facts.lead.as_ref()
+    }
+
+    fn begin(&self) -> Option<&ByteText> {
+        self.begin
     }
 
     fn names_crlf(&self) -> bool {
@@ -144,14 +172,24 @@ impl Driven for Course<'_> {
         scratch: &mut Scratch,
         calls: &mut C,
     ) -> PlaceAnswer {
-        // At most places the pattern's first items already don't stand.
-        if self.refuses(place) {
-            return PlaceAnswer::Failed {
+        // At most places the pattern's first items already don't stand, and a pattern that is a text has no others.
+        match self.tested(place) {
+            Tested::Took(to) => {
+                if scratch.unset(self.ready.tree.groups()).is_err() {
+                    return PlaceAnswer::Memory;
+                }
+                PlaceAnswer::Matched {
+                    keep: place,
+                    to,
+                    mark: None,
+                }
+            }
+            Tested::Refused => PlaceAnswer::Failed {
                 signal: Signal::Exhausted,
                 hit_end: false,
-            };
+            },
+            Tested::Open => run_at(self.ready, self.view, place, scratch, calls),
         }
-        run_at(self.ready, self.view, place, scratch, calls)
     }
 
     ghost subject_is = { λ x h. subst (λ o. IsText o x.view.now.subject.now) h.options h.subject };

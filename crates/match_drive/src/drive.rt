@@ -15,9 +15,9 @@ use crate::answer::MatchAnswer;
 use crate::begin::stands_at_begin;
 use crate::course::Course;
 use crate::driven::Driven;
-use crate::need::{lacks_need, no_match};
+use crate::need::{begin_of, lacks_need, no_match};
 use crate::places::{last_place, next_tried, place_past};
-use crate::prefix::parts_tested;
+use crate::prefix::branches_tested;
 use crate::repeats::first_repeat;
 use crate::run::leading_run;
 use frame_machine::{PlaceAnswer, Ready, Scratch};
@@ -25,7 +25,7 @@ use match_items::View;
 use pcre_io::{Callouts, NoCallouts};
 
 /// A law: what stands in a slice of bytes is below 256.
-fn are_bytes(bytes: &[u8])
+pub(crate) fn are_bytes(bytes: &[u8])
     ensures { AreBytes bytes.now }
 {}
 
@@ -161,7 +161,8 @@ pub fn search<C: Callouts>(
         ready,
         view,
         at_begin,
-        first: parts_tested(ready.tree, view),
+        first: branches_tested(ready.tree, view),
+        begin: begin_of(ready, view),
         repeat: first_repeat(ready, view),
         run: leading_run(ready.tree, view),
     };

@@ -1,5 +1,5 @@
 //! What a search over all start places goes over.
-ghost use Rattle.std.specs.Prelude.{◌≡◌, ◌≤◌, ◌<◌, ℤ, max, false, length, IsTrue};
+ghost use Rattle.std.specs.Prelude.{◌≡◌, ◌≤◌, ◌<◌, ℤ, max, false, length, IfSome, IsTrue};
 ghost use Rattle.std.specs.Option.{option_copied};
 ghost use Rattle.pcre_io.specs.declared.callouts.Block.{Block};
 ghost use Rattle.match_items.specs.Subjects.{IsText, IsTextPlace};
@@ -11,10 +11,12 @@ ghost use Rattle.ordered_search.specs.PlaceAnswer.{place_answer};
 ghost use Rattle.ordered_search.specs.Setting.{Setting, lead_set, names_cr_or_lf};
 ghost use Rattle.match_drive.specs.Asked.{passed_over, replied};
 ghost use Rattle.match_drive.specs.Begin.{StandsAtBegin};
+ghost use Rattle.match_drive.specs.BeginText.{IsBegun};
 ghost use Rattle.match_drive.specs.Rest.{FailsToAlways};
 
 use byte_lanes::ByteSet;
 use frame_machine::{PlaceAnswer, Scratch};
+use match_needs::ByteText;
 use pat_tree::{MatchOptions, Options};
 use pcre_io::Callouts;
 
@@ -47,6 +49,11 @@ pub trait Driven {
     fn lead(&self) -> Option<&ByteSet>
         requires { fits self.now }
         ensures { IsByteSet (option_copied result) (lead_set (asked self.now passed_over)) };
+
+    /// A text with which every match begins, where places at which it doesn't stand are known to fail.
+    fn begin(&self) -> Option<&ByteText>
+        requires { fits self.now }
+        ensures { IfSome (option_copied result) (IsBegun (asked self.now passed_over)) };
 
     /// Whether CR or LF stands in the pattern, as a character or as an end of a range.
     fn names_crlf(&self) -> bool

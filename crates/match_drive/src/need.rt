@@ -1,5 +1,6 @@
-//! Subjects without a text that every match needs.
-ghost use Rattle.std.specs.Prelude.{◌≡◌, ◌+◌, ◌<◌, ◌≤◌, ℕ, ℤ, None, IsTrue, length, slice_index};
+//! Subjects and places without a text that every match needs.
+ghost use Rattle.std.specs.Prelude.{◌≡◌, ◌+◌, ◌<◌, ◌≤◌, ℕ, ℤ, None, IfSome, IsTrue, length, slice_index};
+ghost use Rattle.std.specs.Option.{option_copied};
 ghost use Rattle.match_items.specs.Subjects.{IsText};
 ghost use Rattle.pcre_io.specs.declared.callouts.Block.{Block};
 ghost use Rattle.match_needs.specs.Bounds.{at};
@@ -7,9 +8,12 @@ ghost use Rattle.frame_board.specs.Ready.{IsReadySearch, setting_for};
 ghost use Rattle.ordered_search.specs.Setting.{lower_of};
 ghost use Rattle.ordered_search.specs.MatchAnswer.{none_found, match_answer};
 ghost use Rattle.match_needs.specs.Texts.{sets_of, Stands};
+ghost use Rattle.match_drive.specs.Asked.{passed_over};
+ghost use Rattle.match_drive.specs.BeginText.{IsBegun};
 
 use crate::answer::MatchAnswer;
 use crate::course::is_off;
+use crate::drive::are_bytes;
 use frame_machine::{Ready, Scratch};
 use match_items::View;
 use match_needs::{ByteText, Need};
@@ -65,6 +69,24 @@ pub(crate) fn lacks_need(ready: &Ready<'_>, view: &View<'_>) -> bool
         return false;
     }
     lacks(view.subject, &need.text)
+}
+
+/// A text with which every match begins, where a search at a place at which it doesn't stand passes no limit. None where
+/// partial matches are looked for.
+pub(crate) fn begin_of<'a>(ready: &'a Ready<'a>, view: &View<'_>) -> Option<&'a ByteText>
+    requires { IsReadySearch ready.now view.now }
+    ensures { IfSome (option_copied result)
+        (IsBegun (setting_for ready.now.tree.now view.now passed_over)) }
+{
+    // what the law on such a text goes by
+    are_bytes(view.subject);
+    let Some(need) = &ready.facts.need else {
+        return None;
+    };
+    if !is_off(view) || !is_within(need, view) {
+        return None;
+    }
+    need.begin.as_ref()
 }
 
 /// The answer for such a subject, whose search met no name.

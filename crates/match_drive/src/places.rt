@@ -2,19 +2,22 @@
 ghost use Rattle.std.specs.Prelude.{◌≡◌, ◌≤◌, ◌<◌, ◌+◌, ◌&&◌, true, false, ℕ, min, nat_lt, length, slice_index, IfSome, IsTrue, None, Some};
 ghost use Rattle.std.specs.Option.{option_copied};
 ghost use Rattle.byte_lanes.specs.Newlines.{newline_len};
+ghost use Rattle.byte_lanes.specs.Places.{IsLeast};
 ghost use Rattle.byte_lanes.specs.Sets.{has_byte};
 ghost use Rattle.uni_text.specs.Characters as text;
 ghost use Rattle.match_items.specs.Subjects.{IsPlace, IsTextPlace};
+ghost use Rattle.match_needs.specs.Texts.{sets_of, Stands};
 ghost use Rattle.frame_state.specs.Answer.{signal_of, IsSkip};
 ghost use Rattle.match_drive.specs.Asked.{passed_over};
 ghost use Rattle.ordered_search.specs.Places as places;
 ghost use Rattle.ordered_search.specs.Places.{up_to};
 ghost use Rattle.match_drive.specs.Rest.{IsLeadUsed, IsByteOutside, IsPassedAlways, IsNextTriedAlways, behind};
-ghost use Rattle.match_drive.specs.Rest.{IsNextAlways};
+ghost use Rattle.match_drive.specs.Rest.{FailBeforeAlways, IsNextAlways};
 
 use crate::driven::Driven;
 use byte_lanes::{ByteSet, EndKind, find_in_set, find_line_end, newline_at};
 use frame_machine::Signal;
+use match_needs::ByteText;
 use pat_tree::PartialMode;
 use uni_text::char_at;
 
@@ -191,7 +194,44 @@ fn place_from(bytes: &[u8], from: usize, to: usize, utf: bool) -> usize
     at
 }
 
-/// Goes past places that are excluded, by lanes.
+/// The first place from one on, and before another, at which a text stands, or else the other.
+fn first_text(bytes: &[u8], from: usize, to: usize, text: &ByteText) -> usize
+    requires ordered { from ≤ to }
+    requires within { to ≤ length bytes.now }
+    ensures { IsLeast (Stands (sets_of text.now) bytes.now) from to result }
+{
+    // Among many places at which it stands the first one is most often it.
+    if from < to && text.stands(bytes, from) {
+        return from;
+    }
+    // A text has three bytes at most: one that stands before `to` ends here.
+    let end = if bytes.len() - to > 2 {
+        to + 2
+    } else {
+        bytes.len()
+    };
+    text.find_from(&bytes[..end], from).min(to)
+}
+
+/// The first place from one on, and before another, at which what a match begins with may stand, or else the other.
+fn first_start<S: Driven>(on: &S, from: usize, to: usize) -> usize
+    requires fits { S.fits on.now }
+    requires ordered { from ≤ to }
+    requires within { to ≤ length (S.asked on.now passed_over).subject }
+    ensures low { from ≤ result }
+    ensures high { result ≤ to }
+    ensures before { FailBeforeAlways (S.asked on.now passed_over) from result }
+{
+    if let Some(text) = on.begin() {
+        return first_text(on.subject(), from, to, text);
+    }
+    match lead_used(on) {
+        Some(set) => first_in(on.subject(), from, to, set),
+        None => from,
+    }
+}
+
+/// Goes past places that fail since no match begins with the bytes there, by lanes.
 fn pass<S: Driven>(on: &S, from: usize, last: usize) -> usize
     requires fits { S.fits on.now }
     requires from { from ≤ last }
@@ -202,13 +242,10 @@ fn pass<S: Driven>(on: &S, from: usize, last: usize) -> usize
     ensures place { result ≤ last → IsTextPlace (S.asked on.now passed_over).options
         (S.asked on.now passed_over).subject result }
 {
-    let Some(set) = lead_used(on) else {
-        return from;
-    };
     let subject = on.subject();
     let end = bytes_end(last, subject.len());
-    let found = first_in(subject, from, end, set);
-    // In UTF the set may have bytes that stand inside characters.
+    let found = first_start(on, from, end);
+    // In UTF it may stand inside a character.
     behind(on, from, place_from(subject, found, end, on.options().utf))
 }
 

@@ -1,5 +1,6 @@
 //! The start places of a search of a finished tree, for a matcher that goes over them itself.
 ghost use Rattle.std.specs.Prelude.{◌≡◌, ◌≤◌, ◌<◌, length, IfSome};
+ghost use Rattle.std.specs.Option.{option_copied};
 ghost use Rattle.match_items.specs.Subjects.{IsPlace, IsTextPlace};
 ghost use Rattle.frame_board.specs.Ready.{IsReadySearch, setting_for};
 ghost use Rattle.ordered_search.specs.Places as places;
@@ -18,13 +19,14 @@ fn course_of<'a>(ready: &'a Ready<'a>, view: &'a View<'a>) -> Course<'a>
     ensures ready { result.ready.now ≡ ready.now }
     ensures view { result.view.now ≡ view.now }
     ensures fits { IsByteCourse result.ready.now result.view.now result.at_begin result.first.now
-        result.repeat result.run }
+        (option_copied result.begin) result.repeat result.run }
 {
     Course {
         ready,
         view,
         at_begin: false,
         first: &[],
+        begin: None,
         repeat: None,
         run: None,
     }

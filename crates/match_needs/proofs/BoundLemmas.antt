@@ -1,10 +1,13 @@
 -- Bounds as they are kept, joined as the definition joins them.
-use Rattle.std.proofs.Common.{◌≡◌, ℕ, ◌&&◌, Bool, true, false, if◌then◌else◌, List, [], ◌∷◌, map, Option, Some, None, All, refl, sym, ap, subst}
+use Rattle.std.proofs.Common.{◌≡◌, ◌<◌, ℕ, ◌&&◌, length, drop, arith, Bool, true, false, if◌then◌else◌, List, [], ◌∷◌, map, Option, Some, None, All, refl, sym, ap, subst}
+use Rattle.std.proofs.lemmas.List.{drop_all}
 use Rattle.std.proofs.lemmas.List.Elements.{All-head, All-tail}
-use Rattle.pat_tree.specs.Nested.{Nested, Row, look, row, tree_at}
+use Rattle.pat_tree.specs.Nested.{Nested, Row, look, more, row, tree_at, trees}
+use Rattle.pat_tree.specs.Parts.{TreeParts}
+use Rattle.char_sets.specs.Sets.{class_has}
 use Rattle.match_needs.specs.declared.bounds.Bound.{Bound}
-use Rattle.match_needs.specs.Bounds.{closed, followed, or_later, both, change, bound, bound_in_turn, bound_of_one, bound_of_choices}
-use Rattle.match_needs.specs.BoundTables.{Refines, bound_at, turn_of, choices_of, one_of}
+use Rattle.match_needs.specs.Bounds.{once, closed, followed, or_later, both, change, bound, bound_before, bound_in_turn, bound_of_one, bound_of_choices}
+use Rattle.match_needs.specs.BoundTables.{Refines, RefinesTurn, IsBefore, bound_at, choices_of, one_of}
 
 pub refines_on : (x y z : Option Bound) → Refines x y → Refines y z → Refines x z
 refines_on None y z h k = tt
@@ -22,12 +25,6 @@ change_refines f (Some a) x' h = rw h refl
 -- By the bounds of the trees.
 
 module _ (told meant : ℕ → Option Bound) where
-  turn_refines : (ks : List ℕ) → All (λ k. Refines (told k) (meant k)) ks → Refines (turn_of told ks) (turn_of meant ks)
-  turn_refines [] h = refl
-  turn_refines (k ∷ ks) h =
-      both_refines followed (told k) (turn_of told ks) _ _ (All-head (λ k. Refines (told k) (meant k)) k ks h)
-      (turn_refines ks (All-tail (λ k. Refines (told k) (meant k)) k ks h))
-
   choices_refine : (ks : List ℕ) → All (λ k. Refines (told k) (meant k)) ks → Refines (choices_of told ks) (choices_of meant ks)
   choices_refine [] h = refl
   choices_refine (k ∷ ks) h =
@@ -39,40 +36,48 @@ module _ (told meant : ℕ → Option Bound) where
   one_refines (k ∷ []) h = All-head (λ k. Refines (told k) (meant k)) k [] h
   one_refines (k ∷ m ∷ ks) h = choices_refine (k ∷ m ∷ ks) h
 
-abbrev of_trees : List Nested → ℕ → Option Bound
-of_trees trees k = bound (tree_at trees k)
+-- The first of the parts, and those behind it.
 
-turn_is : (trees : List Nested) (ks : List ℕ) → turn_of (of_trees trees) ks ≡ bound_in_turn (row (map (tree_at trees) ks))
+pub turn_none : (tree : TreeParts) (bounds : List (Option Bound)) (whole : Bound) (ks : List ℕ) → whole ≡ once → RefinesTurn tree bounds (Some whole) (drop (length ks) ks)
 unfolding bound
-turn_is trees [] = refl
-turn_is trees (k ∷ ks) = ap (both followed (bound (tree_at trees k))) (turn_is trees ks)
+turn_none tree bounds whole ks is =
+    subst (RefinesTurn tree bounds (Some whole)) (sym (drop_all (length ks) ks (omega arith))) (λ kept. ap Some (sym is))
 
-choices_is : (trees : List Nested) (ks : List ℕ) → choices_of (of_trees trees) ks ≡ bound_of_choices (row (map (tree_at trees) ks))
+pub turn_more : (has : ℕ → ℕ → Bool) (t : Nested) (ts : Row) (before whole result : Option Bound) → Refines before (bound_before has t ts (bound has t))
+    → Refines whole (bound_in_turn has ts) → Refines result (both followed before whole) → Refines result (bound_in_turn has (more t ts))
 unfolding bound
-choices_is trees [] = refl
-choices_is trees (k ∷ ks) = ap (both or_later (bound (tree_at trees k))) (choices_is trees ks)
+turn_more has t ts before whole result h k is = refines_on result (both followed before whole) _ is (both_refines followed before whole _ _ h k)
 
-one_is : (trees : List Nested) (ks : List ℕ) → one_of (of_trees trees) ks ≡ bound_of_one (row (map (tree_at trees) ks))
-unfolding bound
-one_is trees [] = refl
-one_is trees (k ∷ []) = refl
-one_is trees (k ∷ m ∷ ks) =
-    ap (λ o. both or_later (bound (tree_at trees k)) (both or_later (bound (tree_at trees m)) o)) (choices_is trees ks)
+pub turn_next : (tree : TreeParts) (bounds : List (Option Bound)) (before whole result : Option Bound) (k : ℕ) (ks : List ℕ) → k < length bounds → IsBefore tree bounds before (k ∷ ks)
+    → RefinesTurn tree bounds whole ks → Refines result (both followed before whole) → RefinesTurn tree bounds result (k ∷ ks)
+turn_next tree bounds before whole result k ks within is later told kept =
+    turn_more (class_has tree) (tree_at (trees tree.nodes) k) (row (map (tree_at (trees tree.nodes)) ks)) before whole result (is (kept k within)) (later kept) told
 
-module _ (trees : List Nested) (bounds : List (Option Bound)) (result : Option Bound) (ks : List ℕ) (kept : All (λ k. Refines (bound_at bounds k) (bound (tree_at trees k))) ks) where
-  pub turn_told : Refines result (turn_of (bound_at bounds) ks) → Refines result (bound_in_turn (row (map (tree_at trees) ks)))
-  turn_told h =
-      subst (Refines result) (turn_is trees ks)
-      (refines_on result (turn_of (bound_at bounds) ks) _ h (turn_refines (bound_at bounds) (of_trees trees) ks kept))
+module _ (has : ℕ → ℕ → Bool) where
+  abbrev of_trees : List Nested → ℕ → Option Bound
+  of_trees trees k = bound has (tree_at trees k)
 
-  pub one_told : Refines result (one_of (bound_at bounds) ks) → Refines result (bound_of_one (row (map (tree_at trees) ks)))
-  one_told h =
-      subst (Refines result) (one_is trees ks)
-      (refines_on result (one_of (bound_at bounds) ks) _ h (one_refines (bound_at bounds) (of_trees trees) ks kept))
+  choices_is : (trees : List Nested) (ks : List ℕ) → choices_of (of_trees trees) ks ≡ bound_of_choices has (row (map (tree_at trees) ks))
+  unfolding bound
+  choices_is trees [] = refl
+  choices_is trees (k ∷ ks) = ap (both or_later (bound has (tree_at trees k))) (choices_is trees ks)
 
-pub look_told : (ahead positive atomic : Bool) (ts : Row) (inside result : Option Bound) → Refines inside (change closed (bound_of_one ts)) →
-    result ≡ (if ahead && atomic then inside else None) → Refines result (bound (look ahead positive atomic ts))
-unfolding bound
-look_told true positive true ts inside result h e = subst (λ o. Refines o (change closed (bound_of_one ts))) (sym e) h
-look_told true positive false ts inside result h e = subst (λ o. Refines o None) (sym e) tt
-look_told false positive _ ts inside result h e = subst (λ o. Refines o None) (sym e) tt
+  one_is : (trees : List Nested) (ks : List ℕ) → one_of (of_trees trees) ks ≡ bound_of_one has (row (map (tree_at trees) ks))
+  unfolding bound
+  one_is trees [] = refl
+  one_is trees (k ∷ []) = refl
+  one_is trees (k ∷ m ∷ ks) =
+      ap (λ o. both or_later (bound has (tree_at trees k)) (both or_later (bound has (tree_at trees m)) o)) (choices_is trees ks)
+
+  module _ (trees : List Nested) (bounds : List (Option Bound)) (result : Option Bound) (ks : List ℕ) (kept : All (λ k. Refines (bound_at bounds k) (bound has (tree_at trees k))) ks) where
+    pub one_told : Refines result (one_of (bound_at bounds) ks) → Refines result (bound_of_one has (row (map (tree_at trees) ks)))
+    one_told h =
+        subst (Refines result) (one_is trees ks)
+        (refines_on result (one_of (bound_at bounds) ks) _ h (one_refines (bound_at bounds) (of_trees trees) ks kept))
+
+  pub look_told : (ahead positive atomic : Bool) (ts : Row) (inside result : Option Bound) → Refines inside (change closed (bound_of_one has ts)) →
+      result ≡ (if ahead && atomic then inside else None) → Refines result (bound has (look ahead positive atomic ts))
+  unfolding bound
+  look_told true positive true ts inside result h e = subst (λ o. Refines o (change closed (bound_of_one has ts))) (sym e) h
+  look_told true positive false ts inside result h e = subst (λ o. Refines o None) (sym e) tt
+  look_told false positive _ ts inside result h e = subst (λ o. Refines o None) (sym e) tt

@@ -4,8 +4,8 @@ use Rattle.std.specs.Prelude.{slice_index}
 use Rattle.byte_lanes.specs.Sets.{has_byte}
 use Rattle.pat_tree.specs.declared.nodes.Item.{Item}
 use Rattle.pat_tree.specs.Nested as tree
-use Rattle.pat_tree.specs.Nested.{Row}
-use Rattle.match_needs.specs.Needs.{Begins}
+use Rattle.pat_tree.specs.Nested.{Nested, Row}
+use Rattle.match_needs.specs.Needs.{IsShortBefore, Begins}
 use Rattle.match_needs.specs.Texts.{Stands, AreUnions}
 
 pub clash : (b : Bool) → b ≡ true → b ≡ false → ⊥
@@ -17,12 +17,17 @@ Wider sets [] = Unit {0}
 Wider [] (more ∷ rest) = ⊥
 Wider (set ∷ sets) (more ∷ rest) = ((b : ℕ) → b < 256 → has_byte set b ≡ true → has_byte more b ≡ true) × Wider sets rest
 
-pub begins_more : (may : Item → ℕ → Bool) (old new : List (List Bool)) → Wider old new → (ts : Row) → Begins may old ts → Begins may new ts
-begins_more may old [] w ts h = tt
-begins_more may [] (more ∷ rest) w ts h = absurd w
-begins_more may (set ∷ sets) (more ∷ rest) w tree.none h = absurd h
-begins_more may (set ∷ sets) (more ∷ rest) w (tree.more t ts) h =
-    ((h.0.0, (h.0.1.0, λ b l may. w.0 b l (h.0.1.1 b l may))), begins_more may sets rest w.1 ts h.1)
+short_more : (may : Item → ℕ → Bool) (utf : Bool) (old new : List (List Bool)) → Wider old new → (t : Nested) → IsShortBefore may utf old t → IsShortBefore may utf new t
+short_more may utf old [] w t h = tt
+short_more may utf [] (more ∷ rest) w t h = absurd w
+short_more may utf (set ∷ sets) (more ∷ rest) w t h = h
+
+pub begins_more : (may : Item → ℕ → Bool) (utf : Bool) (old new : List (List Bool)) → Wider old new → (ts : Row) → Begins may utf old ts → Begins may utf new ts
+begins_more may utf old [] w ts h = tt
+begins_more may utf [] (more ∷ rest) w ts h = absurd w
+begins_more may utf (set ∷ sets) (more ∷ rest) w tree.none h = absurd h
+begins_more may utf (set ∷ sets) (more ∷ rest) w (tree.more t ts) h =
+    ((h.0.0, (h.0.1.0, λ b l may. w.0 b l (h.0.1.1 b l may))), (short_more may utf sets rest w.1 t h.1.0, begins_more may utf sets rest w.1 ts h.1.1))
 
 or_left : (p q : Bool) → p ≡ true → (p || q) ≡ true
 or_left true q h = refl

@@ -1,8 +1,10 @@
 -- Bounds as they are kept for each node. Where a number doesn't fit, none is kept.
-use Rattle.std.specs.Prelude.{◌≡◌, ◌<◌, ℕ, List, [], ◌∷◌, length, Option, Some, None, slice_index_or}
-use Rattle.pat_tree.specs.Nested.{Nested, tree_at}
+use Rattle.std.specs.Prelude.{◌≡◌, ◌<◌, ℕ, Bool, List, [], ◌∷◌, map, length, Option, Some, None, slice_index_or}
+use Rattle.pat_tree.specs.Nested.{Nested, row, tree_at, trees}
+use Rattle.pat_tree.specs.Parts.{TreeParts}
+use Rattle.char_sets.specs.Sets.{class_has}
 use Rattle.match_needs.specs.declared.bounds.Bound.{Bound}
-use Rattle.match_needs.specs.Bounds.{once, never, followed, or_later, both, bound}
+use Rattle.match_needs.specs.Bounds.{never, or_later, both, bound, bound_before, bound_in_turn}
 
 -- what is told is what is meant
 abbrev pub Refines : {A : Type 0} → Option A → Option A → Type 0
@@ -12,11 +14,7 @@ Refines (Some a) y = y ≡ Some a
 abbrev pub bound_at : List (Option Bound) → ℕ → Option Bound
 bound_at bounds k = slice_index_or bounds k None
 
--- of parts one after the other, and of branches, by the bounds of each
-abbrev pub turn_of : (ℕ → Option Bound) → List ℕ → Option Bound
-turn_of of [] = Some once
-turn_of of (k ∷ ks) = both followed (of k) (turn_of of ks)
-
+-- of branches, by the bounds of each
 abbrev pub choices_of : (ℕ → Option Bound) → List ℕ → Option Bound
 choices_of of [] = Some never
 choices_of of (k ∷ ks) = both or_later (of k) (choices_of of ks)
@@ -25,5 +23,20 @@ abbrev pub one_of : (ℕ → Option Bound) → List ℕ → Option Bound
 one_of of (k ∷ []) = of k
 one_of of ks = choices_of of ks
 
-abbrev pub KeepBounds : List Nested → List (Option Bound) → Type 0
-KeepBounds trees bounds = (k : ℕ) → k < length bounds → Refines (bound_at bounds k) (bound (tree_at trees k))
+abbrev pub KeepBounds : (ℕ → ℕ → Bool) → List Nested → List (Option Bound) → Type 0
+KeepBounds has trees bounds = (k : ℕ) → k < length bounds → Refines (bound_at bounds k) (bound has (tree_at trees k))
+
+-- the bound of the parts, one after the other, where those of each are kept
+abbrev pub RefinesTurn : TreeParts → List (Option Bound) → Option Bound → List ℕ → Type 0
+RefinesTurn tree bounds result ks =
+    KeepBounds (class_has tree) (trees tree.nodes) bounds
+    → Refines result (bound_in_turn (class_has tree) (row (map (tree_at (trees tree.nodes)) ks)))
+
+-- the bound of the first of the parts, before the others
+abbrev pub IsBefore : TreeParts → List (Option Bound) → Option Bound → List ℕ → Type 0
+IsBefore tree bounds result [] = Unit {0}
+IsBefore tree bounds result (k ∷ ks) =
+    let has = class_has tree in
+    let of = tree_at (trees tree.nodes) in
+    Refines (bound_at bounds k) (bound has (of k))
+    → Refines result (bound_before has (of k) (row (map of ks)) (bound has (of k)))

@@ -1,11 +1,11 @@
 -- Needed texts as they are kept for each node, and with a pattern's bound.
-use Rattle.std.specs.Prelude.{◌≡◌, ◌<◌, ℕ, Bool, true, false, List, All, length, Option, Some, None, slice_index_or}
+use Rattle.std.specs.Prelude.{◌≡◌, ◌<◌, ℕ, Bool, true, false, List, All, length, Option, Some, None, IfSome, slice_index_or}
 use Rattle.pat_tree.specs.declared.nodes.Item.{Item}
-use Rattle.pat_tree.specs.Nested.{Nested, Row, tree_at}
+use Rattle.pat_tree.specs.Nested.{Nested, Row, one, tree_at}
 use Rattle.pat_tree.specs.Parts.{TreeParts, tree_of}
 use Rattle.char_sets.specs.Sets.{class_has}
 use Rattle.match_needs.specs.Bounds.{bound}
-use Rattle.match_needs.specs.Needs.{may_take, TakesOf, IsTaking, Begins, Needs, SomeNeeds, AllNeed}
+use Rattle.match_needs.specs.Needs.{may_take, TakesOf, IsTaking, IsShort, Begins, Needs, SomeNeeds, AllNeed}
 use Rattle.match_needs.specs.Texts.{sets_of}
 use Rattle.match_needs.specs.declared.needs.Need.{Need}
 use Rattle.match_needs.specs.declared.needs.Taken.{Taken}
@@ -15,42 +15,46 @@ use Rattle.match_needs.specs.declared.needs.Wanted.{Wanted}
 abbrev pub may_of : TreeParts → Item → ℕ → Bool
 may_of tree = may_take tree.options.utf (class_has tree)
 
--- every match of the item takes one of the bytes
-abbrev pub IsItemNeed : (Item → ℕ → Bool) → Item → Taken → Type 0
-IsItemNeed may item taken = TakesOf may taken.bytes item
+-- every match of the item takes one of the bytes, in UTF or not; where it is told so, as a character of one byte
+abbrev pub IsItemNeed : (Item → ℕ → Bool) → Bool → Item → Taken → Type 0
+IsItemNeed may utf item taken = TakesOf may taken.bytes item × (taken.is_short ≡ true → IsShort may utf item)
 
--- every match of the part takes the text; what is told to be an item is one
-pub record IsWanted (may : Item → ℕ → Bool) (utf : Bool) (t : Nested) (w : Wanted) : Type 0 where
-  pub needs : Needs may utf (sets_of w.text) t
-  pub item : w.is_item ≡ true → (utf ≡ false) × IsTaking may w.text.first t
+-- what holds of the text of a part, in UTF or not, and anywhere in a match of the part or where the match begins
+module _ (may : Item → ℕ → Bool) (utf anywhere : Bool) where
+  -- every match of the part takes the text; what is told to be an item is one, and so is what takes one byte
+  pub record IsWanted (t : Nested) (w : Wanted) : Type 0 where
+    pub needs : Needs may utf anywhere (sets_of w.text) t
+    pub item : w.is_item ≡ true → IsTaking may w.text.first t
+    pub short : w.is_short ≡ true → (item : Item) → t ≡ one item → IsShort may utf item
 
--- where there is one
-abbrev pub IsNeed : (Item → ℕ → Bool) → Bool → Nested → Option Wanted → Type 0
-IsNeed may utf t None = Unit {0}
-IsNeed may utf t (Some w) = IsWanted may utf t w
+  -- where there is one
+  abbrev pub IsNeed : Nested → Option Wanted → Type 0
+  IsNeed t None = Unit {0}
+  IsNeed t (Some w) = IsWanted t w
 
--- and every match of each of these branches
-abbrev pub AreAllNeeds : (Item → ℕ → Bool) → Bool → Row → Option Wanted → Type 0
-AreAllNeeds may utf ts None = Unit {0}
-AreAllNeeds may utf ts (Some w) = (w.is_item ≡ false) × AllNeed may utf (sets_of w.text) ts
+  -- and every match of each of these branches
+  abbrev pub AreAllNeeds : Row → Option Wanted → Type 0
+  AreAllNeeds ts None = Unit {0}
+  AreAllNeeds ts (Some w) = (w.is_item ≡ false) × AllNeed may utf anywhere (sets_of w.text) ts
 
--- one of these parts in turn, or items among them
-abbrev pub IsSomeNeed : (Item → ℕ → Bool) → Bool → Row → Option Wanted → Type 0
-IsSomeNeed may utf ts None = Unit {0}
-IsSomeNeed may utf ts (Some w) = (w.is_item ≡ false) × SomeNeeds may utf (sets_of w.text) ts
+  -- one of these parts in turn, or items among them
+  abbrev pub IsSomeNeed : Row → Option Wanted → Type 0
+  IsSomeNeed ts None = Unit {0}
+  IsSomeNeed ts (Some w) = (w.is_item ≡ false) × SomeNeeds may utf anywhere (sets_of w.text) ts
+
+  abbrev pub AreNeeds : (ℕ → Nested) → List (Option Wanted) → List ℕ → Type 0
+  AreNeeds of needs ks = All (λ k. IsNeed (of k) (slice_index_or needs k None)) ks
+
+  abbrev pub KeepNeeds : List Nested → List (Option Wanted) → Type 0
+  KeepNeeds trees needs = (k : ℕ) → k < length needs → IsNeed (tree_at trees k) (slice_index_or needs k None)
 
 -- the parts begin with items that take the text
 abbrev pub IsRun : (Item → ℕ → Bool) → Bool → Row → Option Wanted → Type 0
 IsRun may utf ts None = Unit {0}
-IsRun may utf ts (Some w) = (w.is_item ≡ false) × ((utf ≡ false) × Begins may (sets_of w.text) ts)
+IsRun may utf ts (Some w) = (w.is_item ≡ false) × Begins may utf (sets_of w.text) ts
 
-abbrev pub AreNeeds : (Item → ℕ → Bool) → Bool → (ℕ → Nested) → List (Option Wanted) → List ℕ → Type 0
-AreNeeds may utf of needs ks = All (λ k. IsNeed may utf (of k) (slice_index_or needs k None)) ks
-
-abbrev pub KeepNeeds : (Item → ℕ → Bool) → Bool → List Nested → List (Option Wanted) → Type 0
-KeepNeeds may utf trees needs = (k : ℕ) → k < length needs → IsNeed may utf (tree_at trees k) (slice_index_or needs k None)
-
--- every match of a finished tree takes the text, and the tree has this bound
+-- every match of a finished tree takes the text, and one where it begins, where that is told; and the tree has this bound
 pub record IsNeedOf (tree : TreeParts) (need : Need) : Type 0 where
-  pub text : Needs (may_of tree) tree.options.utf (sets_of need.text) (tree_of tree)
-  pub bound : bound (tree_of tree) ≡ Some need.bound
+  pub text : Needs (may_of tree) tree.options.utf true (sets_of need.text) (tree_of tree)
+  pub begin : IfSome need.begin (λ text. Needs (may_of tree) tree.options.utf false (sets_of text) (tree_of tree))
+  pub bound : bound (class_has tree) (tree_of tree) ≡ Some need.bound

@@ -1,13 +1,16 @@
 // How many Steps, states and units a search of a part of a pattern takes at most.
-ghost use Rattle.std.specs.Prelude.{◌≡◌, ◌+◌, ◌<◌, ◌≤◌, ◌&&◌, if◌then◌else◌, None, All, List, IfOk, IfSome, IsTrue, length};
-ghost use Rattle.pat_tree.specs.Nested.{Nested, trees, nest};
-ghost use Rattle.pat_tree.specs.Parts.{tree_of};
-ghost use Rattle.pat_tree.specs.Rules.{kids_of};
+ghost use Rattle.std.specs.Prelude.{◌≡◌, ◌+◌, ◌<◌, ◌≤◌, ◌&&◌, if◌then◌else◌, None, Some, All, List, IfOk, IfSome, IsTrue, length};
+ghost use Rattle.pat_tree.specs.Nested.{Nested, Row, more, trees, nest};
+ghost use Rattle.pat_tree.specs.Parts.{TreeParts, tree_of};
+ghost use Rattle.pat_tree.specs.Rules.{class_in, kids_of};
+ghost use Rattle.char_sets.specs.Sets.{class_has};
+ghost use Rattle.char_sets.specs.Table.{IsTableOf};
 ghost use Rattle.match_needs.specs.Bounds as spec;
 ghost use Rattle.match_needs.specs.Bounds.{at, both, change};
-ghost use Rattle.match_needs.specs.BoundTables.{Refines, KeepBounds, bound_at, turn_of, one_of, choices_of};
+ghost use Rattle.match_needs.specs.BoundTables.{Refines, KeepBounds, RefinesTurn, IsBefore, bound_at, one_of, choices_of};
 
-use pat_tree::{Memory, Node, NodeId, Tree};
+use char_sets::ClassTable;
+use pat_tree::{Item, Memory, Node, NodeId, Tree};
 use std::alloc::Global;
 
 /// A number that grows with a subject: `times` times a power of one more than the subject's length.
@@ -99,6 +102,17 @@ impl Bound {
         }
     }
 
+    /// The same, where no more than one of these places goes on.
+    fn left_once(places: Growth) -> Bound
+        ensures { result ≡ spec.left_once places }
+    {
+        Bound {
+            steps: places,
+            states: Growth::steady(1),
+            units: 1,
+        }
+    }
+
     /// This part, and another one behind it.
     fn followed(self, next: Bound) -> Option<Bound>
         ensures { IfSome result (λ x. x ≡ spec.followed self next) }
@@ -161,21 +175,29 @@ fn turns(min: u16, max: Option<u16>) -> Growth
 }
 
 /// The bound of a whole pattern, where one is known.
-pub(crate) fn bound_of_whole(alloc: Global, tree: &Tree) -> Result<Option<Bound>, Memory>
-    ensures { IfOk result (λ bound. Refines bound (spec.bound (tree_of tree.now))) }
+pub(crate) fn bound_of_whole(
+    alloc: Global,
+    tree: &Tree,
+    classes: &ClassTable,
+) -> Result<Option<Bound>, Memory>
+    requires { IsTableOf tree.now classes.now }
+    ensures { IfOk result (λ bound.
+        Refines bound (spec.bound (class_has tree.now) (tree_of tree.now))) }
 {
-    let bounds = bounds_of(alloc, tree)?;
+    let bounds = bounds_of(alloc, tree, classes)?;
     Ok(bounds[tree.root() as usize])
 }
 
 /// The bound of each node up to the root.
-fn bounds_of(alloc: Global, tree: &Tree) -> Result<Vec<Option<Bound>>, Memory>
+fn bounds_of(alloc: Global, tree: &Tree, classes: &ClassTable) -> Result<Vec<Option<Bound>>, Memory>
+    requires { IsTableOf tree.now classes.now }
     ensures count { IfOk result (λ bounds. length bounds.items ≡ tree.now.root + 1) }
-    ensures kept { IfOk result (λ bounds. KeepBounds (trees tree.now.nodes) bounds.items) }
+    ensures kept { IfOk result (λ bounds.
+        KeepBounds (class_has tree.now) (trees tree.now.nodes) bounds.items) }
 {
     let mut bounds = Vec::with_capacity(alloc, tree.root() as usize + 1)?;
     for id in 0..tree.root() as u64 + 1 {
-        let bound = bound_of(tree.node(id as u32), &bounds);
+        let bound = bound_of(tree, classes, tree.node(id as u32), &bounds);
         bounds.push(bound)?;
     }
     Ok(bounds)
@@ -183,10 +205,12 @@ fn bounds_of(alloc: Global, tree: &Tree) -> Result<Vec<Option<Bound>>, Memory>
 
 /// The bound of a node, by those of its children.
 #[tactic(auto, unfolding(crate::specs::Bounds::bound))]
-fn bound_of(node: &Node, bounds: &[Option<Bound>]) -> Option<Bound>
+fn bound_of(tree: &Tree, classes: &ClassTable, node: &Node, bounds: &[Option<Bound>]) -> Option<Bound>
+    requires table { IsTableOf tree.now classes.now }
     requires below { All (λ k. k < length bounds.now) (kids_of node.now) }
-    ensures { (trees : List Nested) → KeepBounds trees bounds.now
-        → Refines result (spec.bound (nest trees node.now)) }
+    requires few { length bounds.now ≤ tree.now.root }
+    ensures { KeepBounds (class_has tree.now) (trees tree.now.nodes) bounds.now
+        → Refines result (spec.bound (class_has tree.now) (nest (trees tree.now.nodes) node.now)) }
 {
     match node {
         Node::Empty => Some(Bound::once()),
@@ -195,7 +219,7 @@ fn bound_of(node: &Node, bounds: &[Option<Bound>]) -> Option<Bound>
         Node::Ref { .. } => Some(Bound::once()),
         Node::Anchor(_) => Some(Bound::once()),
         Node::KeepOut => Some(Bound::once()),
-        Node::Seq(kids) => in_turn(kids.as_slice(), bounds),
+        Node::Seq(kids) => in_turn(tree, classes, kids.as_slice(), bounds),
         Node::Group { number, branches } => grouped(*number, one_of(branches.as_slice(), bounds)),
         Node::OneRepeat { min, max, .. } => Some(Bound::offered(turns(*min, *max))),
         Node::Atomic(branches) => closed(one_of(branches.as_slice(), bounds)),
@@ -239,16 +263,68 @@ fn closed(branches: Option<Bound>) -> Option<Bound>
     branches?.closed()
 }
 
+/// Whether a part is a character that an item doesn't take.
+fn is_apart(classes: &ClassTable, item: &Item, next: &Node) -> bool
+    requires { All (λ n. n < length classes.now) (class_in item.now) }
+    ensures { (tree : TreeParts) → IsTableOf tree classes.now → (trees : List Nested) (rest : Row)
+        → result ≡ spec.is_apart (class_has tree) item.now (more (nest trees next.now) rest) }
+{
+    let Node::One(Item::Char { c, caseless: false }) = next else {
+        return false;
+    };
+    match item {
+        Item::Class(class) => *c < 256 && !classes.bytes(*class).has(*c as u8),
+        Item::Char {
+            c: own,
+            caseless: false,
+        } => *own != *c,
+        _ => false,
+    }
+}
+
+/// The bound of the first of these parts, before the others.
+fn bound_before(
+    tree: &Tree,
+    classes: &ClassTable,
+    parts: &[NodeId],
+    bounds: &[Option<Bound>],
+) -> Option<Bound>
+    requires table { IsTableOf tree.now classes.now }
+    requires some { 0 < length parts.now }
+    requires below { All (λ k. k < length bounds.now) parts.now }
+    requires few { length bounds.now ≤ tree.now.root }
+    ensures { IsBefore tree.now bounds.now result parts.now }
+{
+    let own = bounds[parts[0] as usize];
+    let [first, next, ..] = parts else {
+        return own;
+    };
+    let Node::OneRepeat { item, min, max, .. } = tree.node(*first) else {
+        return own;
+    };
+    if is_apart(classes, item, tree.node(*next)) {
+        return Some(Bound::left_once(turns(*min, *max)));
+    }
+    own
+}
+
 /// Parts one after the other.
-fn in_turn(parts: &[NodeId], bounds: &[Option<Bound>]) -> Option<Bound>
-    requires { All (λ k. k < length bounds.now) parts.now }
-    ensures { Refines result (turn_of (bound_at bounds.now) parts.now) }
+fn in_turn(
+    tree: &Tree,
+    classes: &ClassTable,
+    parts: &[NodeId],
+    bounds: &[Option<Bound>],
+) -> Option<Bound>
+    requires table { IsTableOf tree.now classes.now }
+    requires below { All (λ k. k < length bounds.now) parts.now }
+    requires few { length bounds.now ≤ tree.now.root }
+    ensures { RefinesTurn tree.now bounds.now result parts.now }
 {
     let mut whole = Some(Bound::once());
     let mut i = parts.len();
     while i > 0 {
         i -= 1;
-        whole = followed(bounds[parts[i] as usize], whole);
+        whole = followed(bound_before(tree, classes, &parts[i..], bounds), whole);
     }
     whole
 }

@@ -1,14 +1,14 @@
 // Texts of which every match of a part of a pattern takes one.
-ghost use Rattle.std.specs.Prelude.{◌≡◌, ◌⊎◌, ℕ, ◌+◌, ◌<◌, ◌≤◌, ◌∷◌, [], ◌&&◌, if◌then◌else◌, Bool, true, false, None, Some, All, List, map, IfOk, IfSome, length};
+ghost use Rattle.std.specs.Prelude.{◌≡◌, ◌⊎◌, ℕ, ◌+◌, ◌<◌, ◌≤◌, ◌∷◌, [], ◌&&◌, ◌||◌, ◌==◌, nat_lt, if◌then◌else◌, Bool, true, false, None, Some, All, List, map, IfOk, IfSome, length};
 ghost use Rattle.byte_lanes.specs.Sets.{has_byte};
 ghost use Rattle.char_sets.specs.Sets.{class_has};
 ghost use Rattle.pat_tree.specs.declared.nodes.Item.{Item};
-ghost use Rattle.pat_tree.specs.Nested.{Nested, Row, more, trees, nest, row};
+ghost use Rattle.pat_tree.specs.Nested.{Nested, Row, one, more, trees, nest, row};
 ghost use Rattle.pat_tree.specs.Parts.{TreeParts};
 ghost use Rattle.pat_tree.specs.Rules.{kids_of, classes_of, class_in};
 ghost use Rattle.char_sets.specs.Table.{IsTableOf};
 ghost use Rattle.match_needs.specs.declared.needs.Wanted.{Wanted};
-ghost use Rattle.match_needs.specs.Needs.{may_begin, may_take, Needs, TakesOf, IsTaking};
+ghost use Rattle.match_needs.specs.Needs.{may_begin, may_take, Needs, TakesOf, IsTaking, IsShort, Begins, copies};
 ghost use Rattle.match_needs.specs.Texts.{sets_of};
 ghost use Rattle.match_needs.specs.NeedTables.{may_of, IsNeed, IsItemNeed, IsRun, IsSomeNeed, AreAllNeeds, KeepNeeds, AreNeeds, IsNeedOf};
 
@@ -24,6 +24,8 @@ use std::alloc::Global;
 #[derive(Drop)]
 pub struct Need {
     pub text: ByteText,
+    /// A text with which every match begins, where one is known that may tell more than the first bytes.
+    pub begin: Option<ByteText>,
     pub bound: Bound,
 }
 
@@ -32,6 +34,8 @@ pub struct Need {
 pub(crate) struct Taken {
     pub bytes: ByteSet,
     pub weight: u32,
+    /// Whether in UTF each character that it takes is one byte.
+    pub is_short: bool,
 }
 
 /// A text of which every match of a part takes one, and how common the bytes of each place are.
@@ -41,6 +45,8 @@ pub(crate) struct Wanted {
     pub weights: [u32; 3],
     /// Whether the part is one item, and the text is what it takes.
     pub is_item: bool,
+    /// Whether that item takes one byte.
+    pub is_short: bool,
 }
 
 // A weight tells how many of so many bytes of a usual text are in a set: the weight of a place where any byte may stand.
@@ -55,76 +61,126 @@ pub fn need_of(alloc: Global, tree: &Tree, classes: &ClassTable) -> Result<Optio
     requires table { IsTableOf tree.now classes.now }
     ensures { IfOk result (λ need. IfSome need (IsNeedOf tree.now)) }
 {
-    let Some(bound) = bound_of_whole(alloc, tree)? else {
+    let Some(bound) = bound_of_whole(alloc, tree, classes)? else {
         return Ok(None);
     };
-    let needs = needs_of(alloc, tree, classes)?;
-    Ok(with_bound(&needs[tree.root() as usize], bound))
+    let root = tree.root() as usize;
+    let needs = needs_of(alloc, tree, classes, true)?;
+    if needs[root].is_none() {
+        return Ok(None);
+    }
+    let begins = needs_of(alloc, tree, classes, false)?;
+    let begin = begin_of(&begins[root], tree.options().utf);
+    Ok(with_bound(&needs[root], begin, bound))
 }
 
-fn with_bound(need: &Option<Wanted>, bound: Bound) -> Option<Need>
-    ensures text { (may : Item → ℕ → Bool) (utf : Bool) → (t : Nested) → IsNeed may utf t need.now
-        → IfSome result (λ told. Needs may utf (sets_of told.text) t) }
+/// The text with which every match begins, where it may tell more than the bytes that are known as the
+/// first ones: a second byte, or in UTF that it doesn't begin with any byte past ASCII.
+fn begin_of(begin: &Option<Wanted>, utf: bool) -> Option<ByteText>
+    ensures { (may : Item → ℕ → Bool) (utf : Bool) → (t : Nested) → IsNeed may utf false t begin.now
+        → IfSome result (λ text. Needs may utf false (sets_of text) t) }
+{
+    match begin {
+        Some(wanted) if tells_more(&wanted.text, utf) => Some(sought(wanted)),
+        _ => None,
+    }
+}
+
+fn tells_more(text: &ByteText, utf: bool) -> bool {
+    text.second.is_some() || utf && !text.first.has(0xFF)
+}
+
+/// The text, looked for by its rarest byte.
+fn sought(wanted: &Wanted) -> ByteText
+    ensures { sets_of result ≡ sets_of wanted.now.text }
+{
+    let anchor = rarest_place(&wanted.text, &wanted.weights);
+    wanted.text.copied().looked_for(anchor)
+}
+
+fn with_bound(need: &Option<Wanted>, begin: Option<ByteText>, bound: Bound) -> Option<Need>
+    ensures text { (may : Item → ℕ → Bool) (utf : Bool) → (t : Nested) → IsNeed may utf true t need.now
+        → IfSome result (λ told. Needs may utf true (sets_of told.text) t) }
+    ensures begin { IfSome result (λ told. told.begin ≡ begin) }
     ensures bound { IfSome result (λ told. told.bound ≡ bound) }
 {
     match need {
-        Some(wanted) => {
-            let text = wanted
-                .text
-                .copied()
-                .looked_for(rarest_place(&wanted.weights));
-            Some(Need { text, bound })
-        }
+        Some(wanted) => Some(Need {
+            text: sought(wanted),
+            begin,
+            bound,
+        }),
         None => None,
     }
 }
 
-/// The place of the rarest byte.
-fn rarest_place(weights: &[u32; 3]) -> usize {
-    if weights[1] < weights[0] && weights[1] <= weights[2] {
+/// The place of the rarest byte. Where bytes past ASCII stand at all, they stand in numbers.
+fn rarest_place(text: &ByteText, weights: &[u32; 3]) -> usize {
+    let first = if text.first.has(0xFF) {
+        COMMON
+    } else {
+        weights[0]
+    };
+    let second = weight_sought(&text.second, weights[1]);
+    let third = weight_sought(&text.third, weights[2]);
+    if second < first && second <= third {
         1
-    } else if weights[2] < weights[0] {
+    } else if third < first {
         2
     } else {
         0
     }
 }
 
-/// What is needed of each node up to the root.
-fn needs_of(alloc: Global, tree: &Tree, classes: &ClassTable) -> Result<Vec<Option<Wanted>>, Memory>
+fn weight_sought(set: &Option<ByteSet>, weight: u32) -> u32 {
+    match set {
+        Some(set) if set.has(0xFF) => COMMON,
+        Some(_) => weight,
+        None => ANY,
+    }
+}
+
+/// What is needed of each node up to the root, anywhere in its matches or where they begin.
+fn needs_of(
+    alloc: Global,
+    tree: &Tree,
+    classes: &ClassTable,
+    anywhere: bool,
+) -> Result<Vec<Option<Wanted>>, Memory>
     requires { IsTableOf tree.now classes.now }
     ensures count { IfOk result (λ needs. length needs.items ≡ tree.now.root + 1) }
     ensures kept { IfOk result (λ needs.
-        KeepNeeds (may_of tree.now) tree.now.options.utf (trees tree.now.nodes) needs.items) }
+        KeepNeeds (may_of tree.now) tree.now.options.utf anywhere (trees tree.now.nodes) needs.items) }
 {
     let utf = tree.options().utf;
     let mut needs = Vec::with_capacity(alloc, tree.root() as usize + 1)?;
     for id in 0..tree.root() as u64 + 1 {
-        let need = node_need(classes, tree.node(id as u32), utf, &needs);
+        let need = node_need(classes, tree.node(id as u32), utf, anywhere, &needs);
         needs.push(need)?;
     }
     Ok(needs)
 }
 
-/// What is needed of a node, in UTF or not, by what is needed of its children.
+/// What is needed of a node, in UTF or not, by what is needed of its children: anywhere in a match, or where it begins.
 fn node_need(
     classes: &ClassTable,
     node: &Node,
     utf: bool,
+    anywhere: bool,
     needs: &[Option<Wanted>],
 ) -> Option<Wanted>
     requires classes { All (λ n. n < length classes.now) (classes_of node.now) }
     requires below { All (λ k. k < length needs.now) (kids_of node.now) }
     ensures { (tree : TreeParts) → IsTableOf tree classes.now → tree.options.utf ≡ utf
-        → (trees : List Nested) → KeepNeeds (may_of tree) tree.options.utf trees needs.now
-        → IsNeed (may_of tree) tree.options.utf (nest trees node.now) result }
+        → (trees : List Nested) → KeepNeeds (may_of tree) tree.options.utf anywhere trees needs.now
+        → IsNeed (may_of tree) tree.options.utf anywhere (nest trees node.now) result }
 {
     match node {
-        Node::One(item) => wanted_of(item_need(classes, item, utf), !utf),
-        Node::Seq(kids) => rarest(kids.as_slice(), needs),
+        Node::One(item) => wanted_of(item_need(classes, item, utf), utf),
+        Node::Seq(kids) => rarest(kids.as_slice(), needs, anywhere),
         Node::Group { branches, .. } => each_of(branches.as_slice(), needs),
         Node::OneRepeat { item, min, .. } if *min > 0 => {
-            wanted_of(item_need(classes, item, utf), false)
+            repeated(item_need(classes, item, utf), utf, *min)
         }
         Node::Atomic(branches) => each_of(branches.as_slice(), needs),
         Node::Look {
@@ -144,19 +200,75 @@ fn wanted_if(ahead: bool, positive: bool, wanted: Option<Wanted>) -> Option<Want
 }
 
 /// The bytes of an item as a text.
-fn wanted_of(taken: Option<Taken>, is_item: bool) -> Option<Wanted>
+fn wanted_of(taken: Option<Taken>, utf: bool) -> Option<Wanted>
     ensures sets { IfSome result (λ w. sets_of w.text ≡ w.text.first ∷ []) }
-    ensures item { IfSome result (λ w. w.is_item ≡ is_item) }
-    ensures takes { (may : Item → ℕ → Bool) → (item : Item) → IfSome taken (IsItemNeed may item)
-        → IfSome result (λ w. TakesOf may w.text.first item) }
+    ensures takes { (may : Item → ℕ → Bool) → (item : Item) → IfSome taken (IsItemNeed may utf item)
+        → IfSome result (λ w. TakesOf may w.text.first item
+        × (w.is_short ≡ true → IsShort may utf item)) }
 {
     match taken {
         Some(taken) => Some(Wanted {
             text: ByteText::one(taken.bytes),
             weights: [taken.weight, ANY, ANY],
-            is_item,
+            is_item: true,
+            is_short: !utf || taken.is_short,
         }),
         None => None,
+    }
+}
+
+/// Whether each character that the item takes is one byte.
+fn is_one_byte(taken: &Taken, utf: bool) -> bool
+    ensures { (may : Item → ℕ → Bool) → (item : Item) → IsItemNeed may utf item taken.now
+        → result ≡ true → IsShort may utf item }
+{
+    !utf || taken.is_short
+}
+
+/// The bytes of an item as a text, as often as the item is taken at least.
+fn repeated(taken: Option<Taken>, utf: bool, times: u16) -> Option<Wanted>
+    requires { 0 < times }
+    ensures item { IfSome result (λ w. w.is_item ≡ false) }
+    ensures begins { (may : Item → ℕ → Bool) → (item : Item) → IfSome taken (IsItemNeed may utf item)
+        → IfSome result (λ w. Begins may utf (sets_of w.text) (copies times item)) }
+{
+    match taken {
+        Some(taken) => {
+            let places = places_in_row(is_one_byte(&taken, utf), times);
+            Some(Wanted {
+                weights: repeated_weight(taken.weight, places),
+                text: ByteText::repeated(taken.bytes, places),
+                is_item: false,
+                is_short: false,
+            })
+        }
+        None => None,
+    }
+}
+
+/// How many bytes of characters that are taken so many times are known to stand in a row: at most
+/// three, and one where the characters may be longer.
+fn places_in_row(is_short: bool, times: u16) -> u16
+    requires { 0 < times }
+    ensures some { 0 < result }
+    ensures most { result ≤ 3 }
+    ensures within { result ≤ times }
+    ensures short { 1 < result → is_short ≡ true }
+{
+    if !is_short {
+        1
+    } else if times > 3 {
+        3
+    } else {
+        times
+    }
+}
+
+fn repeated_weight(weight: u32, places: u16) -> [u32; 3] {
+    match places {
+        1 => [weight, ANY, ANY],
+        2 => [weight, weight, ANY],
+        _ => [weight; 3],
     }
 }
 
@@ -164,7 +276,7 @@ fn wanted_of(taken: Option<Taken>, is_item: bool) -> Option<Wanted>
 fn item_need(classes: &ClassTable, item: &Item, utf: bool) -> Option<Taken>
     requires class { All (λ n. n < length classes.now) (class_in item.now) }
     ensures { (tree : TreeParts) → IsTableOf tree classes.now → tree.options.utf ≡ utf
-        → IfSome result (IsItemNeed (may_of tree) item.now) }
+        → IfSome result (IsItemNeed (may_of tree) utf item.now) }
 {
     if utf {
         utf_need(item)
@@ -176,7 +288,7 @@ fn item_need(classes: &ClassTable, item: &Item, utf: bool) -> Option<Taken>
 /// The bytes that begin a character in UTF, where they are all of ASCII or all past it.
 fn utf_need(item: &Item) -> Option<Taken>
     ensures { (classes : ℕ → ℕ → Bool)
-        → IfSome result (IsItemNeed (may_take true classes) item.now) }
+        → IfSome result (IsItemNeed (may_take true classes) true item.now) }
 {
     match item {
         Item::Char { c, caseless: false } if *c < 128 => one_byte(*c),
@@ -187,44 +299,62 @@ fn utf_need(item: &Item) -> Option<Taken>
 }
 
 /// The bytes that begin a character or one that folds as it does. Characters past ASCII and of ASCII fold alike in two
-/// cases: the Kelvin sign U+212A folds to k, and the long s U+017F to s.
+/// cases: the Kelvin sign U+212A, in bytes E2 84 AA, folds to k, and the long s U+017F, in bytes C5 BF, to s.
 fn letter_need(c: u32) -> Option<Taken>
-    ensures { IfSome result (λ taken. (b : ℕ) → b < 256 → may_begin true c b ≡ true
+    ensures takes { IfSome result (λ taken. (b : ℕ) → b < 256 → may_begin true c b ≡ true
         → has_byte taken.bytes b ≡ true) }
+    ensures short { IfSome result (λ taken. taken.is_short ≡ true
+        → (b : ℕ) → 128 ≤ b → b < 256 → may_begin true c b ≡ false) }
 {
     match c {
-        0x4B | 0x6B | 0x53 | 0x73 | 0x212A | 0x17F => None,
-        0..=0x7F => if_rare(both_cases(c)),
+        0x4B | 0x6B => if_rare(with_byte(both_cases(c), 0xE2), false),
+        0x53 | 0x73 => if_rare(with_byte(both_cases(c), 0xC5), false),
+        0x212A | 0x17F => None,
+        0..=0x7F => if_rare(both_cases(c), true),
         _ => Some(past_ascii()),
     }
 }
 
+fn with_byte(bytes: ByteSet, byte: u8) -> ByteSet
+    ensures { (k : ℕ) → has_byte result k ≡ (has_byte bytes k || k == byte) }
+{
+    let mut more = bytes;
+    more.insert(byte);
+    more
+}
+
 /// The bytes past ASCII. They are looked for anyway where lines must be UTF-8, and so they are the rarest.
 fn past_ascii() -> Taken
-    ensures { (b : ℕ) → 128 ≤ b → b < 256 → has_byte result.bytes b ≡ true }
+    ensures bytes { (b : ℕ) → 128 ≤ b → b < 256 → has_byte result.bytes b ≡ true }
+    ensures long { result.is_short ≡ false }
 {
     let mut bytes = ByteSet::empty();
     add_range(&mut bytes, 128, 255);
-    Taken { bytes, weight: 1 }
+    Taken {
+        bytes,
+        weight: 1,
+        is_short: false,
+    }
 }
 
 /// The bytes that a character or a class takes outside UTF, where they are rare.
 fn byte_need(classes: &ClassTable, item: &Item) -> Option<Taken>
     requires class { All (λ n. n < length classes.now) (class_in item.now) }
     ensures { (tree : TreeParts) → IsTableOf tree classes.now
-        → IfSome result (IsItemNeed (may_take false (class_has tree)) item.now) }
+        → IfSome result (λ taken. TakesOf (may_take false (class_has tree)) taken.bytes item.now) }
 {
     match item {
         Item::Char { c, caseless: false } => one_byte(*c),
-        Item::Char { c, caseless: true } => if_rare(both_cases(*c)),
-        Item::Class(class) => if_rare(classes.bytes(*class).copied()),
+        Item::Char { c, caseless: true } => if_rare(both_cases(*c), true),
+        Item::Class(class) => if_rare(classes.bytes(*class).copied(), true),
         _ => None,
     }
 }
 
 /// A character that is a byte, in its case alone.
 fn one_byte(c: u32) -> Option<Taken>
-    ensures { IfSome result (λ w. has_byte w.bytes c ≡ true) }
+    ensures bytes { IfSome result (λ w. has_byte w.bytes c ≡ true) }
+    ensures short { IfSome result (λ w. w.is_short ≡ nat_lt c 128) }
 {
     if c >= 256 {
         return None;
@@ -234,15 +364,21 @@ fn one_byte(c: u32) -> Option<Taken>
     Some(Taken {
         bytes,
         weight: commonness(c as u8),
+        is_short: c < 128,
     })
 }
 
 /// These bytes, where they are rare enough.
-fn if_rare(bytes: ByteSet) -> Option<Taken>
-    ensures { IfSome result (λ taken. taken.bytes ≡ bytes) }
+fn if_rare(bytes: ByteSet, is_short: bool) -> Option<Taken>
+    ensures bytes { IfSome result (λ taken. taken.bytes ≡ bytes) }
+    ensures short { IfSome result (λ taken. taken.is_short ≡ is_short) }
 {
     let weight = weight_of(&bytes)?;
-    Some(Taken { bytes, weight })
+    Some(Taken {
+        bytes,
+        weight,
+        is_short,
+    })
 }
 
 /// How common the bytes of a set are, where they are rare enough.
@@ -284,11 +420,13 @@ fn rate(weights: &[u32; 3]) -> u64 {
     two.saturating_mul(u64::from(weights[2]))
 }
 
-/// Of what is needed of these parts, and of the texts that the items among them take, the rarest.
-fn rarest(parts: &[NodeId], needs: &[Option<Wanted>]) -> Option<Wanted>
+/// Of what is needed of these parts, and of the texts that the items among them take, the rarest; where a match begins,
+/// of the first part and of the items from it on.
+fn rarest(parts: &[NodeId], needs: &[Option<Wanted>], anywhere: bool) -> Option<Wanted>
     requires { All (λ k. k < length needs.now) parts.now }
-    ensures { (may : Item → ℕ → Bool) (utf : Bool) → (of : ℕ → Nested) → AreNeeds may utf of needs.now parts.now
-        → IsSomeNeed may utf (row (map of parts.now)) result }
+    ensures { (may : Item → ℕ → Bool) (utf : Bool) → (of : ℕ → Nested)
+        → AreNeeds may utf anywhere of needs.now parts.now
+        → IsSomeNeed may utf anywhere (row (map of parts.now)) result }
 {
     let mut run = None;
     let mut best = None;
@@ -297,14 +435,21 @@ fn rarest(parts: &[NodeId], needs: &[Option<Wanted>]) -> Option<Wanted>
         i -= 1;
         let need = &needs[parts[i] as usize];
         run = run_from(need, &run);
-        best = rarer(best, copy_of(need), copy_of(&run));
+        best = rarer(kept_if(anywhere, best), copy_of(need), copy_of(&run));
     }
     best
 }
 
+fn kept_if(anywhere: bool, behind: Option<Wanted>) -> Option<Wanted>
+    ensures { result ≡ (if anywhere then behind else None) }
+{
+    if anywhere { behind } else { None }
+}
+
 /// The text that the items take with which the parts begin, from a part and from the items behind it.
 fn run_from(need: &Option<Wanted>, run: &Option<Wanted>) -> Option<Wanted>
-    ensures { (may : Item → ℕ → Bool) (utf : Bool) → (t : Nested) (ts : Row) → IsNeed may utf t need.now
+    ensures { (may : Item → ℕ → Bool) (utf anywhere : Bool) → (t : Nested) (ts : Row)
+        → IsNeed may utf anywhere t need.now
         → IsRun may utf ts run.now → IsRun may utf (more t ts) result }
 {
     match need {
@@ -313,22 +458,26 @@ fn run_from(need: &Option<Wanted>, run: &Option<Wanted>) -> Option<Wanted>
     }
 }
 
-/// The text of an item with that of the items behind it.
+/// The text of an item with that of the items behind it, where they stand at the next byte.
 fn before(item: &Wanted, run: &Option<Wanted>) -> Wanted
-    ensures { (may : Item → ℕ → Bool) (utf : Bool) → (t : Nested) (ts : Row) → (utf ≡ false) × IsTaking may item.now.text.first t
+    ensures { (may : Item → ℕ → Bool) (utf : Bool) → (t : Nested) (ts : Row)
+        → IsTaking may item.now.text.first t
+        → (item.now.is_short ≡ true → (i : Item) → t ≡ one i → IsShort may utf i)
         → IsRun may utf ts run.now → IsRun may utf (more t ts) (Some result) }
 {
     let first = item.text.first.copied();
     match run {
-        Some(behind) => Wanted {
+        Some(behind) if item.is_short => Wanted {
             text: behind.text.behind(first),
             weights: [item.weights[0], behind.weights[0], behind.weights[1]],
             is_item: false,
+            is_short: false,
         },
-        None => Wanted {
+        _ => Wanted {
             text: ByteText::one(first),
             weights: [item.weights[0], ANY, ANY],
             is_item: false,
+            is_short: false,
         },
     }
 }
@@ -359,6 +508,7 @@ fn copy_of(need: &Option<Wanted>) -> Option<Wanted>
             text: wanted.text.copied(),
             weights: wanted.weights,
             is_item: false,
+            is_short: false,
         }),
         None => None,
     }
@@ -367,13 +517,15 @@ fn copy_of(need: &Option<Wanted>) -> Option<Wanted>
 /// A text that one of these branches needs, whichever it is.
 fn each_of(branches: &[NodeId], needs: &[Option<Wanted>]) -> Option<Wanted>
     requires { All (λ k. k < length needs.now) branches.now }
-    ensures { (may : Item → ℕ → Bool) (utf : Bool) → (of : ℕ → Nested) → AreNeeds may utf of needs.now branches.now
-        → AreAllNeeds may utf (row (map of branches.now)) result }
+    ensures { (may : Item → ℕ → Bool) (utf anywhere : Bool) → (of : ℕ → Nested)
+        → AreNeeds may utf anywhere of needs.now branches.now
+        → AreAllNeeds may utf anywhere (row (map of branches.now)) result }
 {
     let mut whole = Some(Wanted {
         text: ByteText::nowhere(),
         weights: [0; 3],
         is_item: false,
+        is_short: false,
     });
     let mut i = branches.len();
     while i > 0 {
@@ -385,8 +537,9 @@ fn each_of(branches: &[NodeId], needs: &[Option<Wanted>]) -> Option<Wanted>
 
 /// What a branch needs or the others, where the text is still rare.
 fn joined(one: &Option<Wanted>, others: Option<Wanted>) -> Option<Wanted>
-    ensures { (may : Item → ℕ → Bool) (utf : Bool) → (t : Nested) (ts : Row) → IsNeed may utf t one.now
-        → AreAllNeeds may utf ts others → AreAllNeeds may utf (more t ts) result }
+    ensures { (may : Item → ℕ → Bool) (utf anywhere : Bool) → (t : Nested) (ts : Row)
+        → IsNeed may utf anywhere t one.now
+        → AreAllNeeds may utf anywhere ts others → AreAllNeeds may utf anywhere (more t ts) result }
 {
     let Some(one) = one else {
         return None;
@@ -400,6 +553,7 @@ fn joined(one: &Option<Wanted>, others: Option<Wanted>) -> Option<Wanted>
         text: others.text.either(&one.text),
         weights,
         is_item: false,
+        is_short: false,
     })
 }
 

@@ -1,5 +1,5 @@
 // Texts whose bytes are each of a set, and where such a text stands.
-ghost use Rattle.std.specs.Prelude.{◌≡◌, ◌↔◌, ℕ, ◌+◌, ◌<◌, ◌≤◌, ◌∷◌, [], List, None, Some, IsTrue, length};
+ghost use Rattle.std.specs.Prelude.{◌≡◌, ◌↔◌, ℕ, ◌+◌, ◌<◌, ◌≤◌, ◌∷◌, [], List, None, Some, IsTrue, length, replicate};
 ghost use Rattle.byte_lanes.specs.Places.{IsLeast};
 ghost use Rattle.byte_lanes.specs.Sets.{IsIn};
 ghost use Rattle.match_needs.specs.Texts.{sets_of, Stands, AreUnions, IsUnion, IsUnionOf};
@@ -34,6 +34,19 @@ impl ByteText {
             second: None,
             third: None,
             anchor: 0,
+        }
+    }
+
+    /// A text of so many bytes of a set.
+    pub(crate) fn repeated(set: ByteSet, places: u16) -> ByteText
+        requires some { 0 < places }
+        requires most { places ≤ 3 }
+        ensures { sets_of result ≡ replicate places set }
+    {
+        match places {
+            1 => ByteText::one(set),
+            2 => ByteText::one(set.copied()).behind(set),
+            _ => ByteText::one(set.copied()).behind(set.copied()).behind(set),
         }
     }
 
@@ -104,7 +117,8 @@ impl ByteText {
     }
 
     /// Whether the text stands at this place.
-    fn stands(&self, bytes: &[u8], at: usize) -> bool
+    #[inline]
+    pub fn stands(&self, bytes: &[u8], at: usize) -> bool
         ensures { IsTrue result ↔ Stands (sets_of self.now) bytes.now at }
     {
         if at >= bytes.len() || !self.first.has(bytes[at]) {
@@ -122,14 +136,15 @@ impl ByteText {
         at + 2 < bytes.len() && third.has(bytes[at + 2])
     }
 
-    fn anchored(&self) -> Anchor<'_>
+    /// A byte of the text: at this place, if there is one.
+    fn anchored(&self, anchor: usize) -> Anchor<'_>
         ensures place { result.place ≤ 2 }
         ensures is_in { (bytes : List ℕ) (k : ℕ) → Stands (sets_of self.now) bytes k
             → (k + result.place < length bytes) × IsIn result.set.now bytes (k + result.place) }
     {
         match (&self.second, &self.third) {
-            (Some(set), _) if self.anchor == 1 => Anchor { place: 1, set },
-            (Some(_), Some(set)) if self.anchor == 2 => Anchor { place: 2, set },
+            (Some(set), _) if anchor == 1 => Anchor { place: 1, set },
+            (Some(_), Some(set)) if anchor == 2 => Anchor { place: 2, set },
             _ => Anchor {
                 place: 0,
                 set: &self.first,
@@ -137,12 +152,43 @@ impl ByteText {
         }
     }
 
+    /// A place whose bytes are all past ASCII, else the one that is looked for first.
+    fn rarest_place(&self) -> usize {
+        if is_past_ascii(&self.second) {
+            1
+        } else if is_past_ascii(&self.third) {
+            2
+        } else {
+            self.anchor
+        }
+    }
+
+    /// The bytes of one of its places, of which one stands wherever the text does: those past ASCII, if there is such a
+    /// place, else the rarest.
+    pub fn rarest(&self) -> ByteSet
+        ensures { (bytes : List ℕ) (k : ℕ) → Stands (sets_of self.now) bytes k
+            → (j : ℕ) × Stands (result ∷ []) bytes j }
+    {
+        self.anchored(self.rarest_place()).set.copied()
+    }
+
     /// The first place of the bytes at which the text stands, or their number where it stands nowhere.
     pub fn find(&self, bytes: &[u8]) -> usize
         ensures { IsLeast (Stands (sets_of self.now) bytes.now) 0 (length bytes.now) result }
     {
-        let anchor = self.anchored();
-        let mut from = anchor.place;
+        self.find_from(bytes, 0)
+    }
+
+    /// The first place from a place on at which the text stands, or the number of the bytes where there is none.
+    pub fn find_from(&self, bytes: &[u8], start: usize) -> usize
+        requires { start ≤ length bytes.now }
+        ensures { IsLeast (Stands (sets_of self.now) bytes.now) start (length bytes.now) result }
+    {
+        let anchor = self.anchored(self.anchor);
+        if bytes.len() - start <= anchor.place {
+            return bytes.len();
+        }
+        let mut from = start + anchor.place;
         'place: while from < bytes.len() {
             let found = find_in_set(bytes, from, anchor.set);
             if found == bytes.len() {
@@ -156,6 +202,19 @@ impl ByteText {
         }
         bytes.len()
     }
+}
+
+/// Whether there is a set, of bytes past ASCII alone.
+fn is_past_ascii(set: &Option<ByteSet>) -> bool {
+    let Some(set) = set else {
+        return false;
+    };
+    for b in 0..128u32 {
+        if set.has(b as u8) {
+            return false;
+        }
+    }
+    true
 }
 
 fn copied(set: &Option<ByteSet>) -> Option<ByteSet>

@@ -1,24 +1,20 @@
--- A search of a part stays within the part's bound.
-use Rattle.std.proofs.Common.{◌≡◌, ℕ, zero, suc, ◌+◌, ◌-◌, ◌*◌, ◌<◌, ◌≤◌, Bool, true, false, List, [], ◌∷◌, length, drop, reverse, Option, Some, None, refl, sym, ap, subst, ◌∙◌, arith}
-use Rattle.std.specs.Prelude.{nat_le, ◌==◌}
+-- Searches within bounds: tests, repeats of an item, parts in turn, branches and groups.
+use Rattle.std.proofs.Common.{◌≡◌, ℕ, zero, suc, ◌+◌, ◌-◌, ◌<◌, ◌≤◌, Bool, true, false, List, [], ◌∷◌, length, drop, reverse, Option, Some, None, refl, sym, ap, subst, arith}
+use Rattle.std.specs.Prelude.{◌==◌}
 use Rattle.std.proofs.lemmas.Bool.{le-leb, eqb-false}
 use Rattle.std.proofs.lemmas.List.{length-reverse}
 use Rattle.std.proofs.Common.{length-drop}
 use Rattle.pat_tree.specs.declared.options.PartialMode.TheVariants.{Off}
 use Rattle.pat_tree.specs.declared.nodes.Item.{Item}
 use Rattle.pat_tree.specs.declared.nodes.AnchorKind.{AnchorKind}
-use Rattle.pat_tree.specs.Nested as tree
-use Rattle.pat_tree.specs.Nested.{Nested, Row}
-use Rattle.match_items.specs.Items.{one_less, is_none_left, after_item, item_reaches, run_places, longest_run, run_reaches, after_break, break_reaches, after_ref, ref_reaches, holds, anchor_reaches}
-use Rattle.match_needs.specs.declared.bounds.Growth.{Growth}
+use Rattle.match_items.specs.Items.{one_less, is_none_left, after_item, item_reaches, run_places, longest_run, after_ref, ref_reaches, holds, anchor_reaches}
 use Rattle.match_needs.specs.declared.bounds.Bound.{Bound}
-use Rattle.match_needs.specs.Bounds.{at, steady, plus, product, once, never, offered, turns, followed, or_later, closed, grouped, both, change, bound, bound_in_turn, bound_of_one, bound_of_choices}
+use Rattle.match_needs.specs.Bounds.{at, steady, plus, product, once, never, offered, turns, followed, or_later, closed, grouped}
 use Rattle.frame_store.specs.Captures.{capture}
-use Rattle.ordered_search.specs.Stream.{State, How, reached, by_halt, too_many_units, step, Stream, Search, ends, ◌▸◌, nothing, gives, ◌or_else◌, each, and_then, decide, catch, no_ending, is_next_branch, fails_alone, fails_inside, captured}
+use Rattle.ordered_search.specs.Stream.{State, reached, by_halt, too_many_units, Stream, Search, ends, nothing, gives, no_ending, is_next_branch, fails_alone, fails_inside, captured}
 use Rattle.ordered_search.specs.Setting.{Setting, held, hold, reach, reach_if}
 use Rattle.ordered_search.specs.Tests.{move_to, goes_to, run_one, run_break, run_ref, run_anchor, offers, greedy, offer_and, reluctant, lazy_run, run_many}
-use Rattle.ordered_search.specs.Parts.{Searches, in_order, choices, branches, run_group, run_atomic, run_look, back_to, forget_passed}
-use Rattle.ordered_search.specs.Run.{level, levels, levels_behind, run}
+use Rattle.ordered_search.specs.Parts.{in_order, choices, run_group, run_atomic, run_look, back_to, forget_passed}
 use Rattle.ordered_search.proofs.TameStreams.{Within, within_more, within_nothing, within_gives, within_if, within_step, within_or_else, within_each, within_and_then, within_decide, within_catch}
 use Rattle.ordered_search.proofs.Growing.{at_steady, at_line, at_plus, at_product}
 
@@ -80,13 +76,13 @@ module _ (g : Setting) (off : g.matching.«partial» ≡ Off) where
   abbrev Once : Search → Type 0
   Once f = (s : State) → Within 0 1 s.units (f s)
 
-  fits_once : (f : Search) → Once f → FitsIn once f
+  pub fits_once : (f : Search) → Once f → FitsIn once f
   fits_once f h s le =
       let a = at_steady 0 size in
       let b = at_steady 1 size in
       within_more 0 1 s.units _ _ _ (f s) (omega (arith, a)) (omega (arith, b)) (omega arith) (h s)
 
-  fits_never : (f : Search) → ((s : State) → f s ≡ nothing) → FitsIn never f
+  pub fits_never : (f : Search) → ((s : State) → f s ≡ nothing) → FitsIn never f
   fits_never f h s le = subst (Within _ _ _) (sym (h s)) (within_nothing _ _ _)
 
   -- without partial matching reaching the subject's end is not told
@@ -98,7 +94,7 @@ module _ (g : Setting) (off : g.matching.«partial» ≡ Off) where
   reached_within : (p r u : ℕ) (b : Bool) (s : State) (x : Stream) → Within p r u x → Within p r u (reach_if g b s x)
   reached_within p r u b s x h = subst (Within p r u) (sym (unreached b s x)) h
 
-  held_is : (n : ℕ) (s : State) (f : Search) → s.units + n ≤ g.matching.frame_limit → held g n s f ≡ f (record s { units = s.units + n })
+  pub held_is : (n : ℕ) (s : State) (f : Search) → s.units + n ≤ g.matching.frame_limit → held g n s f ≡ f (record s { units = s.units + n })
   unfolding held
   held_is n s f h =
       ap (λ b. elim b [ true ↦ f (record s { units = s.units + n }) | false ↦ ends (by_halt too_many_units) ])
@@ -117,15 +113,15 @@ module _ (g : Setting) (off : g.matching.«partial» ≡ Off) where
   within_goes None s = within_nothing 0 1 _
   within_goes (Some p) s = within_gives 0 _ _ (omega arith)
 
-  once_one : (item : Item) → Once (run_one g item)
+  pub once_one : (item : Item) → Once (run_one g item)
   unfolding run_one
   once_one item s = reached_within 0 1 _ _ s _ (within_goes _ s)
 
-  once_break : Once (run_break g)
+  pub once_break : Once (run_break g)
   unfolding run_break
   once_break s = reached_within 0 1 _ _ s _ (within_goes _ s)
 
-  once_ref : (ns : List ℕ) (caseless : Bool) → Once (run_ref g ns caseless)
+  pub once_ref : (ns : List ℕ) (caseless : Bool) → Once (run_ref g ns caseless)
   unfolding run_ref
   once_ref [] caseless s = within_if 0 1 _ g.options.match_unset_backref _ _ (within_gives 0 _ s (omega arith)) (within_nothing 0 1 _)
   once_ref (m ∷ ns) caseless s = elim (capture s.caps m)
@@ -137,7 +133,7 @@ module _ (g : Setting) (off : g.matching.«partial» ≡ Off) where
         | Some span ↦ reached_within 0 1 _ _ s _ (within_goes _ s)
       ]
 
-  once_anchor : (kind : AnchorKind) → Once (run_anchor g kind)
+  pub once_anchor : (kind : AnchorKind) → Once (run_anchor g kind)
   unfolding run_anchor
   once_anchor kind s =
       reached_within 0 1 _ (anchor_reaches g.scene kind s.place) _ _
@@ -170,7 +166,7 @@ module _ (g : Setting) (off : g.matching.«partial» ≡ Off) where
       (reached_within _ _ _ (item_reaches g.scene item p) s _ (fits_reluctant item (one_less left) ps s le)))
 
   -- so many places are offered
-  offered_few : (item : Item) (low : ℕ) (high : Option ℕ) (p : ℕ) → length (drop low (p ∷ longest_run g.scene item high p)) ≤ at (turns low high) size
+  pub offered_few : (item : Item) (low : ℕ) (high : Option ℕ) (p : ℕ) → length (drop low (p ∷ longest_run g.scene item high p)) ≤ at (turns low high) size
   offered_few item low None p =
       let a = length-drop low (p ∷ longest_run g.scene item None p) in
       let b = run_short g item (length g.subject) None p in
@@ -182,7 +178,7 @@ module _ (g : Setting) (off : g.matching.«partial» ≡ Off) where
       let c = at_steady (high + 1 - low) size in
       omega (arith, a, b, c)
 
-  fits_many : (item : Item) (low : ℕ) (high : Option ℕ) (lazily : Bool) → FitsIn (offered (turns low high)) (run_many g item low high lazily)
+  pub fits_many : (item : Item) (low : ℕ) (high : Option ℕ) (lazily : Bool) → FitsIn (offered (turns low high)) (run_many g item low high lazily)
   unfolding run_many greedy lazy_run
   fits_many item low high false s le =
       let ps = drop low (s.place ∷ longest_run g.scene item high s.place) in
@@ -195,7 +191,7 @@ module _ (g : Setting) (off : g.matching.«partial» ≡ Off) where
 
   -- Parts one after the other.
 
-  fits_followed : (a b : Bound) (f : Search) (fs : List Search) → FitsIn a f → FitsIn b (in_order fs) → FitsIn (followed a b) (in_order (f ∷ fs))
+  pub fits_followed : (a b : Bound) (f : Search) (fs : List Search) → FitsIn a f → FitsIn b (in_order fs) → FitsIn (followed a b) (in_order (f ∷ fs))
   unfolding in_order
   fits_followed a b f fs h k s le =
       let p = at_product a.states b.steps size in
@@ -207,7 +203,7 @@ module _ (g : Setting) (off : g.matching.«partial» ≡ Off) where
 
   -- Branches.
 
-  fits_or_else : (a b : Bound) (f : Search) (fs : List Search) → FitsIn a f → FitsIn b (choices g fs) → FitsIn (or_later a b) (choices g (f ∷ fs))
+  pub fits_or_else : (a b : Bound) (f : Search) (fs : List Search) → FitsIn a f → FitsIn b (choices g fs) → FitsIn (or_later a b) (choices g (f ∷ fs))
   unfolding choices
   fits_or_else a b f [] h k s le =
       let o = at_steady 1 size in
@@ -232,7 +228,7 @@ module _ (g : Setting) (off : g.matching.«partial» ≡ Off) where
 
   -- Groups.
 
-  fits_group : (number : Option ℕ) (a : Bound) (f : Search) → FitsIn a f → FitsIn (grouped number a) (run_group g number f)
+  pub fits_group : (number : Option ℕ) (a : Bound) (f : Search) → FitsIn a f → FitsIn (grouped number a) (run_group g number f)
   unfolding run_group
   fits_group None a f h s le = h s le
   fits_group (Some n) a f h s le =
@@ -242,7 +238,7 @@ module _ (g : Setting) (off : g.matching.«partial» ≡ Off) where
       (within_each (at a.steps size) (at a.states size) (t.units + a.units) 0 1 (s.units + (2 + a.units)) (f t) _ (h t (omega (arith, le)))
       (λ u few. within_more _ _ _ _ _ _ _ (omega arith) (omega arith) (omega (arith, few)) (fits_hold (captured n s.place u) (omega (arith, few, le))))))
 
-  fits_atomic : (a : Bound) (f : Search) → FitsIn a f → FitsIn (closed a) (run_atomic g f)
+  pub fits_atomic : (a : Bound) (f : Search) → FitsIn a f → FitsIn (closed a) (run_atomic g f)
   unfolding run_atomic
   fits_atomic a f h s le =
       let t : State = record s { units = s.units + 1 } in
@@ -253,7 +249,7 @@ module _ (g : Setting) (off : g.matching.«partial» ≡ Off) where
       (λ u few. within_more _ _ _ _ _ _ _ (omega arith) (omega arith) (omega (arith, few)) (fits_hold (forget_passed s u) (omega (arith, few, le))))
       (within_nothing 0 0 _)))
 
-  fits_look : (positive : Bool) (a : Bound) (f : Search) → FitsIn a f → FitsIn (closed a) (run_look g positive true f)
+  pub fits_look : (positive : Bool) (a : Bound) (f : Search) → FitsIn a f → FitsIn (closed a) (run_look g positive true f)
   unfolding run_look
   fits_look true a f h s le =
       let t : State = record s { units = s.units + 1 } in
@@ -271,66 +267,3 @@ module _ (g : Setting) (off : g.matching.«partial» ≡ Off) where
       (within_decide (at a.steps size) (at a.states size) (t.units + a.units) 0 0 0 1 (s.units + (2 + a.units)) fails_inside (f t) _ (gives reached s) (h t (omega (arith, le)))
       (λ u few. within_nothing 0 0 _)
       (within_gives 0 _ s (omega arith))))
-
-  -- Where bounds are known.
-
-  some_followed : (x y : Option Bound) (f : Search) (fs : List Search) → FitsSome x f → FitsSome y (in_order fs) → FitsSome (both followed x y) (in_order (f ∷ fs))
-  some_followed None y f fs h k = tt
-  some_followed (Some a) None f fs h k = tt
-  some_followed (Some a) (Some b) f fs h k = fits_followed a b f fs h k
-
-  some_or_else : (x y : Option Bound) (f : Search) (fs : List Search) → FitsSome x f → FitsSome y (choices g fs) → FitsSome (both or_later x y) (choices g (f ∷ fs))
-  some_or_else None y f fs h k = tt
-  some_or_else (Some a) None f fs h k = tt
-  some_or_else (Some a) (Some b) f fs h k = fits_or_else a b f fs h k
-
-  some_group : (number : Option ℕ) (x : Option Bound) (f : Search) → FitsSome x f → FitsSome (change (grouped number) x) (run_group g number f)
-  some_group number None f h = tt
-  some_group number (Some a) f h = fits_group number a f h
-
-  some_atomic : (x : Option Bound) (f : Search) → FitsSome x f → FitsSome (change closed x) (run_atomic g f)
-  some_atomic None f h = tt
-  some_atomic (Some a) f h = fits_atomic a f h
-
-  some_look : (positive : Bool) (x : Option Bound) (f : Search) → FitsSome x f → FitsSome (change closed x) (run_look g positive true f)
-  some_look positive None f h = tt
-  some_look positive (Some a) f h = fits_look positive a f h
-
-  module _ (below : Searches) where
-    mutual
-      unfolding bound level in_order branches choices
-
-      pub fits_level : (t : Nested) → FitsSome (bound t) (level g below t)
-      fits_level tree.empty = fits_once (level g below tree.empty) (λ s. within_gives 0 _ s (omega arith))
-      fits_level (tree.one item) = fits_once (level g below (tree.one item)) (once_one item)
-      fits_level tree.line_break = fits_once (level g below tree.line_break) once_break
-      fits_level (tree.seq ts) = fits_turn ts
-      fits_level (tree.group number ts) = some_group number (bound_of_one ts) (branches g (levels g below ts)) (fits_branches ts)
-      fits_level (tree.repeat body low high lazily) = tt
-      fits_level (tree.one_repeat item low high lazily) = fits_many item low high lazily
-      fits_level (tree.atomic ts) = some_atomic (bound_of_one ts) (branches g (levels g below ts)) (fits_branches ts)
-      fits_level (tree.look true positive true ts) = some_look positive (bound_of_one ts) (branches g (levels g below ts)) (fits_branches ts)
-      fits_level (tree.look true positive false ts) = tt
-      fits_level (tree.look false positive _ ts) = tt
-      fits_level (tree.condition test first second) = tt
-      fits_level (tree.call k) = tt
-      fits_level (tree.ref ns caseless) = fits_once (level g below (tree.ref ns caseless)) (once_ref ns caseless)
-      fits_level (tree.anchor kind) = fits_once (level g below (tree.anchor kind)) (once_anchor kind)
-      fits_level tree.keep_out = fits_once (level g below tree.keep_out) (λ s. within_gives 0 _ _ (omega arith))
-      fits_level (tree.verb v) = tt
-      fits_level (tree.callout c) = tt
-
-      pub fits_turn : (ts : Row) → FitsSome (bound_in_turn ts) (in_order (levels g below ts))
-      fits_turn tree.none = fits_once (in_order []) (λ s. within_gives 0 _ s (omega arith))
-      fits_turn (tree.more t ts) = some_followed (bound t) (bound_in_turn ts) (level g below t) (levels g below ts) (fits_level t) (fits_turn ts)
-
-      pub fits_branches : (ts : Row) → FitsSome (bound_of_one ts) (branches g (levels g below ts))
-      fits_branches tree.none = fits_never (branches g []) (λ s. refl)
-      fits_branches (tree.more t tree.none) = fits_level t
-      fits_branches (tree.more t (tree.more u ts)) =
-          some_or_else (bound t) (both or_later (bound u) (bound_of_choices ts)) (level g below t) (level g below u ∷ levels g below ts) (fits_level t)
-          (some_or_else (bound u) (bound_of_choices ts) (level g below u) (levels g below ts) (fits_level u) (fits_choices ts))
-
-      pub fits_choices : (ts : Row) → FitsSome (bound_of_choices ts) (choices g (levels g below ts))
-      fits_choices tree.none = fits_never (choices g []) (λ s. refl)
-      fits_choices (tree.more t ts) = some_or_else (bound t) (bound_of_choices ts) (level g below t) (levels g below ts) (fits_level t) (fits_choices ts)

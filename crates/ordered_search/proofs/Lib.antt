@@ -19,5 +19,7 @@ pub mod FollowLaw
 pub mod TameStreams
 pub mod Growing
 pub mod Bounded
+pub mod Apart
+pub mod FitsLevels
 pub mod SilentStreams
 pub mod Needed

@@ -1,37 +1,25 @@
 -- Without partial matching no search finds a partial match.
 use Rattle.std.proofs.Common.{◌≡◌, ◌≢◌, ℕ, zero, suc, ◌+◌, Bool, true, false, ◌||◌, Option, Some, None, refl, sym, ap, ◌∙◌}
 use Rattle.pat_tree.specs.declared.options.PartialMode.TheVariants.{Off}
-use Rattle.ordered_search.specs.Stream.{State, first_state, exhausted, by_verb, by_halt, is_partial, too_many_units, loop, abort, cut, How, reached, accepted, note, state, step, Stream, ends, ◌▸◌}
+use Rattle.ordered_search.specs.Stream.{State, first_state, exhausted, by_verb, by_halt, is_partial, too_many_units, loop, abort, cut, How, note, state, step, Stream, ends, ◌▸◌}
 use Rattle.ordered_search.specs.Setting.{Setting, match_limit}
-use Rattle.ordered_search.specs.PlaceAnswer.{Signal, Exhausted, PlaceAnswer, Matched, Failed, Partial, MatchLimit, FrameLimit, Loop, Abort, NoDepth, Walked, has_hit, answers, outcome, decision, is_refused_as_empty, is_refused_by_end, walk, place_answer}
+use Rattle.ordered_search.specs.PlaceAnswer.{Signal, Exhausted, PlaceAnswer, Matched, Failed, Partial, MatchLimit, FrameLimit, Loop, Abort, NoDepth, Walked, has_hit, answers, decision, is_refused_as_empty, is_refused_by_end, walk, place_answer}
 use Rattle.ordered_search.specs.Places.{is_excluded, place_after}
 use Rattle.ordered_search.specs.MatchAnswer.{PartialFrom, Found, undecided, tried, from_place, found_by}
 use Rattle.ordered_search.specs.Laws.{NoPartialLaw}
 use Rattle.ordered_search.proofs.HitlessStreams.{NoHit}
 use Rattle.ordered_search.proofs.Hitless.{hitless_run}
+use Rattle.ordered_search.proofs.WalkLaw.{decided}
 
 -- it tells no hit, and isn't a partial match
 abbrev IsHitless : Walked → Type 0
 IsHitless w = (has_hit w.notes ≡ false) × (w.answer ≢ Partial)
 
-decided : (b c : Bool) (how : How) (s : State) (a : PlaceAnswer) →
-    elim b [
-      | true ↦ None
-      | false ↦ elim c [
-        | false ↦ Some (Matched (outcome s))
-        | true ↦ elim how [ reached ↦ None | accepted ↦ Some (Failed Exhausted) ]
-      ]
-    ] ≡ Some a → a ≢ Partial
-decided true c how s a e f = cc
-decided false false how s a e f = cc
-decided false true reached s a e f = cc
-decided false true accepted s a e f = cc
-
 module _ (g : Setting) where
   decided_hitless : (how : How) (s : State) (w : Walked) (d : Option PlaceAnswer) → decision g how s ≡ d → IsHitless w →
       IsHitless (elim d [ None ↦ w | Some a ↦ answers a ])
   decided_hitless how s w None e h = h
-  decided_hitless how s w (Some a) e h = (refl, decided (is_refused_as_empty g s) (is_refused_by_end g s) how s a e)
+  decided_hitless how s w (Some a) e h = (refl, (decided (is_refused_as_empty g s) (is_refused_by_end g s) how s a e).1)
 
   walk_hitless : (n : ℕ) (x : Stream) → NoHit x → IsHitless (walk g n x)
   unfolding walk NoHit

@@ -1,6 +1,6 @@
 -- Streams without a state.
-use Rattle.std.proofs.Common.{◌≡◌, ℕ, suc, ◌+◌, ◌≤◌, Bool, true, false, refl, arith}
-use Rattle.ordered_search.specs.Stream.{State, Ending, exhausted, by_verb, by_halt, How, reached, accepted, note, state, step, Stream, Search, ends, ◌▸◌, nothing, gives, ◌or_else◌, each, decide, catch}
+use Rattle.std.proofs.Common.{◌≡◌, Bool, true, false, refl, arith}
+use Rattle.ordered_search.specs.Stream.{Ending, How, note, state, step, Stream, Search, ends, ◌▸◌, nothing, ◌or_else◌, each, decide, catch}
 use Rattle.ordered_search.proofs.TameStreams.{state_count, states_both}
 
 abbrev pub Silent : Stream → Type 0

@@ -1,6 +1,6 @@
 -- Streams that end when they are exhausted, with states that are reached with no more than so many units and nothing told beside
 -- them; how many Steps and states they give.
-use Rattle.std.proofs.Common.{◌≡◌, ℕ, zero, suc, ◌+◌, ◌*◌, ◌≤◌, Bool, true, false, refl, sym, ap, subst, ◌∙◌, arith}
+use Rattle.std.proofs.Common.{◌≡◌, ℕ, suc, ◌+◌, ◌*◌, ◌≤◌, Bool, true, false, refl, sym, ap, subst, arith}
 use Rattle.std.proofs.lemmas.Nat.{mul-le}
 use Rattle.ordered_search.specs.Stream.{State, Ending, exhausted, by_verb, by_halt, How, reached, accepted, note, state, step, Stream, Search, ends, ◌▸◌, nothing, gives, ◌or_else◌, each, and_then, go_on, decide, catch}
 use Rattle.ordered_search.specs.Laws.{step_count}

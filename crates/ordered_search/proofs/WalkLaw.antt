@@ -2,10 +2,24 @@
 use Rattle.std.proofs.Common.{◌≡◌, ◌≢◌, ℕ, zero, suc, ◌+◌, ◌<◌, Bool, true, false, [], ◌∷◌, Option, Some, None, refl, ap, arith}
 use Rattle.ordered_search.specs.Stream.{State, first_state, exhausted, by_verb, by_halt, is_partial, too_many_units, loop, abort, cut, How, reached, accepted, note, state, step, Stream, ends, ◌▸◌}
 use Rattle.ordered_search.specs.Setting.{Setting, match_limit}
-use Rattle.ordered_search.specs.PlaceAnswer.{PlaceAnswer, Matched, Failed, Exhausted, outcome, MatchLimit, NoDepth, Walked, answers, at_ending, decision, is_refused_as_empty, is_refused_by_end, walk}
+use Rattle.ordered_search.specs.PlaceAnswer.{PlaceAnswer, Matched, Failed, Exhausted, outcome, MatchLimit, NoDepth, Walked, answers, at_ending, decision, is_refused_as_empty, is_refused_by_end, walk, Partial}
 use Rattle.ordered_search.specs.Laws.{after, told_in, steps_in, ArePassed, Gives, IsWalk, WalkLaw, NoCutAnswer}
 use Rattle.ordered_search.proofs.Late.{Late, LateEnd}
 use Rattle.ordered_search.proofs.CutLaw.{late_run}
+
+-- a state that decides gives neither
+pub decided : (b c : Bool) (how : How) (s : State) (a : PlaceAnswer) →
+    elim b [
+      | true ↦ None
+      | false ↦ elim c [
+        | false ↦ Some (Matched (outcome s))
+        | true ↦ elim how [ reached ↦ None | accepted ↦ Some (Failed Exhausted) ]
+      ]
+    ] ≡ Some a → (a ≢ NoDepth) × (a ≢ Partial)
+decided true c how s a e = absurd cc
+decided false false how s a e = ((λ f. cc), (λ f. cc))
+decided false true reached s a e = absurd cc
+decided false true accepted s a e = ((λ f. cc), (λ f. cc))
 
 module _ (g : Setting) where
   here : (n : ℕ) (x : Stream) (a : PlaceAnswer) → Gives g n x a → IsWalk g n x (answers a)
@@ -68,23 +82,10 @@ module _ (g : Setting) where
 
   -- a walk of fewer Steps than a stream is late by never meets the cut
 
-  decided : (b c : Bool) (how : How) (s : State) (a : PlaceAnswer) →
-      elim b [
-        | true ↦ None
-        | false ↦ elim c [
-          | false ↦ Some (Matched (outcome s))
-          | true ↦ elim how [ reached ↦ None | accepted ↦ Some (Failed Exhausted) ]
-        ]
-      ] ≡ Some a → a ≢ NoDepth
-  decided true c how s a e f = cc
-  decided false false how s a e f = cc
-  decided false true reached s a e f = cc
-  decided false true accepted s a e f = cc
-
   decided_late : (how : How) (s : State) (w : Walked) (d : Option PlaceAnswer) → decision g how s ≡ d → w.answer ≢ NoDepth →
       (let v : Walked = elim d [ None ↦ w | Some a ↦ answers a ] in v).answer ≢ NoDepth
   decided_late how s w None q h e = h e
-  decided_late how s w (Some a) q h e = decided (is_refused_as_empty g s) (is_refused_by_end g s) how s a q e
+  decided_late how s w (Some a) q h e = (decided (is_refused_as_empty g s) (is_refused_by_end g s) how s a q).0 e
 
   walk_late : (n m : ℕ) (x : Stream) → n < m → Late m x → (walk g n x).answer ≢ NoDepth
   unfolding walk Late LateEnd

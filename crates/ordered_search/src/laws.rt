@@ -3,7 +3,7 @@ ghost use Rattle.ordered_search.specs.Forward.{ForwardLaw};
 ghost use Rattle.ordered_search.specs.LaterPlaces.{LaterPlacesLaw};
 ghost use Rattle.ordered_search.specs.Laws.{CutLaw, NoCutAnswer, NoPartialLaw, WalkLaw};
 ghost use Rattle.ordered_search.specs.MatchRows as over_places;
-ghost use Rattle.ordered_search.specs.Needed.{NeedLaw};
+ghost use Rattle.ordered_search.specs.Needed.{BeginLaw, NeedLaw};
 ghost use Rattle.ordered_search.specs.PlaceRows as at_place;
 
 /// The depth that a stream is given is used up only after as many Steps.
@@ -45,6 +45,12 @@ pub fn later_places_fail()
 /// no match, no limit is passed, and nothing is told.
 pub fn no_match_without_need()
     ensures { NeedLaw }
+{}
+
+/// Where no text stands at a place with which every match begins, and the bound of the pattern is within the limits, the
+/// place fails, no limit is passed, and nothing is told.
+pub fn no_match_without_begin()
+    ensures { BeginLaw }
 {}
 
 /// The definitions computed. At one place: both limits, with the last Step and the last unit that they leave. Over all

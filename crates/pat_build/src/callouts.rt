@@ -30,7 +30,9 @@ impl<'a> Machine<'a> {
     /// The next item from a place on.
     fn item_after(&self, at: usize) -> Result<NextItem, Memory>
         requires { at ≤ length self.now.text.now }
-        ensures value { IfOk result (λ item. next_item self.now.text.now (record (state_of self.now) { at = at }) ≡ (item.at, item.len)) }
+        ensures value { IfOk result
+            (λ item. next_item self.now.text.now (record (state_of self.now) { at = at })
+            ≡ (item.at, item.len)) }
         ensures within { IfOk result (λ item. item.at + item.len ≤ length self.now.text.now) }
     {
         let cursor = self.cursor(at);
@@ -40,7 +42,8 @@ impl<'a> Machine<'a> {
 
     /// A callout before an item.
     fn begin_callout(&mut self, called: Called, item: NextItem, after: usize) -> Result<(), Memory>
-        requires ready { Ready (CalloutItem called.number called.text_from called.text_to) after self.old
+        requires ready { Ready (CalloutItem called.number called.text_from called.text_to) after
+            self.old
             × Begins self.old (CalloutItem called.number called.text_from called.text_to) after
             (Ok (with_callout called.number called.text_from called.text_to (item.at, item.len)
             (record (state_of self.old) { at = after }))) }
@@ -63,12 +66,23 @@ impl<'a> Machine<'a> {
     }
 
     /// A callout that is written, which is refused where callouts aren't read.
-    pub(crate) fn callout(&mut self, called: Called, after: usize) -> Result<(), ReadError>
-        requires { Ready (CalloutItem called.number called.text_from called.text_to) after self.old }
+    pub(crate) fn callout(
+        &mut self,
+        number: u8,
+        text_from: u32,
+        text_to: u32,
+        after: usize,
+    ) -> Result<(), ReadError>
+        requires { Ready (CalloutItem number text_from text_to) after self.old }
         ensures ok { OnOk result (Took self.old self.new) }
         ensures bad { IfErr result (Refuses (whole_of self.old)) }
     {
         if self.calling {
+            let called = Called {
+                number,
+                text_from,
+                text_to,
+            };
             let item = self.item_after(after)?;
             self.begin_callout(called, item, after)?;
             return Ok(());
@@ -91,14 +105,19 @@ impl<'a> Machine<'a> {
         requires means { Means self.old }
         requires room { HasRoom 1 self.old }
         requires idle { self.old.waiting ≡ None }
-        requires due { (token : Token) × (after : ℕ) × (token_at self.old.text.now (flags_of false (state_of self.old)) self.old.at ≡ Ok (token, after)) × (is_due self.old.calling (state_of self.old) token ≡ true) }
+        requires due { (token : Token) × (after : ℕ)
+            × (token_at self.old.text.now (flags_of false (state_of self.old)) self.old.at
+            ≡ Ok (token, after)) × (is_due self.old.calling (state_of self.old) token ≡ true) }
         ensures means { OnOk result (Means self.new) }
         ensures room { OnOk result (HasRoom 2 self.new) }
         ensures idle { OnOk result (self.new.waiting ≡ None) }
         ensures quiet { OnOk result (IsQuiet self.new) }
         ensures same { OnOk result (Same self.old self.new) }
-        ensures next { OnOk result ((token : Token) (after : ℕ) → IsNext token after self.old → IsNext token after self.new) }
-        ensures there { OnOk result (token_at self.new.text.now (flags_of false (state_of self.new)) self.new.at ≡ token_at self.old.text.now (flags_of false (state_of self.old)) self.old.at) }
+        ensures next { OnOk result ((token : Token) (after : ℕ) → IsNext token after self.old
+            → IsNext token after self.new) }
+        ensures there { OnOk result
+            (token_at self.new.text.now (flags_of false (state_of self.new)) self.new.at
+            ≡ token_at self.old.text.now (flags_of false (state_of self.old)) self.old.at) }
         ensures at { OnOk result (self.new.at ≡ self.old.at) }
     {
         let place = self.at;
@@ -116,18 +135,24 @@ impl<'a> Machine<'a> {
         Ok(())
     }
 
-    /// Makes what waits for a quantifier a part, before a token that is none, and adds the automatic callout that is due there.
+    /// Makes what waits for a quantifier a part, before a token that is none, and adds the
+    /// automatic callout that is due there.
     pub(crate) fn settle(&mut self, token: Token) -> Result<(), Memory>
         requires means { Means self.old }
         requires room { HasRoom 0 self.old }
-        requires plain { (after : ℕ) × (token_at self.old.text.now (flags_of false (state_of self.old)) self.old.at ≡ Ok (token, after)) × IsPlain token }
+        requires plain { (after : ℕ)
+            × (token_at self.old.text.now (flags_of false (state_of self.old)) self.old.at
+            ≡ Ok (token, after)) × IsPlain token }
         ensures means { OnOk result (Means self.new) }
         ensures room { OnOk result (HasRoom 2 self.new) }
         ensures idle { OnOk result (self.new.waiting ≡ None) }
         ensures quiet { OnOk result (IsQuiet self.new) }
         ensures same { OnOk result (Same self.old self.new) }
-        ensures next { OnOk result ((token : Token) (after : ℕ) → IsNext token after self.old → IsNext token after self.new) }
-        ensures there { OnOk result (token_at self.new.text.now (flags_of false (state_of self.new)) self.new.at ≡ token_at self.old.text.now (flags_of false (state_of self.old)) self.old.at) }
+        ensures next { OnOk result ((token : Token) (after : ℕ) → IsNext token after self.old
+            → IsNext token after self.new) }
+        ensures there { OnOk result
+            (token_at self.new.text.now (flags_of false (state_of self.new)) self.new.at
+            ≡ token_at self.old.text.now (flags_of false (state_of self.old)) self.old.at) }
         ensures at { OnOk result (self.new.at ≡ self.old.at) }
     {
         self.flush()?;

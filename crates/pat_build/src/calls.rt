@@ -16,7 +16,9 @@ use pat_tree::{Memory, Node};
 impl<'a> Machine<'a> {
     /// A call of the group of this number.
     fn call_group(&mut self, number: u16, after: usize) -> Result<(), Memory>
-        requires { (token : Token) × Ready token after self.old × Begins self.old token after (Ok (with_call (state_of self.old) (record (state_of self.old) { at = after }) number)) }
+        requires { (token : Token) × Ready token after self.old × Begins self.old token after
+            (Ok (with_call (state_of self.old)
+            (record (state_of self.old) { at = after }) number)) }
         ensures { OnOk result (Took self.old self.new) }
     {
         let at = self.at as u32;

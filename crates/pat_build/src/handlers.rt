@@ -35,13 +35,18 @@ impl<'a> Machine<'a> {
     pub(crate) fn flush(&mut self) -> Result<(), Memory>
         requires means { Means self.old }
         requires room { HasRoom 0 self.old }
-        requires plain { (token : Token) × (after : ℕ) × (token_at self.old.text.now (flags_of false (state_of self.old)) self.old.at ≡ Ok (token, after)) × IsPlain token }
+        requires plain { (token : Token) × (after : ℕ)
+            × (token_at self.old.text.now (flags_of false (state_of self.old)) self.old.at
+            ≡ Ok (token, after)) × IsPlain token }
         ensures means { OnOk result (Means self.new) }
         ensures room { OnOk result (HasRoom 1 self.new) }
         ensures idle { OnOk result (self.new.waiting ≡ None) }
         ensures same { OnOk result (Same self.old self.new) }
-        ensures next { OnOk result ((token : Token) (after : ℕ) → IsNext token after self.old → IsNext token after self.new) }
-        ensures there { OnOk result (token_at self.new.text.now (flags_of false (state_of self.new)) self.new.at ≡ token_at self.old.text.now (flags_of false (state_of self.old)) self.old.at) }
+        ensures next { OnOk result ((token : Token) (after : ℕ) → IsNext token after self.old
+            → IsNext token after self.new) }
+        ensures there { OnOk result
+            (token_at self.new.text.now (flags_of false (state_of self.new)) self.new.at
+            ≡ token_at self.old.text.now (flags_of false (state_of self.old)) self.old.at) }
         ensures at { OnOk result (self.new.at ≡ self.old.at) }
     {
         if let Some(atom) = self.waiting {
@@ -83,9 +88,11 @@ impl<'a> Machine<'a> {
         Ok(())
     }
 
-    /// An atom that takes one character, which gets its node when it is known whether a quantifier follows.
+    /// An atom that takes one character, which gets its node when it is known whether a quantifier
+    /// follows.
     pub(crate) fn single(&mut self, item: Item, after: usize)
-        requires ready { (token : Token) × Ready token after self.old × Begins self.old token after (Ok (atom (one item) (record (state_of self.old) { at = after }))) }
+        requires ready { (token : Token) × Ready token after self.old × Begins self.old token after
+            (Ok (atom (one item) (record (state_of self.old) { at = after }))) }
         requires classless { class_in item ≡ [] }
         ensures { Took self.old self.new }
     {
@@ -96,7 +103,9 @@ impl<'a> Machine<'a> {
 
     /// A class, which is a new entry of the table. It ends at a place, maybe between `\Q` and `\E`.
     pub(crate) fn class(&mut self, spec: ClassSpec, end: usize, quoting: bool) -> Result<(), Memory>
-        requires ready { (token : Token) × (after : ℕ) × Ready token after self.old × (after ≤ end) × Begins self.old token after (Ok (of_class spec (record (state_of self.old) { at = end; quoting = quoting }))) }
+        requires ready { (token : Token) × (after : ℕ) × Ready token after self.old × (after ≤ end)
+            × Begins self.old token after
+            (Ok (of_class spec (record (state_of self.old) { at = end; quoting = quoting }))) }
         requires within { end ≤ length self.old.text.now }
         ensures { OnOk result (Took self.old self.new) }
     {
@@ -113,7 +122,8 @@ impl<'a> Machine<'a> {
 
     /// `\R`
     pub(crate) fn line_break(&mut self, after: usize) -> Result<(), Memory>
-        requires { (token : Token) × Ready token after self.old × Begins self.old token after (Ok (atom line_break (record (state_of self.old) { at = after }))) }
+        requires { (token : Token) × Ready token after self.old × Begins self.old token after
+            (Ok (atom line_break (record (state_of self.old) { at = after }))) }
         ensures { OnOk result (Took self.old self.new) }
     {
         let at = self.at as u32;
@@ -125,7 +135,9 @@ impl<'a> Machine<'a> {
 
     /// A reference to these groups.
     pub(crate) fn reference(&mut self, groups: GroupList, after: usize) -> Result<(), Memory>
-        requires ready { (token : Token) × Ready token after self.old × Begins self.old token after (Ok (with_reference (state_of self.old) (record (state_of self.old) { at = after }) groups)) }
+        requires ready { (token : Token) × Ready token after self.old × Begins self.old token after
+            (Ok (with_reference (state_of self.old)
+            (record (state_of self.old) { at = after }) groups)) }
         requires some { 0 < length groups }
         ensures { OnOk result (Took self.old self.new) }
     {
@@ -139,7 +151,8 @@ impl<'a> Machine<'a> {
 
     /// A simple assertion, which no quantifier may follow.
     pub(crate) fn anchor(&mut self, kind: AnchorKind, after: usize) -> Result<(), Memory>
-        requires { (token : Token) × Ready token after self.old × Begins self.old token after (Ok (bare (anchor kind) (record (state_of self.old) { at = after }))) }
+        requires { (token : Token) × Ready token after self.old × Begins self.old token after
+            (Ok (bare (anchor kind) (record (state_of self.old) { at = after }))) }
         ensures { OnOk result (Took self.old self.new) }
     {
         let id = self.draft.add(Node::Anchor(kind), self.at as u32)?;
@@ -165,7 +178,9 @@ impl<'a> Machine<'a> {
 
     /// What is no part: an option setting, or what is passed over where no atom waits.
     pub(crate) fn nothing(&mut self, options: Options, quoting: bool, after: usize)
-        requires { (token : Token) × Ready token after self.old × Begins self.old token after (Ok (nothing (record (state_of self.old) { at = after; options = options; quoting = quoting }))) }
+        requires { (token : Token) × Ready token after self.old × Begins self.old token after
+            (Ok (nothing
+            (record (state_of self.old) { at = after; options = options; quoting = quoting }))) }
         ensures { Took self.old self.new }
     {
         self.options = options;
@@ -178,7 +193,9 @@ impl<'a> Machine<'a> {
         requires means { Means self.old }
         requires room { HasRoom 0 self.old }
         requires waits { (a : Atom) × (self.old.waiting ≡ Some a) }
-        requires next { (token : Token) × IsNext token after self.old × (passed_over token (record (state_of self.old) { at = after }) ≡ Some (record (state_of self.old) { at = after; quoting = quoting })) }
+        requires next { (token : Token) × IsNext token after self.old
+            × (passed_over token (record (state_of self.old) { at = after })
+            ≡ Some (record (state_of self.old) { at = after; quoting = quoting })) }
         ensures { Took self.old self.new }
     {
         self.quoting = quoting;
@@ -194,9 +211,12 @@ impl<'a> Machine<'a> {
     ) -> Result<(), Memory>
         requires shallow { length self.old.stack.items < 250 }
         requires tests_none { TestsNone (form_of form) }
-        requires numbered { Numbered self.old.groups (number_of (form_of form)) inside.numbering inside.groups }
+        requires numbered { Numbered self.old.groups (number_of (form_of form)) inside.numbering
+            inside.groups }
         requires gives { Gives self.old.text.now self.old.groups given inside.groups }
-        requires ready { (token : Token) × Ready token inside.at self.old × Begins self.old token inside.at (Ok (inside_from self.old (form_of form) given inside)) }
+        requires ready { (token : Token) × Ready token inside.at self.old
+            × Begins self.old token inside.at
+            (Ok (inside_from self.old (form_of form) given inside)) }
         ensures { OnOk result (Took self.old self.new) }
     {
         let looking = is_looking(&form, self.looking);
@@ -256,7 +276,9 @@ impl<'a> Machine<'a> {
         requires onward { self.old.at < test.after.at }
         requires before { test.here.at < test.after.at }
         requires within { test.after.at ≤ length self.old.text.now }
-        requires ready { (token : Token) × (after : ℕ) × Ready token after self.old × (after ≤ test.after.at) × Begins self.old token after (Ok (asserting_from self.old test)) }
+        requires ready { (token : Token) × (after : ℕ) × Ready token after self.old
+            × (after ≤ test.after.at) × Begins self.old token after
+            (Ok (asserting_from self.old test)) }
         ensures { OnOk result (Took self.old self.new) }
     {
         let here = test.here.at as u32;

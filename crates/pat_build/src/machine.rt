@@ -14,7 +14,8 @@ use std::alloc::Global;
 pub(crate) struct Machine<'a> {
     pub alloc: Global,
     pub text: &'a [u8],
-    /// The names of the whole pattern, or none while they are looked for. The draft has those that were given so far.
+    /// The names of the whole pattern, or none while they are looked for. The draft has those that
+    /// were given so far.
     pub known: &'a [NameEntry],
     pub draft: Draft,
     pub stack: Vec<Frame>,
@@ -64,7 +65,14 @@ impl<'a> Machine<'a> {
 
     /// What holds where a group begins, unless it changes something.
     pub(crate) fn inside(&self, at: usize) -> Inside
-        ensures { result ≡ record { options = self.now.options; groups = self.now.groups; numbering = Onward; beyond = self.now.beyond; at = at } }
+        ensures { result
+            ≡ record {
+              options = self.now.options;
+              groups = self.now.groups;
+              numbering = Onward;
+              beyond = self.now.beyond;
+              at = at;
+            } }
     {
         Inside {
             options: self.options,

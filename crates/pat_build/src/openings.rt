@@ -39,7 +39,9 @@ impl<'a> Machine<'a> {
     ) -> Result<(), ReadError>
         requires numberless { number_of (form_of form) ≡ None }
         requires tests_none { TestsNone (form_of form) }
-        requires ready { (token : Token) × Ready token after self.old × Begins self.old token after (enters (opened (state_of self.old) (form_of form) (record (state_of self.old) { at = after; options = options }))) }
+        requires ready { (token : Token) × Ready token after self.old × Begins self.old token after
+            (enters (opened (state_of self.old) (form_of form)
+            (record (state_of self.old) { at = after; options = options }))) }
         ensures ok { OnOk result (Took self.old self.new) }
         ensures bad { IfErr result (Refuses (whole_of self.old)) }
     {
@@ -81,13 +83,15 @@ impl<'a> Machine<'a> {
 
     /// Whether a group of another number has this name and DUPNAMES is not set.
     fn is_taken(&self, name: &[u8], group: u16) -> bool
-        ensures { result ≡ (not self.now.options.dupnames && list_any (is_elsewhere name.now group) self.now.draft.names) }
+        ensures { result
+            ≡ (not self.now.options.dupnames
+            && list_any (is_elsewhere name.now group) self.now.draft.names) }
     {
         !self.options.dupnames && is_elsewhere(self.draft.names(), name, group)
     }
 
-    /// A group that has the next number and a name begins. Where a group of another number has the name, DUPNAMES is
-    /// needed, and no group of this number may have another name.
+    /// A group that has the next number and a name begins. Where a group of another number has the
+    /// name, DUPNAMES is needed, and no group of this number may have another name.
     fn named_group(&mut self, from: usize, to: usize, after: usize) -> Result<(), ReadError>
         requires { Ready (Open (opening.Named from to)) after self.old }
         ensures ok { OnOk result (Took self.old self.new) }
@@ -192,7 +196,8 @@ impl<'a> Machine<'a> {
     /// Whether a group of the whole pattern has the name between these places.
     fn is_named(&self, from: usize, to: usize) -> bool
         requires part { IsPart self.now.text.now from to }
-        ensures { result ≡ list_any (has_name (slice_range self.now.text.now from to)) (known_of self.now).names }
+        ensures { result ≡ list_any (has_name (slice_range self.now.text.now from to))
+            (known_of self.now).names }
     {
         is_given(self.known, &self.text[from..to])
     }
@@ -202,7 +207,11 @@ impl<'a> Machine<'a> {
         requires part { IsPart self.now.text.now from to }
         ensures numberless { IfOk result (λ form. number_of (form_of form) ≡ None) }
         ensures tests_none { IfOk result (λ form. TestsNone (form_of form)) }
-        ensures is { IfOk result (λ form. form_of form ≡ conditional (unless_named (known_of self.now).names (slice_range self.now.text.now from to) (test_of test))) }
+        ensures is { IfOk result
+            (λ form. form_of form
+            ≡ conditional
+            (unless_named (known_of self.now).names (slice_range self.now.text.now from to)
+            (test_of test))) }
     {
         if self.is_named(from, to) {
             let name = &self.text[from..to];
@@ -229,10 +238,14 @@ impl<'a> Machine<'a> {
     fn form(&self, cond: CondText, from: usize, to: usize) -> Result<Form, ReadError>
         requires well { IsTest self.now.text.now cond }
         requires part { IsPart self.now.text.now from to }
-        ensures ok { IfOk result (λ form. form_in (known_of self.now).names self.now.text.now (state_of self.now) cond (slice_range self.now.text.now from to) ≡ Ok (form_of form)) }
+        ensures ok { IfOk result
+            (λ form. form_in (known_of self.now).names self.now.text.now (state_of self.now) cond
+            (slice_range self.now.text.now from to) ≡ Ok (form_of form)) }
         ensures numberless { IfOk result (λ form. number_of (form_of form) ≡ None) }
         ensures tests_none { IfOk result (λ form. TestsNone (form_of form)) }
-        ensures bad { IfErr result (Refuses (form_in (known_of self.now).names self.now.text.now (state_of self.now) cond (slice_range self.now.text.now from to))) }
+        ensures bad { IfErr result
+            (Refuses (form_in (known_of self.now).names self.now.text.now (state_of self.now) cond
+            (slice_range self.now.text.now from to))) }
     {
         match cond {
             CondText::Group(target) => {
@@ -253,11 +266,13 @@ impl<'a> Machine<'a> {
         }
     }
 
-    /// Whether the test is of a call of a group whose number is too big, and no group has its text as a name.
+    /// Whether the test is of a call of a group whose number is too big, and no group has its text
+    /// as a name.
     #[tactic(auto, unfolding(pat_grammar::specs::Groups::is_beyond))]
     fn is_beyond(&self, cond: CondText, from: usize, to: usize) -> bool
         requires part { IsPart self.now.text.now from to }
-        ensures { result ≡ is_beyond (known_of self.now).names cond (slice_range self.now.text.now from to) }
+        ensures { result ≡ is_beyond (known_of self.now).names cond
+            (slice_range self.now.text.now from to) }
     {
         match cond {
             CondText::InCallOf(Target::Number(n)) => n > u32::from(GREATEST)
@@ -269,7 +284,8 @@ impl<'a> Machine<'a> {
     /// The first test of a call whose number no group can have, this one included.
     fn beyond_after(&self, cond: CondText, from: usize, to: usize) -> Option<usize>
         requires part { IsPart self.now.text.now from to }
-        ensures { result ≡ beyond_after (known_of self.now).names (state_of self.now) cond (slice_range self.now.text.now from to) }
+        ensures { result ≡ beyond_after (known_of self.now).names (state_of self.now) cond
+            (slice_range self.now.text.now from to) }
     {
         match self.beyond {
             Some(first) => Some(first),
@@ -349,9 +365,13 @@ impl<'a> Machine<'a> {
     #[tactic(auto, unfolding(pat_grammar::specs::Groups::named_by))]
     pub(crate) fn named_by(&self, target: Target) -> Result<GroupList, ReadError>
         requires target { IsTarget self.now.text.now target }
-        ensures ok { IfOk result (λ groups. named_by (known_of self.now).names self.now.text.now (state_of self.now) target ≡ Ok groups) }
+        ensures ok { IfOk result
+            (λ groups. named_by (known_of self.now).names self.now.text.now
+            (state_of self.now) target ≡ Ok groups) }
         ensures some { IfOk result (λ groups. 0 < length groups) }
-        ensures bad { IfErr result (Refuses (named_by (known_of self.now).names self.now.text.now (state_of self.now) target)) }
+        ensures bad { IfErr result
+            (Refuses (named_by (known_of self.now).names self.now.text.now
+            (state_of self.now) target)) }
     {
         let groups = u32::from(self.groups);
         match target {

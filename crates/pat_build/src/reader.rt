@@ -43,7 +43,8 @@ impl<'a> Machine<'a> {
         ensures means { Means result }
         ensures room { HasRoom 0 result }
         ensures text { result.text.now ≡ text.now }
-        ensures whole { whole_of result ≡ reading (record { names = known.now; calling = calling }) text.now (state_from start options) }
+        ensures whole { whole_of result ≡ reading (record { names = known.now; calling = calling })
+            text.now (state_from start options) }
         ensures options { result.draft.options ≡ options }
     {
         let level = Level {
@@ -75,7 +76,9 @@ impl<'a> Machine<'a> {
     /// The next token, outside classes.
     fn token(&self) -> Result<(Token, usize), ReadError>
         requires { Means self.now }
-        ensures token { IfOk result (λ r. token_at self.now.text.now (flags_of false (state_of self.now)) self.now.at ≡ Ok r) }
+        ensures token { IfOk result
+            (λ r. token_at self.now.text.now (flags_of false (state_of self.now))
+            self.now.at ≡ Ok r) }
         ensures moves { IfOk result (λ r. Moves self.now.text.now self.now.at r.0 r.1) }
         ensures well { IfOk result (λ r. IsWell self.now.text.now r.0) }
         ensures bad { IfErr result (Refuses (whole_of self.now)) }
@@ -94,7 +97,9 @@ impl<'a> Machine<'a> {
         ensures means { OnOk result (Means self.new) }
         ensures room { OnOk result (HasRoom 0 self.new) }
         ensures same { OnOk result (Same self.old self.new) }
-        ensures end { OnOk result (token_at self.new.text.now (flags_of false (state_of self.new)) self.new.at ≡ Ok (End, self.new.at)) }
+        ensures end { OnOk result
+            (token_at self.new.text.now (flags_of false (state_of self.new)) self.new.at
+            ≡ Ok (End, self.new.at)) }
         ensures bad { IfErr result (Refuses (whole_of self.old)) }
     {
         loop {
@@ -110,7 +115,8 @@ impl<'a> Machine<'a> {
     fn end(&mut self) -> Result<NodeId, ReadError>
         requires means { Means self.old }
         requires room { HasRoom 0 self.old }
-        requires token { token_at self.old.text.now (flags_of false (state_of self.old)) self.old.at ≡ Ok (End, self.old.at) }
+        requires token { token_at self.old.text.now (flags_of false (state_of self.old)) self.old.at
+            ≡ Ok (End, self.old.at) }
         ensures below { IfOk result (λ id. id < length self.new.draft.nodes) }
         ensures ok { IfOk result (λ id. Ends self.old self.new id) }
         ensures under { IfOk result (λ id. AllUnder self.new.draft.nodes id) }
@@ -143,8 +149,13 @@ fn names_of(
 ) -> Result<Draft, ReadError>
     requires within { start ≤ length text.now }
     requires short { length text.now ≤ 65536 }
-    ensures ok { IfOk result (λ draft. (first : Nested × State) × (reading (record { names = []; calling = calling }) text.now (state_from start options) ≡ Ok first) × (first.1.names ≡ draft.names)) }
-    ensures bad { IfErr result (Refuses (reading (record { names = []; calling = calling }) text.now (state_from start options))) }
+    ensures ok { IfOk result
+        (λ draft. (first : Nested × State)
+        × (reading (record { names = []; calling = calling }) text.now (state_from start options)
+        ≡ Ok first) × (first.1.names ≡ draft.names)) }
+    ensures bad { IfErr result
+        (Refuses (reading (record { names = []; calling = calling }) text.now
+        (state_from start options))) }
 {
     let none: [NameEntry; 0] = [];
     let mut machine = Machine::new(alloc, &none, text, start, options, calling);
@@ -157,7 +168,8 @@ fn names_of(
 /// No test may ask for a call of a group whose number is too big.
 fn none_beyond(beyond: Option<usize>) -> Result<(), ReadError>
     ensures ok { OnOk result (beyond ≡ None) }
-    ensures bad { IfErr result (λ e. (at : ℕ) × (beyond ≡ Some at) × (e ≡ ReadError.Bad (pos 161) at)) }
+    ensures bad { IfErr result
+        (λ e. (at : ℕ) × (beyond ≡ Some at) × (e ≡ ReadError.Bad (pos 161) at)) }
 {
     match beyond {
         None => Ok(()),
@@ -176,10 +188,14 @@ fn tree_of(
 ) -> Result<Tree, ReadError>
     requires within { start ≤ length text.now }
     requires short { length text.now ≤ 65536 }
-    ensures ok { IfOk result (λ tree. tree_with (record { names = known.now; calling = calling }) text.now (state_from start options) ≡ Ok (parsed_of tree)) }
+    ensures ok { IfOk result
+        (λ tree. tree_with (record { names = known.now; calling = calling }) text.now
+        (state_from start options) ≡ Ok (parsed_of tree)) }
     ensures under { IfOk result (λ tree. AllUnder tree.nodes tree.root) }
     ensures turns { IfOk result (λ tree. StandInTurn tree.nodes) }
-    ensures bad { IfErr result (Refuses (tree_with (record { names = known.now; calling = calling }) text.now (state_from start options))) }
+    ensures bad { IfErr result
+        (Refuses (tree_with (record { names = known.now; calling = calling }) text.now
+        (state_from start options))) }
 {
     let mut machine = Machine::new(alloc, known, text, start, options, calling);
     machine.run()?;
@@ -195,7 +211,8 @@ fn tree_of(
     }
 }
 
-/// In UTF the text must be UTF-8 (pcre2unicode, "Validity of UTF strings"): fault -3 where the longest part of it that is ends.
+/// In UTF the text must be UTF-8 (pcre2unicode, "Validity of UTF strings"): fault -3 where the
+/// longest part of it that is ends.
 fn in_utf8(text: &[u8], utf: bool) -> Result<(), ReadError>
     ensures ok { OnOk result ((utf && not (is_utf8 text.now)) ≡ false) }
     ensures checked { OnOk result (IsChecked utf text.now) }
@@ -214,15 +231,17 @@ fn in_utf8(text: &[u8], utf: bool) -> Result<(), ReadError>
     }
 }
 
-/// Reads a pattern of at most 65,536 bytes (pcre2pattern): the tree has its nested value, its classes in the order of
-/// reading, its names in the order of the table, and the options with those that the start items set. Under LITERAL each
-/// character stands for itself. Each node lies under the root, and stands behind those under it. No call is nested deeper
-/// for a pattern that is: open groups stand in a vector, 250 at most.
+/// Reads a pattern of at most 65,536 bytes (pcre2pattern): the tree has its nested value, its
+/// classes in the order of reading, its names in the order of the table, and the options with those
+/// that the start items set. Under LITERAL each character stands for itself. Each node lies under
+/// the root, and stands behind those under it. No call is nested deeper for a pattern that is: open
+/// groups stand in a vector, 250 at most.
 ///
-/// `Bad` has the number and the place of the fault that the definition tells: first 120 for a pattern that is longer, at
-/// 0; then 160 at a start item that isn't well written; then under UTF -3 where the longest part that is UTF-8 ends; then
-/// the first fault from the left; then 161 at the first test of a call of a group past 65,535; last 115 at the leftmost
-/// reference, call or test that names no group. Want of memory may come at any pattern.
+/// `Bad` has the number and the place of the fault that the definition tells: first 120 for a
+/// pattern that is longer, at 0; then 160 at a start item that isn't well written; then under UTF
+/// -3 where the longest part that is UTF-8 ends; then the first fault from the left; then 161 at
+/// the first test of a call of a group past 65,535; last 115 at the leftmost reference, call or
+/// test that names no group. Want of memory may come at any pattern.
 #[tactic(auto, unfolding(pat_grammar::specs::Reading::read))]
 pub fn read(alloc: Global, text: &[u8], options: Options) -> Result<Tree, ReadError>
     ensures ok { IfOk result (λ tree. read options text.now ≡ Ok (parsed_of tree)) }

@@ -8,7 +8,6 @@ ghost use Rattle.pat_grammar.specs.Places.{Refuses};
 
 use crate::machine::Machine;
 use pat_grammar::brackets::read_class;
-use pat_grammar::callouts::Called;
 use pat_grammar::error::ReadError;
 use pat_grammar::options::with_setting;
 use pat_grammar::properties::property_part;
@@ -159,14 +158,7 @@ impl<'a> Machine<'a> {
                 number,
                 text_from,
                 text_to,
-            } => {
-                let called = Called {
-                    number,
-                    text_from,
-                    text_to,
-                };
-                self.callout(called, after)
-            }
+            } => self.callout(number, text_from, text_to, after),
             Token::Bar => self.bar(after),
             Token::CondStart { cond, from, to } => self.condition(cond, from, to, after),
             Token::Close => self.close(after),
@@ -180,7 +172,8 @@ impl<'a> Machine<'a> {
         requires means { Means self.old }
         requires room { HasRoom 0 self.old }
         requires next { IsNext token after self.old }
-        requires passed { passed_over token (record (state_of self.old) { at = after }) ≡ Some (record (state_of self.old) { at = after; quoting = quoting }) }
+        requires passed { passed_over token (record (state_of self.old) { at = after })
+            ≡ Some (record (state_of self.old) { at = after; quoting = quoting }) }
         ensures { Took self.old self.new }
     {
         match self.waiting {

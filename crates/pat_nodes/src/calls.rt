@@ -1,4 +1,5 @@
-//! What a call or a test of one asks for (pcre2pattern, "Recursive patterns", "Groups as subroutines").
+//! What a call or a test of one asks for (pcre2pattern, "Recursive patterns", "Groups as
+//! subroutines").
 ghost use Rattle.std.specs.Prelude.{◌≡◌, ◌<◌, length};
 ghost use Rattle.pat_grammar.specs.Parts.{is_number, number_called};
 ghost use Rattle.pat_grammar.specs.Groups.{called_by};
@@ -15,8 +16,8 @@ pub fn is_number(target: Target) -> bool
     matches!(target, Target::Number(_))
 }
 
-/// The group that is called, the first of those that are named. The whole pattern is called by its number 0 alone: else 0
-/// stands for no group.
+/// The group that is called, the first of those that are named. The whole pattern is called by its
+/// number 0 alone: else 0 stands for no group.
 pub fn number_called(groups: &GroupList, by_number: bool) -> Option<u16>
     requires { 0 < length groups.now }
     ensures { result ≡ number_called by_number groups.now }

@@ -45,8 +45,8 @@ pub enum Form {
     Asserting,
 }
 
-/// An open group: what holds around it (the options, whether that is inside a lookaround, which alternatives may come
-/// there and how they number groups), its place, and what encloses it.
+/// An open group: what holds around it (the options, whether that is inside a lookaround, which
+/// alternatives may come there and how they number groups), its place, and what encloses it.
 #[derive(Drop)]
 pub struct Frame {
     pub form: Form,

@@ -68,8 +68,10 @@ pub fn push_frame(stack: &mut Vec<Frame>, frame: Frame) -> Result<(), Memory>
 /// Gives a group its name, if it gets one.
 pub fn give(text: &[u8], draft: &mut Draft, given: Option<Name>) -> Result<(), Memory>
     requires room { length draft.old.names < 4294967295 }
-    requires stands { (name : Name) → given ≡ Some name → (name.from ≤ name.to) × (name.to ≤ length text.now) }
-    ensures { OnOk result (draft.new ≡ record draft.old { names = with_given text.now given draft.old.names }) }
+    requires stands { (name : Name) → given ≡ Some name → (name.from ≤ name.to)
+        × (name.to ≤ length text.now) }
+    ensures { OnOk result
+        (draft.new ≡ record draft.old { names = with_given text.now given draft.old.names }) }
 {
     if let Some(name) = given {
         draft.add_name(&text[name.from..name.to], name.group)?;

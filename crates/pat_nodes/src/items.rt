@@ -32,7 +32,8 @@ pub fn any_or_line(dotall: bool) -> Item
 
 /// A class of one part.
 pub fn class_of(alloc: Global, part: Part, caseless: bool) -> Result<ClassSpec, Memory>
-    ensures { IfOk result (λ spec. spec ≡ record { negated = false; caseless = caseless; parts = part ∷ [] }) }
+    ensures { IfOk result
+        (λ spec. spec ≡ record { negated = false; caseless = caseless; parts = part ∷ [] }) }
 {
     let mut parts = PartList::new(alloc);
     parts.push(part)?;

@@ -1,4 +1,5 @@
-//! Nodes as the reader of a pattern makes them: groups, alternatives, repeats, verbs, and patterns under LITERAL.
+//! Nodes as the reader of a pattern makes them: groups, alternatives, repeats, verbs, and patterns
+//! under LITERAL.
 #![tactic(auto)]
 
 pub mod callouts;

@@ -18,7 +18,8 @@ use uni_text::char_at;
 /// Adds the node of a character.
 fn add_character(draft: &mut Draft, c: u32, caseless: bool, at: u32) -> Result<NodeId, Memory>
     requires { length draft.old.nodes < 4294967295 }
-    ensures made { IfOk result (λ id. Makes draft.old.nodes draft.new.nodes id (one (Char c caseless))) }
+    ensures made { IfOk result
+        (λ id. Makes draft.old.nodes draft.new.nodes id (one (Char c caseless))) }
     ensures loose { IfOk result (λ id. Replaces draft.old.nodes [] draft.new.nodes id) }
     ensures count { OnOk result (length draft.new.nodes ≡ length draft.old.nodes + 1) }
     ensures adds { OnOk result (Adds draft.old draft.new) }
@@ -52,7 +53,8 @@ fn push_callout(
 ) -> Result<(), Memory>
     requires room { length draft.old.nodes < 4294967295 }
     requires small { item.at + item.len ≤ 65536 }
-    ensures { OnOk result (Follow draft.old draft.new kids.old kids.new (before_item options item)) }
+    ensures { OnOk result
+        (Follow draft.old draft.new kids.old kids.new (before_item options item)) }
 {
     if !options.auto_callout {
         return Ok(());
@@ -80,7 +82,8 @@ fn characters(
     requires empty { draft.old.nodes ≡ [] }
     requires short { length text.now ≤ 65536 }
     requires checked { IsChecked options.utf text.now }
-    ensures stand { IfOk result (λ ids. Stand draft.new.nodes ids (literal_parts options text.now)) }
+    ensures stand { IfOk result
+        (λ ids. Stand draft.new.nodes ids (literal_parts options text.now)) }
     ensures loose { IfOk result (λ kids. loose draft.new.nodes ≡ kids) }
     ensures adds { OnOk result (Adds draft.old draft.new) }
     ensures count { OnOk result (length draft.new.nodes ≤ 2 * length text.now + 1) }

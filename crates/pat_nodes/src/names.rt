@@ -82,7 +82,9 @@ pub fn is_other(names: &[NameEntry], wanted: &[u8], group: u16) -> bool
 
 /// The groups of this name, in the order of the table.
 fn groups_with(alloc: Global, names: &[NameEntry], wanted: &[u8]) -> Result<Vec<u16>, Memory>
-    ensures { IfOk result (λ groups. groups.items ≡ map (λ entry. entry.group) (filter (has_name wanted.now) names.now)) }
+    ensures { IfOk result
+        (λ groups. groups.items ≡ map (λ entry. entry.group)
+        (filter (has_name wanted.now) names.now)) }
 {
     let mut groups = Vec::new(alloc);
     for entry in names {

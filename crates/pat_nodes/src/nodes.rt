@@ -4,7 +4,7 @@ ghost use Rattle.pat_tree.specs.Nested.{tree_at, trees, row, atomic};
 ghost use Rattle.pat_tree.specs.Growing.{EndsIn, Replaces, Makes};
 ghost use Rattle.pat_tree.specs.Rules.{number_in, AtMost};
 ghost use Rattle.pat_nodes.specs.declared.frames.Form.TheVariants as kept;
-ghost use Rattle.pat_grammar.specs.Groups.{number_of, built, conditional, asserting};
+ghost use Rattle.pat_grammar.specs.Groups.{number_of, built, conditional, asserting, defines};
 ghost use Rattle.pat_grammar.specs.Parts.{alternative, once_more, repeat_of, is_lazy, repeated};
 ghost use Rattle.pat_nodes.specs.Nodes.{Adds, Closes, CanHave, HasTest, TestsIn, IsAtom, atom_tree, ids_of, form_of, test_of, cond_in};
 
@@ -19,7 +19,9 @@ pub fn alternative(draft: &mut Draft, parts: Kids, at: u32) -> Result<NodeId, Me
     requires room { length draft.old.nodes < 4294967295 }
     requires below { All (λ k. k < length draft.old.nodes) parts }
     requires loose { EndsIn draft.old.nodes parts }
-    ensures made { IfOk result (λ id. Makes draft.old.nodes draft.new.nodes id (alternative (map (tree_at (trees draft.old.nodes)) parts))) }
+    ensures made { IfOk result
+        (λ id. Makes draft.old.nodes draft.new.nodes id
+        (alternative (map (tree_at (trees draft.old.nodes)) parts))) }
     ensures loose { IfOk result (λ id. Replaces draft.old.nodes parts draft.new.nodes id) }
     ensures count { OnOk result (length draft.new.nodes ≤ length draft.old.nodes + 1) }
     ensures adds { OnOk result (Adds draft.old draft.new) }
@@ -42,7 +44,8 @@ pub fn place(draft: &mut Draft, atom: Atom) -> Result<NodeId, Memory>
     requires room { length draft.old.nodes < 4294967295 }
     requires atom { IsAtom draft.old atom }
     requires loose { EndsIn draft.old.nodes (ids_of atom) }
-    ensures made { IfOk result (λ id. Makes draft.old.nodes draft.new.nodes id (atom_tree draft.old.nodes atom)) }
+    ensures made { IfOk result
+        (λ id. Makes draft.old.nodes draft.new.nodes id (atom_tree draft.old.nodes atom)) }
     ensures loose { IfOk result (λ id. Replaces draft.old.nodes (ids_of atom) draft.new.nodes id) }
     ensures count { OnOk result (length draft.new.nodes ≤ length draft.old.nodes + 1) }
     ensures adds { OnOk result (Adds draft.old draft.new) }
@@ -85,7 +88,9 @@ fn single_condition(
     requires branches { All (λ k. k < length draft.old.nodes) branches }
     requires loose { EndsIn draft.old.nodes branches }
     requires few { length branches ≡ 1 }
-    ensures made { IfOk result (λ id. Makes draft.old.nodes draft.new.nodes id (built (conditional (test_of test)) (map (tree_at (trees draft.old.nodes)) branches))) }
+    ensures made { IfOk result
+        (λ id. Makes draft.old.nodes draft.new.nodes id
+        (built (conditional (test_of test)) (map (tree_at (trees draft.old.nodes)) branches))) }
     ensures loose { IfOk result (λ id. Replaces draft.old.nodes branches draft.new.nodes id) }
     ensures count { OnOk result (length draft.new.nodes ≡ length draft.old.nodes + 1) }
     ensures closes { OnOk result (Closes draft.old draft.new (conditional (test_of test)) at) }
@@ -110,7 +115,9 @@ fn double_condition(
     requires branches { All (λ k. k < length draft.old.nodes) branches }
     requires loose { EndsIn draft.old.nodes branches }
     requires few { length branches ≡ 2 }
-    ensures made { IfOk result (λ id. Makes draft.old.nodes draft.new.nodes id (built (conditional (test_of test)) (map (tree_at (trees draft.old.nodes)) branches))) }
+    ensures made { IfOk result
+        (λ id. Makes draft.old.nodes draft.new.nodes id
+        (built (conditional (test_of test)) (map (tree_at (trees draft.old.nodes)) branches))) }
     ensures loose { IfOk result (λ id. Replaces draft.old.nodes branches draft.new.nodes id) }
     ensures count { OnOk result (length draft.new.nodes ≡ length draft.old.nodes + 1) }
     ensures closes { OnOk result (Closes draft.old draft.new (conditional (test_of test)) at) }
@@ -131,7 +138,9 @@ fn condition_node(draft: &mut Draft, test: Test, branches: Kids, at: u32) -> Res
     requires branches { All (λ k. k < length draft.old.nodes) branches }
     requires loose { EndsIn draft.old.nodes branches }
     requires few { CanHave (conditional (test_of test)) (length branches) }
-    ensures made { IfOk result (λ id. Makes draft.old.nodes draft.new.nodes id (built (conditional (test_of test)) (map (tree_at (trees draft.old.nodes)) branches))) }
+    ensures made { IfOk result
+        (λ id. Makes draft.old.nodes draft.new.nodes id
+        (built (conditional (test_of test)) (map (tree_at (trees draft.old.nodes)) branches))) }
     ensures loose { IfOk result (λ id. Replaces draft.old.nodes branches draft.new.nodes id) }
     ensures count { OnOk result (length draft.new.nodes ≡ length draft.old.nodes + 1) }
     ensures closes { OnOk result (Closes draft.old draft.new (conditional (test_of test)) at) }
@@ -150,7 +159,9 @@ fn single_assertion(draft: &mut Draft, branches: Kids, at: u32) -> Result<NodeId
     requires loose { EndsIn draft.old.nodes branches }
     requires few { length branches ≡ 2 }
     requires test { HasTest asserting (map (tree_at (trees draft.old.nodes)) branches) }
-    ensures made { IfOk result (λ id. Makes draft.old.nodes draft.new.nodes id (built asserting (map (tree_at (trees draft.old.nodes)) branches))) }
+    ensures made { IfOk result
+        (λ id. Makes draft.old.nodes draft.new.nodes id
+        (built asserting (map (tree_at (trees draft.old.nodes)) branches))) }
     ensures loose { IfOk result (λ id. Replaces draft.old.nodes branches draft.new.nodes id) }
     ensures count { OnOk result (length draft.new.nodes ≡ length draft.old.nodes + 1) }
     ensures closes { OnOk result (Closes draft.old draft.new asserting at) }
@@ -172,7 +183,9 @@ fn double_assertion(draft: &mut Draft, branches: Kids, at: u32) -> Result<NodeId
     requires loose { EndsIn draft.old.nodes branches }
     requires few { length branches ≡ 3 }
     requires test { HasTest asserting (map (tree_at (trees draft.old.nodes)) branches) }
-    ensures made { IfOk result (λ id. Makes draft.old.nodes draft.new.nodes id (built asserting (map (tree_at (trees draft.old.nodes)) branches))) }
+    ensures made { IfOk result
+        (λ id. Makes draft.old.nodes draft.new.nodes id
+        (built asserting (map (tree_at (trees draft.old.nodes)) branches))) }
     ensures loose { IfOk result (λ id. Replaces draft.old.nodes branches draft.new.nodes id) }
     ensures count { OnOk result (length draft.new.nodes ≡ length draft.old.nodes + 1) }
     ensures closes { OnOk result (Closes draft.old draft.new asserting at) }
@@ -195,7 +208,9 @@ fn assertion_node(draft: &mut Draft, branches: Kids, at: u32) -> Result<NodeId, 
     requires loose { EndsIn draft.old.nodes branches }
     requires few { CanHave asserting (length branches) }
     requires test { HasTest asserting (map (tree_at (trees draft.old.nodes)) branches) }
-    ensures made { IfOk result (λ id. Makes draft.old.nodes draft.new.nodes id (built asserting (map (tree_at (trees draft.old.nodes)) branches))) }
+    ensures made { IfOk result
+        (λ id. Makes draft.old.nodes draft.new.nodes id
+        (built asserting (map (tree_at (trees draft.old.nodes)) branches))) }
     ensures loose { IfOk result (λ id. Replaces draft.old.nodes branches draft.new.nodes id) }
     ensures count { OnOk result (length draft.new.nodes ≡ length draft.old.nodes + 1) }
     ensures closes { OnOk result (Closes draft.old draft.new asserting at) }
@@ -207,6 +222,28 @@ fn assertion_node(draft: &mut Draft, branches: Kids, at: u32) -> Result<NodeId, 
     }
 }
 
+/// The node of a group of definitions, which is never run where it stands.
+fn define_node(draft: &mut Draft, branches: Kids, at: u32) -> Result<NodeId, Memory>
+    requires room { length draft.old.nodes < 4294967295 }
+    requires branches { All (λ k. k < length draft.old.nodes) branches }
+    requires loose { EndsIn draft.old.nodes branches }
+    requires few { CanHave defines (length branches) }
+    ensures made { IfOk result
+        (λ id. Makes draft.old.nodes draft.new.nodes id
+        (built defines (map (tree_at (trees draft.old.nodes)) branches))) }
+    ensures loose { IfOk result (λ id. Replaces draft.old.nodes branches draft.new.nodes id) }
+    ensures count { OnOk result (length draft.new.nodes ≡ length draft.old.nodes + 1) }
+    ensures closes { OnOk result (Closes draft.old draft.new defines at) }
+{
+    let node = Node::Cond {
+        test: Cond::Never,
+        yes: *branches.get(0),
+        no: None,
+    };
+    let id = draft.add(node, at)?;
+    Ok(id)
+}
+
 /// The node of a group with these branches.
 fn form_node(draft: &mut Draft, form: Form, branches: Kids, at: u32) -> Result<NodeId, Memory>
     requires room { length draft.old.nodes < 4294967295 }
@@ -215,7 +252,9 @@ fn form_node(draft: &mut Draft, form: Form, branches: Kids, at: u32) -> Result<N
     requires numbered { All (λ n. 1 ≤ n) (number_in (number_of (form_of form))) }
     requires few { CanHave (form_of form) (length branches) }
     requires test { HasTest (form_of form) (map (tree_at (trees draft.old.nodes)) branches) }
-    ensures made { IfOk result (λ id. Makes draft.old.nodes draft.new.nodes id (built (form_of form) (map (tree_at (trees draft.old.nodes)) branches))) }
+    ensures made { IfOk result
+        (λ id. Makes draft.old.nodes draft.new.nodes id
+        (built (form_of form) (map (tree_at (trees draft.old.nodes)) branches))) }
     ensures loose { IfOk result (λ id. Replaces draft.old.nodes branches draft.new.nodes id) }
     ensures count { OnOk result (length draft.new.nodes ≡ length draft.old.nodes + 1) }
     ensures closes { OnOk result (Closes draft.old draft.new (form_of form) at) }
@@ -255,15 +294,7 @@ fn form_node(draft: &mut Draft, form: Form, branches: Kids, at: u32) -> Result<N
         }
         Form::Condition(test) => condition_node(draft, test, branches, at),
         Form::Asserting => assertion_node(draft, branches, at),
-        Form::Define => {
-            let node = Node::Cond {
-                test: Cond::Never,
-                yes: *branches.get(0),
-                no: None,
-            };
-            let id = draft.add(node, at)?;
-            Ok(id)
-        }
+        Form::Define => define_node(draft, branches, at),
     }
 }
 
@@ -276,8 +307,13 @@ pub fn group(draft: &mut Draft, form: Form, level: Level, at: u32) -> Result<Nod
     requires numbered { All (λ n. 1 ≤ n) (number_in (number_of (form_of form))) }
     requires few { CanHave (form_of form) (length level.branches + 1) }
     requires test { HasTest (form_of form) (map (tree_at (trees draft.old.nodes)) level.branches) }
-    ensures made { IfOk result (λ id. Makes draft.old.nodes draft.new.nodes id (built (form_of form) (map (tree_at (trees draft.old.nodes)) level.branches ++ alternative (map (tree_at (trees draft.old.nodes)) level.parts) ∷ []))) }
-    ensures loose { IfOk result (λ id. Replaces draft.old.nodes (level.branches ++ level.parts) draft.new.nodes id) }
+    ensures made { IfOk result
+        (λ id. Makes draft.old.nodes draft.new.nodes id
+        (built (form_of form)
+        (map (tree_at (trees draft.old.nodes)) level.branches
+        ++ alternative (map (tree_at (trees draft.old.nodes)) level.parts) ∷ []))) }
+    ensures loose { IfOk result
+        (λ id. Replaces draft.old.nodes (level.branches ++ level.parts) draft.new.nodes id) }
     ensures count { OnOk result (length draft.new.nodes ≤ length draft.old.nodes + 2) }
     ensures closes { OnOk result (Closes draft.old draft.new (form_of form) at) }
 {
@@ -337,7 +373,9 @@ fn repeat(
     requires atom { IsAtom draft.old atom }
     requires loose { EndsIn draft.old.nodes (ids_of atom) }
     requires ordered { AtMost min max }
-    ensures made { IfOk result (λ id. Makes draft.old.nodes draft.new.nodes id (repeat_of min max lazy (atom_tree draft.old.nodes atom))) }
+    ensures made { IfOk result
+        (λ id. Makes draft.old.nodes draft.new.nodes id
+        (repeat_of min max lazy (atom_tree draft.old.nodes atom))) }
     ensures loose { IfOk result (λ id. Replaces draft.old.nodes (ids_of atom) draft.new.nodes id) }
     ensures count { OnOk result (length draft.new.nodes ≤ length draft.old.nodes + 1) }
     ensures adds { OnOk result (Adds draft.old draft.new) }
@@ -381,7 +419,9 @@ fn hold(alloc: Global, draft: &mut Draft, body: NodeId, at: u32) -> Result<NodeI
     requires room { length draft.old.nodes < 4294967295 }
     requires below { body < length draft.old.nodes }
     requires loose { EndsIn draft.old.nodes (body ∷ []) }
-    ensures made { IfOk result (λ id. Makes draft.old.nodes draft.new.nodes id (atomic (row (tree_at (trees draft.old.nodes) body ∷ [])))) }
+    ensures made { IfOk result
+        (λ id. Makes draft.old.nodes draft.new.nodes id
+        (atomic (row (tree_at (trees draft.old.nodes) body ∷ [])))) }
     ensures loose { IfOk result (λ id. Replaces draft.old.nodes (body ∷ []) draft.new.nodes id) }
     ensures count { OnOk result (length draft.new.nodes ≡ length draft.old.nodes + 1) }
     ensures adds { OnOk result (Adds draft.old draft.new) }
@@ -417,7 +457,9 @@ pub fn repeated(
     requires atom { IsAtom draft.old atom }
     requires loose { EndsIn draft.old.nodes (ids_of atom) }
     requires ordered { AtMost min max }
-    ensures made { IfOk result (λ id. Makes draft.old.nodes draft.new.nodes id (repeated min max mode ungreedy (atom_tree draft.old.nodes atom))) }
+    ensures made { IfOk result
+        (λ id. Makes draft.old.nodes draft.new.nodes id
+        (repeated min max mode ungreedy (atom_tree draft.old.nodes atom))) }
     ensures loose { IfOk result (λ id. Replaces draft.old.nodes (ids_of atom) draft.new.nodes id) }
     ensures count { OnOk result (length draft.new.nodes ≤ length draft.old.nodes + 2) }
     ensures adds { OnOk result (Adds draft.old draft.new) }

@@ -12,7 +12,7 @@ use Rattle.pat_tree.specs.declared.options.MatchOptions.{MatchOptions}
 use Rattle.pat_tree.specs.declared.options.PartialMode.TheVariants.{Off}
 use Rattle.pat_tree.specs.Parts.{TreeParts, tree_of}
 use Rattle.char_sets.specs.Sets.{class_has}
-use Rattle.match_needs.specs.Bounds.{at}
+use Rattle.match_needs.specs.Bounds.{at, bound}
 use Rattle.match_needs.specs.Needs.{may_take, Needs}
 use Rattle.match_needs.specs.NeedTables.{IsNeedOf}
 use Rattle.match_needs.specs.declared.bounds.Growth.{Growth}
@@ -36,7 +36,7 @@ at_most : (a : Growth) (n m : ℕ) → n ≤ m → at a n ≤ at a m
 at_most a n m le = mul-le-mul_left a.times (pow-le-pow_left le a.degree)
 
 -- what a text lacks that stands where another does, in UTF also where a byte past ASCII stands
-module _ (utf : Bool) (some all : List (List Bool)) (more : (bytes : List ℕ) (k : ℕ) → Stands some bytes k → Stands all bytes k)
+module _ (utf : Bool) (some all : List (List Bool)) (more : (bytes : List ℕ) (k : ℕ) → Stands some bytes k → (j : ℕ) × Stands all bytes j)
     (wide : IsTrue utf → (bytes : List ℕ) (k : ℕ) → k < length bytes → 128 ≤ slice_index bytes k → slice_index bytes k < 256 → Stands all bytes k)
     (subject : List ℕ) (lacks : Lacks all subject) where
   ascii : IsTrue utf → IsAscii subject
@@ -58,7 +58,7 @@ module _ (utf : Bool) (some all : List (List Bool)) (more : (bytes : List ℕ) (
           rw (le-ltb (length subject) 0 (omega arith), is_utf8-from_IsUtf8 subject (IsUtf8-from_ascii subject (ascii e)), lt-leb 128 (slice_index subject 0) (ascii e 0)) refl
 
 pub finds_none : (code : CodeParts) (matching : MatchOptions) (most : ℕ) (need : Need) (told : List (List Bool))
-    → IsNeedOf code.tree need → ((bytes : List ℕ) (k : ℕ) → Stands (sets_of need.text) bytes k → Stands told bytes k)
+    → IsNeedOf code.tree need → ((bytes : List ℕ) (k : ℕ) → Stands (sets_of need.text) bytes k → (j : ℕ) × Stands told bytes j)
     → (IsTrue code.tree.options.utf → (bytes : List ℕ) (k : ℕ) → k < length bytes → 128 ≤ slice_index bytes k → slice_index bytes k < 256 → Stands told bytes k) → matching.«partial» ≡ Off
     → at need.bound.steps (most + 1) ≤ lower_of code.tree.options.match_limit matching.match_limit
     → need.bound.units ≤ matching.frame_limit → most < 4294967295 → FindsNone code matching most told
@@ -68,10 +68,10 @@ finds_none code matching most need told is more wide off steps units few subject
     let g = search_of code matching subject 0 answers in
     begun g (begins utf (sets_of need.text) told more wide subject lacks) ∙ ap (λ f. answer_of f.answer)
     (need_law g (sets_of need.text) need.bound (record {
-      needs = subst (λ (has : ℕ → ℕ → Bool). Needs (may_take utf has) utf (sets_of need.text) (tree_of code.tree)) (class_told code.tree) is.text;
+      needs = subst (λ (has : ℕ → ℕ → Bool). Needs (may_take utf has) utf true (sets_of need.text) (tree_of code.tree)) (class_told code.tree) is.text;
       small = lacks.small;
-      missing = λ k stands. lacks.missing k (more subject k stands);
-      bounded = is.bound;
+      missing = λ k stands. let there = more subject k stands in lacks.missing there.0 there.1;
+      bounded = subst (λ (has : ℕ → ℕ → Bool). bound has (tree_of code.tree) ≡ Some need.bound) (class_told code.tree) is.bound;
       folds = refl;
       steps = omega (arith, less, steps);
       units = units;

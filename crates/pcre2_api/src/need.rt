@@ -18,19 +18,19 @@ fn match_limit(options: &Options, matching: &MatchOptions) -> u32
     }
 }
 
-/// The needed text, in UTF its first byte or any byte past ASCII: a subject without any of those is UTF-8.
+/// The needed text, in UTF one of its bytes or any byte past ASCII: a subject without any of those is UTF-8.
 pub(crate) fn told_text(need: &Need, utf: bool) -> ByteText
     ensures needed { (bytes : List ℕ) (k : ℕ) → Stands (sets_of need.now.text) bytes k
-        → Stands (sets_of result) bytes k }
+        → (j : ℕ) × Stands (sets_of result) bytes j }
     ensures wide { IsTrue utf → (bytes : List ℕ) (k : ℕ) → k < length bytes
         → 128 ≤ slice_index bytes k → slice_index bytes k < 256 → Stands (sets_of result) bytes k }
 {
     if !utf {
         return need.text.copied();
     }
-    let mut first = need.text.first.copied();
-    add_range(&mut first, 128, 255);
-    ByteText::one(first)
+    let mut bytes = need.text.rarest();
+    add_range(&mut bytes, 128, 255);
+    ByteText::one(bytes)
 }
 
 /// Whether a search of a subject of at most so many bytes passes no limit, whatever it finds. No subject has as many as the

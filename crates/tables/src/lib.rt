@@ -15,3 +15,5 @@ mod resets;
 mod searching;
 #[cfg(test)]
 mod shown;
+#[cfg(test)]
+mod texts;

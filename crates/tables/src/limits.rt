@@ -99,11 +99,52 @@ const EACH_BRANCH_IS_A_STEP: &[Row] = &[
     (b"(?:ab|cd|ef)x", b"efy", None, 3, 1),
     (b"foo|bar|baz", b"baz", Some((0, 3)), 3, 1),
     (b"(a|b|c)d", b"cd", Some((0, 2)), 3, 2),
+    (b"ab|ac|ad", b"xad", Some((1, 3)), 3, 1),
+    (b"ab|a", b"ab", Some((0, 2)), 1, 1),
+    (b"a|ab", b"ab", Some((0, 1)), 1, 1),
+    (b"ab|a\\d|a", b"ax", Some((0, 1)), 3, 1),
+    (b"abc|abd", b"abx", None, 2, 1),
+    (b"abc|ab\\w", b"abx", Some((0, 3)), 2, 1),
 ];
 
 #[test]
 fn each_branch_is_a_step(rt: HostRuntime) -> Result<(), Fail> {
     cases(&rt, rt.alloc(), EACH_BRANCH_IS_A_STEP)
+}
+
+const AN_ASSERTION_REFUSES_A_PLACE: &[Row] = &[
+    (b"^.{2,4}$", b"abcd", Some((0, 4)), 1, 1),
+    (b"^.{2,4}$", b"abc\n", Some((0, 3)), 1, 1),
+    (b"^.{2,4}$", b"abcdef", None, 3, 1),
+    (b"(?ms)^.{1,4}$", b"a\nbcd", Some((0, 1)), 4, 1),
+    (b"a+\\b", b"aab", None, 2, 1),
+    (b".+\\b", b"ab c--", Some((0, 4)), 3, 1),
+    (b"(a+)\\z", b"aab", None, 2, 3),
+    (b"(a+)\\z", b"aabaa", Some((3, 5)), 2, 3),
+    (b"a+?\\b", b"aa-", Some((0, 2)), 2, 1),
+    (b"(a+?)$", b"aa", Some((0, 2)), 2, 3),
+    (b"(?:^b|\\bc|c)", b"xc", Some((1, 2)), 3, 1),
+    (b"a+(\\b)", b"aab", None, 2, 2),
+];
+
+#[test]
+fn an_assertion_refuses_a_place(rt: HostRuntime) -> Result<(), Fail> {
+    cases(&rt, rt.alloc(), AN_ASSERTION_REFUSES_A_PLACE)
+}
+
+const A_GROUP_THAT_FOLLOWS_HOLDS_A_UNIT: &[Row] = &[
+    (b"\\w+(=)", b"ab=", Some((0, 3)), 1, 3),
+    (b"\\w+(=)", b"ab", None, 2, 2),
+    (b".*(b)", b"abcc", Some((0, 2)), 4, 3),
+    (b".*(?:bc)", b"abcd", Some((0, 3)), 4, 1),
+    (b".*?(\\d)", b"ab1", Some((0, 3)), 3, 3),
+    (b"(a*)(b)", b"aac", None, 3, 4),
+    (b"(a*)(b)", b"aab", Some((0, 3)), 1, 5),
+];
+
+#[test]
+fn a_group_that_follows_holds_a_unit(rt: HostRuntime) -> Result<(), Fail> {
+    cases(&rt, rt.alloc(), A_GROUP_THAT_FOLLOWS_HOLDS_A_UNIT)
 }
 
 const A_MISSING_BYTE_IS_NO_MATCH_WITHIN_THE_LIMITS: &[Row] = &[

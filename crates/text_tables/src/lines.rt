@@ -213,6 +213,144 @@ fn bytes_held_and_another_input(rt: HostRuntime) -> Result<(), Fail> {
     Ok(())
 }
 
+/// An input that is held whole, and how many of its bytes are read before a fault; lines of at most `longest` bytes are
+/// passed over in its first `within`. These are so many lines of `passed` bytes, and the others come behind them.
+struct Passing {
+    kind: EndKind,
+    bytes: &'static [u8],
+    fail_at: Option<u64>,
+    within: usize,
+    longest: usize,
+    passed: usize,
+    lines: u64,
+    rows: &'static [LineRow<'static>],
+    fault: Option<FeedError>,
+}
+
+const FIVE: &[u8] = b"ad\n\ncde\nf\ng";
+
+const PASSINGS: &[Passing] = &[
+    Passing {
+        kind: EndKind::Lf,
+        bytes: FIVE,
+        fail_at: None,
+        within: 11,
+        longest: 9,
+        passed: 10,
+        lines: 4,
+        rows: &[(b"g", b"", 5, 10)],
+        fault: None,
+    },
+    Passing {
+        kind: EndKind::Lf,
+        bytes: FIVE,
+        fail_at: Some(11),
+        within: 9,
+        longest: 9,
+        passed: 8,
+        lines: 3,
+        rows: &[(b"f", b"\n", 4, 8)],
+        fault: READ_FAULT,
+    },
+    Passing {
+        kind: EndKind::Lf,
+        bytes: b"ad\nc",
+        fail_at: None,
+        within: 2,
+        longest: 9,
+        passed: 0,
+        lines: 0,
+        rows: &[(b"ad", b"\n", 1, 0), (b"c", b"", 2, 3)],
+        fault: None,
+    },
+    Passing {
+        kind: EndKind::Lf,
+        bytes: b"a\nbcd\ne\n",
+        fail_at: None,
+        within: 8,
+        longest: 2,
+        passed: 2,
+        lines: 1,
+        rows: &[(b"bcd", b"\n", 2, 2), (b"e", b"\n", 3, 6)],
+        fault: None,
+    },
+    Passing {
+        kind: EndKind::Lf,
+        bytes: b"a\nbcdefghijk\n",
+        fail_at: None,
+        within: 13,
+        longest: 99,
+        passed: 2,
+        lines: 1,
+        rows: &[],
+        fault: TOO_LONG,
+    },
+    Passing {
+        kind: EndKind::AnyCrLf,
+        bytes: b"a\rb\r\nc\r",
+        fail_at: Some(7),
+        within: 7,
+        longest: 9,
+        passed: 5,
+        lines: 2,
+        rows: &[],
+        fault: READ_FAULT,
+    },
+    Passing {
+        kind: EndKind::AnyCrLf,
+        bytes: b"a\rb\r\ncd\re",
+        fail_at: None,
+        within: 9,
+        longest: 1,
+        passed: 5,
+        lines: 2,
+        rows: &[(b"cd", b"\r", 3, 5), (b"e", b"", 4, 8)],
+        fault: None,
+    },
+];
+
+// Whether so many bytes, of so many lines, are passed over in the first `within` bytes held.
+fn passes(feed: &mut LineFeed, within: usize, longest: usize, passed: usize, lines: u64) -> bool {
+    if !feed.is_live() || feed.held().len() < within {
+        return false;
+    }
+    feed.pass(within, longest) == passed && feed.number() == lines
+}
+
+fn is_passed(rt: &impl Abort, alloc: Global, p: &Passing) -> Result<(), Fail> {
+    let mut feed = LineFeed::new(alloc, p.kind, 9);
+    let mut source = MemSource::new(p.bytes.to_vec(alloc)?, p.fail_at, 99);
+    assert!(rt; shows(&mut feed, &mut source, p.bytes.len()));
+    assert!(rt; passes(&mut feed, p.within, p.longest, p.passed, p.lines));
+    assert!(rt; gives_all(&mut feed, &mut source, p.rows, p.fault));
+    Ok(())
+}
+
+#[test]
+fn lines_that_are_passed_over(rt: HostRuntime) -> Result<(), Fail> {
+    for passing in PASSINGS {
+        is_passed(&rt, rt.alloc(), passing)?;
+    }
+    Ok(())
+}
+
+#[test]
+fn many_lines_passed_over_before_a_long_one(rt: HostRuntime) -> Result<(), Fail> {
+    let alloc = rt.alloc();
+    let mut bytes = Vec::new(alloc);
+    for _ in 0..300u16 {
+        bytes.extend_from_slice(b"ab\n")?;
+    }
+    bytes.resize(1_600, 120)?;
+    let mut feed = LineFeed::new(alloc, EndKind::Lf, 2_000);
+    let mut source = MemSource::new(bytes, None, 2_000);
+    assert!(rt; shows(&mut feed, &mut source, 1_024));
+    assert!(rt; passes(&mut feed, 1_600, 2_000, 900, 300));
+    let line = [120; 700];
+    assert!(rt; gives_all(&mut feed, &mut source, &[(&line, b"", 301, 900)], None));
+    Ok(())
+}
+
 // Zero bytes, of which so many are left, and how often it was read.
 #[derive(Drop)]
 struct Zeros {

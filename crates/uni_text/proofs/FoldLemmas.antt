@@ -1,5 +1,5 @@
 -- Foldings.
-use Rattle.std.proofs.Common.{◌≡◌, ◌≢◌, ℕ, ◌<◌, ◌≤◌, Bool, true, false, ◌||◌, ◌==◌, nat_lt, nat_le, List, [], ◌∷◌, slice_index_or, zero, suc, Contains, refl, sym, ap, subst, ◌∙◌, if◌then◌else◌, arith, le_of_suc-le-suc, not-suc-le-zero}
+use Rattle.std.proofs.Common.{◌≡◌, ◌≢◌, ℕ, ◌<◌, ◌≤◌, Bool, true, false, ◌||◌, ◌&&◌, ◌==◌, nat_lt, nat_le, List, [], ◌∷◌, slice_index_or, zero, suc, Contains, refl, sym, ap, subst, ◌∙◌, if◌then◌else◌, arith, le_of_suc-le-suc, not-suc-le-zero}
 use Rattle.std.proofs.lemmas.Bool.Decides.{nat_tests}
 use Rattle.std.proofs.lemmas.Bool.{and_parts}
 use Rattle.std.specs.List.{list_all}
@@ -12,7 +12,7 @@ use Rattle.ucd_case.proofs.CaseFoldingLemmas.{simple_folding_stepped}
 use Rattle.ucd_case.proofs.FoldPairsLemmas.{IsFoldPairs-fold_pairs}
 use Rattle.uni_text.specs.Ascii.{ascii_fold}
 use Rattle.uni_text.specs.Properties.{is_char}
-use Rattle.uni_text.specs.Folding.{fold, meets_past_ascii}
+use Rattle.uni_text.specs.Folding.{fold}
 
 -- what folds elsewhere is a character
 abbrev is_nil : List ℕ → Bool
@@ -51,7 +51,7 @@ fold_others c none = ap (λ b. if b then simple_fold c else c) none
 
 abbrev are_known : ℕ → ℕ → Bool
 are_known a b =
-    if nat_lt a 128 then (if nat_lt b 128 then ascii_fold a == ascii_fold b else ascii_fold a == 107 || ascii_fold a == 115)
+    if nat_lt a 128 then (if nat_lt b 128 then ascii_fold a == ascii_fold b else ascii_fold a == 107 && b == 0x212A || ascii_fold a == 115 && b == 0x17F)
     else (nat_le 128 b || (a == 0x212A || a == 0x17F))
 
 pairs_known : list_all (λ (pair : ℕ × ℕ). are_known pair.0 pair.1) fold_pairs ≡ true
@@ -80,7 +80,7 @@ alike_known a b same = elim (a == b) as (λ e. (a == b) ≡ e → are_known a b 
 pub ascii_alike : (a b : ℕ) → a < 128 → b < 128 → fold a ≡ fold b → ascii_fold a ≡ ascii_fold b
 ascii_alike a b low small same = let known = alike_known a b same in grind (arith, nat_tests)
 
-pub past_alike : (a b : ℕ) → 128 ≤ b → fold a ≡ fold b → meets_past_ascii a ≡ true
+pub past_alike : (a b : ℕ) → 128 ≤ b → fold a ≡ fold b → (nat_le 128 a || (ascii_fold a == 107 && b == 0x212A || ascii_fold a == 115 && b == 0x17F)) ≡ true
 past_alike a b past same = let known = alike_known a b same in grind (arith, nat_tests)
 
 -- two characters past ASCII fold into it

@@ -1,12 +1,11 @@
 use Rattle.std.proofs.Common.{◌≡◌, ◌∙◌, ◌+◌, ◌++◌, ◌∷◌, ◌-◌, suc, ◌<◌, ◌≤◌, [], refl, sym, ap, subst, length, Some, None, false, arith, rules}
 use Rattle.std.proofs.lemmas.Grind.{common_steps}
-use Rattle.std.specs.Prelude.{slice_index_or}
+use Rattle.std.specs.Prelude.{◌||◌, slice_index_or}
 use Rattle.pat_tree.specs.declared.nodes.Item.TheVariants.{Char}
-use Rattle.match_items.specs.Subjects.{IsTextPlace}
-use Rattle.match_items.specs.Views.{text_scene}
 use Rattle.dfa_paths.specs.declared.graph.Node.TheVariants.{One}
 use Rattle.dfa_paths.specs.Graph.{Deep, AllBelow, IsNodeIn, IsFurthest}
 use Rattle.dfa_lists.specs.Lists.{landed}
+use Rattle.dfa_lists.specs.Searches.{scene_of, PathsOf, MeetsOf, IsPlaceOf}
 use Rattle.dfa_paths.proofs.Places.{get_of}
 use Rattle.dfa_lists.proofs.Closing as closing
 use Rattle.dfa_lists.proofs.Closing.{
@@ -16,8 +15,6 @@ use Rattle.dfa_lists.proofs.Closing.{
   visited,
   fewer,
   read_mark,
-  or_then,
-  or_else,
 }
 use Rattle.dfa_lists.proofs.Running.{
   starts,
@@ -86,10 +83,10 @@ pub ends_of-take_place-requires : goal.ends_of-take_place-requires
 ends_of-take_place-requires g t c =
     let l : 0 < length c.part_lists.new.lists.seeds.items = grind
     (arith, common_steps, c.is_empty-in-places.ensures, c.if-not-is_empty.true) in
-    let here : IsTextPlace c.args.view.now.options.now c.args.view.now.subject.now c.places.at
+    let here : IsPlaceOf c.args.search.now c.places.at
     = stands_here _ _ _ _ _ _ _ _ _ _ c.places.invariant.running c.part_lists.new.lists.seeds.items
     c.in_ok-part_lists.ensures.seeds l in
-    let seeds : AllBelow (length c.args.nodes.now) c.part_lists.new.lists.seeds.items
+    let seeds : AllBelow (length c.args.search.now.nodes.now) c.part_lists.new.lists.seeds.items
     = below_like _ _ _ c.in_ok-part_lists.ensures.seeds
     (waiting_below _ _ _ _ _ _ _ _ _ _ c.places.invariant.running) in
     search rules
@@ -103,19 +100,20 @@ ends_of-places-smaller g t c =
 pub ends_of-places-preserved : goal.ends_of-places-preserved
 ends_of-places-preserved g t c =
     let l : 0 < length c.places.lists.pending.items = grind (arith, common_steps, c.is_empty.ensures) in
-    let scene = text_scene c.args.view.now c.args.classes.now in
-    let along = c.places_stand.ensures scene c.requires.subject in
-    let inner = deep_stand scene c.args.nodes.now c.args.depth along in
+    let s = c.args.search.now in
+    let scene = scene_of s in
+    let along = c.places_stand.ensures scene c.requires.search.subject in
+    let inner = deep_stand scene s.nodes.now c.args.depth along in
     elim c.if-not-is_empty.branch [
       | ends_of-then-not-is_empty+in_ok-take_place w ↦
           rw (c.swap.ensures.x_after, w.lists-is, w.found-is, w.steps-is)
           (record {
             running = place_follows scene _ _ _ _ _ _ _ _ _ _ _ _ _ _ _ _ along inner
-                c.requires.graph c.places.invariant.running l refl
+                c.requires.search.graph c.places.invariant.running l refl
                 c.in_ok-part_lists.ensures.seeds c.in_ok-part_lists.ensures.later
                 w.in_ok-take_place.ensures.taken;
             told = told_follows scene _ _ _ _ _ _ _ _ _ _ _ _ _ _ _ _ _ _ _ _ along inner
-                c.requires.graph c.places.invariant.running l refl
+                c.requires.search.graph c.places.invariant.running l refl
                 c.in_ok-part_lists.ensures.seeds c.in_ok-part_lists.ensures.later
                 w.in_ok-take_place.ensures.taken c.places.invariant.told
                 (told_like _ _ _ _ c.in_ok-part_lists.ensures.told
@@ -124,16 +122,16 @@ ends_of-places-preserved g t c =
       | ends_of-else-not-is_empty w ↦
           let e : length c.part_lists.new.lists.seeds.items ≡ 0 = grind
           (arith, common_steps, c.is_empty-in-places.ensures, w.if-not-is_empty.false) in
-          let taken = none_taken scene c.args.nodes.now (Deep scene c.args.nodes.now c.args.depth)
+          let taken = none_taken scene s.nodes.now (PathsOf s c.args.depth)
           c.places.at c.part_lists.new.lists.seeds.items c.places.found
           c.part_lists.new.lists.later.items c.places.steps e in
           rw (c.swap.ensures.x_after, w.lists-is, w.found-is, w.steps-is)
           (record {
             running = place_follows scene _ _ _ _ _ _ _ _ _ _ _ _ _ _ _ _ along inner
-                c.requires.graph c.places.invariant.running l refl
+                c.requires.search.graph c.places.invariant.running l refl
                 c.in_ok-part_lists.ensures.seeds c.in_ok-part_lists.ensures.later taken;
             told = told_follows scene _ _ _ _ _ _ _ _ _ _ _ _ _ _ _ _ _ _ _ _ along inner
-                c.requires.graph c.places.invariant.running l refl
+                c.requires.search.graph c.places.invariant.running l refl
                 c.in_ok-part_lists.ensures.seeds c.in_ok-part_lists.ensures.later taken
                 c.places.invariant.told
                 (none_told scene _ _ _ _ _ _ _ _ e c.in_ok-part_lists.ensures.told);
@@ -178,11 +176,11 @@ take_place-returns-clause-taken g t c = record {
   closed = c.in_ok-hit.ensures.closed.2;
   found_is = c.in_ok-note.ensures;
   later_is = c.in_ok-advance.ensures.later ∙ ap
-      (λ xs. landed (text_scene c.args.view.now c.args.classes.now) c.args.nodes.now c.args.at xs
+      (λ xs. landed (scene_of c.args.search.now) c.args.search.now.nodes.now c.args.at xs
       c.close.new.lists.later.items)
       c.deref.ensures.value
-      ∙ ap (λ ss. landed (text_scene c.args.view.now c.args.classes.now) c.args.nodes.now
-      c.args.at c.close.new.lists.leaves.items ss) c.in_ok-hit.ensures.closed.1;
+      ∙ ap (λ ss. landed (scene_of c.args.search.now) c.args.search.now.nodes.now c.args.at
+      c.close.new.lists.leaves.items ss) c.in_ok-hit.ensures.closed.1;
   few = λ flat. (
       let same = c.in_ok-hit.ensures.tests flat in
       let tests = subst (λ xs. c.advance.new.steps ≤ c.close.new.steps + length xs)
@@ -211,68 +209,41 @@ close-index_mut-requires g t c =
     c.seeds.invariant.going in
     grind (arith, l, common_steps)
 
-pub close-bounds-nodes-q : goal.close-bounds-nodes-q
-close-bounds-nodes-q g t c =
+pub close-bounds-search-q : goal.close-bounds-search-q
+close-bounds-search-q g t c =
     popped_in _ _ _ _ _ _ _ _ _ _ _ _ _ c.in-Some.ensures.items c.seeds.invariant.going
 
 pub close-visit-requires : goal.close-visit-requires
 close-visit-requires g t c =
     let l = popped_in _ _ _ _ _ _ _ _ _ _ _ _ _ c.in-Some.ensures.items
     c.seeds.invariant.going in
-    let node : IsNodeIn (length c.args.nodes.now) (length c.args.classes.now)
-    (slice_index_or c.args.nodes.now c.in-Some.state (One (Char 0 false) 0))
-    = c.requires.graph _ _ (get_of c.args.nodes.now c.in-Some.state (One (Char 0 false) 0) l) in
+    let s = c.args.search.now in
+    let node : IsNodeIn (length s.nodes.now) (length s.classes.now)
+    (slice_index_or s.nodes.now c.in-Some.state (One (Char 0 false) 0))
+    = c.requires.search.graph _ _ (get_of s.nodes.now c.in-Some.state (One (Char 0 false) 0) l) in
     search rules
 
-pub close-seeds-smaller-then-hit : goal.close-seeds-smaller-then-hit
-close-seeds-smaller-then-hit g t c =
+pub close-seeds-smaller-then-not-index : goal.close-seeds-smaller-then-not-index
+close-seeds-smaller-then-not-index g t c =
     let l = popped_marks _ _ _ _ _ _ _ _ _ _ _ _ _ c.in-Some.ensures.items
     c.seeds.invariant.going in
     fewer _ _ _ _ _ _ _ _ _ _ _ _ _ c.in-Some.ensures.items c.seeds.invariant.going _ _ _ _
     (read_mark _ _ _ _ l c.index.ensures c.if-not-index.true) c.in_ok-is_end.ensures.marks
     c.in_ok-is_end.ensures.visited
 
-pub close-seeds-preserved-then-hit : goal.close-seeds-preserved-then-hit
-close-seeds-preserved-then-hit g t c =
+pub close-seeds-preserved-then-not-index : goal.close-seeds-preserved-then-not-index
+close-seeds-preserved-then-not-index g t c =
     let l = popped_marks _ _ _ _ _ _ _ _ _ _ _ _ _ c.in-Some.ensures.items
     c.seeds.invariant.going in
     let m = popped_in _ _ _ _ _ _ _ _ _ _ _ _ _ c.in-Some.ensures.items
     c.seeds.invariant.going in
     record {
       going = visited _ _ _ _ _ _ _ _ _ _ _ _ _ c.in-Some.ensures.items c.seeds.invariant.going
-          _ _ (get_of _ _ _ m) c.requires.graph
+          _ _ (get_of _ _ _ m) c.requires.search.graph
           (read_mark _ _ _ _ l c.index.ensures c.if-not-index.true) _ _ _ _ _
           c.in_ok-is_end.ensures.marks c.in_ok-is_end.ensures.visited
           c.in_ok-is_end.ensures.leaves
-          (or_then _ false _ c.if-hit.true);
-      told = visited_told _ _ _ _ _ _ _ _ _ _ _ _ _ _ _ _ _ _ _ _ c.in-Some.ensures.items
-          c.seeds.invariant.going (get_of _ _ _ m) c.in_ok-is_end.ensures.marks
-          c.in_ok-is_end.ensures.told c.seeds.invariant.told;
-      tests = λ flat. c.in_ok-is_end.ensures.tests (flat _ _ (get_of _ _ _ m))
-          ∙ c.seeds.invariant.tests flat;
-    }
-
-pub close-seeds-smaller-else-hit : goal.close-seeds-smaller-else-hit
-close-seeds-smaller-else-hit g t c =
-    let l = popped_marks _ _ _ _ _ _ _ _ _ _ _ _ _ c.in-Some.ensures.items
-    c.seeds.invariant.going in
-    fewer _ _ _ _ _ _ _ _ _ _ _ _ _ c.in-Some.ensures.items c.seeds.invariant.going _ _ _ _
-    (read_mark _ _ _ _ l c.index.ensures c.if-not-index.true) c.in_ok-is_end.ensures.marks
-    c.in_ok-is_end.ensures.visited
-
-pub close-seeds-preserved-else-hit : goal.close-seeds-preserved-else-hit
-close-seeds-preserved-else-hit g t c =
-    let l = popped_marks _ _ _ _ _ _ _ _ _ _ _ _ _ c.in-Some.ensures.items
-    c.seeds.invariant.going in
-    let m = popped_in _ _ _ _ _ _ _ _ _ _ _ _ _ c.in-Some.ensures.items
-    c.seeds.invariant.going in
-    record {
-      going = visited _ _ _ _ _ _ _ _ _ _ _ _ _ c.in-Some.ensures.items c.seeds.invariant.going
-          _ _ (get_of _ _ _ m) c.requires.graph
-          (read_mark _ _ _ _ l c.index.ensures c.if-not-index.true) _ _ _ _ _
-          c.in_ok-is_end.ensures.marks c.in_ok-is_end.ensures.visited
-          c.in_ok-is_end.ensures.leaves
-          (or_else _ _ _ c.if-hit.false c.in_ok-is_end.ensures.hit);
+          (c.tell.ensures ∙ ap (λ b. c.seeds.hit || b) c.in_ok-is_end.ensures.hit);
       told = visited_told _ _ _ _ _ _ _ _ _ _ _ _ _ _ _ _ _ _ _ _ c.in-Some.ensures.items
           c.seeds.invariant.going (get_of _ _ _ m) c.in_ok-is_end.ensures.marks
           c.in_ok-is_end.ensures.told c.seeds.invariant.told;
@@ -306,36 +277,35 @@ close-returns-clause-told g t c =
 
 pub visit-returns-in_default-clause-visited : goal.visit-returns-in_default-clause-visited
 visit-returns-in_default-clause-visited g t c =
-    plain_visits c.visit_plain.result (text_scene c.args.view.now c.args.classes.now)
-    (Deep (text_scene c.args.view.now c.args.classes.now) c.args.nodes.now c.args.depth)
+    let s = c.args.search.now in
+    plain_visits c.visit_plain.result (scene_of s) (PathsOf s c.args.depth)
     c.args.node c.args.at c.args.lists.now.seeds.items c.visit_plain.new.lists.seeds.items
     c.args.lists.now.later.items c.visit_plain.new.lists.later.items c.in_default.not-Look
     c.in_default.not-Atomic c.visit_plain.ensures.seeds c.visit_plain.ensures.later
 
 pub visit-returns-in_default-clause-told : goal.visit-returns-in_default-clause-told
 visit-returns-in_default-clause-told g t c =
-    plain_tells c.visit_plain.result c.args.view.now c.args.classes.now c.args.nodes.now
-    c.args.counts
-    (Deep (text_scene c.args.view.now c.args.classes.now) c.args.nodes.now c.args.depth)
-    (DeepMeets (text_scene c.args.view.now c.args.classes.now) c.args.nodes.now c.args.counts
-    c.args.depth) c.args.node c.args.at c.args.lists.now.told c.visit_plain.new.lists.told
+    let s = c.args.search.now in
+    plain_tells c.visit_plain.result s.view.now s.classes.now s.nodes.now s.counts
+    (PathsOf s c.args.depth) (MeetsOf s c.args.depth) c.args.node c.args.at
+    c.args.lists.now.told c.visit_plain.new.lists.told
     (plain_node c.args.node c.in_default.not-Look c.in_default.not-Atomic)
     c.visit_plain.ensures.told
 
 pub visit-returns-in_ok-push-in-Look-clause-told : goal.visit-returns-in_ok-push-in-Look-clause-told
 visit-returns-in_ok-push-in-Look-clause-told g t c =
-    let scene = text_scene c.args.view.now c.args.classes.now in
+    let s = c.args.search.now in
     rw c.in-Look.is
-    (look_told scene c.args.nodes.now c.args.counts (Deep scene c.args.nodes.now c.args.depth)
-    (DeepMeets scene c.args.nodes.now c.args.counts c.args.depth) c.in-Look.back c.in-Look.entry
+    (look_told (scene_of s) s.nodes.now s.counts (PathsOf s c.args.depth)
+    (MeetsOf s c.args.depth) c.in-Look.back c.in-Look.entry
     c.in-Look.hit c.in-Look.miss c.args.at _ _ c.in_ok-some-in-Look.ensures.told)
 
 pub visit-returns-in_ok-go_on-in-Atomic-clause-told : goal.visit-returns-in_ok-go_on-in-Atomic-clause-told
 visit-returns-in_ok-go_on-in-Atomic-clause-told g t c =
-    let scene = text_scene c.args.view.now c.args.classes.now in
+    let s = c.args.search.now in
     rw c.in-Atomic.is
-    (atomic_told scene c.args.nodes.now c.args.counts (Deep scene c.args.nodes.now c.args.depth)
-    (DeepMeets scene c.args.nodes.now c.args.counts c.args.depth) c.in-Atomic.entry
+    (atomic_told (scene_of s) s.nodes.now s.counts (PathsOf s c.args.depth)
+    (MeetsOf s c.args.depth) c.in-Atomic.entry
     c.in-Atomic.next c.args.at _ _ c.in_ok-far-in-Atomic.ensures.told)
 
 pub visit-returns-in_ok-push-in-Look-clause-visited : goal.visit-returns-in_ok-push-in-Look-clause-visited
@@ -346,11 +316,12 @@ visit-returns-in_ok-push-in-Look-clause-visited g t c =
 
 pub visit-returns-in_ok-go_on-in-Atomic-clause-visited : goal.visit-returns-in_ok-go_on-in-Atomic-clause-visited
 visit-returns-in_ok-go_on-in-Atomic-clause-visited g t c =
-    let scene = text_scene c.args.view.now c.args.classes.now in
-    let along = c.places_stand.ensures scene c.requires.subject in
+    let s = c.args.search.now in
+    let scene = scene_of s in
+    let along = c.places_stand.ensures scene c.requires.search.subject in
     rw c.in-Atomic.is
-    (atomic_visit scene (Deep scene c.args.nodes.now c.args.depth) _ _ _ _ _ _ _ _
-    (deep_stand scene c.args.nodes.now c.args.depth along) c.requires.place
+    (atomic_visit scene (PathsOf s c.args.depth) _ _ _ _ _ _ _ _
+    (deep_stand scene s.nodes.now c.args.depth along) c.requires.place
     c.in_ok-far-in-Atomic.ensures.furthest c.in_ok-go_on-in-Atomic.ensures.seeds
     c.in_ok-go_on-in-Atomic.ensures.later)
 
@@ -359,47 +330,45 @@ visit-returns-in_ok-go_on-in-Atomic-clause-visited g t c =
 pub furthest-returns-then-depth-eq0-clause-furthest : goal.furthest-returns-then-depth-eq0-clause-furthest
 unfolding Deep
 furthest-returns-then-depth-eq0-clause-furthest g t c k h =
-    subst (λ d. Deep (text_scene c.args.view.now c.args.classes.now) c.args.nodes.now d
-    c.args.entry c.args.place k) c.if-depth-eq0.true h
+    subst (λ d. PathsOf c.args.search.now d c.args.entry c.args.place k) c.if-depth-eq0.true h
 
 pub furthest-returns-then-depth-eq0-clause-told : goal.furthest-returns-then-depth-eq0-clause-told
 unfolding DeepMeets
 furthest-returns-then-depth-eq0-clause-told g t c =
-    told_not _ _ _ refl (λ h. subst (λ d. DeepMeets
-    (text_scene c.args.view.now c.args.classes.now) c.args.nodes.now c.args.counts d
-    c.args.entry c.args.place) c.if-depth-eq0.true h)
+    told_not _ _ _ refl
+    (λ h. subst (λ d. MeetsOf c.args.search.now d c.args.entry c.args.place) c.if-depth-eq0.true h)
 
 pub furthest-returns-in-0-clause-furthest : goal.furthest-returns-in-0-clause-furthest
 furthest-returns-in-0-clause-furthest g t c =
-    let scene = text_scene c.args.view.now c.args.classes.now in
+    let s = c.args.search.now in
     let level : suc (c.args.depth - 1) ≡ c.args.depth = omega (arith, c.if-depth-eq0.false) in
-    subst (λ d. IsFurthest (Deep scene c.args.nodes.now d) c.args.entry c.args.place None) level
-    (no_end (Deep scene c.args.nodes.now (suc (c.args.depth - 1))) c.args.entry c.args.place
+    subst (λ d. IsFurthest (PathsOf s d) c.args.entry c.args.place None) level
+    (no_end (PathsOf s (suc (c.args.depth - 1))) c.args.entry c.args.place
     c.in_ok-set.set.ends (sym c.len.ensures ∙ c.in-0.is) c.in_ok-set.ensures.full)
 
 pub furthest-returns-in-0-clause-told : goal.furthest-returns-in-0-clause-told
 furthest-returns-in-0-clause-told g t c =
-    let scene = text_scene c.args.view.now c.args.classes.now in
+    let s = c.args.search.now in
     let level : suc (c.args.depth - 1) ≡ c.args.depth = omega (arith, c.if-depth-eq0.false) in
-    subst (λ d. IsTold (DeepMeets scene c.args.nodes.now c.args.counts d c.args.entry c.args.place)
+    subst (λ d. IsTold (MeetsOf s d c.args.entry c.args.place)
     c.args.told.now c.tell.new.told) level
     (told_or _ _ _ _ c.tell.ensures c.in_ok-set.ensures.hit c.in_ok-set.ensures.all_hit)
 
 pub furthest-returns-clause-furthest : goal.furthest-returns-clause-furthest
 furthest-returns-clause-furthest g t c =
-    let scene = text_scene c.args.view.now c.args.classes.now in
+    let s = c.args.search.now in
     let level : suc (c.args.depth - 1) ≡ c.args.depth = omega (arith, c.if-depth-eq0.false) in
-    subst (λ d. IsFurthest (Deep scene c.args.nodes.now d) c.args.entry c.args.place
+    subst (λ d. IsFurthest (PathsOf s d) c.args.entry c.args.place
     (Some c.get.result.now)) level
-    (last_found (Deep scene c.args.nodes.now (suc (c.args.depth - 1))) c.args.entry c.args.place
+    (last_found (PathsOf s (suc (c.args.depth - 1))) c.args.entry c.args.place
     c.in_ok-set.set.ends c.len.result c.get.result.now c.len.ensures c.get.ensures
     c.in_ok-set.ensures.rising c.in_ok-set.ensures.sound c.in_ok-set.ensures.full)
 
 pub furthest-returns-clause-told : goal.furthest-returns-clause-told
 furthest-returns-clause-told g t c =
-    let scene = text_scene c.args.view.now c.args.classes.now in
+    let s = c.args.search.now in
     let level : suc (c.args.depth - 1) ≡ c.args.depth = omega (arith, c.if-depth-eq0.false) in
-    subst (λ d. IsTold (DeepMeets scene c.args.nodes.now c.args.counts d c.args.entry c.args.place)
+    subst (λ d. IsTold (MeetsOf s d c.args.entry c.args.place)
     c.args.told.now c.tell.new.told) level
     (told_or _ _ _ _ c.tell.ensures c.in_ok-set.ensures.hit c.in_ok-set.ensures.all_hit)
 
@@ -407,30 +376,30 @@ furthest-returns-clause-told g t c =
 
 pub end_behind-returns-in_default-clause-behind : goal.end_behind-returns-in_default-clause-behind
 end_behind-returns-in_default-clause-behind g t c =
-    ends_none c.args.view.now c.args.classes.now
-    (Deep (text_scene c.args.view.now c.args.classes.now) c.args.nodes.now c.args.depth)
+    let s = c.args.search.now in
+    ends_none s.view.now s.classes.now (PathsOf s c.args.depth)
     c.args.back c.args.entry c.args.at c.text_back.result c.text_back.ensures.value
     (none_where c.text_back.result c.in_default.not-Some)
 
 pub end_behind-returns-in_default-clause-told : goal.end_behind-returns-in_default-clause-told
 end_behind-returns-in_default-clause-told g t c =
-    behind_none c.args.view.now c.args.classes.now
-    (DeepMeets (text_scene c.args.view.now c.args.classes.now) c.args.nodes.now c.args.counts
-    c.args.depth) c.args.back c.args.entry c.args.at c.text_back.result _ _
+    let s = c.args.search.now in
+    behind_none s.view.now s.classes.now (MeetsOf s c.args.depth) c.args.back c.args.entry
+    c.args.at c.text_back.result _ _
     c.text_back.ensures.value (none_where c.text_back.result c.in_default.not-Some) refl
 
 pub end_behind-returns-clause-behind : goal.end_behind-returns-clause-behind
 end_behind-returns-clause-behind g t c =
-    ends_from c.furthest.result c.args.view.now c.args.classes.now
-    (Deep (text_scene c.args.view.now c.args.classes.now) c.args.nodes.now c.args.depth)
+    let s = c.args.search.now in
+    ends_from c.furthest.result s.view.now s.classes.now (PathsOf s c.args.depth)
     c.args.back c.args.entry c.args.at c.in-Some.place c.text_back.result
     c.text_back.ensures.value c.in-Some.is c.furthest.ensures.furthest
 
 pub end_behind-returns-clause-told : goal.end_behind-returns-clause-told
 end_behind-returns-clause-told g t c =
-    behind_some c.furthest.result c.args.view.now c.args.classes.now
-    (DeepMeets (text_scene c.args.view.now c.args.classes.now) c.args.nodes.now c.args.counts
-    c.args.depth) c.args.back c.args.entry c.args.at c.in-Some.place c.text_back.result _ _
+    let s = c.args.search.now in
+    behind_some c.furthest.result s.view.now s.classes.now (MeetsOf s c.args.depth) c.args.back
+    c.args.entry c.args.at c.in-Some.place c.text_back.result _ _
     c.text_back.ensures.value c.in-Some.is c.furthest.ensures.told
 
 -- probe
@@ -443,21 +412,21 @@ probe-branches-init g t c = record {
 
 pub probe-end_behind-requires : goal.probe-end_behind-requires
 probe-end_behind-requires g t c =
-    let entry : c.in-Some.tried.entry < length c.args.nodes.now
-    = (branch_inside (text_scene c.args.view.now c.args.classes.now) c.args.nodes.now
-    c.args.counts (DeepMeets (text_scene c.args.view.now c.args.classes.now) c.args.nodes.now
-    c.args.counts c.args.depth) _ c.args.at c.args.branch c.branches.state _ _ _
+    let s = c.args.search.now in
+    let entry : c.in-Some.tried.entry < length s.nodes.now
+    = (branch_inside (scene_of s) s.nodes.now s.counts (MeetsOf s c.args.depth) _ c.args.at
+    c.args.branch c.branches.state _ _ _
     (get_of _ _ _ c.branches.invariant.inside) c.branch_of.ensures c.in-Some.is
-    c.requires.graph).0 in
+    c.requires.search.graph).0 in
     search rules
 
 pub probe-branches-preserved : goal.probe-branches-preserved
 probe-branches-preserved g t c = record {
-  inside = (branch_inside (text_scene c.args.view.now c.args.classes.now) c.args.nodes.now
-      c.args.counts (DeepMeets (text_scene c.args.view.now c.args.classes.now) c.args.nodes.now
-      c.args.counts c.args.depth) _ c.args.at c.args.branch c.branches.state _ _ _
+  inside = (branch_inside (scene_of c.args.search.now) c.args.search.now.nodes.now
+      c.args.search.now.counts (MeetsOf c.args.search.now c.args.depth) _ c.args.at c.args.branch
+      c.branches.state _ _ _
       (get_of _ _ _ c.branches.invariant.inside) c.branch_of.ensures c.in-Some.is
-      c.requires.graph).1;
+      c.requires.search.graph).1;
   probing = on_probed _ _ _ _ 0 _ _ _ _ _ _ (get_of _ _ _ c.branches.invariant.inside)
       c.branch_of.ensures c.in-Some.is _ _ _ (omega (arith, c.if-tried-state.false))
       c.in_ok-end_behind.ensures.told c.branches.invariant.probing;
@@ -479,8 +448,8 @@ probe-returns g t c =
 pub ask-returns-in_default : goal.ask-returns-in_default
 ask-returns-in_default g t c = record {
   behind = rw c.in_default.is
-      (ends_here c.furthest.result (text_scene c.args.view.now c.args.classes.now)
-      (Deep (text_scene c.args.view.now c.args.classes.now) c.args.nodes.now c.args.depth)
+      (ends_here c.furthest.result (scene_of c.args.search.now)
+      (PathsOf c.args.search.now c.args.depth)
       c.args.entry c.args.at c.furthest.ensures.furthest);
   told = rw c.in_default.is c.furthest.ensures.told;
 }

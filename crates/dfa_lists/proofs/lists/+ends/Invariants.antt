@@ -1,8 +1,7 @@
 use Rattle.std.proofs.Common.{◌≡◌, ◌+◌, ◌-◌, ◌*◌, ◌<◌, length}
-use Rattle.match_items.specs.Views.{text_scene}
-use Rattle.dfa_paths.specs.Graph.{Deep, IsFlat}
+use Rattle.dfa_paths.specs.Graph.{IsFlat}
+use Rattle.dfa_lists.specs.Searches.{scene_of, PathsOf, MeetsOf}
 use Rattle.dfa_lists.proofs.Closing.{Going, unmarked}
-use Rattle.dfa_paths.specs.Meets.{DeepMeets}
 use Rattle.dfa_lists.proofs.Running.{Running}
 use Rattle.dfa_lists.proofs.Telling.{GoingTold, RunningTold, Probing}
 use Rattle.dfa_lists.proofs.lists.+ends.Given as goal
@@ -27,14 +26,14 @@ decreases-probe g l = l.depth * 8 + 2
 
 abbrev pub invariant-probe-branches : goal.invariant-probe-branches
 invariant-probe-branches g l = record {
-  inside : l.state < length l.nodes;
-  probing : Probing (text_scene l.view l.classes) l.nodes l.counts
-      (DeepMeets (text_scene l.view l.classes) l.nodes l.counts l.depth) l.at l.branch l.state
+  inside : l.state < length l.search.nodes.now;
+  probing : Probing (scene_of l.search) l.search.nodes.now l.search.counts
+      (MeetsOf l.search l.depth) l.at l.branch l.state
       l.fn.told l.told;
 }
 
 abbrev pub decreases-probe-branches : goal.decreases-probe-branches
-decreases-probe-branches g l = length l.nodes - l.state
+decreases-probe-branches g l = length l.search.nodes.now - l.state
 
 abbrev pub decreases-end_behind : goal.decreases-end_behind
 decreases-end_behind g l = l.depth * 8 + 1
@@ -44,15 +43,13 @@ decreases-furthest g l = l.depth * 8
 
 abbrev pub invariant-close-seeds : goal.invariant-close-seeds
 invariant-close-seeds g l = record {
-  going : Going (text_scene l.view l.classes) l.nodes
-      (Deep (text_scene l.view l.classes) l.nodes l.depth) l.at l.fn.lists.seeds.items
-      l.lists.seeds.items l.lists.marks.items l.lists.leaves.items l.fn.lists.later.items
-      l.lists.later.items l.hit;
-  told : GoingTold (text_scene l.view l.classes) l.nodes
-      (Deep (text_scene l.view l.classes) l.nodes l.depth)
-      (DeepMeets (text_scene l.view l.classes) l.nodes l.counts l.depth) l.counts l.at
+  going : Going (scene_of l.search) l.search.nodes.now (PathsOf l.search l.depth) l.at
+      l.fn.lists.seeds.items l.lists.seeds.items l.lists.marks.items l.lists.leaves.items
+      l.fn.lists.later.items l.lists.later.items l.hit;
+  told : GoingTold (scene_of l.search) l.search.nodes.now (PathsOf l.search l.depth)
+      (MeetsOf l.search l.depth) l.search.counts l.at
       l.fn.lists.seeds.items l.lists.marks.items l.fn.lists.told l.lists.told;
-  tests : IsFlat l.nodes → l.steps ≡ l.fn.steps;
+  tests : IsFlat l.search.nodes.now → l.steps ≡ l.fn.steps;
 }
 
 abbrev pub decreases-close-seeds : goal.decreases-close-seeds
@@ -60,14 +57,13 @@ decreases-close-seeds g l = 3 * unmarked l.lists.marks.items + length l.lists.se
 
 abbrev pub invariant-ends_of-places : goal.invariant-ends_of-places
 invariant-ends_of-places g l = record {
-  running : Running (text_scene l.view l.classes) l.nodes
-      (Deep (text_scene l.view l.classes) l.nodes l.depth) l.entry l.place l.at
+  running : Running (scene_of l.search) l.search.nodes.now (PathsOf l.search l.depth) l.entry
+      l.place l.at
       l.lists.pending.items l.found l.fn.steps l.steps;
-  told : RunningTold (text_scene l.view l.classes) l.nodes l.counts
-      (Deep (text_scene l.view l.classes) l.nodes l.depth)
-      (DeepMeets (text_scene l.view l.classes) l.nodes l.counts l.depth) l.entry l.place
+  told : RunningTold (scene_of l.search) l.search.nodes.now l.search.counts
+      (PathsOf l.search l.depth) (MeetsOf l.search l.depth) l.entry l.place
       l.lists.pending.items l.lists.told;
 }
 
 abbrev pub decreases-ends_of-places : goal.decreases-ends_of-places
-decreases-ends_of-places g l = length l.view.subject.now + 1 - l.at
+decreases-ends_of-places g l = length l.search.view.now.subject.now + 1 - l.at

@@ -4,13 +4,14 @@ use Rattle.dfa_lists.proofs.Landing.{landed_on, landed_all, with_some, with_none
 use Rattle.dfa_lists.proofs.lists.advance.Goals as goal
 use Rattle.dfa_lists.proofs.lists.advance.Goals.{in-Some+in_ok-push, in_default}
 
-pub bounds-nodes-leaves : goal.bounds-nodes-leaves
-bounds-nodes-leaves g c = c.requires.leaves _ (among_at _ _ 0 c.leaves-test.true)
+pub bounds-search-leaves : goal.bounds-search-leaves
+bounds-search-leaves g c = c.requires.leaves _ (among_at _ _ 0 c.leaves-test.true)
 
 pub land-requires-clause-node : goal.land-requires-clause-node
 land-requires-clause-node g c =
     let l = c.requires.leaves _ (among_at _ _ 0 c.leaves-test.true) in
-    (length c.args.nodes.now, c.requires.graph _ _ (get_of c.args.nodes.now _ _ l))
+    let nodes = c.args.search.now.nodes.now in
+    (length nodes, c.requires.search.graph _ _ (get_of nodes _ _ l))
 
 pub leaves-preserved : goal.leaves-preserved
 leaves-preserved g c =

@@ -1,9 +1,10 @@
 use Rattle.frame_store.specs.Entry.{entries}
 use Rattle.frame_state.proofs.Frames.{slots_sound}
-use Rattle.frame_parts.proofs.BackTurns.{stop_none, pop_branch, pop_exit, pop_later, pop_fewer, pop_more, pop_more_stops, pop_plain, pop_left, pop_denial, left_within, left_slots, denial_inside, pop_look_test, pop_denial_test, pop_commit, pop_prune, pop_then, pop_skip, pop_unskipped, look_test_sound, denial_test_sound, exit_inside, fewer_stands, more_inside, more_many, more_stands, more_few}
+use Rattle.frame_parts.proofs.BackTurns.{stop_none, pop_branch, pop_exit, pop_later, pop_fewer, pop_more, pop_more_stops, pop_left, left_within, left_slots, exit_inside, fewer_stands, more_inside, more_many, more_stands, more_few}
 use Rattle.frame_state.proofs.HeldStops.{tells_stop}
 use Rattle.frame_state.proofs.MostOf.{ok_more}
 use Rattle.frame_state.proofs.ReachTurns.{err_more}
+use Rattle.frame_machine.proofs.Popped.{is_newest, popped_leads}
 use Rattle.frame_machine.proofs.back.back.Goals as goal
 
 pub pop-requires : goal.pop-requires
@@ -52,22 +53,6 @@ returns-then-newest-eq-KIND_MORE_ITEMS-clause-stop g c =
     err_more _ _ c.take_more.result
     (λ s h. pop_more_stops (g.S.Searchable.searched c.args.on.now) (g.met.S.Searchable.sound c.args.on.now) c.args.spot.now c.args.store.now.records c.pop.new.store.records c.in-Some.newest c.args.registers.now c.pop.new.registers c.requires.valid c.in-Some.ensures.popped c.in-Some.ensures.back c.if-newest-eq-KIND_MORE_ITEMS.true _ s (rw c.restore-then-newest-eq-KIND_MORE_ITEMS.ensures at h)) c.take_more.ensures.stop
 
-pub returns-then-newest-eq-KIND_COMMIT_PASSED-clause-on : goal.returns-then-newest-eq-KIND_COMMIT_PASSED-clause-on
-returns-then-newest-eq-KIND_COMMIT_PASSED-clause-on g c = rw c.restore-then-newest-eq-KIND_COMMIT_PASSED.ensures (pop_commit (g.S.Searchable.searched c.args.on.now) (g.met.S.Searchable.sound c.args.on.now) c.args.spot.now c.args.store.now.records c.pop.new.store.records c.in-Some.newest c.args.registers.now c.pop.new.registers c.requires.valid c.in-Some.ensures.popped c.in-Some.ensures.back c.if-newest-eq-KIND_COMMIT_PASSED.true)
-
-pub returns-then-newest-eq-KIND_PRUNE_PASSED-clause-on : goal.returns-then-newest-eq-KIND_PRUNE_PASSED-clause-on
-returns-then-newest-eq-KIND_PRUNE_PASSED-clause-on g c = rw c.restore-then-newest-eq-KIND_PRUNE_PASSED.ensures (pop_prune (g.S.Searchable.searched c.args.on.now) (g.met.S.Searchable.sound c.args.on.now) c.args.spot.now c.args.store.now.records c.pop.new.store.records c.in-Some.newest c.args.registers.now c.pop.new.registers c.requires.valid c.in-Some.ensures.popped c.in-Some.ensures.back c.if-newest-eq-KIND_PRUNE_PASSED.true)
-
-pub returns-then-newest-eq-KIND_SKIP_PASSED-clause-on : goal.returns-then-newest-eq-KIND_SKIP_PASSED-clause-on
-returns-then-newest-eq-KIND_SKIP_PASSED-clause-on g c = rw c.restore-then-newest-eq-KIND_SKIP_PASSED.ensures (pop_skip (g.S.Searchable.searched c.args.on.now) (g.met.S.Searchable.sound c.args.on.now) c.args.spot.now c.args.store.now.records c.pop.new.store.records c.in-Some.newest c.args.registers.now c.pop.new.registers c.requires.valid c.in-Some.ensures.popped c.in-Some.ensures.back c.if-newest-eq-KIND_SKIP_PASSED.true c.if-newest-gt0.false)
-
-pub returns-then-newest-gt0-clause-on : goal.returns-then-newest-gt0-clause-on
-returns-then-newest-gt0-clause-on g c = pop_unskipped (g.S.Searchable.searched c.args.on.now) (g.met.S.Searchable.sound c.args.on.now) c.args.spot.now c.args.store.now.records c.pop.new.store.records c.in-Some.newest c.args.registers.now c.pop.new.registers c.requires.valid c.in-Some.ensures.popped c.in-Some.ensures.back c.if-newest-eq-KIND_SKIP_PASSED.true c.if-newest-gt0.true
-
-pub returns-clause-on : goal.returns-clause-on
-returns-clause-on g c =
-    pop_plain (g.S.Searchable.searched c.args.on.now) (g.met.S.Searchable.sound c.args.on.now) c.args.spot.now c.args.store.now.records c.pop.new.store.records c.in-Some.newest c.args.registers.now c.pop.new.registers c.requires.valid c.in-Some.ensures.popped c.in-Some.ensures.back c.if-newest-eq-KIND_LATER_BRANCH.false c.if-newest-eq-KIND_TURN_OR_EXIT.false c.if-newest-eq-KIND_LATER_TURN.false c.if-newest-eq-KIND_FEWER_ITEMS.false c.if-newest-eq-KIND_MORE_ITEMS.false c.if-newest-eq-KIND_ATOMIC_LEFT.false c.if-newest-eq-KIND_DENIAL_OPEN.false c.if-newest-eq-KIND_LOOK_TEST.false c.if-newest-eq-KIND_DENIAL_TEST.false c.if-newest-eq-KIND_COMMIT_PASSED.false c.if-newest-eq-KIND_PRUNE_PASSED.false c.if-newest-eq-KIND_SKIP_PASSED.false c.if-newest-eq-KIND_THEN_PASSED.false
-
 pub undo_spans-requires-clause-within : goal.undo_spans-requires-clause-within
 undo_spans-requires-clause-within g c = left_within (g.S.Searchable.searched c.args.on.now) (g.met.S.Searchable.sound c.args.on.now) c.args.spot.now c.args.store.now.records c.pop.new.store.records c.in-Some.newest c.args.registers.now c.pop.new.registers c.requires.valid c.in-Some.ensures.popped c.in-Some.ensures.back c.if-newest-eq-KIND_ATOMIC_LEFT.true
 
@@ -77,29 +62,12 @@ undo_spans-requires-clause-slots g c = left_slots (g.S.Searchable.searched c.arg
 pub returns-then-newest-eq-KIND_ATOMIC_LEFT-clause-on : goal.returns-then-newest-eq-KIND_ATOMIC_LEFT-clause-on
 returns-then-newest-eq-KIND_ATOMIC_LEFT-clause-on g c = pop_left (g.S.Searchable.searched c.args.on.now) (g.met.S.Searchable.sound c.args.on.now) c.args.spot.now c.args.store.now.records c.pop.new.store.records c.in-Some.newest c.args.registers.now c.pop.new.registers c.requires.valid c.in-Some.ensures.popped c.in-Some.ensures.back c.if-newest-eq-KIND_ATOMIC_LEFT.true _ c.undo_spans.ensures.cut _ c.undo_spans.ensures.undone
 
-pub go_on-requires-then-newest-eq-KIND_DENIAL_OPEN : goal.go_on-requires-then-newest-eq-KIND_DENIAL_OPEN
-go_on-requires-then-newest-eq-KIND_DENIAL_OPEN g c = denial_inside (g.S.Searchable.searched c.args.on.now) (g.met.S.Searchable.sound c.args.on.now) c.args.spot.now c.args.store.now.records c.pop.new.store.records c.in-Some.newest c.args.registers.now c.pop.new.registers c.requires.valid c.in-Some.ensures.popped c.in-Some.ensures.back c.if-newest-eq-KIND_DENIAL_OPEN.true
+pub look_or_verb-requires-clause-newest : goal.look_or_verb-requires-clause-newest
+look_or_verb-requires-clause-newest g c = is_newest (g.S.Searchable.searched c.args.on.now) c.args.spot.now _ _ c.in-Some.newest c.args.registers.now c.requires.valid c.in-Some.ensures.popped
 
-pub returns-then-newest-eq-KIND_DENIAL_OPEN-clause-on : goal.returns-then-newest-eq-KIND_DENIAL_OPEN-clause-on
-returns-then-newest-eq-KIND_DENIAL_OPEN-clause-on g c = rw (c.go_on-then-newest-eq-KIND_DENIAL_OPEN.ensures, c.restore-then-newest-eq-KIND_DENIAL_OPEN.ensures) (pop_denial (g.S.Searchable.searched c.args.on.now) (g.met.S.Searchable.sound c.args.on.now) c.args.spot.now c.args.store.now.records c.pop.new.store.records c.in-Some.newest c.args.registers.now c.pop.new.registers c.requires.valid c.in-Some.ensures.popped c.in-Some.ensures.back c.if-newest-eq-KIND_DENIAL_OPEN.true)
+pub look_or_verb-requires-clause-other : goal.look_or_verb-requires-clause-other
+look_or_verb-requires-clause-other g c =
+    (c.if-newest-eq-KIND_LATER_BRANCH.false, c.if-newest-eq-KIND_TURN_OR_EXIT.false, c.if-newest-eq-KIND_LATER_TURN.false, c.if-newest-eq-KIND_FEWER_ITEMS.false, c.if-newest-eq-KIND_MORE_ITEMS.false, c.if-newest-eq-KIND_ATOMIC_LEFT.false)
 
-pub choose-requires-clause-inside : goal.choose-requires-clause-inside
-choose-requires-clause-inside g c = (look_test_sound (g.S.Searchable.searched c.args.on.now) (g.met.S.Searchable.sound c.args.on.now) c.args.spot.now c.args.store.now.records c.pop.new.store.records c.in-Some.newest c.args.registers.now c.pop.new.registers c.requires.valid c.in-Some.ensures.popped c.in-Some.ensures.back c.if-newest-eq-KIND_LOOK_TEST.true).0
-
-pub choose-requires-clause-condition : goal.choose-requires-clause-condition
-choose-requires-clause-condition g c = (look_test_sound (g.S.Searchable.searched c.args.on.now) (g.met.S.Searchable.sound c.args.on.now) c.args.spot.now c.args.store.now.records c.pop.new.store.records c.in-Some.newest c.args.registers.now c.pop.new.registers c.requires.valid c.in-Some.ensures.popped c.in-Some.ensures.back c.if-newest-eq-KIND_LOOK_TEST.true).1
-
-pub returns-then-newest-eq-KIND_LOOK_TEST-clause-on : goal.returns-then-newest-eq-KIND_LOOK_TEST-clause-on
-returns-then-newest-eq-KIND_LOOK_TEST-clause-on g c = rw c.restore-then-newest-eq-KIND_LOOK_TEST.ensures (pop_look_test (g.S.Searchable.searched c.args.on.now) (g.met.S.Searchable.sound c.args.on.now) c.args.spot.now c.args.store.now.records c.pop.new.store.records c.in-Some.newest c.args.registers.now c.pop.new.registers c.requires.valid c.in-Some.ensures.popped c.in-Some.ensures.back c.if-newest-eq-KIND_LOOK_TEST.true _ c.choose.ensures)
-
-pub choose-requires-then-newest-eq-KIND_DENIAL_TEST-clause-inside : goal.choose-requires-then-newest-eq-KIND_DENIAL_TEST-clause-inside
-choose-requires-then-newest-eq-KIND_DENIAL_TEST-clause-inside g c = (denial_test_sound (g.S.Searchable.searched c.args.on.now) (g.met.S.Searchable.sound c.args.on.now) c.args.spot.now c.args.store.now.records c.pop.new.store.records c.in-Some.newest c.args.registers.now c.pop.new.registers c.requires.valid c.in-Some.ensures.popped c.in-Some.ensures.back c.if-newest-eq-KIND_DENIAL_TEST.true).0
-
-pub choose-requires-then-newest-eq-KIND_DENIAL_TEST-clause-condition : goal.choose-requires-then-newest-eq-KIND_DENIAL_TEST-clause-condition
-choose-requires-then-newest-eq-KIND_DENIAL_TEST-clause-condition g c = (denial_test_sound (g.S.Searchable.searched c.args.on.now) (g.met.S.Searchable.sound c.args.on.now) c.args.spot.now c.args.store.now.records c.pop.new.store.records c.in-Some.newest c.args.registers.now c.pop.new.registers c.requires.valid c.in-Some.ensures.popped c.in-Some.ensures.back c.if-newest-eq-KIND_DENIAL_TEST.true).1
-
-pub returns-then-newest-eq-KIND_DENIAL_TEST-clause-on : goal.returns-then-newest-eq-KIND_DENIAL_TEST-clause-on
-returns-then-newest-eq-KIND_DENIAL_TEST-clause-on g c = rw c.restore-then-newest-eq-KIND_DENIAL_TEST.ensures (pop_denial_test (g.S.Searchable.searched c.args.on.now) (g.met.S.Searchable.sound c.args.on.now) c.args.spot.now c.args.store.now.records c.pop.new.store.records c.in-Some.newest c.args.registers.now c.pop.new.registers c.requires.valid c.in-Some.ensures.popped c.in-Some.ensures.back c.if-newest-eq-KIND_DENIAL_TEST.true _ c.choose-then-newest-eq-KIND_DENIAL_TEST.ensures)
-
-pub returns-then-newest-eq-KIND_THEN_PASSED-clause-on : goal.returns-then-newest-eq-KIND_THEN_PASSED-clause-on
-returns-then-newest-eq-KIND_THEN_PASSED-clause-on g c = rw c.restore-then-newest-eq-KIND_THEN_PASSED.ensures (pop_then (g.S.Searchable.searched c.args.on.now) (g.met.S.Searchable.sound c.args.on.now) c.args.spot.now c.args.store.now.records c.pop.new.store.records c.in-Some.newest c.args.registers.now c.pop.new.registers c.requires.valid c.in-Some.ensures.popped c.in-Some.ensures.back c.if-newest-eq-KIND_THEN_PASSED.true)
+pub returns-clause-on : goal.returns-clause-on
+returns-clause-on g c = popped_leads (g.S.Searchable.searched c.args.on.now) _ _ _ _ _ _ _ _ c.requires.valid c.in-Some.ensures.popped c.in-Some.ensures.back c.look_or_verb.ensures

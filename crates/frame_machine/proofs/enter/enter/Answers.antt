@@ -9,6 +9,7 @@ use Rattle.pat_tree.specs.Rules.{IsOrdered}
 use Rattle.frame_parts.proofs.ItemTurns.{turn_led, stop_many}
 use Rattle.frame_state.specs.Ground.{IsNode}
 use Rattle.frame_state.proofs.CalloutTurns.{still, still_stop, ok_still, err_still, err_same, callout_goes, callout_stops}
+use Rattle.frame_machine.proofs.CalloutParts.{callout_is, callout_shown}
 use Rattle.frame_machine.proofs.enter.enter.Goals as goal
 
 pub returns-in-Empty-clause-on : goal.returns-in-Empty-clause-on
@@ -19,19 +20,19 @@ returns-in-KeepOut-clause-on g c = rw c.go_on-in-KeepOut.ensures (still _ _ _ _ 
 
 pub returns-in-One-clause-on : goal.returns-in-One-clause-on
 returns-in-One-clause-on g c =
-    ok_more _ _ c.pass.result (λ next t. still _ _ _ _ (turn_one (g.S.Searchable.searched c.args.on.now) (g.met.S.Searchable.sound c.args.on.now) c.args.at c.args.spot.now (entries c.args.store.now.records) c.args.registers.now c.requires.valid _ c.node.ensures _ c.in-One.is _ c.item_reaches-reached.ensures _ c.take.ensures next _ t)) c.pass.ensures.on
+    ok_more _ _ c.enter_one.result (λ next t. still _ _ _ _ (turn_one (g.S.Searchable.searched c.args.on.now) (g.met.S.Searchable.sound c.args.on.now) c.args.at c.args.spot.now (entries c.args.store.now.records) c.args.registers.now c.requires.valid _ c.node.ensures _ c.in-One.is _ refl _ refl next _ t)) c.enter_one.ensures.on
 
 pub returns-in-One-clause-stop : goal.returns-in-One-clause-stop
 returns-in-One-clause-stop g c =
-    err_more _ _ c.pass.result (λ s h. still_stop _ _ _ _ _ (stop_one (g.S.Searchable.searched c.args.on.now) (g.met.S.Searchable.sound c.args.on.now) c.args.at c.args.spot.now (entries c.args.store.now.records) c.args.registers.now c.requires.valid _ c.node.ensures _ c.in-One.is _ c.item_reaches-reached.ensures _ s h)) c.pass.ensures.stop
+    err_more _ _ c.enter_one.result (λ s h. still_stop _ _ _ _ _ (stop_one (g.S.Searchable.searched c.args.on.now) (g.met.S.Searchable.sound c.args.on.now) c.args.at c.args.spot.now (entries c.args.store.now.records) c.args.registers.now c.requires.valid _ c.node.ensures _ c.in-One.is _ refl _ s h)) c.enter_one.ensures.stop
 
 pub returns-in-Break-clause-on : goal.returns-in-Break-clause-on
 returns-in-Break-clause-on g c =
-    ok_more _ _ c.pass-in-Break.result (λ next t. still _ _ _ _ (turn_break (g.S.Searchable.searched c.args.on.now) (g.met.S.Searchable.sound c.args.on.now) c.args.at c.args.spot.now (entries c.args.store.now.records) c.args.registers.now c.requires.valid _ c.node.ensures c.in-Break.is _ c.break_reaches-reached.ensures _ c.take_break.ensures next _ t)) c.pass-in-Break.ensures.on
+    ok_more _ _ c.enter_break.result (λ next t. still _ _ _ _ (turn_break (g.S.Searchable.searched c.args.on.now) (g.met.S.Searchable.sound c.args.on.now) c.args.at c.args.spot.now (entries c.args.store.now.records) c.args.registers.now c.requires.valid _ c.node.ensures c.in-Break.is _ refl _ refl next _ t)) c.enter_break.ensures.on
 
 pub returns-in-Break-clause-stop : goal.returns-in-Break-clause-stop
 returns-in-Break-clause-stop g c =
-    err_more _ _ c.pass-in-Break.result (λ s h. still_stop _ _ _ _ _ (stop_break (g.S.Searchable.searched c.args.on.now) (g.met.S.Searchable.sound c.args.on.now) c.args.at c.args.spot.now (entries c.args.store.now.records) c.args.registers.now c.requires.valid _ c.node.ensures c.in-Break.is _ c.break_reaches-reached.ensures _ s h)) c.pass-in-Break.ensures.stop
+    err_more _ _ c.enter_break.result (λ s h. still_stop _ _ _ _ _ (stop_break (g.S.Searchable.searched c.args.on.now) (g.met.S.Searchable.sound c.args.on.now) c.args.at c.args.spot.now (entries c.args.store.now.records) c.args.registers.now c.requires.valid _ c.node.ensures c.in-Break.is _ refl _ s h)) c.enter_break.ensures.stop
 
 pub returns-in-Ref-clause-on : goal.returns-in-Ref-clause-on
 returns-in-Ref-clause-on g c =
@@ -124,12 +125,17 @@ returns-in-Repeat-clause-stop g c =
 pub enter_callout-requires : goal.enter_callout-requires
 enter_callout-requires g c = record { inside = c.requires.valid.running.0 }
 
+pub block_at-requires-clause-callout : goal.block_at-requires-clause-callout
+block_at-requires-clause-callout g c = callout_is _ _ _ _ _ _ _ (subst (IsNode (g.S.Searchable.searched c.args.on.now) c.args.at) c.in-Callout.is c.node.ensures)
+
 pub returns-in-Callout-clause-on : goal.returns-in-Callout-clause-on
 returns-in-Callout-clause-on g c =
-    callout_goes (g.S.Searchable.searched c.args.on.now) (g.met.S.Searchable.sound c.args.on.now) c.args.at c.args.spot.now (entries c.args.store.now.records) c.args.registers.now c.requires.valid (g.C.Callouts.answers c.args.calls.now) c.requires.replied _ _ _ _ _ (subst (IsNode (g.S.Searchable.searched c.args.on.now) c.args.at) c.in-Callout.is c.node.ensures) _ _ c.block_of-block.result c.block_of-block.ensures
+    let i = subst (IsNode (g.S.Searchable.searched c.args.on.now) c.args.at) c.in-Callout.is c.node.ensures in
+    callout_goes (g.S.Searchable.searched c.args.on.now) (g.met.S.Searchable.sound c.args.on.now) c.args.at c.args.spot.now (entries c.args.store.now.records) c.args.registers.now c.requires.valid (g.C.Callouts.answers c.args.calls.now) c.requires.replied _ _ _ _ _ i _ _ c.block_at.result (callout_shown _ _ _ _ _ _ _ i c.args.spot.now c.block_at.result c.block_at.ensures)
     c.enter_callout.result c.enter_callout.ensures.next c.enter_callout.ensures.seen
 
 pub returns-in-Callout-clause-stop : goal.returns-in-Callout-clause-stop
 returns-in-Callout-clause-stop g c =
-    callout_stops (g.S.Searchable.searched c.args.on.now) (g.met.S.Searchable.sound c.args.on.now) c.args.at c.args.spot.now (entries c.args.store.now.records) c.args.registers.now c.requires.valid (g.C.Callouts.answers c.args.calls.now) c.requires.replied _ _ _ _ _ (subst (IsNode (g.S.Searchable.searched c.args.on.now) c.args.at) c.in-Callout.is c.node.ensures) _ _ c.block_of-block.result c.block_of-block.ensures
+    let i = subst (IsNode (g.S.Searchable.searched c.args.on.now) c.args.at) c.in-Callout.is c.node.ensures in
+    callout_stops (g.S.Searchable.searched c.args.on.now) (g.met.S.Searchable.sound c.args.on.now) c.args.at c.args.spot.now (entries c.args.store.now.records) c.args.registers.now c.requires.valid (g.C.Callouts.answers c.args.calls.now) c.requires.replied _ _ _ _ _ i _ _ c.block_at.result (callout_shown _ _ _ _ _ _ _ i c.args.spot.now c.block_at.result c.block_at.ensures)
     c.enter_callout.result c.enter_callout.ensures.stop

@@ -1,5 +1,5 @@
-use Rattle.std.proofs.Common.{◌∙◌, refl, sym, arith}
-use Rattle.frame_parts.proofs.PassTurns.{takes_none, pass_run}
+use Rattle.std.proofs.Common.{refl, sym, arith}
+use Rattle.frame_parts.proofs.PassTurns.{pass_run}
 use Rattle.frame_state.proofs.ReachTurns.{off_is}
 use Rattle.frame_parts.proofs.passing.pass_fewer.Goals as goal
 
@@ -11,8 +11,8 @@ runs-preserved g c = record {
   reached =
       rw c.before-to.ensures
       (pass_run (g.S.Searchable.searched c.args.on.now) (g.met.S.Searchable.sound c.args.on.now) _ c.args.at c.args.least c.runs.to c.runs.spot c.args.store.now.records c.args.registers.now c.runs.invariant.reached
-      c.in-Some.follower.item c.args.spot.now.frame c.in-Some.follower.units c.in-Some.ensures (sym c.runs.invariant.frame) c.runs-test.true c.if-spot-gt0.true
-      (omega (arith, c.if-not-has_room.ensures refl, c.runs.invariant.units, c.unit_limit.ensures)) (sym c.take.ensures ∙ takes_none _ c.if-is_none.ensures));
+      c.in-Some.follower.need c.args.spot.now.frame c.in-Some.follower.units c.in-Some.ensures (sym c.runs.invariant.frame) c.runs-test.true c.if-spot-gt0.true
+      (omega (arith, c.if-not-has_room.ensures refl, c.runs.invariant.units, c.unit_limit.ensures)) (c.if-is_missing.ensures refl));
   units = c.runs.invariant.units;
   frame = c.runs.invariant.frame;
 }

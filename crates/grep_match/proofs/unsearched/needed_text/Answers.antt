@@ -1,4 +1,4 @@
-use Rattle.std.proofs.Common.{List, subst}
+use Rattle.std.proofs.Common.{ℕ, List, [], ◌∷◌, get_or, subst}
 use Rattle.pcre2_api.specs.Compiled.{CodeParts}
 use Rattle.grep_match.specs.Compiled.{patterns_in}
 use Rattle.match_needs.specs.Texts.{sets_of}
@@ -8,10 +8,6 @@ use Rattle.grep_match.proofs.unsearched.needed_text.Goals as goal
 
 pub returns-in-Some : goal.returns-in-Some
 returns-in-Some c =
-    are_needed c.args.plan.now c.limits-matching.result (patterns_in c.args.patterns.now) 65535 (sets_of c.in-Some.text) c.limits-matching.ensures
-    (subst (λ (codes : List CodeParts). NoneAnswers c.limits-matching.result (patterns_in codes) 65535 (sets_of c.in-Some.text)) c.codes-codes.ensures c.in-Some.ensures)
-
-pub returns-in-Some-needed_within : goal.returns-in-Some-needed_within
-returns-in-Some-needed_within c =
-    are_needed c.args.plan.now c.limits-matching.result (patterns_in c.args.patterns.now) 2047 (sets_of c.in-Some-needed_within.text) c.limits-matching.ensures
-    (subst (λ (codes : List CodeParts). NoneAnswers c.limits-matching.result (patterns_in codes) 2047 (sets_of c.in-Some-needed_within.text)) c.codes-codes.ensures c.in-Some-needed_within.ensures)
+    let most : ℕ = get_or (65535 ∷ 2047 ∷ 127 ∷ []) c.loop-most.most-index 0 in
+    are_needed c.args.plan.now c.limits-matching.result (patterns_in c.args.patterns.now) most (sets_of c.in-Some.text) c.limits-matching.ensures
+    (subst (λ (codes : List CodeParts). NoneAnswers c.limits-matching.result (patterns_in codes) most (sets_of c.in-Some.text)) c.codes-codes.ensures c.in-Some.ensures)

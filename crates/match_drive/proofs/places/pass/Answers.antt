@@ -1,12 +1,11 @@
 use Rattle.std.proofs.Common.{◌≡◌, ◌+◌, ◌≤◌, ◌<◌, length, List, ℕ, inl, inr, sym, subst, ap, ◌∙◌, arith}
-use Rattle.std.specs.Prelude.{min, slice_index}
+use Rattle.std.specs.Prelude.{min}
 use Rattle.std.proofs.lemmas.Bool.{cases_lt}
 use Rattle.uni_text.specs.Characters.{IsPlace}
 use Rattle.match_items.specs.Subjects.{IsText, IsTextPlace}
 use Rattle.pat_tree.specs.declared.options.Options.{Options}
 use Rattle.ordered_search.specs.Setting.{Setting}
 use Rattle.ordered_search.specs.Places.{last_place}
-use Rattle.match_drive.specs.Rest.{IsByteOutside}
 use Rattle.match_drive.proofs.PastPlaces.{passed_places, behind_stands, end_stands}
 use Rattle.ordered_search.proofs.StartPlaces.{last_within}
 use Rattle.match_drive.specs.Asked.{passed_over, replied}
@@ -20,12 +19,16 @@ bytes_end-end-requires g c =
     let high : last_place s ≤ length s.subject = last_within s (g.met.S.Driven.start_is x c.requires.fits).within in
     omega (arith, high, c.requires.last, ap (length {A = ℕ}) c.subject-subject.ensures)
 
-pub first_in-found-requires-clause-ordered : goal.first_in-found-requires-clause-ordered
-first_in-found-requires-clause-ordered g c =
+pub first_start-found-requires-clause-ordered : goal.first_start-found-requires-clause-ordered
+first_start-found-requires-clause-ordered g c =
     let x = c.args.on.now in
     let s = g.S.Driven.asked x passed_over in
     let high : last_place s ≤ length s.subject = last_within s (g.met.S.Driven.start_is x c.requires.fits).within in
     omega (arith, high, c.requires.last, c.requires.from, c.bytes_end-end.ensures, ap (length {A = ℕ}) c.subject-subject.ensures)
+
+pub first_start-found-requires-clause-within : goal.first_start-found-requires-clause-within
+first_start-found-requires-clause-within g c =
+    omega (arith, c.bytes_end-end.ensures, ap (length {A = ℕ}) c.subject-subject.ensures)
 
 pub place_from-requires-clause-within : goal.place_from-requires-clause-within
 place_from-requires-clause-within g c =
@@ -55,18 +58,18 @@ returns-clause-passed g c reply =
     let x = c.args.on.now in
     let s = g.S.Driven.asked x passed_over in
     let begun = (g.met.S.Driven.start_is x c.requires.fits).within in
-    let used = rw c.in-Some.is at c.lead_used.ensures in
+    let text = g.met.S.Driven.subject_is x c.requires.fits in
     let q = c.place_from.result in
-    let found = c.first_in-found.result in
+    let found = c.first_start-found.result in
     let low : c.args.from ≤ last_place s = omega (arith, c.requires.last, c.requires.from) in
-    let ordered : c.args.from ≤ q = omega (arith, c.first_in-found.ensures.low, c.place_from.ensures.low) in
+    let ordered : c.args.from ≤ q = omega (arith, c.first_start-found.ensures.low, c.place_from.ensures.low) in
     let same : length c.subject-subject.result.now ≡ length s.subject = ap (length {A = ℕ}) c.subject-subject.ensures in
     let high : q ≤ length s.subject = omega (arith, c.place_from.ensures.high, c.bytes_end-end.ensures, same) in
     rw c.behind.ensures
-    (passed_places (replied reply s) begun (g.met.S.Driven.subject_is x c.requires.fits) c.in-Some.set.now c.args.from q used.0 used.1 c.requires.place low ordered high
-    (to_place s begun (g.met.S.Driven.subject_is x c.requires.fits) c.args.last c.bytes_end-end.result q c.requires.last (ends_at g c) c.place_from.ensures.high (stands_at g c))
+    (passed_places (replied reply s) begun text c.args.from q c.requires.place low ordered high
+    (to_place s begun text c.args.last c.bytes_end-end.result q c.requires.last (ends_at g c) c.place_from.ensures.high (stands_at g c))
     (λ k a b stands. elim (cases_lt k found) [
-      | inl before ↦ subst (λ (bs : List ℕ). IsByteOutside c.in-Some.set.now (slice_index bs k)) c.subject-subject.ensures (c.first_in-found.ensures.before k a before)
+      | inl before ↦ c.first_start-found.ensures.before reply k a before stands
       | inr past ↦ absurd (c.place_from.ensures.before k (omega (arith, past)) b
           (subst (λ (o : Options). IsPlace o.utf c.subject-subject.result.now k) (sym c.options.ensures)
           (subst (λ (bs : List ℕ). IsPlace s.options.utf bs k) (sym c.subject-subject.ensures) (stands.within, stands.between))))

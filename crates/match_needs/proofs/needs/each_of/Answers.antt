@@ -10,12 +10,12 @@ loop-i-preserved c =
     let below : i - 1 < length xs = omega (arith, c.loop-i.invariant.within, c.loop-i-test.true) in
     record {
       within = omega (arith, c.loop-i.invariant.within);
-      is = λ may utf of.
-          needs_back may utf of c.args.needs.now xs i c.index-needs-branches.result (λ ts. AreAllNeeds may utf ts c.loop-i.whole)
-          (λ ts. AreAllNeeds may utf ts c.joined-whole.result) c.loop-i-test.true c.loop-i.invariant.within
+      is = λ may utf anywhere of.
+          needs_back may utf anywhere of c.args.needs.now xs i c.index-needs-branches.result (λ ts. AreAllNeeds may utf anywhere ts c.loop-i.whole)
+          (λ ts. AreAllNeeds may utf anywhere ts c.joined-whole.result) c.loop-i-test.true c.loop-i.invariant.within
           (need_read c.args.needs.now xs (i - 1) c.index-needs-branches.result below c.requires c.index-needs-branches.is)
-          (c.loop-i.invariant.is may utf of) (c.joined-whole.ensures may utf);
+          (c.loop-i.invariant.is may utf anywhere of) (c.joined-whole.ensures may utf anywhere);
     }
 
 pub returns : goal.returns
-returns c may utf of = let done : c.loop-i.i ≡ 0 = omega (arith, c.loop-i-test.false) in rw done at (c.loop-i.invariant.is may utf of)
+returns c may utf anywhere of = let done : c.loop-i.i ≡ 0 = omega (arith, c.loop-i-test.false) in rw done at (c.loop-i.invariant.is may utf anywhere of)

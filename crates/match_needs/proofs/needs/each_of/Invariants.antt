@@ -7,8 +7,8 @@ use Rattle.match_needs.proofs.needs.each_of.Given as goal
 abbrev pub invariant-loop-i : goal.invariant-loop-i
 invariant-loop-i l = record {
   within : l.i ≤ length l.branches;
-  is : (may : Item → ℕ → Bool) (utf : Bool) (of : ℕ → Nested) → AreNeeds may utf of l.needs (drop l.i l.branches)
-      → AreAllNeeds may utf (row (map of (drop l.i l.branches))) l.whole;
+  is : (may : Item → ℕ → Bool) (utf anywhere : Bool) (of : ℕ → Nested) → AreNeeds may utf anywhere of l.needs (drop l.i l.branches)
+      → AreAllNeeds may utf anywhere (row (map of (drop l.i l.branches))) l.whole;
 }
 
 abbrev pub decreases-loop-i : goal.decreases-loop-i

@@ -11,20 +11,22 @@ loop-i-preserved c =
     let i = c.loop-i.i in
     let first = c.index-needs-parts.result in
     let run = c.run_from-run.result in
+    let anywhere = c.args.anywhere in
+    let earlier = c.kept_if.result in
     let below : i - 1 < length xs = omega (arith, c.loop-i.invariant.within, c.loop-i-test.true) in
     record {
       within = omega (arith, c.loop-i.invariant.within);
       is = λ may utf of.
-          needs_back may utf of needs xs i first (λ ts. IsRun may utf ts c.loop-i.run × IsSomeNeed may utf ts c.loop-i.best)
-          (λ ts. IsRun may utf ts run × IsSomeNeed may utf ts c.rarer-best.result) c.loop-i-test.true c.loop-i.invariant.within
+          needs_back may utf anywhere of needs xs i first (λ ts. IsRun may utf ts c.loop-i.run × IsSomeNeed may utf anywhere ts c.loop-i.best)
+          (λ ts. IsRun may utf ts run × IsSomeNeed may utf anywhere ts c.rarer-best.result) c.loop-i-test.true c.loop-i.invariant.within
           (need_read needs xs (i - 1) first below c.requires c.index-needs-parts.is) (c.loop-i.invariant.is may utf of)
           (λ t ts need had.
-          let begun = c.run_from-run.ensures may utf t ts need had.0 in (
+          let begun = c.run_from-run.ensures may utf anywhere t ts need had.0 in (
             begun,
-            some_of_three may utf (tree.more t ts) c.loop-i.best c.copy_of.result c.copy_of-in-loop-i.result c.rarer-best.result c.rarer-best.ensures
-                (some_later may utf t ts c.loop-i.best had.1)
-                (some_part may utf t ts first c.copy_of.result need c.copy_of.ensures.item c.copy_of.ensures.some c.copy_of.ensures.none)
-                (some_run may utf t ts run c.copy_of-in-loop-i.result begun c.copy_of-in-loop-i.ensures.item c.copy_of-in-loop-i.ensures.some c.copy_of-in-loop-i.ensures.none),
+            some_of_three may utf anywhere (tree.more t ts) earlier c.copy_of.result c.copy_of-in-loop-i.result c.rarer-best.result c.rarer-best.ensures
+                (some_later may utf anywhere t ts c.loop-i.best earlier c.kept_if.ensures had.1)
+                (some_part may utf anywhere t ts first c.copy_of.result need c.copy_of.ensures.item c.copy_of.ensures.some c.copy_of.ensures.none)
+                (some_run may utf anywhere t ts run c.copy_of-in-loop-i.result begun c.copy_of-in-loop-i.ensures.item c.copy_of-in-loop-i.ensures.some c.copy_of-in-loop-i.ensures.none),
           ));
     }
 

@@ -1,10 +1,8 @@
-use Rattle.std.proofs.Common.{ℕ, ◌≡◌, ◌<◌, ◌∙◌, ◌++◌, true, length, Option, None, Some, All, refl, ap, subst}
+use Rattle.std.proofs.Common.{ℕ, ◌≡◌, Option, None, Some, refl}
 use Rattle.pat_tree.specs.Rules.{number_in}
 use Rattle.pat_tree.specs.Refs.{is_in}
 use Rattle.pat_tree.proofs.Loose.{fresh_at_end}
-use Rattle.pat_tree.specs.Growing.{EndsIn, is_fresh, loose}
-use Rattle.pat_grammar.specs.Groups.{grouped, atomically, looks, asserted, defines, places_named}
-use Rattle.pat_nodes.proofs.Conditions.{one_get}
+use Rattle.pat_grammar.specs.Groups.{grouped, atomically, looks, asserted, places_named}
 use Rattle.pat_nodes.specs.Nodes.{is_number}
 use Rattle.pat_nodes.proofs.References.{or_false}
 use Rattle.pat_nodes.proofs.Extending.{closes_node}
@@ -40,36 +38,6 @@ unfolding places_named
 returns-in_ok-id-in-Look-clause-closes c =
     let e = c.in_ok-id-in-Look.ensures in
     rw c.in-Look.is (closes_node c.args.draft.now c.add-in-Look.new.self _ (looks c.in-Look.ahead c.in-Look.positive c.in-Look.atomic) e.grows e.refs refl refl e.groups (λ n. refl) c.requires.loose)
-
-pub add-requires-in-Define-clause-kids : goal.add-requires-in-Define-clause-kids
-add-requires-in-Define-clause-kids c =
-    let few : length c.args.branches ≡ 1 = rw c.in-Define.is at c.requires.few in
-    subst (λ ks. All (λ k. k < length c.args.draft.now.nodes) ks) (one_get c.args.branches c.get.result.now few c.get.ensures) c.requires.branches
-
-pub add-requires-in-Define-clause-fresh : goal.add-requires-in-Define-clause-fresh
-add-requires-in-Define-clause-fresh c =
-    let few : length c.args.branches ≡ 1 = rw c.in-Define.is at c.requires.few in
-    subst (λ ks. is_fresh (loose c.args.draft.now.nodes) ks ≡ true) (one_get c.args.branches c.get.result.now few c.get.ensures) (fresh_at_end c.requires.loose)
-
-pub returns-in_ok-id-in-Define-clause-made : goal.returns-in_ok-id-in-Define-clause-made
-returns-in_ok-id-in-Define-clause-made c =
-    let few : length c.args.branches ≡ 1 = rw c.in-Define.is at c.requires.few in
-    let is = one_get c.args.branches c.get.result.now few c.get.ensures in
-    rw (c.in-Define.is, is) c.in_ok-id-in-Define.ensures.made
-
-pub returns-in_ok-id-in-Define-clause-loose : goal.returns-in_ok-id-in-Define-clause-loose
-returns-in_ok-id-in-Define-clause-loose c front e =
-    let few : length c.args.branches ≡ 1 = rw c.in-Define.is at c.requires.few in
-    let is = one_get c.args.branches c.get.result.now few c.get.ensures in
-    c.in_ok-id-in-Define.ensures.replaces front (e ∙ ap (λ ks. front ++ ks) is)
-
-pub returns-in_ok-id-in-Define-clause-closes : goal.returns-in_ok-id-in-Define-clause-closes
-unfolding places_named
-returns-in_ok-id-in-Define-clause-closes c =
-    let e = c.in_ok-id-in-Define.ensures in
-    let few : length c.args.branches ≡ 1 = rw c.in-Define.is at c.requires.few in
-    let last = subst (EndsIn c.args.draft.now.nodes) (one_get c.args.branches c.get.result.now few c.get.ensures) c.requires.loose in
-    rw c.in-Define.is (closes_node c.args.draft.now c.add-in-Define.new.self _ defines e.grows e.refs refl refl e.groups (λ n. refl) last)
 
 pub add-requires-in-Asserted-clause-fresh : goal.add-requires-in-Asserted-clause-fresh
 add-requires-in-Asserted-clause-fresh c = fresh_at_end c.requires.loose

@@ -12,7 +12,7 @@ pub returns-clause-bad : goal.returns-clause-bad
 unfolding callouts
 returns-clause-bad c =
     let m = c.args.self.now in
-    let a = c.args.called in
+    let a = c.args in
     let next = record (state_of m) { at = c.args.after } in
     rw c.fault.ensures (bad_means m c.requires.means (CalloutItem a.number a.text_from a.text_to) c.args.after _ c.requires
     (λ n h. ap (λ b. if b then Ok (with_callout a.number a.text_from a.text_to (next_item m.text.now next) next) else fault 195 m.at) c.if-self.false))
@@ -21,7 +21,7 @@ pub begin_callout-requires : goal.begin_callout-requires
 unfolding callouts
 begin_callout-requires c =
     let m = c.args.self.now in
-    let a = c.args.called in
+    let a = c.args in
     let next = record (state_of m) { at = c.args.after } in record {
       ready = (
         c.requires,

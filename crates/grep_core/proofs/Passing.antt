@@ -1,0 +1,118 @@
+-- Lines that are passed over have no match.
+use Rattle.std.proofs.Common.{◌≡◌, ℕ, zero, suc, ◌+◌, ◌-◌, ◌<◌, ◌≤◌, List, [], ◌∷◌, ◌++◌, length, None, Some, Ok, refl, sym, ap, subst, ◌∙◌, arith, length-append}
+use Rattle.std.specs.Prelude.{slice_index}
+use Rattle.std.specs.List.{All}
+use Rattle.std.proofs.lemmas.List.{get_or_append_left, get_or-append-add}
+use Rattle.pcre_io.specs.Told.{Told}
+use Rattle.line_feed.specs.Rows.{Row}
+use Rattle.line_feed.specs.View.{Feed}
+use Rattle.line_feed.specs.Passes.{GivesAll, Passes}
+use Rattle.grep_args.specs.declared.plan.GrepPlan.{GrepPlan}
+use Rattle.pat_tree.specs.Pattern.{Pattern}
+use Rattle.grep_match.specs.declared.unsearched.Needed.{Needed}
+use Rattle.grep_match.specs.Matches.{matches}
+use Rattle.grep_core.specs.declared.watch.Watch.{Watch}
+use Rattle.grep_core.specs.Watched.{Watches, PassesOver}
+use Rattle.grep_core.proofs.Watching.{watches_gives, watches_line, watches_none, watches_behind}
+
+pub all-nil : {A : Type 0} (P : A → Type 0) → All P []
+all-nil P = λ k d l. absurd (omega arith)
+
+pub all-cons : {A : Type 0} (P : A → Type 0) (x : A) (xs : List A) → P x → All P xs → All P (x ∷ xs)
+all-cons P x xs one all zero d l = one
+all-cons P x xs one all (suc k) d l = all k d (omega arith)
+
+pub all-tail : {A : Type 0} (P : A → Type 0) (x : A) (xs : List A) → All P (x ∷ xs) → All P xs
+all-tail P x xs all = λ k d l. all (suc k) d (omega arith)
+
+-- What is known of the bytes.
+
+abbrev AreBytes : List ℕ → ℕ → Type 0
+AreBytes bytes n = (k : ℕ) → k < n → slice_index bytes k < 256
+
+module _ (bytes newline behind held taken : List ℕ) (n : ℕ) (is : held ++ taken ≡ bytes ++ newline ++ behind) (within : n ≤ length held) (are : AreBytes held n) where
+  byte-at : (k : ℕ) → k < n → slice_index (bytes ++ newline ++ behind) k < 256
+  byte-at k l = subst (λ b. b < 256) (sym (get_or_append_left held taken 0 k (omega (arith, l, within))) ∙ ap (λ b. slice_index b k) is) (are k l)
+
+  line-bytes : length bytes + length newline ≤ n → AreBytes bytes (length bytes)
+  line-bytes long k l =
+      let sum = length-append bytes newline in
+      subst (λ b. b < 256)
+      (get_or_append_left (bytes ++ newline) behind 0 k (omega (arith, l, sum)) ∙ get_or_append_left bytes newline 0 k l)
+      (byte-at k (omega (arith, l, long)))
+
+  behind-bytes : AreBytes behind (n - (length bytes + length newline))
+  behind-bytes k l =
+      let sum = length-append bytes newline in
+      subst (λ b. b < 256) (get_or-append-add (bytes ++ newline) behind k 0) (byte-at (length (bytes ++ newline) + k) (omega (arith, l, sum)))
+
+module _ (plan : GrepPlan) (patterns : List Pattern) (found : Needed) (now : Told) where
+  -- rows that were given, so many bytes in all
+  record Over (w : Watch) (f g : Feed) (rows : List Row) : Type 0 where
+    sum : ℕ
+    offset : g.offset ≡ f.offset + sum
+    none : All (λ (row : Row). matches plan patterns row.bytes ≡ Ok []) rows
+    watches : Watches plan patterns (record w { quiet = w.quiet - sum }) g.held
+
+  watches-less : (w : Watch) (held : List ℕ) (a b n : ℕ) → Watches plan patterns (record w { quiet = w.quiet - a - b - n }) held → Watches plan patterns (record w { quiet = w.quiet - (a + b + n) }) held
+  watches-less w held a b n had = let less : w.quiet - a - b - n ≡ w.quiet - (a + b + n) = omega arith in subst (λ q. Watches plan patterns (record w { quiet = q }) held) less had
+
+  passes-over : (rows : List Row) (w : Watch) (f g : Feed) (n : ℕ) → w.needed ≡ Some found → n ≡ w.quiet → AreBytes f.held n → Watches plan patterns w f.held → GivesAll now n found.most f g rows → Over w f g rows
+  passes-over [] w f g n there is are had same = record {
+    sum = 0;
+    offset = let at = ap (λ (x : Feed). x.offset) same in omega arith;
+    none = all-nil (λ (row : Row). matches plan patterns row.bytes ≡ Ok []);
+    watches = let all : w.quiet ≡ w.quiet - 0 = omega arith in
+        subst (λ q. Watches plan patterns (record w { quiet = q }) g.held) all (subst (λ (x : Feed). Watches plan patterns w x.held) (sym same) had);
+  }
+  passes-over (row ∷ rows) w f g n there is are had all =
+      let short = all.0 in
+      let long = all.1 in
+      let mid = all.2.0 in
+      let gives = all.2.1 in
+      let moves = gives.reads.moves in
+      let cuts = gives.cuts in
+      let a = length row.bytes in
+      let b = length row.newline in
+      let within = (had.quiet found there).within in
+      let held = sym moves.held ∙ cuts.bytes in
+      let line = watches_gives plan patterns w f mid now now row gives had in
+      let next : Watch = record w { quiet = w.quiet - a - b } in
+      let rest = passes-over rows next mid g (n - (a + b)) there (omega (arith, is))
+      (behind-bytes row.bytes row.newline mid.held f.held moves.taken n held (omega (arith, is, within)) are)
+      (watches_behind plan patterns w row.bytes row.newline mid.held next.quiet refl line) all.2.2 in
+      let row_offset = cuts.offset in
+      let mid_offset = cuts.next_offset in
+      let same_offset = moves.offset in
+      let rest_offset = rest.offset in
+      record {
+        sum = a + b + rest.sum;
+        offset = omega arith;
+        none = all-cons (λ (r : Row). matches plan patterns r.bytes ≡ Ok []) row rows
+            (watches_none plan patterns w row.bytes (row.newline ++ mid.held) found there (omega (arith, long, is)) short
+            (line-bytes row.bytes row.newline mid.held f.held moves.taken n held (omega (arith, is, within)) are long) (watches_line plan patterns w row.bytes row.newline mid.held line))
+            rest.none;
+        watches = watches-less w g.held a b rest.sum rest.watches;
+      }
+
+-- nothing was passed over
+pub over-none : (plan : GrepPlan) (patterns : List Pattern) (w : Watch) (f : Feed) → Watches plan patterns w f.held → PassesOver plan patterns w f f
+over-none plan patterns w f had = record { within = 0; longest = 0; rows = []; gives = λ now. refl; none = all-nil (λ (row : Row). matches plan patterns row.bytes ≡ Ok []); watches = had }
+
+pub over-some : (plan : GrepPlan) (patterns : List Pattern) (found : Needed) (w : Watch) (f g : Feed) (passed n : ℕ) → w.needed ≡ Some found → AreBytes f.held (length f.held) → Watches plan patterns w f.held → Passes f g w.quiet found.most passed → n ≡ w.quiet - passed
+    → PassesOver plan patterns (record w { quiet = n }) f g
+over-some plan patterns found w f g passed n there are had passes is =
+    let now : Told = record { left = None; stop = None; faults = 0 } in
+    let within = (had.quiet found there).within in
+    let over = passes-over plan patterns found now passes.rows w f g w.quiet there refl (λ k l. are k (omega (arith, l, within))) had (passes.gives now) in
+    let offset = passes.offset in
+    let over_offset = over.offset in
+    let same : w.quiet - over.sum ≡ n = omega (arith, is, offset, over_offset) in
+    record {
+      within = w.quiet;
+      longest = found.most;
+      rows = passes.rows;
+      gives = passes.gives;
+      none = over.none;
+      watches = subst (λ q. Watches plan patterns (record w { quiet = q }) g.held) same over.watches;
+    }

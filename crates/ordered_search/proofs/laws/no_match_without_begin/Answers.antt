@@ -1,0 +1,5 @@
+use Rattle.ordered_search.proofs.Needed.{begin_law}
+use Rattle.ordered_search.proofs.laws.no_match_without_begin.Goals as goal
+
+pub returns : goal.returns
+returns c = begin_law
