@@ -1,10 +1,12 @@
 // Sets of bytes, and the least place of a member.
-ghost use Rattle.std.specs.Prelude.{◌≡◌, ℕ, ◌+◌, ◌<◌, ◌≤◌, ◌==◌, ◌||◌, List, Bool, true, false, length, slice_index, bit_or};
+ghost use Rattle.std.specs.Prelude.{◌≡◌, ℕ, ◌+◌, ◌-◌, ◌<◌, ◌≤◌, ◌==◌, ◌||◌, List, Bool, true, false, length, slice_index, bit_or};
 ghost use Rattle.byte_lanes.specs.Places.{IsLeast, least_from};
 ghost use Rattle.byte_lanes.specs.Lanes.{HasLanes};
-ghost use Rattle.byte_lanes.specs.Sets.{flags, flag, has_byte, IsIn};
+ghost use Rattle.byte_lanes.specs.Members.{AreMembers};
+ghost use Rattle.byte_lanes.specs.Sets.{flags, flag, has_byte, IsIn, AreIn};
 
-use crate::lanes::{both, by_high_nibble, by_low_nibble, by_top, load, same};
+use crate::lanes::{both, by_high_nibble, by_low_nibble, by_top, either, equal_to, load, same};
+use crate::members::Members;
 use crate::scan;
 use crate::scan::Probe;
 use std::marker::Model;
@@ -19,12 +21,15 @@ const BITS: [u8; 16] = [1, 2, 4, 8, 16, 32, 64, 128, 1, 2, 4, 8, 16, 32, 64, 128
 pub struct ByteSet {
     low: [u8; 16],
     high: [u8; 16],
+    members: Members,
 }
 
 impl Model for ByteSet {
     ghost Value = { List Bool };
 
     ghost view = { λ s. flags s.low s.high };
+
+    ghost invariant = { λ s. AreMembers s.members (flags s.low s.high) };
 }
 
 // Each row with the bits of both tables.
@@ -48,6 +53,7 @@ impl ByteSet {
         ByteSet {
             low: [0; 16],
             high: [0; 16],
+            members: Members::No,
         }
     }
 
@@ -55,6 +61,7 @@ impl ByteSet {
     pub fn insert(&mut self, b: u8)
         ensures { (k : ℕ) → has_byte self.new k ≡ (has_byte self.old k || k == b) }
     {
+        self.members = self.members.with(b);
         let row = (b % 16) as usize;
         if b < 128 {
             self.low[row] |= 1 << (b / 16);
@@ -69,6 +76,7 @@ impl ByteSet {
     {
         self.low = joined(&self.low, &more.low);
         self.high = joined(&self.high, &more.high);
+        self.members = self.members.joined(more.members);
     }
 
     /// A set with the same members.
@@ -78,6 +86,7 @@ impl ByteSet {
         ByteSet {
             low: self.low,
             high: self.high,
+            members: self.members,
         }
     }
 
@@ -94,10 +103,22 @@ impl ByteSet {
         }
     }
 
-    // All bits of each lane whose byte is a member. The low half of a byte picks its row of bits, and the high
-    // half the bit of that row.
+    // All bits of each lane whose byte is a member.
     #[inline(always)]
     fn lanes(&self, v: u8x32) -> u8x32
+        ensures { HasLanes result (λ k. flag (has_byte self.now (slice_index v k))) }
+    {
+        match self.members {
+            Members::One(x) => equal_to(v, x),
+            Members::Two(x, y) => either(equal_to(v, x), equal_to(v, y)),
+            Members::No | Members::More => self.looked_up(v),
+        }
+    }
+
+    // The same. The low half of a byte picks its row of bits, and the high half the bit of that
+    // row.
+    #[inline(always)]
+    fn looked_up(&self, v: u8x32) -> u8x32
         ensures { HasLanes result (λ k. flag (has_byte self.now (slice_index v k))) }
     {
         let rows = by_top(v, by_low_nibble(&self.low, v), by_low_nibble(&self.high, v));
@@ -107,7 +128,7 @@ impl ByteSet {
 }
 
 /// The least place of `bytes` at or past `from` whose byte is in the set, and the length where there is none.
-/// `from` is at most the length. It costs the same for every set.
+/// `from` is at most the length. It costs least for a set of one or two bytes, and the same for every other.
 pub fn find_in_set(bytes: &[u8], from: usize, set: &ByteSet) -> usize
     requires { from ≤ length bytes.now }
     ensures least { IsLeast (IsIn set.now bytes.now) from (length bytes.now) result }
@@ -138,5 +159,59 @@ impl<'a> Probe for InSet<'a> {
     fn confirm(&self, i: usize) -> bool {
         let bytes = self.bytes;
         self.set.has(bytes[i])
+    }
+}
+
+/// The least place of `bytes` at or past `from` whose byte is in one set while the byte `apart` places
+/// behind it is in the other, and the length where there is none. `from` is at most the length.
+pub fn find_in_two_sets(
+    bytes: &[u8],
+    from: usize,
+    one: &ByteSet,
+    apart: usize,
+    other: &ByteSet,
+) -> usize
+    requires { from ≤ length bytes.now }
+    ensures { IsLeast (AreIn one.now apart other.now bytes.now) from (length bytes.now) result }
+{
+    if bytes.len() - from <= apart {
+        return bytes.len();
+    }
+    let to = bytes.len() - apart;
+    let probe = InTwoSets {
+        bytes,
+        one,
+        apart,
+        other,
+    };
+    let found = scan::least(&probe, from, to);
+    if found < to { found } else { bytes.len() }
+}
+
+// The places whose byte is in one set and has one of the other so many places behind it.
+#[derive(Drop)]
+struct InTwoSets<'a> {
+    bytes: &'a [u8],
+    one: &'a ByteSet,
+    apart: usize,
+    other: &'a ByteSet,
+}
+
+impl<'a> Probe for InTwoSets<'a> {
+    ghost places = { λ s. length s.bytes.now - s.apart };
+
+    ghost hit = { λ s. AreIn s.one.now s.apart s.other.now s.bytes.now };
+
+    #[inline(always)]
+    fn lanes(&self, i: usize) -> u8x32 {
+        let here = self.one.lanes(load(self.bytes, i));
+        let there = self.other.lanes(load(self.bytes, i + self.apart));
+        both(here, there)
+    }
+
+    #[inline(always)]
+    fn confirm(&self, i: usize) -> bool {
+        let bytes = self.bytes;
+        self.one.has(bytes[i]) && self.other.has(bytes[i + self.apart])
     }
 }

@@ -8,10 +8,11 @@ mod digits;
 mod lanes;
 mod laws;
 mod line_end;
+mod members;
 mod plain;
 mod scan;
 
-pub use byte_set::{ByteSet, find_in_set};
+pub use byte_set::{ByteSet, find_in_set, find_in_two_sets};
 pub use count::count_byte;
 pub use digits::{digit_value, number};
 pub use laws::{newlines_before_a_place, newlines_by_convention};

@@ -23,8 +23,10 @@ pub(crate) fn add_places(
     utf: bool,
 ) -> Result<(), Memory>
     ensures steady { OnOk result (IsSteadyBeside utf caseless part.now places.new.items) }
-    ensures kept { OnOk result ((a b : ℕ) → splits places.new.items a b ≡ false → splits places.old.items a b ≡ false) }
-    ensures past { OnOk result (All (λ p. 256 < p) places.old.items → All (λ p. 256 < p) places.new.items) }
+    ensures kept { OnOk result
+        ((a b : ℕ) → splits places.new.items a b ≡ false → splits places.old.items a b ≡ false) }
+    ensures past { OnOk result
+        (All (λ p. 256 < p) places.old.items → All (λ p. 256 < p) places.new.items) }
 {
     match *part {
         Part::Range { from, to } => {
@@ -43,9 +45,12 @@ pub(crate) fn add_places(
 }
 
 pub(crate) fn add_place(places: &mut Vec<u64>, p: u64) -> Result<(), Memory>
-    ensures apart { OnOk result ((a b : ℕ) → 256 ≤ a → splits places.new.items a b ≡ false → (p ≤ a) ⊎ (b < p)) }
-    ensures kept { OnOk result ((a b : ℕ) → splits places.new.items a b ≡ false → splits places.old.items a b ≡ false) }
-    ensures past { OnOk result (All (λ q. 256 < q) places.old.items → All (λ q. 256 < q) places.new.items) }
+    ensures apart { OnOk result ((a b : ℕ) → 256 ≤ a → splits places.new.items a b ≡ false
+        → (p ≤ a) ⊎ (b < p)) }
+    ensures kept { OnOk result
+        ((a b : ℕ) → splits places.new.items a b ≡ false → splits places.old.items a b ≡ false) }
+    ensures past { OnOk result
+        (All (λ q. 256 < q) places.old.items → All (λ q. 256 < q) places.new.items) }
 {
     if p > 256 {
         places.push(p)?;
@@ -61,8 +66,10 @@ fn add_other_cases(
     to: u32,
 ) -> Result<(), Memory>
     ensures steady { OnOk result (IsSteady (spec.other_has pairs.now from to) places.new.items) }
-    ensures kept { OnOk result ((a b : ℕ) → splits places.new.items a b ≡ false → splits places.old.items a b ≡ false) }
-    ensures past { OnOk result (All (λ q. 256 < q) places.old.items → All (λ q. 256 < q) places.new.items) }
+    ensures kept { OnOk result
+        ((a b : ℕ) → splits places.new.items a b ≡ false → splits places.old.items a b ≡ false) }
+    ensures past { OnOk result
+        (All (λ q. 256 < q) places.old.items → All (λ q. 256 < q) places.new.items) }
 {
     for &(c, other) in pairs {
         add_other_case(places, c, other, from, to)?;
@@ -78,9 +85,12 @@ fn add_other_case(
     from: u32,
     to: u32,
 ) -> Result<(), Memory>
-    ensures steady { OnOk result (IsSteady (λ x. c == x && is_in_range from to other) places.new.items) }
-    ensures kept { OnOk result ((a b : ℕ) → splits places.new.items a b ≡ false → splits places.old.items a b ≡ false) }
-    ensures past { OnOk result (All (λ q. 256 < q) places.old.items → All (λ q. 256 < q) places.new.items) }
+    ensures steady { OnOk result
+        (IsSteady (λ x. c == x && is_in_range from to other) places.new.items) }
+    ensures kept { OnOk result
+        ((a b : ℕ) → splits places.new.items a b ≡ false → splits places.old.items a b ≡ false) }
+    ensures past { OnOk result
+        (All (λ q. 256 < q) places.old.items → All (λ q. 256 < q) places.new.items) }
 {
     if !is_within(from, to, other as u64) {
         return Ok(());
@@ -92,7 +102,8 @@ fn add_other_case(
 
 /// The places past 256 at which a set without UCP begins or ends.
 pub(crate) fn set_places(set: SetName) -> &'static [u64]
-    ensures steady { (caseless : Bool) → is_property set ≡ false → IsSteady (spec.set_has false (if caseless then spec.any_case set else set)) result.now }
+    ensures steady { (caseless : Bool) → is_property set ≡ false
+        → IsSteady (spec.set_has false (if caseless then spec.any_case set else set)) result.now }
     ensures past { All (λ p. 256 < p) result.now }
 {
     match set {

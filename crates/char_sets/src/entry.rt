@@ -81,7 +81,8 @@ fn edges_at(
     utf: bool,
     places: &[u64],
 ) -> Result<Vec<Edge>, Memory>
-    ensures { IfOk result (λ edges. edges.items ≡ edge_at (spec.takes utf class.now) 256 ∷ map (edge_at (spec.takes utf class.now)) places.now) }
+    ensures { IfOk result (λ edges. edges.items ≡ edge_at (spec.takes utf class.now) 256
+        ∷ map (edge_at (spec.takes utf class.now)) places.now) }
 {
     let mut edges = Vec::new(alloc);
     edges.push(Edge {

@@ -37,7 +37,8 @@ fn other_has_in(pairs: &[Pair], from: u32, to: u32, c: u64) -> bool
 /// The place of the first pair whose first character isn't below `c`.
 fn first_pair(pairs: &[Pair], c: u64) -> usize
     requires { IsNonDecreasingBy (λ (pair : ℕ × ℕ). pair.0) pairs.now }
-    ensures { IsPartitionPoint (λ (pair : ℕ × ℕ). nat_lt pair.0 c ≡ true) (λ pair. nat_lt pair.0 c ≡ false) pairs.now result }
+    ensures { IsPartitionPoint (λ (pair : ℕ × ℕ). nat_lt pair.0 c ≡ true)
+        (λ pair. nat_lt pair.0 c ≡ false) pairs.now result }
 {
     pairs.partition_point(|pair| (pair.0 as u64) < c)
 }

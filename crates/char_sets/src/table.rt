@@ -68,7 +68,8 @@ impl ClassTable {
     pub fn has<L: Ledger>(&self, class: u32, c: u32, steps: &mut Steps<L>) -> bool
         requires { class < length self.now }
         ensures value { result ≡ table_has self.now class c }
-        ensures holds { (tree : TreeParts) → IsTableOf tree self.now → result ≡ class_has tree class c }
+        ensures holds { (tree : TreeParts) → IsTableOf tree self.now → result
+            ≡ class_has tree class c }
         ensures tick { steps.new ≡ steps.old + 1 }
     {
         steps.tick();

@@ -15,9 +15,12 @@ const OTHER_PLACES: [u64; 9] = [
 
 /// Where some part asks for a property of Unicode, adds the places past 256 at which one may change.
 pub(crate) fn add_asked_places(places: &mut Vec<u64>, parts: &[Part]) -> Result<(), Memory>
-    ensures steady { OnOk result (list_any asks_unicode parts.now ≡ true → PartsUnicode places.new.items) }
-    ensures kept { OnOk result ((a b : ℕ) → splits places.new.items a b ≡ false → splits places.old.items a b ≡ false) }
-    ensures past { OnOk result (All (λ p. 256 < p) places.old.items → All (λ p. 256 < p) places.new.items) }
+    ensures steady { OnOk result
+        (list_any asks_unicode parts.now ≡ true → PartsUnicode places.new.items) }
+    ensures kept { OnOk result
+        ((a b : ℕ) → splits places.new.items a b ≡ false → splits places.old.items a b ≡ false) }
+    ensures past { OnOk result
+        (All (λ p. 256 < p) places.old.items → All (λ p. 256 < p) places.new.items) }
 {
     if some_part_asks(parts) {
         add_unicode_places(places)?;
@@ -42,8 +45,10 @@ fn asks_unicode(part: &Part) -> bool
 
 fn add_unicode_places(places: &mut Vec<u64>) -> Result<(), Memory>
     ensures steady { OnOk result (PartsUnicode places.new.items) }
-    ensures kept { OnOk result ((a b : ℕ) → splits places.new.items a b ≡ false → splits places.old.items a b ≡ false) }
-    ensures past { OnOk result (All (λ p. 256 < p) places.old.items → All (λ p. 256 < p) places.new.items) }
+    ensures kept { OnOk result
+        ((a b : ℕ) → splits places.new.items a b ≡ false → splits places.old.items a b ≡ false) }
+    ensures past { OnOk result
+        (All (λ p. 256 < p) places.old.items → All (λ p. 256 < p) places.new.items) }
 {
     add_run_ends(places, GeneralCategory::runs())?;
     add_run_ends(places, Script::runs())?;
@@ -55,9 +60,12 @@ fn add_unicode_places(places: &mut Vec<u64>) -> Result<(), Memory>
 
 /// Adds the ends past 256 of runs of code points.
 fn add_run_ends(places: &mut Vec<u64>, runs: &[u32]) -> Result<(), Memory>
-    ensures steady { OnOk result ((a b : ℕ) → 256 ≤ a → a ≤ b → splits places.new.items a b ≡ false → run_value runs.now a ≡ run_value runs.now b) }
-    ensures kept { OnOk result ((a b : ℕ) → splits places.new.items a b ≡ false → splits places.old.items a b ≡ false) }
-    ensures past { OnOk result (All (λ p. 256 < p) places.old.items → All (λ p. 256 < p) places.new.items) }
+    ensures steady { OnOk result ((a b : ℕ) → 256 ≤ a → a ≤ b → splits places.new.items a b ≡ false
+        → run_value runs.now a ≡ run_value runs.now b) }
+    ensures kept { OnOk result
+        ((a b : ℕ) → splits places.new.items a b ≡ false → splits places.old.items a b ≡ false) }
+    ensures past { OnOk result
+        (All (λ p. 256 < p) places.old.items → All (λ p. 256 < p) places.new.items) }
 {
     for run in runs {
         // The end stands above the value, which has 11 bits.

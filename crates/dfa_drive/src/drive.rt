@@ -51,7 +51,8 @@ fn decision_at<L: Ledger>(
     steps: &mut Steps<L>,
 ) -> Result<Option<DfaAnswer>, Memory>
     requires ready { IsReadySearch ready.now view.now }
-    requires graph { IsGraphOf (length ready.now.classes.now) graph.now (tree_of ready.now.tree.now) }
+    requires graph { IsGraphOf (length ready.now.classes.now) graph.now
+        (tree_of ready.now.tree.now) }
     requires place { IsTextPlace view.now.options.now view.now.subject.now place }
     requires from { view.now.start ≤ place }
     ensures decides { IfOk result (IsDecidedBy
@@ -86,7 +87,8 @@ pub fn dfa_search<L: Ledger>(
     steps: &mut Steps<L>,
 ) -> Result<DfaAnswer, Memory>
     requires ready { IsReadySearch ready.now view.now }
-    requires graph { IsGraphOf (length ready.now.classes.now) graph.now (tree_of ready.now.tree.now) }
+    requires graph { IsGraphOf (length ready.now.classes.now) graph.now
+        (tree_of ready.now.tree.now) }
     ensures answer { IfOk result (IsDfaAnswer (dfa_answer
         (setting_for ready.now.tree.now view.now passed_over)
         view.now.matching.now.dfa_shortest)) }

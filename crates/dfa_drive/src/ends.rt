@@ -99,7 +99,8 @@ pub(crate) fn ends_at<L: Ledger>(
     steps: &mut Steps<L>,
 ) -> Result<EndSet, Memory>
     requires ready { IsReadySearch ready.now view.now }
-    requires graph { IsGraphOf (length ready.now.classes.now) graph.now (tree_of ready.now.tree.now) }
+    requires graph { IsGraphOf (length ready.now.classes.now) graph.now
+        (tree_of ready.now.tree.now) }
     requires place { IsTextPlace view.now.options.now view.now.subject.now place }
     ensures ends { IfOk result (λ set. set.ends ≡ ends_from
         (setting_for ready.now.tree.now view.now passed_over) view.now.matching.now.dfa_shortest

@@ -220,8 +220,10 @@ fn go_on(
     some: Option<usize>,
     state: u32,
 ) -> Result<(), Memory>
-    ensures seeds { IfOk result (λ _. seeds.new.items ≡ seeds.old.items ++ gone_here at some state) }
-    ensures later { IfOk result (λ _. later.new.items ≡ later.old.items ++ gone_later at some state) }
+    ensures seeds { IfOk result
+        (λ _. seeds.new.items ≡ seeds.old.items ++ gone_here at some state) }
+    ensures later { IfOk result
+        (λ _. later.new.items ≡ later.old.items ++ gone_later at some state) }
 {
     match some {
         Some(end) if end == at => seeds.push(state)?,
@@ -586,8 +588,10 @@ fn begin(lists: &mut StateLists, at: usize, state: u32) -> Result<(), Memory>
 
 /// Parts what waits at a place from what waits elsewhere.
 fn part_lists(lists: &mut StateLists, at: usize) -> Result<(), Memory>
-    ensures seeds { IfOk result (λ _. lists.new.seeds.items ≡ waiting_at at lists.old.pending.items) }
-    ensures later { IfOk result (λ _. lists.new.later.items ≡ elsewhere at lists.old.pending.items) }
+    ensures seeds { IfOk result
+        (λ _. lists.new.seeds.items ≡ waiting_at at lists.old.pending.items) }
+    ensures later { IfOk result
+        (λ _. lists.new.later.items ≡ elsewhere at lists.old.pending.items) }
     ensures told { IfOk result (λ _. lists.new.told ≡ lists.old.told) }
 {
     lists.seeds.clear();

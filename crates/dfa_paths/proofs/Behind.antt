@@ -246,6 +246,10 @@ mutual
   no_accept_other tree.no_other a = refl
   no_accept_other (tree.other t) a = no_accept t a
 
+ap_both : (op : SomeLengths → SomeLengths → SomeLengths) (a b c d : SomeLengths) → a ≡ b →
+    c ≡ d → op a c ≡ op b d
+ap_both op a b c d e h = ap (λ x. op x c) e ∙ ap (λ y. op b y) h
+
 -- Its lengths are its own.
 module _ (u u' : Bool) (w w' : Nested) (f f' : ℕ → SomeLengths) where
   test_same : (test : Test) (x : SomeLengths) → of_test u w f test x ≡ of_test u' w' f' test x
@@ -294,18 +298,14 @@ module _ (u u' : Bool) (w w' : Nested) (f f' : ℕ → SomeLengths) where
         lengths_in_turn u w f ts ≡ lengths_in_turn u' w' f' ts
     same_in_turn tree.none a = refl
     same_in_turn (tree.more t ts) a =
-        ap (λ x. in_turn x (lengths_in_turn u w f ts))
-        (same t (front_all IsServed (nodes true t) (nodes_in true ts) a))
-        ∙ ap (λ x. in_turn (lengths u' w' f' t) x)
+        ap_both in_turn _ _ _ _ (same t (front_all IsServed (nodes true t) (nodes_in true ts) a))
         (same_in_turn ts (back_all IsServed (nodes true t) (nodes_in true ts) a))
 
     same_of_one : (ts : Row) → AllServed (nodes_in true ts) →
         lengths_of_one u w f ts ≡ lengths_of_one u' w' f' ts
     same_of_one tree.none a = refl
     same_of_one (tree.more t ts) a =
-        ap (λ x. either x (lengths_of_one u w f ts))
-        (same t (front_all IsServed (nodes true t) (nodes_in true ts) a))
-        ∙ ap (λ x. either (lengths u' w' f' t) x)
+        ap_both either _ _ _ _ (same t (front_all IsServed (nodes true t) (nodes_in true ts) a))
         (same_of_one ts (back_all IsServed (nodes true t) (nodes_in true ts) a))
 
     same_of_other : (o : Other) → AllServed (nodes_of_other true o) →

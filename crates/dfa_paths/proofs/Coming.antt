@@ -10,12 +10,9 @@ use Rattle.std.proofs.Common.{
   ◌<◌,
   ◌≤◌,
   ◌⊎◌,
-  Bool,
   true,
   false,
   List,
-  [],
-  ◌∷◌,
   Option,
   Some,
   None,
@@ -43,7 +40,6 @@ use Rattle.dfa_ends.specs.Ends.{
   Among,
   HasOne,
   HasNone,
-  GoesTo,
   Times,
   Within,
   Counted,
@@ -101,13 +97,12 @@ use Rattle.dfa_paths.specs.Fragment.{
   BehindPlaced,
 }
 use Rattle.dfa_paths.proofs.Places.{among_one}
+use Rattle.dfa_paths.proofs.Short as short
+use Rattle.dfa_paths.proofs.Short.{none_some, anchor_if, land_comes}
 use Rattle.dfa_paths.proofs.Turns.{join}
 
 pub node_same : (m n : Node) → ◌≡◌ {A = Option Node} (Some m) (Some n) → m ≡ n
 node_same m n e = cc
-
-pub none_some : (j : ℕ) → ◌≡◌ {A = Option ℕ} None (Some j) → ⊥
-none_some j e = cc
 
 split_match : (a b : ℕ) → ◌≡◌ {A = Node} (Split a b) Match → ⊥
 split_match a b e = cc
@@ -169,6 +164,9 @@ pub record IsInner (B : Inner) (w : Way) (entry : ℕ) : Type 0 where
   pub ends_so : (x : Spot) (j : ℕ) → B entry x.place j → (e : ℕ) × w x (spot j e)
   pub so_ends : (x y : Spot) → w x y → B entry x.place y.place
 
+turned : (P Q : Type 0) → P ⊎ Q → Q ⊎ P
+turned P Q h = elim h [ inl p ↦ inr p | inr q ↦ inl q ]
+
 pub place_of : (y z : Spot) → y ≡ z → y.place ≡ z.place
 place_of y z e = ap (λ w. w.place) e
 
@@ -187,13 +185,13 @@ module _ (g : Setting) (nodes : List Node) (B : Inner) (end : ℕ) where
 
   -- a path of fewer than n steps
   abbrev pub Short : ℕ → ℕ → ℕ → Type 0
-  Short n q i = (t : From q i) × (size q i t < n)
+  Short = short.Short nodes From size
 
   move_short : (n q p i : ℕ) → q ≡ p → Short n q i → Short n p i
-  move_short n q p i e s = subst (λ k. Short n k i) e s
+  move_short = short.move_short nodes From size
 
   pub longer : (n m q i : ℕ) → n ≤ m → Short n q i → Short m q i
-  longer n m q i l s = (s.0, omega (arith, s.1, l))
+  longer = short.longer nodes From size
 
   -- the first step of a path, where the state nests nothing
   abbrev Next : ℕ → ℕ → Node → Type 0
@@ -331,23 +329,7 @@ module _ (g : Setting) (nodes : List Node) (B : Inner) (end : ℕ) where
 
   pub comes_here : (n e next : ℕ) (x : Spot) → IsAt nodes e next → Short n e x.place →
       Short n next x.place
-  comes_here zero e next x p s = absurd (omega (arith, s.1))
-  comes_here (suc n) e next x p s =
-      elim p [
-        | inl a ↦ move_short (suc n) e next x.place a s
-        | inr b ↦ longer n (suc n) next x.place (omega arith) (at_goto n e next x.place b s.0 s.1)
-      ]
-
-  land_comes : (n next : ℕ) (o : Option ℕ) (x : Spot) (j : ℕ) → o ≡ Some j → Short n next j →
-      (y : Spot) × GoesTo o x y × Short (suc n) next y.place
-  land_comes n next None x j e s = absurd (none_some j e)
-  land_comes n next (Some k) x j e s =
-      let same : j ≡ k = cc in (
-        record x { place = k },
-        refl,
-        longer n (suc n) next k (omega arith)
-            (subst (λ p. Short n next p) same s),
-      )
+  comes_here = short.comes_here nodes From size at_goto
 
   pub item_comes : (item : Item) → ComeAll (λ e next. IsNode nodes (One item next) e) (ItemEnds g item)
   unfolding Among
@@ -357,7 +339,7 @@ module _ (g : Setting) (nodes : List Node) (B : Inner) (end : ℕ) where
         | inl f ↦ absurd (one_match item next f)
         | inr r ↦ elim r [
           | inl c ↦ absurd c.1
-          | inr c ↦ land_comes n next (after_item g.scene item x.place) x c.0 c.1 c.2
+          | inr c ↦ land_comes nodes From size n next (after_item g.scene item x.place) x c.0 c.1 c.2
         ]
       ]
 
@@ -369,16 +351,9 @@ module _ (g : Setting) (nodes : List Node) (B : Inner) (end : ℕ) where
         | inl f ↦ absurd (break_match next f)
         | inr r ↦ elim r [
           | inl c ↦ absurd c.1
-          | inr c ↦ land_comes n next (after_break g.scene x.place) x c.0 c.1 c.2
+          | inr c ↦ land_comes nodes From size n next (after_break g.scene x.place) x c.0 c.1 c.2
         ]
       ]
-
-  anchor_if : (b : Bool) (next a : ℕ) →
-      Among a (elim b as (λ _. List ℕ) [ true ↦ next ∷ [] | false ↦ [] ]) →
-      (b ≡ true) × (a ≡ next)
-  unfolding Among
-  anchor_if true next a h = (refl, among_one a next h)
-  anchor_if false next a h = absurd h
 
   pub anchor_comes : (kind : AnchorKind) →
       ComeAll (λ e next. IsNode nodes (Anchor kind next) e) (AnchorEnds g kind)
@@ -500,6 +475,13 @@ module _ (g : Setting) (nodes : List Node) (B : Inner) (end : ℕ) where
         | inr b ↦ inr (b.0, longer n (suc n) miss i (omega arith) b.1)
       ]
 
+  asked_here : (w : Way) (entry hit miss : ℕ) → IsInner B w entry → (n e : ℕ) (x : Spot) →
+      IsNode nodes (Look None entry hit miss) e → Short n e x.place →
+      Asked (w x) n hit miss x.place
+  asked_here w entry hit miss inner zero e x p s = absurd (omega (arith, s.1))
+  asked_here w entry hit miss inner (suc n) e x p s =
+      asked_longer (w x) n hit miss x.place (ask_comes w entry hit miss inner n e x p s)
+
   pub try_so : (t : Nested) (back : ℕ) → HasBack t back → (p : ℕ) (x y : Spot) →
       Begins g.scene (Some back) x.place p → Ends g t (begun p x) y →
       TryEnds g (branch_lengths g t) (Ends g t) x y
@@ -613,36 +595,14 @@ module _ (g : Setting) (nodes : List Node) (B : Inner) (end : ℕ) where
   abbrev pub Chosen : (Spot → Type 0) → (Spot → Type 0) → Way → Way → Way
   Chosen so not v w x y = (so x × v x y) ⊎ (not x × w x y)
 
-  choose_comes : (u v w : Way) (P Q : ℕ → Type 0) (next entry hit miss : ℕ) →
-      IsInner B u entry → ComeTo P v next → ComeTo Q w next → (n e : ℕ) (x : Spot) →
-      IsNode nodes (Look None entry hit miss) e → P hit → Q miss → Short n e x.place →
-      Comes (Chosen (λ x. HasOne (u x)) (λ x. HasNone (u x)) v w) n next x
-  choose_comes u v w P Q next entry hit miss inner h k zero e x p a b s =
-      absurd (omega (arith, s.1))
-  choose_comes u v w P Q next entry hit miss inner h k (suc n) e x p a b s =
-      elim (ask_comes u entry hit miss inner n e x p s) [
-        | inl c ↦
-            let r = h n hit x a c.1 in
-            (r.0, inl (c.0, r.1), longer n (suc n) next r.0.place (omega arith) r.2)
-        | inr c ↦
-            let r = k n miss x b c.1 in
-            (r.0, inr (c.0, r.1), longer n (suc n) next r.0.place (omega arith) r.2)
-      ]
-
-  choose_comes_not : (u v w : Way) (P Q : ℕ → Type 0) (next entry hit miss : ℕ) →
-      IsInner B u entry → ComeTo P v next → ComeTo Q w next → (n e : ℕ) (x : Spot) →
-      IsNode nodes (Look None entry hit miss) e → Q hit → P miss → Short n e x.place →
-      Comes (Chosen (λ x. HasNone (u x)) (λ x. HasOne (u x)) v w) n next x
-  choose_comes_not u v w P Q next entry hit miss inner h k zero e x p b a s =
-      absurd (omega (arith, s.1))
-  choose_comes_not u v w P Q next entry hit miss inner h k (suc n) e x p b a s =
-      elim (ask_comes u entry hit miss inner n e x p s) [
-        | inl c ↦
-            let r = k n hit x b c.1 in
-            (r.0, inr (c.0, r.1), longer n (suc n) next r.0.place (omega arith) r.2)
-        | inr c ↦
-            let r = h n miss x a c.1 in
-            (r.0, inl (c.0, r.1), longer n (suc n) next r.0.place (omega arith) r.2)
+  choose_comes : (so not : Spot → Type 0) (v w : Way) (P Q : ℕ → Type 0) (next n a b : ℕ)
+      (x : Spot) → ComeTo P v next → ComeTo Q w next → P a → Q b →
+      (so x × Short n a x.place) ⊎ (not x × Short n b x.place) →
+      Comes (Chosen so not v w) n next x
+  choose_comes so not v w P Q next n a b x h k p q asked =
+      elim asked [
+        | inl c ↦ let r = h n a x p c.1 in (r.0, inl (c.0, r.1), r.2)
+        | inr c ↦ let r = k n b x q c.1 in (r.0, inr (c.0, r.1), r.2)
       ]
 
   -- what is known of a test's nested paths
@@ -667,20 +627,19 @@ module _ (g : Setting) (nodes : List Node) (B : Inner) (end : ℕ) where
   test_comes (tree.in_call_of ns) d P Q v w next inner h k n e x p s = absurd p
   test_comes (tree.assert true positive once ts) zero P Q v w next inner h k n e x p s = absurd p
   test_comes (tree.assert true true once ts) (suc d) P Q v w next inner h k n e x p s =
-      choose_comes (AnyEnds g ts) v w P Q next p.0 p.1 p.2 (inner p.0 p.4) h k n e x p.3 p.5.0 p.5.1 s
+      choose_comes (λ x. HasOne (AnyEnds g ts x)) (λ x. HasNone (AnyEnds g ts x)) v w P Q next n
+      p.1 p.2 x h k p.5.0 p.5.1
+      (asked_here (AnyEnds g ts) p.0 p.1 p.2 (inner p.0 p.4) n e x p.3 s)
   test_comes (tree.assert true false once ts) (suc d) P Q v w next inner h k n e x p s =
-      choose_comes_not (AnyEnds g ts) v w P Q next p.0 p.1 p.2 (inner p.0 p.4) h k n e x p.3 p.5.0
-      p.5.1 s
+      choose_comes (λ x. HasNone (AnyEnds g ts x)) (λ x. HasOne (AnyEnds g ts x)) v w P Q next n
+      p.2 p.1 x h k p.5.1 p.5.0
+      (turned _ _ (asked_here (AnyEnds g ts) p.0 p.1 p.2 (inner p.0 p.4) n e x p.3 s))
   test_comes (tree.assert false positive once ts) zero P Q v w next inner h k n e x p s = absurd p
   test_comes (tree.assert false true once ts) (suc d) P Q v w next inner h k n e x p s =
-      elim (inner n p.0 p.1 e x p.2 s) [
-        | inl c ↦ let r = h n p.0 x p.3.0 c.1 in (r.0, inl (c.0, r.1), r.2)
-        | inr c ↦ let r = k n p.1 x p.3.1 c.1 in (r.0, inr (c.0, r.1), r.2)
-      ]
+      choose_comes (λ x. HasOne (AnyEndsBehind g ts x)) (λ x. HasNone (AnyEndsBehind g ts x)) v w
+      P Q next n p.0 p.1 x h k p.3.0 p.3.1 (inner n p.0 p.1 e x p.2 s)
   test_comes (tree.assert false false once ts) (suc d) P Q v w next inner h k n e x p s =
-      elim (inner n p.0 p.1 e x p.2 s) [
-        | inl c ↦ let r = k n p.0 x p.3.0 c.1 in (r.0, inr (c.0, r.1), r.2)
-        | inr c ↦ let r = h n p.1 x p.3.1 c.1 in (r.0, inl (c.0, r.1), r.2)
-      ]
+      choose_comes (λ x. HasNone (AnyEndsBehind g ts x)) (λ x. HasOne (AnyEndsBehind g ts x)) v w
+      P Q next n p.1 p.0 x h k p.3.1 p.3.0 (turned _ _ (inner n p.0 p.1 e x p.2 s))
   test_comes (tree.called c test) d P Q v w next inner h k n e x p s =
       test_comes test d P Q v w next inner h k n e x p s

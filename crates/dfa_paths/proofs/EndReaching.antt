@@ -31,7 +31,6 @@ use Rattle.dfa_paths.proofs.Fragments.{fragment_law}
 use Rattle.dfa_paths.proofs.Going.{at_end, decide}
 use Rattle.dfa_paths.proofs.Meeting as meeting
 use Rattle.dfa_paths.proofs.Meeting.{
-  From,
   Short,
   Keeps,
   Asked,
@@ -85,6 +84,20 @@ module _ (g : Setting) (nodes : List Node) (last : slice_get nodes 1 ≡ Some Ma
 
   abbrev Go : ℕ → Part → Spots → Way → Type 0
   Go d P R w = passing.GoAll g nodes counts (B d) (M d) P R w
+
+  -- what holds of the two branches of a condition holds of the condition
+  abbrev OfTest : ((ℕ → Type 0) → Spots → Way → ℕ → Type 0) → ℕ → Test → Type 0
+  OfTest To d test =
+      Quiet (nodes_of_test true test) → (first : Nested) (second : Other) (next : ℕ) →
+      To (λ e. Placed nodes first d e next) (Reaches g first) (Ends g first) next →
+      To (λ e. OtherPlaced nodes second d e next) (OtherReaches g second) (OtherEnds g second)
+      next →
+      To (TestPlaced nodes test d (λ e. Placed nodes first d e next)
+      (λ e. OtherPlaced nodes second d e next))
+      (λ x. ChosenReach g nodes counts (B d) (M d) (TestReaches g test x) (IsSo g test x)
+      (IsNot g test x) (Reaches g first x) (OtherReaches g second x))
+      (Chosen g nodes counts (B d) (M d) (IsSo g test) (IsNot g test) (Ends g first)
+      (OtherEnds g second)) next
 
   -- where nested paths end
   inner : (d : ℕ) (t : Nested) (entry : ℕ) → Placed nodes t d entry 1 →
@@ -372,19 +385,7 @@ module _ (g : Setting) (nodes : List Node) (last : slice_get nodes 1 ≡ Some Ma
           ]
         ]
 
-    test_come : (d : ℕ) (test : Test) → Quiet (nodes_of_test true test) → (first : Nested)
-        (second : Other) (next : ℕ) →
-        meeting.ComeTo g nodes counts (B d) (M d) (λ e. Placed nodes first d e next)
-        (Reaches g first) (Ends g first) next →
-        meeting.ComeTo g nodes counts (B d) (M d) (λ e. OtherPlaced nodes second d e next)
-        (OtherReaches g second) (OtherEnds g second) next →
-        meeting.ComeTo g nodes counts (B d) (M d)
-        (TestPlaced nodes test d (λ e. Placed nodes first d e next)
-        (λ e. OtherPlaced nodes second d e next))
-        (λ x. ChosenReach g nodes counts (B d) (M d) (TestReaches g test x) (IsSo g test x)
-        (IsNot g test x) (Reaches g first x) (OtherReaches g second x))
-        (Chosen g nodes counts (B d) (M d) (IsSo g test) (IsNot g test) (Ends g first)
-        (OtherEnds g second)) next
+    test_come : (d : ℕ) (test : Test) → OfTest (meeting.ComeTo g nodes counts (B d) (M d)) d test
     test_come d tree.never q first second next h k n e x good p s =
         elim (k n e x good p s) [
           | inl r ↦ inl (inr (inr (tt, r)))
@@ -401,30 +402,35 @@ module _ (g : Setting) (nodes : List Node) (last : slice_get nodes 1 ≡ Some Ma
         absurd p
     test_come (suc d) (tree.assert true true once ts) q first second next h k n e x good p s =
         meeting.choose_comes g nodes counts (B (suc d)) (M (suc d)) (AnyReaches g ts)
-        (AnyEnds g ts) (Reaches g first) (OtherReaches g second) (Ends g first) (OtherEnds g second)
+        (λ x. HasOne (AnyEnds g ts x)) (λ x. HasNone (AnyEnds g ts x)) (Reaches g first)
+        (OtherReaches g second) (Ends g first) (OtherEnds g second)
         (λ e. Placed nodes first (suc d) e next) (λ e. OtherPlaced nodes second (suc d) e next) next n
         p.1 p.2 x h k good p.5.0 p.5.1
         (ahead_comes d ts (any_come d ts q) n p.0 p.1 p.2 e x good p.3 p.4 s)
     test_come (suc d) (tree.assert true false once ts) q first second next h k n e x good p s =
-        meeting.choose_comes_not g nodes counts (B (suc d)) (M (suc d)) (AnyReaches g ts)
-        (AnyEnds g ts) (Reaches g first) (OtherReaches g second) (Ends g first) (OtherEnds g second)
+        meeting.choose_comes g nodes counts (B (suc d)) (M (suc d)) (AnyReaches g ts)
+        (λ x. HasNone (AnyEnds g ts x)) (λ x. HasOne (AnyEnds g ts x)) (Reaches g first)
+        (OtherReaches g second) (Ends g first) (OtherEnds g second)
         (λ e. Placed nodes first (suc d) e next) (λ e. OtherPlaced nodes second (suc d) e next) next n
-        p.1 p.2 x h k good p.5.0 p.5.1
-        (ahead_comes d ts (any_come d ts q) n p.0 p.1 p.2 e x good p.3 p.4 s)
+        p.2 p.1 x h k good p.5.1 p.5.0
+        (meeting.turned g nodes counts (B (suc d)) (M (suc d)) (AnyReaches g ts x) (AnyEnds g ts x)
+        n p.1 p.2 x (ahead_comes d ts (any_come d ts q) n p.0 p.1 p.2 e x good p.3 p.4 s))
     test_come zero (tree.assert false positive once ts) q first second next h k n e x good p s =
         absurd p
     test_come (suc d) (tree.assert false true once ts) q first second next h k n e x good p s =
         meeting.choose_comes g nodes counts (B (suc d)) (M (suc d)) (AnyReachesBehind g ts)
-        (AnyEndsBehind g ts) (Reaches g first) (OtherReaches g second) (Ends g first)
-        (OtherEnds g second) (λ e. Placed nodes first (suc d) e next)
-        (λ e. OtherPlaced nodes second (suc d) e next) next n p.0 p.1 x h k good p.3.0 p.3.1
-        (behind_come d ts (loud q) n p.0 p.1 e x good p.2 s)
+        (λ x. HasOne (AnyEndsBehind g ts x)) (λ x. HasNone (AnyEndsBehind g ts x))
+        (Reaches g first) (OtherReaches g second) (Ends g first) (OtherEnds g second)
+        (λ e. Placed nodes first (suc d) e next) (λ e. OtherPlaced nodes second (suc d) e next) next n
+        p.0 p.1 x h k good p.3.0 p.3.1 (behind_come d ts (loud q) n p.0 p.1 e x good p.2 s)
     test_come (suc d) (tree.assert false false once ts) q first second next h k n e x good p s =
-        meeting.choose_comes_not g nodes counts (B (suc d)) (M (suc d)) (AnyReachesBehind g ts)
-        (AnyEndsBehind g ts) (Reaches g first) (OtherReaches g second) (Ends g first)
-        (OtherEnds g second) (λ e. Placed nodes first (suc d) e next)
-        (λ e. OtherPlaced nodes second (suc d) e next) next n p.0 p.1 x h k good p.3.0 p.3.1
-        (behind_come d ts (loud q) n p.0 p.1 e x good p.2 s)
+        meeting.choose_comes g nodes counts (B (suc d)) (M (suc d)) (AnyReachesBehind g ts)
+        (λ x. HasNone (AnyEndsBehind g ts x)) (λ x. HasOne (AnyEndsBehind g ts x))
+        (Reaches g first) (OtherReaches g second) (Ends g first) (OtherEnds g second)
+        (λ e. Placed nodes first (suc d) e next) (λ e. OtherPlaced nodes second (suc d) e next) next n
+        p.1 p.0 x h k good p.3.1 p.3.0
+        (meeting.turned g nodes counts (B (suc d)) (M (suc d)) (AnyReachesBehind g ts x)
+        (AnyEndsBehind g ts x) n p.0 p.1 x (behind_come d ts (loud q) n p.0 p.1 e x good p.2 s))
     test_come d (tree.called c test) q first second next h k n e x good p s =
         test_come d test q first second next h k n e x good p s
 
@@ -668,19 +674,7 @@ module _ (g : Setting) (nodes : List Node) (last : slice_get nodes 1 ≡ Some Ma
           ]
         ]
 
-    test_go : (d : ℕ) (test : Test) → Quiet (nodes_of_test true test) → (first : Nested)
-        (second : Other) (next : ℕ) →
-        passing.GoTo g nodes counts (B d) (M d) (λ e. Placed nodes first d e next)
-        (Reaches g first) (Ends g first) next →
-        passing.GoTo g nodes counts (B d) (M d) (λ e. OtherPlaced nodes second d e next)
-        (OtherReaches g second) (OtherEnds g second) next →
-        passing.GoTo g nodes counts (B d) (M d)
-        (TestPlaced nodes test d (λ e. Placed nodes first d e next)
-        (λ e. OtherPlaced nodes second d e next))
-        (λ x. ChosenReach g nodes counts (B d) (M d) (TestReaches g test x) (IsSo g test x)
-        (IsNot g test x) (Reaches g first x) (OtherReaches g second x))
-        (Chosen g nodes counts (B d) (M d) (IsSo g test) (IsNot g test) (Ends g first)
-        (OtherEnds g second)) next
+    test_go : (d : ℕ) (test : Test) → OfTest (passing.GoTo g nodes counts (B d) (M d)) d test
     test_go d tree.never q first second next h k e x good p = (
       λ r. (elim r [
         | inl a ↦ absurd a

@@ -92,7 +92,6 @@ use Rattle.dfa_paths.specs.Fragment.{
 }
 use Rattle.dfa_paths.proofs.Coming.{
   node_same,
-  none_some,
   look_match,
   atomic_match,
   here_begins,
@@ -107,6 +106,7 @@ use Rattle.dfa_paths.proofs.Coming.{
   Chosen,
   TestInner,
 }
+use Rattle.dfa_paths.proofs.Short.{none_some}
 use Rattle.dfa_paths.proofs.Turns.{split}
 
 module _ (g : Setting) (nodes : List Node) (B : Inner) (end : ℕ) where
@@ -286,26 +286,16 @@ module _ (g : Setting) (nodes : List Node) (B : Inner) (end : ℕ) where
   GoTo P w next = (e : ℕ) (x y : Spot) → P e → w x y → From g nodes B end next y.place →
       From g nodes B end e x.place
 
-  choose_goes : (u v w : Way) (P Q : ℕ → Type 0) (next entry hit miss : ℕ) →
-      IsInner B u entry → GoTo P v next → GoTo Q w next → (e : ℕ) (x y : Spot) →
-      IsNode nodes (Look None entry hit miss) e → P hit → Q miss →
-      Chosen g nodes B end (λ x. HasOne (u x)) (λ x. HasNone (u x)) v w x y →
-      From g nodes B end next y.place → From g nodes B end e x.place
-  choose_goes u v w P Q next entry hit miss inner h k e x y p a b t f =
+  choose_goes : (so not : Spot → Type 0) (v w : Way) (P Q : ℕ → Type 0) (next a b : ℕ) →
+      GoTo P v next → GoTo Q w next → (e : ℕ) (x y : Spot) → P a → Q b →
+      (so x → From g nodes B end a x.place → From g nodes B end e x.place) →
+      (not x → From g nodes B end b x.place → From g nodes B end e x.place) →
+      Chosen g nodes B end so not v w x y → From g nodes B end next y.place →
+      From g nodes B end e x.place
+  choose_goes so not v w P Q next a b h k e x y p q one other t f =
       elim t [
-        | inl c ↦ ask_goes u entry hit miss inner e x p c.0 (h hit x y a c.1 f)
-        | inr c ↦ ask_goes_not u entry hit miss inner e x p c.0 (k miss x y b c.1 f)
-      ]
-
-  choose_goes_not : (u v w : Way) (P Q : ℕ → Type 0) (next entry hit miss : ℕ) →
-      IsInner B u entry → GoTo P v next → GoTo Q w next → (e : ℕ) (x y : Spot) →
-      IsNode nodes (Look None entry hit miss) e → Q hit → P miss →
-      Chosen g nodes B end (λ x. HasNone (u x)) (λ x. HasOne (u x)) v w x y →
-      From g nodes B end next y.place → From g nodes B end e x.place
-  choose_goes_not u v w P Q next entry hit miss inner h k e x y p b a t f =
-      elim t [
-        | inl c ↦ ask_goes_not u entry hit miss inner e x p c.0 (h miss x y a c.1 f)
-        | inr c ↦ ask_goes u entry hit miss inner e x p c.0 (k hit x y b c.1 f)
+        | inl c ↦ one c.0 (h a x y p c.1 f)
+        | inr c ↦ other c.0 (k b x y q c.1 f)
       ]
 
   -- the same of a test's nested paths, the other way
@@ -333,26 +323,25 @@ module _ (g : Setting) (nodes : List Node) (B : Inner) (end : ℕ) where
   test_goes (tree.assert true positive once ts) zero P Q v w next inner ways h k e x y p t f =
       absurd p
   test_goes (tree.assert true true once ts) (suc d) P Q v w next inner ways h k e x y p t f =
-      choose_goes (AnyEnds g ts) v w P Q next p.0 p.1 p.2
-      (inner p.0 p.4) h k e x y p.3 p.5.0 p.5.1 t f
+      choose_goes (λ x. HasOne (AnyEnds g ts x)) (λ x. HasNone (AnyEnds g ts x)) v w P Q next
+      p.1 p.2 h k e x y p.5.0 p.5.1
+      (ask_goes (AnyEnds g ts) p.0 p.1 p.2 (inner p.0 p.4) e x p.3)
+      (ask_goes_not (AnyEnds g ts) p.0 p.1 p.2 (inner p.0 p.4) e x p.3) t f
   test_goes (tree.assert true false once ts) (suc d) P Q v w next inner ways h k e x y p t f =
-      choose_goes_not (AnyEnds g ts) v w P Q next p.0 p.1 p.2
-      (inner p.0 p.4) h k e x y p.3 p.5.0 p.5.1
-      t f
+      choose_goes (λ x. HasNone (AnyEnds g ts x)) (λ x. HasOne (AnyEnds g ts x)) v w P Q next
+      p.2 p.1 h k e x y p.5.1 p.5.0
+      (ask_goes_not (AnyEnds g ts) p.0 p.1 p.2 (inner p.0 p.4) e x p.3)
+      (ask_goes (AnyEnds g ts) p.0 p.1 p.2 (inner p.0 p.4) e x p.3) t f
   test_goes (tree.assert false positive once ts) zero P Q v w next inner ways h k e x y p t f =
       absurd p
   test_goes (tree.assert false true once ts) (suc d) P Q v w next inner ways h k e x y p t f =
       let b = ways p.0 p.1 e x p.2 in
-      elim t [
-        | inl c ↦ b.0 c.0 (h p.0 x y p.3.0 c.1 f)
-        | inr c ↦ b.1 c.0 (k p.1 x y p.3.1 c.1 f)
-      ]
+      choose_goes (λ x. HasOne (AnyEndsBehind g ts x)) (λ x. HasNone (AnyEndsBehind g ts x)) v w
+      P Q next p.0 p.1 h k e x y p.3.0 p.3.1 b.0 b.1 t f
   test_goes (tree.assert false false once ts) (suc d) P Q v w next inner ways h k e x y p t f =
       let b = ways p.0 p.1 e x p.2 in
-      elim t [
-        | inl c ↦ b.1 c.0 (h p.1 x y p.3.1 c.1 f)
-        | inr c ↦ b.0 c.0 (k p.0 x y p.3.0 c.1 f)
-      ]
+      choose_goes (λ x. HasNone (AnyEndsBehind g ts x)) (λ x. HasOne (AnyEndsBehind g ts x)) v w
+      P Q next p.1 p.0 h k e x y p.3.1 p.3.0 b.1 b.0 t f
   test_goes (tree.called c test) d P Q v w next inner ways h k e x y p t f =
       test_goes test d P Q v w next inner ways h k e x y p t f
 

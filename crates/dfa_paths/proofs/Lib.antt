@@ -1,5 +1,6 @@
 pub mod Places
 pub mod Turns
+pub mod Short
 pub mod Coming
 pub mod Going
 pub mod Fragments

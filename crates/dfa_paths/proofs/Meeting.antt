@@ -1,12 +1,12 @@
 -- What a path that meets the subject's end passes in a fragment.
-use Rattle.std.proofs.Common.{◌≡◌, ◌∙◌, ℕ, zero, suc, ◌+◌, ◌-◌, ◌<◌, ◌≤◌, ◌⊎◌, Bool, true, false, List, [], ◌∷◌, Option, Some, None, refl, sym, subst, inl, inr, arith}
+use Rattle.std.proofs.Common.{◌≡◌, ◌∙◌, ℕ, zero, suc, ◌+◌, ◌-◌, ◌<◌, ◌≤◌, ◌⊎◌, Bool, true, false, List, Option, Some, None, refl, sym, subst, inl, inr, arith}
 use Rattle.std.proofs.lemmas.Bool.{false≢true}
 use Rattle.std.specs.Prelude.{IsTrue, not, slice_get}
 use Rattle.pat_tree.specs.declared.nodes.Item.{Item}
 use Rattle.pat_tree.specs.declared.nodes.AnchorKind.{AnchorKind}
 use Rattle.match_items.specs.Items.{after_item, after_break, holds}
 use Rattle.ordered_search.specs.Setting.{Setting}
-use Rattle.dfa_ends.specs.Ends.{Spot, spot, Spots, Way, Among, HasOne, HasNone, GoesTo, Times, Within, Below, seen, ItemEnds, BreakEnds, AnchorEnds, ItemReaches, BreakReaches, AnchorReaches}
+use Rattle.dfa_ends.specs.Ends.{Spot, spot, Spots, Way, Among, HasOne, HasNone, Times, Within, Below, seen, ItemEnds, BreakEnds, AnchorEnds, ItemReaches, BreakReaches, AnchorReaches}
 use Rattle.dfa_paths.specs.declared.graph.Node.{Node}
 use Rattle.dfa_paths.specs.declared.graph.Node.TheVariants.{
   One,
@@ -30,14 +30,10 @@ use Rattle.dfa_paths.proofs.Counting.{
   break_counts,
   anchor_counts,
 }
-use Rattle.dfa_paths.proofs.Coming.{IsInner, here_begins, begins_here}
+use Rattle.dfa_paths.proofs.Short as short
+use Rattle.dfa_paths.proofs.Short.{none_some, anchor_if, land_comes}
+use Rattle.dfa_paths.proofs.Coming.{IsInner, node_same, here_begins, begins_here}
 use Rattle.dfa_paths.proofs.Turns.{join}
-
-node_same : (m n : Node) → ◌≡◌ {A = Option Node} (Some m) (Some n) → m ≡ n
-node_same m n e = cc
-
-none_some : (j : ℕ) → ◌≡◌ {A = Option ℕ} None (Some j) → ⊥
-none_some j e = cc
 
 -- nothing tells
 untold : IsTrue false ⊎ ⊥ → ⊥
@@ -60,13 +56,13 @@ module _ (g : Setting) (nodes : List Node) (counts : Bool) (B : Inner) (M : Meet
 
   -- a path of fewer than n steps
   abbrev pub Short : ℕ → ℕ → ℕ → Type 0
-  Short n q i = (t : From q i) × (size q i t < n)
+  Short = short.Short nodes From size
 
   move_short : (n q p i : ℕ) → q ≡ p → Short n q i → Short n p i
-  move_short n q p i e s = subst (λ k. Short n k i) e s
+  move_short = short.move_short nodes From size
 
   pub longer : (n m q i : ℕ) → n ≤ m → Short n q i → Short m q i
-  longer n m q i l s = (s.0, omega (arith, s.1, l))
+  longer = short.longer nodes From size
 
   -- the first step of a path
   abbrev Next : ℕ → ℕ → Node → Type 0
@@ -193,23 +189,7 @@ module _ (g : Setting) (nodes : List Node) (counts : Bool) (B : Inner) (M : Meet
 
   pub comes_here : (n e next : ℕ) (x : Spot) → IsAt nodes e next → Short n e x.place →
       Short n next x.place
-  comes_here zero e next x p s = absurd (omega (arith, s.1))
-  comes_here (suc n) e next x p s =
-      elim p [
-        | inl a ↦ move_short (suc n) e next x.place a s
-        | inr b ↦ longer n (suc n) next x.place (omega arith) (at_goto n e next x.place b s.0 s.1)
-      ]
-
-  land_comes : (n next : ℕ) (o : Option ℕ) (x : Spot) (j : ℕ) → o ≡ Some j → Short n next j →
-      (y : Spot) × GoesTo o x y × Short (suc n) next y.place
-  land_comes n next None x j e s = absurd (none_some j e)
-  land_comes n next (Some k) x j e s =
-      let same : j ≡ k = cc in (
-        record x { place = k },
-        refl,
-        longer n (suc n) next k (omega arith)
-            (subst (λ p. Short n next p) same s),
-      )
+  comes_here = short.comes_here nodes From size at_goto
 
   pub item_comes : (item : Item) →
       ComeAll (λ e next. IsNode nodes (One item next) e) (ItemReaches g item) (ItemEnds g item)
@@ -222,7 +202,8 @@ module _ (g : Setting) (nodes : List Node) (counts : Bool) (B : Inner) (M : Meet
           | inl c ↦ absurd c.1
           | inr r ↦ elim r [
             | inl c ↦ absurd c.2
-            | inr c ↦ inr (land_comes n next (after_item g.scene item x.place) x c.0 c.1 c.2)
+            | inr c ↦ inr
+                (land_comes nodes From size n next (after_item g.scene item x.place) x c.0 c.1 c.2)
           ]
         ]
       ]
@@ -238,17 +219,11 @@ module _ (g : Setting) (nodes : List Node) (counts : Bool) (B : Inner) (M : Meet
           | inl c ↦ absurd c.1
           | inr r ↦ elim r [
             | inl c ↦ absurd c.2
-            | inr c ↦ inr (land_comes n next (after_break g.scene x.place) x c.0 c.1 c.2)
+            | inr c ↦ inr
+                (land_comes nodes From size n next (after_break g.scene x.place) x c.0 c.1 c.2)
           ]
         ]
       ]
-
-  anchor_if : (b : Bool) (next a : ℕ) →
-      Among a (elim b as (λ _. List ℕ) [ true ↦ next ∷ [] | false ↦ [] ]) →
-      (b ≡ true) × (a ≡ next)
-  unfolding Among
-  anchor_if true next a h = (refl, among_one a next h)
-  anchor_if false next a h = absurd h
 
   pub anchor_comes : IsBefore g counts → (kind : AnchorKind) →
       ComeAll (λ e next. IsNode nodes (Anchor kind next) e) (AnchorReaches g kind)
@@ -472,42 +447,30 @@ module _ (g : Setting) (nodes : List Node) (counts : Bool) (B : Inner) (M : Meet
   Chosen so not v w x y = (so x × v x y) ⊎ (not x × w x y)
 
   -- a condition, by what its test comes to
-  pub choose_comes : (T : Spots) (Y : Way) (R S : Spots) (v w : Way) (P Q : ℕ → Type 0)
-      (next n hit miss : ℕ) (x : Spot) → ComeTo P R v next → ComeTo Q S w next →
-      Good g counts x → P hit → Q miss → Asked (T x) (Y x) n hit miss x →
-      Comes (λ x. ChosenReach (T x) (HasOne (Y x)) (HasNone (Y x)) (R x) (S x))
-      (Chosen (λ x. HasOne (Y x)) (λ x. HasNone (Y x)) v w) n next x
-  choose_comes T Y R S v w P Q next n hit miss x h k good a b asked =
+  pub choose_comes : (T so not R S : Spots) (v w : Way) (P Q : ℕ → Type 0) (next n a b : ℕ)
+      (x : Spot) → ComeTo P R v next → ComeTo Q S w next → Good g counts x → P a → Q b →
+      T x ⊎ (so x × Short n a x.place) ⊎ (not x × Short n b x.place) →
+      Comes (λ x. ChosenReach (T x) (so x) (not x) (R x) (S x)) (Chosen so not v w) n next x
+  choose_comes T so not R S v w P Q next n a b x h k good p q asked =
       elim asked [
         | inl t ↦ inl (inl t)
         | inr r ↦ elim r [
-          | inl c ↦ elim (h n hit x good a c.1) [
+          | inl c ↦ elim (h n a x good p c.1) [
             | inl r ↦ inl (inr (inl (c.0, r)))
             | inr r ↦ inr (r.0, inl (c.0, r.1), r.2)
           ]
-          | inr c ↦ elim (k n miss x good b c.1) [
+          | inr c ↦ elim (k n b x good q c.1) [
             | inl r ↦ inl (inr (inr (c.0, r)))
             | inr r ↦ inr (r.0, inr (c.0, r.1), r.2)
           ]
         ]
       ]
 
-  pub choose_comes_not : (T : Spots) (Y : Way) (R S : Spots) (v w : Way) (P Q : ℕ → Type 0)
-      (next n hit miss : ℕ) (x : Spot) → ComeTo P R v next → ComeTo Q S w next →
-      Good g counts x → Q hit → P miss → Asked (T x) (Y x) n hit miss x →
-      Comes (λ x. ChosenReach (T x) (HasNone (Y x)) (HasOne (Y x)) (R x) (S x))
-      (Chosen (λ x. HasNone (Y x)) (λ x. HasOne (Y x)) v w) n next x
-  choose_comes_not T Y R S v w P Q next n hit miss x h k good b a asked =
+  -- and where it asks that there is no end
+  pub turned : (T : Type 0) (Y : Spots) (n hit miss : ℕ) (x : Spot) → Asked T Y n hit miss x →
+      T ⊎ (HasNone Y × Short n miss x.place) ⊎ (HasOne Y × Short n hit x.place)
+  turned T Y n hit miss x asked =
       elim asked [
-        | inl t ↦ inl (inl t)
-        | inr r ↦ elim r [
-          | inl c ↦ elim (k n hit x good b c.1) [
-            | inl r ↦ inl (inr (inr (c.0, r)))
-            | inr r ↦ inr (r.0, inr (c.0, r.1), r.2)
-          ]
-          | inr c ↦ elim (h n miss x good a c.1) [
-            | inl r ↦ inl (inr (inl (c.0, r)))
-            | inr r ↦ inr (r.0, inl (c.0, r.1), r.2)
-          ]
-        ]
+        | inl t ↦ inl t
+        | inr r ↦ elim r [ inl c ↦ inr (inr c) | inr c ↦ inr (inl c) ]
       ]

@@ -44,9 +44,12 @@ pub struct Board<'a, C: Callouts> {
 impl<C: Callouts> Board<'_, C> {
     /// The subject with the options of the tree and of the match.
     fn view(&self) -> View<'_>
-        ensures scene { text_scene result self.now.classes.now ≡ (setting_in self.now.tree.now self.now.matching.now self.now.subject.now self.now.start (C.answers self.now.calls.value)).scene }
+        ensures scene { text_scene result self.now.classes.now
+            ≡ (setting_in self.now.tree.now self.now.matching.now self.now.subject.now
+            self.now.start (C.answers self.now.calls.value)).scene }
         ensures subject { IsText result.options.now result.subject.now }
-        ensures place { (p : ℕ) → stands_in self.now.tree.now.options.utf self.now.subject.now p ≡ true → IsTextPlace result.options.now result.subject.now p }
+        ensures place { (p : ℕ) → stands_in self.now.tree.now.options.utf self.now.subject.now p
+            ≡ true → IsTextPlace result.options.now result.subject.now p }
     {
         View {
             subject: self.subject,

@@ -51,8 +51,10 @@ pub(crate) fn longest(
     requires subject { IsText view.now.options.now view.now.subject.now }
     requires place { IsTextPlace view.now.options.now view.now.subject.now at }
     requires class { All (λ n. n < length classes.now) (class_in item.now) }
-    ensures count { result.count ≡ length (longest_run (text_scene view.now classes.now) item.now most at) }
-    ensures to { result.to ≡ end_of at (longest_run (text_scene view.now classes.now) item.now most at) }
+    ensures count { result.count
+        ≡ length (longest_run (text_scene view.now classes.now) item.now most at) }
+    ensures to { result.to
+        ≡ end_of at (longest_run (text_scene view.now classes.now) item.now most at) }
     ensures at_end { result.at_end ≡ run_reaches (text_scene view.now classes.now) item.now most at
         (longest_run (text_scene view.now classes.now) item.now most at) }
 {

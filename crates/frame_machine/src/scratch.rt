@@ -53,7 +53,8 @@ impl Model for Scratch {
 impl Scratch {
     /// A workspace with no room. Takes no memory.
     pub fn new(alloc: Global) -> Scratch
-        ensures { result ≡ record { spans = []; groups = 0; frames = 0; peak = 0; last_mark = None } }
+        ensures { result
+            ≡ record { spans = []; groups = 0; frames = 0; peak = 0; last_mark = None } }
     {
         Scratch {
             store: Store::new(alloc),
@@ -71,7 +72,8 @@ impl Scratch {
         requires { groups ≤ 65535 }
         ensures groups { OnOk result (self.new.groups ≡ max self.old.groups groups) }
         ensures frames { OnOk result (self.new.frames ≡ max self.old.frames frames) }
-        ensures kept { self.new ≡ record self.old { groups = self.new.groups; frames = self.new.frames } }
+        ensures kept { self.new
+            ≡ record self.old { groups = self.new.groups; frames = self.new.frames } }
         ensures refused { OnErr result (self.new ≡ self.old) }
     {
         self.store.cut(0);

@@ -9,4 +9,5 @@ pub mod LookTurns
 pub mod CondTurns
 pub mod CalledTests
 pub mod CallTurns
+pub mod FarEnds
 pub mod PassTurns

@@ -1,5 +1,5 @@
 -- Runs of one item, and branches, that are refused at once: the turns that try one, fail and go back to the next.
-use Rattle.std.proofs.Common.{◌≡◌, ℕ, suc, ◌+◌, ◌-◌, ◌<◌, ◌≤◌, ◌∙◌, Bool, false, List, [], ◌∷◌, All, MatchOption, Option, Some, None, length, reverse, slice_get, slice_index_or, refl, sym, ap, subst, arith}
+use Rattle.std.proofs.Common.{◌≡◌, ℕ, zero, suc, ◌+◌, ◌-◌, ◌<◌, ◌≤◌, ◌∙◌, Bool, false, List, [], ◌∷◌, All, MatchOption, Option, Some, None, length, reverse, slice_get, slice_index_or, refl, sym, ap, subst, arith}
 use Rattle.std.proofs.lemmas.List.Elements.{All-head, All-nil}
 use Rattle.std.proofs.lemmas.List.{length-reverse, set-set, set-get_or}
 use Rattle.std.proofs.lemmas.Option.{slice_get_within}
@@ -27,7 +27,7 @@ use Rattle.frame_state.specs.Stops.{Told, moved_next, moved_spot, held_next, hel
 use Rattle.frame_parts.specs.declared.passing.Follower.{Follower}
 use Rattle.frame_parts.specs.declared.passing.Need.{Need}
 use Rattle.frame_parts.specs.declared.passing.Need.TheVariants.{Takes, Holds}
-use Rattle.frame_parts.specs.Passing.{HasNumber, IsMissing, BeginsWith, Needs, FailsAt, IsFollower, FallsBack, Reaches}
+use Rattle.frame_parts.specs.Passing.{HasNumber, AreFar, PassesFar, IsMissing, BeginsWith, Needs, FailsAt, IsFollower, FallsBack, Reaches}
 use Rattle.frame_state.proofs.KidParts.{kid_parts, next_part}
 use Rattle.frame_state.proofs.MostOf.{most}
 use Rattle.frame_state.proofs.ReachTurns.{noted_off}
@@ -182,6 +182,32 @@ module _ (c : Ground) (ok : IsGround c) where
       Reaches c m (conf (Fewer q from (place_before c.setting.scene to)) (record spot { left = spot.left - 1 }) (entries records) caps)
   pass_run m q from to spot records caps r need height units f same lt left room none =
       goes_further c _ _ _ r (fewer_refused q from to spot records caps r.valid need units (subst (λ x. IsFollower c (towards (next_of c q)) x records caps need units) same f) lt left room none)
+
+  -- runs that end too far from the subject's end
+  module _ (m : Conf) (q from : ℕ) (records : List Record) (caps : Captures) (need : Need) (height units : ℕ) (f : IsFollower c (towards (next_of c q)) height records caps need units) (far : ℕ) (a : AreFar c need far) where
+    pass_far : (k to : ℕ) (spot : Spot) → Reaches c m (conf (Fewer q from to) spot (entries records) caps) → height ≡ spot.frame → to ≤ far → k ≤ to - from → k ≤ spot.left →
+        spot.units + units < c.setting.matching.frame_limit → Reaches c m (conf (Fewer q from (to - k)) (record spot { left = spot.left - k }) (entries records) caps)
+    pass_far zero to spot r same low few paid room =
+        let place : to ≡ to - 0 = omega arith in
+        let left : spot.left ≡ spot.left - 0 = omega arith in
+        subst (λ x. Reaches c m (conf (Fewer q from x) (record spot { left = spot.left - 0 }) (entries records) caps)) place
+        (subst (λ l. Reaches c m (conf (Fewer q from to) (record spot { left = l }) (entries records) caps)) left r)
+    pass_far (suc k) to spot r same low few paid room =
+        let some : 0 < to = omega (arith, few) in
+        let next : Reaches c m (conf (Fewer q from (to - 1)) (record spot { left = spot.left - 1 }) (entries records) caps) =
+        subst (λ x. Reaches c m (conf (Fewer q from x) (record spot { left = spot.left - 1 }) (entries records) caps)) (a.bytes to some low)
+        (pass_run m q from to spot records caps r need height units f same (omega (arith, few)) (omega (arith, paid)) room (a.missing to some low)) in
+        let place : to - 1 - k ≡ to - suc k = omega arith in
+        let left : spot.left - 1 - k ≡ spot.left - suc k = omega arith in
+        subst (λ x. Reaches c m (conf (Fewer q from x) (record spot { left = spot.left - suc k }) (entries records) caps)) place
+        (subst (λ l. Reaches c m (conf (Fewer q from (to - 1 - k)) (record spot { left = l }) (entries records) caps)) left
+        (pass_far k (to - 1) (record spot { left = spot.left - 1 }) next same (omega (arith, low)) (omega (arith, few)) (omega (arith, paid)) room))
+
+    pub pass_runs : (to last : ℕ) (spot new : Spot) → Reaches c m (conf (Fewer q from to) spot (entries records) caps) → height ≡ spot.frame → to ≤ far →
+        spot.units + units < c.setting.matching.frame_limit → PassesFar from to spot new last → Reaches c m (conf (Fewer q from last) new (entries records) caps)
+    pass_runs to last spot new r same low room p =
+        subst (λ x. Reaches c m (conf (Fewer q from x) new (entries records) caps)) (sym p.ends)
+        (subst (λ s. Reaches c m (conf (Fewer q from (to - p.runs)) s (entries records) caps)) (sym p.left) (pass_far p.runs to spot r same low p.few p.paid room))
 
   -- a run of a lazy repeat is refused
   pub more_refused : c.setting.matching.«partial» ≡ Off → (q count to : ℕ) (spot : Spot) (records : List Record) (caps : Captures) → IsValid c (conf (More q count to) spot (entries records) caps) → (need : Need) (units : ℕ) →

@@ -1,7 +1,9 @@
 -- Runs of one item, and branches, that are refused at once.
-use Rattle.std.specs.Prelude.{◌≡◌, ℕ, ◌+◌, ◌<◌, ◌≤◌, List, [], ◌∷◌, All, None, false}
+use Rattle.std.specs.Prelude.{◌≡◌, ℕ, ◌+◌, ◌-◌, ◌<◌, ◌≤◌, Bool, true, false, not, List, [], ◌∷◌, All, None}
+use Rattle.pat_tree.specs.declared.nodes.AnchorKind.{AnchorKind}
+use Rattle.pat_tree.specs.declared.nodes.AnchorKind.TheVariants.{Dollar, SubjectEnd, EndOrNewline}
 use Rattle.pat_tree.specs.Rules.{class_in}
-use Rattle.match_items.specs.Items.{after_item, holds}
+use Rattle.match_items.specs.Items.{after_item, holds, place_before}
 use Rattle.frame_store.specs.declared.records.Record.{Record}
 use Rattle.frame_store.specs.Captures.{Captures}
 use Rattle.frame_store.specs.Entry.{Entry, entries}
@@ -22,11 +24,31 @@ abbrev pub needed_classes : Need → List ℕ
 needed_classes (Takes item) = class_in item
 needed_classes (Holds kind) = []
 
+-- the simple assertion holds at the subject's end and before a newline there alone
+abbrev pub is_of_end : AnchorKind → Bool
+is_of_end (Dollar multi end_only) = not multi
+is_of_end SubjectEnd = true
+is_of_end EndOrNewline = true
+is_of_end _ = false
+
+-- So many runs, each a byte longer than the next, are passed over, but the least, with a Step for each.
+pub record PassesFar (least last : ℕ) (old new : Spot) (to : ℕ) : Type 0 where
+  pub runs : ℕ
+  pub few : runs ≤ last - least
+  pub paid : runs ≤ old.left
+  pub ends : to ≡ last - runs
+  pub left : new ≡ record old { left = old.left - runs }
+
 module _ (c : Ground) where
   -- What is needed isn't there at the place: the item takes nothing, the simple assertion doesn't hold.
   abbrev pub IsMissing : Need → ℕ → Type 0
   IsMissing (Takes item) place = after_item c.setting.scene item place ≡ None
   IsMissing (Holds kind) place = holds c.setting.scene kind place ≡ false
+
+  -- At this place and those before it but the first, what is needed isn't there, and the character before is a byte.
+  pub record AreFar (need : Need) (far : ℕ) : Type 0 where
+    pub missing : (p : ℕ) → 0 < p → p ≤ far → IsMissing need p
+    pub bytes : (p : ℕ) → 0 < p → p ≤ far → place_before c.setting.scene p ≡ p - 1
 
   -- The machine is there, or comes there by its turns.
   pub record Reaches (m n : Conf) : Type 0 where

@@ -3,14 +3,15 @@
 //!
 //! By the definition each is a Step, and holds units on the way to what comes next. Where there is
 //! room for these, nothing but the Step is left of it.
-ghost use Rattle.std.specs.Prelude.{◌≡◌, ◌<◌, ◌≤◌, ◌+◌, true, All, IsTrue, MatchOption};
+ghost use Rattle.std.specs.Prelude.{◌≡◌, ◌<◌, ◌≤◌, ◌+◌, true, false, All, IsTrue, MatchOption};
 ghost use Rattle.pat_tree.specs.declared.options.PartialMode.TheVariants.{Off};
+ghost use Rattle.match_items.specs.Items.{holds};
 ghost use Rattle.frame_state.specs.Steps.{over};
 ghost use Rattle.frame_state.specs.Ground.{next_of, tree_of, IsPart};
 ghost use Rattle.frame_state.specs.Machine.{towards};
 ghost use Rattle.frame_state.specs.Validity.{IsMany, IsValid};
 ghost use Rattle.frame_state.specs.Stops.{IsFurther};
-ghost use Rattle.frame_parts.specs.Passing.{HasNumber, needed_classes, IsMissing, BeginsWith, Needs, FailsAt, IsFollower, Reaches};
+ghost use Rattle.frame_parts.specs.Passing.{HasNumber, needed_classes, is_of_end, AreFar, PassesFar, IsMissing, BeginsWith, Needs, FailsAt, IsFollower, Reaches};
 
 use crate::items::most_of;
 use crate::repeats::{branches_of, is_last};
@@ -59,6 +60,26 @@ struct Follower {
     units: u32,
 }
 
+/// The length of the longest newline, in bytes.
+const LONGEST_NEWLINE: u64 = 3;
+
+/// Whether the simple assertion holds nowhere but at the subject's end and before a newline there.
+fn is_of_end(kind: AnchorKind) -> bool
+    ensures { result ≡ is_of_end kind }
+{
+    matches!(
+        kind,
+        AnchorKind::Dollar { multi: false, .. } | AnchorKind::SubjectEnd | AnchorKind::EndOrNewline
+    )
+}
+
+/// Whether the simple assertion can't hold, as the subject goes on too far behind the place.
+fn is_far<S: Searchable>(on: &S, kind: AnchorKind, at: u64) -> bool
+    ensures { IsTrue result → holds (S.searched on.now).setting.scene kind at ≡ false }
+{
+    is_of_end(kind) && at < on.length().saturating_sub(LONGEST_NEWLINE)
+}
+
 /// Whether what is needed isn't there.
 fn is_missing<S: Searchable>(on: &S, need: &Need, at: u64) -> bool
     requires class { All (λ n. n < (S.searched on.now).class_count) (needed_classes need.now) }
@@ -67,7 +88,20 @@ fn is_missing<S: Searchable>(on: &S, need: &Need, at: u64) -> bool
 {
     match need {
         Need::Takes(item) => on.take(item, at).is_none(),
-        Need::Holds(kind) => !on.holds(*kind, at),
+        Need::Holds(kind) => is_far(on, *kind, at) || !on.holds(*kind, at),
+    }
+}
+
+/// The last place at which, as at each before it but the first, the subject goes on too far for what
+/// is needed; 0 where none is known, as in UTF, where a run may go back by more than a byte.
+fn last_far<S: Searchable>(on: &S, need: &Need) -> u64
+    ensures { AreFar (S.searched on.now) need.now result }
+{
+    match need {
+        Need::Holds(kind) if is_of_end(*kind) && !on.options().utf => {
+            on.length().saturating_sub(LONGEST_NEWLINE + 1)
+        }
+        _ => 0,
     }
 }
 
@@ -204,6 +238,15 @@ fn has_room(limit: u32, spot: &Spot, follower: &Follower) -> bool
     spot.units.saturating_add(follower.units) < limit
 }
 
+/// Passes over all runs but the shortest, a Step and a byte for each, as far as the Steps go.
+fn pass_all(least: u64, last: u64, spot: &mut Spot) -> u64
+    ensures { PassesFar least last spot.old spot.new result }
+{
+    let runs = last.saturating_sub(least).min(u64::from(spot.left));
+    spot.left -= runs as u32;
+    last - runs
+}
+
 /// Passes over the runs of a greedy repeat that are refused at once, a Step for each, and gives the
 /// end of the first that isn't, or of the shortest.
 pub(crate) fn pass_fewer<S: Searchable>(
@@ -231,10 +274,15 @@ pub(crate) fn pass_fewer<S: Searchable>(
     if !has_room(on.unit_limit(), spot, &follower) {
         return last;
     }
+    let far = last_far(on, &follower.need);
+    let nearest = least.max(far);
     let mut to = last;
-    'runs: while least < to && spot.left > 0 && is_missing(on, &follower.need, to) {
+    'runs: while nearest < to && spot.left > 0 && is_missing(on, &follower.need, to) {
         spot.left -= 1;
         to = on.before(to);
+    }
+    if to <= far {
+        return pass_all(least, to, spot);
     }
     to
 }

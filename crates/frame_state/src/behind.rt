@@ -23,8 +23,10 @@ pub fn begin_branch<S: Searchable>(on: &S, behind: bool, branch: u32, spot: &mut
     requires inside { IsPart (S.searched on.now) branch }
     requires fixed { behind ≡ true → IsFixedPart (S.searched on.now) branch }
     requires place { (S.searched on.now).stands spot.old.place ≡ true }
-    ensures next { result ≡ begun_next behind (begun_place (S.searched on.now) branch spot.old.place) branch }
-    ensures spot { spot.new ≡ begun_spot behind (begun_place (S.searched on.now) branch spot.old.place) spot.old }
+    ensures next { result
+        ≡ begun_next behind (begun_place (S.searched on.now) branch spot.old.place) branch }
+    ensures spot { spot.new
+        ≡ begun_spot behind (begun_place (S.searched on.now) branch spot.old.place) spot.old }
 {
     if !behind {
         return Next::Enter(branch);
@@ -52,7 +54,8 @@ pub fn begin_branches<S: Searchable>(
     requires inside { All (IsPart (S.searched on.now)) branches.now }
     requires fixed { behind ≡ true → All (IsFixedPart (S.searched on.now)) branches.now }
     requires place { (S.searched on.now).stands spot.old.place ≡ true }
-    ensures next { result ≡ first_begun (S.searched on.now) behind part branches.now spot.old.place }
+    ensures next { result ≡ first_begun (S.searched on.now) behind part branches.now
+        spot.old.place }
     ensures spot { spot.new ≡ first_spot (S.searched on.now) behind branches.now spot.old }
 {
     match branches.as_slice() {

@@ -23,8 +23,11 @@ pub fn open_frame(
 ) -> Result<(), Stop>
     requires { length store.old.records ≤ spot.old.units }
     ensures room { OnOk result (spot.old.units < limit) }
-    ensures spot { OnOk result (spot.new ≡ record spot.old { frame = length store.new.records; units = spot.old.units + 1 }) }
-    ensures pushed { OnOk result (store.new.records ≡ record_at spot.old kind part 0 0 0 ∷ store.old.records) }
+    ensures spot { OnOk result
+        (spot.new
+        ≡ record spot.old { frame = length store.new.records; units = spot.old.units + 1 }) }
+    ensures pushed { OnOk result (store.new.records ≡ record_at spot.old kind part 0 0 0
+        ∷ store.old.records) }
     ensures stop { IfErr result (λ stop. IsHeldStop stop limit spot.old.units) }
     ensures last { spot.new.last ≡ spot.old.last }
     ensures peak { store.new.peak ≤ max store.old.peak limit }
@@ -50,8 +53,16 @@ pub fn leave(
 ) -> Result<(), Stop>
     requires { length store.old.records ≤ spot.old.units }
     ensures room { OnOk result (spot.old.units < limit) }
-    ensures spot { OnOk result (spot.new ≡ record spot.old { passed = frame.now.passed; frame = frame.now.link; units = spot.old.units + 1 }) }
-    ensures pushed { OnOk result (store.new.records ≡ record_at (record spot.old { frame = frame.now.link }) KIND_ATOMIC_LEFT frame.now.node 0 height 0 ∷ store.old.records) }
+    ensures spot { OnOk result
+        (spot.new
+        ≡ record spot.old {
+          passed = frame.now.passed;
+          frame = frame.now.link;
+          units = spot.old.units + 1;
+        }) }
+    ensures pushed { OnOk result
+        (store.new.records ≡ record_at (record spot.old { frame = frame.now.link }) KIND_ATOMIC_LEFT
+        frame.now.node 0 height 0 ∷ store.old.records) }
     ensures stop { IfErr result (λ stop. IsHeldStop stop limit spot.old.units) }
     ensures last { spot.new.last ≡ spot.old.last }
     ensures peak { store.new.peak ≤ max store.old.peak limit }

@@ -79,8 +79,10 @@ pub trait Searchable {
     fn run(&self, item: &Item, at: u64, most: Option<u32>) -> Run
         requires place { (searched self.now).stands at ≡ true }
         requires class { All (λ n. n < (searched self.now).class_count) (class_in item.now) }
-        ensures count { result.count ≡ length (longest_run (searched self.now).setting.scene item.now most at) }
-        ensures to { result.to ≡ end_of at (longest_run (searched self.now).setting.scene item.now most at) }
+        ensures count { result.count
+            ≡ length (longest_run (searched self.now).setting.scene item.now most at) }
+        ensures to { result.to
+            ≡ end_of at (longest_run (searched self.now).setting.scene item.now most at) }
         ensures at_end { result.at_end ≡ run_reaches (searched self.now).setting.scene item.now most at
             (longest_run (searched self.now).setting.scene item.now most at) };
 
@@ -148,11 +150,13 @@ pub trait Searchable {
     fn back(&self, branch: u32) -> u32
         requires inside { IsPart (searched self.now) branch }
         requires fixed { IsFixedPart (searched self.now) branch }
-        ensures { branch_lengths (searched self.now).setting (tree_of (searched self.now) branch) ≡ only result };
+        ensures { branch_lengths (searched self.now).setting (tree_of (searched self.now) branch)
+            ≡ only result };
 
     /// Whether two numbers of verbs' names are of the same name. A number that is of none has the empty name.
     fn same_name(&self, first: u32, second: u32) -> bool
-        ensures { result ≡ same_text (verb_name (searched self.now).setting first) (verb_name (searched self.now).setting second) };
+        ensures { result ≡ same_text (verb_name (searched self.now).setting first)
+            (verb_name (searched self.now).setting second) };
 
     fn step_limit(&self) -> u32
         ensures { result ≡ match_limit (searched self.now).setting };

@@ -125,7 +125,8 @@ impl Store {
 
     /// The newest record, if there is one.
     pub fn top(&self) -> Option<&Record>
-        ensures { MatchOption result (self.now.records ≡ []) (λ r. self.now.records ≡ r.now ∷ drop 1 self.now.records) }
+        ensures { MatchOption result (self.now.records ≡ [])
+            (λ r. self.now.records ≡ r.now ∷ drop 1 self.now.records) }
     {
         self.records.last()
     }
@@ -187,7 +188,8 @@ impl Store {
     /// newest first, and drops the later records.
     pub fn undo_to(&mut self, to: usize, registers: &mut Registers)
         requires within { to ≤ length self.old.records }
-        requires slots { All (HasSlot registers.old.spans.items) (past to (entries self.old.records)) }
+        requires slots { All (HasSlot registers.old.spans.items)
+            (past to (entries self.old.records)) }
         ensures undone { registers.new.spans.items
             ≡ undone (past to (entries self.old.records)) registers.old.spans.items }
         ensures no_less { vec_capacity registers.new.spans ≡ vec_capacity registers.old.spans }

@@ -160,7 +160,8 @@ fn the_leftmost_name_of_no_group_is_told(rt: HostRuntime) -> Result<(), Fail> {
 fn add_names(draft: &mut Draft, names: [&[u8]; 6]) -> Result<(), Memory>
     requires stands { has_group draft.old.nodes 7 ≡ true }
     requires none { draft.old.names ≡ [] }
-    ensures stand { OnOk result (All (λ entry. has_group draft.new.nodes entry.group ≡ true) draft.new.names) }
+    ensures stand { OnOk result
+        (All (λ entry. has_group draft.new.nodes entry.group ≡ true) draft.new.names) }
     ensures kept { OnOk result (draft.new.nodes ≡ draft.old.nodes) }
 {
     for name in names {

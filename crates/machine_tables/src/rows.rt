@@ -111,6 +111,36 @@ fn a_possessive_run_gives_nothing_back(rt: HostRuntime) -> Result<(), Fail> {
     cases(&rt, rt.alloc(), A_POSSESSIVE_RUN_GIVES_NOTHING_BACK)
 }
 
+const RUNS_FAR_FROM_THE_END_ARE_STEPS: &[Row] = &[
+    (b"a{2,9}$", b"aaaaaaaaaaaaa", FAILED, &[Steps(8)]),
+    (
+        b"a{2,9}$",
+        b"aaaaaaaaaaaaa",
+        PlaceAnswer::MatchLimit,
+        &[Steps(7)],
+    ),
+    (b"(a{2,9})\\Z", b"aaaaa\naaa", FAILED, &[Steps(4)]),
+    (
+        b"(a{2,9})\\Z",
+        b"aaaaa\naaa",
+        PlaceAnswer::MatchLimit,
+        &[Steps(3)],
+    ),
+    (b"a+\\z", b"aaaab", FAILED, &[Steps(4)]),
+    (b"a+\\z", b"aaaab", PlaceAnswer::MatchLimit, &[Steps(3)]),
+    (b".{2,9}$", b"abcd\n", found!(0, 4), &[Steps(1)]),
+    (b"[a\\n]+$", b"aaaa\n\n", found!(0, 6), &[Steps(1)]),
+    (b"[a\\n]+?$", b"aaaa\n\n", found!(0, 5), &[Steps(5)]),
+    (b"[a\\n]{1,3}$", b"aaaa\n\n", FAILED, &[Steps(3)]),
+    (b"(?:a+$|a+)b", b"aaaaaab", found!(0, 7), &[]),
+];
+
+// The turns of `a{2,9}$` on more bytes than that are known: 8 runs of 9 to 2 characters, each a Step.
+#[test]
+fn runs_far_from_the_end_are_steps(rt: HostRuntime) -> Result<(), Fail> {
+    cases(&rt, rt.alloc(), RUNS_FAR_FROM_THE_END_ARE_STEPS)
+}
+
 const A_LOOKAHEAD_GOES_BACK_TO_ITS_PLACE: &[Row] = &[
     (b"(?=(a+))a", b"aab", found!(0, 1), &[Captured(0, 2)]),
     (

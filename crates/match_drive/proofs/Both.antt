@@ -10,9 +10,9 @@ use Rattle.frame_board.specs.declared.ready.Ready.{Ready}
 use Rattle.frame_board.specs.Ready.{IsReadySearch, setting_for}
 use Rattle.ordered_search.specs.Setting.{Setting}
 use Rattle.match_drive.specs.Starts.{AreAlike, AreBytes}
-use Rattle.match_drive.proofs.Regular.{regular_whole}
-use Rattle.match_drive.proofs.StartLaw.{start_law}
-use Rattle.match_drive.specs.StartLaw.{IsRegular}
+use Rattle.search_starts.proofs.Regular.{regular_whole}
+use Rattle.search_starts.proofs.StartLaw.{start_law}
+use Rattle.search_starts.specs.StartLaw.{IsRegular}
 
 pub alike : (t : TreeParts) (g : Setting) → g.whole ≡ tree_of t → TreeRules t → AreBytes g.subject →
     IsText g.options g.subject → IsTextPlace g.options g.subject g.start → AreAlike g

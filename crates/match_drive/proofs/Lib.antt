@@ -13,10 +13,4 @@ mod PastPrefix
 mod PastRepeats
 mod PastRun
 mod Needless
-mod SameSearch
-mod KeptStreams
-mod LeadItems
-mod LeadSearch
-pub mod StartLaw
-pub mod Regular
 pub mod Both

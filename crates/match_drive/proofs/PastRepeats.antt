@@ -1,17 +1,17 @@
 -- A pattern fails where the run of the item that it begins with is too short, or isn't followed by
 -- what has to follow it.
-use Rattle.std.proofs.Common.{◌≡◌, ℕ, ℤ, zero, suc, ◌+◌, ◌-◌, ◌<◌, ◌≤◌, inl, inr, Bool, true, false, List, [], ◌∷◌, ◌++◌, length, drop, reverse, Option, Some, None, refl, sym, ap, subst, ◌∙◌, arith}
+use Rattle.std.proofs.Common.{◌≡◌, ℕ, ℤ, zero, suc, ◌+◌, ◌-◌, ◌<◌, ◌≤◌, inl, inr, Bool, true, false, List, [], ◌∷◌, ◌++◌, length, map, drop, reverse, Option, Some, None, refl, sym, ap, subst, ◌∙◌, arith}
 use Rattle.std.specs.Prelude.{◌==◌, slice_index, IfSome, if◌then◌else◌}
 use Rattle.std.proofs.lemmas.Bool.{le-leb, eqb-true}
 use Rattle.std.proofs.lemmas.List.{drop_all, reverse-append, length-append, length-drop, length-reverse}
 use Rattle.pat_tree.specs.declared.nodes.Item.{Item}
 use Rattle.pat_tree.specs.declared.nodes.Item.TheVariants.{Char, AnyAll, NotNewline, Class}
 use Rattle.pat_tree.specs.declared.options.PartialMode.TheVariants.{Off}
-use Rattle.pat_tree.specs.Nested.{Nested, Row, seq, group, one, one_repeat, none, more, tree_at, trees}
+use Rattle.pat_tree.specs.Nested.{Nested, Row, row, seq, group, one, one_repeat, none, more, tree_at, trees}
 use Rattle.match_items.specs.Scene.{Scene}
 use Rattle.match_items.specs.Items.{takes, after_item, item_reaches, one_less, is_none_left, run_places, longest_run, run_reaches}
 use Rattle.match_items.specs.Views.{end_of}
-use Rattle.ordered_search.specs.Stream.{State, first_state, by_halt, too_many_units, reached, Stream, Search, ends, nothing, gives, ◌or_else◌, each, and_then}
+use Rattle.ordered_search.specs.Stream.{State, first_state, by_halt, too_many_units, How, reached, captured, Stream, Search, ends, nothing, gives, ◌or_else◌, each, and_then}
 use Rattle.ordered_search.specs.Setting.{Setting, match_limit, held, hold}
 use Rattle.ordered_search.specs.Tests.{goes_to, move_to, run_one, offers, greedy, run_many}
 use Rattle.ordered_search.specs.Parts.{Searches, in_order, branches, run_group}
@@ -35,7 +35,7 @@ use Rattle.match_drive.specs.declared.repeats.FirstRepeat.{FirstRepeat}
 use Rattle.match_drive.specs.Asked.{passed_over, replied}
 use Rattle.match_drive.specs.Prefix.{row_of}
 use Rattle.match_drive.specs.Rest.{FailsToAlways}
-use Rattle.match_drive.specs.Repeats.{Lacks, IsRepeat, BeginsPart, Follows, BeginsWith, IsFirstRepeat, FailsUpTo}
+use Rattle.match_drive.specs.Repeats.{Lacks, IsRepeat, IsLead, BeginsPart, Follows, BeginsWith, IsFirstRepeat, FailsUpTo}
 use Rattle.match_drive.proofs.Leads.{class_told}
 use Rattle.match_drive.proofs.PastPrefix.{scene_same}
 
@@ -43,7 +43,7 @@ use Rattle.match_drive.proofs.PastPrefix.{scene_same}
 
 pub begins_parts : (tree : TreeParts) (has : ℕ → ℕ → Bool) (parts : List ℕ) (r : FirstRepeat)
     → 2 ≤ length parts
-    → IsRepeat (tree_at (trees tree.nodes) (slice_index parts 0)) r.item r.min
+    → IsLead (tree_at (trees tree.nodes) (slice_index parts 0)) r.item r.min
     → IfSome r.behind (λ c. tree_at (trees tree.nodes) (slice_index parts 1) ≡ one
     (Char c false)) → IfSome r.behind (Lacks has r.item)
     → BeginsWith has (seq (row_of tree parts)) r
@@ -66,8 +66,23 @@ begins_parts tree has (k ∷ j ∷ ks) r two is next lacks = (
     by_next None next lacks = tt
     by_next (Some c) next lacks = ((row_of tree ks, ap (λ t. more t (row_of tree ks)) next), lacks)
 
+pub lead_alone : (t u : Nested) → t ≡ u → (o : Option FirstRepeat)
+    → IfSome o (λ r. IsRepeat t r.item r.min) → IfSome o (λ r. IsLead u r.item r.min)
+lead_alone t u e None is = tt
+lead_alone t u e (Some r) is = inl (subst (λ v. IsRepeat v r.item r.min) e is)
+
+pub lead_grouped : (ts : List Nested) (number : Option ℕ) (parts : List ℕ) (t : Nested)
+    → 1 ≤ length parts → length parts < 2 → group number (row (map (tree_at ts) parts)) ≡ t
+    → (inner : Nested) → inner ≡ tree_at ts (slice_index parts 0) → (o : Option FirstRepeat)
+    → IfSome o (λ r. IsRepeat inner r.item r.min) → IfSome o (λ r. IsLead t r.item r.min)
+lead_grouped ts number [] t some few e inner only o is = absurd (omega (arith, some))
+lead_grouped ts number (k ∷ j ∷ ks) t some few e inner only o is = absurd (omega (arith, few))
+lead_grouped ts number (k ∷ []) t some few e inner only None is = tt
+lead_grouped ts number (k ∷ []) t some few e inner only (Some r) is =
+    inr (number, (inner, (is, sym e ∙ ap (λ u. group number (more u none)) (sym only))))
+
 pub begins_alone : (has : ℕ → ℕ → Bool) (t : Nested) (o : Option FirstRepeat)
-    → IfSome o (λ r. IsRepeat t r.item r.min)
+    → IfSome o (λ r. IsLead t r.item r.min)
     → IfSome o (λ r. r.behind ≡ None) → IfSome o (BeginsWith has t)
 begins_alone has t None is alone = tt
 begins_alone has t (Some r) is alone = (
@@ -248,6 +263,10 @@ module _ (g : Setting) (off : g.matching.«partial» ≡ Off) where
   many_is item low high s = unreached g off (run_reaches g.scene item high s.place
       (longest_run g.scene item high s.place)) s _
 
+  -- the places that a repeat offers
+  abbrev places_of : Item → ℕ → Option ℕ → ℕ → List ℕ
+  places_of item low high p = reverse (drop low (p ∷ longest_run g.scene item high p))
+
   -- a run that is too short offers nothing
   many_short : (item : Item) (low : ℕ) (high : Option ℕ) (s : State)
       → length (longest_run g.scene item None s.place) < low
@@ -269,6 +288,15 @@ module _ (g : Setting) (off : g.matching.«partial» ≡ Off) where
       (unreached g off (item_reaches g.scene other s.place) s (goes_to
       (after_item g.scene other s.place) s) ∙ ap (λ o. goes_to o s) e)
 
+  -- a state that the path has room for
+  abbrev kept : Bool → State → Stream
+  kept b t =
+      elim b as (λ _. Stream) [ true ↦ gives reached t | false ↦ ends (by_halt too_many_units) ]
+
+  -- a group that began at a place ends where a state stands
+  abbrev captures : ℕ → ℕ → How → Search
+  captures n p how u = hold g how (captured n p u)
+
   -- what follows ends at each place that is offered
   offers_fail : (other : Item) (f : Search) → ((t : State)
       → after_item g.scene other t.place ≡ None → f t ≡ nothing)
@@ -282,15 +310,131 @@ module _ (g : Setting) (off : g.matching.«partial» ≡ Off) where
       (x or_else nothing)) (ends' (move_to p s) out.0)
   offers_fail other f ends' (p ∷ q ∷ ps) s (suc n) out room few =
       let t : State = record (move_to p s) { units = s.units + 1 } in
-      ap (λ b. walk g n (and_then ((elim b as
-      (λ _. Stream) [
-        | true ↦ gives reached t
-        | false ↦ ends
-            (by_halt too_many_units)
-      ]) or_else offers g (q ∷ ps) s) f))
+      ap (λ b. walk g n (and_then (kept b t or_else offers g (q ∷ ps) s) f))
       (le-leb (s.units + 1) g.matching.frame_limit room)
       ∙ ap (λ x. walk g n (x or_else and_then (offers g (q ∷ ps) s) f)) (ends' t out.0)
       ∙ offers_fail other f ends' (q ∷ ps) s n out.1 room (omega (arith, few))
+
+  -- so it does in a capturing group, whose capture holds a unit more
+  captures_fail : (m p₀ : ℕ) (other : Item) (f : Search) → ((t : State)
+      → after_item g.scene other t.place ≡ None → f t ≡ nothing)
+      → (ps : List ℕ) (s : State) (n : ℕ) → AreOut g.scene other ps
+      → s.units + 2 ≤ g.matching.frame_limit → length ps ≤ n
+      → walk g n (and_then (each (offers g ps s) (captures m p₀)) f)
+      ≡ answers (Failed Exhausted)
+  unfolding walk offers each ◌or_else◌ hold held
+  captures_fail m p₀ other f ends' [] s n out room few = refl
+  captures_fail m p₀ other f ends' (p ∷ ps) s zero out room few = absurd (omega (arith, few))
+  captures_fail m p₀ other f ends' (p ∷ []) s (suc n) out room few =
+      let c : State = record (captured m p₀ (move_to p s)) { units = s.units + 1 } in
+      ap (λ b. walk g n (and_then (kept b c or_else nothing) f))
+      (le-leb (s.units + 1) g.matching.frame_limit (omega (arith, room)))
+      ∙ ap (λ x. walk g n (x or_else nothing)) (ends' c out.0)
+  captures_fail m p₀ other f ends' (p ∷ q ∷ ps) s (suc n) out room few =
+      let t : State = record (move_to p s) { units = s.units + 1 } in
+      let c : State = record (captured m p₀ t) { units = s.units + 1 + 1 } in
+      let later = each (offers g (q ∷ ps) s) (captures m p₀) in
+      ap (λ b. walk g n (and_then (each (kept b t or_else offers g (q ∷ ps) s)
+      (captures m p₀)) f))
+      (le-leb (s.units + 1) g.matching.frame_limit (omega (arith, room)))
+      ∙ ap (λ b. walk g n (and_then (kept b c or_else later) f))
+      (le-leb (s.units + 1 + 1) g.matching.frame_limit (omega (arith, room)))
+      ∙ ap (λ x. walk g n (x or_else and_then later f)) (ends' c out.0)
+      ∙ captures_fail m p₀ other f ends' (q ∷ ps) s n out.1 room (omega (arith, few))
+
+  -- Leads.
+
+  module _ (below : Searches) (item : Item) (low : ℕ) (high : Option ℕ) where
+    abbrev grouped : Option ℕ → Nested
+    grouped number = group number (more (one_repeat item low high false) none)
+
+    alone_is : (s : State)
+        → level g below (one_repeat item low high false) s ≡ run_many g item low high false s
+    unfolding level
+    alone_is s = refl
+
+    group_is : (s : State) → level g below (grouped None) s ≡ run_many g item low high false s
+    unfolding level levels run_group branches run_many
+    group_is s = refl
+
+    capture_is : (n : ℕ) (s : State) → s.units + 1 ≤ g.matching.frame_limit
+        → level g below (grouped (Some n)) s
+        ≡ each (run_many g item low high false (record s { units = s.units + 1 }))
+        (captures n s.place)
+    unfolding level levels run_group branches held
+    capture_is n s room = ap (λ b. elim b as (λ _. Stream) [
+      | true ↦ each (run_many g item low high false (record s { units = s.units + 1 }))
+          (captures n s.place)
+      | false ↦ ends (by_halt too_many_units)
+    ]) (le-leb (s.units + 1) g.matching.frame_limit room)
+
+    no_captures : (n p : ℕ) → each nothing (captures n p) ≡ nothing
+    unfolding each
+    no_captures n p = refl
+
+    group_short : (number : Option ℕ) (s : State)
+        → length (longest_run g.scene item None s.place) < low
+        → s.units + 1 ≤ g.matching.frame_limit → level g below (grouped number) s ≡ nothing
+    group_short None s few room = group_is s ∙ many_short item low high s few
+    group_short (Some n) s few room =
+        capture_is n s room
+        ∙ ap (λ x. each x (captures n s.place))
+        (many_short item low high (record s { units = s.units + 1 }) few)
+        ∙ no_captures n s.place
+
+    module _ (other : Item) (f : Search) (ends' : (t : State)
+        → after_item g.scene other t.place ≡ None → f t ≡ nothing)
+        (s : State) (n : ℕ) (room : s.units + 3 ≤ g.matching.frame_limit)
+        (out : AreOut g.scene other (places_of item low high s.place))
+        (few : length (places_of item low high s.place) ≤ n) where
+      many_fails : walk g n (and_then (run_many g item low high false s) f)
+          ≡ answers (Failed Exhausted)
+      many_fails =
+          ap (λ x. walk g n (and_then x f)) (many_is item low high s)
+          ∙ offers_fail other f ends' (places_of item low high s.place) s n out
+          (omega (arith, room)) few
+
+      repeat_fails : walk g n (and_then (level g below (one_repeat item low high false) s) f)
+          ≡ answers (Failed Exhausted)
+      repeat_fails = ap (λ x. walk g n (and_then x f)) (alone_is s) ∙ many_fails
+
+      group_fails : (number : Option ℕ)
+          → walk g n (and_then (level g below (grouped number) s) f) ≡ answers (Failed Exhausted)
+      group_fails None = ap (λ x. walk g n (and_then x f)) (group_is s) ∙ many_fails
+      group_fails (Some m) =
+          let t : State = record s { units = s.units + 1 } in
+          ap (λ x. walk g n (and_then x f)) (capture_is m s (omega (arith, room)))
+          ∙ ap (λ x. walk g n (and_then (each x (captures m s.place)) f)) (many_is item low high t)
+          ∙ captures_fail m s.place other f ends' (places_of item low high s.place) t n out
+          (omega (arith, room)) few
+
+  lead_short : (below : Searches) (first : Nested) (item : Item) (low : ℕ)
+      → IsLead first item low → (s : State)
+      → length (longest_run g.scene item None s.place) < low
+      → s.units + 1 ≤ g.matching.frame_limit → level g below first s ≡ nothing
+  lead_short below first item low (inl is) s few room =
+      ap (λ t. level g below t s) is.1 ∙ alone_is below item low is.0 s
+      ∙ many_short item low is.0 s few
+  lead_short below first item low (inr is) s few room =
+      let inner = is.1.1.0 in
+      ap (λ t. level g below t s) (is.1.1.1 ∙ ap (λ t. group is.0 (more t none)) inner.1)
+      ∙ group_short below item low inner.0 is.0 s few room
+
+  lead_fails : (below : Searches) (first : Nested) (item : Item) (low : ℕ)
+      → IsLead first item low → (other : Item) (f : Search)
+      → ((t : State) → after_item g.scene other t.place ≡ None → f t ≡ nothing)
+      → (s : State) (n : ℕ) → s.units + 3 ≤ g.matching.frame_limit
+      → ((high : Option ℕ) → AreOut g.scene other (places_of item low high s.place))
+      → ((high : Option ℕ) → length (places_of item low high s.place) ≤ n)
+      → walk g n (and_then (level g below first s) f) ≡ answers (Failed Exhausted)
+  lead_fails below first item low (inl is) other f ends' s n room out few =
+      ap (λ t. walk g n (and_then (level g below t s) f)) is.1
+      ∙ repeat_fails below item low is.0 other f ends' s n room (out is.0) (few is.0)
+  lead_fails below first item low (inr is) other f ends' s n room out few =
+      let inner = is.1.1.0 in
+      ap (λ t. walk g n (and_then (level g below t s) f))
+      (is.1.1.1 ∙ ap (λ t. group is.0 (more t none)) inner.1)
+      ∙ group_fails below item low inner.0 other f ends' s n room (out inner.0) (few inner.0) is.0
 
   -- Start places.
 
@@ -303,16 +447,11 @@ module _ (g : Setting) (off : g.matching.«partial» ≡ Off) where
       ap (λ d. walk g (match_limit g) (run g d g.whole (first_state g.groups p))) e
       ∙ ap (λ u. walk g (match_limit g) (run g (suc (match_limit g)) u (first_state g.groups p))) is
 
-  alone_is : (below : Searches) (item : Item) (low : ℕ) (high : Option ℕ) (s : State)
-      → level g below (one_repeat item low high false) s ≡ run_many g item low high false s
-  unfolding level
-  alone_is below item low high s = refl
-
-  seq_is : (below : Searches) (item : Item) (low : ℕ) (high : Option ℕ) (ts : Row) (s : State)
-      → level g below (seq (more (one_repeat item low high false) ts)) s
-      ≡ and_then (run_many g item low high false s) (in_order (levels g below ts))
+  seq_is : (below : Searches) (first : Nested) (ts : Row) (s : State)
+      → level g below (seq (more first ts)) s
+      ≡ and_then (level g below first s) (in_order (levels g below ts))
   unfolding level levels in_order
-  seq_is below item low high ts s = refl
+  seq_is below first ts s = refl
 
   no_walk : (n : ℕ) → walk g n nothing ≡ answers (Failed Exhausted)
   unfolding walk
@@ -325,27 +464,25 @@ module _ (g : Setting) (off : g.matching.«partial» ≡ Off) where
   -- a place whose run is too short fails
   short_fails : (start : Nested) (item : Item) (low : ℕ) (after : Row)
       → g.whole ≡ group None (more start none) → BeginsPart start item low after
-      → (p : ℕ) → length (longest_run g.scene item None p) < low
+      → (p : ℕ) → length (longest_run g.scene item None p) < low → 3 ≤ g.matching.frame_limit
       → place_answer g p ≡ answers (Failed Exhausted)
-  short_fails start item low after is (inl alone) p few =
+  short_fails start item low after is (inl alone) p few room =
       let s = first_state g.groups p in
       let d = match_limit g in
       place_is start is p
-      ∙ ap (λ t. walk g d (level g (run g d) t s)) alone.0.1
-      ∙ ap (walk g d) (alone_is (run g d) item low alone.0.0 s
-      ∙ many_short item low alone.0.0 s few)
+      ∙ ap (walk g d) (lead_short (run g d) start item low alone.0 s few (omega (arith, room)))
       ∙ no_walk d
-  short_fails start item low after is (inr begins) p few =
+  short_fails start item low after is (inr begins) p few room =
       let s = first_state g.groups p in
       let d = match_limit g in
-      let high = begins.1.0.0 in
+      let rest = in_order (levels g (run g d) after) in
       place_is start is p
-      ∙ ap (λ t. walk g d (level g (run g d) t s)) (begins.1.1
-      ∙ ap (λ t. seq (more t after)) begins.1.0.1)
+      ∙ ap (λ t. walk g d (level g (run g d) t s)) begins.1.1
       ∙ ap (walk g d)
-      (seq_is (run g d) item low high after s
-      ∙ ap (λ x. and_then x (in_order (levels g (run g d) after))) (many_short item low high s few)
-      ∙ nothing_then (in_order (levels g (run g d) after)))
+      (seq_is (run g d) begins.0 after s
+      ∙ ap (λ x. and_then x rest)
+      (lead_short (run g d) begins.0 item low begins.1.0 s few (omega (arith, room)))
+      ∙ nothing_then rest)
       ∙ no_walk d
 
   -- so does one whose run isn't followed by what has to follow it, where so many runs may be tried
@@ -355,34 +492,30 @@ module _ (g : Setting) (off : g.matching.«partial» ≡ Off) where
       → ((p q : ℕ) → after_item g.scene item p ≡ Some q → after_item g.scene other p ≡ None)
       → (p : ℕ) → after_item g.scene other (end_of p (longest_run g.scene item None p)) ≡ None
       → length (longest_run g.scene item None p) + 1 ≤ low + match_limit g
-      → 1 ≤ g.matching.frame_limit
+      → 3 ≤ g.matching.frame_limit
       → place_answer g p ≡ answers (Failed Exhausted)
   lacking_fails start item low after other rest is
       (inl alone) follows apart p last few room = absurd (cc (sym alone.1 ∙ follows))
   lacking_fails start item low after other rest is (inr begins) follows apart p last few room =
       let s = first_state g.groups p in
       let d = match_limit g in
-      let high = begins.1.0.0 in
-      let ps = p ∷ longest_run g.scene item high p in
-      let out : AreOut g.scene other (reverse (drop low ps)) =
-      out_reverse g.scene other (drop low ps)
-      (out_drop g.scene other low ps (out_run g.scene item other apart
+      let runs : Option ℕ → List ℕ = λ high. p ∷ longest_run g.scene item high p in
+      let out : (high : Option ℕ) → AreOut g.scene other (reverse (drop low (runs high))) = λ high.
+      out_reverse g.scene other (drop low (runs high))
+      (out_drop g.scene other low (runs high) (out_run g.scene item other apart
       (length g.subject) high p last)) in
-      let few' : length (reverse (drop low ps)) ≤ d =
+      let few' : (high : Option ℕ) → length (reverse (drop low (runs high))) ≤ d = λ high.
       (let a = shorter g.scene item (length g.subject) high p in
-      let b = length-reverse (drop low ps) in
-      let c = length-drop low ps in
+      let b = length-reverse (drop low (runs high)) in
+      let c = length-drop low (runs high) in
       omega (arith, a, b, c, few)) in
       place_is start is p
       ∙ ap (λ t. walk g d (level g (run g d) t s))
-      (begins.1.1 ∙ ap (λ t. seq (more t after)) begins.1.0.1
-      ∙ ap (λ ts. seq (more (one_repeat item low high false) ts)) follows)
-      ∙ ap (walk g d)
-      (seq_is (run g d) item low high (more (one other) rest) s
-      ∙ ap (λ x. and_then x (in_order (levels g (run g d) (more (one other) rest))))
-      (many_is item low high s))
-      ∙ offers_fail other (in_order (levels g (run g d) (more (one other) rest)))
-      (λ t e. one_ends (run g d) other rest t e) (reverse (drop low ps)) s d out room few'
+      (begins.1.1 ∙ ap (λ ts. seq (more begins.0 ts)) follows)
+      ∙ ap (walk g d) (seq_is (run g d) begins.0 (more (one other) rest) s)
+      ∙ lead_fails (run g d) begins.0 item low begins.1.0 other
+      (in_order (levels g (run g d) (more (one other) rest)))
+      (λ t e. one_ends (run g d) other rest t e) s d room out few'
 
 -- What the item doesn't take.
 
@@ -507,17 +640,16 @@ module _ (tree : TreeParts) (table : List CharSet) (view : View) (first : FirstR
       (scene_same tree table view passed_over shown options) in
       let most = no_longer k low high in
       short_fails (replied reply g) is.off is.start first.item first.min is.begins.0 is.whole
-      is.begins.1.0 k (omega (arith, same, most, few))
+      is.begins.1.0 k (omega (arith, same, most, few)) is.room
 
   pub lacking_run : (c : ℕ) → first.behind ≡ Some c → (n q : ℕ)
       → n ≡ length (longest_run (text_scene view table) first.item None p)
       → q ≡ end_of p (longest_run (text_scene view table) first.item None p)
       → after_item (text_scene view table) (Char c false) q ≡ None
       → n + 1 ≤ first.min + lower_of view.options.now.match_limit view.matching.now.match_limit
-      → 1 ≤ view.matching.now.frame_limit
       → (reply : Block → ℤ) (k : ℕ) → p ≤ k → k ≤ end_of p (run_from p)
       → place_answer (replied reply g) k ≡ answers (Failed Exhausted)
-  lacking_run c behind n q count to last few room reply k low high =
+  lacking_run c behind n q count to last few reply k low high =
       let scene = scene_same tree table view passed_over shown options in
       let same : n ≡ length (run_from p) = count
       ∙ ap (λ (s : Scene). length (longest_run s first.item None p)) scene in
@@ -537,7 +669,7 @@ module _ (tree : TreeParts) (table : List CharSet) (view : View) (first : FirstR
       (s : Scene). after_item s (Char c false) q ≡ None) scene last) in
       lacking_fails (replied reply g) is.off is.start first.item first.min is.begins.0
       (Char c false) follows.0.0 is.whole is.begins.1.0 follows.0.1
-      (apart g.scene first.item c lacks) k last' (omega (arith, same, most, few, limit)) room
+      (apart g.scene first.item c lacks) k last' (omega (arith, same, most, few, limit)) is.room
 
 pub fails_always : (tree : TreeParts) (view : View) (p q : ℕ) → FailsUpTo tree view p q
     → FailsToAlways (setting_for tree view passed_over) p q

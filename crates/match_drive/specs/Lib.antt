@@ -7,5 +7,4 @@ pub mod Prefix
 pub mod Repeats
 pub mod Run
 pub mod Course
-pub mod StartLaw
 pub mod Starts

@@ -1,5 +1,5 @@
 -- The repeat of an item that a pattern begins with.
-use Rattle.std.specs.Prelude.{◌≡◌, ◌≢◌, ◌<◌, ◌≤◌, ℕ, ℤ, Bool, true, false, List, All, length, Option, Some, None, ◌⊎◌}
+use Rattle.std.specs.Prelude.{◌≡◌, ◌≢◌, ◌<◌, ◌≤◌, ℕ, ℤ, Bool, true, false, All, length, Option, Some, None, ◌⊎◌}
 use Rattle.pat_tree.specs.declared.nodes.Item.{Item}
 use Rattle.pat_tree.specs.declared.nodes.Item.TheVariants.{Char, AnyAll, NotNewline, Class}
 use Rattle.pat_tree.specs.declared.options.PartialMode.TheVariants.{Off}
@@ -23,17 +23,26 @@ Lacks has (Char d true) c = ⊥
 Lacks has AnyAll c = ⊥
 Lacks has NotNewline c = ⊥
 
--- the pattern's only alternative is a greedy repeat of the item, so many times at least
+-- a greedy repeat of the item, so many times at least
 abbrev pub IsRepeat : Nested → Item → ℕ → Type 0
 IsRepeat t item low = (high : Option ℕ) × (t ≡ one_repeat item low high false)
 
--- or begins with one, and these parts follow it
+-- or a group that is one, capturing or not
+abbrev pub IsGrouped : Nested → Item → ℕ → Type 0
+IsGrouped t item low =
+    (number : Option ℕ) × ((inner : Nested) × (IsRepeat inner item low × (t ≡ group number
+    (more inner none))))
+
+abbrev pub IsLead : Nested → Item → ℕ → Type 0
+IsLead t item low = IsRepeat t item low ⊎ IsGrouped t item low
+
+-- the pattern's only alternative is one, or begins with one, and these parts follow it
 abbrev pub BeginsSeq : Nested → Item → ℕ → Row → Type 0
-BeginsSeq t item low after = (first : Nested) × (IsRepeat first item low × (t ≡ seq
+BeginsSeq t item low after = (first : Nested) × (IsLead first item low × (t ≡ seq
     (more first after)))
 
 abbrev pub BeginsPart : Nested → Item → ℕ → Row → Type 0
-BeginsPart t item low after = (IsRepeat t item low × (after ≡ none)) ⊎ BeginsSeq t item low after
+BeginsPart t item low after = (IsLead t item low × (after ≡ none)) ⊎ BeginsSeq t item low after
 
 -- the first of these parts is the character, which the item doesn't take
 abbrev pub Follows : (ℕ → ℕ → Bool) → Item → Row → Option ℕ → Type 0
@@ -54,6 +63,8 @@ pub record IsFirstRepeat (tree : TreeParts) (view : View) (first : FirstRepeat) 
   pub class : All (λ n. n < length tree.classes) (class_in first.item)
   pub bytes : view.options.now.utf ≡ false
   pub off : view.matching.now.«partial» ≡ Off
+  -- for a group, its capture, and a shorter run
+  pub room : 3 ≤ view.matching.now.frame_limit
 
 -- all places from one up to another fail, whatever callouts answer
 abbrev pub AllFail : Setting → ℕ → ℕ → Type 0

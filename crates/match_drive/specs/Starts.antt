@@ -4,7 +4,7 @@ use Rattle.std.specs.Prelude.{◌≡◌, ℕ, true, false, ◌<◌, List, length
 use Rattle.pat_tree.specs.declared.options.PartialMode.TheVariants.{Off}
 use Rattle.ordered_search.specs.Setting.{Setting}
 use Rattle.ordered_search.specs.MatchAnswer.{match_answer}
-use Rattle.match_drive.specs.StartLaw.{IsLimit, IsUnverbed, with_no_start_optimize}
+use Rattle.search_starts.specs.StartLaw.{IsLimit, IsUnverbed, with_no_start_optimize}
 
 -- For a pattern without verbs, callouts and calls, and without partial matching, the search gives
 -- the same with the option and without it, where it passes no limit without start optimisations.

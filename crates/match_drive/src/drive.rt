@@ -89,14 +89,18 @@ pub fn search_on<S: Driven, C: Callouts>(
     calls: &mut C,
 ) -> MatchAnswer
     requires { S.fits on.now }
-    ensures answer { IsMatchAnswer result scratch.new.spans (match_answer (S.asked on.now (C.answers calls.old))) }
-    ensures last_mark { IsLastMark result scratch.new.last_mark (match_answer (S.asked on.now (C.answers calls.old))) }
+    ensures answer { IsMatchAnswer result scratch.new.spans
+        (match_answer (S.asked on.now (C.answers calls.old))) }
+    ensures last_mark { IsLastMark result scratch.new.last_mark
+        (match_answer (S.asked on.now (C.answers calls.old))) }
     ensures whole { (S.asked on.now passed_over).matching.partial ≡ Off → IsNotPartial result }
-    ensures peak { scratch.new.peak ≤ max scratch.old.peak (S.asked on.now passed_over).matching.frame_limit }
+    ensures peak { scratch.new.peak
+        ≤ max scratch.old.peak (S.asked on.now passed_over).matching.frame_limit }
     ensures groups { scratch.new.groups ≡ scratch.old.groups }
     ensures frames { scratch.new.frames ≡ scratch.old.frames }
     ensures rule { (block : Block) → C.answers calls.new block ≡ C.answers calls.old block }
-    ensures seen { IsShown result (C.seen calls.old) (C.seen calls.new) (match_answer (S.asked on.now (C.answers calls.old))) }
+    ensures seen { IsShown result (C.seen calls.old) (C.seen calls.new)
+        (match_answer (S.asked on.now (C.answers calls.old))) }
     ensures reserved { HasRoom scratch.old (S.asked on.now passed_over).groups
         (S.asked on.now passed_over).matching.frame_limit
         → IsQuiet C.refuses (C.answers calls.old) → IsOfMatching result }
@@ -137,15 +141,18 @@ pub fn search<C: Callouts>(
     calls: &mut C,
 ) -> MatchAnswer
     requires { IsReadySearch ready.now view.now }
-    ensures answer { IsMatchAnswer result scratch.new.spans (match_answer (setting_for ready.now.tree.now view.now (C.answers calls.old))) }
-    ensures last_mark { IsLastMark result scratch.new.last_mark (match_answer (setting_for ready.now.tree.now view.now (C.answers calls.old))) }
+    ensures answer { IsMatchAnswer result scratch.new.spans
+        (match_answer (setting_for ready.now.tree.now view.now (C.answers calls.old))) }
+    ensures last_mark { IsLastMark result scratch.new.last_mark
+        (match_answer (setting_for ready.now.tree.now view.now (C.answers calls.old))) }
     ensures starts { AreAlike (setting_for ready.now.tree.now view.now (C.answers calls.old)) }
     ensures whole { view.now.matching.now.partial ≡ Off → IsNotPartial result }
     ensures peak { scratch.new.peak ≤ max scratch.old.peak view.now.matching.now.frame_limit }
     ensures groups { scratch.new.groups ≡ scratch.old.groups }
     ensures frames { scratch.new.frames ≡ scratch.old.frames }
     ensures rule { (block : Block) → C.answers calls.new block ≡ C.answers calls.old block }
-    ensures seen { IsShown result (C.seen calls.old) (C.seen calls.new) (match_answer (setting_for ready.now.tree.now view.now (C.answers calls.old))) }
+    ensures seen { IsShown result (C.seen calls.old) (C.seen calls.new)
+        (match_answer (setting_for ready.now.tree.now view.now (C.answers calls.old))) }
     ensures reserved { HasRoom scratch.old (setting_for ready.now.tree.now view.now passed_over).groups
         view.now.matching.now.frame_limit
         → IsQuiet C.refuses (C.answers calls.old) → IsOfMatching result }

@@ -69,7 +69,8 @@ pub trait Driven {
     /// it. In UTF, where not each of them is one at which a character begins, the place itself.
     fn fails_to(&self, place: usize) -> usize
         requires fits { fits self.now }
-        requires place { let g = asked self.now passed_over in IsTextPlace g.options g.subject place }
+        requires place { let g = asked self.now passed_over in IsTextPlace g.options
+            g.subject place }
         ensures low { place ≤ result }
         ensures within { result ≤ length (asked self.now passed_over).subject }
         ensures alone { IsTrue (asked self.now passed_over).options.utf → result ≡ place }
@@ -79,15 +80,21 @@ pub trait Driven {
     fn try_at<C: Callouts>(&self, place: usize, scratch: &mut Scratch, calls: &mut C) -> PlaceAnswer
         requires fits { fits self.now }
         requires start { (asked self.now passed_over).start ≤ place }
-        requires place { IsTextPlace (asked self.now passed_over).options (asked self.now passed_over).subject place }
-        ensures answer { IsAnswer result scratch.new.spans (place_answer (asked self.now (C.answers calls.old)) place) }
-        ensures mark { IsMark result scratch.old.last_mark scratch.new.last_mark (place_answer (asked self.now (C.answers calls.old)) place) }
-        ensures skip { SkipsToPlace (asked self.now passed_over).options (asked self.now passed_over).subject result }
-        ensures peak { scratch.new.peak ≤ max scratch.old.peak (asked self.now passed_over).matching.frame_limit }
+        requires place { IsTextPlace (asked self.now passed_over).options
+            (asked self.now passed_over).subject place }
+        ensures answer { IsAnswer result scratch.new.spans
+            (place_answer (asked self.now (C.answers calls.old)) place) }
+        ensures mark { IsMark result scratch.old.last_mark scratch.new.last_mark
+            (place_answer (asked self.now (C.answers calls.old)) place) }
+        ensures skip { SkipsToPlace (asked self.now passed_over).options
+            (asked self.now passed_over).subject result }
+        ensures peak { scratch.new.peak
+            ≤ max scratch.old.peak (asked self.now passed_over).matching.frame_limit }
         ensures groups { scratch.new.groups ≡ scratch.old.groups }
         ensures frames { scratch.new.frames ≡ scratch.old.frames }
         ensures rule { (block : Block) → C.answers calls.new block ≡ C.answers calls.old block }
-        ensures seen { IsSeen result (C.seen calls.old) (C.seen calls.new) (place_answer (asked self.now (C.answers calls.old)) place) }
+        ensures seen { IsSeen result (C.seen calls.old) (C.seen calls.new)
+            (place_answer (asked self.now (C.answers calls.old)) place) }
         ensures reserved { HasRoom scratch.old (asked self.now passed_over).groups
             (asked self.now passed_over).matching.frame_limit
             → IsQuiet C.refuses (C.answers calls.old) → IsOfSearch result };

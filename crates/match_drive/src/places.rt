@@ -24,7 +24,8 @@ use uni_text::char_at;
 /// Whether a CRLF is passed whole at a place: where it is a newline, and the pattern names no half of it.
 fn passes_crlf<S: Driven>(on: &S, at: usize) -> bool
     requires fits { S.fits on.now }
-    requires at { IsPlace (S.asked on.now passed_over).options (S.asked on.now passed_over).subject at }
+    requires at { IsPlace (S.asked on.now passed_over).options
+        (S.asked on.now passed_over).subject at }
     ensures { result ≡ places.passes_crlf (S.asked on.now passed_over) at }
 {
     let kind = on.options().newline.end_kind(on.options().utf);
@@ -34,9 +35,11 @@ fn passes_crlf<S: Driven>(on: &S, at: usize) -> bool
 /// The place after another, if there is one.
 pub(crate) fn next_place<S: Driven>(on: &S, at: usize) -> Option<usize>
     requires fits { S.fits on.now }
-    requires at { IsTextPlace (S.asked on.now passed_over).options (S.asked on.now passed_over).subject at }
+    requires at { IsTextPlace (S.asked on.now passed_over).options
+        (S.asked on.now passed_over).subject at }
     ensures value { result ≡ places.next_place (S.asked on.now passed_over) at }
-    ensures place { IfSome result (IsTextPlace (S.asked on.now passed_over).options (S.asked on.now passed_over).subject) }
+    ensures place { IfSome result
+        (IsTextPlace (S.asked on.now passed_over).options (S.asked on.now passed_over).subject) }
 {
     if at == on.subject().len() {
         return None;
@@ -86,11 +89,14 @@ pub(crate) fn place_after<S: Driven>(
     last: usize,
 ) -> Option<usize>
     requires fits { S.fits on.now }
-    requires at { IsTextPlace (S.asked on.now passed_over).options (S.asked on.now passed_over).subject at }
-    requires skip { IsSkip (S.asked on.now passed_over).options (S.asked on.now passed_over).subject signal }
+    requires at { IsTextPlace (S.asked on.now passed_over).options
+        (S.asked on.now passed_over).subject at }
+    requires skip { IsSkip (S.asked on.now passed_over).options
+        (S.asked on.now passed_over).subject signal }
     requires last { last ≡ places.last_place (S.asked on.now passed_over) }
     ensures value { result ≡ places.place_after (S.asked on.now passed_over) at (signal_of signal) }
-    ensures place { IfSome result (IsTextPlace (S.asked on.now passed_over).options (S.asked on.now passed_over).subject) }
+    ensures place { IfSome result
+        (IsTextPlace (S.asked on.now passed_over).options (S.asked on.now passed_over).subject) }
     ensures later { IfSome result (λ to. at < to) }
     ensures within { IfSome result (λ to. to ≤ last) }
 {
@@ -117,7 +123,8 @@ fn lead_used<S: Driven>(on: &S) -> Option<&ByteSet>
 /// Whether a place is left out, as no match begins with the byte there.
 pub(crate) fn is_excluded<S: Driven>(on: &S, at: usize) -> bool
     requires fits { S.fits on.now }
-    requires at { IsPlace (S.asked on.now passed_over).options (S.asked on.now passed_over).subject at }
+    requires at { IsPlace (S.asked on.now passed_over).options
+        (S.asked on.now passed_over).subject at }
     ensures { result ≡ places.is_excluded (S.asked on.now passed_over) at }
 {
     let Some(set) = lead_used(on) else {
@@ -150,7 +157,8 @@ fn first_in(bytes: &[u8], from: usize, to: usize, set: &ByteSet) -> usize
     requires within { to ≤ length bytes.now }
     ensures low { from ≤ result }
     ensures high { result ≤ to }
-    ensures before { (k : ℕ) → from ≤ k → k < result → IsByteOutside set.now (slice_index bytes.now k) }
+    ensures before { (k : ℕ) → from ≤ k → k < result
+        → IsByteOutside set.now (slice_index bytes.now k) }
     ensures found { result < to → has_byte set.now (slice_index bytes.now result) ≡ true }
 {
     // In a text with many of its bytes the first one is most often it.
@@ -253,10 +261,12 @@ fn pass<S: Driven>(on: &S, from: usize, last: usize) -> usize
 pub(crate) fn next_tried<S: Driven>(on: &S, from: Option<usize>, last: usize) -> Option<usize>
     requires fits { S.fits on.now }
     requires from { IfSome from (λ p. p ≤ last) }
-    requires place { IfSome from (IsTextPlace (S.asked on.now passed_over).options (S.asked on.now passed_over).subject) }
+    requires place { IfSome from
+        (IsTextPlace (S.asked on.now passed_over).options (S.asked on.now passed_over).subject) }
     requires last { last ≡ places.last_place (S.asked on.now passed_over) }
     ensures tried { IsNextTriedAlways (S.asked on.now passed_over) from result }
-    ensures place { IfSome result (IsTextPlace (S.asked on.now passed_over).options (S.asked on.now passed_over).subject) }
+    ensures place { IfSome result
+        (IsTextPlace (S.asked on.now passed_over).options (S.asked on.now passed_over).subject) }
 {
     let mut next = from;
     'places: while let Some(at) = next {
@@ -279,11 +289,14 @@ pub(crate) fn next_tried<S: Driven>(on: &S, from: Option<usize>, last: usize) ->
 pub(crate) fn place_past<S: Driven>(on: &S, at: usize, signal: Signal, last: usize) -> Option<usize>
     requires fits { S.fits on.now }
     requires at { at ≤ last }
-    requires place { IsTextPlace (S.asked on.now passed_over).options (S.asked on.now passed_over).subject at }
-    requires skip { IsSkip (S.asked on.now passed_over).options (S.asked on.now passed_over).subject signal }
+    requires place { IsTextPlace (S.asked on.now passed_over).options
+        (S.asked on.now passed_over).subject at }
+    requires skip { IsSkip (S.asked on.now passed_over).options
+        (S.asked on.now passed_over).subject signal }
     requires last { last ≡ places.last_place (S.asked on.now passed_over) }
     ensures same { IsNextAlways (S.asked on.now passed_over) at (signal_of signal) result }
-    ensures place { IfSome result (IsTextPlace (S.asked on.now passed_over).options (S.asked on.now passed_over).subject) }
+    ensures place { IfSome result
+        (IsTextPlace (S.asked on.now passed_over).options (S.asked on.now passed_over).subject) }
     ensures later { IfSome result (λ to. at < to) }
     ensures within { IfSome result (λ to. to ≤ last) }
 {

@@ -10,7 +10,7 @@ ghost use Rattle.char_sets.specs.Table.{IsTableOf};
 ghost use Rattle.match_items.specs.Subjects.{IsText, IsTextPlace};
 ghost use Rattle.ordered_search.specs.Setting.{lower_of};
 ghost use Rattle.match_drive.specs.Prefix.{row_of};
-ghost use Rattle.match_drive.specs.Repeats.{Lacks, IsRepeat, BeginsWith, IsFirstRepeat, FailsUpTo};
+ghost use Rattle.match_drive.specs.Repeats.{Lacks, IsRepeat, IsLead, BeginsWith, IsFirstRepeat, FailsUpTo};
 
 use crate::course::is_off;
 use crate::need::match_limit;
@@ -52,6 +52,24 @@ fn repeat_of(node: &Node) -> Option<FirstRepeat>
             behind: None,
         }),
         _ => None,
+    }
+}
+
+/// The repeat that a part is, or that stands alone in the group that it is.
+fn lead_of(ready: &Ready<'_>, part: NodeId) -> Option<FirstRepeat>
+    requires part { part ≤ ready.now.tree.now.root }
+    ensures is { IfSome result (λ r.
+        IsLead (tree_at (trees ready.now.tree.now.nodes) part) r.item r.min) }
+    ensures class { IfSome result (λ r.
+        All (λ n. n < length ready.now.tree.now.classes) (class_in r.item)) }
+    ensures behind { IfSome result (λ r. r.behind ≡ None) }
+{
+    match ready.tree.node(part) {
+        Node::Group { branches, .. } => match branches.as_slice() {
+            [only] => repeat_of(ready.tree.node(*only)),
+            _ => None,
+        },
+        node => repeat_of(node),
     }
 }
 
@@ -115,7 +133,7 @@ fn first_of(ready: &Ready<'_>, parts: &[NodeId]) -> Option<FirstRepeat>
     let [first, next, ..] = parts else {
         return None;
     };
-    let repeat = repeat_of(ready.tree.node(*first))?;
+    let repeat = lead_of(ready, *first)?;
     Some(FirstRepeat {
         behind: apart(ready, &repeat, *next),
         ..repeat
@@ -133,17 +151,19 @@ fn repeat_in(ready: &Ready<'_>, part: NodeId) -> Option<FirstRepeat>
 {
     match ready.tree.node(part) {
         Node::Seq(parts) => first_of(ready, parts.as_slice()),
-        node => repeat_of(node),
+        _ => lead_of(ready, part),
     }
 }
 
 /// The greedy repeat of an item that a pattern begins with, where it has one alternative. None in
-/// UTF, where places go by characters, and none where partial matches are looked for.
+/// UTF, where places go by characters, none where partial matches are looked for, and none where
+/// the frame limit is lower than what trying the repeat may hold.
 pub(crate) fn first_repeat(ready: &Ready<'_>, view: &View<'_>) -> Option<FirstRepeat>
     requires table { IsTableOf ready.now.tree.now ready.now.classes.now }
     ensures { IfSome result (IsFirstRepeat ready.now.tree.now view.now) }
 {
-    if view.options.utf || !is_off(view) {
+    // A captured run holds a unit, and so do its capture and the shorter runs that are left.
+    if view.options.utf || !is_off(view) || view.matching.frame_limit < 3 {
         return None;
     }
     let Node::Group {
@@ -200,7 +220,7 @@ fn unfollowed_to(
     if run.count < least {
         return Some(run.to);
     }
-    if run.count - least >= match_limit(view) || view.matching.frame_limit == 0 {
+    if run.count - least >= match_limit(view) {
         return None;
     }
     let next = Item::Char { c, caseless: false };

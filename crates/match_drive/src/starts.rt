@@ -35,7 +35,8 @@ fn course_of<'a>(ready: &'a Ready<'a>, view: &'a View<'a>) -> Course<'a>
 /// The last place at which a match may begin.
 pub fn last_start(ready: &Ready<'_>, view: &View<'_>) -> usize
     requires { IsReadySearch ready.now view.now }
-    ensures value { result ≡ places.last_place (setting_for ready.now.tree.now view.now passed_over) }
+    ensures value { result
+        ≡ places.last_place (setting_for ready.now.tree.now view.now passed_over) }
     ensures low { view.now.start ≤ result }
     ensures within { result ≤ length view.now.subject.now }
 {

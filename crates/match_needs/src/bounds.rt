@@ -205,7 +205,12 @@ fn bounds_of(alloc: Global, tree: &Tree, classes: &ClassTable) -> Result<Vec<Opt
 
 /// The bound of a node, by those of its children.
 #[tactic(auto, unfolding(crate::specs::Bounds::bound))]
-fn bound_of(tree: &Tree, classes: &ClassTable, node: &Node, bounds: &[Option<Bound>]) -> Option<Bound>
+fn bound_of(
+    tree: &Tree,
+    classes: &ClassTable,
+    node: &Node,
+    bounds: &[Option<Bound>],
+) -> Option<Bound>
     requires table { IsTableOf tree.now classes.now }
     requires below { All (λ k. k < length bounds.now) (kids_of node.now) }
     requires few { length bounds.now ≤ tree.now.root }

@@ -1,10 +1,10 @@
 // Texts whose bytes are each of a set, and where such a text stands.
-ghost use Rattle.std.specs.Prelude.{◌≡◌, ◌↔◌, ℕ, ◌+◌, ◌<◌, ◌≤◌, ◌∷◌, [], List, None, Some, IsTrue, length, replicate};
+ghost use Rattle.std.specs.Prelude.{◌≡◌, ◌↔◌, ℕ, ◌+◌, ◌<◌, ◌≤◌, ◌∷◌, [], List, None, Some, IsTrue, MatchOption, length, replicate};
 ghost use Rattle.byte_lanes.specs.Places.{IsLeast};
-ghost use Rattle.byte_lanes.specs.Sets.{IsIn};
+ghost use Rattle.byte_lanes.specs.Sets.{IsIn, AreIn};
 ghost use Rattle.match_needs.specs.Texts.{sets_of, Stands, AreUnions, IsUnion, IsUnionOf};
 
-use byte_lanes::{ByteSet, find_in_set};
+use byte_lanes::{ByteSet, find_in_set, find_in_two_sets};
 
 /// A text of one to three bytes, each of which is any of a set. Without a second set the third isn't read.
 #[derive(Drop)]
@@ -21,6 +21,14 @@ pub struct ByteText {
 struct Anchor<'a> {
     place: usize,
     set: &'a ByteSet,
+}
+
+// Two bytes that stand next to each other, and the place of the first.
+#[derive(Drop)]
+struct Pair<'a> {
+    place: usize,
+    one: &'a ByteSet,
+    other: &'a ByteSet,
 }
 
 impl ByteText {
@@ -152,6 +160,27 @@ impl ByteText {
         }
     }
 
+    /// The byte that is looked for first, and one next to it, if there are two.
+    fn pair(&self) -> Option<Pair<'_>>
+        ensures { MatchOption result (self.now.second ≡ None)
+            (λ pair. (bytes : List ℕ) (k : ℕ) → Stands (sets_of self.now) bytes k
+            → AreIn pair.one.now 1 pair.other.now bytes (k + pair.place)) }
+    {
+        match (&self.second, &self.third) {
+            (Some(one), Some(other)) if self.anchor == 2 => Some(Pair {
+                place: 1,
+                one,
+                other,
+            }),
+            (Some(other), _) => Some(Pair {
+                place: 0,
+                one: &self.first,
+                other,
+            }),
+            (None, _) => None,
+        }
+    }
+
     /// A place whose bytes are all past ASCII, else the one that is looked for first.
     fn rarest_place(&self) -> usize {
         if is_past_ascii(&self.second) {
@@ -184,17 +213,19 @@ impl ByteText {
         requires { start ≤ length bytes.now }
         ensures { IsLeast (Stands (sets_of self.now) bytes.now) start (length bytes.now) result }
     {
-        let anchor = self.anchored(self.anchor);
-        if bytes.len() - start <= anchor.place {
+        let Some(pair) = self.pair() else {
+            return find_in_set(bytes, start, &self.first);
+        };
+        if bytes.len() - start <= pair.place {
             return bytes.len();
         }
-        let mut from = start + anchor.place;
+        let mut from = start + pair.place;
         'place: while from < bytes.len() {
-            let found = find_in_set(bytes, from, anchor.set);
+            let found = find_in_two_sets(bytes, from, pair.one, 1, pair.other);
             if found == bytes.len() {
                 return bytes.len();
             }
-            let at = found - anchor.place;
+            let at = found - pair.place;
             if self.stands(bytes, at) {
                 return at;
             }

@@ -62,8 +62,10 @@ impl<'a> Cursor<'a> {
         requires begins { here.at ≤ before.at }
         requires order { before.at ≤ after.at }
         requires within { after.at ≤ length self.now.text.now }
-        ensures part { IfOk result (λ r. GivesPart self.now after (range_between c here before after) r.0 r.1) }
-        ensures bad { IfErr result (λ f. GivesFault self.now after (range_between c here before after) f) }
+        ensures part { IfOk result
+            (λ r. GivesPart self.now after (range_between c here before after) r.0 r.1) }
+        ensures bad { IfErr result
+            (λ f. GivesFault self.now after (range_between c here before after) f) }
         ensures past { IfOk result (λ r. before.at ≤ r.1.at) }
         ensures within { IfOk result (λ r. r.1.at ≤ length self.now.text.now) }
         ensures number { IfErr result (λ f. IsClassFault f.number) }
@@ -96,8 +98,10 @@ impl<'a> Cursor<'a> {
     fn from_character(&self, c: u32, here: Place, after: Place) -> Result<(Part, Place), Fault>
         requires begins { here.at ≤ after.at }
         requires within { after.at ≤ length self.now.text.now }
-        ensures part { IfOk result (λ r. GivesPart self.now after (character_between c here after) r.0 r.1) }
-        ensures bad { IfErr result (λ f. GivesFault self.now after (character_between c here after) f) }
+        ensures part { IfOk result
+            (λ r. GivesPart self.now after (character_between c here after) r.0 r.1) }
+        ensures bad { IfErr result
+            (λ f. GivesFault self.now after (character_between c here after) f) }
         ensures past { IfOk result (λ r. after.at ≤ r.1.at) }
         ensures within { IfOk result (λ r. r.1.at ≤ length self.now.text.now) }
         ensures number { IfErr result (λ f. IsClassFault f.number) }
@@ -114,7 +118,8 @@ impl<'a> Cursor<'a> {
     /// Whether nothing of the class follows a place. A faulty token is something.
     fn is_last_at(&self, place: Place) -> bool
         requires { place.at ≤ length self.now.text.now }
-        ensures { Always self.now place (λ text n state. is_last_item (item text true n (state place)) ≡ result) }
+        ensures { Always self.now place
+            (λ text n state. is_last_item (item text true n (state place)) ≡ result) }
     {
         match self.item(place, true) {
             Ok(item) => is_last(item.token),
@@ -155,8 +160,14 @@ impl<'a> Cursor<'a> {
         requires moves { Moves self.now.text.now item.here.at item.token item.after.at }
         requires within { item.after.at ≤ length self.now.text.now }
         requires well { IsWell self.now.text.now item.token }
-        ensures part { IfOk result (λ r. (first : Bool) → is_closing first self.now.options.allow_empty_class item.token ≡ false → GivesPart self.now item.after (item_between first item.token item.here item.after) r.0 r.1) }
-        ensures bad { IfErr result (λ f. (first : Bool) → is_closing first self.now.options.allow_empty_class item.token ≡ false → GivesFault self.now item.after (item_between first item.token item.here item.after) f) }
+        ensures part { IfOk result
+            (λ r. (first : Bool) → is_closing first self.now.options.allow_empty_class item.token
+            ≡ false → GivesPart self.now item.after
+            (item_between first item.token item.here item.after) r.0 r.1) }
+        ensures bad { IfErr result
+            (λ f. (first : Bool) → is_closing first self.now.options.allow_empty_class item.token
+            ≡ false → GivesFault self.now item.after
+            (item_between first item.token item.here item.after) f) }
         ensures past { IfOk result (λ r. item.here.at < r.1.at) }
         ensures within { IfOk result (λ r. r.1.at ≤ length self.now.text.now) }
         ensures number { IfErr result (λ f. IsClassFault f.number) }
@@ -191,8 +202,14 @@ impl<'a> Cursor<'a> {
     /// after the bracket.
     fn step(&self, first: bool, place: Place) -> Result<(Option<Part>, Place), Fault>
         requires { place.at ≤ length self.now.text.now }
-        ensures step { IfOk result (λ r. Always self.now place (λ text n state. class_parts text (suc n) first (state place) ≡ option_map_or (λ p. part_then p (class_parts text n false (state r.1))) r.0 (Ok ([], state r.1)))) }
-        ensures bad { IfErr result (λ f. Always self.now place (λ text n state. class_parts text (suc n) first (state place) ≡ Err f)) }
+        ensures step { IfOk result
+            (λ r. Always self.now place
+            (λ text n state. class_parts text (suc n) first (state place)
+            ≡ option_map_or (λ p. part_then p (class_parts text n false (state r.1))) r.0
+            (Ok ([], state r.1)))) }
+        ensures bad { IfErr result
+            (λ f. Always self.now place
+            (λ text n state. class_parts text (suc n) first (state place) ≡ Err f)) }
         ensures past { IfOk result (λ r. place.at ≤ r.1.at) }
         ensures more { IfOk result (λ r. IfSome r.0 (λ p. place.at < r.1.at)) }
         ensures within { IfOk result (λ r. r.1.at ≤ length self.now.text.now) }
@@ -210,8 +227,13 @@ impl<'a> Cursor<'a> {
     /// The parts of a class from the place after its opening bracket on, and the place after the closing one.
     fn parts(&self, alloc: Global) -> Result<(PartList, Place), ReadError>
         requires { self.now.place.at ≤ length self.now.text.now }
-        ensures parts { IfOk result (λ r. AlwaysFromStart self.now self.now.place (λ text n state. class_parts text n true (state self.now.place) ≡ Ok (r.0, state r.1))) }
-        ensures bad { IfErr result (λ e. AlwaysFromStart self.now self.now.place (λ text n state. Tells (class_parts text n true (state self.now.place)) e)) }
+        ensures parts { IfOk result
+            (λ r. AlwaysFromStart self.now self.now.place
+            (λ text n state. class_parts text n true (state self.now.place)
+            ≡ Ok (r.0, state r.1))) }
+        ensures bad { IfErr result
+            (λ e. AlwaysFromStart self.now self.now.place
+            (λ text n state. Tells (class_parts text n true (state self.now.place)) e)) }
         ensures past { IfOk result (λ r. self.now.place.at ≤ r.1.at) }
         ensures within { IfOk result (λ r. r.1.at ≤ length self.now.text.now) }
         ensures number { IfErr result (λ e. IfBad e (λ number at. IsClassFault number)) }
@@ -245,8 +267,13 @@ pub fn read_class(
 
     // The class and the place after it, or the fault, are those of the definition: from every state of the reader at the
     // cursor, and for every bound of at least two more than the bytes that are left. The rest of the state stays as it was.
-    ensures class { IfOk result (λ r. AlwaysFromStart cursor.now cursor.now.place (λ text n state. class_spec text n negated (state cursor.now.place) ≡ Ok (r.0, state r.1))) }
-    ensures bad { IfErr result (λ e. AlwaysFromStart cursor.now cursor.now.place (λ text n state. Tells (class_spec text n negated (state cursor.now.place)) e)) }
+    ensures class { IfOk result
+        (λ r. AlwaysFromStart cursor.now cursor.now.place
+        (λ text n state. class_spec text n negated (state cursor.now.place)
+        ≡ Ok (r.0, state r.1))) }
+    ensures bad { IfErr result
+        (λ e. AlwaysFromStart cursor.now cursor.now.place
+        (λ text n state. Tells (class_spec text n negated (state cursor.now.place)) e)) }
     ensures past { IfOk result (λ r. cursor.now.place.at ≤ r.1.at) }
     ensures within { IfOk result (λ r. r.1.at ≤ length cursor.now.text.now) }
     ensures number { IfErr result (λ e. IfBad e (λ number at. IsClassFault number)) }

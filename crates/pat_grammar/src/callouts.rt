@@ -68,7 +68,8 @@ impl<'a> Cursor<'a> {
 
     /// Where reading goes on after what is no item: what is passed over, and an option setting.
     fn set_over(&self, token: Token, after: Place) -> Option<Cursor<'a>>
-        ensures value { (st : State) → set_over token (state_at self.now st after) ≡ option_map (λ c. state_at c st c.place) result }
+        ensures value { (st : State) → set_over token (state_at self.now st after)
+            ≡ option_map (λ c. state_at c st c.place) result }
         ensures text { IfSome result (λ c. c.text.now ≡ self.now.text.now) }
         ensures stays { IfSome result (λ c. c.place.at ≡ after.at) }
     {
@@ -101,7 +102,8 @@ impl<'a> Cursor<'a> {
     /// Where an item that ends at a place, but for its quantifier, ends with it.
     fn quantified_end(&self, place: Place) -> usize
         requires { place.at ≤ length self.now.text.now }
-        ensures value { (st : State) → quantified_end self.now.text.now (state_at self.now st place) ≡ result }
+        ensures value { (st : State) → quantified_end self.now.text.now
+            (state_at self.now st place) ≡ result }
         ensures past { place.at ≤ result }
         ensures within { result ≤ length self.now.text.now }
     {
@@ -117,7 +119,9 @@ impl<'a> Cursor<'a> {
     /// Where an item ends that begins with a token, after which the text goes on at a place.
     fn item_end(&self, alloc: Global, token: Token, after: Place) -> Result<usize, Memory>
         requires { after.at ≤ length self.now.text.now }
-        ensures value { IfOk result (λ end. (st : State) → item_end self.now.text.now token (state_at self.now st after) ≡ end) }
+        ensures value { IfOk result
+            (λ end. (st : State) → item_end self.now.text.now token
+            (state_at self.now st after) ≡ end) }
         ensures past { IfOk result (λ end. after.at ≤ end) }
         ensures within { IfOk result (λ end. end ≤ length self.now.text.now) }
     {
@@ -138,7 +142,9 @@ impl<'a> Cursor<'a> {
     /// The next item from the cursor's place on.
     pub fn next_item(&self, alloc: Global) -> Result<NextItem, Memory>
         requires { self.now.place.at ≤ length self.now.text.now }
-        ensures value { IfOk result (λ item. (st : State) → next_item self.now.text.now (state_at self.now st self.now.place) ≡ (item.at, item.len)) }
+        ensures value { IfOk result
+            (λ item. (st : State) → next_item self.now.text.now
+            (state_at self.now st self.now.place) ≡ (item.at, item.len)) }
         ensures within { IfOk result (λ item. item.at + item.len ≤ length self.now.text.now) }
     {
         let mut cursor = *self;

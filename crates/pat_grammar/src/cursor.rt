@@ -54,7 +54,8 @@ impl Place {
     /// Where reading goes on after a token that stands for nothing itself, which ended here: a comment, ignored white space,
     /// `\Q` or `\E`.
     pub(crate) fn passed_over(self, token: Token) -> Option<Place>
-        ensures value { (st : State) → passed_over token (moved_to st self) ≡ option_map (moved_to st) result }
+        ensures value { (st : State) → passed_over token (moved_to st self)
+            ≡ option_map (moved_to st) result }
         ensures stays { IfSome result (λ beyond. beyond.at ≡ self.at) }
     {
         let quoting = match token {
@@ -108,7 +109,8 @@ impl<'a> Cursor<'a> {
         requires { place.at ≤ length self.now.text.now }
 
         // The token depends on the place, the options in force and the groups that were opened.
-        ensures value { result ≡ token_at self.now.text.now (flags_at self.now in_class place) place.at }
+        ensures value { result ≡ token_at self.now.text.now
+            (flags_at self.now in_class place) place.at }
 
         // The end is a token exactly at the text's length. Every other token is followed by a later place within the text.
         ensures moves { IfOk result (λ r. Moves self.now.text.now place.at r.0 r.1) }
@@ -122,8 +124,13 @@ impl<'a> Cursor<'a> {
     /// The next token that isn't passed over, in a class or outside.
     pub(crate) fn item(&self, place: Place, in_class: bool) -> Result<Spot, Fault>
         requires { place.at ≤ length self.now.text.now }
-        ensures found { IfOk result (λ i. Always self.now place (λ text n state. item text in_class n (state place) ≡ Ok (i.token, state i.here, state i.after))) }
-        ensures bad { IfErr result (λ f. Always self.now place (λ text n state. item text in_class n (state place) ≡ Err f)) }
+        ensures found { IfOk result
+            (λ i. Always self.now place
+            (λ text n state. item text in_class n (state place)
+            ≡ Ok (i.token, state i.here, state i.after))) }
+        ensures bad { IfErr result
+            (λ f. Always self.now place
+            (λ text n state. item text in_class n (state place) ≡ Err f)) }
         ensures past { IfOk result (λ i. place.at ≤ i.here.at) }
         ensures onward { IfOk result (λ i. i.here.at ≤ i.after.at) }
         ensures within { IfOk result (λ i. i.after.at ≤ length self.now.text.now) }

@@ -19,7 +19,8 @@ fn begins_limit(text: &[u8], at: usize) -> bool
 
 /// The place after the start items, and the options under them.
 pub fn started(text: &[u8], options: Options) -> Result<(usize, Options), ReadError>
-    ensures ok { IfOk result (λ r. started text.now (length text.now + 1) (start options) ≡ Ok (state_from r.0 r.1)) }
+    ensures ok { IfOk result (λ r. started text.now (length text.now + 1) (start options)
+        ≡ Ok (state_from r.0 r.1)) }
     ensures within { IfOk result (λ r. r.0 ≤ length text.now) }
     ensures bad { IfErr result (Refuses (started text.now (length text.now + 1) (start options))) }
 {

@@ -90,7 +90,8 @@ fn number_of(node: &Node) -> Option<u16>
 pub fn group_table(alloc: Global, tree: &Tree, order: &[NodeId]) -> Result<Groups, Memory>
     requires below { All (λ k. k ≤ tree.now.root) order.now }
     requires nodes { map (tree_at (trees tree.now.nodes)) order.now ≡ all_nodes (tree_of tree.now) }
-    ensures table { IfOk result (IsGroupTable (trees tree.now.nodes) tree.now.root (tree_of tree.now)) }
+    ensures table { IfOk result
+        (IsGroupTable (trees tree.now.nodes) tree.now.root (tree_of tree.now)) }
     ensures places { IfOk result (λ groups. (n : ℕ)
         → place_of groups.places.items n
         ≡ called_place (trees tree.now.nodes) tree.now.root order.now n) }

@@ -39,15 +39,30 @@ impl Model for Draft {
 
     ghost Value = { DraftParts };
 
-    ghost view = { λ d. record { options = d.options; nodes = d.nodes.items; classes = d.classes.items; names = d.names; verb_names = d.verb_names.items } };
+    ghost view = { λ d. record {
+      options = d.options;
+      nodes = d.nodes.items;
+      classes = d.classes.items;
+      names = d.names;
+      verb_names = d.verb_names.items;
+    } };
 
-    ghost invariant = { λ d. DraftRules (record { options = d.options; nodes = d.nodes.items; classes = d.classes.items; names = d.names; verb_names = d.verb_names.items }) × ((n : ℕ) → marked d.groups n ≡ has_group d.nodes.items n) };
+    ghost invariant = { λ d. DraftRules
+        (record {
+          options = d.options;
+          nodes = d.nodes.items;
+          classes = d.classes.items;
+          names = d.names;
+          verb_names = d.verb_names.items;
+        })
+        × ((n : ℕ) → marked d.groups n ≡ has_group d.nodes.items n) };
 }
 
 impl Draft {
     /// A draft with these options and nothing else. Takes no memory.
     pub fn new(alloc: Global, options: Options) -> Draft
-        ensures { result ≡ record { options = options; nodes = []; classes = []; names = []; verb_names = [] } }
+        ensures { result
+            ≡ record { options = options; nodes = []; classes = []; names = []; verb_names = [] } }
     {
         Draft {
             alloc,
@@ -72,15 +87,25 @@ impl Draft {
         requires named { IsNamed node }
         requires ordered { IsOrdered node }
         requires define { IsDefine node }
-        requires test { All (λ k. is_test (tree_at (trees self.old.nodes) k) ≡ true) (asserted_by node) }
-        ensures grows { OnOk result (self.new ≡ with_node self.old (record { node = node; at = at })) }
+        requires test { All (λ k. is_test (tree_at (trees self.old.nodes) k) ≡ true)
+            (asserted_by node) }
+        ensures grows { OnOk result
+            (self.new ≡ with_node self.old (record { node = node; at = at })) }
         ensures number { IfOk result (λ id. id ≡ length self.old.nodes) }
         ensures count { OnOk result (length self.new.nodes ≡ length self.old.nodes + 1) }
-        ensures made { IfOk result (λ id. Makes self.old.nodes self.new.nodes id (nest (trees self.old.nodes) node)) }
-        ensures refs { OnOk result (refs self.new.nodes ≡ refs self.old.nodes ++ refs_of (record { node = node; at = at })) }
-        ensures loose { OnOk result (loose self.new.nodes ≡ without (kids_of node) (loose self.old.nodes) ++ length self.old.nodes ∷ []) }
-        ensures replaces { IfOk result (λ id. Replaces self.old.nodes (kids_of node) self.new.nodes id) }
-        ensures groups { OnOk result ((n : ℕ) → has_group self.new.nodes n ≡ (has_group self.old.nodes n || is_group n node)) }
+        ensures made { IfOk result
+            (λ id. Makes self.old.nodes self.new.nodes id (nest (trees self.old.nodes) node)) }
+        ensures refs { OnOk result
+            (refs self.new.nodes ≡ refs self.old.nodes
+            ++ refs_of (record { node = node; at = at })) }
+        ensures loose { OnOk result
+            (loose self.new.nodes ≡ without (kids_of node) (loose self.old.nodes)
+            ++ length self.old.nodes ∷ []) }
+        ensures replaces { IfOk result
+            (λ id. Replaces self.old.nodes (kids_of node) self.new.nodes id) }
+        ensures groups { OnOk result
+            ((n : ℕ) → has_group self.new.nodes n
+            ≡ (has_group self.old.nodes n || is_group n node)) }
         ensures refused { OnErr result (self.new ≡ self.old) }
     {
         let id = self.nodes.len() as u32;
@@ -120,7 +145,12 @@ impl Draft {
     /// changes nothing. The draft is unchanged after a refusal.
     pub fn add_name(&mut self, name: &[u8], group: u16) -> Result<(), Memory>
         requires room { length self.old.names < 4294967295 }
-        ensures named { OnOk result (self.new ≡ record self.old { names = with_name (record { name = name.now; group = group }) self.old.names }) }
+        ensures named { OnOk result
+            (self.new
+            ≡ record self.old {
+              names = with_name (record { name = name.now; group = group })
+                  self.old.names;
+            }) }
         ensures refused { OnErr result (self.new ≡ self.old) }
     {
         self.names.add(self.alloc, name, group)
@@ -138,7 +168,10 @@ impl Draft {
     pub fn finish(self, root: NodeId) -> Result<Tree, BadRef>
         requires root { root < length self.nodes }
         requires names { All (λ entry. has_group self.nodes entry.group ≡ true) self.names }
-        ensures { MatchResult result (λ tree. (tree ≡ with_root self root) × (bad_ref (has_group self.nodes) (refs self.nodes) ≡ None)) (λ bad. bad_ref (has_group self.nodes) (refs self.nodes) ≡ Some bad.at) }
+        ensures { MatchResult result
+            (λ tree. (tree ≡ with_root self root)
+            × (bad_ref (has_group self.nodes) (refs self.nodes) ≡ None))
+            (λ bad. bad_ref (has_group self.nodes) (refs self.nodes) ≡ Some bad.at) }
     {
         match leftmost_bad(&self.nodes, &self.groups) {
             Some(at) => Err(BadRef { at }),

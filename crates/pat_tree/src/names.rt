@@ -78,7 +78,8 @@ impl NameTable {
 
     /// Puts a pair in its place; one that is there changes nothing. The table is unchanged after a refusal.
     pub(crate) fn add(&mut self, alloc: Global, name: &[u8], group: u16) -> Result<(), Memory>
-        ensures ok { OnOk result (self.new ≡ with_name (record { name = name.now; group = group }) self.old) }
+        ensures ok { OnOk result
+            (self.new ≡ with_name (record { name = name.now; group = group }) self.old) }
         ensures ordered { AreInOrder self.new }
         ensures refused { OnErr result (self.new ≡ self.old) }
     {

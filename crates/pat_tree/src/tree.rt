@@ -32,9 +32,25 @@ impl Model for Tree {
 
     ghost Value = { TreeParts };
 
-    ghost view = { λ t. record { options = t.options; nodes = t.nodes.items; classes = t.classes.items; names = t.names; verb_names = t.verb_names.items; root = t.root } };
+    ghost view = { λ t. record {
+      options = t.options;
+      nodes = t.nodes.items;
+      classes = t.classes.items;
+      names = t.names;
+      verb_names = t.verb_names.items;
+      root = t.root;
+    } };
 
-    ghost invariant = { λ t. TreeRules (record { options = t.options; nodes = t.nodes.items; classes = t.classes.items; names = t.names; verb_names = t.verb_names.items; root = t.root }) × (t.groups ≡ greatest (group_numbers t.nodes.items)) };
+    ghost invariant = { λ t. TreeRules
+        (record {
+          options = t.options;
+          nodes = t.nodes.items;
+          classes = t.classes.items;
+          names = t.names;
+          verb_names = t.verb_names.items;
+          root = t.root;
+        })
+        × (t.groups ≡ greatest (group_numbers t.nodes.items)) };
 }
 
 impl Tree {
@@ -47,8 +63,24 @@ impl Tree {
         verb_names: Vec<Word>,
         root: NodeId,
     ) -> Tree
-        requires { TreeRules (record { options = options; nodes = nodes.items; classes = classes.items; names = names; verb_names = verb_names.items; root = root }) }
-        ensures { result ≡ record { options = options; nodes = nodes.items; classes = classes.items; names = names; verb_names = verb_names.items; root = root } }
+        requires { TreeRules
+            (record {
+              options = options;
+              nodes = nodes.items;
+              classes = classes.items;
+              names = names;
+              verb_names = verb_names.items;
+              root = root;
+            }) }
+        ensures { result
+            ≡ record {
+              options = options;
+              nodes = nodes.items;
+              classes = classes.items;
+              names = names;
+              verb_names = verb_names.items;
+              root = root;
+            } }
     {
         let groups = greatest_group(&nodes);
         Tree {
@@ -68,10 +100,12 @@ impl Tree {
         ensures here { (other : _) → result.now ≡ (slice_index_or self.now.nodes id other).node }
         ensures is { nest (trees self.now.nodes) result.now ≡ tree_at (trees self.now.nodes) id }
         ensures below { All (λ k. k < id) (kids_of result.now) }
-        ensures rules { NodeRules (length self.now.classes) (length self.now.verb_names) self.now.nodes result.now }
+        ensures rules { NodeRules (length self.now.classes) (length self.now.verb_names)
+            self.now.nodes result.now }
         ensures stand { All (λ n. has_group self.now.nodes n ≡ true) (named_by result.now) }
         ensures once { IsDistinct nat_eq (children self.now.nodes) }
-        ensures grouped { All (λ n. n ≤ greatest (group_numbers self.now.nodes)) (numbers_of result.now) }
+        ensures grouped { All (λ n. n ≤ greatest (group_numbers self.now.nodes))
+            (numbers_of result.now) }
     {
         let placed = &self.nodes[id as usize];
         &placed.node

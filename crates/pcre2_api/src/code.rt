@@ -66,9 +66,21 @@ impl Model for Code {
 
     ghost Value = { CodeParts };
 
-    ghost view = { λ code. record { text = code.text.items; tree = code.tree; classes = code.classes; facts = code.facts } };
+    ghost view = { λ code.
+        record {
+          text = code.text.items;
+          tree = code.tree;
+          classes = code.classes;
+          facts = code.facts;
+        } };
 
-    ghost invariant = { λ code. IsCode (record { text = code.text.items; tree = code.tree; classes = code.classes; facts = code.facts }) };
+    ghost invariant = { λ code.
+        IsCode (record {
+          text = code.text.items;
+          tree = code.tree;
+          classes = code.classes;
+          facts = code.facts;
+        }) };
 }
 
 impl Code {
@@ -108,14 +120,23 @@ impl Code {
     ) -> Result<Found<'a>, MatchError>
         requires short { length subject.now < 4294967295 }
         ensures* peak { sem 𝓛 (Leaves scratch.entry options.now.frame_limit) }
-        ensures found { IfOk result (IsFound (search_of self.now options.now subject.now start (C.answers calls.old))) }
+        ensures found { IfOk result
+            (IsFound (search_of self.now options.now subject.now start (C.answers calls.old))) }
         ensures code { IfOk result (λ f. (f.code ≡ self.now) × (f.subject ≡ subject.now)) }
-        ensures refused { IfErr result (IsMatchError (search_of self.now options.now subject.now start (C.answers calls.old))) }
+        ensures refused { IfErr result
+            (IsMatchError
+            (search_of self.now options.now subject.now start (C.answers calls.old))) }
         ensures starts { start_fault self.now.tree.options.utf subject.now start ≡ None
             → AreAlike (search_of self.now options.now subject.now start (C.answers calls.old)) }
         ensures rule { (block : Block) → C.answers calls.new block ≡ C.answers calls.old block }
-        ensures seen { OnOk result (C.seen calls.new ≡ shown_by (search_of self.now options.now subject.now start (C.answers calls.old)) (C.seen calls.old)) }
-        ensures shown { IfErr result (λ e. HasShown e (C.seen calls.new) (shown_by (search_of self.now options.now subject.now start (C.answers calls.old)) (C.seen calls.old))) }
+        ensures seen { OnOk result
+            (C.seen calls.new
+            ≡ shown_by (search_of self.now options.now subject.now start (C.answers calls.old))
+            (C.seen calls.old)) }
+        ensures shown { IfErr result
+            (λ e. HasShown e (C.seen calls.new)
+            (shown_by (search_of self.now options.now subject.now start (C.answers calls.old))
+            (C.seen calls.old))) }
         ensures reserved { Fits self.now options.now scratch.old
             → IsQuiet C.refuses (C.answers calls.old) → IfErr result IsOfMatch }
     {
@@ -135,12 +156,21 @@ impl Code {
         requires checked { IsChecked self.now.tree.options.utf subject.now }
         requires short { length subject.now < 4294967295 }
         ensures* peak { sem 𝓛 (Leaves scratch.entry options.now.frame_limit) }
-        ensures found { IfOk result (IsFound (search_of self.now options.now subject.now start (C.answers calls.old))) }
+        ensures found { IfOk result
+            (IsFound (search_of self.now options.now subject.now start (C.answers calls.old))) }
         ensures code { IfOk result (λ f. (f.code ≡ self.now) × (f.subject ≡ subject.now)) }
-        ensures refused { IfErr result (IsMatchError (search_of self.now options.now subject.now start (C.answers calls.old))) }
+        ensures refused { IfErr result
+            (IsMatchError
+            (search_of self.now options.now subject.now start (C.answers calls.old))) }
         ensures rule { (block : Block) → C.answers calls.new block ≡ C.answers calls.old block }
-        ensures seen { OnOk result (C.seen calls.new ≡ shown_by (search_of self.now options.now subject.now start (C.answers calls.old)) (C.seen calls.old)) }
-        ensures shown { IfErr result (λ e. HasShown e (C.seen calls.new) (shown_by (search_of self.now options.now subject.now start (C.answers calls.old)) (C.seen calls.old))) }
+        ensures seen { OnOk result
+            (C.seen calls.new
+            ≡ shown_by (search_of self.now options.now subject.now start (C.answers calls.old))
+            (C.seen calls.old)) }
+        ensures shown { IfErr result
+            (λ e. HasShown e (C.seen calls.new)
+            (shown_by (search_of self.now options.now subject.now start (C.answers calls.old))
+            (C.seen calls.old))) }
     {
         found_of(seek_again(scratch, self, subject, start, options, calls))
     }
@@ -150,7 +180,8 @@ impl Code {
     pub fn test_start(&self, subject: &[u8], start: usize) -> Result<(), MatchError>
         ensures ok { OnOk result (start_fault self.now.tree.options.utf subject.now start ≡ None) }
         ensures checked { OnOk result (IsChecked self.now.tree.options.utf subject.now) }
-        ensures refused { IfErr result (λ e. start_fault self.now.tree.options.utf subject.now start ≡ Some e) }
+        ensures refused { IfErr result
+            (λ e. start_fault self.now.tree.options.utf subject.now start ≡ Some e) }
     {
         test_start(self.options().utf, subject, start)
     }
@@ -219,11 +250,18 @@ impl Code {
     ) -> MatchAnswer
         requires begun { start_fault self.now.tree.options.utf subject.now start ≡ None }
         requires short { length subject.now < 4294967295 }
-        ensures answer { IsMatchAnswer result scratch.new.spans (match_answer (search_of self.now options.now subject.now start (C.answers calls.old))) }
-        ensures plain { IsPlain (search_of self.now options.now subject.now start (C.answers calls.old)) (match_answer (search_of self.now options.now subject.now start (C.answers calls.old))).answer }
+        ensures answer { IsMatchAnswer result scratch.new.spans
+            (match_answer
+            (search_of self.now options.now subject.now start (C.answers calls.old))) }
+        ensures plain { IsPlain
+            (search_of self.now options.now subject.now start (C.answers calls.old))
+            (match_answer
+            (search_of self.now options.now subject.now start (C.answers calls.old))).answer }
         ensures peak { scratch.new.peak ≤ max scratch.old.peak options.now.frame_limit }
         ensures rule { (block : Block) → C.answers calls.new block ≡ C.answers calls.old block }
-        ensures seen { IsShown result (C.seen calls.old) (C.seen calls.new) (match_answer (search_of self.now options.now subject.now start (C.answers calls.old))) }
+        ensures seen { IsShown result (C.seen calls.old) (C.seen calls.new)
+            (match_answer
+            (search_of self.now options.now subject.now start (C.answers calls.old))) }
         ensures reserved { Fits self.now options.now scratch.old
             → IsQuiet C.refuses (C.answers calls.old) → IsOfMatching result }
     {

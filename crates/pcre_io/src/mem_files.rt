@@ -34,7 +34,8 @@ pub struct MemFiles {
 impl MemFiles {
     /// A set without files. Takes no memory.
     pub fn new(alloc: Global) -> MemFiles
-        ensures { ⟦<MemFiles as FileSet>⟧.tells result ≡ record { contents = Some (held_files [] []); faults = 0 } }
+        ensures { ⟦<MemFiles as FileSet>⟧.tells result
+            ≡ record { contents = Some (held_files [] []); faults = 0 } }
     {
         MemFiles {
             files: Vec::new(alloc),
@@ -46,8 +47,11 @@ impl MemFiles {
     /// Adds a file, in the place of the one that has its name, if there is one. After `fail_at` of its bytes, where it is
     /// given, every read of it fails. The set is unchanged after a refusal, which is for want of memory alone.
     pub fn add(&mut self, name: String, bytes: Vec<u8>, fail_at: Option<u64>) -> Result<(), Memory>
-        ensures ok { OnOk result (Adds (record { name = string_bytes name; bytes = bytes.items; fault = fail_at }) (⟦<MemFiles as FileSet>⟧.tells self.old) (⟦<MemFiles as FileSet>⟧.tells self.new)) }
-        ensures refused { OnErr result (⟦<MemFiles as FileSet>⟧.tells self.new ≡ ⟦<MemFiles as FileSet>⟧.tells self.old) }
+        ensures ok { OnOk result
+            (Adds (record { name = string_bytes name; bytes = bytes.items; fault = fail_at })
+            (⟦<MemFiles as FileSet>⟧.tells self.old) (⟦<MemFiles as FileSet>⟧.tells self.new)) }
+        ensures refused { OnErr result
+            (⟦<MemFiles as FileSet>⟧.tells self.new ≡ ⟦<MemFiles as FileSet>⟧.tells self.old) }
     {
         let file = MemFile {
             name,
@@ -66,15 +70,19 @@ impl MemFiles {
     /// Opening, listing and asking the kind of this name fail from now on. The set is unchanged after a refusal, which is
     /// for want of memory alone.
     pub fn refuse(&mut self, name: String) -> Result<(), Memory>
-        ensures ok { OnOk result (Refuses (string_bytes name) (⟦<MemFiles as FileSet>⟧.tells self.old) (⟦<MemFiles as FileSet>⟧.tells self.new)) }
-        ensures refused { OnErr result (⟦<MemFiles as FileSet>⟧.tells self.new ≡ ⟦<MemFiles as FileSet>⟧.tells self.old) }
+        ensures ok { OnOk result
+            (Refuses (string_bytes name) (⟦<MemFiles as FileSet>⟧.tells self.old)
+            (⟦<MemFiles as FileSet>⟧.tells self.new)) }
+        ensures refused { OnErr result
+            (⟦<MemFiles as FileSet>⟧.tells self.new ≡ ⟦<MemFiles as FileSet>⟧.tells self.old) }
     {
         self.refused.push(Name::of(name))
     }
 
     // The kind of a name, if it is known.
     fn kind_of(&self, name: &str) -> Option<Kind>
-        ensures { result ≡ kind_of name.now (held_files (map file_view self.now.files.items) self.now.refused) }
+        ensures { result
+            ≡ kind_of name.now (held_files (map file_view self.now.files.items) self.now.refused) }
     {
         if is_among(name, self.refused.as_slice()) {
             None
@@ -89,7 +97,9 @@ impl MemFiles {
 
     // The file that a name opens, if there is one.
     fn opened(&self, name: &str) -> Option<&MemFile>
-        ensures { option_map (λ f. file_view f.now) result ≡ opened_file name.now (held_files (map file_view self.now.files.items) self.now.refused) }
+        ensures { option_map (λ f. file_view f.now) result
+            ≡ opened_file name.now
+            (held_files (map file_view self.now.files.items) self.now.refused) }
     {
         if is_among(name, self.refused.as_slice()) {
             None
@@ -146,7 +156,8 @@ fn place_of(files: &[MemFile], name: &str) -> usize
 
 /// The first file of this name.
 pub fn find<'a>(files: &'a [MemFile], name: &str) -> Option<&'a MemFile>
-    ensures { MatchOption result (file_of name.now (map file_view files.now) ≡ None) (λ f. file_of name.now (map file_view files.now) ≡ Some (file_view f.now)) }
+    ensures { MatchOption result (file_of name.now (map file_view files.now) ≡ None)
+        (λ f. file_of name.now (map file_view files.now) ≡ Some (file_view f.now)) }
 {
     let mut rest = files;
     'file: loop {
@@ -169,7 +180,9 @@ pub fn has_file(files: &[MemFile], name: &str) -> bool
 
 // A source of a file's bytes.
 fn source_of(alloc: Global, file: &MemFile) -> Result<MemSource, IoError>
-    ensures ok { IfOk result (λ s. ⟦<MemSource as crate::Source>⟧.tells s ≡ record { left = Some file.now.bytes.items; stop = Some file.now.fail_at; faults = 0 }) }
+    ensures ok { IfOk result
+        (λ s. ⟦<MemSource as crate::Source>⟧.tells s
+        ≡ record { left = Some file.now.bytes.items; stop = Some file.now.fail_at; faults = 0 }) }
     ensures err { OnErr result (result ≡ Err IoError.Memory) }
 {
     match file.bytes.as_slice().to_vec(alloc) {

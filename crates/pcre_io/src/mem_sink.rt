@@ -20,7 +20,8 @@ impl MemSink {
     /// An empty sink. After `room` bytes, where it is given, every write fails; one write takes at most `piece` bytes.
     pub fn new(alloc: Global, room: Option<u64>, piece: u32) -> MemSink
         requires { 1 ≤ piece }
-        ensures { ⟦<MemSink as Sink>⟧.tells result ≡ record { held = Some []; room = Some room; piece = Some piece; faults = 0 } }
+        ensures { ⟦<MemSink as Sink>⟧.tells result
+            ≡ record { held = Some []; room = Some room; piece = Some piece; faults = 0 } }
     {
         MemSink {
             bytes: Vec::new(alloc),
@@ -41,7 +42,8 @@ impl MemSink {
 // Adds the first n bytes of a piece.
 fn push_front(held: &mut Vec<u8>, bytes: &[u8], n: usize) -> Result<usize, IoError>
     requires { n ≤ length bytes.now }
-    ensures ok { IfOk result (λ m. (m ≡ n) × (held.new.items ≡ held.old.items ++ take n bytes.now)) }
+    ensures ok { IfOk result
+        (λ m. (m ≡ n) × (held.new.items ≡ held.old.items ++ take n bytes.now)) }
     ensures err { OnErr result (held.new.items ≡ held.old.items) }
     ensures memory { IsErrOf result IoError.Failed → ⊥ }
 {

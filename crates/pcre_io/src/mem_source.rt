@@ -20,7 +20,8 @@ impl MemSource {
     /// `piece` bytes. Takes no memory.
     pub fn new(bytes: Vec<u8>, fail_at: Option<u64>, piece: u32) -> MemSource
         requires { 1 ≤ piece }
-        ensures { ⟦<MemSource as Source>⟧.tells result ≡ record { left = Some bytes.items; stop = Some fail_at; faults = 0 } }
+        ensures { ⟦<MemSource as Source>⟧.tells result
+            ≡ record { left = Some bytes.items; stop = Some fail_at; faults = 0 } }
     {
         MemSource {
             bytes,
@@ -51,7 +52,8 @@ fn copy_front(from: &[u8], to: &mut [u8], n: usize)
 impl MemSource {
     // The most that a read into this room gives, but for a fault.
     fn most(&self, room: usize) -> usize
-        ensures { result ≡ min (min (length self.now.bytes.items - self.now.at) room) self.now.piece }
+        ensures { result ≡ min (min (length self.now.bytes.items - self.now.at) room)
+            self.now.piece }
     {
         (self.bytes.len() - self.at)
             .min(room)
@@ -63,8 +65,10 @@ impl MemSource {
         requires here { n ≤ length self.old.bytes.items - self.old.at }
         requires room { n ≤ length buf.old }
         ensures count { result ≡ n }
-        ensures bytes { drop self.old.at self.old.bytes.items ≡ take n buf.new ++ drop self.new.at self.new.bytes.items }
-        ensures rest { length self.new.bytes.items - self.new.at ≡ length self.old.bytes.items - self.old.at - n }
+        ensures bytes { drop self.old.at self.old.bytes.items ≡ take n buf.new
+            ++ drop self.new.at self.new.bytes.items }
+        ensures rest { length self.new.bytes.items - self.new.at
+            ≡ length self.old.bytes.items - self.old.at - n }
         ensures stop { self.new.to_fault ≡ self.old.to_fault }
         ensures faults { self.new.faults ≡ self.old.faults }
     {

@@ -34,7 +34,8 @@ fn first_component(path: &str) -> &str
 
 /// Whether the name of one of the files begins with this one and a slash.
 pub fn has_below(files: &[MemFile], name: &str) -> bool
-    ensures { result ≡ list_any (λ (f : File). is_some (below name.now f.name)) (map file_view files.now) }
+    ensures { result ≡ list_any (λ (f : File). is_some (below name.now f.name))
+        (map file_view files.now) }
 {
     let mut rest = files;
     'file: loop {

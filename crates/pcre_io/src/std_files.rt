@@ -22,7 +22,8 @@ pub struct StdFiles<'a, R: Files> {
 impl<'a, R: Files + AllocGlobal + Clone + Drop> StdFiles<'a, R> {
     /// The files that a runtime opens. Takes no memory.
     pub fn new(files: &'a R) -> StdFiles<'a, R>
-        ensures { ⟦<StdFiles<'a, R> as FileSet>⟧.tells result ≡ record { contents = None; faults = 0 } }
+        ensures { ⟦<StdFiles<'a, R> as FileSet>⟧.tells result
+            ≡ record { contents = None; faults = 0 } }
     {
         StdFiles { files, faults: 0 }
     }

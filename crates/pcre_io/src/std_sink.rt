@@ -14,7 +14,8 @@ pub struct StdSink<W> {
 impl<W: Write> StdSink<W> {
     /// A sink over a writer. Takes no memory.
     pub fn new(writer: W) -> StdSink<W>
-        ensures { ⟦<StdSink<W> as Sink>⟧.tells result ≡ record { held = W.contents writer; room = None; piece = None; faults = 0 } }
+        ensures { ⟦<StdSink<W> as Sink>⟧.tells result
+            ≡ record { held = W.contents writer; room = None; piece = None; faults = 0 } }
     {
         StdSink { writer, faults: 0 }
     }

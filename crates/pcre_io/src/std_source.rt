@@ -19,7 +19,8 @@ pub struct StdSource<R> {
 impl<R: Read> StdSource<R> {
     /// A source over a reader. Takes no memory.
     pub fn new(reader: R) -> StdSource<R>
-        ensures { ⟦<StdSource<R> as Source>⟧.tells result ≡ record { left = R.remaining reader; stop = None; faults = 0 } }
+        ensures { ⟦<StdSource<R> as Source>⟧.tells result
+            ≡ record { left = R.remaining reader; stop = None; faults = 0 } }
     {
         StdSource {
             reader,
@@ -30,7 +31,8 @@ impl<R: Read> StdSource<R> {
 
     /// A source over a reader whose reads don't wait, as a file's. Takes no memory.
     pub fn of_file(reader: R) -> StdSource<R>
-        ensures { ⟦<StdSource<R> as Source>⟧.tells result ≡ record { left = R.remaining reader; stop = None; faults = 0 } }
+        ensures { ⟦<StdSource<R> as Source>⟧.tells result
+            ≡ record { left = R.remaining reader; stop = None; faults = 0 } }
     {
         StdSource {
             reader,
@@ -46,7 +48,8 @@ impl<R: Read> Source for StdSource<R> {
     // The clauses of `Source`, and that a read that failed counts as one fault.
     fn read(&mut self, buf: &mut [u8]) -> Result<usize, Failed>
         ensures bound { ReadsAtMost result buf.new }
-        ensures bytes { ReadConsumes (R.remaining self.old.reader) (R.remaining self.new.reader) result buf.new }
+        ensures bytes { ReadConsumes (R.remaining self.old.reader) (R.remaining self.new.reader)
+            result buf.new }
         ensures stop { StopsAt None None result (length buf.old) }
         ensures cause { CountsFaults self.old.faults self.new.faults result }
         ensures once { OnErr result (self.new.faults ≡ counted self.old.faults) }

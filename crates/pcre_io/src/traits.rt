@@ -49,7 +49,8 @@ pub trait Sink {
         ensures bound { WritesAtMost result bytes.now }
         ensures some { IfOk result (λ n. 0 < length bytes.now → 0 < n) }
         ensures bytes { WriteAppends (tells self.old).held (tells self.new).held result bytes.now }
-        ensures room { LeavesRoom (tells self.old).room (tells self.new).room result (length bytes.now) }
+        ensures room { LeavesRoom (tells self.old).room (tells self.new).room result
+            (length bytes.now) }
         ensures piece { TakesPiece (tells self.old).piece (tells self.new).piece result }
         ensures cause { CountsRefusals (tells self.old).faults (tells self.new).faults result };
 

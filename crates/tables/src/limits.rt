@@ -69,6 +69,9 @@ const EACH_SHORTER_RUN_IS_A_STEP: &[Row] = &[
     (b"a{2,}b", b"aaaac", None, 3, 1),
     (b"a*b+c", b"aabx", None, 4, 1),
     (b"(\\w+)\\.", b"ab", None, 2, 3),
+    (b"(?:\\w+);", b"ab", None, 2, 1),
+    (b"(a{2,})b", b"aaaac", None, 3, 3),
+    (b"(a{2,3})b", b"aaaac", None, 2, 3),
     (b"(\\w+)\\.(\\w+)\\(", b"ab.cd(", Some((0, 6)), 2, 6),
     (b"(\\w+)\\.(\\w+)\\(", b"ab.cd", None, 4, 6),
     (b"((a+))b", b"aac", None, 2, 5),
@@ -172,6 +175,8 @@ fn a_missing_byte_is_no_match_within_the_limits(rt: HostRuntime) -> Result<(), F
 const THE_FIRST_PLACE_OF_A_RUN_MEETS_THE_LIMITS: &[Row] = &[
     (b"\\w+@", b"abcd ef@", Some((5, 8)), 4, 1),
     (b"\\w+@", b"ab abcd", None, 4, 1),
+    (b"(\\w+)@", b"abcd ef@", Some((5, 8)), 4, 3),
+    (b"(\\w+)@", b"ab abcd", None, 4, 3),
     (b"(\\w+)\\.(\\w+)\\(", b"ab.cd.ef(", Some((3, 9)), 4, 6),
     (b".*\\.h", b"x.c\ny.h", Some((4, 7)), 4, 1),
     (b"((a+)b?)c", b"aaabac", Some((4, 6)), 7, 6),

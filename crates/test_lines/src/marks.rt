@@ -18,7 +18,8 @@ pub fn write_name<O: Sink>(
     name: &[u8],
     utf: bool,
 ) -> Result<(), IoError>
-    ensures { Writes (name_line utf before.now name.now) (O.tells out.old) (O.tells out.new) result }
+    ensures { Writes (name_line utf before.now name.now) (O.tells out.old)
+        (O.tells out.new) result }
 {
     write_texts(out, &[before])?;
     write_shown(out, name, utf)?;

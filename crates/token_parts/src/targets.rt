@@ -44,7 +44,8 @@ pub(crate) fn numbered(text: &[u8], at: usize, from: usize) -> Result<(Target, u
     requires at { at ≤ length text.now }
     requires from { from ≤ length text.now }
     ensures value { result ≡ numbered text.now at from }
-    ensures found { IfOk result (λ r. (from ≤ r.1) × (r.1 ≤ length text.now) × IsTarget text.now r.0) }
+    ensures found { IfOk result
+        (λ r. (from ≤ r.1) × (r.1 ≤ length text.now) × IsTarget text.now r.0) }
     ensures told { IfErr result (IsTold text.now) }
 {
     let digits = digits_start(text, from);
@@ -74,7 +75,8 @@ pub(crate) fn numbered(text: &[u8], at: usize, from: usize) -> Result<(Target, u
 fn enclosed(text: &[u8], utf: bool, at: usize, close: u8) -> Result<(Target, usize), Fault>
     requires { at + 3 ≤ length text.now }
     ensures value { result ≡ enclosed text.now utf at close }
-    ensures found { IfOk result (λ r. (at < r.1) × (r.1 ≤ length text.now) × IsTarget text.now r.0) }
+    ensures found { IfOk result
+        (λ r. (at < r.1) × (r.1 ≤ length text.now) × IsTarget text.now r.0) }
     ensures told { IfErr result (IsTold text.now) }
 {
     if begins_number(text, at + 3) {

@@ -1,7 +1,4 @@
-use Rattle.std.proofs.Common.{subst}
-use Rattle.pat_tree.specs.Nested.{trees}
 use Rattle.char_sets.specs.Sets.{class_has}
-use Rattle.match_drive.specs.Repeats.{IsRepeat}
 use Rattle.match_drive.proofs.PastRepeats.{begins_parts}
 use Rattle.match_drive.proofs.repeats.first_of.Goals as goal
 
@@ -11,6 +8,4 @@ returns-clause-begins c =
     let r = c.in_ok-repeat.repeat in
     begins_parts tree (class_has tree) c.args.parts.now
     (record r { behind = c.apart.result }) c.in-len2-up.len_at_least
-    (subst (λ t. IsRepeat t r.item r.min) c.node.ensures.is (c.in_ok-repeat.ensures.repeat
-    (trees tree.nodes)))
-    c.apart.ensures.is c.apart.ensures.lacks
+    c.in_ok-repeat.ensures.is c.apart.ensures.is c.apart.ensures.lacks

@@ -40,12 +40,10 @@ returns-in-None c =
     let limit = c.match_limit.ensures in
     let long = c.if-run-least.false in
     let less = c.if-run-least-2.false in
-    let some = c.if-view-eq0.false in
     let few : run.count + 1 ≤ first.min + lower_of view.options.now.match_limit
     view.matching.now.match_limit = omega (arith, least, limit, long, less) in
-    let room : 1 ≤ view.matching.now.frame_limit = omega (arith, some) in
     up_to_end tree table view first r.table r.options r.first c.args.place r.place.within run.to
     told.to
     (lacking_run tree table view first r.table r.options r.first c.args.place r.place.within
     c.args.c c.requires.behind run.count run.to told.count
-    told.to (sym c.taken.ensures.value ∙ c.in-None.is) few room)
+    told.to (sym c.taken.ensures.value ∙ c.in-None.is) few)

@@ -1,5 +1,5 @@
 -- A search gives the same with start optimisations as without them, where it passes no limit without them.
-use Rattle.std.proofs.Common.{◌≡◌, ◌≢◌, ℕ, zero, suc, ◌+◌, ◌≤◌, Bool, true, false, not, Option, Some, None, ◌⊎◌, inl, inr, refl, sym, ap, subst, ◌∙◌}
+use Rattle.std.proofs.Common.{◌≡◌, ℕ, zero, suc, ◌+◌, ◌≤◌, Bool, true, false, not, Option, Some, None, ◌⊎◌, inl, inr, refl, sym, ap, subst, ◌∙◌}
 use Rattle.std.specs.Prelude.{IfSome, slice_index}
 use Rattle.std.proofs.lemmas.Bool.{true≢false}
 use Rattle.pat_lengths.specs.Nodes.{has_accept}
@@ -12,13 +12,13 @@ use Rattle.ordered_search.specs.Run.{run}
 use Rattle.ordered_search.specs.PlaceAnswer.{outcome, Signal, Exhausted, PlaceAnswer, Matched, Failed, Partial, MatchLimit, FrameLimit, Loop, Abort, NoDepth, Walked, answers, has_hit, is_refused_as_empty, is_refused_by_end, walk, place_answer}
 use Rattle.ordered_search.specs.Places.{within, next_place, place_after, last_place, is_off, is_outside, is_excluded}
 use Rattle.ordered_search.specs.MatchAnswer.{MatchAnswer, Match, NoMatch, PartialFrom, Error, Found, undecided, from_place, found_by, found_at}
-use Rattle.match_drive.specs.StartLaw.{with_no_start_optimize, IsUnverbedSearch, IsLimit, StartLaw}
+use Rattle.search_starts.specs.StartLaw.{with_no_start_optimize, IsUnverbedSearch, IsLimit, StartLaw}
 use Rattle.ordered_search.proofs.WalkLaw.{no_cut}
 use Rattle.ordered_search.proofs.StartPlaces.{up_to_keeps, next_stands}
-use Rattle.match_drive.proofs.SameSearch.{same_place}
-use Rattle.match_drive.proofs.KeptStreams.{Kept}
-use Rattle.match_drive.proofs.LeadItems.{Out}
-use Rattle.match_drive.proofs.LeadSearch.{Any, Stays, Led, lead_of, quiet_run, led_run}
+use Rattle.search_starts.proofs.SameSearch.{same_place}
+use Rattle.search_starts.proofs.KeptStreams.{Kept}
+use Rattle.search_starts.proofs.LeadItems.{Out}
+use Rattle.search_starts.proofs.LeadSearch.{Any, Stays, Led, lead_of, quiet_run, led_run}
 
 -- a place without a match: it fails, or a limit is passed
 abbrev IsPassedBy : Walked → Type 0

@@ -20,7 +20,7 @@ use Rattle.ordered_search.specs.Tests.{move_to, goes_to, run_one, run_break, run
 use Rattle.ordered_search.specs.Parts.{Searches, in_order, choices, branches, run_group, begun_at, ends_at, one_try, tries, tries_within, run_behind, run_atomic, run_look, asserts, run_callout, same_text, skip_to, backs, run_verb, turn, run_repeat, returns, run_call}
 use Rattle.ordered_search.specs.Run.{level, levels, levels_behind, level_test, level_other, run}
 use Rattle.ordered_search.specs.PlaceAnswer.{Walked, answers, with_note, decision, walk, place_answer}
-use Rattle.match_drive.specs.StartLaw.{with_no_start_optimize}
+use Rattle.search_starts.specs.StartLaw.{with_no_start_optimize}
 
 module _ (b : Bool) (g : Setting) where
   abbrev other : Setting

@@ -14,7 +14,7 @@ use Rattle.pat_tree.specs.Parts.{TreeParts, tree_of}
 use Rattle.pat_tree.specs.Rules.{kids_of, tests_of, number_in, asserted_by, is_test, IsOrdered, IsDefine, defines}
 use Rattle.pat_tree.specs.Sound.{TreeRules}
 use Rattle.pat_tree.proofs.Reached.{reached_node}
-use Rattle.match_drive.specs.StartLaw.{IsDefinition, IsRegular, AreRegular, IsRegularTest, IsRegularOther}
+use Rattle.search_starts.specs.StartLaw.{IsDefinition, IsRegular, AreRegular, IsRegularTest, IsRegularOther}
 
 tested : (t : Nested) → is_test t ≡ true → IsRegular t → (o : Other) → IsDefinition (test_of t) o × IsRegularTest (test_of t)
 tested (tree.look ahead positive once ts) e h o = (tt, h)

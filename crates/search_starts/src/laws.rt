@@ -1,5 +1,5 @@
 //! Laws on searches over all start places.
-ghost use Rattle.match_drive.specs.StartLaw.{StartLaw};
+ghost use Rattle.search_starts.specs.StartLaw.{StartLaw};
 
 /// Start optimisations change no answer (pcre2api, "Option bits for pcre2_compile()",
 /// PCRE2_NO_START_OPTIMIZE): for a pattern without verbs, callouts and calls, and without partial

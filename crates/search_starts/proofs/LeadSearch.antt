@@ -22,9 +22,9 @@ use Rattle.ordered_search.specs.Setting.{Setting, branch_lengths, held, hold, re
 use Rattle.ordered_search.specs.Tests.{move_to, goes_to, run_one, run_break, run_ref, run_anchor, offers, greedy, offer_and, reluctant, lazy_run, run_many}
 use Rattle.ordered_search.specs.Parts.{Searches, in_order, choices, branches, run_group, begun_at, ends_at, one_try, tries, tries_within, run_behind, run_atomic, run_look, asserts, tests, some_set, is_called, is_called_of, is_over, turn, run_repeat, back_to, forget_passed}
 use Rattle.ordered_search.specs.Run.{level, levels, levels_behind, level_test, level_other, run}
-use Rattle.match_drive.specs.StartLaw.{IsUnverbed, AreUnverbed, IsUnverbedTest, IsUnverbedOther, IsDefinition, IsRegular, AreRegular, IsRegularTest, IsRegularOther}
-use Rattle.match_drive.proofs.KeptStreams.{Kept, kept_nothing, kept_cut, kept_full, kept_gives, kept_if, kept_option, kept_step, kept_or_else, kept_catch, kept_each, kept_and_then, kept_decide, kept_more}
-use Rattle.match_drive.proofs.LeadItems.{Out, Here, item_lead, break_lead, none_here, none_run, no_break}
+use Rattle.search_starts.specs.StartLaw.{IsUnverbed, AreUnverbed, IsUnverbedTest, IsUnverbedOther, IsDefinition, IsRegular, AreRegular, IsRegularTest, IsRegularOther}
+use Rattle.search_starts.proofs.KeptStreams.{Kept, kept_nothing, kept_cut, kept_full, kept_gives, kept_if, kept_option, kept_step, kept_or_else, kept_catch, kept_each, kept_and_then, kept_decide, kept_more}
+use Rattle.search_starts.proofs.LeadItems.{Out, Here, item_lead, break_lead, none_here, none_run, no_break}
 
 -- any state
 abbrev pub Any : State → Type 0

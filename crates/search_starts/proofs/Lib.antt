@@ -1,0 +1,6 @@
+mod SameSearch
+mod KeptStreams
+mod LeadItems
+mod LeadSearch
+pub mod StartLaw
+pub mod Regular
