@@ -1,5 +1,5 @@
 // Sets of bytes, and the least place of a member.
-ghost use Rattle.std.specs.Prelude.{◌≡◌, ℕ, ◌+◌, ◌-◌, ◌<◌, ◌≤◌, ◌==◌, ◌||◌, List, Bool, true, false, length, slice_index, bit_or};
+ghost use Rattle.std.specs.Prelude.{◌≡◌, ℕ, ◌+◌, ◌-◌, ◌<◌, ◌≤◌, ◌==◌, ◌||◌, List, Bool, true, false, IfSome, length, slice_index, bit_or};
 ghost use Rattle.byte_lanes.specs.Places.{IsLeast, least_from};
 ghost use Rattle.byte_lanes.specs.Lanes.{HasLanes};
 ghost use Rattle.byte_lanes.specs.Members.{AreMembers};
@@ -103,22 +103,20 @@ impl ByteSet {
         }
     }
 
-    // All bits of each lane whose byte is a member.
-    #[inline(always)]
-    fn lanes(&self, v: u8x32) -> u8x32
-        ensures { HasLanes result (λ k. flag (has_byte self.now (slice_index v k))) }
+    // Its only member, where it is known to have one alone.
+    fn only(&self) -> Option<u8>
+        ensures { IfSome result (λ x. (b : ℕ) → has_byte self.now b ≡ (b == x)) }
     {
         match self.members {
-            Members::One(x) => equal_to(v, x),
-            Members::Two(x, y) => either(equal_to(v, x), equal_to(v, y)),
-            Members::No | Members::More => self.looked_up(v),
+            Members::One(x) => Some(x),
+            _ => None,
         }
     }
 
-    // The same. The low half of a byte picks its row of bits, and the high half the bit of that
-    // row.
+    // All bits of each lane whose byte is a member. The low half of a byte picks its row of bits, and
+    // the high half the bit of that row.
     #[inline(always)]
-    fn looked_up(&self, v: u8x32) -> u8x32
+    fn lanes(&self, v: u8x32) -> u8x32
         ensures { HasLanes result (λ k. flag (has_byte self.now (slice_index v k))) }
     {
         let rows = by_top(v, by_low_nibble(&self.low, v), by_low_nibble(&self.high, v));
@@ -135,7 +133,64 @@ pub fn find_in_set(bytes: &[u8], from: usize, set: &ByteSet) -> usize
     ensures value { result
         ≡ least_from (λ k. has_byte set.now (slice_index bytes.now k)) from (length bytes.now) }
 {
-    scan::least(&InSet { bytes, set }, from, bytes.len())
+    // The way is chosen here: in the loop over vectors the choice would keep them from registers.
+    let to = bytes.len();
+    match set.members {
+        Members::One(byte) => scan::least(&OneByte { bytes, byte }, from, to),
+        Members::Two(one, other) => scan::least(&TwoBytes { bytes, one, other }, from, to),
+        Members::No | Members::More => scan::least(&InSet { bytes, set }, from, to),
+    }
+}
+
+// The places of one byte.
+#[derive(Drop)]
+struct OneByte<'a> {
+    bytes: &'a [u8],
+    byte: u8,
+}
+
+impl<'a> Probe for OneByte<'a> {
+    ghost places = { λ s. length s.bytes.now };
+
+    ghost hit = { λ s k. (slice_index s.bytes.now k == s.byte) ≡ true };
+
+    #[inline(always)]
+    fn lanes(&self, i: usize) -> u8x32 {
+        equal_to(load(self.bytes, i), self.byte)
+    }
+
+    #[inline(always)]
+    fn confirm(&self, i: usize) -> bool {
+        let bytes = self.bytes;
+        bytes[i] == self.byte
+    }
+}
+
+// The places of either of two bytes.
+#[derive(Drop)]
+struct TwoBytes<'a> {
+    bytes: &'a [u8],
+    one: u8,
+    other: u8,
+}
+
+impl<'a> Probe for TwoBytes<'a> {
+    ghost places = { λ s. length s.bytes.now };
+
+    ghost hit = { λ s k. (slice_index s.bytes.now k == s.one
+        || slice_index s.bytes.now k == s.other) ≡ true };
+
+    #[inline(always)]
+    fn lanes(&self, i: usize) -> u8x32 {
+        let v = load(self.bytes, i);
+        either(equal_to(v, self.one), equal_to(v, self.other))
+    }
+
+    #[inline(always)]
+    fn confirm(&self, i: usize) -> bool {
+        let bytes = self.bytes;
+        bytes[i] == self.one || bytes[i] == self.other
+    }
 }
 
 // The places whose byte is in the set.
@@ -184,8 +239,60 @@ pub fn find_in_two_sets(
         apart,
         other,
     };
-    let found = scan::least(&probe, from, to);
+    let found = least_of_two(&probe, from, to);
     if found < to { found } else { bytes.len() }
+}
+
+// The same before the last bytes, which have none so far behind them.
+fn least_of_two(probe: &InTwoSets<'_>, from: usize, to: usize) -> usize
+    requires ordered { from ≤ to }
+    requires within { to ≡ length probe.now.bytes.now - probe.now.apart }
+    ensures { IsLeast (AreIn probe.now.one.now probe.now.apart probe.now.other.now probe.now.bytes.now)
+        from to result }
+{
+    match (probe.one.only(), probe.other.only()) {
+        (Some(one), Some(other)) => {
+            let apart = probe.apart;
+            let pair = BytesApart {
+                bytes: probe.bytes,
+                one,
+                apart,
+                other,
+            };
+            scan::least(&pair, from, to)
+        }
+        _ => scan::least(probe, from, to),
+    }
+}
+
+// The places of one byte that have another so many places behind them.
+#[derive(Drop)]
+struct BytesApart<'a> {
+    bytes: &'a [u8],
+    one: u8,
+    apart: usize,
+    other: u8,
+}
+
+impl<'a> Probe for BytesApart<'a> {
+    ghost places = { λ s. length s.bytes.now - s.apart };
+
+    ghost hit = { λ s k. (k + s.apart < length s.bytes.now)
+        × (((slice_index s.bytes.now k == s.one) ≡ true)
+        × ((slice_index s.bytes.now (k + s.apart) == s.other) ≡ true)) };
+
+    #[inline(always)]
+    fn lanes(&self, i: usize) -> u8x32 {
+        let here = equal_to(load(self.bytes, i), self.one);
+        let there = equal_to(load(self.bytes, i + self.apart), self.other);
+        both(here, there)
+    }
+
+    #[inline(always)]
+    fn confirm(&self, i: usize) -> bool {
+        let bytes = self.bytes;
+        bytes[i] == self.one && bytes[i + self.apart] == self.other
+    }
 }
 
 // The places whose byte is in one set and has one of the other so many places behind it.

@@ -72,7 +72,7 @@ pub(crate) const B: Step = Step::Char(98);
 
 pub(crate) const C: Step = Step::Char(99);
 
-const CARET: Step = Step::Anchor(AnchorKind::Caret { multi: false });
+pub(crate) const CARET: Step = Step::Anchor(AnchorKind::Caret { multi: false });
 // `a?`
 pub(crate) const MAYBE: Step = Step::Chars(97, 0, Some(1));
 

@@ -306,6 +306,17 @@ tasks_after (Decide a positive b (Some c)) t new ts =
 tasks_after (Reach back a b) t new ts =
     ts ++ task_in t.depth b (new + 1) t.next ∷ task_in (t.depth - 1) a new 1 ∷ []
 
+-- a graph in the making: its states, and the tasks that are left
+pub record DraftParts : Type 0 where
+  pub nodes : List Node
+  pub tasks : List Task
+
+abbrev pub draft_after : Step → Task → DraftParts → DraftParts
+draft_after s t d = record {
+  nodes = states_after s t d.nodes;
+  tasks = tasks_after s t (length d.nodes) d.tasks;
+}
+
 -- What the tasks mean.
 
 abbrev pub TurnPlaced : List Node → Nested → ℕ → Part

@@ -11,6 +11,7 @@ ghost use Rattle.dfa_paths.specs.Fragment.{AreStatesOf};
 ghost use Rattle.dfa_graph.specs.Served.{has_graph};
 ghost use Rattle.pat_check.specs.Size.{whole_size};
 
+use crate::draft::GraphDraft;
 use crate::forms::do_step;
 use dfa_paths::Node;
 use pat_lengths::Backs;
@@ -513,18 +514,9 @@ pub(crate) fn place_tree(
 {
     // so what is known of the whole is known of each part
     tree.is_sound();
-    let mut nodes: Vec<Node> = Vec::new(alloc);
-    nodes.push(Node::Dead)?;
-    nodes.push(Node::Match)?;
-    let mut tasks: Vec<Task> = Vec::new(alloc);
-    tasks.push(Task {
-        work: Work::Part { part: tree.root() },
-        depth: MOST_NESTED,
-        at: 0,
-        next: 1,
-    })?;
+    let mut draft = GraphDraft::new(alloc, tree.root())?;
     let mut left = STEPS;
-    'tasks: while let Some(task) = tasks.pop() {
+    'tasks: while let Some(task) = draft.take() {
         if left == 0 {
             return Ok(None);
         }
@@ -533,7 +525,7 @@ pub(crate) fn place_tree(
         if is_refused(step) {
             return Ok(None);
         }
-        do_step(step, task, &mut nodes, &mut tasks)?;
+        do_step(step, task, &mut draft)?;
     }
-    Ok(Some(nodes))
+    Ok(Some(draft.states()))
 }

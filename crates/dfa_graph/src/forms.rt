@@ -1,201 +1,147 @@
-//! What a step makes of the states of a graph, and of the tasks that are left.
-ghost use Rattle.std.specs.Prelude.{◌≡◌, IfOk, ◌-◌, ◌<◌, ◌++◌, ◌∷◌, [], length};
-ghost use Rattle.dfa_graph.specs.Building.{so_at, else_at, look_node};
-ghost use Rattle.dfa_graph.specs.Building.{states_after, task_in, tasks_after};
-ghost use Rattle.dfa_paths.specs.declared.graph.Node.TheVariants.{Dead};
+//! What a step makes of a graph in the making.
+ghost use Rattle.std.specs.Prelude.{◌≡◌, IfOk, ◌-◌, ◌<◌, length};
+ghost use Rattle.dfa_graph.specs.Building.{so_at, else_at, look_node, task_in, draft_after};
 ghost use Rattle.dfa_graph.specs.declared.build.Step.TheVariants.{Chain, Loop, Fork, Skip, Keep};
 ghost use Rattle.dfa_graph.specs.declared.build.Step.TheVariants.{Assert, Choose, Seek, Decide};
 ghost use Rattle.dfa_graph.specs.declared.build.Step.TheVariants.{Reach};
 
 use crate::build::{Step, Task, Work};
+use crate::draft::GraphDraft;
 use dfa_paths::Node;
 use pat_tree::Memory;
 
 /// Does a step: the state of its task is written, and what is left becomes new tasks.
-pub(crate) fn do_step(
-    step: Step,
-    done: Task,
-    nodes: &mut Vec<Node>,
-    tasks: &mut Vec<Task>,
-) -> Result<(), Memory>
-    requires few { length nodes.old.items < 4294967290 }
-    requires at { done.at < length nodes.old.items }
-    ensures nodes { IfOk result (λ _. nodes.new.items ≡ states_after step done nodes.old.items) }
-    ensures tasks { IfOk result (λ _. tasks.new.items
-        ≡ tasks_after step done (length nodes.old.items) tasks.old.items) }
+pub(crate) fn do_step(step: Step, done: Task, draft: &mut GraphDraft) -> Result<(), Memory>
+    requires few { length draft.old.nodes < 4294967290 }
+    requires at { done.at < length draft.old.nodes }
+    ensures { IfOk result (λ _. draft.new ≡ draft_after step done draft.old) }
 {
     match step {
         Step::Refuse => {}
-        Step::Write { node } => nodes[done.at as usize] = node,
-        Step::Hand { work } => tasks.push(follow(done, work, done.at, done.next))?,
-        Step::Chain { first, second } => chain(done, first, second, nodes, tasks)?,
-        Step::Loop { work } => repeat(done, work, nodes, tasks)?,
-        Step::Fork { first, second } => fork(done, first, second, nodes, tasks)?,
-        Step::Skip { first, second } => skip(done, first, second, nodes, tasks)?,
-        Step::Keep { work } => keep(done, work, nodes, tasks)?,
-        Step::Assert { work, positive } => look(done, work, positive, nodes, tasks)?,
+        Step::Write { node } => draft.write(done.at, node),
+        Step::Hand { work } => draft.leave(follow(done, work, done.at, done.next))?,
+        Step::Chain { first, second } => chain(done, first, second, draft)?,
+        Step::Loop { work } => repeat(done, work, draft)?,
+        Step::Fork { first, second } => fork(done, first, second, draft)?,
+        Step::Skip { first, second } => skip(done, first, second, draft)?,
+        Step::Keep { work } => keep(done, work, draft)?,
+        Step::Assert { work, positive } => look(done, work, positive, draft)?,
         Step::Choose {
             work,
             positive,
             yes,
             no,
-        } => choose(done, work, positive, yes, no, nodes, tasks)?,
-        Step::Seek { work, positive } => seek(done, work, positive, nodes, tasks)?,
+        } => choose(done, work, positive, yes, no, draft)?,
+        Step::Seek { work, positive } => seek(done, work, positive, draft)?,
         Step::Decide {
             work,
             positive,
             yes,
             no,
-        } => decide(done, work, positive, yes, no, nodes, tasks)?,
-        Step::Reach { back, branch, rest } => reach(done, back, branch, rest, nodes, tasks)?,
+        } => decide(done, work, positive, yes, no, draft)?,
+        Step::Reach { back, branch, rest } => reach(done, back, branch, rest, draft)?,
     }
     Ok(())
 }
 
-/// A state that is not written yet.
-fn fresh(nodes: &mut Vec<Node>) -> Result<u32, Memory>
-    requires few { length nodes.old.items < 4294967295 }
-    ensures state { IfOk result (λ state. state ≡ length nodes.old.items) }
-    ensures nodes { IfOk result (λ _. nodes.new.items ≡ nodes.old.items ++ Dead ∷ []) }
-{
-    let state = nodes.len() as u32;
-    nodes.push(Node::Dead)?;
-    Ok(state)
-}
-
 /// The step of two works, one after the other.
-fn chain(
-    done: Task,
-    first: Work,
-    second: Work,
-    nodes: &mut Vec<Node>,
-    tasks: &mut Vec<Task>,
-) -> Result<(), Memory>
-    requires few { length nodes.old.items < 4294967290 }
-    requires at { done.at < length nodes.old.items }
-    ensures nodes { IfOk result (λ _. nodes.new.items
-        ≡ states_after (Chain first second) done nodes.old.items) }
-    ensures tasks { IfOk result (λ _. tasks.new.items
-        ≡ tasks_after (Chain first second) done (length nodes.old.items) tasks.old.items) }
+fn chain(done: Task, first: Work, second: Work, draft: &mut GraphDraft) -> Result<(), Memory>
+    requires few { length draft.old.nodes < 4294967290 }
+    requires at { done.at < length draft.old.nodes }
+    ensures { IfOk result (λ _. draft.new ≡ draft_after (Chain first second) done draft.old) }
 {
-    let middle = fresh(nodes)?;
-    tasks.push(follow(done, first, done.at, middle))?;
-    tasks.push(follow(done, second, middle, done.next))?;
+    let middle = draft.fresh()?;
+    draft.leave(follow(done, first, done.at, middle))?;
+    draft.leave(follow(done, second, middle, done.next))?;
     Ok(())
 }
 
 /// The step of a work that is done any number of times.
-fn repeat(
-    done: Task,
-    work: Work,
-    nodes: &mut Vec<Node>,
-    tasks: &mut Vec<Task>,
-) -> Result<(), Memory>
-    requires few { length nodes.old.items < 4294967290 }
-    requires at { done.at < length nodes.old.items }
-    ensures nodes { IfOk result (λ _. nodes.new.items
-        ≡ states_after (Loop work) done nodes.old.items) }
-    ensures tasks { IfOk result (λ _. tasks.new.items
-        ≡ tasks_after (Loop work) done (length nodes.old.items) tasks.old.items) }
+fn repeat(done: Task, work: Work, draft: &mut GraphDraft) -> Result<(), Memory>
+    requires few { length draft.old.nodes < 4294967290 }
+    requires at { done.at < length draft.old.nodes }
+    ensures { IfOk result (λ _. draft.new ≡ draft_after (Loop work) done draft.old) }
 {
-    let turn = fresh(nodes)?;
-    nodes[done.at as usize] = Node::Split {
-        first: turn,
-        second: done.next,
-    };
-    tasks.push(follow(done, work, turn, done.at))?;
+    let turn = draft.fresh()?;
+    draft.write(
+        done.at,
+        Node::Split {
+            first: turn,
+            second: done.next,
+        },
+    );
+    draft.leave(follow(done, work, turn, done.at))?;
     Ok(())
 }
 
 /// The step of one of two works.
-fn fork(
-    done: Task,
-    first: Work,
-    second: Work,
-    nodes: &mut Vec<Node>,
-    tasks: &mut Vec<Task>,
-) -> Result<(), Memory>
-    requires few { length nodes.old.items < 4294967290 }
-    requires at { done.at < length nodes.old.items }
-    ensures nodes { IfOk result (λ _. nodes.new.items
-        ≡ states_after (Fork first second) done nodes.old.items) }
-    ensures tasks { IfOk result (λ _. tasks.new.items
-        ≡ tasks_after (Fork first second) done (length nodes.old.items) tasks.old.items) }
+fn fork(done: Task, first: Work, second: Work, draft: &mut GraphDraft) -> Result<(), Memory>
+    requires few { length draft.old.nodes < 4294967290 }
+    requires at { done.at < length draft.old.nodes }
+    ensures { IfOk result (λ _. draft.new ≡ draft_after (Fork first second) done draft.old) }
 {
-    let left = fresh(nodes)?;
-    let right = fresh(nodes)?;
-    nodes[done.at as usize] = Node::Split {
-        first: left,
-        second: right,
-    };
-    tasks.push(follow(done, first, left, done.next))?;
-    tasks.push(follow(done, second, right, done.next))?;
+    let left = draft.fresh()?;
+    let right = draft.fresh()?;
+    draft.write(
+        done.at,
+        Node::Split {
+            first: left,
+            second: right,
+        },
+    );
+    draft.leave(follow(done, first, left, done.next))?;
+    draft.leave(follow(done, second, right, done.next))?;
     Ok(())
 }
 
 /// The step of two works, one after the other, or neither.
-fn skip(
-    done: Task,
-    first: Work,
-    second: Work,
-    nodes: &mut Vec<Node>,
-    tasks: &mut Vec<Task>,
-) -> Result<(), Memory>
-    requires few { length nodes.old.items < 4294967290 }
-    requires at { done.at < length nodes.old.items }
-    ensures nodes { IfOk result (λ _. nodes.new.items
-        ≡ states_after (Skip first second) done nodes.old.items) }
-    ensures tasks { IfOk result (λ _. tasks.new.items
-        ≡ tasks_after (Skip first second) done (length nodes.old.items) tasks.old.items) }
+fn skip(done: Task, first: Work, second: Work, draft: &mut GraphDraft) -> Result<(), Memory>
+    requires few { length draft.old.nodes < 4294967290 }
+    requires at { done.at < length draft.old.nodes }
+    ensures { IfOk result (λ _. draft.new ≡ draft_after (Skip first second) done draft.old) }
 {
-    let turn = fresh(nodes)?;
-    let middle = fresh(nodes)?;
-    nodes[done.at as usize] = Node::Split {
-        first: turn,
-        second: done.next,
-    };
-    tasks.push(follow(done, first, turn, middle))?;
-    tasks.push(follow(done, second, middle, done.next))?;
+    let turn = draft.fresh()?;
+    let middle = draft.fresh()?;
+    draft.write(
+        done.at,
+        Node::Split {
+            first: turn,
+            second: done.next,
+        },
+    );
+    draft.leave(follow(done, first, turn, middle))?;
+    draft.leave(follow(done, second, middle, done.next))?;
     Ok(())
 }
 
 /// The step of an atomic group.
-fn keep(done: Task, work: Work, nodes: &mut Vec<Node>, tasks: &mut Vec<Task>) -> Result<(), Memory>
-    requires few { length nodes.old.items < 4294967290 }
-    requires at { done.at < length nodes.old.items }
-    ensures nodes { IfOk result (λ _. nodes.new.items
-        ≡ states_after (Keep work) done nodes.old.items) }
-    ensures tasks { IfOk result (λ _. tasks.new.items
-        ≡ tasks_after (Keep work) done (length nodes.old.items) tasks.old.items) }
+fn keep(done: Task, work: Work, draft: &mut GraphDraft) -> Result<(), Memory>
+    requires few { length draft.old.nodes < 4294967290 }
+    requires at { done.at < length draft.old.nodes }
+    ensures { IfOk result (λ _. draft.new ≡ draft_after (Keep work) done draft.old) }
 {
-    let entry = fresh(nodes)?;
-    nodes[done.at as usize] = Node::Atomic {
-        entry,
-        next: done.next,
-    };
-    tasks.push(nest(done, work, entry))?;
+    let entry = draft.fresh()?;
+    draft.write(
+        done.at,
+        Node::Atomic {
+            entry,
+            next: done.next,
+        },
+    );
+    draft.leave(nest(done, work, entry))?;
     Ok(())
 }
 
 /// The step of a lookahead.
-fn look(
-    done: Task,
-    work: Work,
-    positive: bool,
-    nodes: &mut Vec<Node>,
-    tasks: &mut Vec<Task>,
-) -> Result<(), Memory>
-    requires few { length nodes.old.items < 4294967290 }
-    requires at { done.at < length nodes.old.items }
-    ensures nodes { IfOk result (λ _. nodes.new.items
-        ≡ states_after (Assert work positive) done nodes.old.items) }
-    ensures tasks { IfOk result (λ _. tasks.new.items
-        ≡ tasks_after (Assert work positive) done (length nodes.old.items) tasks.old.items) }
+fn look(done: Task, work: Work, positive: bool, draft: &mut GraphDraft) -> Result<(), Memory>
+    requires few { length draft.old.nodes < 4294967290 }
+    requires at { done.at < length draft.old.nodes }
+    ensures { IfOk result (λ _. draft.new ≡ draft_after (Assert work positive) done draft.old) }
 {
-    let entry = fresh(nodes)?;
-    let dead = fresh(nodes)?;
-    nodes[done.at as usize] = look_node(entry, positive, done.next, dead);
-    tasks.push(nest(done, work, entry))?;
+    let entry = draft.fresh()?;
+    let dead = draft.fresh()?;
+    draft.write(done.at, look_node(entry, positive, done.next, dead));
+    draft.leave(nest(done, work, entry))?;
     Ok(())
 }
 
@@ -206,53 +152,40 @@ fn choose(
     positive: bool,
     yes: Work,
     no: Option<Work>,
-    nodes: &mut Vec<Node>,
-    tasks: &mut Vec<Task>,
+    draft: &mut GraphDraft,
 ) -> Result<(), Memory>
-    requires few { length nodes.old.items < 4294967290 }
-    requires at { done.at < length nodes.old.items }
-    ensures nodes { IfOk result (λ _. nodes.new.items
-        ≡ states_after (Choose work positive yes no) done nodes.old.items) }
-    ensures tasks { IfOk result (λ _. tasks.new.items
-        ≡ tasks_after (Choose work positive yes no) done (length nodes.old.items)
-        tasks.old.items) }
+    requires few { length draft.old.nodes < 4294967290 }
+    requires at { done.at < length draft.old.nodes }
+    ensures { IfOk result (λ _. draft.new
+        ≡ draft_after (Choose work positive yes no) done draft.old) }
 {
-    let entry = fresh(nodes)?;
-    let first = fresh(nodes)?;
+    let entry = draft.fresh()?;
+    let first = draft.fresh()?;
     match no {
         Some(no) => {
-            let second = fresh(nodes)?;
-            nodes[done.at as usize] = look_node(entry, positive, first, second);
-            tasks.push(follow(done, yes, first, done.next))?;
-            tasks.push(follow(done, no, second, done.next))?;
+            let second = draft.fresh()?;
+            draft.write(done.at, look_node(entry, positive, first, second));
+            draft.leave(follow(done, yes, first, done.next))?;
+            draft.leave(follow(done, no, second, done.next))?;
         }
         None => {
-            nodes[done.at as usize] = look_node(entry, positive, first, done.next);
-            tasks.push(follow(done, yes, first, done.next))?;
+            draft.write(done.at, look_node(entry, positive, first, done.next));
+            draft.leave(follow(done, yes, first, done.next))?;
         }
     }
-    tasks.push(nest(done, work, entry))?;
+    draft.leave(nest(done, work, entry))?;
     Ok(())
 }
 
 /// The step of a lookbehind.
-fn seek(
-    done: Task,
-    work: Work,
-    positive: bool,
-    nodes: &mut Vec<Node>,
-    tasks: &mut Vec<Task>,
-) -> Result<(), Memory>
-    requires few { length nodes.old.items < 4294967290 }
-    ensures nodes { IfOk result (λ _. nodes.new.items
-        ≡ states_after (Seek work positive) done nodes.old.items) }
-    ensures tasks { IfOk result (λ _. tasks.new.items
-        ≡ tasks_after (Seek work positive) done (length nodes.old.items) tasks.old.items) }
+fn seek(done: Task, work: Work, positive: bool, draft: &mut GraphDraft) -> Result<(), Memory>
+    requires few { length draft.old.nodes < 4294967290 }
+    ensures { IfOk result (λ _. draft.new ≡ draft_after (Seek work positive) done draft.old) }
 {
-    let miss = fresh(nodes)?;
-    let hit = fresh(nodes)?;
-    nodes[so_at(positive, miss) as usize] = Node::Goto { next: done.next };
-    tasks.push(follow(done, work, done.at, hit))?;
+    let miss = draft.fresh()?;
+    let hit = draft.fresh()?;
+    draft.write(so_at(positive, miss), Node::Goto { next: done.next });
+    draft.leave(follow(done, work, done.at, hit))?;
     Ok(())
 }
 
@@ -263,25 +196,21 @@ fn decide(
     positive: bool,
     yes: Work,
     no: Option<Work>,
-    nodes: &mut Vec<Node>,
-    tasks: &mut Vec<Task>,
+    draft: &mut GraphDraft,
 ) -> Result<(), Memory>
-    requires few { length nodes.old.items < 4294967290 }
-    ensures nodes { IfOk result (λ _. nodes.new.items
-        ≡ states_after (Decide work positive yes no) done nodes.old.items) }
-    ensures tasks { IfOk result (λ _. tasks.new.items
-        ≡ tasks_after (Decide work positive yes no) done (length nodes.old.items)
-        tasks.old.items) }
+    requires few { length draft.old.nodes < 4294967290 }
+    ensures { IfOk result (λ _. draft.new
+        ≡ draft_after (Decide work positive yes no) done draft.old) }
 {
-    let miss = fresh(nodes)?;
-    let hit = fresh(nodes)?;
+    let miss = draft.fresh()?;
+    let hit = draft.fresh()?;
     let second = else_at(positive, miss);
-    tasks.push(follow(done, yes, so_at(positive, miss), done.next))?;
+    draft.leave(follow(done, yes, so_at(positive, miss), done.next))?;
     match no {
-        Some(no) => tasks.push(follow(done, no, second, done.next))?,
-        None => nodes[second as usize] = Node::Goto { next: done.next },
+        Some(no) => draft.leave(follow(done, no, second, done.next))?,
+        None => draft.write(second, Node::Goto { next: done.next }),
     }
-    tasks.push(follow(done, work, done.at, hit))?;
+    draft.leave(follow(done, work, done.at, hit))?;
     Ok(())
 }
 
@@ -291,26 +220,25 @@ fn reach(
     back: u32,
     branch: Work,
     rest: Work,
-    nodes: &mut Vec<Node>,
-    tasks: &mut Vec<Task>,
+    draft: &mut GraphDraft,
 ) -> Result<(), Memory>
-    requires few { length nodes.old.items < 4294967290 }
-    requires at { done.at < length nodes.old.items }
-    ensures nodes { IfOk result (λ _. nodes.new.items
-        ≡ states_after (Reach back branch rest) done nodes.old.items) }
-    ensures tasks { IfOk result (λ _. tasks.new.items
-        ≡ tasks_after (Reach back branch rest) done (length nodes.old.items) tasks.old.items) }
+    requires few { length draft.old.nodes < 4294967290 }
+    requires at { done.at < length draft.old.nodes }
+    ensures { IfOk result (λ _. draft.new ≡ draft_after (Reach back branch rest) done draft.old) }
 {
-    let entry = fresh(nodes)?;
-    let miss = fresh(nodes)?;
-    nodes[done.at as usize] = Node::Look {
-        back: Some(back),
-        entry,
-        hit: done.next,
-        miss,
-    };
-    tasks.push(follow(done, rest, miss, done.next))?;
-    tasks.push(nest(done, branch, entry))?;
+    let entry = draft.fresh()?;
+    let miss = draft.fresh()?;
+    draft.write(
+        done.at,
+        Node::Look {
+            back: Some(back),
+            entry,
+            hit: done.next,
+            miss,
+        },
+    );
+    draft.leave(follow(done, rest, miss, done.next))?;
+    draft.leave(nest(done, branch, entry))?;
     Ok(())
 }
 

@@ -28,7 +28,7 @@ use Rattle.frame_state.proofs.Frames.{around_push, cont_whole, focus_kept, Frame
 use Rattle.frame_state.proofs.Drops.{fail_to_is}
 use Rattle.frame_state.proofs.Advance.{holding_room, holding_full, advance_pause, over_units}
 use Rattle.frame_state.proofs.Turns.{stands_capture}
-use Rattle.frame_parts.proofs.LookTurns.{denied_height}
+use Rattle.frame_looks.proofs.LookTurns.{denied_height}
 
 -- the pattern's own end
 module _ (c : Ground) (spot : Spot) (stack : List Entry) (caps : Captures) (v : IsValid c (conf Accept spot stack caps)) (whole : spot.frame ≡ 0) where

@@ -5,3 +5,4 @@ pub mod StopAnswers
 pub mod AcceptTurns
 pub mod Popped
 pub mod CalloutParts
+mod TestsBack

@@ -30,7 +30,7 @@ use Rattle.frame_state.proofs.Frames.{around_push, focus_kept, focus_towards, fo
 use Rattle.frame_state.proofs.Drops.{dropped, past_slots}
 use Rattle.frame_state.proofs.Advance.{holding_room, holding_full, advance_pause, over_units}
 use Rattle.frame_state.proofs.Turns.{stands_capture}
-use Rattle.frame_parts.proofs.LookTurns.{denied_height}
+use Rattle.frame_looks.proofs.LookTurns.{denied_height}
 
 numbered : (m : ℕ) (x : Nested) → IsNumber x m → (ts : Row) × (tree.group (Some m) ts ≡ x)
 numbered m (tree.group (Some n) ts) e = (ts, ap (λ k. tree.group (Some k) ts) (sym e))

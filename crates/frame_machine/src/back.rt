@@ -11,7 +11,7 @@ ghost use Rattle.frame_state.specs.Validity.{IsValid, IsMany};
 ghost use Rattle.frame_state.specs.Stops.{more_next};
 ghost use Rattle.frame_machine.specs.Back.{IsNewest, IsOther, LeadsBack};
 
-use frame_parts::conds::choose;
+use frame_looks::conds::choose;
 use frame_state::framing::go_on;
 use frame_state::machine::{Acting, Next, Spot, Stop};
 use frame_state::reach::reach;

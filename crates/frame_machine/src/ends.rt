@@ -9,9 +9,9 @@ ghost use Rattle.frame_state.specs.Stops.{IsNumber, took_nothing, refused_as_emp
 
 use crate::captures::close_frame;
 use crate::returns::{close_called, leave_call};
+use frame_looks::conds::leave_test;
+use frame_looks::looks::{deny, leave_look, pass_look};
 use frame_parts::atomic::leave_atomic;
-use frame_parts::conds::leave_test;
-use frame_parts::looks::{deny, leave_look, pass_look};
 use frame_parts::repeats::turns_of;
 use frame_state::framing::go_on;
 use frame_state::machine::{Next, Spot, Stop};

@@ -6,7 +6,7 @@ ghost use Rattle.frame_store.specs.Stack.{room};
 ghost use Rattle.frame_state.specs.Room.{IsQuiet, IsShort};
 ghost use Rattle.frame_store.specs.Captures.{HasGroup};
 ghost use Rattle.pcre_io.specs.declared.callouts.Block.{Block};
-ghost use Rattle.frame_state.specs.Steps.{over, StepsOn, StopsThere, GoesOver, StopsOver, KeepsPeak, IsShortAt};
+ghost use Rattle.frame_state.specs.Steps.{over, StepsOn, StopsThere, GoesOver, StopsOver, showing, KeepsPeak, IsShortAt};
 ghost use Rattle.frame_state.specs.Ground.{IsNode, IsPart, tree_of};
 ghost use Rattle.frame_state.specs.Machine.{first_set};
 ghost use Rattle.frame_state.specs.Frames.{ahead};
@@ -17,11 +17,11 @@ ghost use Rattle.frame_state.specs.Reach.{asks, referred_reaches, IsNoted, IsHar
 ghost use Rattle.frame_state.specs.Stops.{referred, part_next};
 ghost use Rattle.frame_machine.specs.Callouts.{IsCallout, IsShown};
 
+use frame_looks::calls::enter_call;
+use frame_looks::conds::enter_condition;
+use frame_looks::looks::enter_look;
 use frame_parts::atomic::enter_atomic;
-use frame_parts::calls::enter_call;
-use frame_parts::conds::enter_condition;
 use frame_parts::items::enter_many;
-use frame_parts::looks::enter_look;
 use frame_parts::repeats::offer;
 use frame_state::callouts::{block_of, enter_callout};
 use frame_state::framing::{first_branch, first_set, go_on};
@@ -248,11 +248,11 @@ pub(crate) fn enter<S: Searchable, C: Callouts>(
     requires valid { IsValid (S.searched on.now)
         (over (Next.Enter at) spot.old store.old registers.now) }
     requires replied { IsReplied (S.searched on.now).setting (C.answers calls.old) }
-    ensures on { GoesOver (S.searched on.now) (C.seen calls.old) (C.seen calls.new)
-        (over (Next.Enter at) spot.old store.old registers.now)
+    ensures on { GoesOver (S.searched on.now) (showing (C.seen calls.old) (C.seen calls.new)
+        (over (Next.Enter at) spot.old store.old registers.now))
         spot.new store.new registers.now result }
-    ensures stop { StopsOver (S.searched on.now) (C.seen calls.old) (C.seen calls.new)
-        (over (Next.Enter at) spot.old store.old registers.now) spot.new registers.now result }
+    ensures stop { StopsOver (S.searched on.now) (showing (C.seen calls.old) (C.seen calls.new)
+        (over (Next.Enter at) spot.old store.old registers.now)) spot.new registers.now result }
     ensures rule { (block : Block) → C.answers calls.new block ≡ C.answers calls.old block }
     ensures peak { KeepsPeak (S.searched on.now) store.old store.new }
     ensures no_less { room store.old ≤ room store.new }

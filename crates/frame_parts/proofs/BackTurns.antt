@@ -39,7 +39,6 @@ use Rattle.frame_state.specs.Stops.{restored, IsFurther, more_next, tells, IsSto
 use Rattle.frame_state.proofs.Frames.{spans_back, hand_same}
 use Rattle.frame_parts.proofs.EndTurns.{less_more}
 use Rattle.frame_parts.proofs.Runs.{run_at, longest_some, longest_none, fewer_step}
-use Rattle.frame_parts.specs.Conditions.{IsChoice}
 use Rattle.frame_state.specs.declared.machine.Next.{Next}
 
 module _ (c : Ground) (ok : IsGround c) (spot : Spot) (stack : List Entry) (caps : Captures) where
@@ -131,21 +130,6 @@ module _ (c : Ground) (ok : IsGround c) (spot : Spot) (stack : List Entry) (caps
   unfolding fail
   back_denial site kept v = goes_on c _ (restored spot site kept) stack caps v.records.1 v.spans v.slots ok site.node v.records.0.0 v.records.0.3 v.records.0.1 refl refl
 
-  -- a lookaround that is a test has failed
-  back_look_test : (site : Site) (kept : Kept) (next : Next) → IsChoice c site.node false next → IsValid c (conf Back spot (LookTest site kept ∷ stack) caps) →
-      Advances c (conf Back spot (LookTest site kept ∷ stack) caps) (conf next (restored spot site kept) stack caps)
-  unfolding fail
-  back_look_test site kept next choice v =
-      advance_pause c _ _ _ refl (choice.goes _ (outside c stack caps site.link) _ _ (λ p same. hand_same c stack caps site.link p site.node same)) refl
-      (record { running = choice.runs (restored spot site kept) stack v.records.0.3 v.records.0.1; records = v.records.1; spans = v.spans; slots = v.slots })
-
-  back_denial_test : (site : Site) (kept : Kept) (next : Next) → IsChoice c site.node true next → IsValid c (conf Back spot (DenialTest site kept ∷ stack) caps) →
-      Advances c (conf Back spot (DenialTest site kept ∷ stack) caps) (conf next (restored spot site kept) stack caps)
-  unfolding fail
-  back_denial_test site kept next choice v =
-      advance_pause c _ _ _ refl (choice.goes _ (outside c stack caps site.link) _ _ (λ p same. hand_same c stack caps site.link p site.node same)) refl
-      (record { running = choice.runs (restored spot site kept) stack v.records.0.3 v.records.0.1; records = v.records.1; spans = v.spans; slots = v.slots })
-
   -- a verb acts
   back_commit : (site : Site) (kept : Kept) (h : ℕ) → IsValid c (conf Back spot (CommitPassed site kept h ∷ stack) caps) →
       Advances c (conf Back spot (CommitPassed site kept h ∷ stack) caps) (conf (Act acting.Commit) (restored spot site kept) stack caps)
@@ -221,7 +205,7 @@ leaves_nothing c _ b e l f m g d t w z y u h a k x out to = refl
 -- the same, of the records
 module _ (c : Ground) (ok : IsGround c) (spot : Spot) (old older : List Record) (r : Record) (caps now : Captures) (v : IsValid c (conf Back spot (entries old) caps))
     (popped : old ≡ r ∷ older) (back : now ≡ taken_back (entry_of r) caps) where
-  pop_as : (e : Entry) → entry_of r ≡ e → (n : Captures → Conf) →
+  pub pop_as : (e : Entry) → entry_of r ≡ e → (n : Captures → Conf) →
       (IsValid c (conf Back spot (e ∷ entries older) caps) → Advances c (conf Back spot (e ∷ entries older) caps) (n (taken_back e caps))) →
       Advances c (conf Back spot (entries old) caps) (n now)
   pop_as e is n h =
@@ -246,12 +230,6 @@ module _ (c : Ground) (ok : IsGround c) (spot : Spot) (old older : List Record) 
 
   pub pop_denial : r.kind ≡ KIND_DENIAL_OPEN → Advances c (conf Back spot (entries old) caps) (conf (towards (next_of c r.node)) (restored spot (site_of r) (kept_of r)) (entries older) now)
   pop_denial e = pop_as _ (entry_of-denial_open r e) (λ x. conf (towards (next_of c r.node)) (restored spot (site_of r) (kept_of r)) (entries older) x) (back_denial c ok spot (entries older) caps (site_of r) (kept_of r))
-
-  pub pop_look_test : r.kind ≡ KIND_LOOK_TEST → (next : Next) → IsChoice c r.node false next → Advances c (conf Back spot (entries old) caps) (conf next (restored spot (site_of r) (kept_of r)) (entries older) now)
-  pop_look_test e next choice = pop_as _ (entry_of-look_test r e) (λ x. conf next (restored spot (site_of r) (kept_of r)) (entries older) x) (back_look_test c ok spot (entries older) caps (site_of r) (kept_of r) next choice)
-
-  pub pop_denial_test : r.kind ≡ KIND_DENIAL_TEST → (next : Next) → IsChoice c r.node true next → Advances c (conf Back spot (entries old) caps) (conf next (restored spot (site_of r) (kept_of r)) (entries older) now)
-  pop_denial_test e next choice = pop_as _ (entry_of-denial_test r e) (λ x. conf next (restored spot (site_of r) (kept_of r)) (entries older) x) (back_denial_test c ok spot (entries older) caps (site_of r) (kept_of r) next choice)
 
   pub pop_then : r.kind ≡ KIND_THEN_PASSED → Advances c (conf Back spot (entries old) caps) (conf (Leave r.node) (restored spot (site_of r) (kept_of r)) (entries older) now)
   pop_then e = pop_as _ (entry_of-then_passed r e) (λ x. conf (Leave r.node) (restored spot (site_of r) (kept_of r)) (entries older) x) (back_then c ok spot (entries older) caps (site_of r) (kept_of r))

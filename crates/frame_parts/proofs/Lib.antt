@@ -5,9 +5,5 @@ pub mod ItemTurns
 pub mod BackTurns
 pub mod AtomicTurns
 pub mod PossessiveTurns
-pub mod LookTurns
-pub mod CondTurns
-pub mod CalledTests
-pub mod CallTurns
 pub mod FarEnds
 pub mod PassTurns

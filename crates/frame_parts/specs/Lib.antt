@@ -1,4 +1,2 @@
-pub mod Looks
 pub mod Passing
-pub mod Conditions
 pub mod Possessive

@@ -20,6 +20,15 @@ use Rattle.frame_state.specs.Validity.{Advances}
 abbrev pub over : Next → Spot → Stack → Captures → Conf
 over next spot store caps = conf next spot (entries store.records) caps
 
+-- a step that may show callouts: where it begins, and the blocks that were shown before it and after it
+pub record Showing : Type 0 where
+  pub old : Option (List Block)
+  pub new : Option (List Block)
+  pub from : Conf
+
+abbrev pub showing : (old new : Option (List Block)) → Conf → Showing
+showing old new from = record { old = old; new = new; from = from }
+
 module _ (c : Ground) where
   -- a step that goes on from a state advances
   abbrev pub StepsOn : Conf → Spot → Stack → Captures → Result Next Stop → Type 0
@@ -37,12 +46,14 @@ module _ (c : Ground) where
   abbrev pub EndsThere : {A : Type 0} → Conf → Spot → Captures → Result A Stop → Type 0
   EndsThere m spot caps result = IfErr result (λ stop. IsEnd c stop spot caps (tells c.setting m.spot (ahead c m)))
 
-  -- the same of a step that may show callouts, where these blocks were shown before it and after it
-  abbrev pub GoesOver : (old new : Option (List Block)) → Conf → Spot → Stack → Captures → Result Next Stop → Type 0
-  GoesOver old new m spot store caps result = IfOk result (λ next. AdvancesOver c old new m (over next spot store caps))
+  -- the same of a step that may show callouts
+  abbrev pub GoesOver : Showing → Spot → Stack → Captures → Result Next Stop → Type 0
+  GoesOver s spot store caps result =
+      IfOk result (λ next. AdvancesOver c s.old s.new s.from (over next spot store caps))
 
-  abbrev pub StopsOver : {A : Type 0} → (old new : Option (List Block)) → Conf → Spot → Captures → Result A Stop → Type 0
-  StopsOver old new m spot caps result = IfErr result (λ stop. IsStopOver stop spot caps old new (tells c.setting m.spot (ahead c m)))
+  abbrev pub StopsOver : {A : Type 0} → Showing → Spot → Captures → Result A Stop → Type 0
+  StopsOver s spot caps result =
+      IfErr result (λ stop. IsStopOver stop spot caps s.old s.new (tells c.setting s.from.spot (ahead c s.from)))
 
   -- no more records than the frame limit, or than there were at most before
   abbrev pub KeepsPeak : Stack → Stack → Type 0

@@ -39,10 +39,11 @@ use Rattle.grep_output.specs.Lines.{is_nul, lines, treatment, treatment_by}
 use Rattle.grep_output.specs.Ends.{stop_of, ended_of}
 use Rattle.tool_out.specs.Writes.{Writes}
 use Rattle.tool_out.specs.Prints.{Wrote, Breaks}
+use Rattle.grep_core.specs.Work.{Work, work_on, standing}
 use Rattle.grep_core.specs.WholeScans.{Stood, StopsIn, ScansTo, ScansInput, left_by, AtLeastOne, IsJob, LeavesRest, StopsSoon}
 use Rattle.grep_output.specs.LittlePast.{TakesLittlePast}
 use Rattle.grep_output.specs.Refused.{RefusesSoon, WhereRefused}
-use Rattle.grep_core.specs.OneInput.{IsNew, is_skipped, WritesBoth, CountsPart, ScansAs, ScansSo, LeavesTo, GrepsInput, GrepsTo, Treats}
+use Rattle.grep_core.specs.OneInput.{IsNew, is_skipped, WritesBoth, CountsPart, ScansAs, ScansSo, LeavesTo, Greps, GrepsTo, Treats}
 use Rattle.grep_core.proofs.ScansRows.{stood-little, rows-numbered}
 use Rattle.grep_core.proofs.ScansTexts.{grew-part}
 use Rattle.grep_core.proofs.Refusing.{refuses-soon, refuses-ended}
@@ -124,35 +125,35 @@ module _ (plan : GrepPlan) (name : List ℕ) (s : State) where
   none-state show.Parts ended = (λ i. record { errors = plus_zero s.errors i; total = plus_zero s.total i; has_shown = or_none s.has_shown i })
   none-state show.Nothing ended = (λ i. record { errors = plus_zero s.errors i; total = plus_zero s.total i; has_shown = or_none s.has_shown i })
 
-  none-counts : (sh : Show) (found : Scan) → CountsPart plan name sh s found s
-  none-counts sh found = record { tried = []; rest = found.tried; begins = refl; state = none-state sh (at_finish (At End)) }
+none-counts : (work : Work) (s : State) (found : Scan) → CountsPart work s found s
+none-counts work s found = record { tried = []; rest = found.tried; begins = refl; state = none-state work.plan work.name s work.show (at_finish (At End)) }
 
 -- how an input is scanned
-module _ (plan : GrepPlan) (patterns : List Pattern) (name : List ℕ) (sh : Show) (s : State) where
+module _ (work : Work) (s : State) where
   -- one that is skipped isn't
-  pub scans-skipped : (treated : Treatment) (before now : Told) (f : Feed) (old : Printed) → treated ≡ Skipped → Stood plan treated before now f [] → length f.held ≤ 65536 → f.offset ≡ 0
-      → ScansAs plan patterns name sh treated s before now s old old (Ok (record { selected = 0; ended = told.Early }))
+  pub scans-skipped : (treated : Treatment) (before now : Told) (f : Feed) (old : Printed) → treated ≡ Skipped → Stood work.plan treated before now f [] → length f.held ≤ 65536 → f.offset ≡ 0
+      → ScansAs work treated (standing before s old) (standing now s old) (Ok (record { selected = 0; ended = told.Early }))
   scans-skipped treated before now f old is stood near begun =
-      let h = treated-of plan treated before now f stood in record {
+      let h = treated-of work.plan treated before now f stood in record {
         heard = h.heard;
         hears = h.hears;
         treats = h.treats;
-        scans = subst (λ t. ScansSo plan name sh s (scan plan patterns s.errors t (lines plan h.heard)) s old old (Ok (record { selected = 0; ended = told.Early }))) (sym is)
-            (record { wrote = none-wrote plan name s sh early old; state = none-state plan name s sh early }, refl, refl);
-        rest = subst (λ t. let x : Scan = scan plan patterns s.errors t (lines plan h.heard) in LeavesRest {T = FileEnd} x.ended x.within before now (Ok (record { selected = 0; ended = told.Early }))) (sym is)
-            (λ _. stood-little plan treated before now f [] stood near begun);
+        scans = subst (λ t. ScansSo work s (scan work.plan work.patterns s.errors t (lines work.plan h.heard)) s old old (Ok (record { selected = 0; ended = told.Early }))) (sym is)
+            (record { wrote = none-wrote work.plan work.name s work.show early old; state = none-state work.plan work.name s work.show early }, refl, refl);
+        rest = subst (λ t. let x : Scan = scan work.plan work.patterns s.errors t (lines work.plan h.heard) in LeavesRest {T = FileEnd} x.ended x.within before now (Ok (record { selected = 0; ended = told.Early }))) (sym is)
+            (λ _. stood-little work.plan treated before now f [] stood near begun);
         refused = tt;
       }
 
   -- memory lacked before the scan
-  pub scans-lacks : (treated : Treatment) (before now : Told) (f : Feed) (out err : Kept) (result : Result FileEnd Stop) → result ≡ Err Memory → Stood plan treated before now f []
-      → ScansAs plan patterns name sh treated s before now s (printed out err) (printed out err) result
+  pub scans-lacks : (treated : Treatment) (before now : Told) (f : Feed) (out err : Kept) (result : Result FileEnd Stop) → result ≡ Err Memory → Stood work.plan treated before now f []
+      → ScansAs work treated (standing before s (printed out err)) (standing now s (printed out err)) result
   scans-lacks treated before now f out err result is stood =
-      let h = treated-of plan treated before now f stood in
-      subst (ScansAs plan patterns name sh treated s before now s (printed out err) (printed out err)) (sym is)
-      (record { heard = h.heard; hears = h.hears; treats = h.treats; scans = (breaks-none _ _ out err Memory refl, none-counts plan name s sh (scan plan patterns s.errors treated (lines plan h.heard))); rest = tt; refused = tt })
+      let h = treated-of work.plan treated before now f stood in
+      subst (ScansAs work treated (standing before s (printed out err)) (standing now s (printed out err))) (sym is)
+      (record { heard = h.heard; hears = h.hears; treats = h.treats; scans = (breaks-none _ _ out err Memory refl, none-counts work s (scan work.plan work.patterns s.errors treated (lines work.plan h.heard))); rest = tt; refused = tt })
 
-  scan-as : (treated : Treatment) → treated ≢ Skipped → (found : Rows) → scan_of_rows plan patterns s.errors treated found ≡ scan plan patterns s.errors treated found
+  scan-as : (treated : Treatment) → treated ≢ Skipped → (found : Rows) → scan_of_rows work.plan work.patterns s.errors treated found ≡ scan work.plan work.patterns s.errors treated found
   scan-as AsText other found = refl
   scan-as AsBinary other found = refl
   scan-as Skipped other found = absurd (other refl)
@@ -163,8 +164,8 @@ module _ (plan : GrepPlan) (patterns : List Pattern) (name : List ℕ) (sh : Sho
   end_by selected (Err stop) = Err stop
 
   -- what a scan leaves, with the lines that it selected
-  counted-state : (treated : Treatment) (found : Scan) (selected total : ℕ) (s_mid : State) → s_mid ≡ left_by plan patterns name sh treated s found → selected ≡ length (selected_in plan found) → total ≡ s.total + selected
-      → record s_mid { total = total } ≡ state_by plan name sh s found
+  counted-state : (treated : Treatment) (found : Scan) (selected total : ℕ) (s_mid : State) → s_mid ≡ left_by work treated s found → selected ≡ length (selected_in work.plan found) → total ≡ s.total + selected
+      → record s_mid { total = total } ≡ state_by work.plan work.name work.show s found
   counted-state treated found selected total s_mid state count sums = ap (λ n. record s_mid { total = n }) sums ∙ (λ i. record (state i) { total = s.total + count i })
 
   -- what it leaves of the input
@@ -180,32 +181,32 @@ module _ (plan : GrepPlan) (patterns : List Pattern) (name : List ℕ) (sh : Sho
   refused-end selected fact (Err Memory) h = tt
 
   module _ (treated : Treatment) (selected total : ℕ) (s_mid : State) (sums : total ≡ s.total + selected) where
-    part : (found : Scan) → StopsIn plan patterns name sh treated s found selected s_mid → CountsPart plan name sh s found (record s_mid { total = total })
+    part : (found : Scan) → StopsIn work treated s found selected s_mid → CountsPart work s found (record s_mid { total = total })
     part found h = record { tried = h.tried; rest = h.rest; begins = h.begins; state = counted-state treated (scan_so_far h.tried) selected total s_mid h.state h.count sums }
 
-    scans-so : (found : Scan) (old new : Printed) (result : Result Ended Stop) → ScansTo plan patterns name sh treated s found selected s_mid old new result
-        → ScansSo plan name sh s found (record s_mid { total = total }) old new (end_by selected result)
+    scans-so : (found : Scan) (old new : Printed) (result : Result Ended Stop) → ScansTo work treated s found selected s_mid old new result
+        → ScansSo work s found (record s_mid { total = total }) old new (end_by selected result)
     scans-so found old new (Ok ended) h = (record { wrote = h.0.wrote; state = counted-state treated found selected total s_mid h.0.state h.0.count sums }, h.0.count, h.1)
     scans-so found old new (Err TooManyErrors) h = (record { wrote = h.0.wrote; state = counted-state treated found selected total s_mid h.0.state h.0.count sums }, h.1)
     scans-so found old new (Err SinkFault) h = (h.0, part found h.1)
     scans-so found old new (Err Memory) h = (h.0, part found h.1)
 
     pub scans-whole : {before after : Told} {old new : Printed} {met : Result Ended Stop} (came : Result Ended Stop) → met ≡ came → (result : Result FileEnd Stop) → result ≡ end_by selected came → treated ≢ Skipped
-        → ScansInput plan patterns name sh treated s before after selected s_mid old new met → ScansAs plan patterns name sh treated s before after (record s_mid { total = total }) old new result
+        → ScansInput work treated (standing before s old) (standing after s_mid new) selected met → ScansAs work treated (standing before s old) (standing after (record s_mid { total = total }) new) result
     scans-whole {before} {after} {old} {new} {met} came is result so other h = record {
       heard = h.heard;
       hears = h.hears;
       treats = h.treats;
-      scans = subst (λ found. ScansSo plan name sh s found (record s_mid { total = total }) old new result) (scan-as treated other (lines plan h.heard))
-          (subst (ScansSo plan name sh s (scan_of_rows plan patterns s.errors treated (lines plan h.heard)) (record s_mid { total = total }) old new) (sym so)
-          (scans-so (scan_of_rows plan patterns s.errors treated (lines plan h.heard)) old new came
-          (subst (ScansTo plan patterns name sh treated s (scan_of_rows plan patterns s.errors treated (lines plan h.heard)) selected s_mid old new) is h.scans)));
+      scans = subst (λ found. ScansSo work s found (record s_mid { total = total }) old new result) (scan-as treated other (lines work.plan h.heard))
+          (subst (ScansSo work s (scan_of_rows work.plan work.patterns s.errors treated (lines work.plan h.heard)) (record s_mid { total = total }) old new) (sym so)
+          (scans-so (scan_of_rows work.plan work.patterns s.errors treated (lines work.plan h.heard)) old new came
+          (subst (ScansTo work treated s (scan_of_rows work.plan work.patterns s.errors treated (lines work.plan h.heard)) selected s_mid old new) is h.scans)));
       rest =
-          let x = scan_of_rows plan patterns s.errors treated (lines plan h.heard) in
-          subst (λ found. LeavesRest {T = FileEnd} found.ended found.within before after result) (scan-as treated other (lines plan h.heard))
+          let x = scan_of_rows work.plan work.patterns s.errors treated (lines work.plan h.heard) in
+          subst (λ found. LeavesRest {T = FileEnd} found.ended found.within before after result) (scan-as treated other (lines work.plan h.heard))
           (subst (LeavesRest {T = FileEnd} x.ended x.within before after) (sym so) (rest-end selected x before after came (subst (LeavesRest {T = Ended} x.ended x.within before after) is h.rest)));
       refused =
-          let fact = StopsSoon plan patterns name sh treated s (lines plan h.heard) before after old.out new.out in
+          let fact = StopsSoon work treated s (lines work.plan h.heard) before after old.out new.out in
           subst (λ r. WhereRefused r fact) (sym so) (refused-end selected fact came (subst (λ r. WhereRefused r fact) is h.refused));
     }
 
@@ -288,7 +289,7 @@ pub record Scanned (plan : GrepPlan) (patterns : List Pattern) (name : List ℕ)
   pub state_is : state ≡ s
   pub few : s.errors ≤ 20
   pub some : AtLeastOne plan.max_count
-  pub scans : ScansAs plan patterns name shows treated state before after s_new old mid met
+  pub scans : ScansAs (work_on plan patterns name shows) treated (standing before state old) (standing after s_new mid) met
 
 stop-other : (fault : IoError) → stop_of fault ≢ TooManyErrors
 stop-other io.Failed = λ e. cc
@@ -297,6 +298,10 @@ stop-other io.Memory = λ e. cc
 -- what is written of the whole input
 module _ {plan : GrepPlan} {patterns : List Pattern} {name : List ℕ} {s : State} {treated : Treatment} {md : Mode} {tells : Bool} {before after : Told} {s_new : State} {old mid : Printed} {met : Result FileEnd Stop}
     (h : Scanned plan patterns name s treated md tells before after s_new old mid met) where
+  -- the work of its scan
+  abbrev on : Work
+  on = work_on plan patterns name (show_in (is_told plan treated) (mode plan))
+
   is_so : tells ≡ is_told plan treated
   is_so = h.told_is ∙ ap (tells_binary treated) h.mode_is
 
@@ -309,35 +314,35 @@ module _ {plan : GrepPlan} {patterns : List Pattern} {name : List ℕ} {s : Stat
   abbrev said_of : Scan → List ℕ
   said_of found = flat_map (error_message name) found.tried
 
-  scanned-so : ScansAs plan patterns name (show_in (is_told plan treated) (mode plan)) treated s before after s_new old mid met
+  scanned-so : ScansAs on treated (standing before s old) (standing after s_new mid) met
   scanned-so =
-      subst (λ x. ScansAs plan patterns name (show_in (is_told plan treated) (mode plan)) treated x before after s_new old mid met) h.state_is
-      (subst (λ x. ScansAs plan patterns name x treated h.state before after s_new old mid met) (h.shows_is ∙ (λ i. show_in (is_so i) (h.mode_is i))) h.scans)
+      subst (λ x. ScansAs on treated (standing before x old) (standing after s_new mid) met) h.state_is
+      (subst (λ x. ScansAs (work_on plan patterns name x) treated (standing before h.state old) (standing after s_new mid) met) (h.shows_is ∙ (λ i. show_in (is_so i) (h.mode_is i))) h.scans)
 
   -- of this treatment
   abbrev tells_so : Treatment → Written → Scan → Printed → Result FileEnd Stop → Type 0
   tells_so t w found new result =
-      GrepsTo w s_new old new result × LeavesTo plan name (show_in (is_told plan t) (mode plan)) s w found s_new result × LeavesRest w.ended w.within before after result
+      GrepsTo w s_new old new result × LeavesTo (work_on plan patterns name (show_in (is_told plan t) (mode plan))) s w found s_new result × LeavesRest w.ended w.within before after result
 
   -- a part of it was written, and this counts
   stopped : (found : Scan) {new : Printed} (stop : Stop) → stop ≢ TooManyErrors → Breaks (text_of found).out (text_of found).err old new (stop ≡ SinkFault)
-      → (s_new ≡ (text_of found).state) ⊎ CountsPart plan name (show_in (is_told plan treated) (mode plan)) s found s_new → tells_so treated (text_of found) found new (Err stop)
+      → (s_new ≡ (text_of found).state) ⊎ CountsPart on s found s_new → tells_so treated (text_of found) found new (Err stop)
   stopped found SinkFault other b left = (b, left, tt)
   stopped found Memory other b left = (b, left, tt)
   stopped found TooManyErrors other b left = absurd (other refl)
 
   grep-by : {new : Printed} (came : Result FileEnd Stop) → met ≡ came → (result : Result FileEnd Stop)
-      → ((found : Scan) → ScansSo plan name (show_in (is_told plan treated) (mode plan)) s found s_new old mid came → LeavesRest found.ended found.within before after came → tells_so treated (text_of found) found new result)
-      → ((found : Rows) → AreNumbered 1 found.rows → ScansSo plan name (show_in (is_told plan treated) (mode plan)) s (scan plan patterns s.errors treated found) s_new old mid came
-      → (let x : Scan = scan plan patterns s.errors treated found in LeavesRest x.ended x.within before after came) → WhereRefused came (StopsSoon plan patterns name (show_in (is_told plan treated) (mode plan)) treated s found before after old.out mid.out)
+      → ((found : Scan) → ScansSo on s found s_new old mid came → LeavesRest found.ended found.within before after came → tells_so treated (text_of found) found new result)
+      → ((found : Rows) → AreNumbered 1 found.rows → ScansSo on s (scan plan patterns s.errors treated found) s_new old mid came
+      → (let x : Scan = scan plan patterns s.errors treated found in LeavesRest x.ended x.within before after came) → WhereRefused came (StopsSoon on treated s found before after old.out mid.out)
       → WhereRefused result (RefusesSoon plan patterns name s treated found.rows before after old.out new.out))
-      → GrepsInput plan patterns name before after s s_new old new result
+      → Greps plan patterns name (standing before s old) (standing after s_new new) result
   unfolding input_text
   grep-by {new} came is result goes soon =
       let so = scanned-so in
       let found = scan plan patterns s.errors treated (lines plan so.heard) in
       let both = subst (λ t. let x : Scan = scan plan patterns s.errors t (lines plan so.heard) in tells_so t (written_by plan name (is_told plan t) s x) x new result) (sym so.treats)
-      (goes found (subst (ScansSo plan name (show_in (is_told plan treated) (mode plan)) s found s_new old mid) is so.scans) (subst (LeavesRest {T = FileEnd} found.ended found.within before after) is so.rest)) in
+      (goes found (subst (ScansSo on s found s_new old mid) is so.scans) (subst (LeavesRest {T = FileEnd} found.ended found.within before after) is so.rest)) in
       record {
         heard = so.heard;
         hears = so.hears;
@@ -345,9 +350,9 @@ module _ {plan : GrepPlan} {patterns : List Pattern} {name : List ℕ} {s : Stat
         left = both.1;
         rest = both.2;
         refused = subst (λ t. WhereRefused result (RefusesSoon plan patterns name s t (lines plan so.heard).rows before after old.out new.out)) (sym so.treats)
-            (soon (lines plan so.heard) (rows-numbered (line_end plan) plan.max_buffer_size so.heard) (subst (ScansSo plan name (show_in (is_told plan treated) (mode plan)) s found s_new old mid) is so.scans)
+            (soon (lines plan so.heard) (rows-numbered (line_end plan) plan.max_buffer_size so.heard) (subst (ScansSo on s found s_new old mid) is so.scans)
             (subst (LeavesRest {T = FileEnd} found.ended found.within before after) is so.rest)
-            (subst (λ r. WhereRefused r (StopsSoon plan patterns name (show_in (is_told plan treated) (mode plan)) treated s (lines plan so.heard) before after old.out mid.out)) is so.refused));
+            (subst (λ r. WhereRefused r (StopsSoon on treated s (lines plan so.heard) before after old.out mid.out)) is so.refused));
       }
 
   at_least : AtLeastOne (greatest_selected plan treated)
@@ -370,14 +375,14 @@ module _ {plan : GrepPlan} {patterns : List Pattern} {name : List ℕ} {s : Stat
 
   -- where the scan came to its end, what is told after it
   module _ (end : FileEnd) (is : met ≡ Ok end) where
-    out-is : (found : Scan) → ScansSo plan name (show_in (is_told plan treated) (mode plan)) s found s_new old mid (Ok end) → shown_of found ++ end_out plan name md tells end.selected ≡ (text_of found).out
+    out-is : (found : Scan) → ScansSo on s found s_new old mid (Ok end) → shown_of found ++ end_out plan name md tells end.selected ≡ (text_of found).out
     out-is found scans =
         sym (ap (out_text plan name (is_told plan treated) s.has_shown found) scans.2 ∙ out-end found end.ended ∙ (λ i. shown_of found ++ end_out plan name (sym h.mode_is i) (sym is_so i) (sym scans.1 i)))
 
-    said-is : (found : Scan) → ScansSo plan name (show_in (is_told plan treated) (mode plan)) s found s_new old mid (Ok end) → said_of found ++ ended_message plan.no_messages name (ended_of end.ended) ≡ (text_of found).err
+    said-is : (found : Scan) → ScansSo on s found s_new old mid (Ok end) → said_of found ++ ended_message plan.no_messages name (ended_of end.ended) ≡ (text_of found).err
     said-is found scans = ap (λ x. said_of found ++ ended_message plan.no_messages name x) (sym scans.2)
 
-    pub greps-all : {new : Printed} → Wrote (end_out plan name md tells end.selected) (ended_message plan.no_messages name (ended_of end.ended)) mid new → GrepsInput plan patterns name before after s s_new old new (Ok end)
+    pub greps-all : {new : Printed} → Wrote (end_out plan name md tells end.selected) (ended_message plan.no_messages name (ended_of end.ended)) mid new → Greps plan patterns name (standing before s old) (standing after s_new new) (Ok end)
     greps-all {new} next = grep-by (Ok end) is (Ok end) (λ found scans rest. (
       record {
         wrote = subst (λ x. Wrote x (text_of found).err old new) (out-is found scans)
@@ -392,8 +397,8 @@ module _ {plan : GrepPlan} {patterns : List Pattern} {name : List ℕ} {s : Stat
 
     pub greps-breaks : {new : Printed} (fault : IoError) (result : Result FileEnd Stop) → result ≡ Err (stop_of fault)
         → Breaks (end_out plan name md tells end.selected) (ended_message plan.no_messages name (ended_of end.ended)) mid new (stop_of fault ≡ SinkFault)
-        → GrepsInput plan patterns name before after s s_new old new result
-    greps-breaks {new} fault result so next = subst (GrepsInput plan patterns name before after s s_new old new) (sym so)
+        → Greps plan patterns name (standing before s old) (standing after s_new new) result
+    greps-breaks {new} fault result so next = subst (Greps plan patterns name (standing before s old) (standing after s_new new)) (sym so)
         (grep-by (Ok end) is (Err (stop_of fault)) (λ found scans rest.
         stopped found (stop_of fault) (stop-other fault)
         (subst (λ x. Breaks x (text_of found).err old new (stop_of fault ≡ SinkFault)) (out-is found scans)
@@ -409,7 +414,7 @@ module _ {plan : GrepPlan} {patterns : List Pattern} {name : List ℕ} {s : Stat
     many-said : (found : Scan) → found.ended ≡ too_many_errors → said_of found ++ message (codes "too many match errors") ≡ (text_of found).err
     many-said found ended = ap (λ x. said_of found ++ ended_message plan.no_messages name x) (sym ended)
 
-    pub greps-many : {err_new : Kept} (u : Unit {0}) → Writes (message (codes "too many match errors")) mid.err err_new (Ok u) → GrepsInput plan patterns name before after s s_new old (printed mid.out err_new) (Err TooManyErrors)
+    pub greps-many : {err_new : Kept} (u : Unit {0}) → Writes (message (codes "too many match errors")) mid.err err_new (Ok u) → Greps plan patterns name (standing before s old) (standing after s_new (printed mid.out err_new)) (Err TooManyErrors)
     greps-many {err_new} u w = grep-by (Err TooManyErrors) is (Err TooManyErrors) (λ found scans rest. (
       (
         subst (λ x. Wrote x (text_of found).err old (printed mid.out err_new)) (many-out found scans.1)
@@ -422,8 +427,8 @@ module _ {plan : GrepPlan} {patterns : List Pattern} {name : List ℕ} {s : Stat
     )) (λ found numbered scans rest refused. tt)
 
     pub greps-untold : {err_new : Kept} (fault : IoError) (result : Result FileEnd Stop) → result ≡ Err (stop_of fault) → Writes {T = Unit {0}} (message (codes "too many match errors")) mid.err err_new (Err fault)
-        → GrepsInput plan patterns name before after s s_new old (printed mid.out err_new) result
-    greps-untold {err_new} fault result so w = subst (GrepsInput plan patterns name before after s s_new old (printed mid.out err_new)) (sym so)
+        → Greps plan patterns name (standing before s old) (standing after s_new (printed mid.out err_new)) result
+    greps-untold {err_new} fault result so w = subst (Greps plan patterns name (standing before s old) (standing after s_new (printed mid.out err_new))) (sym so)
         (grep-by (Err TooManyErrors) is (Err (stop_of fault)) (λ found scans rest.
         stopped found (stop_of fault) (stop-other fault)
         (subst (λ x. Breaks x (text_of found).err old (printed mid.out err_new) (stop_of fault ≡ SinkFault)) (many-out found scans.1)
@@ -438,19 +443,19 @@ module _ {plan : GrepPlan} {patterns : List Pattern} {name : List ℕ} {s : Stat
   longer found early part = prefix-front _ _ _ _ part
   longer found too_many_errors part = part
 
-  cut-off : (found : Scan) (stop : Stop) → stop ≢ TooManyErrors → ScansSo plan name (show_in (is_told plan treated) (mode plan)) s found s_new old mid (Err stop) → tells_so treated (text_of found) found mid (Err stop)
+  cut-off : (found : Scan) (stop : Stop) → stop ≢ TooManyErrors → ScansSo on s found s_new old mid (Err stop) → tells_so treated (text_of found) found mid (Err stop)
   cut-off found SinkFault other b = (record { out = longer found found.ended b.0.out; err = prefix-front _ _ _ _ b.0.err; cause = b.0.cause; steady = b.0.steady }, inr b.1, tt)
   cut-off found Memory other b = (record { out = longer found found.ended b.0.out; err = prefix-front _ _ _ _ b.0.err; cause = b.0.cause; steady = b.0.steady }, inr b.1, tt)
   cut-off found TooManyErrors other b = absurd (other refl)
 
   cut-soon : (stop : Stop) → stop ≢ TooManyErrors → (found : Rows) → AreNumbered 1 found.rows
-      → WhereRefused {T = FileEnd} (Err stop) (StopsSoon plan patterns name (show_in (is_told plan treated) (mode plan)) treated s found before after old.out mid.out)
+      → WhereRefused {T = FileEnd} (Err stop) (StopsSoon on treated s found before after old.out mid.out)
       → WhereRefused {T = FileEnd} (Err stop) (RefusesSoon plan patterns name s treated found.rows before after old.out mid.out)
   cut-soon SinkFault other found numbered soon = λ plain written n to cut. refuses-soon plan patterns name s h.few found before after old.out mid.out numbered plain written n to treated at_least cut soon
   cut-soon Memory other found numbered soon = tt
   cut-soon TooManyErrors other found numbered soon = absurd (other refl)
 
-  pub greps-cut : (stop : Stop) → met ≡ Err stop → stop ≢ TooManyErrors → GrepsInput plan patterns name before after s s_new old mid (Err stop)
+  pub greps-cut : (stop : Stop) → met ≡ Err stop → stop ≢ TooManyErrors → Greps plan patterns name (standing before s old) (standing after s_new mid) (Err stop)
   greps-cut stop is other = grep-by (Err stop) is (Err stop) (λ found scans rest. cut-off found stop other scans) (λ found numbered scans rest refused. cut-soon stop other found numbered refused)
 
 pub fault-other : SinkFault ≢ TooManyErrors
@@ -461,17 +466,17 @@ memory-other e = cc
 
 -- memory lacked before the input was looked at
 pub greps-lacks : {plan : GrepPlan} {patterns : List Pattern} {name : List ℕ} {s s_new : State} {before after : Told} (out err : Kept) (stop : Stop) (result : Result FileEnd Stop) → s_new ≡ s → result ≡ Err stop → stop ≡ Memory
-    → (heard : Input) × Hears before after heard → GrepsInput plan patterns name before after s s_new (printed out err) (printed out err) result
+    → (heard : Input) × Hears before after heard → Greps plan patterns name (standing before s (printed out err)) (standing after s_new (printed out err)) result
 greps-lacks {plan} {patterns} {name} {s} {s_new} {before} {after} out err stop result kept is lacks any =
-    subst (λ (now : State). GrepsInput plan patterns name before after s now (printed out err) (printed out err) result) (sym kept)
-    (subst (GrepsInput plan patterns name before after s s (printed out err) (printed out err)) (sym (is ∙ ap Err lacks))
-    (record { heard = any.0; hears = any.1; greps = breaks-none _ _ out err Memory refl; left = inr (none-counts plan name s _ _); rest = tt; refused = tt }))
+    subst (λ (now : State). Greps plan patterns name (standing before s (printed out err)) (standing after now (printed out err)) result) (sym kept)
+    (subst (Greps plan patterns name (standing before s (printed out err)) (standing after s (printed out err))) (sym (is ∙ ap Err lacks))
+    (record { heard = any.0; hears = any.1; greps = breaks-none _ _ out err Memory refl; left = inr (none-counts _ s _); rest = tt; refused = tt }))
 
 -- the same of equal texts and an equal answer
 pub greps-moved : {plan : GrepPlan} {patterns : List Pattern} {name : List ℕ} {before after : Told} {s s_new : State} {old : Printed} (out out_then err err_then : Kept) (result result_then : Result FileEnd Stop)
-    → out ≡ out_then → err ≡ err_then → result ≡ result_then → GrepsInput plan patterns name before after s s_new old (printed out_then err_then) result_then
-    → GrepsInput plan patterns name before after s s_new old (printed out err) result
+    → out ≡ out_then → err ≡ err_then → result ≡ result_then → Greps plan patterns name (standing before s old) (standing after s_new (printed out_then err_then)) result_then
+    → Greps plan patterns name (standing before s old) (standing after s_new (printed out err)) result
 greps-moved {plan} {patterns} {name} {before} {after} {s} {s_new} {old} out out_then err err_then result result_then same_out same_err same h =
-    subst (λ (o : Kept). GrepsInput plan patterns name before after s s_new old (printed o err) result) (sym same_out)
-    (subst (λ (e : Kept). GrepsInput plan patterns name before after s s_new old (printed out_then e) result) (sym same_err)
-    (subst (λ (r : Result FileEnd Stop). GrepsInput plan patterns name before after s s_new old (printed out_then err_then) r) (sym same) h))
+    subst (λ (o : Kept). Greps plan patterns name (standing before s old) (standing after s_new (printed o err)) result) (sym same_out)
+    (subst (λ (e : Kept). Greps plan patterns name (standing before s old) (standing after s_new (printed out_then e)) result) (sym same_err)
+    (subst (λ (r : Result FileEnd Stop). Greps plan patterns name (standing before s old) (standing after s_new (printed out_then err_then)) r) (sym same) h))

@@ -23,6 +23,7 @@ use Rattle.grep_output.specs.Course.{line_as, passed_out, row_out, course_after,
 use Rattle.tool_out.specs.Texts.{text_if}
 use Rattle.grep_output.specs.Ends.{stop_of}
 use Rattle.grep_core.specs.Turns.{course_of, Halts, Passes, PassesOn, Takes, TakesLast, TakesLine, is_last, is_full}
+use Rattle.grep_core.specs.Work.{Work, progress}
 use Rattle.tool_out.specs.Writes.{Writes, WritesAll}
 use Rattle.tool_out.specs.Prints.{Breaks}
 use Rattle.grep_output.proofs.Reached.{unselected-error}
@@ -70,14 +71,14 @@ pub error-after : (plan : GrepPlan) (shows : Show) (c : Course) (t : Tried) (e :
 error-after plan shows c t e is = sym (cond-false (is_selected plan t) _ _ (unselected-error plan t (error-of t e is)))
 
 -- the last one
-pub takes-last : (plan : GrepPlan) (name : List ℕ) (shows : Show) (most : Option ℕ) (c : Course) (s : State) (t : Tried) (e : ℤ) (out err_old err_new : Kept) → t.matches ≡ Err e → s.errors ≤ 20 → 21 ≤ s.errors + 1
-    → WritesAll (error_message name t) err_old err_new
-    → TakesLast plan name shows most t c c s (record { errors = s.errors + 1; total = s.total; has_shown = s.has_shown }) (printed out err_old) (printed out err_new)
-takes-last plan name shows most c s t e out err_old err_new is few many said = record {
+pub takes-last : (work : Work) (most : Option ℕ) (c : Course) (s : State) (t : Tried) (e : ℤ) (out err_old err_new : Kept) → t.matches ≡ Err e → s.errors ≤ 20 → 21 ≤ s.errors + 1
+    → WritesAll (error_message work.name t) err_old err_new
+    → TakesLast work most t (progress c s (printed out err_old)) (progress c (record { errors = s.errors + 1; total = s.total; has_shown = s.has_shown }) (printed out err_new))
+takes-last work most c s t e out err_old err_new is few many said = record {
   course = refl;
   error = error-of t e is;
   errors = omega (arith, few, many);
-  state = error-state plan shows s t e is;
+  state = error-state work.plan work.show s t e is;
   wrote = record { out = Appends-nil out.held; err = said.all; steady = (refl, said.steady) };
 }
 
@@ -104,28 +105,28 @@ error-halts plan name shows c s t e out_old out_new err_old err_new stop is few 
     by_stop TooManyErrors h = absurd h
 
 -- a line with a match error was scanned whole
-pub error-takes : (plan : GrepPlan) (name : List ℕ) (shows : Show) (most : Option ℕ) (c c_new : Course) (s : State) (t : Tried) (e : ℤ) (out_old out_new err_old err_new : Kept) → t.matches ≡ Err e → s.errors + 1 < 21
-    → WritesAll (error_message name t) err_old err_new → PassesOn plan name shows t c c_new out_old out_new
-    → Takes plan name shows most t c s c_new (record { errors = s.errors + 1; total = s.total; has_shown = s.has_shown }) (printed out_old err_old) (printed out_new err_new) Line
-error-takes plan name shows most c c_new s t e out_old out_new err_old err_new is few said passes = record {
+pub error-takes : (work : Work) (most : Option ℕ) (c c_new : Course) (s : State) (t : Tried) (e : ℤ) (out_old out_new err_old err_new : Kept) → t.matches ≡ Err e → s.errors + 1 < 21
+    → WritesAll (error_message work.name t) err_old err_new → PassesOn work t (progress c s (printed out_old err_old)) (progress c_new s (printed out_new err_old))
+    → Takes work most t (progress c s (printed out_old err_old)) (progress c_new (record { errors = s.errors + 1; total = s.total; has_shown = s.has_shown }) (printed out_new err_new)) Line
+error-takes work most c c_new s t e out_old out_new err_old err_new is few said passes = record {
   wrote = record {
-    out = subst (Appends out_old.held out_new.held) (error-passed plan name shows s.has_shown c t e is) passes.wrote.all;
+    out = subst (Appends out_old.held out_new.held) (error-passed work.plan work.name work.show s.has_shown c t e is) passes.wrote.all;
     err = said.all;
     steady = (passes.wrote.steady, said.steady);
   };
-  stands = passes.stands ∙ error-after plan shows c t e is;
+  stands = passes.stands ∙ error-after work.plan work.show c t e is;
   limit = passes.limit;
   longest = passes.longest;
-  state = error-state plan shows s t e is;
-  answer = sym (ap (λ b. cond (b && is_full most c_new.selected) Context Line) (unselected-error plan t (error-of t e is)));
+  state = error-state work.plan work.show s t e is;
+  answer = sym (ap (λ b. cond (b && is_full most c_new.selected) Context Line) (unselected-error work.plan t (error-of t e is)));
   errors = omega (arith, few);
 }
 
-pub error-refused : (plan : GrepPlan) (name : List ℕ) (shows : Show) (most : Option ℕ) (c c_new : Course) (s : State) (t : Tried) (e : ℤ) (out_old out_new err_old err_new : Kept) (stop : Stop) → t.matches ≡ Err e → s.errors + 1 < 21
-    → WritesAll (error_message name t) err_old err_new → Passes plan name shows t c c_new out_old out_new (Err stop)
-    → TakesLine plan name shows most t c s c_new (record { errors = s.errors + 1; total = s.total; has_shown = s.has_shown }) (printed out_old err_old) (printed out_new err_new) (Err stop)
-error-refused plan name shows most c c_new s t e out_old out_new err_old err_new SinkFault is few said halts =
-    (error-halts plan name shows c s t e out_old out_new err_old err_new SinkFault is few said halts.0, (halts.1, inr (error-of t e is, error-state plan shows s t e is)))
-error-refused plan name shows most c c_new s t e out_old out_new err_old err_new Memory is few said halts =
-    (error-halts plan name shows c s t e out_old out_new err_old err_new Memory is few said halts.0, (halts.1, inr (error-of t e is, error-state plan shows s t e is)))
-error-refused plan name shows most c c_new s t e out_old out_new err_old err_new TooManyErrors is few said halts = absurd halts.0
+pub error-refused : (work : Work) (most : Option ℕ) (c c_new : Course) (s : State) (t : Tried) (e : ℤ) (out_old out_new err_old err_new : Kept) (stop : Stop) → t.matches ≡ Err e → s.errors + 1 < 21
+    → WritesAll (error_message work.name t) err_old err_new → Passes work t (progress c s (printed out_old err_old)) (progress c_new s (printed out_new err_old)) (Err stop)
+    → TakesLine work most t (progress c s (printed out_old err_old)) (progress c_new (record { errors = s.errors + 1; total = s.total; has_shown = s.has_shown }) (printed out_new err_new)) (Err stop)
+error-refused work most c c_new s t e out_old out_new err_old err_new SinkFault is few said halts =
+    (error-halts work.plan work.name work.show c s t e out_old out_new err_old err_new SinkFault is few said halts.0, (halts.1, inr (error-of t e is, error-state work.plan work.show s t e is)))
+error-refused work most c c_new s t e out_old out_new err_old err_new Memory is few said halts =
+    (error-halts work.plan work.name work.show c s t e out_old out_new err_old err_new Memory is few said halts.0, (halts.1, inr (error-of t e is, error-state work.plan work.show s t e is)))
+error-refused work most c c_new s t e out_old out_new err_old err_new TooManyErrors is few said halts = absurd halts.0

@@ -1,19 +1,21 @@
 -- Lines that are passed over have no match.
-use Rattle.std.proofs.Common.{◌≡◌, ℕ, zero, suc, ◌+◌, ◌-◌, ◌<◌, ◌≤◌, List, [], ◌∷◌, ◌++◌, length, None, Some, Ok, refl, sym, ap, subst, ◌∙◌, arith, length-append}
-use Rattle.std.specs.Prelude.{slice_index}
+use Rattle.std.proofs.Common.{◌≡◌, ℕ, zero, suc, ◌+◌, ◌-◌, ◌<◌, ◌≤◌, List, [], ◌∷◌, ◌++◌, length, take, None, Some, Ok, refl, sym, ap, subst, ◌∙◌, arith, length-append}
+use Rattle.std.specs.Prelude.{slice_index, IsTrue, IsUtf8}
 use Rattle.std.specs.List.{All}
 use Rattle.std.proofs.lemmas.List.{get_or_append_left, get_or-append-add}
 use Rattle.pcre_io.specs.Told.{Told}
 use Rattle.line_feed.specs.Rows.{Row}
 use Rattle.line_feed.specs.View.{Feed}
 use Rattle.line_feed.specs.Passes.{GivesAll, Passes}
+use Rattle.line_feed.proofs.Given.{kind-gives}
 use Rattle.grep_args.specs.declared.plan.GrepPlan.{GrepPlan}
 use Rattle.pat_tree.specs.Pattern.{Pattern}
 use Rattle.grep_match.specs.declared.unsearched.Needed.{Needed}
 use Rattle.grep_match.specs.Matches.{matches}
 use Rattle.grep_core.specs.declared.watch.Watch.{Watch}
-use Rattle.grep_core.specs.Watched.{Watches, PassesOver}
-use Rattle.grep_core.proofs.Watching.{watches_gives, watches_line, watches_none, watches_behind}
+use Rattle.grep_core.specs.Watched.{Watches, PassesOver, HasAsciiNewlines}
+use Rattle.grep_core.proofs.Cutting.{AreValid, are-valid}
+use Rattle.grep_core.proofs.Watching.{same-needed, watches_gives, watches_line, watches_none, watches_behind}
 
 pub all-nil : {A : Type 0} (P : A → Type 0) → All P []
 all-nil P = λ k d l. absurd (omega arith)
@@ -46,6 +48,10 @@ module _ (bytes newline behind held taken : List ℕ) (n : ℕ) (is : held ++ ta
       let sum = length-append bytes newline in
       subst (λ b. b < 256) (get_or-append-add (bytes ++ newline) behind k 0) (byte-at (length (bytes ++ newline) + k) (omega (arith, l, sum)))
 
+-- in UTF a character begins at either end of a newline
+abbrev EndsWhole : Needed → Feed → Type 0
+EndsWhole found f = IsTrue found.utf → HasAsciiNewlines f.kind
+
 module _ (plan : GrepPlan) (patterns : List Pattern) (found : Needed) (now : Told) where
   -- rows that were given, so many bytes in all
   record Over (w : Watch) (f g : Feed) (rows : List Row) : Type 0 where
@@ -57,15 +63,15 @@ module _ (plan : GrepPlan) (patterns : List Pattern) (found : Needed) (now : Tol
   watches-less : (w : Watch) (held : List ℕ) (a b n : ℕ) → Watches plan patterns (record w { quiet = w.quiet - a - b - n }) held → Watches plan patterns (record w { quiet = w.quiet - (a + b + n) }) held
   watches-less w held a b n had = let less : w.quiet - a - b - n ≡ w.quiet - (a + b + n) = omega arith in subst (λ q. Watches plan patterns (record w { quiet = q }) held) less had
 
-  passes-over : (rows : List Row) (w : Watch) (f g : Feed) (n : ℕ) → w.needed ≡ Some found → n ≡ w.quiet → AreBytes f.held n → Watches plan patterns w f.held → GivesAll now n found.most f g rows → Over w f g rows
-  passes-over [] w f g n there is are had same = record {
+  passes-over : (rows : List Row) (w : Watch) (f g : Feed) (n : ℕ) → w.needed ≡ Some found → n ≡ w.quiet → EndsWhole found f → AreBytes f.held n → Watches plan patterns w f.held → GivesAll now n found.most f g rows → Over w f g rows
+  passes-over [] w f g n there is whole are had same = record {
     sum = 0;
     offset = let at = ap (λ (x : Feed). x.offset) same in omega arith;
     none = all-nil (λ (row : Row). matches plan patterns row.bytes ≡ Ok []);
     watches = let all : w.quiet ≡ w.quiet - 0 = omega arith in
         subst (λ q. Watches plan patterns (record w { quiet = q }) g.held) all (subst (λ (x : Feed). Watches plan patterns w x.held) (sym same) had);
   }
-  passes-over (row ∷ rows) w f g n there is are had all =
+  passes-over (row ∷ rows) w f g n there is whole are had all =
       let short = all.0 in
       let long = all.1 in
       let mid = all.2.0 in
@@ -78,9 +84,12 @@ module _ (plan : GrepPlan) (patterns : List Pattern) (found : Needed) (now : Tol
       let held = sym moves.held ∙ cuts.bytes in
       let line = watches_gives plan patterns w f mid now now row gives had in
       let next : Watch = record w { quiet = w.quiet - a - b } in
-      let rest = passes-over rows next mid g (n - (a + b)) there (omega (arith, is))
+      let valid : (on : IsTrue found.utf) → AreValid f mid now now row gives (whole on) w.quiet = λ on. are-valid f mid now now row gives (whole on) w.quiet (omega (arith, long, is)) (line.valid found there on) in
+      let rest = passes-over rows next mid g (n - (a + b)) there (omega (arith, is)) (λ on. subst HasAsciiNewlines (sym (kind-gives f mid now now row gives)) (whole on))
       (behind-bytes row.bytes row.newline mid.held f.held moves.taken n held (omega (arith, is, within)) are)
-      (watches_behind plan patterns w row.bytes row.newline mid.held next.quiet refl line) all.2.2 in
+      (watches_behind plan patterns w row.bytes row.newline mid.held next.quiet refl (λ some is_some on.
+      let counted : w.quiet - (a + b) ≡ w.quiet - a - b = omega arith in
+      subst (λ k. IsUtf8 (take k mid.held)) counted (valid (subst (λ (s : Needed). IsTrue s.utf) (sym (same-needed w.needed found some there is_some)) on)).behind) line) all.2.2 in
       let row_offset = cuts.offset in
       let mid_offset = cuts.next_offset in
       let same_offset = moves.offset in
@@ -89,7 +98,7 @@ module _ (plan : GrepPlan) (patterns : List Pattern) (found : Needed) (now : Tol
         sum = a + b + rest.sum;
         offset = omega arith;
         none = all-cons (λ (r : Row). matches plan patterns r.bytes ≡ Ok []) row rows
-            (watches_none plan patterns w row.bytes (row.newline ++ mid.held) found there (omega (arith, long, is)) short
+            (watches_none plan patterns w row.bytes (row.newline ++ mid.held) found there (omega (arith, long, is)) short (λ on. (valid on).line)
             (line-bytes row.bytes row.newline mid.held f.held moves.taken n held (omega (arith, is, within)) are long) (watches_line plan patterns w row.bytes row.newline mid.held line))
             rest.none;
         watches = watches-less w g.held a b rest.sum rest.watches;
@@ -99,12 +108,12 @@ module _ (plan : GrepPlan) (patterns : List Pattern) (found : Needed) (now : Tol
 pub over-none : (plan : GrepPlan) (patterns : List Pattern) (w : Watch) (f : Feed) → Watches plan patterns w f.held → PassesOver plan patterns w f f
 over-none plan patterns w f had = record { within = 0; longest = 0; rows = []; gives = λ now. refl; none = all-nil (λ (row : Row). matches plan patterns row.bytes ≡ Ok []); watches = had }
 
-pub over-some : (plan : GrepPlan) (patterns : List Pattern) (found : Needed) (w : Watch) (f g : Feed) (passed n : ℕ) → w.needed ≡ Some found → AreBytes f.held (length f.held) → Watches plan patterns w f.held → Passes f g w.quiet found.most passed → n ≡ w.quiet - passed
+pub over-some : (plan : GrepPlan) (patterns : List Pattern) (found : Needed) (w : Watch) (f g : Feed) (passed n : ℕ) → w.needed ≡ Some found → EndsWhole found f → AreBytes f.held (length f.held) → Watches plan patterns w f.held → Passes f g w.quiet found.most passed → n ≡ w.quiet - passed
     → PassesOver plan patterns (record w { quiet = n }) f g
-over-some plan patterns found w f g passed n there are had passes is =
+over-some plan patterns found w f g passed n there whole are had passes is =
     let now : Told = record { left = None; stop = None; faults = 0 } in
     let within = (had.quiet found there).within in
-    let over = passes-over plan patterns found now passes.rows w f g w.quiet there refl (λ k l. are k (omega (arith, l, within))) had (passes.gives now) in
+    let over = passes-over plan patterns found now passes.rows w f g w.quiet there refl whole (λ k l. are k (omega (arith, l, within))) had (passes.gives now) in
     let offset = passes.offset in
     let over_offset = over.offset in
     let same : w.quiet - over.sum ≡ n = omega (arith, is, offset, over_offset) in

@@ -24,6 +24,7 @@ use Rattle.grep_output.specs.InputText.{out_text, shown_out}
 use Rattle.grep_output.specs.Course.{AreNumbered, begun}
 use Rattle.grep_output.specs.LittlePast.{bytes_in, TakesLittlePast}
 use Rattle.grep_output.specs.Refused.{GrewBy, GrewTo, IsCut, needs_all}
+use Rattle.grep_core.specs.Work.{work_on}
 use Rattle.grep_core.specs.WholeScans.{AtLeastOne, StopsSoon}
 use Rattle.grep_output.proofs.ReachRows.{numbered-left}
 use Rattle.grep_output.proofs.Reached.{reached-begun}
@@ -82,8 +83,8 @@ module _ (plan : GrepPlan) (patterns : List Pattern) (name : List ℕ) (s : Stat
         let both = tries-more plan patterns rows more in
         let whole = grows plan name shows s.has_shown (errors_left s.errors) most finish later us [] begun vs begins
         (subst (λ l. AreNumbered 1 l) (sym (rows-tried plan patterns (rows ++ more)) ∙ ap rows_of both) numbered) in
-        let one = ap (λ (x : Scan). length (shown_out plan name shows s.has_shown x)) (scan-is plan patterns name shows most treated s refl refl (rows_with rows finish)) in
-        let all = ap (λ (x : Scan). length (shown_out plan name shows s.has_shown x)) (scan-is plan patterns name shows most treated s refl refl (rows_with (rows ++ more) later) ∙ ap (λ l. full_of plan patterns name shows most treated s later l) both) in
+        let one = ap (λ (x : Scan). length (shown_out plan name shows s.has_shown x)) (scan-is (work_on plan patterns name shows) most treated s refl refl (rows_with rows finish)) in
+        let all = ap (λ (x : Scan). length (shown_out plan name shows s.has_shown x)) (scan-is (work_on plan patterns name shows) most treated s refl refl (rows_with (rows ++ more) later) ∙ ap (λ l. full_of (work_on plan patterns name shows) most treated s later l) both) in
         omega arith
 
     module _ (found : Rows) (before after : Told) (old new : Kept) (numbered : AreNumbered 1 found.rows) (written : List ℕ) (n : ℕ) (to : GrewTo old new written) where
@@ -98,7 +99,7 @@ module _ (plan : GrepPlan) (patterns : List Pattern) (name : List ℕ) (s : Stat
       numbered_parts = subst (λ l. AreNumbered 1 l) (sym (take-append-drop n found.rows)) numbered
 
       -- it is past the lines of which all was written
-      past-these : (soon : StopsSoon plan patterns name shows treated s found before after old new) → length soon.given < n → TakesLittlePast (take n found.rows) before after
+      past-these : (soon : StopsSoon (work_on plan patterns name shows) treated s found before after old new) → length soon.given < n → TakesLittlePast (take n found.rows) before after
       past-these soon past =
           let upto = soon.given ++ soon.next in
           let one = soon.one in
@@ -111,7 +112,7 @@ module _ (plan : GrepPlan) (patterns : List Pattern) (name : List ℕ) (s : Stat
           let most_taken = soon.little.2 in
           (soon.little.0, soon.little.1, omega arith)
 
-      past-or : (soon : StopsSoon plan patterns name shows treated s found before after old new) → (n ≤ length soon.given → ⊥) → TakesLittlePast (take n found.rows) before after
+      past-or : (soon : StopsSoon (work_on plan patterns name shows) treated s found before after old new) → (n ≤ length soon.given → ⊥) → TakesLittlePast (take n found.rows) before after
       past-or soon other =
           ⊎_elim
           (λ (past : length soon.given < n). past-these soon past)
@@ -130,7 +131,7 @@ module _ (plan : GrepPlan) (patterns : List Pattern) (name : List ℕ) (s : Stat
             let first = ap (λ l. length (shown (rows_with l (At End)))) (ap (λ l. take n l) all ∙ take-append-le n whole rest within) in
             omega arith
 
-        lines-next : StopsSoon plan patterns name shows treated s found before after old new → TakesLittlePast (take n found.rows) before after
+        lines-next : StopsSoon (work_on plan patterns name shows) treated s found before after old new → TakesLittlePast (take n found.rows) before after
         lines-next soon = past-or soon (missing soon.given (soon.next ++ soon.more) (At End) (soon.all ∙ append_assoc soon.given soon.next soon.more) soon.grew)
 
         -- all was written
@@ -147,10 +148,10 @@ module _ (plan : GrepPlan) (patterns : List Pattern) (name : List ℕ) (s : Stat
         in-first =
             let us = tries plan patterns (take n found.rows) in
             let ws = tries plan patterns (drop n found.rows) in
-            let scan_at = full_of plan patterns name show.Nothing (Some 1) treated s in
-            let part : first ≡ scan_at (At End) us = scan-is plan patterns name show.Nothing (Some 1) treated s once.shows_is once.most_is (rows_with (take n found.rows) (At End)) in
+            let scan_at = full_of (work_on plan patterns name show.Nothing) (Some 1) treated s in
+            let part : first ≡ scan_at (At End) us = scan-is (work_on plan patterns name show.Nothing) (Some 1) treated s once.shows_is once.most_is (rows_with (take n found.rows) (At End)) in
             let both : tries plan patterns found.rows ≡ us ++ ws = ap (λ l. tries plan patterns l) (sym (take-append-drop n found.rows)) ∙ tries-more plan patterns (take n found.rows) (drop n found.rows) in
-            let whole : all_of ≡ scan_at found.finish (us ++ ws) = scan-is plan patterns name show.Nothing (Some 1) treated s once.shows_is once.most_is found ∙ ap (λ l. scan_at found.finish l) both in
+            let whole : all_of ≡ scan_at found.finish (us ++ ws) = scan-is (work_on plan patterns name show.Nothing) (Some 1) treated s once.shows_is once.most_is found ∙ ap (λ l. scan_at found.finish l) both in
             let rows : AreNumbered 1 (rows_of (us ++ ws)) = subst (λ l. AreNumbered 1 l) (sym (rows-tried plan patterns found.rows) ∙ ap rows_of both) numbered in
             let goes : Goes plan show.Nothing (errors_left s.errors) (Some 1) [] begun = record { reached = reached-begun plan show.Nothing; few = omega arith; below = omega arith } in
             subst (λ x. EndsIn plan name s.has_shown (errors_left s.errors) us x) (sym whole)
@@ -158,7 +159,7 @@ module _ (plan : GrepPlan) (patterns : List Pattern) (name : List ℕ) (s : Stat
             (subst (λ (x : Scan). x.ended ≢ too_many_errors) part decided.0)
             (subst (λ (x : Scan). 0 < length (selected_in plan x)) part decided.1))
 
-        selected-later : (soon : StopsSoon plan patterns name shows treated s found before after old new) → n ≤ length soon.given → ⊥
+        selected-later : (soon : StopsSoon (work_on plan patterns name shows) treated s found before after old new) → n ≤ length soon.given → ⊥
         selected-later soon within =
             let sel = is_selected plan in
             let given = soon.given in
@@ -172,7 +173,7 @@ module _ (plan : GrepPlan) (patterns : List Pattern) (name : List ℕ) (s : Stat
             let below : count sel (tries plan patterns given) < 1 = subst (λ m. IsBelow m (count sel (tries plan patterns given))) (sym once.most_is) (soon.below (sym (ap (λ x. lines_after x plan.after_context) once.shows_is))) in
             omega arith
 
-        once-next : StopsSoon plan patterns name shows treated s found before after old new → TakesLittlePast (take n found.rows) before after
+        once-next : StopsSoon (work_on plan patterns name shows) treated s found before after old new → TakesLittlePast (take n found.rows) before after
         once-next soon = past-or soon (selected-later soon)
 
         -- the scan ended at that line
@@ -194,7 +195,7 @@ module _ (plan : GrepPlan) (patterns : List Pattern) (name : List ℕ) (s : Stat
             (λ (once : TellsOnce plan name (is_told plan treated) (mode plan)). once_so once (decides plan name (is_told plan treated) s.has_shown first once first.ended (length written) longer))
             (tells-of plan name (is_told plan treated) (mode plan) plain)
 
-        pub past-next : StopsSoon plan patterns name shows treated s found before after old new → TakesLittlePast (take n found.rows) before after
+        pub past-next : StopsSoon (work_on plan patterns name shows) treated s found before after old new → TakesLittlePast (take n found.rows) before after
         past-next soon = by-mode (λ long. lines-next long soon) (λ once decided. once-next once decided soon)
 
         pub past-ended : GrewBy (shown found) old new → (all_of.ended ≡ early → TakesLittlePast all_of.within before after) → TakesLittlePast (take n found.rows) before after
@@ -218,7 +219,7 @@ module _ (plan : GrepPlan) (patterns : List Pattern) (name : List ℕ) (s : Stat
       (tells-of plan name (is_told plan Skipped) (mode plan) plain)
 
   pub refuses-soon : (treated : Treatment) → AtLeastOne (greatest_selected plan treated) → IsCut plan patterns name s treated found.rows written n
-      → StopsSoon plan patterns name (show_in (is_told plan treated) (mode plan)) treated s found before after old new → TakesLittlePast (take n found.rows) before after
+      → StopsSoon (work_on plan patterns name (show_in (is_told plan treated) (mode plan))) treated s found before after old new → TakesLittlePast (take n found.rows) before after
   refuses-soon AsText some cut soon = past-next plan patterns name s AsText few some found before after old new numbered written n to plain cut.longer soon
   refuses-soon AsBinary some cut soon = past-next plan patterns name s AsBinary few some found before after old new numbered written n to plain cut.longer soon
   refuses-soon Skipped some cut soon = absurd (skipped-none cut)

@@ -8,7 +8,6 @@ use Rattle.line_feed.specs.View.{Feed}
 use Rattle.line_feed.specs.Answers.{Gives}
 use Rattle.circular_buffer.specs.Buffer.{keep_last}
 use Rattle.grep_args.specs.declared.plan.GrepPlan.{GrepPlan}
-use Rattle.pat_tree.specs.Pattern.{Pattern}
 use Rattle.grep_output.specs.declared.shows.Show.{Show}
 use Rattle.grep_output.specs.declared.shows.Show.TheVariants as show
 use Rattle.grep_output.specs.declared.shows.Treatment.{Treatment}
@@ -20,6 +19,7 @@ use Rattle.grep_output.specs.InputText.{shown_out, shows_group}
 use Rattle.grep_output.specs.Course as course
 use Rattle.grep_output.specs.Course.{begun, course_after, course_after_selected, course_after_passed, scan_so_far}
 use Rattle.grep_core.specs.Turns.{course_of, Takes}
+use Rattle.grep_core.specs.Work.{Work, progress}
 use Rattle.grep_core.specs.WholeScans.{Stood, IsJob, AtLeastOne}
 use Rattle.tool_out.specs.Prints.{Wrote}
 use Rattle.grep_output.proofs.Reached.{Reached, reached-begun}
@@ -47,13 +47,13 @@ below-none None some = tt
 below-none (Some m) some = omega arith
 
 -- before the first line
-pub standing-begun : (plan : GrepPlan) (patterns : List Pattern) (name : List ℕ) (shows : Show) (most : Option ℕ) (treated : Treatment) (s0 : State) (before now : Told) (f0 : Feed) (c : Course) (out err : Kept)
-    → IsJob plan treated shows most f0 → Stood plan treated before now f0 [] → c.selected ≡ 0 → c.context_to ≡ 0 → c.earlier.rows ≡ [] → s0.errors ≤ 20
-    → Standing plan patterns name shows most treated s0 before now f0 c s0 out out err err
-standing-begun plan patterns name shows most treated s0 before now f0 c out err job stood selected context earlier errors =
+pub standing-begun : (work : Work) (most : Option ℕ) (treated : Treatment) (s0 : State) (before now : Told) (f0 : Feed) (c : Course) (out err : Kept)
+    → IsJob work.plan treated work.show most f0 → Stood work.plan treated before now f0 [] → c.selected ≡ 0 → c.context_to ≡ 0 → c.earlier.rows ≡ [] → s0.errors ≤ 20
+    → Standing work most treated s0 before now f0 c s0 out out err err
+standing-begun work most treated s0 before now f0 c out err job stood selected context earlier errors =
     let is : course_of c ≡ begun = λ i. record { selected = selected i; context_to = context i; earlier = earlier i } in
     let none : s0.errors + 0 ≡ s0.errors = omega arith in
-    let shown : (s0.has_shown || shows_group plan name shows (scan_so_far [])) ≡ s0.has_shown = ap (λ b. s0.has_shown || b) (group-none plan name shows) ∙ or_none s0.has_shown in record {
+    let shown : (s0.has_shown || shows_group work.plan work.name work.show (scan_so_far [])) ≡ s0.has_shown = ap (λ b. s0.has_shown || b) (group-none work.plan work.name work.show) ∙ or_none s0.has_shown in record {
       given = [];
       stood = stood;
       kind = job.kind;
@@ -63,8 +63,8 @@ standing-begun plan patterns name shows most treated s0 before now f0 c out err 
       few = omega arith;
       below = below-none most job.some;
       taken = record {
-        reached = subst (λ (d : course.Course). Reached plan shows [] d) (sym is) (reached-begun plan shows);
-        wrote = subst (λ l. Wrote l [] (printed out err) (printed out err)) (sym (shown-none plan name shows s0.has_shown)) (wrote-none (printed out err));
+        reached = subst (λ (d : course.Course). Reached work.plan work.show [] d) (sym is) (reached-begun work.plan work.show);
+        wrote = subst (λ l. Wrote l [] (printed out err) (printed out err)) (sym (shown-none work.plan work.name work.show s0.has_shown)) (wrote-none (printed out err));
         state = λ i. record s0 { errors = sym none i; has_shown = sym shown i };
       };
     }
@@ -153,9 +153,9 @@ pub record Keeps (f : Feed) (c : Course) (s : State) : Type 0 where
   pub selected : c.selected ≤ f.number
   pub errors : s.errors ≤ 20
 
-pub keeps-more : (plan : GrepPlan) (name : List ℕ) (shows : Show) (most : Option ℕ) (f g : Feed) (now after : Told) (row : Row) (t : Tried) (c : Course) (s : State) (c1 : Course) (s1 : State) (out out1 err err1 : Kept) (next : Next)
-    → plan.after_context < 2 ^ 32 → t.row ≡ row → Keeps f c s → Gives f g now after row → Takes plan name shows most t c s c1 s1 (printed out err) (printed out1 err1) next → Keeps g c1 s1
-keeps-more plan name shows most f g now after row t c s c1 s1 out out1 err err1 next few is keeps gives takes =
+pub keeps-more : (work : Work) (most : Option ℕ) (f g : Feed) (now after : Told) (row : Row) (t : Tried) (c : Course) (s : State) (c1 : Course) (s1 : State) (out out1 err err1 : Kept) (next : Next)
+    → work.plan.after_context < 2 ^ 32 → t.row ≡ row → Keeps f c s → Gives f g now after row → Takes work most t (progress c s (printed out err)) (progress c1 s1 (printed out1 err1)) next → Keeps g c1 s1
+keeps-more work most f g now after row t c s c1 s1 out out1 err err1 next few is keeps gives takes =
     let grew = gave f g now after row gives in
     let number = grew.number in
     let row_number = grew.row_number in
@@ -169,12 +169,12 @@ keeps-more plan name shows most f g now after row t c s c1 s1 out out1 err err1 
     let had_context = keeps.context in
     let had_selected = keeps.selected in
     let same : t.row.number ≡ row.number = ap (λ (r : Row). r.number) is in
-    let earlier = after-earlier plan shows (course_of c) t in
-    let count = after-count plan shows (course_of c) t in
-    let context = after-context plan shows (course_of c) t (2 ^ 62) had_context (omega arith) in
-    let back_is : length c1.earlier.rows ≡ length (course_after plan shows (course_of c) t).earlier = ap (λ (d : course.Course). length d.earlier) takes.stands in
-    let context_is : c1.context_to ≡ (course_after plan shows (course_of c) t).context_to = ap (λ (d : course.Course). d.context_to) takes.stands in
-    let count_is : c1.selected ≡ (course_after plan shows (course_of c) t).selected = ap (λ (d : course.Course). d.selected) takes.stands in
+    let earlier = after-earlier work.plan work.show (course_of c) t in
+    let count = after-count work.plan work.show (course_of c) t in
+    let context = after-context work.plan work.show (course_of c) t (2 ^ 62) had_context (omega arith) in
+    let back_is : length c1.earlier.rows ≡ length (course_after work.plan work.show (course_of c) t).earlier = ap (λ (d : course.Course). length d.earlier) takes.stands in
+    let context_is : c1.context_to ≡ (course_after work.plan work.show (course_of c) t).context_to = ap (λ (d : course.Course). d.context_to) takes.stands in
+    let count_is : c1.selected ≡ (course_after work.plan work.show (course_of c) t).selected = ap (λ (d : course.Course). d.selected) takes.stands in
     record {
       max = omega arith;
       numbered = omega arith;

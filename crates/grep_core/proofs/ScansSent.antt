@@ -3,9 +3,6 @@ use Rattle.std.proofs.Common.{◌≡◌, ℕ, List, [], ◌++◌, Option, Err, r
 use Rattle.std.specs.Prelude.{flat_map}
 use Rattle.pcre_io.specs.Told.{Told, Kept, AppendsPrefix}
 use Rattle.line_feed.specs.View.{Feed}
-use Rattle.grep_args.specs.declared.plan.GrepPlan.{GrepPlan}
-use Rattle.pat_tree.specs.Pattern.{Pattern}
-use Rattle.grep_output.specs.declared.shows.Show.{Show}
 use Rattle.grep_output.specs.declared.shows.Treatment.{Treatment}
 use Rattle.grep_output.specs.declared.ended.Ended.{Ended}
 use Rattle.grep_output.specs.declared.ended.Stop.{Stop}
@@ -21,6 +18,8 @@ use Rattle.grep_output.specs.Course.{scan_so_far}
 use Rattle.grep_core.specs.Turns.{course_of, Halts}
 use Rattle.grep_output.specs.LittlePast.{TakesLittlePast}
 use Rattle.grep_output.specs.Refused.{GrewBy, WhereRefused}
+use Rattle.grep_core.specs.Work.{Work}
+use Rattle.grep_core.specs.Work as between
 use Rattle.grep_core.specs.WholeScans.{StopsIn, StopsSoon, ScansInput, ScansTo, IsJob, BeginsWith}
 use Rattle.tool_out.specs.Prints.{Wrote, Breaks}
 use Rattle.tool_out.specs.Printed.{printed}
@@ -32,18 +31,18 @@ use Rattle.grep_core.proofs.ScansTexts.{wrote-out, breaks-out, breaks-ext, grew-
 use Rattle.grep_core.proofs.ScansTaken.{tries, stops-in, Standing}
 use Rattle.grep_core.proofs.ScansEnd.{left, full_of, begins-scan, begins-tried, goes-of, given-shown}
 
-module _ (plan : GrepPlan) (patterns : List Pattern) (name : List ℕ) (shows : Show) (most : Option ℕ) (treated : Treatment) (s0 : State) (before now : Told) (f : Feed) (c : Course) (s : State) (out0 out out1 err0 err : Kept)
-    (standing : Standing plan patterns name shows most treated s0 before now f c s out0 out err0 err) where
+module _ (work : Work) (most : Option ℕ) (treated : Treatment) (s0 : State) (before now : Told) (f : Feed) (c : Course) (s : State) (out0 out out1 err0 err : Kept)
+    (standing : Standing work most treated s0 before now f c s out0 out err0 err) where
   abbrev us : List Tried
-  us = tries plan patterns standing.given
+  us = tries work.plan work.patterns standing.given
 
   abbrev a : List ℕ
-  a = shown_out plan name shows s0.has_shown (scan_so_far us)
+  a = shown_out work.plan work.name work.show s0.has_shown (scan_so_far us)
 
   abbrev b : List ℕ
-  b = flat_map (error_message name) us
+  b = flat_map (error_message work.name) us
 
-  sent-to : WritesAll [] out out1 → Standing plan patterns name shows most treated s0 before now f c s out0 out1 err0 err
+  sent-to : WritesAll [] out out1 → Standing work most treated s0 before now f c s out0 out1 err0 err
   sent-to sent = record {
     given = standing.given;
     stood = standing.stood;
@@ -61,47 +60,47 @@ module _ (plan : GrepPlan) (patterns : List Pattern) (name : List ℕ) (shows : 
   }
 
   -- it was: the scan stands as before
-  pub standing-sent : (g : Feed) → g ≡ f → WritesAll [] out out1 → Standing plan patterns name shows most treated s0 before now g c s out0 out1 err0 err
-  standing-sent g same sent = subst (λ (h : Feed). Standing plan patterns name shows most treated s0 before now h c s out0 out1 err0 err) (sym same) (sent-to sent)
+  pub standing-sent : (g : Feed) → g ≡ f → WritesAll [] out out1 → Standing work most treated s0 before now g c s out0 out1 err0 err
+  standing-sent g same sent = subst (λ (h : Feed). Standing work most treated s0 before now h c s out0 out1 err0 err) (sym same) (sent-to sent)
 
-  module _ (f0 : Feed) (job : IsJob plan treated shows most f0) where
+  module _ (f0 : Feed) (job : IsJob work.plan treated work.show most f0) where
     unsent : (stop : Stop) → Halts [] out out1 stop
-        → ((x : Scan) → Breaks (shown_out plan name shows s0.has_shown x) (flat_map (error_message name) x.tried) (printed out0 err0) (printed out1 err) (stop ≡ SinkFault) × StopsIn plan patterns name shows treated s0 x c.selected s
-        → ScansTo plan patterns name shows treated s0 x c.selected s (printed out0 err0) (printed out1 err) (Err stop))
-        → ((begins : BeginsWith plan treated before now standing.given) → WhereRefused {T = Ended} (Err stop) (StopsSoon plan patterns name shows treated s0 (lines plan begins.heard) before now out0 out1))
-        → ScansInput plan patterns name shows treated s0 before now c.selected s (printed out0 err0) (printed out1 err) (Err stop)
+        → ((x : Scan) → Breaks (shown_out work.plan work.name work.show s0.has_shown x) (flat_map (error_message work.name) x.tried) (printed out0 err0) (printed out1 err) (stop ≡ SinkFault) × StopsIn work treated s0 x c.selected s
+        → ScansTo work treated s0 x c.selected s (printed out0 err0) (printed out1 err) (Err stop))
+        → ((begins : BeginsWith work.plan treated before now standing.given) → WhereRefused {T = Ended} (Err stop) (StopsSoon work treated s0 (lines work.plan begins.heard) before now out0 out1))
+        → ScansInput work treated (between.standing before s0 (printed out0 err0)) (between.standing now s (printed out1 err)) c.selected (Err stop)
     unsent stop halts to soon =
-        let begins = stood-begins plan treated before now f standing.given standing.kind standing.max standing.stood in
-        let finish = (lines plan begins.heard).finish in
-        let vs = tries plan patterns begins.more in
-        let is = begins-scan plan patterns name shows most treated s0 f0 job before now standing.given begins in
-        let goes = goes-of plan patterns name shows most treated s0 f0 job before now f c s out0 out err0 err standing in
-        let ext = extends plan name shows s0.has_shown (left plan patterns name shows most treated s0) most finish vs us (course_of c) goes (begins-tried plan patterns name shows most treated s0 f0 job before now standing.given begins) in
+        let begins = stood-begins work.plan treated before now f standing.given standing.kind standing.max standing.stood in
+        let finish = (lines work.plan begins.heard).finish in
+        let vs = tries work.plan work.patterns begins.more in
+        let is = begins-scan work most treated s0 f0 job before now standing.given begins in
+        let goes = goes-of work most treated s0 f0 job before now f c s out0 out err0 err standing in
+        let ext = extends work.plan work.name work.show s0.has_shown (left work most treated s0) most finish vs us (course_of c) goes (begins-tried work most treated s0 f0 job before now standing.given begins) in
         let breaks = subst (λ l. Breaks l b (printed out0 err0) (printed out1 err) (stop ≡ SinkFault)) (append-nil a) (breaks-out a b [] out0 out out1 err0 err standing.taken.wrote stop halts) in
-        let all = full_of plan patterns name shows most treated s0 finish (us ++ vs) in record {
+        let all = full_of work most treated s0 finish (us ++ vs) in record {
           heard = begins.heard;
           hears = begins.hears;
           treats = begins.treats;
-          scans = subst (λ x. ScansTo plan patterns name shows treated s0 x c.selected s (printed out0 err0) (printed out1 err) (Err stop)) (sym is)
-              (to all (breaks-ext plan name shows s0.has_shown all a us out0 out1 err0 err stop ext breaks, stops-in plan patterns name shows treated s0 ext.rest c.selected refl ext.tried_is standing.taken));
+          scans = subst (λ x. ScansTo work treated s0 x c.selected s (printed out0 err0) (printed out1 err) (Err stop)) (sym is)
+              (to all (breaks-ext work.plan work.name work.show s0.has_shown all a us out0 out1 err0 err stop ext breaks, stops-in work treated s0 ext.rest c.selected refl ext.tried_is standing.taken));
           rest = tt;
           refused = soon begins;
         }
 
-    soon : AppendsPrefix out.held out1.held [] → (begins : BeginsWith plan treated before now standing.given) → StopsSoon plan patterns name shows treated s0 (lines plan begins.heard) before now out0 out1
+    soon : AppendsPrefix out.held out1.held [] → (begins : BeginsWith work.plan treated before now standing.given) → StopsSoon work treated s0 (lines work.plan begins.heard) before now out0 out1
     soon part begins = record {
       given = standing.given;
       next = [];
       more = begins.more;
       all = begins.all ∙ ap (λ l. l ++ begins.more) (sym (append-nil standing.given));
       one = omega arith;
-      grew = subst (λ l. GrewBy l out0 out1) (sym (given-shown plan patterns name shows most treated s0 f0 job before now f c s out0 out err0 err standing)) (grew-part a [] out0.held out.held out1.held standing.taken.wrote.out part);
-      little = subst (λ l. TakesLittlePast l before now) (sym (append-nil standing.given)) (stood-little plan treated before now f standing.given standing.stood standing.near standing.whole);
-      below = λ none. subst (λ m. IsBelow m (count (is_selected plan) us)) job.most_is standing.below;
+      grew = subst (λ l. GrewBy l out0 out1) (sym (given-shown work most treated s0 f0 job before now f c s out0 out err0 err standing)) (grew-part a [] out0.held out.held out1.held standing.taken.wrote.out part);
+      little = subst (λ l. TakesLittlePast l before now) (sym (append-nil standing.given)) (stood-little work.plan treated before now f standing.given standing.stood standing.near standing.whole);
+      below = λ none. subst (λ m. IsBelow m (count (is_selected work.plan) us)) job.most_is standing.below;
     }
 
     -- it was refused: a part of the scan was written
-    pub scans-unsent : (stop : Stop) → Halts [] out out1 stop → ScansInput plan patterns name shows treated s0 before now c.selected s (printed out0 err0) (printed out1 err) (Err stop)
+    pub scans-unsent : (stop : Stop) → Halts [] out out1 stop → ScansInput work treated (between.standing before s0 (printed out0 err0)) (between.standing now s (printed out1 err)) c.selected (Err stop)
     scans-unsent SinkFault halts = unsent SinkFault halts (λ x both. both) (soon halts.0)
     scans-unsent Memory halts = unsent Memory halts (λ x both. both) (λ begins. tt)
     scans-unsent TooManyErrors halts = absurd halts

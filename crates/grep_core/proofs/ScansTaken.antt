@@ -10,7 +10,6 @@ use Rattle.line_feed.specs.Answers.{Gives}
 use Rattle.line_feed.proofs.Given.{kind-gives, max-gives}
 use Rattle.grep_args.specs.declared.plan.GrepPlan.{GrepPlan}
 use Rattle.pat_tree.specs.Pattern.{Pattern}
-use Rattle.grep_output.specs.declared.shows.Show.{Show}
 use Rattle.grep_output.specs.declared.shows.Treatment.{Treatment}
 use Rattle.grep_core.specs.declared.scan.Course.{Course}
 use Rattle.grep_core.specs.declared.scan.Next.{Next}
@@ -24,6 +23,7 @@ use Rattle.grep_output.specs.InputText.{shown_out, shows_group}
 use Rattle.grep_output.specs.Course as course
 use Rattle.grep_output.specs.Course.{AreNumbered, row_out, state_after_line, is_lines, scan_so_far}
 use Rattle.grep_core.specs.Turns.{course_of, is_full, Takes}
+use Rattle.grep_core.specs.Work.{Work, progress, fed, position}
 use Rattle.grep_core.specs.WholeScans.{Stood, StopsIn, left_by, Pauses}
 use Rattle.tool_out.specs.Prints.{Wrote}
 use Rattle.grep_output.proofs.ReachRows.{numbered-left}
@@ -50,9 +50,9 @@ or_joined true b c = refl
 or_joined false b c = refl
 
 -- what a list of lines leaves
-module _ (plan : GrepPlan) (patterns : List Pattern) (name : List ℕ) (shows : Show) (treated : Treatment) (s0 : State) where
+module _ (work : Work) (treated : Treatment) (s0 : State) where
   abbrev pub left_so : List Tried → State
-  left_so ts = left_by plan patterns name shows treated s0 (scan_so_far ts)
+  left_so ts = left_by work treated s0 (scan_so_far ts)
 
   pub errors-more : (ts : List Tried) (t : Tried) → s0.errors + count has_error (ts ++ t ∷ []) ≡ cond (has_error t) (s0.errors + count has_error ts + 1) (s0.errors + count has_error ts)
   errors-more ts t =
@@ -69,37 +69,37 @@ module _ (plan : GrepPlan) (patterns : List Pattern) (name : List ℕ) (shows : 
       sum ∙ sym (cond-false (has_error t) (n + 1) n e))
       (cases_Bool (has_error t))
 
-  pub left-more : (ts : List Tried) (c : course.Course) (t : Tried) → Reached plan shows ts c → AreNumbered 1 (rows_of (ts ++ t ∷ [])) → left_so (ts ++ t ∷ []) ≡ state_after_line plan shows (left_so ts) t
+  pub left-more : (ts : List Tried) (c : course.Course) (t : Tried) → Reached work.plan work.show ts c → AreNumbered 1 (rows_of (ts ++ t ∷ [])) → left_so (ts ++ t ∷ []) ≡ state_after_line work.plan work.show (left_so ts) t
   left-more ts c t reached numbered =
-      let group = group-more plan name shows ts c t reached (numbered-first ts (t ∷ []) numbered) (number-of ts t [] numbered) in
-      let shown = ap (λ b. s0.has_shown || b) group ∙ or_joined s0.has_shown (shows_group plan name shows (scan_so_far ts)) (is_selected plan t && is_lines shows) in
+      let group = group-more work.plan work.name work.show ts c t reached (numbered-first ts (t ∷ []) numbered) (number-of ts t [] numbered) in
+      let shown = ap (λ b. s0.has_shown || b) group ∙ or_joined s0.has_shown (shows_group work.plan work.name work.show (scan_so_far ts)) (is_selected work.plan t && is_lines work.show) in
       λ i. record s0 { errors = errors-more ts t i; has_shown = shown i }
 
   -- the lines were taken
   pub record Taken (ts : List Tried) (c : Course) (s : State) (out0 out err0 err : Kept) : Type 0 where
-    pub reached : Reached plan shows ts (course_of c)
-    pub wrote : Wrote (shown_out plan name shows s0.has_shown (scan_so_far ts)) (flat_map (error_message name) ts) (printed out0 err0) (printed out err)
+    pub reached : Reached work.plan work.show ts (course_of c)
+    pub wrote : Wrote (shown_out work.plan work.name work.show s0.has_shown (scan_so_far ts)) (flat_map (error_message work.name) ts) (printed out0 err0) (printed out err)
     pub state : s ≡ left_so ts
 
   -- a scan that begins with them stops after them
-  pub stops-in : {scan : Scan} {ts : List Tried} {c : Course} {s : State} {out0 out err0 err : Kept} (rest : List Tried) (selected : ℕ) → selected ≡ c.selected → scan.tried ≡ ts ++ rest → Taken ts c s out0 out err0 err → StopsIn plan patterns name shows treated s0 scan selected s
+  pub stops-in : {scan : Scan} {ts : List Tried} {c : Course} {s : State} {out0 out err0 err : Kept} (rest : List Tried) (selected : ℕ) → selected ≡ c.selected → scan.tried ≡ ts ++ rest → Taken ts c s out0 out err0 err → StopsIn work treated s0 scan selected s
   stops-in {scan} {ts} rest selected same begins taken = record { tried = ts; rest = rest; begins = begins; count = same ∙ taken.reached.selected; state = taken.state }
 
   -- a line more that has a match error
   pub stops-error : {scan : Scan} (ts : List Tried) (t : Tried) {c : Course} {s : State} {out0 out err0 err : Kept} (rest : List Tried) (selected : ℕ) (s1 : State) → selected ≡ c.selected → scan.tried ≡ (ts ++ t ∷ []) ++ rest → Taken ts c s out0 out err0 err
-      → AreNumbered 1 (rows_of (ts ++ t ∷ [])) → has_error t ≡ true → s1 ≡ state_after_line plan shows s t → StopsIn plan patterns name shows treated s0 scan selected s1
+      → AreNumbered 1 (rows_of (ts ++ t ∷ [])) → has_error t ≡ true → s1 ≡ state_after_line work.plan work.show s t → StopsIn work treated s0 scan selected s1
   stops-error {scan} ts t {c} rest selected s1 same begins taken numbered error state =
-      let more = count-more (is_selected plan) ts t in
-      let none = count-none (is_selected plan) t (error-unselected plan t error) in
+      let more = count-more (is_selected work.plan) ts t in
+      let none = count-none (is_selected work.plan) t (error-unselected work.plan t error) in
       let had = taken.reached.selected in record {
         tried = ts ++ t ∷ [];
         rest = rest;
         begins = begins;
-        count = let sum : selected ≡ count (is_selected plan) (ts ++ t ∷ []) = omega arith in sum;
-        state = state ∙ ap (λ (x : State). state_after_line plan shows x t) taken.state ∙ sym (left-more ts (course_of c) t taken.reached numbered);
+        count = let sum : selected ≡ count (is_selected work.plan) (ts ++ t ∷ []) = omega arith in sum;
+        state = state ∙ ap (λ (x : State). state_after_line work.plan work.show x t) taken.state ∙ sym (left-more ts (course_of c) t taken.reached numbered);
       }
 
-  module _ (most : Option ℕ) (ts : List Tried) (t : Tried) (c : Course) (s : State) (c1 : Course) (s1 : State) (out0 out out1 err0 err err1 : Kept) (next : Next) (taken : Taken ts c s out0 out err0 err) (numbered : AreNumbered 1 (rows_of (ts ++ t ∷ []))) (takes : Takes plan name shows most t c s c1 s1 (printed out err) (printed out1 err1) next) where
+  module _ (most : Option ℕ) (ts : List Tried) (t : Tried) (c : Course) (s : State) (c1 : Course) (s1 : State) (out0 out out1 err0 err err1 : Kept) (next : Next) (taken : Taken ts c s out0 out err0 err) (numbered : AreNumbered 1 (rows_of (ts ++ t ∷ []))) (takes : Takes work most t (progress c s (printed out err)) (progress c1 s1 (printed out1 err1)) next) where
     first : AreNumbered 1 (rows_of ts)
     first = numbered-first ts (t ∷ []) numbered
 
@@ -108,17 +108,17 @@ module _ (plan : GrepPlan) (patterns : List Pattern) (name : List ℕ) (shows : 
 
     pub taken-line : Taken (ts ++ t ∷ []) c1 s1 out0 out1 err0 err1
     taken-line =
-        let had : s.has_shown ≡ (s0.has_shown || shows_group plan name shows (scan_so_far ts)) = ap (λ (x : State). x.has_shown) taken.state in
-        let out_is : shown_out plan name shows s0.has_shown (scan_so_far (ts ++ t ∷ [])) ≡ shown_out plan name shows s0.has_shown (scan_so_far ts) ++ row_out plan name shows s.has_shown (course_of c) t =
-        out-more plan name shows ts (course_of c) t taken.reached first number s0.has_shown
-        ∙ ap (λ b. shown_out plan name shows s0.has_shown (scan_so_far ts) ++ row_out plan name shows b (course_of c) t) (sym had) in
-        let err_is = said-more name ts t in
-        let all = wrote-more (shown_out plan name shows s0.has_shown (scan_so_far ts)) (flat_map (error_message name) ts) (row_out plan name shows s.has_shown (course_of c) t) (error_message name t)
+        let had : s.has_shown ≡ (s0.has_shown || shows_group work.plan work.name work.show (scan_so_far ts)) = ap (λ (x : State). x.has_shown) taken.state in
+        let out_is : shown_out work.plan work.name work.show s0.has_shown (scan_so_far (ts ++ t ∷ [])) ≡ shown_out work.plan work.name work.show s0.has_shown (scan_so_far ts) ++ row_out work.plan work.name work.show s.has_shown (course_of c) t =
+        out-more work.plan work.name work.show ts (course_of c) t taken.reached first number s0.has_shown
+        ∙ ap (λ b. shown_out work.plan work.name work.show s0.has_shown (scan_so_far ts) ++ row_out work.plan work.name work.show b (course_of c) t) (sym had) in
+        let err_is = said-more work.name ts t in
+        let all = wrote-more (shown_out work.plan work.name work.show s0.has_shown (scan_so_far ts)) (flat_map (error_message work.name) ts) (row_out work.plan work.name work.show s.has_shown (course_of c) t) (error_message work.name t)
         taken.wrote takes.wrote in record {
-          reached = subst (λ (d : course.Course). Reached plan shows (ts ++ t ∷ []) d) (sym takes.stands) (reached-more plan shows ts (course_of c) t taken.reached first number);
-          wrote = subst (λ l. Wrote l (flat_map (error_message name) (ts ++ t ∷ [])) (printed out0 err0) (printed out1 err1)) (sym out_is)
-              (subst (λ l. Wrote (shown_out plan name shows s0.has_shown (scan_so_far ts) ++ row_out plan name shows s.has_shown (course_of c) t) l (printed out0 err0) (printed out1 err1)) (sym err_is) all);
-          state = takes.state ∙ ap (λ (x : State). state_after_line plan shows x t) taken.state ∙ sym (left-more ts (course_of c) t taken.reached numbered);
+          reached = subst (λ (d : course.Course). Reached work.plan work.show (ts ++ t ∷ []) d) (sym takes.stands) (reached-more work.plan work.show ts (course_of c) t taken.reached first number);
+          wrote = subst (λ l. Wrote l (flat_map (error_message work.name) (ts ++ t ∷ [])) (printed out0 err0) (printed out1 err1)) (sym out_is)
+              (subst (λ l. Wrote (shown_out work.plan work.name work.show s0.has_shown (scan_so_far ts) ++ row_out work.plan work.name work.show s.has_shown (course_of c) t) l (printed out0 err0) (printed out1 err1)) (sym err_is) all);
+          state = takes.state ∙ ap (λ (x : State). state_after_line work.plan work.show x t) taken.state ∙ sym (left-more ts (course_of c) t taken.reached numbered);
         }
 
     pub few-line : count has_error (ts ++ t ∷ []) < errors_left s0.errors
@@ -127,7 +127,7 @@ module _ (plan : GrepPlan) (patterns : List Pattern) (name : List ℕ) (shows : 
         let few = takes.errors in
         omega arith
 
-    pub selected-line : c1.selected ≡ count (is_selected plan) (ts ++ t ∷ [])
+    pub selected-line : c1.selected ≡ count (is_selected work.plan) (ts ++ t ∷ [])
     selected-line = taken-line.reached.selected
 
 -- what the answer says
@@ -167,69 +167,69 @@ last-line plan most ts t below is =
     (cases_Bool (sel t))
 
 -- How a scan stands after the rows that were given.
-module _ (plan : GrepPlan) (patterns : List Pattern) (name : List ℕ) (shows : Show) (most : Option ℕ) (treated : Treatment) (s0 : State) where
+module _ (work : Work) (most : Option ℕ) (treated : Treatment) (s0 : State) where
   pub record Standing (before now : Told) (f : Feed) (c : Course) (s : State) (out0 out err0 err : Kept) : Type 0 where
     pub given : List Row
-    pub stood : Stood plan treated before now f given
-    pub kind : f.kind ≡ line_end plan
-    pub max : f.max ≡ plan.max_buffer_size
+    pub stood : Stood work.plan treated before now f given
+    pub kind : f.kind ≡ line_end work.plan
+    pub max : f.max ≡ work.plan.max_buffer_size
     pub whole : f.offset ≡ bytes_in given
     pub near : length f.held ≤ 65536
-    pub few : count has_error (tries plan patterns given) < errors_left s0.errors
-    pub below : IsBelow most (count (is_selected plan) (tries plan patterns given))
-    pub taken : Taken plan patterns name shows treated s0 (tries plan patterns given) c s out0 out err0 err
+    pub few : count has_error (tries work.plan work.patterns given) < errors_left s0.errors
+    pub below : IsBelow most (count (is_selected work.plan) (tries work.plan work.patterns given))
+    pub taken : Taken work treated s0 (tries work.plan work.patterns given) c s out0 out err0 err
 
   module _ (before now after : Told) (f g : Feed) (row : Row) (c : Course) (s : State) (c1 : Course) (s1 : State) (out0 out out1 err0 err err1 : Kept)
       (standing : Standing before now f c s out0 out err0 err) (gives : Gives f g now after row) where
     abbrev ts : List Tried
-    ts = tries plan patterns standing.given
+    ts = tries work.plan work.patterns standing.given
 
     abbrev t : Tried
-    t = tried_row plan patterns row
+    t = tried_row work.plan work.patterns row
 
     abbrev more : List Row
     more = standing.given ++ row ∷ []
 
-    pub next-stood : Stood plan treated before after g more
-    next-stood = stood-gives plan treated before now after f g standing.given row standing.stood gives
+    pub next-stood : Stood work.plan treated before after g more
+    next-stood = stood-gives work.plan treated before now after f g standing.given row standing.stood gives
 
-    pub next-kind : g.kind ≡ line_end plan
+    pub next-kind : g.kind ≡ line_end work.plan
     next-kind = kind-gives f g now after row gives ∙ standing.kind
 
-    pub next-max : g.max ≡ plan.max_buffer_size
+    pub next-max : g.max ≡ work.plan.max_buffer_size
     next-max = max-gives f g now after row gives ∙ standing.max
 
     pub next-whole : g.offset ≡ bytes_in more
     next-whole = whole-gives now after f g standing.given row standing.whole gives
 
-    pub same-tries : tries plan patterns more ≡ ts ++ t ∷ []
-    same-tries = tries-more plan patterns standing.given (row ∷ [])
+    pub same-tries : tries work.plan work.patterns more ≡ ts ++ t ∷ []
+    same-tries = tries-more work.plan work.patterns standing.given (row ∷ [])
 
     pub next-numbered : AreNumbered 1 (rows_of (ts ++ t ∷ []))
     next-numbered =
-        let begins = stood-begins plan treated before after g more next-kind next-max next-stood in
-        let all = numbered-left 1 more begins.more (begins-numbered plan treated before after more begins) in
-        subst (λ l. AreNumbered 1 l) (sym (rows-tried plan patterns more) ∙ ap rows_of same-tries) all
+        let begins = stood-begins work.plan treated before after g more next-kind next-max next-stood in
+        let all = numbered-left 1 more begins.more (begins-numbered work.plan treated before after more begins) in
+        subst (λ l. AreNumbered 1 l) (sym (rows-tried work.plan work.patterns more) ∙ ap rows_of same-tries) all
 
-    pub standing-line : Takes plan name shows most t c s c1 s1 (printed out err) (printed out1 err1) Line → Standing before after g c1 s1 out0 out1 err0 err1
+    pub standing-line : Takes work most t (progress c s (printed out err)) (progress c1 s1 (printed out1 err1)) Line → Standing before after g c1 s1 out0 out1 err0 err1
     standing-line takes =
-        let is = takes.answer ∙ ap (λ n. cond (is_selected plan t && is_full most n) Context Line) (selected-line plan patterns name shows treated s0 most ts t c s c1 s1 out0 out out1 err0 err err1 Line standing.taken next-numbered takes) in record {
+        let is = takes.answer ∙ ap (λ n. cond (is_selected work.plan t && is_full most n) Context Line) (selected-line work treated s0 most ts t c s c1 s1 out0 out out1 err0 err err1 Line standing.taken next-numbered takes) in record {
           given = more;
           stood = next-stood;
           kind = next-kind;
           max = next-max;
           whole = next-whole;
           near = gives.cuts.near;
-          few = subst (λ l. count has_error l < errors_left s0.errors) (sym same-tries) (few-line plan patterns name shows treated s0 most ts t c s c1 s1 out0 out out1 err0 err err1 Line standing.taken next-numbered takes);
-          below = subst (λ l. IsBelow most (count (is_selected plan) l)) (sym same-tries) (below-line plan most ts t standing.below is);
-          taken = subst (λ l. Taken plan patterns name shows treated s0 l c1 s1 out0 out1 err0 err1) (sym same-tries) (taken-line plan patterns name shows treated s0 most ts t c s c1 s1 out0 out out1 err0 err err1 Line standing.taken next-numbered takes);
+          few = subst (λ l. count has_error l < errors_left s0.errors) (sym same-tries) (few-line work treated s0 most ts t c s c1 s1 out0 out out1 err0 err err1 Line standing.taken next-numbered takes);
+          below = subst (λ l. IsBelow most (count (is_selected work.plan) l)) (sym same-tries) (below-line work.plan most ts t standing.below is);
+          taken = subst (λ l. Taken work treated s0 l c1 s1 out0 out1 err0 err1) (sym same-tries) (taken-line work treated s0 most ts t c s c1 s1 out0 out out1 err0 err err1 Line standing.taken next-numbered takes);
         }
 
-    pub standing-pauses : Takes plan name shows most t c s c1 s1 (printed out err) (printed out1 err1) Context → Pauses plan patterns name shows most treated s0 before after g c1.selected s1 (printed out0 err0) (printed out1 err1)
-    standing-pauses takes =
-        let is = takes.answer ∙ ap (λ n. cond (is_selected plan t && is_full most n) Context Line) (selected-line plan patterns name shows treated s0 most ts t c s c1 s1 out0 out out1 err0 err err1 Context standing.taken next-numbered takes) in
-        let last = last-line plan most ts t standing.below is in
-        let taken = subst (λ l. Taken plan patterns name shows treated s0 l c1 s1 out0 out1 err0 err1) (sym same-tries) (taken-line plan patterns name shows treated s0 most ts t c s c1 s1 out0 out out1 err0 err err1 Context standing.taken next-numbered takes) in record {
+    pub standing-pauses : (f0 : Feed) (c0 : Course) → Takes work most t (progress c s (printed out err)) (progress c1 s1 (printed out1 err1)) Context → Pauses work most treated (position (fed f0 before) (progress c0 s0 (printed out0 err0))) (position (fed g after) (progress c1 s1 (printed out1 err1)))
+    standing-pauses f0 c0 takes =
+        let is = takes.answer ∙ ap (λ n. cond (is_selected work.plan t && is_full most n) Context Line) (selected-line work treated s0 most ts t c s c1 s1 out0 out out1 err0 err err1 Context standing.taken next-numbered takes) in
+        let last = last-line work.plan most ts t standing.below is in
+        let taken = subst (λ l. Taken work treated s0 l c1 s1 out0 out1 err0 err1) (sym same-tries) (taken-line work treated s0 most ts t c s c1 s1 out0 out out1 err0 err err1 Context standing.taken next-numbered takes) in record {
           rows = standing.given;
           row = row;
           stood = next-stood;

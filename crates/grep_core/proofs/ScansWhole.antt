@@ -11,7 +11,6 @@ use Rattle.line_feed.specs.Rows.{Row, Finish, At, End, rows_with}
 use Rattle.line_feed.specs.View.{Feed}
 use Rattle.grep_output.specs.LittlePast.{TakesLittlePast}
 use Rattle.grep_args.specs.declared.plan.GrepPlan.{GrepPlan}
-use Rattle.pat_tree.specs.Pattern.{Pattern}
 use Rattle.grep_output.specs.declared.shows.Show.{Show}
 use Rattle.grep_output.specs.declared.shows.Show.TheVariants as show
 use Rattle.grep_output.specs.declared.shows.Treatment.{Treatment}
@@ -33,8 +32,10 @@ use Rattle.tool_out.specs.Prints.{Wrote, Breaks}
 use Rattle.tool_out.specs.Writes.{WritesAll}
 use Rattle.grep_core.specs.Turns.{Halts}
 use Rattle.grep_output.specs.Refused.{GrewBy}
+use Rattle.grep_core.specs.declared.scan.Course.{Course}
+use Rattle.grep_core.specs.Work.{Work, progress, fed, position, standing}
 use Rattle.grep_core.specs.WholeScans.{Scans, StopsIn, StopsSoon, ScansTo, ScansInput, scan_of, left_by, IsJob, Pauses}
-use Rattle.grep_core.specs.Follows.{FollowsAll, FollowsSome, FollowsPart, Follows}
+use Rattle.grep_core.specs.Follows.{past, FollowsAll, FollowsSome, FollowsPart, Follows}
 use Rattle.grep_output.proofs.Reached.{Reached, reached-begun, reached-more, group-more}
 use Rattle.grep_output.proofs.ScanEnds.{count, early-tried, early-within}
 use Rattle.grep_output.proofs.Extends.{LastSelected, follow_out, early-is, early_out, number-of, numbered-first, TextsBegin}
@@ -101,30 +102,31 @@ early-group plan name show.Lines finish us t vs c reached numbered e =
 early-group plan name show.Parts finish us t vs c reached numbered e = refl
 early-group plan name show.Nothing finish us t vs c reached numbered e = refl
 
-module _ (plan : GrepPlan) (patterns : List Pattern) (name : List ℕ) (shows : Show) (most : Option ℕ) (treated : Treatment) (s0 : State) (f0 : Feed) (job : IsJob plan treated shows most f0)
-    (before mid : Told) (g : Feed) (selected : ℕ) (s1 : State) (out0 out err0 err : Kept) (pauses : Pauses plan patterns name shows most treated s0 before mid g selected s1 (printed out0 err0) (printed out err)) where
+module _ (work : Work) (most : Option ℕ) (treated : Treatment) (s0 : State) (f0 : Feed) (job : IsJob work.plan treated work.show most f0)
+    (before mid : Told) (g : Feed) (c0 c1 : Course) (s1 : State) (out0 out err0 err : Kept)
+    (pauses : Pauses work most treated (position (fed f0 before) (progress c0 s0 (printed out0 err0))) (position (fed g mid) (progress c1 s1 (printed out err)))) where
   abbrev us : List Tried
-  us = tries plan patterns pauses.rows
+  us = tries work.plan work.patterns pauses.rows
 
   abbrev t : Tried
-  t = tried_row plan patterns pauses.row
+  t = tried_row work.plan work.patterns pauses.row
 
   abbrev given : List Row
   given = pauses.rows ++ pauses.row ∷ []
 
   abbrev after_n : ℕ
-  after_n = lines_after shows plan.after_context
+  after_n = lines_after work.show work.plan.after_context
 
-  given-tries : tries plan patterns given ≡ us ++ t ∷ []
-  given-tries = tries-more plan patterns pauses.rows (pauses.row ∷ [])
+  given-tries : tries work.plan work.patterns given ≡ us ++ t ∷ []
+  given-tries = tries-more work.plan work.patterns pauses.rows (pauses.row ∷ [])
 
   given-rows : rows_of (us ++ t ∷ []) ≡ given
-  given-rows = ap rows_of (sym given-tries) ∙ rows-tried plan patterns given
+  given-rows = ap rows_of (sym given-tries) ∙ rows-tried work.plan work.patterns given
 
   errors-are : s1.errors ≡ s0.errors + count has_error (us ++ t ∷ [])
   errors-are = ap (λ (x : State). x.errors) pauses.scans.state ∙ ap (λ l. s0.errors + count has_error l) given-tries
 
-  last-selected : LastSelected plan shows (errors_left s0.errors) most us t
+  last-selected : LastSelected work.plan work.show (errors_left s0.errors) most us t
   last-selected =
       let few = pauses.few in
       let are = errors-are in record {
@@ -133,62 +135,62 @@ module _ (plan : GrepPlan) (patterns : List Pattern) (name : List ℕ) (shows : 
         selected = pauses.selects;
       }
 
-  wrote-so : Wrote (shown_out plan name shows s0.has_shown (scan_so_far (us ++ t ∷ []))) (flat_map (error_message name) (us ++ t ∷ [])) (printed out0 err0) (printed out err)
-  wrote-so = subst (λ l. Wrote (shown_out plan name shows s0.has_shown (scan_so_far l)) (flat_map (error_message name) l) (printed out0 err0) (printed out err)) given-tries pauses.scans.wrote
+  wrote-so : Wrote (shown_out work.plan work.name work.show s0.has_shown (scan_so_far (us ++ t ∷ []))) (flat_map (error_message work.name) (us ++ t ∷ [])) (printed out0 err0) (printed out err)
+  wrote-so = subst (λ l. Wrote (shown_out work.plan work.name work.show s0.has_shown (scan_so_far l)) (flat_map (error_message work.name) l) (printed out0 err0) (printed out err)) given-tries pauses.scans.wrote
 
   module _ (vs : List Tried) (finish : Finish) (numbered : AreNumbered 1 (rows_of (us ++ t ∷ vs))) (out1 : Kept) where
     abbrev early_of : Scan
     early_of = early_scan (us ++ t ∷ vs) finish (length us) after_n
 
-    is-early : full_of plan patterns name shows most treated s0 finish (us ++ t ∷ vs) ≡ early_of
-    is-early = early-is plan name shows s0.has_shown (errors_left s0.errors) most finish us t vs last-selected
+    is-early : full_of work most treated s0 finish (us ++ t ∷ vs) ≡ early_of
+    is-early = early-is work.plan work.name work.show s0.has_shown (errors_left s0.errors) most finish us t vs last-selected
 
-    reached-us : (c : course.Course) × Reached plan shows us c
-    reached-us = reach-all plan shows us (numbered-first us (t ∷ vs) numbered)
+    reached-us : (c : course.Course) × Reached work.plan work.show us c
+    reached-us = reach-all work.plan work.show us (numbered-first us (t ∷ vs) numbered)
 
-    out-is : shown_out plan name shows s0.has_shown early_of ≡ shown_out plan name shows s0.has_shown (scan_so_far (us ++ t ∷ [])) ++ follow_out plan name shows (take after_n (rows_of vs))
+    out-is : shown_out work.plan work.name work.show s0.has_shown early_of ≡ shown_out work.plan work.name work.show s0.has_shown (scan_so_far (us ++ t ∷ [])) ++ follow_out work.plan work.name work.show (take after_n (rows_of vs))
     out-is =
         let c = reached-us.0 in
-        let reached = reached-more plan shows us c t reached-us.1 (numbered-first us (t ∷ vs) numbered) (number-of us t vs numbered) in
-        early_out plan name shows s0.has_shown finish us (course_after plan shows c t) t vs reached pauses.selects numbered
+        let reached = reached-more work.plan work.show us c t reached-us.1 (numbered-first us (t ∷ vs) numbered) (number-of us t vs numbered) in
+        early_out work.plan work.name work.show s0.has_shown finish us (course_after work.plan work.show c t) t vs reached pauses.selects numbered
 
-    said-is : flat_map (error_message name) early_of.tried ≡ flat_map (error_message name) (us ++ t ∷ [])
-    said-is = ap (λ l. flat_map (error_message name) l) (early-tried us t vs)
+    said-is : flat_map (error_message work.name) early_of.tried ≡ flat_map (error_message work.name) (us ++ t ∷ [])
+    said-is = ap (λ l. flat_map (error_message work.name) l) (early-tried us t vs)
 
-    early-scans : (text : List ℕ) → follow_out plan name shows (take after_n (rows_of vs)) ≡ text → WritesAll text out out1 → Scans plan patterns name shows treated s0 early_of selected s1 (printed out0 err0) (printed out1 err)
+    early-scans : (text : List ℕ) → follow_out work.plan work.name work.show (take after_n (rows_of vs)) ≡ text → WritesAll text out out1 → Scans work treated s0 early_of c1.selected s1 (printed out0 err0) (printed out1 err)
     early-scans text is writes =
-        let a = shown_out plan name shows s0.has_shown (scan_so_far (us ++ t ∷ [])) in
-        let b = flat_map (error_message name) (us ++ t ∷ []) in
+        let a = shown_out work.plan work.name work.show s0.has_shown (scan_so_far (us ++ t ∷ [])) in
+        let b = flat_map (error_message work.name) (us ++ t ∷ []) in
         let all = wrote-out a b text out0 out out1 err0 err wrote-so writes in
-        let whole : a ++ text ≡ shown_out plan name shows s0.has_shown early_of = ap (λ l. a ++ l) (sym is) ∙ sym out-is in
-        let tried : tries plan patterns given ≡ early_of.tried = given-tries ∙ sym (early-tried us t vs) in
-        let errors : s0.errors + count has_error (tries plan patterns given) ≡ s0.errors + length (errors_in early_of) = ap (λ l. s0.errors + count has_error l) tried in
-        let group : shows_group plan name shows (scan_so_far (tries plan patterns given)) ≡ shows_group plan name shows early_of =
-        ap (λ l. shows_group plan name shows (scan_so_far l)) given-tries ∙ sym (early-group plan name shows finish us t vs reached-us.0 reached-us.1 numbered pauses.selects) in record {
-          wrote = subst (λ l. Wrote l (flat_map (error_message name) early_of.tried) (printed out0 err0) (printed out1 err)) whole (subst (λ l. Wrote (a ++ text) l (printed out0 err0) (printed out1 err)) (sym said-is) all);
-          count = pauses.scans.count ∙ ap (λ l. count (is_selected plan) l) tried;
+        let whole : a ++ text ≡ shown_out work.plan work.name work.show s0.has_shown early_of = ap (λ l. a ++ l) (sym is) ∙ sym out-is in
+        let tried : tries work.plan work.patterns given ≡ early_of.tried = given-tries ∙ sym (early-tried us t vs) in
+        let errors : s0.errors + count has_error (tries work.plan work.patterns given) ≡ s0.errors + length (errors_in early_of) = ap (λ l. s0.errors + count has_error l) tried in
+        let group : shows_group work.plan work.name work.show (scan_so_far (tries work.plan work.patterns given)) ≡ shows_group work.plan work.name work.show early_of =
+        ap (λ l. shows_group work.plan work.name work.show (scan_so_far l)) given-tries ∙ sym (early-group work.plan work.name work.show finish us t vs reached-us.0 reached-us.1 numbered pauses.selects) in record {
+          wrote = subst (λ l. Wrote l (flat_map (error_message work.name) early_of.tried) (printed out0 err0) (printed out1 err)) whole (subst (λ l. Wrote (a ++ text) l (printed out0 err0) (printed out1 err)) (sym said-is) all);
+          count = pauses.scans.count ∙ ap (λ l. count (is_selected work.plan) l) tried;
           state = pauses.scans.state ∙ (λ i. record s0 { errors = errors i; has_shown = s0.has_shown || group i });
         }
 
-    early-breaks : (text rest : List ℕ) (stop : Stop) → follow_out plan name shows (take after_n (rows_of vs)) ≡ text ++ rest → Halts text out out1 stop
-        → Breaks (shown_out plan name shows s0.has_shown early_of) (flat_map (error_message name) early_of.tried) (printed out0 err0) (printed out1 err) (stop ≡ SinkFault) × StopsIn plan patterns name shows treated s0 early_of selected s1
+    early-breaks : (text rest : List ℕ) (stop : Stop) → follow_out work.plan work.name work.show (take after_n (rows_of vs)) ≡ text ++ rest → Halts text out out1 stop
+        → Breaks (shown_out work.plan work.name work.show s0.has_shown early_of) (flat_map (error_message work.name) early_of.tried) (printed out0 err0) (printed out1 err) (stop ≡ SinkFault) × StopsIn work treated s0 early_of c1.selected s1
     early-breaks text rest stop is halts =
-        let a = shown_out plan name shows s0.has_shown (scan_so_far (us ++ t ∷ [])) in
-        let b = flat_map (error_message name) (us ++ t ∷ []) in
+        let a = shown_out work.plan work.name work.show s0.has_shown (scan_so_far (us ++ t ∷ [])) in
+        let b = flat_map (error_message work.name) (us ++ t ∷ []) in
         let begins : early_of.tried ≡ (us ++ t ∷ []) ++ [] = early-tried us t vs ∙ sym (append-nil (us ++ t ∷ [])) in
-        let ext : TextsBegin plan name shows s0.has_shown early_of (a ++ text) (us ++ t ∷ []) = record {
+        let ext : TextsBegin work.plan work.name work.show s0.has_shown early_of (a ++ text) (us ++ t ∷ []) = record {
           rest_out = rest;
           rest = [];
           out_is = out-is ∙ ap (λ l. a ++ l) is ∙ sym (append_assoc a text rest);
           tried_is = begins;
         } in (
-          breaks-ext plan name shows s0.has_shown early_of (a ++ text) (us ++ t ∷ []) out0 out1 err0 err stop ext (breaks-out a b text out0 out out1 err0 err wrote-so stop halts),
+          breaks-ext work.plan work.name work.show s0.has_shown early_of (a ++ text) (us ++ t ∷ []) out0 out1 err0 err stop ext (breaks-out a b text out0 out out1 err0 err wrote-so stop halts),
           record {
             tried = us ++ t ∷ [];
             rest = [];
             begins = begins;
-            count = pauses.scans.count ∙ ap (λ l. count (is_selected plan) l) given-tries;
-            state = pauses.scans.state ∙ ap (λ l. left_by plan patterns name shows treated s0 (scan_so_far l)) given-tries;
+            count = pauses.scans.count ∙ ap (λ l. count (is_selected work.plan) l) given-tries;
+            state = pauses.scans.state ∙ ap (λ l. left_by work treated s0 (scan_so_far l)) given-tries;
           },
         )
 
@@ -208,105 +210,105 @@ module _ (plan : GrepPlan) (patterns : List Pattern) (name : List ℕ) (shows : 
         cond-false (nat_le (length us + 1 + after_n) (length (us ++ t ∷ vs))) early (at_finish finish) (lt-leb (length us + 1 + after_n) (length (us ++ t ∷ vs)) (omega arith))
 
   abbrev Input : Told → Kept → Result Ended Stop → Type 0
-  Input after out1 result = ScansInput plan patterns name shows treated s0 before after selected s1 (printed out0 err0) (printed out1 err) result
+  Input after out1 result = ScansInput work treated (standing before s0 (printed out0 err0)) (standing after s1 (printed out1 err)) c1.selected result
 
-  begins-all : (fs more : List Row) → tries plan patterns (given ++ fs) ++ tries plan patterns more ≡ us ++ t ∷ (tries plan patterns fs ++ tries plan patterns more)
+  begins-all : (fs more : List Row) → tries work.plan work.patterns (given ++ fs) ++ tries work.plan work.patterns more ≡ us ++ t ∷ (tries work.plan work.patterns fs ++ tries work.plan work.patterns more)
   begins-all fs more =
-      ap (λ l. l ++ tries plan patterns more) (tries-more plan patterns given fs ∙ ap (λ l. l ++ tries plan patterns fs) given-tries)
-      ∙ append_assoc (us ++ t ∷ []) (tries plan patterns fs) (tries plan patterns more)
-      ∙ append_assoc us (t ∷ []) (tries plan patterns fs ++ tries plan patterns more)
+      ap (λ l. l ++ tries work.plan work.patterns more) (tries-more work.plan work.patterns given fs ∙ ap (λ l. l ++ tries work.plan work.patterns fs) given-tries)
+      ∙ append_assoc (us ++ t ∷ []) (tries work.plan work.patterns fs) (tries work.plan work.patterns more)
+      ∙ append_assoc us (t ∷ []) (tries work.plan work.patterns fs ++ tries work.plan work.patterns more)
 
-  rows-all : (fs more : List Row) → rows_of (tries plan patterns fs ++ tries plan patterns more) ≡ fs ++ more
-  rows-all fs more = ap rows_of (sym (tries-more plan patterns fs more)) ∙ rows-tried plan patterns (fs ++ more)
+  rows-all : (fs more : List Row) → rows_of (tries work.plan work.patterns fs ++ tries work.plan work.patterns more) ≡ fs ++ more
+  rows-all fs more = ap rows_of (sym (tries-more work.plan work.patterns fs more)) ∙ rows-tried work.plan work.patterns (fs ++ more)
 
-  long-rows : (fs : List Row) → length (tries plan patterns fs) ≡ length fs
-  long-rows fs = length-map fs (tried_row plan patterns)
+  long-rows : (fs : List Row) → length (tries work.plan work.patterns fs) ≡ length fs
+  long-rows fs = length-map fs (tried_row work.plan work.patterns)
 
   -- all the rows that may follow were shown
-  pub scans-early : (after : Told) (out1 : Kept) → FollowsAll plan name shows treated before after given out out1 → Input after out1 (Ok told.Early)
+  pub scans-early : (after : Told) (out1 : Kept) → FollowsAll work (past before treated given) after out out1 → Input after out1 (Ok told.Early)
   scans-early after out1 follows =
       let fs = follows.rows in
       let begins = follows.begins in
-      let vs = tries plan patterns fs ++ tries plan patterns begins.more in
-      let finish = (lines plan begins.heard).finish in
-      let numbered = subst (λ l. AreNumbered 1 (rows_of l)) (begins-all fs begins.more) (begins-tried plan patterns name shows most treated s0 f0 job before after (given ++ fs) begins) in
-      let is = begins-scan plan patterns name shows most treated s0 f0 job before after (given ++ fs) begins ∙ ap (λ l. full_of plan patterns name shows most treated s0 finish l) (begins-all fs begins.more) ∙ is-early vs finish numbered out1 in
+      let vs = tries work.plan work.patterns fs ++ tries work.plan work.patterns begins.more in
+      let finish = (lines work.plan begins.heard).finish in
+      let numbered = subst (λ l. AreNumbered 1 (rows_of l)) (begins-all fs begins.more) (begins-tried work most treated s0 f0 job before after (given ++ fs) begins) in
+      let is = begins-scan work most treated s0 f0 job before after (given ++ fs) begins ∙ ap (λ l. full_of work most treated s0 finish l) (begins-all fs begins.more) ∙ is-early vs finish numbered out1 in
       let long = follows.long in
       let first : take after_n (rows_of vs) ≡ fs = (λ i. take (sym long i) (rows-all fs begins.more i)) ∙ take-append_seam fs begins.more in
-      let text = ap (λ l. follow_out plan name shows l) first ∙ follow-texts plan name shows fs (omega arith) in
-      let sum = length-append (tries plan patterns fs) (tries plan patterns begins.more) in
+      let text = ap (λ l. follow_out work.plan work.name work.show l) first ∙ follow-texts work.plan work.name work.show fs (omega arith) in
+      let sum = length-append (tries work.plan work.patterns fs) (tries work.plan work.patterns begins.more) in
       let long_rows = long-rows fs in
       record {
         heard = begins.heard;
         hears = begins.hears;
         treats = begins.treats;
-        scans = subst (λ x. ScansTo plan patterns name shows treated s0 x selected s1 (printed out0 err0) (printed out1 err) (Ok told.Early)) (sym is)
-            (early-scans vs finish numbered out1 (flat_map (line_as plan name false) fs) text follows.wrote, ended-early vs finish numbered out1 (omega arith));
+        scans = subst (λ x. ScansTo work treated s0 x c1.selected s1 (printed out0 err0) (printed out1 err) (Ok told.Early)) (sym is)
+            (early-scans vs finish numbered out1 (flat_map (line_as work.plan work.name false) fs) text follows.wrote, ended-early vs finish numbered out1 (omega arith));
         rest = λ _. subst (λ l. TakesLittlePast l before after) (sym (ap (λ (x : Scan). x.within) is ∙ early-within us t vs after_n ∙ (λ i. given-rows i ++ first i))) follows.little;
         refused = tt;
       }
 
   -- the rows ended before
-  scans-some : (after : Told) (out1 : Kept) (ended : Ended) → FollowsSome plan name shows treated before after given out out1 ended → Input after out1 (Ok ended)
+  scans-some : (after : Told) (out1 : Kept) (ended : Ended) → FollowsSome work (past before treated given) after out out1 ended → Input after out1 (Ok ended)
   scans-some after out1 ended follows =
       let fs = follows.rows in
       let ends = follows.ends in
-      let vs = tries plan patterns fs in
-      let all : tries plan patterns (given ++ fs) ≡ us ++ t ∷ vs = tries-more plan patterns given fs ∙ ap (λ l. l ++ vs) given-tries ∙ append_assoc us (t ∷ []) vs in
-      let numbered = subst (λ l. AreNumbered 1 l) (sym (rows-tried plan patterns (given ++ fs)) ∙ ap rows_of all) (ends-numbered plan treated before after (given ++ fs) ended ends) in
-      let is = ends-scan plan patterns name shows most treated s0 f0 job before after (given ++ fs) ended ends ∙ ap (λ l. full_of plan patterns name shows most treated s0 ends.finish l) all ∙ is-early vs ends.finish numbered out1 in
+      let vs = tries work.plan work.patterns fs in
+      let all : tries work.plan work.patterns (given ++ fs) ≡ us ++ t ∷ vs = tries-more work.plan work.patterns given fs ∙ ap (λ l. l ++ vs) given-tries ∙ append_assoc us (t ∷ []) vs in
+      let numbered = subst (λ l. AreNumbered 1 l) (sym (rows-tried work.plan work.patterns (given ++ fs)) ∙ ap rows_of all) (ends-numbered work.plan treated before after (given ++ fs) ended ends) in
+      let is = ends-scan work most treated s0 f0 job before after (given ++ fs) ended ends ∙ ap (λ l. full_of work most treated s0 ends.finish l) all ∙ is-early vs ends.finish numbered out1 in
       let long = follows.long in
-      let first : take after_n (rows_of vs) ≡ fs = ap (λ l. take after_n l) (rows-tried plan patterns fs) ∙ take_all after_n fs (omega arith) in
-      let text = ap (λ l. follow_out plan name shows l) first ∙ follow-texts plan name shows fs (omega arith) in
+      let first : take after_n (rows_of vs) ≡ fs = ap (λ l. take after_n l) (rows-tried work.plan work.patterns fs) ∙ take_all after_n fs (omega arith) in
+      let text = ap (λ l. follow_out work.plan work.name work.show l) first ∙ follow-texts work.plan work.name work.show fs (omega arith) in
       let long_rows = long-rows fs in
       record {
         heard = ends.heard;
         hears = ends.hears;
         treats = ends.treats;
-        scans = subst (λ x. ScansTo plan patterns name shows treated s0 x selected s1 (printed out0 err0) (printed out1 err) (Ok ended)) (sym is)
-            (early-scans vs ends.finish numbered out1 (flat_map (line_as plan name false) fs) text follows.wrote, ended-late vs ends.finish numbered out1 (omega arith) ∙ sym ends.ended_so);
-        rest = rest-late (scan_of plan patterns name shows treated s0 (lines plan ends.heard)) ends.finish before after ended (ap (λ (x : Scan). x.ended) is ∙ ended-late vs ends.finish numbered out1 (omega arith));
+        scans = subst (λ x. ScansTo work treated s0 x c1.selected s1 (printed out0 err0) (printed out1 err) (Ok ended)) (sym is)
+            (early-scans vs ends.finish numbered out1 (flat_map (line_as work.plan work.name false) fs) text follows.wrote, ended-late vs ends.finish numbered out1 (omega arith) ∙ sym ends.ended_so);
+        rest = rest-late (scan_of work treated s0 (lines work.plan ends.heard)) ends.finish before after ended (ap (λ (x : Scan). x.ended) is ∙ ended-late vs ends.finish numbered out1 (omega arith));
         refused = tt;
       }
 
   -- a part of what follows was written
-  part-breaks : (after : Told) (out1 : Kept) (stop : Stop) (follows : FollowsPart plan name shows treated before after given out out1 stop) → let x : Scan = scan_of plan patterns name shows treated s0 (lines plan follows.begins.heard) in
-      Breaks (shown_out plan name shows s0.has_shown x) (flat_map (error_message name) x.tried) (printed out0 err0) (printed out1 err) (stop ≡ SinkFault) × StopsIn plan patterns name shows treated s0 x selected s1
+  part-breaks : (after : Told) (out1 : Kept) (stop : Stop) (follows : FollowsPart work (past before treated given) after out out1 stop) → let x : Scan = scan_of work treated s0 (lines work.plan follows.begins.heard) in
+      Breaks (shown_out work.plan work.name work.show s0.has_shown x) (flat_map (error_message work.name) x.tried) (printed out0 err0) (printed out1 err) (stop ≡ SinkFault) × StopsIn work treated s0 x c1.selected s1
   part-breaks after out1 stop follows =
       let fs = follows.rows in
       let begins = follows.begins in
-      let vs = tries plan patterns fs ++ tries plan patterns begins.more in
-      let finish = (lines plan begins.heard).finish in
-      let numbered = subst (λ l. AreNumbered 1 (rows_of l)) (begins-all fs begins.more) (begins-tried plan patterns name shows most treated s0 f0 job before after (given ++ fs) begins) in
-      let is = begins-scan plan patterns name shows most treated s0 f0 job before after (given ++ fs) begins ∙ ap (λ l. full_of plan patterns name shows most treated s0 finish l) (begins-all fs begins.more) ∙ is-early vs finish numbered out1 in
-      let part = follow-begins plan name shows fs begins.more follows.long in
-      let text = ap (λ l. follow_out plan name shows (take after_n l)) (rows-all fs begins.more) ∙ part.1 in
-      subst (λ (x : Scan). Breaks (shown_out plan name shows s0.has_shown x) (flat_map (error_message name) x.tried) (printed out0 err0) (printed out1 err) (stop ≡ SinkFault) × StopsIn plan patterns name shows treated s0 x selected s1) (sym is)
-      (early-breaks vs finish numbered out1 (flat_map (line_as plan name false) fs) part.0 stop text follows.wrote)
+      let vs = tries work.plan work.patterns fs ++ tries work.plan work.patterns begins.more in
+      let finish = (lines work.plan begins.heard).finish in
+      let numbered = subst (λ l. AreNumbered 1 (rows_of l)) (begins-all fs begins.more) (begins-tried work most treated s0 f0 job before after (given ++ fs) begins) in
+      let is = begins-scan work most treated s0 f0 job before after (given ++ fs) begins ∙ ap (λ l. full_of work most treated s0 finish l) (begins-all fs begins.more) ∙ is-early vs finish numbered out1 in
+      let part = follow-begins work.plan work.name work.show fs begins.more follows.long in
+      let text = ap (λ l. follow_out work.plan work.name work.show (take after_n l)) (rows-all fs begins.more) ∙ part.1 in
+      subst (λ (x : Scan). Breaks (shown_out work.plan work.name work.show s0.has_shown x) (flat_map (error_message work.name) x.tried) (printed out0 err0) (printed out1 err) (stop ≡ SinkFault) × StopsIn work treated s0 x c1.selected s1) (sym is)
+      (early-breaks vs finish numbered out1 (flat_map (line_as work.plan work.name false) fs) part.0 stop text follows.wrote)
 
   -- what is shown of the first of them was written
-  part-soon : (after : Told) (out1 : Kept) (follows : FollowsPart plan name shows treated before after given out out1 SinkFault) → StopsSoon plan patterns name shows treated s0 (lines plan follows.begins.heard) before after out0 out1
+  part-soon : (after : Told) (out1 : Kept) (follows : FollowsPart work (past before treated given) after out out1 SinkFault) → StopsSoon work treated s0 (lines work.plan follows.begins.heard) before after out0 out1
   part-soon after out1 follows =
       let soon = follows.soon refl in
       let whole = soon.whole in
       let begins = follows.begins in
-      let vs = tries plan patterns whole in
-      let numbered_all = subst (λ l. AreNumbered 1 (rows_of l)) (begins-all follows.rows begins.more) (begins-tried plan patterns name shows most treated s0 f0 job before after (given ++ follows.rows) begins) in
-      let parted : tries plan patterns follows.rows ++ tries plan patterns begins.more ≡ vs ++ (tries plan patterns soon.next ++ tries plan patterns begins.more) =
-      ap (λ l. tries plan patterns l ++ tries plan patterns begins.more) soon.parts ∙ ap (λ l. l ++ tries plan patterns begins.more) (tries-more plan patterns whole soon.next) ∙ append_assoc vs (tries plan patterns soon.next) (tries plan patterns begins.more) in
-      let numbered = numbered-first (us ++ t ∷ vs) (tries plan patterns soon.next ++ tries plan patterns begins.more)
-      (subst (λ l. AreNumbered 1 (rows_of l)) (ap (λ l. us ++ t ∷ l) parted ∙ sym (append_assoc us (t ∷ vs) (tries plan patterns soon.next ++ tries plan patterns begins.more))) numbered_all) in
-      let all : tries plan patterns (given ++ whole) ≡ us ++ t ∷ vs = tries-more plan patterns given whole ∙ ap (λ l. l ++ vs) given-tries ∙ append_assoc us (t ∷ []) vs in
-      let is = scan-is plan patterns name shows most treated s0 job.show_is job.most_is (rows_with (given ++ whole) (At End)) ∙ ap (λ l. full_of plan patterns name shows most treated s0 (At End) l) all ∙ is-early vs (At End) numbered out1 in
+      let vs = tries work.plan work.patterns whole in
+      let numbered_all = subst (λ l. AreNumbered 1 (rows_of l)) (begins-all follows.rows begins.more) (begins-tried work most treated s0 f0 job before after (given ++ follows.rows) begins) in
+      let parted : tries work.plan work.patterns follows.rows ++ tries work.plan work.patterns begins.more ≡ vs ++ (tries work.plan work.patterns soon.next ++ tries work.plan work.patterns begins.more) =
+      ap (λ l. tries work.plan work.patterns l ++ tries work.plan work.patterns begins.more) soon.parts ∙ ap (λ l. l ++ tries work.plan work.patterns begins.more) (tries-more work.plan work.patterns whole soon.next) ∙ append_assoc vs (tries work.plan work.patterns soon.next) (tries work.plan work.patterns begins.more) in
+      let numbered = numbered-first (us ++ t ∷ vs) (tries work.plan work.patterns soon.next ++ tries work.plan work.patterns begins.more)
+      (subst (λ l. AreNumbered 1 (rows_of l)) (ap (λ l. us ++ t ∷ l) parted ∙ sym (append_assoc us (t ∷ vs) (tries work.plan work.patterns soon.next ++ tries work.plan work.patterns begins.more))) numbered_all) in
+      let all : tries work.plan work.patterns (given ++ whole) ≡ us ++ t ∷ vs = tries-more work.plan work.patterns given whole ∙ ap (λ l. l ++ vs) given-tries ∙ append_assoc us (t ∷ []) vs in
+      let is = scan-is work most treated s0 job.show_is job.most_is (rows_with (given ++ whole) (At End)) ∙ ap (λ l. full_of work most treated s0 (At End) l) all ∙ is-early vs (At End) numbered out1 in
       let size = ap length soon.parts in
       let sum = length-append whole soon.next in
       let most_rows = follows.long in
-      let first : take after_n (rows_of vs) ≡ whole = ap (λ l. take after_n l) (rows-tried plan patterns whole) ∙ take_all after_n whole (omega arith) in
-      let text = ap (λ l. follow_out plan name shows l) first ∙ follow-texts plan name shows whole (omega arith) in
-      let a = shown_out plan name shows s0.has_shown (scan_so_far (us ++ t ∷ [])) in
-      let b = flat_map (line_as plan name false) whole in
-      let shown : a ++ b ≡ shown_out plan name shows s0.has_shown (scan_of plan patterns name shows treated s0 (rows_with (given ++ whole) (At End))) =
-      ap (λ l. a ++ l) (sym text) ∙ sym (out-is vs (At End) numbered out1) ∙ ap (λ x. shown_out plan name shows s0.has_shown x) (sym is) in
+      let first : take after_n (rows_of vs) ≡ whole = ap (λ l. take after_n l) (rows-tried work.plan work.patterns whole) ∙ take_all after_n whole (omega arith) in
+      let text = ap (λ l. follow_out work.plan work.name work.show l) first ∙ follow-texts work.plan work.name work.show whole (omega arith) in
+      let a = shown_out work.plan work.name work.show s0.has_shown (scan_so_far (us ++ t ∷ [])) in
+      let b = flat_map (line_as work.plan work.name false) whole in
+      let shown : a ++ b ≡ shown_out work.plan work.name work.show s0.has_shown (scan_of work treated s0 (rows_with (given ++ whole) (At End))) =
+      ap (λ l. a ++ l) (sym text) ∙ sym (out-is vs (At End) numbered out1) ∙ ap (λ x. shown_out work.plan work.name work.show s0.has_shown x) (sym is) in
       record {
         given = given ++ whole;
         next = soon.next;
@@ -318,12 +320,12 @@ module _ (plan : GrepPlan) (patterns : List Pattern) (name : List ℕ) (shows : 
         below = λ none. let some = follows.some in absurd (omega arith);
       }
 
-  scans-part : (after : Told) (out1 : Kept) (stop : Stop) → FollowsPart plan name shows treated before after given out out1 stop → Input after out1 (Err stop)
+  scans-part : (after : Told) (out1 : Kept) (stop : Stop) → FollowsPart work (past before treated given) after out out1 stop → Input after out1 (Err stop)
   scans-part after out1 SinkFault follows = record { heard = follows.begins.heard; hears = follows.begins.hears; treats = follows.begins.treats; scans = part-breaks after out1 SinkFault follows; rest = tt; refused = part-soon after out1 follows }
   scans-part after out1 Memory follows = record { heard = follows.begins.heard; hears = follows.begins.hears; treats = follows.begins.treats; scans = part-breaks after out1 Memory follows; rest = tt; refused = tt }
   scans-part after out1 TooManyErrors follows = absurd follows.wrote
 
-  pub scans-follow : (after : Told) (out1 : Kept) (result : Result Ended Stop) → Follows plan name shows treated before after given out out1 result → Input after out1 result
+  pub scans-follow : (after : Told) (out1 : Kept) (result : Result Ended Stop) → Follows work (past before treated given) after out out1 result → Input after out1 result
   scans-follow after out1 (Ok told.End) follows = scans-some after out1 told.End follows
   scans-follow after out1 (Ok told.Early) follows = scans-early after out1 follows
   scans-follow after out1 (Ok told.ReadFault) follows = scans-some after out1 told.ReadFault follows

@@ -8,6 +8,8 @@ use Rattle.ordered_search.specs.PlaceAnswer.{Outcome}
 use Rattle.pcre_io.specs.Told.{Kept}
 use Rattle.pcre_io.specs.declared.traits.IoError.{IoError}
 use Rattle.grep_args.specs.declared.plan.GrepPlan.{GrepPlan}
+use Rattle.pat_tree.specs.Pattern.{Pattern}
+use Rattle.tool_out.specs.Printed.{printed}
 use Rattle.grep_match.specs.Matches.{Tried, Matches}
 use Rattle.grep_match.specs.Found.{Listed, Lists, ListsMatches}
 use Rattle.tool_out.specs.Writes.{Writes, WritesAll}
@@ -21,6 +23,7 @@ use Rattle.grep_core.specs.declared.scan.Next.TheVariants.{Line, Context}
 use Rattle.grep_output.specs.declared.state.State.{State}
 use Rattle.grep_output.specs.Earlier.{EarlierRows}
 use Rattle.grep_output.specs.Course.{is_lines, selected_out}
+use Rattle.grep_core.specs.Work.{work_on, progress}
 use Rattle.grep_core.specs.Turns.{course_of, is_full, SelectsIt}
 use Rattle.tool_out.specs.Texts.{text_if}
 use Rattle.grep_output.specs.Texts.{match_text, matches_text}
@@ -67,13 +70,13 @@ or-false false = refl
 written-out : {text : List ℕ} {old new : Kept} (u : Unit {0}) → Writes text old new (Ok u) → WritesAll text old new
 written-out u w = record { all = w.all; steady = w.cause }
 
-module _ (plan : GrepPlan) (name : List ℕ) (most : Option ℕ) (t : Tried) (c : Course) (s : State) (c_new : Course) (s_new : State) (old new : Kept) (next : Next) (u : Unit {0}) where
+module _ (plan : GrepPlan) (patterns : List Pattern) (name : List ℕ) (most : Option ℕ) (t : Tried) (c : Course) (s : State) (c_new : Course) (s_new : State) (old new err : Kept) (next : Next) (u : Unit {0}) where
   -- where lines are shown
   pub selected-line : (show : Show) (number after : ℕ) (earlier : EarlierRows) → is_lines show ≡ true → Writes (selected_out plan name show s.has_shown (course_of c) t) old new (Ok u)
       → t.row.number ≡ number → after ≡ plan.after_context → earlier ≡ record { limit = c.earlier.limit; longest = c.earlier.longest; rows = [] }
       → c_new ≡ record { selected = c.selected + 1; context_to = number + after; earlier = earlier }
       → s_new ≡ record { errors = s.errors; total = s.total; has_shown = true }
-      → next ≡ (if is_full most c_new.selected then Context else Line) → SelectsIt plan name show most t c s c_new s_new old new next
+      → next ≡ (if is_full most c_new.selected then Context else Line) → SelectsIt (work_on plan patterns name show) most t (progress c s (printed old err)) (progress c_new s_new (printed new err)) next
   selected-line show.Lines number after earlier is w n a b e es answer = record {
     wrote = written-out u w;
     stands = ap course_of e ∙ rw (a, ← n, b) refl;
@@ -88,7 +91,7 @@ module _ (plan : GrepPlan) (name : List ℕ) (most : Option ℕ) (t : Tried) (c 
   -- where they aren't
   pub selected-only : (show : Show) → is_lines show ≡ false → Writes (selected_out plan name show s.has_shown (course_of c) t) old new (Ok u)
       → c_new ≡ record { selected = c.selected + 1; context_to = c.context_to; earlier = c.earlier } → s_new ≡ s
-      → next ≡ (if is_full most c_new.selected then Context else Line) → SelectsIt plan name show most t c s c_new s_new old new next
+      → next ≡ (if is_full most c_new.selected then Context else Line) → SelectsIt (work_on plan patterns name show) most t (progress c s (printed old err)) (progress c_new s_new (printed new err)) next
   selected-only show.Lines is w e es answer = absurd cc
   selected-only show.Parts is w e es answer = record {
     wrote = written-out u w;

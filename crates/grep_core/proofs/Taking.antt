@@ -6,8 +6,6 @@ use Rattle.std.proofs.KnownBytes.{Appends-nil}
 use Rattle.std.specs.Io.KnownBytes.{Appends}
 use Rattle.pcre_io.specs.Told.{Kept}
 use Rattle.ordered_search.specs.PlaceAnswer.{Outcome}
-use Rattle.grep_args.specs.declared.plan.GrepPlan.{GrepPlan}
-use Rattle.grep_output.specs.declared.shows.Show.{Show}
 use Rattle.grep_output.specs.declared.ended.Stop.{Stop}
 use Rattle.grep_output.specs.declared.ended.Stop.TheVariants.{SinkFault, TooManyErrors, Memory}
 use Rattle.grep_core.specs.declared.scan.Course.{Course}
@@ -20,6 +18,7 @@ use Rattle.grep_output.specs.Messages.{error_message}
 use Rattle.grep_output.specs.Course.{selected_out, passed_out, row_out, state_after_line, is_lines}
 use Rattle.grep_match.specs.Found.{Listed, Lists, ListsMatches, IsVerdict}
 use Rattle.grep_core.specs.Turns.{course_of, Halts, Passes, PassesOn, Takes, TakesLine, Selects, is_last, is_full}
+use Rattle.grep_core.specs.Work.{Work, progress}
 use Rattle.tool_out.specs.Prints.{Breaks}
 use Rattle.tool_out.proofs.Printing.{prefix-none}
 use Rattle.tool_out.specs.Printed.{printed}
@@ -52,27 +51,27 @@ pub tried-listed : (wanted : List ℕ) (len : ℕ) (list : Listed) (is_match : B
 tried-listed wanted len list is_match ms tried = subst (ListsMatches wanted len list) (sym tried.is) tried.listed
 
 -- Such a line.
-module _ (plan : GrepPlan) (name : List ℕ) (shows : Show) (most : Option ℕ) (t : Tried) (found : List Outcome) (is : t.matches ≡ Ok found) where
+module _ (work : Work) (most : Option ℕ) (t : Tried) (found : List Outcome) (is : t.matches ≡ Ok found) where
   no_error : has_error t ≡ false
   no_error = ap (λ (m : Matches). elim m [ Ok os ↦ false | Err n ↦ true ]) is
 
-  unsaid : error_message name t ≡ []
-  unsaid = ap (λ (m : Matches). error_message name (record { row = t.row; matches = m })) is
+  unsaid : error_message work.name t ≡ []
+  unsaid = ap (λ (m : Matches). error_message work.name (record { row = t.row; matches = m })) is
 
-  shown : (s : State) (c : Course) → row_out plan name shows s.has_shown (course_of c) t ≡ (if is_last s t then [] else row_out plan name shows s.has_shown (course_of c) t)
-  shown s c = ap (λ b. if b && s.errors == 20 then [] else row_out plan name shows s.has_shown (course_of c) t) (sym no_error)
+  shown : (s : State) (c : Course) → row_out work.plan work.name work.show s.has_shown (course_of c) t ≡ (if is_last s t then [] else row_out work.plan work.name work.show s.has_shown (course_of c) t)
+  shown s c = ap (λ b. if b && s.errors == 20 then [] else row_out work.plan work.name work.show s.has_shown (course_of c) t) (sym no_error)
 
   -- a part of it was written
-  pub line-refused : (c c_new : Course) (s s_new : State) (text : List ℕ) (out_old out_new err : Kept) (stop : Stop) → text ≡ row_out plan name shows s.has_shown (course_of c) t → Halts text out_old out_new stop → c_new.selected ≡ c.selected → s_new ≡ s
-      → TakesLine plan name shows most t c s c_new s_new (printed out_old err) (printed out_new err) (Err stop)
+  pub line-refused : (c c_new : Course) (s s_new : State) (text : List ℕ) (out_old out_new err : Kept) (stop : Stop) → text ≡ row_out work.plan work.name work.show s.has_shown (course_of c) t → Halts text out_old out_new stop → c_new.selected ≡ c.selected → s_new ≡ s
+      → TakesLine work most t (progress c s (printed out_old err)) (progress c_new s_new (printed out_new err)) (Err stop)
   line-refused c c_new s s_new text out_old out_new err SinkFault same halts count left = (
-    subst (λ l. Breaks l (error_message name t) (printed out_old err) (printed out_new err) (SinkFault ≡ SinkFault)) (same ∙ shown s c)
-        (record { out = halts.0; err = prefix-none err.held (error_message name t); cause = λ _. inl halts.1; steady = λ other. absurd (other refl) }),
+    subst (λ l. Breaks l (error_message work.name t) (printed out_old err) (printed out_new err) (SinkFault ≡ SinkFault)) (same ∙ shown s c)
+        (record { out = halts.0; err = prefix-none err.held (error_message work.name t); cause = λ _. inl halts.1; steady = λ other. absurd (other refl) }),
     (count, inl left),
   )
   line-refused c c_new s s_new text out_old out_new err Memory same halts count left = (
-    subst (λ l. Breaks l (error_message name t) (printed out_old err) (printed out_new err) (Memory ≡ SinkFault)) (same ∙ shown s c)
-        (record { out = halts.0; err = prefix-none err.held (error_message name t); cause = λ is. absurd (cc); steady = λ _. (halts.1, refl) }),
+    subst (λ l. Breaks l (error_message work.name t) (printed out_old err) (printed out_new err) (Memory ≡ SinkFault)) (same ∙ shown s c)
+        (record { out = halts.0; err = prefix-none err.held (error_message work.name t); cause = λ is. absurd (cc); steady = λ _. (halts.1, refl) }),
     (count, inl left),
   )
   line-refused c c_new s s_new text out_old out_new err TooManyErrors same halts count left = absurd halts
@@ -85,49 +84,49 @@ module _ (plan : GrepPlan) (name : List ℕ) (shows : Show) (most : Option ℕ) 
   or-none true l = refl
   or-none false l = refl
 
-  state-so : (s : State) (b : Bool) → is_selected plan t ≡ b → record s { has_shown = s.has_shown || (b && is_lines shows) } ≡ state_after_line plan shows s t
-  state-so s b selected = sym (λ i. let r : State = record { errors = if no_error i then s.errors + 1 else s.errors; total = s.total; has_shown = s.has_shown || (selected i && is_lines shows) } in r)
+  state-so : (s : State) (b : Bool) → is_selected work.plan t ≡ b → record s { has_shown = s.has_shown || (b && is_lines work.show) } ≡ state_after_line work.plan work.show s t
+  state-so s b selected = sym (λ i. let r : State = record { errors = if no_error i then s.errors + 1 else s.errors; total = s.total; has_shown = s.has_shown || (selected i && is_lines work.show) } in r)
 
   -- it is selected
-  pub selected-takes : (c c_new : Course) (s s_new : State) (out_old out_new err : Kept) (result : Result Next Stop) → is_selected plan t ≡ true → s.errors ≤ 20
-      → Selects plan name shows most t c s c_new s_new out_old out_new result → TakesLine plan name shows most t c s c_new s_new (printed out_old err) (printed out_new err) result
+  pub selected-takes : (c c_new : Course) (s s_new : State) (out_old out_new err : Kept) (result : Result Next Stop) → is_selected work.plan t ≡ true → s.errors ≤ 20
+      → Selects work most t (progress c s (printed out_old err)) (progress c_new s_new (printed out_new err)) result → TakesLine work most t (progress c s (printed out_old err)) (progress c_new s_new (printed out_new err)) result
   selected-takes c c_new s s_new out_old out_new err (Ok next) yes_selected few sel = record {
     wrote = record {
-      out = subst (Appends out_old.held out_new.held) (sym (cond-true (is_selected plan t) _ _ yes_selected)) sel.wrote.all;
+      out = subst (Appends out_old.held out_new.held) (sym (cond-true (is_selected work.plan t) _ _ yes_selected)) sel.wrote.all;
       err = subst (Appends err.held err.held) (sym unsaid) (Appends-nil err.held);
       steady = (sel.wrote.steady, refl);
     };
-    stands = sel.stands ∙ sym (cond-true (is_selected plan t) _ _ yes_selected);
+    stands = sel.stands ∙ sym (cond-true (is_selected work.plan t) _ _ yes_selected);
     limit = sel.limit;
     longest = sel.longest;
-    state = sel.state ∙ ap (λ b. let r : State = record s { has_shown = b } in r) (sym (and-or s.has_shown (is_lines shows))) ∙ state-so s true yes_selected;
+    state = sel.state ∙ ap (λ b. let r : State = record s { has_shown = b } in r) (sym (and-or s.has_shown (is_lines work.show))) ∙ state-so s true yes_selected;
     answer = sel.answer ∙ sym (ap (λ b. if b && is_full most c_new.selected then Context else Line) yes_selected);
     errors = let same = ap (λ (r : State). r.errors) sel.state in omega (arith, same, few);
   }
   selected-takes c c_new s s_new out_old out_new err (Err stop) yes_selected few sel =
-      line-refused c c_new s s_new (selected_out plan name shows s.has_shown (course_of c) t) out_old out_new err stop (sym (cond-true (is_selected plan t) _ _ yes_selected)) sel.0 sel.1 sel.2
+      line-refused c c_new s s_new (selected_out work.plan work.name work.show s.has_shown (course_of c) t) out_old out_new err stop (sym (cond-true (is_selected work.plan t) _ _ yes_selected)) sel.0 sel.1 sel.2
 
   -- it is passed
-  pub passed-takes : (c c_new : Course) (s : State) (out_old out_new err : Kept) → is_selected plan t ≡ false → s.errors ≤ 20 → PassesOn plan name shows t c c_new out_old out_new
-      → Takes plan name shows most t c s c_new s (printed out_old err) (printed out_new err) Line
+  pub passed-takes : (c c_new : Course) (s : State) (out_old out_new err : Kept) → is_selected work.plan t ≡ false → s.errors ≤ 20 → PassesOn work t (progress c s (printed out_old err)) (progress c_new s (printed out_new err))
+      → Takes work most t (progress c s (printed out_old err)) (progress c_new s (printed out_new err)) Line
   passed-takes c c_new s out_old out_new err not_selected few passes = record {
     wrote = record {
-      out = subst (Appends out_old.held out_new.held) (sym (cond-false (is_selected plan t) _ _ not_selected)) passes.wrote.all;
+      out = subst (Appends out_old.held out_new.held) (sym (cond-false (is_selected work.plan t) _ _ not_selected)) passes.wrote.all;
       err = subst (Appends err.held err.held) (sym unsaid) (Appends-nil err.held);
       steady = (passes.wrote.steady, refl);
     };
-    stands = passes.stands ∙ sym (cond-false (is_selected plan t) _ _ not_selected);
+    stands = passes.stands ∙ sym (cond-false (is_selected work.plan t) _ _ not_selected);
     limit = passes.limit;
     longest = passes.longest;
-    state = ap (λ b. let r : State = record s { has_shown = b } in r) (sym (or-none s.has_shown (is_lines shows))) ∙ state-so s false not_selected;
+    state = ap (λ b. let r : State = record s { has_shown = b } in r) (sym (or-none s.has_shown (is_lines work.show))) ∙ state-so s false not_selected;
     answer = sym (ap (λ b. if b && is_full most c_new.selected then Context else Line) not_selected);
     errors = few;
   }
 
-  pub passed-refused : (c c_new : Course) (s : State) (out_old out_new err : Kept) (stop : Stop) → is_selected plan t ≡ false → Passes plan name shows t c c_new out_old out_new (Err stop)
-      → TakesLine plan name shows most t c s c_new s (printed out_old err) (printed out_new err) (Err stop)
+  pub passed-refused : (c c_new : Course) (s : State) (out_old out_new err : Kept) (stop : Stop) → is_selected work.plan t ≡ false → Passes work t (progress c s (printed out_old err)) (progress c_new s (printed out_new err)) (Err stop)
+      → TakesLine work most t (progress c s (printed out_old err)) (progress c_new s (printed out_new err)) (Err stop)
   passed-refused c c_new s out_old out_new err stop not_selected halts =
-      line-refused c c_new s s (passed_out plan name shows (course_of c) t) out_old out_new err stop (sym (cond-false (is_selected plan t) _ _ not_selected)) halts.0 halts.1 refl
+      line-refused c c_new s s (passed_out work.plan work.name work.show (course_of c) t) out_old out_new err stop (sym (cond-false (is_selected work.plan t) _ _ not_selected)) halts.0 halts.1 refl
 
 -- whether a line is selected
 pub chosen : (b i : Bool) → not (beq b i) ≡ true → (if b then not i else i) ≡ true

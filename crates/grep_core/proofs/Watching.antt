@@ -1,8 +1,9 @@
 -- What is known of the bytes that a feed holds stays known from one line to the next.
-use Rattle.std.proofs.Common.{◌≡◌, ◌∙◌, ℕ, ◌+◌, ◌-◌, ◌<◌, ◌≤◌, List, [], ◌∷◌, ◌++◌, length, Bool, true, Option, Some, None, Ok, sym, ap, subst, arith, length-append}
-use Rattle.std.specs.Prelude.{slice_index, IfSome}
-use Rattle.std.proofs.lemmas.List.{append_assoc, get_or_append_left, get_or-append-add}
-use Rattle.byte_lanes.specs.Places.{IsLeast}
+use Rattle.std.proofs.Common.{◌≡◌, ◌∙◌, ℕ, ◌+◌, ◌-◌, ◌<◌, ◌≤◌, List, [], ◌∷◌, ◌++◌, length, take, Bool, true, Option, Some, None, Ok, sym, ap, subst, arith, length-append}
+use Rattle.std.specs.Prelude.{slice_index, IfSome, IsTrue, IsUtf8}
+use Rattle.std.proofs.lemmas.List.{append_assoc, get_or_append_left, get_or-append-add, take-append-le}
+use Rattle.std.proofs.lemmas.Str.{IsUtf8-nil}
+use Rattle.uni_text.specs.Characters.{IsChecked}
 use Rattle.byte_lanes.specs.Sets.{has_byte}
 use Rattle.match_needs.specs.Texts.{sets_of, behind_of, Stands}
 use Rattle.pcre_io.specs.Told.{Told}
@@ -16,11 +17,16 @@ use Rattle.grep_match.specs.declared.unsearched.Needed.{Needed}
 use Rattle.grep_match.specs.Matches.{matches}
 use Rattle.grep_match.specs.Needed.{AreNeeded}
 use Rattle.grep_core.specs.declared.watch.Watch.{Watch}
-use Rattle.grep_core.specs.Watched.{IsQuiet, Watches}
+use Rattle.grep_core.specs.Watched.{IsQuiet, Watches, EndsInAscii}
+use Rattle.grep_core.proofs.Cutting.{ends-behind, valid-behind}
 
 kept : Option Needed → Needed → Needed
 kept None d = d
 kept (Some x) d = x
+
+pub same-needed : (needed : Option Needed) (found some : Needed) → needed ≡ Some found → needed ≡ Some some → found ≡ some
+unfolding kept
+same-needed needed found some there is = ap (λ o. kept o found) (sym there ∙ is)
 
 -- Where a text stands in bytes before and behind which others stand.
 
@@ -88,6 +94,7 @@ pub watches_new : (plan : GrepPlan) (patterns : List Pattern) (needed : Option N
 watches_new plan patterns needed are held = record {
   needed = λ some is. subst (λ o. IfSome o (AreNeeded plan patterns)) is are;
   quiet = λ some is. record { within = omega arith; lacks = λ k low stands. omega (arith, low) };
+  valid = λ some is on. IsUtf8-nil;
 }
 
 module _ (plan : GrepPlan) (patterns : List Pattern) (w : Watch) where
@@ -95,35 +102,60 @@ module _ (plan : GrepPlan) (patterns : List Pattern) (w : Watch) where
   watches_more held taken had = record {
     needed = had.needed;
     quiet = λ some is. quiet-more (sets_of some.text) held taken w.quiet (had.quiet some is);
+    valid = λ some is on.
+        let within = (had.quiet some is).within in
+        subst IsUtf8 (sym (take-append-le w.quiet held taken within)) (had.valid some is on);
   }
 
   -- the text was looked for
-  pub watches_found : (held : List ℕ) (n : ℕ) (found : Needed) → w.needed ≡ Some found → IsLeast (Stands (sets_of found.text) held) 0 (length held) n
+  pub watches_found : (held : List ℕ) (n : ℕ) (found : Needed) → w.needed ≡ Some found → IsQuiet (sets_of found.text) held n → IsChecked found.utf (take n held)
       → Watches plan patterns w held → Watches plan patterns (record w { quiet = n }) held
-  unfolding kept
-  watches_found held n found there least had = record {
+  watches_found held n found there quiet valid had = record {
     needed = had.needed;
-    quiet = λ some is.
-        subst (λ (s : Needed). IsQuiet (sets_of s.text) held n) (ap (λ o. kept o found) (sym there ∙ is))
-        (record { within = least.high; lacks = λ k low stands. least.before k (omega arith) (omega (arith, low)) stands });
+    quiet = λ some is. subst (λ (s : Needed). IsQuiet (sets_of s.text) held n) (same-needed w.needed found some there is) quiet;
+    valid = λ some is. subst (λ (s : Needed). IsChecked s.utf (take n held)) (same-needed w.needed found some there is) valid;
   }
 
   -- it stands nowhere in a line
-  pub watches_none : (bytes behind : List ℕ) (found : Needed) → w.needed ≡ Some found → length bytes ≤ w.quiet → length bytes ≤ found.most
+  pub watches_none : (bytes behind : List ℕ) (found : Needed) → w.needed ≡ Some found → length bytes ≤ w.quiet → length bytes ≤ found.most → IsChecked found.utf bytes
       → ((k : ℕ) → k < length bytes → slice_index bytes k < 256) → Watches plan patterns w (bytes ++ behind) → matches plan patterns bytes ≡ Ok []
-  watches_none bytes behind found there some short are had =
-      had.needed found there bytes short (quiet-front found.text.first (behind_of found.text.second found.text.third) bytes behind w.quiet (had.quiet found there) some are)
+  watches_none bytes behind found there some short checked are had =
+      had.needed found there bytes (record {
+        short = short;
+        lacks = quiet-front found.text.first (behind_of found.text.second found.text.third) bytes behind w.quiet (had.quiet found there) some are;
+        checked = checked;
+      })
 
-  pub watches_behind : (bytes newline behind : List ℕ) (n : ℕ) → n ≡ w.quiet - length bytes - length newline → Watches plan patterns w (bytes ++ newline ++ behind)
+  -- nothing more is known
+  pub watches_less : (held rest : List ℕ) → Watches plan patterns w held → Watches plan patterns (record w { quiet = 0 }) rest
+  watches_less held rest had = record {
+    needed = had.needed;
+    quiet = λ some is. record { within = omega arith; lacks = λ k low stands. omega (arith, low) };
+    valid = λ some is on. IsUtf8-nil;
+  }
+
+  pub watches_behind : (bytes newline behind : List ℕ) (n : ℕ) → n ≡ w.quiet - length bytes - length newline
+      → ((some : Needed) → w.needed ≡ Some some → IsChecked some.utf (take n behind)) → Watches plan patterns w (bytes ++ newline ++ behind)
       → Watches plan patterns (record w { quiet = n }) behind
-  watches_behind bytes newline behind n is had = record {
+  watches_behind bytes newline behind n is valid had = record {
     needed = had.needed;
     quiet = λ some there.
         let long = length-append bytes newline in
         let same : w.quiet - length (bytes ++ newline) ≡ n = omega (arith, long, is) in
         subst (IsQuiet (sets_of some.text) behind) same
         (quiet-behind some.text.first (behind_of some.text.second some.text.third) (bytes ++ newline) behind w.quiet (had.quiet some there));
+    valid = valid;
   }
+
+  -- behind a newline of ASCII it goes on with a character
+  pub watches_left : (bytes newline behind : List ℕ) (n : ℕ) → n ≡ w.quiet - length bytes - length newline
+      → ((some : Needed) → w.needed ≡ Some some → IsTrue some.utf → EndsInAscii newline) → Watches plan patterns w (bytes ++ newline ++ behind)
+      → Watches plan patterns (record w { quiet = n }) behind
+  watches_left bytes newline behind n is ends had =
+      watches_behind bytes newline behind n is (λ some there on.
+      let long = length-append bytes newline in
+      let same : w.quiet - length (bytes ++ newline) ≡ n = omega (arith, long, is) in
+      subst (λ k. IsUtf8 (take k behind)) same (valid-behind (bytes ++ newline) behind w.quiet (ends-behind bytes newline (ends some there on)) (had.valid some there on))) had
 
   -- what the feed held begins with the line that it gives
   pub watches_gives : (f g : Feed) (now after : Told) (row : Row) → Gives f g now after row → Watches plan patterns w f.held

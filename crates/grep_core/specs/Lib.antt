@@ -10,6 +10,7 @@ pub use Rattle.grep_output.specs.Context
 pub use Rattle.grep_output.specs.Texts
 pub use Rattle.grep_output.specs.Messages
 pub use Rattle.grep_output.specs.InputText
+pub mod Work
 pub mod Turns
 pub mod WholeScans
 pub mod Follows

@@ -19,7 +19,6 @@ use Rattle.grep_output.specs.Lines.{lines, treatment}
 use Rattle.grep_output.specs.Messages.{error_message}
 use Rattle.grep_output.specs.Scans.{Scan, too_many_errors, scan, selected_in}
 use Rattle.grep_output.specs.InputText.{Written, input_text, shown_out, state_by}
-use Rattle.grep_output.specs.declared.shows.Show.{Show}
 use Rattle.grep_output.specs.Shows.{is_told, show_in}
 use Rattle.grep_match.specs.Modes.{mode}
 use Rattle.grep_match.specs.Matches.{Tried}
@@ -29,6 +28,7 @@ use Rattle.tool_out.specs.Prints.{Wrote, Breaks}
 use Rattle.grep_output.specs.Refused.{RefusesSoon, WhereRefused}
 use Rattle.grep_core.specs.WholeScans.{Stood, LeavesRest, StopsSoon}
 use Rattle.tool_out.specs.Printed.{Printed}
+use Rattle.grep_core.specs.Work.{Work, work_on, Standing}
 
 abbrev pub is_skipped : Treatment → Bool
 is_skipped Skipped = true
@@ -65,30 +65,35 @@ WritesBoth out_text err_text old new (Err fault) =
     Breaks out_text err_text old new (stop_of fault ≡ SinkFault)
 
 -- an input was scanned as it is treated
-module _ (plan : GrepPlan) (name : List ℕ) (show : Show) (s : State) where
+module _ (work : Work) (s : State) where
+  -- what is shown of a scan, and what the scan leaves
+  abbrev pub shown_text : Scan → List ℕ
+  shown_text found = shown_out work.plan work.name work.show s.has_shown found
+
+  abbrev pub state_of : Scan → State
+  state_of found = state_by work.plan work.name work.show s found
+
   -- the scan was written whole, and its lines count
   pub record Counts (found : Scan) (s_new : State) (old new : Printed) : Type 0 where
-    pub wrote : Wrote (shown_out plan name show s.has_shown found)
-        (flat_map (error_message name) found.tried) old new
-    pub state : s_new ≡ state_by plan name show s found
+    pub wrote : Wrote (shown_text found) (flat_map (error_message work.name) found.tried) old new
+    pub state : s_new ≡ state_of found
 
   -- a first part of its lines counts
   pub record CountsPart (found : Scan) (s_new : State) : Type 0 where
     pub tried : List Tried
     pub rest : List Tried
     pub begins : found.tried ≡ tried ++ rest
-    pub state : s_new ≡ state_by plan name show s (scan_so_far tried)
+    pub state : s_new ≡ state_of (scan_so_far tried)
 
   abbrev pub ScansSo : Scan → State → Printed → Printed → Result FileEnd Stop → Type 0
   ScansSo found s_new old new (Ok end) =
-      Counts found s_new old new × (end.selected ≡ length (selected_in plan found))
+      Counts found s_new old new × (end.selected ≡ length (selected_in work.plan found))
       × (found.ended ≡ ended_of end.ended)
   ScansSo found s_new old new (Err TooManyErrors) =
       Counts found s_new old new × (found.ended ≡ too_many_errors)
   ScansSo found s_new old new (Err stop) =
-      Breaks (shown_out plan name show s.has_shown found)
-      (flat_map (error_message name) found.tried) old new (stop ≡ SinkFault)
-      × CountsPart found s_new
+      Breaks (shown_text found) (flat_map (error_message work.name) found.tried) old new
+      (stop ≡ SinkFault) × CountsPart found s_new
 
   -- what a run that can't go on leaves: the input counts whole, or a first part of its lines
   abbrev pub LeavesTo : Written → Scan → State → Result FileEnd Stop → Type 0
@@ -96,20 +101,20 @@ module _ (plan : GrepPlan) (name : List ℕ) (show : Show) (s : State) where
   LeavesTo w found s_new (Err TooManyErrors) = ⊤
   LeavesTo w found s_new (Err stop) = (s_new ≡ w.state) ⊎ CountsPart found s_new
 
-module _ (plan : GrepPlan) (patterns : List Pattern) (name : List ℕ) (show : Show)
-    (treated : Treatment) (s : State) where
-  pub record ScansAs (before after : Told) (s_new : State) (old new : Printed)
-      (result : Result FileEnd Stop) : Type 0 where
-    pub heard : Input
-    pub hears : Hears before after heard
-    pub treats : treatment plan heard ≡ treated
-    pub scans : ScansSo plan name show s (scan plan patterns s.errors treated (lines plan heard))
-        s_new old new result
-    pub rest :
-        let found = scan plan patterns s.errors treated (lines plan heard) in
-        LeavesRest found.ended found.within before after result
-    pub refused : WhereRefused result (StopsSoon plan patterns name show treated s
-        (lines plan heard) before after old.out new.out)
+-- the scan of an input that is treated so
+pub record ScansAs (work : Work) (treated : Treatment) (old new : Standing)
+    (result : Result FileEnd Stop) : Type 0 where
+  pub heard : Input
+  pub hears : Hears old.source new.source heard
+  pub treats : treatment work.plan heard ≡ treated
+  pub scans : ScansSo work old.state
+      (scan work.plan work.patterns old.state.errors treated (lines work.plan heard))
+      new.state old.printed new.printed result
+  pub rest :
+      let found = scan work.plan work.patterns old.state.errors treated (lines work.plan heard) in
+      LeavesRest found.ended found.within old.source new.source result
+  pub refused : WhereRefused result (StopsSoon work treated old.state (lines work.plan heard)
+      old.source new.source old.printed.out new.printed.out)
 
 -- all was written, and this is told and left
 pub record GrepsAll (w : Written) (s_new : State) (old new : Printed) (end : FileEnd) : Type 0 where
@@ -126,32 +131,20 @@ GrepsTo w s_new old new (Err TooManyErrors) =
 GrepsTo w s_new old new (Err stop) = Breaks w.out w.err old new (stop ≡ SinkFault)
 
 -- what is written is the text of the input that the source stands for, after what the inputs before left
-pub record GrepsInput (plan : GrepPlan) (patterns : List Pattern) (name : List ℕ)
-    (before after : Told) (s s_new : State) (old new : Printed) (result : Result FileEnd Stop)
-    : Type 0 where
+pub record Greps (plan : GrepPlan) (patterns : List Pattern) (name : List ℕ) (old new : Standing)
+    (result : Result FileEnd Stop) : Type 0 where
   pub heard : Input
-  pub hears : Hears before after heard
-  pub greps : GrepsTo (input_text plan patterns name s heard) s_new old new result
-  pub left : LeavesTo plan name (show_in (is_told plan (treatment plan heard)) (mode plan)) s
-      (input_text plan patterns name s heard)
-      (scan plan patterns s.errors (treatment plan heard) (lines plan heard)) s_new result
+  pub hears : Hears old.source new.source heard
+  pub greps : GrepsTo (input_text plan patterns name old.state heard) new.state
+      old.printed new.printed result
+  pub left :
+      let treated = treatment plan heard in
+      LeavesTo (work_on plan patterns name (show_in (is_told plan treated) (mode plan))) old.state
+      (input_text plan patterns name old.state heard)
+      (scan plan patterns old.state.errors treated (lines plan heard)) new.state result
   pub rest :
-      let w = input_text plan patterns name s heard in
-      LeavesRest w.ended w.within before after result
-  pub refused : WhereRefused result (RefusesSoon plan patterns name s (treatment plan heard)
-      (lines plan heard).rows before after old.out new.out)
-
--- how a run stands between two inputs: what the source tells, what the inputs so far leave, and what was written
-pub record Standing : Type 0 where
-  pub source : Told
-  pub state : State
-  pub printed : Printed
-
-abbrev pub standing : Told → State → Printed → Standing
-standing source state printed = record { source = source; state = state; printed = printed }
-
-abbrev pub Greps : GrepPlan → List Pattern → List ℕ → Standing → Standing → Result FileEnd Stop
-    → Type 0
-Greps plan patterns name old new result =
-    GrepsInput plan patterns name old.source new.source old.state new.state old.printed new.printed
-    result
+      let w = input_text plan patterns name old.state heard in
+      LeavesRest w.ended w.within old.source new.source result
+  pub refused : WhereRefused result (RefusesSoon plan patterns name old.state
+      (treatment plan heard) (lines plan heard).rows old.source new.source
+      old.printed.out new.printed.out)

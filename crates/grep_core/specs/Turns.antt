@@ -8,8 +8,6 @@ use Rattle.line_feed.specs.View.{Feed}
 use Rattle.line_feed.specs.Answers.{Gives, Ends, Refuses}
 use Rattle.line_feed.specs.declared.phase.FeedError.{FeedError}
 use Rattle.line_feed.specs.declared.phase.FeedError.TheVariants as feed
-use Rattle.grep_args.specs.declared.plan.GrepPlan.{GrepPlan}
-use Rattle.grep_output.specs.declared.shows.Show.{Show}
 use Rattle.grep_output.specs.declared.ended.Ended.{Ended}
 use Rattle.grep_output.specs.declared.ended.Ended.TheVariants as told
 use Rattle.grep_output.specs.declared.ended.Stop.{Stop}
@@ -19,13 +17,12 @@ use Rattle.grep_core.specs.declared.scan.Next.{Next}
 use Rattle.grep_core.specs.declared.scan.Next.TheVariants.{Line, Context}
 use Rattle.grep_core.specs.declared.scan.Turn.{Turn}
 use Rattle.grep_core.specs.declared.scan.Turn.TheVariants.{Took, Finished}
-use Rattle.pat_tree.specs.Pattern.{Pattern}
+use Rattle.grep_core.specs.Work.{Work, Progress, Position}
 use Rattle.grep_match.specs.Matches.{Tried, tried_row, is_selected, has_error}
 use Rattle.grep_output.specs.Messages.{error_message}
 use Rattle.grep_output.specs.declared.state.State.{State}
 use Rattle.grep_output.specs.Course as course
 use Rattle.grep_output.specs.Course.{row_out, selected_out, passed_out, is_lines, course_after, course_after_selected, course_after_passed, state_after_line}
-use Rattle.tool_out.specs.Printed.{Printed}
 use Rattle.tool_out.specs.Writes.{WritesAll}
 use Rattle.tool_out.specs.Prints.{Wrote, Breaks}
 
@@ -45,78 +42,88 @@ Halts text old new Memory =
     AppendsPrefix old.held new.held text × (new.faults ≡ old.faults)
 Halts text old new TooManyErrors = ⊥
 
-module _ (plan : GrepPlan) (name : List ℕ) (show : Show) where
-  -- a line that isn't selected
-  pub record PassesOn (t : Tried) (c c_new : Course) (out_old out_new : Kept) : Type 0 where
-    pub wrote : WritesAll (passed_out plan name show (course_of c) t) out_old out_new
-    pub stands : course_of c_new ≡ course_after_passed plan show (course_of c) t.row
-    pub limit : c_new.earlier.limit ≡ c.earlier.limit
-    pub longest : c_new.earlier.longest ≡ c.earlier.longest
+module _ (work : Work) (t : Tried) (old new : Progress) where
+  -- what is written of a line that isn't selected
+  abbrev pub passed_text : List ℕ
+  passed_text = passed_out work.plan work.name work.show (course_of old.course) t
 
-  abbrev pub Passes : Tried → Course → Course → Kept → Kept → Result (Unit {0}) Stop → Type 0
-  Passes t c c_new out_old out_new (Ok _) = PassesOn t c c_new out_old out_new
-  Passes t c c_new out_old out_new (Err stop) =
-      Halts (passed_out plan name show (course_of c) t) out_old out_new stop
-      × (c_new.selected ≡ c.selected)
+  -- a line that isn't selected
+  pub record PassesOn : Type 0 where
+    pub wrote : WritesAll passed_text old.printed.out new.printed.out
+    pub stands : course_of new.course
+        ≡ course_after_passed work.plan work.show (course_of old.course) t.row
+    pub limit : new.course.earlier.limit ≡ old.course.earlier.limit
+    pub longest : new.course.earlier.longest ≡ old.course.earlier.longest
+
+  abbrev pub Passes : Result (Unit {0}) Stop → Type 0
+  Passes (Ok _) = PassesOn
+  Passes (Err stop) =
+      Halts passed_text old.printed.out new.printed.out stop
+      × (new.course.selected ≡ old.course.selected)
 
 -- the match error of a line is the last one that there may be: nothing more is shown
 abbrev pub is_last : State → Tried → Bool
 is_last s t = has_error t && s.errors == 20
 
-module _ (plan : GrepPlan) (name : List ℕ) (show : Show) (most : Option ℕ) where
-  -- a selected line
-  pub record SelectsIt (t : Tried) (c : Course) (s : State) (c_new : Course) (s_new : State)
-      (out_old out_new : Kept) (next : Next) : Type 0 where
-    pub wrote : WritesAll (selected_out plan name show s.has_shown (course_of c) t) out_old out_new
-    pub stands : course_of c_new ≡ course_after_selected plan show (course_of c) t.row
-    pub limit : c_new.earlier.limit ≡ c.earlier.limit
-    pub longest : c_new.earlier.longest ≡ c.earlier.longest
-    pub state : s_new ≡ record s { has_shown = s.has_shown || is_lines show }
-    pub answer : next ≡ (if is_full most c_new.selected then Context else Line)
+-- a line of a scan that selects so many lines at most
+module _ (work : Work) (most : Option ℕ) (t : Tried) (old new : Progress) where
+  -- what is written of it where it is selected, and as it is
+  abbrev pub selected_text : List ℕ
+  selected_text =
+      selected_out work.plan work.name work.show old.state.has_shown (course_of old.course) t
 
-  abbrev pub Selects : Tried → Course → State → Course → State → Kept → Kept → Result Next Stop
-      → Type 0
-  Selects t c s c_new s_new out_old out_new (Ok next) =
-      SelectsIt t c s c_new s_new out_old out_new next
-  Selects t c s c_new s_new out_old out_new (Err stop) =
-      Halts (selected_out plan name show s.has_shown (course_of c) t) out_old out_new stop
-      × (c_new.selected ≡ c.selected) × (s_new ≡ s)
+  abbrev pub row_text : List ℕ
+  row_text = row_out work.plan work.name work.show old.state.has_shown (course_of old.course) t
+
+  -- a selected line
+  pub record SelectsIt (next : Next) : Type 0 where
+    pub wrote : WritesAll selected_text old.printed.out new.printed.out
+    pub stands : course_of new.course
+        ≡ course_after_selected work.plan work.show (course_of old.course) t.row
+    pub limit : new.course.earlier.limit ≡ old.course.earlier.limit
+    pub longest : new.course.earlier.longest ≡ old.course.earlier.longest
+    pub state : new.state
+        ≡ record old.state { has_shown = old.state.has_shown || is_lines work.show }
+    pub answer : next ≡ (if is_full most new.course.selected then Context else Line)
+
+  abbrev pub Selects : Result Next Stop → Type 0
+  Selects (Ok next) = SelectsIt next
+  Selects (Err stop) =
+      Halts selected_text old.printed.out new.printed.out stop
+      × (new.course.selected ≡ old.course.selected) × (new.state ≡ old.state)
 
   -- a line was scanned whole
-  pub record Takes (t : Tried) (c : Course) (s : State) (c_new : Course) (s_new : State)
-      (old new : Printed) (next : Next) : Type 0 where
-    pub wrote : Wrote (row_out plan name show s.has_shown (course_of c) t) (error_message name t)
-        old new
-    pub stands : course_of c_new ≡ course_after plan show (course_of c) t
-    pub limit : c_new.earlier.limit ≡ c.earlier.limit
-    pub longest : c_new.earlier.longest ≡ c.earlier.longest
-    pub state : s_new ≡ state_after_line plan show s t
-    pub answer : next ≡ (if is_selected plan t && is_full most c_new.selected then Context
-        else Line)
-    pub errors : s_new.errors ≤ 20
+  pub record Takes (next : Next) : Type 0 where
+    pub wrote : Wrote row_text (error_message work.name t) old.printed new.printed
+    pub stands : course_of new.course ≡ course_after work.plan work.show (course_of old.course) t
+    pub limit : new.course.earlier.limit ≡ old.course.earlier.limit
+    pub longest : new.course.earlier.longest ≡ old.course.earlier.longest
+    pub state : new.state ≡ state_after_line work.plan work.show old.state t
+    pub answer : next ≡ (if is_selected work.plan t && is_full most new.course.selected
+        then Context else Line)
+    pub errors : new.state.errors ≤ 20
 
   -- its match error is the last one that there may be
-  pub record TakesLast (t : Tried) (c c_new : Course) (s s_new : State) (old new : Printed)
-      : Type 0 where
-    pub course : c_new ≡ c
+  pub record TakesLast : Type 0 where
+    pub course : new.course ≡ old.course
     pub error : has_error t ≡ true
-    pub errors : s.errors + 1 ≡ 21
-    pub state : s_new ≡ state_after_line plan show s t
-    pub wrote : Wrote [] (error_message name t) old new
+    pub errors : old.state.errors + 1 ≡ 21
+    pub state : new.state ≡ state_after_line work.plan work.show old.state t
+    pub wrote : Wrote [] (error_message work.name t) old.printed new.printed
 
   -- nothing of it counts, or its match error alone
-  abbrev pub LeavesLine : Tried → Course → State → Course → State → Type 0
-  LeavesLine t c s c_new s_new =
-      (c_new.selected ≡ c.selected) × ((s_new ≡ s)
-      ⊎ ((has_error t ≡ true) × (s_new ≡ state_after_line plan show s t)))
+  abbrev pub LeavesLine : Type 0
+  LeavesLine =
+      (new.course.selected ≡ old.course.selected) × ((new.state ≡ old.state)
+      ⊎ ((has_error t ≡ true)
+      × (new.state ≡ state_after_line work.plan work.show old.state t)))
 
-  abbrev pub TakesLine : Tried → Course → State → Course → State → Printed → Printed
-      → Result Next Stop → Type 0
-  TakesLine t c s c_new s_new old new (Ok next) = Takes t c s c_new s_new old new next
-  TakesLine t c s c_new s_new old new (Err TooManyErrors) = TakesLast t c c_new s s_new old new
-  TakesLine t c s c_new s_new old new (Err stop) =
-      Breaks (if is_last s t then [] else row_out plan name show s.has_shown (course_of c) t)
-      (error_message name t) old new (stop ≡ SinkFault) × LeavesLine t c s c_new s_new
+  abbrev pub TakesLine : Result Next Stop → Type 0
+  TakesLine (Ok next) = Takes next
+  TakesLine (Err TooManyErrors) = TakesLast
+  TakesLine (Err stop) =
+      Breaks (if is_last old.state t then [] else row_text) (error_message work.name t)
+      old.printed new.printed (stop ≡ SinkFault) × LeavesLine
 
 -- the feed gives no row, and the scan ends so
 abbrev pub EndsSo : Feed → Feed → Told → Told → Ended → Type 0
@@ -132,30 +139,29 @@ ended_by (feed.TooLong line) = Ok (told.TooLong line)
 ended_by feed.TooMuch = Ok told.TooMuch
 ended_by feed.Memory = Err Memory
 
--- what a turn of the scan of these patterns comes to
-module _ (plan : GrepPlan) (patterns : List Pattern) (name : List ℕ) (show : Show) (most : Option ℕ)
-  where
-    pub record TakesRow (f g : Feed) (now after : Told) (c : Course) (s : State) (c_new : Course)
-        (s_new : State) (old new : Printed) (result : Result Next Stop) : Type 0 where
-      pub row : Row
-      pub gives : Gives f g now after row
-      pub takes : TakesLine plan name show most (tried_row plan patterns row)
-          c s c_new s_new old new result
+-- nothing was written, and nothing changed
+pub record Idles (old new : Progress) : Type 0 where
+  pub course : new.course ≡ old.course
+  pub state : new.state ≡ old.state
+  pub out : new.printed.out ≡ old.printed.out
+  pub err : new.printed.err ≡ old.printed.err
 
-    -- nothing was written, and nothing changed
-    pub record Idles (c : Course) (s : State) (c_new : Course) (s_new : State) (old new : Printed)
-        : Type 0 where
-      pub course : c_new ≡ c
-      pub state : s_new ≡ s
-      pub out : new.out ≡ old.out
-      pub err : new.err ≡ old.err
+-- what a turn of a scan comes to, which selects so many lines at most
+module _ (work : Work) (most : Option ℕ) (old new : Position) where
+  -- the feed gave a row, and it was taken, or it was begun
+  pub record TakesRow (result : Result Next Stop) : Type 0 where
+    pub row : Row
+    pub gives : Gives old.at.feed new.at.feed old.at.source new.at.source row
+    pub takes : TakesLine work most (tried_row work.plan work.patterns row)
+        old.progress new.progress result
 
-    abbrev pub Turns : Feed → Feed → Told → Told → Course → State → Course → State → Printed → Printed
-        → Result Turn Stop → Type 0
-    Turns f g now after c s c_new s_new old new (Ok (Took next)) =
-        TakesRow f g now after c s c_new s_new old new (Ok next)
-    Turns f g now after c s c_new s_new old new (Ok (Finished ended)) =
-        EndsSo f g now after ended × Idles c s c_new s_new old new
-    Turns f g now after c s c_new s_new old new (Err stop) =
-        TakesRow f g now after c s c_new s_new old new (Err stop)
-        ⊎ ((stop ≡ Memory) × Refuses f g now after feed.Memory × Idles c s c_new s_new old new)
+  abbrev pub Turns : Result Turn Stop → Type 0
+  Turns (Ok (Took next)) = TakesRow (Ok next)
+  Turns (Ok (Finished ended)) =
+      EndsSo old.at.feed new.at.feed old.at.source new.at.source ended
+      × Idles old.progress new.progress
+  Turns (Err stop) =
+      TakesRow (Err stop)
+      ⊎ ((stop ≡ Memory)
+      × Refuses old.at.feed new.at.feed old.at.source new.at.source feed.Memory
+      × Idles old.progress new.progress)

@@ -1,6 +1,9 @@
 -- Lines that are passed over without a search.
-use Rattle.std.specs.Prelude.{◌≡◌, ℕ, ◌+◌, ◌<◌, ◌≤◌, Bool, false, List, [], length, Some, Ok}
+use Rattle.std.specs.Prelude.{◌≡◌, ℕ, ◌+◌, ◌-◌, ◌<◌, ◌≤◌, Bool, false, List, [], length, take, slice_index, Some, Ok, ⊤}
 use Rattle.std.specs.List.{All}
+use Rattle.byte_lanes.specs.declared.line_end.EndKind.{EndKind}
+use Rattle.byte_lanes.specs.declared.line_end.EndKind.TheVariants.{Cr, Lf, CrLf, AnyCrLf, Any, AnyUtf, Nul}
+use Rattle.uni_text.specs.Characters.{IsChecked}
 use Rattle.match_needs.specs.Texts.{sets_of, Stands}
 use Rattle.pat_tree.specs.Pattern.{Pattern}
 use Rattle.pcre_io.specs.Told.{Told}
@@ -14,17 +17,37 @@ use Rattle.grep_match.specs.Matches.{Tried, tried_row, is_selected, matches}
 use Rattle.grep_output.specs.declared.shows.Show.{Show}
 use Rattle.grep_output.specs.Course.{Course, passed_out, course_after_passed}
 use Rattle.grep_core.specs.declared.watch.Watch.{Watch}
+use Rattle.grep_core.specs.Work.{Work}
 
 -- the text, by its sets, stands nowhere in the first n bytes
 pub record IsQuiet (text : List (List Bool)) (bytes : List ℕ) (n : ℕ) : Type 0 where
   pub within : n ≤ length bytes
   pub lacks : (k : ℕ) → k + length text ≤ n → ¬ Stands text bytes k
 
+-- kinds whose newlines are of ASCII: at either end of one a character begins
+abbrev pub HasAsciiNewlines : EndKind → Type 0
+HasAsciiNewlines Any = ⊥
+HasAsciiNewlines AnyUtf = ⊥
+HasAsciiNewlines Cr = ⊤
+HasAsciiNewlines Lf = ⊤
+HasAsciiNewlines CrLf = ⊤
+HasAsciiNewlines AnyCrLf = ⊤
+HasAsciiNewlines Nul = ⊤
+
+-- a text whose last byte is ASCII: a character begins behind it
+abbrev pub EndsInAscii : List ℕ → Type 0
+EndsInAscii text = (0 < length text) × (slice_index text (length text - 1) < 128)
+
+-- so many bytes are known to be quiet
+abbrev pub with_quiet : Watch → ℕ → Watch
+with_quiet w n = record w { quiet = n }
+
 -- the needed text is that of the patterns, and what is known holds of the bytes that a feed holds
 pub record Watches (plan : GrepPlan) (patterns : List Pattern) (w : Watch) (held : List ℕ)
     : Type 0 where
   pub needed : (some : Needed) → w.needed ≡ Some some → AreNeeded plan patterns some
   pub quiet : (some : Needed) → w.needed ≡ Some some → IsQuiet (sets_of some.text) held w.quiet
+  pub valid : (some : Needed) → w.needed ≡ Some some → IsChecked some.utf (take w.quiet held)
 
 -- rows without a match were given one after the other, and nothing was read
 pub record PassesOver (plan : GrepPlan) (patterns : List Pattern) (w : Watch) (f g : Feed)
@@ -49,7 +72,7 @@ HidesUnmatched plan name show c number =
     (t : Tried) → t.matches ≡ Ok [] → number < t.row.number → IsUnseen plan name show c t
 
 -- rows without a match were passed over, all of them unseen
-pub record PassesUnseen (plan : GrepPlan) (patterns : List Pattern) (name : List ℕ) (show : Show)
-    (c : Course) (w : Watch) (f g : Feed) : Type 0 where
-  pub over : PassesOver plan patterns w f g
-  pub unseen : All (λ (row : Row). IsUnseen plan name show c (tried_row plan patterns row)) over.rows
+pub record PassesUnseen (work : Work) (c : Course) (w : Watch) (f g : Feed) : Type 0 where
+  pub over : PassesOver work.plan work.patterns w f g
+  pub unseen : All (λ (row : Row). IsUnseen work.plan work.name work.show c
+      (tried_row work.plan work.patterns row)) over.rows

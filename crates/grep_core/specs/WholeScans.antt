@@ -16,7 +16,6 @@ use Rattle.grep_output.specs.declared.ended.Stop.TheVariants.{SinkFault, TooMany
 use Rattle.grep_match.specs.PatternTexts.{line_end}
 use Rattle.grep_output.specs.Shows.{is_told, show_in, greatest_selected, lines_after}
 use Rattle.grep_match.specs.Modes.{mode}
-use Rattle.pat_tree.specs.Pattern.{Pattern}
 use Rattle.grep_output.specs.Lines.{is_nul, lines, treatment, treatment_by}
 use Rattle.grep_match.specs.Matches.{Tried, tried_row, is_selected}
 use Rattle.grep_output.specs.Scans as meant
@@ -28,6 +27,7 @@ use Rattle.grep_output.specs.Course.{scan_so_far}
 use Rattle.grep_output.specs.LittlePast.{bytes_in, TakesLittlePast}
 use Rattle.grep_output.specs.Refused.{GrewBy, WhereRefused}
 use Rattle.grep_output.specs.Ends.{ended_of}
+use Rattle.grep_core.specs.Work.{Work, Standing, Position, stands_at}
 use Rattle.tool_out.specs.Printed.{Printed}
 use Rattle.tool_out.specs.Prints.{Wrote, Breaks}
 
@@ -45,11 +45,14 @@ LeavesRest ended within before after (Ok _) =
     ended ≡ meant.early → TakesLittlePast within before after
 LeavesRest ended within before after (Err _) = ⊤
 
-module _ (plan : GrepPlan) (patterns : List Pattern) (name : List ℕ) (show : Show)
-    (treated : Treatment) (s : State) where
+module _ (work : Work) (treated : Treatment) (s : State) where
   -- the scan of these lines
   abbrev pub scan_of : Rows → Scan
-  scan_of found = scan_of_rows plan patterns s.errors treated found
+  scan_of found = scan_of_rows work.plan work.patterns s.errors treated found
+
+  -- what is shown of a scan
+  abbrev pub scan_text : Scan → List ℕ
+  scan_text scan = shown_out work.plan work.name work.show s.has_shown scan
 
   -- what the lines of a scan leave
   abbrev pub left_by : Scan → State
@@ -57,14 +60,13 @@ module _ (plan : GrepPlan) (patterns : List Pattern) (name : List ℕ) (show : S
       record s {
         errors = s.errors + length (errors_in scan);
         has_shown = s.has_shown
-            || shows_group plan name show scan;
+            || shows_group work.plan work.name work.show scan;
       }
 
   -- the scan was written whole
   pub record Scans (scan : Scan) (selected : ℕ) (s_new : State) (old new : Printed) : Type 0 where
-    pub wrote : Wrote (shown_out plan name show s.has_shown scan)
-        (flat_map (error_message name) scan.tried) old new
-    pub count : selected ≡ length (selected_in plan scan)
+    pub wrote : Wrote (scan_text scan) (flat_map (error_message work.name) scan.tried) old new
+    pub count : selected ≡ length (selected_in work.plan scan)
     pub state : s_new ≡ left_by scan
 
   -- it stopped after these of its lines, and they count
@@ -72,7 +74,7 @@ module _ (plan : GrepPlan) (patterns : List Pattern) (name : List ℕ) (show : S
     pub tried : List Tried
     pub rest : List Tried
     pub begins : scan.tried ≡ tried ++ rest
-    pub count : selected ≡ length (selected_in plan (scan_so_far tried))
+    pub count : selected ≡ length (selected_in work.plan (scan_so_far tried))
     pub state : s_new ≡ left_by (scan_so_far tried)
 
   abbrev pub ScansTo : Scan → ℕ → State → Printed → Printed → Result Ended Stop → Type 0
@@ -81,7 +83,7 @@ module _ (plan : GrepPlan) (patterns : List Pattern) (name : List ℕ) (show : S
   ScansTo scan selected s_new old new (Err TooManyErrors) =
       Scans scan selected s_new old new × (scan.ended ≡ too_many_errors)
   ScansTo scan selected s_new old new (Err stop) =
-      Breaks (shown_out plan name show s.has_shown scan) (flat_map (error_message name) scan.tried)
+      Breaks (scan_text scan) (flat_map (error_message work.name) scan.tried)
       old new (stop ≡ SinkFault) × StopsIn scan selected s_new
 
   -- A write was refused: what is shown of these lines was written whole, and little past the one after them was taken.
@@ -92,24 +94,28 @@ module _ (plan : GrepPlan) (patterns : List Pattern) (name : List ℕ) (show : S
     pub more : List Row
     pub all : found.rows ≡ (given ++ next) ++ more
     pub one : length next ≤ 1
-    pub grew :
-        GrewBy (shown_out plan name show s.has_shown (scan_of (rows_with given (At End)))) old new
+    pub grew : GrewBy (scan_text (scan_of (rows_with given (At End)))) old new
     pub little : TakesLittlePast (given ++ next) before after
-    pub below : lines_after show plan.after_context ≡ 0 → IsBelow (greatest_selected plan treated)
-        (length (filter (is_selected plan) (map (tried_row plan patterns) given)))
+    pub below : lines_after work.show work.plan.after_context ≡ 0
+        → IsBelow (greatest_selected work.plan treated)
+        (length (filter (is_selected work.plan) (map (tried_row work.plan work.patterns) given)))
 
-  -- the scan of the input that the source stands for was written, or a part of it
-  pub record ScansInput (before after : Told) (selected : ℕ) (s_new : State) (old new : Printed)
-      (result : Result Ended Stop) : Type 0 where
-    pub heard : Input
-    pub hears : Hears before after heard
-    pub treats : treatment plan heard ≡ treated
-    pub scans : ScansTo (scan_of (lines plan heard)) selected s_new old new result
-    pub rest :
-        let scan = scan_of (lines plan heard) in
-        LeavesRest scan.ended scan.within before after result
-    pub refused :
-        WhereRefused result (StopsSoon (lines plan heard) before after old.out new.out)
+-- the scan of the input that the source stands for was written, or a part of it, and so many of its
+-- lines were selected
+pub record ScansInput (work : Work) (treated : Treatment) (old new : Standing) (selected : ℕ)
+    (result : Result Ended Stop) : Type 0 where
+  pub heard : Input
+  pub hears : Hears old.source new.source heard
+  pub treats : treatment work.plan heard ≡ treated
+  pub scans : ScansTo work treated old.state
+      (scan_of work treated old.state (lines work.plan heard)) selected new.state
+      old.printed new.printed result
+  pub rest :
+      let scan = scan_of work treated old.state (lines work.plan heard) in
+      LeavesRest scan.ended scan.within old.source new.source result
+  pub refused :
+      WhereRefused result (StopsSoon work treated old.state (lines work.plan heard)
+      old.source new.source old.printed.out new.printed.out)
 
 -- one line at least may be selected
 abbrev pub AtLeastOne : Option ℕ → Type 0
@@ -149,30 +155,31 @@ pub record EndsWith (plan : GrepPlan) (treated : Treatment) (before after : Told
   pub all : lines plan heard ≡ record { rows = given; finish = finish }
   pub ended_so : ended_of ended ≡ meant.at_finish finish
 
-module _ (plan : GrepPlan) (patterns : List Pattern) (name : List ℕ) (show : Show) (most : Option ℕ)
-    (treated : Treatment) (s : State) where
+module _ (work : Work) (most : Option ℕ) (treated : Treatment) (old new : Position) where
   -- the row was the last one that may be selected, and the lines up to it were scanned
-  pub record Pauses (before after : Told) (g : Feed) (selected : ℕ) (s_new : State)
-      (old new : Printed) : Type 0 where
+  pub record Pauses : Type 0 where
     pub rows : List Row
     pub row : Row
-    pub stood : Stood plan treated before after g (rows ++ row ∷ [])
-    pub kind : g.kind ≡ line_end plan
-    pub max : g.max ≡ plan.max_buffer_size
-    pub near : length g.held ≤ 65536
-    pub whole : g.offset ≡ bytes_in (rows ++ row ∷ [])
-    pub few : s_new.errors ≤ 20
-    pub last : most ≡ Some (length (filter (is_selected plan) (map (tried_row plan patterns) rows))
-        + 1)
-    pub selects : is_selected plan (tried_row plan patterns row) ≡ true
-    pub scans : Scans plan patterns name show treated s
-        (scan_so_far (map (tried_row plan patterns) (rows ++ row ∷ []))) selected s_new old new
+    pub stood : Stood work.plan treated old.at.source new.at.source new.at.feed (rows ++ row ∷ [])
+    pub kind : new.at.feed.kind ≡ line_end work.plan
+    pub max : new.at.feed.max ≡ work.plan.max_buffer_size
+    pub near : length new.at.feed.held ≤ 65536
+    pub whole : new.at.feed.offset ≡ bytes_in (rows ++ row ∷ [])
+    pub few : new.progress.state.errors ≤ 20
+    pub last : most ≡ Some (length (filter (is_selected work.plan)
+        (map (tried_row work.plan work.patterns) rows)) + 1)
+    pub selects : is_selected work.plan (tried_row work.plan work.patterns row) ≡ true
+    pub scans : Scans work treated old.progress.state
+        (scan_so_far (map (tried_row work.plan work.patterns) (rows ++ row ∷ [])))
+        new.progress.course.selected new.progress.state old.progress.printed new.progress.printed
 
-  abbrev pub TakesAll : Told → Told → Feed → ℕ → State → Printed → Printed
-      → Result (Option Ended) Stop → Type 0
-  TakesAll before after g selected s_new old new (Ok None) =
-      Pauses before after g selected s_new old new
-  TakesAll before after g selected s_new old new (Ok (Some ended)) =
-      ScansInput plan patterns name show treated s before after selected s_new old new (Ok ended)
-  TakesAll before after g selected s_new old new (Err stop) =
-      ScansInput plan patterns name show treated s before after selected s_new old new (Err stop)
+  -- all lines were scanned, or a part of them
+  abbrev pub TakesWhole : Result Ended Stop → Type 0
+  TakesWhole =
+      ScansInput work treated (stands_at old) (stands_at new) new.progress.course.selected
+
+  -- the lines up to the last one that may be selected, or all of them
+  abbrev pub TakesAll : Result (Option Ended) Stop → Type 0
+  TakesAll (Ok None) = Pauses
+  TakesAll (Ok (Some ended)) = TakesWhole (Ok ended)
+  TakesAll (Err stop) = TakesWhole (Err stop)

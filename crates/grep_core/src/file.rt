@@ -10,7 +10,8 @@ ghost use Rattle.grep_output.specs.InputText.{end_out};
 ghost use Rattle.grep_output.specs.Lines.{is_nul};
 ghost use Rattle.grep_output.specs.Messages.{ended_message};
 ghost use Rattle.grep_core.specs.WholeScans.{AtLeastOne, IsJob, Stood};
-ghost use Rattle.grep_core.specs.OneInput.{Greps, standing, IsNew, is_skipped, TreatsTo, WritesBoth, ScansAs};
+ghost use Rattle.grep_core.specs.OneInput.{Greps, IsNew, is_skipped, TreatsTo, WritesBoth, ScansAs};
+ghost use Rattle.grep_core.specs.Work.{standing, work_of};
 ghost use Rattle.tool_out.specs.Printed.{printed};
 
 use crate::scan::{Course, Job, scan};
@@ -94,10 +95,10 @@ fn scan_as<S: Source, O: Sink, E: Sink>(
     ensures { (before : Told) → (treatment ≢ Skipped
         → IsJob job.now.plan.now treatment job.now.show job.now.most feed.old)
         → Stood job.now.plan.now treatment before (S.tells source.old) feed.old []
-        → ScansAs job.now.plan.now (patterns_in job.now.patterns.now)
-        job.now.name.now job.now.show treatment state.old before (S.tells source.new)
-        state.new (printed (O.tells out.old) (E.tells err.old))
-        (printed (O.tells out.new) (E.tells err.new)) result }
+        → ScansAs (work_of job.now) treatment
+        (standing before state.old (printed (O.tells out.old) (E.tells err.old)))
+        (standing (S.tells source.new) state.new
+        (printed (O.tells out.new) (E.tells err.new))) result }
 {
     if is_skipped(treatment) {
         return Ok(FileEnd {

@@ -1,6 +1,6 @@
 //! The scan of an input, line by line.
 ghost use Rattle.std.specs.Prelude.{◌≡◌, ◌≢◌, List, ◌<◌, ◌≤◌, ◌+◌, ◌^◌, ◌||◌, ◌&&◌, true, false, [], length, flat_map, if◌then◌else◌, IfOk, OnOk, Ok, Err, None, IsTrue};
-ghost use Rattle.pcre_io.specs.Told.{Told};
+ghost use Rattle.pcre_io.specs.Told.{Told, Kept};
 ghost use Rattle.line_feed.specs.Rows.{Row};
 ghost use Rattle.line_feed.specs.Lines.{row_of};
 ghost use Rattle.line_feed.specs.declared.phase.Phase.TheVariants.{Closed};
@@ -16,10 +16,12 @@ ghost use Rattle.ordered_search.specs.PlaceAnswer.{Outcome};
 ghost use Rattle.grep_match.specs.Found.{Lists, ListsMatches, IsVerdict};
 ghost use Rattle.tool_out.specs.Writes.{Writes};
 ghost use Rattle.grep_output.specs.declared.shows.Treatment.{Treatment};
+ghost use Rattle.grep_output.specs.declared.state.State.{State};
 ghost use Rattle.grep_core.specs.Turns.{course_of, is_full, TakesLine, Passes, Selects, Turns, ended_by};
 ghost use Rattle.grep_output.specs.Earlier.{IsShort};
-ghost use Rattle.grep_core.specs.Follows.{FollowsOne, Follows};
+ghost use Rattle.grep_core.specs.Follows.{FollowsOne, Follows, past};
 ghost use Rattle.grep_core.specs.Sending.{SendsOn};
+ghost use Rattle.grep_core.specs.Work.{work_of, standing, progress, fed, position};
 ghost use Rattle.grep_core.specs.Watched.{Watches, HidesUnmatched, PassesUnseen};
 ghost use Rattle.grep_output.specs.LittlePast.{bytes_in};
 ghost use Rattle.grep_core.specs.WholeScans.{Stood, IsJob, ScansInput, TakesAll};
@@ -160,9 +162,9 @@ fn pass<O: Sink>(
     requires limit { job.now.show ≡ Lines → course.old.earlier.limit ≡
         job.now.plan.now.before_context }
     requires short { IsShort course.old.earlier.longest (row_of line.now) }
-    ensures { (t : Tried) → t.row ≡ row_of line.now
-        → Passes job.now.plan.now job.now.name.now job.now.show t course.old course.new
-        (O.tells out.old) (O.tells out.new) result }
+    ensures { (t : Tried) (s : State) (err : Kept) → t.row ≡ row_of line.now
+        → Passes (work_of job.now) t (progress course.old s (printed (O.tells out.old) err))
+        (progress course.new s (printed (O.tells out.new) err)) result }
 {
     if job.show != Show::Lines {
         return Ok(());
@@ -240,11 +242,12 @@ fn select<O: Sink>(
     requires few { course.old.selected ≤ 2 ^ 62 }
     requires found { (os : List Outcome) × Lists job.now.plan.now.only_matching
         (length line.now.bytes.now) found.now os }
-    ensures { (t : Tried) → t.row ≡ row_of line.now
+    ensures { (t : Tried) (err : Kept) → t.row ≡ row_of line.now
         → ListsMatches job.now.plan.now.only_matching (length line.now.bytes.now)
         found.now t.matches
-        → Selects job.now.plan.now job.now.name.now job.now.show job.now.most t course.old state.old
-        course.new state.new (O.tells out.old) (O.tells out.new) result }
+        → Selects (work_of job.now) job.now.most t
+        (progress course.old state.old (printed (O.tells out.old) err))
+        (progress course.new state.new (printed (O.tells out.new) err)) result }
 {
     write_shown(job, line, out, found, state.has_shown, course)?;
     course.selected += 1;
@@ -271,9 +274,9 @@ fn take_error<O: Sink, E: Sink>(
         job.now.plan.now.before_context }
     requires short { IsShort course.old.earlier.longest (row_of line.now) }
     ensures { (t : Tried) → t.row ≡ row_of line.now → t.matches ≡ Err error
-        → TakesLine job.now.plan.now job.now.name.now job.now.show job.now.most t course.old
-        state.old course.new state.new (printed (O.tells out.old) (E.tells err.old))
-        (printed (O.tells out.new) (E.tells err.new)) result }
+        → TakesLine (work_of job.now) job.now.most t
+        (progress course.old state.old (printed (O.tells out.old) (E.tells err.old)))
+        (progress course.new state.new (printed (O.tells out.new) (E.tells err.new))) result }
 {
     write_error(err, job.name, line.number, error)?;
     state.errors += 1;
@@ -328,10 +331,10 @@ fn take_line<O: Sink, E: Sink>(
     requires limit { job.now.show ≡ Lines → course.old.earlier.limit ≡
         job.now.plan.now.before_context }
     requires short { IsShort course.old.earlier.longest (row_of line.now) }
-    ensures { TakesLine job.now.plan.now job.now.name.now job.now.show job.now.most
+    ensures { TakesLine (work_of job.now) job.now.most
         (tried_row job.now.plan.now (patterns_in job.now.patterns.now) (row_of line.now))
-        course.old state.old course.new state.new (printed (O.tells out.old) (E.tells err.old))
-        (printed (O.tells out.new) (E.tells err.new)) result }
+        (progress course.old state.old (printed (O.tells out.old) (E.tells err.old)))
+        (progress course.new state.new (printed (O.tells out.new) (E.tells err.new))) result }
 {
     let is_match = match verdict_on(job, line.bytes, is_quiet, work)? {
         Verdict::Match => true,
@@ -390,8 +393,7 @@ fn pass_unseen(job: &Job<'_>, feed: &mut LineFeed, course: &Course, watch: &mut 
     requires live { feed.old.phase ≢ Closed }
     requires watch { Watches job.now.plan.now (patterns_in job.now.patterns.now) watch.old
         feed.old.held }
-    ensures { PassesUnseen job.now.plan.now (patterns_in job.now.patterns.now) job.now.name.now
-        job.now.show (course_of course.now) watch.new feed.old feed.new }
+    ensures { PassesUnseen (work_of job.now) (course_of course.now) watch.new feed.old feed.new }
 {
     if hides_unmatched(job, course, feed.number()) {
         watch.pass(feed);
@@ -423,11 +425,11 @@ fn take_turn<S: Source, O: Sink, E: Sink>(
     requires longest { feed.old.max ≤ course.old.earlier.longest }
     requires watch { Watches job.now.plan.now (patterns_in job.now.patterns.now) watch.old
         feed.old.held }
-    ensures turns { Turns job.now.plan.now (patterns_in job.now.patterns.now)
-        job.now.name.now job.now.show job.now.most feed.old feed.new (S.tells source.old)
-        (S.tells source.new)
-        course.old state.old course.new state.new (printed (O.tells out.old) (E.tells err.old))
-        (printed (O.tells out.new) (E.tells err.new)) result }
+    ensures turns { Turns (work_of job.now) job.now.most
+        (position (fed feed.old (S.tells source.old))
+        (progress course.old state.old (printed (O.tells out.old) (E.tells err.old))))
+        (position (fed feed.new (S.tells source.new))
+        (progress course.new state.new (printed (O.tells out.new) (E.tells err.new)))) result }
     ensures watch { (next : Next) → result ≡ Ok (Turn.Took next)
         → Watches job.now.plan.now (patterns_in job.now.patterns.now) watch.new feed.new.held }
 {
@@ -451,8 +453,8 @@ fn follow_one<S: Source, O: Sink>(
     out: &mut O,
 ) -> Result<Option<Ended>, Stop>
     requires { feed.old.phase ≢ Closed }
-    ensures { FollowsOne job.now.plan.now job.now.name.now feed.old feed.new (S.tells source.old)
-        (S.tells source.new) (O.tells out.old) (O.tells out.new) result }
+    ensures { FollowsOne (work_of job.now) (fed feed.old (S.tells source.old))
+        (fed feed.new (S.tells source.new)) (O.tells out.old) (O.tells out.new) result }
 {
     match feed.next(source) {
         Ok(Some(line)) => {
@@ -477,8 +479,8 @@ fn follow<S: Source, O: Sink>(
         → feed.old.kind ≡ line_end job.now.plan.now
         → feed.old.max ≡ job.now.plan.now.max_buffer_size → length feed.old.held ≤ 65536
         → feed.old.offset ≡ bytes_in given
-        → Follows job.now.plan.now job.now.name.now job.now.show treated before (S.tells source.new)
-        given (O.tells out.old) (O.tells out.new) result }
+        → Follows (work_of job.now) (past before treated given) (S.tells source.new)
+        (O.tells out.old) (O.tells out.new) result }
 {
     if job.show != Show::Lines {
         return Ok(Ended::Early);
@@ -516,11 +518,11 @@ fn take_lines<S: Source, O: Sink, E: Sink>(
     ensures taken { (before : Told) (treated : Treatment)
         → IsJob job.now.plan.now treated job.now.show job.now.most feed.old
         → Stood job.now.plan.now treated before (S.tells source.old) feed.old []
-        → TakesAll job.now.plan.now (patterns_in job.now.patterns.now)
-        job.now.name.now job.now.show job.now.most treated state.old before (S.tells source.new)
-        feed.new
-        course.new.selected state.new (printed (O.tells out.old) (E.tells err.old))
-        (printed (O.tells out.new) (E.tells err.new)) result }
+        → TakesAll (work_of job.now) job.now.most treated
+        (position (fed feed.old before)
+        (progress course.old state.old (printed (O.tells out.old) (E.tells err.old))))
+        (position (fed feed.new (S.tells source.new))
+        (progress course.new state.new (printed (O.tells out.new) (E.tells err.new)))) result }
 {
     prove!(job.plan.after_context <= u32::MAX);
     let mut watch = Watch::new(job.plan, job.patterns);
@@ -560,10 +562,10 @@ pub fn scan<S: Source, O: Sink, E: Sink>(
     ensures { (before : Told) (treated : Treatment)
         → IsJob job.now.plan.now treated job.now.show job.now.most feed.old
         → Stood job.now.plan.now treated before (S.tells source.old) feed.old []
-        → ScansInput job.now.plan.now (patterns_in job.now.patterns.now)
-        job.now.name.now job.now.show treated state.old before (S.tells source.new)
-        course.new.selected state.new (printed (O.tells out.old) (E.tells err.old))
-        (printed (O.tells out.new) (E.tells err.new)) result }
+        → ScansInput (work_of job.now) treated
+        (standing before state.old (printed (O.tells out.old) (E.tells err.old)))
+        (standing (S.tells source.new) state.new
+        (printed (O.tells out.new) (E.tells err.new))) course.new.selected result }
 {
     match take_lines(job, feed, source, out, err, work, state, course)? {
         Some(ended) => Ok(ended),

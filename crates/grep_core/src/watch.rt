@@ -1,22 +1,27 @@
 //! Lines that are passed over without a search.
-ghost use Rattle.std.specs.Prelude.{◌≡◌, ◌≢◌, ◌++◌, ℕ, ◌<◌, List, [], length, IsTrue, Ok, slice_index};
+ghost use Rattle.std.specs.Prelude.{◌≡◌, ◌≢◌, ◌++◌, ℕ, ◌<◌, ◌≤◌, List, [], length, take, IsTrue, IsUtf8, Some, Ok, slice_index};
+ghost use Rattle.uni_text.specs.Characters.{IsChecked};
+ghost use Rattle.match_needs.specs.Texts.{sets_of};
 ghost use Rattle.pat_tree.specs.Pattern.{Pattern};
 ghost use Rattle.grep_args.specs.declared.plan.GrepPlan.{GrepPlan};
+ghost use Rattle.grep_match.specs.declared.unsearched.Needed.{Needed};
 ghost use Rattle.grep_match.specs.Compiled.{patterns_in};
 ghost use Rattle.grep_match.specs.Matches.{matches};
-ghost use Rattle.grep_core.specs.Watched.{Watches, PassesOver};
+ghost use Rattle.grep_core.specs.Watched.{IsQuiet, Watches, PassesOver, HasAsciiNewlines, EndsInAscii, with_quiet};
 ghost use Rattle.line_feed.specs.declared.phase.Phase.TheVariants.{Closed};
 
+use byte_lanes::EndKind;
 use grep_args::GrepPlan;
 use grep_match::{Needed, Patterns, needed_text};
 use line_feed::{Line, LineFeed};
+use uni_text::check;
 
 /// What is known of the bytes that a feed holds.
 #[derive(Drop)]
 pub struct Watch {
     /// A text that every match takes, where one is known.
     pub needed: Option<Needed>,
-    /// In so many first bytes it stands nowhere, as far as is known.
+    /// In so many first bytes it stands nowhere, as far as is known. Where lines must be UTF-8, these are.
     pub quiet: usize,
 }
 
@@ -25,6 +30,61 @@ fn are_bytes(bytes: &[u8])
     ensures { (k : ℕ) → k < length bytes.now → slice_index bytes.now k < 256 }
 {
     let _bytes = bytes;
+}
+
+// How many first bytes are UTF-8.
+fn valid_len(bytes: &[u8]) -> usize
+    ensures within { result ≤ length bytes.now }
+    ensures valid { IsUtf8 (take result bytes.now) }
+{
+    match check(bytes) {
+        Ok(()) => bytes.len(),
+        Err(bad) => bad.at,
+    }
+}
+
+// Whether they are UTF-8, where they must be.
+fn is_checked(bytes: &[u8], utf: bool) -> bool
+    ensures { IsTrue result → IsChecked utf bytes.now }
+{
+    !utf || check(bytes).is_ok()
+}
+
+// In how many first bytes the text stands nowhere; in UTF only as many as are UTF-8.
+fn quiet_len(needed: &Needed, held: &[u8]) -> usize
+    ensures quiet { IsQuiet (sets_of needed.now.text) held.now result }
+    ensures valid { IsChecked needed.now.utf (take result held.now) }
+{
+    let found = needed.text.find(held);
+    if needed.utf {
+        valid_len(&held[..found])
+    } else {
+        found
+    }
+}
+
+// Whether the kind has no newline past ASCII.
+fn has_ascii_newlines(kind: EndKind) -> bool
+    ensures { IsTrue result → HasAsciiNewlines kind }
+{
+    match kind {
+        EndKind::Any | EndKind::AnyUtf => false,
+        EndKind::Cr | EndKind::Lf | EndKind::CrLf | EndKind::AnyCrLf | EndKind::Nul => true,
+    }
+}
+
+// Whether a character begins behind each line that the feed gives, where lines must be UTF-8.
+fn gives_whole(needed: &Needed, feed: &LineFeed) -> bool
+    ensures { IsTrue result → IsTrue needed.now.utf → HasAsciiNewlines feed.now.kind }
+{
+    !needed.utf || has_ascii_newlines(feed.kind())
+}
+
+// Whether the last byte is ASCII.
+fn ends_in_ascii(bytes: &[u8]) -> bool
+    ensures { IsTrue result → EndsInAscii bytes.now }
+{
+    !bytes.is_empty() && bytes[bytes.len() - 1] < 128
 }
 
 impl Watch {
@@ -49,7 +109,7 @@ impl Watch {
             return;
         }
         if let Some(needed) = &self.needed {
-            self.quiet = needed.text.find(feed.held());
+            self.quiet = quiet_len(needed, feed.held());
         }
     }
 
@@ -65,8 +125,10 @@ impl Watch {
         self.look(feed);
         are_bytes(feed.held());
         if let Some(needed) = &self.needed {
-            let passed = feed.pass(self.quiet, needed.most as usize);
-            self.quiet = self.quiet.saturating_sub(passed);
+            if gives_whole(needed, feed) {
+                let passed = feed.pass(self.quiet, needed.most as usize);
+                self.quiet = self.quiet.saturating_sub(passed);
+            }
         }
     }
 
@@ -82,18 +144,50 @@ impl Watch {
         let Some(needed) = &self.needed else {
             return false;
         };
-        line.len() <= self.quiet && line.len() <= needed.most as usize
+        line.len() <= self.quiet
+            && line.len() <= needed.most as usize
+            && is_checked(line, needed.utf)
+    }
+
+    // Whether lines must be UTF-8.
+    fn is_utf(&self) -> bool
+        ensures { (some : Needed) → self.now.needed ≡ Some some → result ≡ some.utf }
+    {
+        match &self.needed {
+            Some(needed) => needed.utf,
+            None => false,
+        }
+    }
+
+    // Whether a character begins behind the line, where it must be UTF-8.
+    fn is_whole(&self, line: &Line<'_>) -> bool
+        ensures { IsTrue result → (some : Needed) → self.now.needed ≡ Some some
+            → IsTrue some.utf → EndsInAscii line.now.end.now }
+    {
+        !self.is_utf() || ends_in_ascii(line.end)
+    }
+
+    // How many of the bytes behind a line are quiet, as far as is known.
+    fn quiet_behind(&self, line: &Line<'_>) -> usize
+        ensures { (plan : GrepPlan) (patterns : List Pattern) (behind : List ℕ)
+            → Watches plan patterns self.now
+            (line.now.bytes.now ++ line.now.end.now ++ behind)
+            → Watches plan patterns (with_quiet self.now result) behind }
+    {
+        if !self.is_whole(line) {
+            return 0;
+        }
+        let quiet = self.quiet.saturating_sub(line.bytes.len());
+        quiet.saturating_sub(line.end.len())
     }
 
     /// Goes on behind a line.
-    #[tactic(auto, using(crate::proofs::Watching::watches_behind))]
     pub fn leave(&mut self, line: &Line<'_>)
         ensures { (plan : GrepPlan) (patterns : List Pattern) (behind : List ℕ)
             → Watches plan patterns self.old
             (line.now.bytes.now ++ line.now.end.now ++ behind)
             → Watches plan patterns self.new behind }
     {
-        let quiet = self.quiet.saturating_sub(line.bytes.len());
-        self.quiet = quiet.saturating_sub(line.end.len());
+        self.quiet = self.quiet_behind(line);
     }
 }

@@ -1,8 +1,9 @@
 -- A line that lacks what every match needs.
-use Rattle.std.proofs.Common.{◌≡◌, ◌∙◌, ℕ, suc, ◌+◌, ◌<◌, ◌≤◌, List, [], ◌∷◌, length, drop, get_or, Bool, pos, Ok, refl, sym, ap, subst, arith}
+use Rattle.std.proofs.Common.{◌≡◌, ◌∙◌, ℕ, suc, ◌+◌, ◌<◌, ◌≤◌, ◌||◌, List, ◌∷◌, length, drop, get_or, Bool, true, false, pos, refl, sym, ap, subst, arith}
 use Rattle.std.proofs.Math.Seq.{drop-cons}
 use Rattle.std.proofs.lemmas.List.{drop_all}
-use Rattle.match_needs.specs.Texts.{AreUnions}
+use Rattle.uni_text.specs.Characters.{IsChecked}
+use Rattle.match_needs.specs.Texts.{sets_of, AreUnions}
 use Rattle.match_needs.proofs.TextLemmas.{stands_left, stands_right}
 use Rattle.pat_tree.specs.declared.options.MatchOptions.{MatchOptions}
 use Rattle.pat_tree.specs.Pattern.{Pattern, pattern_of}
@@ -11,9 +12,14 @@ use Rattle.pcre2_api.specs.Answers.{none, pattern_answer}
 use Rattle.pcre2_api.specs.Needed.{Lacks, FindsNone}
 use Rattle.grep_args.specs.declared.plan.GrepPlan.{GrepPlan}
 use Rattle.grep_match.specs.Compiled.{patterns_in}
-use Rattle.grep_match.specs.Matches.{first_answer, limits, matches}
-use Rattle.grep_match.specs.Needed.{NoneAnswers}
+use Rattle.grep_match.specs.Matches.{first_answer, limits}
+use Rattle.grep_match.specs.declared.unsearched.Needed.{Needed}
+use Rattle.grep_match.specs.Needed.{IsWithout, NoneAnswers, AreNeeded}
 use Rattle.grep_match.proofs.Searching.{line_none}
+
+or_true : (b : Bool) → (b || true) ≡ true
+or_true true = refl
+or_true false = refl
 
 -- what two texts have together
 module _ (all some more : List (List Bool)) (joined : AreUnions all some more) where
@@ -23,34 +29,40 @@ module _ (all some more : List (List Bool)) (joined : AreUnions all some more) w
   lacks-more : (line : List ℕ) → Lacks all line → Lacks more line
   lacks-more line h = record { small = h.small; missing = λ k stands. h.missing k (stands_right all some more joined line k stands) }
 
--- the first i patterns find nothing in a line that lacks these
-abbrev pub FirstFindNone : MatchOptions → List CodeParts → ℕ → List (List Bool) → ℕ → Type 0
-FirstFindNone matching codes most text i =
-    (line : List ℕ) → length line ≤ most → Lacks text line
-    → first_answer matching line 0 (patterns_in (drop i codes)) ≡ first_answer matching line 0 (patterns_in codes)
+-- the first i patterns find nothing in a line that is without what is needed
+abbrev pub FirstFindNone : MatchOptions → List CodeParts → Needed → ℕ → Type 0
+FirstFindNone matching codes needed i =
+    (line : List ℕ) → IsWithout needed line → first_answer matching line 0 (patterns_in (drop i codes)) ≡ first_answer matching line 0 (patterns_in codes)
 
 one_none : (matching : MatchOptions) (line : List ℕ) (p : Pattern) (ps : List Pattern) → pattern_answer matching line 0 p ≡ none
     → first_answer matching line 0 (p ∷ ps) ≡ first_answer matching line 0 ps
 one_none matching line p ps e = rw (e, first_answer) refl
 
-pub next_none : (matching : MatchOptions) (codes : List CodeParts) (i most : ℕ) (code : CodeParts) (all some more : List (List Bool))
-    → i < length codes → code ≡ get_or codes i code → FindsNone code matching most more
-    → AreUnions all some more
-    → FirstFindNone matching codes most some i → FirstFindNone matching codes most all (i + 1)
-next_none matching codes i most code all some more within is finds joined first line short lacks =
-    let here = finds line (λ _. pos 0) short (lacks-more all some more joined line lacks) in
+pub next_none : (matching : MatchOptions) (codes : List CodeParts) (i : ℕ) (code : CodeParts) (all some : Needed) (more : List (List Bool))
+    → i < length codes → code ≡ get_or codes i code → FindsNone code matching all.most more
+    → AreUnions (sets_of all.text) (sets_of some.text) more → some.most ≡ all.most → all.utf ≡ (some.utf || code.tree.options.utf)
+    → FirstFindNone matching codes some i → FirstFindNone matching codes all (i + 1)
+next_none matching codes i code all some more within is finds joined most utf first line without =
+    let checked = subst (λ b. IsChecked b line) utf without.checked in
+    let here =
+    finds line (λ _. pos 0) without.short (lacks-more (sets_of all.text) (sets_of some.text) more joined line without.lacks) (λ on. checked (rw (on, or_true some.utf) refl)) in
+    let before : IsWithout some line = record {
+      short = subst (λ n. length line ≤ n) (sym most) without.short;
+      lacks = lacks-some (sets_of all.text) (sets_of some.text) more joined line without.lacks;
+      checked = λ on. checked (rw on refl);
+    } in
     let cut : drop i codes ≡ code ∷ drop (i + 1) codes =
     drop-cons codes i code within ∙ ap (λ x. x ∷ drop (suc i) codes) (sym is) ∙ ap (λ n. code ∷ drop n codes) {x = suc i} {y = i + 1} (omega arith) in
     sym (ap (λ l. first_answer matching line 0 (patterns_in l)) cut ∙ one_none matching line (pattern_of code.tree) (patterns_in (drop (i + 1) codes)) here)
-    ∙ first line short (lacks-some all some more joined line lacks)
+    ∙ first line before
 
-pub all_none : (matching : MatchOptions) (codes : List CodeParts) (i most : ℕ) (text : List (List Bool)) → length codes ≤ i
-    → FirstFindNone matching codes most text i → NoneAnswers matching (patterns_in codes) most text
-all_none matching codes i most text past first line short lacks =
-    sym (first line short lacks) ∙ ap (λ l. first_answer matching line 0 (patterns_in l)) (drop_all i codes past)
+pub all_none : (matching : MatchOptions) (codes : List CodeParts) (i : ℕ) (needed : Needed) → length codes ≤ i
+    → FirstFindNone matching codes needed i → NoneAnswers matching (patterns_in codes) needed
+all_none matching codes i needed past first line without =
+    sym (first line without) ∙ ap (λ l. first_answer matching line 0 (patterns_in l)) (drop_all i codes past)
 
 -- no search of such a line finds anything
-pub are_needed : (plan : GrepPlan) (matching : MatchOptions) (patterns : List Pattern) (most : ℕ) (text : List (List Bool)) → matching ≡ limits plan
-    → NoneAnswers matching patterns most text → (line : List ℕ) → length line ≤ most → Lacks text line → matches plan patterns line ≡ Ok []
-are_needed plan matching patterns most text same finds line short lacks =
-    line_none plan patterns line (subst (λ m. first_answer m line 0 patterns ≡ none) same (finds line short lacks))
+pub are_needed : (plan : GrepPlan) (matching : MatchOptions) (patterns : List Pattern) (needed : Needed) → matching ≡ limits plan
+    → NoneAnswers matching patterns needed → AreNeeded plan patterns needed
+are_needed plan matching patterns needed same finds line without =
+    line_none plan patterns line (subst (λ m. first_answer m line 0 patterns ≡ none) same (finds line without))

@@ -3,7 +3,6 @@ ghost use Rattle.std.specs.Prelude.{◌≡◌, IfSome};
 ghost use Rattle.pat_tree.specs.declared.options.PartialMode.TheVariants.{Off};
 ghost use Rattle.grep_match.specs.Compiled.{patterns_in};
 ghost use Rattle.grep_match.specs.Needed.{NoneAnswers, AreNeeded};
-ghost use Rattle.match_needs.specs.Texts.{sets_of};
 
 use crate::patterns::Patterns;
 use crate::search::limits;
@@ -22,22 +21,25 @@ pub struct Needed {
     pub text: ByteText,
     /// So many bytes a line may have on which no search is made.
     pub most: u32,
+    /// Whether it must be UTF-8 too: a search of another line gives an error.
+    pub utf: bool,
 }
 
 // The text for lines of at most so many bytes.
-fn needed_within(codes: &[Code], matching: &MatchOptions, most: u32) -> Option<ByteText>
+fn needed_within(codes: &[Code], matching: &MatchOptions, most: u32) -> Option<Needed>
     requires { matching.now.«partial» ≡ Off }
-    ensures { IfSome result (λ text.
-        NoneAnswers matching.now (patterns_in codes.now) most (sets_of text)) }
+    ensures { IfSome result (NoneAnswers matching.now (patterns_in codes.now)) }
 {
     let mut text = ByteText::nowhere();
+    let mut utf = false;
     for code in codes {
         let Some(more) = code.needed(most, matching) else {
             return None;
         };
         text = text.either(&more);
+        utf |= code.options().utf;
     }
-    Some(text)
+    Some(Needed { text, most, utf })
 }
 
 /// A text that every match of the patterns takes, under the limits of the plan: a line in which it stands nowhere isn't
@@ -51,8 +53,8 @@ pub fn needed_text(plan: &GrepPlan, patterns: &Patterns) -> Option<Needed>
     }
     let matching = limits(plan);
     for most in LENGTHS {
-        if let Some(text) = needed_within(codes, &matching, most) {
-            return Some(Needed { text, most });
+        if let Some(needed) = needed_within(codes, &matching, most) {
+            return Some(needed);
         }
     }
     None

@@ -31,10 +31,10 @@ use Rattle.grep_run.specs.Asks.{Lists, AsksUnless, AsksBy, AsksFor, asked_by_pla
 use Rattle.tool_in.specs.Takes.{Takes, TakesAll}
 use Rattle.grep_run.specs.Adds.{AddsTo, AddsAllFrom}
 use Rattle.grep_run.specs.RunsBy.{RunsBy}
-use Rattle.grep_run.specs.Stages.{Streams, SearchesFor, SearchesBy, RunsOn, streams}
+use Rattle.grep_run.specs.Stages.{sought, Streams, SearchesFor, SearchesBy, RunsOn, streams}
 use Rattle.tool_in.proofs.Taking.{hears-any, stand-any, stand-length, takes-any, takes-rest, takes-then}
 use Rattle.tool_in.proofs.Absence.{absent-none, absent-before, absent-join, absent-then, any-there, stand-there, rest-there}
-use Rattle.grep_run.specs.Leaves.{LeavesAll, LeavesBy, LeavesTexts, LeavesPlan, LeavesHelp, LeavesReads, LeavesInput, Ties, Unless, WhereEnded}
+use Rattle.grep_run.specs.Leaves.{LeavesAll, LeavesBy, LeavesTexts, LeavesPlan, LeavesHelp, LeavesReads, LeavesInput, TiesBy, Unless, WhereEnded}
 use Rattle.grep_run.proofs.Summing.{leaves-unread}
 use Rattle.grep_run.proofs.Tying.{leaves-nothing, unless-any, where-any, where-map}
 use Rattle.grep_run.proofs.Outcomes.{runs-lacks, said-whole, said-halts}
@@ -82,28 +82,28 @@ module _ (plan : GrepPlan) (found : Compiled) (words : List (List ℕ)) (was_use
   -- no target is looked at
   for-any : (t : Told) (old new : Printed) (result : Result ℕ Stop) → ((given : List Asked) → RunsBy (text_by_patterns words plan given found) old new result)
       → ((given : List Asked) → WhereEnded result (Unless was_used (LeavesBy t t words plan given found)))
-      → SearchesFor plan found words was_used (streams files t old) (streams files_new t new) result
+      → SearchesFor (sought plan found words) was_used (streams files t old) (streams files_new t new) result
   for-any t old new result runs leaves =
       let list = lists-any files.contents files.faults files_new.faults plan words in
       let any = takes-any was_used t files.contents list.0 in
       (list.0, list.1, (any.0, any.1, runs any.0, record { absent = any-there files.contents files.faults files_new.faults was_used t list.0; leaves = leaves any.0 }))
 
-  pub for-lacks : (t : Told) (out err : Kept) → SearchesFor plan found words was_used (streams files t (printed out err)) (streams files_new t (printed out err)) (Err Memory)
+  pub for-lacks : (t : Told) (out err : Kept) → SearchesFor (sought plan found words) was_used (streams files t (printed out err)) (streams files_new t (printed out err)) (Err Memory)
   for-lacks t out err = for-any t (printed out err) (printed out err) (Err Memory) (λ given. runs-lacks (text_by_patterns words plan given found) out err) (λ given. tt)
 
   pub for-refused : (bad : BadPattern) (t : Told) (old new : Printed) (result : Result ℕ Stop) → found ≡ Err bad → RunsBy (refusal (pattern_message bad)) old new result
-      → SearchesFor plan found words was_used (streams files t old) (streams files_new t new) result
+      → SearchesFor (sought plan found words) was_used (streams files t old) (streams files_new t new) result
   for-refused bad t old new result is h =
       for-any t old new result (λ given. subst (λ f. RunsBy (text_by_patterns words plan given f) old new result) (sym is) h)
       (λ given. where-any result (Unless was_used (LeavesBy t t words plan given found)) (unless-any was_used (LeavesBy t t words plan given found) (subst (λ f. LeavesBy t t words plan given f) (sym is) tt)))
 
 pub for-found : (plan : GrepPlan) (found : Compiled) (patterns : List Pattern) (words : List (List ℕ)) (was_used : Bool) (old new : Streams) (result : Result ℕ Stop) → found ≡ Ok patterns
-    → SearchesFor plan (Ok patterns) words was_used old new result → SearchesFor plan found words was_used old new result
-for-found plan found patterns words was_used old new result is h = subst (λ f. SearchesFor plan f words was_used old new result) (sym is) h
+    → SearchesFor (sought plan (Ok patterns) words) was_used old new result → SearchesFor (sought plan found words) was_used old new result
+for-found plan found patterns words was_used old new result is h = subst (λ f. SearchesFor (sought plan f words) was_used old new result) (sym is) h
 
 module _ (plan : GrepPlan) (patterns : List Pattern) (words : List (List ℕ)) (was_used : Bool) (files files_new : Filed) where
   pub for-unfiltered : (bad : BadFilter) (t : Told) (old new : Printed) (result : Result ℕ Stop) → filter_of plan ≡ Err bad → RunsBy (refusal (filter_message bad)) old new result
-      → SearchesFor plan (Ok patterns) words was_used (streams files t old) (streams files_new t new) result
+      → SearchesFor (sought plan (Ok patterns) words) was_used (streams files t old) (streams files_new t new) result
   for-unfiltered bad t old new result is h =
       for-any plan (Ok patterns) words was_used files files_new t old new result (λ given. subst (λ f. RunsBy (text_by_filter words plan given patterns f) old new result) (sym is) h)
       (λ given.
@@ -113,8 +113,8 @@ module _ (plan : GrepPlan) (patterns : List Pattern) (words : List (List ℕ)) (
   pub for-listed : (mid_faults : ℕ) (filter : Filter) (list : List Target) (named : GrepPlan) (before after : Told) (old new : Printed) (result : Result ℕ Stop) → files.faults ≤ mid_faults → filter_of plan ≡ Ok filter
       → Lists files.contents files.faults files_new.faults plan words list → named ≡ with_names words list plan
       → ((given : List Asked) × TakesAll was_used before after files.contents list given × RunsBy (outcome_of named (reports named patterns given first_state)) old new result
-      × Ties files.contents mid_faults files_new.faults given result (Unless was_used (LeavesAll before after named patterns given first_state)))
-      → SearchesFor plan (Ok patterns) words was_used (streams files before old) (streams files_new after new) result
+      × TiesBy files.contents mid_faults files_new.faults given result (Unless was_used (LeavesAll before after named patterns given first_state)))
+      → SearchesFor (sought plan (Ok patterns) words) was_used (streams files before old) (streams files_new after new) result
   for-listed mid_faults filter list named before after old new result later is lists names h =
       let same = takes-targets was_used before after files.contents list h.0 h.1 in
       let named_so : named ≡ with_names words (targets_of h.0) plan = names ∙ ap (λ l. with_names words l plan) (sym same) in (
@@ -194,7 +194,7 @@ module _ (plan : GrepPlan) (words : List (List ℕ)) (files files_new : Filed) (
       let list = lists-any files.contents files.faults files_new.faults plan words in
       let rest = takes-rest false before after files.contents named list.0 pattern_files h in
       let there = rest-there files.contents files.faults files_new.faults false before after named list.0 pattern_files h in
-      let ties : Ties files.contents files.faults files_new.faults (pattern_files ++ rest.0) result (LeavesPlan before after words plan pattern_files rest.0) = record {
+      let ties : TiesBy files.contents files.faults files_new.faults (pattern_files ++ rest.0) result (LeavesPlan before after words plan pattern_files rest.0) = record {
         absent = absent-join files.contents files.faults files_new.faults pattern_files rest.0 absent there;
         leaves = leaves rest.0;
       } in
@@ -215,7 +215,7 @@ module _ (plan : GrepPlan) (words : List (List ℕ)) (files files_new : Filed) (
   pub by-search : (files_mid : Filed) (mid : Told) (old new : List (List ℕ)) (used : Bool) (out_old err_old err_mid : Kept) (printed_new : Printed) (result : Result ℕ Stop) → old ≡ plan.patterns
       → files_mid.contents ≡ files.contents → files.faults ≤ files_mid.faults → files_mid.faults ≤ files_new.faults
       → AddsAllFrom plan files.contents files.faults files_mid.faults false used before mid old new err_old err_mid (Ok true)
-      → SearchesFor plan (patterns_of plan new) words used (streams files_mid mid (printed out_old err_mid)) (streams files_new after printed_new) result
+      → SearchesFor (sought plan (patterns_of plan new) words) used (streams files_mid mid (printed out_old err_mid)) (streams files_new after printed_new) result
       → SearchesBy plan words (streams files before (printed out_old err_old)) (streams files_new after printed_new) result
   by-search files_mid mid old new used out_old err_old err_mid printed_new result own same later rest_later h i =
       let list = i.0 in
@@ -224,7 +224,7 @@ module _ (plan : GrepPlan) (words : List (List ℕ)) (files files_new : Filed) (
       let taken = subst (λ x. TakesAll used mid after x list given) same i.2.1 in
       let all = takes-then false used before mid after files.contents named list h.0 given h.1 taken in
       let front = named-length h.0 (takes-length used mid h.0 h.1) in
-      let ties : Ties files.contents files.faults files_new.faults (h.0 ++ given) result (LeavesPlan before after words plan h.0 given) = record {
+      let ties : TiesBy files.contents files.faults files_new.faults (h.0 ++ given) result (LeavesPlan before after words plan h.0 given) = record {
         absent = absent-then files.contents files.faults files_mid.faults files_new.faults h.0 given later rest_later h.3 (subst (λ x. AbsentBy x files_mid.faults files_new.faults given) same i.2.3.absent);
         leaves = where-map result (LeavesBy before after words plan given (patterns_of plan new)) (LeavesPlan before after words plan h.0 given) (read-leaves words plan given old new before after (texts_in_files plan h.0) err_old err_mid own h.2)
             (begun-leaves words plan given before mid after files.contents named list h.0 (patterns_of plan new) result used h.1 taken i.2.3.leaves);
@@ -300,7 +300,7 @@ module _ (words : List (List ℕ)) (files files_new : Filed) where
       ∙ ap (λ l. text_by_plan names plan front l) (drop_at front given (length plan.pattern_files) h.2.2.2) in
       let text = text-by words (Ok plan) (front ++ given) is ∙ ap (text_by_help names plan (front ++ given)) search ∙ parted in
       let ties = h.2.2.5 in
-      let tied : Ties files.contents files.faults files_new.faults (front ++ given) result (LeavesInput words (front ++ given) before after) = record {
+      let tied : TiesBy files.contents files.faults files_new.faults (front ++ given) result (LeavesInput words (front ++ given) before after) = record {
         absent = ties.absent;
         leaves = where-map result (LeavesPlan before after names plan front given) (LeavesInput words (front ++ given) before after) (input-of words before after plan front given is search h.2.2.2) ties.leaves;
       } in

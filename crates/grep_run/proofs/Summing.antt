@@ -51,7 +51,7 @@ use Rattle.grep_run.specs.RunsBy.{RunsBy}
 use Rattle.grep_run.specs.Sums.{SumIs, SumsTo, adds_end, one_if, writes_count}
 use Rattle.tool_in.proofs.Taking.{takes-none, takes-more, takes-end, takes-rest}
 use Rattle.tool_in.proofs.Absence.{absent-none, absent-join, absent-then, rest-there}
-use Rattle.grep_run.specs.Leaves.{Either, LeavesIt, LeavesAll, LeavesTarget, Ties, Unless, Uses}
+use Rattle.grep_run.specs.Leaves.{Either, LeavesIt, LeavesAll, LeavesTarget, TiesBy, Unless, Uses}
 use Rattle.std.proofs.KnownBytes.{Consumes-nil}
 use Rattle.tool_out.specs.Printed.{printed}
 
@@ -443,7 +443,7 @@ module _ (plan : GrepPlan) (patterns : List Pattern) (contents : Option Contents
   Ends list last after out err result =
       (given : List Asked) × TakesAll was_used before after contents list given
       × SumsTo plan (all plan patterns given) (printed out_old err_old) (printed out err) result
-      × Ties contents first last given result (Unless was_used (LeavesAll before after plan patterns given first_state))
+      × TiesBy contents first last given result (Unless was_used (LeavesAll before after plan patterns given first_state))
 
   pub searched-all : (list : List Target) (last : ℕ) (is_used : Bool) (after : Told) (s : State) (sum : Sum) (out err : Kept) → Searched list last is_used after s sum out err → Ends list last after out err (Ok sum)
   searched-all list last is_used after s sum out err had = (

@@ -24,7 +24,7 @@ use Rattle.tool_in.specs.Asked.{Asked, asked, is_standard, nothing, standard_aft
 use Rattle.tool_in.specs.Absent.{AbsentBy}
 use Rattle.grep_run.specs.PatternFiles.{shown_name}
 use Rattle.grep_run.specs.Reports.{Report, scanned, report_of, state_after_report}
-use Rattle.grep_run.specs.Leaves.{Either, LeavesIt, LeavesAll, Ties, Unless, WhereEnded}
+use Rattle.grep_run.specs.Leaves.{Either, LeavesIt, LeavesAll, TiesBy, Unless, WhereEnded}
 
 -- Where a run stops.
 
@@ -54,10 +54,10 @@ where-refused T io.Failed fact = tt
 where-refused T io.Memory fact = tt
 
 module _ {T U : Type 0} {contents : Option Contents} {first last : ℕ} {given : List Asked} {fact : Type 0} where
-  pub tied-stop : (stop : Stop) (result : Result U Stop) → result ≡ Err stop → Ties {T = T} contents first last given (Err stop) fact → Ties contents first last given result fact
+  pub tied-stop : (stop : Stop) (result : Result U Stop) → result ≡ Err stop → TiesBy {T = T} contents first last given (Err stop) fact → TiesBy contents first last given result fact
   tied-stop stop result same ties = record { absent = ties.absent; leaves = subst (λ r. WhereEnded r fact) (sym same) (where-stop T U stop fact ties.leaves) }
 
-  pub tied-refused : {x : T} (fault : IoError) (result : Result U Stop) → result ≡ Err (stop_of fault) → Ties contents first last given (Ok x) fact → Ties contents first last given result fact
+  pub tied-refused : {x : T} (fault : IoError) (result : Result U Stop) → result ≡ Err (stop_of fault) → TiesBy contents first last given (Ok x) fact → TiesBy contents first last given result fact
   tied-refused fault result same ties = record { absent = ties.absent; leaves = subst (λ r. WhereEnded r fact) (sym same) (where-refused U fault fact) }
 
 -- Standard input that was used before.

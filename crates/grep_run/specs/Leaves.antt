@@ -2,7 +2,7 @@
 -- was taken of it; and that a file is absent only where a fault was counted.
 use Rattle.std.specs.Prelude.{◌≡◌, ℕ, ◌<◌, Bool, true, false, List, [], ◌∷◌, ◌++◌, length, take, drop, Option, Some, None, Result, Ok, Err, ⊤}
 use Rattle.pcre_io.specs.Told.{Told}
-use Rattle.pcre_io.specs.Files.{Contents}
+use Rattle.pcre_io.specs.Files.{Contents, Filed}
 use Rattle.grep_output.specs.LittlePast.{TakesLittlePast}
 use Rattle.grep_args.specs.declared.plan.GrepPlan.{GrepPlan}
 use Rattle.grep_args.specs.declared.plan.HelpKind.{HelpKind}
@@ -86,15 +86,19 @@ WhereEnded (Err SinkFault) fact = ⊤
 WhereEnded (Err Memory) fact = ⊤
 
 -- what is told of inputs, over files whose count of faults rose from `first` to `last`
-pub record Ties {T : Type 0} (contents : Option Contents) (first last : ℕ) (given : List Asked)
+pub record TiesBy {T : Type 0} (contents : Option Contents) (first last : ℕ) (given : List Asked)
     (result : Result T Stop) (fact : Type 0) : Type 0 where
   pub absent : AbsentBy contents first last given
   pub leaves : WhereEnded result fact
 
+-- the same of files that told this before, and tell this now
+abbrev pub Ties : {T : Type 0} → Filed → Filed → List Asked → Result T Stop → Type 0 → Type 0
+Ties old new given result fact = TiesBy old.contents old.faults new.faults given result fact
+
 -- the same of a run that answers this status, which is 3 or 4 where it is cut off
-pub record RunTies (contents : Option Contents) (first last : ℕ) (given : List Asked) (status : ℕ)
-    (fact : Type 0) : Type 0 where
-  pub absent : AbsentBy contents first last given
+pub record RunTies (old new : Filed) (given : List Asked) (status : ℕ) (fact : Type 0)
+    : Type 0 where
+  pub absent : AbsentBy old.contents old.faults new.faults given
   pub leaves : status < 3 → fact
 
 -- the scan of standard input

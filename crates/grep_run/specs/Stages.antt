@@ -26,16 +26,24 @@ pub record Streams : Type 0 where
 abbrev pub streams : Filed → Told → Printed → Streams
 streams files input printed = record { files = files; input = input; printed = printed }
 
--- a search for these patterns, where standard input was or wasn't used
-abbrev pub SearchesFor : GrepPlan → Compiled → List (List ℕ) → Bool → Streams → Streams
-    → Result ℕ Stop → Type 0
-SearchesFor plan found words was_used old new result =
+-- what is searched for: these patterns, by a plan, in what these words stand for
+pub record Sought : Type 0 where
+  pub plan : GrepPlan
+  pub patterns : Compiled
+  pub words : List (List ℕ)
+
+abbrev pub sought : GrepPlan → Compiled → List (List ℕ) → Sought
+sought plan patterns words = record { plan = plan; patterns = patterns; words = words }
+
+-- a search for it, where standard input was or wasn't used
+abbrev pub SearchesFor : Sought → Bool → Streams → Streams → Result ℕ Stop → Type 0
+SearchesFor s was_used old new result =
     (list : List Target)
-    × Lists old.files.contents old.files.faults new.files.faults plan words list
+    × Lists old.files.contents old.files.faults new.files.faults s.plan s.words list
     × ((given : List Asked) × TakesAll was_used old.input new.input old.files.contents list given
-    × RunsBy (text_by_patterns words plan given found) old.printed new.printed result
-    × Ties old.files.contents old.files.faults new.files.faults given result
-    (Unless was_used (LeavesBy old.input new.input words plan given found)))
+    × RunsBy (text_by_patterns s.words s.plan given s.patterns) old.printed new.printed result
+    × Ties old.files new.files given result
+    (Unless was_used (LeavesBy old.input new.input s.words s.plan given s.patterns)))
 
 -- a search by a plan
 abbrev pub SearchesBy : GrepPlan → List (List ℕ) → Streams → Streams → Result ℕ Stop → Type 0
@@ -47,7 +55,7 @@ SearchesBy plan words old new result =
     × (length pattern_files ≡ length plan.pattern_files)
     × StandFor old.files.contents heard (asked_by_plan plan list) (pattern_files ++ given)
     × RunsBy (text_by_plan words plan pattern_files given) old.printed new.printed result
-    × Ties old.files.contents old.files.faults new.files.faults (pattern_files ++ given) result
+    × Ties old.files new.files (pattern_files ++ given) result
     (LeavesPlan old.input new.input words plan pattern_files given)))
 
 -- a run on the words after the tool's name
@@ -58,5 +66,5 @@ RunsOn words old new result =
     × AsksFor old.files.contents old.files.faults new.files.faults words asked
     × ((given : List Asked) × StandFor old.files.contents heard asked given
     × RunsBy (text_of words given) old.printed new.printed result
-    × Ties old.files.contents old.files.faults new.files.faults given result
+    × Ties old.files new.files given result
     (LeavesInput words given old.input new.input)))

@@ -13,7 +13,7 @@ ghost use Rattle.grep_run.specs.Refusals.{refusal, usage_message, help_text};
 ghost use Rattle.grep_run.specs.Reports.{reports};
 ghost use Rattle.grep_run.specs.ToolText.{outcome_of, is_below, names_for, shows_names};
 ghost use Rattle.tool_in.specs.Takes.{TakesAll};
-ghost use Rattle.grep_run.specs.Stages.{RunsOn, SearchesBy, SearchesFor, streams};
+ghost use Rattle.grep_run.specs.Stages.{RunsOn, SearchesBy, SearchesFor, sought, streams};
 ghost use Rattle.grep_run.specs.Sums.{SumsTo};
 ghost use Rattle.grep_run.specs.RunsBy.{RunsBy};
 ghost use Rattle.tool_out.specs.Printed.{printed};
@@ -43,14 +43,14 @@ fn grep_targets<F: FileSet, S: Source, O: Sink, E: Sink>(
     err: &mut E,
 ) -> Result<Sum, Stop>
     requires { IsWithinLimits plan.now }
-    ensures sums { (given : List Asked) × TakesAll is_used.old (S.tells input.old)
-        (S.tells input.new) (F.tells files.old).contents list.now given
+    ensures sums { let before = F.tells files.old in let after = F.tells files.new in
+        (given : List Asked) × TakesAll is_used.old (S.tells input.old) (S.tells input.new)
+        before.contents list.now given
         × SumsTo plan.now (reports plan.now (patterns_in patterns.now) given first_state)
         (printed (O.tells out.old) (E.tells err.old))
         (printed (O.tells out.new) (E.tells err.new)) result
-        × Ties (F.tells files.old).contents (F.tells files.old).faults (F.tells files.new).faults
-        given result (Unless is_used.old (LeavesAll (S.tells input.old) (S.tells input.new)
-        plan.now (patterns_in patterns.now) given first_state)) }
+        × Ties before after given result (Unless is_used.old (LeavesAll (S.tells input.old)
+        (S.tells input.new) plan.now (patterns_in patterns.now) given first_state)) }
     ensures files { (F.tells files.new).contents ≡ (F.tells files.old).contents }
     ensures later { (F.tells files.old).faults ≤ (F.tells files.new).faults }
 {
@@ -82,15 +82,15 @@ fn grep_list<F: FileSet, S: Source, O: Sink, E: Sink>(
     err: &mut E,
 ) -> Result<u8, Stop>
     requires { IsWithinLimits plan.now }
-    ensures runs { (given : List Asked) × TakesAll is_used.old (S.tells input.old)
-        (S.tells input.new) (F.tells files.old).contents list.now given
+    ensures runs { let before = F.tells files.old in let after = F.tells files.new in
+        (given : List Asked) × TakesAll is_used.old (S.tells input.old) (S.tells input.new)
+        before.contents list.now given
         × RunsBy (outcome_of plan.now (reports plan.now (patterns_in patterns.now)
         given first_state))
         (printed (O.tells out.old) (E.tells err.old))
         (printed (O.tells out.new) (E.tells err.new)) result
-        × Ties (F.tells files.old).contents (F.tells files.old).faults (F.tells files.new).faults
-        given result (Unless is_used.old (LeavesAll (S.tells input.old) (S.tells input.new)
-        plan.now (patterns_in patterns.now) given first_state)) }
+        × Ties before after given result (Unless is_used.old (LeavesAll (S.tells input.old)
+        (S.tells input.new) plan.now (patterns_in patterns.now) given first_state)) }
     ensures files { (F.tells files.new).contents ≡ (F.tells files.old).contents }
     ensures later { (F.tells files.old).faults ≤ (F.tells files.new).faults }
 {
@@ -168,8 +168,8 @@ fn grep_allowed<F: FileSet, S: Source, O: Sink, E: Sink>(
 ) -> Result<u8, Stop>
     requires limits { IsWithinLimits plan }
     requires filter { filter_of plan ≡ Ok (filter_in filter.now) }
-    ensures runs { SearchesFor plan (Ok (patterns_in patterns.now))
-        (map string_bytes words.now) is_used.old
+    ensures runs { SearchesFor (sought plan (Ok (patterns_in patterns.now))
+        (map string_bytes words.now)) is_used.old
         (streams (F.tells files.old) (S.tells input.old)
         (printed (O.tells out.old) (E.tells err.old)))
         (streams (F.tells files.new) (S.tells input.new)
@@ -205,8 +205,8 @@ fn grep_filtered<F: FileSet, S: Source, O: Sink, E: Sink>(
     err: &mut E,
 ) -> Result<u8, Stop>
     requires { IsWithinLimits plan }
-    ensures runs { SearchesFor plan (Ok (patterns_in patterns.now))
-        (map string_bytes words.now) is_used.old
+    ensures runs { SearchesFor (sought plan (Ok (patterns_in patterns.now))
+        (map string_bytes words.now)) is_used.old
         (streams (F.tells files.old) (S.tells input.old)
         (printed (O.tells out.old) (E.tells err.old)))
         (streams (F.tells files.new) (S.tells input.new)
@@ -247,8 +247,8 @@ fn grep_for<F: FileSet, S: Source, O: Sink, E: Sink>(
     err: &mut E,
 ) -> Result<u8, Stop>
     requires { IsWithinLimits plan }
-    ensures runs { SearchesFor plan (patterns_of plan texts.now)
-        (map string_bytes words.now) is_used.old
+    ensures runs { SearchesFor (sought plan (patterns_of plan texts.now)
+        (map string_bytes words.now)) is_used.old
         (streams (F.tells files.old) (S.tells input.old)
         (printed (O.tells out.old) (E.tells err.old)))
         (streams (F.tells files.new) (S.tells input.new)

@@ -84,14 +84,15 @@ fn grep_named<F: FileSet, O: Sink, E: Sink>(
     state: &mut GrepState,
 ) -> Result<Option<FileEnd>, Stop>
     requires { IsReady plan.now state.old }
-    ensures reports { (given : Option Input) × Opened (F.tells files.old).contents name.now given
+    ensures reports { let before = F.tells files.old in let after = F.tells files.new in
+        (given : Option Input) × Opened before.contents name.now given
         × ReportsTo (report_on plan.now (patterns_in patterns.now) state.old
         (targets.File name.now) given)
         state.old state.new
         (printed (O.tells out.old) (E.tells err.old))
         (printed (O.tells out.new) (E.tells err.new)) result
-        × AbsentBy (F.tells files.old).contents (F.tells files.old).faults
-        (F.tells files.new).faults (asked (targets.File name.now) given ∷ []) }
+        × AbsentBy before.contents before.faults after.faults
+        (asked (targets.File name.now) given ∷ []) }
     ensures files { (F.tells files.new).contents ≡ (F.tells files.old).contents }
     ensures later { (F.tells files.old).faults ≤ (F.tells files.new).faults }
 {

@@ -145,11 +145,12 @@ fn add_named<F: FileSet, E: Sink>(
     texts: &mut TextList,
 ) -> Result<bool, Stop>
     requires { 1 ≤ plan.now.max_buffer_size }
-    ensures adds { (given : Option Input) × Opened (F.tells files.old).contents name.now given
+    ensures adds { let before = F.tells files.old in let after = F.tells files.new in
+        (given : Option Input) × Opened before.contents name.now given
         × AddsTo (texts_of plan.now name.now given) texts.old texts.new (E.tells err.old)
         (E.tells err.new) result
-        × AbsentBy (F.tells files.old).contents (F.tells files.old).faults
-        (F.tells files.new).faults (asked (targets.File name.now) given ∷ []) }
+        × AbsentBy before.contents before.faults after.faults
+        (asked (targets.File name.now) given ∷ []) }
     ensures files { (F.tells files.new).contents ≡ (F.tells files.old).contents }
     ensures later { (F.tells files.old).faults ≤ (F.tells files.new).faults }
 {

@@ -33,14 +33,14 @@ pub fn run_grep<F: FileSet, S: Source, O: Sink, E: Sink>(
     // lacked or a write failed, and they grew by a part of it. A file is absent only where it is
     // known to be, or a fault was counted; and where the scan of standard input ends early, little
     // past its last line was taken of it.
-    ensures text { (heard : Input) × Hears (S.tells input.old) (S.tells input.new) heard
-        × ((asked : List Target) × AsksFor (F.tells files.old).contents (F.tells files.old).faults
-        (F.tells files.new).faults (map string_bytes words.now) asked
-        × ((given : List Asked) × StandFor (F.tells files.old).contents heard asked given
+    ensures text { let before = F.tells files.old in let after = F.tells files.new in
+        (heard : Input) × Hears (S.tells input.old) (S.tells input.new) heard
+        × ((asked : List Target) × AsksFor before.contents before.faults after.faults
+        (map string_bytes words.now) asked
+        × ((given : List Asked) × StandFor before.contents heard asked given
         × Runs (text_of (map string_bytes words.now) given) result
         (printed (O.tells out.old) (E.tells err.old)) (printed (O.tells out.new) (E.tells err.new))
-        × RunTies (F.tells files.old).contents (F.tells files.old).faults
-        (F.tells files.new).faults given result (LeavesInput (map string_bytes words.now) given
+        × RunTies before after given result (LeavesInput (map string_bytes words.now) given
         (S.tells input.old) (S.tells input.new)))) }
     ensures files { (F.tells files.new).contents ≡ (F.tells files.old).contents }
 {

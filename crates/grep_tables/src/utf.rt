@@ -1,5 +1,5 @@
 //! Lines and patterns in UTF.
-use crate::running::{Bytes, Row, check_all, check_bytes};
+use crate::running::{Bytes, Row, Streams, check_all, check_bytes, check_row, unfailing};
 use std::test::Fail;
 
 #[test]
@@ -79,4 +79,113 @@ fn lines_that_are_not_utf_are_told(rt: HostRuntime) -> Result<(), Fail> {
         ("-o -e . -e (*UTF)x", b"\xc3\xa9\n", b"\xc3\n\xa9\n", "", 0),
     ];
     check_bytes(&rt, rt.alloc(), &ROWS)
+}
+
+// Lines without the text that each match takes: those that are UTF-8 aren't searched, the others are told.
+#[test]
+fn lines_between_must_be_utf(rt: HostRuntime) -> Result<(), Fail> {
+    static ROWS: [Bytes; 11] = [
+        (
+            "-un s=5",
+            b"q\xff\nq\ns=5\n",
+            b"3:s=5\n",
+            "(standard input): line 1: error -3",
+            0,
+        ),
+        (
+            "-un s=5",
+            b"\xc3\xa9\ns=5\nq\xc3\nq\ns=5 \xc3\xa9\nq\xe2\x82",
+            b"2:s=5\n5:s=5 \xc3\xa9\n",
+            "(standard input): line 3: error -3 ! (standard input): line 6: error -3",
+            0,
+        ),
+        (
+            "-un s=5",
+            b"\x85\ns=5 \xed\xa0\x80\n\xf0\x9f\x98\x80\ns=5",
+            b"4:s=5\n",
+            "(standard input): line 1: error -3 ! (standard input): line 2: error -3",
+            0,
+        ),
+        (
+            "-uc s=5",
+            b"\xc3\xa9\n\xc3\ns=5\n\xe2\x82\xac\ns=5\n",
+            b"2\n",
+            "(standard input): line 2: error -3",
+            0,
+        ),
+        (
+            "-uvn s=5",
+            b"\xc3\xa9\nq\xff\ns=5\n\xf0\x9f\x98\x80\n",
+            b"1:\xc3\xa9\n4:\xf0\x9f\x98\x80\n",
+            "(standard input): line 2: error -3",
+            0,
+        ),
+        (
+            "-unB1 s=5",
+            b"\xc3\xa9\n\xd1\x85\ns=5\n\xff\n",
+            b"2-\xd1\x85\n3:s=5\n",
+            "(standard input): line 4: error -3",
+            0,
+        ),
+        (
+            "-N CRLF -un s=5",
+            b"\xc3\xa9\r\nq\xff\r\ns=5\r\n",
+            b"3:s=5\r\n",
+            "(standard input): line 2: error -3",
+            0,
+        ),
+        (
+            "-N ANY -un s=5",
+            b"q\xe2\x80\xa8\xd1\x85\xc2\x85\xff\ns=5\n",
+            b"4:s=5\n",
+            "(standard input): line 3: error -3",
+            0,
+        ),
+        (
+            "-N ANY -n (*UTF)s=5",
+            b"q\n\xd1\x85q\ns=5\n",
+            b"4:s=5\n",
+            "(standard input): line 2: error -3",
+            0,
+        ),
+        (
+            "-n -e s=5 -e q=6",
+            b"\xff\n\xc3\xa9\ns=5\n",
+            b"3:s=5\n",
+            "",
+            0,
+        ),
+        (
+            "-n -e s=5 -e (*UTF)q=6",
+            b"\xff\n\xc3\xa9\ns=5\n",
+            b"3:s=5\n",
+            "(standard input): line 1: error -3",
+            0,
+        ),
+    ];
+    check_bytes(&rt, rt.alloc(), &ROWS)
+}
+
+// Pieces of so many bytes end within characters.
+#[test]
+fn characters_between_are_read_in_parts(rt: HostRuntime) -> Result<(), Fail> {
+    static PIECES: [u32; 5] = [1, 2, 3, 7, 65_536];
+    let alloc = rt.alloc();
+    let quiet = "é€😀\n".repeat(alloc, 400)?;
+    let input = format!(in alloc; "{}s=5 é\n{}s=5\n", quiet.as_str(), quiet.as_str())?;
+    for piece in &PIECES {
+        let streams = Streams {
+            piece: *piece,
+            ..unfailing(input.as_str().as_bytes())
+        };
+        check_row(
+            &rt,
+            alloc,
+            &[],
+            streams,
+            "-un s=5 > 401:s=5 é\n802:s=5\n",
+            0,
+        )?;
+    }
+    Ok(())
 }

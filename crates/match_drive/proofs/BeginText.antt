@@ -1,5 +1,5 @@
--- Places at which a text doesn't stand with which every match begins.
-use Rattle.std.proofs.Common.{◌≡◌, ℕ, ◌+◌, ◌<◌, ◌≤◌, Bool, true, false, List, [], ◌∷◌, length, take, Option, None, Some, refl, sym, subst, arith, length-take-le, get_or-take}
+-- Places behind which a text doesn't stand at the distance at which every match takes it.
+use Rattle.std.proofs.Common.{◌≡◌, ℕ, ◌+◌, ◌<◌, ◌≤◌, Bool, true, List, [], ◌∷◌, length, take, Option, None, Some, refl, sym, subst, arith, length-take-le, get_or-take}
 use Rattle.std.specs.Prelude.{slice_index, IfSome}
 use Rattle.pat_tree.specs.declared.options.Options.{Options}
 use Rattle.pat_tree.specs.declared.options.PartialMode.TheVariants.{Off}
@@ -10,13 +10,15 @@ use Rattle.match_items.specs.Subjects.{IsText, IsTextPlace}
 use Rattle.byte_lanes.specs.Places.{IsLeast}
 use Rattle.byte_lanes.specs.Sets.{has_byte}
 use Rattle.match_needs.specs.declared.text.ByteText.{ByteText}
+use Rattle.match_needs.specs.declared.needs.BeginText.{BeginText}
 use Rattle.match_needs.specs.declared.needs.Need.{Need}
 use Rattle.match_needs.specs.Bounds.{at, bound}
-use Rattle.match_needs.specs.Needs.{may_take, Needs}
+use Rattle.match_needs.specs.Needs.{may_take}
+use Rattle.match_needs.specs.Distances.{NeedsAt}
 use Rattle.match_needs.specs.NeedTables.{IsNeedOf}
 use Rattle.match_needs.specs.Texts.{sets_of, behind_of, Stands}
 use Rattle.ordered_search.specs.Setting.{lower_of}
-use Rattle.ordered_search.proofs.Needed.{begin_law}
+use Rattle.ordered_search.proofs.Behind.{begin_law}
 use Rattle.frame_board.specs.Ready.{setting_for}
 use Rattle.match_drive.specs.Asked.{passed_over, replied}
 use Rattle.match_drive.specs.BeginText.{IsBegun}
@@ -73,21 +75,22 @@ least_of_all text bytes n from to found within ordered fits far least r low high
       (stands_more bytes n within (sets_of text) found (least.holds (omega (arith, e, l, fits, length-take-le n bytes within))));
 }
 
--- A search fails at each place without the text that a finished tree's matches begin with.
+-- A search fails at each place without the text that a finished tree's matches take at a distance from where they begin.
 
-pub begun_told : (tree : TreeParts) (view : View) (need : Need) (told : Option ByteText) → IsNeedOf tree need → told ≡ need.begin
+pub begun_told : (tree : TreeParts) (view : View) (need : Need) (told : Option BeginText) → IsNeedOf tree need → told ≡ need.begin
     → view.options.now ≡ tree.options → IsText view.options.now view.subject.now
     → IsTextPlace view.options.now view.subject.now view.start → view.matching.now.«partial» ≡ Off
     → at need.bound.steps (length view.subject.now + 1) ≤ lower_of view.options.now.match_limit view.matching.now.match_limit
-    → need.bound.units ≤ view.matching.now.frame_limit
+    → at need.bound.units (length view.subject.now + 1) ≤ view.matching.now.frame_limit
     → ((k : ℕ) → k < length view.subject.now → slice_index view.subject.now k < 256)
     → IfSome told (IsBegun (setting_for tree view passed_over))
 begun_told tree view need None is known shown text begun off steps units small = tt
 begun_told tree view need (Some begin) is known shown text begun off steps units small = λ reply p here missing.
-    let begins : Needs (may_take tree.options.utf (class_has tree)) tree.options.utf false (sets_of begin) (tree_of tree) =
-    subst (λ o. IfSome o (λ (t : ByteText). Needs (may_take tree.options.utf (class_has tree)) tree.options.utf false (sets_of t) (tree_of tree))) (sym known) is.begin in
-    begin_law (replied reply (setting_for tree view passed_over)) (sets_of begin) need.bound p (record {
-      needs = subst (λ (has : ℕ → ℕ → Bool). Needs (may_take tree.options.utf has) tree.options.utf false (sets_of begin) (tree_of tree)) (class_told tree) begins;
+    let may = may_take tree.options.utf (class_has tree) in
+    let begins : NeedsAt may tree.options.utf (sets_of begin.text) begin.distance (tree_of tree) =
+    subst (λ o. IfSome o (λ (t : BeginText). NeedsAt may tree.options.utf (sets_of t.text) t.distance (tree_of tree))) (sym known) is.begin in
+    begin_law (replied reply (setting_for tree view passed_over)) (sets_of begin.text) begin.distance need.bound p (record {
+      needs = subst (λ (has : ℕ → ℕ → Bool). NeedsAt (may_take tree.options.utf has) tree.options.utf (sets_of begin.text) begin.distance (tree_of tree)) (class_told tree) begins;
       small = small;
       missing = missing;
       bounded = subst (λ (has : ℕ → ℕ → Bool). bound has (tree_of tree) ≡ Some need.bound) (class_told tree) is.bound;

@@ -29,7 +29,7 @@ stands_nowhere text bytes n least e k h =
 pub none_without : (tree : TreeParts) (view : View) (need : Need) (answers : Block → ℤ) → IsNeedOf tree need →
     view.options.now ≡ tree.options → IsText view.options.now view.subject.now → IsTextPlace view.options.now view.subject.now view.start → view.matching.now.«partial» ≡ Off →
     at need.bound.steps (length view.subject.now + 1) ≤ lower_of view.options.now.match_limit view.matching.now.match_limit →
-    need.bound.units ≤ view.matching.now.frame_limit →
+    at need.bound.units (length view.subject.now + 1) ≤ view.matching.now.frame_limit →
     ((k : ℕ) → k < length view.subject.now → slice_index view.subject.now k < 256) → ((k : ℕ) → ¬ Stands (sets_of need.text) view.subject.now k) →
     match_answer (setting_for tree view answers) ≡ none_found
 none_without tree view need answers is shown text begun off steps units small missing =

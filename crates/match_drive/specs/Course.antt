@@ -5,7 +5,7 @@ use Rattle.pat_tree.specs.declared.nodes.Item.{Item}
 use Rattle.match_items.specs.declared.view.View.{View}
 use Rattle.frame_board.specs.declared.ready.Ready.{Ready}
 use Rattle.frame_board.specs.Ready.{IsReadySearch, setting_for}
-use Rattle.match_needs.specs.declared.text.ByteText.{ByteText}
+use Rattle.match_needs.specs.declared.needs.BeginText.{BeginText}
 use Rattle.match_drive.specs.Asked.{passed_over}
 use Rattle.match_drive.specs.Begin.{StandsAtBegin}
 use Rattle.match_drive.specs.BeginText.{IsBegun}
@@ -15,10 +15,10 @@ use Rattle.match_drive.specs.Repeats.{IsFirstRepeat}
 use Rattle.match_drive.specs.Run.{IsFirstRun}
 
 -- The search at one place runs. Where it is told so, the pattern stands at the subject's begin alone. The branches that are
--- tested are its own, and so are the text, the repeat and the run that it begins with, where they are known; there are none
--- under partial matching.
+-- tested are its own, and so are the text at a distance from its begin, and the repeat and the run that it begins with, where
+-- they are known; there are none under partial matching.
 pub record IsByteCourse (ready : Ready) (view : View) (at_begin : Bool) (first : List ℕ)
-    (text : Option ByteText) (repeat : Option FirstRepeat) (run : Option Item) : Type 0 where
+    (text : Option BeginText) (repeat : Option FirstRepeat) (run : Option Item) : Type 0 where
   pub search : IsReadySearch ready view
   pub open search use *
   pub begin : IsTrue at_begin → StandsAtBegin (tree_of ready.tree.now)

@@ -17,7 +17,7 @@ use crate::repeats::{FirstRepeat, refused_to};
 use byte_lanes::ByteSet;
 use frame_machine::{PlaceAnswer, Ready, Scratch, Signal, run_at};
 use match_items::{View, item_run};
-use match_needs::ByteText;
+use match_needs::BeginText;
 use pat_tree::{Item, MatchOptions, NodeId, Options, PartialMode};
 use pcre_io::Callouts;
 
@@ -37,8 +37,8 @@ pub(crate) struct Course<'a> {
     pub at_begin: bool,
     /// The pattern's branches, where they are tested before the machine runs, else none.
     pub first: &'a [NodeId],
-    /// A text with which every match begins, where places at which it doesn't stand are known to fail.
-    pub begin: Option<&'a ByteText>,
+    /// A text at a distance from where every match begins, where places without it are known to fail.
+    pub begin: Option<&'a BeginText>,
     /// The repeat of an item that the pattern begins with, where one is known.
     pub repeat: Option<FirstRepeat>,
     /// The item whose run the pattern begins with, where places in it fail with the first of them.
@@ -147,7 +147,7 @@ impl Driven for Course<'_> {
         self.ready.facts.lead.as_ref()
     }
 
-    fn begin(&self) -> Option<&ByteText> {
+    fn begin(&self) -> Option<&BeginText> {
         self.begin
     }
 

@@ -169,7 +169,7 @@ pub fn search<C: Callouts>(
         view,
         at_begin,
         first: branches_tested(ready.tree, view),
-        begin: begin_of(ready, view),
+        begin: begin_of(ready, view, at_begin),
         repeat: first_repeat(ready, view),
         run: leading_run(ready.tree, view),
     };

@@ -16,7 +16,7 @@ ghost use Rattle.match_drive.specs.Rest.{FailsToAlways};
 
 use byte_lanes::ByteSet;
 use frame_machine::{PlaceAnswer, Scratch};
-use match_needs::ByteText;
+use match_needs::BeginText;
 use pat_tree::{MatchOptions, Options};
 use pcre_io::Callouts;
 
@@ -50,8 +50,8 @@ pub trait Driven {
         requires { fits self.now }
         ensures { IsByteSet (option_copied result) (lead_set (asked self.now passed_over)) };
 
-    /// A text with which every match begins, where places at which it doesn't stand are known to fail.
-    fn begin(&self) -> Option<&ByteText>
+    /// A text at a distance from where every match begins, where places without it are known to fail.
+    fn begin(&self) -> Option<&BeginText>
         requires { fits self.now }
         ensures { IfSome (option_copied result) (IsBegun (asked self.now passed_over)) };
 

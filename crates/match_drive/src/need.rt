@@ -16,7 +16,7 @@ use crate::course::is_off;
 use crate::drive::are_bytes;
 use frame_machine::{Ready, Scratch};
 use match_items::View;
-use match_needs::{ByteText, Need};
+use match_needs::{BeginText, ByteText, Need};
 
 /// The greatest number of Steps at a place: the pattern may lower that of the match.
 pub(crate) fn match_limit(view: &View<'_>) -> u32
@@ -33,13 +33,13 @@ fn is_within(need: &Need, view: &View<'_>) -> bool
     requires { IsText view.now.options.now view.now.subject.now }
     ensures steps { IsTrue result → at need.now.bound.steps (length view.now.subject.now + 1)
         ≤ lower_of view.now.options.now.match_limit view.now.matching.now.match_limit }
-    ensures units { IsTrue result → need.now.bound.units ≤ view.now.matching.now.frame_limit }
+    ensures units { IsTrue result → at need.now.bound.units (length view.now.subject.now + 1)
+        ≤ view.now.matching.now.frame_limit }
 {
     let size = view.subject.len() as u64 + 1;
-    if need.bound.units > view.matching.frame_limit {
-        return false;
-    }
-    need.bound.steps.is_within(size, match_limit(view))
+    let bound = &need.bound;
+    bound.units.is_within(size, view.matching.frame_limit)
+        && bound.steps.is_within(size, match_limit(view))
 }
 
 /// Whether a text stands nowhere in these bytes.
@@ -53,7 +53,7 @@ fn lacks(bytes: &[u8], text: &ByteText) -> bool
 
 /// True only where the subject has no match, partial or not, and a search of it passes no limit: a text that every match takes stands
 /// nowhere in it. A search that begins later isn't looked at, so that many searches of a long subject don't each
-/// look over what stands before.
+/// look over what stands before, nor is one whose start places go by that same text.
 pub(crate) fn lacks_need(ready: &Ready<'_>, view: &View<'_>) -> bool
     requires { IsReadySearch ready.now view.now }
     ensures { IsTrue result → (answers : Block → ℤ)
@@ -65,15 +65,19 @@ pub(crate) fn lacks_need(ready: &Ready<'_>, view: &View<'_>) -> bool
     let Some(need) = &ready.facts.need else {
         return false;
     };
-    if view.start > 0 || !is_within(need, view) {
+    if view.start > 0 || need.is_begin || !is_within(need, view) {
         return false;
     }
     lacks(view.subject, &need.text)
 }
 
-/// A text with which every match begins, where a search at a place at which it doesn't stand passes no limit. None where
-/// partial matches are looked for.
-pub(crate) fn begin_of<'a>(ready: &'a Ready<'a>, view: &View<'_>) -> Option<&'a ByteText>
+/// A text at a distance from where every match begins, where a search at a place without it passes no limit. None where
+/// partial matches are looked for, nor at the subject's begin alone, which is tried sooner than it is looked for.
+pub(crate) fn begin_of<'a>(
+    ready: &'a Ready<'a>,
+    view: &View<'_>,
+    at_begin: bool,
+) -> Option<&'a BeginText>
     requires { IsReadySearch ready.now view.now }
     ensures { IfSome (option_copied result)
         (IsBegun (setting_for ready.now.tree.now view.now passed_over)) }
@@ -83,7 +87,7 @@ pub(crate) fn begin_of<'a>(ready: &'a Ready<'a>, view: &View<'_>) -> Option<&'a 
     let Some(need) = &ready.facts.need else {
         return None;
     };
-    if !is_off(view) || !is_within(need, view) {
+    if at_begin || !is_off(view) || !is_within(need, view) {
         return None;
     }
     need.begin.as_ref()

@@ -9,6 +9,7 @@ ghost use Rattle.match_items.specs.Subjects.{IsPlace, IsTextPlace};
 ghost use Rattle.match_needs.specs.Texts.{sets_of, Stands};
 ghost use Rattle.frame_state.specs.Answer.{signal_of, IsSkip};
 ghost use Rattle.match_drive.specs.Asked.{passed_over};
+ghost use Rattle.match_drive.specs.BeginText.{StandsBehind};
 ghost use Rattle.ordered_search.specs.Places as places;
 ghost use Rattle.ordered_search.specs.Places.{up_to};
 ghost use Rattle.match_drive.specs.Rest.{IsLeadUsed, IsByteOutside, IsPassedAlways, IsNextTriedAlways, behind};
@@ -17,7 +18,7 @@ ghost use Rattle.match_drive.specs.Rest.{FailBeforeAlways, IsNextAlways};
 use crate::driven::Driven;
 use byte_lanes::{ByteSet, EndKind, find_in_set, find_line_end, newline_at};
 use frame_machine::Signal;
-use match_needs::ByteText;
+use match_needs::{BeginText, ByteText};
 use pat_tree::PartialMode;
 use uni_text::char_at;
 
@@ -221,6 +222,25 @@ fn first_text(bytes: &[u8], from: usize, to: usize, text: &ByteText) -> usize
     text.find_from(&bytes[..end], from).min(to)
 }
 
+/// The first place from one on, and before another, behind which a text stands at its distance, or else the other.
+fn first_begin(bytes: &[u8], from: usize, to: usize, begin: &BeginText) -> usize
+    requires ordered { from ≤ to }
+    requires within { to ≤ length bytes.now }
+    ensures { IsLeast (StandsBehind begin.now bytes.now) from to result }
+{
+    let distance = begin.distance as usize;
+    if bytes.len() - from <= distance {
+        return to;
+    }
+    let end = to.min(bytes.len() - distance);
+    let found = first_text(bytes, from + distance, end + distance, &begin.text);
+    if found < end + distance {
+        found - distance
+    } else {
+        to
+    }
+}
+
 /// The first place from one on, and before another, at which what a match begins with may stand, or else the other.
 fn first_start<S: Driven>(on: &S, from: usize, to: usize) -> usize
     requires fits { S.fits on.now }
@@ -230,8 +250,8 @@ fn first_start<S: Driven>(on: &S, from: usize, to: usize) -> usize
     ensures high { result ≤ to }
     ensures before { FailBeforeAlways (S.asked on.now passed_over) from result }
 {
-    if let Some(text) = on.begin() {
-        return first_text(on.subject(), from, to, text);
+    if let Some(begin) = on.begin() {
+        return first_begin(on.subject(), from, to, begin);
     }
     match lead_used(on) {
         Some(set) => first_in(on.subject(), from, to, set),

@@ -1,13 +1,13 @@
 -- Bounds as they are kept, joined as the definition joins them.
-use Rattle.std.proofs.Common.{◌≡◌, ◌<◌, ℕ, ◌&&◌, length, drop, arith, Bool, true, false, if◌then◌else◌, List, [], ◌∷◌, map, Option, Some, None, All, refl, sym, ap, subst}
-use Rattle.std.proofs.lemmas.List.{drop_all}
-use Rattle.std.proofs.lemmas.List.Elements.{All-head, All-tail}
+use Rattle.std.proofs.Common.{◌≡◌, ◌<◌, ◌≤◌, ℕ, ◌&&◌, ◌∙◌, ◌+◌, length, drop, get_or, arith, Bool, true, false, if◌then◌else◌, List, [], ◌∷◌, map, Option, Some, None, refl, sym, ap, subst}
+use Rattle.std.proofs.lemmas.List.{drop_all, at_drop_all, at_drop_more}
+use Rattle.pat_tree.specs.declared.nodes.Item.{Item}
 use Rattle.pat_tree.specs.Nested.{Nested, Row, look, more, row, tree_at, trees}
 use Rattle.pat_tree.specs.Parts.{TreeParts}
 use Rattle.char_sets.specs.Sets.{class_has}
 use Rattle.match_needs.specs.declared.bounds.Bound.{Bound}
-use Rattle.match_needs.specs.Bounds.{once, closed, followed, or_later, both, change, bound, bound_before, bound_in_turn, bound_of_one, bound_of_choices}
-use Rattle.match_needs.specs.BoundTables.{Refines, RefinesTurn, IsBefore, bound_at, choices_of, one_of}
+use Rattle.match_needs.specs.Bounds.{once, never, closed, followed, or_so, both, change, repeated, first_item, begins_apart, all_begin_apart, is_alone, bound, bound_before, bound_in_turn, bound_of_one, bound_of_choices}
+use Rattle.match_needs.specs.BoundTables.{Refines, RefinesTurn, RefinesOne, RefinesChoices, IsBefore, is_alone_of, bound_at}
 
 pub refines_on : (x y z : Option Bound) → Refines x y → Refines y z → Refines x z
 refines_on None y z h k = tt
@@ -22,19 +22,14 @@ pub change_refines : (f : Bound → Bound) (x x' : Option Bound) → Refines x x
 change_refines f None x' h = tt
 change_refines f (Some a) x' h = rw h refl
 
--- By the bounds of the trees.
+refines_same : (x : Option Bound) → Refines x x
+refines_same None = tt
+refines_same (Some a) = refl
 
-module _ (told meant : ℕ → Option Bound) where
-  choices_refine : (ks : List ℕ) → All (λ k. Refines (told k) (meant k)) ks → Refines (choices_of told ks) (choices_of meant ks)
-  choices_refine [] h = refl
-  choices_refine (k ∷ ks) h =
-      both_refines or_later (told k) (choices_of told ks) _ _ (All-head (λ k. Refines (told k) (meant k)) k ks h)
-      (choices_refine ks (All-tail (λ k. Refines (told k) (meant k)) k ks h))
-
-  one_refines : (ks : List ℕ) → All (λ k. Refines (told k) (meant k)) ks → Refines (one_of told ks) (one_of meant ks)
-  one_refines [] h = refl
-  one_refines (k ∷ []) h = All-head (λ k. Refines (told k) (meant k)) k [] h
-  one_refines (k ∷ m ∷ ks) h = choices_refine (k ∷ m ∷ ks) h
+pub repeated_refines : (low : ℕ) (high : Option ℕ) (x x' : Option Bound) → Refines x x'
+    → Refines (repeated low high x) (repeated low high x')
+repeated_refines low high None x' h = tt
+repeated_refines low high (Some a) x' h = subst (λ o. Refines (repeated low high (Some a)) (repeated low high o)) (sym h) (refines_same (repeated low high (Some a)))
 
 -- The first of the parts, and those behind it.
 
@@ -53,28 +48,71 @@ pub turn_next : (tree : TreeParts) (bounds : List (Option Bound)) (before whole 
 turn_next tree bounds before whole result k ks within is later told kept =
     turn_more (class_has tree) (tree_at (trees tree.nodes) k) (row (map (tree_at (trees tree.nodes)) ks)) before whole result (is (kept k within)) (later kept) told
 
+-- Branches.
+
+pub choices_none : (tree : TreeParts) (bounds : List (Option Bound)) (whole : Bound) (ks : List ℕ)
+    → whole ≡ never → RefinesChoices tree bounds (Some whole) (drop (length ks) ks)
+unfolding bound
+choices_none tree bounds whole ks is =
+    subst (RefinesChoices tree bounds (Some whole)) (sym (drop_all (length ks) ks (omega arith))) (λ kept. ap Some (sym is))
+
+pub choices_next : (tree : TreeParts) (bounds : List (Option Bound)) (whole result : Option Bound) (alone : Bool) (k : ℕ) (ks : List ℕ)
+    → k < length bounds
+    → alone ≡ is_alone_of tree k ks → RefinesChoices tree bounds whole ks
+    → Refines result (both (or_so alone) (bound_at bounds k) whole)
+    → RefinesChoices tree bounds result (k ∷ ks)
+unfolding bound
+choices_next tree bounds whole result alone k ks within is later told kept =
+    let has = class_has tree in
+    let of = tree_at (trees tree.nodes) in
+    let first = bound_at bounds k in
+    refines_on result (both (or_so alone) first whole) _ told
+    (subst (λ b. Refines (both (or_so alone) first whole) (both (or_so b) (bound has (of k)) (bound_of_choices has (row (map of ks))))) is
+    (both_refines (or_so alone) first whole _ _ (kept k within) (later kept)))
+
+pub one_only : (tree : TreeParts) (bounds : List (Option Bound)) (ks : List ℕ) → length ks ≡ 1
+    → get_or ks 0 0 < length bounds → RefinesOne tree bounds (bound_at bounds (get_or ks 0 0)) ks
+unfolding bound
+one_only tree bounds [] e within kept = absurd (omega (arith, e))
+one_only tree bounds (k ∷ []) e within kept = kept k within
+one_only tree bounds (k ∷ m ∷ ks) e within kept = absurd (omega (arith, e))
+
+pub one_of_more : (tree : TreeParts) (bounds : List (Option Bound)) (result : Option Bound) (ks : List ℕ)
+    → ¬ (length ks ≡ 1) → RefinesChoices tree bounds result ks → RefinesOne tree bounds result ks
+unfolding bound
+one_of_more tree bounds result [] several told kept = told kept
+one_of_more tree bounds result (k ∷ []) several told kept = absurd (several refl)
+one_of_more tree bounds result (k ∷ m ∷ ks) several told kept = told kept
+
+-- Whether branches begin apart, one after the other.
+module _ (tree : TreeParts) (item : Item) (ks : List ℕ) (i : ℕ) (low : i < length ks) where
+  abbrev of : ℕ → Nested
+  of = tree_at (trees tree.nodes)
+
+  abbrev from_on : List ℕ → Bool
+  from_on l = all_begin_apart (class_has tree) item (row (map of l))
+
+  begins : (b : Bool) → begins_apart (class_has tree) item (first_item (of (get_or ks i 0))) ≡ b
+      → from_on (drop i ks) ≡ b && from_on (drop (i + 1) ks)
+  begins b e = at_drop_more from_on ks i 0 low ∙ ap (λ c. c && from_on (drop (i + 1) ks)) e
+
+  pub apart_next : begins_apart (class_has tree) item (first_item (of (get_or ks i 0))) ≡ true
+      → from_on (drop i ks) ≡ from_on (drop (i + 1) ks)
+  apart_next e = begins true e
+
+  pub apart_not : begins_apart (class_has tree) item (first_item (of (get_or ks i 0))) ≡ false
+      → from_on (drop i ks) ≡ false
+  apart_not e = begins false e
+
+pub alone_told : (tree : TreeParts) (item : Item) (first : ℕ) (ks : List ℕ) (i : ℕ)
+    → first_item (tree_at (trees tree.nodes) first) ≡ Some item → length ks ≤ i
+    → all_begin_apart (class_has tree) item (row (map (tree_at (trees tree.nodes)) ks)) ≡ all_begin_apart (class_has tree) item (row (map (tree_at (trees tree.nodes)) (drop i ks)))
+    → true ≡ is_alone_of tree first ks
+alone_told tree item first ks i is done same =
+    let on : List ℕ → Bool = λ l. all_begin_apart (class_has tree) item (row (map (tree_at (trees tree.nodes)) l)) in
+    sym (ap (λ o. is_alone (class_has tree) o (row (map (tree_at (trees tree.nodes)) ks))) is ∙ same ∙ at_drop_all on ks i done)
+
 module _ (has : ℕ → ℕ → Bool) where
-  abbrev of_trees : List Nested → ℕ → Option Bound
-  of_trees trees k = bound has (tree_at trees k)
-
-  choices_is : (trees : List Nested) (ks : List ℕ) → choices_of (of_trees trees) ks ≡ bound_of_choices has (row (map (tree_at trees) ks))
-  unfolding bound
-  choices_is trees [] = refl
-  choices_is trees (k ∷ ks) = ap (both or_later (bound has (tree_at trees k))) (choices_is trees ks)
-
-  one_is : (trees : List Nested) (ks : List ℕ) → one_of (of_trees trees) ks ≡ bound_of_one has (row (map (tree_at trees) ks))
-  unfolding bound
-  one_is trees [] = refl
-  one_is trees (k ∷ []) = refl
-  one_is trees (k ∷ m ∷ ks) =
-      ap (λ o. both or_later (bound has (tree_at trees k)) (both or_later (bound has (tree_at trees m)) o)) (choices_is trees ks)
-
-  module _ (trees : List Nested) (bounds : List (Option Bound)) (result : Option Bound) (ks : List ℕ) (kept : All (λ k. Refines (bound_at bounds k) (bound has (tree_at trees k))) ks) where
-    pub one_told : Refines result (one_of (bound_at bounds) ks) → Refines result (bound_of_one has (row (map (tree_at trees) ks)))
-    one_told h =
-        subst (Refines result) (one_is trees ks)
-        (refines_on result (one_of (bound_at bounds) ks) _ h (one_refines (bound_at bounds) (of_trees trees) ks kept))
-
   pub look_told : (ahead positive atomic : Bool) (ts : Row) (inside result : Option Bound) → Refines inside (change closed (bound_of_one has ts)) →
       result ≡ (if ahead && atomic then inside else None) → Refines result (bound has (look ahead positive atomic ts))
   unfolding bound

@@ -10,9 +10,11 @@ use Rattle.char_sets.specs.Sets.{class_has}
 use Rattle.pat_tree.specs.Parts.{TreeParts, tree_of}
 use Rattle.match_needs.specs.Needs.{TakesOf, IsShort, IsShortBefore, Begins, copies, Needs, SomeNeeds, AllNeed}
 use Rattle.match_needs.specs.Texts.{sets_of, AreUnions}
-use Rattle.match_needs.specs.declared.text.ByteText.{ByteText}
 use Rattle.match_needs.specs.declared.needs.Taken.{Taken}
-use Rattle.match_needs.specs.NeedTables.{may_of, IsItemNeed, IsNeed, IsRun, IsSomeNeed, AreAllNeeds, AreNeeds, IsNeedOf}
+use Rattle.match_needs.specs.Distances.{IsLong, NeedsAt}
+use Rattle.match_needs.specs.declared.needs.BeginText.{BeginText}
+use Rattle.match_needs.specs.declared.needs.Distant.{Distant}
+use Rattle.match_needs.specs.NeedTables.{may_of, IsItemNeed, IsNeed, IsRun, IsSomeNeed, AreAllNeeds, AreNeeds, IsDistant, IsNeedOf}
 use Rattle.match_needs.specs.Bounds.{bound}
 use Rattle.match_needs.specs.declared.bounds.Bound.{Bound}
 use Rattle.match_needs.specs.declared.needs.Need.{Need}
@@ -164,16 +166,15 @@ needs_look_at : (may : Item → ℕ → Bool) (utf anywhere : Bool) (atomic : Bo
 needs_look_at may utf anywhere atomic ts None h = tt
 needs_look_at may utf anywhere atomic ts (Some w) h = record { needs = h.1; item = λ yes. absurd (clash _ yes h.0); short = λ yes other is. absurd cc }
 
-pub need_whole : (t : TreeParts) (b : Bound) (wanted begun : Option Wanted) (r : Option Need) → bound (class_has t) (tree_of t) ≡ Some b → IsNeed (may_of t) t.options.utf true (tree_of t) wanted →
-    IsNeed (may_of t) t.options.utf false (tree_of t) begun →
+pub need_whole : (t : TreeParts) (b : Bound) (wanted : Option Wanted) (r : Option Need) → bound (class_has t) (tree_of t) ≡ Some b → IsNeed (may_of t) t.options.utf true (tree_of t) wanted →
     (IsNeed (may_of t) t.options.utf true (tree_of t) wanted → IfSome r (λ need. Needs (may_of t) t.options.utf true (sets_of need.text) (tree_of t))) →
-    (IsNeed (may_of t) t.options.utf false (tree_of t) begun → IfSome r (λ need. IfSome need.begin (λ text. Needs (may_of t) t.options.utf false (sets_of text) (tree_of t)))) →
+    IfSome r (λ need. IfSome need.begin (λ begin. NeedsAt (may_of t) t.options.utf (sets_of begin.text) begin.distance (tree_of t))) →
     IfSome r (λ need. need.bound ≡ b) → IfSome r (IsNeedOf t)
-need_whole t b wanted begun None e h i k m l = tt
-need_whole t b wanted begun (Some need) e h i k m l = record { text = k h; begin = m i; bound = e ∙ ap Some (sym l) }
+need_whole t b wanted None e h k m l = tt
+need_whole t b wanted (Some need) e h k m l = record { text = k h; begin = m; bound = e ∙ ap Some (sym l) }
 
 -- what is told of a text that is kept
-pub begin_kept : (P : ByteText → Type 0) (r : Option Need) (told : Option ByteText) → IfSome r (λ need. need.begin ≡ told) → IfSome told P → IfSome r (λ need. IfSome need.begin P)
+pub begin_kept : (P : BeginText → Type 0) (r : Option Need) (told : Option BeginText) → IfSome r (λ need. need.begin ≡ told) → IfSome told P → IfSome r (λ need. IfSome need.begin P)
 begin_kept P None told e h = tt
 begin_kept P (Some need) told e h = subst (λ o. IfSome o P) (sym e) h
 
@@ -189,3 +190,72 @@ needs_look may utf anywhere false positive atomic ts inside result h e = subst (
 pub bytes_short : (may : Item → ℕ → Bool) (utf : Bool) (item : Item) (told : Option Taken) → utf ≡ false → IfSome told (λ taken. TakesOf may taken.bytes item) → IfSome told (IsItemNeed may utf item)
 bytes_short may utf item None no_utf h = tt
 bytes_short may utf item (Some taken) no_utf h = (h, λ yes. inl no_utf)
+
+-- Of texts at a distance.
+
+module _ (may : Item → ℕ → Bool) (utf : Bool) where
+  -- a text of the parts themselves is at none
+  pub at_none : (ts : Row) (here : Option Wanted) (far : Option Distant) → IsSomeNeed may utf false ts here →
+      IfSome far (λ far. (here ≡ Some far.wanted) × (far.distance ≡ 0)) → IsDistant may utf ts far
+  at_none ts here None h k = tt
+  at_none tree.none here (Some far) h k = absurd (subst (IsSomeNeed may utf false tree.none) k.0 h).1
+  at_none (tree.more t ts) here (Some far) h k = inl (k.1, (subst (IsSomeNeed may utf false (tree.more t ts)) k.0 h).1)
+
+  pub either_distant : (ts : Row) (far here r : Option Distant) → (r ≡ far) ⊎ (r ≡ here) → IsDistant may utf ts far → IsDistant may utf ts here → IsDistant may utf ts r
+  either_distant ts far here r (inl e) h k = subst (IsDistant may utf ts) (sym e) h
+  either_distant ts far here r (inr e) h k = subst (IsDistant may utf ts) (sym e) k
+
+  -- what holds of the parts from one place on holds from the place before it on, whose part takes so many bytes
+  pub distant_back : (of : ℕ → Nested) (needs : List (Option Wanted)) (xs : List ℕ) (i : ℕ) (first : Option Wanted) (Long : Nested → Type 0) (Had Has : Row → Type 0) →
+      0 < i → i ≤ length xs → first ≡ get_or needs (get_or xs (i - 1) 0) None → Long (of (get_or xs (i - 1) 0)) →
+      (AreNeeds may utf false of needs (drop i xs) → Had (row (map of (drop i xs)))) →
+      ((t : Nested) (ts : Row) → IsNeed may utf false t first → Long t → Had ts → Has (tree.more t ts)) →
+      AreNeeds may utf false of needs (drop (i - 1) xs) → Has (row (map of (drop (i - 1) xs)))
+  distant_back of needs xs i first Long Had Has p l is long rest join =
+      rw (back xs i p l) (λ kept. join _ _ (rw is (kept 0 0 (omega arith))) long (rest (λ k d l. kept (suc k) d (omega (arith, l)))))
+
+  -- a pattern begins with the text, or takes it at the distance
+  pub needs_at : (t : Nested) (here far : Option Wanted) (near behind r : Option Distant) (told : Option BeginText) → IsNeed may utf false t here →
+      IfSome far (λ w. (wanted : Wanted) × ((here ≡ Some wanted) × (sets_of w.text ≡ sets_of wanted.text))) →
+      IfSome near (λ d. (far ≡ Some d.wanted) × (d.distance ≡ 0)) →
+      IfSome behind (λ d. NeedsAt may utf (sets_of d.wanted.text) d.distance t) → (r ≡ behind) ⊎ (r ≡ near) →
+      IfSome told (λ begin. (d : Distant) × ((r ≡ Some d) × ((sets_of begin.text ≡ sets_of d.wanted.text) × (begin.distance ≡ d.distance)))) →
+      IfSome told (λ begin. NeedsAt may utf (sets_of begin.text) begin.distance t)
+  needs_at t here far near behind r None h c k b o e = tt
+  needs_at t here far near behind r (Some begin) h c k b o e =
+      subst (λ n. NeedsAt may utf (sets_of begin.text) n t) (sym e.1.1.1)
+      (subst (λ sets. NeedsAt may utf sets e.0.distance t) (sym e.1.1.0) (by_choice o))
+    where
+      Holds : Option Distant → Type 0
+      Holds o = IfSome o (λ d. NeedsAt may utf (sets_of d.wanted.text) d.distance t)
+
+      copied : (d : Distant) → far ≡ Some d.wanted → (wanted : Wanted) × ((here ≡ Some wanted) × (sets_of d.wanted.text ≡ sets_of wanted.text))
+      copied d is = subst (λ o. IfSome o (λ w. (wanted : Wanted) × ((here ≡ Some wanted) × (sets_of w.text ≡ sets_of wanted.text)))) is c
+
+      at_near : (o : Option Distant) → IfSome o (λ d. (far ≡ Some d.wanted) × (d.distance ≡ 0)) → Holds o
+      at_near None k = tt
+      at_near (Some d) k =
+          let from = copied d k.0 in
+          inl (k.1, subst (λ sets. Needs may utf false sets t) (sym from.1.1) (subst (IsNeed may utf false t) from.1.0 h).needs)
+
+      by_choice : (r ≡ behind) ⊎ (r ≡ near) → Holds (Some e.0)
+      by_choice (inl is) = subst Holds (sym is ∙ e.1.0) b
+      by_choice (inr is) = subst Holds (sym is ∙ e.1.0) (at_near near k)
+
+-- what is copied is there
+pub copied_from : (need copy : Option Wanted) → ((wanted : Wanted) → need ≡ Some wanted → IfSome copy (λ w. sets_of w.text ≡ sets_of wanted.text)) → (need ≡ None → copy ≡ None) →
+    IfSome copy (λ w. (wanted : Wanted) × ((need ≡ Some wanted) × (sets_of w.text ≡ sets_of wanted.text)))
+copied_from need None s n = tt
+copied_from (Some wanted) (Some w) s n = (wanted, (refl, s wanted refl))
+copied_from None (Some w) s n = let e = n refl in absurd cc
+
+-- a repeat takes as many bytes as its minimum says, where that is its maximum too
+pub repeat_long : (may : Item → ℕ → Bool) (utf : Bool) (item : Item) (low : ℕ) (high : Option ℕ) (lazily : Bool) (r : Option ℕ) →
+    IfSome r (λ n. (n ≡ low) × ((high ≡ Some n) × IsShort may utf item)) → IfSome r (λ n. IsLong may utf n (tree.one_repeat item low high lazily))
+repeat_long may utf item low high lazily None h = tt
+repeat_long may utf item low high lazily (Some n) h =
+    subst (λ o. IsLong may utf n (tree.one_repeat item low o lazily)) (sym h.1.0) (h.0, (sym h.0, h.1.1))
+
+-- an item of one byte
+pub short_told : (may : Item → ℕ → Bool) (utf : Bool) (item : Item) (told : Option Taken) (taken : Taken) → told ≡ Some taken → IfSome told (IsItemNeed may utf item) → taken.is_short ≡ true → IsShort may utf item
+short_told may utf item told taken is h short = (subst (λ o. IfSome o (IsItemNeed may utf item)) is h).1 short

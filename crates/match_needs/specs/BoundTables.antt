@@ -4,7 +4,7 @@ use Rattle.pat_tree.specs.Nested.{Nested, row, tree_at, trees}
 use Rattle.pat_tree.specs.Parts.{TreeParts}
 use Rattle.char_sets.specs.Sets.{class_has}
 use Rattle.match_needs.specs.declared.bounds.Bound.{Bound}
-use Rattle.match_needs.specs.Bounds.{never, or_later, both, bound, bound_before, bound_in_turn}
+use Rattle.match_needs.specs.Bounds.{first_item, is_alone, bound, bound_before, bound_in_turn, bound_of_one, bound_of_choices}
 
 -- what is told is what is meant
 abbrev pub Refines : {A : Type 0} → Option A → Option A → Type 0
@@ -14,15 +14,6 @@ Refines (Some a) y = y ≡ Some a
 abbrev pub bound_at : List (Option Bound) → ℕ → Option Bound
 bound_at bounds k = slice_index_or bounds k None
 
--- of branches, by the bounds of each
-abbrev pub choices_of : (ℕ → Option Bound) → List ℕ → Option Bound
-choices_of of [] = Some never
-choices_of of (k ∷ ks) = both or_later (of k) (choices_of of ks)
-
-abbrev pub one_of : (ℕ → Option Bound) → List ℕ → Option Bound
-one_of of (k ∷ []) = of k
-one_of of ks = choices_of of ks
-
 abbrev pub KeepBounds : (ℕ → ℕ → Bool) → List Nested → List (Option Bound) → Type 0
 KeepBounds has trees bounds = (k : ℕ) → k < length bounds → Refines (bound_at bounds k) (bound has (tree_at trees k))
 
@@ -31,6 +22,23 @@ abbrev pub RefinesTurn : TreeParts → List (Option Bound) → Option Bound → 
 RefinesTurn tree bounds result ks =
     KeepBounds (class_has tree) (trees tree.nodes) bounds
     → Refines result (bound_in_turn (class_has tree) (row (map (tree_at (trees tree.nodes)) ks)))
+
+-- of branches, two or more of which take a Step each
+abbrev pub RefinesOne : TreeParts → List (Option Bound) → Option Bound → List ℕ → Type 0
+RefinesOne tree bounds result ks =
+    KeepBounds (class_has tree) (trees tree.nodes) bounds
+    → Refines result (bound_of_one (class_has tree) (row (map (tree_at (trees tree.nodes)) ks)))
+
+abbrev pub RefinesChoices : TreeParts → List (Option Bound) → Option Bound → List ℕ → Type 0
+RefinesChoices tree bounds result ks =
+    KeepBounds (class_has tree) (trees tree.nodes) bounds
+    → Refines result (bound_of_choices (class_has tree) (row (map (tree_at (trees tree.nodes)) ks)))
+
+-- whether the first of some branches is left only where none of the others is
+abbrev pub is_alone_of : TreeParts → ℕ → List ℕ → Bool
+is_alone_of tree k ks =
+    let of = tree_at (trees tree.nodes) in
+    is_alone (class_has tree) (first_item (of k)) (row (map of ks))
 
 -- the bound of the first of the parts, before the others
 abbrev pub IsBefore : TreeParts → List (Option Bound) → Option Bound → List ℕ → Type 0

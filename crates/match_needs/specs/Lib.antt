@@ -1,5 +1,6 @@
 pub mod Bounds
 pub mod BoundTables
+pub mod Distances
 pub mod Needs
 pub mod NeedTables
 pub mod Texts

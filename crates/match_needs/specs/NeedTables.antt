@@ -6,7 +6,9 @@ use Rattle.pat_tree.specs.Parts.{TreeParts, tree_of}
 use Rattle.char_sets.specs.Sets.{class_has}
 use Rattle.match_needs.specs.Bounds.{bound}
 use Rattle.match_needs.specs.Needs.{may_take, TakesOf, IsTaking, IsShort, Begins, Needs, SomeNeeds, AllNeed}
+use Rattle.match_needs.specs.Distances.{NeedsFrom, NeedsAt}
 use Rattle.match_needs.specs.Texts.{sets_of}
+use Rattle.match_needs.specs.declared.needs.Distant.{Distant}
 use Rattle.match_needs.specs.declared.needs.Need.{Need}
 use Rattle.match_needs.specs.declared.needs.Taken.{Taken}
 use Rattle.match_needs.specs.declared.needs.Wanted.{Wanted}
@@ -53,8 +55,15 @@ abbrev pub IsRun : (Item → ℕ → Bool) → Bool → Row → Option Wanted �
 IsRun may utf ts None = Unit {0}
 IsRun may utf ts (Some w) = (w.is_item ≡ false) × Begins may utf (sets_of w.text) ts
 
--- every match of a finished tree takes the text, and one where it begins, where that is told; and the tree has this bound
+-- the parts take the text at its distance from where they begin
+abbrev pub IsDistant : (Item → ℕ → Bool) → Bool → Row → Option Distant → Type 0
+IsDistant may utf ts None = Unit {0}
+IsDistant may utf ts (Some far) = NeedsFrom may utf (sets_of far.wanted.text) far.distance ts
+
+-- every match of a finished tree takes the text, and one at a distance from where it begins, where
+-- that is told; and the tree has this bound
 pub record IsNeedOf (tree : TreeParts) (need : Need) : Type 0 where
   pub text : Needs (may_of tree) tree.options.utf true (sets_of need.text) (tree_of tree)
-  pub begin : IfSome need.begin (λ text. Needs (may_of tree) tree.options.utf false (sets_of text) (tree_of tree))
+  pub begin : IfSome need.begin (λ begin.
+      NeedsAt (may_of tree) tree.options.utf (sets_of begin.text) begin.distance (tree_of tree))
   pub bound : bound (class_has tree) (tree_of tree) ≡ Some need.bound

@@ -1,13 +1,13 @@
 // How many Steps, states and units a search of a part of a pattern takes at most.
 ghost use Rattle.std.specs.Prelude.{◌≡◌, ◌+◌, ◌<◌, ◌≤◌, ◌&&◌, if◌then◌else◌, None, Some, All, List, IfOk, IfSome, IsTrue, length};
-ghost use Rattle.pat_tree.specs.Nested.{Nested, Row, more, trees, nest};
+ghost use Rattle.pat_tree.specs.Nested.{Nested, Row, more, tree_at, trees, nest};
 ghost use Rattle.pat_tree.specs.Parts.{TreeParts, tree_of};
 ghost use Rattle.pat_tree.specs.Rules.{class_in, kids_of};
 ghost use Rattle.char_sets.specs.Sets.{class_has};
 ghost use Rattle.char_sets.specs.Table.{IsTableOf};
 ghost use Rattle.match_needs.specs.Bounds as spec;
-ghost use Rattle.match_needs.specs.Bounds.{at, both, change};
-ghost use Rattle.match_needs.specs.BoundTables.{Refines, KeepBounds, RefinesTurn, IsBefore, bound_at, one_of, choices_of};
+ghost use Rattle.match_needs.specs.Bounds.{at, both, change, repeated};
+ghost use Rattle.match_needs.specs.BoundTables.{Refines, KeepBounds, RefinesTurn, RefinesOne, RefinesChoices, IsBefore, is_alone_of};
 
 use char_sets::ClassTable;
 use pat_tree::{Item, Memory, Node, NodeId, Tree};
@@ -34,6 +34,15 @@ impl Growth {
             times: self.times.checked_add(other.times)?,
             degree: self.degree.max(other.degree),
         })
+    }
+
+    fn greater(self, other: Growth) -> Growth
+        ensures { result ≡ spec.greater self other }
+    {
+        Growth {
+            times: self.times.max(other.times),
+            degree: self.degree.max(other.degree),
+        }
     }
 
     fn product(self, other: Growth) -> Option<Growth>
@@ -65,7 +74,7 @@ impl Growth {
 pub struct Bound {
     pub steps: Growth,
     pub states: Growth,
-    pub units: u32,
+    pub units: Growth,
 }
 
 impl Bound {
@@ -76,7 +85,7 @@ impl Bound {
         Bound {
             steps: Growth::steady(0),
             states: Growth::steady(1),
-            units: 0,
+            units: Growth::steady(0),
         }
     }
 
@@ -87,7 +96,7 @@ impl Bound {
         Bound {
             steps: Growth::steady(0),
             states: Growth::steady(0),
-            units: 0,
+            units: Growth::steady(0),
         }
     }
 
@@ -98,7 +107,7 @@ impl Bound {
         Bound {
             steps: places,
             states: places,
-            units: 1,
+            units: Growth::steady(1),
         }
     }
 
@@ -109,7 +118,7 @@ impl Bound {
         Bound {
             steps: places,
             states: Growth::steady(1),
-            units: 1,
+            units: Growth::steady(1),
         }
     }
 
@@ -120,7 +129,7 @@ impl Bound {
         Some(Bound {
             steps: self.steps.plus(self.states.product(next.steps)?)?,
             states: self.states.product(next.states)?,
-            units: self.units.checked_add(next.units)?,
+            units: self.units.plus(next.units)?,
         })
     }
 
@@ -131,7 +140,19 @@ impl Bound {
         Some(Bound {
             steps: Growth::steady(1).plus(self.steps.plus(later.steps)?)?,
             states: self.states.plus(later.states)?,
-            units: self.units.checked_add(later.units)?.checked_add(1)?,
+            units: Growth::steady(1).plus(self.units.plus(later.units)?)?,
+        })
+    }
+
+    /// The same, where one of them at most goes on.
+    fn or_apart(self, later: Bound) -> Option<Bound>
+        ensures { IfSome result (λ x. x ≡ spec.or_apart self later) }
+    {
+        let whole = self.or_later(later)?;
+        Some(Bound {
+            steps: whole.steps,
+            states: self.states.greater(later.states),
+            units: whole.units,
         })
     }
 
@@ -142,7 +163,26 @@ impl Bound {
         Some(Bound {
             steps: self.steps,
             states: Growth::steady(1),
-            units: self.units.checked_add(2)?,
+            units: Growth::steady(2).plus(self.units)?,
+        })
+    }
+
+    /// Whether it is left once at most.
+    fn is_left_once(self) -> bool
+        ensures { result ≡ spec.is_left_once self }
+    {
+        self.states.times <= 1 && self.states.degree == 0
+    }
+
+    /// So many turns of this part, which is left once at most.
+    fn in_turns(self, min: u16, max: Option<u16>) -> Option<Bound>
+        ensures { IfSome result (λ x. x ≡ spec.in_turns min max self) }
+    {
+        let turns = group_turns(min, max);
+        Some(Bound {
+            steps: turns.product(Growth::steady(1).plus(self.steps)?)?,
+            states: group_ends(min, max),
+            units: turns.product(Growth::steady(1).plus(self.units)?)?,
         })
     }
 
@@ -154,7 +194,7 @@ impl Bound {
             Some(_) => Some(Bound {
                 steps: self.steps,
                 states: self.states,
-                units: self.units.checked_add(2)?,
+                units: Growth::steady(2).plus(self.units)?,
             }),
             None => Some(self),
         }
@@ -169,6 +209,32 @@ fn turns(min: u16, max: Option<u16>) -> Growth
         Some(max) => Growth::steady((max as u32 + 1).saturating_sub(min as u32)),
         None => Growth {
             times: 1,
+            degree: 1,
+        },
+    }
+}
+
+/// How many turns a repeat of a group takes: past the minimum one that takes nothing is the last.
+fn group_turns(min: u16, max: Option<u16>) -> Growth
+    ensures { result ≡ spec.group_turns min max }
+{
+    match max {
+        Some(max) => Growth::steady(min.max(max) as u32),
+        None => Growth {
+            times: (min as u32).saturating_sub(1) + 1,
+            degree: 1,
+        },
+    }
+}
+
+/// After how many of these turns it is left.
+fn group_ends(min: u16, max: Option<u16>) -> Growth
+    ensures { result ≡ spec.group_ends min max }
+{
+    match max {
+        Some(max) => Growth::steady(min.max(max) as u32 + 1 - min as u32),
+        None => Growth {
+            times: 1u32.saturating_sub(min as u32) + 1,
             degree: 1,
         },
     }
@@ -225,15 +291,22 @@ fn bound_of(
         Node::Anchor(_) => Some(Bound::once()),
         Node::KeepOut => Some(Bound::once()),
         Node::Seq(kids) => in_turn(tree, classes, kids.as_slice(), bounds),
-        Node::Group { number, branches } => grouped(*number, one_of(branches.as_slice(), bounds)),
+        Node::Group { number, branches } => {
+            grouped(*number, one_of(tree, classes, branches.as_slice(), bounds))
+        }
         Node::OneRepeat { min, max, .. } => Some(Bound::offered(turns(*min, *max))),
-        Node::Atomic(branches) => closed(one_of(branches.as_slice(), bounds)),
+        Node::Repeat { body, min, max, .. } => repeated(bounds[*body as usize], *min, *max),
+        Node::Atomic(branches) => closed(one_of(tree, classes, branches.as_slice(), bounds)),
         Node::Look {
             ahead,
             atomic,
             branches,
             ..
-        } => bound_if(*ahead, *atomic, closed(one_of(branches.as_slice(), bounds))),
+        } => bound_if(
+            *ahead,
+            *atomic,
+            closed(one_of(tree, classes, branches.as_slice(), bounds)),
+        ),
         _ => None,
     }
 }
@@ -250,10 +323,16 @@ fn followed(first: Option<Bound>, rest: Option<Bound>) -> Option<Bound>
     first?.followed(rest?)
 }
 
-fn or_later(first: Option<Bound>, later: Option<Bound>) -> Option<Bound>
-    ensures { Refines result (both spec.or_later first later) }
+fn or_so(alone: bool, first: Option<Bound>, later: Option<Bound>) -> Option<Bound>
+    ensures { Refines result (both (spec.or_so alone) first later) }
 {
-    first?.or_later(later?)
+    let first = first?;
+    let later = later?;
+    if alone {
+        first.or_apart(later)
+    } else {
+        first.or_later(later)
+    }
 }
 
 fn grouped(number: Option<u16>, branches: Option<Bound>) -> Option<Bound>
@@ -262,10 +341,36 @@ fn grouped(number: Option<u16>, branches: Option<Bound>) -> Option<Bound>
     branches?.grouped(number)
 }
 
+fn repeated(body: Option<Bound>, min: u16, max: Option<u16>) -> Option<Bound>
+    ensures { Refines result (repeated min max body) }
+{
+    let body = body?;
+    if !body.is_left_once() {
+        return None;
+    }
+    body.in_turns(min, max)
+}
+
 fn closed(branches: Option<Bound>) -> Option<Bound>
     ensures { Refines result (change spec.closed branches) }
 {
     branches?.closed()
+}
+
+/// Whether an item is known not to take a character.
+fn lacks(classes: &ClassTable, item: &Item, c: u32) -> bool
+    requires { All (λ n. n < length classes.now) (class_in item.now) }
+    ensures { (tree : TreeParts) → IsTableOf tree classes.now
+        → result ≡ spec.lacks (class_has tree) item.now c }
+{
+    match item {
+        Item::Class(class) => c < 256 && !classes.bytes(*class).has(c as u8),
+        Item::Char {
+            c: own,
+            caseless: false,
+        } => *own != c,
+        _ => false,
+    }
 }
 
 /// Whether a part is a character that an item doesn't take.
@@ -277,14 +382,57 @@ fn is_apart(classes: &ClassTable, item: &Item, next: &Node) -> bool
     let Node::One(Item::Char { c, caseless: false }) = next else {
         return false;
     };
-    match item {
-        Item::Class(class) => *c < 256 && !classes.bytes(*class).has(*c as u8),
-        Item::Char {
-            c: own,
-            caseless: false,
-        } => *own != *c,
-        _ => false,
+    lacks(classes, item, *c)
+}
+
+fn lacks_item(classes: &ClassTable, item: &Item, next: &Item) -> bool
+    requires { All (λ n. n < length classes.now) (class_in item.now) }
+    ensures { (tree : TreeParts) → IsTableOf tree classes.now
+        → result ≡ spec.lacks_item (class_has tree) item.now next.now }
+{
+    let Item::Char { c, caseless: false } = next else {
+        return false;
+    };
+    *c < 256 && lacks(classes, item, *c)
+}
+
+/// Whether one of two items is a character that the other doesn't take.
+fn are_apart(classes: &ClassTable, item: &Item, next: &Item) -> bool
+    requires own { All (λ n. n < length classes.now) (class_in item.now) }
+    requires next { All (λ n. n < length classes.now) (class_in next.now) }
+    ensures { (tree : TreeParts) → IsTableOf tree classes.now
+        → result ≡ spec.are_apart (class_has tree) item.now next.now }
+{
+    lacks_item(classes, item, next) || lacks_item(classes, next, item)
+}
+
+/// The item that a node is.
+fn item_of(tree: &Tree, id: NodeId) -> Option<Item>
+    requires { id ≤ tree.now.root }
+    ensures is { result ≡ spec.item_of (tree_at (trees tree.now.nodes) id) }
+    ensures class { IfSome result
+        (λ item. All (λ n. n < length tree.now.classes) (class_in item)) }
+{
+    match tree.node(id) {
+        Node::One(item) => Some(*item),
+        _ => None,
     }
+}
+
+/// The item with which a branch begins, where it begins with one.
+fn first_item(tree: &Tree, id: NodeId) -> Option<Item>
+    requires { id ≤ tree.now.root }
+    ensures is { result ≡ spec.first_item (tree_at (trees tree.now.nodes) id) }
+    ensures class { IfSome result
+        (λ item. All (λ n. n < length tree.now.classes) (class_in item)) }
+{
+    let Node::Seq(kids) = tree.node(id) else {
+        return item_of(tree, id);
+    };
+    let [first, ..] = kids.as_slice() else {
+        return None;
+    };
+    item_of(tree, *first)
 }
 
 /// The bound of the first of these parts, before the others.
@@ -335,26 +483,72 @@ fn in_turn(
 }
 
 /// One of these branches.
-fn one_of(branches: &[NodeId], bounds: &[Option<Bound>]) -> Option<Bound>
-    requires { All (λ k. k < length bounds.now) branches.now }
-    ensures { Refines result (one_of (bound_at bounds.now) branches.now) }
+fn one_of(
+    tree: &Tree,
+    classes: &ClassTable,
+    branches: &[NodeId],
+    bounds: &[Option<Bound>],
+) -> Option<Bound>
+    requires table { IsTableOf tree.now classes.now }
+    requires below { All (λ k. k < length bounds.now) branches.now }
+    requires few { length bounds.now ≤ tree.now.root }
+    ensures { RefinesOne tree.now bounds.now result branches.now }
 {
-    if let [only] = branches {
-        return bounds[*only as usize];
+    if branches.len() == 1 {
+        return bounds[branches[0] as usize];
     }
-    choices_of(branches, bounds)
+    choices_of(tree, classes, branches, bounds)
 }
 
 /// One of these branches, each of which takes a Step.
-fn choices_of(branches: &[NodeId], bounds: &[Option<Bound>]) -> Option<Bound>
-    requires { All (λ k. k < length bounds.now) branches.now }
-    ensures { Refines result (choices_of (bound_at bounds.now) branches.now) }
+fn choices_of(
+    tree: &Tree,
+    classes: &ClassTable,
+    branches: &[NodeId],
+    bounds: &[Option<Bound>],
+) -> Option<Bound>
+    requires table { IsTableOf tree.now classes.now }
+    requires below { All (λ k. k < length bounds.now) branches.now }
+    requires few { length bounds.now ≤ tree.now.root }
+    ensures { RefinesChoices tree.now bounds.now result branches.now }
 {
     let mut whole = Some(Bound::never());
     let mut i = branches.len();
     while i > 0 {
         i -= 1;
-        whole = or_later(bounds[branches[i] as usize], whole);
+        let alone = is_alone(tree, classes, branches[i], &branches[i + 1..]);
+        whole = or_so(alone, bounds[branches[i] as usize], whole);
     }
     whole
+}
+
+/// Whether a branch begins with an item, and the others with ones that take none of its characters.
+fn is_alone(tree: &Tree, classes: &ClassTable, first: NodeId, others: &[NodeId]) -> bool
+    requires table { IsTableOf tree.now classes.now }
+    requires first { first ≤ tree.now.root }
+    requires others { All (λ k. k ≤ tree.now.root) others.now }
+    ensures { result ≡ is_alone_of tree.now first others.now }
+{
+    let Some(item) = first_item(tree, first) else {
+        return false;
+    };
+    for i in 0..others.len() {
+        if !begins_apart(tree, classes, &item, others[i]) {
+            return false;
+        }
+    }
+    true
+}
+
+fn begins_apart(tree: &Tree, classes: &ClassTable, item: &Item, other: NodeId) -> bool
+    requires table { IsTableOf tree.now classes.now }
+    requires class { All (λ n. n < length tree.now.classes) (class_in item.now) }
+    requires within { other ≤ tree.now.root }
+    ensures { result ≡ spec.begins_apart (class_has tree.now) item.now
+        (spec.first_item (tree_at (trees tree.now.nodes) other)) }
+{
+    match first_item(tree, other) {
+        Some(next) => are_apart(classes, item, &next),
+        None => false,
+    }
 }

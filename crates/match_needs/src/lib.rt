@@ -7,5 +7,5 @@ mod needs;
 mod text;
 
 pub use bounds::{Bound, Growth};
-pub use needs::{Need, need_of};
+pub use needs::{BeginText, Need, need_of};
 pub use text::ByteText;

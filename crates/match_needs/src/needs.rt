@@ -3,14 +3,16 @@ ghost use Rattle.std.specs.Prelude.{◌≡◌, ◌⊎◌, ℕ, ◌+◌, ◌<◌,
 ghost use Rattle.byte_lanes.specs.Sets.{has_byte};
 ghost use Rattle.char_sets.specs.Sets.{class_has};
 ghost use Rattle.pat_tree.specs.declared.nodes.Item.{Item};
-ghost use Rattle.pat_tree.specs.Nested.{Nested, Row, one, more, trees, nest, row};
-ghost use Rattle.pat_tree.specs.Parts.{TreeParts};
+ghost use Rattle.pat_tree.specs.Nested.{Nested, Row, one, more, trees, tree_at, nest, row};
+ghost use Rattle.pat_tree.specs.Parts.{TreeParts, tree_of};
 ghost use Rattle.pat_tree.specs.Rules.{kids_of, classes_of, class_in};
 ghost use Rattle.char_sets.specs.Table.{IsTableOf};
 ghost use Rattle.match_needs.specs.declared.needs.Wanted.{Wanted};
 ghost use Rattle.match_needs.specs.Needs.{may_begin, may_take, Needs, TakesOf, IsTaking, IsShort, Begins, copies};
 ghost use Rattle.match_needs.specs.Texts.{sets_of};
-ghost use Rattle.match_needs.specs.NeedTables.{may_of, IsNeed, IsItemNeed, IsRun, IsSomeNeed, AreAllNeeds, KeepNeeds, AreNeeds, IsNeedOf};
+ghost use Rattle.match_needs.specs.NeedTables.{may_of, IsNeed, IsItemNeed, IsRun, IsSomeNeed, AreAllNeeds, KeepNeeds, AreNeeds, IsDistant, IsNeedOf};
+ghost use Rattle.match_needs.specs.Distances.{IsLong, NeedsAt};
+ghost use Rattle.match_needs.specs.declared.needs.Distant.{Distant};
 
 use crate::bounds::{Bound, bound_of_whole};
 use crate::text::ByteText;
@@ -24,9 +26,19 @@ use std::alloc::Global;
 #[derive(Drop)]
 pub struct Need {
     pub text: ByteText,
-    /// A text with which every match begins, where one is known that may tell more than the first bytes.
-    pub begin: Option<ByteText>,
+    /// A text at a distance from where every match begins, where one is known that may tell more than the first bytes.
+    pub begin: Option<BeginText>,
+    /// Whether the two are the same text, so that who goes by the second needn't look for the first.
+    pub is_begin: bool,
     pub bound: Bound,
+}
+
+/// A text that every match takes so many bytes behind the place where it begins.
+#[derive(Drop)]
+pub struct BeginText {
+    pub text: ByteText,
+    /// 0 to 255.
+    pub distance: u16,
 }
 
 /// The bytes that an item takes, and how common they are.
@@ -49,11 +61,21 @@ pub(crate) struct Wanted {
     pub is_short: bool,
 }
 
+/// A text that every match of some parts takes so many bytes behind the place where it begins.
+#[derive(Drop)]
+pub(crate) struct Distant {
+    pub wanted: Wanted,
+    pub distance: u16,
+}
+
 // A weight tells how many of so many bytes of a usual text are in a set: the weight of a place where any byte may stand.
 const ANY: u32 = 400;
 
 // A set that is more common than this is of no use, since most lines have one of its bytes.
 const COMMON: u32 = 100;
+
+// The greatest distance of a text from where a match begins.
+const FARTHEST: u16 = 255;
 
 /// The text that every match of a pattern needs with the pattern's bound, where both are known. Needs the table of the
 /// tree's own classes.
@@ -70,18 +92,32 @@ pub fn need_of(alloc: Global, tree: &Tree, classes: &ClassTable) -> Result<Optio
         return Ok(None);
     }
     let begins = needs_of(alloc, tree, classes, false)?;
-    let begin = begin_of(&begins[root], tree.options().utf);
+    let begin = begin_of(tree, &begins);
     Ok(with_bound(&needs[root], begin, bound))
 }
 
-/// The text with which every match begins, where it may tell more than the bytes that are known as the
-/// first ones: a second byte, or in UTF that it doesn't begin with any byte past ASCII.
-fn begin_of(begin: &Option<Wanted>, utf: bool) -> Option<ByteText>
-    ensures { (may : Item → ℕ → Bool) (utf : Bool) → (t : Nested) → IsNeed may utf false t begin.now
-        → IfSome result (λ text. Needs may utf false (sets_of text) t) }
+/// The text that every match takes at a distance from where it begins, where it may tell more than the bytes that are
+/// known as the first ones: another byte than the first, or in UTF that it doesn't begin with any byte past ASCII.
+fn begin_of(tree: &Tree, begins: &[Option<Wanted>]) -> Option<BeginText>
+    requires { length begins.now ≡ tree.now.root + 1 }
+    ensures { KeepNeeds (may_of tree.now) tree.now.options.utf false (trees tree.now.nodes) begins.now
+        → IfSome result (λ begin. NeedsAt (may_of tree.now) tree.now.options.utf
+        (sets_of begin.text) begin.distance (tree_of tree.now)) }
 {
-    match begin {
-        Some(wanted) if tells_more(&wanted.text, utf) => Some(sought(wanted)),
+    let here = at_once(copy_of(&begins[tree.root() as usize]));
+    told(nearer(behind_begin(tree, begins), here), tree.options().utf)
+}
+
+/// The text, where it may tell more than the first bytes do.
+fn told(distant: Option<Distant>, utf: bool) -> Option<BeginText>
+    ensures { IfSome result (λ begin. (far : Distant) × ((distant ≡ Some far)
+        × ((sets_of begin.text ≡ sets_of far.wanted.text) × (begin.distance ≡ far.distance)))) }
+{
+    match distant {
+        Some(far) if far.distance > 0 || tells_more(&far.wanted.text, utf) => Some(BeginText {
+            text: sought(&far.wanted),
+            distance: far.distance,
+        }),
         _ => None,
     }
 }
@@ -98,7 +134,7 @@ fn sought(wanted: &Wanted) -> ByteText
     wanted.text.copied().looked_for(anchor)
 }
 
-fn with_bound(need: &Option<Wanted>, begin: Option<ByteText>, bound: Bound) -> Option<Need>
+fn with_bound(need: &Option<Wanted>, begin: Option<BeginText>, bound: Bound) -> Option<Need>
     ensures text { (may : Item → ℕ → Bool) (utf : Bool) → (t : Nested) → IsNeed may utf true t need.now
         → IfSome result (λ told. Needs may utf true (sets_of told.text) t) }
     ensures begin { IfSome result (λ told. told.begin ≡ begin) }
@@ -107,11 +143,43 @@ fn with_bound(need: &Option<Wanted>, begin: Option<ByteText>, bound: Bound) -> O
     match need {
         Some(wanted) => Some(Need {
             text: sought(wanted),
+            is_begin: is_same(&wanted.text, &begin),
             begin,
             bound,
         }),
         None => None,
     }
+}
+
+/// Whether a text is the one at a distance from where a match begins.
+fn is_same(text: &ByteText, begin: &Option<BeginText>) -> bool {
+    match begin {
+        Some(begin) => is_same_text(text, &begin.text),
+        None => false,
+    }
+}
+
+fn is_same_text(one: &ByteText, other: &ByteText) -> bool {
+    is_same_set(&one.first, &other.first)
+        && is_same_of(&one.second, &other.second)
+        && is_same_of(&one.third, &other.third)
+}
+
+fn is_same_of(one: &Option<ByteSet>, other: &Option<ByteSet>) -> bool {
+    match (one, other) {
+        (Some(one), Some(other)) => is_same_set(one, other),
+        (None, None) => true,
+        _ => false,
+    }
+}
+
+fn is_same_set(one: &ByteSet, other: &ByteSet) -> bool {
+    for b in 0..256u32 {
+        if one.has(b as u8) != other.has(b as u8) {
+            return false;
+        }
+    }
+    true
 }
 
 /// The place of the rarest byte. Where bytes past ASCII stand at all, they stand in numbers.
@@ -444,6 +512,140 @@ fn kept_if(anywhere: bool, behind: Option<Wanted>) -> Option<Wanted>
     ensures { result ≡ (if anywhere then behind else None) }
 {
     if anywhere { behind } else { None }
+}
+
+/// The rarest text at a distance from where a match of a pattern begins that is one sequence.
+fn behind_begin(tree: &Tree, begins: &[Option<Wanted>]) -> Option<Distant>
+    requires { length begins.now ≡ tree.now.root + 1 }
+    ensures { KeepNeeds (may_of tree.now) tree.now.options.utf false (trees tree.now.nodes) begins.now
+        → IfSome result (λ far. NeedsAt (may_of tree.now) tree.now.options.utf
+        (sets_of far.wanted.text) far.distance (tree_of tree.now)) }
+{
+    let Node::Group {
+        number: None,
+        branches,
+    } = tree.node(tree.root())
+    else {
+        return None;
+    };
+    let [only] = branches.as_slice() else {
+        return None;
+    };
+    let Node::Seq(parts) = tree.node(*only) else {
+        return None;
+    };
+    rarest_behind(tree, parts.as_slice(), begins)
+}
+
+/// Of the texts at a distance from where these parts begin the rarest.
+fn rarest_behind(tree: &Tree, parts: &[NodeId], begins: &[Option<Wanted>]) -> Option<Distant>
+    requires parts { All (λ k. k ≤ tree.now.root) parts.now }
+    requires begins { length begins.now ≡ tree.now.root + 1 }
+    ensures { AreNeeds (may_of tree.now) tree.now.options.utf false
+        (tree_at (trees tree.now.nodes)) begins.now parts.now
+        → IsDistant (may_of tree.now) tree.now.options.utf
+        (row (map (tree_at (trees tree.now.nodes)) parts.now)) result }
+{
+    let utf = tree.options().utf;
+    let mut run = None;
+    let mut best = None;
+    let mut i = parts.len();
+    while i > 0 {
+        i -= 1;
+        let part = parts[i];
+        let need = &begins[part as usize];
+        run = run_from(need, &run);
+        let here = rarer(None, copy_of(need), copy_of(&run));
+        let far = behind(best, length_of(tree.node(part), utf));
+        best = nearer(far, at_once(here));
+    }
+    best
+}
+
+/// A text with which a match begins.
+fn at_once(wanted: Option<Wanted>) -> Option<Distant>
+    ensures { IfSome result (λ far. (wanted ≡ Some far.wanted) × (far.distance ≡ 0)) }
+{
+    match wanted {
+        Some(wanted) => Some(Distant {
+            wanted,
+            distance: 0,
+        }),
+        None => None,
+    }
+}
+
+/// A text behind a part that takes so many bytes, where it isn't too far then.
+fn behind(far: Option<Distant>, length: Option<u16>) -> Option<Distant>
+    ensures { (may : Item → ℕ → Bool) (utf : Bool) → (t : Nested) (ts : Row)
+        → IfSome length (λ n. IsLong may utf n t)
+        → IsDistant may utf ts far → IsDistant may utf (more t ts) result }
+{
+    let far = far?;
+    let length = length?;
+    if length > FARTHEST || far.distance > FARTHEST - length {
+        return None;
+    }
+    Some(Distant {
+        wanted: far.wanted,
+        distance: far.distance + length,
+    })
+}
+
+/// The rarer of two.
+fn nearer(far: Option<Distant>, here: Option<Distant>) -> Option<Distant>
+    ensures { (result ≡ far) ⊎ (result ≡ here) }
+{
+    if weighed_at(&far) <= weighed_at(&here) {
+        far
+    } else {
+        here
+    }
+}
+
+fn weighed_at(far: &Option<Distant>) -> u64 {
+    match far {
+        Some(far) => rate(&far.wanted.weights),
+        None => u64::MAX,
+    }
+}
+
+/// How many bytes each match of a part takes, where that is known.
+fn length_of(node: &Node, utf: bool) -> Option<u16>
+    ensures { (classes : ℕ → ℕ → Bool) → (trees : List Nested)
+        → IfSome result (λ n. IsLong (may_take utf classes) utf n (nest trees node.now)) }
+{
+    match node {
+        Node::One(item) if is_short(item, utf) => Some(1),
+        Node::OneRepeat { item, min, max, .. } => repeat_length(item, *min, *max, utf),
+        Node::Anchor(_) => Some(0),
+        _ => None,
+    }
+}
+
+/// How many bytes a repeat of an item takes each time, where that is known.
+fn repeat_length(item: &Item, min: u16, max: Option<u16>, utf: bool) -> Option<u16>
+    ensures { (classes : ℕ → ℕ → Bool) → IfSome result (λ n. (n ≡ min)
+        × ((max ≡ Some n) × IsShort (may_take utf classes) utf item.now)) }
+{
+    match max {
+        Some(most) if most == min && is_short(item, utf) => Some(most),
+        _ => None,
+    }
+}
+
+/// Whether each character that an item takes is one byte.
+fn is_short(item: &Item, utf: bool) -> bool
+    ensures { (classes : ℕ → ℕ → Bool) → result ≡ true
+        → IsShort (may_take utf classes) utf item.now }
+{
+    if !utf {
+        return true;
+    }
+    match utf_need(item) {
+        Some(taken) => taken.is_short,
+        None => false,
+    }
 }
 
 /// The text that the items take with which the parts begin, from a part and from the items behind it.

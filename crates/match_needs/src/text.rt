@@ -16,13 +16,6 @@ pub struct ByteText {
     pub anchor: usize,
 }
 
-// The byte that is looked for first.
-#[derive(Drop)]
-struct Anchor<'a> {
-    place: usize,
-    set: &'a ByteSet,
-}
-
 // Two bytes that stand next to each other, and the place of the first.
 #[derive(Drop)]
 struct Pair<'a> {
@@ -144,22 +137,6 @@ impl ByteText {
         at + 2 < bytes.len() && third.has(bytes[at + 2])
     }
 
-    /// A byte of the text: at this place, if there is one.
-    fn anchored(&self, anchor: usize) -> Anchor<'_>
-        ensures place { result.place ≤ 2 }
-        ensures is_in { (bytes : List ℕ) (k : ℕ) → Stands (sets_of self.now) bytes k
-            → (k + result.place < length bytes) × IsIn result.set.now bytes (k + result.place) }
-    {
-        match (&self.second, &self.third) {
-            (Some(set), _) if anchor == 1 => Anchor { place: 1, set },
-            (Some(_), Some(set)) if anchor == 2 => Anchor { place: 2, set },
-            _ => Anchor {
-                place: 0,
-                set: &self.first,
-            },
-        }
-    }
-
     /// The byte that is looked for first, and one next to it, if there are two.
     fn pair(&self) -> Option<Pair<'_>>
         ensures { MatchOption result (self.now.second ≡ None)
@@ -179,26 +156,6 @@ impl ByteText {
             }),
             (None, _) => None,
         }
-    }
-
-    /// A place whose bytes are all past ASCII, else the one that is looked for first.
-    fn rarest_place(&self) -> usize {
-        if is_past_ascii(&self.second) {
-            1
-        } else if is_past_ascii(&self.third) {
-            2
-        } else {
-            self.anchor
-        }
-    }
-
-    /// The bytes of one of its places, of which one stands wherever the text does: those past ASCII, if there is such a
-    /// place, else the rarest.
-    pub fn rarest(&self) -> ByteSet
-        ensures { (bytes : List ℕ) (k : ℕ) → Stands (sets_of self.now) bytes k
-            → (j : ℕ) × Stands (result ∷ []) bytes j }
-    {
-        self.anchored(self.rarest_place()).set.copied()
     }
 
     /// The first place of the bytes at which the text stands, or their number where it stands nowhere.
@@ -233,19 +190,6 @@ impl ByteText {
         }
         bytes.len()
     }
-}
-
-/// Whether there is a set, of bytes past ASCII alone.
-fn is_past_ascii(set: &Option<ByteSet>) -> bool {
-    let Some(set) = set else {
-        return false;
-    };
-    for b in 0..128u32 {
-        if set.has(b as u8) {
-            return false;
-        }
-    }
-    true
 }
 
 fn copied(set: &Option<ByteSet>) -> Option<ByteSet>

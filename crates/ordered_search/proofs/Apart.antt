@@ -16,6 +16,7 @@ use Rattle.ordered_search.specs.Setting.{Setting, hold, reach_if}
 use Rattle.ordered_search.specs.Tests.{move_to, offers, greedy, offer_and, reluctant, lazy_run, run_many}
 use Rattle.ordered_search.proofs.TameStreams.{Within, within_more, within_nothing, within_step, within_or_else}
 use Rattle.ordered_search.proofs.Growing.{at_steady, at_plus, at_product}
+use Rattle.ordered_search.proofs.Onward.{onward_and_then, onward_many}
 use Rattle.ordered_search.proofs.Bounded.{size, unreached, held_is, offered_few, FitsIn}
 
 -- a character that one item takes, and that the other is
@@ -44,7 +45,7 @@ module _ (g : Setting) (off : g.matching.«partial» ≡ Off) (item : Item) (c :
     abbrev pub Stuck : ℕ → Type 0
     Stuck p = after_item g.scene next p ≡ None
 
-    stuck : (p q : ℕ) → after_item g.scene item p ≡ Some q → Stuck p
+    pub stuck : (p q : ℕ) → after_item g.scene item p ≡ Some q → Stuck p
     stuck p q e = by_next (character g.scene p) e
       where
         by_tests : (a b : Bool) (r : ℕ) → (a ≡ true → b ≡ true → ⊥) → ◌≡◌ {A = Option ℕ} (elim a [ true ↦ Some r | false ↦ None ]) (Some q) → ◌≡◌ {A = Option ℕ} (elim b [ true ↦ Some r | false ↦ None ]) None
@@ -159,10 +160,14 @@ module _ (g : Setting) (off : g.matching.«partial» ≡ Off) (item : Item) (c :
               subst (λ y. Within (suc (length qs) + p) r v (and_then (step ▸ (hold g reached (move_to q s) or_else y)) k)) (sym (unreached g off (item_reaches g.scene item q) s _)) (by_rest qs m w)
 
     -- A repeat of the item, and what goes on from there.
-    pub fits_apart : (low : ℕ) (high : Option ℕ) (lazily : Bool) (b : Bound) (k : Search) → ((t : State) → Stuck t.place → k t ≡ nothing)
-        → FitsIn g off b k → FitsIn g off (followed (left_once (turns low high)) b) (λ s. and_then (run_many g item low high lazily s) k)
+    apart_few : (low : ℕ) (high : Option ℕ) (lazily : Bool) (b : Bound) (k : Search)
+        → ((t : State) → Stuck t.place → k t ≡ nothing)
+        → FitsIn g off b k → (s : State)
+        → s.units + at (plus (steady 1) b.units) (size g off) ≤ g.matching.frame_limit
+        → Within (at (plus (turns low high) (product (steady 1) b.steps)) (size g off)) (at (product (steady 1) b.states) (size g off))
+        (s.units + at (plus (steady 1) b.units) (size g off)) (and_then (run_many g item low high lazily s) k)
     unfolding run_many greedy lazy_run
-    fits_apart low high lazily b k fails fits s le = by_kind lazily
+    apart_few low high lazily b k fails fits s le = by_kind lazily
       where
         n : ℕ
         n = size g off
@@ -174,10 +179,13 @@ module _ (g : Setting) (off : g.matching.«partial» ≡ Off) (item : Item) (c :
         are = but_last_drop low (s.place ∷ longest_run g.scene item high s.place) (but_last_run (length g.subject) high s.place)
 
         v : ℕ
-        v = s.units + (1 + b.units)
+        v = s.units + at (plus (steady 1) b.units) n
+
+        one_more : 1 + at b.units n ≤ at (plus (steady 1) b.units) n
+        one_more = let one = at_steady 1 n in let more = at_plus (steady 1) b.units n (omega arith) in omega (arith, one, more)
 
         goes : (t : State) → t.units ≤ s.units + 1 → Within (at b.steps n) (at b.states n) v (k t)
-        goes t few = within_more _ _ _ _ _ _ _ (omega arith) (omega arith) (omega (arith, few)) (fits t (omega (arith, few, le)))
+        goes t few = within_more _ _ _ _ _ _ _ (omega arith) (omega arith) (omega (arith, few, one_more)) (fits.0 t (omega (arith, few, le, one_more)))
 
         wide : (x : Stream) (m : ℕ) → m ≤ at (turns low high) n → Within (m + at b.steps n) (at b.states n) v x
             → Within (at (plus (turns low high) (product (steady 1) b.steps)) n) (at (product (steady 1) b.states) n) v x
@@ -198,9 +206,18 @@ module _ (g : Setting) (off : g.matching.«partial» ≡ Off) (item : Item) (c :
         by_kind false =
             subst Whole (sym (unreached g off (run_reaches g.scene item high s.place (longest_run g.scene item high s.place)) s (offers g (reverse ps) s)))
             (wide (and_then (offers g (reverse ps) s) k) (length (reverse ps)) (let e = length-reverse ps in omega (arith, e, few))
-            (some_first k fails s (at b.steps n) (at b.states n) v (omega (arith, le)) goes (reverse ps) (but_first_reverse ps are)))
+            (some_first k fails s (at b.steps n) (at b.states n) v (omega (arith, le, one_more)) goes (reverse ps) (but_first_reverse ps are)))
         by_kind true =
             let left = option_map (λ m. m - low) high in
             let run = longest_run g.scene item high s.place in
             subst Whole (sym (unreached g off (run_reaches g.scene item (Some low) s.place (take low run)) s (reluctant g item left ps s)))
-            (wide (and_then (reluctant g item left ps s) k) (length ps) few (some_last k fails s (at b.steps n) (at b.states n) v (omega (arith, le)) goes left ps are))
+            (wide (and_then (reluctant g item left ps s) k) (length ps) few (some_last k fails s (at b.steps n) (at b.states n) v (omega (arith, le, one_more)) goes left ps are))
+
+    pub fits_apart : (low : ℕ) (high : Option ℕ) (lazily : Bool) (b : Bound) (k : Search)
+        → ((t : State) → Stuck t.place → k t ≡ nothing)
+        → FitsIn g off b k
+        → FitsIn g off (followed (left_once (turns low high)) b) (λ s. and_then (run_many g item low high lazily s) k)
+    fits_apart low high lazily b k fails fits = (
+      apart_few low high lazily b k fails fits,
+      λ s. onward_and_then g s.place (run_many g item low high lazily s) k (onward_many g item low high lazily s) fits.1,
+    )

@@ -8,15 +8,17 @@ use Rattle.pat_tree.specs.declared.options.PartialMode.TheVariants.{Off}
 use Rattle.pat_tree.specs.declared.nodes.Item.{Item}
 use Rattle.pat_tree.specs.declared.nodes.AnchorKind.{AnchorKind}
 use Rattle.match_items.specs.Items.{one_less, is_none_left, after_item, item_reaches, run_places, longest_run, after_ref, ref_reaches, holds, anchor_reaches}
+use Rattle.match_needs.specs.declared.bounds.Growth.{Growth}
 use Rattle.match_needs.specs.declared.bounds.Bound.{Bound}
 use Rattle.match_needs.specs.Bounds.{at, steady, plus, product, once, never, offered, turns, followed, or_later, closed, grouped}
 use Rattle.frame_store.specs.Captures.{capture}
-use Rattle.ordered_search.specs.Stream.{State, reached, by_halt, too_many_units, Stream, Search, ends, nothing, gives, no_ending, is_next_branch, fails_alone, fails_inside, captured}
+use Rattle.ordered_search.specs.Stream.{State, exhausted, reached, by_halt, too_many_units, Stream, Search, ends, nothing, gives, no_ending, is_next_branch, fails_alone, fails_inside, captured}
 use Rattle.ordered_search.specs.Setting.{Setting, held, hold, reach, reach_if}
 use Rattle.ordered_search.specs.Tests.{move_to, goes_to, run_one, run_break, run_ref, run_anchor, offers, greedy, offer_and, reluctant, lazy_run, run_many}
 use Rattle.ordered_search.specs.Parts.{in_order, choices, run_group, run_atomic, run_look, back_to, forget_passed}
 use Rattle.ordered_search.proofs.TameStreams.{Within, within_more, within_nothing, within_gives, within_if, within_step, within_or_else, within_each, within_and_then, within_decide, within_catch}
 use Rattle.ordered_search.proofs.Growing.{at_steady, at_line, at_plus, at_product}
+use Rattle.ordered_search.proofs.Onward.{Onward, GoesOn, onward_ends, onward_many, onward_turn, onward_choices, onward_group, onward_atomic, onward_look}
 
 -- Runs of an item have no more places than bytes, and no more than the maximum.
 
@@ -65,8 +67,9 @@ module _ (g : Setting) (off : g.matching.«partial» ≡ Off) where
   abbrev pub Fits : ℕ → ℕ → ℕ → Search → Type 0
   Fits p r u f = (s : State) → s.units + u ≤ g.matching.frame_limit → Within p r (s.units + u) (f s)
 
+  -- and its states go on
   abbrev pub FitsIn : Bound → Search → Type 0
-  FitsIn b f = Fits (at b.steps size) (at b.states size) b.units f
+  FitsIn b f = Fits (at b.steps size) (at b.states size) (at b.units size) f × GoesOn g f
 
   abbrev pub FitsSome : Option Bound → Search → Type 0
   FitsSome None f = Unit {0}
@@ -76,14 +79,20 @@ module _ (g : Setting) (off : g.matching.«partial» ≡ Off) where
   abbrev Once : Search → Type 0
   Once f = (s : State) → Within 0 1 s.units (f s)
 
-  pub fits_once : (f : Search) → Once f → FitsIn once f
-  fits_once f h s le =
-      let a = at_steady 0 size in
-      let b = at_steady 1 size in
-      within_more 0 1 s.units _ _ _ (f s) (omega (arith, a)) (omega (arith, b)) (omega arith) (h s)
+  pub fits_once : (f : Search) → Once f → GoesOn g f → FitsIn once f
+  fits_once f h k = (
+    λ s le.
+        let a = at_steady 0 size in
+        let b = at_steady 1 size in
+        within_more 0 1 s.units _ _ _ (f s) (omega (arith, a)) (omega (arith, b)) (omega arith) (h s),
+    k,
+  )
 
   pub fits_never : (f : Search) → ((s : State) → f s ≡ nothing) → FitsIn never f
-  fits_never f h s le = subst (Within _ _ _) (sym (h s)) (within_nothing _ _ _)
+  fits_never f h = (
+    λ s le. subst (Within _ _ _) (sym (h s)) (within_nothing _ _ _),
+    λ s. subst (Onward g s.place) (sym (h s)) (onward_ends g s.place exhausted),
+  )
 
   -- without partial matching reaching the subject's end is not told
   pub unreached : (b : Bool) (s : State) (x : Stream) → reach_if g b s x ≡ x
@@ -100,10 +109,11 @@ module _ (g : Setting) (off : g.matching.«partial» ≡ Off) where
       ap (λ b. elim b [ true ↦ f (record s { units = s.units + n }) | false ↦ ends (by_halt too_many_units) ])
       (le-leb (s.units + n) g.matching.frame_limit h)
 
-  held_within : (p r u n : ℕ) (s : State) (f : Search) → s.units + n ≤ g.matching.frame_limit → Within p r u (f (record s { units = s.units + n })) → Within p r u (held g n s f)
+  pub held_within : (p r u n : ℕ) (s : State) (f : Search) → s.units + n ≤ g.matching.frame_limit
+      → Within p r u (f (record s { units = s.units + n })) → Within p r u (held g n s f)
   held_within p r u n s f le h = subst (Within p r u) (sym (held_is n s f le)) h
 
-  fits_hold : Fits 0 1 1 (hold g reached)
+  pub fits_hold : Fits 0 1 1 (hold g reached)
   unfolding hold
   fits_hold s le = held_within 0 1 _ 1 s (gives reached) le (within_gives 0 _ _ (omega arith))
 
@@ -178,92 +188,157 @@ module _ (g : Setting) (off : g.matching.«partial» ≡ Off) where
       let c = at_steady (high + 1 - low) size in
       omega (arith, a, b, c)
 
-  pub fits_many : (item : Item) (low : ℕ) (high : Option ℕ) (lazily : Bool) → FitsIn (offered (turns low high)) (run_many g item low high lazily)
+  many_few : (item : Item) (low : ℕ) (high : Option ℕ) (lazily : Bool) →
+      Fits (at (turns low high) size) (at (turns low high) size) 1 (run_many g item low high lazily)
   unfolding run_many greedy lazy_run
-  fits_many item low high false s le =
+  many_few item low high false s le =
       let ps = drop low (s.place ∷ longest_run g.scene item high s.place) in
       let few = offered_few item low high s.place in
       let e = length-reverse ps in
       reached_within _ _ _ _ s _ (within_more _ _ _ _ _ _ _ (omega (arith, e, few)) (omega (arith, e, few)) (omega arith) (fits_offers (reverse ps) s le))
-  fits_many item low high true s le =
+  many_few item low high true s le =
       let few = offered_few item low high s.place in
       reached_within _ _ _ _ s _ (within_more _ _ _ _ _ _ _ few few (omega arith) (fits_reluctant item _ (drop low (s.place ∷ longest_run g.scene item high s.place)) s le))
 
+  pub fits_many : (item : Item) (low : ℕ) (high : Option ℕ) (lazily : Bool)
+      → FitsIn (offered (turns low high)) (run_many g item low high lazily)
+  fits_many item low high lazily = (
+    λ s le.
+        let one = at_steady 1 size in
+        within_more _ _ (s.units + 1) _ _ _ _ (omega arith) (omega arith) (omega (arith, one)) (many_few item low high lazily s (omega (arith, one, le))),
+    onward_many g item low high lazily,
+  )
+
   -- Parts one after the other.
 
-  pub fits_followed : (a b : Bound) (f : Search) (fs : List Search) → FitsIn a f → FitsIn b (in_order fs) → FitsIn (followed a b) (in_order (f ∷ fs))
+  followed_few : (a b : Bound) (f : Search) (fs : List Search) → FitsIn a f
+      → FitsIn b (in_order fs) →
+      Fits (at (followed a b).steps size) (at (followed a b).states size) (at (followed a b).units size) (in_order (f ∷ fs))
   unfolding in_order
-  fits_followed a b f fs h k s le =
+  followed_few a b f fs h k s le =
       let p = at_product a.states b.steps size in
       let q = at_plus a.steps (product a.states b.steps) size (omega arith) in
       let r = at_product a.states b.states size in
-      within_more _ _ _ _ _ _ _ (omega (arith, p, q)) (omega (arith, r)) (omega arith)
-      (within_and_then _ _ (s.units + a.units) (at b.steps size) (at b.states size) (s.units + (a.units + b.units)) (f s) (in_order fs) (h s (omega (arith, le)))
-      (λ t few. within_more _ _ _ _ _ _ _ (omega arith) (omega arith) (omega (arith, few)) (k t (omega (arith, few, le)))))
+      let i = at a.units size in
+      let j = at b.units size in
+      let u = at_plus a.units b.units size (omega arith) in
+      within_more _ _ _ _ _ _ _ (omega (arith, p, q)) (omega (arith, r)) (omega (arith, u))
+      (within_and_then _ _ (s.units + i) (at b.steps size) (at b.states size) (s.units + (i + j)) (f s) (in_order fs) (h.0 s (omega (arith, le, u)))
+      (λ t few. within_more _ _ _ _ _ _ _ (omega arith) (omega arith) (omega (arith, few)) (k.0 t (omega (arith, few, le, u)))))
+
+  pub fits_followed : (a b : Bound) (f : Search) (fs : List Search) → FitsIn a f
+      → FitsIn b (in_order fs) → FitsIn (followed a b) (in_order (f ∷ fs))
+  fits_followed a b f fs h k = (followed_few a b f fs h k, onward_turn g f fs h.1 k.1)
 
   -- Branches.
 
-  pub fits_or_else : (a b : Bound) (f : Search) (fs : List Search) → FitsIn a f → FitsIn b (choices g fs) → FitsIn (or_later a b) (choices g (f ∷ fs))
+  -- with a unit more than two take
+  pub one_more : (a b : Growth) → 1 + (at a size + at b size) ≤ at (plus (steady 1) (plus a b)) size
+  one_more a b =
+      let one = at_steady 1 size in
+      let both = at_plus a b size (omega arith) in
+      let more = at_plus (steady 1) (plus a b) size (omega arith) in
+      omega (arith, one, both, more)
+
+  choices_few : (a b : Bound) (f : Search) (fs : List Search) → FitsIn a f
+      → FitsIn b (choices g fs) →
+      Fits (at (or_later a b).steps size) (at (or_later a b).states size) (at (or_later a b).units size) (choices g (f ∷ fs))
   unfolding choices
-  fits_or_else a b f [] h k s le =
+  choices_few a b f [] h k s le =
       let o = at_steady 1 size in
       let p = at_plus a.steps b.steps size (omega arith) in
       let q = at_plus (steady 1) (plus a.steps b.steps) size (omega arith) in
       let r = at_plus a.states b.states size (omega arith) in
-      within_more _ _ _ _ _ _ _ (omega (arith, o, p, q)) (omega (arith, r)) (omega arith)
-      (within_step _ _ _ _ (within_catch (at a.steps size) (at a.states size) (s.units + a.units) is_next_branch (f s) (h s (omega (arith, le)))))
-  fits_or_else a b f (f' ∷ fs) h k s le =
+      let i = at_plus a.units b.units size (omega arith) in
+      let j = at_plus (steady 1) (plus a.units b.units) size (omega arith) in
+      let v = s.units + at a.units size in
+      within_more _ _ v _ _ _ _ (omega (arith, o, p, q)) (omega (arith, r)) (omega (arith, i, j))
+      (within_step _ _ _ _ (within_catch (at a.steps size) (at a.states size) v is_next_branch (f s) (h.0 s (omega (arith, le, i, j)))))
+  choices_few a b f (f' ∷ fs) h k s le =
       let o = at_steady 1 size in
       let p = at_plus a.steps b.steps size (omega arith) in
       let q = at_plus (steady 1) (plus a.steps b.steps) size (omega arith) in
       let r = at_plus a.states b.states size (omega arith) in
+      let i = at_plus a.units b.units size (omega arith) in
+      let j = at_plus (steady 1) (plus a.units b.units) size (omega arith) in
       let t : State = record s { units = s.units + 1 } in
-      let v = s.units + (1 + (a.units + b.units)) in
-      within_more _ _ _ _ _ _ _ (omega (arith, o, p, q)) (omega (arith, r)) (omega arith)
+      let v = s.units + (1 + (at a.units size + at b.units size)) in
+      within_more _ _ v _ _ _ _ (omega (arith, o, p, q)) (omega (arith, r)) (omega (arith, o, i, j))
       (within_step _ _ _ _
       (within_or_else (at a.steps size) (at a.states size) (at b.steps size) (at b.states size) v _ _
-      (held_within _ _ v 1 s _ (omega (arith, le))
-      (within_catch _ _ v is_next_branch (f t) (within_more _ _ _ _ _ _ _ (omega arith) (omega arith) (omega arith) (h t (omega (arith, le))))))
-      (within_more _ _ _ _ _ _ _ (omega arith) (omega arith) (omega arith) (k s (omega (arith, le))))))
+      (held_within _ _ v 1 s _ (omega (arith, le, o, i, j))
+      (within_catch _ _ v is_next_branch (f t) (within_more _ _ _ _ _ _ _ (omega arith) (omega arith) (omega arith) (h.0 t (omega (arith, le, o, i, j))))))
+      (within_more _ _ _ _ _ _ _ (omega arith) (omega arith) (omega arith) (k.0 s (omega (arith, le, o, i, j))))))
+
+  pub fits_or_else : (a b : Bound) (f : Search) (fs : List Search) → FitsIn a f
+      → FitsIn b (choices g fs) → FitsIn (or_later a b) (choices g (f ∷ fs))
+  fits_or_else a b f fs h k = (choices_few a b f fs h k, onward_choices g f fs h.1 k.1)
 
   -- Groups.
 
-  pub fits_group : (number : Option ℕ) (a : Bound) (f : Search) → FitsIn a f → FitsIn (grouped number a) (run_group g number f)
+  -- with two units more
+  pub two_more : (a : Bound) → 2 + at a.units size ≤ at (plus (steady 2) a.units) size
+  two_more a = let two = at_steady 2 size in let more = at_plus (steady 2) a.units size (omega arith) in omega (arith, two, more)
+
+  group_few : (n : ℕ) (a : Bound) (f : Search) → FitsIn a f
+      → Fits (at a.steps size) (at a.states size) (at (plus (steady 2) a.units) size) (run_group g (Some n) f)
   unfolding run_group
-  fits_group None a f h s le = h s le
-  fits_group (Some n) a f h s le =
+  group_few n a f h s le =
       let t : State = record s { units = s.units + 1 } in
-      held_within _ _ _ 1 s _ (omega (arith, le))
-      (within_more _ _ _ _ _ _ _ (omega arith) (omega arith) (omega arith)
-      (within_each (at a.steps size) (at a.states size) (t.units + a.units) 0 1 (s.units + (2 + a.units)) (f t) _ (h t (omega (arith, le)))
-      (λ u few. within_more _ _ _ _ _ _ _ (omega arith) (omega arith) (omega (arith, few)) (fits_hold (captured n s.place u) (omega (arith, few, le))))))
+      let two = two_more a in
+      let v = s.units + (2 + at a.units size) in
+      held_within _ _ _ 1 s _ (omega (arith, le, two))
+      (within_more _ _ v _ _ _ _ (omega arith) (omega arith) (omega (arith, two))
+      (within_each (at a.steps size) (at a.states size) (t.units + at a.units size) 0 1 v (f t) _ (h.0 t (omega (arith, le, two)))
+      (λ u few. within_more _ _ _ _ _ _ _ (omega arith) (omega arith) (omega (arith, few)) (fits_hold (captured n s.place u) (omega (arith, few, le, two))))))
+
+  pub fits_group : (number : Option ℕ) (a : Bound) (f : Search) → FitsIn a f
+      → FitsIn (grouped number a) (run_group g number f)
+  unfolding run_group
+  fits_group None a f h = (λ s le. h.0 s le, λ s. h.1 s)
+  fits_group (Some n) a f h = (group_few n a f h, onward_group g (Some n) f h.1)
+
+  atomic_few : (a : Bound) (f : Search) → FitsIn a f
+      → Fits (at a.steps size) (at (steady 1) size) (at (plus (steady 2) a.units) size) (run_atomic g f)
+  unfolding run_atomic
+  atomic_few a f h s le =
+      let t : State = record s { units = s.units + 1 } in
+      let one = at_steady 1 size in
+      let two = two_more a in
+      let v = s.units + (2 + at a.units size) in
+      held_within _ _ _ 1 s _ (omega (arith, le, two))
+      (within_more _ _ v _ _ _ _ (omega arith) (omega (arith, one)) (omega (arith, two))
+      (within_decide (at a.steps size) (at a.states size) (t.units + at a.units size) 0 1 0 0 v no_ending (f t) _ nothing (h.0 t (omega (arith, le, two)))
+      (λ u few. within_more _ _ _ _ _ _ _ (omega arith) (omega arith) (omega (arith, few)) (fits_hold (forget_passed s u) (omega (arith, few, le, two))))
+      (within_nothing 0 0 _)))
 
   pub fits_atomic : (a : Bound) (f : Search) → FitsIn a f → FitsIn (closed a) (run_atomic g f)
-  unfolding run_atomic
-  fits_atomic a f h s le =
-      let t : State = record s { units = s.units + 1 } in
-      let o = at_steady 1 size in
-      held_within _ _ _ 1 s _ (omega (arith, le))
-      (within_more _ _ _ _ _ _ _ (omega arith) (omega (arith, o)) (omega arith)
-      (within_decide (at a.steps size) (at a.states size) (t.units + a.units) 0 1 0 0 (s.units + (2 + a.units)) no_ending (f t) _ nothing (h t (omega (arith, le)))
-      (λ u few. within_more _ _ _ _ _ _ _ (omega arith) (omega arith) (omega (arith, few)) (fits_hold (forget_passed s u) (omega (arith, few, le))))
-      (within_nothing 0 0 _)))
+  fits_atomic a f h = (atomic_few a f h, onward_atomic g f h.1)
 
-  pub fits_look : (positive : Bool) (a : Bound) (f : Search) → FitsIn a f → FitsIn (closed a) (run_look g positive true f)
+  look_few : (positive : Bool) (a : Bound) (f : Search) → FitsIn a f →
+      Fits (at a.steps size) (at (steady 1) size) (at (plus (steady 2) a.units) size) (run_look g positive true f)
   unfolding run_look
-  fits_look true a f h s le =
+  look_few true a f h s le =
       let t : State = record s { units = s.units + 1 } in
-      let o = at_steady 1 size in
-      held_within _ _ _ 1 s _ (omega (arith, le))
-      (within_more _ _ _ _ _ _ _ (omega arith) (omega (arith, o)) (omega arith)
-      (within_decide (at a.steps size) (at a.states size) (t.units + a.units) 0 1 0 0 (s.units + (2 + a.units)) fails_alone (f t) _ nothing (h t (omega (arith, le)))
-      (λ u few. within_more _ _ _ _ _ _ _ (omega arith) (omega arith) (omega (arith, few)) (fits_hold (back_to s (forget_passed s u)) (omega (arith, few, le))))
+      let one = at_steady 1 size in
+      let two = two_more a in
+      let v = s.units + (2 + at a.units size) in
+      held_within _ _ _ 1 s _ (omega (arith, le, two))
+      (within_more _ _ v _ _ _ _ (omega arith) (omega (arith, one)) (omega (arith, two))
+      (within_decide (at a.steps size) (at a.states size) (t.units + at a.units size) 0 1 0 0 v fails_alone (f t) _ nothing (h.0 t (omega (arith, le, two)))
+      (λ u few. within_more _ _ _ _ _ _ _ (omega arith) (omega arith) (omega (arith, few)) (fits_hold (back_to s (forget_passed s u)) (omega (arith, few, le, two))))
       (within_nothing 0 0 _)))
-  fits_look false a f h s le =
+  look_few false a f h s le =
       let t : State = record s { units = s.units + 1 } in
-      let o = at_steady 1 size in
-      held_within _ _ _ 1 s _ (omega (arith, le))
-      (within_more _ _ _ _ _ _ _ (omega arith) (omega (arith, o)) (omega arith)
-      (within_decide (at a.steps size) (at a.states size) (t.units + a.units) 0 0 0 1 (s.units + (2 + a.units)) fails_inside (f t) _ (gives reached s) (h t (omega (arith, le)))
+      let one = at_steady 1 size in
+      let two = two_more a in
+      let v = s.units + (2 + at a.units size) in
+      held_within _ _ _ 1 s _ (omega (arith, le, two))
+      (within_more _ _ v _ _ _ _ (omega arith) (omega (arith, one)) (omega (arith, two))
+      (within_decide (at a.steps size) (at a.states size) (t.units + at a.units size) 0 0 0 1 v fails_inside (f t) _ (gives reached s) (h.0 t (omega (arith, le, two)))
       (λ u few. within_nothing 0 0 _)
       (within_gives 0 _ s (omega arith))))
+
+  pub fits_look : (positive : Bool) (a : Bound) (f : Search) → FitsIn a f
+      → FitsIn (closed a) (run_look g positive true f)
+  fits_look positive a f h = (look_few positive a f h, onward_look g positive f h.1)

@@ -1,6 +1,7 @@
 -- A search of a part stays within the part's bound, where one is known.
-use Rattle.std.proofs.Common.{◌≡◌, ℕ, Bool, true, false, List, [], ◌∷◌, Option, Some, None, refl, sym, ap, subst, ◌∙◌, arith}
-use Rattle.std.specs.Prelude.{if◌then◌else◌}
+use Rattle.std.proofs.Common.{◌≡◌, ℕ, zero, suc, ◌*◌, ◌^◌, ◌≤◌, Bool, true, false, List, [], ◌∷◌, Option, Some, None, inl, refl, sym, ap, subst, ◌∙◌, arith}
+use Rattle.std.specs.Prelude.{if◌then◌else◌, ◌==◌, nat_le}
+use Rattle.std.proofs.lemmas.Bool.{leb-true, eqb-true, and_parts}
 use Rattle.pat_tree.specs.declared.options.PartialMode.TheVariants.{Off}
 use Rattle.pat_tree.specs.declared.nodes.Item.{Item}
 use Rattle.pat_tree.specs.declared.nodes.Item.TheVariants.{Char, AnyAll, NotNewline, Class}
@@ -8,14 +9,18 @@ use Rattle.pat_tree.specs.Nested as tree
 use Rattle.pat_tree.specs.Nested.{Nested, Row}
 use Rattle.match_items.specs.Items.{after_item, item_reaches}
 use Rattle.match_needs.specs.declared.bounds.Bound.{Bound}
-use Rattle.match_needs.specs.Bounds.{offered, turns, followed, or_later, closed, grouped, both, change, left_once, next_char, lacks, is_apart, bound, bound_before, bound_in_turn, bound_of_one, bound_of_choices}
-use Rattle.ordered_search.specs.Stream.{State, Stream, Search, nothing, each, and_then}
+use Rattle.match_needs.specs.Bounds.{offered, turns, followed, closed, grouped, both, change, or_so, first_item, is_alone, repeated, in_turns, is_left_once, at, left_once, next_char, lacks, is_apart, bound, bound_before, bound_in_turn, bound_of_one, bound_of_choices}
+use Rattle.ordered_search.specs.Stream.{State, by_halt, cut, reached, Stream, Search, nothing, each, and_then}
 use Rattle.ordered_search.specs.Setting.{Setting}
 use Rattle.ordered_search.specs.Tests.{goes_to, run_one, run_many}
 use Rattle.ordered_search.specs.Parts.{Searches, in_order, choices, branches, run_group, run_atomic, run_look}
-use Rattle.ordered_search.specs.Run.{level, levels}
-use Rattle.ordered_search.proofs.TameStreams.{within_gives}
-use Rattle.ordered_search.proofs.Bounded.{FitsSome, unreached, fits_once, fits_never, once_one, once_break, once_ref, once_anchor, fits_many, fits_followed, fits_or_else, fits_group, fits_atomic, fits_look}
+use Rattle.ordered_search.specs.Run.{level, levels, run}
+use Rattle.ordered_search.proofs.TameStreams.{within_gives, within_end}
+use Rattle.ordered_search.proofs.Onward.{onward_ends, onward_gives, onward_one, onward_break, onward_ref, onward_anchor, onward_none}
+use Rattle.ordered_search.proofs.Bounded.{size, FitsIn, FitsSome, unreached, fits_once, fits_never, once_one, once_break, once_ref, once_anchor, fits_many, fits_followed, fits_or_else, fits_group, fits_atomic, fits_look}
+use Rattle.ordered_search.proofs.Growing.{at_steady}
+use Rattle.ordered_search.proofs.Repeated.{fits_repeat}
+use Rattle.ordered_search.proofs.Alone.{LeftAlone, fits_or_apart, left_alone}
 use Rattle.ordered_search.proofs.Apart.{fits_apart}
 
 some_same : (a b : ℕ) → Some a ≡ Some b → a ≡ b
@@ -29,10 +34,14 @@ module _ (g : Setting) (off : g.matching.«partial» ≡ Off) where
   some_followed (Some a) None f fs h k = tt
   some_followed (Some a) (Some b) f fs h k = fits_followed g off a b f fs h k
 
-  some_or_else : (x y : Option Bound) (f : Search) (fs : List Search) → FitsSome g off x f → FitsSome g off y (choices g fs) → FitsSome g off (both or_later x y) (choices g (f ∷ fs))
-  some_or_else None y f fs h k = tt
-  some_or_else (Some a) None f fs h k = tt
-  some_or_else (Some a) (Some b) f fs h k = fits_or_else g off a b f fs h k
+  some_beside : (alone : Bool) (x y : Option Bound) (f : Search) (fs : List Search)
+      → (alone ≡ true → LeftAlone g f fs)
+      → FitsSome g off x f → FitsSome g off y (choices g fs)
+      → FitsSome g off (both (or_so alone) x y) (choices g (f ∷ fs))
+  some_beside alone None y f fs e h k = tt
+  some_beside alone (Some a) None f fs e h k = tt
+  some_beside true (Some a) (Some b) f fs e h k = fits_or_apart g off a b f fs h k (e refl)
+  some_beside false (Some a) (Some b) f fs e h k = fits_or_else g off a b f fs h k
 
   some_group : (number : Option ℕ) (x : Option Bound) (f : Search) → FitsSome g off x f → FitsSome g off (change (grouped number) x) (run_group g number f)
   some_group number None f h = tt
@@ -110,40 +119,73 @@ module _ (g : Setting) (off : g.matching.«partial» ≡ Off) where
     some_before (tree.verb a) ts h k = some_followed (bound g.class_has (tree.verb a)) (bound_in_turn g.class_has ts) (level g below (tree.verb a)) (levels g below ts) h k
     some_before (tree.callout a) ts h k = some_followed (bound g.class_has (tree.callout a)) (bound_in_turn g.class_has ts) (level g below (tree.callout a)) (levels g below ts) h k
 
-    mutual
-      unfolding bound level in_order branches choices
+  -- a repeat of a group, with so much depth
+  some_repeat : (d : ℕ) (body : Nested) (low : ℕ) (high : Option ℕ) (lazily : Bool) (x : Option Bound)
+      → ((e : ℕ) → FitsSome g off x (level g (run g e) body))
+      → FitsSome g off (repeated low high x) (level g (run g d) (tree.repeat body low high lazily))
+  unfolding run
+  some_repeat d body low high lazily None fits = tt
+  some_repeat d body low high lazily (Some a) fits = by_once (is_left_once a) refl
+    where
+      at_depth : (e : ℕ) → FitsIn g off a (run g e body)
+      at_depth zero = (λ s le. within_end _ _ _ (by_halt cut) tt, λ s. onward_ends g s.place (by_halt cut))
+      at_depth (suc e) = fits e
 
-      pub fits_level : (t : Nested) → FitsSome g off (bound g.class_has t) (level g below t)
-      fits_level tree.empty = fits_once g off (level g below tree.empty) (λ s. within_gives 0 _ s (omega arith))
-      fits_level (tree.one item) = fits_once g off (level g below (tree.one item)) (once_one g off item)
-      fits_level tree.line_break = fits_once g off (level g below tree.line_break) (once_break g off)
-      fits_level (tree.seq ts) = fits_turn ts
-      fits_level (tree.group number ts) = some_group number (bound_of_one g.class_has ts) (branches g (levels g below ts)) (fits_branches ts)
-      fits_level (tree.repeat body low high lazily) = tt
-      fits_level (tree.one_repeat item low high lazily) = fits_many g off item low high lazily
-      fits_level (tree.atomic ts) = some_atomic (bound_of_one g.class_has ts) (branches g (levels g below ts)) (fits_branches ts)
-      fits_level (tree.look true positive true ts) = some_look positive (bound_of_one g.class_has ts) (branches g (levels g below ts)) (fits_branches ts)
-      fits_level (tree.look true positive false ts) = tt
-      fits_level (tree.look false positive _ ts) = tt
-      fits_level (tree.condition test first second) = tt
-      fits_level (tree.call k) = tt
-      fits_level (tree.ref ns caseless) = fits_once g off (level g below (tree.ref ns caseless)) (once_ref g off ns caseless)
-      fits_level (tree.anchor kind) = fits_once g off (level g below (tree.anchor kind)) (once_anchor g off kind)
-      fits_level tree.keep_out = fits_once g off (level g below tree.keep_out) (λ s. within_gives 0 _ _ (omega arith))
-      fits_level (tree.verb v) = tt
-      fits_level (tree.callout c) = tt
+      left : is_left_once a ≡ true → at a.states (size g off) ≤ 1
+      left once =
+          let parts = and_parts (nat_le a.states.times 1) (a.states.degree == 0) once in
+          let few = leb-true a.states.times 1 parts.0 in
+          let flat = eqb-true a.states.degree 0 parts.1 in
+          let is : at a.states (size g off) ≡ a.states.times = ap (λ k. a.states.times * size g off ^ k) flat ∙ at_steady a.states.times (size g off) in
+          omega (arith, is, few)
 
-      pub fits_turn : (ts : Row) → FitsSome g off (bound_in_turn g.class_has ts) (in_order (levels g below ts))
-      fits_turn tree.none = fits_once g off (in_order []) (λ s. within_gives 0 _ s (omega arith))
-      fits_turn (tree.more t ts) = some_before t ts (fits_level t) (fits_turn ts)
+      by_once : (b : Bool) → is_left_once a ≡ b
+          → FitsSome g off (if b then Some (in_turns low high a) else None) (run g (suc d) (tree.repeat body low high lazily))
+      by_once true e = fits_repeat g off (suc d) body low high lazily a (left e) at_depth
+      by_once false e = tt
 
-      pub fits_branches : (ts : Row) → FitsSome g off (bound_of_one g.class_has ts) (branches g (levels g below ts))
-      fits_branches tree.none = fits_never g off (branches g []) (λ s. refl)
-      fits_branches (tree.more t tree.none) = fits_level t
-      fits_branches (tree.more t (tree.more u ts)) =
-          some_or_else (bound g.class_has t) (both or_later (bound g.class_has u) (bound_of_choices g.class_has ts)) (level g below t) (level g below u ∷ levels g below ts) (fits_level t)
-          (some_or_else (bound g.class_has u) (bound_of_choices g.class_has ts) (level g below u) (levels g below ts) (fits_level u) (fits_choices ts))
+  mutual
+    unfolding bound level in_order branches choices
 
-      pub fits_choices : (ts : Row) → FitsSome g off (bound_of_choices g.class_has ts) (choices g (levels g below ts))
-      fits_choices tree.none = fits_never g off (choices g []) (λ s. refl)
-      fits_choices (tree.more t ts) = some_or_else (bound g.class_has t) (bound_of_choices g.class_has ts) (level g below t) (levels g below ts) (fits_level t) (fits_choices ts)
+    pub fits_level : (d : ℕ) (t : Nested)
+        → FitsSome g off (bound g.class_has t) (level g (run g d) t)
+    fits_level d tree.empty = fits_once g off (level g (run g d) tree.empty) (λ s. within_gives 0 _ s (omega arith)) (λ s. onward_gives g s.place reached s (inl refl))
+    fits_level d (tree.one item) = fits_once g off (level g (run g d) (tree.one item)) (once_one g off item) (onward_one g item)
+    fits_level d tree.line_break = fits_once g off (level g (run g d) tree.line_break) (once_break g off) (onward_break g)
+    fits_level d (tree.seq ts) = fits_turn d ts
+    fits_level d (tree.group number ts) = some_group number (bound_of_one g.class_has ts) (branches g (levels g (run g d) ts)) (fits_branches d ts)
+    fits_level d (tree.repeat body low high lazily) = some_repeat d body low high lazily (bound g.class_has body) (λ e. fits_level e body)
+    fits_level d (tree.one_repeat item low high lazily) = fits_many g off item low high lazily
+    fits_level d (tree.atomic ts) = some_atomic (bound_of_one g.class_has ts) (branches g (levels g (run g d) ts)) (fits_branches d ts)
+    fits_level d (tree.look true positive true ts) = some_look positive (bound_of_one g.class_has ts) (branches g (levels g (run g d) ts)) (fits_branches d ts)
+    fits_level d (tree.look true positive false ts) = tt
+    fits_level d (tree.look false positive _ ts) = tt
+    fits_level d (tree.condition test first second) = tt
+    fits_level d (tree.call k) = tt
+    fits_level d (tree.ref ns caseless) = fits_once g off (level g (run g d) (tree.ref ns caseless)) (once_ref g off ns caseless) (onward_ref g ns caseless)
+    fits_level d (tree.anchor kind) = fits_once g off (level g (run g d) (tree.anchor kind)) (once_anchor g off kind) (onward_anchor g kind)
+    fits_level d tree.keep_out = fits_once g off (level g (run g d) tree.keep_out) (λ s. within_gives 0 _ _ (omega arith)) (λ s. onward_gives g s.place reached _ (inl refl))
+    fits_level d (tree.verb v) = tt
+    fits_level d (tree.callout c) = tt
+
+    pub fits_turn : (d : ℕ) (ts : Row)
+        → FitsSome g off (bound_in_turn g.class_has ts) (in_order (levels g (run g d) ts))
+    fits_turn d tree.none = fits_once g off (in_order []) (λ s. within_gives 0 _ s (omega arith)) (onward_none g)
+    fits_turn d (tree.more t ts) = some_before (run g d) t ts (fits_level d t) (fits_turn d ts)
+
+    pub fits_branches : (d : ℕ) (ts : Row)
+        → FitsSome g off (bound_of_one g.class_has ts) (branches g (levels g (run g d) ts))
+    fits_branches d tree.none = fits_never g off (branches g []) (λ s. refl)
+    fits_branches d (tree.more t tree.none) = fits_level d t
+    fits_branches d (tree.more t (tree.more u ts)) =
+        some_beside (is_alone g.class_has (first_item t) (tree.more u ts)) (bound g.class_has t) (both (or_so (is_alone g.class_has (first_item u) ts)) (bound g.class_has u) (bound_of_choices g.class_has ts))
+        (level g (run g d) t) (level g (run g d) u ∷ levels g (run g d) ts) (left_alone g off (run g d) t (tree.more u ts)) (fits_level d t)
+        (some_beside (is_alone g.class_has (first_item u) ts) (bound g.class_has u) (bound_of_choices g.class_has ts)
+        (level g (run g d) u) (levels g (run g d) ts) (left_alone g off (run g d) u ts) (fits_level d u) (fits_choices d ts))
+
+    pub fits_choices : (d : ℕ) (ts : Row)
+        → FitsSome g off (bound_of_choices g.class_has ts) (choices g (levels g (run g d) ts))
+    fits_choices d tree.none = fits_never g off (choices g []) (λ s. refl)
+    fits_choices d (tree.more t ts) =
+        some_beside (is_alone g.class_has (first_item t) ts) (bound g.class_has t) (bound_of_choices g.class_has ts)
+        (level g (run g d) t) (levels g (run g d) ts) (left_alone g off (run g d) t ts) (fits_level d t) (fits_choices d ts)

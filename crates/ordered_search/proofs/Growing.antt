@@ -4,7 +4,7 @@ use Rattle.std.proofs.Math.Nat.{pow-zero, pow-le-pow_right}
 use Rattle.std.proofs.lemmas.Grind.{pow_more}
 use Rattle.std.proofs.lemmas.Nat.{mul-le, pow-add}
 use Rattle.match_needs.specs.declared.bounds.Growth.{Growth}
-use Rattle.match_needs.specs.Bounds.{at, steady, plus, product}
+use Rattle.match_needs.specs.Bounds.{at, steady, plus, product, greater}
 
 pub at_steady : (k n : ℕ) → at (steady k) n ≡ k
 at_steady k n = let e : n ^ 0 ≡ 1 = pow-zero n in ap (λ m. k * m) e ∙ omega arith
@@ -26,6 +26,16 @@ at_plus a b n pos =
     let y = more_degree b.times b.degree d n pos (omega arith) in
     let e : (a.times + b.times) * n ^ d ≡ a.times * n ^ d + b.times * n ^ d = grind arith in
     omega (arith, x, y, e)
+
+-- the greater of two is no less
+pub at_greater : (a b : Growth) (n : ℕ) → 0 < n
+    → (at a n ≤ at (greater a b) n) × (at b n ≤ at (greater a b) n)
+at_greater a b n pos =
+    let d = max a.degree b.degree in
+    let times = max a.times b.times in (
+      mul-le a.times (n ^ a.degree) times (n ^ d) (omega arith) (pow-le-pow_right pos (omega arith)),
+      mul-le b.times (n ^ b.degree) times (n ^ d) (omega arith) (pow-le-pow_right pos (omega arith)),
+    )
 
 pub at_product : (a b : Growth) (n : ℕ) → at (product a b) n ≡ at a n * at b n
 at_product a b n =

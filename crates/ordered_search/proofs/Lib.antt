@@ -18,8 +18,13 @@ pub mod LaterRuns
 pub mod FollowLaw
 pub mod TameStreams
 pub mod Growing
+pub mod Onward
 pub mod Bounded
+pub mod Repeated
 pub mod Apart
-pub mod FitsLevels
 pub mod SilentStreams
+pub mod Alone
+pub mod FitsLevels
 pub mod Needed
+pub mod Landing
+pub mod Behind

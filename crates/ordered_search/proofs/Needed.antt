@@ -21,29 +21,31 @@ use Rattle.match_items.specs.Views.{fold_in}
 use Rattle.match_items.proofs.TextGround.{next_place as goes_to_place, text_forward}
 use Rattle.match_needs.specs.declared.bounds.Growth.{Growth}
 use Rattle.match_needs.specs.declared.bounds.Bound.{Bound}
-use Rattle.match_needs.specs.Bounds.{at, followed, or_later, closed, grouped, both, change, offered, turns, left_once, is_apart, bound, bound_before, bound_in_turn, bound_of_one, bound_of_choices}
+use Rattle.match_needs.specs.Bounds.{at, followed, or_later, or_so, first_item, is_alone, closed, grouped, both, change, offered, turns, left_once, is_apart, bound, bound_before, bound_in_turn, bound_of_one, bound_of_choices}
 use Rattle.match_needs.specs.Needs.{may_begin, may_take, TakesOf, IsShort, Begins, copies, Needs, SomeNeeds, AllNeed}
 use Rattle.match_needs.specs.Texts.{Stands}
 use Rattle.match_needs.proofs.TextLemmas.{clash}
 use Rattle.byte_lanes.specs.Sets.{IsIn}
-use Rattle.ordered_search.specs.Stream.{State, first_state, exhausted, by_verb, by_halt, too_many_units, How, reached, accepted, note, state, step, Stream, Search, ends, ◌▸◌, nothing, each, go_on, and_then, no_ending, is_next_branch, fails_alone}
+use Rattle.ordered_search.specs.Stream.{State, first_state, exhausted, by_verb, by_halt, is_partial, too_many_units, loop, abort, cut, How, reached, accepted, note, state, step, Stream, Search, ends, ◌▸◌, nothing, each, go_on, and_then, no_ending, is_next_branch, fails_alone}
 use Rattle.ordered_search.specs.Setting.{Setting, match_limit, held, reach_if}
 use Rattle.ordered_search.specs.Tests.{goes_to, run_one, offers, greedy, reluctant, lazy_run, run_many}
 use Rattle.ordered_search.specs.Parts.{Searches, in_order, choices, branches, run_group, run_atomic, run_look}
 use Rattle.ordered_search.specs.Run.{level, levels, run}
-use Rattle.ordered_search.specs.Laws.{step_count}
+use Rattle.ordered_search.specs.Laws.{ending, step_count}
 use Rattle.ordered_search.specs.PlaceAnswer.{Exhausted, Failed, Walked, answers, walk, place_answer}
 use Rattle.ordered_search.specs.Forward.{IsTextSearch}
 use Rattle.ordered_search.specs.Places.{next_place, last_place, within, is_excluded, place_after}
 use Rattle.ordered_search.specs.MatchAnswer.{Found, none_found, tried, found_at, from_place, match_answer}
-use Rattle.ordered_search.specs.Needed.{IsWithoutNeed, NeedLaw, BeginLaw}
+use Rattle.ordered_search.specs.Needed.{IsWithoutNeed, NeedLaw}
 use Rattle.ordered_search.proofs.TameStreams.{state_count, Tame}
 use Rattle.ordered_search.proofs.SilentStreams.{Silent, silent_nothing, silent_halt, silent_step, silent_or_else, silent_before, silent_decide, silent_catch}
+use Rattle.ordered_search.proofs.CutLaw.{cut_law}
 use Rattle.ordered_search.proofs.StartPlaces.{next_stands, up_to_keeps}
 use Rattle.ordered_search.proofs.ForwardStreams.{IsOnWay, Forward, IsForward, with_units, loosened}
 use Rattle.ordered_search.proofs.ForwardSearch.{forward_level, forward_run}
 use Rattle.ordered_search.proofs.ForwardLaw.{begun_at}
-use Rattle.ordered_search.proofs.Bounded.{FitsSome, unreached}
+use Rattle.ordered_search.proofs.Growing.{at_plus}
+use Rattle.ordered_search.proofs.Bounded.{FitsSome, unreached, one_more, two_more}
 use Rattle.ordered_search.proofs.FitsLevels.{fits_level}
 
 -- the bytes with which a character may begin, each in its case of the definition
@@ -212,7 +214,7 @@ module _ (g : Setting) (sets : List (List Bool)) (off : g.matching.«partial» �
           by_taken (leb-false (length g.subject) p is) c (p + 1) (takes_may item p c e) (takes g.scene item p c) refl
 
   -- the place behind a byte of the set, if there is one
-  abbrev IsBehind : List Bool → ℕ → Option ℕ → Type 0
+  abbrev pub IsBehind : List Bool → ℕ → Option ℕ → Type 0
   IsBehind set p o = (o ≡ None) ⊎ ((o ≡ Some (p + 1)) × ((p < length g.subject) × IsIn set g.subject p))
 
   taken : (no_utf : g.options.utf ≡ false) (set : List Bool) (item : Item) → TakesOf may set item → (p : ℕ) → IsBehind set p (after_item g.scene item p)
@@ -236,7 +238,7 @@ module _ (g : Setting) (sets : List (List Bool)) (off : g.matching.«partial» �
       by_end e is = by_char (is_end g.scene p) refl g.options.utf no_utf
 
   -- so it is where each character that the item takes is one byte
-  taken_short : (set : List Bool) (item : Item) → TakesOf may set item → IsShort may g.options.utf item → (p : ℕ) → Here p → IsBehind set p (after_item g.scene item p)
+  pub taken_short : (set : List Bool) (item : Item) → TakesOf may set item → IsShort may g.options.utf item → (p : ℕ) → Here p → IsBehind set p (after_item g.scene item p)
   taken_short set item h (inl no_utf) p here = taken no_utf set item h p
   taken_short set item h (inr low) p here = by_end (is_end g.scene p) refl
     where
@@ -340,12 +342,13 @@ module _ (g : Setting) (sets : List (List Bool)) (off : g.matching.«partial» �
   here_at : (s : State) → OnWay s → Here s.place
   here_at s on = λ utf. (on.0 utf).here
 
-  abbrev SilentIn : Bound → Search → Type 0
-  SilentIn b f = (s : State) → OnWay s → s.units + b.units ≤ g.matching.frame_limit → Silent (f s)
+  -- from a state of which this holds
+  abbrev pub SilentUnder : (State → Type 0) → Option Bound → Search → Type 0
+  SilentUnder P None f = Unit {0}
+  SilentUnder P (Some b) f = (s : State) → P s → s.units + at b.units (length g.subject + 1) ≤ g.matching.frame_limit → Silent (f s)
 
   abbrev SilentSome : Option Bound → Search → Type 0
-  SilentSome None f = Unit {0}
-  SilentSome (Some b) f = SilentIn b f
+  SilentSome = SilentUnder OnWay
 
   silent_reach : (b : Bool) (s : State) (x : Stream) → Silent x → Silent (reach_if g b s x)
   silent_reach b s x h = subst Silent (sym (unreached g off b s x)) h
@@ -392,7 +395,9 @@ module _ (g : Setting) (sets : List (List Bool)) (off : g.matching.«partial» �
   unfolding in_order
   silent_first None y f fs h = tt
   silent_first (Some a) None f fs h = tt
-  silent_first (Some a) (Some b) f fs h = λ s on le. silent_before (f s) (go_on (in_order fs)) (h s on (omega (arith, le)))
+  silent_first (Some a) (Some b) f fs h = λ s on le.
+      let units = at_plus a.units b.units (length g.subject + 1) (omega arith) in
+      silent_before (f s) (go_on (in_order fs)) (h s on (omega (arith, le, units)))
 
   -- its states stand where characters begin
   abbrev Forwards : Search → Type 0
@@ -415,41 +420,66 @@ module _ (g : Setting) (sets : List (List Bool)) (off : g.matching.«partial» �
   silent_later wide None y f fs h forth k = tt
   silent_later wide (Some a) None f fs h forth k = tt
   silent_later wide (Some a) (Some b) f fs h forth k = λ s on le.
-      silent_on_way wide (s.units + a.units) s.place (f s) (go_on (in_order fs)) (h s (omega (arith, le))).tame (λ utf. forth utf s (on.0 utf))
-      (λ t there few. k t there (omega (arith, few, le)))
+      let n = length g.subject + 1 in
+      let units = at_plus a.units b.units n (omega arith) in
+      silent_on_way wide (s.units + at a.units n) s.place (f s) (go_on (in_order fs)) (h.0 s (omega (arith, le, units))).tame (λ utf. forth utf s (on.0 utf))
+      (λ t there few. k t there (omega (arith, few, le, units)))
 
-  silent_or : (x y : Option Bound) (f : Search) (fs : List Search) → SilentSome x f → SilentSome y (choices g fs) → SilentSome (both or_later x y) (choices g (f ∷ fs))
+  silent_either : (x y : Option Bound) (f : Search) (fs : List Search) → SilentSome x f
+      → SilentSome y (choices g fs) → SilentSome (both or_later x y) (choices g (f ∷ fs))
   unfolding choices
-  silent_or None y f fs h k = tt
-  silent_or (Some a) None f fs h k = tt
-  silent_or (Some a) (Some b) f [] h k = λ s on le. silent_step _ (silent_catch is_next_branch (f s) (h s on (omega (arith, le))))
-  silent_or (Some a) (Some b) f (f' ∷ fs) h k = λ s on le.
+  silent_either None y f fs h k = tt
+  silent_either (Some a) None f fs h k = tt
+  silent_either (Some a) (Some b) f [] h k = λ s on le.
+      let units = one_more g off a.units b.units in
+      silent_step _ (silent_catch is_next_branch (f s) (h s on (omega (arith, le, units))))
+  silent_either (Some a) (Some b) f (f' ∷ fs) h k = λ s on le.
+      let units = one_more g off a.units b.units in
       silent_step _ (silent_or_else _ _
-      (silent_held 1 s _ (λ room. silent_catch is_next_branch _ (h _ (with_more s (s.units + 1) on) (omega (arith, le)))))
-      (k s on (omega (arith, le))))
+      (silent_held 1 s _ (λ room. silent_catch is_next_branch _ (h _ (with_more s (s.units + 1) on) (omega (arith, le, units)))))
+      (k s on (omega (arith, le, units))))
+
+  -- it is all one how many states they give
+  silent_or : (alone : Bool) (x y : Option Bound) (f : Search) (fs : List Search) → SilentSome x f
+      → SilentSome y (choices g fs) → SilentSome (both (or_so alone) x y) (choices g (f ∷ fs))
+  silent_or alone x y f fs h k = by_alone alone x y (silent_either x y f fs h k)
+    where
+      by_alone : (alone : Bool) (x y : Option Bound)
+          → SilentSome (both or_later x y) (choices g (f ∷ fs))
+          → SilentSome (both (or_so alone) x y) (choices g (f ∷ fs))
+      by_alone alone None y h = tt
+      by_alone alone (Some a) None h = tt
+      by_alone true (Some a) (Some b) h = h
+      by_alone false (Some a) (Some b) h = h
 
   silent_group : (number : Option ℕ) (x : Option Bound) (f : Search) → SilentSome x f → SilentSome (change (grouped number) x) (run_group g number f)
   unfolding run_group
   silent_group number None f h = tt
   silent_group None (Some a) f h = λ s on le. h s on le
-  silent_group (Some n) (Some a) f h = λ s on le. silent_held 1 s _ (λ room. silent_before _ _ (h _ (with_more s (s.units + 1) on) (omega (arith, le))))
+  silent_group (Some n) (Some a) f h = λ s on le.
+      let units = two_more g off a in
+      silent_held 1 s _ (λ room. silent_before _ _ (h _ (with_more s (s.units + 1) on) (omega (arith, le, units))))
 
   silent_atomic : (x : Option Bound) (f : Search) → SilentSome x f → SilentSome (change closed x) (run_atomic g f)
   unfolding run_atomic
   silent_atomic None f h = tt
-  silent_atomic (Some a) f h = λ s on le. silent_held 1 s _ (λ room. silent_decide no_ending _ _ nothing (h _ (with_more s (s.units + 1) on) (omega (arith, le))) silent_nothing)
+  silent_atomic (Some a) f h = λ s on le.
+      let units = two_more g off a in
+      silent_held 1 s _ (λ room. silent_decide no_ending _ _ nothing (h _ (with_more s (s.units + 1) on) (omega (arith, le, units))) silent_nothing)
 
   silent_look : (x : Option Bound) (f : Search) → SilentSome x f → SilentSome (change closed x) (run_look g true true f)
   unfolding run_look
   silent_look None f h = tt
-  silent_look (Some a) f h = λ s on le. silent_held 1 s _ (λ room. silent_decide fails_alone _ _ nothing (h _ (with_more s (s.units + 1) on) (omega (arith, le))) silent_nothing)
+  silent_look (Some a) f h = λ s on le.
+      let units = two_more g off a in
+      silent_held 1 s _ (λ room. silent_decide fails_alone _ _ nothing (h _ (with_more s (s.units + 1) on) (omega (arith, le, units))) silent_nothing)
 
   silent_any : (x : Option Bound) (f : Search) → ((s : State) → OnWay s → Silent (f s)) → SilentSome x f
   silent_any None f h = tt
   silent_any (Some b) f h = λ s on le. h s on
 
   -- in UTF a state stands where a character begins
-  abbrev InText : State → Type 0
+  abbrev pub InText : State → Type 0
   InText s = IsTrue g.options.utf → IsOnWay g None s
 
   -- an item takes the first byte of what doesn't stand here, and so the others don't stand behind it
@@ -471,7 +501,8 @@ module _ (g : Setting) (sets : List (List Bool)) (off : g.matching.«partial» �
           silent_or_else (f (record s { place = q })) nothing
           (next _ (λ utf. (forth utf).1) (λ stands. gone (h.1.0, (h.1.1, subst (Stands rest g.subject) is stands)))) silent_nothing
 
-  module _ (below : Searches) (deeper : IsTrue g.options.utf → (low : Option ℕ) (t : Nested) → IsForward g low (below t)) where
+  module _ (below : Searches) (deeper : IsTrue g.options.utf → (low : Option ℕ) (t : Nested) → IsForward g low (below t))
+      (fits : (t : Nested) → FitsSome g off (bound g.class_has t) (level g below t)) where
     forwards : (t : Nested) → Forwards (level g below t)
     forwards t = λ utf. forward_level g (text utf) below (deeper utf) None t
 
@@ -491,42 +522,42 @@ module _ (g : Setting) (sets : List (List Bool)) (off : g.matching.«partial» �
         (silent_begins (next ∷ rest) ts h.1.1) s on gone)
 
     -- Where no state is given it is all one how many a repeat gives.
-    by_apart : (b : Bool) (a : Growth) (y : Option Bound) (f : Search) → SilentSome (both followed (Some (offered a)) y) f
-        → SilentSome (both followed (if b then Some (left_once a) else Some (offered a)) y) f
-    by_apart false a y f h = h
-    by_apart true a None f h = tt
-    by_apart true a (Some c) f h = h
+    by_apart : (P : State → Type 0) (b : Bool) (a : Growth) (y : Option Bound) (f : Search) → SilentUnder P (both followed (Some (offered a)) y) f
+        → SilentUnder P (both followed (if b then Some (left_once a) else Some (offered a)) y) f
+    by_apart P false a y f h = h
+    by_apart P true a None f h = tt
+    by_apart P true a (Some c) f h = h
 
-    silent_ahead : (t : Nested) (ts : Row) (y : Option Bound) (f : Search) → SilentSome (both followed (bound g.class_has t) y) f
-        → SilentSome (both followed (bound_before g.class_has t ts (bound g.class_has t)) y) f
+    pub silent_ahead : (P : State → Type 0) (t : Nested) (ts : Row) (y : Option Bound) (f : Search) → SilentUnder P (both followed (bound g.class_has t) y) f
+        → SilentUnder P (both followed (bound_before g.class_has t ts (bound g.class_has t)) y) f
     unfolding bound
-    silent_ahead (tree.one_repeat item low high lazily) ts y f h = by_apart (is_apart g.class_has item ts) (turns low high) y f h
-    silent_ahead tree.empty ts y f h = h
-    silent_ahead (tree.one item) ts y f h = h
-    silent_ahead tree.line_break ts y f h = h
-    silent_ahead (tree.seq us) ts y f h = h
-    silent_ahead (tree.group n us) ts y f h = h
-    silent_ahead (tree.repeat u low high lazily) ts y f h = h
-    silent_ahead (tree.atomic us) ts y f h = h
-    silent_ahead (tree.look ahead positive _ us) ts y f h = h
-    silent_ahead (tree.condition test u v) ts y f h = h
-    silent_ahead (tree.call n) ts y f h = h
-    silent_ahead (tree.ref ns caseless) ts y f h = h
-    silent_ahead (tree.anchor kind) ts y f h = h
-    silent_ahead tree.keep_out ts y f h = h
-    silent_ahead (tree.verb v) ts y f h = h
-    silent_ahead (tree.callout k) ts y f h = h
+    silent_ahead P (tree.one_repeat item low high lazily) ts y f h = by_apart P (is_apart g.class_has item ts) (turns low high) y f h
+    silent_ahead P tree.empty ts y f h = h
+    silent_ahead P (tree.one item) ts y f h = h
+    silent_ahead P tree.line_break ts y f h = h
+    silent_ahead P (tree.seq us) ts y f h = h
+    silent_ahead P (tree.group n us) ts y f h = h
+    silent_ahead P (tree.repeat u low high lazily) ts y f h = h
+    silent_ahead P (tree.atomic us) ts y f h = h
+    silent_ahead P (tree.look ahead positive _ us) ts y f h = h
+    silent_ahead P (tree.condition test u v) ts y f h = h
+    silent_ahead P (tree.call n) ts y f h = h
+    silent_ahead P (tree.ref ns caseless) ts y f h = h
+    silent_ahead P (tree.anchor kind) ts y f h = h
+    silent_ahead P tree.keep_out ts y f h = h
+    silent_ahead P (tree.verb v) ts y f h = h
+    silent_ahead P (tree.callout k) ts y f h = h
 
     mutual
       unfolding bound level in_order branches choices
 
-      silent_level : (t : Nested) → Needs may g.options.utf anywhere sets t → SilentSome (bound g.class_has t) (level g below t)
+      pub silent_level : (t : Nested) → Needs may g.options.utf anywhere sets t → SilentSome (bound g.class_has t) (level g below t)
       silent_level tree.empty h = absurd h
       silent_level (tree.one item) h = λ s on le. silent_one item h s on
       silent_level tree.line_break h = absurd h
       silent_level (tree.seq ts) h = silent_turn ts h
       silent_level (tree.group number ts) h = silent_group number (bound_of_one g.class_has ts) (branches g (levels g below ts)) (silent_branches ts h)
-      silent_level (tree.repeat body low high lazily) h = tt
+      silent_level (tree.repeat body low high lazily) h = absurd h
       silent_level (tree.one_repeat item low high lazily) h = λ s on le. silent_many item low high lazily h s on
       silent_level (tree.atomic ts) h = silent_atomic (bound_of_one g.class_has ts) (branches g (levels g below ts)) (silent_branches ts h)
       silent_level (tree.look true true true ts) h = silent_look (bound_of_one g.class_has ts) (branches g (levels g below ts)) (silent_branches ts h)
@@ -541,71 +572,79 @@ module _ (g : Setting) (sets : List (List Bool)) (off : g.matching.«partial» �
       silent_level (tree.verb v) h = tt
       silent_level (tree.callout c) h = tt
 
-      silent_turn : (ts : Row) → SomeNeeds may g.options.utf anywhere sets ts → SilentSome (bound_in_turn g.class_has ts) (in_order (levels g below ts))
+      pub silent_turn : (ts : Row) → SomeNeeds may g.options.utf anywhere sets ts → SilentSome (bound_in_turn g.class_has ts) (in_order (levels g below ts))
       silent_turn tree.none h = absurd h
       silent_turn (tree.more t ts) (inl h) =
-          silent_ahead t ts (bound_in_turn g.class_has ts) _
+          silent_ahead OnWay t ts (bound_in_turn g.class_has ts) _
           (silent_first (bound g.class_has t) (bound_in_turn g.class_has ts) (level g below t) (levels g below ts) (silent_level t h))
       silent_turn (tree.more t ts) (inr (inl h)) =
-          silent_ahead t ts (bound_in_turn g.class_has ts) _
+          silent_ahead OnWay t ts (bound_in_turn g.class_has ts) _
           (silent_any (both followed (bound g.class_has t) (bound_in_turn g.class_has ts)) (in_order (level g below t ∷ levels g below ts))
           (λ s on. silent_begins sets (tree.more t ts) h s on.0 (gone_at s on)))
       silent_turn (tree.more t ts) (inr (inr h)) =
-          silent_ahead t ts (bound_in_turn g.class_has ts) _
-          (silent_later h.0 (bound g.class_has t) (bound_in_turn g.class_has ts) (level g below t) (levels g below ts) (fits_level g off below t) (forwards t) (silent_turn ts h.1))
+          silent_ahead OnWay t ts (bound_in_turn g.class_has ts) _
+          (silent_later h.0 (bound g.class_has t) (bound_in_turn g.class_has ts) (level g below t) (levels g below ts) (fits t) (forwards t) (silent_turn ts h.1))
 
       silent_branches : (ts : Row) → AllNeed may g.options.utf anywhere sets ts → SilentSome (bound_of_one g.class_has ts) (branches g (levels g below ts))
       silent_branches tree.none h = λ s on le. silent_nothing
       silent_branches (tree.more t tree.none) h = silent_level t h.0
       silent_branches (tree.more t (tree.more u ts)) h =
-          silent_or (bound g.class_has t) (both or_later (bound g.class_has u) (bound_of_choices g.class_has ts)) (level g below t) (level g below u ∷ levels g below ts) (silent_level t h.0)
-          (silent_or (bound g.class_has u) (bound_of_choices g.class_has ts) (level g below u) (levels g below ts) (silent_level u h.1.0) (silent_choices ts h.1.1))
+          silent_or (is_alone g.class_has (first_item t) (tree.more u ts)) (bound g.class_has t) (both (or_so (is_alone g.class_has (first_item u) ts)) (bound g.class_has u) (bound_of_choices g.class_has ts)) (level g below t) (level g below u ∷ levels g below ts) (silent_level t h.0)
+          (silent_or (is_alone g.class_has (first_item u) ts) (bound g.class_has u) (bound_of_choices g.class_has ts) (level g below u) (levels g below ts) (silent_level u h.1.0) (silent_choices ts h.1.1))
 
       silent_choices : (ts : Row) → AllNeed may g.options.utf anywhere sets ts → SilentSome (bound_of_choices g.class_has ts) (choices g (levels g below ts))
       silent_choices tree.none h = λ s on le. silent_nothing
-      silent_choices (tree.more t ts) h = silent_or (bound g.class_has t) (bound_of_choices g.class_has ts) (level g below t) (levels g below ts) (silent_level t h.0) (silent_choices ts h.1)
+      silent_choices (tree.more t ts) h = silent_or (is_alone g.class_has (first_item t) ts) (bound g.class_has t) (bound_of_choices g.class_has ts) (level g below t) (levels g below ts) (silent_level t h.0) (silent_choices ts h.1)
 
   -- A stream without a state.
 
-  walk_fails : (n u : ℕ) (x : Stream) → step_count x ≤ n → Tame u x → Silent x → walk g n x ≡ answers (Failed Exhausted)
-  unfolding walk step_count Tame state_count
-  walk_fails n u (ends exhausted) few h k = refl
-  walk_fails n u (ends (by_verb v)) few h k = absurd h
-  walk_fails n u (ends (by_halt a)) few h k = absurd h
-  walk_fails n u (note m ▸ x) few h k = absurd h
-  walk_fails n u (state how s ▸ x) few h k = absurd (omega (arith, k))
-  walk_fails zero u (step ▸ x) few h k = absurd (omega (arith, few))
-  walk_fails (suc n) u (step ▸ x) few h k = walk_fails n u x (omega (arith, few)) h k
+  walk_fails : (n u : ℕ) (x : Stream) → step_count x ≤ n → Tame u x → Silent x
+      → ¬ (ending x ≡ by_halt cut) → walk g n x ≡ answers (Failed Exhausted)
+  unfolding walk step_count Tame state_count ending
+  walk_fails n u (ends exhausted) few h k whole = refl
+  walk_fails n u (ends (by_verb v)) few h k whole = absurd h
+  walk_fails n u (ends (by_halt is_partial)) few h k whole = absurd h
+  walk_fails n u (ends (by_halt too_many_units)) few h k whole = absurd h
+  walk_fails n u (ends (by_halt loop)) few h k whole = absurd h
+  walk_fails n u (ends (by_halt (abort a))) few h k whole = absurd h
+  walk_fails n u (ends (by_halt cut)) few h k whole = absurd (whole refl)
+  walk_fails n u (note m ▸ x) few h k whole = absurd h
+  walk_fails n u (state how s ▸ x) few h k whole = absurd (omega (arith, k))
+  walk_fails zero u (step ▸ x) few h k whole = absurd (omega (arith, few))
+  walk_fails (suc n) u (step ▸ x) few h k whole = walk_fails n u x (omega (arith, few)) h k whole
 
   -- At the start.
 
-  module _ (b : Bound) (needs : Needs may g.options.utf anywhere sets g.whole) (bounded : bound g.class_has g.whole ≡ Some b)
-      (steps : at b.steps (length g.subject + 1) ≤ match_limit g) (units : b.units ≤ g.matching.frame_limit)
-      (begun : IsTrue g.options.utf → IsTextPlace g.options g.subject g.start) (here : Here start) where
-    begun_here : OnWay (first_state g.groups start)
-    begun_here = (
-      λ utf.
-          let search : IsTextSearch g = record { text = text utf; begun = begun utf } in
-          loosened g (Some start) (first_state g.groups start) (begun_at g search start (here utf)),
-      λ _. refl,
-    )
+  module _ (b : Bound) (bounded : bound g.class_has g.whole ≡ Some b)
+      (steps : at b.steps (length g.subject + 1) ≤ match_limit g) (units : at b.units (length g.subject + 1) ≤ g.matching.frame_limit)
+      (begun : IsTrue g.options.utf → IsTextPlace g.options g.subject g.start) where
+    pub in_text : (p : ℕ) → Here p → InText (first_state g.groups p)
+    in_text p here = λ utf.
+        let search : IsTextSearch g = record { text = text utf; begun = begun utf } in
+        loosened g (Some p) (first_state g.groups p) (begun_at g search p (here utf))
 
-    start_fails : place_answer g start ≡ answers (Failed Exhausted)
+    pub under_fails : (P : State → Type 0) (p : ℕ) → P (first_state g.groups p)
+        → SilentUnder P (bound g.class_has g.whole) (level g (run g (match_limit g)) g.whole)
+        → place_answer g p ≡ answers (Failed Exhausted)
     unfolding run
-    start_fails =
+    under_fails P p on silent =
         let d = match_limit g in
-        let s = first_state g.groups start in
+        let s = first_state g.groups p in
         let e : d + 1 ≡ suc d = omega arith in
-        let fits = subst (λ o. FitsSome g off o (level g (run g d) g.whole)) bounded (fits_level g off (run g d) g.whole) in
-        let silent = subst (λ o. SilentSome o (level g (run g d) g.whole)) bounded (silent_level (run g d) (λ utf. forward_run g (text utf) d) g.whole needs) in
-        let room : 0 + b.units ≤ g.matching.frame_limit = omega (arith, units) in
-        let w = fits s room in
+        let fits = subst (λ o. FitsSome g off o (level g (run g d) g.whole)) bounded (fits_level g off d g.whole) in
+        let most = at b.units (length g.subject + 1) in
+        let room : 0 + most ≤ g.matching.frame_limit = omega (arith, units) in
+        let w = fits.0 s room in
+        let few : step_count (level g (run g d) g.whole s) ≤ d = let k = w.steps in omega (arith, k, steps) in
         ap (λ n. walk g d (run g n g.whole s)) e
-        ∙ walk_fails d (0 + b.units) (level g (run g d) g.whole s) (let k = w.steps in omega (arith, k, steps)) w.tame (silent s begun_here room)
+        ∙ walk_fails d (0 + most) (level g (run g d) g.whole s) few w.tame
+        (subst (λ o. SilentUnder P o (level g (run g d) g.whole)) bounded silent s on room)
+        (λ none. let late = cut_law g (suc d) g.whole s none in omega (arith, late, few))
 
-pub begin_law : BeginLaw
-begin_law g sets b p h =
-    start_fails g sets h.off h.folds h.text h.small false p (λ k at stands. h.missing (subst (Stands sets g.subject) (at refl) stands)) b h.needs h.bounded h.steps h.units h.begun h.here
+    start_fails : Needs may g.options.utf anywhere sets g.whole → Here start → place_answer g start ≡ answers (Failed Exhausted)
+    start_fails needs here =
+        under_fails OnWay start (in_text start here, λ _. refl)
+        (silent_level (run g (match_limit g)) (λ utf. forward_run g (text utf) (match_limit g)) (fits_level g off (match_limit g)) g.whole needs)
 
 -- All start places.
 
@@ -615,7 +654,7 @@ module _ (g : Setting) (sets : List (List Bool)) (b : Bound) (h : IsWithoutNeed 
   Stays p = IsTrue g.options.utf → IsTextPlace g.options g.subject p
 
   place_fails : (p : ℕ) → Stays p → place_answer g p ≡ answers (Failed Exhausted)
-  place_fails p here = start_fails g sets h.off h.folds h.text h.small true p (λ k _. h.missing k) b h.needs h.bounded h.steps h.units h.begun here
+  place_fails p here = start_fails g sets h.off h.folds h.text h.small true p (λ k _. h.missing k) b h.bounded h.steps h.units h.begun h.needs here
 
   tried_fails : (p : ℕ) → Stays p → tried g p ≡ answers (Failed Exhausted)
   tried_fails p here = by_test (is_excluded g p)

@@ -1,8 +1,8 @@
--- Streams that end when they are exhausted, with states that are reached with no more than so many units and nothing told beside
--- them; how many Steps and states they give.
-use Rattle.std.proofs.Common.{◌≡◌, ℕ, suc, ◌+◌, ◌*◌, ◌≤◌, Bool, true, false, refl, sym, ap, subst, arith}
+-- Streams that end when they are exhausted or their depth is used up, with states that are reached
+-- with no more than so many units and nothing told beside them; how many Steps and states they give.
+use Rattle.std.proofs.Common.{◌≡◌, ℕ, suc, ◌+◌, ◌*◌, ◌≤◌, Bool, true, false, refl, ap, arith}
 use Rattle.std.proofs.lemmas.Nat.{mul-le}
-use Rattle.ordered_search.specs.Stream.{State, Ending, exhausted, by_verb, by_halt, How, reached, accepted, note, state, step, Stream, Search, ends, ◌▸◌, nothing, gives, ◌or_else◌, each, and_then, go_on, decide, catch}
+use Rattle.ordered_search.specs.Stream.{State, Ending, exhausted, by_verb, by_halt, is_partial, too_many_units, loop, abort, cut, How, reached, accepted, note, state, step, Stream, Search, ends, ◌▸◌, nothing, gives, ◌or_else◌, each, and_then, go_on, decide, catch}
 use Rattle.ordered_search.specs.Laws.{step_count}
 
 -- how many states are in it
@@ -12,10 +12,17 @@ state_count (note k ▸ x) = state_count x
 state_count (state how s ▸ x) = suc (state_count x)
 state_count (step ▸ x) = state_count x
 
+abbrev pub IsTameEnd : Ending → Type 0
+IsTameEnd exhausted = Unit {0}
+IsTameEnd (by_verb v) = ⊥
+IsTameEnd (by_halt is_partial) = ⊥
+IsTameEnd (by_halt too_many_units) = ⊥
+IsTameEnd (by_halt loop) = ⊥
+IsTameEnd (by_halt (abort n)) = ⊥
+IsTameEnd (by_halt cut) = Unit {0}
+
 unfoldable pub Tame : ℕ → Stream → Type 0
-Tame u (ends exhausted) = Unit {0}
-Tame u (ends (by_verb v)) = ⊥
-Tame u (ends (by_halt a)) = ⊥
+Tame u (ends e) = IsTameEnd e
 Tame u (note k ▸ x) = ⊥
 Tame u (state reached s ▸ x) = (s.units ≤ u) × Tame u x
 Tame u (state accepted s ▸ x) = ⊥
@@ -23,9 +30,7 @@ Tame u (step ▸ x) = Tame u x
 
 tame_more : (u v : ℕ) (x : Stream) → u ≤ v → Tame u x → Tame v x
 unfolding Tame
-tame_more u v (ends exhausted) le h = tt
-tame_more u v (ends (by_verb w)) le h = absurd h
-tame_more u v (ends (by_halt a)) le h = absurd h
+tame_more u v (ends e) le h = h
 tame_more u v (note k ▸ x) le h = absurd h
 tame_more u v (state reached s ▸ x) le h = (omega (arith, le, h.0), tame_more u v x le h.1)
 tame_more u v (state accepted s ▸ x) le h = absurd h
@@ -37,7 +42,7 @@ tame_or_else : (u : ℕ) (x y : Stream) → Tame u x → Tame u y → Tame u (x 
 unfolding Tame ◌or_else◌
 tame_or_else u (ends exhausted) y h k = k
 tame_or_else u (ends (by_verb v)) y h k = absurd h
-tame_or_else u (ends (by_halt a)) y h k = absurd h
+tame_or_else u (ends (by_halt a)) y h k = h
 tame_or_else u (note m ▸ x) y h k = absurd h
 tame_or_else u (state reached s ▸ x) y h k = (h.0, tame_or_else u x y h.1 k)
 tame_or_else u (state accepted s ▸ x) y h k = absurd h
@@ -79,6 +84,10 @@ pub within_nothing : (p r u : ℕ) → Within p r u nothing
 unfolding step_count state_count Tame
 within_nothing p r u = record { steps = omega arith; states = omega arith; tame = tt }
 
+pub within_end : (p r u : ℕ) (e : Ending) → IsTameEnd e → Within p r u (ends e)
+unfolding step_count state_count Tame
+within_end p r u e h = record { steps = omega arith; states = omega arith; tame = h }
+
 pub within_gives : (p u : ℕ) (s : State) → s.units ≤ u → Within p 1 u (gives reached s)
 unfolding step_count state_count Tame
 within_gives p u s h = record { steps = omega arith; states = omega arith; tame = (h, tt) }
@@ -105,9 +114,7 @@ AllWithin u p r v f = (s : State) → s.units ≤ u → Within p r v (f reached 
 
 tame_each : (u p r v : ℕ) (x : Stream) (f : How → Search) → Tame u x → AllWithin u p r v f → Tame v (each x f)
 unfolding Tame each
-tame_each u p r v (ends exhausted) f h k = tt
-tame_each u p r v (ends (by_verb w)) f h k = absurd h
-tame_each u p r v (ends (by_halt a)) f h k = absurd h
+tame_each u p r v (ends e) f h k = h
 tame_each u p r v (note m ▸ x) f h k = absurd h
 tame_each u p r v (state reached s ▸ x) f h k =
     tame_or_else v (f reached s) (each x f) (k s h.0).tame (tame_each u p r v x f h.1 k)
@@ -117,9 +124,7 @@ tame_each u p r v (step ▸ x) f h k = tame_each u p r v x f h k
 steps_each : (u p r v : ℕ) (x : Stream) (f : How → Search) → Tame u x → AllWithin u p r v f →
     step_count (each x f) ≤ step_count x + state_count x * p
 unfolding Tame step_count state_count each
-steps_each u p r v (ends exhausted) f h k = omega arith
-steps_each u p r v (ends (by_verb w)) f h k = absurd h
-steps_each u p r v (ends (by_halt a)) f h k = absurd h
+steps_each u p r v (ends e) f h k = omega arith
 steps_each u p r v (note m ▸ x) f h k = absurd h
 steps_each u p r v (state reached s ▸ x) f h k =
     let a = steps_both (f reached s) (each x f) in
@@ -133,9 +138,7 @@ steps_each u p r v (step ▸ x) f h k = let c = steps_each u p r v x f h k in om
 states_each : (u p r v : ℕ) (x : Stream) (f : How → Search) → Tame u x → AllWithin u p r v f →
     state_count (each x f) ≤ state_count x * r
 unfolding Tame state_count each
-states_each u p r v (ends exhausted) f h k = omega arith
-states_each u p r v (ends (by_verb w)) f h k = absurd h
-states_each u p r v (ends (by_halt a)) f h k = absurd h
+states_each u p r v (ends e) f h k = omega arith
 states_each u p r v (note m ▸ x) f h k = absurd h
 states_each u p r v (state reached s ▸ x) f h k =
     let a = states_both (f reached s) (each x f) in
@@ -169,10 +172,8 @@ within_and_then p r u q t v x f h k = within_each p r u q t v x (go_on f) h k
 decide_counted : (u q t q' t' v : ℕ) (fails : Ending → Bool) (x : Stream) (f : How → Search) (y : Stream) → Tame u x →
     AllWithin u q t v f → Within q' t' v y → Within (step_count x + (q + q')) (t + t') v (decide fails x f y)
 unfolding Tame step_count decide
-decide_counted u q t q' t' v fails (ends exhausted) f y h k l =
-    within_if _ _ v (fails exhausted) y nothing (within_more q' t' v _ _ v y (omega arith) (omega arith) (omega arith) l) (within_nothing _ _ v)
-decide_counted u q t q' t' v fails (ends (by_verb w)) f y h k l = absurd h
-decide_counted u q t q' t' v fails (ends (by_halt a)) f y h k l = absurd h
+decide_counted u q t q' t' v fails (ends e) f y h k l =
+    within_if _ _ v (fails e) y (ends e) (within_more q' t' v _ _ v y (omega arith) (omega arith) (omega arith) l) (within_end _ _ v e h)
 decide_counted u q t q' t' v fails (note m ▸ x) f y h k l = absurd h
 decide_counted u q t q' t' v fails (state reached s ▸ x) f y h k l =
     within_more q t v _ _ v (f reached s) (omega arith) (omega arith) (omega arith) (k s h.0)
@@ -188,20 +189,46 @@ within_decide p r u q t q' t' v fails x f y h k l =
     within_more (step_count x + (q + q')) (t + t') v _ _ v _ (omega (arith, a)) (omega arith) (omega arith)
     (decide_counted u q t q' t' v fails x f y h.tame k l)
 
--- no ending is left to be caught
-catch_same : (u : ℕ) (caught : Ending → Bool) (x : Stream) → Tame u x → catch caught x ≡ x
-unfolding Tame catch
-catch_same u caught (ends exhausted) h = by_test (caught exhausted)
+-- An ending that is caught leaves the bounds as they are.
+
+steps_caught : (caught : Ending → Bool) (x : Stream) → step_count (catch caught x) ≡ step_count x
+unfolding step_count catch
+steps_caught caught (ends e) = by_test (caught e)
   where
-    by_test : (b : Bool) → ◌≡◌ {A = Stream} (elim b [ true ↦ nothing | false ↦ ends exhausted ]) (ends exhausted)
+    by_test : (b : Bool) → step_count (elim b [ true ↦ nothing | false ↦ ends e ]) ≡ 0
     by_test true = refl
     by_test false = refl
-catch_same u caught (ends (by_verb w)) h = absurd h
-catch_same u caught (ends (by_halt a)) h = absurd h
-catch_same u caught (note m ▸ x) h = absurd h
-catch_same u caught (state reached s ▸ x) h = ap (λ y. state reached s ▸ y) (catch_same u caught x h.1)
-catch_same u caught (state accepted s ▸ x) h = absurd h
-catch_same u caught (step ▸ x) h = ap (λ y. step ▸ y) (catch_same u caught x h)
+steps_caught caught (note m ▸ x) = steps_caught caught x
+steps_caught caught (state how s ▸ x) = steps_caught caught x
+steps_caught caught (step ▸ x) = ap suc (steps_caught caught x)
+
+pub states_caught : (caught : Ending → Bool) (x : Stream)
+    → state_count (catch caught x) ≡ state_count x
+unfolding state_count catch
+states_caught caught (ends e) = by_test (caught e)
+  where
+    by_test : (b : Bool) → state_count (elim b [ true ↦ nothing | false ↦ ends e ]) ≡ 0
+    by_test true = refl
+    by_test false = refl
+states_caught caught (note m ▸ x) = states_caught caught x
+states_caught caught (state how s ▸ x) = ap suc (states_caught caught x)
+states_caught caught (step ▸ x) = states_caught caught x
+
+tame_caught : (u : ℕ) (caught : Ending → Bool) (x : Stream) → Tame u x → Tame u (catch caught x)
+unfolding Tame catch
+tame_caught u caught (ends e) h = by_test (caught e)
+  where
+    by_test : (b : Bool) → Tame u (elim b [ true ↦ nothing | false ↦ ends e ])
+    by_test true = tt
+    by_test false = h
+tame_caught u caught (note m ▸ x) h = absurd h
+tame_caught u caught (state reached s ▸ x) h = (h.0, tame_caught u caught x h.1)
+tame_caught u caught (state accepted s ▸ x) h = absurd h
+tame_caught u caught (step ▸ x) h = tame_caught u caught x h
 
 pub within_catch : (p r u : ℕ) (caught : Ending → Bool) (x : Stream) → Within p r u x → Within p r u (catch caught x)
-within_catch p r u caught x h = subst (Within p r u) (sym (catch_same u caught x h.tame)) h
+within_catch p r u caught x h = record {
+  steps = let a = h.steps in let e = steps_caught caught x in omega (arith, a, e);
+  states = let a = h.states in let e = states_caught caught x in omega (arith, a, e);
+  tame = tame_caught u caught x h.tame;
+}

@@ -1,11 +1,12 @@
 -- Searches that a text which is missing in the subject answers (docs/SPEED.md, "A text that every match needs").
-use Rattle.std.specs.Prelude.{◌≡◌, ◌<◌, ◌≤◌, ℕ, ◌+◌, Bool, true, false, IsTrue, List, length, Some, slice_index}
+use Rattle.std.specs.Prelude.{◌≡◌, ◌<◌, ◌≤◌, ℕ, ◌+◌, Bool, true, IsTrue, List, length, Some, slice_index}
 use Rattle.pat_tree.specs.declared.options.PartialMode.TheVariants.{Off}
 use Rattle.match_items.specs.Subjects.{IsText, IsTextPlace}
 use Rattle.match_items.specs.Views.{fold_in}
 use Rattle.match_needs.specs.declared.bounds.Bound.{Bound}
 use Rattle.match_needs.specs.Bounds.{at, bound}
 use Rattle.match_needs.specs.Needs.{may_take, Needs}
+use Rattle.match_needs.specs.Distances.{NeedsAt}
 use Rattle.match_needs.specs.Texts.{Stands}
 use Rattle.ordered_search.specs.Setting.{Setting, match_limit}
 use Rattle.ordered_search.specs.PlaceAnswer.{Exhausted, Failed, answers, place_answer}
@@ -18,7 +19,7 @@ pub record IsWithoutNeed (g : Setting) (sets : List (List Bool)) (b : Bound) : T
   pub missing : (k : ℕ) → ¬ Stands sets g.subject k
   pub bounded : bound g.class_has g.whole ≡ Some b
   pub steps : at b.steps (length g.subject + 1) ≤ match_limit g
-  pub units : b.units ≤ g.matching.frame_limit
+  pub units : at b.units (length g.subject + 1) ≤ g.matching.frame_limit
   pub folds : g.fold ≡ fold_in g.options.utf
   pub text : IsTrue g.options.utf → IsText g.options g.subject
   pub begun : IsTrue g.options.utf → IsTextPlace g.options g.subject g.start
@@ -27,14 +28,16 @@ pub record IsWithoutNeed (g : Setting) (sets : List (List Bool)) (b : Bound) : T
 abbrev pub NeedLaw : Type 0
 NeedLaw = (g : Setting) (sets : List (List Bool)) (b : Bound) → IsWithoutNeed g sets b → match_answer g ≡ none_found
 
--- The same of a text with which every match begins, and that doesn't stand at the place p.
-pub record IsWithoutBegin (g : Setting) (sets : List (List Bool)) (b : Bound) (p : ℕ) : Type 0 where
-  pub needs : Needs (may_take g.options.utf g.class_has) g.options.utf false sets g.whole
+-- The same of a text that every match takes so many bytes behind the place where it begins, and that
+-- doesn't stand so far behind the place p.
+pub record IsWithoutBegin (g : Setting) (sets : List (List Bool)) (d : ℕ) (b : Bound)
+    (p : ℕ) : Type 0 where
+  pub needs : NeedsAt (may_take g.options.utf g.class_has) g.options.utf sets d g.whole
   pub small : (k : ℕ) → k < length g.subject → slice_index g.subject k < 256
-  pub missing : ¬ Stands sets g.subject p
+  pub missing : ¬ Stands sets g.subject (p + d)
   pub bounded : bound g.class_has g.whole ≡ Some b
   pub steps : at b.steps (length g.subject + 1) ≤ match_limit g
-  pub units : b.units ≤ g.matching.frame_limit
+  pub units : at b.units (length g.subject + 1) ≤ g.matching.frame_limit
   pub folds : g.fold ≡ fold_in g.options.utf
   pub text : IsTrue g.options.utf → IsText g.options g.subject
   pub begun : IsTrue g.options.utf → IsTextPlace g.options g.subject g.start
@@ -42,4 +45,5 @@ pub record IsWithoutBegin (g : Setting) (sets : List (List Bool)) (b : Bound) (p
   pub off : g.matching.«partial» ≡ Off
 
 abbrev pub BeginLaw : Type 0
-BeginLaw = (g : Setting) (sets : List (List Bool)) (b : Bound) (p : ℕ) → IsWithoutBegin g sets b p → place_answer g p ≡ answers (Failed Exhausted)
+BeginLaw = (g : Setting) (sets : List (List Bool)) (d : ℕ) (b : Bound) (p : ℕ)
+    → IsWithoutBegin g sets d b p → place_answer g p ≡ answers (Failed Exhausted)

@@ -24,7 +24,7 @@ ghost use Rattle.pcre2_api.specs.Starts.{start_fault};
 ghost use Rattle.match_drive.specs.Starts.{AreAlike};
 
 use crate::found::{Found, Text, found_of};
-use crate::need::{is_within, told_text};
+use crate::need::is_within;
 use crate::seek::{seek, seek_again};
 use crate::starts::test_start;
 use char_sets::ClassTable;
@@ -280,8 +280,8 @@ impl Code {
     }
 
     /// A text that every match takes: a subject of at most `most` bytes in which it stands nowhere has no match, and a
-    /// search of it from its begin passes no limit of `options`. Who has many subjects need not search such ones. None where
-    /// no such text is known.
+    /// search of it from its begin passes no limit of `options`. Who has many subjects need not search such ones; in UTF
+    /// they must be UTF-8. None where no such text is known.
     pub fn needed(&self, most: u32, options: &MatchOptions) -> Option<ByteText>
         requires { options.now.«partial» ≡ Off }
         ensures { IfSome result (λ text. FindsNone self.now options.now most (sets_of text)) }
@@ -289,12 +289,10 @@ impl Code {
         let Some(need) = &self.facts.need else {
             return None;
         };
-        let own = self.tree.options();
-        if !is_within(need, most, own, options) {
+        if !is_within(need, most, self.tree.options(), options) {
             return None;
         }
-        // In UTF a subject that isn't UTF-8 is told, whatever it lacks.
-        Some(told_text(need, own.utf))
+        Some(need.text.copied())
     }
 
     /// A law: what is told of the code is told of what its pattern is read as.

@@ -6,6 +6,7 @@ ghost use Rattle.dir_walk.specs.declared.lists.Target.{Target};
 ghost use Rattle.tool_in.specs.Asked.{Asked, StandFor};
 ghost use Rattle.tool_out.specs.Outcomes.{Runs};
 ghost use Rattle.tool_out.specs.Printed.{printed};
+ghost use Rattle.grep_run.specs.Stages.{streams};
 ghost use Rattle.pcre2_tools.specs.ToolText.{is_grep, is_test, tool_text, ToolAsks, ToolTies};
 
 use grep_run::run_grep;
@@ -44,14 +45,16 @@ pub fn run<F: FileSet, S: Source, O: Sink, E: Sink>(
     // part of it. Where pcre2grep's scan of the input ends early, at most 65,536 bytes past its last line were taken; and a
     // file of which it isn't known is absent only where a fault was counted.
     ensures text { (heard : Input) × Hears (S.tells input.old) (S.tells input.new) heard
-        × ((asked : List Target) × ToolAsks (F.tells files.old).contents (F.tells files.old).faults
-        (F.tells files.new).faults (map string_bytes words.now) asked
+        × ((asked : List Target) × ToolAsks (F.tells files.old) (F.tells files.new)
+        (map string_bytes words.now) asked
         × ((given : List Asked) × StandFor (F.tells files.old).contents heard asked given
         × Runs (tool_text (map string_bytes words.now) given) result
         (printed (O.tells out.old) (E.tells err.old)) (printed (O.tells out.new) (E.tells err.new))
-        × ToolTies (F.tells files.old).contents (F.tells files.old).faults
-        (F.tells files.new).faults (map string_bytes words.now) given result
-        (S.tells input.old) (S.tells input.new))) }
+        × ToolTies (streams (F.tells files.old) (S.tells input.old)
+        (printed (O.tells out.old) (E.tells err.old)))
+        (streams (F.tells files.new) (S.tells input.new)
+        (printed (O.tells out.new) (E.tells err.new)))
+        (map string_bytes words.now) given result)) }
     ensures files { (F.tells files.new).contents ≡ (F.tells files.old).contents }
 {
     let [tool, rest @ ..] = words else {

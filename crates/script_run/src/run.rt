@@ -62,12 +62,12 @@ fn run_file<F: FileSet, O: Sink, E: Sink>(
     out: &mut O,
     err: &mut E,
 ) -> Result<u8, IoError>
-    ensures runs { (given : Option Input) × Opened (F.tells files.old).contents name.now given
+    ensures runs { let before = F.tells files.old in let after = F.tells files.new in
+        (given : Option Input) × Opened before.contents name.now given
         × RunsBy (text_on plan.now name.now given)
         (printed (O.tells out.old) (E.tells err.old))
         (printed (O.tells out.new) (E.tells err.new)) result
-        × AbsentBy (F.tells files.old).contents (F.tells files.old).faults
-        (F.tells files.new).faults (file_given name.now given) }
+        × AbsentBy before.contents before.faults after.faults (file_given name.now given) }
     ensures files { (F.tells files.new).contents ≡ (F.tells files.old).contents }
 {
     match files.open_file(alloc, name) {
@@ -98,14 +98,14 @@ fn run_asked<F: FileSet, S: Source, O: Sink, E: Sink>(
     out: &mut O,
     err: &mut E,
 ) -> Result<u8, IoError>
-    ensures runs { (heard : Input) × Hears (S.tells input.old) (S.tells input.new) heard
-        × ((given : List Asked) × StandFor (F.tells files.old).contents heard
+    ensures runs { let before = F.tells files.old in let after = F.tells files.new in
+        (heard : Input) × Hears (S.tells input.old) (S.tells input.new) heard
+        × ((given : List Asked) × StandFor before.contents heard
         (asked_by (Some asked.now)) given
         × RunsBy (text_by (Some asked.now) given)
         (printed (O.tells out.old) (E.tells err.old))
         (printed (O.tells out.new) (E.tells err.new)) result
-        × AbsentBy (F.tells files.old).contents (F.tells files.old).faults
-        (F.tells files.new).faults given) }
+        × AbsentBy before.contents before.faults after.faults given) }
     ensures files { (F.tells files.new).contents ≡ (F.tells files.old).contents }
 {
     match &asked.script {
@@ -124,14 +124,14 @@ fn run_words<F: FileSet, S: Source, O: Sink, E: Sink>(
     out: &mut O,
     err: &mut E,
 ) -> Result<u8, IoError>
-    ensures runs { (heard : Input) × Hears (S.tells input.old) (S.tells input.new) heard
-        × ((given : List Asked) × StandFor (F.tells files.old).contents heard
+    ensures runs { let before = F.tells files.old in let after = F.tells files.new in
+        (heard : Input) × Hears (S.tells input.old) (S.tells input.new) heard
+        × ((given : List Asked) × StandFor before.contents heard
         (asked_targets (map string_bytes words.now)) given
         × RunsBy (text_of (map string_bytes words.now) given)
         (printed (O.tells out.old) (E.tells err.old))
         (printed (O.tells out.new) (E.tells err.new)) result
-        × AbsentBy (F.tells files.old).contents (F.tells files.old).faults
-        (F.tells files.new).faults given) }
+        × AbsentBy before.contents before.faults after.faults given) }
     ensures files { (F.tells files.new).contents ≡ (F.tells files.old).contents }
 {
     match read_words(alloc, words) {
@@ -162,14 +162,14 @@ pub fn run_test<F: FileSet, S: Source, O: Sink, E: Sink>(
     // file. For this the sinks grew by its text, and the answer is its status; or memory lacked or
     // a write failed, and they grew by a part of it. A file of which it isn't known is absent only
     // where a fault was counted.
-    ensures text { (heard : Input) × Hears (S.tells input.old) (S.tells input.new) heard
-        × ((given : List Asked) × StandFor (F.tells files.old).contents heard
+    ensures text { let before = F.tells files.old in let after = F.tells files.new in
+        (heard : Input) × Hears (S.tells input.old) (S.tells input.new) heard
+        × ((given : List Asked) × StandFor before.contents heard
         (asked_targets (map string_bytes words.now)) given
         × Runs (text_of (map string_bytes words.now) given) result
         (printed (O.tells out.old) (E.tells err.old))
         (printed (O.tells out.new) (E.tells err.new))
-        × AbsentBy (F.tells files.old).contents (F.tells files.old).faults
-        (F.tells files.new).faults given) }
+        × AbsentBy before.contents before.faults after.faults given) }
     ensures files { (F.tells files.new).contents ≡ (F.tells files.old).contents }
 {
     match run_words(alloc, words, files, input, out, err) {

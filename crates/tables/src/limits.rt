@@ -76,6 +76,7 @@ const EACH_SHORTER_RUN_IS_A_STEP: &[Row] = &[
     (b"(\\w+)\\.(\\w+)\\(", b"ab.cd", None, 4, 6),
     (b"((a+))b", b"aac", None, 2, 5),
     (b"(?:(a+)b)*c", b"aabaac", Some((5, 6)), 6, 8),
+    (b"(?:a+b)*c", b"aabaa", None, 6, 4),
 ];
 
 #[test]

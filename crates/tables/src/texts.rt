@@ -82,3 +82,29 @@ fn the_first_alternative_that_counts(rt: HostRuntime) -> Result<(), Fail> {
     }
     Ok(())
 }
+
+/// Patterns that are one sequence, with a text that stands at the same distance from the begin of each match, and some without.
+const A_TEXT_BEHIND_THE_BEGIN: &[Row] = &[
+    (b"..xq", b"xq axq", Plain, Some((2, 6))),
+    (b"[a-f]{3}\\d us=", b"abc us=abc1 us=", Plain, Some((7, 15))),
+    (b"o.k=\\d+", b"ok= o1k=7", Plain, Some((4, 9))),
+    (b"..q", b"q", Plain, None),
+    (b"..q", b"aq", Plain, None),
+    (b"..q", b"aaq", Plain, Some((0, 3))),
+    (b"..q", b"aaqaaq", ToEnd, Some((3, 6))),
+    (b"^..q", b"xaaq", Plain, None),
+    (b"^..q", b"aaq", Plain, Some((0, 3))),
+    (b"a{2}.\\bq", b"aa aa q", Plain, Some((3, 7))),
+    (b"a{2}.\\b=q", b"aa aax=q", Plain, Some((3, 8))),
+    (b"a{2,3}q", b"aaaq", Plain, Some((0, 4))),
+    (b"..q|z", b"z", Plain, Some((0, 1))),
+];
+
+#[test]
+fn a_text_behind_the_begin(rt: HostRuntime) -> Result<(), Fail> {
+    let mut scratch = Scratch::new(rt.alloc());
+    for row in A_TEXT_BEHIND_THE_BEGIN {
+        case(&rt, rt.alloc(), row, &mut scratch)?;
+    }
+    Ok(())
+}

@@ -208,15 +208,21 @@ both_set true true p q = lit≤ tt
 both_set true false p q = absurd cc
 both_set false b p q = absurd cc
 
-pub Covers-two : (one other : List Bool) (apart : ℕ) (bytes : List ℕ) (i : ℕ) {v : List ℕ}
-    → HasLanes v (λ k. bit_and (cond (get_or one (get_or bytes (i + k) 0) false) 255 0) (cond (get_or other (get_or bytes (i + apart + k) 0) false) 255 0))
-    → Covers (AreIn one apart other bytes) i v
-Covers-two one other apart bytes i {v} h = record {
+-- The same by any two tests of bytes.
+pub Covers-apart : (f g : ℕ → Bool) (apart : ℕ) (bytes : List ℕ) (i : ℕ) {v : List ℕ}
+    → HasLanes v (λ k. bit_and (cond (f (get_or bytes (i + k) 0)) 255 0) (cond (g (get_or bytes (i + apart + k) 0)) 255 0))
+    → Covers (λ k. (k + apart < length bytes) × ((f (get_or bytes k 0) ≡ true) × (g (get_or bytes (k + apart) 0) ≡ true))) i v
+Covers-apart f g apart bytes i {v} h = record {
   long = h.long;
   each = λ k l hit.
       let place : i + apart + k ≡ i + k + apart = omega arith in
-      let there : get_or other (get_or bytes (i + apart + k) 0) false ≡ true = ap (λ n. get_or other (get_or bytes n 0) false) place ∙ hit.1.1 in
-      let set = both_set (get_or one (get_or bytes (i + k) 0) false) (get_or other (get_or bytes (i + apart + k) 0) false) hit.1.0 there in
+      let there : g (get_or bytes (i + apart + k) 0) ≡ true = ap (λ n. g (get_or bytes n 0)) place ∙ hit.1.1 in
+      let set = both_set (f (get_or bytes (i + k) 0)) (g (get_or bytes (i + apart + k) 0)) hit.1.0 there in
       let e = h.each k l in
       omega (arith, e, set);
 }
+
+pub Covers-two : (one other : List Bool) (apart : ℕ) (bytes : List ℕ) (i : ℕ) {v : List ℕ}
+    → HasLanes v (λ k. bit_and (cond (get_or one (get_or bytes (i + k) 0) false) 255 0) (cond (get_or other (get_or bytes (i + apart + k) 0) false) 255 0))
+    → Covers (AreIn one apart other bytes) i v
+Covers-two one other apart bytes i h = Covers-apart (λ b. get_or one b false) (λ b. get_or other b false) apart bytes i h

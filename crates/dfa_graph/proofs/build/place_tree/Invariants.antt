@@ -11,15 +11,15 @@ use Rattle.dfa_graph.proofs.build.place_tree.Given as goal
 
 abbrev pub invariant-tasks : goal.invariant-tasks
 invariant-tasks l = record {
-  building : Building l.tree.nodes l.tree.root (length l.tree.classes) l.nodes.items l.tasks.items;
-  few : length l.nodes.items + 3 * l.left ≤ 1047002;
+  building : Building l.tree.nodes l.tree.root (length l.tree.classes) l.draft.nodes l.draft.tasks;
+  few : length l.draft.nodes + 3 * l.left ≤ 1047002;
   can : whole_size (tree_of l.tree.nodes l.tree.root) ≤ 65536 →
       has_graph (tree_of l.tree.nodes l.tree.root) ≡ true →
-      Can l.tree.nodes l.left l.tasks.items;
-  bounded : IsBounded l.tree.nodes (whole_size (tree_of l.tree.nodes l.tree.root)) l.nodes.items
-      l.tasks.items;
+      Can l.tree.nodes l.left l.draft.tasks;
+  bounded : IsBounded l.tree.nodes (whole_size (tree_of l.tree.nodes l.tree.root)) l.draft.nodes
+      l.draft.tasks;
   plain : is_plain (tree_of l.tree.nodes l.tree.root) ≡ true →
-      IsPlainBuild l.tree.nodes l.nodes.items l.tasks.items;
+      IsPlainBuild l.tree.nodes l.draft.nodes l.draft.tasks;
 }
 
 abbrev pub decreases-tasks : goal.decreases-tasks

@@ -1,5 +1,6 @@
 use Rattle.std.proofs.Common.{◌∷◌, refl}
-use Rattle.frame_parts.proofs.BackTurns.{pop_plain, pop_denial, denial_inside, pop_look_test, pop_denial_test, pop_commit, pop_prune, pop_then, pop_skip, pop_unskipped, look_test_sound, denial_test_sound}
+use Rattle.frame_parts.proofs.BackTurns.{pop_plain, pop_denial, denial_inside, pop_commit, pop_prune, pop_then, pop_skip, pop_unskipped, look_test_sound, denial_test_sound}
+use Rattle.frame_machine.proofs.TestsBack.{pop_look_test, pop_denial_test}
 use Rattle.frame_machine.proofs.back.look_or_verb.Goals as goal
 
 pub returns-then-kept-eq-KIND_COMMIT_PASSED : goal.returns-then-kept-eq-KIND_COMMIT_PASSED

@@ -2,6 +2,7 @@ use Rattle.std.proofs.Common.{◌≡◌, false, Ok, Err, inl, refl, sym, subst, 
 use Rattle.line_feed.specs.Lines.{Answers, row_of}
 use Rattle.line_feed.specs.Answers.{Gives}
 use Rattle.grep_output.specs.Ends.{stop_of}
+use Rattle.grep_core.specs.Work.{work_of, fed}
 use Rattle.grep_core.specs.Follows.{FollowsOne}
 use Rattle.grep_core.proofs.Halting.{halts-of}
 use Rattle.tool_out.proofs.Printing.{wrote-of}
@@ -19,7 +20,7 @@ returns-in_err-write_line-in-Ok-Some g c =
     let is : c.from_residual.result ≡ Err (stop_of e) = search rules in
     let gives : Gives f new now after row =
     subst (λ o. Answers f new now after (Ok o)) c.in-Ok-Some.field-0-is (subst (Answers f new now after) c.in-Ok-Some.is c.next.follows.holds-at-none) in
-    subst (FollowsOne job.plan.now job.name.now f new now after (g.O.Sink.tells c.args.out.now) (g.O.Sink.tells c.write_line.new.out)) (sym is)
+    subst (FollowsOne (work_of job) (fed f now) (fed new after) (g.O.Sink.tells c.args.out.now) (g.O.Sink.tells c.write_line.new.out)) (sym is)
     (inl (record {
       row = row;
       gives = gives;

@@ -1,5 +1,6 @@
 use Rattle.std.proofs.Common.{subst}
 use Rattle.grep_match.specs.Compiled.{patterns_in}
+use Rattle.grep_core.specs.Work.{work_of}
 use Rattle.grep_core.specs.Turns.{course_of}
 use Rattle.grep_core.specs.Watched.{HidesUnmatched}
 use Rattle.grep_core.proofs.Unseen.{unseen-over, unseen-none}
@@ -11,11 +12,11 @@ returns-then-hides_unmatched c =
     let plan = job.plan.now in
     let patterns = patterns_in job.patterns.now in
     let course = course_of c.args.course.now in
-    unseen-over plan patterns job.name.now job.show course c.pass.new.self c.args.feed.now c.pass.new.feed
+    unseen-over (work_of job) course c.pass.new.self c.args.feed.now c.pass.new.feed
     (subst (λ n. HidesUnmatched plan job.name.now job.show course n) c.number.ensures (c.hides_unmatched.ensures c.if-hides_unmatched.true))
     (c.pass.ensures plan patterns c.requires.watch)
 
 pub returns-else-hides_unmatched : goal.returns-else-hides_unmatched
 returns-else-hides_unmatched c =
     let job = c.args.job.now in
-    unseen-none job.plan.now (patterns_in job.patterns.now) job.name.now job.show (course_of c.args.course.now) c.args.watch.now c.args.feed.now c.requires.watch
+    unseen-none (work_of job) (course_of c.args.course.now) c.args.watch.now c.args.feed.now c.requires.watch

@@ -9,5 +9,5 @@ pub returns-in-None : goal.returns-in-None
 returns-in-None g c = λ before treated job stood.
     let none : c.in_ok-ended.field-0 ≡ None = search rules in
     let pauses = rw none at (c.in_ok-ended.ensures.taken before treated job stood) in
-    scans-follow _ _ _ _ _ treated _ _ job before _ _ _ _ _ _ _ _ pauses _ _ c.follow.result
+    scans-follow _ _ treated _ _ job before _ _ _ _ _ _ _ _ _ pauses _ _ c.follow.result
     (c.follow.ensures before treated (pauses.rows ++ pauses.row ∷ []) pauses.stood pauses.kind pauses.max pauses.near pauses.whole)

@@ -3,6 +3,7 @@ use Rattle.std.proofs.lemmas.Int.{to_z-of_z}
 use Rattle.line_feed.specs.Lines.{row_of}
 use Rattle.grep_match.specs.Compiled.{patterns_in}
 use Rattle.grep_match.specs.Matches.{tried_row}
+use Rattle.grep_core.specs.Work.{work_of, progress}
 use Rattle.grep_core.specs.Turns.{TakesLine}
 use Rattle.grep_core.proofs.Taking.{IsTried, verdict-error, verdict-match, verdict-none, tried-listed, selected-takes, passed-takes, passed-refused, chosen, unchosen}
 use Rattle.grep_core.proofs.scan.take_line.Goals.{in-Match, in-NoMatch}
@@ -31,10 +32,10 @@ returns-then-is_match-job g c =
       | in-Match w ↦ subst (λ b. IsTried wanted len list b t.matches) (sym w.is_match-is) (verdict-match wanted len list t.matches (rw w.in-Match.is at c.in_ok-verdict_on.ensures))
       | in-NoMatch w ↦ subst (λ b. IsTried wanted len list b t.matches) (sym w.is_match-is) (verdict-none wanted len list t.matches (rw w.in-NoMatch.is at c.in_ok-verdict_on.ensures))
     ] in
-    selected-takes job.plan.now job.name.now job.show job.most t tried.found tried.is _ _ _ _ _ _ _ _
+    selected-takes (work_of job) job.most t tried.found tried.is _ _ _ _ _ _ _ _
     (tried.selects_so job.plan.now.invert_match ∙ chosen c.match-branch-2.is_match job.plan.now.invert_match c.if-is_match-job.true)
     c.requires.errors
-    (c.select.ensures t refl (tried-listed wanted len list c.match-branch-2.is_match t.matches tried))
+    (c.select.ensures t (g.E.Sink.tells c.args.err.now) refl (tried-listed wanted len list c.match-branch-2.is_match t.matches tried))
 
 pub returns-in_err-pass : goal.returns-in_err-pass
 returns-in_err-pass g c =
@@ -52,11 +53,12 @@ returns-in_err-pass g c =
     let stop = c.in_err-pass.field-0.0 in
     let refused : c.from_residual-in_err-pass.result ≡ Err stop = search rules in
     subst
-    (TakesLine job.plan.now job.name.now job.show job.most t c.args.course.now c.args.state.now c.pass.new.course c.args.state.now (printed (g.O.Sink.tells c.args.out.now) (g.E.Sink.tells c.args.err.now)) (printed (g.O.Sink.tells c.pass.new.out) (g.E.Sink.tells c.args.err.now)))
+    (TakesLine (work_of job) job.most t (progress c.args.course.now c.args.state.now (printed (g.O.Sink.tells c.args.out.now) (g.E.Sink.tells c.args.err.now)))
+    (progress c.pass.new.course c.args.state.now (printed (g.O.Sink.tells c.pass.new.out) (g.E.Sink.tells c.args.err.now))))
     (sym refused)
-    (passed-refused job.plan.now job.name.now job.show job.most t tried.found tried.is c.args.course.now c.pass.new.course c.args.state.now _ _ _ stop
+    (passed-refused (work_of job) job.most t tried.found tried.is c.args.course.now c.pass.new.course c.args.state.now _ _ _ stop
     (tried.selects_so job.plan.now.invert_match ∙ unchosen c.match-branch-2.is_match job.plan.now.invert_match c.if-is_match-job.false)
-    (c.in_err-pass.ensures t refl))
+    (c.in_err-pass.ensures t c.args.state.now (g.E.Sink.tells c.args.err.now) refl))
 
 pub returns : goal.returns
 returns g c =
@@ -71,7 +73,7 @@ returns g c =
       | in-Match w ↦ subst (λ b. IsTried wanted len list b t.matches) (sym w.is_match-is) (verdict-match wanted len list t.matches (rw w.in-Match.is at c.in_ok-verdict_on.ensures))
       | in-NoMatch w ↦ subst (λ b. IsTried wanted len list b t.matches) (sym w.is_match-is) (verdict-none wanted len list t.matches (rw w.in-NoMatch.is at c.in_ok-verdict_on.ensures))
     ] in
-    passed-takes job.plan.now job.name.now job.show job.most t tried.found tried.is _ _ _ _ _ _
+    passed-takes (work_of job) job.most t tried.found tried.is _ _ _ _ _ _
     (tried.selects_so job.plan.now.invert_match ∙ unchosen c.match-branch-2.is_match job.plan.now.invert_match c.if-is_match-job.false)
     c.requires.errors
-    (c.in_ok-pass.ensures t refl)
+    (c.in_ok-pass.ensures t c.args.state.now (g.E.Sink.tells c.args.err.now) refl)

@@ -4,6 +4,7 @@ use Rattle.grep_match.specs.Compiled.{patterns_in}
 use Rattle.grep_core.specs.declared.scan.Next.TheVariants.{Line}
 use Rattle.grep_core.specs.declared.scan.Turn.TheVariants.{Took}
 use Rattle.grep_core.specs.Watched.{Watches}
+use Rattle.grep_core.specs.Work.{work_of, progress, fed, position}
 use Rattle.grep_core.specs.WholeScans.{TakesAll}
 use Rattle.line_feed.proofs.Given.{live-gives}
 use Rattle.grep_core.proofs.ScansTaken.{standing-line, standing-pauses}
@@ -34,26 +35,26 @@ line-init g c = record {
   watch = c.new-watch.ensures c.args.feed.now.held;
   limit = λ is. c.requires.limit;
   longest = c.requires.longest;
-  standing = λ before treated job stood. standing-begun _ _ _ _ _ treated _ before _ _ _ _ _ job stood c.requires.selected c.requires.context c.requires.earlier c.requires.errors;
+  standing = λ before treated job stood. standing-begun _ _ treated _ before _ _ _ _ _ job stood c.requires.selected c.requires.context c.requires.earlier c.requires.errors;
 }
 
 pub take_turn-requires-clause-live : goal.take_turn-requires-clause-live
-take_turn-requires-clause-live g c = subst (λ (f : Feed). f.phase ≢ Closed) (sym c.send_on.ensures.same) (unseen-live _ _ _ _ _ _ _ _ c.pass_unseen.ensures c.line.invariant.live)
+take_turn-requires-clause-live g c = subst (λ (f : Feed). f.phase ≢ Closed) (sym c.send_on.ensures.same) (unseen-live _ _ _ _ _ c.pass_unseen.ensures c.line.invariant.live)
 
 pub take_turn-requires-clause-max : goal.take_turn-requires-clause-max
 take_turn-requires-clause-max g c =
     let few : c.args.job.now.plan.now.after_context < 2 ^ 32 = let most = c.if-prove.false in omega arith in
-    let kept = subst (λ (f : Feed). Keeps f c.line.course c.line.state) (sym c.send_on.ensures.same) (unseen-keeps _ _ _ _ c.line.course c.line.state _ _ _ c.pass_unseen.ensures few c.line.invariant.keeps) in kept.max
+    let kept = subst (λ (f : Feed). Keeps f c.line.course c.line.state) (sym c.send_on.ensures.same) (unseen-keeps _ c.line.course c.line.state _ _ _ c.pass_unseen.ensures few c.line.invariant.keeps) in kept.max
 
 pub take_turn-requires-clause-numbered : goal.take_turn-requires-clause-numbered
 take_turn-requires-clause-numbered g c =
     let few : c.args.job.now.plan.now.after_context < 2 ^ 32 = let most = c.if-prove.false in omega arith in
-    let kept = subst (λ (f : Feed). Keeps f c.line.course c.line.state) (sym c.send_on.ensures.same) (unseen-keeps _ _ _ _ c.line.course c.line.state _ _ _ c.pass_unseen.ensures few c.line.invariant.keeps) in kept.numbered
+    let kept = subst (λ (f : Feed). Keeps f c.line.course c.line.state) (sym c.send_on.ensures.same) (unseen-keeps _ c.line.course c.line.state _ _ _ c.pass_unseen.ensures few c.line.invariant.keeps) in kept.numbered
 
 pub take_turn-requires-clause-earlier : goal.take_turn-requires-clause-earlier
 take_turn-requires-clause-earlier g c =
     let few : c.args.job.now.plan.now.after_context < 2 ^ 32 = let most = c.if-prove.false in omega arith in
-    let kept = subst (λ (f : Feed). Keeps f c.line.course c.line.state) (sym c.send_on.ensures.same) (unseen-keeps _ _ _ _ c.line.course c.line.state _ _ _ c.pass_unseen.ensures few c.line.invariant.keeps) in kept.earlier
+    let kept = subst (λ (f : Feed). Keeps f c.line.course c.line.state) (sym c.send_on.ensures.same) (unseen-keeps _ c.line.course c.line.state _ _ _ c.pass_unseen.ensures few c.line.invariant.keeps) in kept.earlier
 
 pub take_turn-requires-clause-context : goal.take_turn-requires-clause-context
 take_turn-requires-clause-context g c = c.line.invariant.keeps.context
@@ -66,7 +67,7 @@ take_turn-requires-clause-errors g c = c.line.invariant.keeps.errors
 
 pub take_turn-requires-clause-longest : goal.take_turn-requires-clause-longest
 take_turn-requires-clause-longest g c =
-    let same = ap (λ (f : Feed). f.max) c.send_on.ensures.same ∙ unseen-max _ _ _ _ _ _ _ _ c.pass_unseen.ensures in
+    let same = ap (λ (f : Feed). f.max) c.send_on.ensures.same ∙ unseen-max _ _ _ _ _ c.pass_unseen.ensures in
     let least = c.line.invariant.longest in
     omega arith
 
@@ -83,10 +84,10 @@ returns-in_err-take_turn-clause-taken g c = λ before treated job stood.
     let stop = c.in_err-take_turn.field-0.0 in
     let same : c.from_residual-in_err-take_turn.result ≡ Err stop = search rules in
     subst
-    (TakesAll job_is.plan.now (patterns_in job_is.patterns.now) job_is.name.now job_is.show job_is.most treated c.args.state.now before (g.S.Source.tells c.take_turn.new.source) c.take_turn.new.feed
-    c.take_turn.new.course.selected c.take_turn.new.state (printed (g.O.Sink.tells c.args.out.now) (g.E.Sink.tells c.args.err.now)) (printed (g.O.Sink.tells c.take_turn.new.out) (g.E.Sink.tells c.take_turn.new.err)))
+    (TakesAll (work_of job_is) job_is.most treated (position (fed c.args.feed.now before) (progress c.args.course.now c.args.state.now (printed (g.O.Sink.tells c.args.out.now) (g.E.Sink.tells c.args.err.now))))
+    (position (fed c.take_turn.new.feed (g.S.Source.tells c.take_turn.new.source)) (progress c.take_turn.new.course c.take_turn.new.state (printed (g.O.Sink.tells c.take_turn.new.out) (g.E.Sink.tells c.take_turn.new.err)))))
     (sym same)
-    (scans-stops _ _ _ _ _ treated _ _ job before _ _ _ _ _ _ _ _ _ _ _ _ _ _ (standing-sent _ _ _ _ _ treated _ before _ _ _ _ _ _ _ _ _ (unseen-standing _ _ _ _ c.line.course c.line.state _ _ _ c.pass_unseen.ensures _ treated _ before _ _ _ _ _ c.line.invariant.keeps.errors (c.line.invariant.standing before treated job stood)) _ c.send_on.ensures.same c.in_ok-send_on.ensures.sent) stop c.in_err-take_turn.ensures.turns)
+    (scans-stops _ _ treated _ _ job before _ _ _ _ _ _ _ _ _ _ _ _ _ _ (standing-sent _ _ treated _ before _ _ _ _ _ _ _ _ _ (unseen-standing _ c.line.course c.line.state _ _ _ c.pass_unseen.ensures _ treated _ before _ _ _ _ _ c.line.invariant.keeps.errors (c.line.invariant.standing before treated job stood)) _ c.send_on.ensures.same c.in_ok-send_on.ensures.sent) stop c.in_err-take_turn.ensures.turns)
 
 pub line-smaller : goal.line-smaller
 line-smaller g c =
@@ -95,7 +96,7 @@ line-smaller g c =
     let more = grew.offset in
     let limit = grew.limit in
     let same = ap (λ (f : Feed). f.offset) c.send_on.ensures.same in
-    let passed = unseen-offset _ _ _ _ _ _ _ _ c.pass_unseen.ensures in
+    let passed = unseen-offset _ _ _ _ _ c.pass_unseen.ensures in
     omega arith
 
 pub line-preserved : goal.line-preserved
@@ -103,31 +104,31 @@ line-preserved g c =
     let row = rw c.in-Took-Line.field-0-is at (rw c.in-Took-Line.is at c.in_ok-take_turn.ensures.turns) in
     let few : c.args.job.now.plan.now.after_context < 2 ^ 32 = let most = c.if-prove.false in omega arith in
     let had = c.line.invariant in
-    let kept = subst (λ (f : Feed). Keeps f c.line.course c.line.state) (sym c.send_on.ensures.same) (unseen-keeps _ _ _ _ c.line.course c.line.state _ _ _ c.pass_unseen.ensures few had.keeps) in
+    let kept = subst (λ (f : Feed). Keeps f c.line.course c.line.state) (sym c.send_on.ensures.same) (unseen-keeps _ c.line.course c.line.state _ _ _ c.pass_unseen.ensures few had.keeps) in
     record {
       live = live-gives _ _ _ _ row.row row.gives;
-      keeps = keeps-more c.args.job.now.plan.now c.args.job.now.name.now c.args.job.now.show c.args.job.now.most _ _ _ _ row.row _ _ _ _ _ _ _ _ _ _ few refl kept row.gives row.takes;
+      keeps = keeps-more (work_of c.args.job.now) c.args.job.now.most _ _ _ _ row.row _ _ _ _ _ _ _ _ _ _ few refl kept row.gives row.takes;
       watch = c.in_ok-take_turn.ensures.watch Line (ap (λ t. Ok t) (c.in-Took-Line.is ∙ ap Took c.in-Took-Line.field-0-is));
       limit = λ is. row.takes.limit ∙ had.limit is;
       longest =
           let grew = gave _ _ _ _ row.row row.gives in
           let max = grew.max in
-          let same = ap (λ (f : Feed). f.max) c.send_on.ensures.same ∙ unseen-max _ _ _ _ _ _ _ _ c.pass_unseen.ensures in
+          let same = ap (λ (f : Feed). f.max) c.send_on.ensures.same ∙ unseen-max _ _ _ _ _ c.pass_unseen.ensures in
           let least = had.longest in
           let longest = row.takes.longest in
           omega arith;
-      standing = λ before treated job stood. standing-line _ _ _ _ _ treated _ before _ _ _ _ row.row _ _ _ _ _ _ _ _ _ _ (standing-sent _ _ _ _ _ treated _ before _ _ _ _ _ _ _ _ _ (unseen-standing _ _ _ _ c.line.course c.line.state _ _ _ c.pass_unseen.ensures _ treated _ before _ _ _ _ _ had.keeps.errors (had.standing before treated job stood)) _ c.send_on.ensures.same c.in_ok-send_on.ensures.sent) row.gives row.takes;
+      standing = λ before treated job stood. standing-line _ _ treated _ before _ _ _ _ row.row _ _ _ _ _ _ _ _ _ _ (standing-sent _ _ treated _ before _ _ _ _ _ _ _ _ _ (unseen-standing _ c.line.course c.line.state _ _ _ c.pass_unseen.ensures _ treated _ before _ _ _ _ _ had.keeps.errors (had.standing before treated job stood)) _ c.send_on.ensures.same c.in_ok-send_on.ensures.sent) row.gives row.takes;
     }
 
 pub returns-in-Took-Context-clause-taken : goal.returns-in-Took-Context-clause-taken
 returns-in-Took-Context-clause-taken g c = λ before treated job stood.
     let row = rw c.in-Took-Context.field-0-is at (rw c.in-Took-Context.is at c.in_ok-take_turn.ensures.turns) in
-    standing-pauses _ _ _ _ _ treated _ before _ _ _ _ row.row _ _ _ _ _ _ _ _ _ _ (standing-sent _ _ _ _ _ treated _ before _ _ _ _ _ _ _ _ _ (unseen-standing _ _ _ _ c.line.course c.line.state _ _ _ c.pass_unseen.ensures _ treated _ before _ _ _ _ _ c.line.invariant.keeps.errors (c.line.invariant.standing before treated job stood)) _ c.send_on.ensures.same c.in_ok-send_on.ensures.sent) row.gives row.takes
+    standing-pauses _ _ treated _ before _ _ _ _ row.row _ _ _ _ _ _ _ _ _ _ (standing-sent _ _ treated _ before _ _ _ _ _ _ _ _ _ (unseen-standing _ c.line.course c.line.state _ _ _ c.pass_unseen.ensures _ treated _ before _ _ _ _ _ c.line.invariant.keeps.errors (c.line.invariant.standing before treated job stood)) _ c.send_on.ensures.same c.in_ok-send_on.ensures.sent) row.gives c.args.feed.now c.args.course.now row.takes
 
 pub returns-in-Finished-clause-taken : goal.returns-in-Finished-clause-taken
 returns-in-Finished-clause-taken g c = λ before treated job stood.
     let ends = rw c.in-Finished.is at c.in_ok-take_turn.ensures.turns in
-    scans-ends _ _ _ _ _ treated _ _ job before _ _ _ _ _ _ _ _ _ _ _ _ _ _ (standing-sent _ _ _ _ _ treated _ before _ _ _ _ _ _ _ _ _ (unseen-standing _ _ _ _ c.line.course c.line.state _ _ _ c.pass_unseen.ensures _ treated _ before _ _ _ _ _ c.line.invariant.keeps.errors (c.line.invariant.standing before treated job stood)) _ c.send_on.ensures.same c.in_ok-send_on.ensures.sent) c.in-Finished.ended ends.0 ends.1
+    scans-ends _ _ treated _ _ job before _ _ _ _ _ _ _ _ _ _ _ _ _ _ (standing-sent _ _ treated _ before _ _ _ _ _ _ _ _ _ (unseen-standing _ c.line.course c.line.state _ _ _ c.pass_unseen.ensures _ treated _ before _ _ _ _ _ c.line.invariant.keeps.errors (c.line.invariant.standing before treated job stood)) _ c.send_on.ensures.same c.in_ok-send_on.ensures.sent) c.in-Finished.ended ends.0 ends.1
 
 pub returns-in_err-send_on-clause-taken : goal.returns-in_err-send_on-clause-taken
 returns-in_err-send_on-clause-taken g c = λ before treated job stood.
@@ -135,7 +136,7 @@ returns-in_err-send_on-clause-taken g c = λ before treated job stood.
     let stop = c.in_err-send_on.field-0.0 in
     let same : c.from_residual.result ≡ Err stop = search rules in
     subst
-    (TakesAll job_is.plan.now (patterns_in job_is.patterns.now) job_is.name.now job_is.show job_is.most treated c.args.state.now before (g.S.Source.tells c.line.source) c.send_on.new.feed
-    c.line.course.selected c.line.state (printed (g.O.Sink.tells c.args.out.now) (g.E.Sink.tells c.args.err.now)) (printed (g.O.Sink.tells c.send_on.new.out) (g.E.Sink.tells c.line.err)))
+    (TakesAll (work_of job_is) job_is.most treated (position (fed c.args.feed.now before) (progress c.args.course.now c.args.state.now (printed (g.O.Sink.tells c.args.out.now) (g.E.Sink.tells c.args.err.now))))
+    (position (fed c.send_on.new.feed (g.S.Source.tells c.line.source)) (progress c.line.course c.line.state (printed (g.O.Sink.tells c.send_on.new.out) (g.E.Sink.tells c.line.err)))))
     (sym same)
-    (scans-unsent _ _ _ _ _ treated _ before _ _ _ _ _ _ _ _ _ (unseen-standing _ _ _ _ c.line.course c.line.state _ _ _ c.pass_unseen.ensures _ treated _ before _ _ _ _ _ c.line.invariant.keeps.errors (c.line.invariant.standing before treated job stood)) _ job stop c.in_err-send_on.ensures.sent)
+    (scans-unsent _ _ treated _ before _ _ _ _ _ _ _ _ _ (unseen-standing _ c.line.course c.line.state _ _ _ c.pass_unseen.ensures _ treated _ before _ _ _ _ _ c.line.invariant.keeps.errors (c.line.invariant.standing before treated job stood)) _ job stop c.in_err-send_on.ensures.sent)

@@ -4,6 +4,7 @@ use Rattle.line_feed.specs.declared.phase.Phase.TheVariants.{Closed}
 use Rattle.grep_output.specs.declared.shows.Show.TheVariants.{Lines}
 use Rattle.grep_match.specs.Compiled.{patterns_in}
 use Rattle.grep_output.specs.declared.shows.Treatment.{Treatment}
+use Rattle.grep_core.specs.Work.{work_of}
 use Rattle.grep_core.specs.WholeScans.{Stood, IsJob}
 use Rattle.grep_core.specs.Watched.{Watches}
 use Rattle.grep_core.proofs.ScansTaken.{Standing}
@@ -19,7 +20,7 @@ invariant-line g l = record {
   limit : l.job.show ≡ Lines → l.course.earlier.limit ≡ l.job.plan.now.before_context;
   standing : (before : Told) (treated : Treatment) → IsJob l.job.plan.now treated l.job.show l.job.most l.initial.feed
       → Stood l.job.plan.now treated before (g.S.Source.tells l.initial.source) l.initial.feed []
-      → Standing l.job.plan.now (patterns_in l.job.patterns.now) l.job.name.now l.job.show l.job.most treated l.initial.state before (g.S.Source.tells l.source) l.feed l.course l.state
+      → Standing (work_of l.job) l.job.most treated l.initial.state before (g.S.Source.tells l.source) l.feed l.course l.state
       (g.O.Sink.tells l.initial.out) (g.O.Sink.tells l.out) (g.E.Sink.tells l.initial.err) (g.E.Sink.tells l.err);
 }
 

@@ -4,7 +4,7 @@ use Rattle.dir_walk.specs.Filters.{filter_in}
 use Rattle.grep_args.specs.declared.plan.GrepPlan.{GrepPlan}
 use Rattle.grep_match.specs.Compiled.{patterns_in}
 use Rattle.grep_run.specs.ToolText.{with_names}
-use Rattle.grep_run.specs.Stages.{SearchesFor, streams}
+use Rattle.grep_run.specs.Stages.{sought, SearchesFor, streams}
 use Rattle.tool_out.specs.Printed.{printed}
 use Rattle.grep_run.proofs.Asking.{for-lacks, for-listed, lists-told, lists-later}
 use Rattle.grep_run.proofs.grep.grep_allowed.Goals as goal
@@ -18,7 +18,7 @@ returns-in_err-list-clause-runs g c =
     let now = g.S.Source.tells c.args.input.now in
     let out = g.O.Sink.tells c.args.out.now in
     let err = g.E.Sink.tells c.args.err.now in
-    subst (SearchesFor c.args.plan (Ok (patterns_in c.args.patterns.now)) words c.args.is_used.now (streams files now (printed out err)) (streams files_new now (printed out err))) (sym same)
+    subst (SearchesFor (sought c.args.plan (Ok (patterns_in c.args.patterns.now)) words) c.args.is_used.now (streams files now (printed out err)) (streams files_new now (printed out err))) (sym same)
     (for-lacks c.args.plan (Ok (patterns_in c.args.patterns.now)) words c.args.is_used.now files files_new now out err)
 
 pub returns-clause-runs : goal.returns-clause-runs

@@ -4,7 +4,7 @@ use Rattle.dir_walk.specs.Filters.{BadFilter, IsFilterError, filter_of}
 use Rattle.grep_match.specs.Compiled.{patterns_in}
 use Rattle.grep_output.specs.Ends.{stop_of}
 use Rattle.grep_run.specs.Refusals.{filter_message}
-use Rattle.grep_run.specs.Stages.{SearchesFor, streams}
+use Rattle.grep_run.specs.Stages.{sought, SearchesFor, streams}
 use Rattle.grep_core.proofs.Halting.{halts-of}
 use Rattle.tool_out.specs.Printed.{printed}
 use Rattle.tool_out.proofs.Printing.{wrote-of}
@@ -27,7 +27,7 @@ returns-in_err-write_bad_filter-in-Err-Bad-clause-runs g c =
     let err_old = g.E.Sink.tells c.args.err.now in
     let err_new = g.E.Sink.tells c.write_bad_filter.new.err in
     let halts = halts-of (filter_message bad) err_old err_new fault (rw (c.in-Err-Bad.option-is, c.in-Err-Bad.index-is, c.in-Err-Bad.number-is, c.in-Err-Bad.at-is, to_z-of_z w32 c.in-Err-Bad.number fits) at c.in_err-write_bad_filter-in-Err-Bad.ensures) in
-    subst (SearchesFor c.args.plan (Ok patterns) words c.args.is_used.now (streams files now (printed out err_old)) (streams files now (printed out err_new))) (sym same)
+    subst (SearchesFor (sought c.args.plan (Ok patterns) words) c.args.is_used.now (streams files now (printed out err_old)) (streams files now (printed out err_new))) (sym same)
     (for-unfiltered c.args.plan patterns words c.args.is_used.now files files bad now (printed out err_old) (printed out err_new) (Err (stop_of fault))
     (subst (IsFilterError (filter_of c.args.plan)) c.in-Err-Bad.field-0-is c.in-Err-Bad.ensures.refused) (said-halts (filter_message bad) 2 out err_old err_new (stop_of fault) halts))
 

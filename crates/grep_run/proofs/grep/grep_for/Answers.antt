@@ -3,7 +3,7 @@ use Rattle.std.proofs.lemmas.Int.{to_z-of_z}
 use Rattle.grep_match.specs.Compiled.{BadPattern, patterns_in, patterns_of, IsPatternError}
 use Rattle.grep_output.specs.Ends.{stop_of}
 use Rattle.grep_run.specs.Refusals.{pattern_message}
-use Rattle.grep_run.specs.Stages.{SearchesFor, streams}
+use Rattle.grep_run.specs.Stages.{sought, SearchesFor, streams}
 use Rattle.grep_core.proofs.Halting.{halts-of}
 use Rattle.tool_out.specs.Printed.{printed}
 use Rattle.tool_out.proofs.Printing.{wrote-of}
@@ -26,7 +26,7 @@ returns-in_err-write_bad_pattern-in-Err-Bad-clause-runs g c =
     let err_old = g.E.Sink.tells c.args.err.now in
     let err_new = g.E.Sink.tells c.write_bad_pattern.new.err in
     let halts = halts-of (pattern_message bad) err_old err_new fault (rw (c.in-Err-Bad.pattern-is, c.in-Err-Bad.number-is, c.in-Err-Bad.at-is, to_z-of_z w32 c.in-Err-Bad.number fits) at c.in_err-write_bad_pattern-in-Err-Bad.ensures) in
-    subst (SearchesFor c.args.plan found words c.args.is_used.now (streams files now (printed out err_old)) (streams files now (printed out err_new))) (sym same)
+    subst (SearchesFor (sought c.args.plan found words) c.args.is_used.now (streams files now (printed out err_old)) (streams files now (printed out err_new))) (sym same)
     (for-refused c.args.plan found words c.args.is_used.now files files bad now (printed out err_old) (printed out err_new) (Err (stop_of fault))
     (subst (IsPatternError found) c.in-Err-Bad.field-0-is c.in-Err-Bad.ensures.refused) (said-halts (pattern_message bad) 2 out err_old err_new (stop_of fault) halts))
 

@@ -1,7 +1,7 @@
 use Rattle.std.proofs.Common.{ℕ, List, sym, subst, arith}
 use Rattle.std.specs.Prelude.{slice_index}
-use Rattle.match_needs.specs.Texts.{sets_of, Stands}
 use Rattle.match_drive.specs.Asked.{passed_over, replied}
+use Rattle.match_drive.specs.BeginText.{StandsBehind}
 use Rattle.match_drive.specs.Rest.{IsByteOutside}
 use Rattle.match_drive.proofs.Excluded.{excluded_by_byte}
 use Rattle.match_drive.proofs.PastRun.{tried_fails}
@@ -14,7 +14,7 @@ returns-in-Some-clause-before g c reply k a b stands =
     let s = g.S.Driven.asked x passed_over in
     tried_fails (replied reply s) k
     ((rw c.in-Some.is at c.begin.ensures) reply k stands
-    (λ h. c.first_text.ensures.before k a b (subst (λ (bs : List ℕ). Stands (sets_of c.in-Some.text.now) bs k) (sym c.subject.ensures) h)))
+    (λ h. c.first_begin.ensures.before k a b (subst (λ (bs : List ℕ). StandsBehind c.in-Some.begin.now bs k) (sym c.subject.ensures) h)))
 
 pub returns-in-Some-lead_used-clause-before : goal.returns-in-Some-lead_used-clause-before
 returns-in-Some-lead_used-clause-before g c reply k a b stands =

@@ -1,0 +1,4 @@
+pub mod LookTurns
+pub mod CondTurns
+pub mod CalledTests
+pub mod CallTurns
