@@ -18,7 +18,7 @@ use Rattle.match_needs.specs.Distances.{NeedsAt}
 use Rattle.match_needs.specs.NeedTables.{IsNeedOf}
 use Rattle.match_needs.specs.Texts.{sets_of, behind_of, Stands}
 use Rattle.ordered_search.specs.Setting.{lower_of}
-use Rattle.ordered_search.proofs.Behind.{begin_law}
+use Rattle.search_needs.proofs.Behind.{begin_law}
 use Rattle.frame_board.specs.Ready.{setting_for}
 use Rattle.match_drive.specs.Asked.{passed_over, replied}
 use Rattle.match_drive.specs.BeginText.{IsBegun}

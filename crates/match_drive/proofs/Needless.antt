@@ -16,7 +16,7 @@ use Rattle.match_needs.specs.NeedTables.{IsNeedOf}
 use Rattle.match_needs.specs.declared.needs.Need.{Need}
 use Rattle.ordered_search.specs.Setting.{lower_of}
 use Rattle.ordered_search.specs.MatchAnswer.{none_found, match_answer}
-use Rattle.ordered_search.proofs.Needed.{need_law}
+use Rattle.search_needs.proofs.Needed.{need_law}
 use Rattle.frame_board.specs.Ready.{setting_for}
 use Rattle.match_drive.proofs.Leads.{class_told}
 

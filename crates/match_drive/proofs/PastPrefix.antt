@@ -25,7 +25,7 @@ use Rattle.ordered_search.specs.Tests.{goes_to, move_to, run_one}
 use Rattle.ordered_search.specs.Parts.{Searches, in_order, choices, branches, run_group}
 use Rattle.ordered_search.specs.Run.{level, levels, run}
 use Rattle.ordered_search.specs.PlaceAnswer.{Exhausted, Failed, Matched, PlaceAnswer, Walked, outcome, answers, walk, place_answer}
-use Rattle.ordered_search.proofs.Bounded.{unreached}
+use Rattle.search_needs.proofs.Bounded.{unreached}
 use Rattle.match_drive.specs.Asked.{passed_over}
 use Rattle.match_drive.specs.Prefix.{AreBranches, IsFree, IsTold, items_tested, branch_tested, tested, row_of}
 use Rattle.match_drive.specs.declared.prefix.Tested.{Tested}

@@ -17,7 +17,7 @@ use Rattle.ordered_search.specs.Tests.{goes_to, move_to, run_one, offers, greedy
 use Rattle.ordered_search.specs.Parts.{Searches, in_order, branches, run_group}
 use Rattle.ordered_search.specs.Run.{level, levels, run}
 use Rattle.ordered_search.specs.PlaceAnswer.{Exhausted, Failed, answers, walk, place_answer}
-use Rattle.ordered_search.proofs.Bounded.{unreached}
+use Rattle.search_needs.proofs.Bounded.{unreached}
 use Rattle.ordered_search.proofs.LaterRuns.{IsRest, later_rest, end_within}
 use Rattle.pcre_io.specs.declared.callouts.Block as told
 use Rattle.ordered_search.specs.Stream.{Block}

@@ -16,15 +16,3 @@ pub mod FollowStreams
 pub mod FollowSearch
 pub mod LaterRuns
 pub mod FollowLaw
-pub mod TameStreams
-pub mod Growing
-pub mod Onward
-pub mod Bounded
-pub mod Repeated
-pub mod Apart
-pub mod SilentStreams
-pub mod Alone
-pub mod FitsLevels
-pub mod Needed
-pub mod Landing
-pub mod Behind

@@ -15,4 +15,3 @@ pub mod Moves
 pub mod Paths
 pub mod Plain
 pub mod LaterPlaces
-pub mod Needed

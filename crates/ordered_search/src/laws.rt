@@ -3,7 +3,6 @@ ghost use Rattle.ordered_search.specs.Forward.{ForwardLaw};
 ghost use Rattle.ordered_search.specs.LaterPlaces.{LaterPlacesLaw};
 ghost use Rattle.ordered_search.specs.Laws.{CutLaw, NoCutAnswer, NoPartialLaw, WalkLaw};
 ghost use Rattle.ordered_search.specs.MatchRows as over_places;
-ghost use Rattle.ordered_search.specs.Needed.{BeginLaw, NeedLaw};
 ghost use Rattle.ordered_search.specs.PlaceRows as at_place;
 
 /// The depth that a stream is given is used up only after as many Steps.
@@ -39,18 +38,6 @@ pub fn searches_go_forward()
 /// item's run from there (pcre2pattern, "Repetition").
 pub fn later_places_fail()
     ensures { LaterPlacesLaw }
-{}
-
-/// Where no byte stands of a set of which every match takes one, and the bound of the pattern is within the limits, there is
-/// no match, no limit is passed, and nothing is told.
-pub fn no_match_without_need()
-    ensures { NeedLaw }
-{}
-
-/// Where no text stands so far behind a place as every match takes one behind its begin, and the bound of the pattern is
-/// within the limits, the place fails, no limit is passed, and nothing is told.
-pub fn no_match_without_begin()
-    ensures { BeginLaw }
 {}
 
 /// The definitions computed. At one place: both limits, with the last Step and the last unit that they leave. Over all

@@ -5,6 +5,6 @@
 mod laws;
 
 pub use laws::{
-    cut_comes_late, later_places_fail, no_match_without_begin, no_match_without_need,
-    no_partial_match, no_place_is_cut, searches_go_forward, walk_is_told, worked_rows,
+    cut_comes_late, later_places_fail, no_partial_match, no_place_is_cut, searches_go_forward,
+    walk_is_told, worked_rows,
 };

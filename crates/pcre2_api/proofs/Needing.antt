@@ -22,7 +22,7 @@ use Rattle.match_needs.specs.declared.bounds.Growth.{Growth}
 use Rattle.match_needs.specs.declared.needs.Need.{Need}
 use Rattle.ordered_search.specs.Setting.{lower_of, class_holds}
 use Rattle.ordered_search.proofs.Classes.{class_is}
-use Rattle.ordered_search.proofs.Needed.{need_law}
+use Rattle.search_needs.proofs.Needed.{need_law}
 use Rattle.pcre2_api.specs.Answers.{answer_of}
 use Rattle.pcre2_api.specs.Compiled.{CodeParts}
 use Rattle.pcre2_api.specs.Matched.{search_of}

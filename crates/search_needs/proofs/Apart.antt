@@ -14,10 +14,10 @@ use Rattle.match_needs.specs.Bounds.{at, steady, plus, product, left_once, turns
 use Rattle.ordered_search.specs.Stream.{State, reached, step, Stream, Search, ◌▸◌, nothing, gives, ◌or_else◌, each, and_then}
 use Rattle.ordered_search.specs.Setting.{Setting, hold, reach_if}
 use Rattle.ordered_search.specs.Tests.{move_to, offers, greedy, offer_and, reluctant, lazy_run, run_many}
-use Rattle.ordered_search.proofs.TameStreams.{Within, within_more, within_nothing, within_step, within_or_else}
-use Rattle.ordered_search.proofs.Growing.{at_steady, at_plus, at_product}
-use Rattle.ordered_search.proofs.Onward.{onward_and_then, onward_many}
-use Rattle.ordered_search.proofs.Bounded.{size, unreached, held_is, offered_few, FitsIn}
+use Rattle.search_needs.proofs.TameStreams.{Within, within_more, within_nothing, within_step, within_or_else}
+use Rattle.search_needs.proofs.Growing.{at_steady, at_plus, at_product}
+use Rattle.search_needs.proofs.Onward.{onward_and_then, onward_many}
+use Rattle.search_needs.proofs.Bounded.{size, unreached, held_is, offered_few, FitsIn}
 
 -- a character that one item takes, and that the other is
 clash : (b : Bool) → b ≡ true → not b ≡ true → ⊥

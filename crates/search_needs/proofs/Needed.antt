@@ -36,17 +36,17 @@ use Rattle.ordered_search.specs.PlaceAnswer.{Exhausted, Failed, Walked, answers,
 use Rattle.ordered_search.specs.Forward.{IsTextSearch}
 use Rattle.ordered_search.specs.Places.{next_place, last_place, within, is_excluded, place_after}
 use Rattle.ordered_search.specs.MatchAnswer.{Found, none_found, tried, found_at, from_place, match_answer}
-use Rattle.ordered_search.specs.Needed.{IsWithoutNeed, NeedLaw}
-use Rattle.ordered_search.proofs.TameStreams.{state_count, Tame}
-use Rattle.ordered_search.proofs.SilentStreams.{Silent, silent_nothing, silent_halt, silent_step, silent_or_else, silent_before, silent_decide, silent_catch}
+use Rattle.search_needs.specs.Needed.{IsWithoutNeed, NeedLaw}
+use Rattle.search_needs.proofs.TameStreams.{state_count, Tame}
+use Rattle.search_needs.proofs.SilentStreams.{Silent, silent_nothing, silent_halt, silent_step, silent_or_else, silent_before, silent_decide, silent_catch}
 use Rattle.ordered_search.proofs.CutLaw.{cut_law}
 use Rattle.ordered_search.proofs.StartPlaces.{next_stands, up_to_keeps}
 use Rattle.ordered_search.proofs.ForwardStreams.{IsOnWay, Forward, IsForward, with_units, loosened}
 use Rattle.ordered_search.proofs.ForwardSearch.{forward_level, forward_run}
 use Rattle.ordered_search.proofs.ForwardLaw.{begun_at}
-use Rattle.ordered_search.proofs.Growing.{at_plus}
-use Rattle.ordered_search.proofs.Bounded.{FitsSome, unreached, one_more, two_more}
-use Rattle.ordered_search.proofs.FitsLevels.{fits_level}
+use Rattle.search_needs.proofs.Growing.{at_plus}
+use Rattle.search_needs.proofs.Bounded.{FitsSome, unreached, one_more, two_more}
+use Rattle.search_needs.proofs.FitsLevels.{fits_level}
 
 -- the bytes with which a character may begin, each in its case of the definition
 

@@ -22,16 +22,16 @@ use Rattle.ordered_search.specs.Setting.{Setting, match_limit}
 use Rattle.ordered_search.specs.Tests.{run_one}
 use Rattle.ordered_search.specs.Parts.{Searches, in_order, branches, run_group}
 use Rattle.ordered_search.specs.Run.{level, levels, run}
-use Rattle.ordered_search.specs.Needed.{BeginLaw}
-use Rattle.ordered_search.proofs.TameStreams.{state_count, Tame}
-use Rattle.ordered_search.proofs.SilentStreams.{Silent, silent_or_else}
+use Rattle.search_needs.specs.Needed.{BeginLaw}
+use Rattle.search_needs.proofs.TameStreams.{state_count, Tame}
+use Rattle.search_needs.proofs.SilentStreams.{Silent, silent_or_else}
 use Rattle.ordered_search.proofs.ForwardStreams.{Forward, IsForward}
 use Rattle.ordered_search.proofs.ForwardSearch.{forward_level, forward_run}
-use Rattle.ordered_search.proofs.Growing.{at_plus}
-use Rattle.ordered_search.proofs.Bounded.{FitsSome}
-use Rattle.ordered_search.proofs.FitsLevels.{fits_level}
-use Rattle.ordered_search.proofs.Landing.{Lands, lands_to, lands_reach_if, lands_anchor, lands_many, AreAt, none_at}
-use Rattle.ordered_search.proofs.Needed.{IsBehind, taken_short, InText, SilentUnder, silent_ahead, silent_turn, silent_level, in_text, under_fails}
+use Rattle.search_needs.proofs.Growing.{at_plus}
+use Rattle.search_needs.proofs.Bounded.{FitsSome}
+use Rattle.search_needs.proofs.FitsLevels.{fits_level}
+use Rattle.search_needs.proofs.Landing.{Lands, lands_to, lands_reach_if, lands_anchor, lands_many, AreAt, none_at}
+use Rattle.search_needs.proofs.Needed.{IsBehind, taken_short, InText, SilentUnder, silent_ahead, silent_turn, silent_level, in_text, under_fails}
 
 every : List Bool
 every = replicate 256 true

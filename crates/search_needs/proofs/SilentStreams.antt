@@ -1,7 +1,7 @@
 -- Streams without a state.
 use Rattle.std.proofs.Common.{◌≡◌, Bool, true, false, refl, arith}
 use Rattle.ordered_search.specs.Stream.{Ending, How, note, state, step, Stream, Search, ends, ◌▸◌, nothing, ◌or_else◌, each, decide, catch}
-use Rattle.ordered_search.proofs.TameStreams.{state_count, states_both}
+use Rattle.search_needs.proofs.TameStreams.{state_count, states_both}
 
 abbrev pub Silent : Stream → Type 0
 Silent x = state_count x ≡ 0

@@ -16,9 +16,9 @@ use Rattle.ordered_search.specs.Stream.{State, exhausted, reached, by_halt, too_
 use Rattle.ordered_search.specs.Setting.{Setting, held, hold, reach, reach_if}
 use Rattle.ordered_search.specs.Tests.{move_to, goes_to, run_one, run_break, run_ref, run_anchor, offers, greedy, offer_and, reluctant, lazy_run, run_many}
 use Rattle.ordered_search.specs.Parts.{in_order, choices, run_group, run_atomic, run_look, back_to, forget_passed}
-use Rattle.ordered_search.proofs.TameStreams.{Within, within_more, within_nothing, within_gives, within_if, within_step, within_or_else, within_each, within_and_then, within_decide, within_catch}
-use Rattle.ordered_search.proofs.Growing.{at_steady, at_line, at_plus, at_product}
-use Rattle.ordered_search.proofs.Onward.{Onward, GoesOn, onward_ends, onward_many, onward_turn, onward_choices, onward_group, onward_atomic, onward_look}
+use Rattle.search_needs.proofs.TameStreams.{Within, within_more, within_nothing, within_gives, within_if, within_step, within_or_else, within_each, within_and_then, within_decide, within_catch}
+use Rattle.search_needs.proofs.Growing.{at_steady, at_line, at_plus, at_product}
+use Rattle.search_needs.proofs.Onward.{Onward, GoesOn, onward_ends, onward_many, onward_turn, onward_choices, onward_group, onward_atomic, onward_look}
 
 -- Runs of an item have no more places than bytes, and no more than the maximum.
 

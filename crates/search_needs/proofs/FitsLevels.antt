@@ -15,13 +15,13 @@ use Rattle.ordered_search.specs.Setting.{Setting}
 use Rattle.ordered_search.specs.Tests.{goes_to, run_one, run_many}
 use Rattle.ordered_search.specs.Parts.{Searches, in_order, choices, branches, run_group, run_atomic, run_look}
 use Rattle.ordered_search.specs.Run.{level, levels, run}
-use Rattle.ordered_search.proofs.TameStreams.{within_gives, within_end}
-use Rattle.ordered_search.proofs.Onward.{onward_ends, onward_gives, onward_one, onward_break, onward_ref, onward_anchor, onward_none}
-use Rattle.ordered_search.proofs.Bounded.{size, FitsIn, FitsSome, unreached, fits_once, fits_never, once_one, once_break, once_ref, once_anchor, fits_many, fits_followed, fits_or_else, fits_group, fits_atomic, fits_look}
-use Rattle.ordered_search.proofs.Growing.{at_steady}
-use Rattle.ordered_search.proofs.Repeated.{fits_repeat}
-use Rattle.ordered_search.proofs.Alone.{LeftAlone, fits_or_apart, left_alone}
-use Rattle.ordered_search.proofs.Apart.{fits_apart}
+use Rattle.search_needs.proofs.TameStreams.{within_gives, within_end}
+use Rattle.search_needs.proofs.Onward.{onward_ends, onward_gives, onward_one, onward_break, onward_ref, onward_anchor, onward_none}
+use Rattle.search_needs.proofs.Bounded.{size, FitsIn, FitsSome, unreached, fits_once, fits_never, once_one, once_break, once_ref, once_anchor, fits_many, fits_followed, fits_or_else, fits_group, fits_atomic, fits_look}
+use Rattle.search_needs.proofs.Growing.{at_steady}
+use Rattle.search_needs.proofs.Repeated.{fits_repeat}
+use Rattle.search_needs.proofs.Alone.{LeftAlone, fits_or_apart, left_alone}
+use Rattle.search_needs.proofs.Apart.{fits_apart}
 
 some_same : (a b : ℕ) → Some a ≡ Some b → a ≡ b
 some_same a b e = cc

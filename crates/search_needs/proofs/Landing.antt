@@ -9,7 +9,7 @@ use Rattle.match_items.specs.Items.{one_less, is_none_left, item_reaches, longes
 use Rattle.ordered_search.specs.Stream.{State, exhausted, by_verb, by_halt, too_many_units, How, reached, note, state, step, Stream, Search, ends, ◌▸◌, nothing, gives, ◌or_else◌}
 use Rattle.ordered_search.specs.Setting.{Setting, held, hold, reach_if}
 use Rattle.ordered_search.specs.Tests.{move_to, goes_to, run_anchor, offers, greedy, offer_and, reluctant, lazy_run, run_many}
-use Rattle.ordered_search.proofs.Bounded.{unreached}
+use Rattle.search_needs.proofs.Bounded.{unreached}
 
 unfoldable pub Lands : ℕ → Stream → Type 0
 Lands q (ends e) = Unit {0}

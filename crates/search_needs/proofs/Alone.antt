@@ -15,12 +15,12 @@ use Rattle.ordered_search.specs.Setting.{Setting, held}
 use Rattle.ordered_search.specs.Tests.{goes_to, run_one}
 use Rattle.ordered_search.specs.Parts.{Searches, in_order, choices}
 use Rattle.ordered_search.specs.Run.{level, levels}
-use Rattle.ordered_search.proofs.TameStreams.{state_count, states_both, states_caught}
-use Rattle.ordered_search.proofs.SilentStreams.{Silent, silent_nothing, silent_halt, silent_step, silent_if, silent_or_else, silent_before, silent_catch}
-use Rattle.ordered_search.proofs.Growing.{at_greater}
-use Rattle.ordered_search.proofs.Onward.{onward_choices}
-use Rattle.ordered_search.proofs.Bounded.{size, unreached, held_is, one_more, FitsIn, fits_or_else}
-use Rattle.ordered_search.proofs.Apart.{stuck}
+use Rattle.search_needs.proofs.TameStreams.{state_count, states_both, states_caught}
+use Rattle.search_needs.proofs.SilentStreams.{Silent, silent_nothing, silent_halt, silent_step, silent_if, silent_or_else, silent_before, silent_catch}
+use Rattle.search_needs.proofs.Growing.{at_greater}
+use Rattle.search_needs.proofs.Onward.{onward_choices}
+use Rattle.search_needs.proofs.Bounded.{size, unreached, held_is, one_more, FitsIn, fits_or_else}
+use Rattle.search_needs.proofs.Apart.{stuck}
 
 -- a branch gives no state, or those behind it give none
 abbrev pub LeftAlone : Setting → Search → List Search → Type 0

@@ -14,10 +14,10 @@ use Rattle.ordered_search.specs.Stream.{State, cut, by_halt, How, reached, note,
 use Rattle.ordered_search.specs.Setting.{Setting, hold}
 use Rattle.ordered_search.specs.Parts.{Searches, is_over, turn, run_repeat}
 use Rattle.ordered_search.specs.Run.{level, run}
-use Rattle.ordered_search.proofs.TameStreams.{Within, within_more, within_nothing, within_gives, within_end, within_step, within_or_else, within_each}
-use Rattle.ordered_search.proofs.Growing.{at_steady, at_line, at_plus, at_product}
-use Rattle.ordered_search.proofs.Onward.{Near, Onward, GoesOn, onward_ends, onward_gives, onward_step, onward_if, onward_or_else, onward_and_then, onward_held, onward_hold}
-use Rattle.ordered_search.proofs.Bounded.{size, held_within, fits_hold, Fits, FitsIn}
+use Rattle.search_needs.proofs.TameStreams.{Within, within_more, within_nothing, within_gives, within_end, within_step, within_or_else, within_each}
+use Rattle.search_needs.proofs.Growing.{at_steady, at_line, at_plus, at_product}
+use Rattle.search_needs.proofs.Onward.{Near, Onward, GoesOn, onward_ends, onward_gives, onward_step, onward_if, onward_or_else, onward_and_then, onward_held, onward_hold}
+use Rattle.search_needs.proofs.Bounded.{size, held_within, fits_hold, Fits, FitsIn}
 
 -- What goes on from states that are near needs to be within bounds there alone.
 module _ (g : Setting) (p : ℕ) where

@@ -1,0 +1,12 @@
+pub mod TameStreams
+pub mod Growing
+pub mod Onward
+pub mod Bounded
+pub mod Repeated
+pub mod Apart
+pub mod SilentStreams
+pub mod Alone
+pub mod FitsLevels
+pub mod Needed
+pub mod Landing
+pub mod Behind
