@@ -3,18 +3,21 @@
 #![tactic(auto)]
 
 mod byte_set;
+mod byte_test;
 mod count;
 mod digits;
 mod lanes;
 mod laws;
 mod line_end;
 mod members;
+mod places;
 mod plain;
 mod scan;
 
-pub use byte_set::{ByteSet, find_in_set, find_in_two_sets};
+pub use byte_set::ByteSet;
 pub use count::count_byte;
 pub use digits::{digit_value, number};
 pub use laws::{newlines_before_a_place, newlines_by_convention};
 pub use line_end::{EndKind, LineEnd, find_line_end, newline_at};
+pub use places::{find_in_set, find_in_three_sets, find_in_two_sets};
 pub use plain::find_past_plain;

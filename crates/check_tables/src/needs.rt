@@ -486,3 +486,44 @@ fn in_utf_a_character_past_ascii_begins_past_it(rt: HostRuntime) -> Result<(), F
     }
     Ok(())
 }
+
+/// A tree by its steps, and the text further on that is told.
+type OtherRow = (&'static [Step], TextRow);
+
+fn tells_other(facts: &Facts, text: &TextRow) -> bool {
+    match &facts.need {
+        Some(need) => match &need.other {
+            Some(other) => is_text(other, text),
+            None => text.0.is_empty(),
+        },
+        None => false,
+    }
+}
+
+#[test]
+fn a_text_behind_the_first_part_that_is_no_item_is_told(rt: HostRuntime) -> Result<(), Fail> {
+    use Step::*;
+    static ROWS: [OtherRow; 4] = [
+        // `abb.*ca`, `ab.*`, `abc`, and `a{3}aaa`, where it is the needed text itself
+        (
+            &[A, B, B, Chars(46, 0, None), C, A, Seq(6), Group(1)],
+            (b"c", b"a", b""),
+        ),
+        (
+            &[A, B, Chars(46, 0, None), Seq(3), Group(1)],
+            (b"", b"", b""),
+        ),
+        (&[A, B, C, Seq(3), Group(1)], (b"", b"", b"")),
+        (
+            &[Chars(97, 3, Some(3)), A, A, A, Seq(4), Group(1)],
+            (b"", b"", b""),
+        ),
+    ];
+    for row in &ROWS {
+        match facts_of(rt.alloc(), Options::PLAIN, row.0)? {
+            Ok(facts) => assert!(rt; tells_other(&facts, &row.1)),
+            Err(_) => assert!(rt; false),
+        }
+    }
+    Ok(())
+}

@@ -4,7 +4,7 @@ ghost use Rattle.pat_tree.specs.declared.options.PartialMode.TheVariants.{Off};
 ghost use Rattle.pat_tree.specs.Parts.{tree_of};
 ghost use Rattle.match_items.specs.Subjects.{IsTextPlace};
 ghost use Rattle.frame_board.specs.Ready.{IsReadySearch, setting_for};
-ghost use Rattle.match_drive.specs.Asked.{passed_over};
+ghost use Rattle.start_tests.specs.Asked.{passed_over};
 ghost use Rattle.dfa_paths.specs.Fragment.{IsGraphOf};
 ghost use Rattle.dfa_ends.specs.DfaAnswer.{decision, dfa_answer};
 ghost use Rattle.dfa_drive.specs.Answer.{IsDfaAnswer, IsDecision, IsDecidedBy, IsPlaced, IsWhole};

@@ -4,7 +4,7 @@ ghost use Rattle.pat_tree.specs.Parts.{tree_of};
 ghost use Rattle.match_items.specs.Subjects.{IsTextPlace};
 ghost use Rattle.match_items.specs.Views.{bare_text};
 ghost use Rattle.frame_board.specs.Ready.{IsReadySearch, setting_for};
-ghost use Rattle.match_drive.specs.Asked.{passed_over};
+ghost use Rattle.start_tests.specs.Asked.{passed_over};
 ghost use Rattle.dfa_paths.specs.Fragment.{IsGraphOf};
 ghost use Rattle.dfa_ends.specs.Ends.{spot};
 ghost use Rattle.dfa_ends.specs.DfaAnswer.{last_of, ends_from, reach_test};

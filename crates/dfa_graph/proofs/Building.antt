@@ -40,6 +40,7 @@ use Rattle.dfa_paths.specs.Plain.{is_plain}
 use Rattle.dfa_paths.specs.Fragment.{IsNode, Placed, AreStatesOf, most_nested}
 use Rattle.dfa_graph.specs.Building.{states_after, so_at, else_at, task_in, tree_of, WorkPlaced}
 use Rattle.dfa_paths.proofs.Behind.{IsReady}
+use Rattle.dfa_paths.proofs.Coming.{node_same}
 use Rattle.dfa_graph.proofs.Steps.{IsWork}
 use Rattle.dfa_graph.proofs.Tasks.{
   AllTasks,
@@ -55,7 +56,6 @@ use Rattle.dfa_graph.proofs.Tasks.{
   apart_append,
   apart_front,
   apart_last,
-  node_same,
 }
 
 -- The invariant.

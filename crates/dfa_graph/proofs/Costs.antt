@@ -30,7 +30,7 @@ use Rattle.std.proofs.Common.{
   arith,
 }
 use Rattle.std.proofs.Math.Nat.{suc-mul}
-use Rattle.std.proofs.lemmas.Bool.{false≢true}
+use Rattle.std.proofs.lemmas.Bool.{and_parts, false≢true, or_right}
 use Rattle.std.specs.Prelude.{◌==◌, ◌&&◌, ◌||◌, slice_get, option_map}
 use Rattle.pat_tree.specs.Rules.{is_test}
 use Rattle.pat_tree.specs.declared.nodes.Placed as placed
@@ -109,20 +109,6 @@ use Rattle.dfa_graph.proofs.TreeCosts.{
   small,
   cost_of_small,
 }
-
--- Truth.
-
-and_parts : (a b : Bool) → (a && b) ≡ true → (a ≡ true) × (b ≡ true)
-and_parts true b e = (refl, e)
-and_parts false b e = cc
-
-or_first : (a b : Bool) → b ≡ true → (a || b) ≡ true
-or_first true b e = refl
-or_first false b e = e
-
-or_right : (a : Bool) → (a || true) ≡ true
-or_right true = refl
-or_right false = refl
 
 abbrev turn_has : Nested → ℕ → Bool
 turn_has (tree.repeat body low high lazily) d = has_fragment body d
@@ -283,7 +269,7 @@ module _ (ps : List placed.Placed) where
       turns_leave p d (nest (trees ps) (part.Repeat body min max lazy)) min max is h
   part_leaves p d next (part.OneRepeat item min max lazy) e is h =
       turns_leave p d (nest (trees ps) (part.OneRepeat item min max lazy)) min max is
-      (or_right (is_never max))
+      (or_right (is_never max) true refl)
   part_leaves p zero next (part.Atomic branches) e is h = absurd (false≢true h)
   part_leaves p (suc d) next (part.Atomic branches) e is h =
       nested_leaves p d (part.Atomic branches) e h
@@ -412,7 +398,7 @@ module _ (ps : List placed.Placed) where
   turns_step_leaves p d (suc low) next (Some (suc high)) ok h =
       let c = turn_cost (tree_of ps p) in (
         h,
-        or_first (is_never (one_less (Some (suc high)))) (turn_has (tree_of ps p) d) h,
+        or_right (is_never (one_less (Some (suc high)))) (turn_has (tree_of ps p) d) h,
         turn_more ((suc high - 1) * (1 + c)) (suc high * (1 + c)) c 1 (one_turn high c),
       )
   turns_step_leaves p d (suc low) next (Some zero) ok h = absurd (omega (arith, ok))
@@ -421,7 +407,7 @@ module _ (ps : List placed.Placed) where
   turns_step_leaves p d zero next (Some (suc high)) ok h =
       let c = turn_cost (tree_of ps p) in (
         h,
-        or_first (is_never (Some high)) (turn_has (tree_of ps p) d) h,
+        or_right (is_never (Some high)) (turn_has (tree_of ps p) d) h,
         turn_more (high * (1 + c)) (suc high * (1 + c)) c 1 (suc-mul high (1 + c)),
       )
 

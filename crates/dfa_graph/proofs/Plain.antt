@@ -1,8 +1,8 @@
 -- The graph of a tree without atomic groups and lookarounds nests nothing.
 use Rattle.std.proofs.Common.{◌≡◌, ◌∙◌, ℕ, zero, suc, ◌+◌, Bool, true, false, List, [], ◌∷◌, ◌++◌, map, length, Option, Some, None, refl, sym, ap, subst, arith}
-use Rattle.std.proofs.lemmas.Bool.{false≢true}
+use Rattle.std.proofs.lemmas.Bool.{and_parts, false≢true, or_right}
 use Rattle.std.specs.Prelude as list
-use Rattle.std.specs.Prelude.{◌==◌, ◌&&◌, ◌||◌, slice_get, slice_set}
+use Rattle.std.specs.Prelude.{◌==◌, ◌||◌, slice_get, slice_set}
 use Rattle.pat_tree.specs.Rules.{asserted_by, tests_of, is_test}
 use Rattle.pat_tree.specs.declared.nodes.Placed as placed
 use Rattle.pat_tree.specs.declared.nodes.Node as parts
@@ -22,8 +22,6 @@ use Rattle.pat_tree.specs.declared.nodes.Verb.TheVariants.{
 use Rattle.pat_tree.specs.Nested as tree
 use Rattle.pat_tree.specs.Nested.{
   Nested,
-  Row,
-  Other,
   row,
   tree_at,
   nest,
@@ -64,22 +62,9 @@ use Rattle.dfa_graph.specs.Building.{
   row_from,
   IsPart,
 }
+use Rattle.dfa_paths.proofs.Coming.{node_same}
 use Rattle.dfa_graph.proofs.Tasks.{AllTasks, all_append, all_front, all_back}
 use Rattle.dfa_graph.proofs.Costs.{rest_of, first_of}
-
--- Truth.
-
-and_parts : (a b : Bool) → (a && b) ≡ true → (a ≡ true) × (b ≡ true)
-and_parts true b e = (refl, e)
-and_parts false b e = cc
-
-or_first : (a b : Bool) → b ≡ true → (a || b) ≡ true
-or_first true b e = refl
-or_first false b e = e
-
-or_right : (a : Bool) → (a || true) ≡ true
-or_right true = refl
-or_right false = refl
 
 -- a condition on a lookaround nests something
 not_asserted : (t : Nested) (second : Bool) → is_test t ≡ true →
@@ -92,9 +77,6 @@ not_asserted (tree.seq (tree.more (tree.callout c)
 not_asserted _ second e k = false≢true e
 
 -- States.
-
-node_same : (m n : Node) → ◌≡◌ {A = Option Node} (Some m) (Some n) → m ≡ n
-node_same m n e = cc
 
 flat_set : (ns : List Node) (at : ℕ) (n : Node) → nests n ≡ false → IsFlat ns →
     IsFlat (slice_set ns at n)
@@ -206,7 +188,7 @@ module _ (ps : List placed.Placed) where
       turns_are p (nest (trees ps) (part.Repeat body min max lazy)) max is h
   part_stays p d next (part.OneRepeat item min max lazy) e is ok h =
       turns_are p (nest (trees ps) (part.OneRepeat item min max lazy)) max is
-      (or_right (is_never max))
+      (or_right (is_never max) true refl)
   part_stays p d next (part.Atomic branches) e is ok h = absurd (false≢true h)
   part_stays p d next (part.Look ahead positive once branches) e is ok h = absurd (false≢true h)
   part_stays p d next (part.Cond test yes' no') e is ok h = cond_stays next yes' test no' ok h
@@ -261,11 +243,11 @@ module _ (ps : List placed.Placed) where
   turns_stay p (suc low) next None ok h = (h, h)
   turns_stay p (suc low) next (Some zero) ok h = absurd (omega (arith, ok))
   turns_stay p (suc low) next (Some (suc high)) ok h =
-      (h, or_first _ (turn_plain (tree_of ps p)) h)
+      (h, or_right _ (turn_plain (tree_of ps p)) h)
   turns_stay p zero next None ok h = h
   turns_stay p zero next (Some zero) ok h = refl
   turns_stay p zero next (Some (suc high)) ok h =
-      (h, or_first (is_never (Some high)) (turn_plain (tree_of ps p)) h)
+      (h, or_right (is_never (Some high)) (turn_plain (tree_of ps p)) h)
 
   step_stays : (classes : ℕ) (backs : List ℕ) (w : Work) (d next : ℕ) →
       IsPart ps classes (part_of w) → IsTurnRange w →

@@ -17,7 +17,6 @@ use Rattle.std.proofs.Common.{
   ◌∷◌,
   ◌++◌,
   length,
-  Option,
   Some,
   refl,
   sym,
@@ -47,6 +46,7 @@ use Rattle.dfa_graph.specs.declared.build.Task.{Task}
 use Rattle.dfa_graph.specs.declared.build.Work.{Work}
 use Rattle.dfa_paths.specs.Graph.{IsNodeIn, IsGraph}
 use Rattle.dfa_graph.specs.Building.{so_at, else_at, look_node}
+use Rattle.dfa_paths.proofs.Coming.{node_same}
 
 -- Lists of tasks.
 
@@ -163,9 +163,6 @@ pub get_front : (ns ms : List Node) (q : ℕ) → q < length ns → slice_get
 get_front [] ms q l = absurd (omega (arith, l))
 get_front (n ∷ ns) ms zero l = refl
 get_front (n ∷ ns) ms (suc q) l = get_front ns ms q (omega (arith, l))
-
-pub node_same : (m n : Node) → ◌≡◌ {A = Option Node} (Some m) (Some n) → m ≡ n
-node_same m n e = cc
 
 wider_node : (n states states' classes : ℕ) (m : Node) → states ≤ states' →
     IsNodeIn states classes m → IsNodeIn states' classes m

@@ -70,7 +70,8 @@ impl Graph {
         requires size { facts.now.size ≡ size (tree_of tree.now.nodes tree.now.root) }
         requires dfa { facts.now.dfa ≡ dfa_support (tree_of tree.now.nodes tree.now.root) }
         requires empty { facts.now.can_be_empty
-            ≡ can_be_empty tree.now.options.match_unset_backref (tree_of tree.now.nodes tree.now.root) }
+            ≡ can_be_empty tree.now.options.match_unset_backref
+            (tree_of tree.now.nodes tree.now.root) }
         requires lookbehind { facts.now.has_lookbehind
             ≡ has_lookbehind (tree_of tree.now.nodes tree.now.root) }
         requires backs { AreBacks tree.now facts.now.backs }

@@ -70,11 +70,14 @@ use Rattle.dfa_lists.specs.Lists.{
   IsMatching,
   IsClosed,
   IsVisited,
+  closure,
+  waiting,
   Leaping,
   Waits,
   kept,
 }
 use Rattle.dfa_lists.proofs.Landing.{waits_first, waits_second, waits_append}
+use Rattle.dfa_paths.proofs.Coming.{node_same}
 use Rattle.dfa_paths.proofs.Places.{among_first, among_second, among_append, among_one, among_last, among_push, or_left, or_right, or_cases}
 use Rattle.dfa_lists.proofs.Kept.{kept_old, kept_new, kept_cases}
 
@@ -162,9 +165,6 @@ count_swap true true w = refl
 count_swap true false w = refl
 count_swap false true w = refl
 count_swap false false w = refl
-
-pub node_same : (m n : Node) → ◌≡◌ {A = Option Node} (Some m) (Some n) → m ≡ n
-node_same m n e = cc
 
 takers_less : (ns : List Node) (ms : List Bool) (q : ℕ) (n : Node) → slice_get ns q ≡ Some n →
     q < length ms → slice_index_or ms q false ≡ false →
@@ -311,7 +311,7 @@ module _ (g : Scene) (nodes : List Node) (B : Inner) (i : ℕ) (start rest : Lis
     }
 
     module _ (n : Node) (e : slice_get nodes q ≡ Some n) (seeds' : List ℕ) (later' : List Seed)
-        (v : IsVisited g B n i rest seeds' later later') where
+        (v : IsVisited g B n i (waiting rest later) (waiting seeds' later')) where
       top_comes : Comes g nodes B i start q
       top_comes = h.seeds_come q (among_last rest q)
 
@@ -432,7 +432,7 @@ module _ (g : Scene) (nodes : List Node) (B : Inner) (i : ℕ) (start seeds : Li
       seen_marked a ((h.covered q n (comes_marked q c) e).moves_on a j)
 
   pub closed : (leaps : List Seed) × (later ≡ old ++ leaps)
-      × IsClosed g nodes B i start leaves leaps hit
+      × IsClosed g nodes B i start (closure leaves leaps hit)
   closed = (
     h.leaps,
     h.later_is,
@@ -479,7 +479,7 @@ module _ (g : Scene) (nodes : List Node) (B : Inner) (i : ℕ) (start seeds rest
       slice_index_or marks q false ≡ false →
       (marks' : List Bool) (seeds' leaves' : List ℕ) (later' : List Seed) (hit' : Bool) →
       marks' ≡ slice_set marks q true →
-      IsVisited g B n i rest seeds' later later' →
+      IsVisited g B n i (waiting rest later) (waiting seeds' later') →
       leaves' ≡ kept (takes n) q leaves →
       hit' ≡ (hit || is_match n) →
       Going g nodes B i start seeds' marks' leaves' old later' hit'
@@ -496,7 +496,7 @@ module _ (g : Scene) (nodes : List Node) (B : Inner) (i : ℕ) (start seeds rest
 
   pub fewer : (n : Node) (marks' : List Bool) (seeds' : List ℕ) (later' : List Seed) →
       slice_index_or marks q false ≡ false → marks' ≡ slice_set marks q true →
-      IsVisited g B n i rest seeds' later later' →
+      IsVisited g B n i (waiting rest later) (waiting seeds' later') →
       3 * unmarked marks' + length seeds' < 3 * unmarked marks + length seeds
   fewer n marks' seeds' later' un em v =
       let s = ap length v.seeds_are in

@@ -79,7 +79,7 @@ use Rattle.dfa_paths.specs.Graph.{
   count_if,
 }
 use Rattle.dfa_paths.specs.Fragment.{Rising}
-use Rattle.dfa_lists.specs.Lists.{IsClosed, kept, is_stop, stops, stops_from}
+use Rattle.dfa_lists.specs.Lists.{IsClosed, closure, kept, is_stop, stops, stops_from}
 use Rattle.dfa_paths.proofs.Places.{among_push}
 use Rattle.dfa_lists.proofs.Landing.{SomeHolds, Leads}
 
@@ -197,7 +197,7 @@ module _ (g : Scene) (nodes : List Node) (B : Inner) (end : ℕ) where
 
   module _ (i : ℕ) (start leaves : List ℕ) (leaps : List Seed) (hit : Bool)
       (on_from : (entry k : ℕ) → B entry i k → i ≤ k)
-      (h : IsClosed g nodes B i start leaves leaps hit) where
+      (h : IsClosed g nodes B i start (closure leaves leaps hit)) where
     pub leave : (q j : ℕ) → Accepts g nodes B end q j → j ≡ i → Comes g nodes B i start q →
         Gone i leaves leaps hit
     unfolding Leads

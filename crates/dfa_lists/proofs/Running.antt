@@ -54,6 +54,8 @@ use Rattle.dfa_paths.specs.Fragment.{Rising}
 use Rattle.dfa_lists.specs.Lists.{
   IsClosed,
   IsTakenAt,
+  closure,
+  progress,
   kept,
   waiting_at,
   elsewhere,
@@ -115,7 +117,7 @@ module _ (g : Scene) (nodes : List Node) (B : Inner) (classes entry place at : �
     (hit : Bool) (old tests tests' : ℕ) (along : StandsAlong g) (inner : EndsStand g B)
     (ok : IsGraph classes nodes)
     (h : Running g nodes B entry place at pending found old tests) (some : at ≤ length g.subject)
-    (c : IsClosed g nodes B at (waiting_at at pending) leaves leaps hit)
+    (c : IsClosed g nodes B at (waiting_at at pending) (closure leaves leaps hit))
     (t : IsFlat nodes → tests' ≤ tests + length leaves) where
   Later : List Seed
   Later = lists.landed g nodes at leaves (elsewhere at pending ++ leaps)
@@ -367,7 +369,7 @@ waiting_below g nodes B entry place at pending found old tests h q a =
 
 pub leaves_in : (g : Scene) (nodes : List Node) (B : Inner) (i : ℕ) (start leaves : List ℕ)
     (leaps : List Seed) (hit : Bool) →
-    IsClosed g nodes B i start leaves leaps hit → AllBelow (length nodes) leaves
+    IsClosed g nodes B i start (closure leaves leaps hit) → AllBelow (length nodes) leaves
 leaves_in g nodes B i start leaves leaps hit c q a =
     let k = (c.each_comes q a).1 in get_in nodes q k.0 k.1
 
@@ -382,7 +384,7 @@ pub place_follows : (g : Scene) (nodes : List Node) (B : Inner) (classes entry p
     Running g nodes B entry place at pending found old tests →
     0 < length pending →
     read ≡ pending → seeds ≡ waiting_at at read → others ≡ elsewhere at read →
-    IsTakenAt g nodes B at seeds others later found found' tests tests' →
+    IsTakenAt g nodes B at seeds (progress others found tests) (progress later found' tests') →
     Running g nodes B entry place (at + 1) later found' old tests'
 place_follows g nodes B classes entry place at pending read seeds found found' others later old
     tests tests' along inner ok h some er es eo t =
@@ -390,7 +392,7 @@ place_follows g nodes B classes entry place at pending read seeds found found' o
     let rest = eo ∙ ap (λ ss. elsewhere at ss) er in
     place_done g nodes B classes entry place at pending found t.leaves t.leaps t.hit old tests
     tests' along inner ok h (goes_on g nodes B entry place at pending found old tests h some)
-    (subst (λ xs. IsClosed g nodes B at xs t.leaves t.leaps t.hit) start t.closed) t.few later
+    (subst (λ xs. IsClosed g nodes B at xs (closure t.leaves t.leaps t.hit)) start t.closed) t.few later
     found'
     (t.later_is ∙ ap (λ ss. lists.landed g nodes at t.leaves (ss ++ t.leaps)) rest) t.found_is
 
@@ -399,7 +401,7 @@ unfolding Among
 from_none g nodes B i q c = let s = comes_from g nodes B i [] q c in s.1
 
 none_closed : (g : Scene) (nodes : List Node) (B : Inner) (i : ℕ) →
-    IsClosed g nodes B i [] [] [] false
+    IsClosed g nodes B i [] (closure [] [] false)
 unfolding Among Waits
 none_closed g nodes B i = record {
   each_comes = λ q a. absurd a;
@@ -418,7 +420,7 @@ no_seed_more (t ∷ ts) = ap (λ us. t ∷ us) (no_seed_more ts)
 -- where nothing waits at the place, nothing is taken there
 pub none_taken : (g : Scene) (nodes : List Node) (B : Inner) (i : ℕ) (start found : List ℕ)
     (others : List Seed) (tests : ℕ) → length start ≡ 0 →
-    IsTakenAt g nodes B i start others others found found tests tests
+    IsTakenAt g nodes B i start (progress others found tests) (progress others found tests)
 none_taken g nodes B i [] found others tests e = record {
   leaves = [];
   leaps = [];

@@ -76,11 +76,14 @@ use Rattle.dfa_lists.specs.Lists as lists
 use Rattle.dfa_lists.specs.Lists.{
   IsClosed,
   IsTakenAt,
+  closure,
+  progress,
   branch_in,
   waiting_at,
   elsewhere,
   Waits,
 }
+use Rattle.dfa_paths.proofs.Coming.{node_same}
 use Rattle.dfa_paths.proofs.Probes.{at_branch, no_branch}
 use Rattle.dfa_paths.proofs.Places.{among_last}
 use Rattle.dfa_lists.proofs.Landing.{
@@ -95,7 +98,6 @@ use Rattle.dfa_lists.proofs.Landing.{
 use Rattle.dfa_lists.proofs.Closing.{
   Marked,
   Going,
-  node_same,
   marked_old,
   all_false,
   comes_marked,
@@ -240,7 +242,7 @@ module _ (g : Scene) (nodes : List Node) (counts : Bool) (B : Inner) (M : Meetin
 
   module _ (i : ℕ) (start leaves : List ℕ) (leaps : List Seed) (hit : Bool)
       (on_from : (entry k : ℕ) → B entry i k → i ≤ k)
-      (h : IsClosed g nodes B i start leaves leaps hit) where
+      (h : IsClosed g nodes B i start (closure leaves leaps hit)) where
     leave : (q j : ℕ) → On q j → j ≡ i → Comes g nodes B i start q → Gone i start leaves leaps
     unfolding Leads
     leave _ _ (met q j n e y) here_is c =
@@ -276,7 +278,7 @@ module _ (g : Scene) (nodes : List Node) (counts : Bool) (B : Inner) (M : Meetin
     (leaps : List Seed) (hit : Bool) (old tests tests' : ℕ) (along : StandsAlong g)
     (inner : EndsStand g B) (ok : IsGraph classes nodes)
     (h : Running g nodes B entry place at pending found old tests) (some : at ≤ length g.subject)
-    (c : IsClosed g nodes B at (waiting_at at pending) leaves leaps hit)
+    (c : IsClosed g nodes B at (waiting_at at pending) (closure leaves leaps hit))
     (t : IsFlat nodes → tests' ≤ tests + length leaves) (told told' : Bool)
     (m : RunningTold g nodes counts B M entry place pending told)
     (y : IsTold (SomeTells g nodes counts B M at (waiting_at at pending)) told told') where
@@ -368,7 +370,7 @@ pub told_follows : (g : Scene) (nodes : List Node) (counts : Bool) (B : Inner) (
     Running g nodes B entry place at pending found old tests →
     0 < length pending →
     read ≡ pending → seeds ≡ waiting_at at read → others ≡ elsewhere at read →
-    IsTakenAt g nodes B at seeds others later found found' tests tests' →
+    IsTakenAt g nodes B at seeds (progress others found tests) (progress later found' tests') →
     RunningTold g nodes counts B M entry place pending told →
     IsTold (SomeTells g nodes counts B M at seeds) told told' →
     RunningTold g nodes counts B M entry place later told'
@@ -378,7 +380,7 @@ told_follows g nodes counts B M classes entry place at pending read seeds found 
     let rest = eo ∙ ap (λ ss. elsewhere at ss) er in
     place_told g nodes counts B M classes entry place at pending found t.leaves t.leaps t.hit old
     tests tests' along inner ok h (goes_on g nodes B entry place at pending found old tests h some)
-    (subst (λ xs. IsClosed g nodes B at xs t.leaves t.leaps t.hit) start t.closed) t.few told told'
+    (subst (λ xs. IsClosed g nodes B at xs (closure t.leaves t.leaps t.hit)) start t.closed) t.few told told'
     m (subst (λ xs. IsTold (SomeTells g nodes counts B M at xs) told told') start y) later
     (t.later_is ∙ ap (λ ss. lists.landed g nodes at t.leaves (ss ++ t.leaps)) rest)
 

@@ -61,7 +61,7 @@ use Rattle.dfa_paths.specs.Graph.{
   Follows,
   Leaps,
 }
-use Rattle.dfa_lists.specs.Lists.{IsVisited, way_of, gone_here, gone_later, Waits}
+use Rattle.dfa_lists.specs.Lists.{IsVisited, waiting, way_of, gone_here, gone_later, Waits}
 use Rattle.dfa_paths.proofs.Places.{among_one}
 use Rattle.dfa_lists.proofs.Closing.{two_moves}
 use Rattle.dfa_lists.proofs.Following.{EndsStand, followed_by, more}
@@ -100,7 +100,7 @@ no_state_more (x ∷ xs) = ap (λ ys. x ∷ ys) (no_state_more xs)
 pub plain_visit : (g : Scene) (B : Inner) (n : Node) (i : ℕ) (seeds seeds' : List ℕ)
     (later : List Seed) → nests n ≡ false → seeds' ≡ seeds ++ moves g n i →
     length (moves g n i) ≤ 2 →
-    IsVisited g B n i seeds seeds' later later
+    IsVisited g B n i (waiting seeds later) (waiting seeds' later)
 unfolding Waits
 plain_visit g B n i seeds seeds' later plain e few = record {
   more = moves g n i;
@@ -131,16 +131,16 @@ pub plain_visits : {E : Type 0} (r : Result Bool E) (g : Scene) (B : Inner) (n :
     (seeds seeds' : List ℕ) (later later' : List Seed) →
     ((w : Option ℕ) (x y z : ℕ) → n ≡ Look w x y z → ⊥) →
     ((x y : ℕ) → n ≡ Atomic x y → ⊥) → IfOk r (λ _. seeds' ≡ seeds ++ moves g n i) →
-    IfOk r (λ _. later' ≡ later) → IfOk r (λ _. IsVisited g B n i seeds seeds' later later')
+    IfOk r (λ _. later' ≡ later) → IfOk r (λ _. IsVisited g B n i (waiting seeds later) (waiting seeds' later'))
 plain_visits (Ok x) g B n i seeds seeds' later later' f h e same =
-    subst (λ ss. IsVisited g B n i seeds seeds' later ss) (sym same)
+    subst (λ ss. IsVisited g B n i (waiting seeds later) (waiting seeds' ss)) (sym same)
     (plain_visit g B n i seeds seeds' later (plain_node n f h) e (two_moves g i n))
 plain_visits (Err x) g B n i seeds seeds' later later' f h e same = tt
 
 pub look_visit : (g : Scene) (B : Inner) (back : Option ℕ) (entry hit miss i : ℕ) (some : Option ℕ)
     (seeds seeds' : List ℕ) (later : List Seed) → IsEndBehind g B back entry i some →
     seeds' ≡ seeds ++ way_of some hit miss ∷ [] →
-    IsVisited g B (Look back entry hit miss) i seeds seeds' later later
+    IsVisited g B (Look back entry hit miss) i (waiting seeds later) (waiting seeds' later)
 unfolding Among Waits
 look_visit g B back entry hit miss i None seeds seeds' later far e = record {
   more = miss ∷ [];
@@ -248,7 +248,7 @@ same_end B entry i j k x y =
 
 pub dead_visit : (g : Scene) (B : Inner) (entry next i : ℕ) (seeds : List ℕ)
     (later : List Seed) → IsFurthest B entry i None →
-    IsVisited g B (Atomic entry next) i seeds seeds later later
+    IsVisited g B (Atomic entry next) i (waiting seeds later) (waiting seeds later)
 unfolding Among Waits
 dead_visit g B entry next i seeds later far = record {
   more = [];
@@ -265,7 +265,7 @@ dead_visit g B entry next i seeds later far = record {
 -- the furthest end is here
 pub here_visit : (g : Scene) (B : Inner) (entry next i j : ℕ) (seeds seeds' : List ℕ)
     (later : List Seed) → Furthest B entry i j → j ≡ i → seeds' ≡ seeds ++ next ∷ [] →
-    IsVisited g B (Atomic entry next) i seeds seeds' later later
+    IsVisited g B (Atomic entry next) i (waiting seeds later) (waiting seeds' later)
 unfolding Among Waits
 here_visit g B entry next i j seeds seeds' later far same e = record {
   more = next ∷ [];
@@ -284,7 +284,7 @@ here_visit g B entry next i j seeds seeds' later far same e = record {
 pub past_visit : (g : Scene) (B : Inner) (entry next i j : ℕ) (seeds : List ℕ)
     (later later' : List Seed) → Furthest B entry i j → i < j →
     later' ≡ later ++ record { at = j; state = next } ∷ [] →
-    IsVisited g B (Atomic entry next) i seeds seeds later later'
+    IsVisited g B (Atomic entry next) i (waiting seeds later) (waiting seeds later')
 unfolding Among Waits
 past_visit g B entry next i j seeds later later' far past e = record {
   more = [];
@@ -312,13 +312,13 @@ gone_visit : (g : Scene) (B : Inner) (entry next i j : ℕ) (here_is : Bool)
       | true ↦ []
       | false ↦ record { at = j; state = next } ∷ []
     ]) →
-    IsVisited g B (Atomic entry next) i seeds seeds' later later'
+    IsVisited g B (Atomic entry next) i (waiting seeds later) (waiting seeds' later')
 gone_visit g B entry next i j true seeds seeds' later later' same l far es el =
-    subst (λ ss. IsVisited g B (Atomic entry next) i seeds seeds' later ss)
+    subst (λ ss. IsVisited g B (Atomic entry next) i (waiting seeds later) (waiting seeds' ss))
     (no_seed_more later ∙ sym el)
     (here_visit g B entry next i j seeds seeds' later far (eqb-true j i same) es)
 gone_visit g B entry next i j false seeds seeds' later later' same l far es el =
-    subst (λ xs. IsVisited g B (Atomic entry next) i seeds xs later later')
+    subst (λ xs. IsVisited g B (Atomic entry next) i (waiting seeds later) (waiting xs later'))
     (no_state_more seeds ∙ sym es)
     (past_visit g B entry next i j seeds later later' far (past_of i j same l) el)
   where
@@ -329,11 +329,11 @@ pub atomic_visit : (g : Scene) (B : Inner) (entry next i : ℕ) (some : Option �
     (seeds seeds' : List ℕ) (later later' : List Seed) → EndsStand g B → Stands g i →
     IsFurthest B entry i some → seeds' ≡ seeds ++ gone_here i some next →
     later' ≡ later ++ gone_later i some next →
-    IsVisited g B (Atomic entry next) i seeds seeds' later later'
+    IsVisited g B (Atomic entry next) i (waiting seeds later) (waiting seeds' later')
 atomic_visit g B entry next i None seeds seeds' later later' inner stands far es el =
-    subst (λ xs. IsVisited g B (Atomic entry next) i seeds xs later later')
+    subst (λ xs. IsVisited g B (Atomic entry next) i (waiting seeds later) (waiting xs later'))
     (no_state_more seeds ∙ sym es)
-    (subst (λ ss. IsVisited g B (Atomic entry next) i seeds seeds later ss)
+    (subst (λ ss. IsVisited g B (Atomic entry next) i (waiting seeds later) (waiting seeds ss))
     (no_seed_more later ∙ sym el) (dead_visit g B entry next i seeds later far))
 atomic_visit g B entry next i (Some j) seeds seeds' later later' inner stands far es el =
     gone_visit g B entry next i j (j == i) seeds seeds' later later' refl

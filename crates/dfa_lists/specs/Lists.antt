@@ -79,25 +79,41 @@ Leaping g nodes B i start a j =
     (q : ℕ) × (n : Node) × Comes g nodes B i start q × (slice_get nodes q ≡ Some n) ×
     Leaps B n i j a × (i < j)
 
--- The leaves are the states that take something among those that follow the start at a place, the
--- leaps what atomic groups among them give later, and `hit` tells whether `Match` is among them.
-pub record IsClosed (g : Scene) (nodes : List Node) (B : Inner) (i : ℕ) (start leaves : List ℕ)
-    (leaps : List Seed) (hit : Bool) : Type 0 where
-  pub each_comes : (q : ℕ) → Among q leaves → Comes g nodes B i start q × IsTaking nodes q
-  pub all_are_kept : (q : ℕ) → Comes g nodes B i start q → IsTaking nodes q → Among q leaves
-  pub hit_comes : hit ≡ true → (q : ℕ) × Comes g nodes B i start q × IsMatching nodes q
-  pub comes_hit : (q : ℕ) → Comes g nodes B i start q → IsMatching nodes q → hit ≡ true
-  pub each_leaps : (a j : ℕ) → Waits a j leaps → Leaping g nodes B i start a j
-  pub all_leap : (a j : ℕ) → Leaping g nodes B i start a j → Waits a j leaps
-  pub few : length leaves ≤ takers nodes
+-- What follows some states at a place: the leaves are those that take something, the leaps what atomic
+-- groups among them give later, and `hit` tells whether `Match` is among them.
+pub record Closure : Type 0 where
+  pub leaves : List ℕ
+  pub leaps : List Seed
+  pub hit : Bool
+
+abbrev pub closure : List ℕ → List Seed → Bool → Closure
+closure leaves leaps hit = record { leaves = leaves; leaps = leaps; hit = hit }
+
+-- this is what follows the start at a place
+pub record IsClosed (g : Scene) (nodes : List Node) (B : Inner) (i : ℕ) (start : List ℕ)
+    (c : Closure) : Type 0 where
+  pub each_comes : (q : ℕ) → Among q c.leaves → Comes g nodes B i start q × IsTaking nodes q
+  pub all_are_kept : (q : ℕ) → Comes g nodes B i start q → IsTaking nodes q → Among q c.leaves
+  pub hit_comes : c.hit ≡ true → (q : ℕ) × Comes g nodes B i start q × IsMatching nodes q
+  pub comes_hit : (q : ℕ) → Comes g nodes B i start q → IsMatching nodes q → c.hit ≡ true
+  pub each_leaps : (a j : ℕ) → Waits a j c.leaps → Leaping g nodes B i start a j
+  pub all_leap : (a j : ℕ) → Leaping g nodes B i start a j → Waits a j c.leaps
+  pub few : length c.leaves ≤ takers nodes
+
+-- what is still to be followed at a place, and what waits past it
+pub record Waiting : Type 0 where
+  pub seeds : List ℕ
+  pub later : List Seed
+
+abbrev pub waiting : List ℕ → List Seed → Waiting
+waiting seeds later = record { seeds = seeds; later = later }
 
 -- A state is visited: what follows it at the place, and what follows it later.
-pub record IsVisited (g : Scene) (B : Inner) (n : Node) (i : ℕ) (seeds seeds' : List ℕ)
-    (later later' : List Seed) : Type 0 where
+pub record IsVisited (g : Scene) (B : Inner) (n : Node) (i : ℕ) (old new : Waiting) : Type 0 where
   pub more : List ℕ
   pub leaps : List Seed
-  pub seeds_are : seeds' ≡ seeds ++ more
-  pub later_are : later' ≡ later ++ leaps
+  pub seeds_are : new.seeds ≡ old.seeds ++ more
+  pub later_are : new.later ≡ old.later ++ leaps
   pub each_follows : (a : ℕ) → Among a more → Follows g B n i a
   pub all_follow : (a : ℕ) → Follows g B n i a → Among a more
   pub each_leaps : (a j : ℕ) → Waits a j leaps → Leaps B n i j a × (i < j)
@@ -139,16 +155,26 @@ landed g nodes i [] ss = ss
 landed g nodes i (q ∷ qs) ss =
     landed g nodes i qs (with_landing (lands g (node_at nodes q) i) (target (node_at nodes q)) ss)
 
+-- how a search stands between two places: what waits past the first, the ends that were found, and
+-- how many tests were made
+pub record Progress : Type 0 where
+  pub later : List Seed
+  pub found : List ℕ
+  pub tests : ℕ
+
+abbrev pub progress : List Seed → List ℕ → ℕ → Progress
+progress later found tests = record { later = later; found = found; tests = tests }
+
 -- A place is taken: its leaves take what stands there, and it is kept where the end of a path is met.
 pub record IsTakenAt (g : Scene) (nodes : List Node) (B : Inner) (i : ℕ) (start : List ℕ)
-    (others later : List Seed) (found found' : List ℕ) (old tests : ℕ) : Type 0 where
+    (old new : Progress) : Type 0 where
   pub leaves : List ℕ
   pub leaps : List Seed
   pub hit : Bool
-  pub closed : IsClosed g nodes B i start leaves leaps hit
-  pub found_is : found' ≡ kept hit i found
-  pub later_is : later ≡ landed g nodes i leaves (others ++ leaps)
-  pub few : IsFlat nodes → tests ≤ old + length leaves
+  pub closed : IsClosed g nodes B i start (closure leaves leaps hit)
+  pub found_is : new.found ≡ kept hit i old.found
+  pub later_is : new.later ≡ landed g nodes i leaves (old.later ++ leaps)
+  pub few : IsFlat nodes → new.tests ≤ old.tests + length leaves
 
 -- a character begins at the place, or the text ends there: in UTF no byte that continues one stands there
 abbrev pub is_stop : Bool → List ℕ → ℕ → Bool

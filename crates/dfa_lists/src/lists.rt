@@ -5,10 +5,10 @@ ghost use Rattle.match_items.specs.Subjects.{IsText, IsTextPlace};
 ghost use Rattle.match_items.specs.Views.{bare_text, text_scene};
 ghost use Rattle.dfa_ends.specs.Ends.{Among};
 ghost use Rattle.dfa_paths.specs.Graph.{takes, is_match, nests, moves, lands, target, takers, AllBelow, IsNodeIn, IsFlat, IsFurthest, IsEndBehind};
-ghost use Rattle.dfa_paths.specs.Meets.{tells, Probes, Asks, Telling, MeetsBehind, SomeTells, IsTold};
+ghost use Rattle.dfa_paths.specs.Meets.{tells, Probes, MeetsBehind, IsTold};
 ghost use Rattle.dfa_paths.specs.Fragment.{Rising};
-ghost use Rattle.dfa_lists.specs.Searches.{scene_of, PathsOf, MeetsOf, IsSearch, IsPlaceOf};
-ghost use Rattle.dfa_lists.specs.Lists.{IsClosed, IsTakenAt, IsVisited, way_of, gone_here, gone_later, kept, waiting_at, elsewhere, landed, stops_from, branch_in};
+ghost use Rattle.dfa_lists.specs.Searches.{scene_of, PathsOf, MeetsOf, AsksOf, TellsOf, SomeTellsOf, IsClosedOf, IsTakenOf, IsSearch, IsPlaceOf};
+ghost use Rattle.dfa_lists.specs.Lists.{IsVisited, closure, progress, waiting, way_of, gone_here, gone_later, kept, waiting_at, elsewhere, landed, stops_from, branch_in};
 
 use crate::reaching::{break_reaches, item_reaches, looks_back, tell};
 use char_sets::ClassTable;
@@ -188,8 +188,7 @@ fn ask<L: Ledger>(
     requires miss { miss < length search.now.nodes.now }
     ensures behind { IfOk result (IsEndBehind (scene_of search.now)
         (PathsOf search.now depth) back entry at) }
-    ensures told { IfOk result (λ _. IsTold (Asks (scene_of search.now) search.now.nodes.now
-        search.now.counts (PathsOf search.now depth) (MeetsOf search.now depth) back entry miss at)
+    ensures told { IfOk result (λ _. IsTold (AsksOf search.now depth back entry miss at)
         told.old told.new) }
 {
     let Some(back) = back else {
@@ -251,14 +250,14 @@ fn visit<L: Ledger>(
     requires place { IsPlaceOf search.now at }
     requires node { IsNodeIn (length search.now.nodes.now) (length search.now.classes.now) node }
     ensures visited { IfOk result (λ _. IsVisited (scene_of search.now)
-        (PathsOf search.now depth) node at lists.old.seeds.items lists.new.seeds.items
-        lists.old.later.items lists.new.later.items) }
+        (PathsOf search.now depth) node at
+        (waiting lists.old.seeds.items lists.old.later.items)
+        (waiting lists.new.seeds.items lists.new.later.items)) }
     ensures leaves { IfOk result (λ _. lists.new.leaves.items
         ≡ kept (takes node) state lists.old.leaves.items) }
     ensures marks { IfOk result (λ _. lists.new.marks.items ≡ lists.old.marks.items) }
     ensures hit { IfOk result (λ hit. hit ≡ is_match node) }
-    ensures told { IfOk result (λ _. IsTold (Telling (scene_of search.now) search.now.nodes.now
-        search.now.counts (PathsOf search.now depth) (MeetsOf search.now depth) node at)
+    ensures told { IfOk result (λ _. IsTold (TellsOf search.now depth node at)
         lists.old.told lists.new.told) }
     ensures tests { IfOk result (λ _. nests node ≡ false → steps.new ≡ steps.old) }
 {
@@ -353,10 +352,9 @@ fn close<L: Ledger>(
     requires leaves { lists.old.leaves.items ≡ [] }
     ensures closed { IfOk result (λ hit. (leaps : List Seed)
         × (lists.new.later.items ≡ lists.old.later.items ++ leaps)
-        × IsClosed (scene_of search.now) search.now.nodes.now (PathsOf search.now depth) at
-        lists.old.seeds.items lists.new.leaves.items leaps hit) }
-    ensures told { IfOk result (λ _. IsTold (SomeTells (scene_of search.now) search.now.nodes.now
-        search.now.counts (PathsOf search.now depth) (MeetsOf search.now depth) at
+        × IsClosedOf search.now depth at lists.old.seeds.items
+        (closure lists.new.leaves.items leaps hit)) }
+    ensures told { IfOk result (λ _. IsTold (SomeTellsOf search.now depth at
         lists.old.seeds.items) lists.old.told lists.new.told) }
     ensures tests { IfOk result (λ _. IsFlat search.now.nodes.now → steps.new ≡ steps.old) }
 {
@@ -559,11 +557,10 @@ fn take_place<L: Ledger>(
     requires search { IsSearch search.now }
     requires place { IsPlaceOf search.now at }
     requires seeds { AllBelow (length search.now.nodes.now) lists.old.seeds.items }
-    ensures taken { IfOk result (λ _. IsTakenAt (scene_of search.now) search.now.nodes.now
-        (PathsOf search.now depth) at lists.old.seeds.items lists.old.later.items
-        lists.new.later.items found.old found.new steps.old steps.new) }
-    ensures told { IfOk result (λ _. IsTold (SomeTells (scene_of search.now) search.now.nodes.now
-        search.now.counts (PathsOf search.now depth) (MeetsOf search.now depth) at
+    ensures taken { IfOk result (λ _. IsTakenOf search.now depth at lists.old.seeds.items
+        (progress lists.old.later.items found.old steps.old)
+        (progress lists.new.later.items found.new steps.new)) }
+    ensures told { IfOk result (λ _. IsTold (SomeTellsOf search.now depth at
         lists.old.seeds.items) lists.old.told lists.new.told) }
 {
     mark_none(&mut lists.marks, search.nodes.len())?;

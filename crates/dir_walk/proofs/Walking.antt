@@ -12,7 +12,7 @@ use Rattle.dir_walk.specs.declared.lists.Target.TheVariants.{TooDeep}
 use Rattle.dir_walk.specs.Filters.{Filter}
 use Rattle.dir_walk.specs.Paths.{ItemParts, items_in}
 use Rattle.dir_walk.specs.Targets.{allows_directory, item_targets, directory_targets, file_targets, listed_targets, unnamed_targets}
-use Rattle.dir_walk.specs.Walks.{PendingParts, at_levels, pending_targets, stack_targets, stack_weight, weight, has_failed, HasCauses, Steps}
+use Rattle.dir_walk.specs.Walks.{PendingParts, at_levels, pending_targets, stack_targets, stack_weight, weight, has_failed, walking, HasCauses, Steps, Walk}
 
 -- faults that were counted before or after
 
@@ -82,7 +82,7 @@ lighter_items levels stack items few =
 
 -- what is told at once, where nothing comes onto the stack
 pub told_step : (filter : Filter) (contents : Option Contents) (wanted : Contents → List Target) (levels : ℕ) (stack : List PendingParts) (told more : List Target)
-    → ((set : Contents) → contents ≡ Some set → more ≡ told ++ wanted set) → Steps filter contents wanted (weight levels) stack stack told more
+    → ((set : Contents) → contents ≡ Some set → more ≡ told ++ wanted set) → Steps filter contents wanted (weight levels) (walking stack told) (walking stack more)
 told_step filter contents wanted levels stack told more is = record {
   exact = over contents refl;
   lighter = (let h = some_weight levels in omega (arith, h));
@@ -96,7 +96,7 @@ told_step filter contents wanted levels stack told more is = record {
 pub entries_step : (filter : Filter) (contents : Option Contents) (path : List ℕ) (levels : ℕ) (entries : List DirEntry) (stack after : List PendingParts) (told more : List Target)
     → length (items_in path entries) < 18446744073709551616
     → more ≡ told ++ unnamed_targets path entries → after ≡ stack ++ reverse (map (at_levels levels) (items_in path entries))
-    → Steps filter contents (λ set. listed_targets filter (directory_targets filter set levels) path (Some entries)) (weight (suc levels)) stack after told more
+    → Steps filter contents (λ set. listed_targets filter (directory_targets filter set levels) path (Some entries)) (weight (suc levels)) (walking stack told) (walking after more)
 entries_step filter contents path levels entries stack after told more few grown put = record {
   exact = over contents;
   lighter = subst (λ l. stack_weight l < stack_weight stack + weight (suc levels)) (sym put) (lighter_items levels stack (items_in path entries) few);
@@ -112,16 +112,18 @@ entries_step filter contents path levels entries stack after told more few grown
         ∙ ap (λ l. l ++ stack_targets filter set stack) (append_assoc told (unnamed_targets path entries) below)
 
 -- the same targets by other words
-pub step_as : (filter : Filter) (contents : Option Contents) (wanted wanted' : Contents → List Target) (heavy heavy' : ℕ) (stack after : List PendingParts) (told more : List Target)
-    → ((set : Contents) → contents ≡ Some set → wanted set ≡ wanted' set) → heavy ≡ heavy' → Steps filter contents wanted heavy stack after told more → Steps filter contents wanted' heavy' stack after told more
-step_as filter contents wanted wanted' heavy heavy' stack after told more same weighs s = record {
+pub step_as : (filter : Filter) (contents : Option Contents) (wanted wanted' : Contents → List Target) (heavy : ℕ) {old new : Walk}
+    → ((set : Contents) → contents ≡ Some set → wanted set ≡ wanted' set) → Steps filter contents wanted heavy old new → Steps filter contents wanted' heavy old new
+step_as filter contents wanted wanted' heavy {old} {new} same s = record {
   exact = over contents refl s.exact;
-  lighter = subst (λ h. stack_weight after < stack_weight stack + h) weighs s.lighter;
+  lighter = s.lighter;
 }
   where
-    over : (c : Option Contents) → contents ≡ c → IfSome c (λ set. more ++ stack_targets filter set after ≡ told ++ wanted set ++ stack_targets filter set stack) → IfSome c (λ set. more ++ stack_targets filter set after ≡ told ++ wanted' set ++ stack_targets filter set stack)
+    over : (c : Option Contents) → contents ≡ c
+        → IfSome c (λ set. new.told ++ stack_targets filter set new.stack ≡ old.told ++ wanted set ++ stack_targets filter set old.stack)
+        → IfSome c (λ set. new.told ++ stack_targets filter set new.stack ≡ old.told ++ wanted' set ++ stack_targets filter set old.stack)
     over None e h = tt
-    over (Some set) e h = h ∙ ap (λ l. (told ++ l) ++ stack_targets filter set stack) (same set e)
+    over (Some set) e h = h ∙ ap (λ l. (old.told ++ l) ++ stack_targets filter set old.stack) (same set e)
 
 -- the loop
 
@@ -130,7 +132,7 @@ abbrev pub Going : Filter → Option Contents → (Contents → List Target) →
 Going filter contents wanted told now stack = IfSome contents (λ set. now ++ stack_targets filter set stack ≡ told ++ wanted set)
 
 pub going_on : (filter : Filter) (contents contents' : Option Contents) (wanted : Contents → List Target) (told now more : List Target) (stack rest after : List PendingParts) (p : PendingParts) (heavy : ℕ)
-    → contents' ≡ contents → stack ≡ rest ++ p ∷ [] → Going filter contents wanted told now stack → Steps filter contents' (λ set. pending_targets filter set p) heavy rest after now more → Going filter contents wanted told more after
+    → contents' ≡ contents → stack ≡ rest ++ p ∷ [] → Going filter contents wanted told now stack → Steps filter contents' (λ set. pending_targets filter set p) heavy (walking rest now) (walking after more) → Going filter contents wanted told more after
 going_on filter contents contents' wanted told now more stack rest after p heavy same top so_far s = over contents so_far (subst (λ c. IfSome c (λ set. more ++ stack_targets filter set after ≡ now ++ pending_targets filter set p ++ stack_targets filter set rest)) same s.exact)
   where
     over : (c : Option Contents) → IfSome c (λ set. now ++ stack_targets filter set stack ≡ told ++ wanted set) → IfSome c (λ set. more ++ stack_targets filter set after ≡ now ++ pending_targets filter set p ++ stack_targets filter set rest) → IfSome c (λ set. more ++ stack_targets filter set after ≡ told ++ wanted set)

@@ -54,9 +54,18 @@ weight (suc levels) = 18446744073709551616 * weight levels
 abbrev pub stack_weight : List PendingParts → ℕ
 stack_weight stack = sum_by (λ (p : PendingParts). weight p.levels) stack
 
+-- how a walk stands between two items: what is on its stack, and what it has told
+pub record Walk : Type 0 where
+  pub stack : List PendingParts
+  pub told : List Target
+
+abbrev pub walking : List PendingParts → List Target → Walk
+walking stack told = record { stack = stack; told = told }
+
 -- A step of a walk: what these targets and those of the stack were is told now or stands on the stack, and the stack has
 -- grown by less than this weight.
 pub record Steps (filter : Filter) (contents : Option Contents) (wanted : Contents → List Target) (heavy : ℕ)
-    (stack after : List PendingParts) (told more : List Target) : Type 0 where
-  pub exact : IfSome contents (λ set. more ++ stack_targets filter set after ≡ told ++ wanted set ++ stack_targets filter set stack)
-  pub lighter : stack_weight after < stack_weight stack + heavy
+    (old new : Walk) : Type 0 where
+  pub exact : IfSome contents (λ set.
+      new.told ++ stack_targets filter set new.stack ≡ old.told ++ wanted set ++ stack_targets filter set old.stack)
+  pub lighter : stack_weight new.stack < stack_weight old.stack + heavy

@@ -4,7 +4,7 @@ ghost use Rattle.pcre_io.specs.Files.{Contents};
 ghost use Rattle.dir_walk.specs.Filters.{Filter, filter_in};
 ghost use Rattle.dir_walk.specs.Paths.{item_parts};
 ghost use Rattle.dir_walk.specs.Targets.{as_item, directory_targets, file_targets, item_targets, listed_targets, unnamed_targets};
-ghost use Rattle.dir_walk.specs.Walks.{at_levels, has_failed, pending_parts, pending_targets, weight, Grows, HasCauses, Steps};
+ghost use Rattle.dir_walk.specs.Walks.{at_levels, has_failed, pending_parts, pending_targets, weight, Grows, HasCauses, Steps, walking};
 
 use crate::filters::NameFilter;
 use crate::items::{Item, has_unnamed, items_in};
@@ -74,8 +74,8 @@ fn take_entries(
         → Steps filter contents
         (λ set. listed_targets filter (directory_targets filter set levels) path.now
         (Some entries.now))
-        (weight (suc levels)) (map pending_parts stack.old.items)
-        (map pending_parts stack.new.items) told.old told.new) }
+        (weight (suc levels)) (walking (map pending_parts stack.old.items) told.old)
+        (walking (map pending_parts stack.new.items) told.new)) }
     ensures unfailed { OnOk result (has_failed told.new ≡ has_failed told.old) }
 {
     let items = items_in(alloc, path, entries.as_slice())?;
@@ -95,8 +95,8 @@ fn list_directory<F: FileSet>(
     ensures steps { OnOk result ((filter : Filter)
         → Steps filter (F.tells files.old).contents
         (λ set. directory_targets filter set (suc levels) (string_bytes path))
-        (weight (suc levels)) (map pending_parts stack.old.items)
-        (map pending_parts stack.new.items) told.old told.new) }
+        (weight (suc levels)) (walking (map pending_parts stack.old.items) told.old)
+        (walking (map pending_parts stack.new.items) told.new)) }
     ensures causes { OnOk result (HasCauses told.old told.new
         (F.tells files.old).faults (F.tells files.new).faults) }
     ensures same { (F.tells files.new).contents ≡ (F.tells files.old).contents }
@@ -121,8 +121,8 @@ fn take_directory<F: FileSet>(
     ensures steps { OnOk result ((filter : Filter)
         → Steps filter (F.tells files.old).contents
         (λ set. directory_targets filter set levels (string_bytes path))
-        (weight levels) (map pending_parts stack.old.items) (map pending_parts stack.new.items)
-        told.old told.new) }
+        (weight levels) (walking (map pending_parts stack.old.items) told.old)
+        (walking (map pending_parts stack.new.items) told.new)) }
     ensures causes { OnOk result (HasCauses told.old told.new
         (F.tells files.old).faults (F.tells files.new).faults) }
     ensures same { (F.tells files.new).contents ≡ (F.tells files.old).contents }
@@ -163,9 +163,8 @@ fn take<F: FileSet>(
 ) -> Result<(), Memory>
     ensures steps { OnOk result (Steps (filter_in filter.now) (F.tells files.old).contents
         (λ set. pending_targets (filter_in filter.now) set (pending_parts pending))
-        (weight pending.levels) (map pending_parts stack.old.items)
-        (map pending_parts stack.new.items)
-        told.old told.new) }
+        (weight pending.levels) (walking (map pending_parts stack.old.items) told.old)
+        (walking (map pending_parts stack.new.items) told.new)) }
     ensures causes { OnOk result (HasCauses told.old told.new
         (F.tells files.old).faults (F.tells files.new).faults) }
     ensures same { (F.tells files.new).contents ≡ (F.tells files.old).contents }

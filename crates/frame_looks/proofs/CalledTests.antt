@@ -20,7 +20,7 @@ use Rattle.frame_state.specs.Frames.{fail, ahead}
 use Rattle.frame_looks.specs.Conditions.{IsAsserted, IsLook}
 use Rattle.frame_state.specs.Shown.{callout_at, block_at, shown_as, IsReplied, IsFollowed, IsCallStop}
 use Rattle.frame_state.specs.Stops.{tells, IsStop}
-use Rattle.frame_state.specs.Over.{IsStopOver, AdvancesOver, GoesBy, tested_ahead}
+use Rattle.frame_state.specs.Over.{IsStopOver, in_all, AdvancesOver, GoesBy, tested_ahead}
 use Rattle.frame_state.specs.Validity.{IsValid}
 use Rattle.frame_state.proofs.CalloutTurns.{over_told, over_more, call_stop}
 use Rattle.frame_looks.proofs.CondTurns.{calls_first, is_tested, called_is}
@@ -46,7 +46,7 @@ module _ (c : Ground) (ok : IsGround c) (q : ℕ) (spot : Spot) (stack : List En
 
   -- it stops the machine
   pub stop_called : (old new : Option (List Block)) (x : Stop) → IsCallStop x (answer (shown_as b)) old new (shown_as b) →
-      IsStopOver x spot caps old new (tells c.setting spot (ahead c (conf (Enter q) spot stack caps)))
+      IsStopOver x spot caps new (in_all old (tells c.setting spot (ahead c (conf (Enter q) spot stack caps))))
   stop_called old new x h = call_stop c old new b spot caps _ z f (answer (shown_as b)) at_test x h
 
   module _ (old new : Option (List Block)) (grows : SeenGrows old new (shown_as b)) where
@@ -67,6 +67,6 @@ module _ (c : Ground) (ok : IsGround c) (q : ℕ) (spot : Spot) (stack : List En
       called_goes n (Err x) g = g
 
       pub called_stops : {A : Type 0} (to : Spot) (now : Captures) (x : Result A Stop) → IfErr x (λ s. IsStop s to now (tells c.setting spot z)) →
-          IfErr x (λ s. IsStopOver s to now old new (tells c.setting spot (ahead c (conf (Enter q) spot stack caps))))
+          IfErr x (λ s. IsStopOver s to now new (in_all old (tells c.setting spot (ahead c (conf (Enter q) spot stack caps)))))
       called_stops to now (Ok y) h = h
       called_stops to now (Err s) h = record { left = tells c.setting spot z; whole = over_told c old new b spot _ z at_look grows; is = h }

@@ -5,7 +5,7 @@ use Rattle.std.proofs.lemmas.List.{length-set, set-set, set-get_or, drop-set, dr
 use Rattle.std.proofs.lemmas.List.Elements.{All-set, All-get_or}
 use Rattle.frame_store.specs.declared.registers.Span.{Span}
 use Rattle.frame_store.specs.Captures.{Captures, capture, with_capture}
-use Rattle.frame_store.specs.Entry.{Entry, Undo}
+use Rattle.frame_store.specs.Entry.{Site, Entry, Undo}
 use Rattle.frame_store.specs.Undo.{taken_back, undone}
 use Rattle.ordered_search.specs.Stream.{changes, same_span}
 use Rattle.ordered_search.specs.Moves.{pause}
@@ -19,7 +19,7 @@ use Rattle.frame_state.specs.declared.machine.Spot.{Spot}
 use Rattle.frame_state.specs.declared.machine.Stop.{Stop}
 use Rattle.frame_state.specs.declared.machine.Stop.TheVariants as stop
 use Rattle.frame_state.specs.Stops.{IsStop, IsHeldStop, told}
-use Rattle.frame_state.specs.Calls.{AreRestored, IsReturnStop}
+use Rattle.frame_state.specs.Calls.{AreRestored, IsReturnStop, trail}
 use Rattle.frame_state.proofs.Frames.{path_push, outside_push, agrees_same, agrees_over, later_push}
 
 -- How many captures change.
@@ -63,7 +63,10 @@ changes_other old entry j a b e =
 
 -- Nothing is given back yet.
 
-pub none_restored : (link node : ℕ) (old entry : Captures) (n : ℕ) (stack : List Entry) → length old ≤ n → length entry ≤ n → AreRestored link node old entry old n stack stack
+abbrev pub site_at : ℕ → ℕ → Site
+site_at link node = record { node = node; link = link }
+
+pub none_restored : (link node : ℕ) (old entry : Captures) (n : ℕ) (stack : List Entry) → length old ≤ n → length entry ≤ n → AreRestored (site_at link node) entry n (trail old stack) (trail old stack)
 unfolding changes
 none_restored link node old entry n stack a b =
     let o : drop n old ≡ [] = drop_all n old a in
@@ -86,7 +89,7 @@ none_restored link node old entry n stack a b =
 -- The capture at j is given back next.
 
 module _ (link node : ℕ) (old entry caps : Captures) (j i : ℕ) (next : i ≡ j + 1) (within : j < length old) (there : j < length entry) (stack now : List Entry)
-    (r : AreRestored link node old entry caps i stack now) where
+    (r : AreRestored (site_at link node) entry i (trail old stack) (trail caps now)) where
   abbrev value : Option Span
   value = get_or entry j None
 
@@ -112,7 +115,7 @@ module _ (link node : ℕ) (old entry caps : Captures) (j i : ℕ) (next : i ≡
   set_spans c a b = All-set (SpanStands c) caps j value (All-get_or (SpanStands c) entry j None there b) (r.spans c a b)
 
   -- it is the same
-  pub kept_restored : same_span (get_or old j None) value ≡ true → set_caps ≡ caps → AreRestored link node old entry set_caps j stack now
+  pub kept_restored : same_span (get_or old j None) value ≡ true → set_caps ≡ caps → AreRestored (site_at link node) entry j (trail old stack) (trail set_caps now)
   kept_restored same is =
       let count : changes (drop j old) (drop j entry) ≡ changes (drop i old) (drop i entry) =
       changes_same old entry j within there same ∙ ap (λ k. changes (drop k old) (drop k entry)) (sym next) in
@@ -132,14 +135,14 @@ module _ (link node : ℕ) (old entry caps : Captures) (j i : ℕ) (next : i ≡
 
   -- it changes, and leaves an undo record
   abbrev undo : Entry
-  undo = Undo (record { node = node; link = link }) i (get_or caps j None)
+  undo = Undo (site_at link node) i (get_or caps j None)
 
   back_is : taken_back undo set_caps ≡ caps
   back_is =
       let at : i - 1 ≡ j = omega (arith, next) in
       ap (λ k. set set_caps k (get_or caps j None)) at ∙ set-set caps j value (get_or caps j None) ∙ set-get_or caps j None
 
-  pub changed_restored : same_span (get_or old j None) value ≡ false → AreRestored link node old entry set_caps j stack (undo ∷ now)
+  pub changed_restored : same_span (get_or old j None) value ≡ false → AreRestored (site_at link node) entry j (trail old stack) (trail set_caps (undo ∷ now))
   unfolding fail
   changed_restored other =
       let count : changes (drop j old) (drop j entry) ≡ suc (changes (drop i old) (drop i entry)) =
@@ -197,7 +200,7 @@ spans_same (Some x) (Some y) e =
 
 -- group i is given back, those past it are already
 module _ (link node : ℕ) (old entry caps : Captures) (i : ℕ) (some : 0 < i) (same : length old ≡ length entry) (within : i ≤ length entry) (stack now : List Entry)
-    (r : AreRestored link node old entry caps i stack now) where
+    (r : AreRestored (site_at link node) entry i (trail old stack) (trail caps now)) where
   abbrev before : Option Span
   before = capture caps i
 
@@ -220,16 +223,16 @@ module _ (link node : ℕ) (old entry caps : Captures) (i : ℕ) (some : 0 < i) 
   in_entry = omega (arith, some, within)
 
   pub step_restored : (new : Captures) (later : List Entry) → new ≡ with_capture caps i after → (same_span before after ≡ true → later ≡ now) →
-      (same_span before after ≡ false → later ≡ Undo (record { node = node; link = link }) i before ∷ now) → AreRestored link node old entry new (i - 1) stack later
+      (same_span before after ≡ false → later ≡ Undo (site_at link node) i before ∷ now) → AreRestored (site_at link node) entry (i - 1) (trail old stack) (trail new later)
   step_restored new later set kept pushed =
-      subst (λ (x : Captures). AreRestored link node old entry x (i - 1) stack later) (sym set)
+      subst (λ (x : Captures). AreRestored (site_at link node) entry (i - 1) (trail old stack) (trail x later)) (sym set)
       (elim (cases_Bool (same_span before after)) [
         | inl e ↦
             let is : with_capture caps i after ≡ caps = ap (with_capture caps i) (sym (spans_same before after e)) ∙ set-get_or caps (i - 1) None in
-            subst (λ (st : List Entry). AreRestored link node old entry (with_capture caps i after) (i - 1) stack st) (sym (kept e))
+            subst (λ (st : List Entry). AreRestored (site_at link node) entry (i - 1) (trail old stack) (trail (with_capture caps i after) st)) (sym (kept e))
             (kept_restored link node old entry caps (i - 1) i next_is in_old in_entry stack now r (as_old true e) is)
         | inr e ↦
-            subst (λ (st : List Entry). AreRestored link node old entry (with_capture caps i after) (i - 1) stack st) (sym (pushed e))
+            subst (λ (st : List Entry). AreRestored (site_at link node) entry (i - 1) (trail old stack) (trail (with_capture caps i after) st)) (sym (pushed e))
             (changed_restored link node old entry caps (i - 1) i next_is in_old in_entry stack now r (as_old false e))
       ])
 
@@ -315,5 +318,5 @@ module _ (limit units : ℕ) (spot old : Spot) (caps : Captures) (w : Walked) (k
   return_stop stop.Memory h k = tt
 
 -- all are given back
-pub all_restored : (link node : ℕ) (old entry caps : Captures) (stack now : List Entry) → AreRestored link node old entry caps 0 stack now → caps ≡ entry
+pub all_restored : (link node : ℕ) (old entry caps : Captures) (stack now : List Entry) → AreRestored (site_at link node) entry 0 (trail old stack) (trail caps now) → caps ≡ entry
 all_restored link node old entry caps stack now r = r.done

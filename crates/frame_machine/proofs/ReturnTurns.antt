@@ -25,7 +25,7 @@ use Rattle.frame_state.specs.Machine.{Around, Outside, state_at, kept_at, conf, 
 use Rattle.frame_state.specs.Frames.{past, close_from, around, around_at, cont, outside, fail, spot_state, ahead, focus}
 use Rattle.frame_state.specs.Validity.{IsLater, IsCapture, SpanStands, AreSpans, AreSound, IsValid, Advances}
 use Rattle.frame_state.specs.Stops.{IsNumber}
-use Rattle.frame_state.specs.Calls.{AreRestored}
+use Rattle.frame_state.specs.Calls.{AreRestored, trail}
 use Rattle.frame_state.proofs.Frames.{around_push, focus_kept, focus_towards, focus_agrees, running_towards, begun_towards, contained_push, within_frame, Framed, framed}
 use Rattle.frame_state.proofs.Drops.{dropped, past_slots}
 use Rattle.frame_state.proofs.Advance.{holding_room, holding_full, advance_pause, over_units}
@@ -163,7 +163,7 @@ module _ (c : Ground) (ok : IsGround c) (spot : Spot) (records : List Record) (c
       entry_spans : AreSpans c entry
       entry_spans = subst (AreSpans c) (sym is) (dropped c ok spot stack caps h v.records v.spans v.slots).spans
 
-      pub turn_left : (now : List Entry) → AreRestored p.link p.node caps entry entry 0 stack now → spot.units + count ≤ c.setting.matching.frame_limit →
+      pub turn_left : (now : List Entry) → AreRestored (site_of p) entry 0 (trail caps stack) (trail entry now) → spot.units + count ≤ c.setting.matching.frame_limit →
           Advances c (conf End spot stack caps) (conf (towards (next_of c p.node)) (record spot { frame = p.link; units = spot.units + count }) now entry)
       turn_left now r room =
           let w = v.running in
@@ -190,11 +190,11 @@ module _ (c : Ground) (ok : IsGround c) (spot : Spot) (records : List Record) (c
             slots = entry_length ∙ v.slots;
           })
 
-      pub turn_given : (now : List Entry) (held : Captures) → AreRestored p.link p.node caps entry held 0 stack now → spot.units + count ≤ c.setting.matching.frame_limit →
+      pub turn_given : (now : List Entry) (held : Captures) → AreRestored (site_of p) entry 0 (trail caps stack) (trail held now) → spot.units + count ≤ c.setting.matching.frame_limit →
           Advances c (conf End spot stack caps) (conf (towards (next_of c p.node)) (record spot { frame = p.link; units = spot.units + count }) now held)
       turn_given now held r room =
           subst (λ (x : Captures). Advances c (conf End spot stack caps) (conf (towards (next_of c p.node)) (record spot { frame = p.link; units = spot.units + count }) now x)) (sym r.done)
-          (turn_left now (subst (λ (x : Captures). AreRestored p.link p.node caps entry x 0 stack now) r.done r) room)
+          (turn_left now (subst (λ (x : Captures). AreRestored (site_of p) entry 0 (trail caps stack) (trail x now)) r.done r) room)
 
     pub bank_height : h ≤ length records
     bank_height = denied_height records h p at

@@ -114,7 +114,7 @@ stop_seen c stop.Memory spot caps w t old new whole e = tt
 
 -- the same of the answer that is given
 module _ (c : Ground) (s : Stop) (spot : Spot) (answer : told_by.PlaceAnswer) (is : answer ≡ answer_at s spot) (caps : Captures) (w : Walked) (old new : Option (List Block))
-    (e : IsEndOver c s spot caps old new (told none_met w)) where
+    (e : IsEndOver c s spot caps new (in_all old (told none_met w))) where
   same : plain (told none_met w) ≡ plain e.left
   same = ap (λ (p : Told × Option (List Block)). p.0) e.whole
 

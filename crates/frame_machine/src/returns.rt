@@ -3,11 +3,11 @@ ghost use Rattle.std.specs.Prelude.{◌≡◌, ◌≤◌, ◌<◌, ◌+◌, ◌�
 ghost use Rattle.frame_store.specs.Stack.{room};
 ghost use Rattle.frame_state.specs.Room.{IsShort};
 ghost use Rattle.frame_store.specs.Captures.{HasGroup, capture, with_capture};
-ghost use Rattle.frame_store.specs.Entry.{Undo, entries};
+ghost use Rattle.frame_store.specs.Entry.{Undo, entries, site_of};
 ghost use Rattle.frame_store.specs.Stack.{past};
 ghost use Rattle.frame_store.specs.Undo.{HasSlot, undone};
 ghost use Rattle.ordered_search.specs.Stream.{changes, same_span};
-ghost use Rattle.frame_state.specs.Calls.{AreRestored, IsReturnStop};
+ghost use Rattle.frame_state.specs.Calls.{AreRestored, IsReturnStop, trail};
 ghost use Rattle.frame_state.specs.Steps.{over, StepsOn, StopsThere, KeepsPeak, IsShortAt};
 ghost use Rattle.frame_state.specs.Stops.{IsHeldStop, held_spot};
 ghost use Rattle.frame_state.specs.Validity.{IsValid};
@@ -120,8 +120,9 @@ fn restore(
     requires numbered { length entry.now ≤ 65535 }
     requires counted { length store.old.records ≤ spot.old.units }
     requires few { spot.old.units ≤ limit }
-    ensures restored { OnOk result (AreRestored frame.now.link frame.now.node registers.old
-        entry.now registers.new 0 (entries store.old.records) (entries store.new.records)) }
+    ensures restored { OnOk result (AreRestored (site_of frame.now) entry.now 0
+        (trail registers.old (entries store.old.records))
+        (trail registers.new (entries store.new.records))) }
     ensures spot { OnOk result
         (spot.new ≡ record spot.old { units = spot.old.units + changes registers.old entry.now }) }
     ensures few { OnOk result (spot.new.units ≤ limit) }

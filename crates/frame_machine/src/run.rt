@@ -9,7 +9,7 @@ ghost use Rattle.frame_state.specs.Steps.{over, KeepsPeak};
 ghost use Rattle.frame_state.specs.Frames.{ahead};
 ghost use Rattle.frame_state.specs.Validity.{IsValid};
 ghost use Rattle.ordered_search.specs.PlaceAnswer.{place_answer};
-ghost use Rattle.frame_state.specs.Over.{AdvancesOver, IsEndOver};
+ghost use Rattle.frame_state.specs.Over.{AdvancesOver, IsEndOver, in_all};
 ghost use Rattle.frame_state.specs.Shown.{IsReplied};
 ghost use Rattle.frame_state.specs.Stops.{none_met, told, tells};
 
@@ -45,8 +45,8 @@ fn turn<S: Searchable, C: Callouts>(
         (over next.old spot.old store.old registers.old)
         (over next.new spot.new store.new registers.new)) }
     ensures stop { IfErr result (λ stop. IsEndOver (S.searched on.now) stop spot.new registers.new
-        (C.seen calls.old) (C.seen calls.new) (tells (S.searched on.now).setting spot.old
-        (ahead (S.searched on.now) (over next.old spot.old store.old registers.old)))) }
+        (C.seen calls.new) (in_all (C.seen calls.old) (tells (S.searched on.now).setting spot.old
+        (ahead (S.searched on.now) (over next.old spot.old store.old registers.old))))) }
     ensures rule { (block : Block) → C.answers calls.new block ≡ C.answers calls.old block }
     ensures peak { KeepsPeak (S.searched on.now) store.old store.new }
     ensures no_less { room store.old ≤ room store.new }
@@ -87,8 +87,9 @@ pub(crate) fn run<S: Searchable, C: Callouts>(
     requires replied { IsReplied (S.searched on.now).setting (C.answers calls.old) }
     requires bank { length bank.old ≡ (S.searched on.now).setting.groups }
     ensures bank { length bank.new ≡ length bank.old }
-    ensures stop { IsEndOver (S.searched on.now) result spot.new registers.new (C.seen calls.old)
-        (C.seen calls.new) (told none_met (place_answer (S.searched on.now).setting place)) }
+    ensures stop { IsEndOver (S.searched on.now) result spot.new registers.new (C.seen calls.new)
+        (in_all (C.seen calls.old)
+        (told none_met (place_answer (S.searched on.now).setting place))) }
     ensures rule { (block : Block) → C.answers calls.new block ≡ C.answers calls.old block }
     ensures peak { KeepsPeak (S.searched on.now) store.old store.new }
     ensures no_less { room store.old ≤ room store.new }

@@ -56,10 +56,10 @@ module _ (seen : Option (List Block)) where
   pub still : (c : Ground) (m n : Conf) → Advances c m n → AdvancesOver c seen seen m n
   still c m n a = record { answer = ap (in_all seen) a.answer; shorter = a.shorter; valid = a.valid }
 
-  pub still_stop : (s : Stop) (spot : Spot) (caps : Captures) (t : Told) → IsStop s spot caps t → IsStopOver s spot caps seen seen t
+  pub still_stop : (s : Stop) (spot : Spot) (caps : Captures) (t : Told) → IsStop s spot caps t → IsStopOver s spot caps seen (in_all seen t)
   still_stop s spot caps t is = record { left = t; whole = refl; is = is }
 
-  pub still_end : (c : Ground) (s : Stop) (spot : Spot) (caps : Captures) (t : Told) → IsEnd c s spot caps t → IsEndOver c s spot caps seen seen t
+  pub still_end : (c : Ground) (s : Stop) (spot : Spot) (caps : Captures) (t : Told) → IsEnd c s spot caps t → IsEndOver c s spot caps seen (in_all seen t)
   still_end c s spot caps t is = record { left = t; whole = refl; is = is }
 
 -- A turn over a callout.
@@ -82,7 +82,7 @@ module _ (c : Ground) (old new : Option (List Block)) (b : search.Block) (spot :
 
 -- and a stop there
 pub call_stop : (c : Ground) (old new : Option (List Block)) (b : search.Block) (spot : Spot) (caps : Captures) (x y f : Moves) (n : ℤ) → x ≡ pause (noted (shown b) (answered n y f)) →
-    (s : Stop) → IsCallStop s n old new (shown_as b) → IsStopOver s spot caps old new (tells c.setting spot x)
+    (s : Stop) → IsCallStop s n old new (shown_as b) → IsStopOver s spot caps new (in_all old (tells c.setting spot x))
 unfolding tread
 call_stop c old new b spot caps x y f n e (stop.Abort m) h = record {
   left = told_at spot (Abort m);
@@ -141,7 +141,7 @@ module _ (c : Ground) (ok : IsGround c) (q : ℕ) (spot : Spot) (stack : List En
       subst (λ (x : Next). AdvancesOver c old new (conf (Enter q) spot stack caps) (conf x spot stack caps)) (sym h.is) (goes_over old new grows h.goes h.followed)
 
   pub stop_callout : (old new : Option (List Block)) (x : Stop) → IsCallStop x (answer (shown_as b)) old new (shown_as b) →
-      IsStopOver x spot caps old new (tells c.setting spot (ahead c (conf (Enter q) spot stack caps)))
+      IsStopOver x spot caps new (in_all old (tells c.setting spot (ahead c (conf (Enter q) spot stack caps))))
   stop_callout old new x h = call_stop c old new b spot caps _ (K reached s f) f (answer (shown_as b)) at_callout x h
 
   module _ (old new : Option (List Block)) (block : Block) (is : block ≡ shown_as b) where
@@ -151,7 +151,7 @@ module _ (c : Ground) (ok : IsGround c) (q : ℕ) (spot : Spot) (stack : List En
     callout_goes (Err x) h grows = h
 
     pub callout_stops : {A : Type 0} (r : Result A Stop) → IfErr r (λ x. IsCallStop x (answer block) old new block) →
-        IfErr r (λ x. IsStopOver x spot caps old new (tells c.setting spot (ahead c (conf (Enter q) spot stack caps))))
+        IfErr r (λ x. IsStopOver x spot caps new (in_all old (tells c.setting spot (ahead c (conf (Enter q) spot stack caps)))))
     callout_stops (Ok x) h = h
     callout_stops (Err x) h = stop_callout old new x (subst (λ z. IsCallStop x (answer z) old new z) is h)
 
@@ -161,11 +161,11 @@ pub ok_still : (seen : Option (List Block)) (c : Ground) (m : Conf) (n : Next �
 ok_still seen c m n (Ok x) a = still seen c m (n x) a
 ok_still seen c m n (Err s) a = a
 
-pub err_still : {A : Type 0} (seen : Option (List Block)) (spot : Spot) (caps : Captures) (t : Told) (r : Result A Stop) → IfErr r (λ s. IsStop s spot caps t) → IfErr r (λ s. IsStopOver s spot caps seen seen t)
+pub err_still : {A : Type 0} (seen : Option (List Block)) (spot : Spot) (caps : Captures) (t : Told) (r : Result A Stop) → IfErr r (λ s. IsStop s spot caps t) → IfErr r (λ s. IsStopOver s spot caps seen (in_all seen t))
 err_still seen spot caps t (Ok x) a = a
 err_still seen spot caps t (Err s) a = still_stop seen s spot caps t a
 
-pub err_same : {A : Type 0} (seen : Option (List Block)) (spot : Spot) (caps : Captures) (t u : Told) (r : Result A Stop) → t ≡ u → IfErr r (λ s. IsStop s spot caps u) → IfErr r (λ s. IsStopOver s spot caps seen seen t)
+pub err_same : {A : Type 0} (seen : Option (List Block)) (spot : Spot) (caps : Captures) (t u : Told) (r : Result A Stop) → t ≡ u → IfErr r (λ s. IsStop s spot caps u) → IfErr r (λ s. IsStopOver s spot caps seen (in_all seen t))
 err_same seen spot caps t u r e a = err_still seen spot caps t r (subst (λ (x : Told). IfErr r (λ s. IsStop s spot caps x)) (sym e) a)
 
 -- Where a lookaround is tested.
@@ -175,14 +175,14 @@ ok_by seen c m x n (Err s) e g = g
 
 -- Where a turn ends the search.
 
-pub end_still : {A : Type 0} (c : Ground) (seen : Option (List Block)) (spot : Spot) (caps : Captures) (t : Told) (r : Result A Stop) → IfErr r (λ s. IsStop s spot caps t) → IfErr r (λ s. IsEndOver c s spot caps seen seen t)
+pub end_still : {A : Type 0} (c : Ground) (seen : Option (List Block)) (spot : Spot) (caps : Captures) (t : Told) (r : Result A Stop) → IfErr r (λ s. IsStop s spot caps t) → IfErr r (λ s. IsEndOver c s spot caps seen (in_all seen t))
 end_still c seen spot caps t (Ok x) a = a
 end_still c seen spot caps t (Err s) a = still_end seen c s spot caps t (stop_end c s spot caps t a)
 
-pub act_still : {A : Type 0} (c : Ground) (seen : Option (List Block)) (spot : Spot) (caps : Captures) (t : Told) (r : Result A Stop) → IfErr r (λ s. IsEnd c s spot caps t) → IfErr r (λ s. IsEndOver c s spot caps seen seen t)
+pub act_still : {A : Type 0} (c : Ground) (seen : Option (List Block)) (spot : Spot) (caps : Captures) (t : Told) (r : Result A Stop) → IfErr r (λ s. IsEnd c s spot caps t) → IfErr r (λ s. IsEndOver c s spot caps seen (in_all seen t))
 act_still c seen spot caps t (Ok x) a = a
 act_still c seen spot caps t (Err s) a = still_end seen c s spot caps t a
 
-pub end_over : {A : Type 0} (c : Ground) (old new : Option (List Block)) (spot : Spot) (caps : Captures) (t : Told) (r : Result A Stop) → IfErr r (λ s. IsStopOver s spot caps old new t) → IfErr r (λ s. IsEndOver c s spot caps old new t)
+pub end_over : {A : Type 0} (c : Ground) (old new : Option (List Block)) (spot : Spot) (caps : Captures) (t : Told) (r : Result A Stop) → IfErr r (λ s. IsStopOver s spot caps new (in_all old t)) → IfErr r (λ s. IsEndOver c s spot caps new (in_all old t))
 end_over c old new spot caps t (Ok x) a = a
 end_over c old new spot caps t (Err s) a = record { left = a.left; whole = a.whole; is = stop_end c s spot caps a.left a.is }

@@ -5,7 +5,7 @@ use Rattle.pat_tree.specs.Nested.{Nested}
 use Rattle.pat_tree.specs.Groups.{group_of}
 use Rattle.frame_store.specs.declared.records.Record.{Record}
 use Rattle.frame_store.specs.Captures.{Captures}
-use Rattle.frame_store.specs.Entry.{Entry, CallOpen}
+use Rattle.frame_store.specs.Entry.{Site, Entry, CallOpen}
 use Rattle.frame_state.specs.declared.machine.Spot.{Spot}
 use Rattle.frame_state.specs.declared.machine.Stop.{Stop}
 use Rattle.frame_state.specs.declared.machine.Stop.TheVariants as stop
@@ -103,18 +103,30 @@ IsReturnStop stop.FrameLimit limit units = limit < units
 IsReturnStop stop.Memory limit units = Unit {0}
 IsReturnStop _ limit units = ⊥
 
--- The registers were `old`, and all but the first i hold what `entry` says. Each that changed left its undo record, at a
--- part in the frame at a height.
-pub record AreRestored (link node : ℕ) (old entry caps : Captures) (i : ℕ) (stack now : List Entry) : Type 0 where
-  pub length_kept : length caps ≡ length old
-  pub left : (j : ℕ) → j < i → slice_index_or caps j None ≡ slice_index_or old j None
-  pub done : drop i caps ≡ drop i entry
-  pub counted : length now ≡ length stack + changes (drop i old) (drop i entry)
-  pub failing : (c : Ground) → fail c now caps ≡ pauses (changes (drop i old) (drop i entry)) (fail c stack old)
-  pub arounds : (c : Ground) (l h : ℕ) → l ≤ length stack → h ≤ length stack → around_at c now l h ≡ around_at c stack l h
-  pub outsides : (c : Ground) → link ≤ length stack → Agrees c node (outside c now caps link) (outside c stack old link)
-  pub contained : IsContained link stack → IsContained link now
-  pub later : (c : Ground) → IsLater c link node stack → IsLater c link node now
-  pub sound : (c : Ground) (steps : ℕ) → link ≤ length stack → IsPart c node → IsContained link stack → IsLater c link node stack
-      → AreSpans c old → AreSpans c entry → AreSound c steps (length old) stack → AreSound c steps (length old) now
-  pub spans : (c : Ground) → AreSpans c old → AreSpans c entry → AreSpans c caps
+-- the registers, and the records behind them
+pub record Trail : Type 0 where
+  pub caps : Captures
+  pub stack : List Entry
+
+abbrev pub trail : Captures → List Entry → Trail
+trail caps stack = record { caps = caps; stack = stack }
+
+-- All registers but the first i hold what `entry` says. Each that changed left its undo record, at a part in the frame at
+-- a height.
+pub record AreRestored (at : Site) (entry : Captures) (i : ℕ) (old new : Trail) : Type 0 where
+  pub length_kept : length new.caps ≡ length old.caps
+  pub left : (j : ℕ) → j < i → slice_index_or new.caps j None ≡ slice_index_or old.caps j None
+  pub done : drop i new.caps ≡ drop i entry
+  pub counted : length new.stack ≡ length old.stack + changes (drop i old.caps) (drop i entry)
+  pub failing : (c : Ground)
+      → fail c new.stack new.caps ≡ pauses (changes (drop i old.caps) (drop i entry)) (fail c old.stack old.caps)
+  pub arounds : (c : Ground) (l h : ℕ) → l ≤ length old.stack → h ≤ length old.stack
+      → around_at c new.stack l h ≡ around_at c old.stack l h
+  pub outsides : (c : Ground) → at.link ≤ length old.stack
+      → Agrees c at.node (outside c new.stack new.caps at.link) (outside c old.stack old.caps at.link)
+  pub contained : IsContained at.link old.stack → IsContained at.link new.stack
+  pub later : (c : Ground) → IsLater c at.link at.node old.stack → IsLater c at.link at.node new.stack
+  pub sound : (c : Ground) (steps : ℕ) → at.link ≤ length old.stack → IsPart c at.node → IsContained at.link old.stack
+      → IsLater c at.link at.node old.stack → AreSpans c old.caps → AreSpans c entry
+      → AreSound c steps (length old.caps) old.stack → AreSound c steps (length old.caps) new.stack
+  pub spans : (c : Ground) → AreSpans c old.caps → AreSpans c entry → AreSpans c new.caps

@@ -25,15 +25,17 @@ pub record IsCalloutNext (c : Ground) (q : ℕ) (answer : ℤ) (next : Next) : T
 abbrev pub in_all : Option (List Block) → Told → Told × Option (List Block)
 in_all seen t = (record t { blocks = [] }, seen_after seen t.blocks)
 
--- The machine stops so: what is told in all is what was told up to here, and then this.
-pub record IsStopOver (stop : Stop) (spot : Spot) (caps : Captures) (old new : Option (List Block)) (t : Told) : Type 0 where
+-- The machine stops so, where these blocks were shown: what is told in all is what was told up to here, and then this.
+pub record IsStopOver (stop : Stop) (spot : Spot) (caps : Captures) (shown : Option (List Block))
+    (all : Told × Option (List Block)) : Type 0 where
   pub left : Told
-  pub whole : in_all old t ≡ in_all new left
+  pub whole : all ≡ in_all shown left
   pub is : IsStop stop spot caps left
 
-pub record IsEndOver (c : Ground) (stop : Stop) (spot : Spot) (caps : Captures) (old new : Option (List Block)) (t : Told) : Type 0 where
+pub record IsEndOver (c : Ground) (stop : Stop) (spot : Spot) (caps : Captures) (shown : Option (List Block))
+    (all : Told × Option (List Block)) : Type 0 where
   pub left : Told
-  pub whole : in_all old t ≡ in_all new left
+  pub whole : all ≡ in_all shown left
   pub is : IsEnd c stop spot caps left
 
 module _ (c : Ground) where

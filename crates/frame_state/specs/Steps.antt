@@ -11,7 +11,7 @@ use Rattle.frame_state.specs.declared.machine.Stop.{Stop}
 use Rattle.frame_state.specs.Ground.{Ground}
 use Rattle.frame_state.specs.Machine.{Conf, conf}
 use Rattle.frame_state.specs.Frames.{ahead}
-use Rattle.frame_state.specs.Over.{AdvancesOver, IsStopOver}
+use Rattle.frame_state.specs.Over.{AdvancesOver, IsStopOver, in_all}
 use Rattle.frame_state.specs.Room.{IsShort}
 use Rattle.frame_state.specs.Stops.{IsStop, IsEnd, tells}
 use Rattle.frame_state.specs.Validity.{Advances}
@@ -53,7 +53,7 @@ module _ (c : Ground) where
 
   abbrev pub StopsOver : {A : Type 0} → Showing → Spot → Captures → Result A Stop → Type 0
   StopsOver s spot caps result =
-      IfErr result (λ stop. IsStopOver stop spot caps s.old s.new (tells c.setting s.from.spot (ahead c s.from)))
+      IfErr result (λ stop. IsStopOver stop spot caps s.new (in_all s.old (tells c.setting s.from.spot (ahead c s.from))))
 
   -- no more records than the frame limit, or than there were at most before
   abbrev pub KeepsPeak : Stack → Stack → Type 0

@@ -83,7 +83,8 @@ pub trait Searchable {
             ≡ length (longest_run (searched self.now).setting.scene item.now most at) }
         ensures to { result.to
             ≡ end_of at (longest_run (searched self.now).setting.scene item.now most at) }
-        ensures at_end { result.at_end ≡ run_reaches (searched self.now).setting.scene item.now most at
+        ensures at_end { result.at_end
+            ≡ run_reaches (searched self.now).setting.scene item.now most at
             (longest_run (searched self.now).setting.scene item.now most at) };
 
     fn take_break(&self, at: u64) -> Option<u64>

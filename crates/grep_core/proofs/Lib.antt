@@ -16,3 +16,5 @@ pub mod Cutting
 pub mod Watching
 pub mod Passing
 pub mod Unseen
+pub mod Ahead
+pub mod Runs

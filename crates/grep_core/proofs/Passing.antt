@@ -1,19 +1,20 @@
 -- Lines that are passed over have no match.
-use Rattle.std.proofs.Common.{◌≡◌, ℕ, zero, suc, ◌+◌, ◌-◌, ◌<◌, ◌≤◌, List, [], ◌∷◌, ◌++◌, length, take, None, Some, Ok, refl, sym, ap, subst, ◌∙◌, arith, length-append}
-use Rattle.std.specs.Prelude.{slice_index, IsTrue, IsUtf8}
+use Rattle.std.proofs.Common.{◌≡◌, ℕ, zero, suc, ◌+◌, ◌-◌, ◌<◌, ◌≤◌, List, [], ◌∷◌, ◌++◌, length, take, Option, None, Some, Ok, refl, sym, ap, subst, ◌∙◌, arith, length-append}
+use Rattle.std.specs.Prelude.{slice_index, IsTrue, IsUtf8, MatchOption}
 use Rattle.std.specs.List.{All}
 use Rattle.std.proofs.lemmas.List.{get_or_append_left, get_or-append-add}
 use Rattle.pcre_io.specs.Told.{Told}
 use Rattle.line_feed.specs.Rows.{Row}
 use Rattle.line_feed.specs.View.{Feed}
-use Rattle.line_feed.specs.Passes.{GivesAll, Passes}
+use Rattle.line_feed.specs.declared.look.Run.{Run}
+use Rattle.line_feed.specs.Passes.{GivesAll, Passes, HasRun, skipped}
 use Rattle.line_feed.proofs.Given.{kind-gives}
 use Rattle.grep_args.specs.declared.plan.GrepPlan.{GrepPlan}
 use Rattle.pat_tree.specs.Pattern.{Pattern}
 use Rattle.grep_match.specs.declared.unsearched.Needed.{Needed}
 use Rattle.grep_match.specs.Matches.{matches}
 use Rattle.grep_core.specs.declared.watch.Watch.{Watch}
-use Rattle.grep_core.specs.Watched.{Watches, PassesOver, HasAsciiNewlines}
+use Rattle.grep_core.specs.Watched.{Watches, PassesOver, HasQuietRun, HasAsciiNewlines}
 use Rattle.grep_core.proofs.Cutting.{AreValid, are-valid}
 use Rattle.grep_core.proofs.Watching.{same-needed, watches_gives, watches_line, watches_none, watches_behind}
 
@@ -108,20 +109,39 @@ module _ (plan : GrepPlan) (patterns : List Pattern) (found : Needed) (now : Tol
 pub over-none : (plan : GrepPlan) (patterns : List Pattern) (w : Watch) (f : Feed) → Watches plan patterns w f.held → PassesOver plan patterns w f f
 over-none plan patterns w f had = record { within = 0; longest = 0; rows = []; gives = λ now. refl; none = all-nil (λ (row : Row). matches plan patterns row.bytes ≡ Ok []); watches = had }
 
-pub over-some : (plan : GrepPlan) (patterns : List Pattern) (found : Needed) (w : Watch) (f g : Feed) (passed n : ℕ) → w.needed ≡ Some found → EndsWhole found f → AreBytes f.held (length f.held) → Watches plan patterns w f.held → Passes f g w.quiet found.most passed → n ≡ w.quiet - passed
-    → PassesOver plan patterns (record w { quiet = n }) f g
-over-some plan patterns found w f g passed n there whole are had passes is =
+-- Some were: none of them has a match, and what is known is known behind them.
+record IsPassed (plan : GrepPlan) (patterns : List Pattern) (w : Watch) (g : Feed) (rows : List Row) (n : ℕ) : Type 0 where
+  none : All (λ (row : Row). matches plan patterns row.bytes ≡ Ok []) rows
+  watches : Watches plan patterns (record w { quiet = n }) g.held
+
+passed-some : (plan : GrepPlan) (patterns : List Pattern) (found : Needed) (w : Watch) (f g : Feed) (passed n : ℕ) → w.needed ≡ Some found → EndsWhole found f → AreBytes f.held (length f.held) → Watches plan patterns w f.held → (passes : Passes f g w.quiet found.most passed) → n ≡ w.quiet - passed
+    → IsPassed plan patterns w g passes.rows n
+passed-some plan patterns found w f g passed n there whole are had passes is =
     let now : Told = record { left = None; stop = None; faults = 0 } in
     let within = (had.quiet found there).within in
     let over = passes-over plan patterns found now passes.rows w f g w.quiet there refl whole (λ k l. are k (omega (arith, l, within))) had (passes.gives now) in
     let offset = passes.offset in
     let over_offset = over.offset in
     let same : w.quiet - over.sum ≡ n = omega (arith, is, offset, over_offset) in
-    record {
-      within = w.quiet;
-      longest = found.most;
-      rows = passes.rows;
-      gives = passes.gives;
-      none = over.none;
-      watches = subst (λ q. Watches plan patterns (record w { quiet = q }) g.held) same over.watches;
-    }
+    record { none = over.none; watches = subst (λ q. Watches plan patterns (record w { quiet = q }) g.held) same over.watches }
+
+pub over-some : (plan : GrepPlan) (patterns : List Pattern) (found : Needed) (w : Watch) (f g : Feed) (passed n : ℕ) → w.needed ≡ Some found → EndsWhole found f → AreBytes f.held (length f.held) → Watches plan patterns w f.held → Passes f g w.quiet found.most passed → n ≡ w.quiet - passed
+    → PassesOver plan patterns (record w { quiet = n }) f g
+over-some plan patterns found w f g passed n there whole are had passes is =
+    let over = passed-some plan patterns found w f g passed n there whole are had passes is in
+    record { within = w.quiet; longest = found.most; rows = passes.rows; gives = passes.gives; none = over.none; watches = over.watches }
+
+-- rows ahead can be passed over
+pub quiet-run : (plan : GrepPlan) (patterns : List Pattern) (found : Needed) (w : Watch) (f : Feed) (run : Run) → w.needed ≡ Some found → EndsWhole found f → AreBytes f.held (length f.held) → Watches plan patterns w f.held → HasRun f w.quiet found.most run
+    → HasQuietRun plan patterns w f run
+quiet-run plan patterns found w f run there whole are had has =
+    let over = passed-some plan patterns found w f (skipped f run.bytes run.rows) run.bytes (w.quiet - run.bytes) there whole are had has.passes refl in
+    let within = (had.quiet found there).within in
+    let long = has.within in
+    record { within = w.quiet; longest = found.most; has = has; held = omega (arith, within, long); none = over.none; watches = over.watches }
+
+-- those that the feed finds ahead
+pub quiet-found : (before w : Watch) (f : Feed) (found : Needed) → w.needed ≡ Some found → EndsWhole found f → AreBytes f.held (length f.held) → ((plan : GrepPlan) (patterns : List Pattern) → Watches plan patterns before f.held → Watches plan patterns w f.held)
+    → (ahead : Option Run) → MatchOption ahead (Unit {0}) (λ run. HasRun f w.quiet found.most run) → MatchOption ahead (Unit {0}) (λ run. (plan : GrepPlan) (patterns : List Pattern) → Watches plan patterns before f.held → HasQuietRun plan patterns w f run)
+quiet-found before w f found there whole are still None has = has
+quiet-found before w f found there whole are still (Some run) has = λ plan patterns had. quiet-run plan patterns found w f run there whole are (still plan patterns had) has

@@ -87,20 +87,21 @@ module _ (work : Work) (most : Option ℕ) (treated : Treatment) (s0 : State) (b
           refused = soon begins;
         }
 
-    soon : AppendsPrefix out.held out1.held [] → (begins : BeginsWith work.plan treated before now standing.given) → StopsSoon work treated s0 (lines work.plan begins.heard) before now out0 out1
-    soon part begins = record {
+    -- a part of a text was written
+    pub soon-part : (text : List ℕ) → AppendsPrefix out.held out1.held text → (begins : BeginsWith work.plan treated before now standing.given) → StopsSoon work treated s0 (lines work.plan begins.heard) before now out0 out1
+    soon-part text part begins = record {
       given = standing.given;
       next = [];
       more = begins.more;
       all = begins.all ∙ ap (λ l. l ++ begins.more) (sym (append-nil standing.given));
       one = omega arith;
-      grew = subst (λ l. GrewBy l out0 out1) (sym (given-shown work most treated s0 f0 job before now f c s out0 out err0 err standing)) (grew-part a [] out0.held out.held out1.held standing.taken.wrote.out part);
+      grew = subst (λ l. GrewBy l out0 out1) (sym (given-shown work most treated s0 f0 job before now f c s out0 out err0 err standing)) (grew-part a text out0.held out.held out1.held standing.taken.wrote.out part);
       little = subst (λ l. TakesLittlePast l before now) (sym (append-nil standing.given)) (stood-little work.plan treated before now f standing.given standing.stood standing.near standing.whole);
       below = λ none. subst (λ m. IsBelow m (count (is_selected work.plan) us)) job.most_is standing.below;
     }
 
     -- it was refused: a part of the scan was written
     pub scans-unsent : (stop : Stop) → Halts [] out out1 stop → ScansInput work treated (between.standing before s0 (printed out0 err0)) (between.standing now s (printed out1 err)) c.selected (Err stop)
-    scans-unsent SinkFault halts = unsent SinkFault halts (λ x both. both) (soon halts.0)
+    scans-unsent SinkFault halts = unsent SinkFault halts (λ x both. both) (soon-part [] halts.0)
     scans-unsent Memory halts = unsent Memory halts (λ x both. both) (λ begins. tt)
     scans-unsent TooManyErrors halts = absurd halts

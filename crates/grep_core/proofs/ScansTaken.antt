@@ -225,6 +225,10 @@ module _ (work : Work) (most : Option ℕ) (treated : Treatment) (s0 : State) wh
           taken = subst (λ l. Taken work treated s0 l c1 s1 out0 out1 err0 err1) (sym same-tries) (taken-line work treated s0 most ts t c s c1 s1 out0 out out1 err0 err err1 Line standing.taken next-numbered takes);
         }
 
+    pub line-given : (takes : Takes work most t (progress c s (printed out err)) (progress c1 s1 (printed out1 err1)) Line) → (standing-line takes).given ≡ more
+    unfolding standing-line
+    line-given takes = refl
+
     pub standing-pauses : (f0 : Feed) (c0 : Course) → Takes work most t (progress c s (printed out err)) (progress c1 s1 (printed out1 err1)) Context → Pauses work most treated (position (fed f0 before) (progress c0 s0 (printed out0 err0))) (position (fed g after) (progress c1 s1 (printed out1 err1)))
     standing-pauses f0 c0 takes =
         let is = takes.answer ∙ ap (λ n. cond (is_selected work.plan t && is_full most n) Context Line) (selected-line work treated s0 most ts t c s c1 s1 out0 out out1 err0 err err1 Context standing.taken next-numbered takes) in

@@ -17,3 +17,4 @@ pub mod Follows
 pub mod Sending
 pub mod OneInput
 pub mod Watched
+pub mod Ahead

@@ -1,5 +1,5 @@
 -- Lines that are passed over without a search.
-use Rattle.std.specs.Prelude.{◌≡◌, ℕ, ◌+◌, ◌-◌, ◌<◌, ◌≤◌, Bool, false, List, [], length, take, slice_index, Some, Ok, ⊤}
+use Rattle.std.specs.Prelude.{◌≡◌, ℕ, ◌+◌, ◌-◌, ◌<◌, ◌≤◌, Bool, true, false, List, [], length, take, drop, slice_index, Option, None, Some, Ok, ⊤}
 use Rattle.std.specs.List.{All}
 use Rattle.byte_lanes.specs.declared.line_end.EndKind.{EndKind}
 use Rattle.byte_lanes.specs.declared.line_end.EndKind.TheVariants.{Cr, Lf, CrLf, AnyCrLf, Any, AnyUtf, Nul}
@@ -9,13 +9,17 @@ use Rattle.pat_tree.specs.Pattern.{Pattern}
 use Rattle.pcre_io.specs.Told.{Told}
 use Rattle.line_feed.specs.Rows.{Row}
 use Rattle.line_feed.specs.View.{Feed}
-use Rattle.line_feed.specs.Passes.{GivesAll}
+use Rattle.line_feed.specs.Passes.{GivesAll, HasRun}
+use Rattle.line_feed.specs.declared.look.Run.{Run}
 use Rattle.grep_args.specs.declared.plan.GrepPlan.{GrepPlan}
 use Rattle.grep_match.specs.declared.unsearched.Needed.{Needed}
 use Rattle.grep_match.specs.Needed.{AreNeeded}
 use Rattle.grep_match.specs.Matches.{Tried, tried_row, is_selected, matches}
 use Rattle.grep_output.specs.declared.shows.Show.{Show}
+use Rattle.grep_output.specs.declared.shows.Show.TheVariants.{Lines}
 use Rattle.grep_output.specs.Course.{Course, passed_out, course_after_passed}
+use Rattle.grep_output.specs.Context.{parts_groups}
+use Rattle.grep_match.specs.Modes.{is_with}
 use Rattle.grep_core.specs.declared.watch.Watch.{Watch}
 use Rattle.grep_core.specs.Work.{Work}
 
@@ -76,3 +80,25 @@ pub record PassesUnseen (work : Work) (c : Course) (w : Watch) (f g : Feed) : Ty
   pub over : PassesOver work.plan work.patterns w f g
   pub unseen : All (λ (row : Row). IsUnseen work.plan work.name work.show c
       (tried_row work.plan work.patterns row)) over.rows
+
+-- the bytes held begin with whole rows without a match, and what is known is known behind them
+pub record HasQuietRun (plan : GrepPlan) (patterns : List Pattern) (w : Watch) (f : Feed) (run : Run)
+    : Type 0 where
+  pub within : ℕ
+  pub longest : ℕ
+  pub has : HasRun f within longest run
+  pub held : run.bytes ≤ length f.held
+  pub none : All (λ (row : Row). matches plan patterns row.bytes ≡ Ok []) has.passes.rows
+  pub watches : Watches plan patterns (with_quiet w (w.quiet - run.bytes)) (drop run.bytes f.held)
+
+-- a line without a match is selected, no number of them ends the scan, and nothing but its bytes and
+-- its newline is written of it
+pub record PrintsUnmatched (plan : GrepPlan) (show : Show) (most : Option ℕ) (c : Course)
+    : Type 0 where
+  pub inverts : plan.invert_match ≡ true
+  pub lines : show ≡ Lines
+  pub endless : most ≡ None
+  pub apart : parts_groups plan ≡ false
+  pub unnamed : is_with plan.names ≡ false
+  pub unnumbered : plan.line_number ≡ false
+  pub alone : c.earlier ≡ []

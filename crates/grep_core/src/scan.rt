@@ -22,14 +22,15 @@ ghost use Rattle.grep_output.specs.Earlier.{IsShort};
 ghost use Rattle.grep_core.specs.Follows.{FollowsOne, Follows, past};
 ghost use Rattle.grep_core.specs.Sending.{SendsOn};
 ghost use Rattle.grep_core.specs.Work.{work_of, standing, progress, fed, position};
-ghost use Rattle.grep_core.specs.Watched.{Watches, HidesUnmatched, PassesUnseen};
+ghost use Rattle.grep_core.specs.Watched.{Watches, HidesUnmatched, PassesUnseen, PrintsUnmatched};
+ghost use Rattle.grep_core.specs.Ahead.{TakesRun};
 ghost use Rattle.grep_output.specs.LittlePast.{bytes_in};
 ghost use Rattle.grep_core.specs.WholeScans.{Stood, IsJob, ScansInput, TakesAll};
 ghost use Rattle.tool_out.specs.Printed.{printed};
 
 use crate::watch::Watch;
 use grep_args::GrepPlan;
-use grep_match::{MatchList, Patterns, Verdict, Workspace, search_line};
+use grep_match::{MatchList, Patterns, Verdict, Workspace, is_named, search_line};
 use grep_output::{EarlierLines, Ended, Show, State, Stop, write_error, write_line, write_matches};
 use line_feed::{FeedError, Line, LineFeed};
 use pcre_io::{IoError, Memory, Sink, Source};
@@ -400,6 +401,58 @@ fn pass_unseen(job: &Job<'_>, feed: &mut LineFeed, course: &Course, watch: &mut 
     }
 }
 
+// Whether of each line without a match its bytes and its newline are written and nothing else, and any number of such
+// lines may be selected.
+fn prints_unmatched(job: &Job<'_>, course: &Course) -> bool
+    ensures { IsTrue result → PrintsUnmatched job.now.plan.now job.now.show job.now.most
+        (course_of course.now) }
+{
+    let plan = job.plan;
+    if !plan.invert_match || job.show != Show::Lines || job.most.is_some() {
+        return false;
+    }
+    if parts_groups(plan) || is_named(plan.names) || plan.line_number {
+        return false;
+    }
+    course.earlier.len() == 0
+}
+
+// Takes whole lines that are known to have no match, where they are selected and written as they stand: all at once, by
+// one write. It reads nothing, and may leave some.
+fn take_run<O: Sink>(
+    job: &Job<'_>,
+    feed: &mut LineFeed,
+    out: &mut O,
+    state: &mut State,
+    course: &mut Course,
+    watch: &mut Watch,
+) -> Result<(), Stop>
+    requires live { feed.old.phase ≢ Closed }
+    requires selected { course.old.selected ≤ 2 ^ 62 }
+    requires errors { state.old.errors ≤ 20 }
+    requires watch { Watches job.now.plan.now (patterns_in job.now.patterns.now) watch.old
+        feed.old.held }
+    ensures watch { OnOk result (Watches job.now.plan.now (patterns_in job.now.patterns.now)
+        watch.new feed.new.held) }
+    ensures taken { (err : Kept) → TakesRun (work_of job.now) job.now.most feed.old feed.new
+        (progress course.old state.old (printed (O.tells out.old) err))
+        (progress course.new state.new (printed (O.tells out.new) err)) result }
+{
+    if !prints_unmatched(job, course) {
+        return Ok(());
+    }
+    let Some(run) = watch.run(feed) else {
+        return Ok(());
+    };
+    write_texts(out, &[&feed.held()[..run.bytes]])?;
+    feed.skip(run);
+    watch.skip(&run);
+    course.selected += run.rows as u64;
+    course.context_to = feed.number();
+    state.has_shown = true;
+    Ok(())
+}
+
 // Takes the next line, where there is one.
 #[tactic(auto, using(crate::proofs::Watching::watches_gives))]
 fn take_turn<S: Source, O: Sink, E: Sink>(
@@ -528,6 +581,7 @@ fn take_lines<S: Source, O: Sink, E: Sink>(
     let mut watch = Watch::new(job.plan, job.patterns);
     'line: loop {
         pass_unseen(job, feed, course, &mut watch);
+        take_run(job, feed, out, state, course, &mut watch)?;
         send_on(feed, source, out)?;
         match take_turn(job, feed, source, out, err, work, state, course, &mut watch)? {
             Turn::Took(Next::Line) => {}

@@ -1,5 +1,5 @@
 //! Lines that are passed over without a search.
-ghost use Rattle.std.specs.Prelude.{◌≡◌, ◌≢◌, ◌++◌, ℕ, ◌<◌, ◌≤◌, List, [], length, take, IsTrue, IsUtf8, Some, Ok, slice_index};
+ghost use Rattle.std.specs.Prelude.{◌≡◌, ◌≢◌, ◌++◌, ◌-◌, ℕ, ◌<◌, ◌≤◌, List, [], length, take, IsTrue, IsUtf8, Some, Ok, slice_index, MatchOption};
 ghost use Rattle.uni_text.specs.Characters.{IsChecked};
 ghost use Rattle.match_needs.specs.Texts.{sets_of};
 ghost use Rattle.pat_tree.specs.Pattern.{Pattern};
@@ -7,13 +7,13 @@ ghost use Rattle.grep_args.specs.declared.plan.GrepPlan.{GrepPlan};
 ghost use Rattle.grep_match.specs.declared.unsearched.Needed.{Needed};
 ghost use Rattle.grep_match.specs.Compiled.{patterns_in};
 ghost use Rattle.grep_match.specs.Matches.{matches};
-ghost use Rattle.grep_core.specs.Watched.{IsQuiet, Watches, PassesOver, HasAsciiNewlines, EndsInAscii, with_quiet};
+ghost use Rattle.grep_core.specs.Watched.{IsQuiet, Watches, PassesOver, HasQuietRun, HasAsciiNewlines, EndsInAscii, with_quiet};
 ghost use Rattle.line_feed.specs.declared.phase.Phase.TheVariants.{Closed};
 
 use byte_lanes::EndKind;
 use grep_args::GrepPlan;
 use grep_match::{Needed, Patterns, needed_text};
-use line_feed::{Line, LineFeed};
+use line_feed::{Line, LineFeed, Run};
 use uni_text::check;
 
 /// What is known of the bytes that a feed holds.
@@ -130,6 +130,36 @@ impl Watch {
                 self.quiet = self.quiet.saturating_sub(passed);
             }
         }
+    }
+
+    /// Whole lines with which the bytes held begin and that are known to have no match, where it finds some.
+    pub fn run(&mut self, feed: &LineFeed) -> Option<Run>
+        requires live { feed.now.phase ≢ Closed }
+        requires watch { (plan : GrepPlan) × (patterns : List Pattern)
+            × Watches plan patterns self.old feed.now.held }
+        ensures watch { (plan : GrepPlan) (patterns : List Pattern)
+            → Watches plan patterns self.old feed.now.held
+            → Watches plan patterns self.new feed.now.held }
+        ensures run { MatchOption result (Unit {0}) (λ run.
+            (plan : GrepPlan) (patterns : List Pattern)
+            → Watches plan patterns self.old feed.now.held
+            → HasQuietRun plan patterns self.new feed.now run) }
+    {
+        self.look(feed);
+        are_bytes(feed.held());
+        if let Some(needed) = &self.needed {
+            if gives_whole(needed, feed) {
+                return feed.run(self.quiet, needed.most as usize);
+            }
+        }
+        None
+    }
+
+    /// Goes on behind such lines.
+    pub fn skip(&mut self, run: &Run)
+        ensures { self.new ≡ with_quiet self.old (self.old.quiet - run.now.bytes) }
+    {
+        self.quiet = self.quiet.saturating_sub(run.bytes);
     }
 
     /// Whether a line with which the bytes begin need not be searched.

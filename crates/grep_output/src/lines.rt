@@ -34,7 +34,8 @@ fn write_before<O: Sink>(
     number: u64,
     mark: &[u8],
 ) -> Result<(), IoError>
-    ensures { Writes (name_before plan.now name.now mark.now ++ number_before plan.now name.now number mark.now)
+    ensures { Writes (name_before plan.now name.now mark.now
+        ++ number_before plan.now name.now number mark.now)
         (O.tells out.old) (O.tells out.new) result }
 {
     let is_named = is_named(plan.names);

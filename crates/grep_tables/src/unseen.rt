@@ -47,6 +47,37 @@ fn lines_between_are_counted(rt: HostRuntime) -> Result<(), Fail> {
 }
 
 #[test]
+fn lines_without_a_match_are_shown(rt: HostRuntime) -> Result<(), Fail> {
+    static ROWS: [Row; 8] = [
+        (
+            "-v status=5 log > quiet\nquiet two\nquiet\n\nquiet\nquiet\nend\n",
+            0,
+        ),
+        ("-v status=5 < \nab\nstatus=5\n\ncd > \nab\n\ncd\n", 0),
+        (
+            "-vh status=5 last none > quiet\nquiet\nquiet\nstatus=\n5\nquiet\n",
+            0,
+        ),
+        (
+            "-v status=5 last none > last:quiet\nlast:quiet\nnone:quiet\nnone:status=\nnone:5\nnone:quiet\n",
+            0,
+        ),
+        ("-vm3 status=5 log > quiet\nquiet two\nquiet\n", 0),
+        ("-vA1 status=5 last > quiet\nquiet\nstatus=502\n", 0),
+        (
+            "-N CRLF -v status=5 crlf > quiet\r\nq\rq\nq\r\nquiet\r\n",
+            0,
+        ),
+        (
+            "--max-buffer-size=6 -v s=5 < q\nq\nlonger1\nq > q\nq\n ! (standard input): \
+            line 3 is too long",
+            2,
+        ),
+    ];
+    check_all(&rt, rt.alloc(), FILES, "", &ROWS)
+}
+
+#[test]
 fn lines_around_are_shown(rt: HostRuntime) -> Result<(), Fail> {
     static ROWS: [Row; 8] = [
         (

@@ -8,6 +8,8 @@ mod library;
 #[cfg(test)]
 mod places;
 #[cfg(test)]
+mod resets;
+#[cfg(test)]
 mod rows;
 #[cfg(test)]
 mod utf;

@@ -101,6 +101,27 @@ fn common_patterns_match(rt: HostRuntime) -> Result<(), Fail> {
 }
 
 #[test]
+fn long_first_runs_are_found(rt: HostRuntime) -> Result<(), Fail> {
+    static ROWS: [Row; 14] = [
+        r"(\w+)@(\w+)\.com :: a bc def ghij :: no match",
+        r"(\w+)@(\w+)\.com :: a bc @ .com de@f.com :: de@f.com|de|f|",
+        r"\w{3,}@ :: ab@ cd ef@ ghi@ :: ghi@|",
+        r"\w{3,}@ :: ab@ abcd@ :: abcd@|",
+        r"\w{3,}@ :: ab@ abc :: no match",
+        r"\w*@ :: ab cd@ :: cd@|",
+        r"\w*@ :: ab @ :: @|",
+        r"\d+,x :: 1 22,y 3,x :: 3,x|",
+        "[a-f0-9]{5}[0-9] :: 12g34 567xabcde9 :: abcde9|",
+        "[a-f0-9]{5}[0-9] :: abcd abcde abcdef abcd5 :: no match",
+        r"\d{3} :: 12 34 567 :: 567|",
+        r"\d{3} :: 12 34 56 :: no match",
+        r"(\d{2,3})- :: 1- 12 x123- :: 123-|123|",
+        r"(?:\d{2}) ;|(\d) :: 1 2 ; :: 1|1|",
+    ];
+    check_all(&rt, rt.alloc(), &ROWS)
+}
+
+#[test]
 fn captures_and_references_match(rt: HostRuntime) -> Result<(), Fail> {
     static ROWS: [Row; 24] = [
         r"^\s*fn\s+(\w+) :: fn :: no match",

@@ -1,5 +1,5 @@
 -- The fields of a feed.
-use Rattle.std.proofs.Common.{◌≡◌, ◌≢◌, ◌⊎◌, inl, inr, ℕ, ◌+◌, ◌-◌, ◌<◌, ◌≤◌, List, [], ◌++◌, length, take, drop, slice_range, sym, ap, subst, ◌∙◌, arith, ⊎_elim, length-append, length-drop, length-take-le}
+use Rattle.std.proofs.Common.{◌≡◌, ◌≢◌, ◌⊎◌, inl, inr, ℕ, ◌+◌, ◌-◌, ◌<◌, ◌≤◌, List, [], ◌++◌, length, take, drop, slice_range, refl, sym, ap, subst, ◌∙◌, arith, ⊎_elim, length-append, length-drop, length-take-le}
 use Rattle.std.proofs.lemmas.Bool.{cases_lt, cases_eq}
 use Rattle.std.proofs.lemmas.List.{drop-take, drop-drop, take-take}
 use Rattle.byte_lanes.specs.declared.line_end.EndKind.{EndKind}
@@ -60,124 +60,105 @@ range-mid xs a b e n le =
     ∙ ap (λ l. take n l) (range-rest xs a b e (omega arith))
     ∙ ap (λ k. take k (drop e (slice_range xs a b))) {x = n} {y = e + n - e} (omega arith)
 
--- a row was given
-abbrev pub inside_given : Inside → ℕ → ℕ → Inside
-inside_given f end newline = record f {
-  from = f.start;
-  to = f.start + end;
-  start = f.start + end + newline;
+-- so many bytes further on, behind another row
+abbrev pub inside_on : Inside → (from to start number row_at offset : ℕ) → Inside
+inside_on f from to start number row_at offset = record f {
+  from = from;
+  to = to;
+  start = start;
   searched = 0;
-  number = f.number + 1;
-  row_at = f.offset;
-  offset = f.offset + (end + newline);
+  number = number;
+  row_at = row_at;
+  offset = offset;
 }
 
-rest-given : (f : Inside) (end newline : ℕ) → IsWhole f → end + newline ≤ length (held_of f) → held_of (inside_given f end newline) ≡ drop (end + newline) (held_of f)
-rest-given f end newline i le =
-    let long = held-long f i in
-    let ordered = i.held in
-    ap (λ a. slice_range f.buffer.items a f.filled) {x = f.start + end + newline} {y = f.start + (end + newline)} (omega arith)
-    ∙ range-rest f.buffer.items f.start f.filled (end + newline) (omega arith)
+module _ (f : Inside) (bytes from to start number row_at offset : ℕ) (i : IsWhole f) (le : bytes ≤ length (held_of f)) (begin : start ≡ f.start + bytes) where
+  rest-on : held_of (inside_on f from to start number row_at offset) ≡ drop bytes (held_of f)
+  rest-on =
+      let long = held-long f i in
+      let ordered = i.held in
+      ap (λ a. slice_range f.buffer.items a f.filled) begin ∙ range-rest f.buffer.items f.start f.filled bytes (omega arith)
 
-pub view-given : (f : Inside) (end newline : ℕ) → IsWhole f → end + newline ≤ length (held_of f) → view_of (inside_given f end newline) ≡ given (view_of f) end newline
-view-given f end newline i le =
-    let long = held-long f i in
-    let ordered = i.held in
-    let front = range-front f.buffer.items f.start f.filled end (omega arith) in
-    let mid = range-mid f.buffer.items f.start f.filled end newline (omega arith) in
-    let rest = rest-given f end newline i le in
-    λ k. record {
-      kind = f.kind;
-      max = f.max;
-      row = record { bytes = front k; newline = mid k; number = f.number + 1; offset = f.offset };
-      held = rest k;
-      stored = length f.buffer.items;
-      number = f.number + 1;
-      offset = f.offset + (end + newline);
-      phase = f.phase;
-    }
+  whole-on : offset ≡ f.offset + bytes → number ≤ offset → from ≤ to → to ≤ start → IsWhole (inside_on f from to start number row_at offset)
+  whole-on further few row newline =
+      let long = held-long f i in
+      let ordered = i.held in
+      let within = i.filled in
+      let taken = i.taken in
+      record {
+        row = row;
+        newline = newline;
+        held = omega arith;
+        filled = i.filled;
+        stored = i.stored;
+        number = few;
+        taken = omega arith;
+        open_few = λ p. (let few = i.open_few p in omega arith);
+        ended_few = λ p. (let few = i.ended_few p in omega arith);
+        missed_few = λ p. (let few = i.missed_few p in omega arith);
+        full = λ p. (let all = i.full p in omega arith);
+        searched = omega arith;
+        nothing = λ k l. absurd (omega arith);
+        near = subst (IsNear f.kind) (sym rest-on) (near-drop f.kind (held_of f) bytes i.near);
+      }
 
-pub whole-given : (f : Inside) (end newline : ℕ) → IsWhole f → 0 < end + newline → end + newline ≤ length (held_of f) → IsWhole (inside_given f end newline)
-whole-given f end newline i some le =
-    let long = held-long f i in
-    let ordered = i.held in
-    let within = i.filled in
-    let number = i.number in
-    let taken = i.taken in
-    record {
-      row = omega arith;
-      newline = omega arith;
-      held = omega arith;
-      filled = i.filled;
-      stored = i.stored;
-      number = omega arith;
-      taken = omega arith;
-      open_few = λ p. (let few = i.open_few p in omega arith);
-      ended_few = λ p. (let few = i.ended_few p in omega arith);
-      missed_few = λ p. (let few = i.missed_few p in omega arith);
-      full = λ p. (let all = i.full p in omega arith);
-      searched = omega arith;
-      nothing = λ k l. absurd (omega arith);
-      near = subst (IsNear f.kind) (sym (rest-given f end newline i le)) (near-drop f.kind (held_of f) (end + newline) i.near);
-    }
+-- a row was given
+abbrev pub inside_given : Inside → ℕ → ℕ → Inside
+inside_given f end newline =
+    inside_on f f.start (f.start + end) (f.start + end + newline) (f.number + 1) f.offset (f.offset + (end + newline))
+
+module _ (f : Inside) (end newline : ℕ) (i : IsWhole f) (le : end + newline ≤ length (held_of f)) where
+  pub view-given : view_of (inside_given f end newline) ≡ given (view_of f) end newline
+  view-given =
+      let long = held-long f i in
+      let ordered = i.held in
+      let front = range-front f.buffer.items f.start f.filled end (omega arith) in
+      let mid = range-mid f.buffer.items f.start f.filled end newline (omega arith) in
+      let rest = rest-on f (end + newline) f.start (f.start + end) (f.start + end + newline) (f.number + 1) f.offset (f.offset + (end + newline)) i le (omega arith) in
+      λ k. record {
+        kind = f.kind;
+        max = f.max;
+        row = record { bytes = front k; newline = mid k; number = f.number + 1; offset = f.offset };
+        held = rest k;
+        stored = length f.buffer.items;
+        number = f.number + 1;
+        offset = f.offset + (end + newline);
+        phase = f.phase;
+      }
+
+  pub whole-given : 0 < end + newline → IsWhole (inside_given f end newline)
+  whole-given some =
+      let number = i.number in
+      whole-on f (end + newline) f.start (f.start + end) (f.start + end + newline) (f.number + 1) f.offset (f.offset + (end + newline)) i le
+      (omega arith) refl (omega arith) (omega arith) (omega arith)
 
 -- rows were passed over
 abbrev pub inside_skipped : Inside → ℕ → ℕ → Inside
-inside_skipped f bytes rows = record f {
-  from = f.start + bytes;
-  to = f.start + bytes;
-  start = f.start + bytes;
-  searched = 0;
-  number = f.number + rows;
-  row_at = f.offset + bytes;
-  offset = f.offset + bytes;
-}
+inside_skipped f bytes rows =
+    inside_on f (f.start + bytes) (f.start + bytes) (f.start + bytes) (f.number + rows) (f.offset + bytes) (f.offset + bytes)
 
-rest-skipped : (f : Inside) (bytes rows : ℕ) → IsWhole f → bytes ≤ length (held_of f) → held_of (inside_skipped f bytes rows) ≡ drop bytes (held_of f)
-rest-skipped f bytes rows i le =
-    let long = held-long f i in
-    let ordered = i.held in
-    range-rest f.buffer.items f.start f.filled bytes (omega arith)
+module _ (f : Inside) (bytes rows : ℕ) (i : IsWhole f) (le : bytes ≤ length (held_of f)) where
+  pub view-skipped : view_of (inside_skipped f bytes rows) ≡ skipped (view_of f) bytes rows
+  view-skipped =
+      let at = f.start + bytes in
+      let none : slice_range f.buffer.items at at ≡ [] = ap (λ n. take n (drop at f.buffer.items)) {x = at - at} {y = 0} (omega arith) in
+      let rest = rest-on f bytes at at at (f.number + rows) (f.offset + bytes) (f.offset + bytes) i le refl in
+      λ k. record {
+        kind = f.kind;
+        max = f.max;
+        row = record { bytes = none k; newline = none k; number = f.number + rows; offset = f.offset + bytes };
+        held = rest k;
+        stored = length f.buffer.items;
+        number = f.number + rows;
+        offset = f.offset + bytes;
+        phase = f.phase;
+      }
 
-pub view-skipped : (f : Inside) (bytes rows : ℕ) → IsWhole f → bytes ≤ length (held_of f) → view_of (inside_skipped f bytes rows) ≡ skipped (view_of f) bytes rows
-view-skipped f bytes rows i le =
-    let at = f.start + bytes in
-    let none : slice_range f.buffer.items at at ≡ [] = ap (λ n. take n (drop at f.buffer.items)) {x = at - at} {y = 0} (omega arith) in
-    let rest = rest-skipped f bytes rows i le in
-    λ k. record {
-      kind = f.kind;
-      max = f.max;
-      row = record { bytes = none k; newline = none k; number = f.number + rows; offset = f.offset + bytes };
-      held = rest k;
-      stored = length f.buffer.items;
-      number = f.number + rows;
-      offset = f.offset + bytes;
-      phase = f.phase;
-    }
-
-pub whole-skipped : (f : Inside) (bytes rows : ℕ) → IsWhole f → bytes ≤ length (held_of f) → rows ≤ bytes → IsWhole (inside_skipped f bytes rows)
-whole-skipped f bytes rows i le few_rows =
-    let long = held-long f i in
-    let ordered = i.held in
-    let within = i.filled in
-    let number = i.number in
-    let taken = i.taken in
-    record {
-      row = omega arith;
-      newline = omega arith;
-      held = omega arith;
-      filled = i.filled;
-      stored = i.stored;
-      number = omega arith;
-      taken = omega arith;
-      open_few = λ p. (let few = i.open_few p in omega arith);
-      ended_few = λ p. (let few = i.ended_few p in omega arith);
-      missed_few = λ p. (let few = i.missed_few p in omega arith);
-      full = λ p. (let all = i.full p in omega arith);
-      searched = omega arith;
-      nothing = λ k l. absurd (omega arith);
-      near = subst (IsNear f.kind) (sym (rest-skipped f bytes rows i le)) (near-drop f.kind (held_of f) bytes i.near);
-    }
+  pub whole-skipped : rows ≤ bytes → IsWhole (inside_skipped f bytes rows)
+  whole-skipped few =
+      let at = f.start + bytes in
+      let number = i.number in
+      whole-on f bytes at at at (f.number + rows) (f.offset + bytes) (f.offset + bytes) i le refl refl (omega arith) (omega arith) (omega arith)
 
 -- what is met behind a piece
 pub phase-cases : (n left : ℕ) (p : Phase) → MeetsBehind n left p → ((n ≡ 0) × (p ≡ Ended)) ⊎ (((0 < n) × (n ≡ left) × (p ≡ Full)) ⊎ ((0 < n) × (n ≢ left) × (p ≡ Open)))

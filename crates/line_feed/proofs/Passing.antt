@@ -1,7 +1,9 @@
 -- Rows that are passed over.
 use Rattle.std.proofs.Common.{◌≡◌, ◌≢◌, ℕ, zero, suc, ◌+◌, ◌-◌, ◌^◌, ◌<◌, ◌≤◌, Bool, false, cond, eqb, max, List, [], ◌∷◌, ◌++◌, length, take, drop, slice_range, get_or, count_by, refl, sym, ap, subst, ◌∙◌, arith, ⊎_elim, length-drop, length-take-le}
 use Rattle.std.proofs.lemmas.Bool.{cases_lt, cases_eq, both_ways, eq-eqb, ne_eqb}
+use Rattle.std.specs.List.{All}
 use Rattle.std.proofs.lemmas.List.{drop-drop, get_or-drop}
+use Rattle.std.proofs.lemmas.List.Elements.{All-nil, All-cons}
 use Rattle.std.proofs.lemmas.List.Sums.{sum_by-append, count_by_more_no, count_by_more_yes, count_by-le-length}
 use Rattle.std.proofs.Math.Seq.{take-add}
 use Rattle.pcre_io.specs.Told.{Told}
@@ -130,26 +132,37 @@ pub Passes-run : (f g h : Feed) (within longest passed : ℕ) (run : Run) → Pa
 Passes-run f g h within longest passed run before here is =
     Passes-trans f g h within longest passed run.bytes before (subst (λ v. Passes g v (within - passed) longest run.bytes) (sym is) here.passes)
 
+-- a row with a newline
+abbrev HasEnd : Row → Type 0
+HasEnd row = 0 < length row.newline
+
 -- one row
+row-back : (f : Feed) (k len : ℕ) → k + len ≤ length f.held → length (slice_range f.held k (k + len)) ≡ len
+row-back f k len within =
+    let shorter = length-drop k f.held in
+    length-take-le (k + len - k) (drop k f.held) (omega (arith, within)) ∙ omega arith
+
 all-row : (f : Feed) (k len most longest : ℕ) (now : Told) → IsSound f → FirstEnd f k len → EndsRow f k len → k ≤ f.max → k ≤ longest → k + len ≤ most
     → GivesAll now most longest f (skipped f (k + len) 1) (next_row f k len ∷ [])
 all-row f k len most longest now s first ends room short fits =
     let next = next-whole f k len first ends room s.near in
     let within = next.within in
     let front = length-take-le k f.held (omega arith) in
-    let shorter = length-drop k f.held in
-    let back : length (slice_range f.held k (k + len)) ≡ len = length-take-le (k + len - k) (drop k f.held) (omega arith) ∙ omega arith in
+    let back = row-back f k len within in
     (omega arith, omega arith, (skipped f (k + len) 1, gives-next f k len (row_with [] [] (f.number + 1) (f.offset + (k + len))) now s first ends room, refl))
 
 pub run-row : (f : Feed) (k len most longest : ℕ) (all : Bool) → IsSound f → FirstEnd f k len → EndsRow f k len → k ≤ f.max → k ≤ longest → k + len ≤ most → HasRun f most longest (record { bytes = k + len; rows = 1; is_all = all })
 run-row f k len most longest all s first ends room short fits =
     let some = ends.some in
+    let next = next-whole f k len first ends room s.near in
+    let back = row-back f k len next.within in
     record {
       passes = record {
         rows = next_row f k len ∷ [];
         gives = λ now. all-row f k len most longest now s first ends room short fits;
         offset = refl;
       };
+      ended = All-cons HasEnd (next_row f k len) [] (omega (arith, back, some)) (All-nil HasEnd);
       some = omega arith;
       within = fits;
       few = omega arith;
@@ -208,7 +221,7 @@ skipped-twice f k m n rows is =
 
 -- the rows of bytes that end in LF
 all-lf : (fuel : ℕ) (f : Feed) (n most longest : ℕ) → n ≤ fuel → f.kind ≡ Lf → IsSound f → 0 < n → n ≤ length f.held → get_or f.held (n - 1) 0 ≡ 10 → n ≤ f.max → n ≤ longest → n ≤ most
-    → (rows : List Row) × ((now : Told) → GivesAll now most longest f (skipped f n (count_by is_lf (take n f.held))) rows)
+    → (rows : List Row) × ((now : Told) → GivesAll now most longest f (skipped f n (count_by is_lf (take n f.held))) rows) × All HasEnd rows
 all-lf zero f n most longest few kind s some within is room short fits = absurd (omega arith)
 all-lf (suc fuel) f n most longest few kind s some within is room short fits =
     let lf = subst (λ q. FirstLf q f.held n) (sym kind) (first-lf f.held n some within is) in
@@ -221,8 +234,8 @@ all-lf (suc fuel) f n most longest few kind s some within is room short fits =
     let rest = drop (k + 1) f.held in
     let shorter = length-drop (k + 1) f.held in
     let front : length (take k f.held) ≡ k = length-take-le k f.held (omega arith) in
-    let behind = length-drop k f.held in
-    let back : length (slice_range f.held k (k + 1)) ≡ 1 = length-take-le (k + 1 - k) (drop k f.held) (omega arith) ∙ omega arith in
+    let back = row-back f k 1 (omega (arith, before, within)) in
+    let one : HasEnd (next_row f k 1) = omega (arith, back) in
     let count : count_by is_lf (take n f.held) ≡ count_by is_lf (take m rest) + 1 =
     ap (λ q. count_by is_lf (take q f.held)) (sym all)
     ∙ ap (count_by is_lf) (take-add (k + 1) m f.held)
@@ -238,6 +251,7 @@ all-lf (suc fuel) f n most longest few kind s some within is room short fits =
           let fact = subst (λ v. GivesAll now (most - (k + 1)) longest (given f k 1) v then.0) same (then.1 now) in
           let left : most - (k + 1) ≡ most - (length (take k f.held) + length (slice_range f.held k (k + 1))) = omega arith in
           (omega arith, omega arith, (given f k 1, gives-next f k 1 (next_row f k 1) now s first ends (omega arith), subst (λ q. GivesAll now q longest (given f k 1) (skipped f n (count_by is_lf (take n f.held))) then.0) left fact)),
+      All-cons HasEnd (next_row f k 1) then.0 one then.2,
     ))
     (λ none.
     let nothing : m ≡ 0 = omega arith in
@@ -245,6 +259,7 @@ all-lf (suc fuel) f n most longest few kind s some within is room short fits =
     (λ i. skipped f (let e : k + 1 ≡ n = omega arith in e i) (let e : 1 ≡ count_by is_lf (take n f.held) = sym (count ∙ ap (λ q. count_by is_lf (take q rest) + 1) nothing) in e i)) in (
       next_row f k 1 ∷ [],
       λ now. (omega arith, omega arith, (skipped f (k + 1) 1, gives-next f k 1 (row_with [] [] (f.number + 1) (f.offset + (k + 1))) now s first ends (omega arith), sym at)),
+      All-cons HasEnd (next_row f k 1) [] one (All-nil HasEnd),
     ))
     (cases_lt 0 m)
 
@@ -256,6 +271,7 @@ run-lf f n most longest whole kind s some within room short fits is =
     let long = length-take-le n f.held (omega arith) in
     record {
       passes = record { rows = all.0; gives = all.1; offset = refl };
+      ended = all.2;
       some = some;
       within = fits;
       few = omega arith;

@@ -1,5 +1,6 @@
 -- Whole rows of the bytes held that are given all at once.
 use Rattle.std.specs.Prelude.{◌≡◌, ℕ, ◌+◌, ◌-◌, ◌≤◌, ◌<◌, List, [], ◌∷◌, length, drop}
+use Rattle.std.specs.List.{All}
 use Rattle.pcre_io.specs.Told.{Told}
 use Rattle.line_feed.specs.declared.look.Run.{Run}
 use Rattle.line_feed.specs.Rows.{Row, row_with}
@@ -30,9 +31,10 @@ skipped f bytes rows = record f {
   offset = f.offset + bytes;
 }
 
--- the bytes held begin with such rows, which have at most so many bytes in all
+-- the bytes held begin with such rows, which have at most so many bytes in all, and each of them has a newline
 pub record HasRun (f : Feed) (most longest : ℕ) (run : Run) : Type 0 where
   pub passes : Passes f (skipped f run.bytes run.rows) most longest run.bytes
+  pub ended : All (λ (row : Row). 0 < length row.newline) passes.rows
   pub some : 0 < run.bytes
   pub within : run.bytes ≤ most
   pub few : run.rows ≤ run.bytes

@@ -7,11 +7,13 @@ pub enum Held {
     Part,
 }
 
-// Whole rows that the bytes held begin with: how many bytes they have with their newlines, how many they are, and
-// whether no further row can be passed over.
+/// Whole lines that the bytes held begin with.
 #[derive(Debug, Clone, Copy)]
 pub struct Run {
+    /// How many bytes they have with their newlines.
     pub bytes: usize,
+    /// How many they are.
     pub rows: usize,
+    /// Whether no further line can be passed over.
     pub is_all: bool,
 }

@@ -12,7 +12,7 @@ use Rattle.byte_lanes.specs.Sets.{has_byte}
 use Rattle.match_needs.specs.declared.text.ByteText.{ByteText}
 use Rattle.match_needs.specs.declared.needs.BeginText.{BeginText}
 use Rattle.match_needs.specs.declared.needs.Need.{Need}
-use Rattle.match_needs.specs.Bounds.{at, bound}
+use Rattle.match_bounds.specs.Bounds.{at, bound}
 use Rattle.match_needs.specs.Needs.{may_take}
 use Rattle.match_needs.specs.Distances.{NeedsAt}
 use Rattle.match_needs.specs.NeedTables.{IsNeedOf}
@@ -20,9 +20,9 @@ use Rattle.match_needs.specs.Texts.{sets_of, behind_of, Stands}
 use Rattle.ordered_search.specs.Setting.{lower_of}
 use Rattle.search_needs.proofs.Behind.{begin_law}
 use Rattle.frame_board.specs.Ready.{setting_for}
-use Rattle.match_drive.specs.Asked.{passed_over, replied}
+use Rattle.start_tests.specs.Asked.{passed_over, replied}
 use Rattle.match_drive.specs.BeginText.{IsBegun}
-use Rattle.match_drive.proofs.Leads.{class_told}
+use Rattle.start_tests.proofs.Leads.{class_told}
 
 -- A text in the first bytes of others.
 

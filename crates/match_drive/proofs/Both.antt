@@ -9,7 +9,8 @@ use Rattle.match_items.specs.declared.view.View.{View}
 use Rattle.frame_board.specs.declared.ready.Ready.{Ready}
 use Rattle.frame_board.specs.Ready.{IsReadySearch, setting_for}
 use Rattle.ordered_search.specs.Setting.{Setting}
-use Rattle.match_drive.specs.Starts.{AreAlike, AreBytes}
+use Rattle.start_tests.specs.Bytes.{AreBytes}
+use Rattle.match_drive.specs.Starts.{AreAlike}
 use Rattle.search_starts.proofs.Regular.{regular_whole}
 use Rattle.search_starts.proofs.StartLaw.{start_law}
 use Rattle.search_starts.specs.StartLaw.{IsRegular}

@@ -6,7 +6,8 @@ use Rattle.byte_lanes.specs.Sets.{has_byte}
 use Rattle.pat_check.specs.Known.{IsByteSet}
 use Rattle.ordered_search.specs.Setting.{Setting, lead_set}
 use Rattle.ordered_search.specs.Places.{is_off, is_outside, is_excluded}
-use Rattle.match_drive.specs.Rest.{IsLeadUsed, IsByteOutside}
+use Rattle.start_tests.specs.Bytes.{IsByteOutside}
+use Rattle.match_drive.specs.Rest.{IsLeadUsed}
 
 module _ (g : Setting) where
   pub excluded_never : (p : ℕ) → g.options.no_start_optimize ≡ true → is_excluded g p ≡ false

@@ -9,16 +9,16 @@ use Rattle.match_items.specs.Subjects.{IsText, IsTextPlace}
 use Rattle.pcre_io.specs.declared.callouts.Block.{Block}
 use Rattle.byte_lanes.specs.Places.{IsLeast}
 use Rattle.match_needs.specs.declared.text.ByteText.{ByteText}
-use Rattle.match_needs.specs.Bounds.{at, bound}
+use Rattle.match_bounds.specs.Bounds.{at, bound}
 use Rattle.match_needs.specs.Needs.{may_take, Needs}
 use Rattle.match_needs.specs.Texts.{sets_of, Stands}
-use Rattle.match_needs.specs.NeedTables.{IsNeedOf}
+use Rattle.match_needs.specs.NeedTables.{may_of, IsNeedOf}
 use Rattle.match_needs.specs.declared.needs.Need.{Need}
 use Rattle.ordered_search.specs.Setting.{lower_of}
 use Rattle.ordered_search.specs.MatchAnswer.{none_found, match_answer}
 use Rattle.search_needs.proofs.Needed.{need_law}
 use Rattle.frame_board.specs.Ready.{setting_for}
-use Rattle.match_drive.proofs.Leads.{class_told}
+use Rattle.start_tests.proofs.Leads.{class_told}
 
 -- a search that finds no place
 pub stands_nowhere : (text : ByteText) (bytes : List ℕ) (n : ℕ) → IsLeast (Stands (sets_of text) bytes) 0 (length bytes) n → n ≡ length bytes → (k : ℕ) → ¬ Stands (sets_of text) bytes k
@@ -26,15 +26,15 @@ stands_nowhere text bytes n least e k h =
     let within = h.0 in
     least.before k (omega arith) (omega (arith, within, e)) h
 
-pub none_without : (tree : TreeParts) (view : View) (need : Need) (answers : Block → ℤ) → IsNeedOf tree need →
+pub none_without : (tree : TreeParts) (view : View) (need : Need) (text : ByteText) (answers : Block → ℤ) → IsNeedOf tree need → Needs (may_of tree) tree.options.utf true (sets_of text) (tree_of tree) →
     view.options.now ≡ tree.options → IsText view.options.now view.subject.now → IsTextPlace view.options.now view.subject.now view.start → view.matching.now.«partial» ≡ Off →
     at need.bound.steps (length view.subject.now + 1) ≤ lower_of view.options.now.match_limit view.matching.now.match_limit →
     at need.bound.units (length view.subject.now + 1) ≤ view.matching.now.frame_limit →
-    ((k : ℕ) → k < length view.subject.now → slice_index view.subject.now k < 256) → ((k : ℕ) → ¬ Stands (sets_of need.text) view.subject.now k) →
+    ((k : ℕ) → k < length view.subject.now → slice_index view.subject.now k < 256) → ((k : ℕ) → ¬ Stands (sets_of text) view.subject.now k) →
     match_answer (setting_for tree view answers) ≡ none_found
-none_without tree view need answers is shown text begun off steps units small missing =
-    need_law (setting_for tree view answers) (sets_of need.text) need.bound (record {
-      needs = subst (λ (has : ℕ → ℕ → Bool). Needs (may_take tree.options.utf has) tree.options.utf true (sets_of need.text) (tree_of tree)) (class_told tree) is.text;
+none_without tree view need wanted answers is needs shown text begun off steps units small missing =
+    need_law (setting_for tree view answers) (sets_of wanted) need.bound (record {
+      needs = subst (λ (has : ℕ → ℕ → Bool). Needs (may_take tree.options.utf has) tree.options.utf true (sets_of wanted) (tree_of tree)) (class_told tree) needs;
       small = small;
       missing = missing;
       bounded = subst (λ (has : ℕ → ℕ → Bool). bound has (tree_of tree) ≡ Some need.bound) (class_told tree) is.bound;

@@ -35,7 +35,7 @@ use Rattle.frame_board.specs.Ready.{setting_for}
 use Rattle.ordered_search.proofs.LaterRuns.{end_within}
 use Rattle.ordered_search.proofs.FollowLaw.{later_places}
 use Rattle.match_drive.specs.Run.{IsFirstRun}
-use Rattle.match_drive.proofs.PastPrefix.{scene_same}
+use Rattle.start_tests.proofs.PastPrefix.{scene_same}
 use Rattle.pat_tree.specs.declared.nodes.Item.{Item}
 use Rattle.pat_tree.specs.declared.nodes.Cond.{Cond}
 use Rattle.pat_tree.specs.declared.nodes.Cond.TheVariants.{AnySet, InCall, InCallOf, Never, Assert}
@@ -62,7 +62,7 @@ use Rattle.ordered_search.specs.PlaceAnswer as place
 use Rattle.ordered_search.specs.PlaceAnswer.{Exhausted, answers, place_answer}
 use Rattle.ordered_search.specs.Places.{last_place, is_excluded, up_to, place_after}
 use Rattle.ordered_search.specs.MatchAnswer.{tried}
-use Rattle.match_drive.specs.Asked.{passed_over, replied}
+use Rattle.start_tests.specs.Asked.{passed_over, replied}
 use Rattle.match_drive.specs.Run.{is_plain, is_plain_test}
 use Rattle.match_drive.specs.Rest.{found_from, behind, FailsTo, FailsToAlways}
 use Rattle.match_drive.proofs.Steps.{found_failed, passed}

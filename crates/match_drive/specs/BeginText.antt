@@ -6,7 +6,7 @@ use Rattle.match_needs.specs.Texts.{sets_of, Stands}
 use Rattle.ordered_search.specs.Stream.{Block}
 use Rattle.ordered_search.specs.Setting.{Setting}
 use Rattle.ordered_search.specs.PlaceAnswer.{Exhausted, Failed, answers, place_answer}
-use Rattle.match_drive.specs.Asked.{replied}
+use Rattle.start_tests.specs.Asked.{replied}
 
 -- the text stands at its distance behind the place
 abbrev pub StandsBehind : BeginText → List ℕ → ℕ → Type 0

@@ -6,12 +6,12 @@ use Rattle.match_items.specs.declared.view.View.{View}
 use Rattle.frame_board.specs.declared.ready.Ready.{Ready}
 use Rattle.frame_board.specs.Ready.{IsReadySearch, setting_for}
 use Rattle.match_needs.specs.declared.needs.BeginText.{BeginText}
-use Rattle.match_drive.specs.Asked.{passed_over}
+use Rattle.start_tests.specs.Asked.{passed_over}
 use Rattle.match_drive.specs.Begin.{StandsAtBegin}
 use Rattle.match_drive.specs.BeginText.{IsBegun}
-use Rattle.match_drive.specs.Prefix.{AreBranches, IsFree}
-use Rattle.match_drive.specs.declared.repeats.FirstRepeat.{FirstRepeat}
-use Rattle.match_drive.specs.Repeats.{IsFirstRepeat}
+use Rattle.start_tests.specs.Prefix.{AreBranches, IsFree}
+use Rattle.start_tests.specs.declared.repeats.FirstRepeat.{FirstRepeat}
+use Rattle.start_tests.specs.Repeats.{IsFirstRepeat}
 use Rattle.match_drive.specs.Run.{IsFirstRun}
 
 -- The search at one place runs. Where it is told so, the pattern stands at the subject's begin alone. The branches that are

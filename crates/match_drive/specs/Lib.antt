@@ -1,10 +1,7 @@
-pub mod Asked
 pub mod Rest
 pub mod Answer
 pub mod Begin
 pub mod BeginText
-pub mod Prefix
-pub mod Repeats
 pub mod Run
 pub mod Course
 pub mod Starts

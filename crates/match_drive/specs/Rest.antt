@@ -17,13 +17,9 @@ use Rattle.ordered_search.specs.PlaceAnswer.{
   last_name,
   blocks,
 }
-use Rattle.match_drive.specs.Asked.{replied}
+use Rattle.start_tests.specs.Asked.{replied}
 use Rattle.ordered_search.specs.Places.{up_to, passes_crlf, last_place, place_after, is_excluded}
 use Rattle.ordered_search.specs.MatchAnswer.{MatchAnswer, Found, none_found, tried, undecided, from_place}
-
--- a byte that is not in the set
-abbrev pub IsByteOutside : List Bool → ℕ → Type 0
-IsByteOutside set b = (b < 256) × (has_byte set b ≡ false)
 
 module _ (g : Setting) where
   -- the search goes by this set of bytes, or excludes no place

@@ -10,7 +10,7 @@ use Rattle.pat_tree.specs.Rules.{class_in}
 use Rattle.match_items.specs.declared.view.View.{View}
 use Rattle.frame_board.specs.Ready.{setting_for}
 use Rattle.ordered_search.specs.LaterPlaces.{BeginsWithRun}
-use Rattle.match_drive.specs.Asked.{passed_over}
+use Rattle.start_tests.specs.Asked.{passed_over}
 
 -- a condition whose test goes by the place alone
 abbrev pub is_plain_test : Cond → Bool

@@ -1,6 +1,6 @@
 -- What a search says of start optimisations (pcre2api, "Option bits for pcre2_compile()",
 -- PCRE2_NO_START_OPTIMIZE).
-use Rattle.std.specs.Prelude.{◌≡◌, ℕ, true, false, ◌<◌, List, length, slice_index}
+use Rattle.std.specs.Prelude.{◌≡◌, true, false}
 use Rattle.pat_tree.specs.declared.options.PartialMode.TheVariants.{Off}
 use Rattle.ordered_search.specs.Setting.{Setting}
 use Rattle.ordered_search.specs.MatchAnswer.{match_answer}
@@ -13,7 +13,3 @@ AreAlike g =
     g.matching.«partial» ≡ Off → IsUnverbed g.whole
     → ¬ IsLimit (match_answer (with_no_start_optimize true g)).answer
     → match_answer (with_no_start_optimize false g) ≡ match_answer (with_no_start_optimize true g)
-
--- each is a byte
-abbrev pub AreBytes : List ℕ → Type 0
-AreBytes bytes = (k : ℕ) → k < length bytes → slice_index bytes k < 256

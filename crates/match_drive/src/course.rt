@@ -5,28 +5,20 @@ ghost use Rattle.pat_tree.specs.declared.options.PartialMode.TheVariants.{Off};
 ghost use Rattle.pcre_io.specs.declared.callouts.Block.{Block};
 ghost use Rattle.match_items.specs.Subjects.{IsTextPlace};
 ghost use Rattle.frame_board.specs.Ready.{setting_for};
-ghost use Rattle.match_drive.specs.Asked.{passed_over};
+ghost use Rattle.start_tests.specs.Asked.{passed_over};
 ghost use Rattle.match_drive.specs.Course.{IsByteCourse};
-ghost use Rattle.match_drive.specs.Prefix.{IsTold};
-ghost use Rattle.match_drive.specs.Repeats.{FailsUpTo};
+ghost use Rattle.start_tests.specs.Prefix.{IsTold};
+ghost use Rattle.start_tests.specs.Repeats.{FailsUpTo};
 ghost use Rattle.match_drive.specs.Rest.{FailsToAlways};
 
 use crate::driven::Driven;
-use crate::prefix::{Tested, is_admitted, test_branches};
-use crate::repeats::{FirstRepeat, refused_to};
 use byte_lanes::ByteSet;
 use frame_machine::{PlaceAnswer, Ready, Scratch, Signal, run_at};
 use match_items::{View, item_run};
 use match_needs::BeginText;
 use pat_tree::{Item, MatchOptions, NodeId, Options, PartialMode};
 use pcre_io::Callouts;
-
-/// Whether partial matches are not looked for.
-pub(crate) fn is_off(view: &View<'_>) -> bool
-    ensures { IsTrue result → view.now.matching.now.partial ≡ Off }
-{
-    matches!(view.matching.partial, PartialMode::Off)
-}
+use start_tests::{FirstRepeat, Tested, fails_on, is_admitted, refused_to, test_branches};
 
 /// A finished tree, made ready, and a subject.
 #[derive(Clone, Copy)]
@@ -56,6 +48,20 @@ impl Course<'_> {
     {
         match &self.repeat {
             Some(first) => refused_to(self.ready, self.view, first, place),
+            None => None,
+        }
+    }
+
+    /// The last place that is known to fail with this one and all places between them, by what the pattern begins with.
+    fn fails_on(&self, place: usize) -> Option<usize>
+        requires fits { IsByteCourse self.now.ready.now self.now.view.now self.now.at_begin
+            self.now.first.now (option_copied self.now.begin) self.now.repeat self.now.run }
+        requires place { IsTextPlace self.now.ready.now.tree.now.options
+            self.now.view.now.subject.now place }
+        ensures { IfSome result (FailsUpTo self.now.ready.now.tree.now self.now.view.now place) }
+    {
+        match &self.repeat {
+            Some(first) => fails_on(self.ready, self.view, first, place),
             None => None,
         }
     }
@@ -160,7 +166,7 @@ impl Driven for Course<'_> {
     }
 
     fn fails_to(&self, place: usize) -> usize {
-        match self.refused_to(place) {
+        match self.fails_on(place) {
             Some(to) => to,
             None => self.run_to(place),
         }

@@ -5,11 +5,12 @@ ghost use Rattle.pat_tree.specs.declared.options.PartialMode.TheVariants.{Off};
 ghost use Rattle.pcre_io.specs.declared.callouts.Block.{Block};
 ghost use Rattle.frame_state.specs.Room.{IsQuiet};
 ghost use Rattle.frame_machine.specs.Scratch.{HasRoom, IsOfSearch};
-ghost use Rattle.match_drive.specs.Asked.{passed_over};
+ghost use Rattle.start_tests.specs.Asked.{passed_over};
 ghost use Rattle.match_drive.specs.Answer.{IsMatchAnswer, IsLastMark, IsNotPartial, IsDeciding, IsOfMatching, IsShown, TellsMemory, TellsPlace, TellsNone};
 ghost use Rattle.ordered_search.specs.MatchAnswer.{match_answer};
 ghost use Rattle.match_drive.specs.Rest as rest;
-ghost use Rattle.match_drive.specs.Starts.{AreAlike, AreBytes};
+ghost use Rattle.start_tests.specs.Bytes.{AreBytes};
+ghost use Rattle.match_drive.specs.Starts.{AreAlike};
 
 use crate::answer::MatchAnswer;
 use crate::begin::stands_at_begin;
@@ -17,17 +18,11 @@ use crate::course::Course;
 use crate::driven::Driven;
 use crate::need::{begin_of, lacks_need, no_match};
 use crate::places::{last_place, next_tried, place_past};
-use crate::prefix::branches_tested;
-use crate::repeats::first_repeat;
 use crate::run::leading_run;
 use frame_machine::{PlaceAnswer, Ready, Scratch};
 use match_items::View;
 use pcre_io::{Callouts, NoCallouts};
-
-/// A law: what stands in a slice of bytes is below 256.
-pub(crate) fn are_bytes(bytes: &[u8])
-    ensures { AreBytes bytes.now }
-{}
+use start_tests::{are_bytes, branches_tested, first_repeat};
 
 /// The first place that reached the subject's end, after one more place.
 fn first_hit(first: Option<usize>, hit_end: bool, at: usize) -> Option<usize>
@@ -153,7 +148,8 @@ pub fn search<C: Callouts>(
     ensures rule { (block : Block) → C.answers calls.new block ≡ C.answers calls.old block }
     ensures seen { IsShown result (C.seen calls.old) (C.seen calls.new)
         (match_answer (setting_for ready.now.tree.now view.now (C.answers calls.old))) }
-    ensures reserved { HasRoom scratch.old (setting_for ready.now.tree.now view.now passed_over).groups
+    ensures reserved { HasRoom scratch.old
+        (setting_for ready.now.tree.now view.now passed_over).groups
         view.now.matching.now.frame_limit
         → IsQuiet C.refuses (C.answers calls.old) → IsOfMatching result }
 {

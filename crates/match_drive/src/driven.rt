@@ -9,7 +9,7 @@ ghost use Rattle.frame_machine.specs.Scratch.{HasRoom, IsOfSearch};
 ghost use Rattle.frame_state.specs.Answer.{IsAnswer, IsMark, IsSeen, SkipsToPlace};
 ghost use Rattle.ordered_search.specs.PlaceAnswer.{place_answer};
 ghost use Rattle.ordered_search.specs.Setting.{Setting, lead_set, names_cr_or_lf};
-ghost use Rattle.match_drive.specs.Asked.{passed_over, replied};
+ghost use Rattle.start_tests.specs.Asked.{passed_over, replied};
 ghost use Rattle.match_drive.specs.Begin.{StandsAtBegin};
 ghost use Rattle.match_drive.specs.BeginText.{IsBegun};
 ghost use Rattle.match_drive.specs.Rest.{FailsToAlways};

@@ -9,8 +9,6 @@ mod drive;
 mod driven;
 mod need;
 mod places;
-mod prefix;
-mod repeats;
 mod run;
 mod starts;
 

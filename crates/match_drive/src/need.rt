@@ -1,32 +1,24 @@
 //! Subjects and places without a text that every match needs.
-ghost use Rattle.std.specs.Prelude.{◌≡◌, ◌+◌, ◌<◌, ◌≤◌, ℕ, ℤ, None, IfSome, IsTrue, length, slice_index};
+ghost use Rattle.std.specs.Prelude.{◌≡◌, ◌+◌, ◌<◌, ◌≤◌, ℕ, ℤ, true, None, IfSome, IsTrue, length, slice_index};
 ghost use Rattle.std.specs.Option.{option_copied};
 ghost use Rattle.match_items.specs.Subjects.{IsText};
 ghost use Rattle.pcre_io.specs.declared.callouts.Block.{Block};
-ghost use Rattle.match_needs.specs.Bounds.{at};
+ghost use Rattle.match_bounds.specs.Bounds.{at};
 ghost use Rattle.frame_board.specs.Ready.{IsReadySearch, setting_for};
 ghost use Rattle.ordered_search.specs.Setting.{lower_of};
 ghost use Rattle.ordered_search.specs.MatchAnswer.{none_found, match_answer};
 ghost use Rattle.match_needs.specs.Texts.{sets_of, Stands};
-ghost use Rattle.match_drive.specs.Asked.{passed_over};
+ghost use Rattle.match_needs.specs.Needs.{Needs};
+ghost use Rattle.match_needs.specs.NeedTables.{may_of, IsNeedOf};
+ghost use Rattle.pat_tree.specs.Parts.{TreeParts, tree_of};
+ghost use Rattle.start_tests.specs.Asked.{passed_over};
 ghost use Rattle.match_drive.specs.BeginText.{IsBegun};
 
 use crate::answer::MatchAnswer;
-use crate::course::is_off;
-use crate::drive::are_bytes;
 use frame_machine::{Ready, Scratch};
 use match_items::View;
 use match_needs::{BeginText, ByteText, Need};
-
-/// The greatest number of Steps at a place: the pattern may lower that of the match.
-pub(crate) fn match_limit(view: &View<'_>) -> u32
-    ensures { result ≡ lower_of view.now.options.now.match_limit view.now.matching.now.match_limit }
-{
-    match view.options.match_limit {
-        Some(limit) => limit.min(view.matching.match_limit),
-        None => view.matching.match_limit,
-    }
-}
+use start_tests::{are_bytes, is_off, match_limit};
 
 /// Whether a search of the subject passes no limit, whatever it finds.
 fn is_within(need: &Need, view: &View<'_>) -> bool
@@ -51,9 +43,24 @@ fn lacks(bytes: &[u8], text: &ByteText) -> bool
     text.find(bytes) == bytes.len()
 }
 
-/// True only where the subject has no match, partial or not, and a search of it passes no limit: a text that every match takes stands
-/// nowhere in it. A search that begins later isn't looked at, so that many searches of a long subject don't each
-/// look over what stands before, nor is one whose start places go by that same text.
+/// The text to look for ahead of a search. Where start places are found by the needed one it is a text further on, if any,
+/// and only where what stands between the two is given back place by place: else a search without it ends soon.
+fn text_ahead(need: &Need) -> Option<&ByteText>
+    ensures { (tree : TreeParts) → IsNeedOf tree need.now → IfSome (option_copied result)
+        (λ text. Needs (may_of tree) tree.options.utf true (sets_of text) (tree_of tree)) }
+{
+    if !need.is_begin {
+        Some(&need.text)
+    } else if need.bound.states.degree > 0 {
+        need.other.as_ref()
+    } else {
+        None
+    }
+}
+
+/// True only where the subject has no match, partial or not, and a search of it passes no limit: a text that every match
+/// takes stands nowhere in it. A search that begins later isn't looked at, so that many searches of a long subject don't
+/// each look over what stands before.
 pub(crate) fn lacks_need(ready: &Ready<'_>, view: &View<'_>) -> bool
     requires { IsReadySearch ready.now view.now }
     ensures { IsTrue result → (answers : Block → ℤ)
@@ -65,10 +72,13 @@ pub(crate) fn lacks_need(ready: &Ready<'_>, view: &View<'_>) -> bool
     let Some(need) = &ready.facts.need else {
         return false;
     };
-    if view.start > 0 || need.is_begin || !is_within(need, view) {
+    if view.start > 0 || !is_within(need, view) {
         return false;
     }
-    lacks(view.subject, &need.text)
+    match text_ahead(need) {
+        Some(text) => lacks(view.subject, text),
+        None => false,
+    }
 }
 
 /// A text at a distance from where every match begins, where a search at a place without it passes no limit. None where

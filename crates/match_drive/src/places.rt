@@ -8,11 +8,12 @@ ghost use Rattle.uni_text.specs.Characters as text;
 ghost use Rattle.match_items.specs.Subjects.{IsPlace, IsTextPlace};
 ghost use Rattle.match_needs.specs.Texts.{sets_of, Stands};
 ghost use Rattle.frame_state.specs.Answer.{signal_of, IsSkip};
-ghost use Rattle.match_drive.specs.Asked.{passed_over};
+ghost use Rattle.start_tests.specs.Asked.{passed_over};
 ghost use Rattle.match_drive.specs.BeginText.{StandsBehind};
 ghost use Rattle.ordered_search.specs.Places as places;
 ghost use Rattle.ordered_search.specs.Places.{up_to};
-ghost use Rattle.match_drive.specs.Rest.{IsLeadUsed, IsByteOutside, IsPassedAlways, IsNextTriedAlways, behind};
+ghost use Rattle.start_tests.specs.Bytes.{IsByteOutside};
+ghost use Rattle.match_drive.specs.Rest.{IsLeadUsed, IsPassedAlways, IsNextTriedAlways, behind};
 ghost use Rattle.match_drive.specs.Rest.{FailBeforeAlways, IsNextAlways};
 
 use crate::driven::Driven;
@@ -20,6 +21,7 @@ use byte_lanes::{ByteSet, EndKind, find_in_set, find_line_end, newline_at};
 use frame_machine::Signal;
 use match_needs::{BeginText, ByteText};
 use pat_tree::PartialMode;
+use start_tests::first_in;
 use uni_text::char_at;
 
 /// Whether a CRLF is passed whole at a place: where it is a newline, and the pattern names no half of it.
@@ -150,23 +152,6 @@ fn behind<S: Driven>(on: &S, from: usize, to: usize) -> usize
     } else {
         to
     }
-}
-
-/// The first place from one on, and before another, whose byte is in the set, or else the other.
-fn first_in(bytes: &[u8], from: usize, to: usize, set: &ByteSet) -> usize
-    requires ordered { from ≤ to }
-    requires within { to ≤ length bytes.now }
-    ensures low { from ≤ result }
-    ensures high { result ≤ to }
-    ensures before { (k : ℕ) → from ≤ k → k < result
-        → IsByteOutside set.now (slice_index bytes.now k) }
-    ensures found { result < to → has_byte set.now (slice_index bytes.now result) ≡ true }
-{
-    // In a text with many of its bytes the first one is most often it.
-    if from < to && set.has(bytes[from]) {
-        return from;
-    }
-    find_in_set(&bytes[..to], from, set)
 }
 
 /// The end of the bytes at which a match may begin.

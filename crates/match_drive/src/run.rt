@@ -9,9 +9,9 @@ ghost use Rattle.ordered_search.specs.Plain.{IsPlain};
 ghost use Rattle.match_drive.specs.Run as run;
 ghost use Rattle.match_drive.specs.Run.{IsFirstRun};
 
-use crate::course::is_off;
 use match_items::View;
 use pat_tree::{Cond, Item, Node, NodeId, Tree};
+use start_tests::is_off;
 
 /// Whether what a node takes goes by the place alone, and not by captures and calls; and no verb
 /// and no callout stands there.

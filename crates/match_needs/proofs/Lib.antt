@@ -1,5 +1,3 @@
 mod LetterLemmas
-pub mod Backwards
-pub mod BoundLemmas
 pub mod NeedLemmas
 pub mod TextLemmas

@@ -13,13 +13,14 @@ use Rattle.match_needs.specs.Texts.{sets_of, AreUnions}
 use Rattle.match_needs.specs.declared.needs.Taken.{Taken}
 use Rattle.match_needs.specs.Distances.{IsLong, NeedsAt}
 use Rattle.match_needs.specs.declared.needs.BeginText.{BeginText}
+use Rattle.match_needs.specs.declared.text.ByteText.{ByteText}
 use Rattle.match_needs.specs.declared.needs.Distant.{Distant}
 use Rattle.match_needs.specs.NeedTables.{may_of, IsItemNeed, IsNeed, IsRun, IsSomeNeed, AreAllNeeds, AreNeeds, IsDistant, IsNeedOf}
-use Rattle.match_needs.specs.Bounds.{bound}
-use Rattle.match_needs.specs.declared.bounds.Bound.{Bound}
+use Rattle.match_bounds.specs.Bounds.{bound}
+use Rattle.match_bounds.specs.declared.bounds.Bound.{Bound}
 use Rattle.match_needs.specs.declared.needs.Need.{Need}
 use Rattle.match_needs.specs.declared.needs.Wanted.{Wanted}
-use Rattle.match_needs.proofs.Backwards.{back}
+use Rattle.match_bounds.proofs.Backwards.{back}
 use Rattle.match_needs.proofs.TextLemmas.{Wider, begins_more, wider_left, wider_right, clash}
 
 -- A text that holds more is needed too.
@@ -169,14 +170,33 @@ needs_look_at may utf anywhere atomic ts (Some w) h = record { needs = h.1; item
 pub need_whole : (t : TreeParts) (b : Bound) (wanted : Option Wanted) (r : Option Need) → bound (class_has t) (tree_of t) ≡ Some b → IsNeed (may_of t) t.options.utf true (tree_of t) wanted →
     (IsNeed (may_of t) t.options.utf true (tree_of t) wanted → IfSome r (λ need. Needs (may_of t) t.options.utf true (sets_of need.text) (tree_of t))) →
     IfSome r (λ need. IfSome need.begin (λ begin. NeedsAt (may_of t) t.options.utf (sets_of begin.text) begin.distance (tree_of t))) →
+    IfSome r (λ need. IfSome need.other (λ other. Needs (may_of t) t.options.utf true (sets_of other) (tree_of t))) →
     IfSome r (λ need. need.bound ≡ b) → IfSome r (IsNeedOf t)
-need_whole t b wanted None e h k m l = tt
-need_whole t b wanted (Some need) e h k m l = record { text = k h; begin = m; bound = e ∙ ap Some (sym l) }
+need_whole t b wanted None e h k m o l = tt
+need_whole t b wanted (Some need) e h k m o l = record { text = k h; begin = m; other = o; bound = e ∙ ap Some (sym l) }
 
 -- what is told of a text that is kept
 pub begin_kept : (P : BeginText → Type 0) (r : Option Need) (told : Option BeginText) → IfSome r (λ need. need.begin ≡ told) → IfSome told P → IfSome r (λ need. IfSome need.begin P)
 begin_kept P None told e h = tt
 begin_kept P (Some need) told e h = subst (λ o. IfSome o P) (sym e) h
+
+pub other_kept : (P : ByteText → Type 0) (r : Option Need) (told : Option ByteText) → IfSome r (λ need. (need.other ≡ told) ⊎ (need.other ≡ None)) → IfSome told P → IfSome r (λ need. IfSome need.other P)
+other_kept P None told e h = tt
+other_kept P (Some need) told (inl e) h = subst (λ o. IfSome o P) (sym e) h
+other_kept P (Some need) told (inr e) h = subst (λ o. IfSome o P) (sym e) tt
+
+-- what holds of all holds of the later ones
+pub all_behind : (P : ℕ → Type 0) (xs : List ℕ) (i : ℕ) → All P xs → All P (drop i xs)
+all_behind P xs zero h = h
+all_behind P [] (suc i) h = h
+all_behind P (x ∷ xs) (suc i) h = all_behind P xs i (λ k d l. h (suc k) d (omega (arith, l)))
+
+-- what one of the later parts needs the whole row does
+pub some_behind : (may : Item → ℕ → Bool) (utf : Bool) (sets : List (List Bool)) (of : ℕ → Nested) (xs : List ℕ) (i : ℕ) → i ≤ length xs →
+    SomeNeeds may utf true sets (row (map of (drop i xs))) → SomeNeeds may utf true sets (row (map of xs))
+some_behind may utf sets of xs zero l h = h
+some_behind may utf sets of [] (suc i) l h = h
+some_behind may utf sets of (x ∷ xs) (suc i) l h = inr (inr (refl, some_behind may utf sets of xs i (omega (arith, l)) h))
 
 pub needs_look : (may : Item → ℕ → Bool) (utf anywhere : Bool) (ahead positive atomic : Bool) (ts : Row) (inside result : Option Wanted) → AreAllNeeds may utf anywhere ts inside →
     result ≡ (if ahead && positive then inside else None) → IsNeed may utf anywhere (tree.look ahead positive atomic ts) result

@@ -1,5 +1,3 @@
-pub mod Bounds
-pub mod BoundTables
 pub mod Distances
 pub mod Needs
 pub mod NeedTables

@@ -4,7 +4,7 @@ use Rattle.pat_tree.specs.declared.nodes.Item.{Item}
 use Rattle.pat_tree.specs.Nested.{Nested, Row, one, tree_at}
 use Rattle.pat_tree.specs.Parts.{TreeParts, tree_of}
 use Rattle.char_sets.specs.Sets.{class_has}
-use Rattle.match_needs.specs.Bounds.{bound}
+use Rattle.match_bounds.specs.Bounds.{bound}
 use Rattle.match_needs.specs.Needs.{may_take, TakesOf, IsTaking, IsShort, Begins, Needs, SomeNeeds, AllNeed}
 use Rattle.match_needs.specs.Distances.{NeedsFrom, NeedsAt}
 use Rattle.match_needs.specs.Texts.{sets_of}
@@ -60,10 +60,11 @@ abbrev pub IsDistant : (Item → ℕ → Bool) → Bool → Row → Option Dista
 IsDistant may utf ts None = Unit {0}
 IsDistant may utf ts (Some far) = NeedsFrom may utf (sets_of far.wanted.text) far.distance ts
 
--- every match of a finished tree takes the text, and one at a distance from where it begins, where
--- that is told; and the tree has this bound
+-- every match of a finished tree takes the text, one at a distance from where it begins and another one, where they are
+-- told; and the tree has this bound
 pub record IsNeedOf (tree : TreeParts) (need : Need) : Type 0 where
   pub text : Needs (may_of tree) tree.options.utf true (sets_of need.text) (tree_of tree)
   pub begin : IfSome need.begin (λ begin.
       NeedsAt (may_of tree) tree.options.utf (sets_of begin.text) begin.distance (tree_of tree))
+  pub other : IfSome need.other (λ other. Needs (may_of tree) tree.options.utf true (sets_of other) (tree_of tree))
   pub bound : bound (class_has tree) (tree_of tree) ≡ Some need.bound

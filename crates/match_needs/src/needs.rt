@@ -3,7 +3,7 @@ ghost use Rattle.std.specs.Prelude.{◌≡◌, ◌⊎◌, ℕ, ◌+◌, ◌<◌,
 ghost use Rattle.byte_lanes.specs.Sets.{has_byte};
 ghost use Rattle.char_sets.specs.Sets.{class_has};
 ghost use Rattle.pat_tree.specs.declared.nodes.Item.{Item};
-ghost use Rattle.pat_tree.specs.Nested.{Nested, Row, one, more, trees, tree_at, nest, row};
+ghost use Rattle.pat_tree.specs.Nested.{Nested, Row, one, seq, group, none, more, trees, tree_at, nest, row};
 ghost use Rattle.pat_tree.specs.Parts.{TreeParts, tree_of};
 ghost use Rattle.pat_tree.specs.Rules.{kids_of, classes_of, class_in};
 ghost use Rattle.char_sets.specs.Table.{IsTableOf};
@@ -14,10 +14,14 @@ ghost use Rattle.match_needs.specs.NeedTables.{may_of, IsNeed, IsItemNeed, IsRun
 ghost use Rattle.match_needs.specs.Distances.{IsLong, NeedsAt};
 ghost use Rattle.match_needs.specs.declared.needs.Distant.{Distant};
 
-use crate::bounds::{Bound, bound_of_whole};
 use crate::text::ByteText;
+use crate::weights::{
+    ANY, COMMON, both_weights, commonness, least_weights, rarest_place, rate, repeated_weight,
+    weight_of,
+};
 use byte_lanes::ByteSet;
 use char_sets::{ClassTable, add_range, both_cases};
+use match_bounds::{Bound, bound_of_whole};
 use pat_tree::{Item, Memory, Node, NodeId, Tree};
 use std::alloc::Global;
 
@@ -30,6 +34,8 @@ pub struct Need {
     pub begin: Option<BeginText>,
     /// Whether the two are the same text, so that who goes by the second needn't look for the first.
     pub is_begin: bool,
+    /// Another text that every match takes, further on, where one is known.
+    pub other: Option<ByteText>,
     pub bound: Bound,
 }
 
@@ -68,12 +74,6 @@ pub(crate) struct Distant {
     pub distance: u16,
 }
 
-// A weight tells how many of so many bytes of a usual text are in a set: the weight of a place where any byte may stand.
-const ANY: u32 = 400;
-
-// A set that is more common than this is of no use, since most lines have one of its bytes.
-const COMMON: u32 = 100;
-
 // The greatest distance of a text from where a match begins.
 const FARTHEST: u16 = 255;
 
@@ -93,14 +93,43 @@ pub fn need_of(alloc: Global, tree: &Tree, classes: &ClassTable) -> Result<Optio
     }
     let begins = needs_of(alloc, tree, classes, false)?;
     let begin = begin_of(tree, &begins);
-    Ok(with_bound(&needs[root], begin, bound))
+    let other = further_on(tree, &needs);
+    Ok(with_bound(&needs[root], begin, other, bound))
+}
+
+/// The rarest text that every match takes behind the first part that is more than one item, of a pattern that is one
+/// sequence.
+fn further_on(tree: &Tree, needs: &[Option<Wanted>]) -> Option<ByteText>
+    requires { length needs.now ≡ tree.now.root + 1 }
+    ensures { KeepNeeds (may_of tree.now) tree.now.options.utf true (trees tree.now.nodes) needs.now
+        → IfSome result (λ other. Needs (may_of tree.now) tree.now.options.utf true
+        (sets_of other) (tree_of tree.now)) }
+{
+    let parts = only_parts(tree)?;
+    let mut from = 0;
+    'items: while from < parts.len() && is_single(&needs[parts[from] as usize]) {
+        from += 1;
+    }
+    if from == parts.len() {
+        return None;
+    }
+    let other = rarest(&parts[from + 1..], needs, true)?;
+    Some(sought(&other))
+}
+
+fn is_single(need: &Option<Wanted>) -> bool {
+    match need {
+        Some(wanted) => wanted.is_item,
+        None => false,
+    }
 }
 
 /// The text that every match takes at a distance from where it begins, where it may tell more than the bytes that are
 /// known as the first ones: another byte than the first, or in UTF that it doesn't begin with any byte past ASCII.
 fn begin_of(tree: &Tree, begins: &[Option<Wanted>]) -> Option<BeginText>
     requires { length begins.now ≡ tree.now.root + 1 }
-    ensures { KeepNeeds (may_of tree.now) tree.now.options.utf false (trees tree.now.nodes) begins.now
+    ensures { KeepNeeds (may_of tree.now) tree.now.options.utf false
+        (trees tree.now.nodes) begins.now
         → IfSome result (λ begin. NeedsAt (may_of tree.now) tree.now.options.utf
         (sets_of begin.text) begin.distance (tree_of tree.now)) }
 {
@@ -134,10 +163,17 @@ fn sought(wanted: &Wanted) -> ByteText
     wanted.text.copied().looked_for(anchor)
 }
 
-fn with_bound(need: &Option<Wanted>, begin: Option<BeginText>, bound: Bound) -> Option<Need>
-    ensures text { (may : Item → ℕ → Bool) (utf : Bool) → (t : Nested) → IsNeed may utf true t need.now
+fn with_bound(
+    need: &Option<Wanted>,
+    begin: Option<BeginText>,
+    other: Option<ByteText>,
+    bound: Bound,
+) -> Option<Need>
+    ensures text { (may : Item → ℕ → Bool) (utf : Bool) → (t : Nested)
+        → IsNeed may utf true t need.now
         → IfSome result (λ told. Needs may utf true (sets_of told.text) t) }
     ensures begin { IfSome result (λ told. told.begin ≡ begin) }
+    ensures other { IfSome result (λ told. (told.other ≡ other) ⊎ (told.other ≡ None)) }
     ensures bound { IfSome result (λ told. told.bound ≡ bound) }
 {
     match need {
@@ -145,9 +181,20 @@ fn with_bound(need: &Option<Wanted>, begin: Option<BeginText>, bound: Bound) -> 
             text: sought(wanted),
             is_begin: is_same(&wanted.text, &begin),
             begin,
+            other: unlike(other, &wanted.text),
             bound,
         }),
         None => None,
+    }
+}
+
+/// A text, where it isn't this one.
+fn unlike(other: Option<ByteText>, text: &ByteText) -> Option<ByteText>
+    ensures { (result ≡ other) ⊎ (result ≡ None) }
+{
+    match other {
+        Some(further) if !is_same_text(&further, text) => Some(further),
+        _ => None,
     }
 }
 
@@ -182,32 +229,6 @@ fn is_same_set(one: &ByteSet, other: &ByteSet) -> bool {
     true
 }
 
-/// The place of the rarest byte. Where bytes past ASCII stand at all, they stand in numbers.
-fn rarest_place(text: &ByteText, weights: &[u32; 3]) -> usize {
-    let first = if text.first.has(0xFF) {
-        COMMON
-    } else {
-        weights[0]
-    };
-    let second = weight_sought(&text.second, weights[1]);
-    let third = weight_sought(&text.third, weights[2]);
-    if second < first && second <= third {
-        1
-    } else if third < first {
-        2
-    } else {
-        0
-    }
-}
-
-fn weight_sought(set: &Option<ByteSet>, weight: u32) -> u32 {
-    match set {
-        Some(set) if set.has(0xFF) => COMMON,
-        Some(_) => weight,
-        None => ANY,
-    }
-}
-
 /// What is needed of each node up to the root, anywhere in its matches or where they begin.
 fn needs_of(
     alloc: Global,
@@ -218,7 +239,8 @@ fn needs_of(
     requires { IsTableOf tree.now classes.now }
     ensures count { IfOk result (λ needs. length needs.items ≡ tree.now.root + 1) }
     ensures kept { IfOk result (λ needs.
-        KeepNeeds (may_of tree.now) tree.now.options.utf anywhere (trees tree.now.nodes) needs.items) }
+        KeepNeeds (may_of tree.now) tree.now.options.utf anywhere
+        (trees tree.now.nodes) needs.items) }
 {
     let utf = tree.options().utf;
     let mut needs = Vec::with_capacity(alloc, tree.root() as usize + 1)?;
@@ -297,7 +319,8 @@ fn is_one_byte(taken: &Taken, utf: bool) -> bool
 fn repeated(taken: Option<Taken>, utf: bool, times: u16) -> Option<Wanted>
     requires { 0 < times }
     ensures item { IfSome result (λ w. w.is_item ≡ false) }
-    ensures begins { (may : Item → ℕ → Bool) → (item : Item) → IfSome taken (IsItemNeed may utf item)
+    ensures begins { (may : Item → ℕ → Bool) → (item : Item)
+        → IfSome taken (IsItemNeed may utf item)
         → IfSome result (λ w. Begins may utf (sets_of w.text) (copies times item)) }
 {
     match taken {
@@ -329,14 +352,6 @@ fn places_in_row(is_short: bool, times: u16) -> u16
         3
     } else {
         times
-    }
-}
-
-fn repeated_weight(weight: u32, places: u16) -> [u32; 3] {
-    match places {
-        1 => [weight, ANY, ANY],
-        2 => [weight, weight, ANY],
-        _ => [weight; 3],
     }
 }
 
@@ -449,43 +464,12 @@ fn if_rare(bytes: ByteSet, is_short: bool) -> Option<Taken>
     })
 }
 
-/// How common the bytes of a set are, where they are rare enough.
-fn weight_of(bytes: &ByteSet) -> Option<u32> {
-    let mut weight = 0u32;
-    for b in 0..256u32 {
-        if bytes.has(b as u8) {
-            weight = weight.saturating_add(commonness(b as u8));
-            if weight > COMMON {
-                return None;
-            }
-        }
-    }
-    Some(weight)
-}
-
-/// How common a byte is: spaces most, then letters and digits, then signs.
-fn commonness(byte: u8) -> u32 {
-    match byte {
-        b' ' => 30,
-        b'e' | b't' | b'a' | b'o' | b'i' | b'n' | b's' | b'r' => 12,
-        b'a'..=b'z' | b'0'..=b'9' => 6,
-        b'A'..=b'Z' | b'.' | b',' | b'-' | b'_' | b':' | b'/' => 3,
-        _ => 2,
-    }
-}
-
 /// How common a text is, where there is one.
 fn weighed(need: &Option<Wanted>) -> u64 {
     match need {
         Some(wanted) => rate(&wanted.weights),
         None => u64::MAX,
     }
-}
-
-/// How common a text is: of `ANY` to the third power places it stands at about so many.
-fn rate(weights: &[u32; 3]) -> u64 {
-    let two = u64::from(weights[0]).saturating_mul(u64::from(weights[1]));
-    two.saturating_mul(u64::from(weights[2]))
 }
 
 /// Of what is needed of these parts, and of the texts that the items among them take, the rarest; where a match begins,
@@ -517,9 +501,19 @@ fn kept_if(anywhere: bool, behind: Option<Wanted>) -> Option<Wanted>
 /// The rarest text at a distance from where a match of a pattern begins that is one sequence.
 fn behind_begin(tree: &Tree, begins: &[Option<Wanted>]) -> Option<Distant>
     requires { length begins.now ≡ tree.now.root + 1 }
-    ensures { KeepNeeds (may_of tree.now) tree.now.options.utf false (trees tree.now.nodes) begins.now
+    ensures { KeepNeeds (may_of tree.now) tree.now.options.utf false
+        (trees tree.now.nodes) begins.now
         → IfSome result (λ far. NeedsAt (may_of tree.now) tree.now.options.utf
         (sets_of far.wanted.text) far.distance (tree_of tree.now)) }
+{
+    rarest_behind(tree, only_parts(tree)?, begins)
+}
+
+/// The parts of a pattern that is one sequence.
+fn only_parts(tree: &Tree) -> Option<&[NodeId]>
+    ensures below { IfSome result (λ parts. All (λ k. k ≤ tree.now.root) parts.now) }
+    ensures whole { IfSome result (λ parts. tree_of tree.now
+        ≡ group None (more (seq (row (map (tree_at (trees tree.now.nodes)) parts.now))) none)) }
 {
     let Node::Group {
         number: None,
@@ -534,7 +528,7 @@ fn behind_begin(tree: &Tree, begins: &[Option<Wanted>]) -> Option<Distant>
     let Node::Seq(parts) = tree.node(*only) else {
         return None;
     };
-    rarest_behind(tree, parts.as_slice(), begins)
+    Some(parts.as_slice())
 }
 
 /// Of the texts at a distance from where these parts begin the rarest.
@@ -734,10 +728,24 @@ fn each_of(branches: &[NodeId], needs: &[Option<Wanted>]) -> Option<Wanted>
         i -= 1;
         whole = joined(&needs[branches[i] as usize], whole);
     }
-    whole
+    if_useful(whole)
 }
 
-/// What a branch needs or the others, where the text is still rare.
+/// The text of several branches, where it is rare enough. The same byte in two branches counts once.
+fn if_useful(whole: Option<Wanted>) -> Option<Wanted>
+    ensures { (may : Item → ℕ → Bool) (utf anywhere : Bool) → (ts : Row)
+        → AreAllNeeds may utf anywhere ts whole → AreAllNeeds may utf anywhere ts result }
+{
+    let mut told = whole?;
+    told.weights = least_weights(&told.weights, &told.text);
+    if rate(&told.weights) > u64::from(COMMON * ANY * ANY) {
+        None
+    } else {
+        Some(told)
+    }
+}
+
+/// What a branch needs or the others.
 fn joined(one: &Option<Wanted>, others: Option<Wanted>) -> Option<Wanted>
     ensures { (may : Item → ℕ → Bool) (utf anywhere : Bool) → (t : Nested) (ts : Row)
         → IsNeed may utf anywhere t one.now
@@ -747,23 +755,10 @@ fn joined(one: &Option<Wanted>, others: Option<Wanted>) -> Option<Wanted>
         return None;
     };
     let others = others?;
-    let weights = both_weights(&one.weights, &others.weights);
-    if rate(&weights) > u64::from(COMMON * ANY * ANY) {
-        return None;
-    }
     Some(Wanted {
         text: others.text.either(&one.text),
-        weights,
+        weights: both_weights(&one.weights, &others.weights),
         is_item: false,
         is_short: false,
     })
-}
-
-/// How common the bytes of either are.
-fn both_weights(one: &[u32; 3], other: &[u32; 3]) -> [u32; 3] {
-    [
-        one[0].saturating_add(other[0]).min(ANY),
-        one[1].saturating_add(other[1]).min(ANY),
-        one[2].saturating_add(other[2]).min(ANY),
-    ]
 }

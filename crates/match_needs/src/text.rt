@@ -1,10 +1,10 @@
 // Texts whose bytes are each of a set, and where such a text stands.
 ghost use Rattle.std.specs.Prelude.{◌≡◌, ◌↔◌, ℕ, ◌+◌, ◌<◌, ◌≤◌, ◌∷◌, [], List, None, Some, IsTrue, MatchOption, length, replicate};
 ghost use Rattle.byte_lanes.specs.Places.{IsLeast};
-ghost use Rattle.byte_lanes.specs.Sets.{IsIn, AreIn};
+ghost use Rattle.byte_lanes.specs.Sets.{IsIn, AreIn, AreInRow};
 ghost use Rattle.match_needs.specs.Texts.{sets_of, Stands, AreUnions, IsUnion, IsUnionOf};
 
-use byte_lanes::{ByteSet, find_in_set, find_in_two_sets};
+use byte_lanes::{ByteSet, find_in_set, find_in_three_sets, find_in_two_sets};
 
 /// A text of one to three bytes, each of which is any of a set. Without a second set the third isn't read.
 #[derive(Drop)]
@@ -170,6 +170,19 @@ impl ByteText {
         requires { start ≤ length bytes.now }
         ensures { IsLeast (Stands (sets_of self.now) bytes.now) start (length bytes.now) result }
     {
+        match (&self.second, &self.third) {
+            (Some(second), Some(third)) if are_alike(&self.first, second, third) => {
+                find_in_three_sets(bytes, start, &self.first, second, third)
+            }
+            _ => self.find_by_pair(bytes, start),
+        }
+    }
+
+    // The same by the rarest byte and one next to it.
+    fn find_by_pair(&self, bytes: &[u8], start: usize) -> usize
+        requires { start ≤ length bytes.now }
+        ensures { IsLeast (Stands (sets_of self.now) bytes.now) start (length bytes.now) result }
+    {
         let Some(pair) = self.pair() else {
             return find_in_set(bytes, start, &self.first);
         };
@@ -190,6 +203,12 @@ impl ByteText {
         }
         bytes.len()
     }
+}
+
+// Whether all are small or none is: three that are looked for in one way are looked for at once. Beside a large set
+// a small one tells more with its own neighbour.
+fn are_alike(first: &ByteSet, second: &ByteSet, third: &ByteSet) -> bool {
+    first.is_small() == second.is_small() && second.is_small() == third.is_small()
 }
 
 fn copied(set: &Option<ByteSet>) -> Option<ByteSet>

@@ -15,10 +15,10 @@ use Rattle.pat_tree.specs.declared.options.PartialMode.TheVariants.{Off}
 use Rattle.pat_tree.specs.Parts.{TreeParts, tree_of}
 use Rattle.char_sets.specs.Sets.{class_has}
 use Rattle.frame_board.specs.Standing.{is_inside}
-use Rattle.match_needs.specs.Bounds.{at, bound}
+use Rattle.match_bounds.specs.Bounds.{at, bound}
 use Rattle.match_needs.specs.Needs.{may_take, Needs}
 use Rattle.match_needs.specs.NeedTables.{IsNeedOf}
-use Rattle.match_needs.specs.declared.bounds.Growth.{Growth}
+use Rattle.match_bounds.specs.declared.bounds.Growth.{Growth}
 use Rattle.match_needs.specs.declared.needs.Need.{Need}
 use Rattle.ordered_search.specs.Setting.{lower_of, class_holds}
 use Rattle.ordered_search.proofs.Classes.{class_is}

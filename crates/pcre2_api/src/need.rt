@@ -1,6 +1,6 @@
 //! Searches that need not be made.
 ghost use Rattle.std.specs.Prelude.{◌≡◌, ◌+◌, ◌<◌, ◌≤◌, IsTrue};
-ghost use Rattle.match_needs.specs.Bounds.{at};
+ghost use Rattle.match_bounds.specs.Bounds.{at};
 ghost use Rattle.ordered_search.specs.Setting.{lower_of};
 
 use match_needs::Need;

@@ -3,8 +3,8 @@ use Rattle.std.specs.Prelude.{◌≡◌, ◌<◌, ◌≤◌, ℕ, ◌+◌, Bool,
 use Rattle.pat_tree.specs.declared.options.PartialMode.TheVariants.{Off}
 use Rattle.match_items.specs.Subjects.{IsText, IsTextPlace}
 use Rattle.match_items.specs.Views.{fold_in}
-use Rattle.match_needs.specs.declared.bounds.Bound.{Bound}
-use Rattle.match_needs.specs.Bounds.{at, bound}
+use Rattle.match_bounds.specs.declared.bounds.Bound.{Bound}
+use Rattle.match_bounds.specs.Bounds.{at, bound}
 use Rattle.match_needs.specs.Needs.{may_take, Needs}
 use Rattle.match_needs.specs.Distances.{NeedsAt}
 use Rattle.match_needs.specs.Texts.{Stands}

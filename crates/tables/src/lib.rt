@@ -10,8 +10,6 @@ mod pairs;
 #[cfg(test)]
 mod partial;
 #[cfg(test)]
-mod resets;
-#[cfg(test)]
 mod searching;
 #[cfg(test)]
 mod shown;

@@ -1,7 +1,7 @@
 //! The ends of a subject, by the matcher that finds them all.
 ghost use Rattle.std.specs.Prelude.{◌≡◌, ◌<◌, ◌≤◌, length, true, IfOk, IfErr};
 ghost use Rattle.pat_tree.specs.Pattern.{pattern_of};
-ghost use Rattle.match_drive.specs.Asked.{passed_over};
+ghost use Rattle.start_tests.specs.Asked.{passed_over};
 ghost use Rattle.dfa_drive.specs.Answer.{AreWithin};
 ghost use Rattle.pcre2_api.specs.Matched.{search_of};
 ghost use Rattle.pcre2_api.specs.DfaMatched.{IsDfaFound, IsDfaError};

@@ -37,7 +37,8 @@ impl Model for ScriptReader {
 
     ghost Value = { Script };
 
-    ghost view = { λ reader. record { defaults = reader.defaults; awaits = awaits_of reader.awaits } };
+    ghost view = { λ reader.
+        record { defaults = reader.defaults; awaits = awaits_of reader.awaits } };
 }
 
 /// Whether the text after `#` makes a note of the line.

@@ -1,14 +1,14 @@
 //! Searches over bytes, at lengths round those of vectors.
 use byte_lanes::{
-    ByteSet, EndKind, LineEnd, count_byte, digit_value, find_in_set, find_in_two_sets,
-    find_line_end, newline_at, number,
+    ByteSet, EndKind, LineEnd, count_byte, digit_value, find_in_set, find_in_three_sets,
+    find_in_two_sets, find_line_end, newline_at, number,
 };
 
 // Lengths just below, at and above the ends of vectors of 32 and of 64 bytes.
 const LENGTHS: [usize; 14] = [1, 2, 31, 32, 33, 47, 63, 64, 65, 95, 96, 97, 128, 129];
 
 // Whether each of `text`, but the last byte, is in one set, and that in another, by pairs of bytes next to each other
-// and with one between.
+// and with one between, and by three in a row.
 fn is_found_behind(text: &[u8], round: &ByteSet, set: &ByteSet) -> bool {
     let all = text.len();
     let next = if all < 2 { all } else { all - 2 };
@@ -17,9 +17,12 @@ fn is_found_behind(text: &[u8], round: &ByteSet, set: &ByteSet) -> bool {
         && find_in_two_sets(text, 0, round, 2, set) == with_one_between
         && find_in_two_sets(text, all / 2, set, 1, round) == all
         && find_in_two_sets(text, all, round, 1, set) == all
+        && find_in_three_sets(text, 0, round, round, set) == with_one_between
+        && find_in_three_sets(text, all / 2, round, set, round) == all
+        && find_in_three_sets(text, all, round, round, set) == all
 }
 
-// The same of a set of one byte, of two and of more, where the others stand nowhere in `text`.
+// The same of a set of one byte, of two, of three and of more, where the others stand nowhere in `text`.
 fn is_found_by_sets(text: &[u8], b: u8) -> bool {
     let Some(last) = text.len().checked_sub(1) else {
         return false;
@@ -27,7 +30,7 @@ fn is_found_by_sets(text: &[u8], b: u8) -> bool {
     let mut round = ByteSet::empty();
     round.insert(b ^ 1);
     let mut set = ByteSet::empty();
-    for other in [b, b ^ 2, b ^ 4] {
+    for other in [b, b ^ 2, b ^ 4, b ^ 8] {
         set.insert(other);
         if find_in_set(text, 0, &set) != last || !is_found_behind(text, &round, &set) {
             return false;

@@ -1,5 +1,5 @@
 -- The two tables of a set of bytes.
-use Rattle.std.proofs.Common.{zero, suc, max, replicate, ◌≢◌, ◌⊎◌, inl, inr, ◌||◌, set, bit_or, w8, lit≤, ◌≡◌, ℕ, ◌+◌, ◌-◌, ◌*◌, ◌/◌, ◌%◌, ◌^◌, ◌<◌, ◌≤◌, Bool, true, false, cond, eqb, leb, List, [], ◌∷◌, length, get_or, map, refl, sym, ap, ◌∙◌, arith, ⊎_elim, bit_and, pow_pos}
+use Rattle.std.proofs.Common.{zero, suc, max, replicate, ◌≢◌, ◌⊎◌, inl, inr, ◌||◌, set, bit_or, w8, ◌≡◌, ℕ, ◌-◌, ◌*◌, ◌/◌, ◌%◌, ◌^◌, ◌<◌, ◌≤◌, Bool, true, false, cond, eqb, leb, List, [], ◌∷◌, length, get_or, map, refl, sym, ap, ◌∙◌, arith, ⊎_elim, bit_and, pow_pos}
 use Rattle.std.specs.Int.{bit_at}
 use Rattle.std.specs.List.{range_with_len}
 use Rattle.std.proofs.lemmas.List.FromFn.{get_or-map-range_with_len, length-range_with_len}
@@ -7,8 +7,7 @@ use Rattle.std.proofs.lemmas.Simd.{get_or-replicate}
 use Rattle.std.proofs.lemmas.Nat.Bits.{and_pow, bit_at-lt, bit_at_or, bit_at-zero, bit_at_set_same, bit_at_set_other}
 use Rattle.std.proofs.lemmas.List.{get_or-set_same, get_or-set_other, get_or_past, length-map}
 use Rattle.std.proofs.lemmas.Bool.{cases_Bool, cases_lt, cases_eq, eq-eqb, ne_eqb, lt-ltb, le-ltb, leb-false, leb-true}
-use Rattle.byte_lanes.specs.Sets.{member, flags, AreIn}
-use Rattle.byte_lanes.specs.Lanes.{HasLanes, Covers}
+use Rattle.byte_lanes.specs.Sets.{member, flags}
 
 at_below : (f : ℕ → Bool) (n b : ℕ) → b < n → get_or (map f (range_with_len 0 n)) b false ≡ f b
 at_below f n b l = get_or-map-range_with_len f 0 n b b false l (omega arith)
@@ -201,28 +200,14 @@ module _ (low high low1 high1 low2 high2 : List ℕ) (lows : AreJoined low low1 
       (λ past. flags-past low high k past ∙ sym (λ i. (flags-past low1 high1 k past i || flags-past low2 high2 k past i)))
       (cases_lt k 256)
 
--- Lanes that are set where both bytes are in their sets.
+-- Members of one set behind those of another.
 
-both_set : (a b : Bool) → a ≡ true → b ≡ true → 128 ≤ bit_and (cond a 255 0) (cond b 255 0)
-both_set true true p q = lit≤ tt
-both_set true false p q = absurd cc
-both_set false b p q = absurd cc
+pub two_more : (p q r : Bool) → (p || (q || r)) ≡ ((p || q) || r)
+two_more true q r = refl
+two_more false q r = refl
 
--- The same by any two tests of bytes.
-pub Covers-apart : (f g : ℕ → Bool) (apart : ℕ) (bytes : List ℕ) (i : ℕ) {v : List ℕ}
-    → HasLanes v (λ k. bit_and (cond (f (get_or bytes (i + k) 0)) 255 0) (cond (g (get_or bytes (i + apart + k) 0)) 255 0))
-    → Covers (λ k. (k + apart < length bytes) × ((f (get_or bytes k 0) ≡ true) × (g (get_or bytes (k + apart) 0) ≡ true))) i v
-Covers-apart f g apart bytes i {v} h = record {
-  long = h.long;
-  each = λ k l hit.
-      let place : i + apart + k ≡ i + k + apart = omega arith in
-      let there : g (get_or bytes (i + apart + k) 0) ≡ true = ap (λ n. g (get_or bytes n 0)) place ∙ hit.1.1 in
-      let set = both_set (f (get_or bytes (i + k) 0)) (g (get_or bytes (i + apart + k) 0)) hit.1.0 there in
-      let e = h.each k l in
-      omega (arith, e, set);
-}
-
-pub Covers-two : (one other : List Bool) (apart : ℕ) (bytes : List ℕ) (i : ℕ) {v : List ℕ}
-    → HasLanes v (λ k. bit_and (cond (get_or one (get_or bytes (i + k) 0) false) 255 0) (cond (get_or other (get_or bytes (i + apart + k) 0) false) 255 0))
-    → Covers (AreIn one apart other bytes) i v
-Covers-two one other apart bytes i h = Covers-apart (λ b. get_or one b false) (λ b. get_or other b false) apart bytes i h
+pub three_more : (p q r s : Bool) → (p || (q || r || s)) ≡ (((p || q) || r) || s)
+three_more true q r s = refl
+three_more false true r s = refl
+three_more false false true s = refl
+three_more false false false s = refl

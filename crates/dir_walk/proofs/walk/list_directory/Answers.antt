@@ -10,8 +10,8 @@ pub returns-in-Ok-clause-steps : goal.returns-in-Ok-clause-steps
 returns-in-Ok-clause-steps g c =
     let path = string_bytes c.args.path in
     let contents = (g.F.FileSet.tells c.args.files.now).contents in
-    on_ok_weaker c.take_entries.result (λ steps filter. step_as filter contents (λ set. listed_targets filter (directory_targets filter set c.args.levels) path (Some c.in-Ok.entries)) (λ set. directory_targets filter set (suc c.args.levels) path) (weight (suc c.args.levels)) (weight (suc c.args.levels)) (map pending_parts c.args.stack.now.items) (map pending_parts c.take_entries.new.stack.items) c.args.told.now c.take_entries.new.told
-    (λ set is. listed_as filter contents path c.as_str.result.now c.args.levels (Some c.in-Ok.entries) set is c.as_str.ensures.value c.in-Ok.ensures.found) refl (rw c.as_str-in-Ok.ensures.value at (steps filter contents))) c.take_entries.ensures.steps
+    on_ok_weaker c.take_entries.result (λ steps filter. step_as filter contents (λ set. listed_targets filter (directory_targets filter set c.args.levels) path (Some c.in-Ok.entries)) (λ set. directory_targets filter set (suc c.args.levels) path) (weight (suc c.args.levels))
+    (λ set is. listed_as filter contents path c.as_str.result.now c.args.levels (Some c.in-Ok.entries) set is c.as_str.ensures.value c.in-Ok.ensures.found) (rw c.as_str-in-Ok.ensures.value at (steps filter contents))) c.take_entries.ensures.steps
 
 pub returns-in-Err-Failed-clause-steps : goal.returns-in-Err-Failed-clause-steps
 returns-in-Err-Failed-clause-steps g c =

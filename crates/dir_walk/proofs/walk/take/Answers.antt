@@ -18,8 +18,8 @@ returns-then-branch-clause-steps g c =
     let filter = filter_in c.args.filter.now in
     let p = pending_parts c.args.pending in
     let allowed = subst (λ path. allows_directory filter path ≡ true) c.as_str.ensures.value (sym c.in_ok-allows_directory.ensures ∙ c.if-branch.true) in
-    on_ok_weaker c.take_directory.result (λ steps. step_as filter (g.F.FileSet.tells c.args.files.now).contents (λ set. directory_targets filter set p.levels p.item.path) (λ set. pending_targets filter set p) (weight p.levels) (weight p.levels) (map pending_parts c.args.stack.now.items) (map pending_parts c.take_directory.new.stack.items) c.args.told.now c.take_directory.new.told
-    (λ set is. directory_item filter (directory_targets filter set p.levels) p.item c.if-not-is_directory.false allowed) refl (steps filter)) c.take_directory.ensures.steps
+    on_ok_weaker c.take_directory.result (λ steps. step_as filter (g.F.FileSet.tells c.args.files.now).contents (λ set. directory_targets filter set p.levels p.item.path) (λ set. pending_targets filter set p) (weight p.levels)
+    (λ set is. directory_item filter (directory_targets filter set p.levels) p.item c.if-not-is_directory.false allowed) (steps filter)) c.take_directory.ensures.steps
 
 pub returns-else-branch-clause-steps : goal.returns-else-branch-clause-steps
 returns-else-branch-clause-steps g c =

@@ -2,7 +2,7 @@ use Rattle.std.proofs.Common.{◌≡◌, ◌-◌, ◌++◌, ◌∷◌, [], suc, 
 use Rattle.std.proofs.lemmas.Result.{on_ok_weaker}
 use Rattle.dir_walk.specs.declared.lists.Target.TheVariants.{TooDeep}
 use Rattle.dir_walk.specs.Targets.{directory_targets}
-use Rattle.dir_walk.specs.Walks.{pending_parts, weight, Steps}
+use Rattle.dir_walk.specs.Walks.{pending_parts, walking, weight, Steps}
 use Rattle.dir_walk.proofs.Walking.{told_step, too_deep}
 use Rattle.dir_walk.proofs.walk.take_directory.Goals as goal
 
@@ -17,4 +17,4 @@ returns-else-levels-eq0-clause-steps g c =
     let path = string_bytes c.args.path in
     let some = c.if-levels-eq0.false in
     let whole : suc (c.args.levels - 1) ≡ c.args.levels = omega (arith, some) in
-    on_ok_weaker c.list_directory.result (λ steps filter. subst (λ n. Steps filter (g.F.FileSet.tells c.args.files.now).contents (λ set. directory_targets filter set n path) (weight n) (map pending_parts c.args.stack.now.items) (map pending_parts c.list_directory.new.stack.items) c.args.told.now c.list_directory.new.told) whole (steps filter)) c.list_directory.ensures.steps
+    on_ok_weaker c.list_directory.result (λ steps filter. subst (λ n. Steps filter (g.F.FileSet.tells c.args.files.now).contents (λ set. directory_targets filter set n path) (weight n) (walking (map pending_parts c.args.stack.now.items) c.args.told.now) (walking (map pending_parts c.list_directory.new.stack.items) c.list_directory.new.told)) whole (steps filter)) c.list_directory.ensures.steps

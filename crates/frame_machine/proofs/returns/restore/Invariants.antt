@@ -1,15 +1,15 @@
 use Rattle.std.proofs.Common.{◌≡◌, ◌≤◌, ◌+◌, max, drop, length}
-use Rattle.frame_store.specs.Entry.{entries}
+use Rattle.frame_store.specs.Entry.{entries, site_of}
 use Rattle.frame_store.specs.Stack.{room}
 use Rattle.ordered_search.specs.Stream.{changes}
-use Rattle.frame_state.specs.Calls.{AreRestored}
+use Rattle.frame_state.specs.Calls.{AreRestored, trail}
 use Rattle.frame_machine.proofs.returns.restore.Given as goal
 
 abbrev pub invariant-groups : goal.invariant-groups
 invariant-groups l = record {
   restored :
-      AreRestored l.frame.link l.frame.node l.fn.registers l.entry l.registers l.group
-      (entries l.fn.store.records) (entries l.store.records);
+      AreRestored (site_of l.frame) l.entry l.group (trail l.fn.registers (entries l.fn.store.records))
+      (trail l.registers (entries l.store.records));
   spot :
       l.spot ≡ record l.fn.spot {
         units = l.fn.spot.units + changes (drop l.group l.fn.registers) (drop l.group l.entry);

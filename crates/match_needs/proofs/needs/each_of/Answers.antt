@@ -18,4 +18,6 @@ loop-i-preserved c =
     }
 
 pub returns : goal.returns
-returns c may utf anywhere of = let done : c.loop-i.i ≡ 0 = omega (arith, c.loop-i-test.false) in rw done at (c.loop-i.invariant.is may utf anywhere of)
+returns c may utf anywhere of kept =
+    let done : c.loop-i.i ≡ 0 = omega (arith, c.loop-i-test.false) in
+    c.if_useful.ensures may utf anywhere _ ((rw done at (c.loop-i.invariant.is may utf anywhere of)) kept)

@@ -1,4 +1,4 @@
-use Rattle.std.proofs.Common.{Bool, true, false, subst, sym}
+use Rattle.std.proofs.Common.{Bool, true, subst, sym}
 use Rattle.match_needs.specs.Needs.{may_take, IsShort}
 use Rattle.match_needs.proofs.NeedLemmas.{short_told}
 use Rattle.match_needs.proofs.needs.is_short.Goals as goal

@@ -6,12 +6,12 @@ use Rattle.byte_lanes.proofs.byte_set.ByteSet.insert.Goals as goal
 pub invariant_of-self : goal.invariant_of-self
 invariant_of-self c =
     let s = c.self.inside in
-    c.with-self-inside.ensures (flags s.low s.high) _ c.self.invariant (inserted-low s.low s.high c.args.b (omega arith) (omega arith))
+    c.with-self-inside.ensures (λ k. get_or (flags s.low s.high) k false) _ c.self.invariant (inserted-low s.low s.high c.args.b (omega arith) (omega arith))
 
 pub invariant_of-self-else-b-lt128 : goal.invariant_of-self-else-b-lt128
 invariant_of-self-else-b-lt128 c =
     let s = c.self.inside in
-    c.with-self-inside.ensures (flags s.low s.high) _ c.self.invariant (inserted-high s.low s.high c.args.b (omega arith) (omega arith) (omega arith))
+    c.with-self-inside.ensures (λ k. get_or (flags s.low s.high) k false) _ c.self.invariant (inserted-high s.low s.high c.args.b (omega arith) (omega arith) (omega arith))
 
 pub returns-then-b-lt128 : goal.returns-then-b-lt128
 returns-then-b-lt128 c k =

@@ -3,7 +3,7 @@ use Rattle.pat_tree.specs.Parts.{TreeParts}
 use Rattle.pat_tree.specs.declared.options.Options.{Options}
 use Rattle.match_items.specs.Subjects.{IsText, IsTextPlace}
 use Rattle.frame_board.specs.Ready.{setting_in}
-use Rattle.match_drive.specs.Asked.{passed_over}
+use Rattle.start_tests.specs.Asked.{passed_over}
 use Rattle.dfa_ends.specs.DfaAnswer.{EndsFrom, NoMatch, PartialFrom, dfa_answer}
 use Rattle.pcre2_api.specs.Matched.{search_of}
 use Rattle.pcre2_errors.specs.DfaErrors.{error_of}

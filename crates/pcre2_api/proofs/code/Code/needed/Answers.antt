@@ -1,6 +1,6 @@
 use Rattle.std.proofs.Common.{◌+◌, ◌≤◌, subst}
 use Rattle.pat_tree.specs.declared.options.Options.{Options}
-use Rattle.match_needs.specs.Bounds.{at}
+use Rattle.match_bounds.specs.Bounds.{at}
 use Rattle.match_needs.specs.Texts.{sets_of}
 use Rattle.ordered_search.specs.Setting.{lower_of}
 use Rattle.pcre2_api.specs.Compiled.{CodeParts}

@@ -1,0 +1,8 @@
+use Rattle.std.proofs.Common.{ℕ, ◌<◌, List, length, slice_index, subst}
+use Rattle.grep_core.proofs.Passing.{quiet-found}
+use Rattle.grep_core.proofs.watch.Watch.run.Goals as goal
+
+pub returns-then-gives_whole-clause-run : goal.returns-then-gives_whole-clause-run
+returns-then-gives_whole-clause-run c =
+    quiet-found c.args.self.now c.look.new.self c.args.feed.now c.in-Some.needed c.in-Some.is (c.gives_whole.ensures c.if-gives_whole.true)
+    (subst (λ (l : List ℕ). (k : ℕ) → k < length l → slice_index l k < 256) c.held.ensures c.are_bytes.ensures) c.look.ensures c.run.result c.run.ensures

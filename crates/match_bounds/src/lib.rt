@@ -1,0 +1,7 @@
+//! How many Steps a search for a pattern takes at most, and how many units it holds (docs/SPEED.md, "A text that every match
+//! needs").
+#![tactic(auto)]
+
+mod bounds;
+
+pub use bounds::{Bound, Growth, bound_of_whole};

@@ -1,0 +1,6 @@
+pub mod Leads
+pub mod TextSteps
+pub mod PastPrefix
+pub mod PastRepeats
+pub mod OpenSpans
+pub mod PastSpans

@@ -1,0 +1,5 @@
+pub mod Asked
+pub mod Bytes
+pub mod Prefix
+pub mod Repeats
+pub mod Spans
