@@ -12,9 +12,7 @@ pub mod Halting
 pub mod Taking
 pub mod Refusing
 pub mod FileTexts
-pub mod Cutting
-pub mod Watching
-pub mod Passing
 pub mod Unseen
 pub mod Ahead
 pub mod Runs
+pub mod Keeping

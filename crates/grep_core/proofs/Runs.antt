@@ -24,10 +24,11 @@ use Rattle.grep_output.specs.Course as course
 use Rattle.grep_output.specs.Course.{line_as, begins_group, selected_out, course_after_selected, is_lines}
 use Rattle.grep_core.specs.declared.scan.Course.{Course}
 use Rattle.grep_core.specs.declared.scan.Next.TheVariants.{Line, Context}
-use Rattle.grep_core.specs.declared.watch.Watch.{Watch}
+use Rattle.grep_watch.specs.declared.watch.Watch.{Watch}
 use Rattle.grep_core.specs.Turns.{course_of, is_full, Halts, Takes}
 use Rattle.grep_core.specs.Work.{Work, Progress, progress}
-use Rattle.grep_core.specs.Watched.{PrintsUnmatched, HasQuietRun}
+use Rattle.grep_watch.specs.Watched.{HasQuietRun}
+use Rattle.grep_core.specs.Unseen.{PrintsUnmatched}
 use Rattle.grep_core.specs.Ahead.{TakesRows, TakesAhead, HaltsAhead}
 use Rattle.grep_core.proofs.Taking.{selected-takes}
 use Rattle.grep_core.proofs.ScansLoop.{gave}

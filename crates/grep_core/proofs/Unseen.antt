@@ -16,11 +16,12 @@ use Rattle.grep_output.specs.declared.state.State.{State}
 use Rattle.grep_output.specs.Course as course
 use Rattle.grep_core.specs.declared.scan.Course.{Course}
 use Rattle.grep_core.specs.declared.scan.Next.TheVariants.{Line}
-use Rattle.grep_core.specs.declared.watch.Watch.{Watch}
+use Rattle.grep_watch.specs.declared.watch.Watch.{Watch}
 use Rattle.grep_core.specs.Turns.{course_of, Takes}
 use Rattle.grep_core.specs.Work.{Work, progress}
-use Rattle.grep_core.specs.Watched.{Watches, IsUnseen, HidesUnmatched, PassesOver, PassesUnseen}
-use Rattle.grep_core.proofs.Passing.{all-nil, all-cons, all-tail}
+use Rattle.grep_watch.specs.Watched.{Watches, PassesOver}
+use Rattle.grep_core.specs.Unseen.{IsUnseen, HidesUnmatched, PassesUnseen}
+use Rattle.grep_watch.proofs.Passing.{all-nil, all-cons, all-tail}
 use Rattle.grep_core.proofs.Taking.{passed-takes}
 use Rattle.grep_core.proofs.ScansLoop.{Keeps, keeps-more, gave}
 use Rattle.grep_core.proofs.ScansTaken.{Standing, standing-line}
@@ -54,11 +55,11 @@ module _ (work : Work) where
 
   -- The scan behind such lines.
   module _ (now : Told) (longest : ℕ) (g : Feed) where
-    live-all : (rows : List Row) (within : ℕ) (f : Feed) → GivesAll now within longest f g rows → f.phase ≢ Closed → g.phase ≢ Closed
+    pub live-all : (rows : List Row) (within : ℕ) (f : Feed) → GivesAll now within longest f g rows → f.phase ≢ Closed → g.phase ≢ Closed
     live-all [] within f all live = subst (λ (x : Feed). x.phase ≢ Closed) (sym all) live
     live-all (row ∷ rows) within f all live = live-all rows (within - (length row.bytes + length row.newline)) all.2.0 all.2.2 (live-gives f all.2.0 now now row all.2.1)
 
-    max-all : (rows : List Row) (within : ℕ) (f : Feed) → GivesAll now within longest f g rows → g.max ≡ f.max
+    pub max-all : (rows : List Row) (within : ℕ) (f : Feed) → GivesAll now within longest f g rows → g.max ≡ f.max
     max-all [] within f all = ap (λ (x : Feed). x.max) all
     max-all (row ∷ rows) within f all =
         let grew = gave f all.2.0 now now row all.2.1 in

@@ -28,7 +28,7 @@ module _ (work : Work) (most : Option ℕ) where
       pub gives : (now : Told) → GivesAll now within longest f g rows
       pub takes : TakesRows old new rows
 
-    -- What is written of rows was refused: a part of it was written, and none of them counts.
+    -- What is written of rows was refused, or memory lacked: a part of it was written, and none of them counts.
     pub record HaltsAhead (stop : Stop) : Type 0 where
       pub within : ℕ
       pub longest : ℕ

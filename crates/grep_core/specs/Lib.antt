@@ -16,5 +16,6 @@ pub mod WholeScans
 pub mod Follows
 pub mod Sending
 pub mod OneInput
-pub mod Watched
+pub mod Unseen
 pub mod Ahead
+pub mod Kept

@@ -4,7 +4,6 @@
 mod file;
 mod scan;
 mod state;
-mod watch;
 
 pub use file::grep_file;
 pub use grep_match::{PatternError, Patterns};

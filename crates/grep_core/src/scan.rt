@@ -1,5 +1,5 @@
 //! The scan of an input, line by line.
-ghost use Rattle.std.specs.Prelude.{◌≡◌, ◌≢◌, List, ◌<◌, ◌≤◌, ◌+◌, ◌^◌, ◌||◌, ◌&&◌, true, false, [], length, flat_map, if◌then◌else◌, IfOk, OnOk, Ok, Err, None, IsTrue};
+ghost use Rattle.std.specs.Prelude.{◌≡◌, ◌≢◌, ℕ, List, ◌<◌, ◌≤◌, ◌+◌, ◌^◌, ◌||◌, ◌&&◌, true, false, [], length, flat_map, if◌then◌else◌, IfOk, OnOk, Ok, Err, None, IsTrue};
 ghost use Rattle.pcre_io.specs.Told.{Told, Kept};
 ghost use Rattle.line_feed.specs.Rows.{Row};
 ghost use Rattle.line_feed.specs.Lines.{row_of};
@@ -22,16 +22,19 @@ ghost use Rattle.grep_output.specs.Earlier.{IsShort};
 ghost use Rattle.grep_core.specs.Follows.{FollowsOne, Follows, past};
 ghost use Rattle.grep_core.specs.Sending.{SendsOn};
 ghost use Rattle.grep_core.specs.Work.{work_of, standing, progress, fed, position};
-ghost use Rattle.grep_core.specs.Watched.{Watches, HidesUnmatched, PassesUnseen, PrintsUnmatched};
+ghost use Rattle.grep_watch.specs.Watched.{Watches};
+ghost use Rattle.grep_core.specs.Unseen.{HidesUnmatched, PassesUnseen, KeepsUnmatched, PrintsUnmatched};
+ghost use Rattle.grep_core.specs.Kept.{KeepsLines};
+ghost use Rattle.line_feed.specs.Passes.{HoldsLines};
 ghost use Rattle.grep_core.specs.Ahead.{TakesRun};
 ghost use Rattle.grep_output.specs.LittlePast.{bytes_in};
 ghost use Rattle.grep_core.specs.WholeScans.{Stood, IsJob, ScansInput, TakesAll};
 ghost use Rattle.tool_out.specs.Printed.{printed};
 
-use crate::watch::Watch;
 use grep_args::GrepPlan;
 use grep_match::{MatchList, Patterns, Verdict, Workspace, is_named, search_line};
 use grep_output::{EarlierLines, Ended, Show, State, Stop, write_error, write_line, write_matches};
+use grep_watch::Watch;
 use line_feed::{FeedError, Line, LineFeed};
 use pcre_io::{IoError, Memory, Sink, Source};
 use std::alloc::Global;
@@ -76,6 +79,10 @@ enum Turn {
 
 // The match errors of a run that end it.
 const MANY_ERRORS: u32 = 21;
+
+// Where fewer bytes than these for each line to be kept are known to have no match, lines are taken one by one: near a
+// match there are few.
+const SPARSE: usize = 64;
 
 // Only where context is asked for are groups of lines parted.
 fn parts_groups(plan: &GrepPlan) -> bool
@@ -446,15 +453,119 @@ fn take_run<O: Sink>(
     };
     write_texts(out, &[&feed.held()[..run.bytes]])?;
     feed.skip(run);
-    watch.skip(&run);
+    watch.skip(run.bytes);
     course.selected += run.rows as u64;
     course.context_to = feed.number();
     state.has_shown = true;
     Ok(())
 }
 
+// Whether of the lines behind so many those without a match are kept for a later one, and aren't seen otherwise.
+fn keeps_unmatched(job: &Job<'_>, course: &Course, number: u64) -> bool
+    ensures { IsTrue result → KeepsUnmatched job.now.plan.now job.now.show (course_of course.now)
+        number }
+{
+    if job.plan.invert_match || job.show != Show::Lines {
+        return false;
+    }
+    job.plan.before_context > 0 && course.context_to <= number
+}
+
+// Takes so many lines, which the feed holds, and keeps them. Tells how many bytes they have.
+fn keep_lines(
+    alloc: Global,
+    feed: &mut LineFeed,
+    lines: u32,
+    earlier: &mut EarlierLines,
+) -> Result<usize, Memory>
+    requires live { feed.old.phase ≢ Closed }
+    requires max { feed.old.max ≤ 2 ^ 30 }
+    requires longest { feed.old.max ≤ earlier.old.longest }
+    requires holds { (within : ℕ) × HoldsLines feed.old within lines }
+    ensures { IfOk result (λ bytes. (within : ℕ) → HoldsLines feed.old within lines
+        → KeepsLines feed.old feed.new earlier.old earlier.new within lines bytes) }
+{
+    let mut bytes = 0;
+    'line: for _ in 0..lines {
+        feed.give_line();
+        let line = feed.given_line();
+        bytes += line.bytes.len() + line.end.len();
+        earlier.push(alloc, &line)?;
+    }
+    Ok(bytes)
+}
+
+// Passes over lines that are known to have no match, and keeps the last ones of them for a later one. It reads nothing,
+// and may leave some.
+fn pass_kept(
+    job: &Job<'_>,
+    feed: &mut LineFeed,
+    course: &mut Course,
+    watch: &mut Watch,
+) -> Result<(), Stop>
+    requires live { feed.old.phase ≢ Closed }
+    requires max { feed.old.max ≤ 2 ^ 30 }
+    requires kept { KeepsUnmatched job.now.plan.now job.now.show (course_of course.old)
+        feed.old.number }
+    requires limit { job.now.show ≡ Lines → course.old.earlier.limit ≡
+        job.now.plan.now.before_context }
+    requires longest { feed.old.max ≤ course.old.earlier.longest }
+    requires watch { Watches job.now.plan.now (patterns_in job.now.patterns.now) watch.old
+        feed.old.held }
+    ensures watch { OnOk result (Watches job.now.plan.now (patterns_in job.now.patterns.now)
+        watch.new feed.new.held) }
+    ensures taken { (s : State) (out err : Kept) → s.errors ≤ 20
+        → TakesRun (work_of job.now) job.now.most feed.old feed.new
+        (progress course.old s (printed out err)) (progress course.new s (printed out err)) result }
+{
+    let lines = job.plan.before_context;
+    let Some(within) = watch.reach(feed) else {
+        return Ok(());
+    };
+    if within / SPARSE < lines as usize {
+        return Ok(());
+    }
+    let Some(passed) = feed.pass_but(within, lines as usize) else {
+        return Ok(());
+    };
+    let kept = keep_lines(job.alloc, feed, lines, &mut course.earlier)?;
+    watch.skip(passed);
+    watch.skip(kept);
+    Ok(())
+}
+
+// Takes lines that are known to have no match at once, where they are kept for a later one or written as they stand. It
+// reads nothing, and may leave some.
+fn take_ahead<O: Sink>(
+    job: &Job<'_>,
+    feed: &mut LineFeed,
+    out: &mut O,
+    state: &mut State,
+    course: &mut Course,
+    watch: &mut Watch,
+) -> Result<(), Stop>
+    requires live { feed.old.phase ≢ Closed }
+    requires max { feed.old.max ≤ 2 ^ 30 }
+    requires selected { course.old.selected ≤ 2 ^ 62 }
+    requires errors { state.old.errors ≤ 20 }
+    requires limit { job.now.show ≡ Lines → course.old.earlier.limit ≡
+        job.now.plan.now.before_context }
+    requires longest { feed.old.max ≤ course.old.earlier.longest }
+    requires watch { Watches job.now.plan.now (patterns_in job.now.patterns.now) watch.old
+        feed.old.held }
+    ensures watch { OnOk result (Watches job.now.plan.now (patterns_in job.now.patterns.now)
+        watch.new feed.new.held) }
+    ensures taken { (err : Kept) → TakesRun (work_of job.now) job.now.most feed.old feed.new
+        (progress course.old state.old (printed (O.tells out.old) err))
+        (progress course.new state.new (printed (O.tells out.new) err)) result }
+{
+    if keeps_unmatched(job, course, feed.number()) {
+        return pass_kept(job, feed, course, watch);
+    }
+    take_run(job, feed, out, state, course, watch)
+}
+
 // Takes the next line, where there is one.
-#[tactic(auto, using(crate::proofs::Watching::watches_gives))]
 fn take_turn<S: Source, O: Sink, E: Sink>(
     job: &Job<'_>,
     feed: &mut LineFeed,
@@ -581,7 +692,7 @@ fn take_lines<S: Source, O: Sink, E: Sink>(
     let mut watch = Watch::new(job.plan, job.patterns);
     'line: loop {
         pass_unseen(job, feed, course, &mut watch);
-        take_run(job, feed, out, state, course, &mut watch)?;
+        take_ahead(job, feed, out, state, course, &mut watch)?;
         send_on(feed, source, out)?;
         match take_turn(job, feed, source, out, err, work, state, course, &mut watch)? {
             Turn::Took(Next::Line) => {}

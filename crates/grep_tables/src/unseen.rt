@@ -10,6 +10,14 @@ const FILES: &[File] = &[
     ("none: quiet\nstatus=\n5\nquiet\n", None),
     ("last: quiet\nquiet\nstatus=502", None),
     ("crlf: quiet\r\nq\rq\nq\r\nstatus=503\r\nquiet\r\n", None),
+    (
+        "far: in the first line there is nothing of it\nin the second there is nothing of it \
+        either\nnor is there in the third, which is longer than those\n\nthe fifth has nothing, \
+        but is near\npeer one\nin the seventh line there is nothing of it\nin the eighth line \
+        there is nothing of it\nin the ninth line there is nothing of it\nin the tenth line \
+        there is nothing of it\npeer two\nand the last has none",
+        None,
+    ),
 ];
 
 #[test]
@@ -110,6 +118,41 @@ fn lines_around_are_shown(rt: HostRuntime) -> Result<(), Fail> {
         ("-m1 -nA2 status=5 log > 3:status=500 a\n4-quiet\n5-\n", 0),
         (
             "-hnA1 status=50[12] last none log > 3:status=502\n--\n7:status=501 b\n8-quiet\n",
+            0,
+        ),
+    ];
+    check_all(&rt, rt.alloc(), FILES, "", &ROWS)
+}
+
+#[test]
+fn the_last_lines_before_are_shown(rt: HostRuntime) -> Result<(), Fail> {
+    static ROWS: [Row; 6] = [
+        (
+            "-nB1 peer far > 5-the fifth has nothing, but is near\n6:peer one\n--\n\
+            10-in the tenth line there is nothing of it\n11:peer two\n",
+            0,
+        ),
+        (
+            "-nB2 peer far > 4-\n5-the fifth has nothing, but is near\n6:peer one\n--\n\
+            9-in the ninth line there is nothing of it\n\
+            10-in the tenth line there is nothing of it\n11:peer two\n",
+            0,
+        ),
+        (
+            "-nC1 peer far > 5-the fifth has nothing, but is near\n6:peer one\n\
+            7-in the seventh line there is nothing of it\n--\n\
+            10-in the tenth line there is nothing of it\n11:peer two\n\
+            12-and the last has none\n",
+            0,
+        ),
+        (
+            "-m1 -B2 peer far > \nthe fifth has nothing, but is near\npeer one\n",
+            0,
+        ),
+        ("-nB2 pear far", 1),
+        (
+            "-hnB1 peer none far > 5-the fifth has nothing, but is near\n6:peer one\n--\n\
+            10-in the tenth line there is nothing of it\n11:peer two\n",
             0,
         ),
     ];

@@ -19,7 +19,7 @@ use Rattle.line_feed.specs.View.{Feed, given, next_row}
 use Rattle.line_feed.specs.Inside.{IsWhole, IsNear, view_of}
 use Rattle.line_feed.specs.Steps.{FirstEnd, EndsRow}
 use Rattle.line_feed.specs.Answers.{Gives}
-use Rattle.line_feed.specs.Passes.{GivesAll, Passes, HasRun, skipped}
+use Rattle.line_feed.specs.Passes.{GivesAll, Passes, HasRun, HoldsLines, GivesLine, skipped}
 use Rattle.line_feed.proofs.RowLemmas.{IsFirst, first-least}
 use Rattle.line_feed.proofs.Looking.{next-whole, cuts-next}
 use Rattle.line_feed.proofs.Insides.{held-long, near-drop}
@@ -100,7 +100,7 @@ all-offset now within longest f g (row ∷ rows) h =
     let next = gives.cuts.next_offset in
     omega arith
 
-all-append : (now : Told) (within longest bytes : ℕ) (f g h : Feed) (some more : List Row) → GivesAll now within longest f g some → g.offset ≡ f.offset + bytes → GivesAll now (within - bytes) longest g h more
+pub all-append : (now : Told) (within longest bytes : ℕ) (f g h : Feed) (some more : List Row) → GivesAll now within longest f g some → g.offset ≡ f.offset + bytes → GivesAll now (within - bytes) longest g h more
     → GivesAll now within longest f h (some ++ more)
 all-append now within longest bytes f g h [] more none at rest =
     let e = ap (λ v. v.offset) none in
@@ -116,6 +116,22 @@ all-append now within longest bytes f g h (row ∷ some) more first at rest =
     let past = all-offset now (within - long) longest mid g some first.2.2 in
     let left : within - bytes ≡ within - long - (bytes - long) = omega arith in
     (first.0, first.1, (mid, gives, all-append now (within - long) longest (bytes - long) mid g h some more first.2.2 (omega arith) (subst (λ n. GivesAll now n longest g h more) left rest)))
+
+-- and so within more
+pub all-more : (now : Told) (a b x y : ℕ) (f g : Feed) (rows : List Row) → a ≤ b → x ≤ y → GivesAll now a x f g rows → GivesAll now b y f g rows
+all-more now a b x y f g [] within longest h = h
+all-more now a b x y f g (row ∷ rows) within longest h =
+    let long = length row.bytes + length row.newline in
+    let short = h.0 in
+    let fits = h.1 in
+    (omega arith, omega arith, (h.2.0, h.2.1, all-more now (a - long) (b - long) x y h.2.0 g rows (omega arith) longest h.2.2))
+
+pub Passes-more : (f g : Feed) (a b x y bytes : ℕ) → a ≤ b → x ≤ y → Passes f g a x bytes → Passes f g b y bytes
+Passes-more f g a b x y bytes within longest passes = record {
+  rows = passes.rows;
+  gives = λ now. all-more now a b x y f g passes.rows within longest (passes.gives now);
+  offset = passes.offset;
+}
 
 pub Passes-none : (f : Feed) (within longest : ℕ) → Passes f f within longest 0
 Passes-none f within longest = record { rows = []; gives = λ now. refl; offset = omega arith }
@@ -276,3 +292,74 @@ run-lf f n most longest whole kind s some within room short fits is =
       within = fits;
       few = omega arith;
     }
+
+-- Lines that end in LF, of which some are held.
+
+-- behind the first LF there is one less
+count-behind : (bytes : List ℕ) (k n : ℕ) → count_by is_lf (take (k + 1) bytes) ≡ 1 → k < n → count_by is_lf (take n bytes) ≡ count_by is_lf (take (n - (k + 1)) (drop (k + 1) bytes)) + 1
+count-behind bytes k n one before =
+    let m = n - (k + 1) in
+    let rest = drop (k + 1) bytes in
+    ap (λ q. count_by is_lf (take q bytes)) {x = n} {y = k + 1 + m} (omega arith)
+    ∙ ap (count_by is_lf) (take-add (k + 1) m bytes)
+    ∙ sum_by-append (λ b. cond (is_lf b) 1 0) (take (k + 1) bytes) (take m rest)
+    ∙ ap (λ q. q + count_by is_lf (take m rest)) one
+    ∙ omega arith
+
+module _ (f : Feed) (k len : ℕ) (first : FirstEnd f k len) where
+  line-before : (within lines : ℕ) → HoldsLines f within (lines + 1) → k < within
+  line-before within lines held =
+      let many = held.many in
+      ⊎_elim (λ l. l) (λ (past : within ≤ k). absurd (let none = no-lf f.held k within (subst (λ q. IsFirst q f.held k) held.kind first.least) past in omega arith)) (cases_lt k within)
+
+  line-one : f.kind ≡ Lf → k < length f.held → (len ≡ 1) × (count_by is_lf (take (k + 1) f.held) ≡ 1)
+  line-one kind within =
+      let least = subst (λ q. IsFirst q f.held k) kind first.least in
+      let at = lf-at f.held k (least.holds within) in (
+        first.long ∙ ap (λ q. newline_len q f.held k) kind ∙ sym (lf-len f.held k within at),
+        count_by_more_yes is_lf f.held k 0 within (eq-eqb _ _ at) ∙ ap (λ m. m + 1) (no-lf f.held k k least (omega arith)),
+      )
+
+  line-holds : (within lines : ℕ) → HoldsLines f within (lines + 1) → HoldsLines (given f k len) (within - (k + len)) lines
+  line-holds within lines held =
+      let before = line-before within lines held in
+      let long = held.held in
+      let room = held.room in
+      let many = held.many in
+      let one = line-one held.kind (omega arith) in
+      let shorter = length-drop (k + 1) f.held in
+      let behind = count-behind f.held k within one.1 before in
+      subst (λ l. HoldsLines (given f k l) (within - (k + l)) lines) (sym one.0)
+      (record { kind = held.kind; held = omega arith; room = omega arith; many = omega arith })
+
+  pub line-ends : (within : ℕ) → HoldsLines f within 1 → (0 < len) × (k + len ≤ length f.held)
+  line-ends within held =
+      let before = line-before within 0 held in
+      let long = held.held in
+      let one = (line-one held.kind (omega arith)).0 in
+      (omega arith, omega arith)
+
+  line-long : k + len ≤ length f.held → length (take k f.held) + length (slice_range f.held k (k + len)) ≡ k + len
+  line-long within =
+      let front = length-take-le k f.held (omega (arith, within)) in
+      let back = row-back f k len within in
+      omega (arith, front, back)
+
+  -- the first of them is given
+  pub gives-line : IsSound f → (g : Feed) → g ≡ given f k len → (within : ℕ) → HoldsLines f within 1 → GivesLine f g
+  gives-line s g is within held =
+      let fits = line-ends within held in
+      let before = line-before within 0 held in
+      let room = held.room in
+      let shut : ends_open f.kind f.held ≡ false = ap (λ q. ends_open q f.held) held.kind in
+      let ends : EndsRow f k len = record { some = fits.0; settled = λ going opened. absurd (both_ways _ shut opened) } in
+      let long = line-long fits.1 in
+      subst (GivesLine f) (sym is) (record {
+        gives = λ now. gives-next f k len (next_row f k len) now s first ends (omega arith);
+        fits = λ w lines has.
+            let low = line-before w lines has in
+            let within_w = has.held in
+            let one = (line-one has.kind (omega arith)).0 in
+            omega arith;
+        holds = λ w lines has. subst (λ n. HoldsLines (given f k len) (w - n) lines) (sym long) (line-holds w lines has);
+      })

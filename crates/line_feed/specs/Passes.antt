@@ -1,7 +1,8 @@
 -- Whole rows of the bytes held that are given all at once.
-use Rattle.std.specs.Prelude.{◌≡◌, ℕ, ◌+◌, ◌-◌, ◌≤◌, ◌<◌, List, [], ◌∷◌, length, drop}
+use Rattle.std.specs.Prelude.{◌≡◌, ℕ, ◌+◌, ◌-◌, ◌≤◌, ◌<◌, ◌==◌, min, List, [], ◌∷◌, length, take, drop, count_by}
 use Rattle.std.specs.List.{All}
 use Rattle.pcre_io.specs.Told.{Told}
+use Rattle.byte_lanes.specs.declared.line_end.EndKind.TheVariants.{Lf}
 use Rattle.line_feed.specs.declared.look.Run.{Run}
 use Rattle.line_feed.specs.Rows.{Row, row_with}
 use Rattle.line_feed.specs.View.{Feed}
@@ -38,3 +39,23 @@ pub record HasRun (f : Feed) (most longest : ℕ) (run : Run) : Type 0 where
   pub some : 0 < run.bytes
   pub within : run.bytes ≤ most
   pub few : run.rows ≤ run.bytes
+
+-- lines end in LF, and of the first bytes held so many at least are one: none of the lines that end there is too long
+pub record HoldsLines (f : Feed) (within lines : ℕ) : Type 0 where
+  pub kind : f.kind ≡ Lf
+  pub held : within ≤ length f.held
+  pub room : within ≤ f.max
+  pub many : lines ≤ count_by (λ b. b == 10) (take within f.held)
+
+-- rows were passed over, of so many bytes in all, and so many lines at least stand behind them
+pub record LeavesLines (f g : Feed) (within lines bytes : ℕ) : Type 0 where
+  pub passes : Passes f g within within bytes
+  pub holds : HoldsLines g (min within f.max - bytes) lines
+
+-- the row was given without a read, and one line less stands behind it
+pub record GivesLine (f g : Feed) : Type 0 where
+  pub gives : (now : Told) → Gives f g now now g.row
+  pub fits : (within lines : ℕ) → HoldsLines f within (lines + 1)
+      → length g.row.bytes + length g.row.newline ≤ within
+  pub holds : (within lines : ℕ) → HoldsLines f within (lines + 1)
+      → HoldsLines g (within - (length g.row.bytes + length g.row.newline)) lines

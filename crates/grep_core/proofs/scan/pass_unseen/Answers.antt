@@ -2,7 +2,7 @@ use Rattle.std.proofs.Common.{subst}
 use Rattle.grep_match.specs.Compiled.{patterns_in}
 use Rattle.grep_core.specs.Work.{work_of}
 use Rattle.grep_core.specs.Turns.{course_of}
-use Rattle.grep_core.specs.Watched.{HidesUnmatched}
+use Rattle.grep_core.specs.Unseen.{HidesUnmatched}
 use Rattle.grep_core.proofs.Unseen.{unseen-over, unseen-none}
 use Rattle.grep_core.proofs.scan.pass_unseen.Goals as goal
 

@@ -6,7 +6,7 @@ use Rattle.grep_match.specs.Compiled.{patterns_in}
 use Rattle.grep_output.specs.declared.shows.Treatment.{Treatment}
 use Rattle.grep_core.specs.Work.{work_of}
 use Rattle.grep_core.specs.WholeScans.{Stood, IsJob}
-use Rattle.grep_core.specs.Watched.{Watches}
+use Rattle.grep_watch.specs.Watched.{Watches}
 use Rattle.grep_core.proofs.ScansTaken.{Standing}
 use Rattle.grep_core.proofs.ScansLoop.{Keeps}
 use Rattle.grep_core.proofs.scan.take_lines.Given as goal

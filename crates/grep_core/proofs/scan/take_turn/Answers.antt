@@ -3,7 +3,7 @@ use Rattle.line_feed.specs.Answers.{Gives}
 use Rattle.line_feed.specs.Lines.{Answers, row_of}
 use Rattle.grep_match.specs.Compiled.{patterns_in}
 use Rattle.grep_core.proofs.Shortness.{gives-short}
-use Rattle.grep_core.proofs.Watching.{watches_gives, watches_line}
+use Rattle.grep_watch.proofs.Watching.{watches_gives, watches_line}
 use Rattle.grep_core.proofs.scan.take_turn.Goals as goal
 
 pub take_line-requires-clause-quiet : goal.take_line-requires-clause-quiet

@@ -1,5 +1,5 @@
 -- Lines that are passed over without a search.
-use Rattle.std.specs.Prelude.{◌≡◌, ℕ, ◌+◌, ◌-◌, ◌<◌, ◌≤◌, Bool, true, false, List, [], length, take, drop, slice_index, Option, None, Some, Ok, ⊤}
+use Rattle.std.specs.Prelude.{◌≡◌, ℕ, ◌+◌, ◌-◌, ◌<◌, ◌≤◌, Bool, List, [], length, take, drop, slice_index, Some, Ok, ⊤}
 use Rattle.std.specs.List.{All}
 use Rattle.byte_lanes.specs.declared.line_end.EndKind.{EndKind}
 use Rattle.byte_lanes.specs.declared.line_end.EndKind.TheVariants.{Cr, Lf, CrLf, AnyCrLf, Any, AnyUtf, Nul}
@@ -14,14 +14,8 @@ use Rattle.line_feed.specs.declared.look.Run.{Run}
 use Rattle.grep_args.specs.declared.plan.GrepPlan.{GrepPlan}
 use Rattle.grep_match.specs.declared.unsearched.Needed.{Needed}
 use Rattle.grep_match.specs.Needed.{AreNeeded}
-use Rattle.grep_match.specs.Matches.{Tried, tried_row, is_selected, matches}
-use Rattle.grep_output.specs.declared.shows.Show.{Show}
-use Rattle.grep_output.specs.declared.shows.Show.TheVariants.{Lines}
-use Rattle.grep_output.specs.Course.{Course, passed_out, course_after_passed}
-use Rattle.grep_output.specs.Context.{parts_groups}
-use Rattle.grep_match.specs.Modes.{is_with}
-use Rattle.grep_core.specs.declared.watch.Watch.{Watch}
-use Rattle.grep_core.specs.Work.{Work}
+use Rattle.grep_match.specs.Matches.{matches}
+use Rattle.grep_watch.specs.declared.watch.Watch.{Watch}
 
 -- the text, by its sets, stands nowhere in the first n bytes
 pub record IsQuiet (text : List (List Bool)) (bytes : List ℕ) (n : ℕ) : Type 0 where
@@ -63,24 +57,6 @@ pub record PassesOver (plan : GrepPlan) (patterns : List Pattern) (w : Watch) (f
   pub none : All (λ (row : Row). matches plan patterns row.bytes ≡ Ok []) rows
   pub watches : Watches plan patterns w g.held
 
--- a line isn't selected, nothing is shown of it, and it leaves the course as it is
-pub record IsUnseen (plan : GrepPlan) (name : List ℕ) (show : Show) (c : Course) (t : Tried)
-    : Type 0 where
-  pub selected : is_selected plan t ≡ false
-  pub out : passed_out plan name show c t ≡ []
-  pub course : course_after_passed plan show c t.row ≡ c
-
--- each line behind so many that has no match is unseen
-abbrev pub HidesUnmatched : GrepPlan → List ℕ → Show → Course → ℕ → Type 0
-HidesUnmatched plan name show c number =
-    (t : Tried) → t.matches ≡ Ok [] → number < t.row.number → IsUnseen plan name show c t
-
--- rows without a match were passed over, all of them unseen
-pub record PassesUnseen (work : Work) (c : Course) (w : Watch) (f g : Feed) : Type 0 where
-  pub over : PassesOver work.plan work.patterns w f g
-  pub unseen : All (λ (row : Row). IsUnseen work.plan work.name work.show c
-      (tried_row work.plan work.patterns row)) over.rows
-
 -- the bytes held begin with whole rows without a match, and what is known is known behind them
 pub record HasQuietRun (plan : GrepPlan) (patterns : List Pattern) (w : Watch) (f : Feed) (run : Run)
     : Type 0 where
@@ -91,14 +67,11 @@ pub record HasQuietRun (plan : GrepPlan) (patterns : List Pattern) (w : Watch) (
   pub none : All (λ (row : Row). matches plan patterns row.bytes ≡ Ok []) has.passes.rows
   pub watches : Watches plan patterns (with_quiet w (w.quiet - run.bytes)) (drop run.bytes f.held)
 
--- a line without a match is selected, no number of them ends the scan, and nothing but its bytes and
--- its newline is written of it
-pub record PrintsUnmatched (plan : GrepPlan) (show : Show) (most : Option ℕ) (c : Course)
+-- rows that are given of so many first bytes held have no match, and behind them what is known is known
+pub record ReachesQuiet (plan : GrepPlan) (patterns : List Pattern) (w : Watch) (f : Feed) (within : ℕ)
     : Type 0 where
-  pub inverts : plan.invert_match ≡ true
-  pub lines : show ≡ Lines
-  pub endless : most ≡ None
-  pub apart : parts_groups plan ≡ false
-  pub unnamed : is_with plan.names ≡ false
-  pub unnumbered : plan.line_number ≡ false
-  pub alone : c.earlier ≡ []
+  pub held : within ≤ length f.held
+  pub over : (g : Feed) (rows : List Row) (bytes : ℕ)
+      → ((now : Told) → GivesAll now within within f g rows) → g.offset ≡ f.offset + bytes
+      → All (λ (row : Row). matches plan patterns row.bytes ≡ Ok []) rows
+      × Watches plan patterns (with_quiet w (w.quiet - bytes)) g.held

@@ -9,14 +9,15 @@ use Rattle.line_feed.specs.View.{Feed}
 use Rattle.line_feed.specs.declared.look.Run.{Run}
 use Rattle.line_feed.specs.Passes.{GivesAll, Passes, HasRun, skipped}
 use Rattle.line_feed.proofs.Given.{kind-gives}
+use Rattle.line_feed.proofs.Passing.{all-more}
 use Rattle.grep_args.specs.declared.plan.GrepPlan.{GrepPlan}
 use Rattle.pat_tree.specs.Pattern.{Pattern}
 use Rattle.grep_match.specs.declared.unsearched.Needed.{Needed}
 use Rattle.grep_match.specs.Matches.{matches}
-use Rattle.grep_core.specs.declared.watch.Watch.{Watch}
-use Rattle.grep_core.specs.Watched.{Watches, PassesOver, HasQuietRun, HasAsciiNewlines}
-use Rattle.grep_core.proofs.Cutting.{AreValid, are-valid}
-use Rattle.grep_core.proofs.Watching.{same-needed, watches_gives, watches_line, watches_none, watches_behind}
+use Rattle.grep_watch.specs.declared.watch.Watch.{Watch}
+use Rattle.grep_watch.specs.Watched.{Watches, PassesOver, HasQuietRun, ReachesQuiet, HasAsciiNewlines}
+use Rattle.grep_watch.proofs.Cutting.{AreValid, are-valid}
+use Rattle.grep_watch.proofs.Watching.{same-needed, watches_gives, watches_line, watches_none, watches_behind}
 
 pub all-nil : {A : Type 0} (P : A → Type 0) → All P []
 all-nil P = λ k d l. absurd (omega arith)
@@ -145,3 +146,18 @@ pub quiet-found : (before w : Watch) (f : Feed) (found : Needed) → w.needed �
     → (ahead : Option Run) → MatchOption ahead (Unit {0}) (λ run. HasRun f w.quiet found.most run) → MatchOption ahead (Unit {0}) (λ run. (plan : GrepPlan) (patterns : List Pattern) → Watches plan patterns before f.held → HasQuietRun plan patterns w f run)
 quiet-found before w f found there whole are still None has = has
 quiet-found before w f found there whole are still (Some run) has = λ plan patterns had. quiet-run plan patterns found w f run there whole are (still plan patterns had) has
+
+-- those that are given within so many bytes
+pub reaches-quiet : (plan : GrepPlan) (patterns : List Pattern) (found : Needed) (w : Watch) (f : Feed) (within : ℕ) → w.needed ≡ Some found → EndsWhole found f → AreBytes f.held (length f.held) → within ≤ w.quiet → within ≤ found.most → Watches plan patterns w f.held
+    → ReachesQuiet plan patterns w f within
+reaches-quiet plan patterns found w f within there whole are quiet short had = record {
+  held = let known = (had.quiet found there).within in omega (arith, quiet, known);
+  over = λ g rows bytes gives offset.
+      let passes : Passes f g w.quiet found.most bytes = record {
+        rows = rows;
+        gives = λ now. all-more now within w.quiet within found.most f g rows quiet short (gives now);
+        offset = offset;
+      } in
+      let passed = passed-some plan patterns found w f g bytes (w.quiet - bytes) there whole are had passes refl in
+      (passed.none, passed.watches);
+}

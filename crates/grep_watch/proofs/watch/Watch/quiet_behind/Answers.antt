@@ -1,6 +1,6 @@
 use Rattle.std.proofs.Common.{◌-◌, length, ap, ◌∙◌}
-use Rattle.grep_core.proofs.Watching.{watches_left}
-use Rattle.grep_core.proofs.watch.Watch.quiet_behind.Goals as goal
+use Rattle.grep_watch.proofs.Watching.{watches_left}
+use Rattle.grep_watch.proofs.watch.Watch.quiet_behind.Goals as goal
 
 pub returns : goal.returns
 returns c = λ plan patterns behind had.

@@ -1,6 +1,6 @@
 use Rattle.std.proofs.Common.{ℕ, ◌<◌, List, length, slice_index, subst}
-use Rattle.grep_core.proofs.Passing.{over-none, over-some}
-use Rattle.grep_core.proofs.watch.Watch.pass.Goals as goal
+use Rattle.grep_watch.proofs.Passing.{over-none, over-some}
+use Rattle.grep_watch.proofs.watch.Watch.pass.Goals as goal
 
 pub pass-passed-requires-clause-live : goal.pass-passed-requires-clause-live
 pass-passed-requires-clause-live c = c.requires.live

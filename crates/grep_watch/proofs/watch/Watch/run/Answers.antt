@@ -1,6 +1,6 @@
 use Rattle.std.proofs.Common.{ℕ, ◌<◌, List, length, slice_index, subst}
-use Rattle.grep_core.proofs.Passing.{quiet-found}
-use Rattle.grep_core.proofs.watch.Watch.run.Goals as goal
+use Rattle.grep_watch.proofs.Passing.{quiet-found}
+use Rattle.grep_watch.proofs.watch.Watch.run.Goals as goal
 
 pub returns-then-gives_whole-clause-run : goal.returns-then-gives_whole-clause-run
 returns-then-gives_whole-clause-run c =

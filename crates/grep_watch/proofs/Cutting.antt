@@ -18,7 +18,7 @@ use Rattle.line_feed.specs.Answers.{Gives}
 use Rattle.line_feed.proofs.Newlines.{newline-within}
 use Rattle.line_feed.proofs.Insides.{range-long}
 use Rattle.line_feed.proofs.RowLemmas.{first-least, no_row-true, rows-rest, rows-row, rows-over}
-use Rattle.grep_core.specs.Watched.{HasAsciiNewlines, EndsInAscii}
+use Rattle.grep_watch.specs.Watched.{HasAsciiNewlines, EndsInAscii}
 
 -- Behind a text that ends in ASCII a character begins.
 

@@ -16,9 +16,9 @@ use Rattle.pcre2_api.specs.Needed.{Lacks}
 use Rattle.grep_match.specs.declared.unsearched.Needed.{Needed}
 use Rattle.grep_match.specs.Matches.{matches}
 use Rattle.grep_match.specs.Needed.{AreNeeded}
-use Rattle.grep_core.specs.declared.watch.Watch.{Watch}
-use Rattle.grep_core.specs.Watched.{IsQuiet, Watches, EndsInAscii}
-use Rattle.grep_core.proofs.Cutting.{ends-behind, valid-behind}
+use Rattle.grep_watch.specs.declared.watch.Watch.{Watch}
+use Rattle.grep_watch.specs.Watched.{IsQuiet, Watches, EndsInAscii}
+use Rattle.grep_watch.proofs.Cutting.{ends-behind, valid-behind}
 
 kept : Option Needed → Needed → Needed
 kept None d = d

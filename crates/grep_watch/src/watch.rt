@@ -7,7 +7,7 @@ ghost use Rattle.grep_args.specs.declared.plan.GrepPlan.{GrepPlan};
 ghost use Rattle.grep_match.specs.declared.unsearched.Needed.{Needed};
 ghost use Rattle.grep_match.specs.Compiled.{patterns_in};
 ghost use Rattle.grep_match.specs.Matches.{matches};
-ghost use Rattle.grep_core.specs.Watched.{IsQuiet, Watches, PassesOver, HasQuietRun, HasAsciiNewlines, EndsInAscii, with_quiet};
+ghost use Rattle.grep_watch.specs.Watched.{IsQuiet, Watches, PassesOver, HasQuietRun, ReachesQuiet, HasAsciiNewlines, EndsInAscii, with_quiet};
 ghost use Rattle.line_feed.specs.declared.phase.Phase.TheVariants.{Closed};
 
 use byte_lanes::EndKind;
@@ -155,11 +155,34 @@ impl Watch {
         None
     }
 
-    /// Goes on behind such lines.
-    pub fn skip(&mut self, run: &Run)
-        ensures { self.new ≡ with_quiet self.old (self.old.quiet - run.now.bytes) }
+    /// In how many of the first bytes held whole lines are known to have no match, where it is known.
+    pub fn reach(&mut self, feed: &LineFeed) -> Option<usize>
+        requires { (plan : GrepPlan) × (patterns : List Pattern)
+            × Watches plan patterns self.old feed.now.held }
+        ensures watch { (plan : GrepPlan) (patterns : List Pattern)
+            → Watches plan patterns self.old feed.now.held
+            → Watches plan patterns self.new feed.now.held }
+        ensures reach { MatchOption result (Unit {0}) (λ within.
+            (plan : GrepPlan) (patterns : List Pattern)
+            → Watches plan patterns self.old feed.now.held
+            → ReachesQuiet plan patterns self.new feed.now within) }
     {
-        self.quiet = self.quiet.saturating_sub(run.bytes);
+        self.look(feed);
+        are_bytes(feed.held());
+        if let Some(needed) = &self.needed {
+            if gives_whole(needed, feed) {
+                let within = self.quiet.min(needed.most as usize);
+                return Some(within);
+            }
+        }
+        None
+    }
+
+    /// Goes on behind lines of so many bytes in all.
+    pub fn skip(&mut self, bytes: usize)
+        ensures { self.new ≡ with_quiet self.old (self.old.quiet - bytes) }
+    {
+        self.quiet = self.quiet.saturating_sub(bytes);
     }
 
     /// Whether a line with which the bytes begin need not be searched.
