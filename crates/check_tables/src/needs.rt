@@ -527,3 +527,83 @@ fn a_text_behind_the_first_part_that_is_no_item_is_told(rt: HostRuntime) -> Resu
     }
     Ok(())
 }
+
+/// A tree by its steps, and the bounds of the Steps and of the units of a search without the text.
+type LackingRow = (&'static [Step], GrowthRow, GrowthRow);
+
+fn lacks_as(facts: &Facts, row: &LackingRow) -> bool {
+    match &facts.need {
+        Some(need) => grows_as(need.lacking.steps, row.1) && grows_as(need.lacking.units, row.2),
+        None => false,
+    }
+}
+
+#[test]
+fn parts_behind_a_missing_text_take_no_step(rt: HostRuntime) -> Result<(), Fail> {
+    use Step::*;
+    static ROWS: [LackingRow; 5] = [
+        // `a+b+ca+`, `a+bca+`, `ca+a+`, `a+ca+a+ca+`, of whose `c` the later one is looked at, and
+        // `(a+ca+)`
+        (
+            &[
+                Chars(97, 1, None),
+                Chars(98, 1, None),
+                C,
+                Chars(97, 1, None),
+                Seq(4),
+                Group(1),
+            ],
+            (2, 2),
+            (2, 0),
+        ),
+        (
+            &[
+                Chars(97, 1, None),
+                B,
+                C,
+                Chars(97, 1, None),
+                Seq(4),
+                Group(1),
+            ],
+            (1, 1),
+            (1, 0),
+        ),
+        (
+            &[C, Chars(97, 1, None), Chars(97, 1, None), Seq(3), Group(1)],
+            (0, 0),
+            (0, 0),
+        ),
+        (
+            &[
+                Chars(97, 1, None),
+                C,
+                Chars(97, 1, None),
+                Chars(97, 1, None),
+                C,
+                Chars(97, 1, None),
+                Seq(6),
+                Group(1),
+            ],
+            (3, 2),
+            (3, 0),
+        ),
+        (
+            &[
+                Chars(97, 1, None),
+                C,
+                Chars(97, 1, None),
+                Seq(3),
+                Capture(1, 1),
+            ],
+            (2, 1),
+            (4, 0),
+        ),
+    ];
+    for row in &ROWS {
+        match facts_of(rt.alloc(), Options::PLAIN, row.0)? {
+            Ok(facts) => assert!(rt; lacks_as(&facts, row)),
+            Err(_) => assert!(rt; false),
+        }
+    }
+    Ok(())
+}

@@ -1,7 +1,7 @@
 // How many Steps, states and units a search of a part of a pattern takes at most.
 ghost use Rattle.std.specs.Prelude.{◌≡◌, ◌+◌, ◌<◌, ◌≤◌, ◌&&◌, if◌then◌else◌, None, Some, All, List, IfOk, IfSome, IsTrue, length};
 ghost use Rattle.pat_tree.specs.Nested.{Nested, Row, more, tree_at, trees, nest};
-ghost use Rattle.pat_tree.specs.Parts.{TreeParts, tree_of};
+ghost use Rattle.pat_tree.specs.Parts.{TreeParts};
 ghost use Rattle.pat_tree.specs.Rules.{class_in, kids_of};
 ghost use Rattle.char_sets.specs.Sets.{class_has};
 ghost use Rattle.char_sets.specs.Table.{IsTableOf};
@@ -240,22 +240,12 @@ fn group_ends(min: u16, max: Option<u16>) -> Growth
     }
 }
 
-/// The bound of a whole pattern, where one is known.
-pub fn bound_of_whole(
+/// The bound of each node up to the root, where one is known: by the nodes' numbers.
+pub fn bounds_of(
     alloc: Global,
     tree: &Tree,
     classes: &ClassTable,
-) -> Result<Option<Bound>, Memory>
-    requires { IsTableOf tree.now classes.now }
-    ensures { IfOk result (λ bound.
-        Refines bound (spec.bound (class_has tree.now) (tree_of tree.now))) }
-{
-    let bounds = bounds_of(alloc, tree, classes)?;
-    Ok(bounds[tree.root() as usize])
-}
-
-/// The bound of each node up to the root.
-fn bounds_of(alloc: Global, tree: &Tree, classes: &ClassTable) -> Result<Vec<Option<Bound>>, Memory>
+) -> Result<Vec<Option<Bound>>, Memory>
     requires { IsTableOf tree.now classes.now }
     ensures count { IfOk result (λ bounds. length bounds.items ≡ tree.now.root + 1) }
     ensures kept { IfOk result (λ bounds.
@@ -445,7 +435,7 @@ fn bound_before(
     requires table { IsTableOf tree.now classes.now }
     requires some { 0 < length parts.now }
     requires below { All (λ k. k < length bounds.now) parts.now }
-    requires few { length bounds.now ≤ tree.now.root }
+    requires few { length bounds.now ≤ tree.now.root + 1 }
     ensures { IsBefore tree.now bounds.now result parts.now }
 {
     let own = bounds[parts[0] as usize];
@@ -461,8 +451,9 @@ fn bound_before(
     own
 }
 
-/// Parts one after the other.
-fn in_turn(
+/// The bound of parts one after the other, by those of all nodes up to the root or up to one that
+/// the parts stand below.
+pub fn in_turn(
     tree: &Tree,
     classes: &ClassTable,
     parts: &[NodeId],
@@ -470,7 +461,7 @@ fn in_turn(
 ) -> Option<Bound>
     requires table { IsTableOf tree.now classes.now }
     requires below { All (λ k. k < length bounds.now) parts.now }
-    requires few { length bounds.now ≤ tree.now.root }
+    requires few { length bounds.now ≤ tree.now.root + 1 }
     ensures { RefinesTurn tree.now bounds.now result parts.now }
 {
     let mut whole = Some(Bound::once());

@@ -4,4 +4,4 @@
 
 mod bounds;
 
-pub use bounds::{Bound, Growth, bound_of_whole};
+pub use bounds::{Bound, Growth, bounds_of, in_turn};

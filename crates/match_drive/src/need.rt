@@ -9,27 +9,27 @@ ghost use Rattle.ordered_search.specs.Setting.{lower_of};
 ghost use Rattle.ordered_search.specs.MatchAnswer.{none_found, match_answer};
 ghost use Rattle.match_needs.specs.Texts.{sets_of, Stands};
 ghost use Rattle.match_needs.specs.Needs.{Needs};
-ghost use Rattle.match_needs.specs.NeedTables.{may_of, IsNeedOf};
+ghost use Rattle.match_needs.specs.NeedTables.{may_of, IsBoundLacking, IsNeedOf};
 ghost use Rattle.pat_tree.specs.Parts.{TreeParts, tree_of};
 ghost use Rattle.start_tests.specs.Asked.{passed_over};
 ghost use Rattle.match_drive.specs.BeginText.{IsBegun};
 
 use crate::answer::MatchAnswer;
 use frame_machine::{Ready, Scratch};
+use match_bounds::Bound;
 use match_items::View;
 use match_needs::{BeginText, ByteText, Need};
 use start_tests::{are_bytes, is_off, match_limit};
 
-/// Whether a search of the subject passes no limit, whatever it finds.
-fn is_within(need: &Need, view: &View<'_>) -> bool
+/// Whether what a search of the subject takes at most is within the limits.
+fn is_within(bound: &Bound, view: &View<'_>) -> bool
     requires { IsText view.now.options.now view.now.subject.now }
-    ensures steps { IsTrue result → at need.now.bound.steps (length view.now.subject.now + 1)
+    ensures steps { IsTrue result → at bound.now.steps (length view.now.subject.now + 1)
         ≤ lower_of view.now.options.now.match_limit view.now.matching.now.match_limit }
-    ensures units { IsTrue result → at need.now.bound.units (length view.now.subject.now + 1)
+    ensures units { IsTrue result → at bound.now.units (length view.now.subject.now + 1)
         ≤ view.now.matching.now.frame_limit }
 {
     let size = view.subject.len() as u64 + 1;
-    let bound = &need.bound;
     bound.units.is_within(size, view.matching.frame_limit)
         && bound.steps.is_within(size, match_limit(view))
 }
@@ -43,18 +43,32 @@ fn lacks(bytes: &[u8], text: &ByteText) -> bool
     text.find(bytes) == bytes.len()
 }
 
+/// A text to look for ahead of a search, and what a search takes at most where it is missing.
+#[derive(Drop)]
+struct Ahead<'a> {
+    text: &'a ByteText,
+    bound: Bound,
+}
+
 /// The text to look for ahead of a search. Where start places are found by the needed one it is a text further on, if any,
 /// and only where what stands between the two is given back place by place: else a search without it ends soon.
-fn text_ahead(need: &Need) -> Option<&ByteText>
-    ensures { (tree : TreeParts) → IsNeedOf tree need.now → IfSome (option_copied result)
-        (λ text. Needs (may_of tree) tree.options.utf true (sets_of text) (tree_of tree)) }
+fn text_ahead(need: &Need) -> Option<Ahead<'_>>
+    ensures { (tree : TreeParts) → IsNeedOf tree need.now → IfSome result (λ ahead.
+        Needs (may_of tree) tree.options.utf true (sets_of ahead.text.now) (tree_of tree)
+        × IsBoundLacking tree (sets_of ahead.text.now) ahead.bound) }
 {
     if !need.is_begin {
-        Some(&need.text)
-    } else if need.bound.states.degree > 0 {
-        need.other.as_ref()
-    } else {
-        None
+        return Some(Ahead {
+            text: &need.text,
+            bound: need.lacking,
+        });
+    }
+    match &need.other {
+        Some(text) if need.bound.states.degree > 0 => Some(Ahead {
+            text,
+            bound: need.bound,
+        }),
+        _ => None,
     }
 }
 
@@ -72,11 +86,11 @@ pub(crate) fn lacks_need(ready: &Ready<'_>, view: &View<'_>) -> bool
     let Some(need) = &ready.facts.need else {
         return false;
     };
-    if view.start > 0 || !is_within(need, view) {
+    if view.start > 0 {
         return false;
     }
     match text_ahead(need) {
-        Some(text) => lacks(view.subject, text),
+        Some(ahead) => is_within(&ahead.bound, view) && lacks(view.subject, ahead.text),
         None => false,
     }
 }
@@ -97,7 +111,7 @@ pub(crate) fn begin_of<'a>(
     let Some(need) = &ready.facts.need else {
         return None;
     };
-    if at_begin || !is_off(view) || !is_within(need, view) {
+    if at_begin || !is_off(view) || !is_within(&need.bound, view) {
         return None;
     }
     need.begin.as_ref()

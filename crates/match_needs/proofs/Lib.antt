@@ -1,3 +1,4 @@
 mod LetterLemmas
 pub mod NeedLemmas
+pub mod EarlyLemmas
 pub mod TextLemmas

@@ -15,9 +15,10 @@ use Rattle.match_needs.specs.Distances.{IsLong, NeedsAt}
 use Rattle.match_needs.specs.declared.needs.BeginText.{BeginText}
 use Rattle.match_needs.specs.declared.text.ByteText.{ByteText}
 use Rattle.match_needs.specs.declared.needs.Distant.{Distant}
-use Rattle.match_needs.specs.NeedTables.{may_of, IsItemNeed, IsNeed, IsRun, IsSomeNeed, AreAllNeeds, AreNeeds, IsDistant, IsNeedOf}
+use Rattle.match_needs.specs.NeedTables.{may_of, IsItemNeed, IsNeed, IsRun, IsSomeNeed, AreAllNeeds, AreNeeds, IsDistant, IsBoundLacking, IsLacking, IsNeedOf}
 use Rattle.match_bounds.specs.Bounds.{bound}
 use Rattle.match_bounds.specs.declared.bounds.Bound.{Bound}
+use Rattle.match_needs.specs.declared.lacking.Lacking.{Lacking}
 use Rattle.match_needs.specs.declared.needs.Need.{Need}
 use Rattle.match_needs.specs.declared.needs.Wanted.{Wanted}
 use Rattle.match_bounds.proofs.Backwards.{back}
@@ -167,13 +168,24 @@ needs_look_at : (may : Item → ℕ → Bool) (utf anywhere : Bool) (atomic : Bo
 needs_look_at may utf anywhere atomic ts None h = tt
 needs_look_at may utf anywhere atomic ts (Some w) h = record { needs = h.1; item = λ yes. absurd (clash _ yes h.0); short = λ yes other is. absurd cc }
 
-pub need_whole : (t : TreeParts) (b : Bound) (wanted : Option Wanted) (r : Option Need) → bound (class_has t) (tree_of t) ≡ Some b → IsNeed (may_of t) t.options.utf true (tree_of t) wanted →
-    (IsNeed (may_of t) t.options.utf true (tree_of t) wanted → IfSome r (λ need. Needs (may_of t) t.options.utf true (sets_of need.text) (tree_of t))) →
-    IfSome r (λ need. IfSome need.begin (λ begin. NeedsAt (may_of t) t.options.utf (sets_of begin.text) begin.distance (tree_of t))) →
-    IfSome r (λ need. IfSome need.other (λ other. Needs (may_of t) t.options.utf true (sets_of other) (tree_of t))) →
-    IfSome r (λ need. need.bound ≡ b) → IfSome r (IsNeedOf t)
-need_whole t b wanted None e h k m o l = tt
-need_whole t b wanted (Some need) e h k m o l = record { text = k h; begin = m; other = o; bound = e ∙ ap Some (sym l) }
+pub need_whole : (t : TreeParts) (b : Bound) (lacking : Option Lacking) (r : Option Need)
+    → bound (class_has t) (tree_of t) ≡ Some b → IfSome lacking (IsLacking t)
+    → IfSome r (λ need. (from : Lacking) × ((lacking ≡ Some from)
+    × ((sets_of need.text ≡ sets_of from.wanted.text) × (need.lacking ≡ from.bound))))
+    → IfSome r (λ need. IfSome need.begin (λ begin. NeedsAt (may_of t) t.options.utf (sets_of begin.text) begin.distance (tree_of t)))
+    → IfSome r (λ need. IfSome need.other (λ other. Needs (may_of t) t.options.utf true (sets_of other) (tree_of t)))
+    → IfSome r (λ need. need.bound ≡ b) → IfSome r (IsNeedOf t)
+need_whole t b lacking None e h k m o l = tt
+need_whole t b lacking (Some need) e h k m o l =
+    let from : IsLacking t k.0 = subst (λ o. IfSome o (IsLacking t)) k.1.0 h in
+    record {
+      text = subst (λ sets. Needs (may_of t) t.options.utf true sets (tree_of t)) (sym k.1.1.0) from.text;
+      lacking = subst (λ sets. IsBoundLacking t sets need.lacking) (sym k.1.1.0)
+          (subst (IsBoundLacking t (sets_of k.0.wanted.text)) (sym k.1.1.1) from.bound);
+      begin = m;
+      other = o;
+      bound = e ∙ ap Some (sym l);
+    }
 
 -- what is told of a text that is kept
 pub begin_kept : (P : BeginText → Type 0) (r : Option Need) (told : Option BeginText) → IfSome r (λ need. need.begin ≡ told) → IfSome told P → IfSome r (λ need. IfSome need.begin P)

@@ -1,4 +1,5 @@
 pub mod Distances
+pub mod Lacking
 pub mod Needs
 pub mod NeedTables
 pub mod Texts

@@ -1,14 +1,18 @@
 -- Needed texts as they are kept for each node, and with a pattern's bound.
-use Rattle.std.specs.Prelude.{◌≡◌, ◌<◌, ℕ, Bool, true, false, List, All, length, Option, Some, None, IfSome, slice_index_or}
+use Rattle.std.specs.Prelude.{◌≡◌, ◌<◌, ℕ, Bool, true, false, List, ◌++◌, All, length, Option, Some, None, IfSome, slice_index_or}
 use Rattle.pat_tree.specs.declared.nodes.Item.{Item}
-use Rattle.pat_tree.specs.Nested.{Nested, Row, one, tree_at}
+use Rattle.pat_tree.specs.Nested.{Nested, Row, one, row, tree_at}
 use Rattle.pat_tree.specs.Parts.{TreeParts, tree_of}
 use Rattle.char_sets.specs.Sets.{class_has}
+use Rattle.match_bounds.specs.declared.bounds.Bound.{Bound}
 use Rattle.match_bounds.specs.Bounds.{bound}
 use Rattle.match_needs.specs.Needs.{may_take, TakesOf, IsTaking, IsShort, Begins, Needs, SomeNeeds, AllNeed}
 use Rattle.match_needs.specs.Distances.{NeedsFrom, NeedsAt}
+use Rattle.match_needs.specs.Lacking.{IsBoundWithout}
 use Rattle.match_needs.specs.Texts.{sets_of}
 use Rattle.match_needs.specs.declared.needs.Distant.{Distant}
+use Rattle.match_needs.specs.declared.lacking.Early.{Early}
+use Rattle.match_needs.specs.declared.lacking.Lacking.{Lacking}
 use Rattle.match_needs.specs.declared.needs.Need.{Need}
 use Rattle.match_needs.specs.declared.needs.Taken.{Taken}
 use Rattle.match_needs.specs.declared.needs.Wanted.{Wanted}
@@ -60,10 +64,28 @@ abbrev pub IsDistant : (Item → ℕ → Bool) → Bool → Row → Option Dista
 IsDistant may utf ts None = Unit {0}
 IsDistant may utf ts (Some far) = NeedsFrom may utf (sets_of far.wanted.text) far.distance ts
 
+-- the first of the parts take the text, up to those that stand behind it
+abbrev pub IsEarly : (Item → ℕ → Bool) → Bool → List Nested → Option Early → Type 0
+IsEarly may utf parts None = Unit {0}
+IsEarly may utf parts (Some early) =
+    (ts us : List Nested) × ((parts ≡ ts ++ us) × ((length us ≡ early.behind)
+    × SomeNeeds may utf true (sets_of early.wanted.text) (row ts)))
+
+-- what a search of a tree takes at most where the text stands nowhere
+abbrev pub IsBoundLacking : TreeParts → List (List Bool) → Bound → Type 0
+IsBoundLacking tree text =
+    IsBoundWithout (may_of tree) tree.options.utf (class_has tree) text (tree_of tree)
+
+-- every match of a finished tree takes the text, and a search without it takes no more than this
+pub record IsLacking (tree : TreeParts) (lacking : Lacking) : Type 0 where
+  pub text : Needs (may_of tree) tree.options.utf true (sets_of lacking.wanted.text) (tree_of tree)
+  pub bound : IsBoundLacking tree (sets_of lacking.wanted.text) lacking.bound
+
 -- every match of a finished tree takes the text, one at a distance from where it begins and another one, where they are
--- told; and the tree has this bound
+-- told; and the tree has this bound, and a search without the first text that one
 pub record IsNeedOf (tree : TreeParts) (need : Need) : Type 0 where
   pub text : Needs (may_of tree) tree.options.utf true (sets_of need.text) (tree_of tree)
+  pub lacking : IsBoundLacking tree (sets_of need.text) need.lacking
   pub begin : IfSome need.begin (λ begin.
       NeedsAt (may_of tree) tree.options.utf (sets_of begin.text) begin.distance (tree_of tree))
   pub other : IfSome need.other (λ other. Needs (may_of tree) tree.options.utf true (sets_of other) (tree_of tree))

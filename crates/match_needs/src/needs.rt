@@ -11,9 +11,11 @@ ghost use Rattle.match_needs.specs.declared.needs.Wanted.{Wanted};
 ghost use Rattle.match_needs.specs.Needs.{may_begin, may_take, Needs, TakesOf, IsTaking, IsShort, Begins, copies};
 ghost use Rattle.match_needs.specs.Texts.{sets_of};
 ghost use Rattle.match_needs.specs.NeedTables.{may_of, IsNeed, IsItemNeed, IsRun, IsSomeNeed, AreAllNeeds, KeepNeeds, AreNeeds, IsDistant, IsNeedOf};
+ghost use Rattle.match_needs.specs.declared.lacking.Lacking.{Lacking};
 ghost use Rattle.match_needs.specs.Distances.{IsLong, NeedsAt};
 ghost use Rattle.match_needs.specs.declared.needs.Distant.{Distant};
 
+use crate::lacking::{Lacking, lacking_of};
 use crate::text::ByteText;
 use crate::weights::{
     ANY, COMMON, both_weights, commonness, least_weights, rarest_place, rate, repeated_weight,
@@ -21,7 +23,7 @@ use crate::weights::{
 };
 use byte_lanes::ByteSet;
 use char_sets::{ClassTable, add_range, both_cases};
-use match_bounds::{Bound, bound_of_whole};
+use match_bounds::{Bound, bounds_of};
 use pat_tree::{Item, Memory, Node, NodeId, Tree};
 use std::alloc::Global;
 
@@ -30,6 +32,9 @@ use std::alloc::Global;
 #[derive(Drop)]
 pub struct Need {
     pub text: ByteText,
+    /// What a search takes at most where the text stands nowhere: parts behind those that take it
+    /// never run then.
+    pub lacking: Bound,
     /// A text at a distance from where every match begins, where one is known that may tell more than the first bytes.
     pub begin: Option<BeginText>,
     /// Whether the two are the same text, so that who goes by the second needn't look for the first.
@@ -83,18 +88,20 @@ pub fn need_of(alloc: Global, tree: &Tree, classes: &ClassTable) -> Result<Optio
     requires table { IsTableOf tree.now classes.now }
     ensures { IfOk result (λ need. IfSome need (IsNeedOf tree.now)) }
 {
-    let Some(bound) = bound_of_whole(alloc, tree, classes)? else {
+    let root = tree.root() as usize;
+    let bounds = bounds_of(alloc, tree, classes)?;
+    let Some(bound) = bounds[root] else {
         return Ok(None);
     };
-    let root = tree.root() as usize;
     let needs = needs_of(alloc, tree, classes, true)?;
     if needs[root].is_none() {
         return Ok(None);
     }
+    let lacking = lacking_of(tree, classes, &bounds, &needs);
     let begins = needs_of(alloc, tree, classes, false)?;
     let begin = begin_of(tree, &begins);
     let other = further_on(tree, &needs);
-    Ok(with_bound(&needs[root], begin, other, bound))
+    Ok(with_bound(lacking, begin, other, bound))
 }
 
 /// The rarest text that every match takes behind the first part that is more than one item, of a pattern that is one
@@ -164,28 +171,27 @@ fn sought(wanted: &Wanted) -> ByteText
 }
 
 fn with_bound(
-    need: &Option<Wanted>,
+    lacking: Option<Lacking>,
     begin: Option<BeginText>,
     other: Option<ByteText>,
     bound: Bound,
 ) -> Option<Need>
-    ensures text { (may : Item → ℕ → Bool) (utf : Bool) → (t : Nested)
-        → IsNeed may utf true t need.now
-        → IfSome result (λ told. Needs may utf true (sets_of told.text) t) }
+    ensures lacking { IfSome result (λ told. (from : Lacking) × ((lacking ≡ Some from)
+        × ((sets_of told.text ≡ sets_of from.wanted.text) × (told.lacking ≡ from.bound)))) }
     ensures begin { IfSome result (λ told. told.begin ≡ begin) }
     ensures other { IfSome result (λ told. (told.other ≡ other) ⊎ (told.other ≡ None)) }
     ensures bound { IfSome result (λ told. told.bound ≡ bound) }
 {
-    match need {
-        Some(wanted) => Some(Need {
-            text: sought(wanted),
-            is_begin: is_same(&wanted.text, &begin),
-            begin,
-            other: unlike(other, &wanted.text),
-            bound,
-        }),
-        None => None,
-    }
+    let lacking = lacking?;
+    let wanted = &lacking.wanted;
+    Some(Need {
+        text: sought(wanted),
+        lacking: lacking.bound,
+        is_begin: is_same(&wanted.text, &begin),
+        begin,
+        other: unlike(other, &wanted.text),
+        bound,
+    })
 }
 
 /// A text, where it isn't this one.
@@ -510,7 +516,7 @@ fn behind_begin(tree: &Tree, begins: &[Option<Wanted>]) -> Option<Distant>
 }
 
 /// The parts of a pattern that is one sequence.
-fn only_parts(tree: &Tree) -> Option<&[NodeId]>
+pub(crate) fn only_parts(tree: &Tree) -> Option<&[NodeId]>
     ensures below { IfSome result (λ parts. All (λ k. k ≤ tree.now.root) parts.now) }
     ensures whole { IfSome result (λ parts. tree_of tree.now
         ≡ group None (more (seq (row (map (tree_at (trees tree.now.nodes)) parts.now))) none)) }
@@ -643,7 +649,7 @@ fn is_short(item: &Item, utf: bool) -> bool
 }
 
 /// The text that the items take with which the parts begin, from a part and from the items behind it.
-fn run_from(need: &Option<Wanted>, run: &Option<Wanted>) -> Option<Wanted>
+pub(crate) fn run_from(need: &Option<Wanted>, run: &Option<Wanted>) -> Option<Wanted>
     ensures { (may : Item → ℕ → Bool) (utf anywhere : Bool) → (t : Nested) (ts : Row)
         → IsNeed may utf anywhere t need.now
         → IsRun may utf ts run.now → IsRun may utf (more t ts) result }
@@ -693,7 +699,7 @@ fn rarer(best: Option<Wanted>, one: Option<Wanted>, other: Option<Wanted>) -> Op
 }
 
 /// What is needed of a part, told of what holds it.
-fn copy_of(need: &Option<Wanted>) -> Option<Wanted>
+pub(crate) fn copy_of(need: &Option<Wanted>) -> Option<Wanted>
     ensures item { IfSome result (λ w. w.is_item ≡ false) }
     ensures some { (wanted : Wanted) → need.now ≡ Some wanted
         → IfSome result (λ w. sets_of w.text ≡ sets_of wanted.text) }

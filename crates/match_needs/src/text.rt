@@ -63,6 +63,17 @@ impl ByteText {
         }
     }
 
+    /// How many bytes it has, 1 to 3.
+    pub(crate) fn count(&self) -> usize
+        ensures { result ≡ length (sets_of self.now) }
+    {
+        match (&self.second, &self.third) {
+            (None, _) => 1,
+            (Some(_), None) => 2,
+            (Some(_), Some(_)) => 3,
+        }
+    }
+
     /// The same text.
     pub fn copied(&self) -> ByteText
         ensures first { result.first ≡ self.now.first }

@@ -1,6 +1,6 @@
 -- Where no text stands that every match of a compiled pattern needs, nothing is found.
 use mathlib.Core.Path.{fun_ext}
-use Rattle.std.proofs.Common.{◌≡◌, ◌∙◌, ℕ, ◌+◌, ◌<◌, ◌≤◌, Bool, true, false, List, ◌∷◌, length, Some, None, inl, inr, refl, sym, ap, subst, arith}
+use Rattle.std.proofs.Common.{◌≡◌, ◌∙◌, ℕ, ◌+◌, ◌<◌, ◌≤◌, Bool, true, false, List, ◌∷◌, length, None, inl, inr, refl, sym, ap, subst, arith}
 use Rattle.std.specs.Prelude.{slice_get, slice_index}
 use Rattle.std.specs.Str.{IsCharBoundary}
 use Rattle.std.proofs.Math.Nat.{pow-le-pow_left, mul-le-mul_left}
@@ -15,8 +15,9 @@ use Rattle.pat_tree.specs.declared.options.PartialMode.TheVariants.{Off}
 use Rattle.pat_tree.specs.Parts.{TreeParts, tree_of}
 use Rattle.char_sets.specs.Sets.{class_has}
 use Rattle.frame_board.specs.Standing.{is_inside}
-use Rattle.match_bounds.specs.Bounds.{at, bound}
+use Rattle.match_bounds.specs.Bounds.{at}
 use Rattle.match_needs.specs.Needs.{may_take, Needs}
+use Rattle.match_needs.specs.Lacking.{IsBoundWithout}
 use Rattle.match_needs.specs.NeedTables.{IsNeedOf}
 use Rattle.match_bounds.specs.declared.bounds.Growth.{Growth}
 use Rattle.match_needs.specs.declared.needs.Need.{Need}
@@ -61,19 +62,19 @@ begins utf subject checked = elim (cases_Bool utf) [
 ]
 
 pub finds_none : (code : CodeParts) (matching : MatchOptions) (most : ℕ) (need : Need) → IsNeedOf code.tree need → matching.«partial» ≡ Off
-    → at need.bound.steps (most + 1) ≤ lower_of code.tree.options.match_limit matching.match_limit
-    → at need.bound.units (most + 1) ≤ matching.frame_limit → most < 4294967295 → FindsNone code matching most (sets_of need.text)
+    → at need.lacking.steps (most + 1) ≤ lower_of code.tree.options.match_limit matching.match_limit
+    → at need.lacking.units (most + 1) ≤ matching.frame_limit → most < 4294967295 → FindsNone code matching most (sets_of need.text)
 finds_none code matching most need is off steps units few subject answers short lacks checked =
     let utf = code.tree.options.utf in
-    let less = at_most need.bound.steps (length subject + 1) (most + 1) (omega (arith, short)) in
-    let fewer = at_most need.bound.units (length subject + 1) (most + 1) (omega (arith, short)) in
+    let less = at_most need.lacking.steps (length subject + 1) (most + 1) (omega (arith, short)) in
+    let fewer = at_most need.lacking.units (length subject + 1) (most + 1) (omega (arith, short)) in
     let g = search_of code matching subject 0 answers in
     begun g (begins utf subject checked) ∙ ap (λ f. answer_of f.answer)
-    (need_law g (sets_of need.text) need.bound (record {
+    (need_law g (sets_of need.text) need.lacking (record {
       needs = subst (λ (has : ℕ → ℕ → Bool). Needs (may_take utf has) utf true (sets_of need.text) (tree_of code.tree)) (class_told code.tree) is.text;
       small = lacks.small;
       missing = lacks.missing;
-      bounded = subst (λ (has : ℕ → ℕ → Bool). bound has (tree_of code.tree) ≡ Some need.bound) (class_told code.tree) is.bound;
+      bounded = subst (λ (has : ℕ → ℕ → Bool). IsBoundWithout (may_take utf has) utf has (sets_of need.text) (tree_of code.tree) need.lacking) (class_told code.tree) is.lacking;
       folds = refl;
       steps = omega (arith, less, steps);
       units = omega (arith, fewer, units);

@@ -16,19 +16,20 @@ fn match_limit(options: &Options, matching: &MatchOptions) -> u32
     }
 }
 
-/// Whether a search of a subject of at most so many bytes passes no limit, whatever it finds. No subject has as many as the
-/// greatest number says.
+/// Whether a search of a subject of at most so many bytes that lacks the needed text passes no
+/// limit. No subject has as many as the greatest number says.
 pub(crate) fn is_within(need: &Need, most: u32, options: &Options, matching: &MatchOptions) -> bool
-    ensures steps { IsTrue result → at need.now.bound.steps (most + 1)
+    ensures steps { IsTrue result → at need.now.lacking.steps (most + 1)
         ≤ lower_of options.now.match_limit matching.now.match_limit }
-    ensures units { IsTrue result → at need.now.bound.units (most + 1) ≤ matching.now.frame_limit }
+    ensures units { IsTrue result → at need.now.lacking.units (most + 1)
+        ≤ matching.now.frame_limit }
     ensures short { IsTrue result → most < 4294967295 }
 {
     if most == u32::MAX {
         return false;
     }
     let size = u64::from(most) + 1;
-    let bound = &need.bound;
+    let bound = &need.lacking;
     bound.units.is_within(size, matching.frame_limit)
         && bound.steps.is_within(size, match_limit(options, matching))
 }

@@ -219,8 +219,8 @@ pub begin_law : BeginLaw
 begin_law g sets d b p h =
     let missing : (k : ℕ) → (false ≡ false → k ≡ p + d) → ¬ Stands sets g.subject k =
     λ k at stands. h.missing (subst (Stands sets g.subject) (at refl) stands) in
-    under_fails g sets h.off h.folds h.text h.small false (p + d) missing b h.bounded h.steps h.units h.begun
+    under_fails g sets h.off h.folds h.text h.small false (p + d) missing b h.steps h.units h.begun g.whole h.bounded (λ s silent. refl)
     (IsBefore g sets h.off h.folds h.text h.small (p + d) missing d) p
-    (in_text g sets h.off h.folds h.text h.small false (p + d) missing b h.bounded h.steps h.units h.begun p h.here, refl)
+    (in_text g sets h.off h.folds h.text h.small false (p + d) missing b h.steps h.units h.begun p h.here, refl)
     (silent_at g sets h.off h.folds h.text h.small (p + d) missing (run g (match_limit g))
     (λ utf. forward_run g (h.text utf) (match_limit g)) (fits_level g h.off (match_limit g)) d g.whole h.needs)

@@ -7,6 +7,7 @@ pub mod Apart
 pub mod SilentStreams
 pub mod Alone
 pub mod FitsLevels
+pub mod FirstParts
 pub mod Needed
 pub mod Landing
 pub mod Behind

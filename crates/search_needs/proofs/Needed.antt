@@ -23,6 +23,7 @@ use Rattle.match_bounds.specs.declared.bounds.Growth.{Growth}
 use Rattle.match_bounds.specs.declared.bounds.Bound.{Bound}
 use Rattle.match_bounds.specs.Bounds.{at, followed, or_later, or_so, first_item, is_alone, closed, grouped, both, change, offered, turns, left_once, is_apart, bound, bound_before, bound_in_turn, bound_of_one, bound_of_choices}
 use Rattle.match_needs.specs.Needs.{may_begin, may_take, TakesOf, IsShort, Begins, copies, Needs, SomeNeeds, AllNeed}
+use Rattle.match_needs.specs.Lacking.{IsBoundWithout, sequence}
 use Rattle.match_needs.specs.Texts.{Stands}
 use Rattle.match_needs.proofs.TextLemmas.{clash}
 use Rattle.byte_lanes.specs.Sets.{IsIn}
@@ -47,6 +48,7 @@ use Rattle.ordered_search.proofs.ForwardLaw.{begun_at}
 use Rattle.search_needs.proofs.Growing.{at_plus}
 use Rattle.search_needs.proofs.Bounded.{FitsSome, unreached, one_more, two_more}
 use Rattle.search_needs.proofs.FitsLevels.{fits_level}
+use Rattle.search_needs.proofs.FirstParts.{first_alone, bound_of_sequence}
 
 -- the bytes with which a character may begin, each in its case of the definition
 
@@ -615,36 +617,49 @@ module _ (g : Setting) (sets : List (List Bool)) (off : g.matching.«partial» �
 
   -- At the start.
 
-  module _ (b : Bound) (bounded : bound g.class_has g.whole ≡ Some b)
-      (steps : at b.steps (length g.subject + 1) ≤ match_limit g) (units : at b.units (length g.subject + 1) ≤ g.matching.frame_limit)
+  module _ (b : Bound) (steps : at b.steps (length g.subject + 1) ≤ match_limit g) (units : at b.units (length g.subject + 1) ≤ g.matching.frame_limit)
       (begun : IsTrue g.options.utf → IsTextPlace g.options g.subject g.start) where
     pub in_text : (p : ℕ) → Here p → InText (first_state g.groups p)
     in_text p here = λ utf.
         let search : IsTextSearch g = record { text = text utf; begun = begun utf } in
         loosened g (Some p) (first_state g.groups p) (begun_at g search p (here utf))
 
-    pub under_fails : (P : State → Type 0) (p : ℕ) → P (first_state g.groups p)
-        → SilentUnder P (bound g.class_has g.whole) (level g (run g (match_limit g)) g.whole)
+    abbrev below : Searches
+    below = run g (match_limit g)
+
+    -- without a state the whole search is that of this tree
+    abbrev IsFirst : Nested → Type 0
+    IsFirst t =
+        (s : State) → Silent (level g below t s) → level g below g.whole s ≡ level g below t s
+
+    pub under_fails : (t : Nested) → bound g.class_has t ≡ Some b → IsFirst t
+        → (P : State → Type 0) (p : ℕ) → P (first_state g.groups p)
+        → SilentUnder P (bound g.class_has t) (level g below t)
         → place_answer g p ≡ answers (Failed Exhausted)
     unfolding run
-    under_fails P p on silent =
+    under_fails t bounded first P p on silent =
         let d = match_limit g in
         let s = first_state g.groups p in
         let e : d + 1 ≡ suc d = omega arith in
-        let fits = subst (λ o. FitsSome g off o (level g (run g d) g.whole)) bounded (fits_level g off d g.whole) in
+        let fits = subst (λ o. FitsSome g off o (level g below t)) bounded (fits_level g off d t) in
         let most = at b.units (length g.subject + 1) in
         let room : 0 + most ≤ g.matching.frame_limit = omega (arith, units) in
         let w = fits.0 s room in
-        let few : step_count (level g (run g d) g.whole s) ≤ d = let k = w.steps in omega (arith, k, steps) in
+        let few : step_count (level g below t s) ≤ d = let k = w.steps in omega (arith, k, steps) in
+        let silent' : Silent (level g below t s) =
+        subst (λ o. SilentUnder P o (level g below t)) bounded silent s on room in
         ap (λ n. walk g d (run g n g.whole s)) e
-        ∙ walk_fails d (0 + most) (level g (run g d) g.whole s) few w.tame
-        (subst (λ o. SilentUnder P o (level g (run g d) g.whole)) bounded silent s on room)
-        (λ none. let late = cut_law g (suc d) g.whole s none in omega (arith, late, few))
+        ∙ ap (λ x. walk g d x) (first s silent')
+        ∙ walk_fails d (0 + most) (level g below t s) few w.tame silent'
+        (λ none. let late = cut_law g (suc d) t s none in omega (arith, late, few))
 
-    start_fails : Needs may g.options.utf anywhere sets g.whole → Here start → place_answer g start ≡ answers (Failed Exhausted)
-    start_fails needs here =
-        under_fails OnWay start (in_text start here, λ _. refl)
-        (silent_level (run g (match_limit g)) (λ utf. forward_run g (text utf) (match_limit g)) (fits_level g off (match_limit g)) g.whole needs)
+    start_fails : (t : Nested) → bound g.class_has t ≡ Some b → IsFirst t
+        → Needs may g.options.utf anywhere sets t → Here start
+        → place_answer g start ≡ answers (Failed Exhausted)
+    start_fails t bounded first needs here =
+        under_fails t bounded first OnWay start (in_text start here, λ _. refl)
+        (silent_level below (λ utf. forward_run g (text utf) (match_limit g))
+        (fits_level g off (match_limit g)) t needs)
 
 -- All start places.
 
@@ -654,7 +669,29 @@ module _ (g : Setting) (sets : List (List Bool)) (b : Bound) (h : IsWithoutNeed 
   Stays p = IsTrue g.options.utf → IsTextPlace g.options g.subject p
 
   place_fails : (p : ℕ) → Stays p → place_answer g p ≡ answers (Failed Exhausted)
-  place_fails p here = start_fails g sets h.off h.folds h.text h.small true p (λ k _. h.missing k) b h.bounded h.steps h.units h.begun h.needs here
+  place_fails p here = by_bound h.bounded
+    where
+      below : Searches
+      below = run g (match_limit g)
+
+      may : Item → ℕ → Bool
+      may = may_take g.options.utf g.class_has
+
+      fails : (t : Nested) → bound g.class_has t ≡ Some b
+          → ((s : State) → Silent (level g below t s) → level g below g.whole s ≡ level g below t s)
+          → Needs may g.options.utf true sets t → place_answer g p ≡ answers (Failed Exhausted)
+      fails t bounded first needs =
+          start_fails g sets h.off h.folds h.text h.small true p (λ k _. h.missing k) b
+          h.steps h.units h.begun t bounded first needs here
+
+      by_bound : IsBoundWithout may g.options.utf g.class_has sets g.whole b
+          → place_answer g p ≡ answers (Failed Exhausted)
+      by_bound (inl bounded) = fails g.whole bounded (λ s silent. refl) h.needs
+      by_bound (inr k) =
+          fails (sequence k.0) (bound_of_sequence g.class_has k.0 ∙ k.2.1.1)
+          (λ s silent.
+          ap (λ (t : Nested). level g below t s) k.2.0 ∙ first_alone g below k.0 k.1 s silent)
+          (k.2.1.0, tt)
 
   tried_fails : (p : ℕ) → Stays p → tried g p ≡ answers (Failed Exhausted)
   tried_fails p here = by_test (is_excluded g p)

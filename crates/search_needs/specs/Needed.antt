@@ -7,17 +7,21 @@ use Rattle.match_bounds.specs.declared.bounds.Bound.{Bound}
 use Rattle.match_bounds.specs.Bounds.{at, bound}
 use Rattle.match_needs.specs.Needs.{may_take, Needs}
 use Rattle.match_needs.specs.Distances.{NeedsAt}
+use Rattle.match_needs.specs.Lacking.{IsBoundWithout}
 use Rattle.match_needs.specs.Texts.{Stands}
 use Rattle.ordered_search.specs.Setting.{Setting, match_limit}
 use Rattle.ordered_search.specs.PlaceAnswer.{Exhausted, Failed, answers, place_answer}
 use Rattle.ordered_search.specs.MatchAnswer.{none_found, match_answer}
 
--- Every match takes a text that stands nowhere in the subject, and what a search takes at most is within the limits. There is no partial matching, characters fold as they do in UTF or outside it, and in UTF the subject is UTF-8 and the start a place in it.
+-- Every match takes a text that stands nowhere in the subject, and what a search without it takes
+-- at most is within the limits. There is no partial matching, characters fold as they do in UTF or
+-- outside it, and in UTF the subject is UTF-8 and the start a place in it.
 pub record IsWithoutNeed (g : Setting) (sets : List (List Bool)) (b : Bound) : Type 0 where
   pub needs : Needs (may_take g.options.utf g.class_has) g.options.utf true sets g.whole
   pub small : (k : ℕ) → k < length g.subject → slice_index g.subject k < 256
   pub missing : (k : ℕ) → ¬ Stands sets g.subject k
-  pub bounded : bound g.class_has g.whole ≡ Some b
+  pub bounded :
+      IsBoundWithout (may_take g.options.utf g.class_has) g.options.utf g.class_has sets g.whole b
   pub steps : at b.steps (length g.subject + 1) ≤ match_limit g
   pub units : at b.units (length g.subject + 1) ≤ g.matching.frame_limit
   pub folds : g.fold ≡ fold_in g.options.utf

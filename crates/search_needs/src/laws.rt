@@ -1,8 +1,9 @@
 //! The laws.
 ghost use Rattle.search_needs.specs.Needed.{BeginLaw, NeedLaw};
 
-/// Where no byte stands of a set of which every match takes one, and the bound of the pattern is within the limits, there is
-/// no match, no limit is passed, and nothing is told.
+/// Where a text stands nowhere that every match takes, and the bound of the pattern is within the
+/// limits, or of one sequence that of its first parts, up to those that take the text, there is no
+/// match, no limit is passed, and nothing is told.
 pub fn no_match_without_need()
     ensures { NeedLaw }
 {}

@@ -36,6 +36,8 @@ struct Search {
     group: Option<(u64, u64)>,
 }
 
+const NOT_FOUND: MatchAnswer = MatchAnswer::NoMatch { mark: None };
+
 macro_rules! found {
     ($keep:expr, $to:expr) => {
         MatchAnswer::Match {
@@ -303,6 +305,40 @@ const LIMITS_OF_A_LOOKBEHIND_ARE_EXACT: &[Row] = &[
 #[test]
 fn limits_of_a_lookbehind_are_exact(rt: HostRuntime) -> Result<(), Fail> {
     cases(&rt, rt.alloc(), LIMITS_OF_A_LOOKBEHIND_ARE_EXACT)
+}
+
+// Without the `=` nine Steps and two units are taken at most, which the bound of what stands before
+// it says within 2 · 3² Steps.
+const A_MISSING_TEXT_HIDES_NO_LIMIT: &[Row] = &[
+    (b".*.*=.*", b"ab", NOT_FOUND, &[Limited(18, 2)]),
+    (b".*.*=.*", b"ab", NOT_FOUND, &[Limited(17, 2)]),
+    (b".*.*=.*", b"ab", NOT_FOUND, &[Limited(9, 2)]),
+    (b".*.*=.*", b"ab", MatchAnswer::MatchLimit, &[Limited(8, 2)]),
+    (
+        b".*.*=.*",
+        b"ab",
+        MatchAnswer::FrameLimit,
+        &[Limited(18, 1)],
+    ),
+    (b".*.*=.*", b"a=", found!(0, 2), &[Limited(18, 2)]),
+    (b"(.*)=a*a*", b"aaa", NOT_FOUND, &[Limited(4, 3)]),
+    (
+        b"(.*)=a*a*",
+        b"aaa",
+        MatchAnswer::MatchLimit,
+        &[Limited(3, 3)],
+    ),
+    (
+        b"(.*)=a*a*",
+        b"aaa",
+        MatchAnswer::FrameLimit,
+        &[Limited(4, 2)],
+    ),
+];
+
+#[test]
+fn a_missing_text_hides_no_limit(rt: HostRuntime) -> Result<(), Fail> {
+    cases(&rt, rt.alloc(), A_MISSING_TEXT_HIDES_NO_LIMIT)
 }
 
 // A million turns take two Steps each, and the exit that they wait for takes a unit more.

@@ -17,6 +17,6 @@ returns c =
     subst (λ (code : CodeParts). FindsNone code matching c.args.most (sets_of c.copied.result)) c.self.view_is
     (subst (FindsNone code matching c.args.most) (same_text need.text c.copied.result c.copied.ensures.first c.copied.ensures.second c.copied.ensures.third)
     (finds_none code matching c.args.most need (rw c.in-Some.is at told.facts.need) c.requires
-    (subst (λ (o : Options). at need.bound.steps (c.args.most + 1) ≤ lower_of o.match_limit matching.match_limit) c.options.ensures
+    (subst (λ (o : Options). at need.lacking.steps (c.args.most + 1) ≤ lower_of o.match_limit matching.match_limit) c.options.ensures
     (c.is_within.ensures.steps c.if-not-is_within.false))
     (c.is_within.ensures.units c.if-not-is_within.false) (c.is_within.ensures.short c.if-not-is_within.false)))
