@@ -56,12 +56,13 @@ COMMANDS = [
 ]
 # Seconds that a run of ours may take.
 LONGEST = "100"
-# A line that is made to cost much, its pattern, and its name.
+# A line that is made to cost much, its pattern, and its name; and how many of them there are, since one alone takes less
+# than the start of a program.
 HOSTILE = [
-    ("letters", r"\w+@", lambda choice: "".join(choice.choices("abcdefghij", k=30_000))),
-    ("no sign", ".*.*=.*", lambda choice: "".join(choice.choices("abcdefghij", k=2_000))),
-    ("a and b", "(a|b)*c", lambda choice: "".join(choice.choices("ab", k=1_000_000))),
-    ("x and y", "[xy]+z", lambda choice: "".join(choice.choices("xy", k=1_000_000))),
+    ("letters", r"\w+@", 200, lambda choice: "".join(choice.choices("abcdefghij", k=30_000))),
+    ("no sign", ".*.*=.*", 2_000, lambda choice: "".join(choice.choices("abcdefghij", k=2_000))),
+    ("a and b", "(a|b)*c", 5, lambda choice: "".join(choice.choices("ab", k=1_000_000))),
+    ("x and y", "[xy]+z", 5, lambda choice: "".join(choice.choices("xy", k=1_000_000))),
 ]
 
 
@@ -175,11 +176,12 @@ def main():
         print(f"{'command line':20} {times} {'ratio':>6} {'aim':>5} {'MB':>6}  output")
         met = sum(measure(program, *command, folder, asked.runs) for command in commands)
         print(f"{met} of {len(commands)} within the ratio that is aimed at")
-        for name, pattern, line_of in HOSTILE:
+        for name, pattern, count, line_of in HOSTILE:
             if asked.only not in name:
                 continue
             with open(os.path.join(folder, name), "w", encoding="ascii") as out:
-                out.write(line_of(random.Random(5)) + "\n")
+                choice = random.Random(5)
+                out.writelines(line_of(choice) + "\n" for _ in range(count))
             measure(program, name, ["-c", pattern], name, 1.0, None, folder, 1)
     return 0
 

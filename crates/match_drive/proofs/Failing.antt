@@ -1,12 +1,16 @@
--- Places that fail alone fail together.
-use Rattle.std.proofs.Common.{ℕ}
+-- Places that fail alone are refused.
+use Rattle.std.proofs.Common.{ℕ, Option}
+use Rattle.std.specs.Prelude.{IfSome}
+use Rattle.std.proofs.lemmas.Option.{IfSome_then}
 use Rattle.pat_tree.specs.Parts.{TreeParts}
 use Rattle.match_items.specs.declared.view.View.{View}
 use Rattle.frame_board.specs.Ready.{setting_for}
 use Rattle.start_tests.specs.Asked.{passed_over}
 use Rattle.start_tests.specs.Repeats.{FailsUpTo}
-use Rattle.match_drive.specs.Rest.{FailsToAlways}
+use Rattle.match_drive.specs.Rest.{AreRefused}
 
-pub fails_always : (tree : TreeParts) (view : View) (p q : ℕ) → FailsUpTo tree view p q
-    → FailsToAlways (setting_for tree view passed_over) p q
-fails_always tree view p q h = λ reply before failed k low high. h.fail reply k low high
+pub refused_if : (tree : TreeParts) (view : View) (p : ℕ) (o : Option ℕ)
+    → IfSome o (FailsUpTo tree view p)
+    → IfSome o (AreRefused (setting_for tree view passed_over) p)
+refused_if tree view p o h =
+    IfSome_then o h (λ q fails. record { low = fails.low; bytes = fails.bytes; fail = fails.fail })

@@ -19,13 +19,15 @@ use Rattle.std.proofs.Common.{
   Some,
   None,
   refl,
+  subst,
   ap,
   ◌∙◌,
   arith,
 }
-use Rattle.std.specs.Prelude.{All}
+use Rattle.std.specs.Prelude.{All, ◌||◌}
 use Rattle.ordered_search.specs.Stream.{Block}
 use Rattle.pat_tree.specs.Parts.{TreeParts}
+use Rattle.pat_tree.specs.declared.options.Options.{Options}
 use Rattle.char_sets.specs.Table.{CharSet, IsTableOf}
 use Rattle.match_items.specs.Scene.{Scene}
 use Rattle.match_items.specs.declared.view.View.{View}
@@ -34,7 +36,7 @@ use Rattle.match_items.specs.Views.{text_scene, end_of}
 use Rattle.frame_board.specs.Ready.{setting_for}
 use Rattle.ordered_search.proofs.LaterRuns.{end_within}
 use Rattle.ordered_search.proofs.FollowLaw.{later_places}
-use Rattle.match_drive.specs.Run.{IsFirstRun}
+use Rattle.match_drive.specs.Run.{BeginsByRun, GoesByRuns, IsFirstRun}
 use Rattle.start_tests.proofs.PastPrefix.{scene_same}
 use Rattle.pat_tree.specs.declared.nodes.Item.{Item}
 use Rattle.pat_tree.specs.declared.nodes.Cond.{Cond}
@@ -147,6 +149,24 @@ module _ (g : Setting) where
       (λ k a b. tried_fails k (fails before failed k a (omega arith)))
       ∙ found_failed g begun p low
       (tried_fails p (fails before failed p (omega arith) (omega arith)))
+
+-- A search that goes by runs goes by the one that its tree begins with.
+pub runs_known : (tree : TreeParts) (view : View) (item : Item) → BeginsByRun tree item
+    → GoesByRuns view → view.options.now ≡ tree.options → IsFirstRun tree view item
+runs_known tree view item run goes same = record {
+  begins = record {
+    plain = run.plain;
+    first = run.first;
+    bytes = subst (λ (o : Options). o.utf ≡ false) same goes.bytes;
+    off = goes.off;
+    any_length = subst
+        (λ (o : Options). (o.notempty || view.matching.now.notempty) ≡ false) same goes.any_length;
+    any_start = subst
+        (λ (o : Options). (o.notempty_atstart || view.matching.now.notempty_atstart) ≡ false) same
+        goes.any_start;
+  };
+  class = run.class;
+}
 
 -- A run from p ends at q in the subject, and the places up to there fail with p.
 pub record RunFails (tree : TreeParts) (view : View) (p q : ℕ) : Type 0 where

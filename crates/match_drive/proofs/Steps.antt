@@ -225,6 +225,28 @@ module _ (g : Setting) (begun : g.start ≤ length g.subject) where
       subst (λ k. found_from g (up_to (last_place g) (Some (behind g p k))) ≡ found_from g (Some p)) e
       (passed_by not_utf p (q - p) low (omega (arith, e, high)) (omega (arith, e, most)) (λ k a b. all k a (omega (arith, e, b))))
 
+  -- all places from one up to the last one fail silently
+  none_by : (n p : ℕ) → last_place g < p + n → p ≤ last_place g
+      → ((k : ℕ) → p ≤ k → k ≤ last_place g → tried g k ≡ answers (place.Failed Exhausted))
+      → found_from g (Some p) ≡ none_found
+  none_by zero p far low all = absurd (omega (arith, far, low))
+  none_by (suc n) p far low all =
+      found_failed p low (all p (omega arith) low)
+      ∙ by_next (place_after g p Exhausted) (after_later g begun p Exhausted)
+      (λ q forth inside. none_by n q (omega (arith, far, forth)) inside
+      (λ k a b. all k (omega (arith, a, forth)) b))
+    where
+      by_next : (o : Option ℕ) → IfSome o (λ q. (p < q) × (q ≤ last_place g))
+          → ((q : ℕ) → p < q → q ≤ last_place g → found_from g (Some q) ≡ none_found)
+          → found_from g o ≡ none_found
+      by_next None h later = refl
+      by_next (Some q) h later = later q h.0 h.1
+
+  pub none_passed : (p : ℕ) → p ≤ last_place g
+      → ((k : ℕ) → p ≤ k → k ≤ last_place g → tried g k ≡ answers (place.Failed Exhausted))
+      → found_from g (Some p) ≡ none_found
+  none_passed p low all = none_by (suc (last_place g)) p (omega arith) low all
+
   -- The pieces of the walk.
 
   -- the place behind is tried

@@ -1,7 +1,6 @@
 -- What is left of a search from a start place on, and how the places before add to it.
 use Rattle.std.specs.Prelude.{◌≡◌, ◌≤◌, ◌<◌, ℕ, ℤ, ◌+◌, ◌-◌, Bool, true, false, ◌&&◌, List, length, Option, Some, None, IsSomeAnd, nat_lt}
 use Rattle.std.specs.Option.{option_or}
-use Rattle.byte_lanes.specs.Sets.{has_byte}
 use Rattle.pat_check.specs.Known.{IsByteSet}
 use Rattle.pcre_io.specs.declared.callouts.Block as told
 use Rattle.match_items.specs.Subjects.{IsTextPlace}
@@ -18,6 +17,7 @@ use Rattle.ordered_search.specs.PlaceAnswer.{
   blocks,
 }
 use Rattle.start_tests.specs.Asked.{replied}
+use Rattle.start_tests.specs.Repeats.{AllFail}
 use Rattle.ordered_search.specs.Places.{up_to, passes_crlf, last_place, place_after, is_excluded}
 use Rattle.ordered_search.specs.MatchAnswer.{MatchAnswer, Found, none_found, tried, undecided, from_place}
 
@@ -80,6 +80,17 @@ FailsToAlways g p q = (reply : Block → ℤ) → FailsTo (replied reply g) p q
 
 abbrev pub IsNextAlways : Setting → ℕ → Signal → Option ℕ → Type 0
 IsNextAlways g p signal next = (reply : Block → ℤ) → IsNext (replied reply g) p signal next
+
+-- in a search of bytes all places from one up to another fail and tell nothing
+pub record AreRefused (g : Setting) (p q : ℕ) : Type 0 where
+  pub low : p ≤ q
+  pub bytes : g.options.utf ≡ false
+  pub fail : AllFail g p q
+
+-- what is found from the next place on is what is found from p on
+abbrev pub FindsAlike : Setting → ℕ → Option ℕ → Type 0
+FindsAlike g p next = (reply : Block → ℤ)
+    → found_from (replied reply g) next ≡ found_from (replied reply g) (Some p)
 
 abbrev pub IsPassedAlways : Setting → ℕ → ℕ → Type 0
 IsPassedAlways g p q = (reply : Block → ℤ) → IsPassed (replied reply g) p q

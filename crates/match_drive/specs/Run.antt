@@ -1,15 +1,17 @@
 -- The run of one item that a pattern begins with.
-use Rattle.std.specs.Prelude.{◌<◌, ℕ, Bool, true, false, [], ◌∷◌, All, length, Option, Some, None}
+use Rattle.std.specs.Prelude.{◌≡◌, ◌<◌, ◌||◌, ℕ, Bool, true, false, [], ◌∷◌, All, length, Option, Some, None}
 use Rattle.pat_tree.specs.declared.nodes.Item.{Item}
 use Rattle.pat_tree.specs.declared.nodes.Cond.{Cond}
 use Rattle.pat_tree.specs.declared.nodes.Cond.TheVariants.{Never, Assert}
 use Rattle.pat_tree.specs.declared.nodes.Node.{Node}
 use Rattle.pat_tree.specs.declared.nodes.Node.TheVariants as node
-use Rattle.pat_tree.specs.Parts.{TreeParts}
+use Rattle.pat_tree.specs.declared.options.PartialMode.TheVariants.{Off}
+use Rattle.pat_tree.specs.Parts.{TreeParts, tree_of}
 use Rattle.pat_tree.specs.Rules.{class_in}
 use Rattle.match_items.specs.declared.view.View.{View}
 use Rattle.frame_board.specs.Ready.{setting_for}
-use Rattle.ordered_search.specs.LaterPlaces.{BeginsWithRun}
+use Rattle.ordered_search.specs.LaterPlaces.{BeginsWithRun, first_run}
+use Rattle.ordered_search.specs.Plain.{IsPlain}
 use Rattle.start_tests.specs.Asked.{passed_over}
 
 -- a condition whose test goes by the place alone
@@ -37,6 +39,19 @@ first_part _ = None
 abbrev pub run_of : Node → Option Item
 run_of (node.OneRepeat item min None false) = Some item
 run_of _ = None
+
+-- a pattern that goes by the place alone and begins with a run of an item, whose class stands in the tree
+pub record BeginsByRun (tree : TreeParts) (item : Item) : Type 0 where
+  pub plain : IsPlain (tree_of tree)
+  pub first : first_run (tree_of tree) ≡ Some item
+  pub class : All (λ n. n < length tree.classes) (class_in item)
+
+-- a search of bytes, without partial matching, where matches of the empty text count
+pub record GoesByRuns (view : View) : Type 0 where
+  pub bytes : view.options.now.utf ≡ false
+  pub off : view.matching.now.«partial» ≡ Off
+  pub any_length : (view.options.now.notempty || view.matching.now.notempty) ≡ false
+  pub any_start : (view.options.now.notempty_atstart || view.matching.now.notempty_atstart) ≡ false
 
 -- a search whose pattern begins with a run of an item, whose class stands in the tree
 pub record IsFirstRun (tree : TreeParts) (view : View) (item : Item) : Type 0 where

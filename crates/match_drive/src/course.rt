@@ -1,7 +1,6 @@
 //! A finished tree and a subject, as the walk over the start places goes over them.
 ghost use Rattle.std.specs.Prelude.{◌≡◌, ◌≤◌, ℤ, IsTrue, IfSome, length};
 ghost use Rattle.std.specs.Option.{option_copied};
-ghost use Rattle.pat_tree.specs.declared.options.PartialMode.TheVariants.{Off};
 ghost use Rattle.pcre_io.specs.declared.callouts.Block.{Block};
 ghost use Rattle.match_items.specs.Subjects.{IsTextPlace};
 ghost use Rattle.frame_board.specs.Ready.{setting_for};
@@ -12,55 +11,38 @@ ghost use Rattle.start_tests.specs.Repeats.{FailsUpTo};
 ghost use Rattle.match_drive.specs.Rest.{FailsToAlways};
 
 use crate::driven::Driven;
+use crate::outline::Guide;
 use byte_lanes::ByteSet;
 use frame_machine::{PlaceAnswer, Ready, Scratch, Signal, run_at};
 use match_items::{View, item_run};
 use match_needs::BeginText;
-use pat_tree::{Item, MatchOptions, NodeId, Options, PartialMode};
+use pat_tree::{MatchOptions, NodeId, Options};
 use pcre_io::Callouts;
-use start_tests::{FirstRepeat, Tested, fails_on, is_admitted, refused_to, test_branches};
+use start_tests::{Tested, fails_on, is_admitted, test_branches, test_whole};
 
 /// A finished tree, made ready, and a subject.
 #[derive(Clone, Copy)]
 pub(crate) struct Course<'a> {
     pub ready: &'a Ready<'a>,
     pub view: &'a View<'a>,
-    /// The pattern stands at the subject's begin alone.
-    pub at_begin: bool,
+    /// What of the tree's outline the search goes by.
+    pub guide: Guide<'a>,
     /// The pattern's branches, where they are tested before the machine runs, else none.
     pub first: &'a [NodeId],
     /// A text at a distance from where every match begins, where places without it are known to fail.
     pub begin: Option<&'a BeginText>,
-    /// The repeat of an item that the pattern begins with, where one is known.
-    pub repeat: Option<FirstRepeat>,
-    /// The item whose run the pattern begins with, where places in it fail with the first of them.
-    pub run: Option<Item>,
 }
 
 impl Course<'_> {
-    /// The end of the run that the pattern begins with at a place, where it is known to fail at each place up to there.
-    fn refused_to(&self, place: usize) -> Option<usize>
-        requires fits { IsByteCourse self.now.ready.now self.now.view.now self.now.at_begin
-            self.now.first.now (option_copied self.now.begin) self.now.repeat self.now.run }
-        requires place { IsTextPlace self.now.ready.now.tree.now.options
-            self.now.view.now.subject.now place }
-        ensures { IfSome result (FailsUpTo self.now.ready.now.tree.now self.now.view.now place) }
-    {
-        match &self.repeat {
-            Some(first) => refused_to(self.ready, self.view, first, place),
-            None => None,
-        }
-    }
-
     /// The last place that is known to fail with this one and all places between them, by what the pattern begins with.
     fn fails_on(&self, place: usize) -> Option<usize>
-        requires fits { IsByteCourse self.now.ready.now self.now.view.now self.now.at_begin
-            self.now.first.now (option_copied self.now.begin) self.now.repeat self.now.run }
+        requires fits { IsByteCourse self.now.ready.now self.now.view.now self.now.guide
+            self.now.first.now (option_copied self.now.begin) }
         requires place { IsTextPlace self.now.ready.now.tree.now.options
             self.now.view.now.subject.now place }
         ensures { IfSome result (FailsUpTo self.now.ready.now.tree.now self.now.view.now place) }
     {
-        match &self.repeat {
+        match self.guide.repeat {
             Some(first) => fails_on(self.ready, self.view, first, place),
             None => None,
         }
@@ -68,8 +50,8 @@ impl Course<'_> {
 
     /// The end of the run from a place that failed, where all places in the run fail with it, else the place.
     fn run_to(&self, place: usize) -> usize
-        requires fits { IsByteCourse self.now.ready.now self.now.view.now self.now.at_begin
-            self.now.first.now (option_copied self.now.begin) self.now.repeat self.now.run }
+        requires fits { IsByteCourse self.now.ready.now self.now.view.now self.now.guide
+            self.now.first.now (option_copied self.now.begin) }
         requires place { IsTextPlace self.now.ready.now.tree.now.options
             self.now.view.now.subject.now place }
         ensures low { place ≤ result }
@@ -78,7 +60,7 @@ impl Course<'_> {
         ensures fails { FailsToAlways
             (setting_for self.now.ready.now.tree.now self.now.view.now passed_over) place result }
     {
-        match &self.run {
+        match self.guide.run {
             Some(item) => item_run(self.view, self.ready.classes, item, place, u32::MAX).to,
             None => place,
         }
@@ -86,8 +68,8 @@ impl Course<'_> {
 
     /// What the pattern's branches tell of a place, by the single items that they begin with.
     fn branches_at(&self, place: usize) -> Tested
-        requires fits { IsByteCourse self.now.ready.now self.now.view.now self.now.at_begin
-            self.now.first.now (option_copied self.now.begin) self.now.repeat self.now.run }
+        requires fits { IsByteCourse self.now.ready.now self.now.view.now self.now.guide
+            self.now.first.now (option_copied self.now.begin) }
         requires place { IsTextPlace self.now.ready.now.tree.now.options
             self.now.view.now.subject.now place }
         ensures { (given : Block → ℤ) → IsTold result
@@ -103,22 +85,18 @@ impl Course<'_> {
         }
     }
 
-    /// What is known of a place by what the pattern begins with.
+    /// What is known of a place by what the pattern is, or begins with.
     fn tested(&self, place: usize) -> Tested
-        requires fits { IsByteCourse self.now.ready.now self.now.view.now self.now.at_begin
-            self.now.first.now (option_copied self.now.begin) self.now.repeat self.now.run }
+        requires fits { IsByteCourse self.now.ready.now self.now.view.now self.now.guide
+            self.now.first.now (option_copied self.now.begin) }
         requires place { IsTextPlace self.now.ready.now.tree.now.options
             self.now.view.now.subject.now place }
         ensures { (given : Block → ℤ) → IsTold result
             (setting_for self.now.ready.now.tree.now self.now.view.now given) place }
     {
-        match self.branches_at(place) {
-            Tested::Open => {}
-            told => return told,
-        }
-        match self.refused_to(place) {
-            Some(_) => Tested::Refused,
-            None => Tested::Open,
+        match self.guide.whole {
+            Some(only) => test_whole(self.ready, self.view, only, place),
+            None => self.branches_at(place),
         }
     }
 }
@@ -130,8 +108,8 @@ impl Driven for Course<'_> {
 
     ghost asked = { λ x. setting_for x.ready.now.tree.now x.view.now };
 
-    ghost fits = { λ x. IsByteCourse x.ready.now x.view.now x.at_begin x.first.now
-        (option_copied x.begin) x.repeat x.run };
+    ghost fits = { λ x. IsByteCourse x.ready.now x.view.now x.guide x.first.now
+        (option_copied x.begin) };
 
     fn subject(&self) -> &[u8] {
         self.view.subject
@@ -162,14 +140,15 @@ impl Driven for Course<'_> {
     }
 
     fn stands_at_begin(&self) -> bool {
-        self.at_begin
+        self.guide.at_begin
+    }
+
+    fn refused_to(&self, place: usize) -> Option<usize> {
+        self.fails_on(place)
     }
 
     fn fails_to(&self, place: usize) -> usize {
-        match self.fails_on(place) {
-            Some(to) => to,
-            None => self.run_to(place),
-        }
+        self.run_to(place)
     }
 
     fn try_at<C: Callouts>(

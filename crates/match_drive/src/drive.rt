@@ -10,19 +10,19 @@ ghost use Rattle.match_drive.specs.Answer.{IsMatchAnswer, IsLastMark, IsNotParti
 ghost use Rattle.ordered_search.specs.MatchAnswer.{match_answer};
 ghost use Rattle.match_drive.specs.Rest as rest;
 ghost use Rattle.start_tests.specs.Bytes.{AreBytes};
+ghost use Rattle.match_drive.specs.Outline.{IsOutlineOf};
 ghost use Rattle.match_drive.specs.Starts.{AreAlike};
 
 use crate::answer::MatchAnswer;
-use crate::begin::stands_at_begin;
 use crate::course::Course;
 use crate::driven::Driven;
 use crate::need::{begin_of, lacks_need, no_match};
+use crate::outline::Outline;
 use crate::places::{last_place, next_tried, place_past};
-use crate::run::leading_run;
 use frame_machine::{PlaceAnswer, Ready, Scratch};
 use match_items::View;
 use pcre_io::{Callouts, NoCallouts};
-use start_tests::{are_bytes, branches_tested, first_repeat};
+use start_tests::are_bytes;
 
 /// The first place that reached the subject's end, after one more place.
 fn first_hit(first: Option<usize>, hit_end: bool, at: usize) -> Option<usize>
@@ -153,21 +153,48 @@ pub fn search<C: Callouts>(
         view.now.matching.now.frame_limit
         → IsQuiet C.refuses (C.answers calls.old) → IsOfMatching result }
 {
+    search_by(ready, &Outline::of(ready.tree), view, scratch, calls)
+}
+
+/// The same for who has the tree's outline: one that was made before serves all searches of the tree.
+pub fn search_by<C: Callouts>(
+    ready: &Ready<'_>,
+    outline: &Outline,
+    view: &View<'_>,
+    scratch: &mut Scratch,
+    calls: &mut C,
+) -> MatchAnswer
+    requires search { IsReadySearch ready.now view.now }
+    requires outline { IsOutlineOf ready.now.tree.now outline.now }
+    ensures answer { IsMatchAnswer result scratch.new.spans
+        (match_answer (setting_for ready.now.tree.now view.now (C.answers calls.old))) }
+    ensures last_mark { IsLastMark result scratch.new.last_mark
+        (match_answer (setting_for ready.now.tree.now view.now (C.answers calls.old))) }
+    ensures starts { AreAlike (setting_for ready.now.tree.now view.now (C.answers calls.old)) }
+    ensures whole { view.now.matching.now.partial ≡ Off → IsNotPartial result }
+    ensures peak { scratch.new.peak ≤ max scratch.old.peak view.now.matching.now.frame_limit }
+    ensures groups { scratch.new.groups ≡ scratch.old.groups }
+    ensures frames { scratch.new.frames ≡ scratch.old.frames }
+    ensures rule { (block : Block) → C.answers calls.new block ≡ C.answers calls.old block }
+    ensures seen { IsShown result (C.seen calls.old) (C.seen calls.new)
+        (match_answer (setting_for ready.now.tree.now view.now (C.answers calls.old))) }
+    ensures reserved { HasRoom scratch.old
+        (setting_for ready.now.tree.now view.now passed_over).groups
+        view.now.matching.now.frame_limit
+        → IsQuiet C.refuses (C.answers calls.old) → IsOfMatching result }
+{
     // what the clause on start optimisations goes by
     ready.tree.is_sound();
     are_bytes(view.subject);
     if lacks_need(ready, view) {
         return no_match(scratch);
     }
-    let at_begin = stands_at_begin(ready.tree);
     let course = Course {
         ready,
         view,
-        at_begin,
-        first: branches_tested(ready.tree, view),
-        begin: begin_of(ready, view, at_begin),
-        repeat: first_repeat(ready, view),
-        run: leading_run(ready.tree, view),
+        guide: outline.for_search(view),
+        first: outline.branches(ready.tree, view),
+        begin: begin_of(ready, view, outline.at_begin),
     };
     search_on(&course, scratch, calls)
 }

@@ -12,7 +12,7 @@ ghost use Rattle.ordered_search.specs.Setting.{Setting, lead_set, names_cr_or_lf
 ghost use Rattle.start_tests.specs.Asked.{passed_over, replied};
 ghost use Rattle.match_drive.specs.Begin.{StandsAtBegin};
 ghost use Rattle.match_drive.specs.BeginText.{IsBegun};
-ghost use Rattle.match_drive.specs.Rest.{FailsToAlways};
+ghost use Rattle.match_drive.specs.Rest.{AreRefused, FailsToAlways};
 
 use byte_lanes::ByteSet;
 use frame_machine::{PlaceAnswer, Scratch};
@@ -64,6 +64,14 @@ pub trait Driven {
     fn stands_at_begin(&self) -> bool
         requires { fits self.now }
         ensures { IsTrue result → StandsAtBegin (asked self.now passed_over).whole };
+
+    /// The last place up to which this one and all behind it are known to fail, where this one is. None
+    /// in UTF, where not each of them is one at which a character begins.
+    fn refused_to(&self, place: usize) -> Option<usize>
+        requires fits { fits self.now }
+        requires place { let g = asked self.now passed_over in IsTextPlace g.options
+            g.subject place }
+        ensures { IfSome result (AreRefused (asked self.now passed_over) place) };
 
     /// The last place that is known to fail where this one fails, and all places between them with
     /// it. In UTF, where not each of them is one at which a character begins, the place itself.

@@ -8,11 +8,13 @@ mod course;
 mod drive;
 mod driven;
 mod need;
+mod outline;
 mod places;
 mod run;
 mod starts;
 
 pub use answer::MatchAnswer;
-pub use drive::{search, search_on, search_reserved};
+pub use drive::{search, search_by, search_on, search_reserved};
 pub use driven::Driven;
+pub use outline::Outline;
 pub use starts::{is_left_out, last_start, start_after};

@@ -14,10 +14,10 @@ ghost use Rattle.ordered_search.specs.Places as places;
 ghost use Rattle.ordered_search.specs.Places.{up_to};
 ghost use Rattle.start_tests.specs.Bytes.{IsByteOutside};
 ghost use Rattle.match_drive.specs.Rest.{IsLeadUsed, IsPassedAlways, IsNextTriedAlways, behind};
-ghost use Rattle.match_drive.specs.Rest.{FailBeforeAlways, IsNextAlways};
+ghost use Rattle.match_drive.specs.Rest.{AreRefused, FailBeforeAlways, FindsAlike, IsNextAlways};
 
 use crate::driven::Driven;
-use byte_lanes::{ByteSet, EndKind, find_in_set, find_line_end, newline_at};
+use byte_lanes::{ByteSet, EndKind, find_line_end, newline_at};
 use frame_machine::Signal;
 use match_needs::{BeginText, ByteText};
 use pat_tree::PartialMode;
@@ -262,6 +262,24 @@ fn pass<S: Driven>(on: &S, from: usize, last: usize) -> usize
     behind(on, from, place_from(subject, found, end, on.options().utf))
 }
 
+/// The place that follows those from one up to another, which are known to fail.
+fn past_refused<S: Driven>(on: &S, from: usize, to: usize, last: usize) -> Option<usize>
+    requires fits { S.fits on.now }
+    requires from { from ≤ last }
+    requires fail { AreRefused (S.asked on.now passed_over) from to }
+    requires last { last ≡ places.last_place (S.asked on.now passed_over) }
+    ensures same { FindsAlike (S.asked on.now passed_over) from result }
+    ensures place { IfSome result
+        (IsTextPlace (S.asked on.now passed_over).options (S.asked on.now passed_over).subject) }
+    ensures later { IfSome result (λ next. from < next) }
+    ensures within { IfSome result (λ next. next ≤ last) }
+{
+    if to >= last {
+        return None;
+    }
+    up_to(last, Some(behind(on, from, to + 1)))
+}
+
 /// The first place from one on that is tried.
 pub(crate) fn next_tried<S: Driven>(on: &S, from: Option<usize>, last: usize) -> Option<usize>
     requires fits { S.fits on.now }
@@ -282,10 +300,14 @@ pub(crate) fn next_tried<S: Driven>(on: &S, from: Option<usize>, last: usize) ->
         if place > last {
             return None;
         }
-        if !is_excluded(on, place) {
-            return Some(place);
+        if is_excluded(on, place) {
+            next = up_to(last, next_place(on, place));
+        } else {
+            let Some(to) = on.refused_to(place) else {
+                return Some(place);
+            };
+            next = past_refused(on, place, to, last);
         }
-        next = up_to(last, next_place(on, place));
     }
     None
 }

@@ -3,11 +3,10 @@
 ghost use Rattle.std.specs.Prelude.{◌≡◌, ◌<◌, ◌≤◌, All, IfSome, IsTrue, false, length};
 ghost use Rattle.pat_tree.specs.Parts.{tree_of};
 ghost use Rattle.pat_tree.specs.Rules.{class_in};
-ghost use Rattle.match_items.specs.Subjects.{IsText};
 ghost use Rattle.ordered_search.specs.LaterPlaces as later;
 ghost use Rattle.ordered_search.specs.Plain.{IsPlain};
 ghost use Rattle.match_drive.specs.Run as run;
-ghost use Rattle.match_drive.specs.Run.{IsFirstRun};
+ghost use Rattle.match_drive.specs.Run.{BeginsByRun, GoesByRuns};
 
 use match_items::View;
 use pat_tree::{Cond, Item, Node, NodeId, Tree};
@@ -79,26 +78,22 @@ fn first_run(tree: &Tree) -> Option<Item>
     run_of(tree.node(id))
 }
 
-/// The item whose run a pattern begins with, where a place that fails has all places in the run
-/// from there fail: nothing in the pattern goes by what was captured, and matches of the empty text
-/// count. None in UTF, where places go by characters, and none where partial matches are looked for.
-pub(crate) fn leading_run(tree: &Tree, view: &View<'_>) -> Option<Item>
-    requires options { view.now.options.now ≡ tree.now.options }
-    requires subject { IsText view.now.options.now view.now.subject.now }
-    ensures { IfSome result (IsFirstRun tree.now view.now) }
+/// The item whose run a pattern begins with, where nothing in the pattern goes by what was captured.
+pub(crate) fn plain_run(tree: &Tree) -> Option<Item>
+    ensures { IfSome result (BeginsByRun tree.now) }
 {
-    if !is_off(view) {
-        return None;
-    }
     let item = first_run(tree)?;
-    let (options, matching) = (view.options, view.matching);
-    if options.utf
-        || options.notempty
-        || options.notempty_atstart
-        || matching.notempty
-        || matching.notempty_atstart
-    {
-        return None;
-    }
     if is_plain(tree) { Some(item) } else { None }
+}
+
+/// Whether a search goes by such a run, where a place that fails has all places in the run from
+/// there fail: matches of the empty text count. Not in UTF, where places go by characters, and not
+/// where partial matches are looked for.
+pub(crate) fn goes_by_run(view: &View<'_>) -> bool
+    ensures { IsTrue result → GoesByRuns view.now }
+{
+    let (options, matching) = (view.options, view.matching);
+    let any_length = !(options.notempty || matching.notempty);
+    let any_start = !(options.notempty_atstart || matching.notempty_atstart);
+    !options.utf && is_off(view) && any_length && any_start
 }

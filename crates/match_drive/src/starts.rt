@@ -9,6 +9,7 @@ ghost use Rattle.start_tests.specs.Asked.{passed_over};
 ghost use Rattle.match_drive.specs.Course.{IsByteCourse};
 
 use crate::course::Course;
+use crate::outline::Guide;
 use crate::places::{is_excluded, last_place, place_after};
 use frame_machine::{Ready, Signal};
 use match_items::View;
@@ -18,17 +19,20 @@ fn course_of<'a>(ready: &'a Ready<'a>, view: &'a View<'a>) -> Course<'a>
     requires { IsReadySearch ready.now view.now }
     ensures ready { result.ready.now ≡ ready.now }
     ensures view { result.view.now ≡ view.now }
-    ensures fits { IsByteCourse result.ready.now result.view.now result.at_begin result.first.now
-        (option_copied result.begin) result.repeat result.run }
+    ensures fits { IsByteCourse result.ready.now result.view.now result.guide result.first.now
+        (option_copied result.begin) }
 {
     Course {
         ready,
         view,
-        at_begin: false,
+        guide: Guide {
+            at_begin: false,
+            whole: None,
+            repeat: None,
+            run: None,
+        },
         first: &[],
         begin: None,
-        repeat: None,
-        run: None,
     }
 }
 

@@ -13,6 +13,8 @@ use Rattle.pat_lengths.specs.Backs.{greatest_back}
 use Rattle.pat_lengths.specs.Lengths.{can_be_empty}
 use Rattle.pat_lengths.specs.Nodes.{tests_before}
 use Rattle.frame_board.specs.Ready.{AreFactsOf}
+use Rattle.match_drive.specs.declared.outline.Outline.{Outline}
+use Rattle.match_drive.specs.Outline.{IsOutlineOf}
 use Rattle.pcre2_api.specs.Patterns.{compiled}
 use Rattle.pcre2_api.specs.declared.code.Info.{Info}
 use Rattle.pcre2_errors.specs.declared.error.CompileError.{CompileError}
@@ -25,10 +27,11 @@ pub record CodeParts : Type 0 where
   pub classes : List CharSet
   pub facts : Facts
 
--- The table and the facts are those of the tree.
-pub record IsCode (code : CodeParts) : Type 0 where
+-- The table, the facts and the outline are those of the tree.
+pub record IsCode (code : CodeParts) (outline : Outline) : Type 0 where
   pub table : IsTableOf code.tree code.classes
   pub facts : AreFactsOf code.tree code.facts
+  pub outlined : IsOutlineOf code.tree outline
 
 -- what the text is read as is the code's tree, and no lookbehind of it is refused
 abbrev pub Compiles : Options → List ℕ → CodeParts → Type 0

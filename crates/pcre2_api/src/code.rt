@@ -29,7 +29,7 @@ use crate::seek::{seek, seek_again};
 use crate::starts::test_start;
 use char_sets::ClassTable;
 use frame_machine::{Ready, Scratch};
-use match_drive::{MatchAnswer, search};
+use match_drive::{MatchAnswer, Outline, search_by};
 use match_items::View;
 use match_needs::ByteText;
 use pat_build::read;
@@ -48,6 +48,7 @@ pub struct Code {
     tree: Tree,
     classes: ClassTable,
     facts: Facts,
+    outline: Outline,
 }
 
 /// What is told of a compiled pattern (pcre2api, "Information about a compiled pattern").
@@ -80,7 +81,7 @@ impl Model for Code {
           tree = code.tree;
           classes = code.classes;
           facts = code.facts;
-        }) };
+        }) code.outline };
 }
 
 impl Code {
@@ -96,12 +97,14 @@ impl Code {
         tree.is_sound();
         let classes = ClassTable::build(alloc, &tree)?;
         let facts = check(alloc, &tree, &classes)?;
+        let outline = Outline::of(&tree);
         let text = pattern.to_vec(alloc)?;
         Ok(Code {
             text,
             tree,
             classes,
             facts,
+            outline,
         })
     }
 
@@ -276,7 +279,7 @@ impl Code {
             options: self.tree.options(),
             matching: options,
         };
-        search(&ready, &view, scratch, calls)
+        search_by(&ready, &self.outline, &view, scratch, calls)
     }
 
     /// A text that every match takes: a subject of at most `most` bytes in which it stands nowhere has no match, and a

@@ -143,3 +143,145 @@ No match
 fn places_in_a_run_fail_together(rt: HostRuntime) -> Result<(), Fail> {
     check_script(&rt, rt.alloc(), RUNS)
 }
+
+const RUNS_OF_WHAT_FOLLOWS: &str = "\
+>/\\w+_/
+>abc de_
+ 0: de_
+>abc de
+No match
+>_
+No match
+>a_ _b
+ 0: a_
+>ab cd ef_gh
+ 0: ef_
+>__
+ 0: __
+>abc de_\\=offset=3
+ 0: de_
+>abc_d\\=endanchored
+No match
+>abc_d_\\=endanchored
+ 0: abc_d_
+>
+>/(\\w+)_(\\w+)\\(/
+>fn get one_two(x
+ 0: one_two(
+ 1: one
+ 2: two
+>a_ b_c(
+ 0: b_c(
+ 1: b
+ 2: c
+>ab _c_d(
+ 0: _c_d(
+ 1: _c
+ 2: d
+>a__b(
+ 0: a__b(
+ 1: a_
+ 2: b
+>_a(
+No match
+>fn a_b
+No match
+>
+>/[ab]{2,}b/
+>ab bb abb
+ 0: abb
+>ab ba bba
+No match
+>bab
+ 0: bab
+>babb
+ 0: babb
+>ab ab aa
+No match
+>
+>/[ab]{3}b/
+>aab abbb
+ 0: abbb
+>
+>/[ab]{2,}b$/
+>bbab abba aabb
+ 0: aabb
+>
+>/[ab]*b/
+>ccb
+ 0: b
+>caab
+ 0: aab
+>aaa
+No match
+>
+>/[ab]*bc/
+>aabab abc
+ 0: abc
+>bb
+No match
+>
+>/([ab]+)b\\1/
+>abbab aba
+ 0: abbab
+ 1: ab
+>aabbaa
+No match
+>
+>/(?:[ab]+)bc/
+>abb abbc
+ 0: abbc
+>
+>/[^x]+yz/
+>axyz ayyz
+ 0: yz ayyz
+>yz
+No match
+>
+>/[^x]+y/firstline
+>aa\\nby
+ 0: aa\\x0aby
+>aax\\nby
+ 0: \\x0aby
+>
+>/^\\w+_x/
+>ab a_x
+No match
+>a_b_x
+ 0: a_b_x
+>
+>/\\w+_x/
+>ab_a b_x
+ 0: b_x
+>ab_x a_x\\=anchored,offset=1
+ 0: b_x
+>
+>/[a-c]+b/i
+>xxB ab
+ 0: ab
+>ca B
+No match
+>
+>/\\w+_/utf
+>ab a_
+ 0: a_
+>
+>/a+a/
+>aaaa
+ 0: aaaa
+>ba a aa
+ 0: aa
+>
+>/.+,/
+>ab,c,d
+ 0: ab,c,
+>ab
+No match
+>
+";
+
+// A shorter run may be followed by the character where the item takes it too.
+#[test]
+fn a_run_may_take_what_follows_it(rt: HostRuntime) -> Result<(), Fail> {
+    check_script(&rt, rt.alloc(), RUNS_OF_WHAT_FOLLOWS)
+}

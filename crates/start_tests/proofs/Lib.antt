@@ -4,3 +4,4 @@ pub mod PastPrefix
 pub mod PastRepeats
 pub mod OpenSpans
 pub mod PastSpans
+pub mod PastWhole

@@ -1,10 +1,10 @@
--- Runs of the bytes of a set that are too few, or that no end closes.
+-- Runs of the bytes of a set that are too few, or that no end closes behind enough of them.
 use Rattle.std.proofs.Common.{◌≡◌, ℕ, ◌+◌, ◌-◌, ◌<◌, ◌≤◌, inl, inr, Bool, false, List, length, arith}
 use Rattle.std.specs.Prelude.{slice_index}
 use Rattle.std.proofs.lemmas.Bool.{cases_lt}
 use Rattle.byte_lanes.specs.Sets.{has_byte, IsIn}
 use Rattle.start_tests.specs.Bytes.{IsByteOutside}
-use Rattle.start_tests.specs.Spans.{IsOutside, IsShort, IsUnclosed, IsOpen}
+use Rattle.start_tests.specs.Spans.{IsOutside, IsShort, IsOpen}
 
 -- Spans of bytes.
 
@@ -35,49 +35,50 @@ module _ (set : List Bool) (bytes : List ℕ) where
             (omega arith) (omega arith)
       ]
 
-module _ (set ends : List Bool) (bytes : List ℕ) where
+module _ (set ends : List Bool) (bytes : List ℕ) (least : ℕ) where
   abbrev IsEndless : ℕ → ℕ → Type 0
-  IsEndless at end = (i : ℕ) → at ≤ i → i < end → ¬ IsIn ends bytes i
-
-  pub unclosed_to : (at stop : ℕ) → IsOutside set bytes stop
-      → ((i : ℕ) → at ≤ i → i ≤ stop → i < length bytes → ¬ IsIn ends bytes i)
-      → (k : ℕ) → at ≤ k → k ≤ stop → IsUnclosed set ends bytes k
-  unclosed_to at stop out none k low high = record {
-    stop = stop;
-    low = high;
-    outside = out;
-    none = λ i a b inside. none i (omega (arith, low, a)) b inside;
-  }
+  IsEndless at end = (i : ℕ) → at + least ≤ i → i < end → ¬ IsIn ends bytes i
 
   -- where no end is left, none closes what stands from any place on
   pub endless : (at : ℕ) → IsEndless at (length bytes) → (k : ℕ) → at ≤ k → k ≤ length bytes
-      → IsUnclosed set ends bytes k
-  endless at none k low high =
-      unclosed_to at (length bytes) (past_end set bytes) (λ i a b inside. none i a inside) k low
-      high
+      → IsOpen set ends bytes least k
+  endless at none k low high = record {
+    stop = length bytes;
+    low = high;
+    outside = past_end set bytes;
+    none = λ i a b inside. none i (omega (arith, low, a)) inside;
+  }
+
+  -- nor where too few bytes are left
+  pub none_left : (at : ℕ) → length bytes ≤ at + least → (k : ℕ) → at ≤ k → k ≤ length bytes
+      → IsOpen set ends bytes least k
+  none_left at few k low high = endless at (λ i a inside. absurd (omega (arith, few, a, inside)))
+      k low high
 
   -- an end closes the bytes of the set right before it alone
-  pub unclosed_before : (at begin end : ℕ) → begin ≤ end → at < begin
+  pub open_before : (at begin end : ℕ) → begin ≤ end → at < begin
       → (at < begin → has_byte set (slice_index bytes (begin - 1)) ≡ false) → IsEndless at end
-      → (k : ℕ) → at ≤ k → k < begin → IsUnclosed set ends bytes k
-  unclosed_before at begin end ordered later out none k low high =
-      unclosed_to at (begin - 1) (λ inside. out later)
-      (λ i a b inside. none i a (omega (arith, ordered, later, b))) k low (omega (arith, high))
+      → (k : ℕ) → at ≤ k → k < begin → IsOpen set ends bytes least k
+  open_before at begin end ordered later out none k low high = record {
+    stop = begin - 1;
+    low = omega (arith, high);
+    outside = λ inside. out later;
+    none = λ i a b inside. none i (omega (arith, low, a)) (omega (arith, ordered, later, b));
+  }
 
-  -- and where those are too few, nothing up to the next byte of the set behind it
-  pub open_past : (least at begin end next : ℕ) → begin ≤ end → end - begin < least
+  -- and where those are too few, nothing up to the next byte of the set
+  pub open_past : (at begin end next : ℕ) → begin ≤ end → end - begin < least
       → (at < begin → has_byte set (slice_index bytes (begin - 1)) ≡ false) → IsEndless at end
-      → has_byte set (slice_index bytes end) ≡ false
-      → ((k : ℕ) → end + 1 ≤ k → k < next → IsByteOutside set (slice_index bytes k))
+      → ((k : ℕ) → begin ≤ k → k < next → IsByteOutside set (slice_index bytes k))
       → (k : ℕ) → at ≤ k → k < next → IsOpen set ends bytes least k
-  open_past least at begin end next ordered few out none last later k low high =
+  open_past at begin end next ordered few out none later k low high =
       elim (cases_lt k begin) [
-        | inl before ↦ inr (unclosed_before at begin end ordered (omega (arith, low, before)) out
-            none k low before)
-        | inr past ↦ elim (cases_lt end k) [
-          | inl behind ↦ inl (short_to set bytes least k k (omega (arith, few))
-              (λ inside. (later k (omega (arith, behind)) high).1) k (omega arith) (omega arith))
-          | inr within ↦ inl (short_to set bytes least begin end (omega (arith, ordered, few))
-              (λ inside. last) k past within)
-        ]
+        | inl before ↦ open_before at begin end ordered (omega (arith, low, before)) out none k low
+            before
+        | inr past ↦ record {
+          stop = k;
+          low = omega arith;
+          outside = λ inside. (later k past high).1;
+          none = λ i a b inside. absurd (omega (arith, few, a, b));
+        }
       ]

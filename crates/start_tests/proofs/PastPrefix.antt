@@ -224,10 +224,10 @@ module _ (g : Setting) (off : g.matching.«partial» ≡ Off) where
   -- The walk over what the branches give.
 
   -- the first state at a place, on a path that holds so many units
-  abbrev holding : ℕ → ℕ → State
+  abbrev pub holding : ℕ → ℕ → State
   holding p n = record (first_state g.groups p) { units = n }
 
-  abbrev told_at : ℕ → Option ℕ → Walked
+  abbrev pub told_at : ℕ → Option ℕ → Walked
   told_at p None = answers (Failed Exhausted)
   told_at p (Some q) = answers (Matched (record { keep = p; to = q; mark = None; caps = replicate g.groups None }))
 
@@ -248,7 +248,7 @@ module _ (g : Setting) (off : g.matching.«partial» ≡ Off) where
   decided false true s w h = absurd (cc h)
   decided false false s w h = refl
 
-  match_told : (n p units q : ℕ) (x : Stream) → admitted g p q ≡ true → walk g n (state reached (move_to q (holding p units)) ▸ x) ≡ told_at p (Some q)
+  pub match_told : (n p units q : ℕ) (x : Stream) → admitted g p q ≡ true → walk g n (state reached (move_to q (holding p units)) ▸ x) ≡ told_at p (Some q)
   unfolding walk
   match_told n p units q x h = decided (refused_as_empty g p q) (refused_by_end g q) (move_to q (holding p units)) (walk g n x) h
 
@@ -271,7 +271,7 @@ module _ (g : Setting) (off : g.matching.«partial» ≡ Off) where
       ap (walk g n) (sym (nothing_after own (holding p 0)))
       ∙ either_told n p 0 nothing own o Refused e (λ r. none_told n p ∙ ap (told_at p) (sym (settled_none o r))) counted
 
-  has_unit : (s : State) (f : Search) → s.units + 1 ≤ g.matching.frame_limit → held g 1 s f ≡ f (record s { units = s.units + 1 })
+  pub has_unit : (s : State) (f : Search) → s.units + 1 ≤ g.matching.frame_limit → held g 1 s f ≡ f (record s { units = s.units + 1 })
   unfolding held
   has_unit s f room =
       ap (λ (b : Bool). elim b as (λ _. Stream) [ true ↦ f (record s { units = s.units + 1 }) | false ↦ ends (by_halt too_many_units) ])

@@ -1,5 +1,5 @@
--- A pattern fails where the run of the item that it begins with is too short, or isn't followed by
--- what has to follow it.
+-- A pattern fails where the run of the item that it begins with is too short, or where what has to
+-- follow follows neither it nor a shorter one.
 use Rattle.std.proofs.Common.{◌≡◌, ℕ, ℤ, zero, suc, ◌+◌, ◌-◌, ◌<◌, ◌≤◌, inl, inr, Bool, true, false, List, [], ◌∷◌, ◌++◌, length, map, drop, reverse, Option, Some, None, refl, sym, ap, subst, ◌∙◌, arith}
 use Rattle.std.specs.Prelude.{◌==◌, slice_index, IfSome, if◌then◌else◌}
 use Rattle.std.proofs.lemmas.Bool.{le-leb, eqb-true}
@@ -40,30 +40,27 @@ use Rattle.start_tests.proofs.PastPrefix.{scene_same}
 
 -- The parts that begin with a repeat.
 
-pub begins_parts : (tree : TreeParts) (has : ℕ → ℕ → Bool) (parts : List ℕ) (r : FirstRepeat)
-    → 2 ≤ length parts
+pub begins_parts : (tree : TreeParts) (parts : List ℕ) (r : FirstRepeat) → 2 ≤ length parts
     → IsLead (tree_at (trees tree.nodes) (slice_index parts 0)) r.item r.min
-    → IfSome r.behind (λ c. tree_at (trees tree.nodes) (slice_index parts 1) ≡ one
-    (Char c false)) → IfSome r.behind (Lacks has r.item)
-    → BeginsWith has (seq (row_of tree parts)) r
-begins_parts tree has [] r two is next lacks = absurd (omega (arith, two))
-begins_parts tree has (k ∷ []) r two is next lacks = absurd (omega (arith, two))
-begins_parts tree has (k ∷ j ∷ ks) r two is next lacks = (
+    → IfSome r.behind (λ c. tree_at (trees tree.nodes) (slice_index parts 1) ≡ one (Char c false))
+    → BeginsWith (seq (row_of tree parts)) r
+begins_parts tree [] r two is next = absurd (omega (arith, two))
+begins_parts tree (k ∷ []) r two is next = absurd (omega (arith, two))
+begins_parts tree (k ∷ j ∷ ks) r two is next = (
   row_of tree (j ∷ ks),
   (
     inr (
       tree_at (trees tree.nodes) k,
       (is, refl),
     ),
-    by_next r.behind next lacks,
+    by_next r.behind next,
   ),
 )
   where
     by_next : (o : Option ℕ) → IfSome o (λ c. tree_at (trees tree.nodes) j ≡ one (Char c false))
-        → IfSome o (Lacks has r.item)
-        → Follows has r.item (row_of tree (j ∷ ks)) o
-    by_next None next lacks = tt
-    by_next (Some c) next lacks = ((row_of tree ks, ap (λ t. more t (row_of tree ks)) next), lacks)
+        → Follows (row_of tree (j ∷ ks)) o
+    by_next None next = tt
+    by_next (Some c) next = (row_of tree ks, ap (λ t. more t (row_of tree ks)) next)
 
 pub lead_alone : (t u : Nested) → t ≡ u → (o : Option FirstRepeat)
     → IfSome o (λ r. IsRepeat t r.item r.min) → IfSome o (λ r. IsLead u r.item r.min)
@@ -80,28 +77,20 @@ lead_grouped ts number (k ∷ []) t some few e inner only None is = tt
 lead_grouped ts number (k ∷ []) t some few e inner only (Some r) is =
     inr (number, (inner, (is, sym e ∙ ap (λ u. group number (more u none)) (sym only))))
 
-pub begins_alone : (has : ℕ → ℕ → Bool) (t : Nested) (o : Option FirstRepeat)
-    → IfSome o (λ r. IsLead t r.item r.min)
-    → IfSome o (λ r. r.behind ≡ None) → IfSome o (BeginsWith has t)
-begins_alone has t None is alone = tt
-begins_alone has t (Some r) is alone = (
-  none,
-  (
-    inl (is, refl),
-    subst (Follows has r.item none)
-        (sym alone) tt,
-  ),
-)
+pub begins_alone : (t : Nested) (o : Option FirstRepeat) → IfSome o (λ r. IsLead t r.item r.min)
+    → IfSome o (λ r. r.behind ≡ None) → IfSome o (BeginsWith t)
+begins_alone t None is alone = tt
+begins_alone t (Some r) is alone = (none, (inl (is, refl), subst (Follows none) (sym alone) tt))
 
 -- Runs.
 
 -- the item takes nothing at these places
 module _ (g : Scene) (other : Item) where
-  abbrev AreOut : List ℕ → Type 0
+  abbrev pub AreOut : List ℕ → Type 0
   AreOut [] = Unit {0}
   AreOut (p ∷ ps) = (after_item g other p ≡ None) × AreOut ps
 
-  out_drop : (n : ℕ) (ps : List ℕ) → AreOut ps → AreOut (drop n ps)
+  pub out_drop : (n : ℕ) (ps : List ℕ) → AreOut ps → AreOut (drop n ps)
   out_drop zero ps out = out
   out_drop (suc n) [] out = tt
   out_drop (suc n) (p ∷ ps) out = out_drop n ps out.1
@@ -255,7 +244,7 @@ last_of (b ∷ before) p (r ∷ ps) q qs e = last_of before r ps q qs (cc e)
 -- Streams.
 
 module _ (g : Setting) (off : g.matching.«partial» ≡ Off) where
-  many_is : (item : Item) (low : ℕ) (high : Option ℕ) (s : State)
+  pub many_is : (item : Item) (low : ℕ) (high : Option ℕ) (s : State)
       → run_many g item low high false s ≡ offers g (reverse (drop low
       (s.place ∷ longest_run g.scene item high s.place))) s
   unfolding run_many greedy
@@ -347,7 +336,7 @@ module _ (g : Setting) (off : g.matching.«partial» ≡ Off) where
     abbrev grouped : Option ℕ → Nested
     grouped number = group number (more (one_repeat item low high false) none)
 
-    alone_is : (s : State)
+    pub alone_is : (s : State)
         → level g below (one_repeat item low high false) s ≡ run_many g item low high false s
     unfolding level
     alone_is s = refl
@@ -437,7 +426,7 @@ module _ (g : Setting) (off : g.matching.«partial» ≡ Off) where
 
   -- Start places.
 
-  place_is : (t : Nested) → g.whole ≡ group None (more t none) → (p : ℕ)
+  pub place_is : (t : Nested) → g.whole ≡ group None (more t none) → (p : ℕ)
       → place_answer g p ≡ walk g (match_limit g) (level g (run g (match_limit g)) t
       (first_state g.groups p))
   unfolding run level levels run_group branches
@@ -484,25 +473,23 @@ module _ (g : Setting) (off : g.matching.«partial» ≡ Off) where
       ∙ nothing_then rest)
       ∙ no_walk d
 
-  -- so does one whose run isn't followed by what has to follow it, where so many runs may be tried
-  lacking_fails : (start : Nested) (item : Item) (low : ℕ) (after : Row) (other : Item) (rest : Row)
-      → g.whole ≡ group None (more start none) → BeginsPart start item low after
-      → after ≡ more (one other) rest
-      → ((p q : ℕ) → after_item g.scene item p ≡ Some q → after_item g.scene other p ≡ None)
-      → (p : ℕ) → after_item g.scene other (end_of p (longest_run g.scene item None p)) ≡ None
+  -- so does one where what has to follow follows none of the runs, and so many may be tried
+  followed_fails : (start : Nested) (item : Item) (low : ℕ) (after : Row) (other : Item)
+      (rest : Row) → g.whole ≡ group None (more start none) → BeginsPart start item low after
+      → after ≡ more (one other) rest → (p : ℕ)
+      → ((high : Option ℕ)
+      → AreOut g.scene other (drop low (p ∷ longest_run g.scene item high p)))
       → length (longest_run g.scene item None p) + 1 ≤ low + match_limit g
       → 3 ≤ g.matching.frame_limit
       → place_answer g p ≡ answers (Failed Exhausted)
-  lacking_fails start item low after other rest is
-      (inl alone) follows apart p last few room = absurd (cc (sym alone.1 ∙ follows))
-  lacking_fails start item low after other rest is (inr begins) follows apart p last few room =
+  followed_fails start item low after other rest is
+      (inl alone) follows p none-follow few room = absurd (cc (sym alone.1 ∙ follows))
+  followed_fails start item low after other rest is (inr begins) follows p none-follow few room =
       let s = first_state g.groups p in
       let d = match_limit g in
       let runs : Option ℕ → List ℕ = λ high. p ∷ longest_run g.scene item high p in
       let out : (high : Option ℕ) → AreOut g.scene other (reverse (drop low (runs high))) = λ high.
-      out_reverse g.scene other (drop low (runs high))
-      (out_drop g.scene other low (runs high) (out_run g.scene item other apart
-      (length g.subject) high p last)) in
+      out_reverse g.scene other (drop low (runs high)) (none-follow high) in
       let few' : (high : Option ℕ) → length (reverse (drop low (runs high))) ≤ d = λ high.
       (let a = shorter g.scene item (length g.subject) high p in
       let b = length-reverse (drop low (runs high)) in
@@ -564,6 +551,42 @@ apart g item c h p q = by_next (next g p)
     by_next (Some d) k = by_takes d.0 d.1 (takes g item p d.0) refl k
 
 -- The search of a tree.
+
+module _ (tree : TreeParts) (table : List CharSet) (view : View) (first : FirstRepeat)
+    (shown : IsTableOf tree table)
+    (options : view.options.now ≡ tree.options) (is : IsFirstRepeat tree view first)
+    (c : ℕ) (behind : first.behind ≡ Some c) (p : ℕ) where
+  abbrev asked : Setting
+  asked = setting_for tree view passed_over
+
+  abbrev NoneFollow : Scene → Type 0
+  NoneFollow s = (high : Option ℕ)
+      → AreOut s (Char c false) (drop first.min (p ∷ longest_run s first.item high p))
+
+  -- the character follows none of the runs from the place
+  followed_at : NoneFollow asked.scene
+      → length (longest_run asked.scene first.item None p) + 1 ≤ first.min
+      + lower_of view.options.now.match_limit view.matching.now.match_limit
+      → (reply : Block → ℤ) → place_answer (replied reply asked) p ≡ answers (Failed Exhausted)
+  followed_at out few reply =
+      let limit : lower_of view.options.now.match_limit view.matching.now.match_limit ≡
+      match_limit asked = ap (λ
+      (o : Options). lower_of o.match_limit view.matching.now.match_limit) options in
+      let follows : Follows is.begins.0 (Some c) = subst (Follows is.begins.0) behind
+      is.begins.1.1 in
+      followed_fails (replied reply asked) is.off is.start first.item first.min is.begins.0
+      (Char c false) follows.0 is.whole is.begins.1.0 follows.1 p out (omega (arith, few, limit))
+      is.room
+
+  pub followed_run : NoneFollow (text_scene view table) → (n : ℕ)
+      → n ≡ length (longest_run (text_scene view table) first.item None p)
+      → n + 1 ≤ first.min + lower_of view.options.now.match_limit view.matching.now.match_limit
+      → (reply : Block → ℤ) → place_answer (replied reply asked) p ≡ answers (Failed Exhausted)
+  followed_run out n count few reply =
+      let scene = scene_same tree table view passed_over shown options in
+      let same : n ≡ length (longest_run asked.scene first.item None p) = count
+      ∙ ap (λ (s : Scene). length (longest_run s first.item None p)) scene in
+      followed_at (subst NoneFollow scene out) (omega (arith, same, few)) reply
 
 module _ (tree : TreeParts) (table : List CharSet) (view : View) (first : FirstRepeat)
     (shown : IsTableOf tree table)
@@ -641,34 +664,30 @@ module _ (tree : TreeParts) (table : List CharSet) (view : View) (first : FirstR
       short_fails (replied reply g) is.off is.start first.item first.min is.begins.0 is.whole
       is.begins.1.0 k (omega (arith, same, most, few)) is.room
 
-  pub lacking_run : (c : ℕ) → first.behind ≡ Some c → (n q : ℕ)
-      → n ≡ length (longest_run (text_scene view table) first.item None p)
+  pub lacking_run : (c : ℕ) → first.behind ≡ Some c → Lacks (class_has tree) first.item c
+      → (n q : ℕ) → n ≡ length (longest_run (text_scene view table) first.item None p)
       → q ≡ end_of p (longest_run (text_scene view table) first.item None p)
       → after_item (text_scene view table) (Char c false) q ≡ None
       → n + 1 ≤ first.min + lower_of view.options.now.match_limit view.matching.now.match_limit
       → (reply : Block → ℤ) (k : ℕ) → p ≤ k → k ≤ end_of p (run_from p)
       → place_answer (replied reply g) k ≡ answers (Failed Exhausted)
-  lacking_run c behind n q count to last few reply k low high =
+  lacking_run c behind lacks n q count to last few reply k low high =
       let scene = scene_same tree table view passed_over shown options in
       let same : n ≡ length (run_from p) = count
       ∙ ap (λ (s : Scene). length (longest_run s first.item None p)) scene in
       let most = no_longer k low high in
-      let limit : lower_of view.options.now.match_limit view.matching.now.match_limit ≡
-      match_limit g = ap (λ
-      (o : Options). lower_of o.match_limit view.matching.now.match_limit) options in
-      let follows : Follows (class_has tree) first.item is.begins.0 (Some c) = subst (Follows
-      (class_has tree) first.item is.begins.0) behind is.begins.1.1 in
-      let lacks : Lacks g.class_has first.item c = subst (λ has. Lacks has first.item c)
-      (class_told tree) follows.1 in
+      let lacks' : Lacks g.class_has first.item c = subst (λ has. Lacks has first.item c)
+      (class_told tree) lacks in
       let here : q ≡ end_of k (run_from k) = to
       ∙ ap (λ (s : Scene). end_of p (longest_run s first.item None p)) scene
       ∙ same_end k low high in
       let last' : after_item g.scene (Char c false) (end_of k (run_from k)) ≡ None =
       subst (λ j. after_item g.scene (Char c false) j ≡ None) here (subst (λ
       (s : Scene). after_item s (Char c false) q ≡ None) scene last) in
-      lacking_fails (replied reply g) is.off is.start first.item first.min is.begins.0
-      (Char c false) follows.0.0 is.whole is.begins.1.0 follows.0.1
-      (apart g.scene first.item c lacks) k last' (omega (arith, same, most, few, limit)) is.room
+      followed_at tree table view first shown options is c behind k
+      (λ high. out_drop g.scene (Char c false) first.min (k ∷ longest_run g.scene first.item high k)
+      (out_run g.scene first.item (Char c false) (apart g.scene first.item c lacks')
+      (length g.subject) high k last')) (omega (arith, same, most, few)) reply
 
 -- the first of the places that fail
 pub fails_first : (tree : TreeParts) (view : View) (p q : ℕ) (given : told.Block → ℤ)

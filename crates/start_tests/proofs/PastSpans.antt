@@ -1,6 +1,6 @@
 -- A pattern fails at the places from which too few bytes of its first repeat's class stand, or
--- where the character that has to follow them doesn't.
-use Rattle.std.proofs.Common.{◌≡◌, ℕ, ℤ, zero, suc, ◌+◌, ◌-◌, ◌<◌, ◌≤◌, inl, inr, Bool, true, false, List, [], ◌∷◌, length, Option, Some, None, refl, sym, ap, subst, ◌∙◌, arith}
+-- where the character that has to follow stands behind no number of them that is enough.
+use Rattle.std.proofs.Common.{◌≡◌, ℕ, ℤ, zero, suc, ◌+◌, ◌-◌, ◌<◌, ◌≤◌, inl, inr, Bool, true, false, List, [], ◌∷◌, length, drop, Option, Some, None, refl, sym, ap, subst, ◌∙◌, arith}
 use Rattle.std.specs.Prelude.{◌==◌, ◌||◌, slice_index, IfSome}
 use Rattle.std.proofs.lemmas.Bool.{cases_lt, cases_Bool, eqb-true}
 use Rattle.std.proofs.lemmas.Bool.Decides.{nat_tests}
@@ -13,7 +13,7 @@ use Rattle.char_sets.specs.Sets.{class_has}
 use Rattle.char_sets.specs.Table.{CharSet, IsTableOf}
 use Rattle.match_items.specs.declared.view.View.{View}
 use Rattle.match_items.specs.Scene.{Scene}
-use Rattle.match_items.specs.Items.{takes, after_item, run_places, longest_run}
+use Rattle.match_items.specs.Items.{takes, after_item, is_none_left, one_less, run_places, longest_run}
 use Rattle.match_items.specs.Views.{text_scene, end_of}
 use Rattle.match_items.proofs.OneItem.{if_taken, after_item-before, after_item-end}
 use Rattle.match_items.proofs.Places.{item_forward, place_before-less}
@@ -25,9 +25,9 @@ use Rattle.ordered_search.proofs.LaterRuns.{end_within}
 use Rattle.start_tests.specs.declared.repeats.FirstRepeat.{FirstRepeat}
 use Rattle.start_tests.specs.Asked.{passed_over, replied}
 use Rattle.start_tests.specs.Repeats.{IsFirstRepeat, FailsUpTo}
-use Rattle.start_tests.specs.Spans.{IsOutside, IsShort, IsUnclosed, IsOpen}
+use Rattle.start_tests.specs.Spans.{IsOutside, IsShort, IsOpen}
 use Rattle.start_tests.specs.Bytes.{AreBytes}
-use Rattle.start_tests.proofs.PastRepeats.{short_run, lacking_run}
+use Rattle.start_tests.proofs.PastRepeats.{AreOut, out_drop, short_run, followed_run}
 
 -- what is put into a set is in it
 pub put_in : (b : Bool) (n : ℕ) → (b || (n == n)) ≡ true
@@ -65,6 +65,68 @@ module _ (g : Scene) (item : Item) (bytes : g.options.utf ≡ false) (stop : ℕ
             let here : p ≡ stop = omega (arith, low, past) in
             absurd (let e' = ap (after_item g item) here in cc (sym e ∙ e' ∙ none))
       ]
+
+  abbrev IsOutFrom : Item → ℕ → ℕ → Type 0
+  IsOutFrom other low p = (j : ℕ) → p + low ≤ j → j ≤ stop → after_item g other j ≡ None
+
+  alone : (other : Item) (low p : ℕ) → p ≤ stop → IsOutFrom other low p
+      → AreOut g other (drop low (p ∷ []))
+  alone other zero p near out = (out p (omega arith) near, tt)
+  alone other (suc low) p near out = out_drop g other low [] tt
+
+  -- what stands nowhere from enough of the item's run on up to there follows no run that is long
+  -- enough
+  out_past : (other : Item) (n : ℕ) (most : Option ℕ) (low p : ℕ) → p ≤ stop
+      → p ≤ length g.subject → IsOutFrom other low p
+      → AreOut g other (drop low (p ∷ run_places g item n most p))
+  unfolding run_places
+  out_past other zero most low p near within out = alone other low p near out
+  out_past other (suc n) most low p near within out = by_left (is_none_left most) low out
+      (λ l q a b h. out_past other n (one_less most) l q a b h)
+    where
+      by_low : (q l : ℕ) → q ≡ p + 1 → q ≤ stop → q ≤ length g.subject → IsOutFrom other l p
+          → ((l q : ℕ) → q ≤ stop → q ≤ length g.subject → IsOutFrom other l q
+          → AreOut g other (drop l (q ∷ run_places g item n (one_less most) q)))
+          → AreOut g other (drop l (p ∷ q ∷ run_places g item n (one_less most) q))
+      by_low q zero later a b h again = (
+        h p (omega arith) near,
+        again 0 q a b
+            (λ j c d. h j (omega (arith, later, c)) d),
+      )
+      by_low q (suc l) later a b h again =
+          again l q a b (λ j c d. h j (omega (arith, later, c)) d)
+
+      by_next : (o : Option ℕ) → after_item g item p ≡ o → (l : ℕ) → IsOutFrom other l p
+          → ((l q : ℕ) → q ≤ stop → q ≤ length g.subject → IsOutFrom other l q
+          → AreOut g other (drop l (q ∷ run_places g item n (one_less most) q)))
+          → AreOut g other (drop l (p ∷ elim o as (λ _. List ℕ) [
+            | None ↦ []
+            | Some q ↦ q ∷ run_places g item n (one_less most) q
+          ]))
+      by_next None e l h again = alone other l p near h
+      by_next (Some q) e l h again = elim (cases_lt p stop) [
+        | inl before ↦
+            let f = item_forward g item p q bytes within e in
+            let less : q - 1 ≡ p = sym (place_before-less g q bytes) ∙ f.2 in
+            let later = f.0 in
+            by_low q l (omega (arith, less, later)) (omega (arith, less, before)) f.1 h again
+        | inr past ↦
+            let here : p ≡ stop = omega (arith, near, past) in
+            absurd (let e' = ap (after_item g item) here in cc (sym e ∙ e' ∙ none))
+      ]
+
+      by_left : (b : Bool) (l : ℕ) → IsOutFrom other l p
+          → ((l q : ℕ) → q ≤ stop → q ≤ length g.subject → IsOutFrom other l q
+          → AreOut g other (drop l (q ∷ run_places g item n (one_less most) q)))
+          → AreOut g other (drop l (p ∷ elim b as (λ _. List ℕ) [
+            | true ↦ []
+            | false ↦ elim (after_item g item p) [
+              | None ↦ []
+              | Some q ↦ q ∷ run_places g item n (one_less most) q
+            ]
+          ]))
+      by_left true l h again = alone other l p near h
+      by_left false l h again = by_next (after_item g item p) refl l h again
 
 -- The search of a tree.
 
@@ -131,32 +193,26 @@ module _ (tree : TreeParts) (table : List CharSet) (view : View) (first : FirstR
         after_item-before scene (Char c false) k is.bytes inside
         ∙ ap (λ (t : Bool). if_taken t (k + 1)) other
 
-    unclosed_place : (p k : ℕ) → p ≤ k → k ≤ length view.subject.now
-        → length view.subject.now - p < lower_of view.options.now.match_limit
-        view.matching.now.match_limit
-        → IsUnclosed set ends view.subject.now k → Fails k
-    unclosed_place p k later within limit h reply =
-        let end = end_of k (run_from k) in
-        let inner = end_within scene first.item is.bytes (length view.subject.now) k within in
-        let near = (stopped k h.stop h.low h.outside within).1 in
-        let count = (stopped k (length view.subject.now) within
-        (λ inside. absurd (omega (arith, inside))) within).0 in
-        let last : after_item scene (Char c false) end ≡ None = elim
-        (cases_lt end (length view.subject.now)) [
-          | inl inside ↦ unfollowed end inside (h.none end inner.0 near inside)
-          | inr past ↦ after_item-end scene (Char c false) end past
-        ] in
-        lacking_run tree table view first shown options is k within c behind
-        (length (run_from k)) end refl refl last (omega (arith, count, later, limit)) reply k
-        (omega arith) (run_low k within)
+    none_follows : (j : ℕ)
+        → (j < length view.subject.now → ¬ IsIn ends view.subject.now j)
+        → after_item scene (Char c false) j ≡ None
+    none_follows j no-end = elim (cases_lt j (length view.subject.now)) [
+      | inl inside ↦ unfollowed j inside (no-end inside)
+      | inr past ↦ after_item-end scene (Char c false) j past
+    ]
 
     open_place : (p k : ℕ) → p ≤ k → k ≤ length view.subject.now
         → length view.subject.now - p < lower_of view.options.now.match_limit
         view.matching.now.match_limit
         → IsOpen set ends view.subject.now first.min k → Fails k
-    open_place p k later within limit (inl short) = short_place k within short
-    open_place p k later within limit (inr unclosed) =
-        unclosed_place p k later within limit unclosed
+    open_place p k later within limit h reply =
+        let count = (stopped k (length view.subject.now) within
+        (λ inside. absurd (omega (arith, inside))) within).0 in
+        followed_run tree table view first shown options is c behind k
+        (λ high. out_past scene first.item is.bytes h.stop (none_at h.stop h.outside)
+        (Char c false) (length view.subject.now) high first.min k h.low within
+        (λ j a b. none_follows j (h.none j a b))) (length (run_from k)) refl
+        (omega (arith, count, later, limit)) reply
 
   -- all places before another one
   fail_before : (p next : ℕ) → next ≤ length view.subject.now + 1

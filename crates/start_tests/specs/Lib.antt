@@ -3,3 +3,4 @@ pub mod Bytes
 pub mod Prefix
 pub mod Repeats
 pub mod Spans
+pub mod Whole

@@ -6,7 +6,6 @@ use Rattle.pat_tree.specs.declared.options.PartialMode.TheVariants.{Off}
 use Rattle.pat_tree.specs.Nested.{Nested, Row, seq, group, one, one_repeat, none, more}
 use Rattle.pat_tree.specs.Parts.{TreeParts, tree_of}
 use Rattle.pat_tree.specs.Rules.{class_in}
-use Rattle.char_sets.specs.Sets.{class_has}
 use Rattle.match_items.specs.declared.view.View.{View}
 use Rattle.frame_board.specs.Ready.{setting_for}
 use Rattle.ordered_search.specs.Stream.{Block}
@@ -44,23 +43,26 @@ BeginsSeq t item low after = (first : Nested) × (IsLead first item low × (t �
 abbrev pub BeginsPart : Nested → Item → ℕ → Row → Type 0
 BeginsPart t item low after = (IsLead t item low × (after ≡ none)) ⊎ BeginsSeq t item low after
 
--- the first of these parts is the character, which the item doesn't take
-abbrev pub Follows : (ℕ → ℕ → Bool) → Item → Row → Option ℕ → Type 0
-Follows has item after None = Unit {0}
-Follows has item after (Some c) = ((rest : Row) × (after ≡ more (one
-    (Char c false)) rest)) × Lacks has item c
+-- the first of these parts is the character
+abbrev pub Follows : Row → Option ℕ → Type 0
+Follows after None = Unit {0}
+Follows after (Some c) = (rest : Row) × (after ≡ more (one (Char c false)) rest)
 
-abbrev pub BeginsWith : (ℕ → ℕ → Bool) → Nested → FirstRepeat → Type 0
-BeginsWith has t first =
-    (after : Row) × (BeginsPart t first.item first.min after × Follows has first.item after
-    first.behind)
+abbrev pub BeginsWith : Nested → FirstRepeat → Type 0
+BeginsWith t first =
+    (after : Row) × (BeginsPart t first.item first.min after × Follows after first.behind)
 
--- A search of bytes, without partial matching, whose pattern has one alternative that begins so.
-pub record IsFirstRepeat (tree : TreeParts) (view : View) (first : FirstRepeat) : Type 0 where
+-- A pattern that has one alternative, which begins so.
+pub record BeginsByRepeat (tree : TreeParts) (first : FirstRepeat) : Type 0 where
   pub start : Nested
   pub whole : tree_of tree ≡ group None (more start none)
-  pub begins : BeginsWith (class_has tree) start first
+  pub begins : BeginsWith start first
   pub class : All (λ n. n < length tree.classes) (class_in first.item)
+
+-- A search of bytes, without partial matching, whose pattern begins so.
+pub record IsFirstRepeat (tree : TreeParts) (view : View) (first : FirstRepeat) : Type 0 where
+  pub pattern : BeginsByRepeat tree first
+  pub open pattern use *
   pub bytes : view.options.now.utf ≡ false
   pub off : view.matching.now.«partial» ≡ Off
   -- for a group, its capture, and a shorter run

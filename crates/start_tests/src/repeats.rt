@@ -2,6 +2,7 @@
 //! pattern.
 ghost use Rattle.std.specs.Prelude.{◌≡◌, ◌<◌, ◌≤◌, ◌+◌, ◌-◌, ◌||◌, ℕ, All, List, IfSome, IsTrue, None, Some, false, not, length};
 ghost use Rattle.pat_tree.specs.declared.nodes.Item.TheVariants.{Char, Class};
+ghost use Rattle.pat_tree.specs.declared.options.PartialMode.TheVariants.{Off};
 ghost use Rattle.pat_tree.specs.Nested.{Nested, seq, one, nest, tree_at, trees};
 ghost use Rattle.pat_tree.specs.Parts.{TreeParts};
 ghost use Rattle.pat_tree.specs.Rules.{class_in, classes_of};
@@ -10,7 +11,7 @@ ghost use Rattle.char_sets.specs.Table.{IsTableOf};
 ghost use Rattle.match_items.specs.Subjects.{IsText, IsTextPlace};
 ghost use Rattle.ordered_search.specs.Setting.{lower_of};
 ghost use Rattle.start_tests.specs.Prefix.{row_of};
-ghost use Rattle.start_tests.specs.Repeats.{Lacks, IsRepeat, IsLead, BeginsWith, IsFirstRepeat, FailsUpTo};
+ghost use Rattle.start_tests.specs.Repeats.{Lacks, IsRepeat, IsLead, BeginsWith, BeginsByRepeat, IsFirstRepeat, FailsUpTo};
 
 use crate::prefix::taken;
 use crate::search::{are_bytes, is_off, match_limit};
@@ -19,7 +20,7 @@ use byte_lanes::ByteSet;
 use char_sets::ClassTable;
 use frame_board::Ready;
 use match_items::{View, item_run};
-use pat_tree::{Item, Node, NodeId};
+use pat_tree::{Item, Node, NodeId, Tree};
 
 /// The greedy repeat of an item that a pattern begins with.
 #[derive(Clone, Copy)]
@@ -28,7 +29,7 @@ pub struct FirstRepeat {
     /// How many characters it takes at least, and at most.
     pub min: u16,
     pub max: Option<u16>,
-    /// The character that has to stand behind it, where one is known that the item doesn't take.
+    /// The character that has to stand behind it, where it has no maximum and one is known.
     pub behind: Option<u32>,
 }
 
@@ -57,17 +58,17 @@ fn repeat_of(node: &Node) -> Option<FirstRepeat>
 }
 
 /// The repeat that a part is, or that stands alone in the group that it is.
-fn lead_of(ready: &Ready<'_>, part: NodeId) -> Option<FirstRepeat>
-    requires part { part ≤ ready.now.tree.now.root }
+fn lead_of(tree: &Tree, part: NodeId) -> Option<FirstRepeat>
+    requires part { part ≤ tree.now.root }
     ensures is { IfSome result (λ r.
-        IsLead (tree_at (trees ready.now.tree.now.nodes) part) r.item r.min) }
+        IsLead (tree_at (trees tree.now.nodes) part) r.item r.min) }
     ensures class { IfSome result (λ r.
-        All (λ n. n < length ready.now.tree.now.classes) (class_in r.item)) }
+        All (λ n. n < length tree.now.classes) (class_in r.item)) }
     ensures behind { IfSome result (λ r. r.behind ≡ None) }
 {
-    match ready.tree.node(part) {
+    match tree.node(part) {
         Node::Group { branches, .. } => match branches.as_slice() {
-            [only] => repeat_of(ready.tree.node(*only)),
+            [only] => repeat_of(tree.node(*only)),
             _ => None,
         },
         node => repeat_of(node),
@@ -101,83 +102,77 @@ fn lacks(classes: &ClassTable, item: &Item, c: u32) -> bool
     }
 }
 
-/// The character that a part is, where the item of a repeat without a maximum is known not to take it.
-fn apart(ready: &Ready<'_>, repeat: &FirstRepeat, part: NodeId) -> Option<u32>
-    requires part { part ≤ ready.now.tree.now.root }
-    requires table { IsTableOf ready.now.tree.now ready.now.classes.now }
-    requires class { All (λ n. n < length ready.now.tree.now.classes) (class_in repeat.now.item) }
-    ensures is { IfSome result (λ c.
-        tree_at (trees ready.now.tree.now.nodes) part ≡ one (Char c false)) }
-    ensures lacks { IfSome result (Lacks (class_has ready.now.tree.now) repeat.now.item) }
+/// The character that a part is, behind a repeat without a maximum.
+fn behind(tree: &Tree, repeat: &FirstRepeat, part: NodeId) -> Option<u32>
+    requires { part ≤ tree.now.root }
+    ensures { IfSome result (λ c.
+        tree_at (trees tree.now.nodes) part ≡ one (Char c false)) }
 {
     // A run with a maximum isn't gone over to its end, which may be far.
     if repeat.max.is_some() {
         return None;
     }
-    let c = character_of(ready.tree.node(part))?;
-    if lacks(ready.classes, &repeat.item, c) {
-        Some(c)
-    } else {
-        None
-    }
+    character_of(tree.node(part))
 }
 
 /// The repeat that a sequence begins with.
-fn first_of(ready: &Ready<'_>, parts: &[NodeId]) -> Option<FirstRepeat>
-    requires below { All (λ k. k ≤ ready.now.tree.now.root) parts.now }
-    requires table { IsTableOf ready.now.tree.now ready.now.classes.now }
-    ensures begins { IfSome result
-        (BeginsWith (class_has ready.now.tree.now) (seq (row_of ready.now.tree.now parts.now))) }
+fn first_of(tree: &Tree, parts: &[NodeId]) -> Option<FirstRepeat>
+    requires below { All (λ k. k ≤ tree.now.root) parts.now }
+    ensures begins { IfSome result (BeginsWith (seq (row_of tree.now parts.now))) }
     ensures class { IfSome result (λ r.
-        All (λ n. n < length ready.now.tree.now.classes) (class_in r.item)) }
+        All (λ n. n < length tree.now.classes) (class_in r.item)) }
 {
     let [first, next, ..] = parts else {
         return None;
     };
-    let repeat = lead_of(ready, *first)?;
+    let repeat = lead_of(tree, *first)?;
     Some(FirstRepeat {
-        behind: apart(ready, &repeat, *next),
+        behind: behind(tree, &repeat, *next),
         ..repeat
     })
 }
 
 /// The repeat that a part is or begins with.
-fn repeat_in(ready: &Ready<'_>, part: NodeId) -> Option<FirstRepeat>
-    requires part { part ≤ ready.now.tree.now.root }
-    requires table { IsTableOf ready.now.tree.now ready.now.classes.now }
-    ensures begins { IfSome result (BeginsWith (class_has ready.now.tree.now)
-        (tree_at (trees ready.now.tree.now.nodes) part)) }
+fn repeat_in(tree: &Tree, part: NodeId) -> Option<FirstRepeat>
+    requires part { part ≤ tree.now.root }
+    ensures begins { IfSome result
+        (BeginsWith (tree_at (trees tree.now.nodes) part)) }
     ensures class { IfSome result (λ r.
-        All (λ n. n < length ready.now.tree.now.classes) (class_in r.item)) }
+        All (λ n. n < length tree.now.classes) (class_in r.item)) }
 {
-    match ready.tree.node(part) {
-        Node::Seq(parts) => first_of(ready, parts.as_slice()),
-        _ => lead_of(ready, part),
+    match tree.node(part) {
+        Node::Seq(parts) => first_of(tree, parts.as_slice()),
+        _ => lead_of(tree, part),
     }
 }
 
-/// The greedy repeat of an item that a pattern begins with, where it has one alternative. None in
-/// UTF, where places go by characters, none where partial matches are looked for, and none where
-/// the frame limit is lower than what trying the repeat may hold.
-pub fn first_repeat(ready: &Ready<'_>, view: &View<'_>) -> Option<FirstRepeat>
-    requires table { IsTableOf ready.now.tree.now ready.now.classes.now }
-    ensures { IfSome result (IsFirstRepeat ready.now.tree.now view.now) }
+/// The greedy repeat of an item that a pattern begins with, where it has one alternative.
+pub fn first_repeat(tree: &Tree) -> Option<FirstRepeat>
+    ensures { IfSome result (BeginsByRepeat tree.now) }
 {
-    // A captured run holds a unit, and so do its capture and the shorter runs that are left.
-    if view.options.utf || !is_off(view) || view.matching.frame_limit < 3 {
-        return None;
-    }
     let Node::Group {
         number: None,
         branches,
-    } = ready.tree.node(ready.tree.root())
+    } = tree.node(tree.root())
     else {
         return None;
     };
     let [only] = branches.as_slice() else {
         return None;
     };
-    repeat_in(ready, *only)
+    repeat_in(tree, *only)
+}
+
+/// Whether a search goes by such a repeat: not in UTF, where places go by characters, nor where
+/// partial matches are looked for, nor where the frame limit is lower than what trying the repeat
+/// may hold.
+pub fn goes_by_repeat(view: &View<'_>) -> bool
+    ensures bytes { IsTrue result → view.now.options.now.utf ≡ false }
+    ensures off { IsTrue result → view.now.matching.now.partial ≡ Off }
+    ensures room { IsTrue result → 3 ≤ view.now.matching.now.frame_limit }
+{
+    // A captured run holds a unit, and so do its capture and the shorter runs that are left.
+    !view.options.utf && is_off(view) && view.matching.frame_limit > 2
 }
 
 /// The end of the item's run from a place, where it is too short: the pattern fails at each place up
@@ -199,8 +194,8 @@ fn short_to(ready: &Ready<'_>, view: &View<'_>, first: &FirstRepeat, place: usiz
 }
 
 /// The end of the item's run from a place, where the pattern fails at each place up to there: the
-/// run is too short, or the character that has to stand behind it doesn't, and no limit is passed
-/// before all shorter runs have failed too.
+/// run is too short, or the character that has to stand behind it, and not in it, doesn't, and no
+/// limit is passed before all shorter runs have failed too.
 fn unfollowed_to(
     ready: &Ready<'_>,
     view: &View<'_>,
@@ -214,6 +209,7 @@ fn unfollowed_to(
     requires place { IsTextPlace view.now.options.now view.now.subject.now place }
     requires first { IsFirstRepeat ready.now.tree.now view.now first.now }
     requires behind { first.now.behind ≡ Some c }
+    requires lacks { Lacks (class_has ready.now.tree.now) first.now.item c }
     ensures { IfSome result (FailsUpTo ready.now.tree.now view.now place) }
 {
     let run = item_run(view, ready.classes, &first.item, place, u32::MAX);
@@ -228,27 +224,6 @@ fn unfollowed_to(
     match taken(view, ready.classes, &next, run.to) {
         Some(_) => None,
         None => Some(run.to),
-    }
-}
-
-/// The end of the item's run from a place, where the pattern is known to fail at each place up to
-/// there.
-pub fn refused_to(
-    ready: &Ready<'_>,
-    view: &View<'_>,
-    first: &FirstRepeat,
-    place: usize,
-) -> Option<usize>
-    requires table { IsTableOf ready.now.tree.now ready.now.classes.now }
-    requires options { view.now.options.now ≡ ready.now.tree.now.options }
-    requires subject { IsText view.now.options.now view.now.subject.now }
-    requires place { IsTextPlace view.now.options.now view.now.subject.now place }
-    requires first { IsFirstRepeat ready.now.tree.now view.now first.now }
-    ensures { IfSome result (FailsUpTo ready.now.tree.now view.now place) }
-{
-    match first.behind {
-        Some(c) => unfollowed_to(ready, view, first, c, place),
-        None => short_to(ready, view, first, place),
     }
 }
 
@@ -282,8 +257,8 @@ fn short_on(
     last_before(next, place)
 }
 
-/// The last place up to which the run from each place on is too short, or not followed by the
-/// character that has to follow it.
+/// The last place up to which the run from each place on is too short, or the character that has to
+/// follow it stands nowhere behind enough of it.
 fn unfollowed_on(
     ready: &Ready<'_>,
     view: &View<'_>,
@@ -319,8 +294,71 @@ fn goes_on(view: &View<'_>) -> bool
     !(view.options.anchored || view.matching.anchored || view.options.firstline)
 }
 
+/// Whether so few bytes are left that going over them passes no limit.
+fn are_few_left(view: &View<'_>, place: usize) -> bool
+    requires { place ≤ length view.now.subject.now }
+    ensures { IsTrue result → length view.now.subject.now - place
+        < lower_of view.now.options.now.match_limit view.now.matching.now.match_limit }
+{
+    view.subject.len() - place < match_limit(view) as usize
+}
+
+/// The last place up to which the pattern is known to fail at each from one on, where the item of
+/// its repeat may take the character that has to follow it.
+fn shared_on(
+    ready: &Ready<'_>,
+    view: &View<'_>,
+    first: &FirstRepeat,
+    c: u32,
+    place: usize,
+) -> Option<usize>
+    requires table { IsTableOf ready.now.tree.now ready.now.classes.now }
+    requires options { view.now.options.now ≡ ready.now.tree.now.options }
+    requires subject { IsText view.now.options.now view.now.subject.now }
+    requires place { IsTextPlace view.now.options.now view.now.subject.now place }
+    requires first { IsFirstRepeat ready.now.tree.now view.now first.now }
+    requires behind { first.now.behind ≡ Some c }
+    ensures { IfSome result (FailsUpTo ready.now.tree.now view.now place) }
+{
+    let Item::Class(class) = first.item else {
+        return short_to(ready, view, first, place);
+    };
+    // The character is looked for up to the subject's end, so that a search that ends sooner may
+    // pay more than it spares.
+    if c < 256 && goes_on(view) && are_few_left(view, place) {
+        unfollowed_on(ready, view, first, class, c as u8, place)
+    } else {
+        short_to(ready, view, first, place)
+    }
+}
+
+/// The last place up to which the pattern is known to fail at each from one on: it is told of the
+/// run at the place or, where the item takes the character that has to follow, by the next one.
+fn refused_to(
+    ready: &Ready<'_>,
+    view: &View<'_>,
+    first: &FirstRepeat,
+    place: usize,
+) -> Option<usize>
+    requires table { IsTableOf ready.now.tree.now ready.now.classes.now }
+    requires options { view.now.options.now ≡ ready.now.tree.now.options }
+    requires subject { IsText view.now.options.now view.now.subject.now }
+    requires place { IsTextPlace view.now.options.now view.now.subject.now place }
+    requires first { IsFirstRepeat ready.now.tree.now view.now first.now }
+    ensures { IfSome result (FailsUpTo ready.now.tree.now view.now place) }
+{
+    let Some(c) = first.behind else {
+        return short_to(ready, view, first, place);
+    };
+    if lacks(ready.classes, &first.item, c) {
+        unfollowed_to(ready, view, first, c, place)
+    } else {
+        shared_on(ready, view, first, c, place)
+    }
+}
+
 /// The last place up to which the pattern is known to fail at each from one on, as far as it is
-/// cheap to tell: `refused_to` goes over the run at the one place alone.
+/// cheap to tell of a place that failed: `refused_to` may go over the run at the one place alone.
 pub fn fails_on(
     ready: &Ready<'_>,
     view: &View<'_>,
@@ -342,7 +380,7 @@ pub fn fails_on(
         return refused_to(ready, view, first, place);
     }
     match first.behind {
-        Some(c) if c < 256 && view.subject.len() - place < match_limit(view) as usize => {
+        Some(c) if c < 256 && are_few_left(view, place) => {
             unfollowed_on(ready, view, first, class, c as u8, place)
         }
         None if first.min > 1 => short_on(ready, view, first, class, place),

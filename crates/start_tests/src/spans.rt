@@ -1,6 +1,6 @@
 //! Places from which too few bytes of a set stand, or none of them up to an end. The bytes are
 //! looked at from the back, so that one tells of all places before it.
-ghost use Rattle.std.specs.Prelude.{◌≡◌, ◌≤◌, ◌<◌, ◌+◌, ◌-◌, ℕ, true, false, length, slice_index};
+ghost use Rattle.std.specs.Prelude.{◌≡◌, ◌≤◌, ◌<◌, ◌+◌, ◌-◌, ℕ, false, length, slice_index};
 ghost use Rattle.byte_lanes.specs.Sets.{has_byte};
 ghost use Rattle.start_tests.specs.Spans.{IsShort, IsOpen};
 
@@ -43,8 +43,8 @@ pub(crate) fn first_long(bytes: &[u8], from: usize, least: usize, set: &ByteSet)
     bytes.len() + 1
 }
 
-/// The first place from one on at which so many bytes of a set stand up to an end, or else one past
-/// the bytes' end.
+/// The first place from one on at which so many bytes of a set stand, or more, up to an end, or
+/// else one past the bytes' end.
 pub(crate) fn first_closed(
     bytes: &[u8],
     from: usize,
@@ -53,14 +53,13 @@ pub(crate) fn first_closed(
     ends: &ByteSet,
 ) -> usize
     requires within { from ≤ length bytes.now }
-    requires apart { (b : ℕ) → has_byte ends.now b ≡ true → has_byte set.now b ≡ false }
     ensures low { from ≤ result }
     ensures high { result ≤ length bytes.now + 1 }
     ensures open { (k : ℕ) → from ≤ k → k < result → IsOpen set.now ends.now bytes.now least k }
 {
     let mut at = from;
-    'spans: while at < bytes.len() {
-        let end = find_in_set(bytes, at, ends);
+    'spans: while bytes.len() - at > least {
+        let end = find_in_set(bytes, at + least, ends);
         if end == bytes.len() {
             return end + 1;
         }
@@ -68,7 +67,7 @@ pub(crate) fn first_closed(
         if end - begin >= least {
             return begin;
         }
-        at = first_in(bytes, end + 1, bytes.len(), set);
+        at = first_in(bytes, begin, bytes.len(), set);
     }
     bytes.len() + 1
 }

@@ -185,6 +185,19 @@ const THE_FIRST_PLACE_OF_A_RUN_MEETS_THE_LIMITS: &[Row] = &[
     (b"a+(?<=aaa)b", b"aab aaab", Some((4, 8)), 2, 3),
     (b"a{2,}b", b"aaaac aab", Some((6, 9)), 3, 1),
     (b"[^ ]+ [^ ]+ s", b"ab cd x ef s", Some((6, 12)), 4, 2),
+    (b"(\\w+)_", b"abcdefgh ij kl_", Some((12, 15)), 8, 3),
+    (b"(\\w+)_", b"abc d_", Some((4, 6)), 3, 3),
+    (
+        b"(\\w+)_(\\w+)\\(",
+        b"abcdef gh ij_kl(",
+        Some((10, 16)),
+        6,
+        6,
+    ),
+    (b"(\\w+)_(\\w+)\\(", b"abcde ab_c", None, 5, 5),
+    (b"[ab]{2,}b", b"aaaac aab", Some((6, 9)), 3, 1),
+    (b"([ab]{2,})b", b"abbbaac aaaaaa aab", Some((0, 4)), 4, 3),
+    (b"([ab]+)bc", b"aaaaaaa ab abbc", Some((11, 15)), 7, 3),
 ];
 
 // The first place of a run takes the most Steps and units. Where it passes a limit, no later one is

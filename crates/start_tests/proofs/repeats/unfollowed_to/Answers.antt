@@ -45,5 +45,5 @@ returns-in-None c =
     up_to_end tree table view first r.table r.options r.first c.args.place r.place.within run.to
     told.to
     (lacking_run tree table view first r.table r.options r.first c.args.place r.place.within
-    c.args.c c.requires.behind run.count run.to told.count
+    c.args.c c.requires.behind c.requires.lacks run.count run.to told.count
     told.to (sym c.taken.ensures.value ∙ c.in-None.is) few)

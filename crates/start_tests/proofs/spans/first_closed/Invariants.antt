@@ -2,7 +2,7 @@ use Rattle.std.proofs.Common.{◌≤◌, ◌<◌, ◌-◌, ℕ, length}
 use Rattle.start_tests.specs.Spans.{IsOpen}
 use Rattle.start_tests.proofs.spans.first_closed.Given as goal
 
--- no end closes what stands from each place before
+-- no end closes enough of what stands from each place before
 abbrev pub invariant-spans : goal.invariant-spans
 invariant-spans l = record {
   low : l.fn.from ≤ l.at;

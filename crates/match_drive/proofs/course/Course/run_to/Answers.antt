@@ -12,7 +12,7 @@ found : (c : goal.After-item_run)
 found c =
     let x = c.args.self.now in
     let fits = c.requires.fits in
-    run_fails x.ready.now.tree.now x.ready.now.classes.now x.view.now c.in-Some.item c.args.place
+    run_fails x.ready.now.tree.now x.ready.now.classes.now x.view.now c.in-Some.item.now c.args.place
     c.item_run.result.to fits.table fits.options (rw c.in-Some.is at fits.runs_first)
     c.item_run.ensures.to c.requires.place.within
 

@@ -37,6 +37,7 @@ invariant_of-result c =
         ranks = told.ranks;
         need = told.need;
       };
+      outlined = c.of-outline.ensures;
     }
 
 pub returns-clause-compiled : goal.returns-clause-compiled

@@ -9,5 +9,5 @@ returns-clause-plain g c =
     forward_law (search_of c.args.self.now c.args.options.now c.args.subject.now c.args.start (g.C.Callouts.answers c.args.calls.now))
     (record { text = begun-text _ _ _ c.requires.begun c.requires.short; begun = begun-place _ _ _ c.requires.begun })
 
-pub search-requires : goal.search-requires
-search-requires g c = search (rules, begun-text, begun-place)
+pub search_by-requires-clause-search : goal.search_by-requires-clause-search
+search_by-requires-clause-search g c = search (rules, begun-text, begun-place)

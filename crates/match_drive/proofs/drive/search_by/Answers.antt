@@ -1,11 +1,12 @@
-use Rattle.std.proofs.Common.{ap, sym, ◌∙◌}
+use Rattle.std.proofs.Common.{ap, sym, subst, ◌∙◌}
+use Rattle.std.specs.Prelude.{IsTrue}
 use Rattle.frame_machine.specs.declared.scratch.Scratch.{Scratch}
 use Rattle.ordered_search.specs.MatchAnswer.{Found}
 use Rattle.ordered_search.specs.PlaceAnswer.{last_name, blocks}
 use Rattle.frame_state.specs.Shown.{seen_after}
 use Rattle.match_drive.proofs.Shown.{seen_none}
 use Rattle.match_drive.proofs.Both.{ready_alike}
-use Rattle.match_drive.proofs.drive.search.Goals as goal
+use Rattle.match_drive.proofs.drive.search_by.Goals as goal
 
 pub returns-then-lacks_need-clause-answer : goal.returns-then-lacks_need-clause-answer
 returns-then-lacks_need-clause-answer g c =
@@ -26,10 +27,26 @@ returns-then-lacks_need-clause-seen g c =
 
 pub returns-then-lacks_need-clause-starts : goal.returns-then-lacks_need-clause-starts
 returns-then-lacks_need-clause-starts g c =
-    ready_alike c.args.ready.now c.args.view.now (g.C.Callouts.answers c.args.calls.now) c.requires
+    ready_alike c.args.ready.now c.args.view.now (g.C.Callouts.answers c.args.calls.now) c.requires.search
     c.is_sound.ensures c.are_bytes.ensures
 
 pub returns-clause-starts : goal.returns-clause-starts
 returns-clause-starts g c =
-    ready_alike c.args.ready.now c.args.view.now (g.C.Callouts.answers c.args.calls.now) c.requires
+    ready_alike c.args.ready.now c.args.view.now (g.C.Callouts.answers c.args.calls.now) c.requires.search
     c.is_sound.ensures c.are_bytes.ensures
+
+pub search_on-requires : goal.search_on-requires
+search_on-requires g c =
+    let tree = c.args.ready.now.tree.now in
+    let known = c.requires.outline in
+    let told = c.for_search.ensures in
+    record {
+      search = c.requires.search;
+      begin = λ on. known.begin (subst (λ b. IsTrue b) told.begin on);
+      branches = c.branches.ensures.branches;
+      branches_free = c.branches.ensures.free;
+      begins_with = c.begin_of.ensures;
+      repeats_only = told.whole tree known.whole;
+      repeats_first = told.repeat tree known.repeat;
+      runs_first = told.run tree known.run c.requires.search.options;
+    }
