@@ -3,8 +3,6 @@
 #![tactic(auto)]
 
 #[cfg(test)]
-mod context;
-#[cfg(test)]
 mod errors;
 #[cfg(test)]
 mod matches;

@@ -38,6 +38,10 @@ struct Search {
 
 const NOT_FOUND: MatchAnswer = MatchAnswer::NoMatch { mark: None };
 
+const STEPS: MatchAnswer = MatchAnswer::MatchLimit;
+
+const UNITS: MatchAnswer = MatchAnswer::FrameLimit;
+
 macro_rules! found {
     ($keep:expr, $to:expr) => {
         MatchAnswer::Match {
@@ -313,27 +317,12 @@ const A_MISSING_TEXT_HIDES_NO_LIMIT: &[Row] = &[
     (b".*.*=.*", b"ab", NOT_FOUND, &[Limited(18, 2)]),
     (b".*.*=.*", b"ab", NOT_FOUND, &[Limited(17, 2)]),
     (b".*.*=.*", b"ab", NOT_FOUND, &[Limited(9, 2)]),
-    (b".*.*=.*", b"ab", MatchAnswer::MatchLimit, &[Limited(8, 2)]),
-    (
-        b".*.*=.*",
-        b"ab",
-        MatchAnswer::FrameLimit,
-        &[Limited(18, 1)],
-    ),
+    (b".*.*=.*", b"ab", STEPS, &[Limited(8, 2)]),
+    (b".*.*=.*", b"ab", UNITS, &[Limited(18, 1)]),
     (b".*.*=.*", b"a=", found!(0, 2), &[Limited(18, 2)]),
     (b"(.*)=a*a*", b"aaa", NOT_FOUND, &[Limited(4, 3)]),
-    (
-        b"(.*)=a*a*",
-        b"aaa",
-        MatchAnswer::MatchLimit,
-        &[Limited(3, 3)],
-    ),
-    (
-        b"(.*)=a*a*",
-        b"aaa",
-        MatchAnswer::FrameLimit,
-        &[Limited(4, 2)],
-    ),
+    (b"(.*)=a*a*", b"aaa", STEPS, &[Limited(3, 3)]),
+    (b"(.*)=a*a*", b"aaa", UNITS, &[Limited(4, 2)]),
 ];
 
 #[test]
