@@ -1,5 +1,5 @@
 // Worked rows: what the definitions of newlines give on small texts.
-ghost use Rattle.std.specs.Prelude.{◌≡◌, ℕ, ◌∷◌, [], List};
+ghost use Rattle.std.specs.Prelude.{◌≡◌, ◌∷◌, []};
 ghost use Rattle.byte_lanes.specs.Newlines.{newline_len, newline_before_len};
 ghost use Rattle.byte_lanes.specs.declared.line_end.EndKind.TheVariants.{Cr, Lf, CrLf, AnyCrLf, Any, AnyUtf};
 

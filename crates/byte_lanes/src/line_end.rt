@@ -1,5 +1,5 @@
 // Newlines of a kind, and the first at or past a place.
-ghost use Rattle.std.specs.Prelude.{◌≡◌, ℕ, ◌+◌, ◌<◌, ◌≤◌, ◌∷◌, [], nat_lt, IsTrue, length, slice_index};
+ghost use Rattle.std.specs.Prelude.{◌≡◌, ◌+◌, ◌<◌, ◌≤◌, ◌∷◌, [], nat_lt, length};
 ghost use Rattle.byte_lanes.specs.Places.{IsLeast, least_from};
 ghost use Rattle.byte_lanes.specs.Newlines.{newline_len, has_crlf, longest, stands, crlf_texts, any_crlf_texts, any_texts, any_utf_texts};
 

@@ -1,18 +1,17 @@
 -- Numbers that nothing of Unicode tells apart are in the same sets.
-use Rattle.std.proofs.Common.{◌≡◌, ℕ, ◌<◌, ◌≤◌, Bool, true, false, not, ◌||◌, ◌&&◌, nat_lt, nat_le, ◌==◌, if◌then◌else◌, List, [], ◌∷◌, Option, Some, None, refl, sym, ap, ap₂, subst, ◌∙◌, arith}
+use Rattle.std.proofs.Common.{◌≡◌, ℕ, ◌≤◌, Bool, true, false, not, ◌||◌, ◌&&◌, nat_lt, ◌==◌, Option, Some, None, refl, sym, ap, ap₂, ◌∙◌, arith}
 use Rattle.std.proofs.lemmas.Bool.Decides.{nat_tests}
 use Rattle.ucd_category.specs.declared.GeneralCategory.TheVariants.{UppercaseLetter, LowercaseLetter, DecimalNumber, SpaceSeparator, Control, Format}
 use Rattle.ucd_category.specs.declared.GeneralCategoryGroup.{GeneralCategoryGroup}
 use Rattle.ucd_category.specs.declared.GeneralCategoryGroup.TheVariants.{Letter, Mark, Number, Punctuation, Symbol, Separator}
-use Rattle.ucd_category.specs.GeneralCategory.{general_category, general_category_eq}
+use Rattle.ucd_category.specs.GeneralCategory.{general_category_eq}
 use Rattle.ucd_category.specs.GeneralCategoryGroup.{in_group}
-use Rattle.ucd_script.specs.Script.{script, script_eq}
+use Rattle.ucd_script.specs.Script.{script_eq}
 use Rattle.pat_tree.specs.declared.nodes.SetName.{SetName}
 use Rattle.pat_tree.specs.declared.nodes.SetName.TheVariants.{Digit, Space, Word, Alpha, Alnum, Lower, Upper, Blank, Cntrl, Graph, Print, Punct, Ascii, Xdigit, H, V, Property}
 use Rattle.uni_text.specs.declared.properties.Prop.{Prop}
 use Rattle.uni_text.specs.declared.properties.Prop.TheVariants.{Any, Xan, Xsp, Xps, Xwd, Group, Category, Script}
-use Rattle.uni_text.specs.Properties.{is_char, is_in, prop_holds, has_prop, prop_by_number, is_horizontal, is_vertical}
-use Rattle.uni_text.specs.Sets.{is_mark_of_direction}
+use Rattle.uni_text.specs.Properties.{is_char, is_in, prop_holds, has_prop, prop_by_number}
 use Rattle.char_sets.specs.Sets.{set_has, property_has}
 use Rattle.char_sets.specs.Places.{IsAlike}
 

@@ -1,9 +1,8 @@
 -- Runs of code points between two places.
-use Rattle.std.proofs.Common.{◌≡◌, ◌⊎◌, ℕ, ◌+◌, ◌/◌, ◌%◌, ◌<◌, ◌≤◌, Bool, true, false, ◌||◌, nat_lt, nat_le, ◌==◌, List, [], ◌∷◌, ◌++◌, map, length, get_or, All, refl, sym, ap, ap₂, subst, ◌∙◌, arith, inl, inr, if◌then◌else◌}
+use Rattle.std.proofs.Common.{◌≡◌, ◌⊎◌, ℕ, ◌/◌, ◌%◌, ◌<◌, ◌≤◌, true, nat_lt, List, [], ◌∷◌, All, refl, sym, ap₂, ◌∙◌, arith, inl, inr, if◌then◌else◌}
 use Rattle.std.proofs.lemmas.Bool.Decides.{nat_tests}
 use Rattle.std.proofs.lemmas.List.Elements.{All-tail}
-use Rattle.std.specs.Int.{is_in_range}
-use Rattle.ucd_table.specs.Steps.{step_value, run_value, unpack, IsRunsOf}
+use Rattle.ucd_table.specs.Steps.{step_value, run_value, IsRunsOf}
 use Rattle.ucd_category.specs.GeneralCategory.{general_category, general_category_number}
 use Rattle.ucd_category.proofs.GeneralCategoryLemmas.{general_category_number_injective}
 use Rattle.ucd_script.specs.Script.{script, script_number}

@@ -1,5 +1,5 @@
 //! The ends at one place that the options admit.
-ghost use Rattle.std.specs.Prelude.{◌≡◌, ◌≤◌, ◌++◌, [], IfOk, cond, length};
+ghost use Rattle.std.specs.Prelude.{◌≡◌, ◌++◌, [], IfOk, cond, length};
 ghost use Rattle.pat_tree.specs.Parts.{tree_of};
 ghost use Rattle.match_items.specs.Subjects.{IsTextPlace};
 ghost use Rattle.match_items.specs.Views.{bare_text};

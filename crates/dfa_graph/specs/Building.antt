@@ -1,33 +1,5 @@
 -- The building of a graph, task by task.
-use Rattle.std.specs.Prelude.{
-  ◌≡◌,
-  ℕ,
-  zero,
-  suc,
-  ◌+◌,
-  ◌-◌,
-  ◌<◌,
-  ◌≤◌,
-  ◌⊎◌,
-  Bool,
-  true,
-  false,
-  List,
-  [],
-  ◌∷◌,
-  ◌++◌,
-  map,
-  drop,
-  length,
-  Option,
-  Some,
-  None,
-  ◌==◌,
-  slice_get,
-  slice_set,
-  slice_index_or,
-  option_map,
-}
+use Rattle.std.specs.Prelude.{◌≡◌, ℕ, zero, suc, ◌+◌, ◌-◌, ◌<◌, ◌≤◌, Bool, true, false, List, [], ◌∷◌, ◌++◌, map, drop, length, Option, Some, None, ◌==◌, slice_get, slice_set, slice_index_or, option_map}
 use Rattle.std.specs.Prelude as list
 use Rattle.pat_tree.specs.declared.nodes.Placed as placed
 use Rattle.pat_tree.specs.declared.nodes.Node as parts
@@ -36,18 +8,7 @@ use Rattle.pat_tree.specs.declared.nodes.Verb.{Verb}
 use Rattle.pat_tree.specs.declared.nodes.Verb.TheVariants.{Fail}
 use Rattle.pat_tree.specs.Rules.{kids_of, asserted_by, classes_of, IsOrdered, is_test}
 use Rattle.pat_tree.specs.Nested as tree
-use Rattle.pat_tree.specs.Nested.{
-  Nested,
-  Row,
-  Test,
-  Other,
-  row,
-  tree_at,
-  nest,
-  trees,
-  test_of,
-  other_of,
-}
+use Rattle.pat_tree.specs.Nested.{Nested, Row, row, tree_at, nest, trees, test_of, other_of}
 use Rattle.pat_tree.specs.declared.nodes.Cond.{Cond}
 use Rattle.pat_tree.specs.declared.nodes.Cond.TheVariants as cond
 use Rattle.dfa_paths.specs.declared.graph.Node.{Node}

@@ -1,5 +1,5 @@
 //! The graph of a tree.
-ghost use Rattle.std.specs.Prelude.{◌≡◌, true, ◌||◌, None, IfOk, IfErr, length};
+ghost use Rattle.std.specs.Prelude.{◌≡◌, ◌||◌, None, IfOk, IfErr, length};
 ghost use Rattle.dfa_paths.specs.Fragment.{IsGraphOf};
 ghost use Rattle.dfa_graph.specs.Building.{tree_of};
 ghost use Rattle.dfa_graph.specs.Served.{refusal, IsRefused};

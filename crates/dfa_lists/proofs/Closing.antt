@@ -1,36 +1,5 @@
 -- The loop that follows what takes nothing.
-use Rattle.std.proofs.Common.{
-  ◌≡◌,
-  ◌∙◌,
-  ℕ,
-  zero,
-  suc,
-  ◌+◌,
-  ◌*◌,
-  ◌<◌,
-  ◌≤◌,
-  ◌⊎◌,
-  Bool,
-  true,
-  false,
-  List,
-  [],
-  ◌∷◌,
-  ◌++◌,
-  length,
-  replicate,
-  Option,
-  Some,
-  refl,
-  sym,
-  ap,
-  subst,
-  inl,
-  inr,
-  arith,
-  length-set,
-  length-append,
-}
+use Rattle.std.proofs.Common.{◌≡◌, ◌∙◌, ℕ, zero, suc, ◌+◌, ◌*◌, ◌<◌, ◌≤◌, ◌⊎◌, Bool, true, false, List, [], ◌∷◌, ◌++◌, length, replicate, Some, refl, sym, ap, subst, inl, inr, arith, length-set, length-append}
 use Rattle.std.specs.Prelude.{◌&&◌, ◌||◌, not, slice_get, slice_index_or, slice_set}
 use Rattle.std.proofs.lemmas.List.{length-replicate}
 use Rattle.match_items.specs.Scene.{Scene}

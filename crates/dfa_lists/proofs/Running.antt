@@ -35,20 +35,7 @@ use Rattle.match_items.specs.Laws.{Stands, StandsAlong}
 use Rattle.dfa_ends.specs.Ends.{Among}
 use Rattle.dfa_paths.specs.declared.graph.Node.{Node}
 use Rattle.dfa_lists.specs.declared.lists.Seed.{Seed}
-use Rattle.dfa_paths.specs.Graph.{
-  Inner,
-  IsFurthest,
-  Accepts,
-  matched,
-  landed,
-  Comes,
-  here,
-  on,
-  AllBelow,
-  IsGraph,
-  IsFlat,
-  takers,
-}
+use Rattle.dfa_paths.specs.Graph.{Inner, IsFurthest, Accepts, matched, landed, Comes, here, AllBelow, IsGraph, IsFlat, takers}
 use Rattle.dfa_lists.specs.Lists as lists
 use Rattle.dfa_paths.specs.Fragment.{Rising}
 use Rattle.dfa_lists.specs.Lists.{

@@ -64,7 +64,7 @@ use Rattle.dfa_paths.specs.Graph.{
 use Rattle.dfa_lists.specs.Lists.{IsVisited, waiting, way_of, gone_here, gone_later, Waits}
 use Rattle.dfa_paths.proofs.Places.{among_one}
 use Rattle.dfa_lists.proofs.Closing.{two_moves}
-use Rattle.dfa_lists.proofs.Following.{EndsStand, followed_by, more}
+use Rattle.dfa_lists.proofs.Following.{EndsStand, followed_by}
 use Rattle.dfa_lists.proofs.Running.{no_seed_more}
 
 -- a state that nests nothing

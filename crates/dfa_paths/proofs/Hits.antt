@@ -17,14 +17,6 @@ use Rattle.dfa_paths.specs.Meets.{DeepMeets}
 use Rattle.dfa_paths.specs.Fragment.{AreStatesOf, GraphParts, IsGraphOf, IsHit, most_nested}
 use Rattle.dfa_paths.proofs.Counting.{Good, IsBefore}
 use Rattle.dfa_paths.proofs.Meeting as meeting
-use Rattle.dfa_paths.proofs.Meeting.{
-  From,
-  Short,
-  Keeps,
-  Asked,
-  ChosenReach,
-  Chosen,
-}
 use Rattle.dfa_paths.proofs.EndReaching.{comes, goes}
 
 or_three : (a b c : Bool) → (a || b || c) ≡ false → (a ≡ false) × (b ≡ false)

@@ -1,6 +1,5 @@
 //! Which names are allowed.
 ghost use Rattle.std.specs.Prelude.{◌≡◌, ◌<◌, ◌∷◌, ◌++◌, [], length, IfOk, IfErr, OnOk, Ok};
-ghost use Rattle.pat_tree.specs.declared.options.TheConstants.Options as plain;
 ghost use Rattle.pat_tree.specs.declared.options.TheConstants.MatchOptions as plain_match;
 ghost use Rattle.pat_tree.specs.Pattern.{pattern_of};
 ghost use Rattle.pcre2_api.specs.Answers.{pattern_answer};
@@ -10,7 +9,7 @@ ghost use Rattle.dir_walk.specs.Targets.{allows_file, allows_directory};
 
 use crate::paths::name_of;
 use grep_args::{FilterOption, GrepPlan};
-use pat_tree::{ByteList, TextList};
+use pat_tree::TextList;
 use pcre_io::Memory;
 use pcre2_api::{Code, CompileError, MatchError, MatchOptions, NoCallouts, Options, Scratch};
 use std::alloc::Global;

@@ -1,7 +1,7 @@
 //! The entries of a directory as files and directories, in order.
-ghost use Rattle.std.specs.Prelude.{◌≡◌, ◌<◌, ◌∷◌, [], length, map, string_bytes, IfOk, OnOk};
+ghost use Rattle.std.specs.Prelude.{◌≡◌, ◌<◌, ◌∷◌, [], length, map, IfOk, OnOk};
 ghost use Rattle.pcre_io.specs.MemTree.{joined};
-ghost use Rattle.dir_walk.specs.Paths.{has_unnamed, is_unnamed, item_of, item_parts, items_in, with_items};
+ghost use Rattle.dir_walk.specs.Paths.{has_unnamed, item_of, item_parts, items_in, with_items};
 
 use crate::paths::joined;
 use pcre_io::{DirEntry, Kind, Memory};

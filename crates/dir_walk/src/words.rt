@@ -1,7 +1,6 @@
 //! What words stand for.
-ghost use Rattle.std.specs.Prelude.{◌≡◌, ◌≤◌, ◌++◌, IsTrue, Some, true, flat_map, map, string_bytes, IfOk, IfSome, OnOk};
+ghost use Rattle.std.specs.Prelude.{◌≡◌, ◌≤◌, IsTrue, Some, true, flat_map, map, string_bytes, IfOk, IfSome, OnOk};
 ghost use Rattle.pcre_io.specs.Causes.{Rose};
-ghost use Rattle.pcre_io.specs.Files.{kind_of};
 ghost use Rattle.dir_walk.specs.Filters.{filter_in};
 ghost use Rattle.dir_walk.specs.Targets.{kind_targets, path_targets, targets, word_targets};
 ghost use Rattle.dir_walk.specs.Walks.{has_failed, Grows, HasCauses};

@@ -1,9 +1,9 @@
 //! Tests of items whose counts nothing reads.
-ghost use Rattle.std.specs.Prelude.{◌≡◌, ◌<◌, ◌≤◌, ◌∷◌, [], All, Bool, ℕ, Option, false, length};
+ghost use Rattle.std.specs.Prelude.{◌≡◌, ◌<◌, All, Option, length};
 ghost use Rattle.pat_tree.specs.Rules.{class_in};
 ghost use Rattle.match_items.specs.Subjects.{IsText, IsTextPlace};
-ghost use Rattle.match_items.specs.Items.{after_item, item_reaches, longest_run, run_reaches};
-ghost use Rattle.match_items.specs.Views.{text_scene, told, maximum, end_of};
+ghost use Rattle.match_items.specs.Items.{after_item, longest_run, run_reaches};
+ghost use Rattle.match_items.specs.Views.{text_scene, end_of};
 ghost use Rattle.frame_board.specs.Told.{place_in};
 
 use char_sets::ClassTable;

@@ -9,7 +9,7 @@ ghost use Rattle.frame_state.specs.Calls.{AreNested, AreWithin, IsCalling, IsLat
 ghost use Rattle.frame_state.specs.Steps.{over, StepsOn, StopsThere, StopsBy, KeepsPeak, IsShortAt};
 ghost use Rattle.frame_state.specs.Ground.{IsNode};
 ghost use Rattle.frame_state.specs.Machine.{kept_at};
-ghost use Rattle.frame_state.specs.Stops.{IsHeldStop, tells};
+ghost use Rattle.frame_state.specs.Stops.{IsHeldStop};
 ghost use Rattle.frame_state.specs.Validity.{IsValid};
 
 use frame_state::framing::{first_branch, open_frame};

@@ -1,5 +1,5 @@
 -- The steps of the machine back to a lookaround that is a condition's test.
-use Rattle.std.proofs.Common.{◌≡◌, List, ◌∷◌, Bool, true, false, refl}
+use Rattle.std.proofs.Common.{◌≡◌, List, ◌∷◌, true, false, refl}
 use Rattle.frame_store.specs.declared.records.Record.{Record}
 use Rattle.frame_store.specs.declared.kinds.TheConstants.{KIND_LOOK_TEST, KIND_DENIAL_TEST}
 use Rattle.frame_store.specs.Captures.{Captures}

@@ -1,10 +1,8 @@
 //! The machine's loop, and the workspace that it runs in.
-ghost use Rattle.std.specs.Prelude.{◌≡◌, ◌≤◌, ◌<◌, true, length, replicate, None, [], IfErr, OnOk, OnErr};
+ghost use Rattle.std.specs.Prelude.{◌≡◌, ◌≤◌, ◌<◌, true, length, replicate, None, [], IfErr, OnOk};
 ghost use Rattle.frame_store.specs.Stack.{room};
 ghost use Rattle.frame_state.specs.Room.{IsQuiet, IsShort};
-ghost use Rattle.frame_store.specs.Captures.{capture};
 ghost use Rattle.pcre_io.specs.declared.callouts.Block.{Block};
-ghost use Rattle.frame_state.specs.Machine.{mark_of};
 ghost use Rattle.frame_state.specs.Steps.{over, KeepsPeak};
 ghost use Rattle.frame_state.specs.Frames.{ahead};
 ghost use Rattle.frame_state.specs.Validity.{IsValid};

@@ -1,5 +1,5 @@
 //! The workspace of a search.
-ghost use Rattle.std.specs.Prelude.{◌≡◌, ◌≤◌, ◌<◌, ℕ, List, true, max, length, replicate, None, [], IsOk, OnOk, OnErr, vec_capacity};
+ghost use Rattle.std.specs.Prelude.{◌≡◌, ◌≤◌, ◌<◌, true, max, length, replicate, None, [], IsOk, OnOk, OnErr, vec_capacity};
 ghost use Rattle.frame_store.specs.Captures.{capture_if_any};
 ghost use Rattle.pcre_io.specs.declared.callouts.Block.{Block};
 ghost use Rattle.frame_state.specs.Answer.{IsAnswer, IsMark, IsSeen, SkipStands};

@@ -1,7 +1,7 @@
 -- The steps of the machine back to the newest record.
 use Rattle.std.proofs.Common.{◌≡◌, ℕ, suc, ◌+◌, ◌-◌, ◌<◌, ◌∙◌, Bool, true, false, List, [], ◌∷◌, Option, Some, None, length, refl, sym, ap, subst, arith}
 use Rattle.pat_tree.specs.Nested as tree
-use Rattle.pat_tree.specs.Nested.{Nested, Row}
+use Rattle.pat_tree.specs.Nested.{Nested}
 use Rattle.match_items.specs.Items.{one_less, is_none_left, after_item, item_reaches, place_before}
 use Rattle.frame_store.specs.declared.records.Record.{Record}
 use Rattle.frame_store.specs.Captures.{Captures}
@@ -36,7 +36,7 @@ use Rattle.std.proofs.Common.{All, ◌≤◌}
 use Rattle.frame_store.proofs.EntryLemmas.{entry_of-later_branch, entry_of-turn_or_exit, entry_of-later_turn, entry_of-fewer_items, entry_of-more_items, entry_of-atomic_left, entry_of-denial_open, entry_of-look_test, entry_of-denial_test, entry_of-commit_passed, entry_of-prune_passed, entry_of-skip_passed, entry_kind-not, entry_of-then_passed}
 use Rattle.frame_store.proofs.UndoLemmas.{length-taken_back, undone-cons, undone-nil}
 use Rattle.frame_state.specs.Stops.{restored, IsFurther, more_next, tells, IsStop}
-use Rattle.frame_state.proofs.Frames.{spans_back, hand_same}
+use Rattle.frame_state.proofs.Frames.{spans_back}
 use Rattle.frame_parts.proofs.EndTurns.{less_more}
 use Rattle.frame_parts.proofs.Runs.{run_at, longest_some, longest_none, fewer_step}
 use Rattle.frame_state.specs.declared.machine.Next.{Next}

@@ -1,5 +1,5 @@
 //! Repeats of one item.
-ghost use Rattle.std.specs.Prelude.{◌≡◌, ◌≤◌, ◌<◌, ◌+◌, max, All, IfOk, IfErr, Some, true, []};
+ghost use Rattle.std.specs.Prelude.{◌≡◌, ◌≤◌, ◌<◌, max, All, IfOk, IfErr, Some, true, []};
 ghost use Rattle.frame_store.specs.Stack.{room};
 ghost use Rattle.pat_tree.specs.Rules.{class_in, AtMost};
 ghost use Rattle.frame_state.specs.Reach.{IsLed, IsHardStop, many_reaches};

@@ -1,5 +1,5 @@
 //! The machine's state.
-ghost use Rattle.std.specs.Prelude.{◌≡◌, ◌≤◌, ◌<◌, ◌∷◌, max, length, OnOk, OnErr, IfErr, Some};
+ghost use Rattle.std.specs.Prelude.{◌≡◌, ◌≤◌, ◌<◌, ◌∷◌, max, length, OnOk, OnErr, IfErr};
 ghost use Rattle.frame_store.specs.Stack.{room};
 ghost use Rattle.frame_state.specs.Room.{IsShort};
 ghost use Rattle.frame_store.specs.Entry.{site_of, kept_of};

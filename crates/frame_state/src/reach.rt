@@ -1,5 +1,5 @@
 //! The subject's end is reached (pcre2partial, "Partial matching in PCRE2").
-ghost use Rattle.std.specs.Prelude.{◌≡◌, ◌≤◌, true, IfOk, IfErr, OnOk};
+ghost use Rattle.std.specs.Prelude.{◌≡◌, true, IfOk, IfErr, OnOk};
 ghost use Rattle.frame_state.specs.Ground.{IsPart};
 ghost use Rattle.frame_state.specs.Reach.{IsNoted, IsTested, IsHardStop};
 ghost use Rattle.frame_state.specs.Stops.{moved_next, moved_spot};

@@ -1,5 +1,5 @@
 //! What a search goes over.
-ghost use Rattle.std.specs.Prelude.{◌≡◌, ◌<◌, ◌≤◌, ◌&&◌, not, true, All, length};
+ghost use Rattle.std.specs.Prelude.{◌≡◌, ◌<◌, ◌≤◌, ◌&&◌, true, All, length};
 ghost use Rattle.pat_tree.specs.Rules.{class_in};
 ghost use Rattle.match_items.specs.Items as items;
 ghost use Rattle.match_items.specs.Items.{after_item, after_break, after_ref, longest_run, run_reaches, place_before, holds, earliest};

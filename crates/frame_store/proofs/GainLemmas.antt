@@ -1,8 +1,8 @@
 -- What the undo records of a stretch give back, record by record.
-use Rattle.std.proofs.Common.{◌≡◌, ◌≢◌, ◌≤◌, ◌<◌, ℕ, zero, suc, ◌-◌, ◌+◌, ◌∙◌, List, [], ◌∷◌, ◌++◌, length, take, drop, set, get_or, map, reverse, replicate, Option, Some, None, true, false, append_assoc, refl, sym, ap, subst, arith}
+use Rattle.std.proofs.Common.{◌≡◌, ◌≢◌, ◌≤◌, ◌<◌, ℕ, zero, suc, ◌-◌, ◌+◌, ◌∙◌, List, [], ◌∷◌, ◌++◌, length, take, drop, set, get_or, reverse, replicate, Option, Some, None, true, false, append_assoc, refl, sym, ap, subst, arith}
 use Rattle.std.specs.Option.{is_some}
 use Rattle.std.proofs.lemmas.Bool.{false≢true}
-use Rattle.std.proofs.lemmas.List.{length-set, length-drop, length-replicate, map-append, reverse-append, take-append-drop, take-append-le, length-take-le, take_all, take_more, drop_more, drop-append-le, drop-drop, drop_all, set_past, set-get_or}
+use Rattle.std.proofs.lemmas.List.{length-set, length-drop, map-append, reverse-append, take-append-drop, take-append-le, length-take-le, take_all, take_more, drop_more, drop-append-le, drop-drop, drop_all, set_past, set-get_or}
 use Rattle.frame_store.specs.declared.registers.Span.{Span}
 use Rattle.frame_store.specs.declared.records.Record.{Record}
 use Rattle.frame_store.specs.declared.kinds.TheConstants.{KIND_UNDO}

@@ -8,7 +8,7 @@ ghost use Rattle.frame_store.specs.Entry.{entries};
 ghost use Rattle.frame_state.specs.Steps.{over, StepsOn, StopsThere, KeepsPeak, IsShortAt};
 ghost use Rattle.frame_state.specs.Ground.{IsNode};
 ghost use Rattle.frame_state.specs.Validity.{IsValid};
-ghost use Rattle.frame_state.specs.Stops.{IsHeldStop, held_spot, record_at};
+ghost use Rattle.frame_state.specs.Stops.{IsHeldStop};
 ghost use Rattle.frame_verbs.specs.Acting.{IsActing};
 ghost use Rattle.frame_verbs.specs.Names.{met, named_entry, named_spot, named_last};
 

@@ -1,16 +1,7 @@
 -- Patterns as they are searched for, and the first one that is refused.
-use Rattle.std.specs.Prelude.{◌≡◌, ℕ, ◌+◌, List, [], ◌∷◌, ◌++◌, length, map, pos, slice_get, Result, Ok, Err}
-use Rattle.uni_text.specs.Ascii.{ascii_fold, is_word_char}
+use Rattle.std.specs.Prelude.{◌≡◌, ℕ, ◌+◌, List, [], ◌∷◌, ◌++◌, length, map, Result, Ok, Err}
 use Rattle.pat_tree.specs.declared.options.Options.{Options}
-use Rattle.pat_tree.specs.declared.options.MatchOptions.{MatchOptions}
-use Rattle.pat_tree.specs.declared.nodes.ClassSpec.{ClassSpec}
-use Rattle.pat_tree.specs.Nested.{Nested}
-use Rattle.pat_tree.specs.Parts.{TreeParts, tree_of}
-use Rattle.pat_tree.specs.Sound.{greatest, group_numbers}
 use Rattle.token_parts.specs.declared.fault.Fault.{Fault}
-use Rattle.token_parts.specs.Tell.{◌>>=◌}
-use Rattle.pat_build.specs.Reading.{Parsed, read}
-use Rattle.ordered_search.specs.Setting.{Setting, class_holds}
 use Rattle.pcre2_api.specs.Compiled.{CodeParts}
 use Rattle.grep_args.specs.declared.plan.GrepPlan.{GrepPlan}
 use Rattle.grep_match.specs.declared.patterns.PatternError.{PatternError}

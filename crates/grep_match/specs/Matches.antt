@@ -1,15 +1,11 @@
 -- The matches of a line (pcre2grep, "DESCRIPTION" and "OPTIONS", -e, -o and -v).
-use Rattle.std.specs.Prelude.{ℕ, zero, suc, ◌+◌, Bool, true, false, ◌&&◌, not, List, [], ◌∷◌, length, ℤ, pos, neg_ℤ, Result, Ok, Err, slice_index_or}
-use Rattle.std.specs.Str.{is_utf8}
-use Rattle.std.specs.Int.{is_in_range}
+use Rattle.std.specs.Prelude.{ℕ, zero, suc, ◌+◌, Bool, true, false, ◌&&◌, not, List, [], ◌∷◌, length, ℤ, Result, Ok, Err}
 use Rattle.pat_tree.specs.declared.options.MatchOptions.{MatchOptions}
 use Rattle.pat_tree.specs.declared.options.TheConstants.MatchOptions as plain_match
-use Rattle.ordered_search.specs.PlaceAnswer.{Outcome, PlaceAnswer, MatchLimit, FrameLimit, Loop}
-use Rattle.ordered_search.specs.MatchAnswer.{MatchAnswer, Match, NoMatch, PartialFrom, Error, match_answer}
+use Rattle.ordered_search.specs.PlaceAnswer.{Outcome}
 use Rattle.grep_args.specs.declared.plan.GrepPlan.{GrepPlan}
 use Rattle.line_feed.specs.Rows.{Row}
 use Rattle.pat_tree.specs.Pattern.{Pattern}
-use Rattle.pcre2_api.specs.Patterns.{setting}
 use Rattle.grep_match.specs.Modes.{mode, is_parts}
 use Rattle.pcre2_api.specs.Answers.{Answer, found, none, error, pattern_answer}
 

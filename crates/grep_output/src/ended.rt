@@ -1,5 +1,4 @@
 //! How a scan ends.
-use line_feed::FeedError;
 use pcre_io::{Failed, IoError, Memory};
 
 /// How the scan of an input ended.

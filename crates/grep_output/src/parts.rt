@@ -1,5 +1,5 @@
 //! Matches that are shown in place of their lines.
-ghost use Rattle.std.specs.Prelude.{◌≡◌, ℕ, ◌-◌, ◌^◌, ◌≤◌, ◌||◌, List, All, Option, flat_map, length, map};
+ghost use Rattle.std.specs.Prelude.{◌≡◌, ◌-◌, ◌^◌, ◌≤◌, ◌||◌, List, All, Option, flat_map, length, map};
 ghost use Rattle.line_feed.specs.Lines.{row_of};
 ghost use Rattle.ordered_search.specs.Forward.{IsWithin};
 ghost use Rattle.ordered_search.specs.PlaceAnswer.{Outcome};

@@ -1,5 +1,4 @@
 //! What is told of a whole input, once it was scanned.
-ghost use Rattle.std.specs.Prelude.{◌≡◌};
 ghost use Rattle.grep_output.specs.InputText.{count_text, end_out};
 ghost use Rattle.tool_out.specs.Texts.{line};
 ghost use Rattle.tool_out.specs.Writes.{Writes};

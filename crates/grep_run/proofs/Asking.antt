@@ -6,7 +6,6 @@ use Rattle.pcre_io.specs.Causes.{Rose}
 use Rattle.pcre_io.specs.Told.{Told, Kept}
 use Rattle.pcre_io.specs.Files.{Contents, Filed}
 use Rattle.line_feed.specs.Rows.{Input}
-use Rattle.line_feed.specs.Hears.{Hears}
 use Rattle.grep_args.specs.declared.plan.GrepPlan.{GrepPlan}
 use Rattle.grep_args.specs.declared.plan.HelpKind.{HelpKind}
 use Rattle.grep_args.specs.Words.{Fault, Reads, plan_of}

@@ -1,8 +1,8 @@
 -- What is said in place of a search, and what a run comes to.
-use Rattle.std.proofs.Common.{◌≡◌, ℕ, ◌<◌, ◌≤◌, Bool, true, false, if◌then◌else◌, List, [], ◌∷◌, ◌++◌, codes, decimal, length, take, drop, map, get_or, Option, Some, None, Result, Ok, Err, refl, sym, ap, subst, ◌∙◌, arith, inl, inr, append_assoc, append-nil}
+use Rattle.std.proofs.Common.{◌≡◌, ℕ, ◌<◌, List, [], ◌++◌, codes, decimal, length, take, drop, Option, Some, None, Result, Ok, Err, refl, sym, subst, ◌∙◌, arith, inl, inr, append_assoc, append-nil}
 use Rattle.std.proofs.lemmas.Bool.{lt-leb}
 use Rattle.std.specs.Fmt.{signed_decimal}
-use Rattle.pcre_io.specs.Told.{Told, Kept}
+use Rattle.pcre_io.specs.Told.{Kept}
 use Rattle.grep_args.specs.declared.plan.GrepPlan.{GrepPlan}
 use Rattle.grep_args.specs.declared.plan.HelpKind.{HelpKind}
 use Rattle.grep_args.specs.Words.{Reads, plan_of}
@@ -15,7 +15,7 @@ use Rattle.grep_match.specs.Compiled.{Compiled, patterns_of}
 use Rattle.pcre2_errors.specs.FaultTexts.{fault_text}
 use Rattle.grep_output.specs.InputText.{first_state}
 use Rattle.grep_output.specs.Messages.{message}
-use Rattle.tool_out.specs.Outcomes.{RunOutcome, said, Stops, RunsSome, RunsAll, Runs}
+use Rattle.tool_out.specs.Outcomes.{RunOutcome, Stops, RunsSome, RunsAll, Runs}
 use Rattle.grep_run.specs.Refusals.{refusal, usage_message, refused_message}
 use Rattle.grep_run.specs.Reports.{Report, reports}
 use Rattle.grep_run.specs.PatternFiles.{FileTexts, texts_in_files}

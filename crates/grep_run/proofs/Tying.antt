@@ -1,6 +1,5 @@
 -- What is told of inputs beside the text of a run, from each of its stages on.
-use Rattle.std.proofs.Common.{◌≡◌, ◌≢◌, refl, sym, ap, subst, ◌∙◌, ℕ, Bool, true, false, ◌&&◌, not, if◌then◌else◌, List, [], ◌∷◌, length, take, nat_eq, Option, None, Some, Result, Ok, Err}
-use Rattle.std.specs.List.{list_any}
+use Rattle.std.proofs.Common.{◌≡◌, ◌≢◌, refl, sym, ap, subst, ◌∙◌, ℕ, Bool, true, false, ◌&&◌, not, if◌then◌else◌, List, [], ◌∷◌, Option, None, Some, Result, Ok, Err}
 use Rattle.pcre_io.specs.Files.{Contents}
 use Rattle.pcre_io.specs.Told.{Told}
 use Rattle.pcre_io.specs.declared.traits.IoError.{IoError}
@@ -11,19 +10,17 @@ use Rattle.dir_walk.specs.declared.lists.Target.{Target}
 use Rattle.pat_tree.specs.Pattern.{Pattern}
 use Rattle.grep_output.specs.declared.ended.Stop.{Stop}
 use Rattle.grep_output.specs.declared.ended.Stop.TheVariants.{SinkFault, TooManyErrors, Memory}
-use Rattle.grep_output.specs.declared.shows.Treatment.{Treatment}
 use Rattle.grep_output.specs.declared.shows.Treatment.TheVariants.{AsText}
 use Rattle.grep_output.specs.declared.state.State.{State}
 use Rattle.grep_output.specs.Ends.{stop_of}
 use Rattle.grep_output.specs.InputText.{input_text}
-use Rattle.grep_output.specs.Lines.{is_nul, lines, treatment, treatment_by}
-use Rattle.grep_output.specs.Scans.{Scan, at_finish, early, nth_place, place_of_most, scan, scan_to, errors_left}
+use Rattle.grep_output.specs.Lines.{is_nul, lines, treatment_by}
+use Rattle.grep_output.specs.Scans.{at_finish, early, nth_place, place_of_most, scan, scan_to}
 use Rattle.grep_output.specs.Shows.{greatest_selected, trailing}
-use Rattle.grep_match.specs.Matches.{Tried, is_selected, has_error}
+use Rattle.grep_match.specs.Matches.{is_selected}
 use Rattle.tool_in.specs.Asked.{Asked, asked, is_standard, nothing, standard_after, StandFor, Stands}
-use Rattle.tool_in.specs.Absent.{AbsentBy}
 use Rattle.grep_run.specs.PatternFiles.{shown_name}
-use Rattle.grep_run.specs.Reports.{Report, scanned, report_of, state_after_report}
+use Rattle.grep_run.specs.Reports.{report_of, state_after_report}
 use Rattle.grep_run.specs.Leaves.{Either, LeavesIt, LeavesAll, TiesBy, Unless, WhereEnded}
 
 -- Where a run stops.

@@ -1,8 +1,6 @@
 -- What pcre2grep makes of its targets: targets and what they stand for → the text of each after those before it.
-use Rattle.std.specs.Prelude.{ℕ, ◌==◌, Bool, true, false, ◌||◌, not, if◌then◌else◌, List, [], ◌∷◌, ◌++◌, map, filter, codes, Option, Some, None, Result, Ok, Err}
-use Rattle.std.specs.Int.{is_in_range}
-use Rattle.byte_lanes.specs.declared.line_end.EndKind.TheVariants.{Lf}
-use Rattle.line_feed.specs.Rows.{Row, Rows, Input, End, Finish, At, rows}
+use Rattle.std.specs.Prelude.{ℕ, Bool, true, false, not, if◌then◌else◌, List, [], ◌∷◌, codes, Option, Some, None}
+use Rattle.line_feed.specs.Rows.{Input}
 use Rattle.grep_args.specs.declared.plan.GrepPlan.{GrepPlan}
 use Rattle.dir_walk.specs.declared.lists.Target.{Target}
 use Rattle.dir_walk.specs.declared.lists.Target.TheVariants as targets
@@ -11,7 +9,7 @@ use Rattle.grep_run.specs.PatternFiles.{shown_name}
 use Rattle.pat_tree.specs.Pattern.{Pattern}
 use Rattle.grep_output.specs.Scans.{at_finish, early, too_many_errors}
 use Rattle.tool_out.specs.Texts.{text_if}
-use Rattle.grep_output.specs.Messages.{message_on, finish_message}
+use Rattle.grep_output.specs.Messages.{message_on}
 use Rattle.grep_output.specs.declared.state.State.{State}
 use Rattle.grep_output.specs.InputText.{Written, input_text}
 

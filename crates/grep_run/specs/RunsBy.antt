@@ -1,6 +1,5 @@
 -- What a run of pcre2grep does: its text → what the sinks grew by, and the status or why it stopped.
 use Rattle.std.specs.Prelude.{◌≡◌, ℕ, Result, Ok, Err}
-use Rattle.pcre_io.specs.Told.{Kept}
 use Rattle.grep_output.specs.declared.ended.Stop.{Stop}
 use Rattle.grep_output.specs.declared.ended.Stop.TheVariants.{SinkFault, TooManyErrors}
 use Rattle.tool_out.specs.Outcomes.{RunOutcome}

@@ -1,5 +1,5 @@
 //! A run of pcre2grep.
-ghost use Rattle.std.specs.Prelude.{◌≡◌, ◌≤◌, [], map, length, string_bytes, bytes_eq, Ok, List};
+ghost use Rattle.std.specs.Prelude.{◌≡◌, ◌≤◌, [], map, string_bytes, bytes_eq, Ok, List};
 ghost use Rattle.std.specs.List.{list_any};
 ghost use Rattle.grep_args.specs.Limits.{IsWithinLimits};
 ghost use Rattle.dir_walk.specs.Filters.{filter_in, filter_of};

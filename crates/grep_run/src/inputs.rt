@@ -1,5 +1,5 @@
 //! The targets of a search, one by one.
-ghost use Rattle.std.specs.Prelude.{◌≡◌, ◌≤◌, ◌<◌, ◌^◌, ◌∷◌, [], false, not, Option};
+ghost use Rattle.std.specs.Prelude.{◌≡◌, ◌≤◌, ◌<◌, ◌∷◌, [], false, not, Option};
 ghost use Rattle.pcre_io.specs.Told.{Kept};
 ghost use Rattle.line_feed.specs.Rows.{Input};
 ghost use Rattle.tool_in.specs.Absent.{AbsentBy};

@@ -8,7 +8,6 @@ use crate::sets::{class, table_of};
 use char_sets::ClassTable;
 use match_items::{Taken, View, anchor, break_step, ref_step, run_len, step};
 use pat_tree::{AnchorKind, Bsr, Item, MatchOptions, Newline, Options, Part, Steps};
-use std::alloc::Global;
 use std::marker::Brand;
 use std::process::Abort;
 use std::sync::ledger::{Blank, Ledger};

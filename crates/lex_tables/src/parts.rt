@@ -6,7 +6,7 @@ use token_parts::Target::{Minus, Named, Number, Plus};
 use token_parts::Token::{self, CallTo, CalloutItem, Literal, Reference};
 use token_parts::{
     CondText, Fault, LexFlags, OptionMask, Target, begins_number, byte, callout, coded, comment,
-    condition, group_escape, name_escape, numbered_call, octal, setting, stands,
+    condition, group_escape, name_escape, numbered_call, octal, setting,
 };
 
 const PLAIN: LexFlags = LexFlags {

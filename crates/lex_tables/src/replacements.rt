@@ -1,6 +1,6 @@
 //! Replacements, with what they write or why they are refused. The rows are those of
 //! pcre2_substitute of 10.42.
-ghost use Rattle.std.specs.Prelude.{◌≡◌, ◌∷◌, [], Some, None, codes};
+ghost use Rattle.std.specs.Prelude.{◌∷◌, [], Some, None, codes};
 
 use std::alloc::Global;
 use std::process::Abort;

@@ -1,5 +1,5 @@
 // Worked rows: what the definition of an input's rows gives on small inputs.
-ghost use Rattle.std.specs.Prelude.{◌≡◌, ℕ, ◌∷◌, [], List};
+ghost use Rattle.std.specs.Prelude.{◌≡◌, ◌∷◌, []};
 ghost use Rattle.byte_lanes.specs.declared.line_end.EndKind.TheVariants.{Cr, Lf, CrLf, AnyCrLf, AnyUtf};
 ghost use Rattle.line_feed.specs.Rows.{End, Fault, At, Long, row_with, input_with, rows_with, rows};
 

@@ -1,5 +1,5 @@
 //! What the machine answers at the first place of a subject.
-ghost use Rattle.std.specs.Prelude.{◌≡◌, ◌≤◌, ◌<◌, false, length};
+ghost use Rattle.std.specs.Prelude.{◌≡◌, ◌<◌, false, length};
 ghost use Rattle.char_sets.specs.Table.{IsTableOf};
 ghost use Rattle.frame_board.specs.Ready.{AreFactsOf};
 

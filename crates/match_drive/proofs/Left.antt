@@ -7,7 +7,7 @@ use Rattle.frame_state.specs.declared.answer.PlaceAnswer.TheVariants as told
 use Rattle.frame_state.specs.declared.answer.Signal.{Signal}
 use Rattle.frame_state.specs.Answer.{signal_of, IsAnswer, IsMark}
 use Rattle.ordered_search.specs.PlaceAnswer as place
-use Rattle.ordered_search.specs.PlaceAnswer.{Walked, name_in, last_name, has_hit}
+use Rattle.ordered_search.specs.PlaceAnswer.{Walked, name_in, last_name}
 use Rattle.match_drive.specs.declared.answer.MatchAnswer.TheVariants as answer
 use Rattle.ordered_search.specs.MatchAnswer.{MatchAnswer, Match, NoMatch, PartialFrom, Error, Found, undecided, found_by, found_at}
 use Rattle.match_drive.specs.Answer.{TellsPlace, TellsNone}

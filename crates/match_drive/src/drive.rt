@@ -1,5 +1,5 @@
 //! The search over all start places.
-ghost use Rattle.std.specs.Prelude.{◌≡◌, ◌≤◌, ◌<◌, false, length, max};
+ghost use Rattle.std.specs.Prelude.{◌≡◌, ◌≤◌, ◌<◌, max};
 ghost use Rattle.frame_board.specs.Ready.{IsReadySearch, setting_for};
 ghost use Rattle.pat_tree.specs.declared.options.PartialMode.TheVariants.{Off};
 ghost use Rattle.pcre_io.specs.declared.callouts.Block.{Block};
@@ -9,7 +9,6 @@ ghost use Rattle.start_tests.specs.Asked.{passed_over};
 ghost use Rattle.match_drive.specs.Answer.{IsMatchAnswer, IsLastMark, IsNotPartial, IsDeciding, IsOfMatching, IsShown, TellsMemory, TellsPlace, TellsNone};
 ghost use Rattle.ordered_search.specs.MatchAnswer.{match_answer};
 ghost use Rattle.match_drive.specs.Rest as rest;
-ghost use Rattle.start_tests.specs.Bytes.{AreBytes};
 ghost use Rattle.match_drive.specs.Outline.{IsOutlineOf};
 ghost use Rattle.match_drive.specs.Starts.{AreAlike};
 

@@ -1,9 +1,7 @@
 //! The start places of a search, in order (pcre2api, "Matching a pattern: the traditional function").
-ghost use Rattle.std.specs.Prelude.{◌≡◌, ◌≤◌, ◌<◌, ◌+◌, ◌&&◌, true, false, ℕ, min, nat_lt, length, slice_index, IfSome, IsTrue, None, Some};
+ghost use Rattle.std.specs.Prelude.{◌≡◌, ◌≤◌, ◌<◌, ◌+◌, ◌&&◌, false, ℕ, min, length, IfSome, IsTrue, None, Some};
 ghost use Rattle.std.specs.Option.{option_copied};
-ghost use Rattle.byte_lanes.specs.Newlines.{newline_len};
 ghost use Rattle.byte_lanes.specs.Places.{IsLeast};
-ghost use Rattle.byte_lanes.specs.Sets.{has_byte};
 ghost use Rattle.uni_text.specs.Characters as text;
 ghost use Rattle.match_items.specs.Subjects.{IsPlace, IsTextPlace};
 ghost use Rattle.match_needs.specs.Texts.{sets_of, Stands};
@@ -12,7 +10,6 @@ ghost use Rattle.start_tests.specs.Asked.{passed_over};
 ghost use Rattle.match_drive.specs.BeginText.{StandsBehind};
 ghost use Rattle.ordered_search.specs.Places as places;
 ghost use Rattle.ordered_search.specs.Places.{up_to};
-ghost use Rattle.start_tests.specs.Bytes.{IsByteOutside};
 ghost use Rattle.match_drive.specs.Rest.{IsLeadUsed, IsPassedAlways, IsNextTriedAlways, behind};
 ghost use Rattle.match_drive.specs.Rest.{AreRefused, FailBeforeAlways, FindsAlike, IsNextAlways};
 

@@ -1,6 +1,6 @@
 //! The run of one item that a pattern begins with: a start place that fails has those up to the
 //! run's end fail with it.
-ghost use Rattle.std.specs.Prelude.{◌≡◌, ◌<◌, ◌≤◌, All, IfSome, IsTrue, false, length};
+ghost use Rattle.std.specs.Prelude.{◌≡◌, ◌<◌, All, IfSome, IsTrue, false, length};
 ghost use Rattle.pat_tree.specs.Parts.{tree_of};
 ghost use Rattle.pat_tree.specs.Rules.{class_in};
 ghost use Rattle.ordered_search.specs.LaterPlaces as later;

@@ -1,7 +1,7 @@
 //! The start places of a search of a finished tree, for a matcher that goes over them itself.
 ghost use Rattle.std.specs.Prelude.{◌≡◌, ◌≤◌, ◌<◌, length, IfSome};
 ghost use Rattle.std.specs.Option.{option_copied};
-ghost use Rattle.match_items.specs.Subjects.{IsPlace, IsTextPlace};
+ghost use Rattle.match_items.specs.Subjects.{IsTextPlace};
 ghost use Rattle.frame_board.specs.Ready.{IsReadySearch, setting_for};
 ghost use Rattle.ordered_search.specs.Places as places;
 ghost use Rattle.ordered_search.specs.PlaceAnswer.{Exhausted};

@@ -1,7 +1,7 @@
 // Texts whose bytes are each of a set, and where such a text stands.
 ghost use Rattle.std.specs.Prelude.{◌≡◌, ◌↔◌, ℕ, ◌+◌, ◌<◌, ◌≤◌, ◌∷◌, [], List, None, Some, IsTrue, MatchOption, length, replicate};
 ghost use Rattle.byte_lanes.specs.Places.{IsLeast};
-ghost use Rattle.byte_lanes.specs.Sets.{IsIn, AreIn, AreInRow};
+ghost use Rattle.byte_lanes.specs.Sets.{AreIn};
 ghost use Rattle.match_needs.specs.Texts.{sets_of, Stands, AreUnions, IsUnion, IsUnionOf};
 
 use byte_lanes::{ByteSet, find_in_set, find_in_three_sets, find_in_two_sets};

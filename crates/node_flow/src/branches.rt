@@ -1,5 +1,5 @@
 //! The table of the branches around parts.
-ghost use Rattle.std.specs.Prelude.{◌≡◌, ℕ, ◌<◌, ◌≤◌, if◌then◌else◌, List, ◌∷◌, All, IfOk, OnOk, None, Some, length, replicate, slice_index_or};
+ghost use Rattle.std.specs.Prelude.{◌≡◌, ℕ, ◌<◌, if◌then◌else◌, List, ◌∷◌, All, IfOk, OnOk, None, Some, length, slice_index_or};
 ghost use Rattle.pat_tree.specs.declared.nodes.Placed.{Placed};
 ghost use Rattle.pat_tree.specs.Rules.{kids_of};
 ghost use Rattle.pat_tree.specs.Refs.{is_in};

@@ -1,5 +1,5 @@
 //! The table of followers.
-ghost use Rattle.std.specs.Prelude.{◌≡◌, ℕ, ◌+◌, ◌<◌, ◌≤◌, if◌then◌else◌, List, ◌∷◌, ◌++◌, All, IfOk, OnOk, None, Some, length, replicate, slice_index_or};
+ghost use Rattle.std.specs.Prelude.{◌≡◌, ℕ, ◌+◌, ◌<◌, if◌then◌else◌, List, ◌∷◌, ◌++◌, All, IfOk, OnOk, None, Some, length, replicate, slice_index_or};
 ghost use Rattle.pat_tree.specs.declared.nodes.Placed.{Placed};
 ghost use Rattle.pat_tree.specs.Rules.{kids_of, number_in};
 ghost use Rattle.pat_tree.specs.Refs.{is_in};

@@ -1,7 +1,7 @@
 -- The ordered search: the stream of a tree from a state.
 use Rattle.std.specs.Prelude.{ℕ, zero, suc, true, false, List, [], ◌∷◌}
 use Rattle.pat_tree.specs.Nested as tree
-use Rattle.pat_tree.specs.Nested.{Nested, Row, Test, Other}
+use Rattle.pat_tree.specs.Nested.{Row, Test, Other}
 use Rattle.ordered_search.specs.Stream.{cut, by_halt, reached, Search, ends, gives}
 use Rattle.ordered_search.specs.Setting.{Setting, branch_lengths}
 use Rattle.ordered_search.specs.Tests.{run_one, run_break, run_many, run_ref, run_anchor}

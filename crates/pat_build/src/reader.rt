@@ -1,5 +1,5 @@
 //! The reader of a pattern.
-ghost use Rattle.std.specs.Prelude.{◌≡◌, ◌||◌, ◌&&◌, not, ℕ, pos, negsuc, ◌<◌, ◌≤◌, false, true, [], length, Some, None, Ok, OnOk, IfOk, IfErr};
+ghost use Rattle.std.specs.Prelude.{◌≡◌, ◌&&◌, not, ℕ, pos, negsuc, ◌<◌, ◌≤◌, false, true, [], length, Some, None, Ok, OnOk, IfOk, IfErr};
 ghost use Rattle.std.specs.Str.{is_utf8};
 ghost use Rattle.std.specs.Str.Lossy.{utf8_valid_len};
 ghost use Rattle.pat_tree.specs.Nested.{Nested};

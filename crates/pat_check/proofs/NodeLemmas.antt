@@ -2,7 +2,7 @@
 use Rattle.std.proofs.Common.{◌≡◌, ℕ, Bool, true, List, [], ◌∷◌, map, Option, Some, None, All, refl, sym, ap, ◌∙◌}
 use Rattle.std.proofs.lemmas.List.Elements.{All-head}
 use Rattle.byte_lanes.specs.declared.line_end.EndKind.{EndKind}
-use Rattle.pat_tree.specs.Nested.{Nested, Test, tree_at, row, nest, test_of, cond_of, other_of}
+use Rattle.pat_tree.specs.Nested.{Nested, tree_at, row, nest, test_of, other_of}
 use Rattle.pat_tree.specs.declared.nodes.Cond.{Cond}
 use Rattle.pat_tree.specs.declared.nodes.Cond.TheVariants.{AnySet, InCall, InCallOf, Never, Assert}
 use Rattle.pat_tree.specs.declared.nodes.Node.{Node}

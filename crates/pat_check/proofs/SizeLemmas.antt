@@ -1,19 +1,16 @@
 -- The size of a node by those of its children.
-use Rattle.std.proofs.Common.{◌≡◌, ◌∙◌, ℕ, zero, suc, ◌+◌, ◌*◌, ◌<◌, ◌≤◌, Bool, true, List, [], ◌∷◌, ◌++◌, map, Option, Some, None, All, inl, inr, refl, sym, ap, arith, min}
-use Rattle.std.proofs.Math.Nat.{min-eq_left, min-eq_right, mul-le-mul_left}
-use Rattle.std.proofs.lemmas.Bool.{cases_lt}
+use Rattle.std.proofs.Common.{◌≡◌, ℕ, ◌+◌, Bool, true, List, [], ◌∷◌, ◌++◌, map, Option, Some, None, All, refl, ap, arith, min}
 use Rattle.std.proofs.lemmas.List.Elements.{All-head, All-tail}
 use Rattle.pat_tree.specs.declared.nodes.Cond.{Cond}
 use Rattle.pat_tree.specs.declared.nodes.Cond.TheVariants.{AnySet, InCall, InCallOf, Never, Assert}
 use Rattle.pat_tree.specs.declared.nodes.Node.{Node}
 use Rattle.pat_tree.specs.declared.nodes.Node.TheVariants as node
-use Rattle.pat_tree.specs.Nested as tree
-use Rattle.pat_tree.specs.Nested.{Nested, Test, tree_at, row, nest, test_of, cond_of, other_of}
+use Rattle.pat_tree.specs.Nested.{Nested, tree_at, row, nest, test_of, cond_of, other_of}
 use Rattle.pat_tree.specs.Rules.{kids_of, tests_of, number_in, asserted_by, is_test}
 use Rattle.pat_lengths.specs.Lengths.{counted}
 use Rattle.pat_lengths.proofs.CountLemmas.{counted_both}
 use Rattle.pat_lengths.proofs.OrderLemmas.{by_test}
-use Rattle.pat_check.specs.Size.{whole_size, size_of_all, size_of_test, size_of_other, size, counted_sum, size_at}
+use Rattle.pat_check.specs.Size.{whole_size, size_of_all, size_of_test, size_of_other, size, counted_sum}
 
 -- the sizes of these trees together
 abbrev pub total : List Nested → List ℕ → ℕ

@@ -1,10 +1,9 @@
 -- First bytes as they are kept, beside the definition of them.
-use Rattle.std.specs.Prelude.{◌≡◌, ℕ, ◌<◌, Bool, true, false, ◌&&◌, ◌==◌, List, [], ◌∷◌, All, length, Option, Some, None, slice_index_or}
+use Rattle.std.specs.Prelude.{◌≡◌, ℕ, ◌<◌, Bool, true, false, ◌==◌, List, [], ◌∷◌, All, length, Option, Some, None, slice_index_or}
 use Rattle.byte_lanes.specs.Sets.{has_byte}
 use Rattle.byte_lanes.specs.declared.line_end.EndKind.TheVariants as kind
 use Rattle.pat_tree.specs.declared.nodes.Item.{Item}
 use Rattle.pat_tree.specs.declared.nodes.Item.TheVariants.{Char}
-use Rattle.uni_text.specs.Ascii.{ascii_fold}
 use Rattle.uni_text.specs.Folding.{fold}
 use Rattle.pat_tree.specs.declared.nodes.Cond.{Cond}
 use Rattle.pat_tree.specs.declared.nodes.Cond.TheVariants.{Never}

@@ -1,7 +1,7 @@
 -- What the search for all ends at a place can do (pcre2matching, "The alternative matching algorithm"; pcre2api, "Error returns
 -- from pcre2_dfa_match()").
-use Rattle.std.specs.Prelude.{Bool, true, false, List, [], ◌∷◌}
-use Rattle.pat_tree.specs.Nested.{Nested, Row, Test, Other, empty, one, line_break, seq, group, repeat, one_repeat, atomic, look, condition, call, ref, anchor, keep_out, verb, callout, none, more, any_set, in_call, in_call_of, never, assert, called, no_other, other}
+use Rattle.std.specs.Prelude.{true, false, List, [], ◌∷◌}
+use Rattle.pat_tree.specs.Nested.{Nested, Test, look, condition, call, ref, keep_out, verb, any_set, in_call_of}
 use Rattle.pat_tree.specs.declared.nodes.Verb.{Verb}
 use Rattle.pat_tree.specs.declared.nodes.Verb.TheVariants.{Fail}
 use Rattle.pat_lengths.specs.Nodes.{all_nodes}

@@ -1,9 +1,8 @@
 // The size of a pattern with its repeats written out.
-ghost use Rattle.std.specs.Prelude.{◌≡◌, ℕ, ◌+◌, ◌*◌, ◌∷◌, ◌++◌, ◌<◌, ◌≤◌, true, All, List, IfOk, length};
+ghost use Rattle.std.specs.Prelude.{◌≡◌, ◌+◌, ◌*◌, ◌∷◌, ◌++◌, ◌<◌, ◌≤◌, true, All, List, IfOk, length};
 ghost use Rattle.pat_tree.specs.Nested.{Nested, trees, tree_at, nest};
 ghost use Rattle.pat_tree.specs.Parts.{tree_of};
 ghost use Rattle.pat_tree.specs.Rules.{kids_of, asserted_by, is_test, number_in, tests_of};
-ghost use Rattle.pat_lengths.specs.Lengths.{counted};
 ghost use Rattle.pat_check.specs.Size as spec;
 ghost use Rattle.pat_check.specs.Size.{KeepSizes, counted_sum, size_at};
 

@@ -1,7 +1,7 @@
 //! What stands between the brackets of a class (pcre2pattern, "Square brackets and character classes").
-ghost use Rattle.std.specs.Prelude.{◌≡◌, Bool, false, true, ◌<◌, ◌≤◌, [], length, suc, Ok, Err, IfOk, IfErr, IfSome, IsTrue};
+ghost use Rattle.std.specs.Prelude.{◌≡◌, Bool, false, true, ◌<◌, ◌≤◌, [], length, suc, Ok, Err, IfOk, IfErr, IfSome};
 ghost use Rattle.std.specs.Option.{option_map_or};
-ghost use Rattle.token_parts.specs.Tell.{IsWell, Moves, is_own};
+ghost use Rattle.token_parts.specs.Tell.{IsWell, Moves};
 ghost use Rattle.pat_grammar.specs.Classes.{character, is_hyphen, is_last, is_last_item, part_then, class_parts, class_spec};
 ghost use Rattle.pat_grammar.specs.State.{item};
 ghost use Rattle.pat_grammar.specs.Places.{Always, AlwaysFromStart, GivesPart, GivesFault, range_between, character_between, set_before, item_between, is_closing, Tells, IfBad, IsClassFault};

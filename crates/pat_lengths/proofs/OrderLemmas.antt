@@ -1,5 +1,5 @@
 -- The nodes of a tree in the order of its parts' numbers.
-use Rattle.std.proofs.Common.{◌≡◌, ◌∙◌, ℕ, zero, suc, ◌<◌, ◌≤◌, Bool, true, false, ◌||◌, List, [], ◌∷◌, ◌++◌, map, flat_map, Option, Some, None, All, length, get_or, refl, sym, ap, subst, arith, append_assoc, append-nil}
+use Rattle.std.proofs.Common.{◌≡◌, ◌∙◌, ℕ, zero, suc, ◌<◌, ◌≤◌, Bool, true, false, ◌||◌, List, [], ◌∷◌, ◌++◌, map, flat_map, Option, Some, None, All, length, get_or, refl, sym, ap, arith, append_assoc, append-nil}
 use Rattle.std.specs.List.{list_any}
 use Rattle.std.proofs.lemmas.Grind.{flat_map-append}
 use Rattle.std.proofs.lemmas.List.{get_or_default, map-append}
@@ -11,7 +11,7 @@ use Rattle.pat_tree.specs.declared.nodes.Node.{Node}
 use Rattle.pat_tree.specs.declared.nodes.Node.TheVariants as node
 use Rattle.pat_tree.specs.declared.nodes.Placed.{Placed}
 use Rattle.pat_tree.specs.Nested as tree
-use Rattle.pat_tree.specs.Nested.{Nested, Row, Test, Other, Callout, tree_at, trees, row, nest, test_of, cond_of, other_of}
+use Rattle.pat_tree.specs.Nested.{Nested, Row, Callout, tree_at, trees, row, nest, test_of, cond_of, other_of}
 use Rattle.pat_tree.specs.Parts.{TreeParts}
 use Rattle.pat_tree.specs.Rules.{kids_of, tests_of, number_in, asserted_by, is_test}
 use Rattle.pat_tree.specs.Sound.{TreeRules}

@@ -1,5 +1,5 @@
 -- Each lookbehind has its place, where the nodes stand in the order in which they end.
-use Rattle.std.proofs.Common.{◌≡◌, ◌∙◌, ℕ, suc, ◌+◌, ◌<◌, Bool, true, false, List, [], ◌∷◌, ◌++◌, map, flat_map, Option, Some, None, All, length, get_or, refl, sym, ap, subst, arith, append_assoc, append-nil, length-append}
+use Rattle.std.proofs.Common.{◌≡◌, ◌∙◌, ℕ, ◌<◌, true, false, List, [], ◌∷◌, ◌++◌, map, flat_map, Option, Some, None, All, length, get_or, refl, sym, ap, subst, arith, append_assoc, append-nil, length-append}
 use Rattle.std.specs.Option.{option_or}
 use Rattle.std.proofs.lemmas.Grind.{flat_map-append}
 use Rattle.std.proofs.lemmas.List.Elements.{All-head}
@@ -10,7 +10,6 @@ use Rattle.pat_tree.specs.declared.nodes.Node.{Node}
 use Rattle.pat_tree.specs.declared.nodes.Node.TheVariants as node
 use Rattle.pat_tree.specs.declared.nodes.Placed.{Placed}
 use Rattle.pat_tree.specs.Growing.{AllUnder, loose, loose_after}
-use Rattle.pat_tree.specs.Nested as tree
 use Rattle.pat_tree.specs.Nested.{Nested, tree_at, trees, row, nest, test_of, cond_of, other_of}
 use Rattle.pat_tree.specs.Parts.{TreeParts, tree_of}
 use Rattle.pat_tree.specs.Rules.{kids_of, tests_of, number_in, asserted_by, is_test}
@@ -20,7 +19,7 @@ use Rattle.pat_tree.proofs.Loose.{replaces_push}
 use Rattle.pat_tree.proofs.Reached.{reached_node}
 use Rattle.node_flow.specs.Order.{order}
 use Rattle.node_flow.proofs.Orders.{first}
-use Rattle.pat_lengths.specs.Backs.{placed_at, fault_among, fault_of_node, fault_in, first_fault}
+use Rattle.pat_lengths.specs.Backs.{placed_at, fault_among, fault_of_node, fault_in}
 use Rattle.pat_lengths.specs.declared.backs.LengthFault.{LengthFault}
 use Rattle.pat_lengths.specs.Lookbehinds.{Lookbehind, Found, and_then, others, behind_at, looked, found_in, found_in_row, found_in_test, found_in_other, lookbehinds, fault_of_branches, first_refused, place_in, places_of, FirstRefusedLaw}
 use Rattle.pat_lengths.proofs.OrderLemmas.{by_test}

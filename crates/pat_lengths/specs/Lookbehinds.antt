@@ -1,6 +1,6 @@
 -- The lookbehinds of a tree from left to right, each with its place, and the first that is refused (pcre2pattern,
 -- "Lookbehind assertions").
-use Rattle.std.specs.Prelude.{◌≡◌, ℕ, Bool, true, false, List, [], ◌∷◌, ◌++◌, flat_map, Option, Some, None}
+use Rattle.std.specs.Prelude.{◌≡◌, ℕ, Bool, true, false, List, [], ◌∷◌, ◌++◌, flat_map, Option, None}
 use Rattle.std.specs.Option.{option_or}
 use Rattle.pat_tree.specs.declared.nodes.Node.TheVariants as node
 use Rattle.pat_tree.specs.declared.nodes.Placed.{Placed}

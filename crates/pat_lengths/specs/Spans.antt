@@ -7,7 +7,7 @@ use Rattle.std.specs.List.{list_any}
 use Rattle.pat_tree.specs.Parts.{TreeParts, tree_of}
 use Rattle.pat_lengths.specs.Passing.{flagged}
 use Rattle.pat_lengths.specs.Nodes.{has_shared_number, is_accept, nodes_outside_lookarounds}
-use Rattle.pat_lengths.specs.Lengths.{Lengths, SomeLengths, counted, only, any_length, in_turn, either, behind}
+use Rattle.pat_lengths.specs.Lengths.{SomeLengths, counted, only, any_length, in_turn, either, behind}
 use Rattle.pat_lengths.specs.declared.spans.Span.{Span}
 
 abbrev pub counted_most : Option ℕ → Option ℕ

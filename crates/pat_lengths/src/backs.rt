@@ -1,11 +1,11 @@
 //! The branches of lookbehinds: how far each begins before its place, and which are refused.
-ghost use Rattle.std.specs.Prelude.{◌≡◌, ℕ, ◌+◌, ◌<◌, ◌≤◌, All, IfOk, Option, None, length, max, slice_index_or};
+ghost use Rattle.std.specs.Prelude.{◌≡◌, ℕ, ◌<◌, ◌≤◌, All, IfOk, Option, None, length, max, slice_index_or};
 ghost use Rattle.pat_tree.specs.Parts.{TreeParts};
 ghost use Rattle.pat_tree.specs.declared.nodes.Placed.{Placed};
 ghost use Rattle.pat_lengths.specs.Backs as lookbehinds;
 ghost use Rattle.pat_lengths.specs.Backs.{AreBacks, AreBranches, behind_branches, fault_from, lengths_at, span_length};
 ghost use Rattle.pat_lengths.specs.Lengths.{SomeLengths, branch_fault, only};
-ghost use Rattle.pat_lengths.specs.Spans.{kept, span_at};
+ghost use Rattle.pat_lengths.specs.Spans.{kept};
 
 use crate::spans::Span;
 use pat_tree::{Memory, Node, NodeId, Tree};

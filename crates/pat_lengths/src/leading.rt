@@ -1,12 +1,12 @@
 // Which groups lead back to themselves by calls and references.
-ghost use Rattle.std.specs.Prelude.{◌≡◌, ℕ, ◌+◌, ◌<◌, ◌==◌, ◌∷◌, ◌++◌, [], All, IfOk, OnOk, flat_map, length};
+ghost use Rattle.std.specs.Prelude.{◌≡◌, ◌+◌, ◌<◌, ◌==◌, ◌∷◌, ◌++◌, [], All, IfOk, OnOk, length};
 ghost use Rattle.std.specs.List.{list_any};
 ghost use Rattle.pat_tree.specs.Nested.{trees};
 ghost use Rattle.pat_tree.specs.Parts.{tree_of};
 ghost use Rattle.pat_tree.specs.Rules.{kids_of, number_in, tests_of};
 ghost use Rattle.pat_lengths.specs.Leading.{Grows, IsBegun, names_of, places_of};
 ghost use Rattle.pat_lengths.specs.Lengths as lengths;
-ghost use Rattle.pat_lengths.specs.Passing.{IsGroupTable, place_of};
+ghost use Rattle.pat_lengths.specs.Passing.{IsGroupTable};
 
 use crate::behind::place_at;
 use crate::groups::Groups;

@@ -1,5 +1,5 @@
 -- The bytes that stand for themselves.
-use Rattle.std.proofs.Common.{◌≡◌, ◌∙◌, ℕ, ◌+◌, ◌<◌, Bool, true, false, ◌||◌, ◌&&◌, ◌==◌, List, [], ◌∷◌, zero, suc, arith, length, nat_le, Some, Ok, slice_get, get_or, refl, ap}
+use Rattle.std.proofs.Common.{◌≡◌, ℕ, ◌+◌, ◌<◌, Bool, true, false, ◌||◌, ◌&&◌, ◌==◌, List, [], ◌∷◌, zero, suc, arith, length, nat_le, Some, Ok, slice_get, get_or, refl, ap}
 use Rattle.token_parts.specs.declared.token.Token.TheVariants.{Literal}
 use Rattle.token_parts.specs.Tell.{Lexed}
 use Rattle.pat_lex.specs.Characters.{literal}

@@ -1,5 +1,5 @@
 //! A pattern under LITERAL (pcre2api, "Compiling a pattern").
-ghost use Rattle.std.specs.Prelude.{◌≡◌, ◌+◌, ◌*◌, ◌<◌, ◌≤◌, [], ◌∷◌, length, None, OnOk, IfOk};
+ghost use Rattle.std.specs.Prelude.{◌≡◌, ◌+◌, ◌*◌, ◌<◌, ◌≤◌, [], ◌∷◌, length, OnOk, IfOk};
 ghost use Rattle.uni_text.specs.Characters.{IsChecked};
 ghost use Rattle.pat_tree.specs.declared.nodes.Item.TheVariants.{Char};
 ghost use Rattle.pat_tree.specs.Nested.{one};

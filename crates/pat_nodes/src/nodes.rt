@@ -1,5 +1,5 @@
 //! Nodes of a draft, as the reader makes them.
-ghost use Rattle.std.specs.Prelude.{ℕ, ◌≡◌, ◌+◌, ◌<◌, ◌≤◌, [], ◌∷◌, ◌++◌, length, map, IfOk, OnOk, All, None};
+ghost use Rattle.std.specs.Prelude.{◌≡◌, ◌+◌, ◌<◌, ◌≤◌, [], ◌∷◌, ◌++◌, length, map, IfOk, OnOk, All, None};
 ghost use Rattle.pat_tree.specs.Nested.{tree_at, trees, row, atomic};
 ghost use Rattle.pat_tree.specs.Growing.{EndsIn, Replaces, Makes};
 ghost use Rattle.pat_tree.specs.Rules.{number_in, AtMost};

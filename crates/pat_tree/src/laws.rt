@@ -2,7 +2,7 @@
 ghost use Rattle.std.specs.Prelude.{ℕ, Bool, List, ◌≡◌, ◌||◌, ◌&&◌, not, nat_lt, length, true, false, [], ◌∷◌, Some, None};
 ghost use Rattle.pat_tree.specs.declared.nodes.Item.TheVariants.{Char};
 ghost use Rattle.pat_tree.specs.declared.nodes.Node.TheVariants.{Call};
-ghost use Rattle.pat_tree.specs.Nested.{trees, tree_at, row, one, seq, group, look, condition, called, assert, no_other};
+ghost use Rattle.pat_tree.specs.Nested.{trees, tree_at, row, one, seq, group, condition, called, assert, no_other};
 ghost use Rattle.pat_tree.specs.Refs.{refs, has_group, bad_ref, is_in, IsLeftmost};
 ghost use Rattle.pat_tree.specs.Growing.{loose, AreBelow};
 ghost use Rattle.pat_tree.specs.Sound.{children};
@@ -10,7 +10,7 @@ ghost use Rattle.pat_tree.specs.declared.nodes.Placed.{Placed};
 ghost use Rattle.pat_tree.specs.declared.names.NameEntry.{NameEntry};
 ghost use Rattle.std.specs.List.{list_any};
 ghost use Rattle.pat_tree.specs.Names.{AreInOrder, with_name};
-ghost use Rattle.pat_tree.specs.Rows.{placed, letter, reference, named, two_branches, called_condition};
+ghost use Rattle.pat_tree.specs.Rows.{placed, reference, named, two_branches, called_condition};
 
 /// Nodes stand for the nested trees of their children, and the last that no node has taken is the whole.
 #[tactic(auto, unfolding(crate::specs::Nested::trees, crate::specs::Nested::trees_after, crate::specs::Growing::loose, crate::specs::Growing::loose_after))]

@@ -1,6 +1,6 @@
 //! The names of groups.
 ghost use Rattle.std.specs.List.Sorted.{IsSearchInRange};
-ghost use Rattle.std.specs.Prelude.{◌≡◌, ◌<◌, ◌≤◌, [], length, OnErr, OnOk, slice_index_or};
+ghost use Rattle.std.specs.Prelude.{◌≡◌, ◌<◌, [], length, OnErr, OnOk, slice_index_or};
 ghost use Rattle.pat_tree.specs.Names.{AreInOrder, IsFound, name_cmp, with_name};
 
 use crate::lists::Word;

@@ -1,5 +1,5 @@
 -- The matches of a subject, as they are replaced one after another.
-use Rattle.std.proofs.Common.{◌≡◌, ◌∙◌, ℕ, zero, suc, ◌+◌, ◌-◌, ◌*◌, ◌<◌, ◌≤◌, Bool, true, false, List, [], ◌∷◌, ◌++◌, length, drop, Option, Some, None, Result, Ok, Err, refl, sym, ap, subst, arith, append_assoc, append-nil}
+use Rattle.std.proofs.Common.{◌≡◌, ◌∙◌, ℕ, zero, suc, ◌+◌, ◌-◌, ◌<◌, ◌≤◌, Bool, true, false, List, [], ◌++◌, length, drop, Result, Ok, Err, refl, sym, ap, subst, arith, append_assoc, append-nil}
 use Rattle.std.specs.Prelude.{◌==◌, ◌&&◌, nat_lt, if◌then◌else◌}
 use Rattle.std.proofs.lemmas.Bool.{lt-ltb, le-ltb}
 use Rattle.pat_tree.specs.declared.options.MatchOptions.{MatchOptions}
@@ -10,7 +10,6 @@ use Rattle.pcre2_errors.specs.declared.error.MatchError.{MatchError}
 use Rattle.pcre2_api.specs.declared.substitute.Substituted.{Substituted}
 use Rattle.pcre2_errors.specs.declared.subst_error.SubstError.{SubstError}
 use Rattle.pcre2_errors.specs.declared.subst_error.SubstError.TheVariants as refusal
-use Rattle.pcre2_api.specs.declared.substitute.Search.{Search}
 use Rattle.pcre2_api.specs.declared.substitute.Search.TheVariants as search
 use Rattle.pcre2_api.specs.Walks.{Answer, found, none, failed, Matches, no_more, fails, with_match, answer, answer_at, goes_on, is_crlf, place_behind, all_from, first_from, matches_from}
 use Rattle.pcre2_api.specs.Substituted.{Work, written_for, replaced, all_replaced, behind, kept, searches, search_refusal, added_by, IsAdded, IsSearch, Refuses}

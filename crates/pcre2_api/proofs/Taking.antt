@@ -4,8 +4,7 @@ use Rattle.std.specs.Prelude.{slice_get, ◌||◌}
 use Rattle.std.specs.List.{list_any}
 use Rattle.std.specs.Option.{option_map}
 use Rattle.pat_tree.specs.declared.names.NameEntry.{NameEntry}
-use Rattle.frame_store.specs.declared.registers.Span.{Span}
-use Rattle.frame_store.specs.Captures.{Captures, capture}
+use Rattle.frame_store.specs.Captures.{Captures}
 use Rattle.subst_plan.specs.Matched.{Matched, Found, text, unset, unknown, numbered, numbers_of, first_set, first_of, named}
 use Rattle.pcre2_api.specs.Captured.{text_at, group_of, first_named, named_of}
 use Rattle.pcre2_api.specs.Matched.{MatchParts}

@@ -23,7 +23,7 @@ use Rattle.pcre2_api.specs.declared.substitute.Search.{Search}
 use Rattle.pcre2_api.specs.declared.substitute.Search.TheVariants as search
 use Rattle.pcre2_api.specs.Starts.{start_fault}
 use Rattle.pcre2_api.specs.Taken.{taken}
-use Rattle.pcre2_api.specs.Walks.{Answer, found, none, failed, Matches, matches_from}
+use Rattle.pcre2_api.specs.Walks.{Answer, found, none, failed, matches_from}
 
 -- Why matches aren't replaced, by the error of a search. The others are met by no search here: partial
 -- matching is taken as off, and no callout is called.

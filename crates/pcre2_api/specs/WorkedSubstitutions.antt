@@ -1,5 +1,5 @@
 -- Worked rows of substitutions: subjects, and what they become.
-use Rattle.std.specs.Prelude.{◌≡◌, ℕ, true, false, List, [], ◌∷◌, codes, Some, None, Result, Ok, Err}
+use Rattle.std.specs.Prelude.{◌≡◌, ℕ, true, false, [], codes, Some, None, Result, Ok, Err}
 use Prim.Native.String.{String}
 use Rattle.pat_tree.specs.declared.options.TheConstants.Options as plain
 use Rattle.pat_tree.specs.declared.options.TheConstants.MatchOptions as plain_match

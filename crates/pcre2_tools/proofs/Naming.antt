@@ -1,5 +1,5 @@
 -- The tool that the first word names.
-use Rattle.std.proofs.Common.{◌≡◌, ℕ, ◌≤◌, ◌<◌, Bool, true, false, List, [], ◌∷◌, codes, ◌-◌, length, take, drop, map, get_or, refl, sym, ap, ◌∙◌, subst, arith}
+use Rattle.std.proofs.Common.{◌≡◌, ℕ, ◌≤◌, ◌<◌, Bool, true, false, List, [], ◌∷◌, codes, ◌-◌, length, take, drop, map, get_or, refl, sym, subst}
 use Rattle.script_run.proofs.Wording.{first-word, no-word}
 use Rattle.pcre_io.specs.Told.{Told}
 use Rattle.pcre_io.specs.Files.{Filed}

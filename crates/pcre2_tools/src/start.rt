@@ -1,5 +1,5 @@
 //! The words that the program was started with.
-ghost use Rattle.std.specs.Prelude.{◌≡◌, map, string_bytes, IfOk, List};
+ghost use Rattle.std.specs.Prelude.{◌≡◌, map, string_bytes, IfOk};
 ghost use Rattle.pcre2_tools.specs.Start.{last_component, tool_named, words_of};
 
 use pcre_io::Memory;

@@ -1,13 +1,11 @@
 -- The directories in names.
-use Rattle.std.proofs.Common.{◌≡◌, ℕ, ◌==◌, Bool, true, false, not, ◌&&◌, ◌||◌, if◌then◌else◌, List, [], ◌∷◌, ◌++◌, map, filter, flat_map, bytes_eq, drop, Option, Some, None, is_some, option_copied, MatchOption, refl, ap, sym, subst, ◌∙◌}
+use Rattle.std.proofs.Common.{◌≡◌, ℕ, ◌==◌, Bool, true, false, not, ◌&&◌, ◌||◌, if◌then◌else◌, List, [], ◌∷◌, ◌++◌, map, filter, flat_map, bytes_eq, Option, Some, None, is_some, option_copied, MatchOption, refl, ap, sym, subst, ◌∙◌}
 use Rattle.std.specs.List.{list_any}
-use Rattle.std.specs.Bool.{Decides}
-use Rattle.std.proofs.lemmas.Bool.{cases_Bool, eqb-true, eq-eqb}
+use Rattle.std.proofs.lemmas.Bool.{eqb-true, eq-eqb}
 use Rattle.std.proofs.lemmas.List.Folds.{list_any-append}
 use Rattle.std.proofs.lemmas.Slice.Eq.{bytes_eq-Decides}
 use denote.Ref.{Bor}
 use Rattle.pcre_io.specs.Files.{File, Directory, entries_in, is_file, is_among, kind_of, listed_entries}
-use Rattle.pcre_io.specs.declared.entries.Kind.{Kind}
 use Rattle.pcre_io.specs.declared.entries.Kind.TheVariants as kind
 use Rattle.pcre_io.specs.MemTree.{below, before_slashes, entries_below, held_files, is_slash, tree_of}
 use Rattle.pcre_io.specs.declared.entries.DirEntry.{DirEntry}

@@ -1,7 +1,6 @@
 -- What a set of files tells.
-use Rattle.std.specs.Prelude.{◌≡◌, ℕ, suc, if◌then◌else◌, Bool, is_some, List, [], ◌∷◌, ◌++◌, bytes_eq, ⊤, Option, None, Some}
+use Rattle.std.specs.Prelude.{◌≡◌, ℕ, if◌then◌else◌, Bool, is_some, List, [], ◌∷◌, bytes_eq, ⊤, Option, None, Some}
 use Rattle.std.specs.List.{list_any}
-use Rattle.std.specs.Option.{option_map}
 use Rattle.pcre_io.specs.Told.{Told}
 use Rattle.pcre_io.specs.declared.entries.Kind.{Kind}
 use Rattle.pcre_io.specs.declared.entries.Kind.TheVariants as kind

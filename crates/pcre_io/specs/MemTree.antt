@@ -1,5 +1,5 @@
 -- Files in memory: their directories come from their names.
-use Rattle.std.specs.Prelude.{◌≡◌, ℕ, suc, ◌==◌, Bool, not, if◌then◌else◌, List, [], ◌∷◌, ◌++◌, map, filter, flat_map, fold, bytes_eq, Option, None, Some, string_bytes, is_some}
+use Rattle.std.specs.Prelude.{◌≡◌, ℕ, suc, ◌==◌, Bool, not, if◌then◌else◌, List, [], ◌∷◌, ◌++◌, map, filter, flat_map, fold, bytes_eq, Option, None, Some, string_bytes}
 use Rattle.std.specs.List.{before_first, list_any}
 use Rattle.std.specs.Option.{option_map}
 use Rattle.pcre_io.specs.Files.{File, Directory, Contents, Filed, is_file}

@@ -1,5 +1,5 @@
 //! What a search calls at callouts.
-ghost use Rattle.std.specs.Prelude.{◌≡◌, ℕ, ℤ, Bool, true, List, Option, IfOk, OnOk, OnErr};
+ghost use Rattle.std.specs.Prelude.{◌≡◌, ℤ, Bool, true, List, Option, IfOk, OnOk, OnErr};
 ghost use Rattle.pcre_io.specs.declared.callouts.Block.{Block};
 ghost use Rattle.pcre_io.specs.Called.{SeenGrows};
 

@@ -1,6 +1,5 @@
 //! Files in memory.
 ghost use Rattle.std.specs.Prelude.{◌≡◌, ◌≤◌, [], map, MatchOption, None, Some, OnErr, OnOk, IfOk, Err, string_bytes, option_map};
-ghost use Rattle.std.specs.List.{list_any};
 ghost use Rattle.pcre_io.specs.Files.{file_of, is_file, opened_file, is_among, kind_of};
 ghost use Rattle.pcre_io.specs.Causes.{Rose};
 ghost use Rattle.pcre_io.specs.MemTree.{Adds, Refuses, file_view, held_files, place_of};

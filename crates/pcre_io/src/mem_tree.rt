@@ -1,7 +1,7 @@
 //! The directories of files in memory, which come from the names of the files.
-ghost use Rattle.std.specs.Prelude.{◌≡◌, ◌∷◌, ◌++◌, bytes_eq, map, string_bytes, option_copied, is_some, Some, Err, IfOk, OnErr, OnOk, MatchOption};
+ghost use Rattle.std.specs.Prelude.{◌≡◌, ◌∷◌, ◌++◌, bytes_eq, map, string_bytes, option_copied, is_some, Some, Err, IfOk, OnErr, OnOk};
 ghost use Rattle.std.specs.List.{before_first, list_any};
-ghost use Rattle.pcre_io.specs.Files.{File, is_file};
+ghost use Rattle.pcre_io.specs.Files.{File};
 ghost use Rattle.pcre_io.specs.declared.entries.DirEntry.{DirEntry};
 ghost use Rattle.pcre_io.specs.declared.traits.IoError.TheVariants.{Memory};
 ghost use Rattle.pcre_io.specs.MemTree.{below, entries_below, entry_at, file_view, is_slash, joined, with_entry};

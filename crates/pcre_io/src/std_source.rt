@@ -1,5 +1,5 @@
 //! A reader of std as a source.
-ghost use Rattle.std.specs.Prelude.{◌≡◌, ◌+◌, ◌-◌, ◌^◌, min, length, None, OnErr};
+ghost use Rattle.std.specs.Prelude.{◌≡◌, ◌-◌, length, None, OnErr};
 ghost use Rattle.std.specs.Io.{ReadsAtMost};
 ghost use Rattle.std.specs.Io.KnownBytes.{ReadConsumes};
 ghost use Rattle.pcre_io.specs.Told.{StopsAt};

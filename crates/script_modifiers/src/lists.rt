@@ -1,8 +1,8 @@
 //! Lists of modifiers.
-ghost use Rattle.std.specs.Prelude.{◌≡◌, ◌==◌, ◌&&◌, ◌<◌, ◌≤◌, ◌∷◌, [], ◌+◌, true, false, take, drop, length, position, IfOk, IfErr, OnOk, IfSome, MatchOption, Ok, Some, None};
+ghost use Rattle.std.specs.Prelude.{◌≡◌, ◌==◌, ◌&&◌, ◌<◌, ◌≤◌, ◌∷◌, [], ◌+◌, true, false, drop, length, position, IfOk, IfErr, OnOk, IfSome, Ok, Some, None};
 ghost use Rattle.std.specs.List.{slice_split};
 ghost use Rattle.std.specs.Option.{option_copied};
-ghost use Rattle.script_modifiers.specs.Lists.{is_equals, is_off, without_hyphen, name_of, value_of, begins_xx, letters_given, modifier_given, joined_given, parts_given, item_given, items_given, is_comma, list_of};
+ghost use Rattle.script_modifiers.specs.Lists.{is_off, without_hyphen, name_of, value_of, begins_xx, letters_given, modifier_given, item_given, is_comma, list_of};
 ghost use Rattle.script_modifiers.specs.Refusals.{Refuses};
 ghost use Rattle.script_modifiers.specs.Stopping.{Stops};
 

@@ -1,5 +1,5 @@
 //! What is refused.
-ghost use Rattle.std.specs.Prelude.{◌≡◌, IfErr};
+ghost use Rattle.std.specs.Prelude.{◌≡◌};
 ghost use Rattle.script_modifiers.specs.declared.refusal.ListError.TheVariants as answer;
 
 use pat_tree::Word;

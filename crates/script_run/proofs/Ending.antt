@@ -1,17 +1,14 @@
 -- A sound script ends well, and the worked rows of words compute.
-use Rattle.std.proofs.Common.{◌≡◌, ◌∙◌, ℕ, List, ◌∷◌, Option, Some, refl, ap, sym}
+use Rattle.std.proofs.Common.{◌≡◌, ◌∙◌, ◌∷◌, Some, refl, ap}
 use Rattle.script_modifiers.specs.Lists.{list_of}
 use Rattle.byte_lanes.specs.declared.line_end.EndKind.TheVariants.{Lf}
 use Rattle.line_feed.specs.Rows.{Input, At, End, rows}
 use Rattle.test_script.specs.declared.plan.TestPlan.{TestPlan}
 use Rattle.test_run.specs.TestText.{greatest_line}
-use Rattle.tool_in.specs.Asked.{Asked}
 use Rattle.script_run.specs.declared.words.Script.{Script}
 use Rattle.script_run.specs.declared.words.Script.TheVariants.{Standard, File, Generated}
-use Rattle.script_run.specs.declared.words.TestWords.{TestWords}
-use Rattle.script_run.specs.Words.{words_of}
 use Rattle.script_run.specs.ToolText.{status_of, text_for, text_by, text_of}
-use Rattle.script_run.specs.Laws.{IsSound, SoundEndWell}
+use Rattle.script_run.specs.Laws.{SoundEndWell}
 use Rattle.script_run.specs.Worked.{WorkedWords}
 
 -- whatever is asked for

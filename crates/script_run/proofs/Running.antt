@@ -1,11 +1,11 @@
 -- A script's run, by what was written of it.
-use Rattle.std.proofs.Common.{◌≡◌, ◌∙◌, ℕ, ◌<◌, List, [], ◌∷◌, ◌++◌, codes, Option, None, Some, Result, Ok, Err, refl, sym, ap, subst, arith, inl, inr, option_map}
+use Rattle.std.proofs.Common.{◌≡◌, ◌∙◌, ℕ, ◌<◌, List, [], ◌∷◌, codes, Option, None, Some, Result, Ok, Err, refl, sym, ap, subst, arith, inl, inr, option_map}
 use Rattle.std.proofs.lemmas.Bool.{lt-leb}
 use Rattle.std.proofs.KnownBytes.{Appends-nil, Appends-trans}
 use Rattle.std.specs.Io.KnownBytes.{Appends}
 use Rattle.pcre_io.specs.Told.{Told, Kept, AppendsPrefix}
 use Rattle.pcre_io.specs.Causes.{Rose, CountsRefusals}
-use Rattle.pcre_io.specs.Files.{Contents, opened_file, IsMissing}
+use Rattle.pcre_io.specs.Files.{Contents, IsMissing}
 use Rattle.pcre_io.specs.declared.traits.IoError.{IoError}
 use Rattle.pcre_io.specs.declared.traits.IoError.TheVariants.{Failed, Memory}
 use Rattle.line_feed.specs.Rows.{Input, Finish, At, End}

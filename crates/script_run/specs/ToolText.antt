@@ -1,5 +1,5 @@
 -- What pcre2test writes, and its status: words → plan and script → text of the script.
-use Rattle.std.specs.Prelude.{ℕ, Bool, not, List, [], ◌∷◌, ◌++◌, codes, decimal, Option, Some, None}
+use Rattle.std.specs.Prelude.{ℕ, not, List, [], ◌∷◌, ◌++◌, codes, decimal, Option, Some, None}
 use Rattle.line_feed.specs.Rows.{Input, Finish, At, Long, End, Fault, Limit}
 use Rattle.tool_out.specs.Texts.{line, text_if}
 use Rattle.tool_out.specs.Outcomes.{RunOutcome, said}

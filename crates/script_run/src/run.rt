@@ -1,5 +1,5 @@
 //! A run of pcre2test.
-ghost use Rattle.std.specs.Prelude.{◌≡◌, ◌∷◌, [], map, string_bytes, codes, List, Option, Some};
+ghost use Rattle.std.specs.Prelude.{◌≡◌, ◌∷◌, [], map, string_bytes, List, Option, Some};
 ghost use Rattle.line_feed.specs.Rows.{Input};
 ghost use Rattle.line_feed.specs.Hears.{Hears};
 ghost use Rattle.tool_in.specs.Asked.{Asked, Opened, StandFor};

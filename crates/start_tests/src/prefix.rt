@@ -4,7 +4,7 @@ ghost use Rattle.pat_tree.specs.Nested.{tree_at, trees};
 ghost use Rattle.pat_tree.specs.Rules.{class_in};
 ghost use Rattle.char_sets.specs.Table.{IsTableOf};
 ghost use Rattle.match_items.specs.Subjects.{IsText, IsTextPlace};
-ghost use Rattle.match_items.specs.Items.{after_item, item_reaches};
+ghost use Rattle.match_items.specs.Items.{after_item};
 ghost use Rattle.match_items.specs.Views.{text_scene, told};
 ghost use Rattle.frame_board.specs.Ready.{setting_for};
 ghost use Rattle.frame_state.specs.Stops.{admitted};

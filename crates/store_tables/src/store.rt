@@ -1,5 +1,5 @@
 //! The stack of records, and the registers that it gives back.
-ghost use Rattle.std.specs.Prelude.{◌≡◌, ◌<◌, ◌≤◌, length, All, OnOk};
+ghost use Rattle.std.specs.Prelude.{◌≡◌, ◌<◌, length, All};
 ghost use Rattle.frame_store.specs.Captures.{HasGroup};
 ghost use Rattle.frame_store.specs.Entry.{entries};
 ghost use Rattle.frame_store.specs.Undo.{HasSlot};

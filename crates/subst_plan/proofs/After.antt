@@ -1,5 +1,5 @@
 -- A piece that begins later begins after an earlier place.
-use Rattle.std.proofs.Common.{◌≡◌, ℕ, ◌<◌, ◌≤◌, List, Result, Ok, Err, length, arith}
+use Rattle.std.proofs.Common.{ℕ, ◌≤◌, List, Result, Ok, Err, arith}
 use Rattle.std.specs.Prelude.{IfOk}
 use Rattle.subst_plan.specs.declared.faults.PlanError.{PlanError}
 use Rattle.subst_plan.specs.declared.pieces.Piece.{Piece}

@@ -1,11 +1,10 @@
 -- What a replacement writes for a match (pcre2api, "Creating a new string with substitutions").
-use Rattle.std.specs.Prelude.{◌≡◌, ⊤, ℕ, zero, suc, ◌+◌, ◌-◌, ◌==◌, Bool, List, [], ◌∷◌, ◌++◌, Option, Some, None, Result, Ok, Err, slice_range, encode_utf8, if◌then◌else◌}
+use Rattle.std.specs.Prelude.{◌≡◌, ⊤, ℕ, suc, ◌-◌, ◌==◌, Bool, List, [], ◌∷◌, ◌++◌, Option, Some, None, Result, Ok, Err, slice_range, encode_utf8, if◌then◌else◌}
 use Rattle.subst_plan.specs.declared.faults.ExpandError.{ExpandError}
 use Rattle.subst_plan.specs.declared.faults.ExpandError.TheVariants as fault
 use Rattle.subst_plan.specs.declared.faults.ExpandError.TheVariants.{NoGroup, Unset}
 use Rattle.subst_plan.specs.declared.pieces.Key.{Key}
 use Rattle.subst_plan.specs.declared.pieces.Key.TheVariants as key
-use Rattle.subst_plan.specs.declared.pieces.Forcing.{Forcing}
 use Rattle.subst_plan.specs.declared.pieces.Forcing.TheVariants.{Off}
 use Rattle.subst_plan.specs.declared.pieces.Piece.{Piece}
 use Rattle.subst_plan.specs.declared.pieces.Piece.TheVariants as piece

@@ -3,7 +3,7 @@ use Rattle.std.specs.Prelude.{ℕ, zero, suc, ◌+◌, ◌-◌, ◌<◌, ◌≤�
 use Rattle.token_parts.specs.Tell.{IsPart}
 use Rattle.subst_plan.specs.declared.faults.PlanError.{PlanError}
 use Rattle.subst_plan.specs.declared.faults.PlanError.TheVariants as fault
-use Rattle.subst_plan.specs.declared.faults.PlanError.TheVariants.{BadReplacement, BadEscape, MissingBrace, BadSyntax}
+use Rattle.subst_plan.specs.declared.faults.PlanError.TheVariants.{MissingBrace, BadSyntax}
 use Rattle.subst_plan.specs.declared.pieces.Key.{Key}
 use Rattle.subst_plan.specs.declared.pieces.Key.TheVariants.{Name}
 use Rattle.subst_plan.specs.declared.pieces.Inner.{Inner}

@@ -1,7 +1,7 @@
 -- The pieces of a replacement (pcre2api, "Creating a new string with substitutions"). A place is a
 -- number of bytes from the replacement's begin. Each form is refused at its first byte, but a
 -- missing `}` where it is missing.
-use Rattle.std.specs.Prelude.{ℕ, zero, suc, ◌+◌, ◌-◌, min, Bool, true, false, not, ◌&&◌, ◌||◌, ◌==◌, nat_lt, nat_le, List, [], ◌∷◌, ◌++◌, length, take, drop, Option, Some, None, Result, Ok, Err, slice_get, if◌then◌else◌}
+use Rattle.std.specs.Prelude.{ℕ, suc, ◌+◌, ◌-◌, min, Bool, false, not, ◌&&◌, ◌||◌, ◌==◌, nat_lt, nat_le, List, [], ◌∷◌, length, drop, Option, Some, None, Result, Ok, Err, slice_get, if◌then◌else◌}
 use Rattle.std.specs.Option.{option_and_then}
 use Rattle.std.specs.Int.{is_in_range}
 use Rattle.std.specs.Char.{is_ascii_alphanumeric}
@@ -20,7 +20,7 @@ use Rattle.subst_plan.specs.declared.pieces.Forcing.{Forcing}
 use Rattle.subst_plan.specs.declared.pieces.Forcing.TheVariants.{Off, All, Next}
 use Rattle.subst_plan.specs.declared.pieces.Case.TheVariants.{Upper, Lower}
 use Rattle.subst_plan.specs.declared.pieces.Inner.{Inner}
-use Rattle.subst_plan.specs.declared.pieces.Inner.TheVariants.{First, Last}
+use Rattle.subst_plan.specs.declared.pieces.Inner.TheVariants.{First}
 use Rattle.subst_plan.specs.declared.pieces.Piece.{Piece}
 use Rattle.subst_plan.specs.declared.pieces.Piece.TheVariants.{Text, Byte, Char, Group, Mark, Force, Default, Choice, Else, Close}
 

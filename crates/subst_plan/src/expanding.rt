@@ -1,8 +1,7 @@
 //! What a replacement writes for a match.
-ghost use Rattle.std.specs.Prelude.{◌≡◌, ◌≢◌, ◌++◌, [], ◌+◌, ◌<◌, ◌≤◌, ◌^◌, encode_utf8, IfOk, IfErr, OnOk, Ok, Err};
+ghost use Rattle.std.specs.Prelude.{◌≡◌, [], ◌+◌, ◌<◌, ◌≤◌, ◌^◌, encode_utf8, IfOk, IfErr, OnOk, Ok, Err};
 ghost use Rattle.std.specs.List.{All};
 ghost use Rattle.std.specs.Option.{option_copied};
-ghost use Rattle.subst_plan.specs.Matched.{Matched};
 ghost use Rattle.subst_plan.specs.Lookups.{seen};
 ghost use Rattle.subst_plan.specs.Plans.{IsIn, IsKeyIn};
 ghost use Rattle.subst_plan.specs.Expansion.{after, set_text, group_text, group_written, default_of, choice_of, left_out_after, writing, piece_written, piece_expanded, beginning, expanded_from, rules_of, expansion, Expands, Refuses};

@@ -1,8 +1,8 @@
 //! The pieces of a replacement, one at a time.
-ghost use Rattle.std.specs.Prelude.{◌≡◌, ◌≢◌, ◌+◌, ◌<◌, ◌≤◌, true, false, length, slice_index, OnOk, IfOk, IfErr};
+ghost use Rattle.std.specs.Prelude.{◌≡◌, ◌+◌, ◌<◌, ◌≤◌, length, slice_index, OnOk, IfOk, IfErr};
 ghost use Rattle.std.specs.List.{All};
 ghost use Rattle.subst_plan.specs.Reading.{parts, closes, is_special, plain_end, piece_at};
-ghost use Rattle.subst_plan.specs.Plans.{innermost, outer, opened, nest_after, pieces_of, IsIn, IsAfter, Refuses};
+ghost use Rattle.subst_plan.specs.Plans.{innermost, opened, nest_after, pieces_of, IsIn, IsAfter, Refuses};
 
 use crate::escapes::escape;
 use crate::faults::PlanError;

@@ -1,11 +1,10 @@
 -- What a line comes to, by what the library's calls say.
-use Rattle.std.proofs.Common.{◌≡◌, ◌∙◌, ℕ, ◌-◌, List, length, pos, Option, Some, None, Result, Ok, Err, IfOk, OnOk, refl, sym, ap}
+use Rattle.std.proofs.Common.{◌≡◌, ◌∙◌, ℕ, ◌-◌, List, pos, Option, Some, None, Result, Ok, Err, IfOk, OnOk, refl, sym, ap}
 use Rattle.pat_tree.specs.declared.options.MatchOptions.{MatchOptions}
-use Rattle.pat_tree.specs.Pattern.{Pattern, pattern_of}
-use Rattle.token_parts.specs.declared.fault.Fault.{Fault}
+use Rattle.pat_tree.specs.Pattern.{pattern_of}
 use Rattle.ordered_search.specs.Setting.{Setting}
 use Rattle.dfa_ends.specs.DfaAnswer as meant
-use Rattle.dfa_ends.specs.DfaAnswer.{EndsFrom, dfa_answer}
+use Rattle.dfa_ends.specs.DfaAnswer.{dfa_answer}
 use Rattle.dfa_graph.specs.declared.making.GraphError.{GraphError}
 use Rattle.dfa_graph.specs.declared.making.GraphError.TheVariants as graph
 use Rattle.dfa_graph.specs.Served.{refusal}

@@ -1,5 +1,5 @@
 //! What patterns come to over all lines. Each count makes the lines anew, so one line is held at a time.
-ghost use Rattle.std.specs.Prelude.{◌≡◌, ◌<◌, ℕ, List, None, IfOk, OnOk, length};
+ghost use Rattle.std.specs.Prelude.{◌≡◌, ◌<◌, List, None, IfOk, OnOk, length};
 ghost use Rattle.pat_tree.specs.declared.names.NameEntry.{NameEntry};
 ghost use Rattle.pcre2_errors.specs.declared.dfa_error.DfaError.TheVariants as dfa_error;
 ghost use Rattle.pcre2_errors.specs.declared.error.MatchError.TheVariants as match_error;

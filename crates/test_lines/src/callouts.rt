@@ -1,5 +1,5 @@
 //! What is shown of callouts (pcre2test, "CALLOUTS").
-ghost use Rattle.std.specs.Prelude.{◌≡◌, ◌<◌, ◌≤◌, ◌∷◌, ◌++◌, ℕ, List, length, codes, false, None, slice_index, slice_range, IfOk, OnOk};
+ghost use Rattle.std.specs.Prelude.{◌≡◌, ◌<◌, ◌∷◌, ◌++◌, ℕ, List, length, codes, false, None, slice_index, slice_range, IfOk, OnOk};
 ghost use Rattle.std.specs.Option.{option_copied};
 ghost use Rattle.tool_out.specs.Texts.{line};
 ghost use Rattle.tool_out.specs.Writes.{Writes};

@@ -1,5 +1,5 @@
 //! Laws on scripts.
-ghost use Rattle.std.specs.Prelude.{◌≡◌, ◌≢◌, ℕ, ◌+◌, List, [], ◌∷◌, ◌++◌, length, true, false, Some, None, Ok, Err, codes};
+ghost use Rattle.std.specs.Prelude.{◌≡◌, ◌≢◌, ℕ, ◌+◌, List, [], ◌∷◌, ◌++◌, length, true, false, Some, None, codes};
 ghost use Rattle.std.specs.Option.{option_map};
 ghost use Rattle.script_modifiers.specs.declared.refusal.Refusal.TheVariants as refusal;
 ghost use Rattle.test_script.specs.declared.entries.Entry.TheVariants as entry;

@@ -1,5 +1,5 @@
 //! The lines of a script, one at a time.
-ghost use Rattle.std.specs.Prelude.{◌≡◌, ◌++◌, ◌∷◌, [], drop, OnOk, OnErr};
+ghost use Rattle.std.specs.Prelude.{◌≡◌, ◌++◌, ◌∷◌, [], drop, OnErr};
 ghost use Rattle.test_script.specs.Script.{is_command, is_note};
 
 use crate::closing::{after_backslash, closing_place, is_delimiter, pattern_text, push_line};

@@ -1,7 +1,6 @@
 //! Subject lines.
 ghost use Rattle.std.specs.Prelude.{◌≡◌, ◌≤◌, length, IfOk, IfSome, Some};
 ghost use Rattle.test_script.specs.Script.{trimmed, is_blank_line, is_subject_note, subject_read, subject_entry};
-ghost use Rattle.test_script.specs.Pieces.{written_seen};
 
 use crate::entries::{Entry, SubjectEntry};
 use crate::subjects::{Written, subject_text};

@@ -1,5 +1,5 @@
 //! The text of subject lines: the bytes that it writes, and where its modifiers begin.
-ghost use Rattle.std.specs.Prelude.{◌≡◌, ◌+◌, ◌*◌, ◌<◌, nat_le, ◌≤◌, ◌++◌, true, false, length, encode_utf8, IfOk, IfSome, OnOk, MatchOption, Some, None};
+ghost use Rattle.std.specs.Prelude.{◌≡◌, ◌+◌, ◌*◌, ◌<◌, nat_le, ◌≤◌, ◌++◌, true, false, length, encode_utf8, IfOk, IfSome, OnOk, Some, None};
 ghost use Rattle.std.specs.List.{repeat};
 ghost use Rattle.test_script.specs.Subjects.{greatest_subject, repeated, times, copies, not_too_long, subject_text};
 ghost use Rattle.test_script.specs.Pieces.{repeated_seen, written_seen, Repeats, Copies, IsPlain, IsTurn, IsWithin};

@@ -1,5 +1,5 @@
 //! How the bytes of a pattern are read. A place is a number of bytes from the pattern's begin.
-ghost use Rattle.std.specs.Prelude.{◌≡◌, ◌<◌, ◌≤◌, ◌+◌, ◌^◌, length, slice_get, drop, nat_eq, IsTrue, IfSome};
+ghost use Rattle.std.specs.Prelude.{◌≡◌, ◌<◌, ◌≤◌, ◌+◌, length, slice_get, drop, nat_eq, IsTrue, IfSome};
 ghost use Rattle.std.specs.Char.{is_ascii_digit, is_ascii_alphabetic};
 ghost use Rattle.std.specs.List.{starts_with};
 ghost use Rattle.token_parts.specs.Bytes.{passes_at, stands, run_end, numeral};

@@ -1,5 +1,5 @@
 //! Which group a backreference or a call is of (pcre2pattern, "Backreferences", "Groups as subroutines").
-ghost use Rattle.std.specs.Prelude.{◌≡◌, ◌+◌, ◌<◌, ◌≤◌, length, IsTrue, IfOk, IfErr};
+ghost use Rattle.std.specs.Prelude.{◌≡◌, ◌+◌, ◌<◌, ◌≤◌, length, IfOk, IfErr};
 ghost use Rattle.token_parts.specs.Tell.{IsTold, IsTarget, IsSound};
 ghost use Rattle.token_parts.specs.Targets.{digits_start, begins_number, numbered, enclosed, named_reference, named_call, group_escape, name_escape, numbered_call, numbered_escape};
 

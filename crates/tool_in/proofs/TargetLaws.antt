@@ -1,5 +1,5 @@
 -- The law of what targets stand for.
-use Rattle.std.proofs.Common.{◌≡◌, refl, ap, ◌∙◌, ℕ, Bool, true, false, if◌then◌else◌, List, [], ◌∷◌, Option, Some}
+use Rattle.std.proofs.Common.{◌≡◌, refl, ap, ◌∙◌, Bool, true, false, if◌then◌else◌, [], ◌∷◌, Option, Some}
 use Rattle.pcre_io.specs.Files.{Contents}
 use Rattle.line_feed.specs.Rows.{Input}
 use Rattle.dir_walk.specs.declared.lists.Target.{Target}

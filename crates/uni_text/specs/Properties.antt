@@ -3,12 +3,10 @@ use Rattle.std.specs.Prelude.{ℕ, ◌+◌, Bool, true, not, ◌&&◌, ◌||◌,
 use Rattle.std.specs.Option.{option_map}
 use Rattle.std.specs.Char.{to_ascii_lowercase}
 use Rattle.std.specs.Int.{is_in_range}
-use Rattle.ucd_category.specs.declared.GeneralCategory.{GeneralCategory}
 use Rattle.ucd_category.specs.declared.GeneralCategoryGroup.{GeneralCategoryGroup}
 use Rattle.ucd_category.specs.declared.GeneralCategoryGroup.TheVariants.{Other, Letter, CasedLetter, Mark, Number, Punctuation, Symbol, Separator}
 use Rattle.ucd_category.specs.GeneralCategory.{general_category, general_category_number, general_category_eq}
 use Rattle.ucd_category.specs.GeneralCategoryGroup.{in_group}
-use Rattle.ucd_script.specs.declared.Script.{Script as ScriptType}
 use Rattle.ucd_script.specs.Script.{script, script_number, script_eq}
 use Rattle.uni_text.specs.declared.properties.Prop.{Prop}
 use Rattle.uni_text.specs.declared.properties.Prop.TheVariants.{Any, Xan, Xsp, Xps, Xwd, Group, Category, Script}

@@ -6,7 +6,7 @@ use Rattle.ucd_category.specs.declared.GeneralCategory.TheVariants.{UppercaseLet
 use Rattle.ucd_category.specs.declared.GeneralCategoryGroup.TheVariants.{Letter, Mark, Number, Punctuation, Symbol}
 use Rattle.uni_text.specs.declared.properties.Prop.TheVariants.{Xan, Xsp, Xwd, Group, Category}
 use Rattle.uni_text.specs.Ascii.{is_digit, is_capital, is_small, is_letter, is_word_char}
-use Rattle.uni_text.specs.Properties.{has_prop, is_horizontal, is_vertical}
+use Rattle.uni_text.specs.Properties.{has_prop, is_horizontal}
 
 -- `\d`
 abbrev pub digit : Bool → ℕ → Bool

@@ -1,5 +1,5 @@
 // The character at a place and the character before it.
-ghost use Rattle.std.specs.Prelude.{◌≡◌, ◌-◌, ◌<◌, ◌≤◌, length, IsUtf8};
+ghost use Rattle.std.specs.Prelude.{◌≡◌, ◌-◌, ◌<◌, length, IsUtf8};
 ghost use Rattle.std.specs.Str.Pattern.{StartsWithChar, EndsWithCharOfLen};
 ghost use Rattle.std.specs.Char.{IsScalar};
 ghost use Rattle.uni_text.specs.Characters as text;

@@ -1,4 +1,4 @@
-use Rattle.std.proofs.Common.{subst, below_more, arith, get_or}
+use Rattle.std.proofs.Common.{subst, below_more, arith}
 use Rattle.std.proofs.lemmas.List.{get_or_default}
 use Rattle.std.proofs.lemmas.List.Folds.{list_any_at}
 use Rattle.pat_tree.specs.declared.nodes.Part.{Part}

@@ -1,8 +1,7 @@
-use Rattle.std.proofs.Common.{ℕ, ◌≡◌, ◌<◌, ◌≤◌, true, false, ◌&&◌, ◌==◌, nat_lt, length, get_or, sym, ap, ap₂, ◌∙◌, arith, eq-eqb, below_more, ltb-true, subst}
+use Rattle.std.proofs.Common.{◌&&◌, ◌==◌, get_or, sym, ap, ◌∙◌, arith, below_more, ltb-true}
 use Rattle.std.proofs.lemmas.Bool.{ltb-false}
 use Rattle.std.proofs.Math.Bool.{and-false}
 use Rattle.std.proofs.lemmas.List.{get_or_default}
-use Rattle.std.specs.Int.{is_in_range}
 use Rattle.char_sets.proofs.PairLemmas.{pair_has, none_first, none_at_all, none_left}
 use Rattle.char_sets.proofs.folds.other_has_in.Goals as goal
 

@@ -1,4 +1,4 @@
-use Rattle.std.proofs.Common.{ℕ, below_more, arith, subst}
+use Rattle.std.proofs.Common.{below_more, arith, subst}
 use Rattle.std.proofs.lemmas.List.{get_or_default}
 use Rattle.char_sets.proofs.RunLemmas.{EndsApart, run_value-steady}
 use Rattle.char_sets.proofs.unicode.add_run_ends.Goals as goal

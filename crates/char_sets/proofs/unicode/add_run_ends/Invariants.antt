@@ -1,4 +1,4 @@
-use Rattle.std.proofs.Common.{◌≡◌, ◌⊎◌, ◌<◌, ◌≤◌, ◌/◌, ℕ, false, get_or, All}
+use Rattle.std.proofs.Common.{◌≡◌, ◌<◌, ◌≤◌, ℕ, false, get_or, All}
 use Rattle.char_sets.specs.Places.{splits}
 use Rattle.char_sets.proofs.RunLemmas.{EndsApart}
 use Rattle.char_sets.proofs.unicode.add_run_ends.Given as goal

@@ -1,4 +1,4 @@
-use Rattle.std.proofs.Common.{◌≡◌, ℕ, false, true, sym, ap, subst, refl, ◌∙◌}
+use Rattle.std.proofs.Common.{◌≡◌, false, sym, ap, refl, ◌∙◌}
 use Rattle.char_sets.specs.Places.{splits}
 use Rattle.char_sets.proofs.PlaceLemmas.{splits-before, splits-append, character_steady, others}
 use Rattle.char_sets.proofs.RunLemmas.{category_steady, script_steady}

@@ -1,4 +1,4 @@
-use Rattle.std.proofs.Common.{◌++◌, ◌∷◌, [], suc, map, string_bytes, Some, None, refl, ap, ◌∙◌}
+use Rattle.std.proofs.Common.{◌++◌, ◌∷◌, [], suc, map, string_bytes, Some, None, ap, ◌∙◌}
 use Rattle.std.proofs.lemmas.Result.{on_ok_weaker}
 use Rattle.dir_walk.specs.declared.lists.Target.TheVariants.{NoList}
 use Rattle.dir_walk.specs.Targets.{directory_targets, listed_targets}

@@ -1,4 +1,4 @@
-use Rattle.std.proofs.Common.{◌≡◌, ◌++◌, false, true, map, append-nil, refl, sym, subst, ap, ◌∙◌}
+use Rattle.std.proofs.Common.{◌≡◌, ◌++◌, false, true, map, append-nil, sym, subst, ap, ◌∙◌}
 use Rattle.std.proofs.lemmas.Result.{on_ok_weaker}
 use Rattle.dir_walk.specs.Filters.{filter_in}
 use Rattle.dir_walk.specs.Targets.{allows_directory, directory_targets}

@@ -1,7 +1,7 @@
-use Rattle.std.proofs.Common.{◌≡◌, ◌-◌, ◌∙◌, ◌++◌, List, length, take, drop, reverse, ap, subst}
+use Rattle.std.proofs.Common.{◌-◌, ◌∙◌, ◌++◌, List, take, drop, reverse, ap, subst}
 use Rattle.std.proofs.lemmas.List.{take_rest}
 use Rattle.frame_store.specs.declared.records.Record.{Record}
-use Rattle.frame_store.specs.Entry.{Entry, entries}
+use Rattle.frame_store.specs.Entry.{entries}
 use Rattle.frame_store.specs.Gains.{IsGathered, stretch}
 use Rattle.frame_store.proofs.GainLemmas.{stretch_all}
 use Rattle.frame_store.proofs.gains.extend.Goals as goal

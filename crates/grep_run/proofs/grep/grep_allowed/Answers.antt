@@ -1,4 +1,4 @@
-use Rattle.std.proofs.Common.{rules, ◌≡◌, ◌∙◌, map, string_bytes, Ok, Err, sym, subst}
+use Rattle.std.proofs.Common.{rules, ◌≡◌, map, string_bytes, Ok, Err, sym, subst}
 use Rattle.grep_output.specs.declared.ended.Stop.TheVariants.{Memory}
 use Rattle.dir_walk.specs.Filters.{filter_in}
 use Rattle.grep_args.specs.declared.plan.GrepPlan.{GrepPlan}

@@ -3,7 +3,7 @@ use Rattle.pat_tree.specs.Groups.{group_of}
 use Rattle.pat_tree.specs.Nested.{trees}
 use Rattle.pat_tree.specs.Parts.{tree_of}
 use Rattle.pat_lengths.specs.Nodes.{all_nodes}
-use Rattle.pat_lengths.specs.Passing.{AreGroups, IsAt, called_place, place_of}
+use Rattle.pat_lengths.specs.Passing.{AreGroups, IsAt, place_of}
 use Rattle.pat_lengths.proofs.PlacedLemmas.{placed_whole}
 use Rattle.pat_lengths.proofs.GroupLemmas.{with_whole_is}
 use Rattle.pat_lengths.proofs.groups.group_table.Goals as goal

@@ -1,4 +1,4 @@
-use Rattle.std.proofs.Common.{true, false, sym, ap, ◌∙◌, map, string_bytes, codes}
+use Rattle.std.proofs.Common.{sym, ap, ◌∙◌, map, string_bytes, codes}
 use Rattle.pcre2_tools.specs.ToolText.{is_grep, is_test}
 use Rattle.pcre2_tools.proofs.Naming.{says-none, says-other, runs-said, runs-grep, runs-test}
 use Rattle.tool_out.specs.Printed.{printed}

@@ -1,4 +1,4 @@
-use Rattle.std.proofs.Common.{◌≡◌, ◌<◌, ◌++◌, codes, None, Some, Ok, Err, sym, subst, arith, rules}
+use Rattle.std.proofs.Common.{◌≡◌, codes, None, Some, Err, sym, subst, arith, rules}
 use Rattle.pcre_io.specs.Files.{IsMissing}
 use Rattle.dir_walk.specs.declared.lists.Target.TheVariants as targets
 use Rattle.tool_in.proofs.Absence.{absent-there, absent-rose, opened-there}

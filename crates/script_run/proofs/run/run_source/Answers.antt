@@ -1,6 +1,5 @@
-use Rattle.std.proofs.Common.{◌≡◌, Ok, Err, refl, sym, subst, rules}
+use Rattle.std.proofs.Common.{◌≡◌, Err, refl, sym, subst, rules}
 use Rattle.line_feed.specs.Rows.{At, Long, Fault, Limit}
-use Rattle.pcre_io.specs.declared.traits.IoError.TheVariants.{Failed, Memory}
 use Rattle.tool_in.proofs.Taking.{hears-any}
 use Rattle.tool_out.specs.Printed.{printed}
 use Rattle.test_run.specs.TestText.{test_text}

@@ -1,6 +1,5 @@
-use Rattle.std.proofs.Common.{◌≡◌, map, string_bytes, codes, None, Some, Ok, Err, sym, subst, arith, rules}
+use Rattle.std.proofs.Common.{◌≡◌, map, string_bytes, codes, Some, Ok, Err, sym, subst, arith, rules}
 use Rattle.tool_out.specs.Printed.{printed}
-use Rattle.script_run.specs.declared.words.WordsError.TheVariants as why
 use Rattle.script_run.specs.Words.{Refuses, words_of}
 use Rattle.script_run.proofs.Running.{FoundOf, found-read, found-refused, found-lacks, said-whole, said-part}
 use Rattle.script_run.proofs.run.run_words.Goals as goal

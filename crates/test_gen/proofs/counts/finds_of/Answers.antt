@@ -1,4 +1,4 @@
-use Rattle.std.proofs.Common.{◌≡◌, ◌∙◌, ◌+◌, ◌≤◌, ◌<◌, is_some, unwrap_or, cond, refl, sym, ap, subst, arith, rules}
+use Rattle.std.proofs.Common.{◌≡◌, ◌∙◌, ◌≤◌, ◌<◌, is_some, unwrap_or, cond, refl, sym, ap, subst, arith, rules}
 use Rattle.std.specs.Int.{from_bool}
 use Rattle.test_gen.specs.Counts.{pattern_in, first_length, lines_matched, characters}
 use Rattle.test_gen.proofs.Making.{summed-none, summed-more, one-if, one-most}

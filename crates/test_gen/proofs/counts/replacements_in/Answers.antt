@@ -1,4 +1,4 @@
-use Rattle.std.proofs.Common.{◌≡◌, ◌∙◌, ℕ, List, Option, IfOk, sym, ap, subst}
+use Rattle.std.proofs.Common.{◌≡◌, ◌∙◌, List, Option, IfOk, sym, ap, subst}
 use Rattle.pat_tree.specs.Pattern.{pattern_of}
 use Rattle.pat_tree.specs.declared.names.NameEntry.{NameEntry}
 use Rattle.pat_tree.specs.declared.options.TheConstants.MatchOptions as plain_match

@@ -1,4 +1,4 @@
-use Rattle.std.proofs.Common.{◌≡◌, ◌∙◌, ℕ, ◌-◌, List, length, take, drop, reverse, arith, sym, ap, subst, All}
+use Rattle.std.proofs.Common.{◌≡◌, ◌∙◌, List, length, reverse, arith, sym, ap, subst, All}
 use Rattle.frame_store.specs.declared.records.Record.{Record}
 use Rattle.std.proofs.lemmas.List.{take_rest}
 use Rattle.frame_store.specs.Stack.{Stack}

@@ -1,4 +1,4 @@
-use Rattle.std.proofs.Common.{rules, ◌≡◌, ◌≤◌, ◌-◌, ◌∙◌, eqb, min, slice_range, count_by, ap, sym, subst, arith, length-drop}
+use Rattle.std.proofs.Common.{rules, ◌≡◌, ◌≤◌, ◌∙◌, eqb, min, slice_range, count_by, ap, sym, subst, arith, length-drop}
 use Rattle.byte_lanes.specs.declared.line_end.EndKind.TheVariants.{Lf}
 use Rattle.line_feed.specs.Passes.{HasRun, LeavesLines, skipped}
 use Rattle.line_feed.proofs.Passing.{Passes-more}

@@ -1,10 +1,9 @@
-use Rattle.std.proofs.Common.{◌≡◌, ◌∙◌, ◌+◌, ◌<◌, ◌≤◌, true, false, Err, IfErr, length, refl, sym, ap, subst, arith, rules}
+use Rattle.std.proofs.Common.{◌≡◌, ◌∙◌, ◌+◌, false, Err, IfErr, length, sym, subst, rules}
 use Rattle.std.specs.Prelude.{◌==◌}
 use Rattle.std.proofs.lemmas.Result.{IfOk-weaker}
-use Rattle.pcre2_api.specs.declared.substitute.Substituted.{Substituted}
 use Rattle.pat_tree.specs.Pattern.{pattern_of}
 use Rattle.pcre2_api.specs.Walks.{answer, matching_at, goes_on, place_behind}
-use Rattle.pcre2_api.specs.Substituted.{work_of, all_replaced, added_by, IsAdded, IsSearch, Refuses}
+use Rattle.pcre2_api.specs.Substituted.{work_of, all_replaced, IsSearch, Refuses}
 use Rattle.pcre2_api.proofs.Replacing.{IsOn, on-first, on-last, on-none, on-found, on-next, on-refused, on-as, is-match, is-none, found-added, none-added, goes-once, goes-past, goes-inside}
 use Rattle.pcre2_api.proofs.Starting.{begun-at}
 use Rattle.pcre2_api.proofs.Walking.{begun-at-none}

@@ -1,8 +1,8 @@
-use Rattle.std.proofs.Common.{◌≡◌, ◌∙◌, ℕ, Err, IfErr, length, sym, ap, subst, rules}
+use Rattle.std.proofs.Common.{◌≡◌, ◌∙◌, Err, IfErr, length, sym, ap, subst, rules}
 use Rattle.pat_tree.specs.Pattern.{pattern_of}
-use Rattle.pcre2_api.specs.Walks.{Answer, found, answer, answer_at}
-use Rattle.pcre2_api.specs.Substituted.{Work, work_of, written_for, added_by, IsAdded, IsSearch, Refuses}
-use Rattle.pcre2_api.proofs.Walking.{Says, IsTold, answer-found, answer-error, told-as, told-match}
+use Rattle.pcre2_api.specs.Walks.{answer, answer_at}
+use Rattle.pcre2_api.specs.Substituted.{work_of, added_by, IsAdded, Refuses}
+use Rattle.pcre2_api.proofs.Walking.{Says, answer-found, answer-error, told-as, told-match}
 use Rattle.pcre2_api.proofs.substitute.Rewriting.replace_next.Goals as goal
 
 pub returns-in_err-add-in-Ok-clause-refused : goal.returns-in_err-add-in-Ok-clause-refused

@@ -1,7 +1,6 @@
-use Rattle.std.proofs.Common.{◌≡◌, ◌∙◌, true, false, length, None, sym}
+use Rattle.std.proofs.Common.{◌≡◌, ◌∙◌, true, false, length, sym}
 use Rattle.std.specs.Prelude.{nat_le}
 use Rattle.std.proofs.lemmas.Bool.{leb-true, leb-false}
-use Rattle.pcre2_api.specs.Captured.{group_of}
 use Rattle.pcre2_api.proofs.Taking.{numbered-set, numbered-unset, numbered-past}
 use Rattle.pcre2_api.proofs.taken.FoundGroups.by_number.Goals as goal
 

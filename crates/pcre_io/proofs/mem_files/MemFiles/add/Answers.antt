@@ -1,7 +1,7 @@
 use Rattle.std.proofs.Common.{◌≡◌, Result, Ok, Err, Some, map, ap, refl, ◌∙◌, arith, string_bytes, List, ℕ}
 use Rattle.std.specs.Result.{OnErr}
-use Rattle.pcre_io.specs.Files.{File, Contents}
-use Rattle.pcre_io.specs.MemTree.{file_view, held_files, place_of, with_file}
+use Rattle.pcre_io.specs.Files.{File}
+use Rattle.pcre_io.specs.MemTree.{file_view, held_files, place_of}
 use Rattle.pcre_io.specs.declared.mem_files.MemFile.{MemFile}
 use Rattle.pcre_io.proofs.Adding.{in_its_place, at_the_end}
 use Rattle.pcre_io.proofs.mem_files.MemFiles.add.Goals as goal

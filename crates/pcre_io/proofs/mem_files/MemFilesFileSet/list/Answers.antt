@@ -2,8 +2,8 @@ use Rattle.std.proofs.Common.{◌≡◌, map, sym, ap, ◌∙◌, Some, List, Re
 use Rattle.pcre_io.specs.declared.entries.DirEntry.{DirEntry}
 use Rattle.pcre_io.specs.declared.entries.Kind.TheVariants as kind
 use Rattle.pcre_io.specs.declared.traits.IoError.{IoError}
-use Rattle.pcre_io.specs.Files.{kind_of, listed_entries}
-use Rattle.pcre_io.specs.MemTree.{entries_below, file_view, held_files}
+use Rattle.pcre_io.specs.Files.{kind_of}
+use Rattle.pcre_io.specs.MemTree.{file_view, held_files}
 use Rattle.pcre_io.proofs.Naming.{listed-held}
 use Rattle.pcre_io.proofs.mem_files.MemFilesFileSet.list.Goals as goal
 
