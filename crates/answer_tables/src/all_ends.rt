@@ -1,7 +1,7 @@
 //! All ends of a match (pcre2test, "DEFAULT OUTPUT FROM THE ALTERNATIVE MATCHING FUNCTION"). The whole
 //! output is that of pcre2test 10.42 under `no_auto_possess`, apart from the texts of errors and from
 //! what stands under `OWN`.
-use crate::running::check_script;
+use script_rows::check_script;
 use std::test::Fail;
 
 const REFUSED: &str = "\
@@ -365,25 +365,25 @@ Failed: error -3: invalid UTF-8 at offset 0
 
 #[test]
 fn ends_are_told_or_refused(rt: HostRuntime) -> Result<(), Fail> {
-    check_script(&rt, rt.alloc(), REFUSED)
+    check_script(rt.alloc(), REFUSED)
 }
 
 #[test]
 fn all_ends_of_repeats_are_told(rt: HostRuntime) -> Result<(), Fail> {
-    check_script(&rt, rt.alloc(), REPEATS)
+    check_script(rt.alloc(), REPEATS)
 }
 
 #[test]
 fn all_ends_are_told_line_by_line(rt: HostRuntime) -> Result<(), Fail> {
-    check_script(&rt, rt.alloc(), LINES)
+    check_script(rt.alloc(), LINES)
 }
 
 #[test]
 fn what_is_our_own_is_told(rt: HostRuntime) -> Result<(), Fail> {
-    check_script(&rt, rt.alloc(), OWN)
+    check_script(rt.alloc(), OWN)
 }
 
 #[test]
 fn nested_parts_have_ends_of_their_own(rt: HostRuntime) -> Result<(), Fail> {
-    check_script(&rt, rt.alloc(), NESTED)
+    check_script(rt.alloc(), NESTED)
 }

@@ -1,6 +1,6 @@
 //! All matches of a subject (pcre2test, "Finding all matches in a string"). The whole output is
 //! that of pcre2test 10.42.
-use crate::running::check_script;
+use script_rows::check_script;
 use std::test::Fail;
 
 const MATCHES: &str = "\
@@ -499,7 +499,7 @@ const MORE: &str = "\
 #[test]
 fn all_matches_are_found_in_order(rt: HostRuntime) -> Result<(), Fail> {
     for transcript in [MATCHES, MORE] {
-        check_script(&rt, rt.alloc(), transcript)?;
+        check_script(rt.alloc(), transcript)?;
     }
     Ok(())
 }

@@ -5,5 +5,3 @@
 mod all_ends;
 #[cfg(test)]
 mod global;
-#[cfg(test)]
-mod running;

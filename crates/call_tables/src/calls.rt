@@ -1,6 +1,6 @@
 //! Calls of groups (pcre2pattern, "Recursive patterns", "Groups as subroutines"). The whole output is
 //! that of pcre2test 10.42.
-use crate::running::check_script;
+use script_rows::check_script;
 use std::test::Fail;
 
 const CALLS: &str = "\
@@ -682,15 +682,15 @@ No match
 
 #[test]
 fn calls_are_found(rt: HostRuntime) -> Result<(), Fail> {
-    check_script(&rt, rt.alloc(), CALLS)
+    check_script(rt.alloc(), CALLS)
 }
 
 #[test]
 fn calls_are_found_in_each_form(rt: HostRuntime) -> Result<(), Fail> {
-    check_script(&rt, rt.alloc(), PLACES)
+    check_script(rt.alloc(), PLACES)
 }
 
 #[test]
 fn loops_are_told(rt: HostRuntime) -> Result<(), Fail> {
-    check_script(&rt, rt.alloc(), LOOPS)
+    check_script(rt.alloc(), LOOPS)
 }

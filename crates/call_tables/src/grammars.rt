@@ -1,6 +1,6 @@
 //! Grammars by groups that are called: palindromes, numbers, lists, addresses and trees (pcre2pattern,
 //! "Recursive patterns", "Defining groups for use by reference only"). The whole output is that of pcre2test 10.42.
-use crate::running::check_script;
+use script_rows::check_script;
 use std::test::Fail;
 
 const GRAMMARS: &str = "\
@@ -142,5 +142,5 @@ No match
 
 #[test]
 fn grammars_are_followed(rt: HostRuntime) -> Result<(), Fail> {
-    check_script(&rt, rt.alloc(), GRAMMARS)
+    check_script(rt.alloc(), GRAMMARS)
 }

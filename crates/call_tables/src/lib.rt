@@ -8,8 +8,6 @@ mod grammars;
 #[cfg(test)]
 mod limits;
 #[cfg(test)]
-mod running;
-#[cfg(test)]
 mod starts;
 #[cfg(test)]
 mod stops;

@@ -1,5 +1,5 @@
 //! Limits and offsets of searches. Limits count our own steps and units.
-use crate::running::check_script;
+use script_rows::check_script;
 use std::test::Fail;
 
 const LIMITS: &str = "\
@@ -74,5 +74,5 @@ Failed: error -33: bad offset
 
 #[test]
 fn limits_of_a_search_are_exact(rt: HostRuntime) -> Result<(), Fail> {
-    check_script(&rt, rt.alloc(), LIMITS)
+    check_script(rt.alloc(), LIMITS)
 }

@@ -1,6 +1,6 @@
 //! From where a search goes, and which matches are admitted (pcre2api, "Option bits for
 //! pcre2_match()"). The whole output is that of pcre2test 10.42.
-use crate::running::check_script;
+use script_rows::check_script;
 use std::test::Fail;
 
 const STARTS: &str = "\
@@ -138,7 +138,7 @@ No match
 #[test]
 fn a_search_goes_from_its_start(rt: HostRuntime) -> Result<(), Fail> {
     for transcript in [STARTS, ADMITTED] {
-        check_script(&rt, rt.alloc(), transcript)?;
+        check_script(rt.alloc(), transcript)?;
     }
     Ok(())
 }

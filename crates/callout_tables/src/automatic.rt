@@ -1,6 +1,6 @@
 //! Automatic callouts before each kind of item (pcre2callout, "Automatic callouts"). The whole output is that of
 //! pcre2test 10.42 under `no_auto_possess`, without the words that it writes at the pattern's end.
-use crate::running::check_script;
+use script_rows::check_script;
 use std::test::Fail;
 
 const ITEMS: &str = "\
@@ -271,5 +271,5 @@ Latest Mark: m
 
 #[test]
 fn automatic_callouts_stand_before_each_item(rt: HostRuntime) -> Result<(), Fail> {
-    check_script(&rt, rt.alloc(), ITEMS)
+    check_script(rt.alloc(), ITEMS)
 }

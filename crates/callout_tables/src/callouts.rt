@@ -1,5 +1,5 @@
 //! Callouts: what is shown of them, and what is made of their answers (pcre2test, "CALLOUTS").
-use crate::running::check_script;
+use script_rows::check_script;
 use std::test::Fail;
 
 // Where they stand.
@@ -687,10 +687,10 @@ Failed: error -37: error in callout
 #[test]
 fn callouts_are_shown_and_answered(rt: HostRuntime) -> Result<(), Fail> {
     let alloc = rt.alloc();
-    check_script(&rt, alloc, PLACES)?;
-    check_script(&rt, alloc, STRINGS)?;
-    check_script(&rt, alloc, ANSWERS)?;
-    check_script(&rt, alloc, ANSWERED)?;
-    check_script(&rt, alloc, AUTOMATIC)?;
-    check_script(&rt, alloc, OWN)
+    check_script(alloc, PLACES)?;
+    check_script(alloc, STRINGS)?;
+    check_script(alloc, ANSWERS)?;
+    check_script(alloc, ANSWERED)?;
+    check_script(alloc, AUTOMATIC)?;
+    check_script(alloc, OWN)
 }

@@ -5,5 +5,3 @@
 mod automatic;
 #[cfg(test)]
 mod callouts;
-#[cfg(test)]
-mod running;

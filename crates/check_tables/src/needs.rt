@@ -1,6 +1,6 @@
 //! The text and the bounds that are told of trees, worked by hand from the rules.
 use crate::build::Step;
-use crate::rows::{A, B, C, CARET, MAYBE, facts_of, is_set};
+use crate::rows::{A, B, C, CARET, MAYBE, is_set, known};
 use byte_lanes::ByteSet;
 use match_needs::ByteText;
 use pat_check::{Facts, Growth};
@@ -46,11 +46,15 @@ fn needs_as(facts: &Facts, row: &NeedRow) -> bool {
     }
 }
 
-fn tells_need(rt: &impl Abort, alloc: Global, options: Options, row: &NeedRow) -> Result<(), Fail> {
-    assert!(rt; row.0.len() < 1000);
-    match facts_of(alloc, options, row.0)? {
-        Ok(facts) => assert!(rt; needs_as(&facts, row)),
-        Err(_) => assert!(rt; false),
+fn check_needs(
+    rt: &impl Abort,
+    alloc: Global,
+    options: Options,
+    rows: &[NeedRow],
+) -> Result<(), Fail> {
+    for row in rows {
+        let facts = known(alloc, options, row.0)?;
+        assert!(rt; needs_as(&facts, row));
     }
     Ok(())
 }
@@ -225,10 +229,7 @@ fn the_rarest_text_that_every_match_takes_is_told(rt: HostRuntime) -> Result<(),
         // a lookahead that is gone into again, `(?*b)a`
         (&[B, AheadAnyWay(1), A, Seq(2)], None, (0, 0), (0, 0)),
     ];
-    for row in &ROWS {
-        tells_need(&rt, rt.alloc(), Options::PLAIN, row)?;
-    }
-    Ok(())
+    check_needs(&rt, rt.alloc(), Options::PLAIN, &ROWS)
 }
 
 #[test]
@@ -264,10 +265,7 @@ fn in_utf_the_byte_of_an_ascii_character_is_told(rt: HostRuntime) -> Result<(), 
             (0, 0),
         ),
     ];
-    for row in &ROWS {
-        tells_need(&rt, rt.alloc(), utf, row)?;
-    }
-    Ok(())
+    check_needs(&rt, rt.alloc(), utf, &ROWS)
 }
 
 /// A tree by its steps, in UTF or not, and the text at a distance from where every match begins if one is told.
@@ -286,17 +284,12 @@ fn begins_as(facts: &Facts, told: &Option<(u16, TextRow)>) -> bool {
     }
 }
 
-fn tells_begin(rt: &impl Abort, alloc: Global, row: &BeginRow) -> Result<(), Fail> {
-    let options = Options {
-        utf: row.1,
+// The options of a row, which is in UTF or not.
+fn options_of(utf: bool) -> Options {
+    Options {
+        utf,
         ..Options::PLAIN
-    };
-    assert!(rt; row.0.len() < 1000);
-    match facts_of(alloc, options, row.0)? {
-        Ok(facts) => assert!(rt; begins_as(&facts, &row.2)),
-        Err(_) => assert!(rt; false),
     }
-    Ok(())
 }
 
 #[test]
@@ -393,7 +386,8 @@ fn a_text_with_which_every_match_begins_is_told(rt: HostRuntime) -> Result<(), F
         ),
     ];
     for row in &ROWS {
-        tells_begin(&rt, rt.alloc(), row)?;
+        let facts = known(rt.alloc(), options_of(row.1), row.0)?;
+        assert!(&rt; begins_as(&facts, &row.2));
     }
     Ok(())
 }
@@ -406,19 +400,6 @@ fn begins_alike(facts: &Facts, alike: bool) -> bool {
         Some(need) => need.is_begin == alike,
         None => false,
     }
-}
-
-fn tells_alike(rt: &impl Abort, alloc: Global, row: &SameRow) -> Result<(), Fail> {
-    let options = Options {
-        utf: row.1,
-        ..Options::PLAIN
-    };
-    assert!(rt; row.0.len() < 1000);
-    match facts_of(alloc, options, row.0)? {
-        Ok(facts) => assert!(rt; begins_alike(&facts, row.2)),
-        Err(_) => assert!(rt; false),
-    }
-    Ok(())
 }
 
 #[test]
@@ -436,38 +417,28 @@ fn a_needed_text_that_stands_at_the_begin_is_told_as_one(rt: HostRuntime) -> Res
         (&[A], true, true),
     ];
     for row in &ROWS {
-        tells_alike(&rt, rt.alloc(), row)?;
+        let facts = known(rt.alloc(), options_of(row.1), row.0)?;
+        assert!(&rt; begins_alike(&facts, row.2));
     }
     Ok(())
 }
 
-/// Every match takes a byte past ASCII or one of these.
-fn needs_past_ascii(
-    rt: &impl Abort,
-    alloc: Global,
-    steps: &'static [Step],
-    or: &[u8],
-) -> Result<(), Fail> {
-    let utf = Options {
-        utf: true,
-        ..Options::PLAIN
-    };
-    assert!(rt; steps.len() < 1000);
-    match facts_of(alloc, utf, steps)? {
-        Ok(facts) => {
-            let Some(need) = &facts.need else {
-                assert!(rt; false);
-                return Ok(());
-            };
-            for b in 0..256u32 {
-                let b = b as u8;
-                assert_eq!(rt; need.text.first.has(b), b >= 128 || or.contains(&b), "{b}");
-            }
-            assert!(rt; need.text.second.is_none());
-        }
-        Err(_) => assert!(rt; false),
+// Whether the set has each byte past ASCII, and of the others these.
+fn is_past_ascii(set: &ByteSet, or: &[u8]) -> bool {
+    let mut all = true;
+    for b in 0..256u32 {
+        let b = b as u8;
+        all = all && set.has(b) == (b >= 128 || or.contains(&b));
     }
-    Ok(())
+    all
+}
+
+/// Every match takes a byte past ASCII or one of these.
+fn needs_past_ascii(facts: &Facts, or: &[u8]) -> bool {
+    match &facts.need {
+        Some(need) => need.text.second.is_none() && is_past_ascii(&need.text.first, or),
+        None => false,
+    }
 }
 
 #[test]
@@ -482,7 +453,8 @@ fn in_utf_a_character_past_ascii_begins_past_it(rt: HostRuntime) -> Result<(), F
         (&[AnyCase(233), B, Group(2)], b"b"),
     ];
     for (steps, or) in &ROWS {
-        needs_past_ascii(&rt, rt.alloc(), steps, or)?;
+        let facts = known(rt.alloc(), options_of(true), steps)?;
+        assert!(&rt; needs_past_ascii(&facts, or));
     }
     Ok(())
 }
@@ -520,10 +492,8 @@ fn a_text_behind_the_first_part_that_is_no_item_is_told(rt: HostRuntime) -> Resu
         ),
     ];
     for row in &ROWS {
-        match facts_of(rt.alloc(), Options::PLAIN, row.0)? {
-            Ok(facts) => assert!(rt; tells_other(&facts, &row.1)),
-            Err(_) => assert!(rt; false),
-        }
+        let facts = known(rt.alloc(), Options::PLAIN, row.0)?;
+        assert!(&rt; tells_other(&facts, &row.1));
     }
     Ok(())
 }
@@ -600,10 +570,8 @@ fn parts_behind_a_missing_text_take_no_step(rt: HostRuntime) -> Result<(), Fail>
         ),
     ];
     for row in &ROWS {
-        match facts_of(rt.alloc(), Options::PLAIN, row.0)? {
-            Ok(facts) => assert!(rt; lacks_as(&facts, row)),
-            Err(_) => assert!(rt; false),
-        }
+        let facts = known(rt.alloc(), Options::PLAIN, row.0)?;
+        assert!(&rt; lacks_as(&facts, row));
     }
     Ok(())
 }

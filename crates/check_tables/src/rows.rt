@@ -1,5 +1,5 @@
 //! What is known of trees, worked by hand from the rules.
-ghost use Rattle.std.specs.Prelude.{◌≡◌, ◌<◌, false, length};
+ghost use Rattle.std.specs.Prelude.{◌<◌, false, length};
 
 use crate::build::{Step, tree_of};
 use byte_lanes::ByteSet;
@@ -51,17 +51,29 @@ pub(crate) fn facts_of(
     Ok(check(alloc, &tree, &classes))
 }
 
-fn tells_row(rt: &impl Abort, alloc: Global, row: &Row) -> Result<(), Fail> {
-    let (steps, begins, empty, size, dfa) = *row;
-    assert!(rt; steps.len() < 1000);
-    match facts_of(alloc, Options::PLAIN, steps)? {
-        Ok(facts) => {
-            assert!(rt; begins_as(&facts, begins));
-            assert_eq!(rt; facts.can_be_empty, empty);
-            assert_eq!(rt; facts.size, size);
-            assert_eq!(rt; facts.dfa, dfa);
-        }
-        Err(_) => assert!(rt; false),
+/// The facts of the tree of these steps, where it is not refused.
+pub(crate) fn known(alloc: Global, options: Options, steps: &[Step]) -> Result<Facts, Fail> {
+    if steps.len() >= 1000 {
+        return Err(Fail::new("too many steps"));
+    }
+    match facts_of(alloc, options, steps)? {
+        Ok(facts) => Ok(facts),
+        Err(fault) => Err(Fail::from(fault)),
+    }
+}
+
+fn are_facts(facts: &Facts, row: &Row) -> bool {
+    let (_, begins, empty, size, dfa) = *row;
+    begins_as(facts, begins)
+        && facts.can_be_empty == empty
+        && facts.size == size
+        && facts.dfa == dfa
+}
+
+fn check_all(rt: &impl Abort, alloc: Global, rows: &[Row]) -> Result<(), Fail> {
+    for row in rows {
+        let facts = known(alloc, Options::PLAIN, row.0)?;
+        assert!(rt; are_facts(&facts, row));
     }
     Ok(())
 }
@@ -103,10 +115,7 @@ fn single_nodes_are_known(rt: HostRuntime) -> Result<(), Fail> {
         (&[Chars(97, 0, Some(1))], None, true, 2, Yes),
         (&[Chars(97, 9, Some(65535))], Some(b"a"), false, 65536, Yes),
     ];
-    for row in &ROWS {
-        tells_row(&rt, rt.alloc(), row)?;
-    }
-    Ok(())
+    check_all(&rt, rt.alloc(), &ROWS)
 }
 
 #[test]
@@ -171,10 +180,7 @@ fn parts_branches_and_repeats_are_known_by_their_children(rt: HostRuntime) -> Re
             Yes,
         ),
     ];
-    for row in &ROWS {
-        tells_row(&rt, rt.alloc(), row)?;
-    }
-    Ok(())
+    check_all(&rt, rt.alloc(), &ROWS)
 }
 
 #[test]
@@ -327,10 +333,7 @@ fn references_calls_and_conditions_are_known(rt: HostRuntime) -> Result<(), Fail
         // `a(*ACCEPT)`
         (&[A, Accept, Seq(2)], None, true, 3, Item),
     ];
-    for row in &ROWS {
-        tells_row(&rt, rt.alloc(), row)?;
-    }
-    Ok(())
+    check_all(&rt, rt.alloc(), &ROWS)
 }
 
 /// The greatest length of a lookbehind's branch, or a fault and the step of its lookbehind.
@@ -340,26 +343,21 @@ enum Looks {
     Bad(i32, u32),
 }
 
-fn tells_looks(
-    rt: &impl Abort,
-    alloc: Global,
-    options: Options,
-    steps: &[Step],
-    told: Looks,
-) -> Result<(), Fail> {
-    assert!(rt; steps.len() < 1000);
-    match (facts_of(alloc, options, steps)?, told) {
-        (Ok(facts), Looks::Back(back)) => {
-            assert!(rt; facts.has_lookbehind);
-            assert_eq!(rt; facts.greatest_back, back);
-        }
+fn are_looks(known: Result<Facts, CheckError>, told: Looks) -> bool {
+    match (known, told) {
+        (Ok(facts), Looks::Back(back)) => facts.has_lookbehind && facts.greatest_back == back,
         (Err(CheckError::Bad { number, at }), Looks::Bad(number_told, at_told)) => {
-            assert_eq!(rt; number, number_told);
-            assert_eq!(rt; at, at_told);
+            number == number_told && at == at_told
         }
-        _ => assert!(rt; false),
+        _ => false,
     }
-    Ok(())
+}
+
+fn tells_looks(alloc: Global, options: Options, steps: &[Step], told: Looks) -> Result<bool, Fail> {
+    if steps.len() >= 1000 {
+        return Ok(false);
+    }
+    Ok(are_looks(facts_of(alloc, options, steps)?, told))
 }
 
 #[test]
@@ -590,25 +588,20 @@ fn lookbehinds_have_a_length_or_are_refused(rt: HostRuntime) -> Result<(), Fail>
         ),
     ];
     for (steps, told) in &ROWS {
-        tells_looks(&rt, rt.alloc(), plain, steps, *told)?;
+        let is_told = tells_looks(rt.alloc(), plain, steps, *told)?;
+        assert!(&rt; is_told);
     }
     let unset = Options {
         match_unset_backref: true,
         ..Options::PLAIN
     };
-    tells_looks(
-        &rt,
-        rt.alloc(),
-        unset,
-        &[A, Capture(1, 1), Ref(1), Seq(2), Behind(1)],
-        Bad(125, 4),
-    )?;
-    tells_looks(
-        &rt,
-        rt.alloc(),
-        unset,
-        &[A, Capture(1, 1), Call(1), Seq(2), Behind(1)],
-        Back(2),
-    )?;
+    static UNSET: [(&'static [Step], Looks); 2] = [
+        (&[A, Capture(1, 1), Ref(1), Seq(2), Behind(1)], Bad(125, 4)),
+        (&[A, Capture(1, 1), Call(1), Seq(2), Behind(1)], Back(2)),
+    ];
+    for (steps, told) in &UNSET {
+        let is_told = tells_looks(rt.alloc(), unset, steps, *told)?;
+        assert!(&rt; is_told);
+    }
     Ok(())
 }

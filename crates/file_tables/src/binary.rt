@@ -1,5 +1,5 @@
 //! Files that hold a zero byte.
-use crate::running::{File, Row, check_all};
+use grep_rows::{File, Row, check_all};
 use std::test::Fail;
 
 const FILES: &[File] = &[
@@ -51,7 +51,7 @@ fn binary_files(rt: HostRuntime) -> Result<(), Fail> {
         ("-m1 -c x f > 1\n", 0),
         ("-lt x f g > Binary file f matches\ng\n2\n", 0),
     ];
-    check_all(&rt, rt.alloc(), FILES, "", &ROWS)
+    check_all(rt.alloc(), FILES, "", &ROWS)
 }
 
 #[test]
@@ -90,5 +90,5 @@ fn binary_files_as_text_or_without_match(rt: HostRuntime) -> Result<(), Fail> {
         ("-N NUL a f > a\0", 0),
         ("-IC1 x f g > g:x\n", 0),
     ];
-    check_all(&rt, rt.alloc(), FILES, "", &ROWS)
+    check_all(rt.alloc(), FILES, "", &ROWS)
 }

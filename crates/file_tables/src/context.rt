@@ -1,5 +1,5 @@
 //! The lines around a selected line.
-use crate::running::{File, Row, check_all};
+use grep_rows::{File, Row, check_all};
 use std::test::Fail;
 
 const FILES: &[File] = &[
@@ -46,7 +46,7 @@ fn lines_around(rt: HostRuntime) -> Result<(), Fail> {
             0,
         ),
     ];
-    check_all(&rt, rt.alloc(), FILES, "a\nx\nb\nc\nd\nx\n", &ROWS)
+    check_all(rt.alloc(), FILES, "a\nx\nb\nc\nd\nx\n", &ROWS)
 }
 
 #[test]
@@ -69,7 +69,7 @@ fn context_between_files(rt: HostRuntime) -> Result<(), Fail> {
         ("-lA1 x g h > g\nh\n", 0),
         ("-m1 -A2 x t g > t:x\nt-b\nt-c\n--\ng:x\ng-y\n", 0),
     ];
-    check_all(&rt, rt.alloc(), FILES, "", &ROWS)
+    check_all(rt.alloc(), FILES, "", &ROWS)
 }
 
 #[test]
@@ -87,5 +87,5 @@ fn context_after_the_last_line(rt: HostRuntime) -> Result<(), Fail> {
         ("-m1 -oA2 x > x\n", 0),
         ("-m2 -n [ab] > 1:a\n3:b\n", 0),
     ];
-    check_all(&rt, rt.alloc(), FILES, "a\nx\nb\nc\nd\nx\n", &ROWS)
+    check_all(rt.alloc(), FILES, "a\nx\nb\nc\nd\nx\n", &ROWS)
 }

@@ -2,7 +2,7 @@
 //! come in no order; those that are our own are a path without slashes at its end, an empty filter, the
 //! status with `-L`, a second use of standard input, messages, and standard input where no word names a
 //! file.
-use crate::running::{File, Row, check_all};
+use grep_rows::{File, Row, check_all};
 use std::test::Fail;
 
 const TREE: &[File] = &[
@@ -176,7 +176,7 @@ fn goes_through_directories(rt: HostRuntime) -> Result<(), Fail> {
         ),
         ("-rc x - - > (standard input):1\n(standard input):0\n", 0),
     ];
-    check_all(&rt, rt.alloc(), TREE, "x\ny\n", &ROWS)
+    check_all(rt.alloc(), TREE, "x\ny\n", &ROWS)
 }
 
 #[test]
@@ -278,7 +278,7 @@ fn filters_names_of_files(rt: HostRuntime) -> Result<(), Fail> {
         ("-r --exclude=- x - > x\n", 0),
         ("-r --include=q x - e.c > (standard input):x\n", 0),
     ];
-    check_all(&rt, rt.alloc(), TREE, "x\ny\n", &ROWS)
+    check_all(rt.alloc(), TREE, "x\ny\n", &ROWS)
 }
 
 #[test]
@@ -380,7 +380,7 @@ fn filters_names_of_directories(rt: HostRuntime) -> Result<(), Fail> {
         ("-r --exclude-dir=sub x d/sub e.c > e.c:x\n", 0),
         ("-r --exclude-dir=d x e.c > x\n", 0),
     ];
-    check_all(&rt, rt.alloc(), TREE, "x\ny\n", &ROWS)
+    check_all(rt.alloc(), TREE, "x\ny\n", &ROWS)
 }
 
 #[test]
@@ -414,7 +414,7 @@ fn filters_words(rt: HostRuntime) -> Result<(), Fail> {
         ("-q --exclude=. x e.c", 1),
         ("--exclude=. x - e.c > (standard input):x\n", 0),
     ];
-    check_all(&rt, rt.alloc(), TREE, "x\ny\n", &ROWS)
+    check_all(rt.alloc(), TREE, "x\ny\n", &ROWS)
 }
 
 #[test]
@@ -481,5 +481,5 @@ fn tells_what_is_refused(rt: HostRuntime) -> Result<(), Fail> {
             0,
         ),
     ];
-    check_all(&rt, rt.alloc(), TREE, "x\ny\n", &ROWS)
+    check_all(rt.alloc(), TREE, "x\ny\n", &ROWS)
 }

@@ -1,5 +1,5 @@
 //! Reads that fail.
-use crate::running::{Cut, File, Row, Streams, check_all, check_row, unfailing};
+use grep_rows::{Cut, File, Row, Streams, check_all, check_row, unfailing};
 use std::test::Fail;
 
 const FILES: &[File] = &[
@@ -66,7 +66,7 @@ fn faults_of_files(rt: HostRuntime) -> Result<(), Fail> {
             2,
         ),
     ];
-    check_all(&rt, rt.alloc(), FILES, "", &ROWS)
+    check_all(rt.alloc(), FILES, "", &ROWS)
 }
 
 #[test]
@@ -151,7 +151,7 @@ fn faults_of_the_input(rt: HostRuntime) -> Result<(), Fail> {
             fail_at: Some(*at),
             ..unfailing(b"")
         };
-        check_row(&rt, alloc, FILES_1, streams, row, *status)?;
+        check_row(alloc, FILES_1, streams, row, *status)?;
     }
     Ok(())
 }
@@ -179,7 +179,7 @@ fn lines_before_a_fault_are_shown(rt: HostRuntime) -> Result<(), Fail> {
                 piece,
                 ..unfailing(b"one\ntwo\n")
             };
-            check_row(&rt, alloc, &[], streams, row, *status)?;
+            check_row(alloc, &[], streams, row, *status)?;
         }
     }
     Ok(())
@@ -202,7 +202,7 @@ fn lines_of_a_file_before_a_fault_are_shown(rt: HostRuntime) -> Result<(), Fail>
     let alloc = rt.alloc();
     for (row, at, status) in &CUTS {
         let files = [("f: one\ntwo\n", Some(*at))];
-        check_row(&rt, alloc, &files, unfailing(b""), row, *status)?;
+        check_row(alloc, &files, unfailing(b""), row, *status)?;
     }
     Ok(())
 }

@@ -13,6 +13,4 @@ mod faults;
 #[cfg(test)]
 mod rooms;
 #[cfg(test)]
-mod running;
-#[cfg(test)]
 mod sizes;

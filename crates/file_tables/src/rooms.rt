@@ -1,5 +1,5 @@
 //! Sinks without room for the whole text.
-use crate::running::{Cut, File, Streams, Told, check_row, parts_of, tells, unfailing};
+use grep_rows::{Cut, File, Streams, Told, check_row, parts_of, tells, unfailing};
 use std::test::Fail;
 
 #[test]
@@ -28,7 +28,7 @@ fn a_full_sink_holds_the_first_bytes(rt: HostRuntime) -> Result<(), Fail> {
                 piece,
                 ..unfailing(b"one\ntwo\n")
             };
-            check_row(&rt, alloc, &[], streams, row, *status)?;
+            check_row(alloc, &[], streams, row, *status)?;
         }
     }
     Ok(())

@@ -1,5 +1,5 @@
 //! Long lines, long inputs, long patterns, and a zero byte far after the begin.
-use crate::running::{Cut, File, Row, Streams, Told, check_all, check_row, tells, unfailing};
+use grep_rows::{Cut, File, Row, Streams, Told, check_all, check_row, tells, unfailing};
 use std::test::Fail;
 
 const FILES: &[File] = &[("l: b\nabcde\nb\n", None), ("m: b\nab\n", None)];
@@ -67,7 +67,7 @@ fn lines_that_are_too_long(rt: HostRuntime) -> Result<(), Fail> {
             2,
         ),
     ];
-    check_all(&rt, rt.alloc(), FILES, "", &ROWS)
+    check_all(rt.alloc(), FILES, "", &ROWS)
 }
 
 #[test]
@@ -84,7 +84,7 @@ fn the_longest_line_has_2_to_the_20_bytes(rt: HostRuntime) -> Result<(), Fail> {
             piece: 65_536,
             ..unfailing(input.as_slice())
         };
-        check_row(&rt, alloc, &[], streams, row, *status)?;
+        check_row(alloc, &[], streams, row, *status)?;
     }
     Ok(())
 }
@@ -106,7 +106,7 @@ fn a_long_line_is_counted(rt: HostRuntime) -> Result<(), Fail> {
             piece: 65_536,
             ..unfailing(input.as_str().as_bytes())
         };
-        check_row(&rt, alloc, &[], streams, row, 0)?;
+        check_row(alloc, &[], streams, row, 0)?;
     }
     Ok(())
 }
@@ -121,7 +121,7 @@ fn the_rest_of_a_long_input_is_left(rt: HostRuntime) -> Result<(), Fail> {
         piece: 65_536,
         ..unfailing(input.as_slice())
     };
-    check_row(&rt, alloc, &[], streams, "-q x", 0)
+    check_row(alloc, &[], streams, "-q x", 0)
 }
 
 // An `x` after a zero byte at this place.
@@ -141,7 +141,7 @@ fn a_zero_byte_among_the_first_1024_makes_a_file_binary(rt: HostRuntime) -> Resu
             piece: 100,
             ..unfailing(input.as_slice())
         };
-        check_row(&rt, alloc, &[], streams, row, 0)?;
+        check_row(alloc, &[], streams, row, 0)?;
     }
     Ok(())
 }
@@ -163,7 +163,7 @@ fn lines_before_a_far_fault_are_counted(rt: HostRuntime) -> Result<(), Fail> {
             piece: 100,
             ..unfailing(input.as_str().as_bytes())
         };
-        check_row(&rt, alloc, &[], streams, row, *status)?;
+        check_row(alloc, &[], streams, row, *status)?;
     }
     Ok(())
 }

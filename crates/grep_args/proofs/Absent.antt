@@ -1,5 +1,5 @@
 -- A letter or a name that stands in no row of the table has no option.
-use Rattle.std.proofs.Common.{◌≡◌, ◌≢◌, ℕ, false, eqb, bytes_eq, List, [], ◌∷◌, None, refl}
+use Rattle.std.proofs.Common.{◌≡◌, ◌≢◌, ℕ, false, eqb, bytes_eq, List, [], ◌∷◌, ◌++◌, None, refl}
 use Rattle.std.specs.List.{list_any, find}
 use Rattle.std.proofs.lemmas.Bool.{ne_eqb, false_from_ne_true}
 use Rattle.std.proofs.lemmas.Slice.Eq.{bytes_eq-Decides}
@@ -35,3 +35,8 @@ letter_absent b (r ∷ rs) h = rw (letter_differs b r.letters h.0) (letter_absen
 pub name_absent : (b : List ℕ) (rows : List Row) → NoName b rows → find (has_name b) rows ≡ None
 name_absent b [] h = refl
 name_absent b (r ∷ rs) h = rw (name_differs b r.names h.0) (name_absent b rs h.1)
+
+-- past rows without the name
+pub name_past : (b : List ℕ) (rows more : List Row) → NoName b rows → find (has_name b) (rows ++ more) ≡ find (has_name b) more
+name_past b [] more h = refl
+name_past b (r ∷ rs) more h = rw (name_differs b r.names h.0) (name_past b rs more h.1)

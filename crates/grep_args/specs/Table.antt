@@ -1,5 +1,5 @@
 -- How each option is written, and which it is (pcre2grep, "OPTIONS").
-use Rattle.std.specs.Prelude.{ℕ, Bool, List, [], ◌∷◌, Option, codes, bytes_eq, find, nat_eq}
+use Rattle.std.specs.Prelude.{ℕ, Bool, List, [], ◌∷◌, ◌++◌, Option, codes, bytes_eq, find, nat_eq}
 use Rattle.std.specs.List.{list_any}
 use Rattle.std.specs.Option.{option_map}
 use Rattle.grep_args.specs.declared.plan.BinaryMode.TheVariants as binary
@@ -26,8 +26,9 @@ row letters names option = record { letters = letters; names = names; option = o
 abbrev pub one : List ℕ → List (List ℕ)
 one name = name ∷ []
 
-abbrev pub table : List Row
-table =
+-- the rows before that of `label`, and those from it on
+abbrev pub early_rows : List Row
+early_rows =
     row (codes "A") (one (codes "after-context")) (Valued (Number number.AfterContext))
     ∷ row (codes "B") (one (codes "before-context")) (Valued (Number number.BeforeContext))
     ∷ row (codes "C") (one (codes "context")) (Valued (Number number.Context))
@@ -45,7 +46,11 @@ table =
     ∷ row (codes "u") (one (codes "utf")) (Plain (Switch flag.Utf))
     ∷ row (codes "l") (one (codes "files-with-matches")) (Plain (Names names.Matching))
     ∷ row (codes "L") (one (codes "files-without-match")) (Plain (Names names.NotMatching))
-    ∷ row [] (one (codes "label")) (Valued Label)
+    ∷ []
+
+abbrev pub later_rows : List Row
+later_rows =
+    row [] (one (codes "label")) (Valued Label)
     ∷ row [] (one (codes "line-offsets")) (Plain (Offsets offsets.Lines))
     ∷ row [] (one (codes "file-offsets")) (Plain (Offsets offsets.File))
     ∷ row [] (one (codes "match-limit")) (Valued (Number number.MatchLimit))
@@ -72,6 +77,9 @@ table =
     ∷ row (codes "V") (one (codes "version")) (Plain (Help help.Version))
     ∷ []
 
+abbrev pub table : List Row
+table = early_rows ++ later_rows
+
 abbrev pub has_letter : ℕ → Row → Bool
 has_letter letter r = list_any (nat_eq letter) r.letters
 
@@ -84,3 +92,7 @@ by_letter letter = option_map (λ (r : Row). r.option) (find (has_letter letter)
 
 abbrev pub by_name : List ℕ → Option GrepOption
 by_name name = option_map (λ (r : Row). r.option) (find (has_name name) table)
+
+-- that of a long name of the later rows
+abbrev pub by_later_name : List ℕ → Option GrepOption
+by_later_name name = option_map (λ (r : Row). r.option) (find (has_name name) later_rows)

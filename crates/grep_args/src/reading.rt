@@ -74,45 +74,36 @@ fn only(alloc: Global, pattern: &str) -> Result<TextList, ArgError>
 /// The pattern that is the word after n words.
 fn take_pattern(
     alloc: Global,
-    mut plan: GrepPlan,
+    plan: &mut GrepPlan,
     words: &[String],
     n: usize,
-) -> Result<GrepPlan, ArgError>
-    ensures ok { IfOk result (λ whole. pattern_word n (slice_get (map string_bytes words.now) n)
-        plan.help plan ≡ Ok whole) }
+) -> Result<(), ArgError>
+    ensures ok { IfOk result (λ _. pattern_word n (slice_get (map string_bytes words.now) n)
+        plan.old.help plan.old ≡ Ok plan.new) }
     ensures fault { IfErr result (Refuses (pattern_word n (slice_get (map string_bytes words.now) n)
-        plan.help plan)) }
+        plan.old.help plan.old)) }
 {
     match words.get(n) {
         Some(pattern) => {
             plan.patterns = only(alloc, pattern.as_str())?;
             plan.files_from = n + 1;
-            Ok(plan)
         }
-        None if plan.help.is_none() => Err(UsageKind::NoPattern.at(n)),
-        None => {
-            plan.files_from = n;
-            Ok(plan)
-        }
+        None if plan.help.is_none() => return Err(UsageKind::NoPattern.at(n)),
+        None => plan.files_from = n,
     }
+    Ok(())
 }
 
-/// The pattern, where no option gives one, and where the files begin, after n words that are the options.
-fn complete(
-    alloc: Global,
-    mut plan: GrepPlan,
-    words: &[String],
-    n: usize,
-) -> Result<GrepPlan, ArgError>
-    ensures ok { IfOk result (λ whole. completed (map string_bytes words.now) n plan ≡ Ok whole) }
-    ensures fault { IfErr result (Refuses (completed (map string_bytes words.now) n plan)) }
+/// Takes the pattern, where no option gives one, and where the files begin, after n words that are the options.
+fn complete(alloc: Global, plan: &mut GrepPlan, words: &[String], n: usize) -> Result<(), ArgError>
+    ensures ok { IfOk result (λ _. completed (map string_bytes words.now) n plan.old ≡ Ok plan.new) }
+    ensures fault { IfErr result (Refuses (completed (map string_bytes words.now) n plan.old)) }
 {
-    if has_patterns(&plan) {
+    if has_patterns(plan) {
         plan.files_from = n;
-        Ok(plan)
-    } else {
-        take_pattern(alloc, plan, words, n)
+        return Ok(());
     }
+    take_pattern(alloc, plan, words, n)
 }
 
 /// The plan of the words after the tool's name (pcre2grep, "OPTIONS" and "OPTIONS WITH DATA").
@@ -125,8 +116,7 @@ pub fn read(alloc: Global, words: &[String]) -> Result<GrepPlan, ArgError>
     ensures limits { IfOk result IsWithinLimits }
 {
     let mut plan = unset(alloc)?;
-    match options(alloc, &mut plan, words) {
-        Ok(n) => complete(alloc, plan, words, n),
-        Err(error) => Err(error),
-    }
+    let n = options(alloc, &mut plan, words)?;
+    complete(alloc, &mut plan, words, n)?;
+    Ok(plan)
 }

@@ -1,5 +1,5 @@
 //! Searches that pass a limit, or in which a group would call itself for ever.
-use crate::running::{File, Row, Told, check_all, parts_of, tells, unfailing};
+use grep_rows::{File, Row, Told, check_all, parts_of, tells, unfailing};
 use std::alloc::{AllocError, Global};
 use std::test::Fail;
 
@@ -118,7 +118,7 @@ fn match_errors(rt: HostRuntime) -> Result<(), Fail> {
             1,
         ),
     ];
-    check_all(&rt, rt.alloc(), FILES, "", &ROWS)
+    check_all(rt.alloc(), FILES, "", &ROWS)
 }
 
 // Adds the messages of match errors on the lines `from` to `to - 1`.

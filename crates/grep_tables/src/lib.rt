@@ -11,8 +11,6 @@ mod modes;
 #[cfg(test)]
 mod newlines;
 #[cfg(test)]
-mod running;
-#[cfg(test)]
 mod selection;
 #[cfg(test)]
 mod unseen;

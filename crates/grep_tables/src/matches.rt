@@ -1,5 +1,5 @@
 //! The parts of lines that match, and their places.
-use crate::running::{File, Row, check_all};
+use grep_rows::{File, Row, check_all};
 use std::test::Fail;
 
 const FILES: &[File] = &[
@@ -54,7 +54,7 @@ fn parts_of_lines(rt: HostRuntime) -> Result<(), Fail> {
         ("--only-matching 1 a", 1),
         ("-o 1 < x1\n > 1\n", 0),
     ];
-    check_all(&rt, rt.alloc(), FILES, "", &ROWS)
+    check_all(rt.alloc(), FILES, "", &ROWS)
 }
 
 #[test]
@@ -94,7 +94,7 @@ fn groups_of_matches(rt: HostRuntime) -> Result<(), Fail> {
         ("-o (a)\\1 < aaaa\n > aa\naa\n", 0),
         ("-o1 (?<n>b) < abb\n > b\nb\n", 0),
     ];
-    check_all(&rt, rt.alloc(), FILES, "", &ROWS)
+    check_all(rt.alloc(), FILES, "", &ROWS)
 }
 
 #[test]
@@ -130,5 +130,5 @@ fn offsets_of_matches(rt: HostRuntime) -> Result<(), Fail> {
         ("--file-offsets (a)(b) < ab\nab\n > 0,2\n3,2\n", 0),
         ("-c --file-offsets o a b > a:1\nb:1\n", 0),
     ];
-    check_all(&rt, rt.alloc(), FILES, "", &ROWS)
+    check_all(rt.alloc(), FILES, "", &ROWS)
 }

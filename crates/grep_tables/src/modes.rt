@@ -1,5 +1,5 @@
 //! What is written of the selected lines: lines, names, counts, totals, nothing.
-use crate::running::{File, Row, check_all};
+use grep_rows::{File, Row, check_all};
 use std::test::Fail;
 
 const FILES: &[File] = &[
@@ -58,7 +58,7 @@ fn names_and_numbers(rt: HostRuntime) -> Result<(), Fail> {
             0,
         ),
     ];
-    check_all(&rt, rt.alloc(), FILES, "", &ROWS)
+    check_all(rt.alloc(), FILES, "", &ROWS)
 }
 
 #[test]
@@ -107,7 +107,7 @@ fn counts_and_totals(rt: HostRuntime) -> Result<(), Fail> {
         ("-ct one missing > 0\n ! missing: cannot be opened", 2),
         ("-t one a missing c > 3\n ! missing: cannot be opened", 2),
     ];
-    check_all(&rt, rt.alloc(), FILES, "", &ROWS)
+    check_all(rt.alloc(), FILES, "", &ROWS)
 }
 
 #[test]
@@ -149,7 +149,7 @@ fn names_of_files(rt: HostRuntime) -> Result<(), Fail> {
         ("-l one missing c > c\n ! missing: cannot be opened", 2),
         ("-L one missing c b > b\n ! missing: cannot be opened", 2),
     ];
-    check_all(&rt, rt.alloc(), FILES, "", &ROWS)
+    check_all(rt.alloc(), FILES, "", &ROWS)
 }
 
 #[test]
@@ -199,5 +199,5 @@ fn quiet_runs_and_missing_files(rt: HostRuntime) -> Result<(), Fail> {
         ("-l x - - < x\n > (standard input)\n", 0),
         ("-q x - - < x\n", 0),
     ];
-    check_all(&rt, rt.alloc(), FILES, "", &ROWS)
+    check_all(rt.alloc(), FILES, "", &ROWS)
 }

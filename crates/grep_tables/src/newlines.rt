@@ -1,5 +1,5 @@
 //! Where lines end.
-use crate::running::{Bytes, Row, check_all, check_bytes};
+use grep_rows::{Bytes, Row, check_all, check_bytes};
 use std::test::Fail;
 
 #[test]
@@ -34,7 +34,7 @@ fn newlines_of_each_kind(rt: HostRuntime) -> Result<(), Fail> {
         ("-N CRLF -m1 -c b < b\r\nb\r\n > 1\n", 0),
         ("-N CRLF a < a\r > a\r\n", 0),
     ];
-    check_all(&rt, rt.alloc(), &[], "", &ROWS)
+    check_all(rt.alloc(), &[], "", &ROWS)
 }
 
 #[test]
@@ -55,5 +55,5 @@ fn newlines_that_are_not_utf(rt: HostRuntime) -> Result<(), Fail> {
             0,
         ),
     ];
-    check_bytes(&rt, rt.alloc(), &ROWS)
+    check_bytes(rt.alloc(), &ROWS)
 }

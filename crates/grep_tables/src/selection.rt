@@ -1,5 +1,5 @@
 //! Which lines are selected: patterns, and the options that change them.
-use crate::running::{File, Row, check_all};
+use grep_rows::{File, Row, check_all};
 use std::test::Fail;
 
 const FILES: &[File] = &[("p: a b \n\n", None)];
@@ -61,7 +61,7 @@ fn lines_are_selected(rt: HostRuntime) -> Result<(), Fail> {
         ("-n -- -n < b\na-n\n > 2:a-n\n", 0),
         ("-xve a -e b < a\nb\nab\n > ab\n", 0),
     ];
-    check_all(&rt, rt.alloc(), &[], "", &ROWS)
+    check_all(rt.alloc(), &[], "", &ROWS)
 }
 
 #[test]
@@ -91,7 +91,7 @@ fn patterns_hold_blanks_or_nothing(rt: HostRuntime) -> Result<(), Fail> {
         ("-A ␣1 x ! bad number in  1", 2),
         ("-A '' x ! bad number in ", 2),
     ];
-    check_all(&rt, rt.alloc(), FILES, "", &SAID)
+    check_all(rt.alloc(), FILES, "", &SAID)
 }
 
 #[test]
@@ -144,5 +144,5 @@ fn patterns_of_files(rt: HostRuntime) -> Result<(), Fail> {
         ("-q -f p a", 0),
         ("--label=in -f missing ! missing: cannot be opened", 2),
     ];
-    check_all(&rt, rt.alloc(), FILES_1, "", &ROWS)
+    check_all(rt.alloc(), FILES_1, "", &ROWS)
 }

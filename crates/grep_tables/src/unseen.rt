@@ -1,5 +1,5 @@
 //! Lines between the selected ones, of which nothing is shown.
-use crate::running::{File, Row, check_all};
+use grep_rows::{File, Row, check_all};
 use std::test::Fail;
 
 const FILES: &[File] = &[
@@ -51,7 +51,7 @@ fn lines_between_are_counted(rt: HostRuntime) -> Result<(), Fail> {
             2,
         ),
     ];
-    check_all(&rt, rt.alloc(), FILES, "", &ROWS)
+    check_all(rt.alloc(), FILES, "", &ROWS)
 }
 
 #[test]
@@ -82,7 +82,7 @@ fn lines_without_a_match_are_shown(rt: HostRuntime) -> Result<(), Fail> {
             2,
         ),
     ];
-    check_all(&rt, rt.alloc(), FILES, "", &ROWS)
+    check_all(rt.alloc(), FILES, "", &ROWS)
 }
 
 #[test]
@@ -121,7 +121,7 @@ fn lines_around_are_shown(rt: HostRuntime) -> Result<(), Fail> {
             0,
         ),
     ];
-    check_all(&rt, rt.alloc(), FILES, "", &ROWS)
+    check_all(rt.alloc(), FILES, "", &ROWS)
 }
 
 #[test]
@@ -156,5 +156,5 @@ fn the_last_lines_before_are_shown(rt: HostRuntime) -> Result<(), Fail> {
             0,
         ),
     ];
-    check_all(&rt, rt.alloc(), FILES, "", &ROWS)
+    check_all(rt.alloc(), FILES, "", &ROWS)
 }

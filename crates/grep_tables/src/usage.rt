@@ -1,5 +1,5 @@
 //! Words and patterns that are refused, and the texts that are asked for.
-use crate::running::{File, Row, check_all};
+use grep_rows::{File, Row, check_all};
 use std::test::Fail;
 
 const FILES: &[File] = &[("a: x\n", None)];
@@ -43,8 +43,8 @@ fn words_that_are_refused(rt: HostRuntime) -> Result<(), Fail> {
         ("--max-buffer-size ! missing value for --max-buffer-size", 2),
         ("--buffer-size ! missing value for --buffer-size", 2),
     ];
-    check_all(&rt, rt.alloc(), &[], "", &SAID)?;
-    check_all(&rt, rt.alloc(), &[], "x\n", &REFUSED)
+    check_all(rt.alloc(), &[], "", &SAID)?;
+    check_all(rt.alloc(), &[], "x\n", &REFUSED)
 }
 
 #[test]
@@ -104,7 +104,7 @@ fn values_that_are_refused(rt: HostRuntime) -> Result<(), Fail> {
         ),
         ("--file-offsets -no x ! options exclude each other", 2),
     ];
-    check_all(&rt, rt.alloc(), &[], "x\n", &REFUSED)
+    check_all(rt.alloc(), &[], "x\n", &REFUSED)
 }
 
 #[test]
@@ -143,8 +143,8 @@ fn the_first_fault_is_told(rt: HostRuntime) -> Result<(), Fail> {
         ("-e ( -Z a ! unknown option -Z", 2),
         ("x --help ! --help: cannot be opened", 2),
     ];
-    check_all(&rt, rt.alloc(), FILES, "", &ROWS)?;
-    check_all(&rt, rt.alloc(), FILES, "x\n", &REFUSED)
+    check_all(rt.alloc(), FILES, "", &ROWS)?;
+    check_all(rt.alloc(), FILES, "x\n", &REFUSED)
 }
 
 #[test]
@@ -254,5 +254,5 @@ fn patterns_that_are_refused(rt: HostRuntime) -> Result<(), Fail> {
             2,
         ),
     ];
-    check_all(&rt, rt.alloc(), FILES_1, "x\n", &REFUSED)
+    check_all(rt.alloc(), FILES_1, "x\n", &REFUSED)
 }

@@ -1,5 +1,5 @@
 //! Lines and patterns in UTF.
-use crate::running::{Bytes, Row, Streams, check_all, check_bytes, check_row, unfailing};
+use grep_rows::{Bytes, Row, Streams, check_all, check_bytes, check_row, unfailing};
 use std::test::Fail;
 
 #[test]
@@ -19,7 +19,7 @@ fn lines_are_searched_by_characters(rt: HostRuntime) -> Result<(), Fail> {
         ("-u \\p{Greek} < α\na\n > α\n", 0),
         ("-o -e (*UTF)é -e . < éx\n > é\nx\n", 0),
     ];
-    check_all(&rt, rt.alloc(), &[], "", &ROWS)
+    check_all(rt.alloc(), &[], "", &ROWS)
 }
 
 #[test]
@@ -34,7 +34,7 @@ fn a_search_begins_at_a_character(rt: HostRuntime) -> Result<(), Fail> {
             0,
         ),
     ];
-    check_all(&rt, rt.alloc(), &[], "", &ROWS)
+    check_all(rt.alloc(), &[], "", &ROWS)
 }
 
 #[test]
@@ -78,7 +78,7 @@ fn lines_that_are_not_utf_are_told(rt: HostRuntime) -> Result<(), Fail> {
         ),
         ("-o -e . -e (*UTF)x", b"\xc3\xa9\n", b"\xc3\n\xa9\n", "", 0),
     ];
-    check_bytes(&rt, rt.alloc(), &ROWS)
+    check_bytes(rt.alloc(), &ROWS)
 }
 
 // Lines without the text that each match takes: those that are UTF-8 aren't searched, the others are told.
@@ -163,7 +163,7 @@ fn lines_between_must_be_utf(rt: HostRuntime) -> Result<(), Fail> {
             0,
         ),
     ];
-    check_bytes(&rt, rt.alloc(), &ROWS)
+    check_bytes(rt.alloc(), &ROWS)
 }
 
 // Pieces of so many bytes end within characters.
@@ -178,14 +178,7 @@ fn characters_between_are_read_in_parts(rt: HostRuntime) -> Result<(), Fail> {
             piece: *piece,
             ..unfailing(input.as_str().as_bytes())
         };
-        check_row(
-            &rt,
-            alloc,
-            &[],
-            streams,
-            "-un s=5 > 401:s=5 é\n802:s=5\n",
-            0,
-        )?;
+        check_row(alloc, &[], streams, "-un s=5 > 401:s=5 é\n802:s=5\n", 0)?;
     }
     Ok(())
 }

@@ -139,9 +139,9 @@ fn told(
     }
 }
 
-fn is_told_of(
+fn is_told_by(
     alloc: Global,
-    pattern: &str,
+    code: &Code,
     subject: &[u8],
     how: How<'_>,
     answer: &str,
@@ -150,9 +150,20 @@ fn is_told_of(
     if subject.len() >= 1000 {
         return Ok(false);
     }
-    let code = Code::compile(alloc, pattern.as_bytes(), *how.compiling)?;
-    let told = told(alloc, &code, subject, how, lists)?;
+    let told = told(alloc, code, subject, how, lists)?;
     Ok(told.as_slice() == answer.as_bytes())
+}
+
+fn is_told_of(
+    alloc: Global,
+    pattern: &str,
+    subject: &[u8],
+    how: How<'_>,
+    answer: &str,
+    lists: &mut Lists,
+) -> Result<bool, Fail> {
+    let code = Code::compile(alloc, pattern.as_bytes(), *how.compiling)?;
+    is_told_by(alloc, &code, subject, how, answer, lists)
 }
 
 fn is_told(alloc: Global, how: How<'_>, row: &str, lists: &mut Lists) -> Result<bool, Fail> {

@@ -59,31 +59,46 @@ fn add_month(
     }
 }
 
+/// Adds the months of all matches, in order.
+fn add_months(alloc: Global, code: &Code, text: &[u8], months: &mut Vec<Month>) -> Result<(), Fail>
+    requires { length text.now < 4294967295 }
+{
+    let mut scratch = Scratch::new(alloc);
+    let mut start = 0;
+    while start <= text.len() {
+        match add_month(alloc, code, text, start, &mut scratch, months)? {
+            Some(next) => start = next,
+            None => break,
+        }
+    }
+    Ok(())
+}
+
 /// All months in a text, in order.
 fn months(alloc: Global, text: &[u8]) -> Result<Vec<Month>, Fail>
     requires { length text.now < 4294967295 }
 {
     let pattern = b"(?<year>\\d{4})-(?<month>\\d\\d)";
     let code = Code::compile(alloc, pattern, Options::PLAIN)?;
-    let mut scratch = Scratch::new(alloc);
     let mut months = Vec::new(alloc);
-    let mut start = 0;
-    while start <= text.len() {
-        match add_month(alloc, &code, text, start, &mut scratch, &mut months)? {
-            Some(next) => start = next,
-            None => break,
-        }
-    }
+    add_months(alloc, &code, text, &mut months)?;
     Ok(months)
 }
 
+fn is_month(month: &Month, wanted: &(&[u8], &[u8])) -> bool {
+    month.year.as_slice() == wanted.0 && month.month.as_slice() == wanted.1
+}
+
 fn are(months: &[Month], wanted: &[(&[u8], &[u8])]) -> bool {
-    for (month, (year, digits)) in months.iter().zip(wanted) {
-        if month.year.as_slice() != *year || month.month.as_slice() != *digits {
+    if months.len() != wanted.len() {
+        return false;
+    }
+    for i in 0..wanted.len() {
+        if !is_month(&months[i], &wanted[i]) {
             return false;
         }
     }
-    months.len() == wanted.len()
+    true
 }
 
 #[test]
@@ -94,6 +109,21 @@ fn months_are_collected(rt: HostRuntime) -> Result<(), Fail> {
     let none = months(rt.alloc(), b"")?;
     assert!(&rt; none.is_empty());
     Ok(())
+}
+
+/// The text with what a compiled pattern matches replaced.
+fn rewritten_by(
+    alloc: Global,
+    code: &Code,
+    text: &[u8],
+    how: &SubstOptions,
+    replacement: &[u8],
+) -> Result<Substituted, Fail>
+    requires { length text.now < 4294967295 }
+{
+    let mut scratch = Scratch::new(alloc);
+    let plain = MatchOptions::PLAIN;
+    Ok(code.substitute(alloc, text, 0, &plain, how, replacement, &mut scratch)?)
 }
 
 /// The text with what a pattern matches replaced.
@@ -107,9 +137,7 @@ fn rewritten(
     requires { length text.now < 4294967295 }
 {
     let code = Code::compile(alloc, pattern, Options::PLAIN)?;
-    let mut scratch = Scratch::new(alloc);
-    let plain = MatchOptions::PLAIN;
-    Ok(code.substitute(alloc, text, 0, &plain, how, replacement, &mut scratch)?)
+    rewritten_by(alloc, &code, text, how, replacement)
 }
 
 /// The text with its dates the other way round, and how many there are: `2026-11-28` becomes

@@ -4,7 +4,8 @@ ghost use Rattle.std.specs.Prelude.{◌<◌, length};
 
 use crate::rows::parts;
 use pcre2_api::{
-    Code, CompileError, MatchError, MatchOptions, NoCallouts, Options, Scratch, Span, fault_text,
+    Code, CompileError, Found, MatchError, MatchOptions, NoCallouts, Options, Scratch, Span,
+    fault_text,
 };
 use std::alloc::{AllocError, Global};
 use std::process::Abort;
@@ -43,14 +44,25 @@ fn told(
     Ok(text)
 }
 
-fn is_told(alloc: Global, start: usize, options: &MatchOptions, row: Row) -> Result<bool, Fail> {
-    let (pattern, subject, answer) = parts(row);
+fn is_told_by(
+    alloc: Global,
+    code: &Code,
+    subject: &[u8],
+    start: usize,
+    options: &MatchOptions,
+    answer: &str,
+) -> Result<bool, Fail> {
     if subject.len() >= 1000 {
         return Ok(false);
     }
-    let code = Code::compile(alloc, pattern.as_bytes(), Options::PLAIN)?;
-    let told = told(alloc, &code, subject.as_bytes(), start, options)?;
+    let told = told(alloc, code, subject, start, options)?;
     Ok(told.as_slice() == answer.as_bytes())
+}
+
+fn is_told(alloc: Global, start: usize, options: &MatchOptions, row: Row) -> Result<bool, Fail> {
+    let (pattern, subject, answer) = parts(row);
+    let code = Code::compile(alloc, pattern.as_bytes(), Options::PLAIN)?;
+    is_told_by(alloc, &code, subject.as_bytes(), start, options, answer)
 }
 
 fn check_all(rt: &impl Abort, alloc: Global, rows: &[Row]) -> Result<(), Fail> {
@@ -429,32 +441,55 @@ fn the_leftmost_lookbehind_is_told_last(rt: HostRuntime) -> Result<(), Fail> {
     refused(&rt, rt.alloc(), &ROWS)
 }
 
+static NAMES: [(&[u8], Option<&[u8]>); 3] = [(b"n", Some(b"bar")), (b"m", None), (b"other", None)];
+
+fn are_named(found: &Found<'_>) -> bool {
+    for (name, text) in &NAMES {
+        if found.group_named(name) != *text {
+            return false;
+        }
+    }
+    true
+}
+
+fn is_at_bar(found: &Found<'_>) -> bool {
+    let bar = Span { from: 2, to: 5 };
+    let is_there = (found.start(), found.end(), found.top()) == (2, 5, 2);
+    is_there && found.span(2) == Some(bar) && found.span(4).is_none() && found.mark().is_none()
+}
+
+fn finds_bar(alloc: Global, code: &Code) -> Result<bool, Fail> {
+    let mut scratch = Scratch::new(alloc);
+    match code.match_at(b"a bar", 0, &PLAIN, &mut scratch, &mut NoCallouts) {
+        Ok(found) => Ok(are_named(&found) && is_at_bar(&found)),
+        Err(e) => Err(Fail::from(e)),
+    }
+}
+
+fn groups_are_named(alloc: Global) -> Result<bool, Fail> {
+    let pattern = b"(?J)(?:(?<n>foo)|(?<n>bar))(?<m>x)?";
+    let code = Code::compile(alloc, pattern, Options::PLAIN)?;
+    finds_bar(alloc, &code)
+}
+
 #[test]
 fn groups_are_found_by_name(rt: HostRuntime) -> Result<(), Fail> {
-    static NAMES: [(&[u8], Option<&[u8]>); 3] = [
-        (b"n", Some(b"bar")),
-        (b"m", None),
-        (b"other", None),
-    ];
-    let pattern = b"(?J)(?:(?<n>foo)|(?<n>bar))(?<m>x)?";
-    let code = Code::compile(rt.alloc(), pattern, Options::PLAIN)?;
-    let mut scratch = Scratch::new(rt.alloc());
-    let found = code.match_at(b"a bar", 0, &PLAIN, &mut scratch, &mut NoCallouts)?;
-    for (name, text) in &NAMES {
-        assert!(&rt; found.group_named(name) == *text);
-    }
-    let bar = Span { from: 2, to: 5 };
-    assert!(&rt; (found.start(), found.end(), found.top()) == (2, 5, 2));
-    assert!(&rt; found.span(2) == Some(bar) && found.span(4).is_none() && found.mark().is_none());
+    let are_named = groups_are_named(rt.alloc())?;
+    assert!(&rt; are_named);
     Ok(())
+}
+
+fn is_told_of(code: &Code) -> bool {
+    let info = code.info();
+    (info.groups, info.max_lookbehind, info.can_be_empty) == (1, 1, true)
+        && code.mark_name(0).is_none()
+        && !code.options().anchored
 }
 
 #[test]
 fn a_pattern_tells_of_itself(rt: HostRuntime) -> Result<(), Fail> {
     let code = Code::compile(rt.alloc(), b"(?i)\\b(a)?", Options::PLAIN)?;
-    let info = code.info();
-    assert!(&rt; (info.groups, info.max_lookbehind, info.can_be_empty) == (1, 1, true));
-    assert!(&rt; code.mark_name(0).is_none() && !code.options().anchored);
+    assert!(&rt; is_told_of(&code));
     Ok(())
 }
 

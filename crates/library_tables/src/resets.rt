@@ -2,9 +2,8 @@
 //! those of the C library, 10.42.
 ghost use Rattle.std.specs.Prelude.{◌<◌, length};
 
-use pcre2_api::{Code, MatchError, MatchOptions, NoCallouts, Options, Scratch};
-use std::alloc::Global;
-use std::fmt::Write;
+use pcre2_api::{Code, Found, MatchError, MatchOptions, NoCallouts, Options, Scratch};
+use std::alloc::{AllocError, Global};
 use std::process::Abort;
 use std::test::Fail;
 
@@ -12,36 +11,59 @@ use std::test::Fail;
 /// set in it, as `0-3 1:0-2`, or `no`.
 type Row = &'static str;
 
+fn push_groups(text: &mut String, found: &Found<'_>) -> Result<(), AllocError> {
+    for n in 1..=found.top() {
+        if let Some(span) = found.span(n) {
+            write!(text, " {n}:{}-{}", span.from, span.to)?;
+        }
+    }
+    Ok(())
+}
+
+fn push_match(text: &mut String, found: &Found<'_>) -> Result<(), AllocError> {
+    write!(text, "{}-{}", found.start(), found.end())?;
+    push_groups(text, found)
+}
+
 // What is told of the first match, as in a row.
 fn told(alloc: Global, code: &Code, subject: &[u8], scratch: &mut Scratch) -> Result<String, Fail>
     requires short { length subject.now < 1000 }
 {
     let mut text = String::new(alloc);
     match code.match_at(subject, 0, &MatchOptions::PLAIN, scratch, &mut NoCallouts) {
-        Ok(found) => {
-            write!(text, "{}-{}", found.start(), found.end())?;
-            for n in 1..=found.top() {
-                if let Some(span) = found.span(n) {
-                    write!(text, " {n}:{}-{}", span.from, span.to)?;
-                }
-            }
-        }
+        Ok(found) => push_match(&mut text, &found)?,
         Err(MatchError::NoMatch { .. }) => text.push_str("no")?,
         Err(e) => return Err(e.into()),
     }
     Ok(text)
 }
 
+fn is_told_by(
+    alloc: Global,
+    code: &Code,
+    subject: &[u8],
+    expected: &str,
+    scratch: &mut Scratch,
+) -> Result<bool, Fail> {
+    if subject.len() >= 1000 {
+        return Ok(false);
+    }
+    let told = told(alloc, code, subject, scratch)?;
+    Ok(told.as_str() == expected)
+}
+
+fn is_told(alloc: Global, row: Row, scratch: &mut Scratch) -> Result<bool, Fail> {
+    let (head, expected) = row.split_once(" => ").unwrap_or((row, ""));
+    let (pattern, subject) = head.split_once(" on ").unwrap_or((head, ""));
+    let code = Code::compile(alloc, pattern.as_bytes(), Options::PLAIN)?;
+    is_told_by(alloc, &code, subject.as_bytes(), expected, scratch)
+}
+
 fn check_all(rt: &impl Abort, alloc: Global, rows: &[Row]) -> Result<(), Fail> {
     let mut scratch = Scratch::new(alloc);
     for row in rows {
-        let (head, expected) = row.split_once(" => ").unwrap_or((*row, ""));
-        let (pattern, subject) = head.split_once(" on ").unwrap_or((head, ""));
-        let subject = subject.as_bytes();
-        assert!(rt; subject.len() < 1000);
-        let code = Code::compile(alloc, pattern.as_bytes(), Options::PLAIN)?;
-        let text = told(alloc, &code, subject, &mut scratch)?;
-        assert!(rt; text.as_str() == expected, "{row}: {text}");
+        let is_told = is_told(alloc, row, &mut scratch)?;
+        assert!(rt; is_told, "{row}");
     }
     Ok(())
 }

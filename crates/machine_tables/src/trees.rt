@@ -607,6 +607,32 @@ type Calling = (
     &'static [Shown],
 );
 
+fn block_of(shown: &Shown) -> Block {
+    let (number, start, current) = *shown;
+    Block {
+        number,
+        text_from: 1,
+        text_to: 3,
+        pattern_at: 5,
+        item_len: 4,
+        start,
+        current,
+        mark: None,
+    }
+}
+
+fn are_shown(blocks: &[Block], shown: &[Shown]) -> bool {
+    if blocks.len() != shown.len() {
+        return false;
+    }
+    for i in 0..shown.len() {
+        if blocks[i] != block_of(&shown[i]) {
+            return false;
+        }
+    }
+    true
+}
+
 /// A row is answered by a workspace.
 fn calling(
     rt: &impl Abort,
@@ -621,21 +647,8 @@ fn calling(
         shown: Vec::new(alloc),
         answer: reply,
     };
-    assert!(rt; found(alloc, &tree, subject, scratch, &mut calls)? == answer);
-    let mut blocks = Vec::new(alloc);
-    for (number, start, current) in shown {
-        blocks.push(Block {
-            number: *number,
-            text_from: 1,
-            text_to: 3,
-            pattern_at: 5,
-            item_len: 4,
-            start: *start,
-            current: *current,
-            mark: None,
-        })?;
-    }
-    assert!(rt; calls.shown.as_slice() == blocks.as_slice());
+    let found = found(alloc, &tree, subject, scratch, &mut calls)?;
+    assert!(rt; found == answer && are_shown(calls.shown.as_slice(), shown));
     Ok(())
 }
 

@@ -4,6 +4,4 @@
 #[cfg(test)]
 mod marks;
 #[cfg(test)]
-mod running;
-#[cfg(test)]
 mod skips;

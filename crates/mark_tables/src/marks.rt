@@ -1,6 +1,6 @@
 //! Names of verbs, and the marks of matches and of failures (pcre2pattern, "Recording which path was taken"). The whole
 //! output is that of pcre2test 10.42.
-use crate::running::check_script;
+use script_rows::check_script;
 use std::test::Fail;
 
 const MARKS: &str = "\
@@ -421,5 +421,5 @@ No match
 
 #[test]
 fn marks(rt: HostRuntime) -> Result<(), Fail> {
-    check_script(&rt, rt.alloc(), MARKS)
+    check_script(rt.alloc(), MARKS)
 }

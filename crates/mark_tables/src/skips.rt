@@ -1,6 +1,6 @@
 //! SKIP, backtracked onto in each form (pcre2pattern, "Verbs that act after backtracking"). The whole output is that of
 //! pcre2test 10.42.
-use crate::running::check_script;
+use script_rows::check_script;
 use std::test::Fail;
 
 const SKIPS: &str = "\
@@ -314,5 +314,5 @@ No match, mark = m
 
 #[test]
 fn skip(rt: HostRuntime) -> Result<(), Fail> {
-    check_script(&rt, rt.alloc(), SKIPS)
+    check_script(rt.alloc(), SKIPS)
 }

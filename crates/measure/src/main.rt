@@ -24,20 +24,33 @@ enum Asked<'a> {
 
 fn make_asked(words: &[String]) -> Asked<'_> {
     match words {
-        [_, what, kind] if what.as_str() == "lines" && kind.as_str() == "lf" => {
-            Asked::Lines(EndKind::Lf)
-        }
-        [_, what, kind] if what.as_str() == "lines" && kind.as_str() == "anycrlf" => {
-            Asked::Lines(EndKind::AnyCrLf)
-        }
-        [_, what, pattern] if what.as_str() == "search" => Asked::Search(pattern.as_str()),
-        [_, what, pattern, replacement] if what.as_str() == "rewrite" => {
-            Asked::Rewrite(pattern.as_str(), replacement.as_str())
-        }
-        [_, what, times] if what.as_str() == "reading" => make_reading(times.as_str()),
-        [_, what, class, way] if what.as_str() == "classes" => {
-            make_sample(class.as_str(), way.as_str())
-        }
+        [_, what, word] => make_one(what.as_str(), word.as_str()),
+        [_, what, first, second] => make_two(what.as_str(), first.as_str(), second.as_str()),
+        _ => Asked::Nothing,
+    }
+}
+
+fn make_one<'a>(what: &str, word: &'a str) -> Asked<'a> {
+    match what {
+        "search" => Asked::Search(word),
+        "reading" => make_reading(word),
+        "lines" => make_lines(word),
+        _ => Asked::Nothing,
+    }
+}
+
+fn make_two<'a>(what: &str, first: &'a str, second: &'a str) -> Asked<'a> {
+    match what {
+        "rewrite" => Asked::Rewrite(first, second),
+        "classes" => make_sample(first, second),
+        _ => Asked::Nothing,
+    }
+}
+
+fn make_lines<'a>(kind: &str) -> Asked<'a> {
+    match kind {
+        "lf" => Asked::Lines(EndKind::Lf),
+        "anycrlf" => Asked::Lines(EndKind::AnyCrLf),
         _ => Asked::Nothing,
     }
 }
@@ -60,40 +73,47 @@ fn make_sample<'a>(class: &str, way: &str) -> Asked<'a> {
     Asked::Classes(Sample { class, by_array })
 }
 
+fn say(rt: &HostRuntime, number: Option<u64>, otherwise: &str) -> io::Result<()> {
+    match number {
+        Some(number) => println!(rt; "{number}"),
+        None => println!(rt; "{otherwise}"),
+    }
+}
+
+fn rewrite_input(rt: &HostRuntime, pattern: &str, replacement: &str) -> io::Result<()> {
+    match rewrite::rewritten(rt.alloc(), pattern, replacement, rt.stdin()) {
+        Some(done) => rt.stdout().write_all(done.text.bytes()),
+        None => println!(rt; "the text is not rewritten"),
+    }
+}
+
+fn measure(rt: &HostRuntime, asked: Asked<'_>) -> io::Result<()> {
+    match asked {
+        Asked::Nothing => Ok(()),
+        Asked::Search(pattern) => {
+            let count = search::count_matches(rt.alloc(), pattern, rt.stdin());
+            say(rt, count, "the pattern is not compiled")
+        }
+        Asked::Rewrite(pattern, replacement) => rewrite_input(rt, pattern, replacement),
+        Asked::Reading(times) => {
+            let nodes = reading::count_nodes(rt.alloc(), times, rt.stdin());
+            say(rt, nodes, "the pattern is not read")
+        }
+        Asked::Lines(kind) => {
+            let count = lines::count_lines(rt.alloc(), kind, rt.stdin());
+            say(rt, Some(count), "")
+        }
+        Asked::Classes(sample) => {
+            let count = classes::count_in(rt.alloc(), sample);
+            say(rt, count.ok(), "no memory")
+        }
+    }
+}
+
 fn main(rt: HostRuntime) -> io::Result<()> {
     let mut words = Vec::new(rt.alloc());
     for word in env::args(&rt)? {
         words.push(word)?;
     }
-    match make_asked(words.as_slice()) {
-        Asked::Nothing => Ok(()),
-        Asked::Search(pattern) => {
-            match search::count_matches(rt.alloc(), pattern, rt.stdin()) {
-                Some(count) => println!(rt; "{count}"),
-                None => println!(rt; "the pattern is not compiled"),
-            }
-        }
-        Asked::Rewrite(pattern, replacement) => {
-            match rewrite::rewritten(rt.alloc(), pattern, replacement, rt.stdin()) {
-                Some(done) => rt.stdout().write_all(done.text.bytes()),
-                None => println!(rt; "the text is not rewritten"),
-            }
-        }
-        Asked::Reading(times) => {
-            match reading::count_nodes(rt.alloc(), times, rt.stdin()) {
-                Some(nodes) => println!(rt; "{nodes}"),
-                None => println!(rt; "the pattern is not read"),
-            }
-        }
-        Asked::Lines(kind) => {
-            let count = lines::count_lines(rt.alloc(), kind, rt.stdin());
-            println!(rt; "{count}")
-        }
-        Asked::Classes(sample) => {
-            match classes::count_in(rt.alloc(), sample) {
-                Ok(count) => println!(rt; "{count}"),
-                Err(_) => println!(rt; "no memory"),
-            }
-        }
-    }
+    measure(&rt, make_asked(words.as_slice()))
 }

@@ -1,6 +1,6 @@
 //! Defaults that are merged: our rules, by which `#pattern` takes all modifiers, and `anchored`
 //! and `endanchored` as defaults are options of the pattern.
-use crate::running::check_script;
+use script_rows::check_script;
 use std::test::Fail;
 
 const DEFAULTS: &str = "\
@@ -250,7 +250,7 @@ No match
 #[test]
 fn lists_are_merged_over_earlier_ones(rt: HostRuntime) -> Result<(), Fail> {
     for transcript in [DEFAULTS, MERGED] {
-        check_script(&rt, rt.alloc(), transcript)?;
+        check_script(rt.alloc(), transcript)?;
     }
     Ok(())
 }

@@ -10,8 +10,6 @@ mod pattern_defaults;
 #[cfg(test)]
 mod patterns;
 #[cfg(test)]
-mod running;
-#[cfg(test)]
 mod subject_defaults;
 #[cfg(test)]
 mod subjects;

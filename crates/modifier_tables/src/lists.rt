@@ -1,6 +1,6 @@
 //! Each modifier of a subject line in the list of a pattern, and how lists are read. Our rules:
 //! all of them may stand there, and a hyphen unsets `g`.
-use crate::running::check_script;
+use script_rows::check_script;
 use std::test::Fail;
 
 const LISTS: &str = "\
@@ -216,5 +216,5 @@ No match
 
 #[test]
 fn a_pattern_sets_what_its_lines_begin_with(rt: HostRuntime) -> Result<(), Fail> {
-    check_script(&rt, rt.alloc(), LISTS)
+    check_script(rt.alloc(), LISTS)
 }

@@ -1,6 +1,6 @@
 //! Each modifier of patterns as a default, and unset by a pattern. The whole output is that of
 //! pcre2test 10.42.
-use crate::running::check_script;
+use script_rows::check_script;
 use std::test::Fail;
 
 const DEFAULTS: &str = "\
@@ -268,5 +268,5 @@ No match
 
 #[test]
 fn defaults_of_patterns_hold_until_unset(rt: HostRuntime) -> Result<(), Fail> {
-    check_script(&rt, rt.alloc(), DEFAULTS)
+    check_script(rt.alloc(), DEFAULTS)
 }

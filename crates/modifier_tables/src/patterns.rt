@@ -1,6 +1,6 @@
 //! The modifiers of patterns, and what is shown of matches (pcre2test, "PATTERN MODIFIERS" and
 //! "DEFAULT OUTPUT FROM pcre2test"). The whole output is that of pcre2test 10.42.
-use crate::running::check_script;
+use script_rows::check_script;
 use std::test::Fail;
 
 const PATTERNS: &str = "\
@@ -332,5 +332,5 @@ No match
 
 #[test]
 fn modifiers_of_a_pattern_are_its_own(rt: HostRuntime) -> Result<(), Fail> {
-    check_script(&rt, rt.alloc(), PATTERNS)
+    check_script(rt.alloc(), PATTERNS)
 }

@@ -1,6 +1,6 @@
 //! The modifiers of subject lines as defaults, and unset by a line. The whole output is that of
 //! pcre2test 10.42.
-use crate::running::check_script;
+use script_rows::check_script;
 use std::test::Fail;
 
 const DEFAULTS: &str = "\
@@ -121,5 +121,5 @@ No match
 
 #[test]
 fn defaults_of_subjects_hold_until_unset(rt: HostRuntime) -> Result<(), Fail> {
-    check_script(&rt, rt.alloc(), DEFAULTS)
+    check_script(rt.alloc(), DEFAULTS)
 }

@@ -1,6 +1,6 @@
 //! The modifiers of subject lines (pcre2test, "SUBJECT MODIFIERS"). The whole output is that of
 //! pcre2test 10.42.
-use crate::running::check_script;
+use script_rows::check_script;
 use std::test::Fail;
 
 const SUBJECTS: &str = "\
@@ -78,5 +78,5 @@ No match
 
 #[test]
 fn modifiers_of_a_line_are_its_own(rt: HostRuntime) -> Result<(), Fail> {
-    check_script(&rt, rt.alloc(), SUBJECTS)
+    check_script(rt.alloc(), SUBJECTS)
 }

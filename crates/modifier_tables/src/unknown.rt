@@ -1,5 +1,5 @@
 //! Modifiers of pcre2test 10.42 that are none here.
-use crate::running::check_script;
+use script_rows::check_script;
 use std::test::Fail;
 
 const UNKNOWN: &str = "\
@@ -89,5 +89,5 @@ const UNKNOWN: &str = "\
 
 #[test]
 fn other_modifiers_are_unknown(rt: HostRuntime) -> Result<(), Fail> {
-    check_script(&rt, rt.alloc(), UNKNOWN)
+    check_script(rt.alloc(), UNKNOWN)
 }

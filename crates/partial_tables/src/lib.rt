@@ -5,5 +5,3 @@
 mod partial;
 #[cfg(test)]
 mod partial_ends;
-#[cfg(test)]
-mod running;

@@ -1,5 +1,5 @@
 //! Partial matches (pcre2partial; pcre2test, "Partial matching").
-use crate::running::check_script;
+use script_rows::check_script;
 use std::test::Fail;
 
 const WORDS: &str = "\
@@ -373,20 +373,20 @@ Partial match: a
 
 #[test]
 fn words_and_places(rt: HostRuntime) -> Result<(), Fail> {
-    check_script(&rt, rt.alloc(), WORDS)
+    check_script(rt.alloc(), WORDS)
 }
 
 #[test]
 fn ends_and_lookarounds(rt: HostRuntime) -> Result<(), Fail> {
-    check_script(&rt, rt.alloc(), ENDS)
+    check_script(rt.alloc(), ENDS)
 }
 
 #[test]
 fn repeats_and_names(rt: HostRuntime) -> Result<(), Fail> {
-    check_script(&rt, rt.alloc(), REPEATS)
+    check_script(rt.alloc(), REPEATS)
 }
 
 #[test]
 fn parts_and_modifiers(rt: HostRuntime) -> Result<(), Fail> {
-    check_script(&rt, rt.alloc(), PARTS)
+    check_script(rt.alloc(), PARTS)
 }

@@ -1,6 +1,6 @@
 //! Partial matches of all ends (pcre2partial, "Partial matching using pcre2_dfa_match()"). The whole
 //! output is that of pcre2test 10.42 under `no_auto_possess`, apart from what stands under `OWN`.
-use crate::running::check_script;
+use script_rows::check_script;
 use std::test::Fail;
 
 const WORDS: &str = "\
@@ -496,40 +496,40 @@ Failed: error -42: item not supported by the DFA matcher
 
 #[test]
 fn words_and_alternatives(rt: HostRuntime) -> Result<(), Fail> {
-    check_script(&rt, rt.alloc(), WORDS)
+    check_script(rt.alloc(), WORDS)
 }
 
 #[test]
 fn classes(rt: HostRuntime) -> Result<(), Fail> {
-    check_script(&rt, rt.alloc(), CLASSES)
+    check_script(rt.alloc(), CLASSES)
 }
 
 #[test]
 fn repeats_and_empty_matches(rt: HostRuntime) -> Result<(), Fail> {
-    check_script(&rt, rt.alloc(), REPEATS)
+    check_script(rt.alloc(), REPEATS)
 }
 
 #[test]
 fn anchors_at_the_end(rt: HostRuntime) -> Result<(), Fail> {
-    check_script(&rt, rt.alloc(), ANCHORS)
+    check_script(rt.alloc(), ANCHORS)
 }
 
 #[test]
 fn newlines_at_the_end(rt: HostRuntime) -> Result<(), Fail> {
-    check_script(&rt, rt.alloc(), NEWLINES)
+    check_script(rt.alloc(), NEWLINES)
 }
 
 #[test]
 fn lookarounds_at_the_end(rt: HostRuntime) -> Result<(), Fail> {
-    check_script(&rt, rt.alloc(), LOOKAROUNDS)
+    check_script(rt.alloc(), LOOKAROUNDS)
 }
 
 #[test]
 fn parts_places_and_all_matches(rt: HostRuntime) -> Result<(), Fail> {
-    check_script(&rt, rt.alloc(), OTHERS)
+    check_script(rt.alloc(), OTHERS)
 }
 
 #[test]
 fn what_is_our_own(rt: HostRuntime) -> Result<(), Fail> {
-    check_script(&rt, rt.alloc(), OWN)
+    check_script(rt.alloc(), OWN)
 }

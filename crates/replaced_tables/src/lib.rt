@@ -4,6 +4,4 @@
 #[cfg(test)]
 mod replaced;
 #[cfg(test)]
-mod running;
-#[cfg(test)]
 mod utf;

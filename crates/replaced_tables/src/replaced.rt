@@ -1,5 +1,5 @@
 //! Substitutions (pcre2test, "Testing the substitution function").
-use crate::running::check_script;
+use script_rows::check_script;
 use std::test::Fail;
 
 /// The whole output is that of pcre2test 10.42.
@@ -522,15 +522,15 @@ Capture group count = 1
 
 #[test]
 fn matches_are_replaced(rt: HostRuntime) -> Result<(), Fail> {
-    check_script(&rt, rt.alloc(), REPLACED)
+    check_script(rt.alloc(), REPLACED)
 }
 
 #[test]
 fn refusals_and_starts_of_our_own(rt: HostRuntime) -> Result<(), Fail> {
-    check_script(&rt, rt.alloc(), OWN)
+    check_script(rt.alloc(), OWN)
 }
 
 #[test]
 fn further_matches_are_replaced(rt: HostRuntime) -> Result<(), Fail> {
-    check_script(&rt, rt.alloc(), FURTHER)
+    check_script(rt.alloc(), FURTHER)
 }

@@ -1,7 +1,7 @@
 //! Patterns and subjects in UTF. The lines are those of pcre2test 10.42, apart from the texts of
 //! match errors, the order of those of UTF, and the cases of characters past ASCII, which aren't
 //! forced.
-use crate::running::check_script;
+use script_rows::check_script;
 use std::test::Fail;
 
 const CHARACTERS: &str = "\
@@ -351,25 +351,25 @@ No match
 #[test]
 fn characters_are_matched_in_utf(rt: HostRuntime) -> Result<(), Fail> {
     for transcript in [CHARACTERS, ITEMS, STARTS] {
-        check_script(&rt, rt.alloc(), transcript)?;
+        check_script(rt.alloc(), transcript)?;
     }
     Ok(())
 }
 
 #[test]
 fn characters_have_properties(rt: HostRuntime) -> Result<(), Fail> {
-    check_script(&rt, rt.alloc(), PROPERTIES)
+    check_script(rt.alloc(), PROPERTIES)
 }
 
 #[test]
 fn characters_are_replaced_in_utf(rt: HostRuntime) -> Result<(), Fail> {
     for transcript in [REPLACED, REPLACED_OUR_WAY] {
-        check_script(&rt, rt.alloc(), transcript)?;
+        check_script(rt.alloc(), transcript)?;
     }
     Ok(())
 }
 
 #[test]
 fn faults_of_utf_are_told_with_their_places(rt: HostRuntime) -> Result<(), Fail> {
-    check_script(&rt, rt.alloc(), REFUSED)
+    check_script(rt.alloc(), REFUSED)
 }

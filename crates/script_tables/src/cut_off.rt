@@ -1,6 +1,6 @@
 //! Scripts that end within an entry, or whose last line has no newline: of a pattern that isn't
 //! closed there is its echo alone (pcre2test, "INPUT DATA FORMAT"; pcre2test 10.42 tells it).
-use crate::running::check_bytes;
+use script_rows::check_bytes;
 use std::test::Fail;
 
 // A script, and what is written of it.
@@ -43,7 +43,7 @@ const ROWS: [(&'static [u8], &'static [u8]); 26] = [
 fn scripts_end_anywhere(rt: HostRuntime) -> Result<(), Fail> {
     let alloc = rt.alloc();
     for (script, want) in ROWS {
-        check_bytes(&rt, alloc, Vec::from_slice(alloc, script)?, want)?;
+        check_bytes(alloc, Vec::from_slice(alloc, script)?, want)?;
     }
     Ok(())
 }

@@ -1,6 +1,6 @@
 //! The escapes of subject lines (pcre2test, "SUBJECT LINE SYNTAX"). The whole output is that of
 //! pcre2test 10.42.
-use crate::running::check_script;
+use script_rows::check_script;
 use std::test::Fail;
 
 const ESCAPES: &str = "\
@@ -265,7 +265,7 @@ No match
 #[test]
 fn escapes_stand_for_bytes(rt: HostRuntime) -> Result<(), Fail> {
     for transcript in [ESCAPES, EACH] {
-        check_script(&rt, rt.alloc(), transcript)?;
+        check_script(rt.alloc(), transcript)?;
     }
     Ok(())
 }

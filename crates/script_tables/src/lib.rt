@@ -12,8 +12,6 @@ mod notes;
 #[cfg(test)]
 mod refusals;
 #[cfg(test)]
-mod running;
-#[cfg(test)]
 mod runs;
 #[cfg(test)]
 mod told;

@@ -1,6 +1,6 @@
 //! FIRSTLINE, and a CRLF that is passed whole (pcre2api, PCRE2_FIRSTLINE and "Newlines"). The
 //! whole output is that of pcre2test 10.42.
-use crate::running::check_script;
+use script_rows::check_script;
 use std::test::Fail;
 
 const FIRSTLINES: &str = "\
@@ -106,7 +106,7 @@ No match
 #[test]
 fn a_search_knows_where_lines_end(rt: HostRuntime) -> Result<(), Fail> {
     for transcript in [FIRSTLINES, CRLF] {
-        check_script(&rt, rt.alloc(), transcript)?;
+        check_script(rt.alloc(), transcript)?;
     }
     Ok(())
 }

@@ -1,6 +1,6 @@
 //! Notes, delimiters, patterns over several lines, and defaults (pcre2test, "COMMAND LINES" and
 //! "PATTERN SYNTAX"). The whole output is that of pcre2test 10.42.
-use crate::running::check_script;
+use script_rows::check_script;
 use std::test::Fail;
 
 const NOTES: &str = "\
@@ -287,7 +287,7 @@ No match
 #[test]
 fn lines_are_patterns_subjects_or_notes(rt: HostRuntime) -> Result<(), Fail> {
     for transcript in [NOTES, LINES] {
-        check_script(&rt, rt.alloc(), transcript)?;
+        check_script(rt.alloc(), transcript)?;
     }
     Ok(())
 }

@@ -1,5 +1,5 @@
 //! Each refusal at its place, with our texts.
-use crate::running::check_script;
+use script_rows::check_script;
 use std::test::Fail;
 
 const REFUSALS: &str = "\
@@ -256,5 +256,5 @@ Failed: error 195 at offset 1: not in this profile
 
 #[test]
 fn refusals_stand_at_their_places(rt: HostRuntime) -> Result<(), Fail> {
-    check_script(&rt, rt.alloc(), REFUSALS)
+    check_script(rt.alloc(), REFUSALS)
 }

@@ -1,6 +1,6 @@
 //! Patterns that begin with a greedy run of one item: start places in the run are passed over
 //! where the first of them fails, and only there. The whole output is that of pcre2test 10.42.
-use crate::running::check_script;
+use script_rows::check_script;
 use std::test::Fail;
 
 const RUNS: &str = "\
@@ -141,7 +141,7 @@ No match
 
 #[test]
 fn places_in_a_run_fail_together(rt: HostRuntime) -> Result<(), Fail> {
-    check_script(&rt, rt.alloc(), RUNS)
+    check_script(rt.alloc(), RUNS)
 }
 
 const RUNS_OF_WHAT_FOLLOWS: &str = "\
@@ -283,5 +283,5 @@ No match
 // A shorter run may be followed by the character where the item takes it too.
 #[test]
 fn a_run_may_take_what_follows_it(rt: HostRuntime) -> Result<(), Fail> {
-    check_script(&rt, rt.alloc(), RUNS_OF_WHAT_FOLLOWS)
+    check_script(rt.alloc(), RUNS_OF_WHAT_FOLLOWS)
 }

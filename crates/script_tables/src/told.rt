@@ -1,5 +1,5 @@
 //! Facts of patterns. pcre2test 10.42 shows more of them; these lines are the same there.
-use crate::running::check_script;
+use script_rows::check_script;
 use std::test::Fail;
 
 const FACTS: &str = "\
@@ -76,5 +76,5 @@ Failed: error 114 at offset 2: missing closing parenthesis
 
 #[test]
 fn facts_of_a_pattern_are_told(rt: HostRuntime) -> Result<(), Fail> {
-    check_script(&rt, rt.alloc(), FACTS)
+    check_script(rt.alloc(), FACTS)
 }

@@ -1,5 +1,5 @@
 //! Of each kind of line one or a few, by the rules of `docs/DEFINITIONS.md`.
-use crate::running::check_script;
+use script_rows::check_script;
 use std::test::Fail;
 
 const ROWS: &str = "\
@@ -86,5 +86,5 @@ Capture group count = 2
 
 #[test]
 fn each_kind_of_line_has_its_text(rt: HostRuntime) -> Result<(), Fail> {
-    check_script(&rt, rt.alloc(), ROWS)
+    check_script(rt.alloc(), ROWS)
 }

@@ -1,9 +1,11 @@
 //! What callouts are shown (pcre2callout, "The callout interface"). The answers of the C library,
 //! 10.42, without its start optimisations.
+ghost use Rattle.std.specs.Prelude.{◌<◌, length};
+
+use crate::substitutions::cut;
 use pcre_io::Memory;
 use pcre2_api::{Block, Callouts, Code, MatchOptions, Options, Scratch};
-use std::alloc::Global;
-use std::process::Abort;
+use std::alloc::{AllocError, Global};
 use std::test::Fail;
 
 /// It keeps what it is shown, and lets the match go on.
@@ -29,109 +31,91 @@ impl Callouts for Recorder {
     }
 }
 
-/// The number of a callout, the place and the length of its item, and the present place.
-type Shown = (u8, u32, u32, u64);
+/// A pattern with automatic callouts, a subject, and what the callouts of its match are shown: the number of each, the
+/// place and the length of its item, and the present place.
+type Row = &'static str;
 
-/// A pattern with automatic callouts, a subject, and what the callouts of its match are shown.
-type Row = (&'static [u8], &'static [u8], &'static [Shown]);
+const ROWS: [Row; 4] = [
+    r"\d?[A-E]\* :: E* :: 255,0,3,0 255,3,5,0 255,8,2,1 255,10,0,2 ",
+    "a(?(?=b)b|c) :: ab :: 255,0,1,0 255,1,2,1 255,3,3,1 255,6,1,1 255,7,1,2 255,8,1,1 255,9,1,2 255,12,0,2 ",
+    "a(?(?=b)b|c) :: ac :: 255,0,1,0 255,1,2,1 255,3,3,1 255,6,1,1 255,10,1,1 255,11,1,2 255,12,0,2 ",
+    "(?(?C9)(?!a)b|(?C1)a) :: ab :: 255,0,2,0 9,7,3,0 255,10,1,0 255,11,1,1 1,19,1,0 255,20,1,1 255,21,0,1 ",
+];
 
-/// A row's match shows these, each at the match's start, which is the subject's.
-fn is_shown(rt: &impl Abort, alloc: Global, options: Options, row: &Row) -> Result<(), Fail> {
-    let (pattern, subject, shown) = *row;
-    assert!(rt; subject.len() < 1000);
-    let code = Code::compile(alloc, pattern, options)?;
+const LITERAL: Row = "ab :: ab :: 255,0,1,0 255,1,1,1 255,2,0,2 ";
+
+const AUTOMATIC: Options = Options {
+    auto_callout: true,
+    no_start_optimize: true,
+    ..Options::PLAIN
+};
+
+// Whether the rest of what is shown is as at a match's start, which is the subject's, without a text or a mark.
+fn is_plain(block: &Block) -> bool {
+    block.text_from == 0 && block.text_to == 0 && block.start == 0 && block.mark.is_none()
+}
+
+fn push_block(text: &mut String, block: &Block) -> Result<(), AllocError> {
+    if !is_plain(block) {
+        return text.push_str("another ");
+    }
+    let (number, place, len) = (block.number, block.pattern_at, block.item_len);
+    write!(text, "{number},{place},{len},{} ", block.current)
+}
+
+fn text_of(alloc: Global, blocks: &[Block]) -> Result<String, Fail> {
+    let mut text = String::new(alloc);
+    for block in blocks {
+        push_block(&mut text, block)?;
+    }
+    Ok(text)
+}
+
+// What the callouts of a match are shown, as in a row.
+fn shown(alloc: Global, code: &Code, subject: &[u8]) -> Result<String, Fail>
+    requires short { length subject.now < 1000 }
+{
     let mut calls = Recorder {
         shown: Vec::new(alloc),
     };
     let mut scratch = Scratch::new(alloc);
-    let _found = code.match_at(subject, 0, &MatchOptions::PLAIN, &mut scratch, &mut calls)?;
-    let mut blocks = Vec::new(alloc);
-    for (number, pattern_at, item_len, current) in shown {
-        blocks.push(Block {
-            number: *number,
-            text_from: 0,
-            text_to: 0,
-            pattern_at: *pattern_at,
-            item_len: *item_len,
-            start: 0,
-            current: *current,
-            mark: None,
-        })?;
+    match code.match_at(subject, 0, &MatchOptions::PLAIN, &mut scratch, &mut calls) {
+        Ok(_) => text_of(alloc, calls.shown.as_slice()),
+        Err(e) => Err(Fail::from(e)),
     }
-    assert!(rt; calls.shown.as_slice() == blocks.as_slice());
-    Ok(())
+}
+
+fn is_shown_by(alloc: Global, code: &Code, subject: &[u8], wanted: &str) -> Result<bool, Fail> {
+    if subject.len() >= 1000 {
+        return Ok(false);
+    }
+    let shown = shown(alloc, code, subject)?;
+    Ok(shown.as_str() == wanted)
+}
+
+fn is_shown(alloc: Global, options: Options, row: &str) -> Result<bool, Fail> {
+    let (pattern, rest) = cut(row);
+    let (subject, wanted) = cut(rest);
+    let code = Code::compile(alloc, pattern.as_bytes(), options)?;
+    is_shown_by(alloc, &code, subject.as_bytes(), wanted)
 }
 
 #[test]
 fn automatic_callouts_are_shown(rt: HostRuntime) -> Result<(), Fail> {
-    static ROWS: [Row; 4] = [
-        (
-            br"\d?[A-E]\*",
-            b"E*",
-            &[
-                (255, 0, 3, 0),
-                (255, 3, 5, 0),
-                (255, 8, 2, 1),
-                (255, 10, 0, 2),
-            ],
-        ),
-        (
-            b"a(?(?=b)b|c)",
-            b"ab",
-            &[
-                (255, 0, 1, 0),
-                (255, 1, 2, 1),
-                (255, 3, 3, 1),
-                (255, 6, 1, 1),
-                (255, 7, 1, 2),
-                (255, 8, 1, 1),
-                (255, 9, 1, 2),
-                (255, 12, 0, 2),
-            ],
-        ),
-        (
-            b"a(?(?=b)b|c)",
-            b"ac",
-            &[
-                (255, 0, 1, 0),
-                (255, 1, 2, 1),
-                (255, 3, 3, 1),
-                (255, 6, 1, 1),
-                (255, 10, 1, 1),
-                (255, 11, 1, 2),
-                (255, 12, 0, 2),
-            ],
-        ),
-        (
-            b"(?(?C9)(?!a)b|(?C1)a)",
-            b"ab",
-            &[
-                (255, 0, 2, 0),
-                (9, 7, 3, 0),
-                (255, 10, 1, 0),
-                (255, 11, 1, 1),
-                (1, 19, 1, 0),
-                (255, 20, 1, 1),
-                (255, 21, 0, 1),
-            ],
-        ),
-    ];
-    let options = Options {
-        auto_callout: true,
-        no_start_optimize: true,
-        ..Options::PLAIN
-    };
     for row in &ROWS {
-        is_shown(&rt, rt.alloc(), options, row)?;
+        let is_shown = is_shown(rt.alloc(), AUTOMATIC, row)?;
+        assert!(&rt; is_shown);
     }
-    static LITERAL: Row = (
-        b"ab",
-        b"ab",
-        &[(255, 0, 1, 0), (255, 1, 1, 1), (255, 2, 0, 2)],
-    );
+    Ok(())
+}
+
+#[test]
+fn automatic_callouts_of_a_literal_are_shown(rt: HostRuntime) -> Result<(), Fail> {
     let literal = Options {
         literal: true,
-        ..options
+        ..AUTOMATIC
     };
-    is_shown(&rt, rt.alloc(), literal, &LITERAL)
+    let is_shown = is_shown(rt.alloc(), literal, LITERAL)?;
+    assert!(&rt; is_shown);
+    Ok(())
 }

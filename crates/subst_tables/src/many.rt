@@ -1,5 +1,5 @@
 //! Patterns with many of everything. A body that says that memory lacks past a few is proved, so a test shows that it doesn't.
-use pcre2_api::{Code, MatchOptions, NoCallouts, Options, Scratch};
+use pcre2_api::{Code, Found, MatchOptions, NoCallouts, Options, Scratch};
 use std::alloc::Global;
 use std::test::Fail;
 
@@ -14,22 +14,37 @@ fn alternatives(alloc: Global, count: u32) -> Result<String, Fail> {
     Ok(text)
 }
 
+// Whether the last alternative is found, with its group by number and by name.
+fn is_last(found: &Found<'_>) -> bool {
+    let last = Some(&b"b299;"[..]);
+    (found.start(), found.end(), found.top()) == (5, 10, 300)
+        && found.group(300) == last
+        && found.group_named(b"g299") == last
+        && found.group_named(b"g29").is_none()
+}
+
+fn finds_the_last(alloc: Global, code: &Code) -> Result<bool, Fail> {
+    let mut scratch = Scratch::new(alloc);
+    let plain = MatchOptions::PLAIN;
+    match code.match_at(b"b29; b299;", 5, &plain, &mut scratch, &mut NoCallouts) {
+        Ok(found) => Ok(is_last(&found)),
+        Err(e) => Err(Fail::from(e)),
+    }
+}
+
+fn many(alloc: Global) -> Result<Code, Fail> {
+    let pattern = alternatives(alloc, 300)?;
+    Ok(Code::compile(alloc, pattern.as_str().as_bytes(), Options::PLAIN)?)
+}
+
+fn the_last_is_found(alloc: Global) -> Result<bool, Fail> {
+    let code = many(alloc)?;
+    finds_the_last(alloc, &code)
+}
+
 #[test]
 fn three_hundred_classes_groups_names_and_alternatives(rt: HostRuntime) -> Result<(), Fail> {
-    let alloc = rt.alloc();
-    let pattern = alternatives(alloc, 300)?;
-    let code = Code::compile(alloc, pattern.as_str().as_bytes(), Options::PLAIN)?;
-    let mut scratch = Scratch::new(alloc);
-    let found = code.match_at(
-        b"b29; b299;",
-        5,
-        &MatchOptions::PLAIN,
-        &mut scratch,
-        &mut NoCallouts,
-    )?;
-    let last = Some(&b"b299;"[..]);
-    assert!(&rt; (found.start(), found.end(), found.top()) == (5, 10, 300));
-    assert!(&rt; found.group(300) == last && found.group_named(b"g299") == last);
-    assert!(&rt; found.group_named(b"g29").is_none());
+    let is_found = the_last_is_found(rt.alloc())?;
+    assert!(&rt; is_found);
     Ok(())
 }

@@ -145,8 +145,8 @@ const FORMS: &[Line] = &[
     "\\R :: g :: N :: a\r\nb\nc\r :: 3 aNbNcN",
 ];
 
-// The part of a row that stands first, and the rest.
-fn cut(line: &str) -> (&str, &str) {
+/// The part of a row that stands first, and the rest.
+pub(crate) fn cut(line: &str) -> (&str, &str) {
     line.split_once(" :: ").unwrap_or((line, ""))
 }
 
@@ -215,8 +215,9 @@ fn told(
     }
 }
 
-fn is_told(
+fn is_told_by(
     alloc: Global,
+    code: &Code,
     row: &Row<'_>,
     start: usize,
     options: &MatchOptions,
@@ -224,9 +225,18 @@ fn is_told(
     if row.subject.len() >= 1000 {
         return Ok(false);
     }
-    let code = Code::compile(alloc, row.pattern, Options::PLAIN)?;
-    let told = told(alloc, &code, row, start, options)?;
+    let told = told(alloc, code, row, start, options)?;
     Ok(told.as_slice() == row.answer)
+}
+
+fn is_told(
+    alloc: Global,
+    row: &Row<'_>,
+    start: usize,
+    options: &MatchOptions,
+) -> Result<bool, Fail> {
+    let code = Code::compile(alloc, row.pattern, Options::PLAIN)?;
+    is_told_by(alloc, &code, row, start, options)
 }
 
 fn check_all(

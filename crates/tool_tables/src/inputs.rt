@@ -171,16 +171,20 @@ fn left_of(rt: &impl Abort, source: &mut MemSource) -> Result<usize, Fail> {
     Ok(left)
 }
 
+fn ends_well(alloc: Global, line: &str, source: &mut MemSource) -> Result<bool, Fail> {
+    let mut out = MemSink::new(alloc, None, 100);
+    let mut err = MemSink::new(alloc, None, 100);
+    let found = search(alloc, line, source, &mut out, &mut err)?;
+    Ok(matches!(found, Some((Ok(_), _))))
+}
+
 // How many bytes of a long input are taken, or more than all where the run doesn't end well.
 fn taken_by(rt: &impl Abort, alloc: Global, row: &str) -> Result<usize, Fail> {
     let (line, first) = run_of(row);
     let mut bytes = first.as_bytes().to_vec(alloc)?;
     bytes.resize(LONG, b'\n')?;
     let mut source = MemSource::new(bytes, None, 1_000_000);
-    let mut out = MemSink::new(alloc, None, 100);
-    let mut err = MemSink::new(alloc, None, 100);
-    let found = search(alloc, line, &mut source, &mut out, &mut err)?;
-    if !matches!(found, Some((Ok(_), _))) {
+    if !ends_well(alloc, line, &mut source)? {
         return Ok(usize::MAX);
     }
     let left = left_of(rt, &mut source)?;

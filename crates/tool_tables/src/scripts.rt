@@ -1,5 +1,4 @@
 //! Lists of modifiers and scripts, with what is read in them or what is refused.
-use pat_tree::{Bsr, Newline};
 use std::alloc::{AllocError, Global};
 use std::process::Abort;
 use std::test::Fail;
@@ -339,9 +338,7 @@ fn show_flags(out: &mut String, m: &Modifiers) -> Result<(), AllocError> {
     Ok(())
 }
 
-fn show(out: &mut String, m: &Modifiers) -> Result<(), AllocError> {
-    let before = out.len();
-    show_flags(out, m)?;
+fn show_numbers(out: &mut String, m: &Modifiers) -> Result<(), AllocError> {
     let numbers = [
         (m.offset, "offset"),
         (m.match_limit, "match_limit"),
@@ -354,6 +351,10 @@ fn show(out: &mut String, m: &Modifiers) -> Result<(), AllocError> {
             write!(out, " {name}:{n}")?;
         }
     }
+    Ok(())
+}
+
+fn show_values(out: &mut String, m: &Modifiers) -> Result<(), AllocError> {
     if let Some(newline) = m.newline {
         write!(out, " newline:{newline:?}")?;
     }
@@ -363,6 +364,14 @@ fn show(out: &mut String, m: &Modifiers) -> Result<(), AllocError> {
     if let Some(text) = &m.replace {
         write!(out, " replace:{}", text_of(text.bytes()))?;
     }
+    Ok(())
+}
+
+fn show(out: &mut String, m: &Modifiers) -> Result<(), AllocError> {
+    let before = out.len();
+    show_flags(out, m)?;
+    show_numbers(out, m)?;
+    show_values(out, m)?;
     if before == 0 && out.is_empty() {
         out.push_str(" nothing")?;
     }
@@ -490,11 +499,15 @@ fn check_script(
     Ok(())
 }
 
-/// What a subject line writes after this pattern, or `!` where it is refused.
-fn subject_of(alloc: Global, pattern: &[u8], line: &[u8]) -> Result<Vec<u8>, Fail> {
+fn entry_after(alloc: Global, pattern: &[u8], line: &[u8]) -> Result<Entry, Fail> {
     let mut reader = fresh(alloc);
     let _ = reader.feed(pattern)?;
-    match reader.feed(line)? {
+    Ok(reader.feed(line)?)
+}
+
+/// What a subject line writes after this pattern, or `!` where it is refused.
+fn subject_of(alloc: Global, pattern: &[u8], line: &[u8]) -> Result<Vec<u8>, Fail> {
+    match entry_after(alloc, pattern, line)? {
         Entry::Subject(entry) => Ok(entry.subject.into_vec()),
         Entry::Refused(Refusal::BadSubject) => Ok(b"!".to_vec(alloc)?),
         _ => Ok(b"another entry".to_vec(alloc)?),

@@ -2,7 +2,7 @@
 use dir_walk::{FilterError, NameFilter, Target, TargetList, targets};
 use grep_args::{GrepPlan, read};
 use pat_tree::ByteList;
-use pcre_io::{MemFiles, Memory, Name};
+use pcre_io::{MemFiles, Name};
 use std::alloc::{AllocError, Global};
 use std::process::Abort;
 use std::test::Fail;
@@ -62,9 +62,14 @@ fn add_filter(alloc: Global, plan: &mut GrepPlan, word: &str) -> Result<bool, Fa
     Ok(true)
 }
 
-fn plan_of(alloc: Global) -> Result<GrepPlan, Fail> {
+fn words_of(alloc: Global, word: &str) -> Result<Vec<String>, AllocError> {
     let mut words = Vec::new(alloc);
-    words.push(String::from_str(alloc, "x")?)?;
+    words.push(String::from_str(alloc, word)?)?;
+    Ok(words)
+}
+
+fn plan_of(alloc: Global) -> Result<GrepPlan, Fail> {
+    let words = words_of(alloc, "x")?;
     match read(alloc, words.as_slice()) {
         Ok(plan) => Ok(plan),
         Err(_) => Err(Fail::from(AllocError)),
@@ -86,20 +91,24 @@ fn push_target(shown: &mut String, kind: &str, name: &Name) -> Result<(), AllocE
     shown.push_str(name.as_str())
 }
 
+fn show_target(shown: &mut String, target: &Target) -> Result<(), AllocError> {
+    match target {
+        Target::Input => shown.push_str("Input"),
+        Target::File(name) => push_target(shown, "File", name),
+        Target::NoOpen(name) => push_target(shown, "NoOpen", name),
+        Target::NoList(name) => push_target(shown, "NoList", name),
+        Target::TooDeep(name) => push_target(shown, "TooDeep", name),
+        Target::Unnamed(name) => push_target(shown, "Unnamed", name),
+    }
+}
+
 fn shown(alloc: Global, list: &TargetList) -> Result<String, AllocError> {
     let mut shown = String::new(alloc);
     for target in list.as_slice() {
         if !shown.is_empty() {
             shown.push(' ')?;
         }
-        match target {
-            Target::Input => shown.push_str("Input")?,
-            Target::File(name) => push_target(&mut shown, "File", name)?,
-            Target::NoOpen(name) => push_target(&mut shown, "NoOpen", name)?,
-            Target::NoList(name) => push_target(&mut shown, "NoList", name)?,
-            Target::TooDeep(name) => push_target(&mut shown, "TooDeep", name)?,
-            Target::Unnamed(name) => push_target(&mut shown, "Unnamed", name)?,
-        }
+        show_target(&mut shown, target)?;
     }
     Ok(shown)
 }
@@ -111,19 +120,45 @@ fn filter_of(alloc: Global, plan: &GrepPlan) -> Result<NameFilter, Fail> {
     }
 }
 
-// What the words of a row stand for.
-fn answer(alloc: Global, row: &str, recursive: bool) -> Result<String, Fail> {
-    let mut plan = plan_of(alloc)?;
+// Gives the plan the filters of a row. The other words are given back.
+fn take_filters(alloc: Global, plan: &mut GrepPlan, row: &str) -> Result<Vec<String>, Fail> {
     let mut words = Vec::new(alloc);
     for word in row.split(' ') {
-        if !add_filter(alloc, &mut plan, word)? {
+        if !add_filter(alloc, plan, word)? {
             words.push(String::from_str(alloc, word)?)?;
         }
     }
-    let filter = filter_of(alloc, &plan)?;
-    let mut files = files_of(alloc)?;
-    let list = targets(alloc, &filter, words.as_slice(), recursive, &mut files)?;
+    Ok(words)
+}
+
+fn listed(
+    alloc: Global,
+    filter: &NameFilter,
+    words: &[String],
+    recursive: bool,
+    files: &mut MemFiles,
+) -> Result<String, Fail> {
+    let list = targets(alloc, filter, words, recursive, files)?;
     Ok(shown(alloc, &list)?)
+}
+
+// What the words stand for among the files of the rows.
+fn listed_in_files(
+    alloc: Global,
+    filter: &NameFilter,
+    words: &[String],
+    recursive: bool,
+) -> Result<String, Fail> {
+    let mut files = files_of(alloc)?;
+    listed(alloc, filter, words, recursive, &mut files)
+}
+
+// What the words of a row stand for.
+fn answer(alloc: Global, row: &str, recursive: bool) -> Result<String, Fail> {
+    let mut plan = plan_of(alloc)?;
+    let words = take_filters(alloc, &mut plan, row)?;
+    let filter = filter_of(alloc, &plan)?;
+    listed_in_files(alloc, &filter, words.as_slice(), recursive)
 }
 
 fn check(rt: &impl Abort, alloc: Global, rows: &str, recursive: bool) -> Result<(), Fail> {
@@ -155,15 +190,32 @@ fn nested(alloc: Global, levels: u32, last: &str) -> Result<String, AllocError> 
     Ok(path)
 }
 
-// What the word `d` stands for, where a file lies so many levels below it, and a directory is refused.
-fn below(alloc: Global, levels: u32, refused: &str) -> Result<TargetList, Fail> {
-    let filter = filter_of(alloc, &plan_of(alloc)?)?;
+// A file so many levels below `d`, and a directory that is refused.
+fn nested_file(alloc: Global, levels: u32, refused: &str) -> Result<MemFiles, Fail> {
     let mut files = MemFiles::new(alloc);
     files.add(nested(alloc, levels, "/f")?, Vec::new(alloc), None)?;
     files.refuse(String::from_str(alloc, refused)?)?;
-    let mut words = Vec::new(alloc);
-    words.push(String::from_str(alloc, "d")?)?;
-    Ok(targets(alloc, &filter, words.as_slice(), true, &mut files)?)
+    Ok(files)
+}
+
+fn plain_filter(alloc: Global) -> Result<NameFilter, Fail> {
+    let plan = plan_of(alloc)?;
+    filter_of(alloc, &plan)
+}
+
+// What the word `d` stands for among these files.
+fn below(alloc: Global, files: &mut MemFiles) -> Result<String, Fail> {
+    let filter = plain_filter(alloc)?;
+    let words = words_of(alloc, "d")?;
+    listed(alloc, &filter, words.as_slice(), true, files)
+}
+
+fn is_below(alloc: Global, row: &(u32, &str, &str, u32, &str)) -> Result<bool, Fail> {
+    let (levels, refused, kind, depth, last) = *row;
+    let mut files = nested_file(alloc, levels, refused)?;
+    let below = below(alloc, &mut files)?;
+    let path = nested(alloc, depth, last)?;
+    Ok(below.as_str().strip_prefix(kind) == Some(path.as_str()))
 }
 
 #[test]
@@ -175,34 +227,38 @@ fn directories_that_cannot_be_listed_are_told(rt: HostRuntime) -> Result<(), Fai
         (70, "", "TooDeep:", 65, ""),
         (70, "d/d/d", "NoList:", 2, ""),
     ];
-    for (levels, refused, kind, depth, last) in rows {
-        let list = below(alloc, levels, refused)?;
-        let mut wanted = String::from_str(alloc, kind)?;
-        wanted.push_str(nested(alloc, depth, last)?.as_str())?;
-        let shown = shown(alloc, &list)?;
-        assert!(&rt; shown.as_str() == wanted.as_str());
+    for row in &rows {
+        let is_below = is_below(alloc, row)?;
+        assert!(&rt; is_below);
     }
     Ok(())
 }
 
+fn without_words(alloc: Global, recursive: bool) -> Result<String, Fail> {
+    let filter = plain_filter(alloc)?;
+    listed(alloc, &filter, &[], recursive, &mut MemFiles::new(alloc))
+}
+
 #[test]
 fn the_input_is_scanned_without_words(rt: HostRuntime) -> Result<(), Fail> {
-    let alloc = rt.alloc();
-    let filter = filter_of(alloc, &plan_of(alloc)?)?;
     for recursive in [false, true] {
-        let list = targets(alloc, &filter, &[], recursive, &mut MemFiles::new(alloc))?;
-        let shown = shown(alloc, &list)?;
+        let shown = without_words(rt.alloc(), recursive)?;
         assert!(&rt; shown.as_str() == "Input");
     }
     Ok(())
 }
 
-// The refusal of a filter with these patterns.
-fn refusal(alloc: Global, row: &str) -> Result<Option<FilterError>, Fail> {
+fn plan_with(alloc: Global, row: &str) -> Result<GrepPlan, Fail> {
     let mut plan = plan_of(alloc)?;
     for word in row.split(' ') {
         add_filter(alloc, &mut plan, word)?;
     }
+    Ok(plan)
+}
+
+// The refusal of a filter with these patterns.
+fn refusal(alloc: Global, row: &str) -> Result<Option<FilterError>, Fail> {
+    let plan = plan_with(alloc, row)?;
     Ok(NameFilter::build(alloc, &plan).err())
 }
 

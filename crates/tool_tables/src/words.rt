@@ -276,13 +276,28 @@ fn words_of(alloc: Global, line: &str) -> Result<Vec<String>, AllocError> {
     Ok(words)
 }
 
-fn show_modes(out: &mut String, plan: &GrepPlan) -> Result<(), AllocError> {
-    if plan.after_context > 0 {
-        write!(out, "A:{} ", plan.after_context)?;
+fn show_number(out: &mut String, name: &str, number: u32) -> Result<(), AllocError> {
+    write!(out, "{name}:{number} ")
+}
+
+// A number that isn't what it is without options.
+fn show_changed(out: &mut String, name: &str, number: u32, usual: u32) -> Result<(), AllocError> {
+    if number == usual {
+        return Ok(());
     }
-    if plan.before_context > 0 {
-        write!(out, "B:{} ", plan.before_context)?;
-    }
+    show_number(out, name, number)
+}
+
+fn show_text(out: &mut String, name: &str, text: &str) -> Result<(), AllocError> {
+    write!(out, "{name}:{text} ")
+}
+
+fn show_context(out: &mut String, plan: &GrepPlan) -> Result<(), AllocError> {
+    show_changed(out, "A", plan.after_context, 0)?;
+    show_changed(out, "B", plan.before_context, 0)
+}
+
+fn show_names(out: &mut String, plan: &GrepPlan) -> Result<(), AllocError> {
     if plan.binary != BinaryMode::Binary {
         write!(out, "{:?} ", plan.binary)?;
     }
@@ -290,10 +305,14 @@ fn show_modes(out: &mut String, plan: &GrepPlan) -> Result<(), AllocError> {
         write!(out, "{:?} ", plan.names)?;
     }
     if plan.label.as_str() != "(standard input)" {
-        write!(out, "label:{} ", plan.label.as_str())?;
+        show_text(out, "label", plan.label.as_str())?;
     }
+    Ok(())
+}
+
+fn show_parts(out: &mut String, plan: &GrepPlan) -> Result<(), AllocError> {
     for i in 0..plan.only_matching.len() {
-        write!(out, "o:{} ", plan.only_matching.get(i))?;
+        show_number(out, "o", *plan.only_matching.get(i))?;
     }
     if plan.offsets != OffsetMode::NoOffsets {
         write!(out, "{:?} ", plan.offsets)?;
@@ -325,18 +344,16 @@ fn show_flags(out: &mut String, plan: &GrepPlan) -> Result<(), AllocError> {
 }
 
 fn show_limits(out: &mut String, plan: &GrepPlan) -> Result<(), AllocError> {
-    if plan.match_limit != 10_000_000 {
-        write!(out, "match:{} ", plan.match_limit)?;
+    show_changed(out, "match", plan.match_limit, 10_000_000)?;
+    show_changed(out, "frame", plan.frame_limit, 10_000_000)?;
+    show_changed(out, "buffer", plan.max_buffer_size, 1_048_576)?;
+    match plan.max_count {
+        Some(count) => show_number(out, "m", count),
+        None => Ok(()),
     }
-    if plan.frame_limit != 10_000_000 {
-        write!(out, "frame:{} ", plan.frame_limit)?;
-    }
-    if plan.max_buffer_size != 1_048_576 {
-        write!(out, "buffer:{} ", plan.max_buffer_size)?;
-    }
-    if let Some(n) = plan.max_count {
-        write!(out, "m:{n} ")?;
-    }
+}
+
+fn show_forms(out: &mut String, plan: &GrepPlan) -> Result<(), AllocError> {
     if plan.newline != Newline::Lf {
         write!(out, "{:?} ", plan.newline)?;
     }
@@ -348,7 +365,7 @@ fn show_limits(out: &mut String, plan: &GrepPlan) -> Result<(), AllocError> {
 
 fn show_list(out: &mut String, name: &str, texts: &TextList) -> Result<(), AllocError> {
     for text in texts.as_slice() {
-        write!(out, "{name}:{} ", text_of(text.bytes()))?;
+        show_text(out, name, text_of(text.bytes()))?;
     }
     Ok(())
 }
@@ -362,14 +379,12 @@ fn show_filters(out: &mut String, plan: &GrepPlan) -> Result<(), AllocError> {
 
 fn show_texts(out: &mut String, plan: &GrepPlan) -> Result<(), AllocError> {
     if plan.om_separator.len() > 0 {
-        write!(out, "sep:{} ", text_of(plan.om_separator.bytes()))?;
+        show_text(out, "sep", text_of(plan.om_separator.bytes()))?;
     }
     for i in 0..plan.pattern_files.len() {
-        write!(out, "f:{} ", plan.pattern_files.get(i).as_str())?;
+        show_text(out, "f", plan.pattern_files.get(i).as_str())?;
     }
-    for i in 0..plan.patterns.len() {
-        write!(out, "e:{} ", text_of(plan.patterns.get(i).bytes()))?;
-    }
+    show_list(out, "e", &plan.patterns)?;
     write!(out, "at:{}", plan.files_from)
 }
 
@@ -377,22 +392,37 @@ fn text_of(bytes: &[u8]) -> &str {
     std::str::from_utf8(bytes).unwrap_or("not text")
 }
 
+fn show_options(out: &mut String, plan: &GrepPlan) -> Result<(), AllocError> {
+    show_context(out, plan)?;
+    show_names(out, plan)?;
+    show_parts(out, plan)?;
+    show_flags(out, plan)?;
+    show_limits(out, plan)?;
+    show_forms(out, plan)
+}
+
+fn fault_shown(alloc: Global, fault: &ArgError) -> Result<String, AllocError> {
+    match fault {
+        ArgError::Usage { kind, word } => format!(in alloc; "{kind:?} {word}"),
+        ArgError::Memory => String::from_str(alloc, "want of memory"),
+    }
+}
+
+fn plan_shown(alloc: Global, plan: &GrepPlan) -> Result<String, AllocError> {
+    let mut out = String::new(alloc);
+    show_filters(&mut out, plan)?;
+    show_options(&mut out, plan)?;
+    show_texts(&mut out, plan)?;
+    Ok(out)
+}
+
 /// What differs from the plan of no options, or the fault.
 fn told(alloc: Global, line: &str) -> Result<String, AllocError> {
     let words = words_of(alloc, line)?;
-    let mut out = String::new(alloc);
     match read(alloc, words.as_slice()) {
-        Ok(plan) => {
-            show_filters(&mut out, &plan)?;
-            show_modes(&mut out, &plan)?;
-            show_flags(&mut out, &plan)?;
-            show_limits(&mut out, &plan)?;
-            show_texts(&mut out, &plan)?;
-        }
-        Err(ArgError::Usage { kind, word }) => write!(out, "{kind:?} {word}")?,
-        Err(ArgError::Memory) => out.push_str("want of memory")?,
+        Ok(plan) => plan_shown(alloc, &plan),
+        Err(fault) => fault_shown(alloc, &fault),
     }
-    Ok(out)
 }
 
 fn check(rt: &impl Abort, alloc: Global, table: &str) -> Result<(), AllocError> {

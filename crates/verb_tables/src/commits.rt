@@ -1,6 +1,6 @@
 //! COMMIT and PRUNE, backtracked onto in each form (pcre2pattern, "Verbs that act after backtracking"). The whole output is that of
 //! pcre2test 10.42.
-use crate::running::check_script;
+use script_rows::check_script;
 use std::test::Fail;
 
 const COMMITS: &str = "\
@@ -635,5 +635,5 @@ No match, mark = n
 
 #[test]
 fn commit_and_prune(rt: HostRuntime) -> Result<(), Fail> {
-    check_script(&rt, rt.alloc(), COMMITS)
+    check_script(rt.alloc(), COMMITS)
 }

@@ -4,8 +4,6 @@
 #[cfg(test)]
 mod commits;
 #[cfg(test)]
-mod running;
-#[cfg(test)]
 mod thens;
 #[cfg(test)]
 mod verbs;

@@ -1,6 +1,6 @@
 //! THEN, backtracked onto in each form (pcre2pattern, "Verbs that act after backtracking"). The whole output is that of
 //! pcre2test 10.42.
-use crate::running::check_script;
+use script_rows::check_script;
 use std::test::Fail;
 
 const THENS: &str = "\
@@ -267,5 +267,5 @@ MK: n
 
 #[test]
 fn then(rt: HostRuntime) -> Result<(), Fail> {
-    check_script(&rt, rt.alloc(), THENS)
+    check_script(rt.alloc(), THENS)
 }

@@ -1,6 +1,6 @@
 //! Verbs that act at once: FAIL and ACCEPT (pcre2pattern, "Verbs that act immediately"). The whole output is that of
 //! pcre2test 10.42.
-use crate::running::check_script;
+use script_rows::check_script;
 use std::test::Fail;
 
 const FAILS: &str = "\
@@ -430,10 +430,10 @@ No match
 
 #[test]
 fn fail(rt: HostRuntime) -> Result<(), Fail> {
-    check_script(&rt, rt.alloc(), FAILS)
+    check_script(rt.alloc(), FAILS)
 }
 
 #[test]
 fn accept(rt: HostRuntime) -> Result<(), Fail> {
-    check_script(&rt, rt.alloc(), ACCEPTS)
+    check_script(rt.alloc(), ACCEPTS)
 }

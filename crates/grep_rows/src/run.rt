@@ -1,77 +1,11 @@
 //! Runs of pcre2grep over streams and files in memory.
 ghost use Rattle.std.specs.Prelude.{◌≤◌};
 
+use crate::rows::{Bytes, File, Row, Streams, Told, parts_of, unfailing};
 use grep_run::run_grep;
 use pcre_io::{MemFiles, MemSink, MemSource};
 use std::alloc::{AllocError, Global};
-use std::process::Abort;
 use std::test::Fail;
-
-/// A file: its name and its bytes with `: ` between them, and after how many bytes every read fails.
-pub(crate) type File = (&'static str, Option<u64>);
-
-/// A run and its status. The run: the words with a space between them, where `␣` stands for a space
-/// in a word and `''` for an empty word; after ` < ` the input; after ` > ` what is written to the
-/// output; and after each ` ! ` a message without the tool's name.
-pub(crate) type Row = (&'static str, u8);
-
-/// A run over an input of which every read after so many bytes fails, that number, and the status.
-pub(crate) type Cut = (&'static str, u64, u8);
-
-/// The streams of a run: the input, after how many bytes every read of it fails, how many bytes the
-/// output and the messages have room for, and the greatest piece of a read and of a write.
-#[derive(Clone, Copy)]
-pub(crate) struct Streams<'a> {
-    pub(crate) input: &'a [u8],
-    pub(crate) fail_at: Option<u64>,
-    pub(crate) room: Option<u64>,
-    pub(crate) message_room: Option<u64>,
-    pub(crate) piece: u32,
-}
-
-/// What a run writes, and its status.
-#[derive(Clone, Copy)]
-pub(crate) struct Told<'a> {
-    pub(crate) out: &'a [u8],
-    pub(crate) err: &'a [u8],
-    pub(crate) status: u8,
-}
-
-/// The parts of a run that stand in a row.
-#[derive(Clone, Copy)]
-pub(crate) struct Parts<'a> {
-    pub(crate) words: &'a str,
-    pub(crate) input: &'a [u8],
-    pub(crate) out: &'a [u8],
-    pub(crate) messages: &'a str,
-}
-
-/// Streams that don't fail.
-pub(crate) fn unfailing(input: &[u8]) -> Streams<'_> {
-    Streams {
-        input,
-        fail_at: None,
-        room: None,
-        message_room: None,
-        piece: 3,
-    }
-}
-
-/// The parts of a row, with this input where it has none.
-pub(crate) fn parts_of<'a>(row: &'a str, input: &'a [u8]) -> Parts<'a> {
-    let (row, messages) = row.split_once(" ! ").unwrap_or((row, ""));
-    let (row, out) = row.split_once(" > ").unwrap_or((row, ""));
-    let (words, input) = match row.split_once(" < ") {
-        Some((words, input)) => (words, input.as_bytes()),
-        None => (row, input),
-    };
-    Parts {
-        words,
-        input,
-        out: out.as_bytes(),
-        messages,
-    }
-}
 
 // The words of a command line.
 fn command(alloc: Global, line: &str) -> Result<Vec<String>, AllocError> {
@@ -145,7 +79,7 @@ fn run_line(
 }
 
 /// Whether a command line over these files and streams tells this.
-pub(crate) fn tells(
+pub fn tells(
     alloc: Global,
     files: &[File],
     streams: &Streams<'_>,
@@ -160,8 +94,8 @@ pub(crate) fn tells(
     Ok(streams_are && written.status == told.status)
 }
 
-/// Whether a row over these files is told, with these streams where it has no input of its own.
-pub(crate) fn is_told(
+// Whether a row over these files is told, with these streams where it has no input of its own.
+fn is_told(
     alloc: Global,
     files: &[File],
     streams: Streams<'_>,
@@ -182,30 +116,61 @@ pub(crate) fn is_told(
     tells(alloc, files, &streams, parts.words, &told)
 }
 
+// A test fails where a row isn't told, and says which.
+fn tell(is_told: bool, row: &str) -> Result<(), Fail> {
+    if is_told {
+        return Ok(());
+    }
+    Err(Fail::new(format_args!("not told so: {row}")))
+}
+
 /// Runs a row over these files and streams.
-pub(crate) fn check_row(
-    rt: &impl Abort,
+///
+/// # Errors
+///
+/// A failure of the test, which has the row, where it is not told.
+pub fn check_row(
     alloc: Global,
     files: &[File],
     streams: Streams<'_>,
     row: &str,
     status: u8,
 ) -> Result<(), Fail> {
-    let is_told = is_told(alloc, files, streams, row, status)?;
-    assert!(rt; is_told);
-    Ok(())
+    tell(is_told(alloc, files, streams, row, status)?, row)
 }
 
 /// Runs rows over these files, and over this input where a row has none.
-pub(crate) fn check_all(
-    rt: &impl Abort,
-    alloc: Global,
-    files: &[File],
-    input: &str,
-    rows: &[Row],
-) -> Result<(), Fail> {
+///
+/// # Errors
+///
+/// As `check_row`, at the first row that is not told.
+pub fn check_all(alloc: Global, files: &[File], input: &str, rows: &[Row]) -> Result<(), Fail> {
     for (row, status) in rows {
-        check_row(rt, alloc, files, unfailing(input.as_bytes()), row, *status)?;
+        check_row(alloc, files, unfailing(input.as_bytes()), row, *status)?;
+    }
+    Ok(())
+}
+
+// Whether a run of which a stream isn't UTF-8 is told.
+fn is_told_in_bytes(alloc: Global, row: &Bytes) -> Result<bool, Fail> {
+    let (words, input, out, messages, status) = *row;
+    let err = messages_of(alloc, messages)?;
+    let told = Told {
+        out,
+        err: err.as_slice(),
+        status,
+    };
+    tells(alloc, &[], &unfailing(input), words, &told)
+}
+
+/// Runs rows whose streams aren't UTF-8.
+///
+/// # Errors
+///
+/// As `check_row`, with the words of the first row that is not told.
+pub fn check_bytes(alloc: Global, rows: &[Bytes]) -> Result<(), Fail> {
+    for row in rows {
+        tell(is_told_in_bytes(alloc, row)?, row.0)?;
     }
     Ok(())
 }
