@@ -1,24 +1,5 @@
 -- What a place decides.
-use Rattle.std.proofs.Common.{
-  ◌≡◌,
-  ◌∙◌,
-  ◌≤◌,
-  ℕ,
-  Bool,
-  true,
-  false,
-  List,
-  [],
-  ◌∷◌,
-  length,
-  Option,
-  Some,
-  None,
-  sym,
-  ap,
-  subst,
-  inr,
-}
+use Rattle.std.proofs.Common.{◌≡◌, ◌∙◌, ◌≤◌, ℕ, Bool, true, false, List, [], ◌∷◌, length, Option, Some, None, sym, ap, subst, inr}
 use Rattle.std.specs.Prelude.{IfSome}
 use Rattle.pat_tree.specs.declared.options.Options.{Options}
 use Rattle.pat_tree.specs.declared.options.PartialMode.{PartialMode}
@@ -27,14 +8,7 @@ use Rattle.match_items.specs.Subjects.{IsTextPlace}
 use Rattle.ordered_search.specs.Setting.{Setting}
 use Rattle.ordered_search.specs.Places.{is_excluded}
 use Rattle.dfa_ends.specs.Ends.{spot}
-use Rattle.dfa_ends.specs.DfaAnswer.{
-  EndsFrom,
-  PartialFrom,
-  reach_test,
-  decision,
-  ends_from,
-  decision_at,
-}
+use Rattle.dfa_ends.specs.DfaAnswer.{EndsFrom, PartialFrom, reach_test, decision, ends_from, decision_at}
 use Rattle.dfa_drive.specs.declared.answer.DfaAnswer.{DfaAnswer}
 use Rattle.dfa_drive.specs.declared.answer.DfaAnswer.TheVariants.{Ends, NoMatch, Partial}
 use Rattle.dfa_drive.specs.Answer.{IsDecision, IsDecidedBy, AreWithin, IsPlaced, IsWhole}

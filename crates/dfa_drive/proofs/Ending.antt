@@ -1,22 +1,5 @@
 -- The ends at one place are those of the definition.
-use Rattle.std.proofs.Common.{
-  ◌≡◌,
-  ◌∙◌,
-  ℕ,
-  zero,
-  suc,
-  Bool,
-  true,
-  false,
-  List,
-  length,
-  ◌≤◌,
-  subst,
-  arith,
-  refl,
-  sym,
-  ap,
-}
+use Rattle.std.proofs.Common.{◌≡◌, ◌∙◌, ℕ, zero, suc, Bool, true, false, List, length, ◌≤◌, subst, arith, refl, sym, ap}
 use Rattle.std.specs.Prelude.{cond, slice_index_or}
 use Rattle.pat_tree.specs.declared.options.Options.{Options}
 use Rattle.pat_tree.specs.Parts.{TreeParts, tree_of}

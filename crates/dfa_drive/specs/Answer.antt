@@ -1,18 +1,5 @@
 -- What the answer of a DFA match says.
-use Rattle.std.specs.Prelude.{
-  ◌≡◌,
-  ◌≤◌,
-  ℕ,
-  Bool,
-  true,
-  false,
-  ◌⊎◌,
-  List,
-  length,
-  Option,
-  Some,
-  None,
-}
+use Rattle.std.specs.Prelude.{◌≡◌, ◌≤◌, ℕ, Bool, true, false, ◌⊎◌, List, length, Option, Some, None}
 use Rattle.pat_tree.specs.declared.options.Options.{Options}
 use Rattle.match_items.specs.Subjects.{IsTextPlace}
 use Rattle.ordered_search.specs.Setting.{Setting}

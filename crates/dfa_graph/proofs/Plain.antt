@@ -10,25 +10,9 @@ use Rattle.pat_tree.specs.declared.nodes.Node.TheVariants as part
 use Rattle.pat_tree.specs.declared.nodes.Cond.{Cond}
 use Rattle.pat_tree.specs.declared.nodes.Cond.TheVariants as cond
 use Rattle.pat_tree.specs.declared.nodes.Verb.{Verb}
-use Rattle.pat_tree.specs.declared.nodes.Verb.TheVariants.{
-  Accept,
-  Fail,
-  Commit,
-  Prune,
-  Skip,
-  Then,
-  Mark,
-}
+use Rattle.pat_tree.specs.declared.nodes.Verb.TheVariants.{Accept, Fail, Commit, Prune, Skip, Then, Mark}
 use Rattle.pat_tree.specs.Nested as tree
-use Rattle.pat_tree.specs.Nested.{
-  Nested,
-  row,
-  tree_at,
-  nest,
-  trees,
-  cond_of,
-  other_of,
-}
+use Rattle.pat_tree.specs.Nested.{Nested, row, tree_at, nest, trees, cond_of, other_of}
 use Rattle.dfa_paths.specs.declared.graph.Node.{Node}
 use Rattle.dfa_paths.specs.declared.graph.Node.TheVariants.{Split, Dead, Match}
 use Rattle.dfa_graph.specs.declared.build.Work.{Work}
@@ -40,28 +24,7 @@ use Rattle.dfa_graph.specs.declared.build.Step.TheVariants as step
 use Rattle.dfa_paths.specs.Graph.{nests, IsFlat}
 use Rattle.dfa_paths.specs.Plain.{is_never, is_plain, all_plain, test_plain, other_plain}
 use Rattle.dfa_paths.specs.Fragment.{most_nested}
-use Rattle.dfa_graph.specs.Building.{
-  part_of,
-  IsRange,
-  IsTurnRange,
-  ids_of,
-  part_step,
-  second_step,
-  cond_step,
-  verb_step,
-  all_step,
-  any_step,
-  turn_step,
-  turns_step,
-  node_of,
-  step_of,
-  task_in,
-  states_after,
-  tasks_after,
-  tree_of,
-  row_from,
-  IsPart,
-}
+use Rattle.dfa_graph.specs.Building.{part_of, IsRange, IsTurnRange, ids_of, part_step, second_step, cond_step, verb_step, all_step, any_step, turn_step, turns_step, node_of, step_of, task_in, states_after, tasks_after, tree_of, row_from, IsPart}
 use Rattle.dfa_paths.proofs.Coming.{node_same}
 use Rattle.dfa_graph.proofs.Tasks.{AllTasks, all_append, all_front, all_back}
 use Rattle.dfa_graph.proofs.Costs.{rest_of, first_of}

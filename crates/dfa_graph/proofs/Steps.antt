@@ -1,35 +1,5 @@
 -- What the steps of a building mean.
-use Rattle.std.proofs.Common.{
-  ◌≡◌,
-  ◌∙◌,
-  ℕ,
-  zero,
-  suc,
-  ◌+◌,
-  ◌-◌,
-  ◌<◌,
-  ◌≤◌,
-  Bool,
-  true,
-  false,
-  List,
-  [],
-  ◌∷◌,
-  map,
-  drop,
-  length,
-  Option,
-  Some,
-  None,
-  refl,
-  sym,
-  ap,
-  subst,
-  inl,
-  inr,
-  arith,
-  eqb-true,
-}
+use Rattle.std.proofs.Common.{◌≡◌, ◌∙◌, ℕ, zero, suc, ◌+◌, ◌-◌, ◌<◌, ◌≤◌, Bool, true, false, List, [], ◌∷◌, map, drop, length, Option, Some, None, refl, sym, ap, subst, inl, inr, arith, eqb-true}
 use Rattle.std.specs.Prelude as list
 use Rattle.std.specs.Prelude.{◌==◌, slice_get, slice_index_or, option_map}
 use Rattle.std.proofs.lemmas.Bool.{false≢true}
@@ -39,28 +9,10 @@ use Rattle.pat_tree.specs.declared.nodes.Node.TheVariants as part
 use Rattle.pat_tree.specs.declared.nodes.Cond.{Cond}
 use Rattle.pat_tree.specs.declared.nodes.Cond.TheVariants as cond
 use Rattle.pat_tree.specs.declared.nodes.Verb.{Verb}
-use Rattle.pat_tree.specs.declared.nodes.Verb.TheVariants.{
-  Accept,
-  Fail,
-  Commit,
-  Prune,
-  Skip,
-  Then,
-  Mark,
-}
+use Rattle.pat_tree.specs.declared.nodes.Verb.TheVariants.{Accept, Fail, Commit, Prune, Skip, Then, Mark}
 use Rattle.pat_tree.specs.Rules.{kids_of, is_test}
 use Rattle.pat_tree.specs.Nested as tree
-use Rattle.pat_tree.specs.Nested.{
-  Nested,
-  Row,
-  row,
-  tree_at,
-  nest,
-  trees,
-  cond_of,
-  other_of,
-  test_of,
-}
+use Rattle.pat_tree.specs.Nested.{Nested, Row, row, tree_at, nest, trees, cond_of, other_of, test_of}
 use Rattle.dfa_paths.specs.declared.graph.Node.{Node}
 use Rattle.dfa_paths.specs.declared.graph.Node.TheVariants.{Split, Goto, Look, Atomic, Dead}
 use Rattle.dfa_graph.specs.declared.build.Work.{Work}
@@ -71,48 +23,8 @@ use Rattle.dfa_graph.specs.declared.build.Step.TheVariants as step
 use Rattle.pat_lengths.specs.Backs.{behind_branches}
 use Rattle.dfa_paths.specs.Graph.{IsNodeIn}
 use Rattle.dfa_paths.specs.Fragment as fragment
-use Rattle.dfa_paths.specs.Fragment.{
-  Part,
-  IsNode,
-  Copies,
-  Options,
-  VerbPlaced,
-  Placed,
-  AllPlaced,
-  AnyPlaced,
-  BehindPlaced,
-  HasBack,
-  TestPlaced,
-  OtherPlaced,
-}
-use Rattle.dfa_graph.specs.Building.{
-  part_of,
-  IsRange,
-  IsTurnRange,
-  ids_of,
-  one_less,
-  part_step,
-  second_step,
-  cond_step,
-  ask_step,
-  ask_second,
-  look_node,
-  verb_step,
-  all_step,
-  any_step,
-  turn_step,
-  turns_step,
-  behind_step,
-  so_at,
-  else_at,
-  node_of,
-  step_of,
-  TurnPlaced,
-  tree_of,
-  row_from,
-  WorkPlaced,
-  IsPart,
-}
+use Rattle.dfa_paths.specs.Fragment.{Part, IsNode, Copies, Options, VerbPlaced, Placed, AllPlaced, AnyPlaced, BehindPlaced, HasBack, TestPlaced, OtherPlaced}
+use Rattle.dfa_graph.specs.Building.{part_of, IsRange, IsTurnRange, ids_of, one_less, part_step, second_step, cond_step, ask_step, ask_second, look_node, verb_step, all_step, any_step, turn_step, turns_step, behind_step, so_at, else_at, node_of, step_of, TurnPlaced, tree_of, row_from, WorkPlaced, IsPart}
 use Rattle.dfa_paths.proofs.Behind.{IsMeasured, IsReady, AreTold, is_behind, known_branch, all_here}
 
 -- Lists.

@@ -12,47 +12,15 @@ use Rattle.pat_tree.specs.Nested.{Nested, Row, row, tree_at, nest, trees, test_o
 use Rattle.pat_tree.specs.declared.nodes.Cond.{Cond}
 use Rattle.pat_tree.specs.declared.nodes.Cond.TheVariants as cond
 use Rattle.dfa_paths.specs.declared.graph.Node.{Node}
-use Rattle.dfa_paths.specs.declared.graph.Node.TheVariants.{
-  One,
-  Break,
-  Anchor,
-  Split,
-  Goto,
-  Look,
-  Atomic,
-  Dead,
-}
+use Rattle.dfa_paths.specs.declared.graph.Node.TheVariants.{One, Break, Anchor, Split, Goto, Look, Atomic, Dead}
 use Rattle.dfa_graph.specs.declared.build.Work.{Work}
 use Rattle.dfa_graph.specs.declared.build.Work.TheVariants as work
 use Rattle.dfa_graph.specs.declared.build.Work.TheVariants.{All, Any, Turn, Ask, Behind}
 use Rattle.dfa_graph.specs.declared.build.Task.{Task}
 use Rattle.dfa_graph.specs.declared.build.Step.{Step}
-use Rattle.dfa_graph.specs.declared.build.Step.TheVariants.{
-  Refuse,
-  Write,
-  Hand,
-  Chain,
-  Loop,
-  Fork,
-  Skip,
-  Keep,
-  Assert,
-  Choose,
-  Seek,
-  Decide,
-  Reach,
-}
+use Rattle.dfa_graph.specs.declared.build.Step.TheVariants.{Refuse, Write, Hand, Chain, Loop, Fork, Skip, Keep, Assert, Choose, Seek, Decide, Reach}
 use Rattle.dfa_paths.specs.Fragment as fragment
-use Rattle.dfa_paths.specs.Fragment.{
-  Part,
-  IsNode,
-  Placed,
-  AllPlaced,
-  AnyPlaced,
-  BehindPlaced,
-  TestPlaced,
-  OtherPlaced,
-}
+use Rattle.dfa_paths.specs.Fragment.{Part, IsNode, Placed, AllPlaced, AnyPlaced, BehindPlaced, TestPlaced, OtherPlaced}
 
 -- the part of a work
 abbrev pub part_of : Work → ℕ

@@ -1,20 +1,6 @@
 -- Which trees have a graph, and why others have none (pcre2api, "Error returns from
 -- pcre2_dfa_match()").
-use Rattle.std.specs.Prelude.{
-  ◌≡◌,
-  ℕ,
-  zero,
-  suc,
-  Bool,
-  true,
-  false,
-  ◌&&◌,
-  ◌||◌,
-  Option,
-  Some,
-  None,
-  nat_lt,
-}
+use Rattle.std.specs.Prelude.{◌≡◌, ℕ, zero, suc, Bool, true, false, ◌&&◌, ◌||◌, Option, Some, None, nat_lt}
 use Rattle.pat_tree.specs.declared.nodes.Verb.{Verb}
 use Rattle.pat_tree.specs.declared.nodes.Verb.TheVariants.{Fail}
 use Rattle.pat_tree.specs.Nested as tree

@@ -6,45 +6,10 @@ use Rattle.match_items.specs.Scene.{Scene}
 use Rattle.match_items.specs.Items.{holds}
 use Rattle.dfa_ends.specs.Ends.{Among}
 use Rattle.dfa_paths.specs.declared.graph.Node.{Node}
-use Rattle.dfa_paths.specs.declared.graph.Node.TheVariants.{
-  One,
-  Break,
-  Anchor,
-  Split,
-  Goto,
-  Look,
-  Atomic,
-  Dead,
-  Match,
-}
+use Rattle.dfa_paths.specs.declared.graph.Node.TheVariants.{One, Break, Anchor, Split, Goto, Look, Atomic, Dead, Match}
 use Rattle.dfa_lists.specs.declared.lists.Seed.{Seed}
-use Rattle.dfa_paths.specs.Graph.{
-  takes,
-  is_match,
-  moves,
-  Inner,
-  Follows,
-  Leaps,
-  Comes,
-  here,
-  on,
-  AllBelow,
-  IsNodeIn,
-  IsGraph,
-  count_if,
-  takers,
-}
-use Rattle.dfa_lists.specs.Lists.{
-  IsTaking,
-  IsMatching,
-  IsClosed,
-  IsVisited,
-  closure,
-  waiting,
-  Leaping,
-  Waits,
-  kept,
-}
+use Rattle.dfa_paths.specs.Graph.{takes, is_match, moves, Inner, Follows, Leaps, Comes, here, on, AllBelow, IsNodeIn, IsGraph, count_if, takers}
+use Rattle.dfa_lists.specs.Lists.{IsTaking, IsMatching, IsClosed, IsVisited, closure, waiting, Leaping, Waits, kept}
 use Rattle.dfa_lists.proofs.Landing.{waits_first, waits_second, waits_append}
 use Rattle.dfa_paths.proofs.Coming.{node_same}
 use Rattle.dfa_paths.proofs.Places.{among_first, among_second, among_append, among_one, among_last, among_push, or_left, or_right, or_cases}

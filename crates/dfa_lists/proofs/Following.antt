@@ -1,37 +1,5 @@
 -- What follows a state at one place, where a search stands, and how many tests it makes.
-use Rattle.std.proofs.Common.{
-  ◌≡◌,
-  ◌∙◌,
-  ℕ,
-  zero,
-  suc,
-  ◌+◌,
-  ◌-◌,
-  ◌*◌,
-  ◌<◌,
-  ◌≤◌,
-  ◌⊎◌,
-  Bool,
-  true,
-  false,
-  List,
-  [],
-  ◌∷◌,
-  ◌++◌,
-  length,
-  Option,
-  Some,
-  None,
-  refl,
-  sym,
-  ap,
-  subst,
-  inl,
-  inr,
-  arith,
-  ltb-true,
-  ltb-false,
-}
+use Rattle.std.proofs.Common.{◌≡◌, ◌∙◌, ℕ, zero, suc, ◌+◌, ◌-◌, ◌*◌, ◌<◌, ◌≤◌, ◌⊎◌, Bool, true, false, List, [], ◌∷◌, ◌++◌, length, Option, Some, None, refl, sym, ap, subst, inl, inr, arith, ltb-true, ltb-false}
 use Rattle.std.proofs.lemmas.Nat.{mul-le}
 use Rattle.std.specs.Prelude.{◌||◌, not, nat_lt, slice_get, slice_index, IsTrue, IsCharBoundary}
 use Rattle.pat_tree.specs.declared.nodes.Item.TheVariants.{AnyAll}
@@ -40,44 +8,9 @@ use Rattle.match_items.specs.Laws.{Stands, StandsAlong}
 use Rattle.dfa_ends.specs.Ends.{Among}
 use Rattle.dfa_ends.proofs.Steps.{break_steps}
 use Rattle.dfa_paths.specs.declared.graph.Node.{Node}
-use Rattle.dfa_paths.specs.declared.graph.Node.TheVariants.{
-  One,
-  Break,
-  Anchor,
-  Split,
-  Goto,
-  Look,
-  Atomic,
-  Dead,
-  Match,
-}
+use Rattle.dfa_paths.specs.declared.graph.Node.TheVariants.{One, Break, Anchor, Split, Goto, Look, Atomic, Dead, Match}
 use Rattle.dfa_lists.specs.declared.lists.Seed.{Seed}
-use Rattle.dfa_paths.specs.Graph.{
-  takes,
-  is_match,
-  moves,
-  lands,
-  target,
-  Inner,
-  Furthest,
-  Begins,
-  Follows,
-  Leaps,
-  Accepts,
-  matched,
-  moved,
-  landed,
-  ended,
-  missed,
-  went,
-  Deep,
-  SomeAccepts,
-  Comes,
-  here,
-  on,
-  IsNodeIn,
-  count_if,
-}
+use Rattle.dfa_paths.specs.Graph.{takes, is_match, moves, lands, target, Inner, Furthest, Begins, Follows, Leaps, Accepts, matched, moved, landed, ended, missed, went, Deep, SomeAccepts, Comes, here, on, IsNodeIn, count_if}
 use Rattle.dfa_paths.specs.Fragment.{Rising}
 use Rattle.dfa_lists.specs.Lists.{IsClosed, closure, kept, is_stop, stops, stops_from}
 use Rattle.dfa_paths.proofs.Places.{among_push}

@@ -1,35 +1,5 @@
 -- What the lists tell of the subject's end.
-use Rattle.std.proofs.Common.{
-  ◌≡◌,
-  ◌∙◌,
-  ℕ,
-  ◌+◌,
-  ◌<◌,
-  ◌≤◌,
-  ◌⊎◌,
-  Bool,
-  true,
-  false,
-  List,
-  [],
-  ◌∷◌,
-  ◌++◌,
-  length,
-  replicate,
-  Option,
-  Some,
-  None,
-  refl,
-  Result,
-  Ok,
-  Err,
-  sym,
-  ap,
-  subst,
-  inl,
-  inr,
-  arith,
-}
+use Rattle.std.proofs.Common.{◌≡◌, ◌∙◌, ℕ, ◌+◌, ◌<◌, ◌≤◌, ◌⊎◌, Bool, true, false, List, [], ◌∷◌, ◌++◌, length, replicate, Option, Some, None, refl, Result, Ok, Err, sym, ap, subst, inl, inr, arith}
 use Rattle.std.proofs.lemmas.Bool.{false≢true}
 use Rattle.std.specs.Prelude.{◌||◌, IfOk, drop, slice_get, slice_index_or, slice_set}
 use Rattle.char_sets.specs.Table.{CharSet}
@@ -40,68 +10,18 @@ use Rattle.match_items.specs.Views.{bare_text, text_scene}
 use Rattle.match_items.specs.Laws.{Stands, StandsAlong}
 use Rattle.dfa_ends.specs.Ends.{Among}
 use Rattle.dfa_paths.specs.declared.graph.Node.{Node}
-use Rattle.dfa_paths.specs.declared.graph.Node.TheVariants.{
-  One,
-  Break,
-  Anchor,
-  Split,
-  Goto,
-  Look,
-  Atomic,
-  Dead,
-  Match,
-}
+use Rattle.dfa_paths.specs.declared.graph.Node.TheVariants.{One, Break, Anchor, Split, Goto, Look, Atomic, Dead, Match}
 use Rattle.dfa_lists.specs.declared.lists.Seed.{Seed}
 use Rattle.dfa_lists.specs.declared.lists.Branch.{Branch}
 use Rattle.dfa_paths.specs.Graph.{nests, lands, Inner, Furthest, IsEndBehind, Follows, Leaps, Comes, here, on, IsGraph, IsFlat}
-use Rattle.dfa_paths.specs.Meets.{
-  tells,
-  Meeting,
-  MeetsBehind,
-  Probes,
-  probed,
-  further,
-  Asks,
-  Inside,
-  Telling,
-  Meets,
-  met,
-  followed,
-  leapt,
-  took,
-  SomeTells,
-  IsTold,
-}
+use Rattle.dfa_paths.specs.Meets.{tells, Meeting, MeetsBehind, Probes, probed, further, Asks, Inside, Telling, Meets, met, followed, leapt, took, SomeTells, IsTold}
 use Rattle.dfa_lists.specs.Lists as lists
-use Rattle.dfa_lists.specs.Lists.{
-  IsClosed,
-  IsTakenAt,
-  closure,
-  progress,
-  branch_in,
-  waiting_at,
-  elsewhere,
-  Waits,
-}
+use Rattle.dfa_lists.specs.Lists.{IsClosed, IsTakenAt, closure, progress, branch_in, waiting_at, elsewhere, Waits}
 use Rattle.dfa_paths.proofs.Coming.{node_same}
 use Rattle.dfa_paths.proofs.Probes.{at_branch, no_branch}
 use Rattle.dfa_paths.proofs.Places.{among_last}
-use Rattle.dfa_lists.proofs.Landing.{
-  SomeHolds,
-  Leads,
-  holds_later,
-  holds_still,
-  Landing,
-  parted,
-  waits_here,
-}
-use Rattle.dfa_lists.proofs.Closing.{
-  Marked,
-  Going,
-  marked_old,
-  all_false,
-  comes_marked,
-}
+use Rattle.dfa_lists.proofs.Landing.{SomeHolds, Leads, holds_later, holds_still, Landing, parted, waits_here}
+use Rattle.dfa_lists.proofs.Closing.{Marked, Going, marked_old, all_false, comes_marked}
 use Rattle.dfa_lists.proofs.Running.{Running, causes_of, goes_on}
 use Rattle.dfa_lists.proofs.Following.{EndsStand, lands_takes, at_or_past}
 use Rattle.dfa_lists.proofs.Visits.{places_same, begins_by}

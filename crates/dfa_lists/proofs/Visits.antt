@@ -1,35 +1,5 @@
 -- What a visit of a state gives.
-use Rattle.std.proofs.Common.{
-  ◌≡◌,
-  ◌∙◌,
-  ℕ,
-  zero,
-  suc,
-  ◌<◌,
-  ◌≤◌,
-  Bool,
-  true,
-  false,
-  List,
-  [],
-  ◌∷◌,
-  ◌++◌,
-  length,
-  Option,
-  Some,
-  None,
-  refl,
-  Result,
-  Ok,
-  Err,
-  sym,
-  ap,
-  subst,
-  inl,
-  inr,
-  arith,
-  eqb-true,
-}
+use Rattle.std.proofs.Common.{◌≡◌, ◌∙◌, ℕ, zero, suc, ◌<◌, ◌≤◌, Bool, true, false, List, [], ◌∷◌, ◌++◌, length, Option, Some, None, refl, Result, Ok, Err, sym, ap, subst, inl, inr, arith, eqb-true}
 use Rattle.std.specs.Prelude.{◌==◌, drop, slice_get, IfOk}
 use Rattle.char_sets.specs.Table.{CharSet}
 use Rattle.match_items.specs.declared.view.View.{View}
@@ -39,28 +9,9 @@ use Rattle.match_items.specs.Views.{bare_text, text_scene}
 use Rattle.match_items.specs.Laws.{Stands}
 use Rattle.dfa_ends.specs.Ends.{Among}
 use Rattle.dfa_paths.specs.declared.graph.Node.{Node}
-use Rattle.dfa_paths.specs.declared.graph.Node.TheVariants.{
-  One,
-  Break,
-  Anchor,
-  Split,
-  Goto,
-  Look,
-  Atomic,
-  Dead,
-  Match,
-}
+use Rattle.dfa_paths.specs.declared.graph.Node.TheVariants.{One, Break, Anchor, Split, Goto, Look, Atomic, Dead, Match}
 use Rattle.dfa_lists.specs.declared.lists.Seed.{Seed}
-use Rattle.dfa_paths.specs.Graph.{
-  moves,
-  nests,
-  Inner,
-  Furthest,
-  IsFurthest,
-  IsEndBehind,
-  Follows,
-  Leaps,
-}
+use Rattle.dfa_paths.specs.Graph.{moves, nests, Inner, Furthest, IsFurthest, IsEndBehind, Follows, Leaps}
 use Rattle.dfa_lists.specs.Lists.{IsVisited, waiting, way_of, gone_here, gone_later, Waits}
 use Rattle.dfa_paths.proofs.Places.{among_one}
 use Rattle.dfa_lists.proofs.Closing.{two_moves}

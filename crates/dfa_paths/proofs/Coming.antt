@@ -1,29 +1,5 @@
 -- What a path that begins in a fragment comes to.
-use Rattle.std.proofs.Common.{
-  ◌≡◌,
-  ◌∙◌,
-  ℕ,
-  zero,
-  suc,
-  ◌+◌,
-  ◌-◌,
-  ◌<◌,
-  ◌≤◌,
-  ◌⊎◌,
-  true,
-  false,
-  List,
-  Option,
-  Some,
-  None,
-  refl,
-  sym,
-  ap,
-  subst,
-  inl,
-  inr,
-  arith,
-}
+use Rattle.std.proofs.Common.{◌≡◌, ◌∙◌, ℕ, zero, suc, ◌+◌, ◌-◌, ◌<◌, ◌≤◌, ◌⊎◌, true, false, List, Option, Some, None, refl, sym, ap, subst, inl, inr, arith}
 use Rattle.std.proofs.lemmas.Bool.{false≢true}
 use Rattle.std.specs.Prelude.{◌==◌, slice_get}
 use Rattle.pat_tree.specs.declared.nodes.Item.{Item}
@@ -33,69 +9,11 @@ use Rattle.pat_tree.specs.Nested.{Nested, Row, Test}
 use Rattle.match_items.specs.Scene.{Scene}
 use Rattle.match_items.specs.Items.{after_item, after_break, holds}
 use Rattle.ordered_search.specs.Setting.{Setting, branch_lengths}
-use Rattle.dfa_ends.specs.Ends.{
-  spot,
-  Spot,
-  Way,
-  Among,
-  HasOne,
-  HasNone,
-  Times,
-  Within,
-  Counted,
-  begun,
-  TryEnds,
-  AnyEndsBehind,
-  seen,
-  ItemEnds,
-  BreakEnds,
-  AnchorEnds,
-  Ends,
-  AnyEnds,
-  IsSo,
-  IsNot,
-}
+use Rattle.dfa_ends.specs.Ends.{spot, Spot, Way, Among, HasOne, HasNone, Times, Within, Counted, begun, TryEnds, AnyEndsBehind, seen, ItemEnds, BreakEnds, AnchorEnds, Ends, AnyEnds, IsSo, IsNot}
 use Rattle.dfa_paths.specs.declared.graph.Node.{Node}
-use Rattle.dfa_paths.specs.declared.graph.Node.TheVariants.{
-  One,
-  Break,
-  Anchor,
-  Split,
-  Goto,
-  Look,
-  Atomic,
-  Dead,
-  Match,
-}
-use Rattle.dfa_paths.specs.Graph.{
-  nests,
-  moves,
-  lands,
-  target,
-  Inner,
-  Begins,
-  Accepts,
-  matched,
-  moved,
-  landed,
-  ended,
-  missed,
-  went,
-}
-use Rattle.dfa_paths.specs.Fragment.{
-  Part,
-  IsAt,
-  IsNode,
-  Copies,
-  Options,
-  Loop,
-  Turns,
-  Placed,
-  AnyPlaced,
-  TestPlaced,
-  HasBack,
-  BehindPlaced,
-}
+use Rattle.dfa_paths.specs.declared.graph.Node.TheVariants.{One, Break, Anchor, Split, Goto, Look, Atomic, Dead, Match}
+use Rattle.dfa_paths.specs.Graph.{nests, moves, lands, target, Inner, Begins, Accepts, matched, moved, landed, ended, missed, went}
+use Rattle.dfa_paths.specs.Fragment.{Part, IsAt, IsNode, Copies, Options, Loop, Turns, Placed, AnyPlaced, TestPlaced, HasBack, BehindPlaced}
 use Rattle.dfa_paths.proofs.Places.{among_one}
 use Rattle.dfa_paths.proofs.Short as short
 use Rattle.dfa_paths.proofs.Short.{none_some, anchor_if, land_comes}

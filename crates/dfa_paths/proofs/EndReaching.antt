@@ -3,15 +3,7 @@ use Rattle.std.proofs.Common.{◌≡◌, ◌∙◌, ℕ, zero, suc, ◌⊎◌, B
 use Rattle.std.proofs.lemmas.Bool.{false≢true}
 use Rattle.std.specs.Prelude.{◌||◌, slice_get}
 use Rattle.std.specs.List.{list_any}
-use Rattle.pat_tree.specs.declared.nodes.Verb.TheVariants.{
-  Accept,
-  Fail,
-  Commit,
-  Prune,
-  Skip,
-  Then,
-  Mark,
-}
+use Rattle.pat_tree.specs.declared.nodes.Verb.TheVariants.{Accept, Fail, Commit, Prune, Skip, Then, Mark}
 use Rattle.pat_tree.specs.Nested as tree
 use Rattle.pat_tree.specs.Nested.{Nested, Row, Test, Other}
 use Rattle.pat_lengths.specs.Nodes.{nodes as parts_of, is_lookbehind, all_nodes, nodes_in, nodes_of_test, nodes_of_other}
@@ -30,13 +22,7 @@ use Rattle.dfa_paths.proofs.Coming.{IsInner, try_so, try_is}
 use Rattle.dfa_paths.proofs.Fragments.{fragment_law}
 use Rattle.dfa_paths.proofs.Going.{at_end, decide}
 use Rattle.dfa_paths.proofs.Meeting as meeting
-use Rattle.dfa_paths.proofs.Meeting.{
-  Short,
-  Keeps,
-  Asked,
-  ChosenReach,
-  Chosen,
-}
+use Rattle.dfa_paths.proofs.Meeting.{Short, Keeps, Asked, ChosenReach, Chosen}
 use Rattle.dfa_paths.proofs.Passing as passing
 
 true_of : (b : Bool) → (b ≡ false → ⊥) → b ≡ true

@@ -8,28 +8,12 @@ use Rattle.match_items.specs.Items.{after_item, after_break, holds}
 use Rattle.ordered_search.specs.Setting.{Setting}
 use Rattle.dfa_ends.specs.Ends.{Spot, spot, Spots, Way, Among, HasOne, HasNone, Times, Within, Below, seen, ItemEnds, BreakEnds, AnchorEnds, ItemReaches, BreakReaches, AnchorReaches}
 use Rattle.dfa_paths.specs.declared.graph.Node.{Node}
-use Rattle.dfa_paths.specs.declared.graph.Node.TheVariants.{
-  One,
-  Break,
-  Anchor,
-  Split,
-  Goto,
-  Look,
-  Atomic,
-  Dead,
-  Match,
-}
+use Rattle.dfa_paths.specs.declared.graph.Node.TheVariants.{One, Break, Anchor, Split, Goto, Look, Atomic, Dead, Match}
 use Rattle.dfa_paths.specs.Graph.{Inner, Furthest, Begins, Follows, Leaps, lands, target}
 use Rattle.dfa_paths.specs.Meets.{Meeting, Asks, Telling, Meets, met, followed, leapt, took}
 use Rattle.dfa_paths.specs.Fragment.{Part, IsAt, IsNode, Copies, Options, Loop, Turns}
 use Rattle.dfa_paths.proofs.Places.{among_one}
-use Rattle.dfa_paths.proofs.Counting.{
-  Good,
-  IsBefore,
-  item_counts,
-  break_counts,
-  anchor_counts,
-}
+use Rattle.dfa_paths.proofs.Counting.{Good, IsBefore, item_counts, break_counts, anchor_counts}
 use Rattle.dfa_paths.proofs.Short as short
 use Rattle.dfa_paths.proofs.Short.{none_some, anchor_if, land_comes}
 use Rattle.dfa_paths.proofs.Coming.{IsInner, node_same, here_begins, begins_here}

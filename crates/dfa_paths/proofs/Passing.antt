@@ -3,44 +3,15 @@ use Rattle.std.proofs.Common.{◌≡◌, ℕ, zero, suc, ◌-◌, ◌<◌, ◌�
 use Rattle.std.proofs.lemmas.Bool.{cases_lt}
 use Rattle.pat_tree.specs.declared.nodes.Item.{Item}
 use Rattle.pat_tree.specs.declared.nodes.AnchorKind.{AnchorKind}
-use Rattle.match_items.specs.Items.{
-  after_item,
-  item_reaches,
-  after_break,
-  break_reaches,
-  holds,
-}
+use Rattle.match_items.specs.Items.{after_item, item_reaches, after_break, break_reaches, holds}
 use Rattle.ordered_search.specs.Setting.{Setting}
 use Rattle.dfa_ends.specs.Ends.{Spot, spot, Spots, Way, Among, HasOne, HasNone, GoesTo, Times, Within, Below, ItemEnds, BreakEnds, AnchorEnds, ItemReaches, BreakReaches, AnchorReaches}
 use Rattle.dfa_paths.specs.declared.graph.Node.{Node}
-use Rattle.dfa_paths.specs.declared.graph.Node.TheVariants.{
-  One,
-  Break,
-  Anchor,
-  Split,
-  Goto,
-  Look,
-  Atomic,
-}
+use Rattle.dfa_paths.specs.declared.graph.Node.TheVariants.{One, Break, Anchor, Split, Goto, Look, Atomic}
 use Rattle.dfa_paths.specs.Graph.{Inner, Follows}
 use Rattle.dfa_paths.specs.Meets.{Meeting, met, followed, leapt, took}
-use Rattle.dfa_paths.specs.Fragment.{
-  Part,
-  IsAt,
-  IsNode,
-  Copies,
-  Options,
-  Loop,
-  Turns,
-}
-use Rattle.dfa_paths.proofs.Counting.{
-  Good,
-  Lowered,
-  same_lowered,
-  anchor_lowered,
-  test_tells,
-  anchor_tells,
-}
+use Rattle.dfa_paths.specs.Fragment.{Part, IsAt, IsNode, Copies, Options, Loop, Turns}
+use Rattle.dfa_paths.proofs.Counting.{Good, Lowered, same_lowered, anchor_lowered, test_tells, anchor_tells}
 use Rattle.dfa_paths.proofs.Coming.{IsInner, here_begins, begins_here}
 use Rattle.dfa_paths.proofs.Meeting.{From, Keeps, TurnReaches, FurthestEnd, ChosenReach}
 use Rattle.dfa_paths.proofs.Turns.{split}

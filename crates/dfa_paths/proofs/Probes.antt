@@ -1,19 +1,5 @@
 -- The branches of a lookbehind that are tried after one that has an end.
-use Rattle.std.proofs.Common.{
-  ◌≡◌,
-  ◌∙◌,
-  ℕ,
-  ◌<◌,
-  ◌⊎◌,
-  Bool,
-  List,
-  Option,
-  Some,
-  sym,
-  subst,
-  inl,
-  inr,
-}
+use Rattle.std.proofs.Common.{◌≡◌, ◌∙◌, ℕ, ◌<◌, ◌⊎◌, Bool, List, Option, Some, sym, subst, inl, inr}
 use Rattle.std.specs.Prelude.{slice_get}
 use Rattle.match_items.specs.Scene.{Scene}
 use Rattle.dfa_paths.specs.declared.graph.Node.{Node}

@@ -1,26 +1,5 @@
 -- A graph holds a fragment for a tree: from a state on to the state that follows.
-use Rattle.std.specs.Prelude.{
-  length,
-  ◌≡◌,
-  ℕ,
-  zero,
-  suc,
-  ◌-◌,
-  ◌≤◌,
-  ◌<◌,
-  ◌⊎◌,
-  ◌||◌,
-  Bool,
-  true,
-  false,
-  List,
-  [],
-  ◌∷◌,
-  Option,
-  Some,
-  None,
-  slice_get,
-}
+use Rattle.std.specs.Prelude.{length, ◌≡◌, ℕ, zero, suc, ◌-◌, ◌≤◌, ◌<◌, ◌⊎◌, ◌||◌, Bool, true, false, List, [], ◌∷◌, Option, Some, None, slice_get}
 use Rattle.pat_tree.specs.declared.nodes.Verb.{Verb}
 use Rattle.pat_tree.specs.declared.nodes.Verb.TheVariants.{Fail}
 use Rattle.pat_tree.specs.Nested as tree
@@ -31,17 +10,7 @@ use Rattle.pat_lengths.specs.Lengths.{only, branch_lengths, can_be_empty}
 use Rattle.ordered_search.specs.Setting.{Setting}
 use Rattle.dfa_ends.specs.Ends.{Spot, spot, Among, Ends, Reaches}
 use Rattle.dfa_paths.specs.declared.graph.Node.{Node}
-use Rattle.dfa_paths.specs.declared.graph.Node.TheVariants.{
-  One,
-  Break,
-  Anchor,
-  Split,
-  Goto,
-  Look,
-  Atomic,
-  Dead,
-  Match,
-}
+use Rattle.dfa_paths.specs.declared.graph.Node.TheVariants.{One, Break, Anchor, Split, Goto, Look, Atomic, Dead, Match}
 use Rattle.match_items.specs.Scene.{Scene}
 use Rattle.dfa_ends.specs.TwoMatchers.{EndPlace}
 use Rattle.dfa_paths.specs.Graph.{Accepts, Deep, IsGraph, IsFlat, takers}

@@ -1,29 +1,5 @@
 -- The places in the run that a pattern begins with fail with the first of them.
-use Rattle.std.proofs.Common.{
-  ◌≡◌,
-  ℕ,
-  ℤ,
-  suc,
-  ◌+◌,
-  ◌<◌,
-  ◌≤◌,
-  Bool,
-  true,
-  false,
-  List,
-  [],
-  ◌∷◌,
-  length,
-  map,
-  Option,
-  Some,
-  None,
-  refl,
-  subst,
-  ap,
-  ◌∙◌,
-  arith,
-}
+use Rattle.std.proofs.Common.{◌≡◌, ℕ, ℤ, suc, ◌+◌, ◌<◌, ◌≤◌, Bool, true, false, List, [], ◌∷◌, length, map, Option, Some, None, refl, subst, ap, ◌∙◌, arith}
 use Rattle.std.specs.Prelude.{All, ◌||◌}
 use Rattle.ordered_search.specs.Stream.{Block}
 use Rattle.pat_tree.specs.Parts.{TreeParts}
@@ -43,19 +19,7 @@ use Rattle.pat_tree.specs.declared.nodes.Cond.{Cond}
 use Rattle.pat_tree.specs.declared.nodes.Cond.TheVariants.{AnySet, InCall, InCallOf, Never, Assert}
 use Rattle.pat_tree.specs.declared.nodes.Node.{Node}
 use Rattle.pat_tree.specs.declared.nodes.Node.TheVariants as node
-use Rattle.pat_tree.specs.Nested.{
-  Nested,
-  row,
-  seq,
-  look,
-  callout,
-  none,
-  more,
-  test_of,
-  tree_at,
-  other_of,
-  nest,
-}
+use Rattle.pat_tree.specs.Nested.{Nested, row, seq, look, callout, none, more, test_of, tree_at, other_of, nest}
 use Rattle.pat_tree.specs.Rules.{kids_of, number_in}
 use Rattle.ordered_search.specs.Plain.{IsPlain, ArePlain, IsPlainTest, IsPlainOther}
 use Rattle.ordered_search.specs.LaterPlaces.{BeginsWithRun, run_end}

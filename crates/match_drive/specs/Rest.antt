@@ -7,15 +7,7 @@ use Rattle.match_items.specs.Subjects.{IsTextPlace}
 use Rattle.frame_state.specs.Shown.{seen_after}
 use Rattle.ordered_search.specs.Stream.{Block}
 use Rattle.ordered_search.specs.Setting.{Setting, lead_set}
-use Rattle.ordered_search.specs.PlaceAnswer.{
-  Signal,
-  Exhausted,
-  Failed,
-  answers,
-  place_answer,
-  last_name,
-  blocks,
-}
+use Rattle.ordered_search.specs.PlaceAnswer.{Signal, Exhausted, Failed, answers, place_answer, last_name, blocks}
 use Rattle.start_tests.specs.Asked.{replied}
 use Rattle.start_tests.specs.Repeats.{AllFail}
 use Rattle.ordered_search.specs.Places.{up_to, passes_crlf, last_place, place_after, is_excluded}

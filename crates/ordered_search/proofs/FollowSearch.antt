@@ -12,40 +12,8 @@ use Rattle.match_items.specs.Items.{one_less, is_none_left, places_back, after_i
 use Rattle.pat_lengths.specs.Lengths.{SomeLengths}
 use Rattle.ordered_search.specs.Stream.{State, by_halt, too_many_units, cut, How, reached, Stream, Search, ends, nothing, gives, and_then, catch, no_ending, is_next_branch, fails_alone, fails_inside, captured}
 use Rattle.ordered_search.specs.Setting.{Setting, branch_lengths, held, hold, reach, reach_if}
-use Rattle.ordered_search.specs.Tests.{
-  move_to,
-  goes_to,
-  run_one,
-  run_break,
-  run_anchor,
-  offers,
-  greedy,
-  offer_and,
-  reluctant,
-  lazy_run,
-  run_many,
-}
-use Rattle.ordered_search.specs.Parts.{
-  Searches,
-  in_order,
-  choices,
-  branches,
-  run_group,
-  begun_at,
-  ends_at,
-  one_try,
-  tries,
-  tries_within,
-  run_behind,
-  run_atomic,
-  run_look,
-  asserts,
-  is_over,
-  turn,
-  run_repeat,
-  back_to,
-  forget_passed,
-}
+use Rattle.ordered_search.specs.Tests.{move_to, goes_to, run_one, run_break, run_anchor, offers, greedy, offer_and, reluctant, lazy_run, run_many}
+use Rattle.ordered_search.specs.Parts.{Searches, in_order, choices, branches, run_group, begun_at, ends_at, one_try, tries, tries_within, run_behind, run_atomic, run_look, asserts, is_over, turn, run_repeat, back_to, forget_passed}
 use Rattle.ordered_search.specs.Run.{level, levels, levels_behind, level_test, level_other, run}
 use Rattle.ordered_search.specs.Plain.{IsPlain, ArePlain, IsPlainTest, IsPlainOther}
 use Rattle.ordered_search.proofs.FollowStreams.{IsNear, Follows, at_limit, at_end, at_step, Keeps, follows_nothing, follows_gives, follows_if, follows_or_else, follows_each, follows_and_then, follows_decide, follows_catch}

@@ -1,155 +1,21 @@
 -- Without its pauses a path is the search of the definitions before what follows.
-use Rattle.std.proofs.Common.{
-  ◌≡◌,
-  ℕ,
-  zero,
-  suc,
-  ◌+◌,
-  ◌∙◌,
-  Bool,
-  true,
-  false,
-  ◌∷◌,
-  Option,
-  Some,
-  None,
-  refl,
-  sym,
-  ap,
-}
+use Rattle.std.proofs.Common.{◌≡◌, ℕ, zero, suc, ◌+◌, ◌∙◌, Bool, true, false, ◌∷◌, Option, Some, None, refl, sym, ap}
 use Rattle.pat_tree.specs.declared.nodes.Verb.{Verb}
-use Rattle.pat_tree.specs.declared.nodes.Verb.TheVariants.{
-  Accept,
-  Fail,
-  Commit,
-  Prune,
-  Skip,
-  Then,
-  Mark,
-}
+use Rattle.pat_tree.specs.declared.nodes.Verb.TheVariants.{Accept, Fail, Commit, Prune, Skip, Then, Mark}
 use Rattle.pat_tree.specs.Nested as tree
 use Rattle.pat_tree.specs.Nested.{Nested, Row, Test, Other}
 use Rattle.pat_tree.specs.Groups.{group_of}
 use Rattle.match_items.specs.Items.{after_item, item_reaches, after_break, break_reaches}
-use Rattle.ordered_search.specs.Stream.{
-  State,
-  first_state,
-  next_branch,
-  prune,
-  skip,
-  commit,
-  loop,
-  Ending,
-  exhausted,
-  by_verb,
-  by_halt,
-  name,
-  How,
-  reached,
-  accepted,
-  note,
-  state,
-  step,
-  Stream,
-  Search,
-  ends,
-  ◌▸◌,
-  nothing,
-  gives,
-  each,
-  catch,
-  is_verb,
-  changes,
-  shown,
-}
+use Rattle.ordered_search.specs.Stream.{State, first_state, next_branch, prune, skip, commit, loop, Ending, exhausted, by_verb, by_halt, name, How, reached, accepted, note, state, step, Stream, Search, ends, ◌▸◌, nothing, gives, each, catch, is_verb, changes, shown}
 use Rattle.ordered_search.specs.Setting.{Setting, held, hold, match_limit, branch_lengths}
 use Rattle.ordered_search.specs.Tests.{run_one, run_break}
-use Rattle.ordered_search.specs.Parts.{
-  Searches,
-  branches,
-  run_group,
-  some_set,
-  is_called,
-  is_called_of,
-  block_of,
-  run_callout,
-  run_tree,
-  is_active,
-  returns,
-  run_call,
-  named,
-  skip_to,
-  backs,
-  run_verb,
-}
+use Rattle.ordered_search.specs.Parts.{Searches, branches, run_group, some_set, is_called, is_called_of, block_of, run_callout, run_tree, is_active, returns, run_call, named, skip_to, backs, run_verb}
 use Rattle.ordered_search.specs.Run.{level, levels, run, levels_behind, level_test, level_other}
 use Rattle.ordered_search.specs.PlaceAnswer.{with_note, answers, decision, walk, place_answer}
-use Rattle.ordered_search.specs.Moves.{
-  Moves,
-  stops,
-  pause,
-  stepped,
-  noted,
-  found,
-  exhaust,
-  Follow,
-  Handler,
-  Path,
-  before,
-  at_end,
-  at_verbs,
-  holding,
-  tread,
-}
-use Rattle.ordered_search.specs.Paths.{
-  Paths,
-  branch_paths,
-  path,
-  row_paths,
-  paths,
-  only_many,
-  behind_paths,
-  test_path,
-  other_path,
-  pauses,
-  returned,
-  called_path,
-  call_path,
-  ended,
-  named_path,
-  backs_path,
-  verb_path,
-}
-use Rattle.search_paths.proofs.Streams.{
-  strip,
-  before_each,
-  before_catch_verb,
-  IsStripped,
-  AreStripped,
-  IsSearch,
-  strip_going,
-  ArePaths,
-  strip_parts,
-  strip_holding,
-  strip_hold,
-  strip_reaching,
-  strip_if,
-  strip_ref,
-  strip_anchor,
-  strip_many,
-}
-use Rattle.search_paths.proofs.Groups.{
-  strip_branches,
-  strip_capture,
-  strip_repeat,
-  strip_behind,
-  strip_over,
-  only_search,
-  strip_look,
-  strip_assert,
-  strip_chosen,
-  strip_answered,
-}
+use Rattle.ordered_search.specs.Moves.{Moves, stops, pause, stepped, noted, found, exhaust, Follow, Handler, Path, before, at_end, at_verbs, holding, tread}
+use Rattle.ordered_search.specs.Paths.{Paths, branch_paths, path, row_paths, paths, only_many, behind_paths, test_path, other_path, pauses, returned, called_path, call_path, ended, named_path, backs_path, verb_path}
+use Rattle.search_paths.proofs.Streams.{strip, before_each, before_catch_verb, IsStripped, AreStripped, IsSearch, strip_going, ArePaths, strip_parts, strip_holding, strip_hold, strip_reaching, strip_if, strip_ref, strip_anchor, strip_many}
+use Rattle.search_paths.proofs.Groups.{strip_branches, strip_capture, strip_repeat, strip_behind, strip_over, only_search, strip_look, strip_assert, strip_chosen, strip_answered}
 
 module _ (g : Setting) where
   -- Calls.

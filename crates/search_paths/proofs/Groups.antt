@@ -1,134 +1,20 @@
 -- Without its pauses a path of a group, a repeat, a lookaround or a condition is the search of the
 -- definitions before what follows.
-use Rattle.std.proofs.Common.{
-  ◌≡◌,
-  ℕ,
-  zero,
-  suc,
-  ◌-◌,
-  ◌∙◌,
-  Bool,
-  true,
-  false,
-  List,
-  [],
-  ◌∷◌,
-  drop,
-  reverse,
-  Option,
-  Some,
-  None,
-  refl,
-  sym,
-  ap,
-}
+use Rattle.std.proofs.Common.{◌≡◌, ℕ, zero, suc, ◌-◌, ◌∙◌, Bool, true, false, List, [], ◌∷◌, drop, reverse, Option, Some, None, refl, sym, ap}
 use Rattle.std.specs.Prelude.{ℤ, pos, negsuc, ◌==◌}
 use Rattle.pat_tree.specs.Nested as tree
 use Rattle.pat_tree.specs.Nested.{Nested, Row}
 use Rattle.match_items.specs.Items.{one_less, longest_run, places_back}
 use Rattle.pat_lengths.specs.Lengths.{SomeLengths}
-use Rattle.ordered_search.specs.Stream.{
-  State,
-  How,
-  reached,
-  accepted,
-  Stream,
-  Search,
-  nothing,
-  gives,
-  ◌or_else◌,
-  each,
-  go_on,
-  and_then,
-  catch,
-  is_next_branch,
-  captured,
-  decide,
-  no_ending,
-  fails_alone,
-  fails_inside,
-}
+use Rattle.ordered_search.specs.Stream.{State, How, reached, accepted, Stream, Search, nothing, gives, ◌or_else◌, each, go_on, and_then, catch, is_next_branch, captured, decide, no_ending, fails_alone, fails_inside}
 use Rattle.ordered_search.specs.Setting.{Setting, held, hold}
 use Rattle.ordered_search.specs.Tests.{run_many}
-use Rattle.ordered_search.specs.Parts.{
-  Searches,
-  choices,
-  branches,
-  run_group,
-  is_over,
-  turn,
-  run_repeat,
-  begun_at,
-  ends_at,
-  one_try,
-  tries,
-  tries_within,
-  run_behind,
-  back_to,
-  forget_passed,
-  run_atomic,
-  run_look,
-  asserts,
-  tests,
-  follow,
-}
+use Rattle.ordered_search.specs.Parts.{Searches, choices, branches, run_group, is_over, turn, run_repeat, begun_at, ends_at, one_try, tries, tries_within, run_behind, back_to, forget_passed, run_atomic, run_look, asserts, tests, follow}
 use Rattle.ordered_search.specs.Run.{level, levels}
-use Rattle.ordered_search.specs.Moves.{
-  Moves,
-  pause,
-  stepped,
-  Follow,
-  Handler,
-  Path,
-  before,
-  catching,
-  holding,
-}
-use Rattle.ordered_search.specs.Paths.{
-  Paths,
-  close,
-  many_paths,
-  turned,
-  turn_path,
-  repeat_path,
-  choice_paths,
-  branch_paths,
-  try_path,
-  ends_before,
-  tries_path,
-  behind_path,
-  leave,
-  Many,
-  only_many,
-  possessive_path,
-  atomic_path,
-  atomic_over,
-  look_path,
-  tested_path,
-  assert_path,
-  choose_path,
-  answered,
-}
+use Rattle.ordered_search.specs.Moves.{Moves, pause, stepped, Follow, Handler, Path, before, catching, holding}
+use Rattle.ordered_search.specs.Paths.{Paths, close, many_paths, turned, turn_path, repeat_path, choice_paths, branch_paths, try_path, ends_before, tries_path, behind_path, leave, Many, only_many, possessive_path, atomic_path, atomic_over, look_path, tested_path, assert_path, choose_path, answered}
 use Rattle.search_paths.proofs.Possessive.{only_is}
-use Rattle.search_paths.proofs.Streams.{
-  strip,
-  before_or_else,
-  before_each,
-  before_catch,
-  before_catch_alone,
-  before_first,
-  before_first_alone,
-  before_first_inside,
-  IsStripped,
-  AreStripped,
-  strip_catching,
-  IsSearch,
-  ArePaths,
-  strip_holding,
-  strip_hold,
-  strip_if,
-  strip_many,
-}
+use Rattle.search_paths.proofs.Streams.{strip, before_or_else, before_each, before_catch, before_catch_alone, before_first, before_first_alone, before_first_inside, IsStripped, AreStripped, strip_catching, IsSearch, ArePaths, strip_holding, strip_hold, strip_if, strip_many}
 
 module _ (g : Setting) where
   -- Alternatives.

@@ -1,119 +1,17 @@
 -- What follows a stream, without the pauses; items, and the repeats of one item.
-use Rattle.std.proofs.Common.{
-  ◌≡◌,
-  ℕ,
-  ◌+◌,
-  ◌-◌,
-  ◌∙◌,
-  Bool,
-  true,
-  false,
-  List,
-  [],
-  ◌∷◌,
-  take,
-  drop,
-  reverse,
-  Option,
-  Some,
-  None,
-  refl,
-  sym,
-  ap,
-}
+use Rattle.std.proofs.Common.{◌≡◌, ℕ, ◌+◌, ◌-◌, ◌∙◌, Bool, true, false, List, [], ◌∷◌, take, drop, reverse, Option, Some, None, refl, sym, ap}
 use Rattle.std.specs.Prelude.{nat_le, option_map}
 use Rattle.pat_tree.specs.declared.options.PartialMode.TheVariants.{Off, Soft, Hard}
 use Rattle.pat_tree.specs.declared.nodes.Item.{Item}
 use Rattle.pat_tree.specs.declared.nodes.AnchorKind.{AnchorKind}
-use Rattle.match_items.specs.Items.{
-  one_less,
-  is_none_left,
-  item_reaches,
-  longest_run,
-  run_reaches,
-  after_ref,
-  ref_reaches,
-  holds,
-  anchor_reaches,
-  earliest,
-}
+use Rattle.match_items.specs.Items.{one_less, is_none_left, item_reaches, longest_run, run_reaches, after_ref, ref_reaches, holds, anchor_reaches, earliest}
 use Rattle.frame_store.specs.Captures.{capture}
-use Rattle.ordered_search.specs.Stream.{
-  State,
-  VerbEnding,
-  next_branch,
-  prune,
-  skip,
-  commit,
-  is_partial,
-  too_many_units,
-  exhausted,
-  by_verb,
-  by_halt,
-  hit_end,
-  How,
-  reached,
-  accepted,
-  note,
-  state,
-  step,
-  Stream,
-  Search,
-  ends,
-  ◌▸◌,
-  nothing,
-  gives,
-  ◌or_else◌,
-  each,
-  go_on,
-  catch,
-  is_next_branch,
-  is_verb,
-  decide,
-  no_ending,
-  fails_alone,
-  fails_inside,
-}
+use Rattle.ordered_search.specs.Stream.{State, VerbEnding, next_branch, prune, skip, commit, is_partial, too_many_units, exhausted, by_verb, by_halt, hit_end, How, reached, accepted, note, state, step, Stream, Search, ends, ◌▸◌, nothing, gives, ◌or_else◌, each, go_on, catch, is_next_branch, is_verb, decide, no_ending, fails_alone, fails_inside}
 use Rattle.ordered_search.specs.Setting.{Setting, held, hold, counts, reach, reach_if}
-use Rattle.ordered_search.specs.Tests.{
-  move_to,
-  goes_to,
-  run_ref,
-  run_anchor,
-  offers,
-  greedy,
-  offer_and,
-  reluctant,
-  lazy_run,
-  run_many,
-}
+use Rattle.ordered_search.specs.Tests.{move_to, goes_to, run_ref, run_anchor, offers, greedy, offer_and, reluctant, lazy_run, run_many}
 use Rattle.ordered_search.specs.Parts.{in_order}
-use Rattle.ordered_search.specs.Moves.{
-  Moves,
-  stops,
-  pause,
-  stepped,
-  noted,
-  found,
-  Follow,
-  Handler,
-  Path,
-  before,
-  catching,
-  going,
-  holding,
-  reaching,
-}
-use Rattle.ordered_search.specs.Paths.{
-  ref_path,
-  anchor_path,
-  offer_paths,
-  offer_path,
-  lazy_paths,
-  many_paths,
-  go_path,
-  parts_path,
-}
+use Rattle.ordered_search.specs.Moves.{Moves, stops, pause, stepped, noted, found, Follow, Handler, Path, before, catching, going, holding, reaching}
+use Rattle.ordered_search.specs.Paths.{ref_path, anchor_path, offer_paths, offer_path, lazy_paths, many_paths, go_path, parts_path}
 
 unfoldable pub strip : Moves → Moves
 strip (stops e) = stops e

@@ -8,66 +8,14 @@ use Rattle.dfa_lists.specs.Lists.{landed}
 use Rattle.dfa_lists.specs.Searches.{scene_of, PathsOf, MeetsOf, IsPlaceOf}
 use Rattle.dfa_paths.proofs.Places.{get_of}
 use Rattle.dfa_lists.proofs.Closing as closing
-use Rattle.dfa_lists.proofs.Closing.{
-  popped_in,
-  popped_marks,
-  passed_over,
-  visited,
-  fewer,
-  read_mark,
-}
-use Rattle.dfa_lists.proofs.Running.{
-  starts,
-  goes_on,
-  stands_here,
-  waiting_below,
-  below_like,
-  leaves_in,
-  place_follows,
-  none_taken,
-  all_found,
-  no_end,
-  last_found,
-}
+use Rattle.dfa_lists.proofs.Closing.{popped_in, popped_marks, passed_over, visited, fewer, read_mark}
+use Rattle.dfa_lists.proofs.Running.{starts, goes_on, stands_here, waiting_below, below_like, leaves_in, place_follows, none_taken, all_found, no_end, last_found}
 use Rattle.dfa_lists.proofs.Following.{no_more, deep_stand}
-use Rattle.dfa_lists.proofs.Visits.{
-  look_visit,
-  none_where,
-  ends_here,
-  ends_none,
-  ends_from,
-  atomic_visit,
-  plain_node,
-  plain_visits,
-}
+use Rattle.dfa_lists.proofs.Visits.{look_visit, none_where, ends_here, ends_none, ends_from, atomic_visit, plain_node, plain_visits}
 use Rattle.dfa_paths.specs.Meets.{DeepMeets, IsTold}
-use Rattle.dfa_lists.proofs.Telling.{
-  told_not,
-  told_or,
-  told_like,
-  begin_probing,
-  branch_inside,
-  on_probed,
-  end_probed,
-  probed_all,
-  begin_told,
-  visited_told,
-  closed_told,
-  starts_told,
-  told_follows,
-  none_told,
-  all_told,
-  plain_tells,
-  look_told,
-  atomic_told,
-  behind_none,
-  behind_some,
-}
+use Rattle.dfa_lists.proofs.Telling.{told_not, told_or, told_like, begin_probing, branch_inside, on_probed, end_probed, probed_all, begin_told, visited_told, closed_told, starts_told, told_follows, none_told, all_told, plain_tells, look_told, atomic_told, behind_none, behind_some}
 use Rattle.dfa_lists.proofs.lists.+ends.Goals as goal
-use Rattle.dfa_lists.proofs.lists.+ends.Goals.{
-  ends_of-then-not-is_empty+in_ok-take_place,
-  ends_of-else-not-is_empty,
-}
+use Rattle.dfa_lists.proofs.lists.+ends.Goals.{ends_of-then-not-is_empty+in_ok-take_place, ends_of-else-not-is_empty}
 
 -- ends_of
 
