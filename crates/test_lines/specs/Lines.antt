@@ -1,6 +1,6 @@
 -- Lines about patterns, searches and refused lines (pcre2test, "DEFAULT OUTPUT FROM pcre2test" and
 -- "PATTERN MODIFIERS").
-use Rattle.std.specs.Prelude.{ℕ, Bool, true, false, nat_lt, List, [], ◌++◌, codes, decimal, ℤ, Option, Result, Ok, Err}
+use Rattle.std.specs.Prelude.{ℕ, Bool, true, false, nat_lt, List, [], ◌++◌, codes, decimal, ℤ, Option, Some, None, Result, Ok, Err}
 use Rattle.std.specs.Fmt.{signed_decimal}
 use Rattle.tool_out.specs.Texts.{line, text_if}
 use Rattle.script_modifiers.specs.declared.refusal.Refusal.{Refusal}
@@ -23,16 +23,23 @@ fault_line number at =
     line (codes "Failed: error " ++ signed_decimal number ++ codes " at offset " ++ decimal at
     ++ codes ": " ++ fault_text number)
 
+-- a call that fails: its number, its text, and the place of a fault of UTF-8 where it is one
+abbrev pub place_text : Option ℕ → List ℕ
+place_text (Some at) = decimal at
+place_text None = []
+
+abbrev pub error_line : ℤ → List ℕ → Option ℕ → List ℕ
+error_line number text at =
+    line (codes "Failed: error " ++ signed_decimal number ++ codes ": " ++ text ++ place_text at)
+
 -- the place of a fault of UTF-8 in the subject
-abbrev pub place_text : MatchError → List ℕ
-place_text (told.BadUtf at) = decimal at
-place_text _ = []
+abbrev pub fault_place : MatchError → Option ℕ
+fault_place (told.BadUtf at) = Some at
+fault_place _ = None
 
 -- a search that fails
 abbrev pub failed_line : MatchError → List ℕ
-failed_line e =
-    line (codes "Failed: error " ++ signed_decimal (number_of e) ++ codes ": " ++ text_of e
-    ++ place_text e)
+failed_line e = error_line (number_of e) (text_of e) (fault_place e)
 
 abbrev pub groups_line : ℕ → List ℕ
 groups_line groups = line (codes "Capture group count = " ++ decimal groups)
@@ -71,15 +78,13 @@ abbrev pub done_line : Bool → Substituted → List ℕ
 done_line utf s = line (number_before s.count ++ shown utf s.text)
 
 -- the place of a fault of UTF-8 in the subject or in the replacement
-abbrev pub refusal_place : SubstError → List ℕ
-refusal_place (refusal.BadUtf at) = decimal at
-refusal_place (refusal.ReplacementUtf at) = decimal at
-refusal_place _ = []
+abbrev pub refusal_place : SubstError → Option ℕ
+refusal_place (refusal.BadUtf at) = Some at
+refusal_place (refusal.ReplacementUtf at) = Some at
+refusal_place _ = None
 
 abbrev pub unreplaced_line : SubstError → List ℕ
-unreplaced_line e =
-    line (codes "Failed: error " ++ signed_decimal (subst.number_of e) ++ codes ": "
-    ++ subst.text_of e ++ refusal_place e)
+unreplaced_line e = error_line (subst.number_of e) (subst.text_of e) (refusal_place e)
 
 -- the number of replacements and the text, or why there is none
 abbrev pub replaced_text : Bool → Result Substituted SubstError → List ℕ

@@ -1,7 +1,6 @@
 -- The ends of a subject, by the matcher that finds them all (pcre2test, "DEFAULT OUTPUT FROM THE
 -- ALTERNATIVE MATCHING FUNCTION").
-use Rattle.std.specs.Prelude.{ℕ, zero, suc, ◌+◌, ◌*◌, ◌==◌, Bool, true, false, List, [], ◌∷◌, ◌++◌, length, codes, decimal, slice_range, Option, Some, None}
-use Rattle.std.specs.Fmt.{signed_decimal}
+use Rattle.std.specs.Prelude.{ℕ, zero, suc, ◌+◌, ◌*◌, ◌==◌, Bool, true, false, List, [], ◌∷◌, ◌++◌, length, codes, slice_range, Option, Some, None}
 use Rattle.tool_out.specs.Texts.{line}
 use Rattle.pat_tree.specs.declared.options.MatchOptions.{MatchOptions}
 use Rattle.pat_tree.specs.Pattern.{Pattern}
@@ -16,6 +15,7 @@ use Rattle.pcre2_api.specs.DfaMatched.{start_error_of}
 use Rattle.pcre2_errors.specs.DfaErrors.{number_of, text_of}
 use Rattle.pcre2_errors.specs.declared.dfa_error.DfaError.{DfaError}
 use Rattle.pcre2_errors.specs.declared.dfa_error.DfaError.TheVariants as told
+use Rattle.test_lines.specs.Lines.{error_line}
 use Rattle.test_lines.specs.Marks.{name_line}
 use Rattle.test_lines.specs.Shown.{number_before, shown}
 
@@ -55,14 +55,12 @@ ends_text utf subject start n (q ∷ qs) =
     end_line utf subject start n q ++ ends_text utf subject start (n + 1) qs
 
 -- the place of a fault of UTF-8 in the subject
-abbrev pub place_text : DfaError → List ℕ
-place_text (told.BadUtf at) = decimal at
-place_text _ = []
+abbrev pub fault_place : DfaError → Option ℕ
+fault_place (told.BadUtf at) = Some at
+fault_place _ = None
 
 abbrev pub failed_text : DfaError → List ℕ
-failed_text e =
-    line (codes "Failed: error " ++ signed_decimal (number_of e) ++ codes ": " ++ text_of e
-    ++ place_text e)
+failed_text e = error_line (number_of e) (text_of e) (fault_place e)
 
 -- a search without ends but for a partial match, or one that fails
 abbrev pub unmatched_text : Bool → List ℕ → DfaError → List ℕ

@@ -5,13 +5,13 @@ ghost use Rattle.start_tests.specs.Asked.{passed_over};
 ghost use Rattle.dfa_drive.specs.Answer.{AreWithin};
 ghost use Rattle.pcre2_api.specs.Matched.{search_of};
 ghost use Rattle.pcre2_api.specs.DfaMatched.{IsDfaFound, IsDfaError};
-ghost use Rattle.test_run.specs.Dfa.{end_line, ends_text, failed_text, unmatched_text, none_text, place_text, told_at, told_text, first_text, dfa_text, replace_with_dfa_line};
+ghost use Rattle.test_run.specs.Dfa.{end_line, ends_text, failed_text, fault_place, unmatched_text, none_text, told_at, told_text, first_text, dfa_text, replace_with_dfa_line};
 ghost use Rattle.test_run.specs.declared.dfa.Search.TheVariants.{Failed};
 ghost use Rattle.test_run.specs.DfaSearches.{error_text, IsSearch, LiesIn, TellsEnds, TellsError};
 ghost use Rattle.tool_out.specs.Writes.{Writes};
 
+use crate::lines::write_error;
 use crate::options::How;
-use itoa::Buffer;
 use pcre_io::{IoError, Sink};
 use pcre2_api::{Code, DfaError, DfaFound, Lists, MatchOptions, Steps, matching_at, place_behind};
 use std::alloc::Global;
@@ -69,12 +69,12 @@ fn write_ends<O: Sink>(
 }
 
 // The place of a fault of UTF-8 in the subject.
-fn place_text(e: DfaError, room: &mut Buffer) -> &[u8]
-    ensures { result.now ≡ place_text e }
+fn fault_place(e: DfaError) -> Option<usize>
+    ensures { result ≡ fault_place e }
 {
     match e {
-        DfaError::BadUtf { at } => room.format(at).as_bytes(),
-        _ => b"",
+        DfaError::BadUtf { at } => Some(at),
+        _ => None,
     }
 }
 
@@ -82,19 +82,7 @@ fn place_text(e: DfaError, room: &mut Buffer) -> &[u8]
 fn write_failed<O: Sink>(out: &mut O, e: DfaError) -> Result<(), IoError>
     ensures { Writes (failed_text e) (O.tells out.old) (O.tells out.new) result }
 {
-    let mut number = Buffer::new();
-    let mut place = Buffer::new();
-    write_texts(
-        out,
-        &[
-            b"Failed: error ",
-            number.format(e.number()).as_bytes(),
-            b": ",
-            e.text(),
-            place_text(e, &mut place),
-            b"\n",
-        ],
-    )
+    write_error(out, e.number(), e.text(), fault_place(e))
 }
 
 // Looks for all ends of a match from a place on.

@@ -1,6 +1,6 @@
 //! Lines about patterns and script lines.
 ghost use Rattle.std.specs.Prelude.{◌≡◌};
-ghost use Rattle.test_lines.specs.Lines.{failed_line, fault_line, groups_line, lookbehind_line, info_text, place_text, refusal_line, refusal_place, unreplaced_line};
+ghost use Rattle.test_lines.specs.Lines.{error_line, failed_line, fault_line, fault_place, groups_line, lookbehind_line, info_text, place_text, refusal_line, refusal_place, unreplaced_line};
 ghost use Rattle.tool_out.specs.Writes.{Writes};
 
 use itoa::Buffer;
@@ -29,13 +29,47 @@ pub fn write_fault<O: Sink>(out: &mut O, number: i32, at: usize) -> Result<(), I
     )
 }
 
+// The place of a fault of UTF-8, where it is one.
+fn place_text(at: Option<usize>, room: &mut Buffer) -> &[u8]
+    ensures { result.now ≡ place_text at }
+{
+    match at {
+        Some(at) => room.format(at).as_bytes(),
+        None => b"",
+    }
+}
+
+/// Writes why a call fails: its number, its text, and the place of a fault of UTF-8.
+pub fn write_error<O: Sink>(
+    out: &mut O,
+    number: i32,
+    text: &[u8],
+    at: Option<usize>,
+) -> Result<(), IoError>
+    ensures { Writes (error_line number text.now at) (O.tells out.old) (O.tells out.new) result }
+{
+    let mut shown = Buffer::new();
+    let mut place = Buffer::new();
+    write_texts(
+        out,
+        &[
+            b"Failed: error ",
+            shown.format(number).as_bytes(),
+            b": ",
+            text,
+            place_text(at, &mut place),
+            b"\n",
+        ],
+    )
+}
+
 // The place of a fault of UTF-8 in the subject.
-fn place_text(e: MatchError, room: &mut Buffer) -> &[u8]
-    ensures { result.now ≡ place_text e }
+fn fault_place(e: MatchError) -> Option<usize>
+    ensures { result ≡ fault_place e }
 {
     match e {
-        MatchError::BadUtf { at } => room.format(at).as_bytes(),
-        _ => b"",
+        MatchError::BadUtf { at } => Some(at),
+        _ => None,
     }
 }
 
@@ -43,28 +77,16 @@ fn place_text(e: MatchError, room: &mut Buffer) -> &[u8]
 pub fn write_failed<O: Sink>(out: &mut O, e: MatchError) -> Result<(), IoError>
     ensures { Writes (failed_line e) (O.tells out.old) (O.tells out.new) result }
 {
-    let mut number = Buffer::new();
-    let mut place = Buffer::new();
-    write_texts(
-        out,
-        &[
-            b"Failed: error ",
-            number.format(e.number()).as_bytes(),
-            b": ",
-            e.text(),
-            place_text(e, &mut place),
-            b"\n",
-        ],
-    )
+    write_error(out, e.number(), e.text(), fault_place(e))
 }
 
 // The place of a fault of UTF-8 in the subject or in the replacement.
-fn refusal_place(e: SubstError, room: &mut Buffer) -> &[u8]
-    ensures { result.now ≡ refusal_place e }
+fn refusal_place(e: SubstError) -> Option<usize>
+    ensures { result ≡ refusal_place e }
 {
     match e {
-        SubstError::BadUtf { at } | SubstError::ReplacementUtf { at } => room.format(at).as_bytes(),
-        _ => b"",
+        SubstError::BadUtf { at } | SubstError::ReplacementUtf { at } => Some(at),
+        _ => None,
     }
 }
 
@@ -72,19 +94,7 @@ fn refusal_place(e: SubstError, room: &mut Buffer) -> &[u8]
 pub fn write_unreplaced<O: Sink>(out: &mut O, e: SubstError) -> Result<(), IoError>
     ensures { Writes (unreplaced_line e) (O.tells out.old) (O.tells out.new) result }
 {
-    let mut number = Buffer::new();
-    let mut place = Buffer::new();
-    write_texts(
-        out,
-        &[
-            b"Failed: error ",
-            number.format(e.number()).as_bytes(),
-            b": ",
-            e.text(),
-            refusal_place(e, &mut place),
-            b"\n",
-        ],
-    )
+    write_error(out, e.number(), e.text(), refusal_place(e))
 }
 
 // Writes how many groups a pattern has.

@@ -1,13 +1,6 @@
-use Rattle.std.proofs.Common.{ap, ◌∙◌, rules, SFits, w32}
-use Rattle.std.specs.Fmt.{signed_decimal}
-use Rattle.std.proofs.lemmas.Int.{to_z-of_z}
 use Rattle.tool_out.proofs.Writing.{writes-same}
-use Rattle.test_run.proofs.Saying.{unreplaced-text}
+use Rattle.test_run.proofs.Saying.{error-same}
 use Rattle.test_run.proofs.lines.write_unreplaced.Goals as goal
 
 pub returns : goal.returns
-returns g c =
-    let fits : SFits w32 c.number.result = search rules in
-    writes-same
-    (unreplaced-text c.args.e c.as_bytes.result.now c.text.result.now c.refusal_place.result.now (c.as_bytes.ensures.value ∙ c.format.ensures.text ∙ ap signed_decimal (to_z-of_z w32 c.number.result fits ∙ c.number.ensures)) c.text.ensures c.refusal_place.ensures)
-    c.write_texts.ensures
+returns g c = writes-same (error-same c.number.ensures c.text.ensures c.refusal_place.ensures) c.write_error.ensures
