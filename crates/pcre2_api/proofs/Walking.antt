@@ -23,47 +23,51 @@ Says (told.NoMatch mark) a = a ≡ none
 Says told.Memory a = Unit {0}
 Says e a = a ≡ failed e
 
-module _ (code : CodeParts) (matching : MatchOptions) (subject : List ℕ) (start : ℕ) where
-  abbrev searching : Setting
-  searching = search_of code matching subject start (λ _. pos 0)
-
+-- What a search answers, where it can begin.
+module _ (searching : Setting) where
   abbrev asked : Answer
-  asked = answer_in (length subject) (match_answer searching)
-
-  abbrev here : Answer
-  here = answer_at (pattern_of code.tree) matching subject start
+  asked = answer_in (length searching.subject) (match_answer searching)
 
   abbrev by_fault : Option MatchError → Answer
   by_fault f = elim f [ Some e ↦ failed e | None ↦ asked ]
 
-  begun : fault_in searching ≡ None → here ≡ asked
-  unfolding answer_at
-  begun h = ap by_fault h
+  abbrev here : Answer
+  here = by_fault (fault_in searching)
 
-  by_answer : {a : MatchAnswer} → (match_answer searching).answer ≡ a → asked ≡ answer_of (length subject) (last_name (match_answer searching).notes) a
-  by_answer e = ap (answer_of (length subject) (last_name (match_answer searching).notes)) e
+  by_answer : {a : MatchAnswer} → fault_in searching ≡ None → (match_answer searching).answer ≡ a →
+      here ≡ answer_of (length searching.subject) (last_name (match_answer searching).notes) a
+  by_answer begun is = ap by_fault begun ∙ ap (answer_of (length searching.subject) (last_name (match_answer searching).notes)) is
 
-  unbegun : (e : MatchError) → fault_in searching ≡ Some e → here ≡ failed e
-  unfolding answer_at
-  unbegun e h = ap by_fault h
+  pub search-found : (f : MatchParts) → IsFound searching f → here ≡ found f.outcome
+  search-found f is = by_answer is.begun is.answer
 
-  pub answer-found : (f : MatchParts) → IsFound searching f → here ≡ found f.outcome
-  answer-found f is = begun is.begun ∙ by_answer is.answer
-
-  pub answer-error : (e : MatchError) → IsMatchError searching e → Says e here
-  answer-error told.BadOffset is = unbegun told.BadOffset is
-  answer-error (told.BadUtf at) is = unbegun (told.BadUtf at) is
-  answer-error told.BadUtfOffset is = unbegun told.BadUtfOffset is
-  answer-error (told.NoMatch mark) is = begun is.0 ∙ by_answer is.1
-  answer-error (told.Partial from to mark) is =
-      begun is.0 ∙ by_answer is.1
-      ∙ ap (λ (m : Option ℕ). failed (told.Partial from (length subject) m)) (sym is.2)
+  pub search-error : (e : MatchError) → IsMatchError searching e → Says e here
+  search-error told.BadOffset is = ap by_fault is
+  search-error (told.BadUtf at) is = ap by_fault is
+  search-error told.BadUtfOffset is = ap by_fault is
+  search-error (told.NoMatch mark) is = by_answer is.0 is.1
+  search-error (told.Partial from to mark) is =
+      by_answer is.0 is.1
+      ∙ ap (λ (m : Option ℕ). failed (told.Partial from (length searching.subject) m)) (sym is.2)
       ∙ ap (λ (n : ℕ). failed (told.Partial from n mark)) (sym is.5)
-  answer-error told.MatchLimit is = begun is.0 ∙ by_answer is.1
-  answer-error told.FrameLimit is = begun is.0 ∙ by_answer is.1
-  answer-error told.RecurseLoop is = begun is.0 ∙ by_answer is.1
-  answer-error (told.Callout n) is = begun is.0 ∙ by_answer is.1
-  answer-error told.Memory is = tt
+  search-error told.MatchLimit is = by_answer is.0 is.1
+  search-error told.FrameLimit is = by_answer is.0 is.1
+  search-error told.RecurseLoop is = by_answer is.0 is.1
+  search-error (told.Callout n) is = by_answer is.0 is.1
+  search-error told.Memory is = tt
+
+-- The same of a search from a place on, whose callouts are passed over.
+module _ (code : CodeParts) (matching : MatchOptions) (subject : List ℕ) (start : ℕ) where
+  abbrev at_start : Setting
+  at_start = search_of code matching subject start (λ _. pos 0)
+
+  pub answer-found : (f : MatchParts) → IsFound at_start f → answer_at (pattern_of code.tree) matching subject start ≡ found f.outcome
+  unfolding answer_at
+  answer-found f is = search-found at_start f is
+
+  pub answer-error : (e : MatchError) → IsMatchError at_start e → Says e (answer_at (pattern_of code.tree) matching subject start)
+  unfolding answer_at
+  answer-error e is = search-error at_start e is
 
 -- A search that finds nothing can begin, and one that can't begin fails.
 module _ (p : Pattern) (matching : MatchOptions) (subject : List ℕ) (at : ℕ) where

@@ -5,8 +5,6 @@ use Rattle.pcre_io.specs.declared.callouts.Block.{Block}
 use Rattle.pat_tree.specs.declared.options.MatchOptions.{MatchOptions}
 use Rattle.pat_tree.specs.Pattern.{Pattern, pattern_of}
 use Rattle.ordered_search.specs.Setting.{Setting}
-use Rattle.ordered_search.specs.PlaceAnswer.{last_name}
-use Rattle.ordered_search.specs.MatchAnswer.{MatchAnswer, match_answer}
 use Rattle.pcre_io.specs.Told.{Kept}
 use Rattle.pcre_io.specs.declared.traits.IoError.{IoError}
 use Rattle.tool_out.specs.Writes.{Writes}
@@ -14,8 +12,8 @@ use Rattle.pcre2_api.specs.Compiled.{CodeParts}
 use Rattle.pcre2_api.specs.Matched.{MatchParts, search_of, fault_in, shown_by, HasShown, IsFound, IsMatchError}
 use Rattle.pcre2_errors.specs.declared.error.MatchError.{MatchError}
 use Rattle.pcre2_errors.specs.declared.error.MatchError.TheVariants as told
-use Rattle.pcre2_api.specs.Walks.{Answer, found, none, failed, answer_of, answer_in}
-use Rattle.pcre2_api.proofs.Walking.{Says}
+use Rattle.pcre2_api.specs.Walks.{Answer, found, none, failed}
+use Rattle.pcre2_api.proofs.Walking.{Says, search-found, search-error}
 use Rattle.test_lines.specs.declared.gathered.Replies.{Replies}
 use Rattle.test_run.specs.declared.options.How.{How}
 use Rattle.test_run.specs.declared.matches.Search.{Search}
@@ -45,37 +43,13 @@ module _ (code : CodeParts) (replies : Replies) (matching : MatchOptions) (subje
   abbrev answered_here : Answer
   answered_here = answered (pattern_of code.tree) replies matching subject start
 
-  abbrev by_fault : Option MatchError → Answer
-  by_fault f = elim f [ Some e ↦ failed e | None ↦ answer_in (length subject) (match_answer asked) ]
-
-  begun : fault_in asked ≡ None → answered_here ≡ answer_in (length subject) (match_answer asked)
-  unfolding answered
-  begun h = ap by_fault h
-
-  unbegun : (e : MatchError) → fault_in asked ≡ Some e → answered_here ≡ failed e
-  unfolding answered
-  unbegun e h = ap by_fault h
-
-  by_answer : {a : MatchAnswer} → (match_answer asked).answer ≡ a → answer_in (length subject) (match_answer asked) ≡ answer_of (length subject) (last_name (match_answer asked).notes) a
-  by_answer e = ap (answer_of (length subject) (last_name (match_answer asked).notes)) e
-
   pub answered-found : (f : MatchParts) → IsFound asked f → answered_here ≡ found f.outcome
-  answered-found f is = begun is.begun ∙ by_answer is.answer
+  unfolding answered
+  answered-found f is = search-found asked f is
 
   pub answered-error : (e : MatchError) → IsMatchError asked e → Says e answered_here
-  answered-error told.BadOffset is = unbegun told.BadOffset is
-  answered-error (told.BadUtf at) is = unbegun (told.BadUtf at) is
-  answered-error told.BadUtfOffset is = unbegun told.BadUtfOffset is
-  answered-error (told.NoMatch mark) is = begun is.0 ∙ by_answer is.1
-  answered-error (told.Partial from to mark) is =
-      begun is.0 ∙ by_answer is.1
-      ∙ ap (λ (m : Option ℕ). failed (told.Partial from (length subject) m)) (sym is.2)
-      ∙ ap (λ (n : ℕ). failed (told.Partial from n mark)) (sym is.5)
-  answered-error told.MatchLimit is = begun is.0 ∙ by_answer is.1
-  answered-error told.FrameLimit is = begun is.0 ∙ by_answer is.1
-  answered-error told.RecurseLoop is = begun is.0 ∙ by_answer is.1
-  answered-error (told.Callout n) is = begun is.0 ∙ by_answer is.1
-  answered-error told.Memory is = tt
+  unfolding answered
+  answered-error e is = search-error asked e is
 
   -- What its callouts were shown is what the definition says.
 
