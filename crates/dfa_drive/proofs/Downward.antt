@@ -10,7 +10,7 @@ use Rattle.dfa_ends.specs.TwoMatchers.{EndPlace}
 use Rattle.dfa_ends.specs.Answered.{Falls}
 use Rattle.dfa_ends.proofs.AnswerLaw.{falls_falling, from_falling, to_falling}
 use Rattle.dfa_ends.proofs.ListLaw.{list_law}
-use Rattle.dfa_paths.specs.Fragment.{Rising}
+use Rattle.dfa_lists.specs.dfa_paths.Fragment.{Rising}
 use Rattle.dfa_drive.specs.Answer.{AreWithin}
 use Rattle.dfa_drive.specs.Admitted.{admits, kept_if, admitted_down}
 

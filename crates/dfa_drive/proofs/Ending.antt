@@ -8,13 +8,13 @@ use Rattle.match_items.specs.declared.view.View.{View}
 use Rattle.match_items.specs.Scene.{Scene}
 use Rattle.match_items.specs.Views.{bare_text, text_scene}
 use Rattle.ordered_search.specs.Setting.{Setting}
-use Rattle.frame_board.specs.Ready.{setting_for}
-use Rattle.start_tests.specs.Asked.{passed_over}
+use Rattle.match_drive.specs.frame_board.Ready.{setting_for}
+use Rattle.match_drive.specs.start_tests.Asked.{passed_over}
 use Rattle.dfa_ends.specs.Ends.{spot, Among}
 use Rattle.dfa_ends.specs.EndList.{end_places}
 use Rattle.dfa_ends.specs.DfaAnswer.{admitted, last_of, ends_from, reach_test}
 use Rattle.dfa_ends.proofs.ReachLaw.{reach_law}
-use Rattle.dfa_paths.specs.Fragment.{GraphParts, IsGraphOf, AreEnds, IsHit}
+use Rattle.dfa_lists.specs.dfa_paths.Fragment.{GraphParts, IsGraphOf, AreEnds, IsHit}
 use Rattle.dfa_drive.specs.Admitted.{admits, kept_if, admitted_down}
 use Rattle.dfa_drive.specs.Answer.{AreWithin}
 use Rattle.dfa_drive.proofs.Downward.{ends_down, down_within, last_within}

@@ -10,8 +10,8 @@ use Rattle.match_items.specs.declared.view.View.{View}
 use Rattle.match_items.specs.Views.{text_scene, fold_in}
 use Rattle.ordered_search.specs.Setting.{class_holds}
 use Rattle.ordered_search.proofs.Classes.{class_is}
-use Rattle.frame_board.specs.Ready.{setting_for}
-use Rattle.start_tests.specs.Asked.{passed_over}
+use Rattle.match_drive.specs.frame_board.Ready.{setting_for}
+use Rattle.match_drive.specs.start_tests.Asked.{passed_over}
 
 class_told : (tree : TreeParts) →
     class_has tree ≡ (λ n c. class_holds tree.options.utf (slice_get tree.classes n) c)

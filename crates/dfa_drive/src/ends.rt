@@ -3,16 +3,16 @@ ghost use Rattle.std.specs.Prelude.{◌≡◌, ◌++◌, [], IfOk, cond, length}
 ghost use Rattle.pat_tree.specs.Parts.{tree_of};
 ghost use Rattle.match_items.specs.Subjects.{IsTextPlace};
 ghost use Rattle.match_items.specs.Views.{bare_text};
-ghost use Rattle.frame_board.specs.Ready.{IsReadySearch, setting_for};
-ghost use Rattle.start_tests.specs.Asked.{passed_over};
-ghost use Rattle.dfa_paths.specs.Fragment.{IsGraphOf};
+ghost use Rattle.match_drive.specs.frame_board.Ready.{IsReadySearch, setting_for};
+ghost use Rattle.match_drive.specs.start_tests.Asked.{passed_over};
+ghost use Rattle.dfa_lists.specs.dfa_paths.Fragment.{IsGraphOf};
 ghost use Rattle.dfa_ends.specs.Ends.{spot};
 ghost use Rattle.dfa_ends.specs.DfaAnswer.{last_of, ends_from, reach_test};
 ghost use Rattle.dfa_drive.specs.Answer.{AreWithin};
 ghost use Rattle.dfa_drive.specs.Admitted.{admits, kept_if, admitted_down};
 
 use dfa_lists::{EndList, EndSet, Graph, Lists, ends};
-use frame_machine::Ready;
+use match_drive::Ready;
 use match_items::View;
 use pat_tree::{ListOf, Memory, Steps};
 use std::alloc::Global;

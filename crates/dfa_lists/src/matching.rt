@@ -7,7 +7,7 @@ ghost use Rattle.dfa_ends.specs.Ends.{Among};
 ghost use Rattle.dfa_paths.specs.Fragment.{IsGraphOf, AreEnds, IsHit};
 ghost use Rattle.dfa_paths.specs.Plain.{is_plain};
 ghost use Rattle.dfa_lists.specs.Lists.{stops_from};
-ghost use Rattle.pat_check.specs.Size.{whole_size};
+ghost use Rattle.dfa_graph.specs.pat_check.Size.{whole_size};
 
 use crate::lists::{EndSet, Lists, Search, ends_of};
 use char_sets::ClassTable;

@@ -24,9 +24,9 @@ use Rattle.pat_lengths.specs.Nodes.{all_nodes, has_lookbehind, nodes, nodes_in, 
 use Rattle.pat_lengths.specs.Lengths.{SomeLengths, between, only, in_turn, either, in_turns, lengths, lengths_in_turn, lengths_of_one, lengths_of_other, of_test, behind, any_length, branch_lengths, counted, too_long, branch_fault, by_calls, can_be_empty}
 use Rattle.pat_lengths.specs.Backs.{AreBacks, behind_branches, fault_from, lengths_at, fault_among, fault_of_node, fault_in, first_fault}
 use Rattle.pat_lengths.proofs.OrderLemmas.{node_first, nodes_at}
-use Rattle.pat_check.specs.Support.{node_support, or_later, support_of_all, dfa_support}
-use Rattle.pat_check.specs.declared.support.DfaSupport.{DfaSupport}
-use Rattle.pat_check.specs.declared.support.DfaSupport.TheVariants.{Yes, Item, Cond}
+use Rattle.dfa_ends.specs.pat_check.Support.{node_support, or_later, support_of_all, dfa_support}
+use Rattle.dfa_ends.specs.pat_check.declared.support.DfaSupport.{DfaSupport}
+use Rattle.dfa_ends.specs.pat_check.declared.support.DfaSupport.TheVariants.{Yes, Item, Cond}
 use Rattle.dfa_paths.specs.Fragment.{HasBack, always_counts}
 
 -- What holds of all nodes of a tree, by the children.

@@ -8,7 +8,7 @@ use Rattle.pat_tree.specs.Nested as tree
 use Rattle.pat_tree.specs.Nested.{Nested, Row, Test}
 use Rattle.match_items.specs.Scene.{Scene}
 use Rattle.match_items.specs.Items.{after_item, after_break, holds}
-use Rattle.ordered_search.specs.Setting.{Setting, branch_lengths}
+use Rattle.dfa_ends.specs.ordered_search.Setting.{Setting, branch_lengths}
 use Rattle.dfa_ends.specs.Ends.{spot, Spot, Way, Among, HasOne, HasNone, Times, Within, Counted, begun, TryEnds, AnyEndsBehind, seen, ItemEnds, BreakEnds, AnchorEnds, Ends, AnyEnds, IsSo, IsNot}
 use Rattle.dfa_paths.specs.declared.graph.Node.{Node}
 use Rattle.dfa_paths.specs.declared.graph.Node.TheVariants.{One, Break, Anchor, Split, Goto, Look, Atomic, Dead, Match}

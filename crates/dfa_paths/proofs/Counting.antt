@@ -7,7 +7,7 @@ use Rattle.pat_tree.specs.declared.nodes.Item.{Item}
 use Rattle.pat_tree.specs.declared.nodes.AnchorKind.{AnchorKind}
 use Rattle.pat_tree.specs.declared.nodes.AnchorKind.TheVariants.{Caret, Dollar, SubjectStart, SubjectEnd, EndOrNewline, StartGiven, Word, NotWord}
 use Rattle.match_items.specs.Items.{item_reaches, break_reaches, anchor_reaches, earliest, place_before}
-use Rattle.ordered_search.specs.Setting.{Setting, has_lookbehind, can_be_empty}
+use Rattle.dfa_ends.specs.ordered_search.Setting.{Setting, has_lookbehind, can_be_empty}
 use Rattle.dfa_ends.specs.Ends.{Spot, begun, seen, Counts, ItemReaches, BreakReaches, AnchorReaches}
 use Rattle.dfa_ends.proofs.ListLemmas.{both_true, and_true}
 use Rattle.dfa_ends.proofs.ListLaw.{Onward}

@@ -7,7 +7,7 @@ use Rattle.pat_tree.specs.declared.nodes.Verb.TheVariants.{Accept, Fail, Commit,
 use Rattle.pat_tree.specs.Nested as tree
 use Rattle.pat_tree.specs.Nested.{Nested, Row, Test, Other}
 use Rattle.pat_lengths.specs.Nodes.{nodes as parts_of, is_lookbehind, all_nodes, nodes_in, nodes_of_test, nodes_of_other}
-use Rattle.ordered_search.specs.Setting.{Setting, branch_lengths}
+use Rattle.dfa_ends.specs.ordered_search.Setting.{Setting, branch_lengths}
 use Rattle.dfa_ends.specs.Ends.{Spot, spot, Spots, Way, Among, HasOne, HasNone, begun, TryEnds, TryReaches, ItemEnds, ItemReaches, Ends, AllEnd, AnyEnds, AnyEndsBehind, IsSo, IsNot, OtherEnds, Reaches, AllReach, AnyReaches, AnyReachesBehind, TestReaches, OtherReaches}
 use Rattle.dfa_ends.proofs.ListLaw.{onward, onward_item}
 use Rattle.dfa_paths.specs.declared.graph.Node.{Node}

@@ -6,7 +6,7 @@ use Rattle.pat_tree.specs.Nested as tree
 use Rattle.pat_tree.specs.Nested.{Nested, Row, Test, Other}
 use Rattle.match_items.specs.Scene.{Scene}
 use Rattle.dfa_paths.specs.Fragment.{Rising}
-use Rattle.ordered_search.specs.Setting.{Setting}
+use Rattle.dfa_ends.specs.ordered_search.Setting.{Setting}
 use Rattle.dfa_ends.specs.Ends.{spot, Spot, Way, Among, HasOne, HasNone, AnyEndsBehind, ItemEnds, Ends, AllEnd, AnyEnds, OtherEnds}
 use Rattle.dfa_paths.specs.declared.graph.Node.{Node}
 use Rattle.dfa_paths.specs.declared.graph.Node.TheVariants.{One, Split, Match}

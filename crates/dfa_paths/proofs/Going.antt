@@ -6,7 +6,7 @@ use Rattle.pat_tree.specs.declared.nodes.AnchorKind.{AnchorKind}
 use Rattle.pat_tree.specs.Nested as tree
 use Rattle.pat_tree.specs.Nested.{Nested, Row, Test}
 use Rattle.match_items.specs.Items.{after_item, after_break, holds}
-use Rattle.ordered_search.specs.Setting.{Setting, branch_lengths}
+use Rattle.dfa_ends.specs.ordered_search.Setting.{Setting, branch_lengths}
 use Rattle.dfa_ends.specs.EndList.{In, ends_list}
 use Rattle.dfa_ends.proofs.ListLaw.{list_law}
 use Rattle.dfa_ends.specs.Ends.{spot, Spot, Way, Among, HasOne, HasNone, GoesTo, Times, begun, TryEnds, AnyEndsBehind, ItemEnds, BreakEnds, AnchorEnds, Ends, AnyEnds, IsSo, IsNot}

@@ -9,7 +9,7 @@ use Rattle.pat_lengths.specs.Lengths.{can_be_empty as can_take_nothing}
 use Rattle.match_items.specs.Scene.{Scene}
 use Rattle.match_items.specs.Laws.{StandsAlong}
 use Rattle.match_items.specs.Items.{place_before}
-use Rattle.ordered_search.specs.Setting.{Setting, has_lookbehind, can_be_empty}
+use Rattle.dfa_ends.specs.ordered_search.Setting.{Setting, has_lookbehind, can_be_empty}
 use Rattle.dfa_ends.specs.Ends.{spot, Reaches}
 use Rattle.dfa_paths.specs.declared.graph.Node.{Node}
 use Rattle.dfa_paths.specs.Graph.{Deep}

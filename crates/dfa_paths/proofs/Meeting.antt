@@ -5,7 +5,7 @@ use Rattle.std.specs.Prelude.{IsTrue, not, slice_get}
 use Rattle.pat_tree.specs.declared.nodes.Item.{Item}
 use Rattle.pat_tree.specs.declared.nodes.AnchorKind.{AnchorKind}
 use Rattle.match_items.specs.Items.{after_item, after_break, holds}
-use Rattle.ordered_search.specs.Setting.{Setting}
+use Rattle.dfa_ends.specs.ordered_search.Setting.{Setting}
 use Rattle.dfa_ends.specs.Ends.{Spot, spot, Spots, Way, Among, HasOne, HasNone, Times, Within, Below, seen, ItemEnds, BreakEnds, AnchorEnds, ItemReaches, BreakReaches, AnchorReaches}
 use Rattle.dfa_paths.specs.declared.graph.Node.{Node}
 use Rattle.dfa_paths.specs.declared.graph.Node.TheVariants.{One, Break, Anchor, Split, Goto, Look, Atomic, Dead, Match}

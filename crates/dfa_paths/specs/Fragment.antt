@@ -4,10 +4,10 @@ use Rattle.pat_tree.specs.declared.nodes.Verb.{Verb}
 use Rattle.pat_tree.specs.declared.nodes.Verb.TheVariants.{Fail}
 use Rattle.pat_tree.specs.Nested as tree
 use Rattle.pat_tree.specs.Nested.{Nested, Row, Test, Other}
-use Rattle.pat_check.specs.Size.{whole_size}
+use Rattle.dfa_ends.specs.pat_check.Size.{whole_size}
 use Rattle.pat_lengths.specs.Nodes.{has_lookbehind}
 use Rattle.pat_lengths.specs.Lengths.{only, branch_lengths, can_be_empty}
-use Rattle.ordered_search.specs.Setting.{Setting}
+use Rattle.dfa_ends.specs.ordered_search.Setting.{Setting}
 use Rattle.dfa_ends.specs.Ends.{Spot, spot, Among, Ends, Reaches}
 use Rattle.dfa_paths.specs.declared.graph.Node.{Node}
 use Rattle.dfa_paths.specs.declared.graph.Node.TheVariants.{One, Break, Anchor, Split, Goto, Look, Atomic, Dead, Match}

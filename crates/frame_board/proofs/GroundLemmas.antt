@@ -22,7 +22,7 @@ use Rattle.pat_tree.specs.Rules.{kids_of, numbers_of, verb_names_of}
 use Rattle.pat_tree.specs.Refs.{named_by, is_in, is_group, has_group}
 use Rattle.pat_tree.specs.Sound.{NodeRules, TreeRules, children, group_numbers, greatest}
 use Rattle.pat_tree.specs.declared.options.PartialMode.{PartialMode}
-use Rattle.ordered_search.specs.Places.{is_off}
+use Rattle.frame_state.specs.ordered_search.Places.{is_off}
 use Rattle.pat_tree.specs.Parts.{TreeParts}
 use Rattle.node_flow.specs.Followers.{rest}
 use Rattle.node_flow.specs.Linked.{IsLinked}
@@ -42,8 +42,8 @@ use Rattle.match_items.specs.Items.{one_less, is_none_left, after_item, item_rea
 use Rattle.match_items.specs.Views.{text_scene, told, maximum, fold_in}
 use Rattle.match_items.proofs.TextGround.{places_stand}
 use Rattle.frame_board.specs.Told.{place_in}
-use Rattle.ordered_search.specs.Setting.{class_holds}
-use Rattle.ordered_search.proofs.Classes.{class_is}
+use Rattle.frame_state.specs.ordered_search.Setting.{class_holds}
+use Rattle.frame_state.proofs.ordered_search.Classes.{class_is}
 use Rattle.frame_state.specs.Ground.{IsNode}
 use Rattle.frame_board.specs.Ready.{setting_in, IsBoardSearch, ground_in}
 

@@ -1,6 +1,6 @@
 -- Verbs' names by their numbers.
 use Rattle.std.proofs.Common.{◌≡◌, ◌≤◌, ◌==◌, ◌&&◌, ◌∙◌, ℕ, zero, suc, Bool, List, [], ◌∷◌, Some, length, slice_get, slice_index_or, bytes_eq, refl, ap, arith}
-use Rattle.ordered_search.specs.Parts.{same_text}
+use Rattle.frame_state.specs.ordered_search.Parts.{same_text}
 
 -- they are the same where their bytes are
 same_bytes : (xs ys : List ℕ) → bytes_eq xs ys ≡ same_text xs ys

@@ -8,7 +8,7 @@ use Rattle.pcre_io.specs.declared.callouts.Block.{Block}
 use Rattle.match_items.specs.Items.{after_item, after_break, after_ref, place_before}
 use Rattle.match_items.specs.Laws.{StandsAlong}
 use Rattle.match_items.specs.Subjects.{IsTextPlace}
-use Rattle.ordered_search.specs.Setting.{lower_of}
+use Rattle.frame_state.specs.ordered_search.Setting.{lower_of}
 use Rattle.frame_state.specs.Behind.{place_back}
 use Rattle.frame_board.specs.Standing.{place_of, standing_of, back_stands}
 use Rattle.frame_state.specs.Ground.{Ground, IsGround, StandsIf}

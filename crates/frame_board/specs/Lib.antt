@@ -1,3 +1,5 @@
+pub use Rattle.frame_state.specs as frame_state
+pub use Rattle.pat_check.specs as pat_check
 pub mod Ready
 pub mod Told
 pub mod BoardProps

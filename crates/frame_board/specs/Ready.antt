@@ -29,7 +29,7 @@ use Rattle.pat_check.specs.Size.{size}
 use Rattle.pat_check.specs.Support.{dfa_support}
 use Rattle.pat_lengths.specs.Nodes.{names_cr_or_lf, has_lookbehind, tests_before}
 use Rattle.frame_board.specs.declared.ready.Ready.{Ready}
-use Rattle.ordered_search.specs.Setting.{Setting, setting_of}
+use Rattle.frame_state.specs.ordered_search.Setting.{Setting, setting_of}
 use Rattle.frame_state.specs.Ground.{Ground}
 use Rattle.frame_state.specs.Behind.{IsMeasured}
 use Rattle.frame_state.specs.Shown.{shown_as}

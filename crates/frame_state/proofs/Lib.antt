@@ -1,3 +1,4 @@
+pub use Rattle.ordered_search.proofs as ordered_search
 pub mod BehindLemmas
 pub mod PartPaths
 pub mod KidParts

@@ -1,3 +1,4 @@
+pub use Rattle.ordered_search.specs as ordered_search
 pub mod Behind
 pub mod Ground
 pub mod Begun

@@ -10,6 +10,8 @@ pub use Rattle.grep_output.specs.Context
 pub use Rattle.grep_output.specs.Texts
 pub use Rattle.grep_output.specs.Messages
 pub use Rattle.grep_output.specs.InputText
+pub use Rattle.grep_match.specs.pcre2_api as pcre2_api
+pub use Rattle.grep_match.specs as grep_match
 pub mod Work
 pub mod Turns
 pub mod WholeScans

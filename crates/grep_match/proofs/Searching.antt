@@ -18,8 +18,8 @@ use Rattle.grep_match.specs.declared.search.Answer.TheVariants as told
 use Rattle.grep_match.specs.declared.search.Verdict.{Verdict}
 use Rattle.grep_match.specs.declared.search.Verdict.TheVariants as verdict
 use Rattle.pat_tree.specs.Pattern.{Pattern, pattern_of}
-use Rattle.pcre2_errors.specs.declared.error.MatchError.{MatchError}
-use Rattle.pcre2_errors.specs.MatchErrors.{minus, number_of}
+use Rattle.pcre2_api.specs.pcre2_errors.declared.error.MatchError.{MatchError}
+use Rattle.pcre2_api.specs.pcre2_errors.MatchErrors.{minus, number_of}
 use Rattle.pcre2_api.specs.Answers.{Answer, found, none, error, answer_of, pattern_answer, search_answer}
 use Rattle.pcre2_api.proofs.Starting.{bad-text}
 use Rattle.grep_match.specs.Compiled.{patterns_in}

@@ -1,3 +1,4 @@
+pub use Rattle.pcre2_api.specs as pcre2_api
 pub mod PatternTexts
 pub mod Compiled
 pub mod Modes

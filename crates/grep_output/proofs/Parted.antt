@@ -6,7 +6,7 @@ use Rattle.frame_store.specs.declared.registers.Span.{Span}
 use Rattle.ordered_search.specs.PlaceAnswer.{Outcome}
 use Rattle.ordered_search.specs.Forward.{IsWithin}
 use Rattle.line_feed.specs.Rows.{Row}
-use Rattle.pcre2_api.specs.Captured.{span_of}
+use Rattle.grep_match.specs.pcre2_api.Captured.{span_of}
 use Rattle.grep_args.specs.declared.plan.GrepPlan.{GrepPlan}
 use Rattle.grep_args.specs.declared.plan.OffsetMode.TheVariants.{Lines}
 use Rattle.grep_match.specs.declared.found.Place.{Place}

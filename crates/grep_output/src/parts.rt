@@ -9,12 +9,12 @@ ghost use Rattle.grep_output.specs.Texts.{match_text, part_text, joined, given_t
 ghost use Rattle.grep_match.specs.Found.{Lists, groups_of, place_of};
 ghost use Rattle.tool_out.specs.Writes.{Writes};
 
+use frame_store::Span;
 use grep_args::{GrepPlan, OffsetMode};
 use grep_match::{MatchList, Place, is_named};
 use itoa::Buffer;
 use line_feed::Line;
 use pcre_io::{IoError, Sink};
-use pcre2_api::Span;
 use tool_out::{text_if, write_texts};
 
 // The text of a group, empty where it is unset.

@@ -18,7 +18,7 @@ use Rattle.grep_output.specs.declared.ended.Stop.TheVariants.{Memory}
 use Rattle.tool_in.specs.Absent.{AbsentBy}
 use Rattle.tool_in.specs.Asked.{Asked, StandFor, named_target, nothing, standard_after}
 use Rattle.pat_tree.specs.Pattern.{Pattern}
-use Rattle.grep_match.specs.Compiled.{BadPattern, Compiled, patterns_of}
+use Rattle.grep_core.specs.grep_match.Compiled.{BadPattern, Compiled, patterns_of}
 use Rattle.grep_output.specs.InputText.{first_state}
 use Rattle.tool_out.specs.Outcomes.{RunOutcome}
 use Rattle.tool_out.specs.Printed.{Printed, printed}

@@ -12,7 +12,7 @@ use Rattle.grep_output.specs.declared.shows.Treatment.TheVariants.{AsText, AsBin
 use Rattle.grep_output.specs.declared.state.State.{State}
 use Rattle.grep_output.specs.Lines.{lines, treatment}
 use Rattle.grep_output.specs.Shows.{greatest_selected, trailing}
-use Rattle.grep_match.specs.Matches.{Tried, tried_row, is_selected, has_error}
+use Rattle.grep_core.specs.grep_match.Matches.{Tried, tried_row, is_selected, has_error}
 use Rattle.grep_output.specs.Scans.{Ended, at_finish, early, too_many_errors, Scan, nth_place, place_of_most, early_scan, broken_scan, scan_to, errors_left, errors_in, scan}
 use Rattle.grep_output.specs.InputText.{input_text}
 use Rattle.grep_run.specs.Reports.{scanned, is_broken}

@@ -39,7 +39,7 @@ use Rattle.ordered_search.specs.Parts as parts
 use Rattle.ordered_search.specs.Run.{level, run}
 use Rattle.ordered_search.specs.PlaceAnswer.{walk}
 use Rattle.ordered_search.specs.MatchAnswer.{from_place}
-use Rattle.grep_match.specs.Matches.{later, matches}
+use Rattle.grep_core.specs.grep_match.Matches.{later, matches}
 use Rattle.grep_output.specs.Scans.{nth_place}
 use Rattle.grep_output.specs.InputText.{input_text}
 use Rattle.grep_run.specs.Reports.{reports}

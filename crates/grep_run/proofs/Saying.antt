@@ -11,7 +11,7 @@ use Rattle.pat_tree.specs.Pattern.{Pattern}
 use Rattle.dir_walk.specs.Filters.{Filter, BadFilter, filter_of}
 use Rattle.tool_in.specs.Asked.{Asked}
 use Rattle.token_parts.specs.declared.fault.Fault.{Fault}
-use Rattle.grep_match.specs.Compiled.{Compiled, patterns_of}
+use Rattle.grep_core.specs.grep_match.Compiled.{Compiled, patterns_of}
 use Rattle.pcre2_errors.specs.FaultTexts.{fault_text}
 use Rattle.grep_output.specs.InputText.{first_state}
 use Rattle.grep_output.specs.Messages.{message}

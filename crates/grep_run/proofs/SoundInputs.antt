@@ -11,8 +11,8 @@ use Rattle.line_feed.specs.Rows.{Row, Rows, Input, End, Finish, At, Long, rows_w
 use Rattle.grep_args.specs.declared.plan.GrepPlan.{GrepPlan}
 use Rattle.pat_tree.specs.Pattern.{Pattern}
 use Rattle.tool_in.specs.Asked.{Asked}
-use Rattle.grep_match.specs.Matches.{Tried, tried_row, is_selected, has_error}
-use Rattle.grep_match.specs.PatternTexts.{line_end}
+use Rattle.grep_core.specs.grep_match.Matches.{Tried, tried_row, is_selected, has_error}
+use Rattle.grep_core.specs.grep_match.PatternTexts.{line_end}
 use Rattle.grep_output.specs.declared.shows.Treatment.{Treatment}
 use Rattle.grep_output.specs.declared.shows.Treatment.TheVariants.{AsText, AsBinary, Skipped}
 use Rattle.grep_output.specs.declared.state.State.{State}

@@ -19,7 +19,7 @@ use Rattle.grep_output.specs.declared.ended.Ended.TheVariants as told
 use Rattle.grep_output.specs.declared.ended.FileEnd.{FileEnd}
 use Rattle.grep_output.specs.declared.ended.Stop.{Stop}
 use Rattle.grep_output.specs.declared.ended.Stop.TheVariants.{SinkFault, TooManyErrors, Memory}
-use Rattle.grep_match.specs.declared.modes.Mode.TheVariants.{Counts}
+use Rattle.grep_core.specs.grep_match.declared.modes.Mode.TheVariants.{Counts}
 use Rattle.grep_output.specs.declared.shows.Treatment.{Treatment}
 use Rattle.grep_output.specs.declared.shows.Treatment.TheVariants.{AsText, AsBinary, Skipped}
 use Rattle.grep_output.specs.declared.state.State.{State}
@@ -31,7 +31,7 @@ use Rattle.pat_tree.specs.Pattern.{Pattern}
 use Rattle.grep_output.specs.Ends.{ended_of, stop_of}
 use Rattle.grep_output.specs.InputText.{Written, input_text, first_state, out_text, shown_out, end_out}
 use Rattle.grep_output.specs.Lines.{lines, treatment}
-use Rattle.grep_match.specs.Modes.{mode, is_with, is_matching}
+use Rattle.grep_core.specs.grep_match.Modes.{mode, is_with, is_matching}
 use Rattle.grep_output.specs.Shows.{is_told, show_in, tells_binary}
 use Rattle.grep_output.specs.Scans as meant
 use Rattle.grep_output.specs.Scans.{Scan, at_finish, early, too_many_errors, scan, selected_in}

@@ -13,7 +13,7 @@ use Rattle.grep_run.specs.PatternFiles.{FileTexts}
 use Rattle.grep_output.specs.InputText.{first_state}
 use Rattle.grep_run.specs.ToolText.{with_names, targets_of, text_by_help, text_by_texts, text_by_patterns, text_by_filter, text_of}
 use Rattle.grep_run.specs.Asks.{AsksUnless, AsksBy, asked_unless, asked_by_plan, targets_by}
-use Rattle.grep_match.specs.Compiled.{Compiled}
+use Rattle.grep_core.specs.grep_match.Compiled.{Compiled}
 use Rattle.grep_run.specs.Laws.{SoundEndWell, ToldAskForOne}
 use Rattle.grep_run.proofs.SoundInputs.{all-well}
 

@@ -17,7 +17,7 @@ use Rattle.grep_output.specs.InputText.{input_text}
 use Rattle.grep_output.specs.Lines.{is_nul, lines, treatment_by}
 use Rattle.grep_output.specs.Scans.{at_finish, early, nth_place, place_of_most, scan, scan_to}
 use Rattle.grep_output.specs.Shows.{greatest_selected, trailing}
-use Rattle.grep_match.specs.Matches.{is_selected}
+use Rattle.grep_core.specs.grep_match.Matches.{is_selected}
 use Rattle.tool_in.specs.Asked.{Asked, asked, is_standard, nothing, standard_after, StandFor, Stands}
 use Rattle.grep_run.specs.PatternFiles.{shown_name}
 use Rattle.grep_run.specs.Reports.{report_of, state_after_report}

@@ -8,8 +8,8 @@ use Rattle.dir_walk.specs.declared.lists.Target.{Target}
 use Rattle.dir_walk.specs.Filters.{Filter, filter_of}
 use Rattle.tool_in.specs.Asked.{Asked}
 use Rattle.pat_tree.specs.Pattern.{Pattern}
-use Rattle.grep_match.specs.Compiled.{patterns_of}
-use Rattle.grep_match.specs.Matches.{tried_row, has_error}
+use Rattle.grep_core.specs.grep_match.Compiled.{patterns_of}
+use Rattle.grep_core.specs.grep_match.Matches.{tried_row, has_error}
 use Rattle.grep_output.specs.Lines.{lines}
 use Rattle.grep_run.specs.PatternFiles.{texts_in_files}
 use Rattle.grep_run.specs.ToolText.{with_names, targets_of, text_of}

@@ -14,7 +14,7 @@ use Rattle.grep_output.specs.declared.ended.FileEnd.{FileEnd}
 use Rattle.grep_output.specs.InputText.{Written, first_state}
 use Rattle.grep_core.specs.WholeScans.{LeavesRest}
 use Rattle.grep_output.specs.Scans.{early}
-use Rattle.grep_match.specs.Compiled.{Compiled, patterns_of}
+use Rattle.grep_core.specs.grep_match.Compiled.{Compiled, patterns_of}
 use Rattle.pat_tree.specs.Pattern.{Pattern}
 use Rattle.tool_in.specs.Absent.{AbsentBy}
 use Rattle.tool_in.specs.Asked.{Asked, is_standard}

@@ -10,7 +10,7 @@ use Rattle.grep_args.specs.declared.options.FilterOption.TheVariants.{Include, E
 use Rattle.grep_args.specs.Words.{Fault}
 use Rattle.token_parts.specs.declared.fault.Fault.{Fault as PatternFault}
 use Rattle.dir_walk.specs.Filters.{BadFilter}
-use Rattle.grep_match.specs.Compiled.{BadPattern}
+use Rattle.grep_core.specs.grep_match.Compiled.{BadPattern}
 use Rattle.tool_out.specs.Texts.{line}
 use Rattle.grep_output.specs.Messages.{message}
 use Rattle.pcre2_errors.specs.FaultTexts.{fault_text}

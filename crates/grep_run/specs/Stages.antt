@@ -10,7 +10,7 @@ use Rattle.dir_walk.specs.declared.lists.Target.{Target}
 use Rattle.tool_in.specs.Asked.{Asked, StandFor}
 use Rattle.tool_in.specs.Takes.{TakesAll}
 use Rattle.tool_out.specs.Printed.{Printed}
-use Rattle.grep_match.specs.Compiled.{Compiled}
+use Rattle.grep_core.specs.grep_match.Compiled.{Compiled}
 use Rattle.grep_output.specs.declared.ended.Stop.{Stop}
 use Rattle.grep_run.specs.Asks.{AsksFor, Lists, asked_by_plan}
 use Rattle.grep_run.specs.Leaves.{Ties, Unless, LeavesBy, LeavesPlan, LeavesInput}

@@ -5,9 +5,9 @@ use Rattle.grep_args.specs.declared.plan.GrepPlan.{GrepPlan}
 use Rattle.grep_output.specs.declared.ended.FileEnd.{FileEnd}
 use Rattle.grep_output.specs.declared.ended.Stop.{Stop}
 use Rattle.grep_output.specs.declared.ended.Stop.TheVariants.{SinkFault, TooManyErrors}
-use Rattle.grep_match.specs.declared.modes.Mode.TheVariants.{Counts}
+use Rattle.grep_core.specs.grep_match.declared.modes.Mode.TheVariants.{Counts}
 use Rattle.grep_output.specs.Ends.{ended_of}
-use Rattle.grep_match.specs.Modes.{mode, is_matching}
+use Rattle.grep_core.specs.grep_match.Modes.{mode, is_matching}
 use Rattle.tool_out.specs.Texts.{line, text_if}
 use Rattle.grep_run.specs.Reports.{Report, is_broken}
 use Rattle.grep_run.specs.ToolText.{has_failed, is_failed, total_of, count_lines, out_of, err_of}

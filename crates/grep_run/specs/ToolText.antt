@@ -8,10 +8,10 @@ use Rattle.grep_args.specs.declared.plan.NameMode.{NameMode}
 use Rattle.grep_args.specs.declared.plan.NameMode.TheVariants.{Auto, With}
 use Rattle.grep_args.specs.declared.plan.HelpKind.{HelpKind}
 use Rattle.grep_args.specs.Words.{plan_of}
-use Rattle.grep_match.specs.Compiled.{Compiled, patterns_of}
-use Rattle.grep_match.specs.declared.modes.Mode.{Mode}
-use Rattle.grep_match.specs.declared.modes.Mode.TheVariants.{Nothing, NamesWithout, Counts}
-use Rattle.grep_match.specs.Modes.{mode, is_with, is_matching}
+use Rattle.grep_core.specs.grep_match.Compiled.{Compiled, patterns_of}
+use Rattle.grep_core.specs.grep_match.declared.modes.Mode.{Mode}
+use Rattle.grep_core.specs.grep_match.declared.modes.Mode.TheVariants.{Nothing, NamesWithout, Counts}
+use Rattle.grep_core.specs.grep_match.Modes.{mode, is_with, is_matching}
 use Rattle.grep_output.specs.Scans.{Ended, at_finish, early, too_many_errors}
 use Rattle.tool_out.specs.Texts.{line, text_if}
 use Rattle.tool_out.specs.Outcomes.{RunOutcome}

@@ -6,7 +6,7 @@ use Rattle.uni_text.specs.Sets.{word}
 use Rattle.match_items.specs.Views.{fold_in}
 use Rattle.ordered_search.specs.Setting.{setting_of}
 use Rattle.pat_tree.specs.Pattern.{pattern_of}
-use Rattle.pcre2_api.specs.Patterns.{setting}
+use Rattle.grep_core.specs.pcre2_api.Patterns.{setting}
 use Rattle.pcre_io.specs.Files.{File}
 use Rattle.grep_run.specs.RowRuns.{outcome, over, over_files, over_errors, file, failing}
 

@@ -4,7 +4,7 @@ ghost use Rattle.pcre_io.specs.Told.{Kept};
 ghost use Rattle.line_feed.specs.Rows.{Input};
 ghost use Rattle.tool_in.specs.Absent.{AbsentBy};
 ghost use Rattle.tool_in.specs.Asked.{asked, Opened};
-ghost use Rattle.grep_match.specs.Compiled.{patterns_in};
+ghost use Rattle.grep_core.specs.grep_match.Compiled.{patterns_in};
 ghost use Rattle.dir_walk.specs.declared.lists.Target.TheVariants as targets;
 ghost use Rattle.grep_output.specs.declared.state.State.{State};
 ghost use Rattle.grep_output.specs.InputText.{input_text};
@@ -19,8 +19,7 @@ ghost use Rattle.tool_out.specs.Texts.{text_if};
 
 use dir_walk::Target;
 use grep_args::GrepPlan;
-use grep_core::{FileEnd, GrepState, Stop, grep_file, write_message};
-use grep_match::Patterns;
+use grep_core::{FileEnd, GrepState, Patterns, Stop, grep_file, write_message};
 use pcre_io::{FileSet, IoError, MemSource, Sink, Source};
 use std::alloc::Global;
 

@@ -9,7 +9,7 @@ use grep_args::{FilterOption, HelpKind, UsageKind};
 use grep_core::write_message;
 use itoa::Buffer;
 use pcre_io::{IoError, Sink};
-use pcre2_api::fault_text;
+use pcre2_errors::fault_text;
 use tool_out::write_texts;
 
 // What is at fault, before the word that is told.

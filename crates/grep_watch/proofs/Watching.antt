@@ -12,7 +12,7 @@ use Rattle.grep_args.specs.declared.plan.GrepPlan.{GrepPlan}
 use Rattle.line_feed.specs.Rows.{Row}
 use Rattle.line_feed.specs.View.{Feed}
 use Rattle.line_feed.specs.Answers.{Gives}
-use Rattle.pcre2_api.specs.Needed.{Lacks}
+use Rattle.grep_match.specs.pcre2_api.Needed.{Lacks}
 use Rattle.grep_match.specs.declared.unsearched.Needed.{Needed}
 use Rattle.grep_match.specs.Matches.{matches}
 use Rattle.grep_match.specs.Needed.{AreNeeded}

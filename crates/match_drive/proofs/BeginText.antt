@@ -18,8 +18,8 @@ use Rattle.match_needs.specs.Distances.{NeedsAt}
 use Rattle.match_needs.specs.NeedTables.{IsNeedOf}
 use Rattle.match_needs.specs.Texts.{sets_of, behind_of, Stands}
 use Rattle.ordered_search.specs.Setting.{lower_of}
-use Rattle.search_needs.proofs.Behind.{begin_law}
-use Rattle.frame_board.specs.Ready.{setting_for}
+use Rattle.start_tests.proofs.search_needs.Behind.{begin_law}
+use Rattle.frame_machine.specs.frame_board.Ready.{setting_for}
 use Rattle.start_tests.specs.Asked.{passed_over, replied}
 use Rattle.match_drive.specs.BeginText.{IsBegun}
 use Rattle.start_tests.proofs.Leads.{class_told}

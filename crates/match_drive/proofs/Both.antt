@@ -6,8 +6,8 @@ use Rattle.pat_tree.specs.Parts.{TreeParts, tree_of}
 use Rattle.pat_tree.specs.Sound.{TreeRules}
 use Rattle.match_items.specs.Subjects.{IsText, IsTextPlace}
 use Rattle.match_items.specs.declared.view.View.{View}
-use Rattle.frame_board.specs.declared.ready.Ready.{Ready}
-use Rattle.frame_board.specs.Ready.{IsReadySearch, setting_for}
+use Rattle.frame_machine.specs.frame_board.declared.ready.Ready.{Ready}
+use Rattle.frame_machine.specs.frame_board.Ready.{IsReadySearch, setting_for}
 use Rattle.ordered_search.specs.Setting.{Setting}
 use Rattle.start_tests.specs.Bytes.{AreBytes}
 use Rattle.match_drive.specs.Starts.{AreAlike}

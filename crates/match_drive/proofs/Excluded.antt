@@ -3,7 +3,7 @@ use Rattle.std.proofs.Common.{◌≡◌, ℕ, ◌<◌, Bool, true, false, not, L
 use Rattle.std.specs.Prelude.{slice_index}
 use Rattle.std.proofs.lemmas.Bool.{lt-leb}
 use Rattle.byte_lanes.specs.Sets.{has_byte}
-use Rattle.pat_check.specs.Known.{IsByteSet}
+use Rattle.ordered_search.specs.pat_check.Known.{IsByteSet}
 use Rattle.ordered_search.specs.Setting.{Setting, lead_set}
 use Rattle.ordered_search.specs.Places.{is_off, is_outside, is_excluded}
 use Rattle.start_tests.specs.Bytes.{IsByteOutside}

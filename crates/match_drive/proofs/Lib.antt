@@ -1,3 +1,4 @@
+pub use Rattle.start_tests.proofs.search_needs as search_needs
 mod Left
 mod NoneTold
 mod Excluded

@@ -17,8 +17,8 @@ use Rattle.match_needs.specs.Lacking.{IsBoundWithout}
 use Rattle.match_needs.specs.NeedTables.{may_of, IsBoundLacking}
 use Rattle.ordered_search.specs.Setting.{lower_of}
 use Rattle.ordered_search.specs.MatchAnswer.{none_found, match_answer}
-use Rattle.search_needs.proofs.Needed.{need_law}
-use Rattle.frame_board.specs.Ready.{setting_for}
+use Rattle.start_tests.proofs.search_needs.Needed.{need_law}
+use Rattle.frame_machine.specs.frame_board.Ready.{setting_for}
 use Rattle.start_tests.proofs.Leads.{class_told}
 
 -- a search that finds no place

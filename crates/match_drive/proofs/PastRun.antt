@@ -9,7 +9,7 @@ use Rattle.match_items.specs.Scene.{Scene}
 use Rattle.match_items.specs.declared.view.View.{View}
 use Rattle.match_items.specs.Items.{longest_run}
 use Rattle.match_items.specs.Views.{text_scene, end_of}
-use Rattle.frame_board.specs.Ready.{setting_for}
+use Rattle.frame_machine.specs.frame_board.Ready.{setting_for}
 use Rattle.ordered_search.proofs.LaterRuns.{end_within}
 use Rattle.ordered_search.proofs.FollowLaw.{later_places}
 use Rattle.match_drive.specs.Run.{BeginsByRun, GoesByRuns, IsFirstRun}

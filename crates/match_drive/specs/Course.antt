@@ -3,8 +3,8 @@ use Rattle.std.specs.Prelude.{◌<◌, ℕ, List, length, Option, IsTrue, IfSome
 use Rattle.std.specs.Option.{option_copied}
 use Rattle.pat_tree.specs.Parts.{tree_of}
 use Rattle.match_items.specs.declared.view.View.{View}
-use Rattle.frame_board.specs.declared.ready.Ready.{Ready}
-use Rattle.frame_board.specs.Ready.{IsReadySearch, setting_for}
+use Rattle.frame_machine.specs.frame_board.declared.ready.Ready.{Ready}
+use Rattle.frame_machine.specs.frame_board.Ready.{IsReadySearch, setting_for}
 use Rattle.match_needs.specs.declared.needs.BeginText.{BeginText}
 use Rattle.start_tests.specs.Asked.{passed_over}
 use Rattle.match_drive.specs.declared.outline.Guide.{Guide}

@@ -1,3 +1,7 @@
+pub use Rattle.start_tests.specs as start_tests
+pub use Rattle.frame_machine.specs.frame_board as frame_board
+pub use Rattle.frame_machine.specs as frame_machine
+pub use Rattle.frame_state.specs as frame_state
 pub mod Rest
 pub mod Answer
 pub mod Begin

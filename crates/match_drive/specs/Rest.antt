@@ -1,7 +1,7 @@
 -- What is left of a search from a start place on, and how the places before add to it.
 use Rattle.std.specs.Prelude.{◌≡◌, ◌≤◌, ◌<◌, ℕ, ℤ, ◌+◌, ◌-◌, Bool, true, false, ◌&&◌, List, length, Option, Some, None, IsSomeAnd, nat_lt}
 use Rattle.std.specs.Option.{option_or}
-use Rattle.pat_check.specs.Known.{IsByteSet}
+use Rattle.ordered_search.specs.pat_check.Known.{IsByteSet}
 use Rattle.pcre_io.specs.declared.callouts.Block as told
 use Rattle.match_items.specs.Subjects.{IsTextPlace}
 use Rattle.frame_state.specs.Shown.{seen_after}

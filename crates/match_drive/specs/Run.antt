@@ -9,7 +9,7 @@ use Rattle.pat_tree.specs.declared.options.PartialMode.TheVariants.{Off}
 use Rattle.pat_tree.specs.Parts.{TreeParts, tree_of}
 use Rattle.pat_tree.specs.Rules.{class_in}
 use Rattle.match_items.specs.declared.view.View.{View}
-use Rattle.frame_board.specs.Ready.{setting_for}
+use Rattle.frame_machine.specs.frame_board.Ready.{setting_for}
 use Rattle.ordered_search.specs.LaterPlaces.{BeginsWithRun, first_run}
 use Rattle.ordered_search.specs.Plain.{IsPlain}
 use Rattle.start_tests.specs.Asked.{passed_over}

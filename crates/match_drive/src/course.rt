@@ -3,7 +3,7 @@ ghost use Rattle.std.specs.Prelude.{◌≡◌, ◌≤◌, ℤ, IsTrue, IfSome, l
 ghost use Rattle.std.specs.Option.{option_copied};
 ghost use Rattle.pcre_io.specs.declared.callouts.Block.{Block};
 ghost use Rattle.match_items.specs.Subjects.{IsTextPlace};
-ghost use Rattle.frame_board.specs.Ready.{setting_for};
+ghost use Rattle.frame_machine.specs.frame_board.Ready.{setting_for};
 ghost use Rattle.start_tests.specs.Asked.{passed_over};
 ghost use Rattle.match_drive.specs.Course.{IsByteCourse};
 ghost use Rattle.start_tests.specs.Prefix.{IsTold};

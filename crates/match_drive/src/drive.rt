@@ -1,6 +1,6 @@
 //! The search over all start places.
 ghost use Rattle.std.specs.Prelude.{◌≡◌, ◌≤◌, ◌<◌, max};
-ghost use Rattle.frame_board.specs.Ready.{IsReadySearch, setting_for};
+ghost use Rattle.frame_machine.specs.frame_board.Ready.{IsReadySearch, setting_for};
 ghost use Rattle.pat_tree.specs.declared.options.PartialMode.TheVariants.{Off};
 ghost use Rattle.pcre_io.specs.declared.callouts.Block.{Block};
 ghost use Rattle.frame_state.specs.Room.{IsQuiet};

@@ -3,7 +3,7 @@ ghost use Rattle.std.specs.Prelude.{◌≡◌, ◌≤◌, ◌<◌, ℤ, max, len
 ghost use Rattle.std.specs.Option.{option_copied};
 ghost use Rattle.pcre_io.specs.declared.callouts.Block.{Block};
 ghost use Rattle.match_items.specs.Subjects.{IsText, IsTextPlace};
-ghost use Rattle.pat_check.specs.Known.{IsByteSet};
+ghost use Rattle.ordered_search.specs.pat_check.Known.{IsByteSet};
 ghost use Rattle.frame_state.specs.Room.{IsQuiet};
 ghost use Rattle.frame_machine.specs.Scratch.{HasRoom, IsOfSearch};
 ghost use Rattle.frame_state.specs.Answer.{IsAnswer, IsMark, IsSeen, SkipsToPlace};

@@ -16,5 +16,6 @@ mod starts;
 pub use answer::MatchAnswer;
 pub use drive::{search, search_by, search_on, search_reserved};
 pub use driven::Driven;
+pub use frame_machine::{Ready, Scratch};
 pub use outline::Outline;
 pub use starts::{is_left_out, last_start, start_after};

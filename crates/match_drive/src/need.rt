@@ -4,7 +4,7 @@ ghost use Rattle.std.specs.Option.{option_copied};
 ghost use Rattle.match_items.specs.Subjects.{IsText};
 ghost use Rattle.pcre_io.specs.declared.callouts.Block.{Block};
 ghost use Rattle.match_bounds.specs.Bounds.{at};
-ghost use Rattle.frame_board.specs.Ready.{IsReadySearch, setting_for};
+ghost use Rattle.frame_machine.specs.frame_board.Ready.{IsReadySearch, setting_for};
 ghost use Rattle.ordered_search.specs.Setting.{lower_of};
 ghost use Rattle.ordered_search.specs.MatchAnswer.{none_found, match_answer};
 ghost use Rattle.match_needs.specs.Texts.{sets_of, Stands};

@@ -2,7 +2,7 @@
 ghost use Rattle.std.specs.Prelude.{◌≡◌, ◌≤◌, ◌<◌, length, IfSome};
 ghost use Rattle.std.specs.Option.{option_copied};
 ghost use Rattle.match_items.specs.Subjects.{IsTextPlace};
-ghost use Rattle.frame_board.specs.Ready.{IsReadySearch, setting_for};
+ghost use Rattle.frame_machine.specs.frame_board.Ready.{IsReadySearch, setting_for};
 ghost use Rattle.ordered_search.specs.Places as places;
 ghost use Rattle.ordered_search.specs.PlaceAnswer.{Exhausted};
 ghost use Rattle.start_tests.specs.Asked.{passed_over};

@@ -1,3 +1,4 @@
+pub use Rattle.char_sets.specs as char_sets
 pub mod Scene
 pub mod Subjects
 pub mod Items

@@ -1,3 +1,4 @@
+pub use Rattle.match_bounds.specs as match_bounds
 pub mod Distances
 pub mod Lacking
 pub mod Needs

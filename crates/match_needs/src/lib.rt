@@ -6,5 +6,6 @@ mod needs;
 mod text;
 mod weights;
 
+pub use match_bounds::{Bound, Growth};
 pub use needs::{BeginText, Need, need_of};
 pub use text::ByteText;

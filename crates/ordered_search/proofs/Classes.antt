@@ -3,7 +3,7 @@ use Rattle.std.proofs.Common.{◌≡◌, ℕ, zero, suc, Bool, List, [], ◌∷�
 use Rattle.std.specs.Prelude.{slice_get, slice_index_or}
 use Rattle.pat_tree.specs.declared.nodes.ClassSpec.{ClassSpec}
 use Rattle.pat_tree.specs.Parts.{TreeParts}
-use Rattle.char_sets.specs.Sets.{takes, no_class, class_has}
+use Rattle.match_items.specs.char_sets.Sets.{takes, no_class, class_has}
 use Rattle.ordered_search.specs.Setting.{class_holds}
 
 class_same : (utf : Bool) (cs : List ClassSpec) (n c : ℕ) → takes utf (slice_index_or cs n no_class) c ≡ class_holds utf (slice_get cs n) c

@@ -1,3 +1,4 @@
+pub use Rattle.pat_check.specs as pat_check
 pub mod Stream
 pub mod Setting
 pub mod Tests

@@ -6,7 +6,7 @@ use Rattle.pat_tree.specs.declared.nodes.ClassSpec.{ClassSpec}
 use Rattle.pat_tree.specs.Newlines.{end_kind, break_kind}
 use Rattle.pat_tree.specs.Nested.{Nested}
 use Rattle.pat_tree.specs.Pattern.{Pattern}
-use Rattle.char_sets.specs.Sets.{takes}
+use Rattle.match_items.specs.char_sets.Sets.{takes}
 use Rattle.match_items.specs.Scene.{Scene}
 use Rattle.pat_lengths.specs.Nodes as nodes
 use Rattle.pat_lengths.specs.Lengths as lengths

@@ -2,7 +2,7 @@ pub use Rattle.pat_lengths.specs.Nodes
 pub use Rattle.pat_lengths.specs.Lengths
 pub use Rattle.pat_lengths.specs.HasLength
 pub use Rattle.pat_lengths.specs.Backs
-pub use Rattle.match_bounds.specs.Bounds
+pub use Rattle.match_needs.specs.match_bounds.Bounds
 pub use Rattle.match_needs.specs.Needs
 pub use Rattle.match_needs.specs.NeedTables
 pub mod Lead

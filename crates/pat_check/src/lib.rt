@@ -14,7 +14,6 @@ mod survey;
 
 pub use facts::{CheckError, Facts, check};
 pub use laws::worked_rows;
-pub use match_bounds::{Bound, Growth};
-pub use match_needs::Need;
+pub use match_needs::{Bound, Growth, Need};
 pub use pat_lengths::{Backs, lengths_are_bounds};
 pub use support::DfaSupport;

@@ -14,8 +14,8 @@ use Rattle.token_parts.specs.Tell.{◌>>=◌}
 use Rattle.pat_build.specs.Reading.{read}
 use Rattle.pat_build.specs.Places.{Refuses}
 use Rattle.pat_build.specs.Nodes.{parsed_of, references_of, reference_in}
-use Rattle.pat_grammar.specs.declared.error.ReadError.{ReadError}
-use Rattle.pat_grammar.specs.declared.error.ReadError.TheVariants as reading
+use Rattle.pat_build.specs.pat_grammar.declared.error.ReadError.{ReadError}
+use Rattle.pat_build.specs.pat_grammar.declared.error.ReadError.TheVariants as reading
 use Rattle.pat_check.specs.Known.{IsCheckError}
 use Rattle.pat_check.specs.declared.facts.CheckError.{CheckError}
 use Rattle.pat_check.specs.declared.facts.CheckError.TheVariants as checking

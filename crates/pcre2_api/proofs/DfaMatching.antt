@@ -3,13 +3,13 @@ use Rattle.std.proofs.Common.{◌≡◌, ℕ, Bool, true, false, ◌&&◌, not, 
 use Rattle.std.specs.Prelude.{slice_index}
 use Rattle.std.specs.Str.{is_utf8}
 use Rattle.std.specs.Str.Lossy.{utf8_valid_len}
-use Rattle.frame_board.specs.Standing.{is_inside}
+use Rattle.dfa_drive.specs.frame_board.Standing.{is_inside}
 use Rattle.ordered_search.specs.Setting.{Setting}
-use Rattle.dfa_ends.specs.DfaAnswer as meant
-use Rattle.dfa_ends.specs.DfaAnswer.{dfa_answer}
-use Rattle.dfa_graph.specs.declared.making.GraphError.{GraphError}
-use Rattle.dfa_graph.specs.declared.making.GraphError.TheVariants as graph
-use Rattle.dfa_graph.specs.Served.{refusal, IsRefused}
+use Rattle.dfa_drive.specs.dfa_ends.DfaAnswer as meant
+use Rattle.dfa_drive.specs.dfa_ends.DfaAnswer.{dfa_answer}
+use Rattle.dfa_drive.specs.dfa_graph.declared.making.GraphError.{GraphError}
+use Rattle.dfa_drive.specs.dfa_graph.declared.making.GraphError.TheVariants as graph
+use Rattle.dfa_drive.specs.dfa_graph.Served.{refusal, IsRefused}
 use Rattle.pcre2_api.specs.Matched.{fault_in}
 use Rattle.pcre2_errors.specs.declared.error.MatchError.{MatchError}
 use Rattle.pcre2_errors.specs.declared.error.MatchError.TheVariants as beginning

@@ -3,11 +3,11 @@ use Rattle.std.specs.Prelude.{◌≡◌, ◌≤◌, ℕ, length, Some, None}
 use Rattle.pat_tree.specs.declared.options.PartialMode.TheVariants.{Off}
 use Rattle.match_items.specs.Subjects.{IsTextPlace}
 use Rattle.ordered_search.specs.Setting.{Setting}
-use Rattle.dfa_ends.specs.DfaAnswer as meant
-use Rattle.dfa_ends.specs.DfaAnswer.{EndsFrom, PartialFrom, dfa_answer}
-use Rattle.dfa_graph.specs.declared.making.GraphError.{GraphError}
-use Rattle.dfa_graph.specs.declared.making.GraphError.TheVariants as graph
-use Rattle.dfa_graph.specs.Served.{refusal}
+use Rattle.dfa_drive.specs.dfa_ends.DfaAnswer as meant
+use Rattle.dfa_drive.specs.dfa_ends.DfaAnswer.{EndsFrom, PartialFrom, dfa_answer}
+use Rattle.dfa_drive.specs.dfa_graph.declared.making.GraphError.{GraphError}
+use Rattle.dfa_drive.specs.dfa_graph.declared.making.GraphError.TheVariants as graph
+use Rattle.dfa_drive.specs.dfa_graph.Served.{refusal}
 use Rattle.dfa_drive.specs.Answer.{AreWithin}
 use Rattle.pcre2_api.specs.Matched.{fault_in}
 use Rattle.pcre2_errors.specs.declared.error.MatchError.{MatchError}

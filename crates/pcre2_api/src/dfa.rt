@@ -1,13 +1,12 @@
 //! A match by all ends at one place.
 ghost use Rattle.std.specs.Prelude.{◌≡◌, ◌<◌, None, IfOk, IfErr, length};
-ghost use Rattle.start_tests.specs.Asked.{passed_over};
+ghost use Rattle.dfa_drive.specs.start_tests.Asked.{passed_over};
 ghost use Rattle.pcre2_api.specs.Matched.{search_of};
 ghost use Rattle.pcre2_api.specs.Starts.{start_fault};
 ghost use Rattle.pcre2_api.specs.DfaMatched.{start_error_of, IsDfaFound, IsDfaError};
 
 use crate::code::Code;
-use dfa_drive::{DfaAnswer, dfa_search};
-use dfa_lists::{EndList, Graph, Lists};
+use dfa_drive::{DfaAnswer, EndList, Graph, Lists, dfa_search};
 use match_items::View;
 use pat_tree::{MatchOptions, Steps};
 use pcre2_errors::{DfaError, MatchError};

@@ -17,9 +17,8 @@ mod walk;
 
 pub use code::{Code, Info};
 pub use dfa::DfaFound;
-pub use dfa_lists::{EndList, Lists};
+pub use dfa_drive::{EndList, Lists, Scratch};
 pub use found::Found;
-pub use frame_machine::Scratch;
 pub use frame_store::Span;
 pub use laws::worked_substitutions;
 pub use match_needs::ByteText;

@@ -4,3 +4,4 @@
 mod run;
 
 pub use run::{check_bytes, check_script};
+pub use test_run::{ScriptStop, run_script};

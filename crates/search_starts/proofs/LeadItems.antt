@@ -13,7 +13,7 @@ use Rattle.uni_text.specs.Characters.{first_char, char_at}
 use Rattle.pat_tree.specs.declared.nodes.Item.{Item}
 use Rattle.pat_tree.specs.declared.nodes.Item.TheVariants.{Char, AnyAll, NotNewline, Class}
 use Rattle.pat_tree.specs.Newlines.{end_kind, break_kind}
-use Rattle.pat_check.specs.Lead as lead
+use Rattle.ordered_search.specs.pat_check.Lead as lead
 use Rattle.match_items.specs.Items.{is_end, takes, after_item, newline_at, after_break, run_places, is_none_left, one_less}
 use Rattle.match_items.specs.Subjects.{IsText, IsTextPlace}
 use Rattle.match_items.proofs.TextGround.{next_place as goes_to_place}

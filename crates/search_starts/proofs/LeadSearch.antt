@@ -11,8 +11,8 @@ use Rattle.pat_tree.specs.Nested as tree
 use Rattle.pat_tree.specs.Nested.{Nested, Row, Test, Other}
 use Rattle.pat_tree.specs.Newlines.{end_kind, break_kind}
 use Rattle.pat_tree.specs.Rules.{AtMost}
-use Rattle.pat_check.specs.Lead as first
-use Rattle.pat_check.specs.Lead.{Lead, SomeLead, no_byte, then_lead, either_lead, repeated_lead}
+use Rattle.ordered_search.specs.pat_check.Lead as first
+use Rattle.ordered_search.specs.pat_check.Lead.{Lead, SomeLead, no_byte, then_lead, either_lead, repeated_lead}
 use Rattle.match_items.specs.Items.{one_less, is_none_left, places_back, item_reaches, after_ref, ref_reaches, holds, anchor_reaches, after_item, after_break, run_places, longest_run}
 use Rattle.match_items.specs.Subjects.{IsText}
 use Rattle.pat_lengths.specs.Lengths.{SomeLengths}

@@ -3,7 +3,7 @@ use Rattle.std.proofs.Common.{◌≡◌, ℕ, zero, suc, ◌+◌, ◌≤◌, Boo
 use Rattle.std.specs.Prelude.{IfSome, slice_index}
 use Rattle.std.proofs.lemmas.Bool.{true≢false}
 use Rattle.pat_lengths.specs.Nodes.{has_accept}
-use Rattle.pat_check.specs.Lead.{SomeLead}
+use Rattle.ordered_search.specs.pat_check.Lead.{SomeLead}
 use Rattle.match_items.specs.Items.{is_end}
 use Rattle.match_items.specs.Subjects.{IsTextPlace}
 use Rattle.ordered_search.specs.Stream.{State, first_state, is_partial, too_many_units, loop, abort, cut, exhausted, by_verb, by_halt, reached, accepted, note, state, step, Stream, ends, ◌▸◌}

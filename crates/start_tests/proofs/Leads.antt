@@ -5,8 +5,8 @@ use Rattle.std.specs.Prelude.{slice_get}
 use Rattle.pat_tree.specs.Newlines.{end_kind, break_kind}
 use Rattle.pat_tree.specs.Parts.{TreeParts, tree_of}
 use Rattle.char_sets.specs.Sets.{class_has}
-use Rattle.pat_check.specs.Known.{IsByteSet, lead_set_of}
-use Rattle.pat_check.specs.Lead.{lead_set}
+use Rattle.frame_board.specs.pat_check.Known.{IsByteSet, lead_set_of}
+use Rattle.frame_board.specs.pat_check.Lead.{lead_set}
 use Rattle.ordered_search.specs.Setting.{class_holds}
 use Rattle.ordered_search.proofs.Classes.{class_is}
 

@@ -1,3 +1,4 @@
+pub use Rattle.search_needs.proofs as search_needs
 pub mod Leads
 pub mod TextSteps
 pub mod PastPrefix

@@ -18,7 +18,7 @@ use Rattle.match_items.specs.declared.view.View.{View}
 use Rattle.match_items.specs.Items.{after_item, item_reaches}
 use Rattle.match_items.specs.Views.{text_scene, fold_in}
 use Rattle.frame_board.specs.Ready.{setting_for}
-use Rattle.frame_state.specs.Stops.{admitted, refused_as_empty, refused_by_end}
+use Rattle.frame_board.specs.frame_state.Stops.{admitted, refused_as_empty, refused_by_end}
 use Rattle.ordered_search.specs.Stream.{State, Stream, Search, reached, accepted, first_state, ends, by_halt, too_many_units, state, ◌▸◌, nothing, each, and_then, catch, is_next_branch, ◌or_else◌}
 use Rattle.ordered_search.specs.Setting.{Setting, lower_of, match_limit, held}
 use Rattle.ordered_search.specs.Tests.{goes_to, move_to, run_one}

@@ -13,7 +13,7 @@ use Rattle.match_items.specs.declared.view.View.{View}
 use Rattle.match_items.specs.Items.{longest_run}
 use Rattle.match_items.specs.Views.{text_scene, maximum, end_of}
 use Rattle.frame_board.specs.Ready.{setting_for}
-use Rattle.frame_state.specs.Stops.{admitted}
+use Rattle.frame_board.specs.frame_state.Stops.{admitted}
 use Rattle.ordered_search.specs.Stream.{reached, first_state, gives, nothing, ◌or_else◌}
 use Rattle.ordered_search.specs.Setting.{Setting, lower_of, match_limit, hold}
 use Rattle.ordered_search.specs.Tests.{move_to, offers}

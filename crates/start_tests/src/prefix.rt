@@ -7,7 +7,7 @@ ghost use Rattle.match_items.specs.Subjects.{IsText, IsTextPlace};
 ghost use Rattle.match_items.specs.Items.{after_item};
 ghost use Rattle.match_items.specs.Views.{text_scene, told};
 ghost use Rattle.frame_board.specs.Ready.{setting_for};
-ghost use Rattle.frame_state.specs.Stops.{admitted};
+ghost use Rattle.frame_board.specs.frame_state.Stops.{admitted};
 ghost use Rattle.start_tests.specs.Asked.{passed_over};
 ghost use Rattle.start_tests.specs.Prefix as prefix;
 ghost use Rattle.start_tests.specs.Prefix.{AreBranches, IsFree, row_of};

@@ -4,7 +4,7 @@ use Rattle.pat_tree.specs.declared.options.MatchOptions.{MatchOptions}
 use Rattle.pat_tree.specs.Pattern.{pattern_of}
 use Rattle.pat_tree.specs.Parts.{tree_of}
 use Rattle.ordered_search.specs.Setting.{Setting}
-use Rattle.start_tests.specs.Asked.{passed_over}
+use Rattle.pcre2_api.specs.start_tests.Asked.{passed_over}
 use Rattle.dfa_ends.specs.DfaAnswer as meant
 use Rattle.dfa_ends.specs.DfaAnswer.{EndsFrom, PartialFrom, dfa_answer}
 use Rattle.dfa_graph.specs.declared.making.GraphError.{GraphError}

@@ -1,8 +1,8 @@
 //! The ends of a subject, by the matcher that finds them all.
 ghost use Rattle.std.specs.Prelude.{◌≡◌, ◌<◌, ◌≤◌, length, true, IfOk, IfErr};
 ghost use Rattle.pat_tree.specs.Pattern.{pattern_of};
-ghost use Rattle.start_tests.specs.Asked.{passed_over};
-ghost use Rattle.dfa_drive.specs.Answer.{AreWithin};
+ghost use Rattle.pcre2_api.specs.start_tests.Asked.{passed_over};
+ghost use Rattle.pcre2_api.specs.dfa_drive.Answer.{AreWithin};
 ghost use Rattle.pcre2_api.specs.Matched.{search_of};
 ghost use Rattle.pcre2_api.specs.DfaMatched.{IsDfaFound, IsDfaError};
 ghost use Rattle.test_run.specs.Dfa.{end_line, ends_text, failed_text, fault_place, unmatched_text, none_text, told_at, told_text, first_text, dfa_text, replace_with_dfa_line};

@@ -1,8 +1,8 @@
 use Rattle.std.proofs.Common.{◌≤◌, length}
 use Rattle.std.specs.Prelude.{IfSome}
 use Rattle.match_items.specs.Subjects.{IsTextPlace}
-use Rattle.frame_board.specs.Ready.{setting_for}
-use Rattle.start_tests.specs.Asked.{passed_over}
+use Rattle.match_drive.specs.frame_board.Ready.{setting_for}
+use Rattle.match_drive.specs.start_tests.Asked.{passed_over}
 use Rattle.dfa_drive.proofs.Walking.{IsLeft, places_left}
 use Rattle.dfa_drive.proofs.drive.dfa_search.Given as goal
 

@@ -1,5 +1,5 @@
 use Rattle.std.proofs.Common.{◌≤◌, sym, subst}
-use Rattle.pat_check.specs.Size.{whole_size}
+use Rattle.dfa_graph.specs.pat_check.Size.{whole_size}
 use Rattle.dfa_paths.specs.Graph.{IsFlat, takers}
 use Rattle.dfa_graph.proofs.Takers.{by_size}
 use Rattle.match_items.specs.Views.{text_scene}

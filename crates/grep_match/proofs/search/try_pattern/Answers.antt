@@ -5,7 +5,7 @@ use Rattle.pat_tree.specs.declared.options.Options.{Options}
 use Rattle.pcre2_api.specs.Matched.{search_of}
 use Rattle.pcre2_api.specs.Answers.{search_answer}
 use Rattle.grep_match.specs.declared.search.Answer.TheVariants as told
-use Rattle.pcre2_errors.specs.MatchErrors.{minus}
+use Rattle.pcre2_api.specs.pcre2_errors.MatchErrors.{minus}
 use Rattle.grep_match.specs.Found.{IsAnswer, IsUnfound}
 use Rattle.grep_match.proofs.Searching.{searchable, not_text, not_added}
 use Rattle.grep_match.proofs.search.try_pattern.Goals as goal

@@ -2,7 +2,7 @@ use Rattle.std.proofs.Common.{rules, ◌≡◌, map, string_bytes, Ok, Err, sym,
 use Rattle.grep_output.specs.declared.ended.Stop.TheVariants.{Memory}
 use Rattle.dir_walk.specs.Filters.{filter_in}
 use Rattle.grep_args.specs.declared.plan.GrepPlan.{GrepPlan}
-use Rattle.grep_match.specs.Compiled.{patterns_in}
+use Rattle.grep_core.specs.grep_match.Compiled.{patterns_in}
 use Rattle.grep_run.specs.ToolText.{with_names}
 use Rattle.grep_run.specs.Stages.{sought, SearchesFor, streams}
 use Rattle.tool_out.specs.Printed.{printed}

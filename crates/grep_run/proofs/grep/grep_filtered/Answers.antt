@@ -1,7 +1,7 @@
 use Rattle.std.proofs.Common.{rules, ◌≡◌, w32, SFits, map, string_bytes, Ok, Err, sym, subst}
 use Rattle.std.proofs.lemmas.Int.{to_z-of_z}
 use Rattle.dir_walk.specs.Filters.{BadFilter, IsFilterError, filter_of}
-use Rattle.grep_match.specs.Compiled.{patterns_in}
+use Rattle.grep_core.specs.grep_match.Compiled.{patterns_in}
 use Rattle.grep_output.specs.Ends.{stop_of}
 use Rattle.grep_run.specs.Refusals.{filter_message}
 use Rattle.grep_run.specs.Stages.{sought, SearchesFor, streams}

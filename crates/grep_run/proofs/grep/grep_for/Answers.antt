@@ -1,6 +1,6 @@
 use Rattle.std.proofs.Common.{rules, ◌≡◌, w32, SFits, map, string_bytes, Ok, Err, sym, subst}
 use Rattle.std.proofs.lemmas.Int.{to_z-of_z}
-use Rattle.grep_match.specs.Compiled.{BadPattern, patterns_in, patterns_of, IsPatternError}
+use Rattle.grep_core.specs.grep_match.Compiled.{BadPattern, patterns_in, patterns_of, IsPatternError}
 use Rattle.grep_output.specs.Ends.{stop_of}
 use Rattle.grep_run.specs.Refusals.{pattern_message}
 use Rattle.grep_run.specs.Stages.{sought, SearchesFor, streams}

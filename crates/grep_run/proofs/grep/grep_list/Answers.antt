@@ -1,5 +1,5 @@
 use Rattle.std.proofs.Common.{rules, ◌≡◌, Err}
-use Rattle.grep_match.specs.Compiled.{patterns_in}
+use Rattle.grep_core.specs.grep_match.Compiled.{patterns_in}
 use Rattle.grep_output.specs.Ends.{stop_of}
 use Rattle.grep_output.specs.InputText.{first_state}
 use Rattle.grep_run.specs.Reports.{reports}

@@ -1,6 +1,6 @@
 use Rattle.std.proofs.Common.{rules, arith, ◌≡◌, ◌+◌, ◌<◌, ◌^◌, refl, subst, ◌∙◌, take, drop, get_or, Ok, Err}
 use Rattle.std.proofs.lemmas.List.{take_more, take_all}
-use Rattle.grep_match.specs.Compiled.{patterns_in}
+use Rattle.grep_core.specs.grep_match.Compiled.{patterns_in}
 use Rattle.grep_run.specs.Searches.{ReportsTargetFrom}
 use Rattle.grep_run.proofs.Summing.{Searched, searched-none, searched-next, searched-all, searched-stops, counts-bound, total-bound, told_of, list-parted}
 use Rattle.grep_run.proofs.grep.grep_targets.Goals as goal

@@ -1,5 +1,5 @@
 use Rattle.std.proofs.Common.{◌≡◌, ◌≤◌, ◌*◌, ◌^◌, take}
-use Rattle.grep_match.specs.Compiled.{patterns_in}
+use Rattle.grep_core.specs.grep_match.Compiled.{patterns_in}
 use Rattle.grep_run.proofs.Summing.{Searched}
 use Rattle.grep_run.proofs.grep.grep_targets.Given as goal
 

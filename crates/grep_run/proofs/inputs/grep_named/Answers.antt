@@ -1,7 +1,7 @@
 use Rattle.std.proofs.Common.{rules, ◌≡◌, sym, subst, None, Some, Err, [], ◌∷◌}
 use Rattle.pcre_io.specs.Files.{IsMissing}
 use Rattle.dir_walk.specs.declared.lists.Target.TheVariants as targets
-use Rattle.grep_match.specs.Compiled.{patterns_in}
+use Rattle.grep_core.specs.grep_match.Compiled.{patterns_in}
 use Rattle.grep_run.specs.Reports.{report_on}
 use Rattle.grep_run.specs.Searches.{ReportsTo}
 use Rattle.tool_in.specs.Asked.{asked}

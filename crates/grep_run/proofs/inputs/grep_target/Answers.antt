@@ -1,6 +1,6 @@
 use Rattle.std.proofs.Common.{rules, ◌≡◌, refl, sym, subst, None, Ok, Err}
 use Rattle.dir_walk.specs.declared.lists.Target.TheVariants as targets
-use Rattle.grep_match.specs.Compiled.{patterns_in}
+use Rattle.grep_core.specs.grep_match.Compiled.{patterns_in}
 use Rattle.grep_run.specs.Searches.{ReportsTargetFrom}
 use Rattle.tool_in.proofs.Absence.{absent-other}
 use Rattle.grep_run.proofs.Reporting.{target-standard, target-other}

@@ -1,7 +1,7 @@
 use Rattle.std.proofs.Common.{◌≡◌, ◌∙◌, ◌+◌, ◌∷◌, ◌++◌, [], None, ap, sym, subst, length, length-append}
 use Rattle.pat_tree.specs.declared.options.Options.{Options}
 use Rattle.pat_tree.specs.Nested.{trees, tree_at}
-use Rattle.pat_lengths.proofs.KeepLemmas.{keep_more}
+use Rattle.match_bounds.proofs.pat_lengths.KeepLemmas.{keep_more}
 use Rattle.match_needs.specs.NeedTables.{may_of, KeepNeeds, IsNeed}
 use Rattle.match_needs.proofs.needs.needs_of.Goals as goal
 

@@ -2,7 +2,7 @@ use Rattle.std.proofs.Common.{◌≡◌, ◌<◌, Bool, true, All, None, length,
 use Rattle.std.specs.Prelude.{slice_index_or, IfSome}
 use Rattle.pat_tree.specs.Nested.{tree_at}
 use Rattle.pat_tree.specs.Rules.{kids_of}
-use Rattle.pat_lengths.proofs.KeepLemmas.{all_kept}
+use Rattle.match_bounds.proofs.pat_lengths.KeepLemmas.{all_kept}
 use Rattle.match_needs.specs.Needs.{TakesOf, IsShort}
 use Rattle.match_needs.specs.NeedTables.{may_of, IsNeed}
 use Rattle.match_needs.proofs.NeedLemmas.{needs_one, needs_turn, needs_group, needs_atomic, needs_look}

@@ -1,7 +1,7 @@
 use Rattle.std.proofs.Common.{sym, ap, subst, ◌∙◌}
 use Rattle.pat_tree.specs.declared.options.Options.{Options}
 use Rattle.match_items.specs.Subjects.{IsTextPlace}
-use Rattle.frame_board.specs.Ready.{setting_for}
+use Rattle.frame_machine.specs.frame_board.Ready.{setting_for}
 use Rattle.frame_state.specs.Stops.{admitted}
 use Rattle.start_tests.specs.Asked.{passed_over}
 use Rattle.start_tests.specs.declared.prefix.Tested.TheVariants.{Took, Refused}

@@ -2,9 +2,9 @@ use Rattle.std.proofs.Common.{rules, ◌≡◌, ◌∙◌, Err, IfErr, sym, ap, 
 use Rattle.pat_tree.specs.Parts.{TreeParts}
 use Rattle.pat_tree.specs.declared.options.Options.{Options}
 use Rattle.match_items.specs.Subjects.{IsText, IsTextPlace}
-use Rattle.frame_board.specs.Ready.{setting_in}
-use Rattle.start_tests.specs.Asked.{passed_over}
-use Rattle.dfa_ends.specs.DfaAnswer.{EndsFrom, NoMatch, PartialFrom, dfa_answer}
+use Rattle.dfa_drive.specs.frame_board.Ready.{setting_in}
+use Rattle.dfa_drive.specs.start_tests.Asked.{passed_over}
+use Rattle.dfa_drive.specs.dfa_ends.DfaAnswer.{EndsFrom, NoMatch, PartialFrom, dfa_answer}
 use Rattle.pcre2_api.specs.Matched.{search_of}
 use Rattle.pcre2_errors.specs.DfaErrors.{error_of}
 use Rattle.pcre2_api.specs.DfaMatched.{IsDfaError}
