@@ -1,6 +1,10 @@
+use Rattle.std.proofs.Common.{◌∙◌, rules, SFits, w32}
+use Rattle.std.proofs.lemmas.Int.{to_z-of_z}
 use Rattle.tool_out.proofs.Writing.{writes-same}
 use Rattle.test_run.proofs.Saying.{error-same}
 use Rattle.test_run.proofs.lines.write_unreplaced.Goals as goal
 
 pub returns : goal.returns
-returns g c = writes-same (error-same c.number.ensures c.text.ensures c.refusal_place.ensures) c.write_error.ensures
+returns g c =
+    let fits : SFits w32 c.number.result = search rules in
+    writes-same (error-same (to_z-of_z w32 c.number.result fits ∙ c.number.ensures) c.text.ensures c.refusal_place.ensures) c.write_error.ensures
