@@ -1,8 +1,8 @@
 //! What is written of scripts by a plan, and where a run stops.
 use pcre_io::{MemSink, MemSource};
-use script_modifiers::Modifiers;
 use script_rows::{ScriptStop, run_script};
 use std::test::Fail;
+use test_modifiers::Modifiers;
 use test_script::TestPlan;
 
 // The plan without words.

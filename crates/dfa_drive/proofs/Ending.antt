@@ -9,7 +9,7 @@ use Rattle.match_items.specs.Scene.{Scene}
 use Rattle.match_items.specs.Views.{bare_text, text_scene}
 use Rattle.ordered_search.specs.Setting.{Setting}
 use Rattle.match_drive.specs.frame_board.Ready.{setting_for}
-use Rattle.match_drive.specs.start_tests.Asked.{passed_over}
+use Rattle.match_drive.specs.match_starts.Asked.{passed_over}
 use Rattle.dfa_ends.specs.Ends.{spot, Among}
 use Rattle.dfa_ends.specs.EndList.{end_places}
 use Rattle.dfa_ends.specs.DfaAnswer.{admitted, last_of, ends_from, reach_test}

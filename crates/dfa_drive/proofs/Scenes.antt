@@ -11,7 +11,7 @@ use Rattle.match_items.specs.Views.{text_scene, fold_in}
 use Rattle.ordered_search.specs.Setting.{class_holds}
 use Rattle.ordered_search.proofs.Classes.{class_is}
 use Rattle.match_drive.specs.frame_board.Ready.{setting_for}
-use Rattle.match_drive.specs.start_tests.Asked.{passed_over}
+use Rattle.match_drive.specs.match_starts.Asked.{passed_over}
 
 class_told : (tree : TreeParts) →
     class_has tree ≡ (λ n c. class_holds tree.options.utf (slice_get tree.classes n) c)

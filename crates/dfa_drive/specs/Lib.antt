@@ -1,5 +1,5 @@
 pub use Rattle.match_drive.specs as match_drive
-pub use Rattle.match_drive.specs.start_tests as start_tests
+pub use Rattle.match_drive.specs.match_starts as match_starts
 pub use Rattle.match_drive.specs.frame_board as frame_board
 pub use Rattle.match_drive.specs.frame_machine as frame_machine
 pub use Rattle.match_drive.specs.frame_state as frame_state

@@ -4,7 +4,7 @@ ghost use Rattle.pat_tree.specs.declared.options.PartialMode.TheVariants.{Off};
 ghost use Rattle.pat_tree.specs.Parts.{tree_of};
 ghost use Rattle.match_items.specs.Subjects.{IsTextPlace};
 ghost use Rattle.match_drive.specs.frame_board.Ready.{IsReadySearch, setting_for};
-ghost use Rattle.match_drive.specs.start_tests.Asked.{passed_over};
+ghost use Rattle.match_drive.specs.match_starts.Asked.{passed_over};
 ghost use Rattle.dfa_lists.specs.dfa_paths.Fragment.{IsGraphOf};
 ghost use Rattle.dfa_ends.specs.DfaAnswer.{decision, dfa_answer};
 ghost use Rattle.dfa_drive.specs.Answer.{IsDfaAnswer, IsDecision, IsDecidedBy, IsPlaced, IsWhole};

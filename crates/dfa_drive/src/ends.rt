@@ -4,7 +4,7 @@ ghost use Rattle.pat_tree.specs.Parts.{tree_of};
 ghost use Rattle.match_items.specs.Subjects.{IsTextPlace};
 ghost use Rattle.match_items.specs.Views.{bare_text};
 ghost use Rattle.match_drive.specs.frame_board.Ready.{IsReadySearch, setting_for};
-ghost use Rattle.match_drive.specs.start_tests.Asked.{passed_over};
+ghost use Rattle.match_drive.specs.match_starts.Asked.{passed_over};
 ghost use Rattle.dfa_lists.specs.dfa_paths.Fragment.{IsGraphOf};
 ghost use Rattle.dfa_ends.specs.Ends.{spot};
 ghost use Rattle.dfa_ends.specs.DfaAnswer.{last_of, ends_from, reach_test};

@@ -326,7 +326,7 @@ const WHAT_IS_NOT_BUILT_OR_LEFT_OUT: &[&str] = &[
     r"a\N{ => 195 at 1",
     r"[\u] => 195 at 1",
     "(*sr:a) => 195 at 0",
-    "a(*script_run:b) => 195 at 1",
+    "a(*test_main:b) => 195 at 1",
     "(*asr:a) => 195 at 0",
     "(?(VERSION>=10)a) => 195 at 0",
     "(?(VERSION=10)a) => 195 at 0",

@@ -9,10 +9,10 @@ use Rattle.line_feed.specs.View.{Feed}
 use Rattle.line_feed.specs.declared.phase.Phase.TheVariants.{Closed}
 use Rattle.line_feed.specs.Passes.{GivesAll}
 use Rattle.line_feed.proofs.Given.{live-gives}
-use Rattle.tool_out.specs.Printed.{printed}
-use Rattle.tool_out.specs.Prints.{Breaks}
-use Rattle.tool_out.proofs.Writing.{prefix-more}
-use Rattle.tool_out.proofs.Printing.{prefix-of}
+use Rattle.tool_io.specs.Printed.{printed}
+use Rattle.tool_io.specs.Prints.{Breaks}
+use Rattle.tool_io.proofs.Writing.{prefix-more}
+use Rattle.tool_io.proofs.Printing.{prefix-of}
 use Rattle.grep_match.specs.Matches.{Tried, tried_row}
 use Rattle.grep_output.specs.declared.shows.Treatment.{Treatment}
 use Rattle.grep_output.specs.declared.ended.Ended.{Ended}

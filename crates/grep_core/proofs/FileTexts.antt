@@ -37,8 +37,8 @@ use Rattle.grep_output.specs.InputText.{Written, input_text, written_by, out_tex
 use Rattle.grep_output.specs.Course.{scan_so_far, AreNumbered}
 use Rattle.grep_output.specs.Lines.{is_nul, lines, treatment, treatment_by}
 use Rattle.grep_output.specs.Ends.{stop_of, ended_of}
-use Rattle.tool_out.specs.Writes.{Writes}
-use Rattle.tool_out.specs.Prints.{Wrote, Breaks}
+use Rattle.tool_io.specs.Writes.{Writes}
+use Rattle.tool_io.specs.Prints.{Wrote, Breaks}
 use Rattle.grep_core.specs.Work.{Work, work_on, standing}
 use Rattle.grep_core.specs.WholeScans.{Stood, StopsIn, ScansTo, ScansInput, left_by, AtLeastOne, IsJob, LeavesRest, StopsSoon}
 use Rattle.grep_output.specs.LittlePast.{TakesLittlePast}
@@ -47,10 +47,10 @@ use Rattle.grep_core.specs.OneInput.{IsNew, is_skipped, WritesBoth, CountsPart, 
 use Rattle.grep_core.proofs.ScansRows.{stood-little, rows-numbered}
 use Rattle.grep_core.proofs.ScansTexts.{grew-part}
 use Rattle.grep_core.proofs.Refusing.{refuses-soon, refuses-ended}
-use Rattle.tool_out.proofs.Writing.{prefix-front, prefix-more}
-use Rattle.tool_out.specs.Printed.{Printed, printed}
-use Rattle.tool_out.proofs.Printing as printing
-use Rattle.tool_out.proofs.Printing.{IsToldBy, prefix-none, wrote-none, wrote-more, wrote-breaks, wrote-err}
+use Rattle.tool_io.proofs.Writing.{prefix-front, prefix-more}
+use Rattle.tool_io.specs.Printed.{Printed, printed}
+use Rattle.tool_io.proofs.Printing as printing
+use Rattle.tool_io.proofs.Printing.{IsToldBy, prefix-none, wrote-none, wrote-more, wrote-breaks, wrote-err}
 
 plus_zero : (n : ℕ) → n ≡ n + 0
 plus_zero n = omega arith

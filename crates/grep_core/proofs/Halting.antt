@@ -20,15 +20,15 @@ use Rattle.grep_output.specs.declared.state.State.{State}
 use Rattle.grep_match.specs.Matches.{Matches, Tried, is_selected, has_error}
 use Rattle.grep_output.specs.Messages.{error_message}
 use Rattle.grep_output.specs.Course.{line_as, passed_out, row_out, course_after, course_after_passed, state_after_line, is_lines}
-use Rattle.tool_out.specs.Texts.{text_if}
+use Rattle.tool_io.specs.Texts.{text_if}
 use Rattle.grep_output.specs.Ends.{stop_of}
 use Rattle.grep_core.specs.Turns.{course_of, Halts, Passes, PassesOn, Takes, TakesLast, TakesLine, is_last, is_full}
 use Rattle.grep_core.specs.Work.{Work, progress}
-use Rattle.tool_out.specs.Writes.{Writes, WritesAll}
-use Rattle.tool_out.specs.Prints.{Breaks}
+use Rattle.tool_io.specs.Writes.{Writes, WritesAll}
+use Rattle.tool_io.specs.Prints.{Breaks}
 use Rattle.grep_output.proofs.Reached.{unselected-error}
-use Rattle.tool_out.specs.Printed.{printed}
-use Rattle.tool_out.proofs.Printing.{prefix-of}
+use Rattle.tool_io.specs.Printed.{printed}
+use Rattle.tool_io.proofs.Printing.{prefix-of}
 
 -- a refused write
 pub halts-of : {T : Type 0} (text : List ℕ) (old new : Kept) (e : IoError) → Writes {T = T} text old new (Err e) → Halts text old new (stop_of e)

@@ -13,10 +13,10 @@ use Rattle.line_feed.specs.Passes.{GivesAll, HoldsLines, LeavesLines, GivesLine}
 use Rattle.line_feed.specs.declared.phase.Phase.TheVariants.{Closed}
 use Rattle.line_feed.proofs.Passing.{all-append, all-more}
 use Rattle.grep_match.specs.Matches.{Matches, tried_row, matches, is_selected, selects}
-use Rattle.tool_out.specs.Texts.{text_if}
-use Rattle.tool_out.specs.Printed.{printed}
-use Rattle.tool_out.specs.Writes.{WritesAll}
-use Rattle.tool_out.proofs.Printing.{prefix-none}
+use Rattle.tool_io.specs.Texts.{text_if}
+use Rattle.tool_io.specs.Printed.{printed}
+use Rattle.tool_io.specs.Writes.{WritesAll}
+use Rattle.tool_io.proofs.Printing.{prefix-none}
 use Rattle.grep_output.specs.declared.shows.Show.TheVariants.{Lines}
 use Rattle.grep_output.specs.declared.ended.Stop.TheVariants.{Memory}
 use Rattle.grep_output.specs.declared.state.State.{State}

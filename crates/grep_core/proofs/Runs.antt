@@ -11,9 +11,9 @@ use Rattle.line_feed.specs.declared.look.Run.{Run}
 use Rattle.line_feed.specs.Rows.{Row}
 use Rattle.line_feed.specs.View.{Feed}
 use Rattle.line_feed.specs.Passes.{GivesAll, skipped}
-use Rattle.tool_out.specs.Texts.{text_if}
-use Rattle.tool_out.specs.Writes.{WritesAll}
-use Rattle.tool_out.specs.Printed.{printed}
+use Rattle.tool_io.specs.Texts.{text_if}
+use Rattle.tool_io.specs.Writes.{WritesAll}
+use Rattle.tool_io.specs.Printed.{printed}
 use Rattle.grep_args.specs.Effects.{is_empty}
 use Rattle.grep_match.specs.Matches.{Tried, Matches, tried_row, matches, selects, is_selected}
 use Rattle.grep_output.specs.declared.ended.Stop.{Stop}

@@ -32,15 +32,15 @@ use Rattle.grep_core.specs.Work.{Work, progress, fed, position}
 use Rattle.grep_core.specs.Work as between
 use Rattle.grep_core.specs.WholeScans.{Stood, Scans, StopsIn, StopsSoon, ScansTo, ScansInput, scan_of, left_by, IsJob, BeginsWith, EndsWith, LeavesRest}
 use Rattle.grep_output.specs.Refused.{GrewBy, WhereRefused}
-use Rattle.tool_out.specs.Prints.{Wrote, Breaks}
+use Rattle.tool_io.specs.Prints.{Wrote, Breaks}
 use Rattle.grep_output.proofs.Reached.{out-broken}
 use Rattle.grep_output.proofs.ScanEnds.{count, count-more, count-one, count-none, early-tried, broken-within}
 use Rattle.grep_output.proofs.Extends.{TextsBegin, Goes, LastError, full, whole-is, whole-out, broken-is, broken_out, row-broken, row-extends, extends, said-more, error-unselected}
 use Rattle.grep_core.proofs.ScansRows.{stood-moves, stood-begins, stood-stops, stood-little, begins-numbered}
 use Rattle.grep_core.proofs.ScansTexts.{breaks-more, breaks-memory, breaks-ext, grew-part}
-use Rattle.tool_out.proofs.Printing.{wrote-more}
+use Rattle.tool_io.proofs.Printing.{wrote-more}
 use Rattle.grep_core.proofs.ScansTaken.{tries, tries-more, rows-tried, errors-more, stops-in, stops-error, Standing, next-stood, next-kind, next-max, next-whole, next-numbered}
-use Rattle.tool_out.specs.Printed.{printed}
+use Rattle.tool_io.specs.Printed.{printed}
 
 -- how the feed ends is how the rows end
 pub ends-so : (plan : GrepPlan) (treated : Treatment) (before now after : Told) (f g : Feed) (given : List Row) (ended : Ended) → Stood plan treated before now f given → f.kind ≡ line_end plan → f.max ≡ plan.max_buffer_size

@@ -16,7 +16,7 @@ use Rattle.grep_output.specs.declared.ended.Stop.TheVariants.{SinkFault, Memory}
 use Rattle.grep_match.specs.PatternTexts.{line_end}
 use Rattle.grep_output.specs.Shows.{lines_after}
 use Rattle.grep_output.specs.Course.{line_as}
-use Rattle.tool_out.specs.Writes.{WritesAll}
+use Rattle.tool_io.specs.Writes.{WritesAll}
 use Rattle.grep_core.specs.Turns.{Halts, EndsSo}
 use Rattle.grep_core.specs.WholeScans.{Stood}
 use Rattle.grep_core.specs.Work.{Work, fed}

@@ -21,12 +21,12 @@ use Rattle.grep_output.specs.Course.{begun, course_after, course_after_selected,
 use Rattle.grep_core.specs.Turns.{course_of, Takes}
 use Rattle.grep_core.specs.Work.{Work, progress}
 use Rattle.grep_core.specs.WholeScans.{Stood, IsJob, AtLeastOne}
-use Rattle.tool_out.specs.Prints.{Wrote}
+use Rattle.tool_io.specs.Prints.{Wrote}
 use Rattle.grep_output.proofs.Reached.{Reached, reached-begun}
 use Rattle.grep_output.specs.Scans.{IsBelow}
-use Rattle.tool_out.proofs.Printing.{wrote-none}
+use Rattle.tool_io.proofs.Printing.{wrote-none}
 use Rattle.grep_core.proofs.ScansTaken.{Standing}
-use Rattle.tool_out.specs.Printed.{printed}
+use Rattle.tool_io.specs.Printed.{printed}
 
 shown-none : (plan : GrepPlan) (name : List ℕ) (shows : Show) (hs : Bool) → shown_out plan name shows hs (scan_so_far []) ≡ []
 shown-none plan name show.Lines hs = refl

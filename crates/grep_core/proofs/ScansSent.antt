@@ -21,9 +21,9 @@ use Rattle.grep_output.specs.Refused.{GrewBy, WhereRefused}
 use Rattle.grep_core.specs.Work.{Work}
 use Rattle.grep_core.specs.Work as between
 use Rattle.grep_core.specs.WholeScans.{StopsIn, StopsSoon, ScansInput, ScansTo, IsJob, BeginsWith}
-use Rattle.tool_out.specs.Prints.{Wrote, Breaks}
-use Rattle.tool_out.specs.Printed.{printed}
-use Rattle.tool_out.specs.Writes.{WritesAll}
+use Rattle.tool_io.specs.Prints.{Wrote, Breaks}
+use Rattle.tool_io.specs.Printed.{printed}
+use Rattle.tool_io.specs.Writes.{WritesAll}
 use Rattle.grep_output.proofs.ScanEnds.{count}
 use Rattle.grep_output.proofs.Extends.{extends}
 use Rattle.grep_core.proofs.ScansRows.{stood-begins, stood-little}

@@ -25,15 +25,15 @@ use Rattle.grep_output.specs.Course.{AreNumbered, row_out, state_after_line, is_
 use Rattle.grep_core.specs.Turns.{course_of, is_full, Takes}
 use Rattle.grep_core.specs.Work.{Work, progress, fed, position}
 use Rattle.grep_core.specs.WholeScans.{Stood, StopsIn, left_by, Pauses}
-use Rattle.tool_out.specs.Prints.{Wrote}
+use Rattle.tool_io.specs.Prints.{Wrote}
 use Rattle.grep_output.proofs.ReachRows.{numbered-left}
 use Rattle.grep_output.proofs.Reached.{Reached, reached-more, out-more, group-more}
 use Rattle.grep_output.proofs.ScanEnds.{count, count-more, count-one, count-none}
 use Rattle.grep_output.proofs.Extends.{error-unselected, said-more, number-of, numbered-first, still-below}
 use Rattle.grep_output.specs.LittlePast.{bytes_in}
 use Rattle.grep_core.proofs.ScansRows.{stood-gives, stood-begins, begins-numbered, whole-gives}
-use Rattle.tool_out.proofs.Printing.{wrote-more}
-use Rattle.tool_out.specs.Printed.{printed}
+use Rattle.tool_io.proofs.Printing.{wrote-more}
+use Rattle.tool_io.specs.Printed.{printed}
 
 abbrev pub tries : GrepPlan → List Pattern → List Row → List Tried
 tries plan patterns given = map (tried_row plan patterns) given

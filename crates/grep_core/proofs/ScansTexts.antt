@@ -14,13 +14,13 @@ use Rattle.grep_match.specs.Matches.{Tried}
 use Rattle.grep_output.specs.Scans.{Scan}
 use Rattle.grep_output.specs.Messages.{error_message}
 use Rattle.grep_output.specs.InputText.{shown_out}
-use Rattle.tool_out.specs.Prints.{Wrote, Breaks}
-use Rattle.tool_out.specs.Writes.{WritesAll}
+use Rattle.tool_io.specs.Prints.{Wrote, Breaks}
+use Rattle.tool_io.specs.Writes.{WritesAll}
 use Rattle.grep_core.specs.Turns.{Halts}
-use Rattle.tool_out.proofs.Writing.{prefix-front, prefix-more}
-use Rattle.tool_out.proofs.Printing.{prefix-of, wrote-breaks}
+use Rattle.tool_io.proofs.Writing.{prefix-front, prefix-more}
+use Rattle.tool_io.proofs.Printing.{prefix-of, wrote-breaks}
 use Rattle.grep_output.proofs.Extends.{TextsBegin}
-use Rattle.tool_out.specs.Printed.{printed}
+use Rattle.tool_io.specs.Printed.{printed}
 
 module _ (a b c d : List ℕ) (out0 out out1 err0 err err1 : Kept) (wrote : Wrote a b (printed out0 err0) (printed out err)) where
   pub breaks-more : (stop : Stop) → Breaks c d (printed out err) (printed out1 err1) (stop ≡ SinkFault) → Breaks (a ++ c) (b ++ d) (printed out0 err0) (printed out1 err1) (stop ≡ SinkFault)

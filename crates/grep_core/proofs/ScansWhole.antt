@@ -28,8 +28,8 @@ use Rattle.grep_output.specs.Messages.{error_message}
 use Rattle.grep_output.specs.InputText.{shown_out, shows_group}
 use Rattle.grep_output.specs.Course as course
 use Rattle.grep_output.specs.Course.{AreNumbered, line_as, scan_so_far, begun, course_after}
-use Rattle.tool_out.specs.Prints.{Wrote, Breaks}
-use Rattle.tool_out.specs.Writes.{WritesAll}
+use Rattle.tool_io.specs.Prints.{Wrote, Breaks}
+use Rattle.tool_io.specs.Writes.{WritesAll}
 use Rattle.grep_core.specs.Turns.{Halts}
 use Rattle.grep_output.specs.Refused.{GrewBy}
 use Rattle.grep_core.specs.declared.scan.Course.{Course}
@@ -43,7 +43,7 @@ use Rattle.grep_core.proofs.ScansRows.{ends-numbered}
 use Rattle.grep_core.proofs.ScansTexts.{wrote-out, breaks-out, breaks-ext, grew-then}
 use Rattle.grep_core.proofs.ScansTaken.{tries, tries-more, rows-tried}
 use Rattle.grep_core.proofs.ScansEnd.{full_of, scan-is, begins-scan, begins-tried, ends-scan, rest-late}
-use Rattle.tool_out.specs.Printed.{printed}
+use Rattle.tool_io.specs.Printed.{printed}
 
 -- some course is reached by any lines
 reach-from : (plan : GrepPlan) (shows : Show) (vs us : List Tried) (c : course.Course) → Reached plan shows us c → AreNumbered 1 (rows_of (us ++ vs)) → (d : course.Course) × Reached plan shows (us ++ vs) d

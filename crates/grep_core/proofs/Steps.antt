@@ -9,10 +9,10 @@ use Rattle.pcre_io.specs.Told.{Kept}
 use Rattle.pcre_io.specs.declared.traits.IoError.{IoError}
 use Rattle.grep_args.specs.declared.plan.GrepPlan.{GrepPlan}
 use Rattle.pat_tree.specs.Pattern.{Pattern}
-use Rattle.tool_out.specs.Printed.{printed}
+use Rattle.tool_io.specs.Printed.{printed}
 use Rattle.grep_match.specs.Matches.{Tried, Matches}
 use Rattle.grep_match.specs.Found.{Listed, Lists, ListsMatches}
-use Rattle.tool_out.specs.Writes.{Writes, WritesAll}
+use Rattle.tool_io.specs.Writes.{Writes, WritesAll}
 use denote.Enum.Bare.{sameb}
 use Rattle.grep_output.specs.contracts.shows.Show.{the_type}
 use Rattle.grep_output.specs.declared.shows.Show.{Show}
@@ -25,7 +25,7 @@ use Rattle.grep_output.specs.Earlier.{EarlierRows}
 use Rattle.grep_output.specs.Course.{is_lines, selected_out}
 use Rattle.grep_core.specs.Work.{work_on, progress}
 use Rattle.grep_core.specs.Turns.{course_of, is_full, SelectsIt}
-use Rattle.tool_out.specs.Texts.{text_if}
+use Rattle.tool_io.specs.Texts.{text_if}
 use Rattle.grep_output.specs.Texts.{match_text, matches_text}
 
 -- the text of the next row is left in front of that of the later ones

@@ -19,9 +19,9 @@ use Rattle.grep_output.specs.Course.{selected_out, passed_out, row_out, state_af
 use Rattle.grep_match.specs.Found.{Listed, Lists, ListsMatches, IsVerdict}
 use Rattle.grep_core.specs.Turns.{course_of, Halts, Passes, PassesOn, Takes, TakesLine, Selects, is_last, is_full}
 use Rattle.grep_core.specs.Work.{Work, progress}
-use Rattle.tool_out.specs.Prints.{Breaks}
-use Rattle.tool_out.proofs.Printing.{prefix-none}
-use Rattle.tool_out.specs.Printed.{printed}
+use Rattle.tool_io.specs.Prints.{Breaks}
+use Rattle.tool_io.proofs.Printing.{prefix-none}
+use Rattle.tool_io.specs.Printed.{printed}
 
 -- What a verdict says of the matches.
 

@@ -8,8 +8,8 @@ use Rattle.line_feed.specs.View.{Feed}
 use Rattle.line_feed.specs.declared.phase.Phase.TheVariants.{Closed}
 use Rattle.line_feed.specs.Passes.{GivesAll}
 use Rattle.line_feed.proofs.Given.{live-gives}
-use Rattle.tool_out.specs.Writes.{WritesAll}
-use Rattle.tool_out.specs.Printed.{printed}
+use Rattle.tool_io.specs.Writes.{WritesAll}
+use Rattle.tool_io.specs.Printed.{printed}
 use Rattle.grep_match.specs.Matches.{tried_row, matches}
 use Rattle.grep_output.specs.declared.shows.Treatment.{Treatment}
 use Rattle.grep_output.specs.declared.state.State.{State}

@@ -4,7 +4,7 @@ use Rattle.pcre_io.specs.Told.{Told}
 use Rattle.line_feed.specs.Rows.{Row}
 use Rattle.line_feed.specs.View.{Feed}
 use Rattle.line_feed.specs.Passes.{GivesAll}
-use Rattle.tool_out.specs.Writes.{WritesAll}
+use Rattle.tool_io.specs.Writes.{WritesAll}
 use Rattle.grep_match.specs.Matches.{tried_row}
 use Rattle.grep_output.specs.declared.ended.Stop.{Stop}
 use Rattle.grep_core.specs.declared.scan.Next.TheVariants.{Line}

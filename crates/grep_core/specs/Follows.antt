@@ -12,7 +12,7 @@ use Rattle.grep_output.specs.declared.ended.Stop.{Stop}
 use Rattle.grep_output.specs.declared.ended.Stop.TheVariants.{SinkFault, Memory}
 use Rattle.grep_output.specs.Shows.{lines_after}
 use Rattle.grep_output.specs.Course.{line_as}
-use Rattle.tool_out.specs.Writes.{WritesAll}
+use Rattle.tool_io.specs.Writes.{WritesAll}
 use Rattle.grep_output.specs.Refused.{GrewBy}
 use Rattle.grep_core.specs.WholeScans.{BeginsWith, EndsWith}
 use Rattle.grep_core.specs.Turns.{Halts, EndsSo}

@@ -24,10 +24,10 @@ use Rattle.grep_match.specs.Modes.{mode}
 use Rattle.grep_match.specs.Matches.{Tried}
 use Rattle.grep_output.specs.Course.{scan_so_far}
 use Rattle.grep_output.specs.Ends.{ended_of, stop_of}
-use Rattle.tool_out.specs.Prints.{Wrote, Breaks}
+use Rattle.tool_io.specs.Prints.{Wrote, Breaks}
 use Rattle.grep_output.specs.Refused.{RefusesSoon, WhereRefused}
 use Rattle.grep_core.specs.WholeScans.{Stood, LeavesRest, StopsSoon}
-use Rattle.tool_out.specs.Printed.{Printed}
+use Rattle.tool_io.specs.Printed.{Printed}
 use Rattle.grep_core.specs.Work.{Work, work_on, Standing}
 
 abbrev pub is_skipped : Treatment → Bool

@@ -1,7 +1,7 @@
 -- What was gathered is sent on before a read that may wait: the output holds what it held.
 use Rattle.std.specs.Prelude.{[], Result, Ok, Err}
 use Rattle.pcre_io.specs.Told.{Kept}
-use Rattle.tool_out.specs.Writes.{WritesAll}
+use Rattle.tool_io.specs.Writes.{WritesAll}
 use Rattle.grep_output.specs.declared.ended.Stop.{Stop}
 use Rattle.grep_core.specs.Turns.{Halts}
 

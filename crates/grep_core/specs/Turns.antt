@@ -23,8 +23,8 @@ use Rattle.grep_output.specs.Messages.{error_message}
 use Rattle.grep_output.specs.declared.state.State.{State}
 use Rattle.grep_output.specs.Course as course
 use Rattle.grep_output.specs.Course.{row_out, selected_out, passed_out, is_lines, course_after, course_after_selected, course_after_passed, state_after_line}
-use Rattle.tool_out.specs.Writes.{WritesAll}
-use Rattle.tool_out.specs.Prints.{Wrote, Breaks}
+use Rattle.tool_io.specs.Writes.{WritesAll}
+use Rattle.tool_io.specs.Prints.{Wrote, Breaks}
 
 -- the course that the code keeps
 abbrev pub course_of : Course → course.Course

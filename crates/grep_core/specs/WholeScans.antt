@@ -28,8 +28,8 @@ use Rattle.grep_output.specs.LittlePast.{bytes_in, TakesLittlePast}
 use Rattle.grep_output.specs.Refused.{GrewBy, WhereRefused}
 use Rattle.grep_output.specs.Ends.{ended_of}
 use Rattle.grep_core.specs.Work.{Work, Standing, Position, stands_at}
-use Rattle.tool_out.specs.Printed.{Printed}
-use Rattle.tool_out.specs.Prints.{Wrote, Breaks}
+use Rattle.tool_io.specs.Printed.{Printed}
+use Rattle.tool_io.specs.Prints.{Wrote, Breaks}
 
 -- Since the source stood so, the feed has given these rows; and the input is treated so, by its first bytes.
 abbrev pub Stood : GrepPlan → Treatment → Told → Told → Feed → List Row → Type 0

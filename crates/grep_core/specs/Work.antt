@@ -8,7 +8,7 @@ use Rattle.pat_tree.specs.Pattern.{Pattern}
 use Rattle.grep_match.specs.Compiled.{patterns_in}
 use Rattle.grep_output.specs.declared.shows.Show.{Show}
 use Rattle.grep_output.specs.declared.state.State.{State}
-use Rattle.tool_out.specs.Printed.{Printed}
+use Rattle.tool_io.specs.Printed.{Printed}
 use Rattle.grep_core.specs.declared.scan.Course.{Course}
 use Rattle.grep_core.specs.declared.scan.Job.{Job}
 

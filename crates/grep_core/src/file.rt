@@ -12,7 +12,7 @@ ghost use Rattle.grep_output.specs.Messages.{ended_message};
 ghost use Rattle.grep_core.specs.WholeScans.{AtLeastOne, IsJob, Stood};
 ghost use Rattle.grep_core.specs.OneInput.{Greps, IsNew, is_skipped, TreatsTo, WritesBoth, ScansAs};
 ghost use Rattle.grep_core.specs.Work.{standing, work_of};
-ghost use Rattle.tool_out.specs.Printed.{printed};
+ghost use Rattle.tool_io.specs.Printed.{printed};
 
 use crate::scan::{Course, Job, scan};
 use crate::state::GrepState;

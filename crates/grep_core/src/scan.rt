@@ -14,7 +14,7 @@ ghost use Rattle.grep_output.specs.Context.{parts_groups};
 ghost use Rattle.grep_output.specs.Course.{begins_group, line_as, separator, selected_out};
 ghost use Rattle.ordered_search.specs.PlaceAnswer.{Outcome};
 ghost use Rattle.grep_match.specs.Found.{Lists, ListsMatches, IsVerdict};
-ghost use Rattle.tool_out.specs.Writes.{Writes};
+ghost use Rattle.tool_io.specs.Writes.{Writes};
 ghost use Rattle.grep_output.specs.declared.shows.Treatment.{Treatment};
 ghost use Rattle.grep_output.specs.declared.state.State.{State};
 ghost use Rattle.grep_core.specs.Turns.{course_of, is_full, TakesLine, Passes, Selects, Turns, ended_by};
@@ -29,7 +29,7 @@ ghost use Rattle.line_feed.specs.Passes.{HoldsLines};
 ghost use Rattle.grep_core.specs.Ahead.{TakesRun};
 ghost use Rattle.grep_output.specs.LittlePast.{bytes_in};
 ghost use Rattle.grep_core.specs.WholeScans.{Stood, IsJob, ScansInput, TakesAll};
-ghost use Rattle.tool_out.specs.Printed.{printed};
+ghost use Rattle.tool_io.specs.Printed.{printed};
 
 use grep_args::GrepPlan;
 use grep_match::{MatchList, Patterns, Verdict, Workspace, is_named, search_line};
@@ -38,7 +38,7 @@ use grep_watch::Watch;
 use line_feed::{FeedError, Line, LineFeed};
 use pcre_io::{IoError, Memory, Sink, Source};
 use std::alloc::Global;
-use tool_out::{text_if, write_texts};
+use tool_io::{text_if, write_texts};
 
 /// What is done with the lines of an input.
 #[derive(Clone, Copy)]

@@ -3,8 +3,8 @@ use Rattle.std.proofs.Common.{◌≡◌, ◌∙◌, ℕ, suc, ◌+◌, ◌<◌, 
 use Rattle.std.proofs.Math.Seq.{drop-cons}
 use Rattle.std.proofs.lemmas.List.{drop_all}
 use Rattle.uni_text.specs.Characters.{IsChecked}
-use Rattle.match_needs.specs.Texts.{sets_of, AreUnions}
-use Rattle.match_needs.proofs.TextLemmas.{stands_left, stands_right}
+use Rattle.pat_needs.specs.Texts.{sets_of, AreUnions}
+use Rattle.pat_needs.proofs.TextLemmas.{stands_left, stands_right}
 use Rattle.pat_tree.specs.declared.options.MatchOptions.{MatchOptions}
 use Rattle.pat_tree.specs.Pattern.{Pattern, pattern_of}
 use Rattle.pcre2_api.specs.Compiled.{CodeParts}

@@ -5,7 +5,7 @@ use Rattle.pat_tree.specs.Pattern.{Pattern}
 use Rattle.pat_tree.specs.declared.options.MatchOptions.{MatchOptions}
 use Rattle.grep_args.specs.declared.plan.GrepPlan.{GrepPlan}
 use Rattle.pcre2_api.specs.Answers.{none}
-use Rattle.match_needs.specs.Texts.{sets_of}
+use Rattle.pat_needs.specs.Texts.{sets_of}
 use Rattle.pcre2_api.specs.Needed.{Lacks}
 use Rattle.grep_match.specs.Matches.{matches, first_answer}
 use Rattle.grep_match.specs.declared.unsearched.Needed.{Needed}

@@ -12,7 +12,7 @@ use Rattle.grep_match.specs.declared.modes.Mode.{Mode}
 use Rattle.grep_match.specs.declared.modes.Mode.TheVariants as mode_of
 use Rattle.grep_match.specs.Matches.{Tried, is_selected}
 use Rattle.grep_match.specs.Modes.{mode}
-use Rattle.tool_out.specs.Texts.{line, text_if}
+use Rattle.tool_io.specs.Texts.{line, text_if}
 use Rattle.grep_output.specs.Shows.{show_in, most_selected}
 use Rattle.grep_output.specs.Scans as meant
 use Rattle.grep_output.specs.Scans.{Scan, rows_of, selected_in, at_finish, early, too_many_errors}

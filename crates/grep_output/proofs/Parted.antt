@@ -12,7 +12,7 @@ use Rattle.grep_args.specs.declared.plan.OffsetMode.TheVariants.{Lines}
 use Rattle.grep_match.specs.declared.found.Place.{Place}
 use Rattle.grep_match.specs.Modes.{is_with}
 use Rattle.grep_match.specs.Found.{Listed, Lists, groups_of, place_of, IsInLine}
-use Rattle.tool_out.specs.Texts.{text_if, line}
+use Rattle.tool_io.specs.Texts.{text_if, line}
 use Rattle.grep_output.specs.Texts.{name_before, number_before, span_text, group_text, given_texts, group_texts, joined, is_any, part_text, match_text}
 
 -- The groups at spans and the groups of a match.

@@ -7,7 +7,7 @@ use Rattle.std.proofs.lemmas.List.{map-append}
 use Rattle.line_feed.specs.Rows.{Row}
 use Rattle.grep_args.specs.declared.plan.GrepPlan.{GrepPlan}
 use Rattle.grep_output.specs.Context.{Shown, shown_row, all_shown, parts_groups}
-use Rattle.tool_out.specs.Texts.{line, text_if}
+use Rattle.tool_io.specs.Texts.{line, text_if}
 use Rattle.grep_output.specs.Texts.{line_text, lines_text}
 use Rattle.grep_output.specs.Course.{AreNumbered, line_as}
 use Rattle.grep_output.proofs.ReachRows.{has, or_none, every-map, has-here, has-append_left, has-append_right, has-append_none, numbered-range}

@@ -13,7 +13,7 @@ use Rattle.grep_output.specs.declared.shows.Show.TheVariants as show
 use Rattle.grep_match.specs.Matches.{Matches, Tried, is_selected, has_error, selects}
 use Rattle.grep_output.specs.Scans.{rows_of}
 use Rattle.grep_output.specs.Context.{is_shown, shown_row, all_shown, shown_lines, parts_groups}
-use Rattle.tool_out.specs.Texts.{text_if}
+use Rattle.tool_io.specs.Texts.{text_if}
 use Rattle.grep_output.specs.Texts.{lines_text, matches_text}
 use Rattle.grep_output.specs.InputText.{shown_out, shows_group}
 use Rattle.grep_output.specs.Course.{Course, AreNumbered, begun, is_lines, begins_group, line_as, separator, selected_out, passed_out, row_out, course_after_selected, course_after_passed, course_after, scan_so_far}

@@ -9,7 +9,7 @@ use Rattle.grep_match.specs.Matches.{Tried, is_selected, has_error}
 use Rattle.grep_output.specs.Scans.{Scan, whole_scan}
 use Rattle.grep_output.specs.Context.{parts_groups}
 use Rattle.grep_output.specs.Texts.{line_text, matches_text}
-use Rattle.tool_out.specs.Texts.{text_if}
+use Rattle.tool_io.specs.Texts.{text_if}
 use Rattle.grep_output.specs.declared.state.State.{State}
 
 -- how many lines were selected; the number of the last line that is shown as context of a selected one, 0 where none was

@@ -15,7 +15,7 @@ use Rattle.grep_output.specs.Shows.{is_told, show_in}
 use Rattle.grep_output.specs.declared.state.State.{State}
 use Rattle.grep_output.specs.Scans.{Scan, Ended, too_many_errors, scan, selected_in, errors_in, rows_of}
 use Rattle.grep_output.specs.Context.{Shown, shown_lines}
-use Rattle.tool_out.specs.Texts.{line, text_if}
+use Rattle.tool_io.specs.Texts.{line, text_if}
 use Rattle.grep_output.specs.Texts.{lines_text, matches_text}
 use Rattle.grep_output.specs.Messages.{messages}
 

@@ -5,7 +5,7 @@ use Rattle.line_feed.specs.Rows.{Finish, At, Long, End, Fault, Limit}
 use Rattle.grep_args.specs.declared.plan.GrepPlan.{GrepPlan}
 use Rattle.grep_match.specs.Matches.{Tried}
 use Rattle.grep_output.specs.Scans.{Ended, at_finish, early, too_many_errors, Scan}
-use Rattle.tool_out.specs.Texts.{line, text_if}
+use Rattle.tool_io.specs.Texts.{line, text_if}
 
 abbrev pub message : List ℕ → List ℕ
 message text = line (codes "pcre2grep: " ++ text)

@@ -11,7 +11,7 @@ use Rattle.grep_args.specs.Effects.{is_empty}
 use Rattle.grep_match.specs.Matches.{Tried}
 use Rattle.grep_match.specs.Modes.{is_with}
 use Rattle.grep_output.specs.Context.{Shown, parts_groups}
-use Rattle.tool_out.specs.Texts.{line, text_if}
+use Rattle.tool_io.specs.Texts.{line, text_if}
 
 -- Whole lines.
 

@@ -3,14 +3,14 @@ ghost use Rattle.std.specs.Prelude.{◌≡◌, ◌++◌};
 ghost use Rattle.line_feed.specs.Lines.{row_of};
 ghost use Rattle.grep_output.specs.Context.{Shown};
 ghost use Rattle.grep_output.specs.Texts.{line_text, mark_of, name_before, newline_of, number_before};
-ghost use Rattle.tool_out.specs.Writes.{Writes};
+ghost use Rattle.tool_io.specs.Writes.{Writes};
 
 use grep_args::GrepPlan;
 use grep_match::is_named;
 use itoa::Buffer;
 use line_feed::Line;
 use pcre_io::{IoError, Sink};
-use tool_out::{text_if, write_texts};
+use tool_io::{text_if, write_texts};
 
 // The newline of a line as it is shown: a last line without one gets LF.
 fn newline_of<'a>(line: &Line<'a>) -> &'a [u8]

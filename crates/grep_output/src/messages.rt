@@ -3,12 +3,12 @@ ghost use Rattle.std.specs.Prelude.{◌≡◌, codes, Err};
 ghost use Rattle.grep_match.specs.Matches.{Tried};
 ghost use Rattle.grep_output.specs.Messages.{error_message, ended_message, message, message_on, line_said};
 ghost use Rattle.grep_output.specs.Ends.{ended_of};
-ghost use Rattle.tool_out.specs.Writes.{Writes};
+ghost use Rattle.tool_io.specs.Writes.{Writes};
 
 use crate::ended::Ended;
 use itoa::Buffer;
 use pcre_io::{IoError, Sink};
-use tool_out::write_texts;
+use tool_io::write_texts;
 
 /// Writes that a line, whose number is from 1, met a match error (pcre2grep, "MATCHING ERRORS").
 pub fn write_error<E: Sink>(err: &mut E, name: &str, line: u64, error: i32) -> Result<(), IoError>

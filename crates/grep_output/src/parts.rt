@@ -7,7 +7,7 @@ ghost use Rattle.grep_args.specs.declared.plan.OffsetMode.TheVariants.{Lines, Fi
 ghost use Rattle.grep_match.specs.Modes.{is_with};
 ghost use Rattle.grep_output.specs.Texts.{match_text, part_text, joined, given_texts, is_any, span_text};
 ghost use Rattle.grep_match.specs.Found.{Lists, groups_of, place_of};
-ghost use Rattle.tool_out.specs.Writes.{Writes};
+ghost use Rattle.tool_io.specs.Writes.{Writes};
 
 use frame_store::Span;
 use grep_args::{GrepPlan, OffsetMode};
@@ -15,7 +15,7 @@ use grep_match::{MatchList, Place, is_named};
 use itoa::Buffer;
 use line_feed::Line;
 use pcre_io::{IoError, Sink};
-use tool_out::{text_if, write_texts};
+use tool_io::{text_if, write_texts};
 
 // The text of a group, empty where it is unset.
 fn text_of<'a>(bytes: &'a [u8], group: Option<Span>) -> &'a [u8]

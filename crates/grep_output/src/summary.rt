@@ -1,13 +1,13 @@
 //! What is told of a whole input, once it was scanned.
 ghost use Rattle.grep_output.specs.InputText.{count_text, end_out};
-ghost use Rattle.tool_out.specs.Texts.{line};
-ghost use Rattle.tool_out.specs.Writes.{Writes};
+ghost use Rattle.tool_io.specs.Texts.{line};
+ghost use Rattle.tool_io.specs.Writes.{Writes};
 
 use grep_args::GrepPlan;
 use grep_match::{Mode, is_matching, is_named};
 use itoa::Buffer;
 use pcre_io::{IoError, Sink};
-use tool_out::{text_if, write_texts};
+use tool_io::{text_if, write_texts};
 
 // Writes the number of selected lines. With `-l` the name is always shown, and only a count above 0.
 fn write_count<O: Sink>(

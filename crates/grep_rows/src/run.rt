@@ -2,7 +2,7 @@
 ghost use Rattle.std.specs.Prelude.{◌≤◌};
 
 use crate::rows::{Bytes, File, Row, Streams, Told, parts_of, unfailing};
-use grep_run::run_grep;
+use grep_main::run_grep;
 use pcre_io::{MemFiles, MemSink, MemSource};
 use std::alloc::{AllocError, Global};
 use std::test::Fail;

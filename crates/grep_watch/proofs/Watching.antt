@@ -5,7 +5,7 @@ use Rattle.std.proofs.lemmas.List.{append_assoc, get_or_append_left, get_or-appe
 use Rattle.std.proofs.lemmas.Str.{IsUtf8-nil}
 use Rattle.uni_text.specs.Characters.{IsChecked}
 use Rattle.byte_lanes.specs.Sets.{has_byte}
-use Rattle.match_needs.specs.Texts.{sets_of, behind_of, Stands}
+use Rattle.pat_needs.specs.Texts.{sets_of, behind_of, Stands}
 use Rattle.pcre_io.specs.Told.{Told}
 use Rattle.pat_tree.specs.Pattern.{Pattern}
 use Rattle.grep_args.specs.declared.plan.GrepPlan.{GrepPlan}

@@ -4,7 +4,7 @@ use Rattle.std.specs.List.{All}
 use Rattle.byte_lanes.specs.declared.line_end.EndKind.{EndKind}
 use Rattle.byte_lanes.specs.declared.line_end.EndKind.TheVariants.{Cr, Lf, CrLf, AnyCrLf, Any, AnyUtf, Nul}
 use Rattle.uni_text.specs.Characters.{IsChecked}
-use Rattle.match_needs.specs.Texts.{sets_of, Stands}
+use Rattle.pat_needs.specs.Texts.{sets_of, Stands}
 use Rattle.pat_tree.specs.Pattern.{Pattern}
 use Rattle.pcre_io.specs.Told.{Told}
 use Rattle.line_feed.specs.Rows.{Row}

@@ -1,7 +1,7 @@
 //! Lines that are passed over without a search.
 ghost use Rattle.std.specs.Prelude.{◌≡◌, ◌≢◌, ◌++◌, ◌-◌, ℕ, ◌<◌, ◌≤◌, List, [], length, take, IsTrue, IsUtf8, Some, Ok, slice_index, MatchOption};
 ghost use Rattle.uni_text.specs.Characters.{IsChecked};
-ghost use Rattle.match_needs.specs.Texts.{sets_of};
+ghost use Rattle.pat_needs.specs.Texts.{sets_of};
 ghost use Rattle.pat_tree.specs.Pattern.{Pattern};
 ghost use Rattle.grep_args.specs.declared.plan.GrepPlan.{GrepPlan};
 ghost use Rattle.grep_match.specs.declared.unsearched.Needed.{Needed};

@@ -9,20 +9,20 @@ use Rattle.match_items.specs.declared.view.View.{View}
 use Rattle.match_items.specs.Subjects.{IsText, IsTextPlace}
 use Rattle.byte_lanes.specs.Places.{IsLeast}
 use Rattle.byte_lanes.specs.Sets.{has_byte}
-use Rattle.match_needs.specs.declared.text.ByteText.{ByteText}
-use Rattle.match_needs.specs.declared.needs.BeginText.{BeginText}
-use Rattle.match_needs.specs.declared.needs.Need.{Need}
-use Rattle.match_bounds.specs.Bounds.{at, bound}
-use Rattle.match_needs.specs.Needs.{may_take}
-use Rattle.match_needs.specs.Distances.{NeedsAt}
-use Rattle.match_needs.specs.NeedTables.{IsNeedOf}
-use Rattle.match_needs.specs.Texts.{sets_of, behind_of, Stands}
+use Rattle.pat_needs.specs.declared.text.ByteText.{ByteText}
+use Rattle.pat_needs.specs.declared.needs.BeginText.{BeginText}
+use Rattle.pat_needs.specs.declared.needs.Need.{Need}
+use Rattle.pat_bounds.specs.Bounds.{at, bound}
+use Rattle.pat_needs.specs.Needs.{may_take}
+use Rattle.pat_needs.specs.Distances.{NeedsAt}
+use Rattle.pat_needs.specs.NeedTables.{IsNeedOf}
+use Rattle.pat_needs.specs.Texts.{sets_of, behind_of, Stands}
 use Rattle.ordered_search.specs.Setting.{lower_of}
-use Rattle.start_tests.proofs.search_needs.Behind.{begin_law}
+use Rattle.match_starts.proofs.search_needs.Behind.{begin_law}
 use Rattle.frame_machine.specs.frame_board.Ready.{setting_for}
-use Rattle.start_tests.specs.Asked.{passed_over, replied}
+use Rattle.match_starts.specs.Asked.{passed_over, replied}
 use Rattle.match_drive.specs.BeginText.{IsBegun}
-use Rattle.start_tests.proofs.Leads.{class_told}
+use Rattle.match_starts.proofs.Leads.{class_told}
 
 -- A text in the first bytes of others.
 

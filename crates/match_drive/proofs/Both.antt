@@ -9,7 +9,7 @@ use Rattle.match_items.specs.declared.view.View.{View}
 use Rattle.frame_machine.specs.frame_board.declared.ready.Ready.{Ready}
 use Rattle.frame_machine.specs.frame_board.Ready.{IsReadySearch, setting_for}
 use Rattle.ordered_search.specs.Setting.{Setting}
-use Rattle.start_tests.specs.Bytes.{AreBytes}
+use Rattle.match_starts.specs.Bytes.{AreBytes}
 use Rattle.match_drive.specs.Starts.{AreAlike}
 use Rattle.search_starts.proofs.Regular.{regular_whole}
 use Rattle.search_starts.proofs.StartLaw.{start_law}

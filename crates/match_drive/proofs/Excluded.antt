@@ -6,7 +6,7 @@ use Rattle.byte_lanes.specs.Sets.{has_byte}
 use Rattle.ordered_search.specs.pat_check.Known.{IsByteSet}
 use Rattle.ordered_search.specs.Setting.{Setting, lead_set}
 use Rattle.ordered_search.specs.Places.{is_off, is_outside, is_excluded}
-use Rattle.start_tests.specs.Bytes.{IsByteOutside}
+use Rattle.match_starts.specs.Bytes.{IsByteOutside}
 use Rattle.match_drive.specs.Rest.{IsLeadUsed}
 
 module _ (g : Setting) where

@@ -5,8 +5,8 @@ use Rattle.std.proofs.lemmas.Option.{IfSome_then}
 use Rattle.pat_tree.specs.Parts.{TreeParts}
 use Rattle.match_items.specs.declared.view.View.{View}
 use Rattle.frame_machine.specs.frame_board.Ready.{setting_for}
-use Rattle.start_tests.specs.Asked.{passed_over}
-use Rattle.start_tests.specs.Repeats.{FailsUpTo}
+use Rattle.match_starts.specs.Asked.{passed_over}
+use Rattle.match_starts.specs.Repeats.{FailsUpTo}
 use Rattle.match_drive.specs.Rest.{AreRefused}
 
 pub refused_if : (tree : TreeParts) (view : View) (p : ℕ) (o : Option ℕ)

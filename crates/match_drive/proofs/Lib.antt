@@ -1,4 +1,4 @@
-pub use Rattle.start_tests.proofs.search_needs as search_needs
+pub use Rattle.match_starts.proofs.search_needs as search_needs
 mod Left
 mod NoneTold
 mod Excluded

@@ -8,18 +8,18 @@ use Rattle.match_items.specs.declared.view.View.{View}
 use Rattle.match_items.specs.Subjects.{IsText, IsTextPlace}
 use Rattle.pcre_io.specs.declared.callouts.Block.{Block}
 use Rattle.byte_lanes.specs.Places.{IsLeast}
-use Rattle.match_needs.specs.declared.text.ByteText.{ByteText}
-use Rattle.match_bounds.specs.declared.bounds.Bound.{Bound}
-use Rattle.match_bounds.specs.Bounds.{at}
-use Rattle.match_needs.specs.Needs.{may_take, Needs}
-use Rattle.match_needs.specs.Texts.{sets_of, Stands}
-use Rattle.match_needs.specs.Lacking.{IsBoundWithout}
-use Rattle.match_needs.specs.NeedTables.{may_of, IsBoundLacking}
+use Rattle.pat_needs.specs.declared.text.ByteText.{ByteText}
+use Rattle.pat_bounds.specs.declared.bounds.Bound.{Bound}
+use Rattle.pat_bounds.specs.Bounds.{at}
+use Rattle.pat_needs.specs.Needs.{may_take, Needs}
+use Rattle.pat_needs.specs.Texts.{sets_of, Stands}
+use Rattle.pat_needs.specs.Lacking.{IsBoundWithout}
+use Rattle.pat_needs.specs.NeedTables.{may_of, IsBoundLacking}
 use Rattle.ordered_search.specs.Setting.{lower_of}
 use Rattle.ordered_search.specs.MatchAnswer.{none_found, match_answer}
-use Rattle.start_tests.proofs.search_needs.Needed.{need_law}
+use Rattle.match_starts.proofs.search_needs.Needed.{need_law}
 use Rattle.frame_machine.specs.frame_board.Ready.{setting_for}
-use Rattle.start_tests.proofs.Leads.{class_told}
+use Rattle.match_starts.proofs.Leads.{class_told}
 
 -- a search that finds no place
 pub stands_nowhere : (text : ByteText) (bytes : List ℕ) (n : ℕ) → IsLeast (Stands (sets_of text) bytes) 0 (length bytes) n → n ≡ length bytes → (k : ℕ) → ¬ Stands (sets_of text) bytes k

@@ -13,7 +13,7 @@ use Rattle.frame_machine.specs.frame_board.Ready.{setting_for}
 use Rattle.ordered_search.proofs.LaterRuns.{end_within}
 use Rattle.ordered_search.proofs.FollowLaw.{later_places}
 use Rattle.match_drive.specs.Run.{BeginsByRun, GoesByRuns, IsFirstRun}
-use Rattle.start_tests.proofs.PastPrefix.{scene_same}
+use Rattle.match_starts.proofs.PastPrefix.{scene_same}
 use Rattle.pat_tree.specs.declared.nodes.Item.{Item}
 use Rattle.pat_tree.specs.declared.nodes.Cond.{Cond}
 use Rattle.pat_tree.specs.declared.nodes.Cond.TheVariants.{AnySet, InCall, InCallOf, Never, Assert}
@@ -28,7 +28,7 @@ use Rattle.ordered_search.specs.PlaceAnswer as place
 use Rattle.ordered_search.specs.PlaceAnswer.{Exhausted, answers, place_answer}
 use Rattle.ordered_search.specs.Places.{last_place, is_excluded, up_to, place_after}
 use Rattle.ordered_search.specs.MatchAnswer.{tried}
-use Rattle.start_tests.specs.Asked.{passed_over, replied}
+use Rattle.match_starts.specs.Asked.{passed_over, replied}
 use Rattle.match_drive.specs.Run.{is_plain, is_plain_test}
 use Rattle.match_drive.specs.Rest.{found_from, behind, FailsTo, FailsToAlways}
 use Rattle.match_drive.proofs.Steps.{found_failed, passed}

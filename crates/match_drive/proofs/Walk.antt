@@ -14,7 +14,7 @@ use Rattle.ordered_search.specs.PlaceAnswer as place
 use Rattle.ordered_search.specs.PlaceAnswer.{last_name, blocks, place_answer}
 use Rattle.ordered_search.specs.Setting.{Setting}
 use Rattle.match_drive.specs.declared.answer.MatchAnswer.{MatchAnswer}
-use Rattle.start_tests.specs.Asked.{replied}
+use Rattle.match_starts.specs.Asked.{replied}
 use Rattle.ordered_search.specs.Places.{last_place, place_after, is_excluded}
 use Rattle.ordered_search.specs.MatchAnswer.{Found, found_at, match_answer}
 use Rattle.match_drive.specs.Answer.{IsMatchAnswer, IsLastMark, IsDeciding, IsShown, TellsMemory, TellsPlace}

@@ -1,12 +1,12 @@
 -- A text at a distance from where every match begins.
 use Rattle.std.specs.Prelude.{◌≡◌, ℕ, ℤ, ◌+◌, List}
 use Rattle.match_items.specs.Subjects.{IsTextPlace}
-use Rattle.match_needs.specs.declared.needs.BeginText.{BeginText}
-use Rattle.match_needs.specs.Texts.{sets_of, Stands}
+use Rattle.pat_needs.specs.declared.needs.BeginText.{BeginText}
+use Rattle.pat_needs.specs.Texts.{sets_of, Stands}
 use Rattle.ordered_search.specs.Stream.{Block}
 use Rattle.ordered_search.specs.Setting.{Setting}
 use Rattle.ordered_search.specs.PlaceAnswer.{Exhausted, Failed, answers, place_answer}
-use Rattle.start_tests.specs.Asked.{replied}
+use Rattle.match_starts.specs.Asked.{replied}
 
 -- the text stands at its distance behind the place
 abbrev pub StandsBehind : BeginText → List ℕ → ℕ → Type 0

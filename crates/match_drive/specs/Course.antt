@@ -5,14 +5,14 @@ use Rattle.pat_tree.specs.Parts.{tree_of}
 use Rattle.match_items.specs.declared.view.View.{View}
 use Rattle.frame_machine.specs.frame_board.declared.ready.Ready.{Ready}
 use Rattle.frame_machine.specs.frame_board.Ready.{IsReadySearch, setting_for}
-use Rattle.match_needs.specs.declared.needs.BeginText.{BeginText}
-use Rattle.start_tests.specs.Asked.{passed_over}
+use Rattle.pat_needs.specs.declared.needs.BeginText.{BeginText}
+use Rattle.match_starts.specs.Asked.{passed_over}
 use Rattle.match_drive.specs.declared.outline.Guide.{Guide}
 use Rattle.match_drive.specs.Begin.{StandsAtBegin}
 use Rattle.match_drive.specs.BeginText.{IsBegun}
-use Rattle.start_tests.specs.Prefix.{AreBranches, IsFree}
-use Rattle.start_tests.specs.Repeats.{IsFirstRepeat}
-use Rattle.start_tests.specs.Whole.{IsWholeSearch}
+use Rattle.match_starts.specs.Prefix.{AreBranches, IsFree}
+use Rattle.match_starts.specs.Repeats.{IsFirstRepeat}
+use Rattle.match_starts.specs.Whole.{IsWholeSearch}
 use Rattle.match_drive.specs.Run.{IsFirstRun}
 
 -- The search at one place runs. Where it is told so, the pattern stands at the subject's begin alone. The branches that are

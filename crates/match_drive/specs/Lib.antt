@@ -1,4 +1,4 @@
-pub use Rattle.start_tests.specs as start_tests
+pub use Rattle.match_starts.specs as match_starts
 pub use Rattle.frame_machine.specs.frame_board as frame_board
 pub use Rattle.frame_machine.specs as frame_machine
 pub use Rattle.frame_state.specs as frame_state

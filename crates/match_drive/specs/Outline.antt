@@ -1,8 +1,8 @@
 -- What a finished tree tells of each search of it.
 use Rattle.std.specs.Prelude.{IsTrue, IfSome}
 use Rattle.pat_tree.specs.Parts.{TreeParts, tree_of}
-use Rattle.start_tests.specs.Repeats.{BeginsByRepeat}
-use Rattle.start_tests.specs.Whole.{IsWhole}
+use Rattle.match_starts.specs.Repeats.{BeginsByRepeat}
+use Rattle.match_starts.specs.Whole.{IsWhole}
 use Rattle.match_drive.specs.declared.outline.Outline.{Outline}
 use Rattle.match_drive.specs.Begin.{StandsAtBegin}
 use Rattle.match_drive.specs.Run.{BeginsByRun}

@@ -8,8 +8,8 @@ use Rattle.frame_state.specs.Shown.{seen_after}
 use Rattle.ordered_search.specs.Stream.{Block}
 use Rattle.ordered_search.specs.Setting.{Setting, lead_set}
 use Rattle.ordered_search.specs.PlaceAnswer.{Signal, Exhausted, Failed, answers, place_answer, last_name, blocks}
-use Rattle.start_tests.specs.Asked.{replied}
-use Rattle.start_tests.specs.Repeats.{AllFail}
+use Rattle.match_starts.specs.Asked.{replied}
+use Rattle.match_starts.specs.Repeats.{AllFail}
 use Rattle.ordered_search.specs.Places.{up_to, passes_crlf, last_place, place_after, is_excluded}
 use Rattle.ordered_search.specs.MatchAnswer.{MatchAnswer, Found, none_found, tried, undecided, from_place}
 

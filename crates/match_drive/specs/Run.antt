@@ -12,7 +12,7 @@ use Rattle.match_items.specs.declared.view.View.{View}
 use Rattle.frame_machine.specs.frame_board.Ready.{setting_for}
 use Rattle.ordered_search.specs.LaterPlaces.{BeginsWithRun, first_run}
 use Rattle.ordered_search.specs.Plain.{IsPlain}
-use Rattle.start_tests.specs.Asked.{passed_over}
+use Rattle.match_starts.specs.Asked.{passed_over}
 
 -- a condition whose test goes by the place alone
 abbrev pub is_plain_test : Cond → Bool

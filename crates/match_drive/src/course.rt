@@ -4,10 +4,10 @@ ghost use Rattle.std.specs.Option.{option_copied};
 ghost use Rattle.pcre_io.specs.declared.callouts.Block.{Block};
 ghost use Rattle.match_items.specs.Subjects.{IsTextPlace};
 ghost use Rattle.frame_machine.specs.frame_board.Ready.{setting_for};
-ghost use Rattle.start_tests.specs.Asked.{passed_over};
+ghost use Rattle.match_starts.specs.Asked.{passed_over};
 ghost use Rattle.match_drive.specs.Course.{IsByteCourse};
-ghost use Rattle.start_tests.specs.Prefix.{IsTold};
-ghost use Rattle.start_tests.specs.Repeats.{FailsUpTo};
+ghost use Rattle.match_starts.specs.Prefix.{IsTold};
+ghost use Rattle.match_starts.specs.Repeats.{FailsUpTo};
 ghost use Rattle.match_drive.specs.Rest.{FailsToAlways};
 
 use crate::driven::Driven;
@@ -15,10 +15,10 @@ use crate::outline::Guide;
 use byte_lanes::ByteSet;
 use frame_machine::{PlaceAnswer, Ready, Scratch, Signal, run_at};
 use match_items::{View, item_run};
-use match_needs::BeginText;
+use match_starts::{Tested, fails_on, is_admitted, test_branches, test_whole};
+use pat_needs::BeginText;
 use pat_tree::{MatchOptions, NodeId, Options};
 use pcre_io::Callouts;
-use start_tests::{Tested, fails_on, is_admitted, test_branches, test_whole};
 
 /// A finished tree, made ready, and a subject.
 #[derive(Clone, Copy)]

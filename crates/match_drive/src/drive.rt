@@ -5,7 +5,7 @@ ghost use Rattle.pat_tree.specs.declared.options.PartialMode.TheVariants.{Off};
 ghost use Rattle.pcre_io.specs.declared.callouts.Block.{Block};
 ghost use Rattle.frame_state.specs.Room.{IsQuiet};
 ghost use Rattle.frame_machine.specs.Scratch.{HasRoom, IsOfSearch};
-ghost use Rattle.start_tests.specs.Asked.{passed_over};
+ghost use Rattle.match_starts.specs.Asked.{passed_over};
 ghost use Rattle.match_drive.specs.Answer.{IsMatchAnswer, IsLastMark, IsNotPartial, IsDeciding, IsOfMatching, IsShown, TellsMemory, TellsPlace, TellsNone};
 ghost use Rattle.ordered_search.specs.MatchAnswer.{match_answer};
 ghost use Rattle.match_drive.specs.Rest as rest;
@@ -20,8 +20,8 @@ use crate::outline::Outline;
 use crate::places::{last_place, next_tried, place_past};
 use frame_machine::{PlaceAnswer, Ready, Scratch};
 use match_items::View;
+use match_starts::are_bytes;
 use pcre_io::{Callouts, NoCallouts};
-use start_tests::are_bytes;
 
 /// The first place that reached the subject's end, after one more place.
 fn first_hit(first: Option<usize>, hit_end: bool, at: usize) -> Option<usize>

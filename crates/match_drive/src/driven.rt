@@ -9,14 +9,14 @@ ghost use Rattle.frame_machine.specs.Scratch.{HasRoom, IsOfSearch};
 ghost use Rattle.frame_state.specs.Answer.{IsAnswer, IsMark, IsSeen, SkipsToPlace};
 ghost use Rattle.ordered_search.specs.PlaceAnswer.{place_answer};
 ghost use Rattle.ordered_search.specs.Setting.{Setting, lead_set, names_cr_or_lf};
-ghost use Rattle.start_tests.specs.Asked.{passed_over, replied};
+ghost use Rattle.match_starts.specs.Asked.{passed_over, replied};
 ghost use Rattle.match_drive.specs.Begin.{StandsAtBegin};
 ghost use Rattle.match_drive.specs.BeginText.{IsBegun};
 ghost use Rattle.match_drive.specs.Rest.{AreRefused, FailsToAlways};
 
 use byte_lanes::ByteSet;
 use frame_machine::{PlaceAnswer, Scratch};
-use match_needs::BeginText;
+use pat_needs::BeginText;
 use pat_tree::{MatchOptions, Options};
 use pcre_io::Callouts;
 

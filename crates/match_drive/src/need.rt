@@ -3,23 +3,23 @@ ghost use Rattle.std.specs.Prelude.{◌≡◌, ◌+◌, ◌<◌, ◌≤◌, ℕ,
 ghost use Rattle.std.specs.Option.{option_copied};
 ghost use Rattle.match_items.specs.Subjects.{IsText};
 ghost use Rattle.pcre_io.specs.declared.callouts.Block.{Block};
-ghost use Rattle.match_bounds.specs.Bounds.{at};
+ghost use Rattle.pat_bounds.specs.Bounds.{at};
 ghost use Rattle.frame_machine.specs.frame_board.Ready.{IsReadySearch, setting_for};
 ghost use Rattle.ordered_search.specs.Setting.{lower_of};
 ghost use Rattle.ordered_search.specs.MatchAnswer.{none_found, match_answer};
-ghost use Rattle.match_needs.specs.Texts.{sets_of, Stands};
-ghost use Rattle.match_needs.specs.Needs.{Needs};
-ghost use Rattle.match_needs.specs.NeedTables.{may_of, IsBoundLacking, IsNeedOf};
+ghost use Rattle.pat_needs.specs.Texts.{sets_of, Stands};
+ghost use Rattle.pat_needs.specs.Needs.{Needs};
+ghost use Rattle.pat_needs.specs.NeedTables.{may_of, IsBoundLacking, IsNeedOf};
 ghost use Rattle.pat_tree.specs.Parts.{TreeParts, tree_of};
-ghost use Rattle.start_tests.specs.Asked.{passed_over};
+ghost use Rattle.match_starts.specs.Asked.{passed_over};
 ghost use Rattle.match_drive.specs.BeginText.{IsBegun};
 
 use crate::answer::MatchAnswer;
 use frame_machine::{Ready, Scratch};
-use match_bounds::Bound;
 use match_items::View;
-use match_needs::{BeginText, ByteText, Need};
-use start_tests::{are_bytes, is_off, match_limit};
+use match_starts::{are_bytes, is_off, match_limit};
+use pat_bounds::Bound;
+use pat_needs::{BeginText, ByteText, Need};
 
 /// Whether what a search of the subject takes at most is within the limits.
 fn is_within(bound: &Bound, view: &View<'_>) -> bool

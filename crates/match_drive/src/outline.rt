@@ -2,19 +2,19 @@
 ghost use Rattle.std.specs.Prelude.{◌≡◌, ◌≤◌, ◌<◌, IfSome, length};
 ghost use Rattle.std.specs.Option.{option_copied};
 ghost use Rattle.pat_tree.specs.Parts.{TreeParts};
-ghost use Rattle.start_tests.specs.Prefix.{AreBranches, IsFree};
-ghost use Rattle.start_tests.specs.Repeats.{BeginsByRepeat, IsFirstRepeat};
-ghost use Rattle.start_tests.specs.Whole.{IsWhole, IsWholeSearch};
+ghost use Rattle.match_starts.specs.Prefix.{AreBranches, IsFree};
+ghost use Rattle.match_starts.specs.Repeats.{BeginsByRepeat, IsFirstRepeat};
+ghost use Rattle.match_starts.specs.Whole.{IsWhole, IsWholeSearch};
 ghost use Rattle.match_drive.specs.Run.{BeginsByRun, IsFirstRun};
 ghost use Rattle.match_drive.specs.Outline.{IsOutlineOf};
 
 use crate::begin::stands_at_begin;
 use crate::run::{goes_by_run, plain_run};
 use match_items::View;
-use pat_tree::{Item, Node, NodeId, Tree};
-use start_tests::{
+use match_starts::{
     FirstRepeat, branches_tested, first_repeat, goes_by_repeat, goes_by_whole, whole_repeat,
 };
+use pat_tree::{Item, Node, NodeId, Tree};
 
 /// What a finished tree tells of where its matches may begin. Who searches many subjects makes it once.
 #[derive(Clone, Copy)]

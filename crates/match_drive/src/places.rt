@@ -4,9 +4,9 @@ ghost use Rattle.std.specs.Option.{option_copied};
 ghost use Rattle.byte_lanes.specs.Places.{IsLeast};
 ghost use Rattle.uni_text.specs.Characters as text;
 ghost use Rattle.match_items.specs.Subjects.{IsPlace, IsTextPlace};
-ghost use Rattle.match_needs.specs.Texts.{sets_of, Stands};
+ghost use Rattle.pat_needs.specs.Texts.{sets_of, Stands};
 ghost use Rattle.frame_state.specs.Answer.{signal_of, IsSkip};
-ghost use Rattle.start_tests.specs.Asked.{passed_over};
+ghost use Rattle.match_starts.specs.Asked.{passed_over};
 ghost use Rattle.match_drive.specs.BeginText.{StandsBehind};
 ghost use Rattle.ordered_search.specs.Places as places;
 ghost use Rattle.ordered_search.specs.Places.{up_to};
@@ -16,9 +16,9 @@ ghost use Rattle.match_drive.specs.Rest.{AreRefused, FailBeforeAlways, FindsAlik
 use crate::driven::Driven;
 use byte_lanes::{ByteSet, EndKind, find_line_end, newline_at};
 use frame_machine::Signal;
-use match_needs::{BeginText, ByteText};
+use match_starts::first_in;
+use pat_needs::{BeginText, ByteText};
 use pat_tree::PartialMode;
-use start_tests::first_in;
 use uni_text::char_at;
 
 /// Whether a CRLF is passed whole at a place: where it is a newline, and the pattern names no half of it.

@@ -9,8 +9,8 @@ ghost use Rattle.match_drive.specs.Run as run;
 ghost use Rattle.match_drive.specs.Run.{BeginsByRun, GoesByRuns};
 
 use match_items::View;
+use match_starts::is_off;
 use pat_tree::{Cond, Item, Node, NodeId, Tree};
-use start_tests::is_off;
 
 /// Whether what a node takes goes by the place alone, and not by captures and calls; and no verb
 /// and no callout stands there.

@@ -5,7 +5,7 @@ ghost use Rattle.match_items.specs.Subjects.{IsTextPlace};
 ghost use Rattle.frame_machine.specs.frame_board.Ready.{IsReadySearch, setting_for};
 ghost use Rattle.ordered_search.specs.Places as places;
 ghost use Rattle.ordered_search.specs.PlaceAnswer.{Exhausted};
-ghost use Rattle.start_tests.specs.Asked.{passed_over};
+ghost use Rattle.match_starts.specs.Asked.{passed_over};
 ghost use Rattle.match_drive.specs.Course.{IsByteCourse};
 
 use crate::course::Course;

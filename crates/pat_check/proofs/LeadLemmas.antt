@@ -8,7 +8,7 @@ use Rattle.pat_tree.specs.declared.nodes.Cond.{Cond}
 use Rattle.pat_tree.specs.declared.nodes.Cond.TheVariants.{AnySet, InCall, InCallOf, Never, Assert}
 use Rattle.pat_check.specs.Starts.{IsSomeLead, AreKept, lead_of_parts, lead_of_branches, lead_of_second, lead_of_condition}
 use Rattle.pat_check.specs.declared.starts.Start.{Start}
-use Rattle.match_needs.proofs.match_bounds.Backwards.{back}
+use Rattle.pat_needs.proofs.pat_bounds.Backwards.{back}
 
 pub then_stops : (r : Option Start) (first : Start) (x y : SomeLead) → first.passing ≡ false →
     ((has : ℕ → Bool) → ((b : ℕ) → b < 256 → has_byte first.bytes b ≡ has b) → IsSomeLead r (begins has)) → IsSomeLead (Some first) x → IsSomeLead r (then_lead x y)

@@ -2,9 +2,9 @@ pub use Rattle.pat_lengths.specs.Nodes
 pub use Rattle.pat_lengths.specs.Lengths
 pub use Rattle.pat_lengths.specs.HasLength
 pub use Rattle.pat_lengths.specs.Backs
-pub use Rattle.match_needs.specs.match_bounds.Bounds
-pub use Rattle.match_needs.specs.Needs
-pub use Rattle.match_needs.specs.NeedTables
+pub use Rattle.pat_needs.specs.pat_bounds.Bounds
+pub use Rattle.pat_needs.specs.Needs
+pub use Rattle.pat_needs.specs.NeedTables
 pub mod Lead
 pub mod Size
 pub mod Rows

@@ -14,6 +14,6 @@ mod survey;
 
 pub use facts::{CheckError, Facts, check};
 pub use laws::worked_rows;
-pub use match_needs::{Bound, Growth, Need};
 pub use pat_lengths::{Backs, lengths_are_bounds};
+pub use pat_needs::{Bound, Growth, Need};
 pub use support::DfaSupport;

@@ -8,19 +8,19 @@ use Rattle.std.proofs.lemmas.Bool.{cases_Bool, cases_lt, lt-leb, le-leb, le-ltb}
 use Rattle.std.proofs.lemmas.List.{get_or_past}
 use Rattle.std.proofs.lemmas.Str.{IsCharBoundary-start}
 use Rattle.uni_text.specs.Characters.{IsChecked}
-use Rattle.match_needs.specs.Texts.{sets_of, behind_of}
-use Rattle.match_needs.specs.declared.text.ByteText.{ByteText}
+use Rattle.pat_needs.specs.Texts.{sets_of, behind_of}
+use Rattle.pat_needs.specs.declared.text.ByteText.{ByteText}
 use Rattle.pat_tree.specs.declared.options.MatchOptions.{MatchOptions}
 use Rattle.pat_tree.specs.declared.options.PartialMode.TheVariants.{Off}
 use Rattle.pat_tree.specs.Parts.{TreeParts, tree_of}
 use Rattle.char_sets.specs.Sets.{class_has}
 use Rattle.dfa_drive.specs.frame_board.Standing.{is_inside}
-use Rattle.match_bounds.specs.Bounds.{at}
-use Rattle.match_needs.specs.Needs.{may_take, Needs}
-use Rattle.match_needs.specs.Lacking.{IsBoundWithout}
-use Rattle.match_needs.specs.NeedTables.{IsNeedOf}
-use Rattle.match_bounds.specs.declared.bounds.Growth.{Growth}
-use Rattle.match_needs.specs.declared.needs.Need.{Need}
+use Rattle.pat_bounds.specs.Bounds.{at}
+use Rattle.pat_needs.specs.Needs.{may_take, Needs}
+use Rattle.pat_needs.specs.Lacking.{IsBoundWithout}
+use Rattle.pat_needs.specs.NeedTables.{IsNeedOf}
+use Rattle.pat_bounds.specs.declared.bounds.Growth.{Growth}
+use Rattle.pat_needs.specs.declared.needs.Need.{Need}
 use Rattle.ordered_search.specs.Setting.{lower_of, class_holds}
 use Rattle.ordered_search.proofs.Classes.{class_is}
 use Rattle.dfa_drive.proofs.search_needs.Needed.{need_law}

@@ -1,6 +1,6 @@
 -- Subjects without a text that every match needs (docs/SPEED.md, "A text that every match needs").
 use Rattle.std.specs.Prelude.{◌≡◌, ℕ, ◌<◌, ◌≤◌, ℤ, Bool, List, length, slice_index}
-use Rattle.match_needs.specs.Texts.{Stands}
+use Rattle.pat_needs.specs.Texts.{Stands}
 use Rattle.uni_text.specs.Characters.{IsChecked}
 use Rattle.pat_tree.specs.declared.options.MatchOptions.{MatchOptions}
 use Rattle.pcre_io.specs.declared.callouts.Block.{Block}

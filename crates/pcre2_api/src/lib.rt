@@ -21,7 +21,7 @@ pub use dfa_drive::{EndList, Lists, Scratch};
 pub use found::Found;
 pub use frame_store::Span;
 pub use laws::worked_substitutions;
-pub use match_needs::ByteText;
+pub use pat_needs::ByteText;
 pub use pat_tree::{Bsr, MatchOptions, Newline, Options, PartialMode, Steps};
 pub use pcre_io::{Block, Callouts, NoCallouts};
 pub use pcre2_errors::{CompileError, DfaError, MatchError, SubstError, fault_text};

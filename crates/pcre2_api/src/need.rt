@@ -1,9 +1,9 @@
 //! Searches that need not be made.
 ghost use Rattle.std.specs.Prelude.{◌≡◌, ◌+◌, ◌<◌, ◌≤◌, IsTrue};
-ghost use Rattle.match_bounds.specs.Bounds.{at};
+ghost use Rattle.pat_bounds.specs.Bounds.{at};
 ghost use Rattle.ordered_search.specs.Setting.{lower_of};
 
-use match_needs::Need;
+use pat_needs::Need;
 use pat_tree::{MatchOptions, Options};
 
 /// The greatest number of Steps at a place: the pattern may lower that of the match.

@@ -1,21 +1,21 @@
 -- The tool that the first word names.
 use Rattle.std.proofs.Common.{◌≡◌, ℕ, ◌≤◌, ◌<◌, Bool, true, false, List, [], ◌∷◌, codes, ◌-◌, length, take, drop, map, get_or, refl, sym, subst}
-use Rattle.script_run.proofs.Wording.{first-word, no-word}
+use Rattle.test_main.proofs.Wording.{first-word, no-word}
 use Rattle.pcre_io.specs.Told.{Told}
 use Rattle.pcre_io.specs.Files.{Filed}
 use Rattle.line_feed.specs.Rows.{Input}
 use Rattle.line_feed.specs.Hears.{Hears}
-use Rattle.dir_walk.specs.declared.lists.Target.{Target}
-use Rattle.tool_in.specs.Asked.{Asked, StandFor}
-use Rattle.tool_in.specs.Absent.{AbsentBy}
-use Rattle.tool_in.proofs.Absence.{absent-none}
-use Rattle.tool_in.proofs.Taking.{hears-any}
-use Rattle.tool_out.specs.Printed.{Printed}
-use Rattle.tool_out.specs.Outcomes.{RunOutcome, said, Runs}
-use Rattle.grep_run.specs.Asks.{AsksFor}
-use Rattle.grep_run.specs.Stages.{Streams, streams}
-use Rattle.grep_run.specs.ToolText.{text_of}
-use Rattle.script_run.specs.ToolText as script
+use Rattle.tool_io.specs.declared.target.Target.{Target}
+use Rattle.tool_io.specs.Asked.{Asked, StandFor}
+use Rattle.tool_io.specs.Absent.{AbsentBy}
+use Rattle.tool_io.proofs.Absence.{absent-none}
+use Rattle.tool_io.proofs.Taking.{hears-any}
+use Rattle.tool_io.specs.Printed.{Printed}
+use Rattle.tool_io.specs.Outcomes.{RunOutcome, said, Runs}
+use Rattle.grep_main.specs.Asks.{AsksFor}
+use Rattle.grep_main.specs.Stages.{Streams, streams}
+use Rattle.grep_main.specs.ToolText.{text_of}
+use Rattle.test_main.specs.ToolText as script
 use Rattle.pcre2_tools.specs.ToolText.{is_grep, is_test, text_by, tool_text, AsksIf, ToolAsks, TiesIf, ToolTies}
 
 -- words that ask for nothing, and that this is said to

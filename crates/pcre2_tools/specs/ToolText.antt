@@ -2,15 +2,15 @@
 -- text.
 use Rattle.std.specs.Prelude.{◌≡◌, ℕ, List, [], ◌∷◌, Bool, true, false, codes, bytes_eq, ⊤}
 use Rattle.pcre_io.specs.Files.{Filed}
-use Rattle.dir_walk.specs.declared.lists.Target.{Target}
-use Rattle.tool_in.specs.Asked.{Asked}
-use Rattle.tool_in.specs.Absent.{AbsentBy}
-use Rattle.tool_out.specs.Outcomes.{RunOutcome, said}
-use Rattle.grep_run.specs.Asks.{AsksFor}
-use Rattle.grep_run.specs.Leaves.{LeavesInput, RunTies}
-use Rattle.grep_run.specs.Stages.{Streams}
-use Rattle.grep_run.specs.ToolText.{text_of}
-use Rattle.script_run.specs.ToolText as script
+use Rattle.tool_io.specs.declared.target.Target.{Target}
+use Rattle.tool_io.specs.Asked.{Asked}
+use Rattle.tool_io.specs.Absent.{AbsentBy}
+use Rattle.tool_io.specs.Outcomes.{RunOutcome, said}
+use Rattle.grep_main.specs.Asks.{AsksFor}
+use Rattle.grep_main.specs.Leaves.{LeavesInput, RunTies}
+use Rattle.grep_main.specs.Stages.{Streams}
+use Rattle.grep_main.specs.ToolText.{text_of}
+use Rattle.test_main.specs.ToolText as script
 
 -- by the name of the tool
 abbrev pub is_grep : List ℕ → Bool

@@ -2,18 +2,18 @@
 ghost use Rattle.std.specs.Prelude.{◌≡◌, map, string_bytes, List};
 ghost use Rattle.line_feed.specs.Rows.{Input};
 ghost use Rattle.line_feed.specs.Hears.{Hears};
-ghost use Rattle.dir_walk.specs.declared.lists.Target.{Target};
-ghost use Rattle.tool_in.specs.Asked.{Asked, StandFor};
-ghost use Rattle.tool_out.specs.Outcomes.{Runs};
-ghost use Rattle.tool_out.specs.Printed.{printed};
-ghost use Rattle.grep_run.specs.Stages.{streams};
+ghost use Rattle.tool_io.specs.declared.target.Target.{Target};
+ghost use Rattle.tool_io.specs.Asked.{Asked, StandFor};
+ghost use Rattle.tool_io.specs.Outcomes.{Runs};
+ghost use Rattle.tool_io.specs.Printed.{printed};
+ghost use Rattle.grep_main.specs.Stages.{streams};
 ghost use Rattle.pcre2_tools.specs.ToolText.{is_grep, is_test, tool_text, ToolAsks, ToolTies};
 
-use grep_run::run_grep;
+use grep_main::run_grep;
 use pcre_io::{FileSet, Sink, Source};
-use script_run::run_test;
 use std::alloc::Global;
-use tool_out::say;
+use test_main::run_test;
+use tool_io::say;
 
 fn is_grep(tool: &str) -> bool
     ensures { result ≡ is_grep tool.now }

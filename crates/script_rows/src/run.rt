@@ -1,9 +1,9 @@
 //! A script and what is written of it, in one text: `>` stands before each line of the script, and
 //! the other lines are what is written after it.
 use pcre_io::{MemSink, MemSource};
-use script_modifiers::Modifiers;
 use std::alloc::{AllocError, Global};
 use std::test::Fail;
+use test_modifiers::Modifiers;
 use test_run::run_script;
 use test_script::TestPlan;
 

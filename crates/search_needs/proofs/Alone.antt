@@ -8,8 +8,8 @@ use Rattle.pat_tree.specs.declared.nodes.Item.TheVariants.{Char, AnyAll, NotNewl
 use Rattle.pat_tree.specs.Nested as tree
 use Rattle.pat_tree.specs.Nested.{Nested, Row}
 use Rattle.match_items.specs.Items.{after_item, item_reaches}
-use Rattle.match_bounds.specs.declared.bounds.Bound.{Bound}
-use Rattle.match_bounds.specs.Bounds.{at, greater, or_apart, lacks, lacks_item, are_apart, item_of, item_ahead, first_item, begins_apart, all_begin_apart, is_alone}
+use Rattle.pat_bounds.specs.declared.bounds.Bound.{Bound}
+use Rattle.pat_bounds.specs.Bounds.{at, greater, or_apart, lacks, lacks_item, are_apart, item_of, item_ahead, first_item, begins_apart, all_begin_apart, is_alone}
 use Rattle.ordered_search.specs.Stream.{State, is_next_branch, Stream, Search, ◌or_else◌, go_on, catch}
 use Rattle.ordered_search.specs.Setting.{Setting, held}
 use Rattle.ordered_search.specs.Tests.{goes_to, run_one}

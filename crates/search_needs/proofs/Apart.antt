@@ -9,8 +9,8 @@ use Rattle.pat_tree.specs.declared.options.PartialMode.TheVariants.{Off}
 use Rattle.pat_tree.specs.declared.nodes.Item.{Item}
 use Rattle.pat_tree.specs.declared.nodes.Item.TheVariants.{Char, AnyAll, NotNewline, Class}
 use Rattle.match_items.specs.Items.{next as character, one_less, is_none_left, takes, after_item, item_reaches, run_places, longest_run, run_reaches}
-use Rattle.match_bounds.specs.declared.bounds.Bound.{Bound}
-use Rattle.match_bounds.specs.Bounds.{at, steady, plus, product, left_once, turns, followed, lacks}
+use Rattle.pat_bounds.specs.declared.bounds.Bound.{Bound}
+use Rattle.pat_bounds.specs.Bounds.{at, steady, plus, product, left_once, turns, followed, lacks}
 use Rattle.ordered_search.specs.Stream.{State, reached, step, Stream, Search, ◌▸◌, nothing, gives, ◌or_else◌, each, and_then}
 use Rattle.ordered_search.specs.Setting.{Setting, hold, reach_if}
 use Rattle.ordered_search.specs.Tests.{move_to, offers, greedy, offer_and, reluctant, lazy_run, run_many}

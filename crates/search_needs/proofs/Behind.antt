@@ -12,11 +12,11 @@ use Rattle.match_items.specs.Items.{after_item, item_reaches, is_none_left, one_
 use Rattle.match_items.specs.Subjects.{IsText, IsTextPlace}
 use Rattle.match_items.specs.Views.{fold_in}
 use Rattle.match_items.proofs.TextGround.{text_forward}
-use Rattle.match_bounds.specs.declared.bounds.Bound.{Bound}
-use Rattle.match_bounds.specs.Bounds.{at, followed, grouped, both, change, bound, bound_in_turn}
-use Rattle.match_needs.specs.Needs.{may_take, IsShort}
-use Rattle.match_needs.specs.Distances.{IsLong, NeedsFrom, NeedsAt}
-use Rattle.match_needs.specs.Texts.{Stands}
+use Rattle.pat_bounds.specs.declared.bounds.Bound.{Bound}
+use Rattle.pat_bounds.specs.Bounds.{at, followed, grouped, both, change, bound, bound_in_turn}
+use Rattle.pat_needs.specs.Needs.{may_take, IsShort}
+use Rattle.pat_needs.specs.Distances.{IsLong, NeedsFrom, NeedsAt}
+use Rattle.pat_needs.specs.Texts.{Stands}
 use Rattle.ordered_search.specs.Stream.{State, How, reached, accepted, note, state, step, Stream, Search, ends, ◌▸◌, each, go_on}
 use Rattle.ordered_search.specs.Setting.{Setting, match_limit}
 use Rattle.ordered_search.specs.Tests.{run_one}

@@ -8,9 +8,9 @@ use Rattle.pat_tree.specs.declared.options.PartialMode.TheVariants.{Off}
 use Rattle.pat_tree.specs.declared.nodes.Item.{Item}
 use Rattle.pat_tree.specs.declared.nodes.AnchorKind.{AnchorKind}
 use Rattle.match_items.specs.Items.{one_less, is_none_left, after_item, item_reaches, run_places, longest_run, after_ref, ref_reaches, holds, anchor_reaches}
-use Rattle.match_bounds.specs.declared.bounds.Growth.{Growth}
-use Rattle.match_bounds.specs.declared.bounds.Bound.{Bound}
-use Rattle.match_bounds.specs.Bounds.{at, steady, plus, product, once, never, offered, turns, followed, or_later, closed, grouped}
+use Rattle.pat_bounds.specs.declared.bounds.Growth.{Growth}
+use Rattle.pat_bounds.specs.declared.bounds.Bound.{Bound}
+use Rattle.pat_bounds.specs.Bounds.{at, steady, plus, product, once, never, offered, turns, followed, or_later, closed, grouped}
 use Rattle.frame_store.specs.Captures.{capture}
 use Rattle.ordered_search.specs.Stream.{State, exhausted, reached, by_halt, too_many_units, Stream, Search, ends, nothing, gives, no_ending, is_next_branch, fails_alone, fails_inside, captured}
 use Rattle.ordered_search.specs.Setting.{Setting, held, hold, reach, reach_if}

@@ -8,8 +8,8 @@ use Rattle.pat_tree.specs.declared.nodes.Item.TheVariants.{Char, AnyAll, NotNewl
 use Rattle.pat_tree.specs.Nested as tree
 use Rattle.pat_tree.specs.Nested.{Nested, Row}
 use Rattle.match_items.specs.Items.{after_item, item_reaches}
-use Rattle.match_bounds.specs.declared.bounds.Bound.{Bound}
-use Rattle.match_bounds.specs.Bounds.{offered, turns, followed, closed, grouped, both, change, or_so, first_item, is_alone, repeated, in_turns, is_left_once, at, left_once, next_char, lacks, is_apart, bound, bound_before, bound_in_turn, bound_of_one, bound_of_choices}
+use Rattle.pat_bounds.specs.declared.bounds.Bound.{Bound}
+use Rattle.pat_bounds.specs.Bounds.{offered, turns, followed, closed, grouped, both, change, or_so, first_item, is_alone, repeated, in_turns, is_left_once, at, left_once, next_char, lacks, is_apart, bound, bound_before, bound_in_turn, bound_of_one, bound_of_choices}
 use Rattle.ordered_search.specs.Stream.{State, by_halt, cut, reached, Stream, Search, nothing, each, and_then}
 use Rattle.ordered_search.specs.Setting.{Setting}
 use Rattle.ordered_search.specs.Tests.{goes_to, run_one, run_many}

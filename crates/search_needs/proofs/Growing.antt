@@ -3,8 +3,8 @@ use Rattle.std.proofs.Common.{◌≡◌, ℕ, ◌+◌, ◌*◌, ◌^◌, ◌<◌
 use Rattle.std.proofs.Math.Nat.{pow-zero, pow-le-pow_right}
 use Rattle.std.proofs.lemmas.Grind.{pow_more}
 use Rattle.std.proofs.lemmas.Nat.{mul-le, pow-add}
-use Rattle.match_bounds.specs.declared.bounds.Growth.{Growth}
-use Rattle.match_bounds.specs.Bounds.{at, steady, plus, product, greater}
+use Rattle.pat_bounds.specs.declared.bounds.Growth.{Growth}
+use Rattle.pat_bounds.specs.Bounds.{at, steady, plus, product, greater}
 
 pub at_steady : (k n : ℕ) → at (steady k) n ≡ k
 at_steady k n = let e : n ^ 0 ≡ 1 = pow-zero n in ap (λ m. k * m) e ∙ omega arith

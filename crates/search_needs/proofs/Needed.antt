@@ -19,13 +19,13 @@ use Rattle.match_items.specs.Items.{is_end, takes, after_item, item_reaches, one
 use Rattle.match_items.specs.Subjects.{IsText, IsTextPlace}
 use Rattle.match_items.specs.Views.{fold_in}
 use Rattle.match_items.proofs.TextGround.{next_place as goes_to_place, text_forward}
-use Rattle.match_bounds.specs.declared.bounds.Growth.{Growth}
-use Rattle.match_bounds.specs.declared.bounds.Bound.{Bound}
-use Rattle.match_bounds.specs.Bounds.{at, followed, or_later, or_so, first_item, is_alone, closed, grouped, both, change, offered, turns, left_once, is_apart, bound, bound_before, bound_in_turn, bound_of_one, bound_of_choices}
-use Rattle.match_needs.specs.Needs.{may_begin, may_take, TakesOf, IsShort, Begins, copies, Needs, SomeNeeds, AllNeed}
-use Rattle.match_needs.specs.Lacking.{IsBoundWithout, sequence}
-use Rattle.match_needs.specs.Texts.{Stands}
-use Rattle.match_needs.proofs.TextLemmas.{clash}
+use Rattle.pat_bounds.specs.declared.bounds.Growth.{Growth}
+use Rattle.pat_bounds.specs.declared.bounds.Bound.{Bound}
+use Rattle.pat_bounds.specs.Bounds.{at, followed, or_later, or_so, first_item, is_alone, closed, grouped, both, change, offered, turns, left_once, is_apart, bound, bound_before, bound_in_turn, bound_of_one, bound_of_choices}
+use Rattle.pat_needs.specs.Needs.{may_begin, may_take, TakesOf, IsShort, Begins, copies, Needs, SomeNeeds, AllNeed}
+use Rattle.pat_needs.specs.Lacking.{IsBoundWithout, sequence}
+use Rattle.pat_needs.specs.Texts.{Stands}
+use Rattle.pat_needs.proofs.TextLemmas.{clash}
 use Rattle.byte_lanes.specs.Sets.{IsIn}
 use Rattle.ordered_search.specs.Stream.{State, first_state, exhausted, by_verb, by_halt, is_partial, too_many_units, loop, abort, cut, How, reached, accepted, note, state, step, Stream, Search, ends, ◌▸◌, nothing, each, go_on, and_then, no_ending, is_next_branch, fails_alone}
 use Rattle.ordered_search.specs.Setting.{Setting, match_limit, held, reach_if}

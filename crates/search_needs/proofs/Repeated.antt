@@ -7,9 +7,9 @@ use Rattle.std.proofs.lemmas.Nat.{mul-le}
 use Rattle.pat_tree.specs.declared.options.PartialMode.TheVariants.{Off}
 use Rattle.pat_tree.specs.Nested.{Nested, repeat}
 use Rattle.match_items.specs.Items.{one_less}
-use Rattle.match_bounds.specs.declared.bounds.Growth.{Growth}
-use Rattle.match_bounds.specs.declared.bounds.Bound.{Bound}
-use Rattle.match_bounds.specs.Bounds.{at, steady, plus, product, line, group_turns, group_ends, in_turns}
+use Rattle.pat_bounds.specs.declared.bounds.Growth.{Growth}
+use Rattle.pat_bounds.specs.declared.bounds.Bound.{Bound}
+use Rattle.pat_bounds.specs.Bounds.{at, steady, plus, product, line, group_turns, group_ends, in_turns}
 use Rattle.ordered_search.specs.Stream.{State, cut, by_halt, How, reached, note, state, step, Stream, Search, ends, ◌▸◌, nothing, gives, ◌or_else◌, each, go_on, and_then}
 use Rattle.ordered_search.specs.Setting.{Setting, hold}
 use Rattle.ordered_search.specs.Parts.{Searches, is_over, turn, run_repeat}

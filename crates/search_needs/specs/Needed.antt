@@ -3,12 +3,12 @@ use Rattle.std.specs.Prelude.{◌≡◌, ◌<◌, ◌≤◌, ℕ, ◌+◌, Bool,
 use Rattle.pat_tree.specs.declared.options.PartialMode.TheVariants.{Off}
 use Rattle.match_items.specs.Subjects.{IsText, IsTextPlace}
 use Rattle.match_items.specs.Views.{fold_in}
-use Rattle.match_bounds.specs.declared.bounds.Bound.{Bound}
-use Rattle.match_bounds.specs.Bounds.{at, bound}
-use Rattle.match_needs.specs.Needs.{may_take, Needs}
-use Rattle.match_needs.specs.Distances.{NeedsAt}
-use Rattle.match_needs.specs.Lacking.{IsBoundWithout}
-use Rattle.match_needs.specs.Texts.{Stands}
+use Rattle.pat_bounds.specs.declared.bounds.Bound.{Bound}
+use Rattle.pat_bounds.specs.Bounds.{at, bound}
+use Rattle.pat_needs.specs.Needs.{may_take, Needs}
+use Rattle.pat_needs.specs.Distances.{NeedsAt}
+use Rattle.pat_needs.specs.Lacking.{IsBoundWithout}
+use Rattle.pat_needs.specs.Texts.{Stands}
 use Rattle.ordered_search.specs.Setting.{Setting, match_limit}
 use Rattle.ordered_search.specs.PlaceAnswer.{Exhausted, Failed, answers, place_answer}
 use Rattle.ordered_search.specs.MatchAnswer.{none_found, match_answer}

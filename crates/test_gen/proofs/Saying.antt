@@ -3,10 +3,10 @@ use Rattle.std.proofs.Common.{◌≡◌, ◌∙◌, ℕ, List, [], ◌++◌, cod
 use Rattle.pcre_io.specs.Told.{Kept}
 use Rattle.pcre_io.specs.declared.traits.IoError.{IoError}
 use Rattle.pcre_io.specs.declared.traits.IoError.TheVariants.{Memory}
-use Rattle.tool_out.specs.Texts.{line}
-use Rattle.tool_out.specs.Writes.{Writes}
-use Rattle.tool_out.proofs.Printing.{prefix-none}
-use Rattle.tool_out.proofs.Writing.{IsLeft, left-all, left-more, left-refused}
+use Rattle.tool_io.specs.Texts.{line}
+use Rattle.tool_io.specs.Writes.{Writes}
+use Rattle.tool_io.proofs.Printing.{prefix-none}
+use Rattle.tool_io.proofs.Writing.{IsLeft, left-all, left-more, left-refused}
 use Rattle.test_gen.specs.Texts.{made_text, pattern_text, ends_text, replaced_text, generated_text}
 
 pub made-text : (number : ℕ) (count : List ℕ) → count ≡ decimal number → codes "lines: " ++ (count ++ (codes "\n" ++ [])) ≡ line (codes "lines: " ++ decimal number)

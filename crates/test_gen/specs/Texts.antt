@@ -1,6 +1,6 @@
 -- What `-gen` writes: the numbers of lines, matches, ends and replacements → seven lines.
 use Rattle.std.specs.Prelude.{ℕ, List, ◌++◌, codes, decimal}
-use Rattle.tool_out.specs.Texts.{line}
+use Rattle.tool_io.specs.Texts.{line}
 use Rattle.test_gen.specs.Counts.{pattern, names, lines_matched, characters, all_ends, replacements}
 
 abbrev pub made_text : ℕ → List ℕ

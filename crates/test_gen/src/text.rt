@@ -1,12 +1,12 @@
 //! The lines that are written.
 ghost use Rattle.test_gen.specs.Texts.{made_text, pattern_text, ends_text, replaced_text, generated_text};
-ghost use Rattle.tool_out.specs.Writes.{Writes};
+ghost use Rattle.tool_io.specs.Writes.{Writes};
 
 use crate::counts::{count_ends, count_matches, count_replacements};
 use itoa::Buffer;
 use pcre_io::{IoError, Sink};
 use std::alloc::Global;
-use tool_out::write_texts;
+use tool_io::write_texts;
 
 // Writes how many lines are made.
 fn write_made<O: Sink>(out: &mut O, lines: u32) -> Result<(), IoError>

@@ -6,7 +6,7 @@ use Rattle.std.proofs.lemmas.Str.{IsUtf8-drop, chars_past_char}
 use Rattle.std.specs.Str.{IsUtf8, IsCharBoundary}
 use Rattle.uni_text.specs.Characters.{IsCharSpan}
 use Rattle.std.specs.List.{range_with_len}
-use Rattle.tool_out.specs.Texts.{text_if}
+use Rattle.tool_io.specs.Texts.{text_if}
 use Rattle.test_lines.specs.Shown.{number_before, hex_digit, char_code_of, shown_char, shown_chars}
 
 -- the numbers from one on, one more

@@ -5,9 +5,9 @@ use Rattle.pcre_io.specs.Told.{Kept}
 use Rattle.pcre_io.specs.Causes.{CountsRefusals}
 use Rattle.pcre_io.specs.declared.traits.IoError.{IoError}
 use Rattle.pcre_io.specs.declared.traits.IoError.TheVariants as io
-use Rattle.tool_out.specs.Writes.{Writes}
-use Rattle.tool_out.proofs.Printing.{prefix-of, prefix-none}
-use Rattle.tool_out.proofs.Writing.{prefix-front, prefix-more}
+use Rattle.tool_io.specs.Writes.{Writes}
+use Rattle.tool_io.proofs.Printing.{prefix-of, prefix-none}
+use Rattle.tool_io.proofs.Writing.{prefix-front, prefix-more}
 
 -- a refusal counts the same for a result of another type
 counts-as : (A B : Type 0) (before now : ℕ) (e : IoError) → CountsRefusals {T = A} before now (Err e) → CountsRefusals {T = B} before now (Err e)

@@ -3,7 +3,7 @@
 use Rattle.std.specs.Prelude.{ℕ, ◌+◌, ◌-◌, ◌==◌, ◌&&◌, not, min, max, Bool, true, false, if◌then◌else◌, nat_lt, is_none, List, [], ◌∷◌, ◌++◌, length, replicate, codes, decimal, ℤ, pos, negsuc, Option, Some, None, slice_get, slice_index, slice_range}
 use Rattle.std.specs.Option.{option_and_then}
 use Rattle.std.specs.Str.{byte, bytes_eq}
-use Rattle.tool_out.specs.Texts.{line, text_if}
+use Rattle.tool_io.specs.Texts.{line, text_if}
 use Rattle.pcre_io.specs.declared.callouts.Block.{Block}
 use Rattle.test_lines.specs.declared.gathered.Replies.{Replies}
 use Rattle.test_lines.specs.Shown.{shown}

@@ -1,7 +1,7 @@
 -- Names of verbs, as they are shown where `mark` asks for them (pcre2test, "Showing MARK names"): a mark → its line.
 use Rattle.std.specs.Prelude.{ℕ, Bool, if◌then◌else◌, List, [], ◌++◌, codes, Option, Some, None, slice_get, slice_range}
 use Rattle.std.specs.Option.{option_and_then}
-use Rattle.tool_out.specs.Texts.{line}
+use Rattle.tool_io.specs.Texts.{line}
 use Rattle.pat_tree.specs.Pattern.{Pattern}
 use Rattle.ordered_search.specs.PlaceAnswer.{Outcome}
 use Rattle.test_lines.specs.Shown.{shown, groups_text}

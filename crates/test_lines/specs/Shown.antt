@@ -3,7 +3,7 @@ use Rattle.std.specs.Prelude.{ℕ, ◌+◌, ◌/◌, ◌%◌, ◌&&◌, Bool, if
 use Rattle.std.specs.Str.{is_utf8}
 use Rattle.std.specs.Int.{is_in_range}
 use Rattle.std.specs.List.{range_with_len}
-use Rattle.tool_out.specs.Texts.{line, text_if}
+use Rattle.tool_io.specs.Texts.{line, text_if}
 use Rattle.ordered_search.specs.PlaceAnswer.{Outcome}
 use Rattle.pcre2_api.specs.Captured.{text_at, span_of, top_of}
 use Rattle.std.specs.Option.{option_map}

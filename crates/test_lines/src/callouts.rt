@@ -1,8 +1,8 @@
 //! What is shown of callouts (pcre2test, "CALLOUTS").
 ghost use Rattle.std.specs.Prelude.{◌≡◌, ◌<◌, ◌∷◌, ◌++◌, ℕ, List, length, codes, false, None, slice_index, slice_range, IfOk, OnOk};
 ghost use Rattle.std.specs.Option.{option_copied};
-ghost use Rattle.tool_out.specs.Texts.{line};
-ghost use Rattle.tool_out.specs.Writes.{Writes};
+ghost use Rattle.tool_io.specs.Texts.{line};
+ghost use Rattle.tool_io.specs.Writes.{Writes};
 ghost use Rattle.test_lines.specs.Marks.{name_line};
 ghost use Rattle.test_lines.specs.Callouts.{low, high, low_width, rest_width, gap, item_of, second_part, string_place, closer, string_in, blanks, begin_part, caret_part, marks_part, item_part, end_part, block_line, subject_line, string_line, head_part, is_same, latest_line, name_before, number_part, place_part, latest_part, callout_text, called_text, calls_text, undoubled};
 
@@ -13,7 +13,7 @@ use itoa::Buffer;
 use pcre_io::{IoError, Memory, Sink};
 use pcre2_api::{Block, Code};
 use std::alloc::Global;
-use tool_out::{text_if, write_texts};
+use tool_io::{text_if, write_texts};
 
 /// What a match call is about: in UTF or outside it, the pattern, and the subject.
 #[derive(Clone, Copy)]

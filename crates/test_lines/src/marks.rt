@@ -4,12 +4,12 @@ ghost use Rattle.std.specs.Option.{option_and_then, option_copied};
 ghost use Rattle.pat_tree.specs.Pattern.{pattern_of};
 ghost use Rattle.test_lines.specs.Lines.{nothing_text};
 ghost use Rattle.test_lines.specs.Marks.{showing, name_of, name_line, mark_line, missed_line, partial_head, partial_text};
-ghost use Rattle.tool_out.specs.Writes.{Writes};
+ghost use Rattle.tool_io.specs.Writes.{Writes};
 
 use crate::shown::write_shown;
 use pcre_io::{IoError, Sink};
 use pcre2_api::{Code, Found};
-use tool_out::write_texts;
+use tool_io::write_texts;
 
 /// Writes a name after other text.
 pub fn write_name<O: Sink>(

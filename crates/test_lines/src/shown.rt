@@ -1,12 +1,12 @@
 //! Texts of subjects, as they are shown.
 ghost use Rattle.std.specs.Prelude.{◌≡◌, ◌<◌, ◌%◌, true, IsTrue, IsUtf8};
 ghost use Rattle.test_lines.specs.Shown.{is_plain, hex_digit, code_of, char_code_of, shown_byte, shown_bytes, shown_char, shown_chars, shown, number_before};
-ghost use Rattle.tool_out.specs.Writes.{Writes};
+ghost use Rattle.tool_io.specs.Writes.{Writes};
 
 use itoa::Buffer;
 use pcre_io::{IoError, Sink};
 use pcre2_api::is_text;
-use tool_out::{text_if, write_texts};
+use tool_io::{text_if, write_texts};
 use uni_text::char_at;
 
 /// Whether a character is shown as it is.

@@ -3,7 +3,7 @@ use Rattle.std.proofs.Common.{◌≡◌, ◌∙◌, ℕ, Bool, List, ℤ, Result
 use Rattle.pat_tree.specs.declared.options.Options.{Options}
 use Rattle.pat_tree.specs.Pattern.{Pattern, pattern_of}
 use Rattle.token_parts.specs.declared.fault.Fault.{Fault}
-use Rattle.tool_out.specs.Texts.{text_if}
+use Rattle.tool_io.specs.Texts.{text_if}
 use Rattle.test_script.specs.declared.entries.PatternEntry.{PatternEntry}
 use Rattle.pcre2_errors.specs.declared.error.CompileError.{CompileError}
 use Rattle.pcre2_errors.specs.declared.error.CompileError.TheVariants.{Bad}

@@ -4,7 +4,7 @@ use Rattle.pat_tree.specs.declared.options.MatchOptions.{MatchOptions}
 use Rattle.pat_tree.specs.Pattern.{pattern_of}
 use Rattle.pat_tree.specs.Parts.{tree_of}
 use Rattle.ordered_search.specs.Setting.{Setting}
-use Rattle.pcre2_api.specs.start_tests.Asked.{passed_over}
+use Rattle.pcre2_api.specs.match_starts.Asked.{passed_over}
 use Rattle.dfa_ends.specs.DfaAnswer as meant
 use Rattle.dfa_ends.specs.DfaAnswer.{EndsFrom, PartialFrom, dfa_answer}
 use Rattle.dfa_graph.specs.declared.making.GraphError.{GraphError}
@@ -12,7 +12,7 @@ use Rattle.dfa_graph.specs.declared.making.GraphError.TheVariants as graph
 use Rattle.dfa_graph.specs.Served.{refusal}
 use Rattle.pcre_io.specs.Told.{Kept}
 use Rattle.pcre_io.specs.declared.traits.IoError.{IoError}
-use Rattle.tool_out.specs.Writes.{Writes}
+use Rattle.tool_io.specs.Writes.{Writes}
 use Rattle.pcre2_api.specs.Compiled.{CodeParts}
 use Rattle.pcre2_api.specs.Matched.{search_of, fault_in}
 use Rattle.pcre2_errors.specs.DfaErrors.{error_of}

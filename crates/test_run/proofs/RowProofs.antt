@@ -44,7 +44,7 @@ use Rattle.ordered_search.specs.Parts as parts
 use Rattle.ordered_search.specs.Run.{level, run}
 use Rattle.ordered_search.specs.PlaceAnswer.{walk}
 use Rattle.ordered_search.specs.MatchAnswer.{from_place}
-use Rattle.script_modifiers.specs.Lists.{list_of}
+use Rattle.test_modifiers.specs.Lists.{list_of}
 use Rattle.test_script.specs.Subjects.{octal as octal_escape, hexadecimal, braced_octal, times, escape as subject_escape, piece_at, subject_text}
 use Rattle.test_script.specs.Script.{line_of}
 use Rattle.pcre2_api.specs.Captured.{top_within}

@@ -3,8 +3,8 @@ use Rattle.std.proofs.Common.{◌≡◌, ◌∙◌, ℕ, ◌<◌, List, [], ◌+
 use Rattle.std.proofs.lemmas.Bool.{lt-ltb}
 use Rattle.std.specs.Fmt.{signed_decimal}
 use Rattle.pcre2_errors.specs.FaultTexts.{fault_text}
-use Rattle.script_modifiers.specs.declared.refusal.Refusal.TheVariants.{UnknownModifier, BadModifierValue}
-use Rattle.tool_out.specs.Texts.{line, text_if}
+use Rattle.test_modifiers.specs.declared.refusal.Refusal.TheVariants.{UnknownModifier, BadModifierValue}
+use Rattle.tool_io.specs.Texts.{line, text_if}
 use Rattle.test_lines.specs.Lines.{fault_line, error_line, place_text, groups_line, lookbehind_line, refusal_line}
 
 pub fault-text : (number : ℤ) (at : ℕ) (code place text : List ℕ) → code ≡ signed_decimal number → place ≡ decimal at → text ≡ fault_text number

@@ -17,11 +17,11 @@ use Rattle.line_feed.specs.View.{Feed}
 use Rattle.line_feed.specs.Answers.{Gives, Ends, Refuses}
 use Rattle.line_feed.specs.Hears.{HasGiven, HasHeard, HasBegun}
 use Rattle.line_feed.proofs.Given.{HasGiven-none, HasGiven-gives, HasGiven-lacks, HasHeard-ends, HasHeard-breaks, HasHeard-overflows, HasHeard-exceeds, HasBegun-given, live-gives, kind-gives, max-gives}
-use Rattle.tool_out.specs.Texts.{line}
-use Rattle.tool_out.specs.Writes.{Writes, WritesAll}
-use Rattle.tool_out.proofs.Writing.{prefix-more, prefix-front}
-use Rattle.tool_out.proofs.Printing.{prefix-of}
-use Rattle.script_modifiers.specs.declared.modifiers.Modifiers.{Modifiers}
+use Rattle.tool_io.specs.Texts.{line}
+use Rattle.tool_io.specs.Writes.{Writes, WritesAll}
+use Rattle.tool_io.proofs.Writing.{prefix-more, prefix-front}
+use Rattle.tool_io.proofs.Printing.{prefix-of}
+use Rattle.test_modifiers.specs.declared.modifiers.Modifiers.{Modifiers}
 use Rattle.test_script.specs.declared.entries.Entry.{Entry}
 use Rattle.test_script.specs.declared.plan.TestPlan.{TestPlan}
 use Rattle.test_script.specs.Script.{Script, beginning, line_of, script_after, entries_of}

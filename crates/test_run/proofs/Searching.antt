@@ -7,7 +7,7 @@ use Rattle.pat_tree.specs.Pattern.{Pattern, pattern_of}
 use Rattle.ordered_search.specs.Setting.{Setting}
 use Rattle.pcre_io.specs.Told.{Kept}
 use Rattle.pcre_io.specs.declared.traits.IoError.{IoError}
-use Rattle.tool_out.specs.Writes.{Writes}
+use Rattle.tool_io.specs.Writes.{Writes}
 use Rattle.pcre2_api.specs.Compiled.{CodeParts}
 use Rattle.pcre2_api.specs.Matched.{MatchParts, search_of, fault_in, shown_by, HasShown, IsFound, IsMatchError}
 use Rattle.pcre2_errors.specs.declared.error.MatchError.{MatchError}

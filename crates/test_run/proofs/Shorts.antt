@@ -3,10 +3,10 @@ use Rattle.std.proofs.Common.{◌≡◌, ℕ, ◌≤◌, ◌+◌, Bool, true, fa
 use Rattle.std.specs.Prelude.{nat_le}
 use Rattle.std.proofs.lemmas.Bool.{cond_both, leb-true}
 use Rattle.token_parts.specs.Bytes.{◌∈◌}
-use Rattle.script_modifiers.specs.declared.modifiers.Modifiers.{Modifiers}
-use Rattle.script_modifiers.specs.declared.refusal.Refusal.TheVariants.{BadLine}
-use Rattle.script_modifiers.specs.Lists.{list_of}
-use Rattle.script_modifiers.specs.Refusals.{Reads}
+use Rattle.test_modifiers.specs.declared.modifiers.Modifiers.{Modifiers}
+use Rattle.test_modifiers.specs.declared.refusal.Refusal.TheVariants.{BadLine}
+use Rattle.test_modifiers.specs.Lists.{list_of}
+use Rattle.test_modifiers.specs.Refusals.{Reads}
 use Rattle.test_script.specs.declared.entries.Entry.{Entry}
 use Rattle.test_script.specs.declared.entries.Entry.TheVariants as entry
 use Rattle.test_script.specs.Script.{Script, Awaits, anything, closing, subject, skipped, last_backslash, after_backslash, closing_place, awaiting, pattern_with, pattern_closed, pattern_line, defaults_with, defaults_line, is_note, is_command, command_line, is_delimiter, begun_line, is_blank_line, first_line, is_subject_note, subject_with, subject_list, subject_read, subject_entry, is_nothing, trimmed, line_in, line_of}

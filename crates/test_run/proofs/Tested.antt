@@ -3,7 +3,7 @@ use Rattle.std.proofs.Common.{◌≡◌, ◌∙◌, Bool, false, List, ℕ, Opti
 use Rattle.std.specs.Prelude.{if◌then◌else◌}
 use Rattle.pat_tree.specs.Pattern.{Pattern}
 use Rattle.pat_tree.specs.declared.names.NameEntry.{NameEntry}
-use Rattle.script_modifiers.specs.declared.modifiers.Modifiers.{Modifiers}
+use Rattle.test_modifiers.specs.declared.modifiers.Modifiers.{Modifiers}
 use Rattle.test_script.specs.declared.entries.SubjectEntry.{SubjectEntry}
 use Rattle.test_run.specs.declared.options.How.{How}
 use Rattle.test_run.specs.Asked.{is_dfa, how_of, subst_of, replacement_of}

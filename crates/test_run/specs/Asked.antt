@@ -7,8 +7,8 @@ use Rattle.pat_tree.specs.declared.options.PartialMode.TheVariants.{Off, Soft, H
 use Rattle.pat_tree.specs.declared.options.Newline.TheVariants.{Lf}
 use Rattle.pat_tree.specs.declared.options.Bsr.TheVariants.{Unicode}
 use Rattle.pat_tree.specs.declared.options.TheConstants.MatchOptions as plain_match
-use Rattle.script_modifiers.specs.declared.modifiers.Modifiers.{Modifiers}
-use Rattle.script_modifiers.specs.Modifiers.{over}
+use Rattle.test_modifiers.specs.declared.modifiers.Modifiers.{Modifiers}
+use Rattle.test_modifiers.specs.Modifiers.{over}
 use Rattle.pcre2_api.specs.declared.substitute.SubstOptions.{SubstOptions}
 use Rattle.test_lines.specs.declared.gathered.Replies.{Replies}
 use Rattle.test_run.specs.declared.options.How.{How}

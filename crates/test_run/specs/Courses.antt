@@ -1,13 +1,13 @@
 -- What each entry of a script comes to, after those before it: entries → the pattern in force →
 -- lines.
 use Rattle.std.specs.Prelude.{ℕ, if◌then◌else◌, List, [], Option, Some, None, Result, Ok, Err}
-use Rattle.tool_out.specs.Texts.{text_if}
+use Rattle.tool_io.specs.Texts.{text_if}
 use Rattle.token_parts.specs.declared.fault.Fault.{Fault}
 use Rattle.pat_tree.specs.Pattern.{Pattern}
 use Rattle.pat_tree.specs.declared.names.NameEntry.{NameEntry}
 use Rattle.pat_build.specs.Reading.{Parsed, read}
-use Rattle.script_modifiers.specs.declared.refusal.Refusal.{Refusal}
-use Rattle.script_modifiers.specs.declared.modifiers.Modifiers.{Modifiers}
+use Rattle.test_modifiers.specs.declared.refusal.Refusal.{Refusal}
+use Rattle.test_modifiers.specs.declared.modifiers.Modifiers.{Modifiers}
 use Rattle.pcre2_api.specs.declared.substitute.SubstOptions.{SubstOptions}
 use Rattle.pcre2_api.specs.Substituted.{substituted}
 use Rattle.test_script.specs.declared.entries.Entry.{Entry}

@@ -10,7 +10,7 @@ use Rattle.line_feed.specs.Rows.{Input, At, Long, End, Fault, Limit}
 use Rattle.line_feed.specs.Hears.{Hears}
 use Rattle.line_feed.specs.declared.phase.FeedError.{FeedError}
 use Rattle.line_feed.specs.declared.phase.FeedError.TheVariants as feed
-use Rattle.tool_out.specs.Writes.{WritesAll}
+use Rattle.tool_io.specs.Writes.{WritesAll}
 use Rattle.test_script.specs.declared.entries.Entry.{Entry}
 use Rattle.test_script.specs.declared.entries.Entry.TheVariants as entry
 use Rattle.test_script.specs.declared.plan.TestPlan.{TestPlan}

@@ -3,8 +3,8 @@
 use Rattle.std.specs.Prelude.{ℕ, List, [], ◌∷◌, ◌++◌, map}
 use Rattle.byte_lanes.specs.declared.line_end.EndKind.TheVariants.{Lf}
 use Rattle.line_feed.specs.Rows.{Row, Rows, Input, Finish, rows}
-use Rattle.tool_out.specs.Texts.{line}
-use Rattle.script_modifiers.specs.declared.modifiers.Modifiers.{Modifiers}
+use Rattle.tool_io.specs.Texts.{line}
+use Rattle.test_modifiers.specs.declared.modifiers.Modifiers.{Modifiers}
 use Rattle.test_script.specs.declared.entries.Entry.{Entry}
 use Rattle.test_script.specs.declared.plan.TestPlan.{TestPlan}
 use Rattle.test_script.specs.Script.{beginning, entries_of}

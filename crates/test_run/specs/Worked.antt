@@ -2,8 +2,8 @@
 use Rattle.std.specs.Prelude.{◌≡◌, true, codes, Some}
 use Prim.Native.String.{String}
 use Rattle.line_feed.specs.Rows.{At, End, input_with}
-use Rattle.script_modifiers.specs.declared.modifiers.Modifiers.{Modifiers}
-use Rattle.script_modifiers.specs.Modifiers.{ungiven}
+use Rattle.test_modifiers.specs.declared.modifiers.Modifiers.{Modifiers}
+use Rattle.test_modifiers.specs.Modifiers.{ungiven}
 use Rattle.test_run.specs.TestText.{Tested, test_text}
 
 -- a script that is read to its end, with these defaults

@@ -1,7 +1,7 @@
 //! How a script stands between two lines.
 use pat_tree::ByteList;
 use pcre2_api::Code;
-use script_modifiers::Modifiers;
+use test_modifiers::Modifiers;
 
 /// What subject lines are searched for.
 #[derive(Drop)]

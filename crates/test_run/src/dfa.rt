@@ -1,14 +1,14 @@
 //! The ends of a subject, by the matcher that finds them all.
 ghost use Rattle.std.specs.Prelude.{◌≡◌, ◌<◌, ◌≤◌, length, true, IfOk, IfErr};
 ghost use Rattle.pat_tree.specs.Pattern.{pattern_of};
-ghost use Rattle.pcre2_api.specs.start_tests.Asked.{passed_over};
+ghost use Rattle.pcre2_api.specs.match_starts.Asked.{passed_over};
 ghost use Rattle.pcre2_api.specs.dfa_drive.Answer.{AreWithin};
 ghost use Rattle.pcre2_api.specs.Matched.{search_of};
 ghost use Rattle.pcre2_api.specs.DfaMatched.{IsDfaFound, IsDfaError};
 ghost use Rattle.test_run.specs.Dfa.{end_line, ends_text, failed_text, fault_place, unmatched_text, none_text, told_at, told_text, first_text, dfa_text, replace_with_dfa_line};
 ghost use Rattle.test_run.specs.declared.dfa.Search.TheVariants.{Failed};
 ghost use Rattle.test_run.specs.DfaSearches.{error_text, IsSearch, LiesIn, TellsEnds, TellsError};
-ghost use Rattle.tool_out.specs.Writes.{Writes};
+ghost use Rattle.tool_io.specs.Writes.{Writes};
 
 use crate::lines::write_error;
 use crate::options::How;
@@ -19,7 +19,7 @@ use std::marker::Brand;
 use std::sync::ledger::{Blank, Ledger};
 use test_lines::marks::write_name;
 use test_lines::shown::{write_count, write_shown};
-use tool_out::write_texts;
+use tool_io::write_texts;
 
 /// What a search for all ends comes to.
 #[derive(Clone, Copy)]

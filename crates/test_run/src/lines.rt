@@ -1,13 +1,13 @@
 //! Lines about patterns and script lines.
 ghost use Rattle.std.specs.Prelude.{◌≡◌};
 ghost use Rattle.test_lines.specs.Lines.{error_line, failed_line, fault_line, fault_place, groups_line, lookbehind_line, info_text, place_text, refusal_line, refusal_place, unreplaced_line};
-ghost use Rattle.tool_out.specs.Writes.{Writes};
+ghost use Rattle.tool_io.specs.Writes.{Writes};
 
 use itoa::Buffer;
 use pcre_io::{IoError, Sink};
 use pcre2_api::{Info, MatchError, SubstError, fault_text};
-use script_modifiers::Refusal;
-use tool_out::write_texts;
+use test_modifiers::Refusal;
+use tool_io::write_texts;
 
 /// Writes why a pattern is refused.
 pub fn write_fault<O: Sink>(out: &mut O, number: i32, at: usize) -> Result<(), IoError>

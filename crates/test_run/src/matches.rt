@@ -10,7 +10,7 @@ ghost use Rattle.uni_text.specs.Characters.{IsChecked};
 ghost use Rattle.test_run.specs.Matches.{answered, last_met, search_text, all_text, first_text, searched};
 ghost use Rattle.test_run.specs.Searches.{error_text, refused_text, IsSearch, LiesIn, TellsError, TellsMatch, TellsMissed};
 ghost use Rattle.test_lines.specs.Shown.{shown_or_unset, group_line, groups_text};
-ghost use Rattle.tool_out.specs.Writes.{Writes};
+ghost use Rattle.tool_io.specs.Writes.{Writes};
 
 use crate::course::Tested;
 use crate::lines::write_failed;
@@ -22,7 +22,7 @@ use test_lines::callouts::{Calling, write_calls};
 use test_lines::gathered::Gathered;
 use test_lines::marks::{write_end, write_mark, write_partial};
 use test_lines::shown::{write_number, write_shown};
-use tool_out::write_texts;
+use tool_io::write_texts;
 
 /// What a search comes to.
 #[derive(Clone, Copy)]

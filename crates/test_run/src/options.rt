@@ -1,12 +1,12 @@
 //! What modifiers ask for.
 ghost use Rattle.std.specs.Prelude.{◌≡◌};
 ghost use Rattle.std.specs.Option.{option_copied};
-ghost use Rattle.script_modifiers.specs.Modifiers.{over};
+ghost use Rattle.test_modifiers.specs.Modifiers.{over};
 ghost use Rattle.test_run.specs.Asked.{is_on, options_of, matching_of, partial_of, replies_of, is_dfa, how_of, replacement_of, subst_of};
 
 use pcre2_api::{Bsr, MatchOptions, Newline, Options, PartialMode, SubstOptions};
-use script_modifiers::Modifiers;
 use test_lines::gathered::Replies;
+use test_modifiers::Modifiers;
 
 /// How a subject is searched.
 #[derive(Clone, Copy)]

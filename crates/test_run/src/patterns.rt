@@ -5,8 +5,8 @@ ghost use Rattle.pcre2_api.specs.Informs.{info_in};
 ghost use Rattle.test_run.specs.Courses.{pattern_course, pattern_text};
 ghost use Rattle.test_lines.specs.Lines.{info_text};
 ghost use Rattle.test_run.specs.Searches.{course_of};
-ghost use Rattle.tool_out.specs.Texts.{text_if};
-ghost use Rattle.tool_out.specs.Writes.{Writes};
+ghost use Rattle.tool_io.specs.Texts.{text_if};
+ghost use Rattle.tool_io.specs.Writes.{Writes};
 
 use crate::course::{Course, Tested};
 use crate::lines::{write_fault, write_info};

@@ -6,7 +6,7 @@ ghost use Rattle.pcre2_errors.specs.declared.subst_error.SubstError.{SubstError}
 ghost use Rattle.pcre2_api.specs.declared.substitute.Substituted.{Substituted};
 ghost use Rattle.test_run.specs.Courses.{rewritten};
 ghost use Rattle.test_lines.specs.Lines.{done_line, replaced_text};
-ghost use Rattle.tool_out.specs.Writes.{Writes};
+ghost use Rattle.tool_io.specs.Writes.{Writes};
 
 use crate::lines::write_unreplaced;
 use crate::options::How;
@@ -14,7 +14,7 @@ use pcre_io::{IoError, Sink};
 use pcre2_api::{Code, Scratch, SubstError, SubstOptions, Substituted};
 use std::alloc::Global;
 use test_lines::shown::{write_count, write_shown};
-use tool_out::write_texts;
+use tool_io::write_texts;
 
 // Writes a subject that was rewritten.
 fn write_done<O: Sink>(out: &mut O, done: &Substituted, utf: bool) -> Result<(), IoError>

@@ -1,8 +1,8 @@
 //! A script, line by line.
 ghost use Rattle.std.specs.Prelude.{◌≡◌, ◌++◌, IfOk, OnOk, OnErr, Err};
 ghost use Rattle.test_script.specs.Script.{beginning, line_of};
-ghost use Rattle.tool_out.specs.Texts.{line};
-ghost use Rattle.tool_out.specs.Writes.{Writes};
+ghost use Rattle.tool_io.specs.Texts.{line};
+ghost use Rattle.tool_io.specs.Writes.{Writes};
 ghost use Rattle.test_run.specs.Courses.{between, refused_text, entry_text, course_after};
 ghost use Rattle.test_run.specs.Runs.{IsShort, RunsScript, Sends};
 ghost use Rattle.test_run.specs.Searches.{course_of};
@@ -16,10 +16,10 @@ use byte_lanes::EndKind;
 use line_feed::LineFeed;
 use pcre_io::{IoError, Sink, Source};
 use pcre2_api::Scratch;
-use script_modifiers::Refusal;
 use std::alloc::Global;
+use test_modifiers::Refusal;
 use test_script::{Entry, ScriptReader, TestPlan};
-use tool_out::write_texts;
+use tool_io::write_texts;
 
 // The greatest length of a line.
 const LONGEST_LINE: usize = 1_048_576;

@@ -4,7 +4,7 @@ ghost use Rattle.std.specs.Option.{option_copied};
 ghost use Rattle.pat_tree.specs.Pattern.{pattern_of};
 ghost use Rattle.test_run.specs.Courses.{found_by_dfa, tested_text, subject_text};
 ghost use Rattle.test_run.specs.Searches.{course_of};
-ghost use Rattle.tool_out.specs.Writes.{Writes};
+ghost use Rattle.tool_io.specs.Writes.{Writes};
 
 use crate::course::{Course, Tested};
 use crate::dfa::{write_all_ends, write_replace_with_dfa};

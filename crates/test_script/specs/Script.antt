@@ -3,16 +3,16 @@ use Rattle.std.specs.Prelude.{ℕ, ◌+◌, ◌==◌, ◌&&◌, ◌||◌, Bool, 
 use Rattle.std.specs.List.{starts_with}
 use Rattle.std.specs.Option.{option_map}
 use Rattle.token_parts.specs.Bytes.{◌∈◌}
-use Rattle.script_modifiers.specs.declared.modifiers.Modifiers.{Modifiers}
-use Rattle.script_modifiers.specs.declared.refusal.Refusal.TheVariants.{BadLine, BadSubject}
+use Rattle.test_modifiers.specs.declared.modifiers.Modifiers.{Modifiers}
+use Rattle.test_modifiers.specs.declared.refusal.Refusal.TheVariants.{BadLine, BadSubject}
 use Rattle.test_script.specs.declared.entries.Entry.{Entry}
 use Rattle.test_script.specs.declared.entries.Entry.TheVariants as entry
 use Rattle.test_script.specs.declared.entries.Command.{Command}
 use Rattle.test_script.specs.declared.entries.Command.TheVariants.{PatternDefaults, SubjectDefaults}
-use Rattle.script_modifiers.specs.Modifiers.{ungiven, over}
-use Rattle.script_modifiers.specs.Lists.{list_of}
-use Rattle.script_modifiers.specs.Refusals.{Reads}
-use Rattle.script_modifiers.specs.Texts.{is_white, without_begin, without_end, begins_white}
+use Rattle.test_modifiers.specs.Modifiers.{ungiven, over}
+use Rattle.test_modifiers.specs.Lists.{list_of}
+use Rattle.test_modifiers.specs.Refusals.{Reads}
+use Rattle.test_modifiers.specs.Texts.{is_white, without_begin, without_end, begins_white}
 use Rattle.test_script.specs.Subjects.{subject_text}
 
 -- what the next line can be

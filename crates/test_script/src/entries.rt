@@ -1,6 +1,6 @@
 //! What a line of a script is.
 use pat_tree::ByteList;
-use script_modifiers::{Modifiers, Refusal};
+use test_modifiers::{Modifiers, Refusal};
 
 /// A pattern (pcre2test, "PATTERN SYNTAX").
 #[derive(Debug, Drop)]

@@ -1,10 +1,10 @@
 //! Laws on scripts.
 ghost use Rattle.std.specs.Prelude.{◌≡◌, ◌≢◌, ℕ, ◌+◌, List, [], ◌∷◌, ◌++◌, length, true, false, Some, None, codes};
 ghost use Rattle.std.specs.Option.{option_map};
-ghost use Rattle.script_modifiers.specs.declared.refusal.Refusal.TheVariants as refusal;
+ghost use Rattle.test_modifiers.specs.declared.refusal.Refusal.TheVariants as refusal;
 ghost use Rattle.test_script.specs.declared.entries.Entry.TheVariants as entry;
 ghost use Rattle.test_script.specs.declared.entries.Command.TheVariants as command;
-ghost use Rattle.script_modifiers.specs.Modifiers.{ungiven};
+ghost use Rattle.test_modifiers.specs.Modifiers.{ungiven};
 ghost use Rattle.test_script.specs.Subjects.{subject_text};
 ghost use Rattle.test_script.specs.Script.{beginning, closing_place, entries_of};
 
@@ -21,7 +21,7 @@ pub fn worked_subjects()
 {}
 
 /// Scripts, and what each of their lines is.
-#[tactic(auto, unfolding(crate::specs::Script::line_of, script_modifiers::specs::Lists::list_of, crate::specs::Subjects::subject_text, crate::specs::Subjects::times, crate::specs::Subjects::piece_at, crate::specs::Subjects::escape, crate::specs::Subjects::octal, crate::specs::Subjects::hexadecimal, crate::specs::Subjects::braced_octal, token_parts::specs::Bytes::run_end))]
+#[tactic(auto, unfolding(crate::specs::Script::line_of, test_modifiers::specs::Lists::list_of, crate::specs::Subjects::subject_text, crate::specs::Subjects::times, crate::specs::Subjects::piece_at, crate::specs::Subjects::escape, crate::specs::Subjects::octal, crate::specs::Subjects::hexadecimal, crate::specs::Subjects::braced_octal, token_parts::specs::Bytes::run_end))]
 pub fn worked_scripts()
     ensures lines { entries_of (beginning ungiven)
         (codes "/a\\/b" ∷ codes "c/\\i" ∷ codes "# x" ∷ [] ∷ codes "# x" ∷ [])

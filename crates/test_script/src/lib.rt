@@ -15,4 +15,4 @@ pub use laws::{lines_of_a_pattern_are_joined, worked_scripts, worked_subjects};
 pub use pat_tree::Memory;
 pub use plan::TestPlan;
 pub use reader::ScriptReader;
-pub use script_modifiers::{ListError, Modifiers, Refusal, read_list};
+pub use test_modifiers::{ListError, Modifiers, Refusal, read_list};

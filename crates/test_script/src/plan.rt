@@ -1,5 +1,5 @@
 //! What the words of pcre2test ask for.
-use script_modifiers::Modifiers;
+use test_modifiers::Modifiers;
 
 /// What the words of pcre2test ask for (pcre2test, "COMMAND LINE OPTIONS").
 #[derive(Debug, Drop)]

@@ -6,9 +6,9 @@ use crate::closing::{after_backslash, closing_place, is_delimiter, pattern_text,
 use crate::entries::{Command, Entry, PatternEntry};
 use crate::subject_lines::{is_blank_line, subject_entry, trimmed};
 use pat_tree::{ByteList, Memory};
-use script_modifiers::{ListError, Modifiers, Refusal, after, begins_white, is_white, read_list};
 use std::alloc::Global;
 use std::marker::Model;
+use test_modifiers::{ListError, Modifiers, Refusal, after, begins_white, is_white, read_list};
 
 /// What the next line can be.
 #[derive(Debug, Drop)]
@@ -60,7 +60,7 @@ fn is_command(word: &[u8], text: &[u8]) -> bool
 
 impl ScriptReader {
     ghost use Rattle.std.specs.Prelude.{◌≡◌, ◌++◌, [], length, drop, IfOk, OnErr, true};
-    ghost use Rattle.script_modifiers.specs.Lists.{list_of};
+    ghost use Rattle.test_modifiers.specs.Lists.{list_of};
     ghost use Rattle.test_script.specs.Script.{beginning, closing, subject, pattern_with, pattern_line, defaults_line, command_line, begun_line, first_line, subject_line, skipped_line, line_of};
 
     /// A reader before the first line, with these defaults. Takes no memory.

@@ -5,8 +5,8 @@ ghost use Rattle.test_script.specs.Script.{trimmed, is_blank_line, is_subject_no
 use crate::entries::{Entry, SubjectEntry};
 use crate::subjects::{Written, subject_text};
 use pat_tree::{ByteList, Memory};
-use script_modifiers::{ListError, Modifiers, Refusal, Space, after, begins_white, read_list};
 use std::alloc::Global;
+use test_modifiers::{ListError, Modifiers, Refusal, Space, after, begins_white, read_list};
 
 /// A line without white space at its begin and its end.
 pub fn trimmed(line: &[u8]) -> &[u8]

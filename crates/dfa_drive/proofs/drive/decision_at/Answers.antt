@@ -1,7 +1,7 @@
 use Rattle.std.proofs.Common.{◌≡◌, ◌∙◌, false, sym}
 use Rattle.ordered_search.specs.Places.{is_excluded}
 use Rattle.match_drive.specs.frame_board.Ready.{setting_for}
-use Rattle.match_drive.specs.start_tests.Asked.{passed_over}
+use Rattle.match_drive.specs.match_starts.Asked.{passed_over}
 use Rattle.dfa_drive.proofs.Deciding.{decides, tells_placed, tells_whole}
 use Rattle.dfa_drive.proofs.drive.decision_at.Goals as goal
 

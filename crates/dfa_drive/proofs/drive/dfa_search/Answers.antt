@@ -2,7 +2,7 @@ use Rattle.std.proofs.Common.{rules, ◌≡◌, ◌≤◌, length, None, refl, a
 use Rattle.match_items.specs.Subjects.{IsTextPlace}
 use Rattle.ordered_search.specs.Places.{last_place}
 use Rattle.match_drive.specs.frame_board.Ready.{setting_for}
-use Rattle.match_drive.specs.start_tests.Asked.{passed_over}
+use Rattle.match_drive.specs.match_starts.Asked.{passed_over}
 use Rattle.dfa_drive.proofs.Walking.{walk_begins, walk_ends, walk_on, walk_over, later_on}
 use Rattle.dfa_drive.proofs.drive.dfa_search.Goals as goal
 

@@ -2,7 +2,7 @@ use Rattle.std.proofs.Common.{◌≤◌, length}
 use Rattle.std.specs.Prelude.{IfSome}
 use Rattle.match_items.specs.Subjects.{IsTextPlace}
 use Rattle.match_drive.specs.frame_board.Ready.{setting_for}
-use Rattle.match_drive.specs.start_tests.Asked.{passed_over}
+use Rattle.match_drive.specs.match_starts.Asked.{passed_over}
 use Rattle.dfa_drive.proofs.Walking.{IsLeft, places_left}
 use Rattle.dfa_drive.proofs.drive.dfa_search.Given as goal
 

@@ -1,7 +1,7 @@
 use Rattle.std.proofs.Common.{◌∙◌, length}
 use Rattle.match_items.specs.Views.{bare_text}
 use Rattle.match_drive.specs.frame_board.Ready.{setting_for}
-use Rattle.match_drive.specs.start_tests.Asked.{passed_over}
+use Rattle.match_drive.specs.match_starts.Asked.{passed_over}
 use Rattle.dfa_drive.proofs.Ending.{ends_here, hit_here, ends_asked, all_within}
 use Rattle.dfa_drive.proofs.ends.ends_at.Goals as goal
 

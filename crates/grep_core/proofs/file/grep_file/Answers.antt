@@ -5,7 +5,7 @@ use Rattle.grep_core.proofs.FileTexts.{Scanned, job-is, greps-all, greps-moved, 
 use Rattle.grep_core.proofs.file.grep_file.Given as given
 use Rattle.grep_core.proofs.file.grep_file.Goals.{After-scan_as, in-Ok+in_ok-write_end-in-Ok, in-Err-TooManyErrors+in_ok-write_too_many-in-Err-TooManyErrors, in-Err-SinkFault, in-Err-Memory}
 use Rattle.grep_core.proofs.file.grep_file.Goals as goal
-use Rattle.tool_out.specs.Printed.{printed}
+use Rattle.tool_io.specs.Printed.{printed}
 
 -- what each way after the scan knows of it
 scanned : (g : given.Over) (c : After-scan_as g) → Scanned c.args.plan.now (patterns_in c.args.patterns.now) c.args.name.now c.args.state.now c.in_ok-treatment.treatment c.mode_of-mode.result c.tells_binary-is_told.result

@@ -5,7 +5,7 @@ use Rattle.grep_output.specs.Ends.{stop_of}
 use Rattle.grep_core.specs.Work.{work_of, fed}
 use Rattle.grep_core.specs.Follows.{FollowsOne}
 use Rattle.grep_core.proofs.Halting.{halts-of}
-use Rattle.tool_out.proofs.Printing.{wrote-of}
+use Rattle.tool_io.proofs.Printing.{wrote-of}
 use Rattle.grep_core.proofs.scan.follow_one.Goals as goal
 
 pub returns-in_err-write_line-in-Ok-Some : goal.returns-in_err-write_line-in-Ok-Some

@@ -4,10 +4,10 @@ use Rattle.grep_output.specs.declared.shows.Show.TheVariants.{Lines}
 use Rattle.grep_output.specs.Ends.{stop_of}
 use Rattle.grep_core.specs.Turns.{Halts, Passes}
 use Rattle.grep_core.specs.Work.{work_of, progress}
-use Rattle.tool_out.specs.Printed.{printed}
-use Rattle.tool_out.specs.Writes.{WritesAll}
+use Rattle.tool_io.specs.Printed.{printed}
+use Rattle.tool_io.specs.Writes.{WritesAll}
 use Rattle.grep_core.proofs.Halting.{halts-of, context-text, context-after}
-use Rattle.tool_out.proofs.Printing.{wrote-of}
+use Rattle.tool_io.proofs.Printing.{wrote-of}
 use Rattle.grep_core.proofs.scan.pass.Goals as goal
 
 pub returns-in_err-write_line : goal.returns-in_err-write_line

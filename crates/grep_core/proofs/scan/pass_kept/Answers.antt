@@ -1,7 +1,7 @@
 use Rattle.std.proofs.Common.{rules, ◌≡◌, ◌-◌, Err, min, arith, subst, sym, ap, refl, ◌∙◌}
 use Rattle.grep_match.specs.Compiled.{patterns_in}
 use Rattle.grep_output.specs.declared.ended.Stop.TheVariants.{Memory}
-use Rattle.tool_out.specs.Printed.{printed}
+use Rattle.tool_io.specs.Printed.{printed}
 use Rattle.grep_watch.specs.declared.watch.Watch.{Watch}
 use Rattle.grep_watch.specs.Watched.{Watches, with_quiet}
 use Rattle.grep_core.specs.declared.scan.Course.{Course}

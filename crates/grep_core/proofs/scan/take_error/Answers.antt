@@ -2,10 +2,10 @@ use Rattle.std.proofs.Common.{◌≡◌, ◌+◌, Err, sym, ap, subst, ◌∙◌
 use Rattle.std.proofs.lemmas.Int.{to_z-of_z}
 use Rattle.grep_core.specs.Work.{work_of, progress}
 use Rattle.grep_core.specs.Turns.{TakesLine}
-use Rattle.tool_out.proofs.Printing.{wrote-of}
+use Rattle.tool_io.proofs.Printing.{wrote-of}
 use Rattle.grep_core.proofs.Halting.{takes-last, error-refused, error-takes}
 use Rattle.grep_core.proofs.scan.take_error.Goals as goal
-use Rattle.tool_out.specs.Printed.{printed}
+use Rattle.tool_io.specs.Printed.{printed}
 
 pub returns-then-state-ge-MANY_ERRORS : goal.returns-then-state-ge-MANY_ERRORS
 returns-then-state-ge-MANY_ERRORS g c t same is =

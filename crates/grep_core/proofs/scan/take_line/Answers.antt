@@ -8,7 +8,7 @@ use Rattle.grep_core.specs.Turns.{TakesLine}
 use Rattle.grep_core.proofs.Taking.{IsTried, verdict-error, verdict-match, verdict-none, tried-listed, selected-takes, passed-takes, passed-refused, chosen, unchosen}
 use Rattle.grep_core.proofs.scan.take_line.Goals.{in-Match, in-NoMatch}
 use Rattle.grep_core.proofs.scan.take_line.Goals as goal
-use Rattle.tool_out.specs.Printed.{printed}
+use Rattle.tool_io.specs.Printed.{printed}
 
 pub returns-in-Error : goal.returns-in-Error
 returns-in-Error g c =

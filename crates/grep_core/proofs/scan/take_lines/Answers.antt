@@ -15,7 +15,7 @@ use Rattle.grep_core.proofs.Ahead.{ahead-live, ahead-max, ahead-offset, ahead-li
 use Rattle.grep_core.proofs.Unseen.{unseen-live, unseen-max, unseen-offset, unseen-keeps, unseen-standing}
 use Rattle.line_feed.specs.View.{Feed}
 use Rattle.line_feed.specs.declared.phase.Phase.TheVariants.{Closed}
-use Rattle.tool_out.specs.Printed.{printed}
+use Rattle.tool_io.specs.Printed.{printed}
 
 pub line-init : goal.line-init
 line-init g c = record {

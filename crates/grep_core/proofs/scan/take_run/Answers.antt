@@ -1,8 +1,8 @@
 use Rattle.std.proofs.Common.{◌≡◌, ◌+◌, true, Err, take, refl, sym, ap, subst, ◌∙◌, rules, append-nil}
 use Rattle.line_feed.specs.View.{Feed}
-use Rattle.tool_out.specs.Writes.{WritesAll}
-use Rattle.tool_out.specs.Printed.{printed}
-use Rattle.tool_out.proofs.Printing.{wrote-of}
+use Rattle.tool_io.specs.Writes.{WritesAll}
+use Rattle.tool_io.specs.Printed.{printed}
+use Rattle.tool_io.proofs.Printing.{wrote-of}
 use Rattle.grep_match.specs.Compiled.{patterns_in}
 use Rattle.grep_output.specs.Ends.{stop_of}
 use Rattle.grep_output.specs.declared.state.State.{State}

@@ -3,8 +3,8 @@ use Rattle.std.specs.Prelude.{slice_get, option_map}
 use Rattle.line_feed.specs.Rows.{Row}
 use Rattle.line_feed.specs.Lines.{row_of}
 use Rattle.grep_output.specs.Course.{line_as}
-use Rattle.tool_out.specs.Writes.{Writes}
-use Rattle.tool_out.proofs.Writing.{left-more, left-refused}
+use Rattle.tool_io.specs.Writes.{Writes}
+use Rattle.tool_io.proofs.Writing.{left-more, left-refused}
 use Rattle.grep_core.proofs.Steps.{rest-more, is-there}
 use Rattle.grep_core.proofs.scan.write_earlier.Goals as goal
 use Rattle.grep_core.proofs.scan.write_earlier.Goals.{in-Some+in_ok-write_line, in_default}

@@ -1,6 +1,6 @@
 use Rattle.std.proofs.Common.{drop, flat_map, false}
 use Rattle.grep_output.specs.Course.{line_as}
-use Rattle.tool_out.proofs.Writing.{IsLeft}
+use Rattle.tool_io.proofs.Writing.{IsLeft}
 use Rattle.grep_core.proofs.scan.write_earlier.Given as goal
 
 abbrev pub invariant-loop-i : goal.invariant-loop-i

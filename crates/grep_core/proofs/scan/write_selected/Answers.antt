@@ -2,8 +2,8 @@ use Rattle.std.proofs.Common.{◌≡◌, ◌++◌, List, ℕ, flat_map, true, fa
 use Rattle.line_feed.specs.Rows.{Row}
 use Rattle.grep_output.specs.Course.{line_as, separator}
 use Rattle.grep_core.specs.Turns.{course_of}
-use Rattle.tool_out.specs.Writes.{Writes}
-use Rattle.tool_out.proofs.Writing.{left-all, left-more, left-refused, left-last, writes-same}
+use Rattle.tool_io.specs.Writes.{Writes}
+use Rattle.tool_io.proofs.Writing.{left-all, left-more, left-refused, left-last, writes-same}
 use Rattle.grep_core.proofs.scan.write_selected.Goals as goal
 
 pub returns-in_err-write_separator : goal.returns-in_err-write_separator

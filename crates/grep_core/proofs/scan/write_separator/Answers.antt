@@ -1,5 +1,5 @@
 use Rattle.grep_core.proofs.Steps.{gap-text}
-use Rattle.tool_out.proofs.Writing.{writes-same}
+use Rattle.tool_io.proofs.Writing.{writes-same}
 use Rattle.grep_core.proofs.scan.write_separator.Goals as goal
 
 pub returns : goal.returns

@@ -1,6 +1,6 @@
 use Rattle.std.proofs.Common.{◌||◌, refl, ap, arith}
 use Rattle.pat_tree.specs.declared.options.Options.{Options}
-use Rattle.match_needs.specs.Texts.{sets_of}
+use Rattle.pat_needs.specs.Texts.{sets_of}
 use Rattle.grep_match.specs.declared.unsearched.Needed.{Needed}
 use Rattle.grep_match.proofs.Lacking.{next_none, all_none}
 use Rattle.grep_match.proofs.unsearched.needed_within.Goals as goal

@@ -1,8 +1,8 @@
 use Rattle.std.proofs.Common.{◌≡◌, ◌++◌, ◌∙◌, List, ℕ, [], ap, sym, subst, refl, rules, Err, append_assoc, append-nil}
 use Rattle.line_feed.specs.Rows.{Row}
 use Rattle.grep_output.specs.Texts.{line_text, mark_of, name_before, newline_of, number_before}
-use Rattle.tool_out.specs.Writes.{Writes}
-use Rattle.tool_out.proofs.Writing.{left-all, left-more, left-refused, left-last, writes-same}
+use Rattle.tool_io.specs.Writes.{Writes}
+use Rattle.tool_io.proofs.Writing.{left-all, left-more, left-refused, left-last, writes-same}
 use Rattle.grep_output.proofs.lines.write_line.Goals as goal
 
 pub returns-in_err-write_before : goal.returns-in_err-write_before

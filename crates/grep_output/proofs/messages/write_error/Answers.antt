@@ -1,7 +1,7 @@
 use Rattle.std.proofs.Common.{ap, ◌∙◌, rules, SFits, w32}
 use Rattle.std.specs.Fmt.{signed_decimal}
 use Rattle.std.proofs.lemmas.Int.{to_z-of_z}
-use Rattle.tool_out.proofs.Writing.{writes-same}
+use Rattle.tool_io.proofs.Writing.{writes-same}
 use Rattle.grep_output.proofs.Said.{error-text}
 use Rattle.grep_output.proofs.messages.write_error.Goals as goal
 

@@ -1,4 +1,4 @@
-use Rattle.tool_out.proofs.Writing.{writes-same}
+use Rattle.tool_io.proofs.Writing.{writes-same}
 use Rattle.grep_output.proofs.Said.{message-text}
 use Rattle.grep_output.proofs.messages.write_message.Goals as goal
 

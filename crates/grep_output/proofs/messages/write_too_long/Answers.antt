@@ -1,5 +1,5 @@
 use Rattle.std.proofs.Common.{◌∙◌}
-use Rattle.tool_out.proofs.Writing.{writes-same}
+use Rattle.tool_io.proofs.Writing.{writes-same}
 use Rattle.grep_output.proofs.Said.{too-long-text}
 use Rattle.grep_output.proofs.messages.write_too_long.Goals as goal
 

@@ -1,8 +1,8 @@
 use Rattle.std.proofs.Common.{◌≡◌, ◌+◌, drop, sym, subst, rules, true, Err}
 use Rattle.std.proofs.lemmas.List.{at_drop_all}
 use Rattle.grep_output.specs.Texts.{joined}
-use Rattle.tool_out.specs.Writes.{Writes}
-use Rattle.tool_out.proofs.Writing.{IsLeft, left-all, left-more, left-refused, left-none}
+use Rattle.tool_io.specs.Writes.{Writes}
+use Rattle.tool_io.proofs.Writing.{IsLeft, left-all, left-more, left-refused, left-none}
 use Rattle.grep_output.proofs.Parted.{set_texts, step-bare, joined_from, joined-first, joined-filled}
 use Rattle.grep_output.proofs.parts.write_groups.Goals as goal
 use Rattle.grep_output.proofs.parts.write_groups.Goals.{then-not-is_empty+in_ok-write_texts, else-not-is_empty}

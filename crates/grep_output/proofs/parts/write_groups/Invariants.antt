@@ -1,6 +1,6 @@
 use Rattle.std.proofs.Common.{drop}
 use Rattle.grep_output.specs.Texts.{joined}
-use Rattle.tool_out.proofs.Writing.{IsLeft}
+use Rattle.tool_io.proofs.Writing.{IsLeft}
 use Rattle.grep_output.proofs.Parted.{set_texts, joined_from}
 use Rattle.grep_output.proofs.parts.write_groups.Given as goal
 

@@ -1,7 +1,7 @@
 use Rattle.std.proofs.Common.{ap, ◌∙◌, ◌-◌, decimal}
 use Rattle.line_feed.specs.Lines.{row_of}
 use Rattle.grep_match.specs.declared.found.Place.{Place}
-use Rattle.tool_out.proofs.Writing.{writes-same}
+use Rattle.tool_io.proofs.Writing.{writes-same}
 use Rattle.grep_output.proofs.Parted.{in-line-text}
 use Rattle.grep_output.proofs.parts.write_in_line.Goals as goal
 

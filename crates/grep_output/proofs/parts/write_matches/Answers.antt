@@ -5,8 +5,8 @@ use Rattle.ordered_search.specs.Forward.{IsWithin}
 use Rattle.line_feed.specs.Lines.{row_of}
 use Rattle.grep_match.specs.Found.{groups_of}
 use Rattle.grep_output.specs.Texts.{match_text}
-use Rattle.tool_out.specs.Writes.{Writes}
-use Rattle.tool_out.proofs.Writing.{left-all, left-more, left-refused, left-none}
+use Rattle.tool_io.specs.Writes.{Writes}
+use Rattle.tool_io.proofs.Writing.{left-all, left-more, left-refused, left-none}
 use Rattle.grep_output.proofs.Parted.{match_at, no_match, count-listed, place-listed, match-listed, groups-listed, groups-reach, groups-front, groups-rest, groups-within}
 use Rattle.grep_output.proofs.parts.write_matches.Goals as goal
 

@@ -3,7 +3,7 @@ use Rattle.line_feed.specs.Lines.{row_of}
 use Rattle.ordered_search.specs.PlaceAnswer.{Outcome}
 use Rattle.grep_match.specs.Found.{Lists, groups_of}
 use Rattle.grep_output.specs.Texts.{match_text}
-use Rattle.tool_out.proofs.Writing.{IsLeft}
+use Rattle.tool_io.proofs.Writing.{IsLeft}
 use Rattle.grep_output.proofs.parts.write_matches.Given as goal
 
 abbrev pub invariant-loop-i : goal.invariant-loop-i

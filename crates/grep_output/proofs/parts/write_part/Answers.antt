@@ -1,8 +1,8 @@
 use Rattle.std.proofs.Common.{◌≡◌, [], ◌++◌, codes, refl, sym, subst, ◌∙◌, rules, Err}
 use Rattle.line_feed.specs.Lines.{row_of}
 use Rattle.grep_output.specs.Texts.{joined, part_text}
-use Rattle.tool_out.specs.Writes.{Writes}
-use Rattle.tool_out.proofs.Writing.{left-all, left-more, left-refused, left-last, writes-same, writes-none}
+use Rattle.tool_io.specs.Writes.{Writes}
+use Rattle.tool_io.proofs.Writing.{left-all, left-more, left-refused, left-last, writes-same, writes-none}
 use Rattle.grep_output.proofs.Parted.{set_texts, part-none, part-some}
 use Rattle.grep_output.proofs.parts.write_part.Goals as goal
 

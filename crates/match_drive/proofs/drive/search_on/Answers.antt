@@ -4,7 +4,7 @@ use Rattle.frame_state.specs.declared.answer.PlaceAnswer.TheVariants.{Failed}
 use Rattle.frame_state.specs.Answer.{IsAnswer, IsMark, IsSeen}
 use Rattle.ordered_search.specs.PlaceAnswer.{place_answer}
 use Rattle.ordered_search.specs.Setting.{Setting}
-use Rattle.start_tests.specs.Asked.{passed_over, replied}
+use Rattle.match_starts.specs.Asked.{passed_over, replied}
 use Rattle.ordered_search.specs.Places.{last_place}
 use Rattle.ordered_search.specs.MatchAnswer.{none_found, match_answer}
 use Rattle.match_drive.specs.Answer.{IsMatchAnswer, IsLastMark, IsShown}

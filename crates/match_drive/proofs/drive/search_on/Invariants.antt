@@ -2,7 +2,7 @@ use Rattle.std.proofs.Common.{◌≡◌, ◌≤◌, false, max, length}
 use Rattle.std.specs.Prelude.{IfSome}
 use Rattle.pcre_io.specs.declared.callouts.Block.{Block}
 use Rattle.match_items.specs.Subjects.{IsTextPlace}
-use Rattle.start_tests.specs.Asked.{passed_over, replied}
+use Rattle.match_starts.specs.Asked.{passed_over, replied}
 use Rattle.ordered_search.specs.Places.{last_place, is_excluded}
 use Rattle.ordered_search.specs.MatchAnswer.{match_answer}
 use Rattle.match_drive.specs.Rest.{IsLeft, IsShownTo, found_from}

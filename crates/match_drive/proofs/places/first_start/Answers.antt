@@ -1,8 +1,8 @@
 use Rattle.std.proofs.Common.{ℕ, List, sym, subst, arith}
 use Rattle.std.specs.Prelude.{slice_index}
-use Rattle.start_tests.specs.Asked.{passed_over, replied}
+use Rattle.match_starts.specs.Asked.{passed_over, replied}
 use Rattle.match_drive.specs.BeginText.{StandsBehind}
-use Rattle.start_tests.specs.Bytes.{IsByteOutside}
+use Rattle.match_starts.specs.Bytes.{IsByteOutside}
 use Rattle.match_drive.proofs.Excluded.{excluded_by_byte}
 use Rattle.match_drive.proofs.PastRun.{tried_fails}
 use Rattle.match_drive.proofs.Steps.{excluded_fails}

@@ -2,7 +2,7 @@ use Rattle.std.proofs.Common.{sym, ap, ◌∙◌}
 use Rattle.pat_tree.specs.declared.options.Options.{Options}
 use Rattle.std.specs.Option.{option_copied}
 use Rattle.match_drive.proofs.Excluded.{excluded_never, lead_is_used}
-use Rattle.start_tests.specs.Asked.{passed_over}
+use Rattle.match_starts.specs.Asked.{passed_over}
 use Rattle.match_drive.proofs.places.lead_used.Goals as goal
 
 pub returns-then-options : goal.returns-then-options

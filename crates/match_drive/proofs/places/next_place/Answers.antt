@@ -1,6 +1,6 @@
 use Rattle.std.proofs.Common.{sym, ◌∙◌}
 use Rattle.ordered_search.proofs.StartPlaces.{crlf_stands}
-use Rattle.start_tests.specs.Asked.{passed_over}
+use Rattle.match_starts.specs.Asked.{passed_over}
 use Rattle.match_drive.proofs.places.next_place.Goals as goal
 
 pub char_at-requires-clause-checked : goal.char_at-requires-clause-checked

@@ -2,13 +2,13 @@ use Rattle.std.proofs.Common.{◌≡◌, ◌≤◌, ◌<◌, ℕ, Option, length
 use Rattle.std.specs.Prelude.{IfSome}
 use Rattle.std.proofs.lemmas.Option.{IfSome_then}
 use Rattle.match_items.specs.Subjects.{IsTextPlace}
-use Rattle.start_tests.specs.Asked.{passed_over, replied}
+use Rattle.match_starts.specs.Asked.{passed_over, replied}
 use Rattle.ordered_search.specs.Places.{next_place, last_place, up_to}
 use Rattle.match_drive.specs.Rest.{found_from}
 use Rattle.match_drive.proofs.Steps.{left_less, none_earlier, step_is, step_later, tried_next, none_next, excluded_next}
 use Rattle.ordered_search.proofs.StartPlaces.{last_within}
 use Rattle.match_drive.proofs.PastBegin.{none_past}
-use Rattle.start_tests.proofs.TextSteps.{up_to_place}
+use Rattle.match_starts.proofs.TextSteps.{up_to_place}
 use Rattle.match_drive.proofs.places.next_tried.Given as given
 use Rattle.match_drive.proofs.places.next_tried.Goals as goal
 

@@ -2,7 +2,7 @@ use Rattle.std.proofs.Common.{◌≡◌, ◌≤◌, ℤ, length}
 use Rattle.std.specs.Prelude.{IfSome}
 use Rattle.ordered_search.specs.Stream.{Block}
 use Rattle.match_items.specs.Subjects.{IsTextPlace}
-use Rattle.start_tests.specs.Asked.{passed_over, replied}
+use Rattle.match_starts.specs.Asked.{passed_over, replied}
 use Rattle.match_drive.specs.Rest.{found_from}
 use Rattle.match_drive.proofs.Steps.{places_left, IsNoEarlier}
 use Rattle.match_drive.proofs.places.next_tried.Given as goal

@@ -8,7 +8,7 @@ use Rattle.ordered_search.specs.Setting.{Setting}
 use Rattle.ordered_search.specs.Places.{last_place}
 use Rattle.match_drive.proofs.PastPlaces.{passed_places, behind_stands, end_stands}
 use Rattle.ordered_search.proofs.StartPlaces.{last_within}
-use Rattle.start_tests.specs.Asked.{passed_over, replied}
+use Rattle.match_starts.specs.Asked.{passed_over, replied}
 use Rattle.match_drive.proofs.places.pass.Given as given
 use Rattle.match_drive.proofs.places.pass.Goals as goal
 

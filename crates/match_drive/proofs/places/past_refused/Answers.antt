@@ -2,8 +2,8 @@ use Rattle.std.proofs.Common.{◌≡◌, ◌+◌, ◌≤◌, length, Some, sym, 
 use Rattle.std.proofs.lemmas.Option.{IfSome_then}
 use Rattle.ordered_search.specs.Places.{last_place, up_to}
 use Rattle.ordered_search.proofs.StartPlaces.{last_within}
-use Rattle.start_tests.specs.Asked.{passed_over, replied}
-use Rattle.start_tests.proofs.TextSteps.{byte_place}
+use Rattle.match_starts.specs.Asked.{passed_over, replied}
+use Rattle.match_starts.proofs.TextSteps.{byte_place}
 use Rattle.match_drive.specs.Rest.{found_from, behind}
 use Rattle.match_drive.proofs.PastRun.{tried_fails}
 use Rattle.match_drive.proofs.Steps.{none_passed, passed}

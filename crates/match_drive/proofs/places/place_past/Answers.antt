@@ -6,10 +6,10 @@ use Rattle.frame_state.specs.Answer.{signal_of}
 use Rattle.ordered_search.specs.PlaceAnswer.{Signal, Exhausted, Failed, place_answer}
 use Rattle.ordered_search.specs.Places.{last_place, place_after, up_to}
 use Rattle.ordered_search.proofs.StartPlaces.{last_within}
-use Rattle.start_tests.specs.Asked.{passed_over, replied}
+use Rattle.match_starts.specs.Asked.{passed_over, replied}
 use Rattle.match_drive.specs.Rest.{found_from, behind}
 use Rattle.match_drive.proofs.PastRun.{next_past}
-use Rattle.start_tests.proofs.TextSteps.{byte_place}
+use Rattle.match_starts.proofs.TextSteps.{byte_place}
 use Rattle.match_drive.proofs.places.place_past.Goals.{in-Exhausted, in_default}
 use Rattle.match_drive.proofs.places.place_past.Goals as goal
 

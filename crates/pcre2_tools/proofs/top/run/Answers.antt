@@ -1,8 +1,8 @@
 use Rattle.std.proofs.Common.{sym, ap, ◌∙◌, map, string_bytes, codes}
 use Rattle.pcre2_tools.specs.ToolText.{is_grep, is_test}
 use Rattle.pcre2_tools.proofs.Naming.{says-none, says-other, runs-said, runs-grep, runs-test}
-use Rattle.tool_out.specs.Printed.{printed}
-use Rattle.grep_run.specs.Stages.{streams}
+use Rattle.tool_io.specs.Printed.{printed}
+use Rattle.grep_main.specs.Stages.{streams}
 use Rattle.pcre2_tools.proofs.top.run.Goals as goal
 
 pub returns-in_default-clause-text : goal.returns-in_default-clause-text

@@ -1,6 +1,6 @@
 use Rattle.std.proofs.Common.{◌≡◌, codes, Err, refl, sym, subst, rules}
-use Rattle.tool_out.specs.Writes.{Writes}
-use Rattle.tool_out.proofs.Writing.{left-more, left-refused, left-last}
+use Rattle.tool_io.specs.Writes.{Writes}
+use Rattle.tool_io.proofs.Writing.{left-more, left-refused, left-last}
 use Rattle.test_gen.specs.Texts.{pattern_text, ends_text, generated_text}
 use Rattle.test_gen.proofs.Saying.{behind_first, behind_second, behind_third, behind_fourth, behind_ends, begun, unbegun}
 use Rattle.test_gen.proofs.text.write_generated.Goals as goal

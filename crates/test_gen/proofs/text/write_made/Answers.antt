@@ -1,5 +1,5 @@
 use Rattle.std.proofs.Common.{◌∙◌}
-use Rattle.tool_out.proofs.Writing.{writes-same}
+use Rattle.tool_io.proofs.Writing.{writes-same}
 use Rattle.test_gen.proofs.Saying.{made-text}
 use Rattle.test_gen.proofs.text.write_made.Goals as goal
 

@@ -1,6 +1,6 @@
 use Rattle.std.proofs.Common.{◌∙◌, ◌++◌, codes, decimal}
-use Rattle.tool_out.specs.Texts.{line}
-use Rattle.tool_out.proofs.Writing.{writes-same}
+use Rattle.tool_io.specs.Texts.{line}
+use Rattle.tool_io.proofs.Writing.{writes-same}
 use Rattle.test_gen.specs.Texts.{pattern_text}
 use Rattle.test_gen.proofs.Saying.{finds-text, lacks}
 use Rattle.test_gen.proofs.text.write_pattern.Goals as goal

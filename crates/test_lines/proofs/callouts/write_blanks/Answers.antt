@@ -1,6 +1,6 @@
 use Rattle.std.proofs.Common.{◌≡◌, ◌+◌, ◌-◌, suc, codes, Err, ap, sym, subst, arith, rules}
-use Rattle.tool_out.specs.Writes.{Writes}
-use Rattle.tool_out.proofs.Writing.{IsLeft, left-all, left-more, left-refused, left-none}
+use Rattle.tool_io.specs.Writes.{Writes}
+use Rattle.tool_io.proofs.Writing.{IsLeft, left-all, left-more, left-refused, left-none}
 use Rattle.test_lines.specs.Callouts.{blanks}
 use Rattle.test_lines.proofs.callouts.write_blanks.Goals as goal
 

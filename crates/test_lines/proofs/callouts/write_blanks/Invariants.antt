@@ -1,5 +1,5 @@
 use Rattle.std.proofs.Common.{◌-◌}
-use Rattle.tool_out.proofs.Writing.{IsLeft}
+use Rattle.tool_io.proofs.Writing.{IsLeft}
 use Rattle.test_lines.specs.Callouts.{blanks}
 use Rattle.test_lines.proofs.callouts.write_blanks.Given as goal
 

@@ -1,7 +1,7 @@
 use Rattle.std.proofs.Common.{◌≡◌, None, sym, subst, rules, arith, Err}
 use Rattle.std.proofs.lemmas.List.{at_drop_more, at_drop_all}
-use Rattle.tool_out.specs.Writes.{Writes}
-use Rattle.tool_out.proofs.Writing.{left-all, left-more, left-refused, left-none}
+use Rattle.tool_io.specs.Writes.{Writes}
+use Rattle.tool_io.proofs.Writing.{left-all, left-more, left-refused, left-none}
 use Rattle.pcre_io.specs.declared.callouts.Block.{Block}
 use Rattle.test_lines.specs.Callouts.{called_text}
 use Rattle.test_lines.proofs.callouts.write_called.Goals as goal

@@ -1,5 +1,5 @@
 use Rattle.std.proofs.Common.{drop, None}
-use Rattle.tool_out.proofs.Writing.{IsLeft}
+use Rattle.tool_io.proofs.Writing.{IsLeft}
 use Rattle.test_lines.specs.Callouts.{called_text}
 use Rattle.test_lines.proofs.callouts.write_called.Given as goal
 

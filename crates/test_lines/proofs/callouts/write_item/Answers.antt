@@ -1,8 +1,8 @@
 use Rattle.std.proofs.Common.{◌≡◌, [], ◌∷◌, ap, append_assoc, Err, sym, subst, rules}
-use Rattle.tool_out.specs.Texts.{line}
+use Rattle.tool_io.specs.Texts.{line}
 use Rattle.test_lines.specs.Shown.{shown}
 use Rattle.test_lines.specs.Marks.{name_line}
-use Rattle.tool_out.specs.Writes.{Writes}
+use Rattle.tool_io.specs.Writes.{Writes}
 use Rattle.test_lines.specs.Callouts.{blanks, gap, item_of, item_part}
 use Rattle.test_lines.proofs.Writing.{writes-then, writes-first, writes-equal}
 use Rattle.test_lines.proofs.callouts.write_item.Goals as goal

@@ -1,5 +1,5 @@
 use Rattle.std.proofs.Common.{◌≡◌, ap, Err, sym, subst, rules}
-use Rattle.tool_out.specs.Writes.{Writes}
+use Rattle.tool_io.specs.Writes.{Writes}
 use Rattle.test_lines.specs.Callouts.{low_width, caret_part, second_part, marks_part}
 use Rattle.test_lines.proofs.Writing.{writes-then, writes-first, writes-equal}
 use Rattle.test_lines.proofs.callouts.write_marks.Goals as goal

@@ -1,5 +1,5 @@
 use Rattle.std.proofs.Common.{◌≡◌, ◌++◌, Err, sym, subst, rules}
-use Rattle.tool_out.specs.Writes.{Writes}
+use Rattle.tool_io.specs.Writes.{Writes}
 use Rattle.test_lines.specs.Callouts.{head_part, block_line}
 use Rattle.test_lines.proofs.Writing.{writes-then, writes-first}
 use Rattle.test_lines.proofs.callouts.write_shown_block.Goals as goal

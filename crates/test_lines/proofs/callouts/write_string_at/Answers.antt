@@ -1,7 +1,7 @@
 use Rattle.std.proofs.Common.{◌≡◌, [], ◌∷◌, append_assoc, Err, sym, subst, rules}
 use Rattle.test_lines.specs.Shown.{shown}
 use Rattle.test_lines.specs.Marks.{name_line}
-use Rattle.tool_out.specs.Writes.{Writes}
+use Rattle.tool_io.specs.Writes.{Writes}
 use Rattle.test_lines.specs.Callouts.{string_place}
 use Rattle.test_lines.proofs.Writing.{writes-then, writes-first, writes-equal}
 use Rattle.test_lines.proofs.callouts.write_string_at.Goals as goal

@@ -1,5 +1,5 @@
 use Rattle.std.proofs.Common.{◌≡◌, ◌++◌, [], ◌∷◌, Err, append-nil, sym, subst, rules}
-use Rattle.tool_out.specs.Writes.{Writes}
+use Rattle.tool_io.specs.Writes.{Writes}
 use Rattle.test_lines.specs.Shown.{shown}
 use Rattle.test_lines.specs.Marks.{name_line}
 use Rattle.test_lines.proofs.Writing.{writes-then, writes-first, writes-equal}

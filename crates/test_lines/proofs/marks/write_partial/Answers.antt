@@ -1,6 +1,6 @@
 use Rattle.std.proofs.Common.{◌≡◌, codes, Err, sym, subst, rules}
 use Rattle.pat_tree.specs.Pattern.{pattern_of}
-use Rattle.tool_out.specs.Writes.{Writes}
+use Rattle.tool_io.specs.Writes.{Writes}
 use Rattle.test_lines.specs.Marks.{showing, name_of, name_line, partial_head, partial_text}
 use Rattle.test_lines.proofs.Writing.{writes-then, writes-first, writes-equal}
 use Rattle.test_lines.proofs.marks.write_partial.Goals as goal

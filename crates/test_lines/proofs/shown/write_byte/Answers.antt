@@ -1,5 +1,5 @@
 use Rattle.std.proofs.Common.{◌∙◌, sym, ap, [], ◌∷◌, if◌then◌else◌}
-use Rattle.tool_out.proofs.Writing.{writes-same}
+use Rattle.tool_io.proofs.Writing.{writes-same}
 use Rattle.test_lines.specs.Shown.{code_of}
 use Rattle.test_lines.proofs.shown.write_byte.Goals as goal
 

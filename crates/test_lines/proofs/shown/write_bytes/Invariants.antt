@@ -1,5 +1,5 @@
 use Rattle.std.proofs.Common.{drop}
-use Rattle.tool_out.proofs.Writing.{IsLeft}
+use Rattle.tool_io.proofs.Writing.{IsLeft}
 use Rattle.test_lines.specs.Shown.{shown_bytes}
 use Rattle.test_lines.proofs.shown.write_bytes.Given as goal
 

@@ -1,6 +1,6 @@
 use Rattle.std.proofs.Common.{◌∙◌, ◌∷◌, [], ap, nat_lt}
-use Rattle.tool_out.specs.Texts.{text_if}
-use Rattle.tool_out.proofs.Writing.{writes-same}
+use Rattle.tool_io.specs.Texts.{text_if}
+use Rattle.tool_io.proofs.Writing.{writes-same}
 use Rattle.test_lines.proofs.Showing.{code-text}
 use Rattle.test_lines.proofs.shown.write_char_code.Goals as goal
 

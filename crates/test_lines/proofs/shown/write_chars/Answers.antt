@@ -1,8 +1,8 @@
 use Rattle.std.proofs.Common.{◌≡◌, ◌∙◌, true, drop, flat_map, refl, ap, subst, sym, rules, arith, Err}
 use Rattle.std.proofs.lemmas.List.{at_drop_all}
 use Rattle.std.proofs.lemmas.Str.{IsCharBoundary-start, chars-nil}
-use Rattle.tool_out.specs.Writes.{Writes}
-use Rattle.tool_out.proofs.Writing.{left-all, left-more, left-refused, left-none}
+use Rattle.tool_io.specs.Writes.{Writes}
+use Rattle.tool_io.proofs.Writing.{left-all, left-more, left-refused, left-none}
 use Rattle.pat_nodes.proofs.Literally.{goes_on}
 use Rattle.test_lines.specs.Shown.{shown_char, shown_chars}
 use Rattle.test_lines.proofs.Showing.{next-shown}

@@ -1,5 +1,5 @@
 use Rattle.std.proofs.Common.{◌-◌, true, drop, length}
-use Rattle.tool_out.proofs.Writing.{IsLeft}
+use Rattle.tool_io.proofs.Writing.{IsLeft}
 use Rattle.uni_text.specs.Characters.{IsPlace}
 use Rattle.test_lines.specs.Shown.{shown_chars}
 use Rattle.test_lines.proofs.shown.write_chars.Given as goal

@@ -1,5 +1,5 @@
 use Rattle.std.proofs.Common.{[], ◌∷◌}
-use Rattle.tool_out.proofs.Writing.{writes-same}
+use Rattle.tool_io.proofs.Writing.{writes-same}
 use Rattle.test_lines.proofs.shown.write_code.Goals as goal
 
 pub returns : goal.returns

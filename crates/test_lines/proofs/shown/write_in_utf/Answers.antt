@@ -1,6 +1,6 @@
 use Rattle.std.proofs.Common.{◌∙◌, sym, ap, if◌then◌else◌}
 use Rattle.std.proofs.lemmas.Str.{IsUtf8-from_is_utf8}
-use Rattle.tool_out.proofs.Writing.{writes-same}
+use Rattle.tool_io.proofs.Writing.{writes-same}
 use Rattle.test_lines.specs.Shown.{shown_bytes, shown_chars}
 use Rattle.test_lines.proofs.shown.write_in_utf.Goals as goal
 

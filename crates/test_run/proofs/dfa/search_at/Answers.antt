@@ -1,7 +1,7 @@
 use Rattle.std.proofs.Common.{◌≡◌, ◌∙◌, ap, Err, sym, subst, rules}
 use Rattle.pat_tree.specs.declared.options.Options.{Options}
 use Rattle.pat_tree.specs.Pattern.{pattern_of}
-use Rattle.tool_out.specs.Writes.{Writes}
+use Rattle.tool_io.specs.Writes.{Writes}
 use Rattle.test_run.specs.Dfa.{ends_text, told_at, told_text}
 use Rattle.test_run.specs.DfaSearches.{error_text}
 use Rattle.test_run.proofs.EndsSearching.{text-ends, told-ends, text-error, told-error, lies-in}

@@ -1,6 +1,6 @@
 use Rattle.std.proofs.Common.{◌≡◌, ◌+◌, ◌≤◌, Err, drop, length, sym, subst, arith, rules}
-use Rattle.tool_out.specs.Writes.{Writes}
-use Rattle.tool_out.proofs.Writing.{left-all, left-more, left-refused, left-none}
+use Rattle.tool_io.specs.Writes.{Writes}
+use Rattle.tool_io.proofs.Writing.{left-all, left-more, left-refused, left-none}
 use Rattle.test_run.specs.Dfa.{end_line, ends_text}
 use Rattle.test_run.proofs.Ends.{ends-more, ends-none, among-get}
 use Rattle.test_run.proofs.dfa.write_ends.Goals as goal

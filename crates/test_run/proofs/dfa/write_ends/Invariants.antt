@@ -1,5 +1,5 @@
 use Rattle.std.proofs.Common.{drop}
-use Rattle.tool_out.proofs.Writing.{IsLeft}
+use Rattle.tool_io.proofs.Writing.{IsLeft}
 use Rattle.test_run.specs.Dfa.{ends_text}
 use Rattle.test_run.proofs.dfa.write_ends.Given as goal
 

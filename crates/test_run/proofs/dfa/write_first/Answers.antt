@@ -1,5 +1,5 @@
 use Rattle.std.proofs.Common.{◌≡◌, Err, sym, subst, rules}
-use Rattle.tool_out.specs.Writes.{Writes}
+use Rattle.tool_io.specs.Writes.{Writes}
 use Rattle.pat_tree.specs.Pattern.{pattern_of}
 use Rattle.test_run.specs.Dfa.{first_text}
 use Rattle.test_run.proofs.Ends.{first-refused}

@@ -1,6 +1,6 @@
 use Rattle.std.proofs.Common.{◌≡◌, ◌++◌, [], ◌∷◌, Err, sym, subst, rules}
 use Rattle.std.specs.Prelude.{slice_range}
-use Rattle.tool_out.specs.Writes.{Writes}
+use Rattle.tool_io.specs.Writes.{Writes}
 use Rattle.test_run.specs.Dfa.{end_line}
 use Rattle.test_lines.specs.Shown.{number_before, shown}
 use Rattle.test_lines.proofs.Writing.{writes-then, writes-first}

@@ -2,7 +2,7 @@ use Rattle.std.proofs.Common.{ap, ◌∙◌, rules, SFits, w32}
 use Rattle.std.specs.Fmt.{signed_decimal}
 use Rattle.std.proofs.lemmas.Int.{to_z-of_z}
 use Rattle.pcre2_errors.specs.FaultTexts.{fault_text}
-use Rattle.tool_out.proofs.Writing.{writes-same}
+use Rattle.tool_io.proofs.Writing.{writes-same}
 use Rattle.test_run.proofs.Saying.{fault-text}
 use Rattle.test_run.proofs.lines.write_fault.Goals as goal
 

@@ -1,5 +1,5 @@
 use Rattle.std.proofs.Common.{◌∙◌}
-use Rattle.tool_out.proofs.Writing.{writes-same}
+use Rattle.tool_io.proofs.Writing.{writes-same}
 use Rattle.test_run.proofs.Saying.{groups-text}
 use Rattle.test_run.proofs.lines.write_groups.Goals as goal
 

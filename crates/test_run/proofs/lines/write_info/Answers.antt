@@ -1,7 +1,7 @@
 use Rattle.std.proofs.Common.{◌≡◌, ◌++◌, codes, Ok, Err, sym, ap, subst, rules}
-use Rattle.tool_out.specs.Texts.{line, text_if}
-use Rattle.tool_out.specs.Writes.{Writes}
-use Rattle.tool_out.proofs.Writing.{writes-same, writes-none}
+use Rattle.tool_io.specs.Texts.{line, text_if}
+use Rattle.tool_io.specs.Writes.{Writes}
+use Rattle.tool_io.proofs.Writing.{writes-same, writes-none}
 use Rattle.test_lines.specs.Lines.{groups_line, lookbehind_line, info_text}
 use Rattle.test_lines.proofs.Writing.{writes-then, writes-first}
 use Rattle.test_run.proofs.lines.write_info.Goals as goal

@@ -1,6 +1,6 @@
 use Rattle.std.proofs.Common.{◌∙◌, rules, SFits, w32}
 use Rattle.std.proofs.lemmas.Int.{to_z-of_z}
-use Rattle.tool_out.proofs.Writing.{writes-same}
+use Rattle.tool_io.proofs.Writing.{writes-same}
 use Rattle.test_run.proofs.Saying.{error-same}
 use Rattle.test_run.proofs.lines.write_unreplaced.Goals as goal
 

@@ -1,5 +1,5 @@
 use Rattle.std.proofs.Common.{◌≡◌, Err, sym, subst, rules}
-use Rattle.tool_out.specs.Writes.{Writes}
+use Rattle.tool_io.specs.Writes.{Writes}
 use Rattle.test_lines.specs.Lines.{failed_line}
 use Rattle.test_lines.proofs.Writing.{writes-as, refused-as}
 use Rattle.test_run.proofs.matches.fail.Goals as goal

@@ -1,6 +1,6 @@
 use Rattle.std.proofs.Common.{◌≡◌, Err, sym, subst, rules}
 use Rattle.pat_tree.specs.Pattern.{pattern_of}
-use Rattle.tool_out.specs.Writes.{Writes}
+use Rattle.tool_io.specs.Writes.{Writes}
 use Rattle.test_lines.specs.Marks.{showing, partial_text}
 use Rattle.test_lines.proofs.Writing.{writes-as, refused-as}
 use Rattle.test_run.proofs.matches.tell_partial.Goals as goal

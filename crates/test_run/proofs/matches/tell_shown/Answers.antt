@@ -2,7 +2,7 @@ use Rattle.std.proofs.Common.{◌≡◌, ◌++◌, Err, sym, subst, rules}
 use Rattle.pat_tree.specs.Pattern.{pattern_of}
 use Rattle.test_lines.specs.Marks.{showing}
 use Rattle.test_run.specs.Searches.{error_text}
-use Rattle.tool_out.specs.Writes.{Writes}
+use Rattle.tool_io.specs.Writes.{Writes}
 use Rattle.test_lines.specs.Callouts.{calls_text}
 use Rattle.test_lines.proofs.Writing.{writes-then, writes-first}
 use Rattle.test_run.proofs.matches.tell_shown.Goals as goal

@@ -1,6 +1,6 @@
 use Rattle.std.proofs.Common.{◌≡◌, ◌∙◌, ◌+◌, ◌*◌, ◌<◌, false, true, Err, length, sym, subst, ap, arith, rules}
 use Rattle.std.specs.Prelude.{◌==◌}
-use Rattle.tool_out.specs.Writes.{Writes}
+use Rattle.tool_io.specs.Writes.{Writes}
 use Rattle.pat_tree.specs.Pattern.{pattern_of}
 use Rattle.test_run.specs.declared.matches.Search.{Search}
 use Rattle.pcre2_api.specs.Walks.{goes_on, place_behind}

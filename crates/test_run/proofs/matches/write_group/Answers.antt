@@ -1,6 +1,6 @@
 use Rattle.std.proofs.Common.{◌≡◌, ◌++◌, [], ◌∷◌, Err, sym, subst, rules}
-use Rattle.tool_out.specs.Writes.{Writes}
-use Rattle.tool_out.proofs.Writing.{writes-same}
+use Rattle.tool_io.specs.Writes.{Writes}
+use Rattle.tool_io.proofs.Writing.{writes-same}
 use Rattle.test_lines.specs.Shown.{number_before, shown_or_unset, group_text, group_line}
 use Rattle.test_lines.proofs.Writing.{writes-then, writes-first}
 use Rattle.test_run.proofs.matches.write_group.Goals as goal

@@ -1,7 +1,7 @@
 use Rattle.std.proofs.Common.{◌≡◌, ◌+◌, ◌-◌, ◌<◌, flat_map, Err, sym, subst, arith, rules}
 use Rattle.std.specs.List.{range_with_len}
-use Rattle.tool_out.specs.Writes.{Writes}
-use Rattle.tool_out.proofs.Writing.{IsLeft, left-all, left-more, left-refused, left-last}
+use Rattle.tool_io.specs.Writes.{Writes}
+use Rattle.tool_io.proofs.Writing.{IsLeft, left-all, left-more, left-refused, left-last}
 use Rattle.pcre2_api.specs.Captured.{top_of}
 use Rattle.test_lines.specs.Shown.{group_line, groups_text}
 use Rattle.test_lines.proofs.Showing.{flat-range, flat-range-last}

@@ -1,6 +1,6 @@
 use Rattle.std.proofs.Common.{◌+◌, ◌-◌, flat_map}
 use Rattle.std.specs.List.{range_with_len}
-use Rattle.tool_out.proofs.Writing.{IsLeft}
+use Rattle.tool_io.proofs.Writing.{IsLeft}
 use Rattle.pcre2_api.specs.Captured.{top_of}
 use Rattle.test_lines.specs.Shown.{group_line, groups_text}
 use Rattle.test_run.proofs.matches.write_groups.Given as goal

@@ -1,7 +1,7 @@
 use Rattle.std.proofs.Common.{◌≡◌, ◌∙◌, Err, sym, ap, subst, rules, SFits, w32}
 use Rattle.std.proofs.lemmas.Int.{to_z-of_z}
 use Rattle.pat_tree.specs.Pattern.{pattern_of}
-use Rattle.tool_out.specs.Writes.{Writes}
+use Rattle.tool_io.specs.Writes.{Writes}
 use Rattle.test_run.specs.Courses.{pattern_text}
 use Rattle.test_lines.specs.Lines.{fault_line}
 use Rattle.test_run.proofs.Compiling.{text-told, text-fault, course-told}

@@ -1,8 +1,8 @@
 use Rattle.std.proofs.Common.{◌∙◌, sym, ap}
 use Rattle.pat_tree.specs.Pattern.{pattern_of}
 use Rattle.pcre2_api.specs.Informs.{info_in}
-use Rattle.tool_out.specs.Texts.{text_if}
-use Rattle.tool_out.proofs.Writing.{writes-same}
+use Rattle.tool_io.specs.Texts.{text_if}
+use Rattle.tool_io.proofs.Writing.{writes-same}
 use Rattle.test_lines.specs.Lines.{info_text}
 use Rattle.test_run.proofs.patterns.write_told.Goals as goal
 

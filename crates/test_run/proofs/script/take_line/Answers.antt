@@ -1,8 +1,8 @@
 use Rattle.std.proofs.Common.{◌≡◌, ◌++◌, Err, ap, sym, subst, rules}
 use Rattle.pcre_io.specs.declared.traits.IoError.TheVariants as IoError
-use Rattle.tool_out.specs.Texts.{line}
-use Rattle.tool_out.specs.Writes.{Writes}
-use Rattle.tool_out.proofs.Writing.{writes-same}
+use Rattle.tool_io.specs.Texts.{line}
+use Rattle.tool_io.specs.Writes.{Writes}
+use Rattle.tool_io.proofs.Writing.{writes-same}
 use Rattle.test_script.specs.Script.{line_of}
 use Rattle.test_run.specs.Courses.{entry_text}
 use Rattle.test_run.specs.Runs.{IsShort}

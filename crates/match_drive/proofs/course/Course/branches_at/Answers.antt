@@ -3,9 +3,9 @@ use Rattle.pat_tree.specs.declared.options.Options.{Options}
 use Rattle.match_items.specs.Subjects.{IsTextPlace}
 use Rattle.frame_machine.specs.frame_board.Ready.{setting_for}
 use Rattle.frame_state.specs.Stops.{admitted}
-use Rattle.start_tests.specs.Asked.{passed_over}
-use Rattle.start_tests.specs.declared.prefix.Tested.TheVariants.{Took, Refused}
-use Rattle.start_tests.proofs.PastPrefix.{branches_tell, not_none, same_place}
+use Rattle.match_starts.specs.Asked.{passed_over}
+use Rattle.match_starts.specs.declared.prefix.Tested.TheVariants.{Took, Refused}
+use Rattle.match_starts.proofs.PastPrefix.{branches_tell, not_none, same_place}
 use Rattle.match_drive.proofs.course.Course.branches_at.Goals as goal
 
 pub test_branches-requires-clause-place : goal.test_branches-requires-clause-place

@@ -2,7 +2,7 @@ use Rattle.std.proofs.Common.{sym, subst, ◌∙◌}
 use Rattle.pat_tree.specs.declared.options.Options.{Options}
 use Rattle.match_items.specs.Subjects.{IsTextPlace}
 use Rattle.frame_machine.specs.frame_board.Ready.{setting_for}
-use Rattle.start_tests.specs.Asked.{passed_over}
+use Rattle.match_starts.specs.Asked.{passed_over}
 use Rattle.match_drive.proofs.PastRun.{RunFails, run_fails, none_fails}
 use Rattle.match_drive.proofs.course.Course.run_to.Goals as goal
 

@@ -1,5 +1,5 @@
 use Rattle.match_items.specs.Views.{fold_in}
-use Rattle.start_tests.proofs.Leads.{lead_told}
+use Rattle.match_starts.proofs.Leads.{lead_told}
 use Rattle.match_drive.proofs.course.CourseDriven.lead.Goals as goal
 
 pub returns : goal.returns

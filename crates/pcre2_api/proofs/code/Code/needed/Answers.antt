@@ -1,7 +1,7 @@
 use Rattle.std.proofs.Common.{◌+◌, ◌≤◌, subst}
 use Rattle.pat_tree.specs.declared.options.Options.{Options}
-use Rattle.match_bounds.specs.Bounds.{at}
-use Rattle.match_needs.specs.Texts.{sets_of}
+use Rattle.pat_bounds.specs.Bounds.{at}
+use Rattle.pat_needs.specs.Texts.{sets_of}
 use Rattle.ordered_search.specs.Setting.{lower_of}
 use Rattle.pcre2_api.specs.Compiled.{CodeParts}
 use Rattle.pcre2_api.specs.Needed.{FindsNone}

@@ -1,0 +1,55 @@
+use Rattle.std.proofs.Common.{rules, ◌≡◌, false, map, string_bytes, Ok, Err, sym, subst}
+use Rattle.grep_output.specs.declared.ended.Stop.TheVariants.{Memory}
+use Rattle.grep_main.specs.Adds.{AddsAllFrom}
+use Rattle.grep_main.specs.Stages.{SearchesBy, streams}
+use Rattle.grep_main.proofs.Asking.{by-lacks, by-unread, by-stopped, by-search}
+use Rattle.tool_io.specs.Printed.{printed}
+use Rattle.grep_main.proofs.grep.grep_by.Goals as goal
+
+pub returns-in_err-texts-clause-runs : goal.returns-in_err-texts-clause-runs
+returns-in_err-texts-clause-runs g c =
+    let same : c.from_residual.result ≡ Err Memory = search rules in
+    let words = map string_bytes c.args.words.now in
+    let files = g.F.FileSet.tells c.args.files.now in
+    let now = g.S.Source.tells c.args.input.now in
+    let out = g.O.Sink.tells c.args.out.now in
+    let err = g.E.Sink.tells c.args.err.now in
+    subst (SearchesBy c.args.plan words (streams files now (printed out err)) (streams files now (printed out err))) (sym same) (by-lacks c.args.plan words files now out err)
+
+pub returns-in_err-add_files-clause-runs : goal.returns-in_err-add_files-clause-runs
+returns-in_err-add_files-clause-runs g c =
+    let stop = c.in_err-add_files.field-0.0 in
+    let same : c.from_residual-in_err-add_files.result ≡ Err stop = search rules in
+    let words = map string_bytes c.args.words.now in
+    let files = g.F.FileSet.tells c.args.files.now in
+    let files_new = g.F.FileSet.tells c.add_files.new.files in
+    let now = g.S.Source.tells c.args.input.now in
+    let after = g.S.Source.tells c.add_files.new.input in
+    let out = g.O.Sink.tells c.args.out.now in
+    let err_old = g.E.Sink.tells c.args.err.now in
+    let err_new = g.E.Sink.tells c.add_files.new.err in
+    subst (SearchesBy c.args.plan words (streams files now (printed out err_old)) (streams files_new after (printed out err_new))) (sym same)
+    (by-stopped c.args.plan words files files_new now after c.in_ok-texts.texts c.add_files.new.texts c.add_files.new.is_used out err_old err_new stop c.in_err-add_files.ensures.adds)
+
+pub returns-then-not-branch-clause-runs : goal.returns-then-not-branch-clause-runs
+returns-then-not-branch-clause-runs g c =
+    let files = g.F.FileSet.tells c.args.files.now in
+    let now = g.S.Source.tells c.args.input.now in
+    let after = g.S.Source.tells c.add_files.new.input in
+    let err_old = g.E.Sink.tells c.args.err.now in
+    let err_new = g.E.Sink.tells c.add_files.new.err in
+    by-unread c.args.plan (map string_bytes c.args.words.now) files (g.F.FileSet.tells c.add_files.new.files) now after c.in_ok-texts.texts c.add_files.new.texts c.add_files.new.is_used (g.O.Sink.tells c.args.out.now) err_old err_new
+    (subst (λ all. AddsAllFrom c.args.plan files.contents files.faults (g.F.FileSet.tells c.add_files.new.files).faults false c.add_files.new.is_used now after c.in_ok-texts.texts c.add_files.new.texts err_old err_new (Ok all)) c.if-not-branch.true c.in_ok-add_files.ensures.adds)
+
+pub returns-clause-runs : goal.returns-clause-runs
+returns-clause-runs g c =
+    let files = g.F.FileSet.tells c.args.files.now in
+    let now = g.S.Source.tells c.args.input.now in
+    let mid = g.S.Source.tells c.add_files.new.input in
+    let err_old = g.E.Sink.tells c.args.err.now in
+    let err_mid = g.E.Sink.tells c.add_files.new.err in
+    by-search c.args.plan (map string_bytes c.args.words.now) files (g.F.FileSet.tells c.grep_for.new.files) now (g.S.Source.tells c.grep_for.new.input) (g.F.FileSet.tells c.add_files.new.files) mid c.in_ok-texts.texts c.add_files.new.texts c.add_files.new.is_used
+    (g.O.Sink.tells c.args.out.now) err_old err_mid (printed (g.O.Sink.tells c.grep_for.new.out) (g.E.Sink.tells c.grep_for.new.err)) c.grep_for.result c.in_ok-texts.ensures.ok
+    c.in_ok-add_files.ensures.files c.in_ok-add_files.ensures.later c.grep_for.ensures.later
+    (subst (λ all. AddsAllFrom c.args.plan files.contents files.faults (g.F.FileSet.tells c.add_files.new.files).faults false c.add_files.new.is_used now mid c.in_ok-texts.texts c.add_files.new.texts err_old err_mid (Ok all)) c.if-not-branch.false c.in_ok-add_files.ensures.adds)
+    c.grep_for.ensures.runs

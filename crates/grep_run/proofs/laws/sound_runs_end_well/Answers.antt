@@ -1,5 +1,0 @@
-use Rattle.grep_run.proofs.TextLaws.{sound-well}
-use Rattle.grep_run.proofs.laws.sound_runs_end_well.Goals as goal
-
-pub returns : goal.returns
-returns c = sound-well

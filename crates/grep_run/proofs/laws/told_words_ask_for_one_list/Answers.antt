@@ -1,5 +1,0 @@
-use Rattle.grep_run.proofs.TextLaws.{told-asks}
-use Rattle.grep_run.proofs.laws.told_words_ask_for_one_list.Goals as goal
-
-pub returns : goal.returns
-returns c = told-asks

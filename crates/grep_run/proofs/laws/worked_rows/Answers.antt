@@ -1,5 +1,0 @@
-use Rattle.grep_run.proofs.RowProofs.{rows_hold}
-use Rattle.grep_run.proofs.laws.worked_rows.Goals as goal
-
-pub returns : goal.returns
-returns c = rows_hold

@@ -1,5 +1,0 @@
-use Rattle.std.proofs.Common.{◌≡◌, ◌≤◌, ◌*◌, length, []}
-use Rattle.item_tables.proofs.trees.leftmost.Given as goal
-
-abbrev pub invariant-loop-kind : goal.invariant-loop-kind
-invariant-loop-kind l = (length l.draft.nodes ≤ 2 * l.kind-index) × (l.draft.names ≡ [])

@@ -1,6 +1,0 @@
-use Rattle.std.proofs.Common.{rules}
-use Rattle.frame_board.proofs.ByteTexts.{byte_text, byte_place}
-use Rattle.machine_tables.proofs.places.answer_of.Goals as goal
-
-pub run_at-requires : goal.run_at-requires
-run_at-requires c = search (rules, byte_text, byte_place)

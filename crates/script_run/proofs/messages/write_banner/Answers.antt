@@ -1,6 +1,0 @@
-use Rattle.std.proofs.Common.{◌∙◌, append-nil}
-use Rattle.tool_out.proofs.Writing.{writes-same}
-use Rattle.script_run.proofs.messages.write_banner.Goals as goal
-
-pub returns : goal.returns
-returns g c = writes-same (append-nil c.text_if.result.now ∙ c.text_if.ensures) c.write_texts.ensures

@@ -1,5 +1,0 @@
-use Rattle.tool_in.proofs.TargetLaws.{told-one}
-use Rattle.tool_in.proofs.laws.told_targets_stand_for_one_list.Goals as goal
-
-pub returns : goal.returns
-returns c = told-one

@@ -1,4 +1,0 @@
-pub mod Asked
-pub mod Absent
-pub mod Takes
-pub mod Laws

@@ -1,0 +1,9 @@
+pub mod Printed
+pub mod Texts
+pub mod Writes
+pub mod Prints
+pub mod Outcomes
+pub mod Asked
+pub mod Absent
+pub mod Takes
+pub mod Laws

@@ -1,5 +1,0 @@
-pub mod Printed
-pub mod Texts
-pub mod Writes
-pub mod Prints
-pub mod Outcomes
