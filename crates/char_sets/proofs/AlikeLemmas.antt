@@ -1,7 +1,8 @@
 -- Numbers that nothing of Unicode tells apart are in the same sets.
-use Rattle.std.proofs.Common.{◌≡◌, ℕ, ◌≤◌, Bool, true, false, not, ◌||◌, ◌&&◌, nat_lt, ◌==◌, Option, Some, None, refl, sym, ap, ap₂, ◌∙◌, arith}
+use Rattle.std.proofs.Common.{◌≡◌, ℕ, ◌≤◌, Bool, true, false, not, ◌||◌, ◌&&◌, nat_lt, Option, Some, None, refl, sym, ap, ap₂, ◌∙◌, arith}
 use Rattle.std.proofs.lemmas.Bool.Decides.{nat_tests}
-use Rattle.ucd_category.specs.declared.GeneralCategory.TheVariants.{UppercaseLetter, LowercaseLetter, DecimalNumber, SpaceSeparator, Control, Format}
+use Rattle.ucd_category.specs.declared.GeneralCategory.TheVariants.{UppercaseLetter, LowercaseLetter, NonspacingMark, DecimalNumber, ConnectorPunctuation, SpaceSeparator, Control, Format}
+use Rattle.ucd_category.specs.declared.GeneralCategory.{GeneralCategory}
 use Rattle.ucd_category.specs.declared.GeneralCategoryGroup.{GeneralCategoryGroup}
 use Rattle.ucd_category.specs.declared.GeneralCategoryGroup.TheVariants.{Letter, Mark, Number, Punctuation, Symbol, Separator}
 use Rattle.ucd_category.specs.GeneralCategory.{general_category_eq}
@@ -11,7 +12,7 @@ use Rattle.pat_tree.specs.declared.nodes.SetName.{SetName}
 use Rattle.pat_tree.specs.declared.nodes.SetName.TheVariants.{Digit, Space, Word, Alpha, Alnum, Lower, Upper, Blank, Cntrl, Graph, Print, Punct, Ascii, Xdigit, H, V, Property}
 use Rattle.uni_text.specs.declared.properties.Prop.{Prop}
 use Rattle.uni_text.specs.declared.properties.Prop.TheVariants.{Any, Xan, Xsp, Xps, Xwd, Group, Category, Script}
-use Rattle.uni_text.specs.Properties.{is_char, is_in, prop_holds, has_prop, prop_by_number}
+use Rattle.uni_text.specs.Properties.{is_char, is_in, is_of, prop_holds, has_prop, prop_by_number}
 use Rattle.char_sets.specs.Sets.{set_has, property_has}
 use Rattle.char_sets.specs.Places.{IsAlike}
 
@@ -19,17 +20,17 @@ module _ (a b : ℕ) (alike : IsAlike a b) (past : 256 ≤ a) (past_too : 256 �
   in_alike : (group : GeneralCategoryGroup) → is_char a ≡ true → is_in group a ≡ is_in group b
   in_alike group is = ap (in_group group) (alike.category is)
 
-  underscore : (a == 95) ≡ (b == 95)
-  underscore = grind (arith, nat_tests)
+  of_alike : (category : GeneralCategory) → is_char a ≡ true → is_of category a ≡ is_of category b
+  of_alike category is = ap (λ value. general_category_eq value category) (alike.category is)
 
   holds_alike : (p : Prop) → is_char a ≡ true → prop_holds p a ≡ prop_holds p b
   holds_alike Any is = refl
   holds_alike Xan is = ap₂ ◌||◌ (in_alike Letter is) (in_alike Number is)
   holds_alike Xsp is = ap₂ ◌||◌ (ap₂ ◌||◌ (in_alike Separator is) alike.horizontal) alike.vertical
   holds_alike Xps is = ap₂ ◌||◌ (ap₂ ◌||◌ (in_alike Separator is) alike.horizontal) alike.vertical
-  holds_alike Xwd is = ap₂ ◌||◌ (ap₂ ◌||◌ (in_alike Letter is) (in_alike Number is)) underscore
+  holds_alike Xwd is = ap₂ ◌||◌ (ap₂ ◌||◌ (in_alike Letter is) (in_alike Number is)) (ap₂ ◌||◌ (of_alike NonspacingMark is) (of_alike ConnectorPunctuation is))
   holds_alike (Group group) is = in_alike group is
-  holds_alike (Category category) is = ap (λ value. general_category_eq value category) (alike.category is)
+  holds_alike (Category category) is = of_alike category is
   holds_alike (Script value) is = ap (λ s. script_eq s value) (alike.of_script is)
 
   pub prop_alike : (p : Prop) → has_prop p a ≡ has_prop p b

@@ -19,7 +19,8 @@ const NAMES: &[&str] = &[
     "(?i)(?<\u{c9}>b)\\k<\u{e9}> => 115 at 12",
     "(?(\u{e9})a) => 115 at 0",
     "(?|(?<\u{e9}>a)|(?<\u{e8}>b)) => 165 at 12",
-    "(?<abcdefghijklmnopqrstuvwxyzabcde\u{e9}>b) => 148 at 0",
+    "(?<a23456789012345678901234567890123456789012345678901234567890123456789012345678901\
+     234567890123456789012345678901234567890bcdefgh\u{e9}>b) => 148 at 0",
 ];
 
 /// What makes no name in UTF, with the place of the token at fault.

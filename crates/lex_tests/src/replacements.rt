@@ -1,5 +1,5 @@
 //! Replacements, with what they write or why they are refused. The rows are those of
-//! pcre2_substitute of 10.42.
+//! pcre2_substitute of 10.42, but for names, of which it has none of more than 32 bytes.
 ghost use Rattle.std.specs.Prelude.{◌∷◌, [], Some, None, codes};
 
 use std::alloc::Global;
@@ -102,10 +102,14 @@ const REFERENCES: &[&str] = &[
     "- ${ one} => !BadReplacement",
     "- ${$} => !BadReplacement",
     "- ${-1} => !BadReplacement",
-    "- $aaaaaaaaaaaaaaaaaaaaaaaaaaaaaaaa => !NoGroup",
-    "- $aaaaaaaaaaaaaaaaaaaaaaaaaaaaaaaaa => !BadReplacement",
-    "- ${aaaaaaaaaaaaaaaaaaaaaaaaaaaaaaaa} => !NoGroup",
-    "- ${aaaaaaaaaaaaaaaaaaaaaaaaaaaaaaaaa} => !BadReplacement",
+    "- $a23456789012345678901234567890123456789012345678901234567890123456789012345678901\
+     23456789012345678901234567890123456789012345678 => !NoGroup",
+    "- $a23456789012345678901234567890123456789012345678901234567890123456789012345678901\
+     234567890123456789012345678901234567890123456789 => !BadReplacement",
+    "- ${a2345678901234567890123456789012345678901234567890123456789012345678901234567890\
+     123456789012345678901234567890123456789012345678} => !NoGroup",
+    "- ${a2345678901234567890123456789012345678901234567890123456789012345678901234567890\
+     1234567890123456789012345678901234567890123456789} => !BadReplacement",
 ];
 
 /// Inner texts.

@@ -1,7 +1,7 @@
 //! Patterns that are read, with their trees by the manual (pcre2pattern).
 //!
-//! The C library, 10.42, accepts each pattern of these tables, of those of classes and of those of options, but one: it
-//! has `(*LIMIT_MATCH=4294967295)` as a number too large.
+//! The C library, 10.42, accepts each pattern of these tables, of those of classes and of those of options, but two: it
+//! has `(*LIMIT_MATCH=4294967295)` as a number too large, and names of at most 32 bytes.
 use crate::answers::are_read;
 use std::test::Fail;
 
@@ -120,7 +120,10 @@ const GROUPS: &[&str] = &[
     "(?<b>x)(?<a>y) => (<(1:x) (2:y)>) a=2 b=1",
     "(?<A_1>x)(y) => (<(1:x) (2:y)>) A_1=1",
     "(?<n>(?<m>a)) => ((1:(2:a))) m=2 n=1",
-    "(?<a2345678901234567890123456789012>x) => ((1:x)) a2345678901234567890123456789012=1",
+    "(?<a23456789012345678901234567890123456789012345678901234567890123456789012345678901\
+     23456789012345678901234567890123456789012345678>x) => ((1:x)) a234567890123456789012\
+     345678901234567890123456789012345678901234567890123456789012345678901234567890123456\
+     7890123456789012345678=1",
     "(?<R>a)(?<R1>b) => (<(1:a) (2:b)>) R=1 R1=2",
     "(?#a)b(?#)c => (<b c>)",
     r"(?#\)a => (a)",

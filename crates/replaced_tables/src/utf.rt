@@ -1,6 +1,6 @@
 //! Patterns and subjects in UTF. The lines are those of pcre2test 10.42, apart from the texts of
-//! match errors, the order of those of UTF, and the cases of characters past ASCII, which aren't
-//! forced.
+//! match errors, the order of those of UTF, the cases of characters past ASCII, which aren't forced,
+//! and word characters with UCP, to which marks and connectors belong.
 use script_rows::check_script;
 use std::test::Fail;
 
@@ -127,7 +127,19 @@ No match
 const PROPERTIES: &str = "\
 >/\\w+/utf,ucp
 >e\\x{301}_
- 0: e
+ 0: e\\x{301}_
+>
+>/\\w\\W/utf,ucp
+>\\x{203f}\\x{20dd}
+ 0: \\x{203f}\\x{20dd}
+>
+>/a\\b/utf,ucp
+>a\\x{301}
+No match
+>
+>/[[:word:]]+\\p{Xwd}/utf,ucp
+>\\x{20dd}a\\x{301}\\x{fe4d}
+ 0: a\\x{301}\\x{fe4d}
 >
 >/\\w+/utf
 >a\\x{e9}

@@ -11,7 +11,7 @@ use Rattle.token_parts.specs.declared.token.LexFlags.{LexFlags}
 use Rattle.pat_tree.specs.declared.options.Newline.TheVariants.{Lf}
 use Rattle.token_parts.specs.Bytes.{◌∈◌, is_word_byte, is_at, begins, run_end, digits_end, numeral}
 use Rattle.token_parts.specs.Codes.{coded}
-use Rattle.token_parts.specs.Tell.{Lexed}
+use Rattle.token_parts.specs.Tell.{Lexed, longest_name}
 use Rattle.subst_plan.specs.declared.faults.PlanError.{PlanError}
 use Rattle.subst_plan.specs.declared.faults.PlanError.TheVariants.{BadReplacement, BadEscape, MissingBrace, BadSyntax}
 use Rattle.subst_plan.specs.declared.pieces.Key.{Key}
@@ -106,13 +106,13 @@ quoted_len [] = 0
 quoted_len (c ∷ rest) = if begins (c ∷ rest) "\\E" 0 then 0 else suc (quoted_len rest)
 
 module _ (text : List ℕ) where
-  -- a number, with all its digits, or a name of at most 32 bytes
+  -- a number, with all its digits, or a name of at most 128 bytes
   unfoldable pub key_at : ℕ → Read Key
   key_at at =
       let digits = digits_end text 10 at in
       let word = run_end text is_word_byte at in
       if nat_lt at digits then Ok (key_of (numeral text 10 at digits), digits)
-      else if nat_lt at word && nat_le (word - at) 32 then Ok (Name at word, word)
+      else if nat_lt at word && nat_le (word - at) longest_name then Ok (Name at word, word)
       else Err BadReplacement
 
   -- whether `*MARK` stands at a place, as a whole word

@@ -6,13 +6,10 @@ ghost use Rattle.subst_plan.specs.Plans.{IsKeyIn, IsIn, IsAfter};
 
 use crate::faults::PlanError;
 use crate::pieces::{Key, Piece};
-use token_parts::{Run, numeral, run_end, stands};
+use token_parts::{LONGEST_NAME, Run, numeral, run_end, stands};
 
 /// The greatest number of a group.
 const GREATEST_GROUP: u64 = 65_535;
-
-/// The greatest length of a name in bytes.
-const LONGEST_NAME: usize = 32;
 
 fn key_of(number: u64) -> Key
     ensures { result ≡ key_of number }
