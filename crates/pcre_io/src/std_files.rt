@@ -76,24 +76,41 @@ fn name_from(alloc: Global, text: &str) -> Result<Name, IoError> {
     }
 }
 
-// An entry as it was read. A link in a directory isn't followed. An entry whose name isn't UTF-8 is told under the empty
-// name.
+// The kind of an entry, where it is still there. One that the system won't look at is neither a file nor a directory.
+fn kind_seen(seen: io::Result<FileType>) -> Result<Option<Kind>, IoError> {
+    match seen {
+        Ok(file_type) => Ok(Some(kind_by(file_type))),
+        Err(e) if e.kind() == ErrorKind::NotFound => Ok(None),
+        Err(e) => match cause_of(&e) {
+            IoError::Memory => Err(IoError::Memory),
+            IoError::Failed => Ok(Some(Kind::Other)),
+        },
+    }
+}
+
+// An entry of this name. A link in a directory isn't followed.
+fn entry_named<R: Files + Drop>(
+    alloc: Global,
+    entry: &fs::DirEntry<R, Global>,
+) -> Result<Option<DirEntry>, IoError> {
+    let Some(kind) = kind_seen(entry.file_type())? else {
+        return Ok(None);
+    };
+    let name = name_from(alloc, entry.file_name())?;
+    Ok(Some(DirEntry { name, kind }))
+}
+
+// An entry as it was read, unless it is gone since. One whose name isn't UTF-8 is told under the empty name.
 fn entry_from<R: Files + Drop>(
     alloc: Global,
     entry: io::Result<fs::DirEntry<R, Global>>,
-) -> Result<DirEntry, IoError> {
+) -> Result<Option<DirEntry>, IoError> {
     match entry {
-        Ok(entry) => match entry.file_type() {
-            Ok(file_type) => Ok(DirEntry {
-                name: name_from(alloc, entry.file_name())?,
-                kind: kind_by(file_type),
-            }),
-            Err(e) => Err(cause_of(&e)),
-        },
-        Err(e) if e.kind() == ErrorKind::InvalidFilename => Ok(DirEntry {
+        Ok(entry) => entry_named(alloc, &entry),
+        Err(e) if e.kind() == ErrorKind::InvalidFilename => Ok(Some(DirEntry {
             name: name_from(alloc, "")?,
             kind: Kind::Unnamed,
-        }),
+        })),
         Err(e) => Err(cause_of(&e)),
     }
 }
@@ -108,7 +125,9 @@ fn entries_at<R: Files + AllocGlobal + Clone + Drop>(
     match fs::read_dir(files, name) {
         Ok(entries) => {
             for entry in entries {
-                push_entry(&mut listing, entry_from(alloc, entry)?)?;
+                if let Some(entry) = entry_from(alloc, entry)? {
+                    push_entry(&mut listing, entry)?;
+                }
             }
             Ok(listing)
         }
