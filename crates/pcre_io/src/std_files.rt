@@ -1,6 +1,7 @@
 //! The files of the system as a set of files.
-ghost use Rattle.std.specs.Prelude.{◌≡◌, ◌≤◌, None};
+ghost use Rattle.std.specs.Prelude.{◌≡◌, ◌≤◌, None, Some, IfOk};
 ghost use Rattle.pcre_io.specs.Causes.{Rose};
+ghost use Rattle.pcre_io.specs.Files.{IsOfName};
 
 use crate::entries::{DirEntry, Kind, Listing};
 use crate::file_set::FileSet;
@@ -51,7 +52,9 @@ fn cause_of(error: &io::Error) -> IoError {
     }
 }
 
-fn kind_by(file_type: FileType) -> Kind {
+fn kind_by(file_type: FileType) -> Kind
+    ensures { IsOfName (Some result) }
+{
     if file_type.is_file() {
         Kind::File
     } else if file_type.is_dir() {
@@ -62,7 +65,9 @@ fn kind_by(file_type: FileType) -> Kind {
 }
 
 // The kind of a name's file. A link is followed.
-fn kind_at<R: Files>(files: &R, name: &str) -> Result<Kind, IoError> {
+fn kind_at<R: Files>(files: &R, name: &str) -> Result<Kind, IoError>
+    ensures { IfOk result (λ kind. IsOfName (Some kind)) }
+{
     match fs::metadata(files, name) {
         Ok(metadata) => Ok(kind_by(metadata.file_type())),
         Err(e) => Err(cause_of(&e)),
