@@ -1,6 +1,8 @@
-//! Tables of words, targets, inputs and scripts.
+//! Tables of words, targets, inputs, scripts and generated lines.
 #![tactic(auto)]
 
+#[cfg(test)]
+mod generated;
 #[cfg(test)]
 mod inputs;
 #[cfg(test)]

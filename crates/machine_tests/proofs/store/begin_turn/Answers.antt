@@ -4,7 +4,7 @@ use Rattle.frame_store.specs.Entry.{entries}
 use Rattle.frame_store.specs.Undo.{HasSlot, is_undo}
 use Rattle.frame_store.proofs.EntryLemmas.{entry_of-turn_open}
 use Rattle.frame_store.proofs.UndoLemmas.{AllHaveSlots-plain}
-use Rattle.store_tables.proofs.store.begin_turn.Goals as goal
+use Rattle.machine_tests.proofs.store.begin_turn.Goals as goal
 
 pub returns : goal.returns
 returns c =

@@ -4,7 +4,7 @@ use Rattle.frame_store.specs.declared.records.Record.{Record}
 use Rattle.frame_store.specs.Entry.{entries}
 use Rattle.frame_store.specs.Undo.{HasSlot}
 use Rattle.frame_store.proofs.UndoLemmas.{AllHaveSlots-undo, AllHaveSlots-same}
-use Rattle.store_tables.proofs.store.write.Goals as goal
+use Rattle.machine_tests.proofs.store.write.Goals as goal
 
 pub returns-clause-slots : goal.returns-clause-slots
 returns-clause-slots c =
