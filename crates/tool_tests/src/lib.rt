@@ -6,6 +6,8 @@ mod generated;
 #[cfg(test)]
 mod inputs;
 #[cfg(test)]
+mod long_words;
+#[cfg(test)]
 mod scripts;
 #[cfg(test)]
 mod targets;
