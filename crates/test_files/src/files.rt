@@ -1,7 +1,7 @@
 //! The files that a program's words name.
 
 use crate::report::{Place, Report};
-use crate::sections::{Section, check_head, section_of, whole};
+use crate::sections::{Section, check_head, newlines, section_of, whole};
 use std::alloc::{AllocError, Global};
 use std::process::ExitCode;
 use std::{env, fs, io};
@@ -21,11 +21,6 @@ pub trait Check {
     ) -> Result<(), AllocError>;
 }
 
-// How many newlines stand in a text.
-fn newlines(text: &str) -> usize {
-    text.bytes().filter(|b| *b == b'\n').count()
-}
-
 // Runs the sections of a file, whose last line was taken off.
 fn check_parts<C: Check>(
     alloc: Global,
@@ -35,7 +30,7 @@ fn check_parts<C: Check>(
     report: &mut Report,
 ) -> Result<(), AllocError> {
     let mut line = 1usize;
-    for (i, part) in text.split("\n#===").enumerate() {
+    for (i, part) in text.split("\n==").enumerate() {
         if i == 0 {
             check_head(file, part, report)?;
         } else {
@@ -63,7 +58,7 @@ fn check_text<C: Check>(
             let place = Place { file, line };
             report.tell(
                 place,
-                format_args!("cut off: the last line is not `#=== end`"),
+                format_args!("cut off: the last line is not `== end`"),
             )
         }
     }

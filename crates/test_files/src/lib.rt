@@ -2,10 +2,12 @@
 //! differs in them.
 #![tactic(auto)]
 
+mod escapes;
 mod files;
 mod report;
 mod sections;
 
+pub use escapes::{escaped, unescaped};
 pub use files::{Check, run};
 pub use report::{Place, Report};
 pub use sections::Section;

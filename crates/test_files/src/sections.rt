@@ -1,4 +1,4 @@
-//! The sections of a data file: a line `#=== NAME` begins each, and `#=== end` ends the file.
+//! The sections of a data file: a line `== NAME` begins each, and `== end` ends the file.
 
 use crate::report::{Place, Report};
 use std::alloc::AllocError;
@@ -7,7 +7,7 @@ use std::alloc::AllocError;
 #[derive(Clone, Copy)]
 pub struct Section<'a> {
     pub file: &'a str,
-    /// What stands after `#===`, which may be nothing.
+    /// What stands after `==`, which may be nothing.
     pub name: &'a str,
     /// The number of its first line.
     pub line: usize,
@@ -16,6 +16,11 @@ pub struct Section<'a> {
 }
 
 impl<'a> Section<'a> {
+    /// How many newlines stand between its lines: the index of its last line.
+    pub fn last(&self) -> usize {
+        newlines(self.body)
+    }
+
     /// A line of the section by its index, as a place.
     pub fn place(&self, index: usize) -> Place<'a> {
         Place {
@@ -25,9 +30,14 @@ impl<'a> Section<'a> {
     }
 }
 
+/// How many newlines stand in a text.
+pub fn newlines(text: &str) -> usize {
+    text.bytes().filter(|b| *b == b'\n').count()
+}
+
 // What a file's text is before its last line, which says that the file is whole.
 pub fn whole(text: &str) -> Option<&str> {
-    match text.rsplit_once("\n#===") {
+    match text.rsplit_once("\n==") {
         Some((body, " end\n")) => Some(body),
         _ => None,
     }
@@ -66,7 +76,7 @@ pub fn section_of<'a>(file: &'a str, line: usize, part: &'a str) -> Option<Secti
 /// Tells a line before the first heading that isn't a note.
 pub fn check_head(file: &str, head: &str, report: &mut Report) -> Result<(), AllocError> {
     for (i, line) in head.split('\n').enumerate() {
-        if !line.starts_with('#') || line.starts_with("#===") {
+        if !line.starts_with('#') {
             let line = i.saturating_add(1);
             let place = Place { file, line };
             report.tell(
