@@ -391,12 +391,43 @@ const QUANTIFIERS: &[QuantifierRow] = &[
     ("{3,5}", 3, Some(5), Greedy, 5),
     ("{0,65535}*", 0, Some(65_535), Greedy, 9),
     ("{007}", 7, Some(7), Greedy, 5),
+    ("{,5}", 0, Some(5), Greedy, 4),
+    ("{,0}?", 0, Some(0), Lazy, 5),
+    ("{ 3}", 3, Some(3), Greedy, 4),
+    ("{3\t}+", 3, Some(3), Possessive, 5),
+    ("{ \t 3 \t , \t 5 \t }", 3, Some(5), Greedy, 17),
+    ("{ 3 , } +", 3, None, Greedy, 7),
+    ("{\t,\t5\t}?", 0, Some(5), Lazy, 8),
     ("* +", 0, None, Greedy, 1),
 ];
 
 /// Braces that stand for themselves.
 const BRACES: &[&str] = &[
-    "{", "{}", "{,}", "{,2}", "{a}", "{1", "{1,", "{1,2", "{1,2,3}", "{ 1}", "{-1}",
+    "{",
+    "{}",
+    "{,}",
+    "{a}",
+    "{1",
+    "{1,",
+    "{1,2",
+    "{1,2,3}",
+    "{-1}",
+    "{ }",
+    "{ , }",
+    "{,,2}",
+    "{1 2}",
+    "{1,2 3}",
+    "{,2,}",
+    "{ 1",
+    "{ 1 , 2 ",
+    "{\n1}",
+    "{1\x0b}",
+    "{1,\x0c2}",
+    "{\u{a0}1}",
+    "{(?#a)1}",
+    "{#\n1}",
+    "{+1}",
+    "{,-1}",
 ];
 
 const AFTER_BLANKS: &[QuantifierRow] = &[
@@ -405,6 +436,7 @@ const AFTER_BLANKS: &[QuantifierRow] = &[
     ("* ?", 0, None, Greedy, 1),
     ("*(?#a)+", 0, None, Greedy, 1),
     ("*#+", 0, None, Greedy, 1),
+    ("{ , 5 } +", 0, Some(5), Possessive, 9),
 ];
 
 #[test]
@@ -412,6 +444,7 @@ fn quantifiers(rt: HostRuntime) {
     all_quantifiers(&rt, PLAIN, QUANTIFIERS);
     for text in BRACES {
         all_begin(&rt, PLAIN, &[(*text, Literal(0x7B), 1)]);
+        all_begin(&rt, EXTENDED, &[(*text, Literal(0x7B), 1)]);
     }
     all_quantifiers(&rt, EXTENDED, AFTER_BLANKS);
 }

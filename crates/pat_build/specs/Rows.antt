@@ -114,7 +114,8 @@ pub record WorkedRows : Type 0 where
   pub keeping_out : reads "(?=a(b\\K))" ≡ fault 199 6
   pub held : reads "(?>a|)b++" ≡ Ok (branches (seq (row (atomic (row (letter "a" ∷ empty ∷ [])) ∷ possessive ∷ [])) ∷ []))
   pub looking : reads "(?U)(*nla:a)+" ≡ Ok (with_places (4 ∷ []) (branches (repeat denial 1 (Some 2) true ∷ [])))
-  pub no_minimum : reads "a{,2}" ≡ Ok (branches (seq (row (letter "a" ∷ letter "{" ∷ letter "," ∷ letter "2" ∷ letter "}" ∷ [])) ∷ []))
+  pub no_minimum : reads "a{ ,2}" ≡ Ok (branches (one_repeat (Char (byte "a") false) 0 (Some 2) false ∷ []))
+  pub no_number : reads "a{,}" ≡ Ok (branches (seq (row (letter "a" ∷ letter "{" ∷ letter "," ∷ letter "}" ∷ [])) ∷ []))
   pub class : reads "[^]\\Q-\\Ea-c\\d-]" ≡ Ok (with (λ p. record p { classes = mixed_class ∷ [] }) (branches (one (Class 0) ∷ [])))
   pub cases : reads "(?i)a|(?-i:b|c)d{2,}?|" ≡ Ok some_cases
   pub later_names : reads "(?J)\\k<n>(?<n>a)(?<n>b)" ≡ Ok two_named

@@ -1,19 +1,41 @@
 -- Quantifiers (pcre2pattern, "Repetition").
-use Rattle.std.specs.Prelude.{ℕ, ◌+◌, Bool, ◌&&◌, ◌||◌, ◌==◌, nat_lt, List, Option, Some, None, Ok, if◌then◌else◌}
+use Rattle.std.specs.Prelude.{ℕ, ◌+◌, Bool, ◌&&◌, ◌||◌, nat_lt, List, Option, Some, None, Ok, is_some, unwrap_or, if◌then◌else◌}
 use Rattle.token_parts.specs.declared.token.LexFlags.{LexFlags}
 use Rattle.token_parts.specs.declared.token.QuantMode.TheVariants.{Greedy, Lazy, Possessive}
 use Rattle.token_parts.specs.declared.token.Token.TheVariants.{Quantifier}
-use Rattle.token_parts.specs.Bytes.{is_at, digits_end, numeral}
+use Rattle.token_parts.specs.Bytes.{◌∈◌, is_at, run_end, digits_end, numeral}
 use Rattle.token_parts.specs.Tell.{Lexed, fault}
 use Rattle.token_parts.specs.Comments.{is_extended, blanks_end}
+use Rattle.pat_lex.specs.declared.quantifiers.Counts.{Counts}
+
+-- a space or a tab
+abbrev pub is_blank : ℕ → Bool
+is_blank c = c ∈ " \t"
 
 module _ (text : List ℕ) where
-  -- The brace begins `{n}`, `{n,}` or `{n,m}`. Any other brace is a character.
+  -- The number that is written from a place on, or none, with spaces and tabs on both sides, and
+  -- the place after these.
+  unfoldable pub count : ℕ → Option ℕ × ℕ
+  count i =
+      let from = run_end text is_blank i in
+      let to = digits_end text 10 from in
+      (if nat_lt from to then Some (numeral text 10 from to) else None, run_end text is_blank to)
+
+  -- What the braces that begin at a place count: `{n}` exactly n turns, `{n,m}` from n to m turns,
+  -- `{n,}` n or more, `{,m}` at most m. Spaces and tabs may stand after the first brace, before the
+  -- last and on both sides of the comma. Any other brace is a character.
+  unfoldable pub braces : ℕ → Option Counts
+  braces brace =
+      let low = count (brace + 1) in
+      let high = count (low.1 + 1) in
+      if is_at text "}" low.1 && is_some low.0
+      then Some (record { min = unwrap_or low.0 0; max = low.0; after = low.1 + 1 })
+      else if is_at text "," low.1 && is_at text "}" high.1 && (is_some low.0 || is_some high.0)
+      then Some (record { min = unwrap_or low.0 0; max = high.0; after = high.1 + 1 })
+      else None
+
   unfoldable pub is_counted : ℕ → Bool
-  is_counted brace =
-      let low_end = digits_end text 10 (brace + 1) in
-      nat_lt (brace + 1) low_end
-      && (is_at text "}" low_end || (is_at text "," low_end && is_at text "}" (digits_end text 10 (low_end + 1))))
+  is_counted brace = is_some (braces brace)
 
   module _ (flags : LexFlags) where
     -- What stands after `*`, `+`, `?` or the braces: `?` for lazy, or `+` for possessive, before which EXTENDED ignores
@@ -25,16 +47,14 @@ module _ (text : List ℕ) where
         else if is_at text "+" plus then Ok (Quantifier min max Possessive, plus + 1)
         else Ok (Quantifier min max Greedy, i)
 
-    -- a quantifier in braces
-    unfoldable pub counted : ℕ → Lexed
-    counted at =
-        let low_end = digits_end text 10 (at + 1) in
-        let high_end = digits_end text 10 (low_end + 1) in
-        let low = numeral text 10 (at + 1) low_end in
-        let high = numeral text 10 (low_end + 1) high_end in
-        if nat_lt 65535 low then fault 105 at
-        else if is_at text "}" low_end then with_mode low (Some low) (low_end + 1)
-        else if high_end == low_end + 1 then with_mode low None (high_end + 1)
-        else if nat_lt 65535 high then fault 105 at
-        else if nat_lt high low then fault 104 at
-        else with_mode low (Some high) (high_end + 1)
+    -- a quantifier in braces that begin at a place and have these counts
+    unfoldable pub counted : Counts → ℕ → Lexed
+    counted counts at =
+        if nat_lt 65535 counts.min then fault 105 at
+        else (elim counts.max [
+          | None ↦ with_mode counts.min None counts.after
+          | Some most ↦
+              if nat_lt 65535 most then fault 105 at
+              else if nat_lt most counts.min then fault 104 at
+              else with_mode counts.min (Some most) counts.after
+        ])

@@ -1,5 +1,5 @@
 -- Worked rows: the token at a place of a pattern.
-use Rattle.std.specs.Prelude.{◌≡◌, ℕ, Bool, true, false, codes, None, Ok}
+use Rattle.std.specs.Prelude.{◌≡◌, ℕ, Bool, true, false, codes, Some, None, Ok}
 use Prim.Native.String.{String}
 use Rattle.pat_tree.specs.declared.nodes.SetName.TheVariants.{Alpha}
 use Rattle.pat_tree.specs.declared.options.Newline.TheVariants.{Lf}
@@ -53,7 +53,8 @@ no_option = record (only_x false) { x = false }
 
 pub record WorkedRows : Type 0 where
   pub backwards : at_place "a{3,1}" 1 ≡ fault 104 1
-  pub no_minimum : at_place "a{,2}" 1 ≡ Ok (Literal 0x7B, 2)
+  pub no_minimum : at_place "a{ ,\t2 }+" 1 ≡ Ok (Quantifier 0 (Some 2) Possessive, 9)
+  pub blank_parts : at_place "a{1 2}" 1 ≡ Ok (Literal 0x7B, 2)
   pub few_groups : token_at (codes "\\12") (after_groups 11) 0 ≡ Ok (Literal 10, 3)
   pub many_groups : token_at (codes "\\12") (after_groups 12) 0 ≡ Ok (Reference (Number 12), 3)
   pub double_x : at_place "(?xx)" 0 ≡ Ok (OptionSet false (only_x true) no_option false, 5)

@@ -6,7 +6,7 @@ use Rattle.token_parts.specs.Bytes.{◌∈◌, is_at}
 use Rattle.token_parts.specs.Tell.{Lexed}
 use Rattle.token_parts.specs.Comments.{is_extended, blank_end}
 use Rattle.pat_lex.specs.Characters.{literal}
-use Rattle.pat_lex.specs.Quantifiers.{is_counted, with_mode, counted}
+use Rattle.pat_lex.specs.Quantifiers.{braces, with_mode, counted}
 use Rattle.pat_lex.specs.Escapes.{escape}
 use Rattle.pat_lex.specs.Classes.{class_start, in_class}
 use Rattle.pat_lex.specs.Groups.{group}
@@ -23,7 +23,7 @@ module _ (text : List ℕ) (flags : LexFlags) where
       if c ∈ "*" then with_mode text flags 0 None (at + 1)
       else if c ∈ "+" then with_mode text flags 1 None (at + 1)
       else if c ∈ "?" then with_mode text flags 0 (Some 1) (at + 1)
-      else if c ∈ "{" && is_counted text at then counted text flags at
+      else if c ∈ "{" then (elim (braces text at) [ Some found ↦ counted text flags found at | None ↦ literal text flags.utf c at ])
       else if is_extended flags && nat_lt at (blank_end text flags at) then Ok (Passed, blank_end text flags at)
       else literal text flags.utf c at
 

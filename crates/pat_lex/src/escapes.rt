@@ -5,7 +5,7 @@ ghost use Rattle.pat_lex.specs.Escapes.{everywhere, outside, property, property_
 
 use crate::characters::literal;
 use crate::faults::{BACKSLASH_AT_END, MALFORMED_PROPERTY, UNKNOWN_ESCAPE};
-use crate::quantifiers::is_counted;
+use crate::quantifiers::braces;
 use pat_tree::SetName;
 use token_parts::{
     Fault, LEFT_OUT, LexFlags, Lexed, Run, Token, byte, coded, group_escape, is_letter,
@@ -115,13 +115,13 @@ fn property_named(text: &[u8], at: usize, from: usize, not: bool) -> Lexed
 }
 
 /// `\N`. A brace after it must begin a quantifier.
-#[tactic(auto, unfolding(crate::specs::Escapes::not_newline))]
+#[tactic(auto, unfolding(crate::specs::Escapes::not_newline, crate::specs::Quantifiers::is_counted))]
 fn not_newline(text: &[u8], at: usize) -> Lexed
     requires { at + 2 ≤ length text.now }
     ensures value { result ≡ not_newline text.now at }
     ensures sound { IsSound text.now at result }
 {
-    if stands(text, b'{', at + 2) && !is_counted(text, at + 2) {
+    if stands(text, b'{', at + 2) && braces(text, at + 2).is_none() {
         Err(Fault::new(LEFT_OUT, at))
     } else {
         Ok((Token::NotNewline, at + 2))

@@ -2,7 +2,7 @@
 ghost use Rattle.pat_lex.specs.Laws.{QuotedBytes, PlainBytes, ClassBytes, LiteralsAreCharacters};
 ghost use Rattle.pat_lex.specs.Rows.{WorkedRows};
 
-/// Twelve tokens computed from the definition, each as pcre2pattern has it.
+/// Tokens computed from the definition, each as pcre2pattern has it.
 pub fn worked_rows()
     ensures { WorkedRows }
 {}

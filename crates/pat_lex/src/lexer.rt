@@ -7,7 +7,7 @@ use crate::characters::literal;
 use crate::classes::{class_start, in_class};
 use crate::escapes::escape;
 use crate::groups::group;
-use crate::quantifiers::{counted, is_counted, with_mode};
+use crate::quantifiers::{braces, counted, with_mode};
 use token_parts::{Fault, LexFlags, Lexed, Token, blank_end, byte, is_extended, stands};
 
 /// The token between `\Q` and `\E` that begins with this byte.
@@ -35,7 +35,10 @@ fn rest(text: &[u8], flags: LexFlags, c: u8, at: usize) -> Lexed
         b'*' => with_mode(text, flags, 0, None, at + 1),
         b'+' => with_mode(text, flags, 1, None, at + 1),
         b'?' => with_mode(text, flags, 0, Some(1), at + 1),
-        b'{' if is_counted(text, at) => counted(text, flags, at),
+        b'{' => match braces(text, at) {
+            Some(counts) => counted(text, flags, counts, at),
+            None => literal(text, flags.utf, c, at),
+        },
         _ => {
             let after = blank_end(text, flags, at);
             if is_extended(flags) && at < after {
