@@ -1,6 +1,6 @@
 //! Substitutions. The rows are those of pcre2test 10.42, but that the faults of a replacement come
 //! before any search, that an empty replacement is one, that CRLF is no newline under NUL, and that a
-//! name may have 128 bytes.
+//! name may have 128 bytes, in UTF of letters past ASCII.
 ghost use Rattle.std.specs.Prelude.{◌<◌, length};
 
 use pcre2_api::{
@@ -297,6 +297,10 @@ const IN_UTF: &[Line] = &[
     "(*UTF)x* :: g :: - :: éx€ :: 4 -é--€-",
     "(*UTF). :: g :: <$0> :: éx :: 2 <é><x>",
     "(*UTF)a :: - :: $ :: a :: BadReplacement",
+    "(*UTF)(?<é>.) :: g :: $é; :: xé :: 2 x;é;",
+    "(*UTF)(?<é>.) :: gx :: ${é:+<${é}>:} :: xé :: 2 <x><é>",
+    "(*UTF)(?<é>.) :: - :: $éa :: x :: NoGroup",
+    "(*UTF)(?<a>.) :: - :: $a\u{301} :: x :: 1 x\u{301}",
 ];
 
 #[test]

@@ -24,7 +24,7 @@ pub use fault::{
     Fault, GROUP_NUMBER_TOO_BIG, LEFT_OUT, MALFORMED_CONDITION, PATTERN_TOO_LARGE, UNCLOSED_GROUP,
     UNKNOWN_GROUP,
 };
-pub use names::{LONGEST_NAME, name_end};
+pub use names::{LONGEST_NAME, name_end, word_end};
 pub use settings::setting;
 pub use targets::{
     begins_number, group_escape, name_escape, named_call, named_reference, numbered_call,

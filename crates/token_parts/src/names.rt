@@ -60,8 +60,9 @@ fn letters_end(text: &[u8], from: usize) -> usize
     i
 }
 
-/// Where the letters, digits and underscores end that begin at the place.
-fn word_end(text: &[u8], utf: bool, from: usize) -> usize
+/// Where the letters, digits and underscores end that begin at the place: those of ASCII, in UTF those of Unicode's categories
+/// L and Nd, and the underscore.
+pub fn word_end(text: &[u8], utf: bool, from: usize) -> usize
     requires { from ≤ length text.now }
     ensures value { result ≡ word_end text.now utf from }
     ensures past { from ≤ result }
