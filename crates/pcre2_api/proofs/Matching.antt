@@ -6,7 +6,7 @@ use Rattle.ordered_search.specs.Setting.{Setting}
 use Rattle.ordered_search.specs.PlaceAnswer.{Outcome, blocks}
 use Rattle.ordered_search.specs.MatchAnswer.{MatchAnswer, Match, Found, match_answer}
 use Rattle.ordered_search.specs.Forward.{IsPlaced, IsPlain}
-use Rattle.dfa_drive.specs.frame_state.Shown.{seen_after}
+use Rattle.match_drive.specs.frame_state.Shown.{seen_after}
 use Rattle.pcre2_api.specs.Matched.{fault_in, shown_by, HasShown}
 use Rattle.pcre2_errors.specs.declared.error.MatchError.{MatchError}
 use Rattle.pcre2_errors.specs.declared.error.MatchError.TheVariants as told

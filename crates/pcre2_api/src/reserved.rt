@@ -8,7 +8,7 @@ ghost use Rattle.pcre2_api.specs.Holding.{Leaves, found_in};
 use crate::code::Code;
 use crate::found::{Found, Text, reserved_found};
 use crate::seek::seek_reserved;
-use dfa_drive::Scratch;
+use match_drive::Scratch;
 use pat_tree::MatchOptions;
 use pcre_io::NoCallouts;
 use pcre2_errors::MatchError;
