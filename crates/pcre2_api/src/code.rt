@@ -188,20 +188,16 @@ impl Code {
         test_start(self.options().utf, subject, start)
     }
 
-    /// The text of a match, whose captures are in the workspace. Whether the search can begin is known.
+    /// The text of a match, whose captures are in the workspace. The search can begin at the start.
     pub(crate) fn find<C: Callouts>(
         &self,
-        begun: Result<(), MatchError>,
         subject: &[u8],
         start: usize,
         options: &MatchOptions,
         scratch: &mut Scratch,
         calls: &mut C,
     ) -> Result<Text, MatchError>
-        requires begun { OnOk begun
-            (start_fault self.now.tree.options.utf subject.now start ≡ None) }
-        requires unbegun { IfErr begun
-            (λ e. start_fault self.now.tree.options.utf subject.now start ≡ Some e) }
+        requires begun { start_fault self.now.tree.options.utf subject.now start ≡ None }
         requires short { length subject.now < 4294967295 }
         ensures parts { IfOk result (λ t. AreParts (found_in self.now subject.now t scratch.new)) }
         ensures found { IfOk result (λ t. IsFound
@@ -222,22 +218,19 @@ impl Code {
         ensures reserved { Fits self.now options.now scratch.old
             → IsQuiet C.refuses (C.answers calls.old) → IfErr result IsOfMatch }
     {
-        match begun {
-            Ok(()) => match self.search(subject, start, options, scratch, calls) {
-                MatchAnswer::Match { keep, to, mark } => Ok(Text { keep, to, mark }),
-                MatchAnswer::NoMatch { mark } => Err(MatchError::NoMatch { mark }),
-                MatchAnswer::Partial { start, mark } => Err(MatchError::Partial {
-                    start,
-                    end: subject.len(),
-                    mark,
-                }),
-                MatchAnswer::MatchLimit => Err(MatchError::MatchLimit),
-                MatchAnswer::FrameLimit => Err(MatchError::FrameLimit),
-                MatchAnswer::RecurseLoop => Err(MatchError::RecurseLoop),
-                MatchAnswer::Callout(n) => Err(MatchError::Callout(n)),
-                MatchAnswer::Memory => Err(MatchError::Memory),
-            },
-            Err(e) => Err(e),
+        match self.search(subject, start, options, scratch, calls) {
+            MatchAnswer::Match { keep, to, mark } => Ok(Text { keep, to, mark }),
+            MatchAnswer::NoMatch { mark } => Err(MatchError::NoMatch { mark }),
+            MatchAnswer::Partial { start, mark } => Err(MatchError::Partial {
+                start,
+                end: subject.len(),
+                mark,
+            }),
+            MatchAnswer::MatchLimit => Err(MatchError::MatchLimit),
+            MatchAnswer::FrameLimit => Err(MatchError::FrameLimit),
+            MatchAnswer::RecurseLoop => Err(MatchError::RecurseLoop),
+            MatchAnswer::Callout(n) => Err(MatchError::Callout(n)),
+            MatchAnswer::Memory => Err(MatchError::Memory),
         }
     }
 

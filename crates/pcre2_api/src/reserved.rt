@@ -131,8 +131,10 @@ impl Code {
             (as_match_error e)) }
         ensures peak { scratch.new.peak ≤ max scratch.old.peak options.now.frame_limit }
     {
-        let begun = self.test_start(subject, start);
-        match self.find(begun, subject, start, options, scratch, &mut NoCallouts) {
+        if let Err(e) = self.test_start(subject, start) {
+            return Err(refusal_of(e));
+        }
+        match self.find(subject, start, options, scratch, &mut NoCallouts) {
             Ok(text) => Ok(text),
             Err(e) => Err(refusal_of(e)),
         }

@@ -53,8 +53,8 @@ pub(crate) fn seek<'a, C: Callouts>(
         → IsQuiet C.refuses (C.answers calls.old) → IfErr result IsOfMatch }
 {
     code.starts_are_alike(subject, start, options);
-    let begun = code.test_start(subject, start);
-    match code.find(begun, subject, start, options, scratch, calls) {
+    code.test_start(subject, start)?;
+    match code.find(subject, start, options, scratch, calls) {
         Ok(text) => Ok(Held {
             code,
             subject,
@@ -93,8 +93,8 @@ pub(crate) fn seek_again<'a, C: Callouts>(
         (search_of code.now options.now subject.now start (C.answers calls.old))
         (C.seen calls.old))) }
 {
-    let begun = test_place(code.options().utf, subject, start);
-    match code.find(begun, subject, start, options, scratch, calls) {
+    test_place(code.options().utf, subject, start)?;
+    match code.find(subject, start, options, scratch, calls) {
         Ok(text) => Ok(Held {
             code,
             subject,
