@@ -9,5 +9,3 @@ mod ends;
 pub use answer::DfaAnswer;
 pub use dfa_lists::{EndList, Graph, Lists};
 pub use drive::dfa_search;
-// the other search, so that who asks for both names this crate alone
-pub use match_drive::{MatchAnswer, Outline, Ready, Scratch, search_by};

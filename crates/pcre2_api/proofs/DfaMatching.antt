@@ -3,7 +3,7 @@ use Rattle.std.proofs.Common.{◌≡◌, ℕ, Bool, true, false, ◌&&◌, not, 
 use Rattle.std.specs.Prelude.{slice_index}
 use Rattle.std.specs.Str.{is_utf8}
 use Rattle.std.specs.Str.Lossy.{utf8_valid_len}
-use Rattle.dfa_drive.specs.frame_board.Standing.{is_inside}
+use Rattle.match_drive.specs.frame_board.Standing.{is_inside}
 use Rattle.ordered_search.specs.Setting.{Setting}
 use Rattle.dfa_drive.specs.dfa_ends.DfaAnswer as meant
 use Rattle.dfa_drive.specs.dfa_ends.DfaAnswer.{dfa_answer}

@@ -1,12 +1,11 @@
 -- What the answer of a search that goes forward says of a match, and what callouts showed.
 use Rattle.std.proofs.Common.{◌≡◌, List, Option, Some, None, ap, sym, subst}
-use Rattle.std.specs.Prelude.{⊤, Result, Ok, Err, OnOk, IfErr}
 use Rattle.pcre_io.specs.declared.callouts.Block.{Block}
 use Rattle.ordered_search.specs.Setting.{Setting}
 use Rattle.ordered_search.specs.PlaceAnswer.{Outcome, blocks}
 use Rattle.ordered_search.specs.MatchAnswer.{MatchAnswer, Match, Found, match_answer}
 use Rattle.ordered_search.specs.Forward.{IsPlaced, IsPlain}
-use Rattle.dfa_drive.specs.frame_state.Shown.{seen_after}
+use Rattle.match_drive.specs.frame_state.Shown.{seen_after}
 use Rattle.pcre2_api.specs.Matched.{fault_in, shown_by, HasShown}
 use Rattle.pcre2_errors.specs.declared.error.MatchError.{MatchError}
 use Rattle.pcre2_errors.specs.declared.error.MatchError.TheVariants as told
@@ -17,14 +16,6 @@ module _ (g : Setting) (f : Found) (plain : IsPlain g f.answer) where
 
   pub is_plain : (a : MatchAnswer) → f.answer ≡ a → IsPlain g a
   is_plain a e = subst (IsPlain g) e plain
-
--- whether a search can begin, by what was told of it
-module _ (g : Setting) (r : Result ⊤ MatchError) where
-  pub begun : r ≡ Ok tt → OnOk r (fault_in g ≡ None) → fault_in g ≡ None
-  begun e h = subst (λ (x : Result ⊤ MatchError). OnOk x (fault_in g ≡ None)) e h
-
-  pub unbegun : (e : MatchError) → r ≡ Err e → IfErr r (λ f. fault_in g ≡ Some f) → fault_in g ≡ Some e
-  unbegun e is h = subst (λ (x : Result ⊤ MatchError). IfErr x (λ f. fault_in g ≡ Some f)) is h
 
 module _ (g : Setting) (before : Option (List Block)) where
   abbrev by_fault : Option MatchError → Option (List Block)

@@ -14,7 +14,7 @@ use Rattle.pat_tree.specs.declared.options.MatchOptions.{MatchOptions}
 use Rattle.pat_tree.specs.declared.options.PartialMode.TheVariants.{Off}
 use Rattle.pat_tree.specs.Parts.{TreeParts, tree_of}
 use Rattle.char_sets.specs.Sets.{class_has}
-use Rattle.dfa_drive.specs.frame_board.Standing.{is_inside}
+use Rattle.match_drive.specs.frame_board.Standing.{is_inside}
 use Rattle.pat_bounds.specs.Bounds.{at}
 use Rattle.pat_needs.specs.Needs.{may_take, Needs}
 use Rattle.pat_needs.specs.Lacking.{IsBoundWithout}
@@ -23,7 +23,7 @@ use Rattle.pat_bounds.specs.declared.bounds.Growth.{Growth}
 use Rattle.pat_needs.specs.declared.needs.Need.{Need}
 use Rattle.ordered_search.specs.Setting.{lower_of, class_holds}
 use Rattle.ordered_search.proofs.Classes.{class_is}
-use Rattle.dfa_drive.proofs.search_needs.Needed.{need_law}
+use Rattle.match_drive.proofs.search_needs.Needed.{need_law}
 use Rattle.pcre2_api.specs.Answers.{answer_of}
 use Rattle.pcre2_api.specs.Compiled.{CodeParts}
 use Rattle.pcre2_api.specs.Matched.{search_of}

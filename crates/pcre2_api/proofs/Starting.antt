@@ -8,7 +8,7 @@ use Rattle.std.proofs.lemmas.Str.{IsUtf8-from_is_utf8}
 use Rattle.pat_tree.specs.declared.options.Options.{Options}
 use Rattle.uni_text.specs.Characters.{IsChecked, IsPlace}
 use Rattle.match_items.specs.Subjects.{IsText, IsTextPlace}
-use Rattle.dfa_drive.specs.frame_board.Standing.{is_inside, stands_in, place_of}
+use Rattle.match_drive.specs.frame_board.Standing.{is_inside, stands_in, place_of}
 use Rattle.pat_build.proofs.Checked.{is_checked}
 use Rattle.pcre2_errors.specs.declared.error.MatchError.{MatchError}
 use Rattle.pcre2_errors.specs.declared.error.MatchError.TheVariants as told

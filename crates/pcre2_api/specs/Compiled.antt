@@ -12,9 +12,9 @@ use Rattle.pat_check.specs.declared.facts.Facts.{Facts}
 use Rattle.pat_lengths.specs.Backs.{greatest_back}
 use Rattle.pat_lengths.specs.Lengths.{can_be_empty}
 use Rattle.pat_lengths.specs.Nodes.{tests_before}
-use Rattle.dfa_drive.specs.frame_board.Ready.{AreFactsOf}
-use Rattle.dfa_drive.specs.match_drive.declared.outline.Outline.{Outline}
-use Rattle.dfa_drive.specs.match_drive.Outline.{IsOutlineOf}
+use Rattle.match_drive.specs.frame_board.Ready.{AreFactsOf}
+use Rattle.match_drive.specs.declared.outline.Outline.{Outline}
+use Rattle.match_drive.specs.Outline.{IsOutlineOf}
 use Rattle.pcre2_api.specs.Patterns.{compiled}
 use Rattle.pcre2_api.specs.declared.code.Info.{Info}
 use Rattle.pcre2_errors.specs.declared.error.CompileError.{CompileError}

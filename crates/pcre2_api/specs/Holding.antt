@@ -2,8 +2,8 @@
 use Rattle.std.specs.Prelude.{◌≤◌, ℕ, List, max, Result, Ok, Err}
 use Rattle.std.specs.Borrow.{MutBor, Fml}
 use Rattle.std.specs.Io.BufRead.{Rests}
-use Rattle.dfa_drive.specs.frame_machine.Scratch.{Workspace}
-use Rattle.dfa_drive.specs.frame_machine.contracts.scratch.Scratch.{the_row}
+use Rattle.match_drive.specs.frame_machine.Scratch.{Workspace}
+use Rattle.match_drive.specs.frame_machine.contracts.scratch.Scratch.{the_row}
 use Rattle.pcre2_api.specs.Compiled.{CodeParts}
 use Rattle.pcre2_api.specs.Matched.{MatchParts}
 use Rattle.pcre2_errors.specs.declared.error.MatchError.{MatchError}

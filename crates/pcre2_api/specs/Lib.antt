@@ -1,6 +1,6 @@
 pub use Rattle.pcre2_errors.specs as pcre2_errors
 pub use Rattle.dfa_drive.specs as dfa_drive
-pub use Rattle.dfa_drive.specs.match_starts as match_starts
+pub use Rattle.match_drive.specs.match_starts as match_starts
 pub mod Compiled
 pub mod Matched
 pub mod Captured

@@ -4,9 +4,9 @@ use Rattle.pat_tree.specs.declared.options.MatchOptions.{MatchOptions}
 use Rattle.pat_tree.specs.Sound.{greatest, group_numbers}
 use Rattle.pcre_io.specs.declared.callouts.Block.{Block}
 use Rattle.ordered_search.specs.Setting.{Setting, endanchored, notempty, notempty_atstart}
-use Rattle.dfa_drive.specs.frame_board.Ready.{setting_in}
+use Rattle.match_drive.specs.frame_board.Ready.{setting_in}
 use Rattle.ordered_search.specs.PlaceAnswer as place
-use Rattle.dfa_drive.specs.frame_state.Shown.{seen_after}
+use Rattle.match_drive.specs.frame_state.Shown.{seen_after}
 use Rattle.ordered_search.specs.PlaceAnswer.{Outcome, last_name, blocks}
 use Rattle.ordered_search.specs.MatchAnswer as meant
 use Rattle.ordered_search.specs.MatchAnswer.{match_answer}

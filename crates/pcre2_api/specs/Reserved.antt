@@ -1,7 +1,7 @@
 -- Matches in room that was made before.
 use Rattle.pat_tree.specs.declared.options.MatchOptions.{MatchOptions}
 use Rattle.pat_tree.specs.Sound.{greatest, group_numbers}
-use Rattle.dfa_drive.specs.frame_machine.Scratch.{Workspace, HasRoom}
+use Rattle.match_drive.specs.frame_machine.Scratch.{Workspace, HasRoom}
 use Rattle.pcre2_api.specs.Compiled.{CodeParts}
 use Rattle.pcre2_errors.specs.declared.error.MatchError.{MatchError}
 use Rattle.pcre2_errors.specs.declared.error.MatchError.TheVariants as told

@@ -3,7 +3,7 @@
 use Rattle.std.specs.Prelude.{ℕ, Bool, ◌&&◌, not, if◌then◌else◌, nat_lt, List, length, slice_index, Option, Some, None}
 use Rattle.std.specs.Str.{is_utf8}
 use Rattle.std.specs.Str.Lossy.{utf8_valid_len}
-use Rattle.dfa_drive.specs.frame_board.Standing.{is_inside}
+use Rattle.match_drive.specs.frame_board.Standing.{is_inside}
 use Rattle.pcre2_errors.specs.declared.error.MatchError.{MatchError}
 use Rattle.pcre2_errors.specs.declared.error.MatchError.TheVariants.{BadOffset, BadUtf, BadUtfOffset}
 

@@ -2,8 +2,8 @@
 //! PCRE2_NO_START_OPTIMIZE).
 ghost use Rattle.std.specs.Prelude.{◌≡◌, ◌<◌, ℤ, None, length};
 ghost use Rattle.pcre_io.specs.declared.callouts.Block.{Block};
-ghost use Rattle.dfa_drive.specs.match_starts.Bytes.{AreBytes};
-ghost use Rattle.dfa_drive.specs.match_drive.Starts.{AreAlike};
+ghost use Rattle.match_drive.specs.match_starts.Bytes.{AreBytes};
+ghost use Rattle.match_drive.specs.Starts.{AreAlike};
 ghost use Rattle.pcre2_api.specs.Matched.{search_of};
 ghost use Rattle.pcre2_api.specs.Starts.{start_fault};
 

@@ -6,14 +6,14 @@ ghost use Rattle.pat_tree.specs.declared.options.PartialMode.TheVariants.{Off};
 ghost use Rattle.pcre_io.specs.declared.callouts.Block.{Block};
 ghost use Rattle.pat_tree.specs.Pattern.{pattern_of};
 ghost use Rattle.char_sets.specs.Table.{IsTableOf};
-ghost use Rattle.dfa_drive.specs.frame_board.Ready.{AreFactsOf};
+ghost use Rattle.match_drive.specs.frame_board.Ready.{AreFactsOf};
 ghost use Rattle.pcre2_api.specs.Compiled.{Compiles, IsCompileError, info_of};
 ghost use Rattle.pcre2_api.specs.Patterns.{compiled};
 ghost use Rattle.pcre2_api.specs.Informs.{info_in};
-ghost use Rattle.dfa_drive.specs.frame_state.Room.{IsQuiet};
+ghost use Rattle.match_drive.specs.frame_state.Room.{IsQuiet};
 ghost use Rattle.pcre2_api.specs.Reserved.{Fits, IsOfMatch};
 ghost use Rattle.pcre2_api.specs.Holding.{Leaves, found_in};
-ghost use Rattle.dfa_drive.specs.match_drive.Answer.{IsMatchAnswer, IsOfMatching, IsShown};
+ghost use Rattle.match_drive.specs.Answer.{IsMatchAnswer, IsOfMatching, IsShown};
 ghost use Rattle.ordered_search.specs.Forward.{IsPlain};
 ghost use Rattle.ordered_search.specs.MatchAnswer.{match_answer};
 ghost use Rattle.uni_text.specs.Characters.{IsChecked};
@@ -21,14 +21,14 @@ ghost use Rattle.pcre2_api.specs.Matched.{search_of, shown_by, AreParts, IsFound
 ghost use Rattle.pat_needs.specs.Texts.{sets_of};
 ghost use Rattle.pcre2_api.specs.Needed.{FindsNone};
 ghost use Rattle.pcre2_api.specs.Starts.{start_fault};
-ghost use Rattle.dfa_drive.specs.match_drive.Starts.{AreAlike};
+ghost use Rattle.match_drive.specs.Starts.{AreAlike};
 
 use crate::found::{Found, Text, found_of};
 use crate::need::is_within;
 use crate::seek::{seek, seek_again};
 use crate::starts::test_start;
 use char_sets::ClassTable;
-use dfa_drive::{MatchAnswer, Outline, Ready, Scratch, search_by};
+use match_drive::{MatchAnswer, Outline, Ready, Scratch, search_by};
 use match_items::View;
 use pat_build::read;
 use pat_check::{Facts, check};
@@ -188,20 +188,16 @@ impl Code {
         test_start(self.options().utf, subject, start)
     }
 
-    /// The text of a match, whose captures are in the workspace. Whether the search can begin is known.
+    /// The text of a match, whose captures are in the workspace. The search can begin at the start.
     pub(crate) fn find<C: Callouts>(
         &self,
-        begun: Result<(), MatchError>,
         subject: &[u8],
         start: usize,
         options: &MatchOptions,
         scratch: &mut Scratch,
         calls: &mut C,
     ) -> Result<Text, MatchError>
-        requires begun { OnOk begun
-            (start_fault self.now.tree.options.utf subject.now start ≡ None) }
-        requires unbegun { IfErr begun
-            (λ e. start_fault self.now.tree.options.utf subject.now start ≡ Some e) }
+        requires begun { start_fault self.now.tree.options.utf subject.now start ≡ None }
         requires short { length subject.now < 4294967295 }
         ensures parts { IfOk result (λ t. AreParts (found_in self.now subject.now t scratch.new)) }
         ensures found { IfOk result (λ t. IsFound
@@ -222,22 +218,19 @@ impl Code {
         ensures reserved { Fits self.now options.now scratch.old
             → IsQuiet C.refuses (C.answers calls.old) → IfErr result IsOfMatch }
     {
-        match begun {
-            Ok(()) => match self.search(subject, start, options, scratch, calls) {
-                MatchAnswer::Match { keep, to, mark } => Ok(Text { keep, to, mark }),
-                MatchAnswer::NoMatch { mark } => Err(MatchError::NoMatch { mark }),
-                MatchAnswer::Partial { start, mark } => Err(MatchError::Partial {
-                    start,
-                    end: subject.len(),
-                    mark,
-                }),
-                MatchAnswer::MatchLimit => Err(MatchError::MatchLimit),
-                MatchAnswer::FrameLimit => Err(MatchError::FrameLimit),
-                MatchAnswer::RecurseLoop => Err(MatchError::RecurseLoop),
-                MatchAnswer::Callout(n) => Err(MatchError::Callout(n)),
-                MatchAnswer::Memory => Err(MatchError::Memory),
-            },
-            Err(e) => Err(e),
+        match self.search(subject, start, options, scratch, calls) {
+            MatchAnswer::Match { keep, to, mark } => Ok(Text { keep, to, mark }),
+            MatchAnswer::NoMatch { mark } => Err(MatchError::NoMatch { mark }),
+            MatchAnswer::Partial { start, mark } => Err(MatchError::Partial {
+                start,
+                end: subject.len(),
+                mark,
+            }),
+            MatchAnswer::MatchLimit => Err(MatchError::MatchLimit),
+            MatchAnswer::FrameLimit => Err(MatchError::FrameLimit),
+            MatchAnswer::RecurseLoop => Err(MatchError::RecurseLoop),
+            MatchAnswer::Callout(n) => Err(MatchError::Callout(n)),
+            MatchAnswer::Memory => Err(MatchError::Memory),
         }
     }
 

@@ -1,6 +1,6 @@
 //! A match by all ends at one place.
 ghost use Rattle.std.specs.Prelude.{◌≡◌, ◌<◌, None, IfOk, IfErr, length};
-ghost use Rattle.dfa_drive.specs.match_starts.Asked.{passed_over};
+ghost use Rattle.match_drive.specs.match_starts.Asked.{passed_over};
 ghost use Rattle.pcre2_api.specs.Matched.{search_of};
 ghost use Rattle.pcre2_api.specs.Starts.{start_fault};
 ghost use Rattle.pcre2_api.specs.DfaMatched.{start_error_of, IsDfaFound, IsDfaError};

@@ -9,8 +9,8 @@ ghost use Rattle.pcre2_api.specs.Holding.{parts_of, as_found, as_reserved};
 
 use crate::code::Code;
 use crate::reserved::ReservedError;
-use dfa_drive::Scratch;
 use frame_store::Span;
+use match_drive::Scratch;
 use pcre2_errors::MatchError;
 use std::marker::Model;
 

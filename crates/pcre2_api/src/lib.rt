@@ -17,10 +17,11 @@ mod walk;
 
 pub use code::{Code, Info};
 pub use dfa::DfaFound;
-pub use dfa_drive::{EndList, Lists, Scratch};
+pub use dfa_drive::{EndList, Lists};
 pub use found::Found;
 pub use frame_store::Span;
 pub use laws::worked_substitutions;
+pub use match_drive::Scratch;
 pub use pat_needs::ByteText;
 pub use pat_tree::{Bsr, MatchOptions, Newline, Options, PartialMode, Steps};
 pub use pcre_io::{Block, Callouts, NoCallouts};

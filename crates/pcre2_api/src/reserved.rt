@@ -8,7 +8,7 @@ ghost use Rattle.pcre2_api.specs.Holding.{Leaves, found_in};
 use crate::code::Code;
 use crate::found::{Found, Text, reserved_found};
 use crate::seek::seek_reserved;
-use dfa_drive::Scratch;
+use match_drive::Scratch;
 use pat_tree::MatchOptions;
 use pcre_io::NoCallouts;
 use pcre2_errors::MatchError;
@@ -131,8 +131,10 @@ impl Code {
             (as_match_error e)) }
         ensures peak { scratch.new.peak ≤ max scratch.old.peak options.now.frame_limit }
     {
-        let begun = self.test_start(subject, start);
-        match self.find(begun, subject, start, options, scratch, &mut NoCallouts) {
+        if let Err(e) = self.test_start(subject, start) {
+            return Err(refusal_of(e));
+        }
+        match self.find(subject, start, options, scratch, &mut NoCallouts) {
             Ok(text) => Ok(text),
             Err(e) => Err(refusal_of(e)),
         }

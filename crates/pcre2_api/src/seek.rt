@@ -4,8 +4,8 @@ ghost use Rattle.std.specs.Prelude.{◌≡◌, ◌<◌, IfOk, IfErr, OnOk, lengt
 ghost use Rattle.std.specs.Borrow.{sem};
 ghost use Rattle.pcre_io.specs.declared.callouts.Block.{Block};
 ghost use Rattle.uni_text.specs.Characters.{IsChecked};
-ghost use Rattle.dfa_drive.specs.frame_state.Room.{IsQuiet};
-ghost use Rattle.dfa_drive.specs.match_drive.Starts.{AreAlike};
+ghost use Rattle.match_drive.specs.frame_state.Room.{IsQuiet};
+ghost use Rattle.match_drive.specs.Starts.{AreAlike};
 ghost use Rattle.pcre2_api.specs.Matched.{search_of, shown_by, AreParts, IsFound, IsMatchError};
 ghost use Rattle.pcre2_api.specs.Matched.{HasShown};
 ghost use Rattle.pcre2_api.specs.Reserved.{Fits, IsOfMatch, as_match_error};
@@ -16,7 +16,7 @@ use crate::code::Code;
 use crate::found::Held;
 use crate::reserved::ReservedError;
 use crate::starts::test_place;
-use dfa_drive::Scratch;
+use match_drive::Scratch;
 use pat_tree::MatchOptions;
 use pcre_io::Callouts;
 use pcre2_errors::MatchError;
@@ -53,8 +53,8 @@ pub(crate) fn seek<'a, C: Callouts>(
         → IsQuiet C.refuses (C.answers calls.old) → IfErr result IsOfMatch }
 {
     code.starts_are_alike(subject, start, options);
-    let begun = code.test_start(subject, start);
-    match code.find(begun, subject, start, options, scratch, calls) {
+    code.test_start(subject, start)?;
+    match code.find(subject, start, options, scratch, calls) {
         Ok(text) => Ok(Held {
             code,
             subject,
@@ -93,8 +93,8 @@ pub(crate) fn seek_again<'a, C: Callouts>(
         (search_of code.now options.now subject.now start (C.answers calls.old))
         (C.seen calls.old))) }
 {
-    let begun = test_place(code.options().utf, subject, start);
-    match code.find(begun, subject, start, options, scratch, calls) {
+    test_place(code.options().utf, subject, start)?;
+    match code.find(subject, start, options, scratch, calls) {
         Ok(text) => Ok(Held {
             code,
             subject,

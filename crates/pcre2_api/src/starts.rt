@@ -1,7 +1,7 @@
 //! Where a search can begin (pcre2api, "Matching a pattern: the traditional function").
 ghost use Rattle.std.specs.Prelude.{◌≡◌, ◌≤◌, length, slice_index, None, Some, OnOk, IfErr};
 ghost use Rattle.std.specs.Str.{is_utf8};
-ghost use Rattle.dfa_drive.specs.frame_board.Standing as standing;
+ghost use Rattle.match_drive.specs.frame_board.Standing as standing;
 ghost use Rattle.uni_text.specs.Characters.{IsChecked};
 ghost use Rattle.pcre2_api.specs.Starts.{start_fault};
 

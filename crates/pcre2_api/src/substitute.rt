@@ -11,7 +11,7 @@ ghost use Rattle.pcre2_api.specs.Substituted.{kept, reading, written_for, all_re
 use crate::code::Code;
 use crate::found::Found;
 use crate::walk::{matching_at, place_behind};
-use dfa_drive::Scratch;
+use match_drive::Scratch;
 use pat_tree::{ByteList, MatchOptions, PartialMode};
 use pcre_io::NoCallouts;
 use pcre2_errors::{MatchError, SubstError};

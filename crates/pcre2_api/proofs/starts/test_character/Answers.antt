@@ -1,6 +1,6 @@
 use Rattle.std.proofs.Common.{◌∙◌, ◌&&◌, ap, sym}
 use Rattle.std.specs.Prelude.{slice_index}
-use Rattle.dfa_drive.specs.frame_board.Standing.{is_inside}
+use Rattle.match_drive.specs.frame_board.Standing.{is_inside}
 use Rattle.pcre2_api.proofs.Starting.{stands-inside, stands}
 use Rattle.pcre2_api.proofs.starts.test_character.Goals as goal
 use Rattle.pcre2_api.proofs.starts.test_character.Goals.{else-utf-via-then-utf+else-stands_inside, else-utf-via-else-utf}

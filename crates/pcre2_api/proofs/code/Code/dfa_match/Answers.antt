@@ -1,5 +1,5 @@
 use Rattle.std.proofs.Common.{sym, subst}
-use Rattle.dfa_drive.specs.match_starts.Asked.{passed_over}
+use Rattle.match_drive.specs.match_starts.Asked.{passed_over}
 use Rattle.pcre2_api.specs.Matched.{search_of}
 use Rattle.pcre2_api.specs.DfaMatched.{IsDfaError}
 use Rattle.pcre2_api.proofs.DfaMatching.{start_refused}

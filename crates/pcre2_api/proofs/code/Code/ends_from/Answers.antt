@@ -2,8 +2,8 @@ use Rattle.std.proofs.Common.{rules, ◌≡◌, ◌∙◌, Err, IfErr, sym, ap, 
 use Rattle.pat_tree.specs.Parts.{TreeParts}
 use Rattle.pat_tree.specs.declared.options.Options.{Options}
 use Rattle.match_items.specs.Subjects.{IsText, IsTextPlace}
-use Rattle.dfa_drive.specs.frame_board.Ready.{setting_in}
-use Rattle.dfa_drive.specs.match_starts.Asked.{passed_over}
+use Rattle.match_drive.specs.frame_board.Ready.{setting_in}
+use Rattle.match_drive.specs.match_starts.Asked.{passed_over}
 use Rattle.dfa_drive.specs.dfa_ends.DfaAnswer.{EndsFrom, NoMatch, PartialFrom, dfa_answer}
 use Rattle.pcre2_api.specs.Matched.{search_of}
 use Rattle.pcre2_errors.specs.DfaErrors.{error_of}

@@ -4,8 +4,7 @@ use Rattle.ordered_search.specs.MatchAnswer.{match_answer, PartialFrom, Error}
 use Rattle.ordered_search.specs.PlaceAnswer.{Abort}
 use Rattle.pcre2_api.specs.Matched.{search_of}
 use Rattle.pcre2_api.proofs.Admission.{is_admitted}
-use Rattle.pcre2_api.proofs.Matching.{is_placed, is_plain, begun, unbegun, shown-begun, shown-unbegun}
-use Rattle.pcre2_api.proofs.Starting.{told-refused}
+use Rattle.pcre2_api.proofs.Matching.{is_placed, is_plain, shown-begun}
 use Rattle.pcre2_api.proofs.code.Code.find.Goals as goal
 
 pub returns-in-Match-clause-parts : goal.returns-in-Match-clause-parts
@@ -18,7 +17,7 @@ pub returns-in-Match-clause-found : goal.returns-in-Match-clause-found
 returns-in-Match-clause-found g c =
     let asked = search_of c.args.self.now c.args.options.now c.args.subject.now c.args.start (g.C.Callouts.answers c.args.calls.now) in
     record {
-      begun = begun asked _ c.in-Ok.is c.requires.begun;
+      begun = c.requires.begun;
       answer = c.in-Match.ensures.answer;
       placed = is_placed asked (match_answer asked) c.in-Match.ensures.plain _ c.in-Match.ensures.answer;
       admitted = is_admitted asked _ c.in-Match.ensures.answer;
@@ -27,77 +26,67 @@ returns-in-Match-clause-found g c =
 pub returns-in-NoMatch-clause-refused : goal.returns-in-NoMatch-clause-refused
 returns-in-NoMatch-clause-refused g c =
     let asked = search_of c.args.self.now c.args.options.now c.args.subject.now c.args.start (g.C.Callouts.answers c.args.calls.now) in
-    (begun asked _ c.in-Ok.is c.requires.begun, c.in-NoMatch.ensures.answer.0, c.in-NoMatch.ensures.answer.1)
+    (c.requires.begun, c.in-NoMatch.ensures.answer.0, c.in-NoMatch.ensures.answer.1)
 
 pub returns-in-Partial-clause-refused : goal.returns-in-Partial-clause-refused
 returns-in-Partial-clause-refused g c =
     let asked = search_of c.args.self.now c.args.options.now c.args.subject.now c.args.start (g.C.Callouts.answers c.args.calls.now) in
     let there = is_plain asked (match_answer asked) c.in-Partial.ensures.plain (PartialFrom c.in-Partial.start) c.in-Partial.ensures.answer.0 in
-    (begun asked _ c.in-Ok.is c.requires.begun, c.in-Partial.ensures.answer.0, c.in-Partial.ensures.answer.1, there.0, there.1, refl)
+    (c.requires.begun, c.in-Partial.ensures.answer.0, c.in-Partial.ensures.answer.1, there.0, there.1, refl)
 
 pub returns-in-MatchLimit-clause-refused : goal.returns-in-MatchLimit-clause-refused
 returns-in-MatchLimit-clause-refused g c =
     let asked = search_of c.args.self.now c.args.options.now c.args.subject.now c.args.start (g.C.Callouts.answers c.args.calls.now) in
-    (begun asked _ c.in-Ok.is c.requires.begun, c.in-MatchLimit.ensures.answer)
+    (c.requires.begun, c.in-MatchLimit.ensures.answer)
 
 pub returns-in-FrameLimit-clause-refused : goal.returns-in-FrameLimit-clause-refused
 returns-in-FrameLimit-clause-refused g c =
     let asked = search_of c.args.self.now c.args.options.now c.args.subject.now c.args.start (g.C.Callouts.answers c.args.calls.now) in
-    (begun asked _ c.in-Ok.is c.requires.begun, c.in-FrameLimit.ensures.answer)
+    (c.requires.begun, c.in-FrameLimit.ensures.answer)
 
 pub returns-in-RecurseLoop-clause-refused : goal.returns-in-RecurseLoop-clause-refused
 returns-in-RecurseLoop-clause-refused g c =
     let asked = search_of c.args.self.now c.args.options.now c.args.subject.now c.args.start (g.C.Callouts.answers c.args.calls.now) in
-    (begun asked _ c.in-Ok.is c.requires.begun, c.in-RecurseLoop.ensures.answer)
+    (c.requires.begun, c.in-RecurseLoop.ensures.answer)
 
 pub returns-in-Callout-clause-refused : goal.returns-in-Callout-clause-refused
 returns-in-Callout-clause-refused g c =
     let asked = search_of c.args.self.now c.args.options.now c.args.subject.now c.args.start (g.C.Callouts.answers c.args.calls.now) in
     let n = c.in-Callout.n in
     let fits : SFits w32 n = search rules in
-    (begun asked _ c.in-Ok.is c.requires.begun, c.in-Callout.ensures.answer ∙ ap (λ k. Error (Abort k)) (sym (to_z-of_z w32 n fits)))
+    (c.requires.begun, c.in-Callout.ensures.answer ∙ ap (λ k. Error (Abort k)) (sym (to_z-of_z w32 n fits)))
 
 pub returns-in-Match-clause-seen : goal.returns-in-Match-clause-seen
 returns-in-Match-clause-seen g c =
     let asked = search_of c.args.self.now c.args.options.now c.args.subject.now c.args.start (g.C.Callouts.answers c.args.calls.now) in
-    c.in-Match.ensures.seen ∙ shown-begun asked (g.C.Callouts.seen c.args.calls.now) (begun asked _ c.in-Ok.is c.requires.begun)
+    c.in-Match.ensures.seen ∙ shown-begun asked (g.C.Callouts.seen c.args.calls.now) c.requires.begun
 
 pub returns-in-NoMatch-clause-shown : goal.returns-in-NoMatch-clause-shown
 returns-in-NoMatch-clause-shown g c =
     let asked = search_of c.args.self.now c.args.options.now c.args.subject.now c.args.start (g.C.Callouts.answers c.args.calls.now) in
-    c.in-NoMatch.ensures.seen ∙ shown-begun asked (g.C.Callouts.seen c.args.calls.now) (begun asked _ c.in-Ok.is c.requires.begun)
+    c.in-NoMatch.ensures.seen ∙ shown-begun asked (g.C.Callouts.seen c.args.calls.now) c.requires.begun
 
 pub returns-in-Partial-clause-shown : goal.returns-in-Partial-clause-shown
 returns-in-Partial-clause-shown g c =
     let asked = search_of c.args.self.now c.args.options.now c.args.subject.now c.args.start (g.C.Callouts.answers c.args.calls.now) in
-    c.in-Partial.ensures.seen ∙ shown-begun asked (g.C.Callouts.seen c.args.calls.now) (begun asked _ c.in-Ok.is c.requires.begun)
+    c.in-Partial.ensures.seen ∙ shown-begun asked (g.C.Callouts.seen c.args.calls.now) c.requires.begun
 
 pub returns-in-MatchLimit-clause-shown : goal.returns-in-MatchLimit-clause-shown
 returns-in-MatchLimit-clause-shown g c =
     let asked = search_of c.args.self.now c.args.options.now c.args.subject.now c.args.start (g.C.Callouts.answers c.args.calls.now) in
-    c.in-MatchLimit.ensures.seen ∙ shown-begun asked (g.C.Callouts.seen c.args.calls.now) (begun asked _ c.in-Ok.is c.requires.begun)
+    c.in-MatchLimit.ensures.seen ∙ shown-begun asked (g.C.Callouts.seen c.args.calls.now) c.requires.begun
 
 pub returns-in-FrameLimit-clause-shown : goal.returns-in-FrameLimit-clause-shown
 returns-in-FrameLimit-clause-shown g c =
     let asked = search_of c.args.self.now c.args.options.now c.args.subject.now c.args.start (g.C.Callouts.answers c.args.calls.now) in
-    c.in-FrameLimit.ensures.seen ∙ shown-begun asked (g.C.Callouts.seen c.args.calls.now) (begun asked _ c.in-Ok.is c.requires.begun)
+    c.in-FrameLimit.ensures.seen ∙ shown-begun asked (g.C.Callouts.seen c.args.calls.now) c.requires.begun
 
 pub returns-in-RecurseLoop-clause-shown : goal.returns-in-RecurseLoop-clause-shown
 returns-in-RecurseLoop-clause-shown g c =
     let asked = search_of c.args.self.now c.args.options.now c.args.subject.now c.args.start (g.C.Callouts.answers c.args.calls.now) in
-    c.in-RecurseLoop.ensures.seen ∙ shown-begun asked (g.C.Callouts.seen c.args.calls.now) (begun asked _ c.in-Ok.is c.requires.begun)
+    c.in-RecurseLoop.ensures.seen ∙ shown-begun asked (g.C.Callouts.seen c.args.calls.now) c.requires.begun
 
 pub returns-in-Callout-clause-shown : goal.returns-in-Callout-clause-shown
 returns-in-Callout-clause-shown g c =
     let asked = search_of c.args.self.now c.args.options.now c.args.subject.now c.args.start (g.C.Callouts.answers c.args.calls.now) in
-    c.in-Callout.ensures.seen ∙ shown-begun asked (g.C.Callouts.seen c.args.calls.now) (begun asked _ c.in-Ok.is c.requires.begun)
-
-pub returns-in-Err-clause-refused : goal.returns-in-Err-clause-refused
-returns-in-Err-clause-refused g c =
-    let asked = search_of c.args.self.now c.args.options.now c.args.subject.now c.args.start (g.C.Callouts.answers c.args.calls.now) in
-    told-refused asked c.in-Err.e (unbegun asked _ _ c.in-Err.is c.requires.unbegun)
-
-pub returns-in-Err-clause-shown : goal.returns-in-Err-clause-shown
-returns-in-Err-clause-shown g c =
-    let asked = search_of c.args.self.now c.args.options.now c.args.subject.now c.args.start (g.C.Callouts.answers c.args.calls.now) in
-    shown-unbegun asked (g.C.Callouts.seen c.args.calls.now) c.in-Err.e (unbegun asked _ _ c.in-Err.is c.requires.unbegun)
+    c.in-Callout.ensures.seen ∙ shown-begun asked (g.C.Callouts.seen c.args.calls.now) c.requires.begun

@@ -4,9 +4,9 @@ use Rattle.std.specs.Prelude.{IfOk, IfErr, OnOk, None}
 use Rattle.std.proofs.result.Result.TheLaws.{the_row_laws as result_laws}
 use Rattle.pcre_io.specs.declared.callouts.Block.{Block}
 use Rattle.pcre_io.specs.declared.callouts.Callouts.{Ghosts}
-use Rattle.dfa_drive.specs.frame_state.Room.{IsQuiet}
-use Rattle.dfa_drive.specs.frame_machine.contracts.scratch.Scratch.{the_row as workspace}
-use Rattle.dfa_drive.specs.match_drive.Starts.{AreAlike}
+use Rattle.match_drive.specs.frame_state.Room.{IsQuiet}
+use Rattle.match_drive.specs.frame_machine.contracts.scratch.Scratch.{the_row as workspace}
+use Rattle.match_drive.specs.Starts.{AreAlike}
 use Rattle.pat_tree.specs.contracts.options.MatchOptions.{the_row as matching}
 use Rattle.pcre2_api.specs.Matched.{AreParts, IsFound, IsMatchError, HasShown, search_of, shown_by}
 use Rattle.pcre2_api.specs.Reserved.{Fits, IsOfMatch}

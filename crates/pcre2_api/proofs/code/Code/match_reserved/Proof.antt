@@ -2,7 +2,7 @@
 use Rattle.pcre2_api.proofs.LendingSteps.{◌≡◌, [], ◌∷◌, refl, w64, proved, id⊢, emp, Fml, ftrue, fsep, flft, named, tables, fact, fact_i, ‵, raw, ◌⊛◌, some, later, ◌$◌, ◌∵◌, !, qed, done, move, keep, drop, use0, use1, use2, split, join, pick, await, suffices, group, enter, addr, stop, no_more, and_then, returns, alloc_all, pass_all, free_all, look_at, get, through, sets, lands_as, u8, usize, RefOf, RefMutOf, SliceRefOf, yes, no, Is, shows, uint_vals, uint_Tells, RattleType, MutRef, ShrRef, mut_vals, mut_Tells, shr_vals, shr_Tells, Slot, type_at, plain, ShrSlice, shr_slice_vals, shr_slice_Tells, nothing, heard, peeks, calls_at, Lasts, lasts, at_exit, triple_of, Stays, walk_of, stay_dropped, Goes-dropped, ends_at, framed}
 use Rattle.std.specs.Prelude.{IfOk, IfErr, pos}
 use Rattle.std.proofs.result.Result.TheLaws.{the_row_laws as result_laws}
-use Rattle.dfa_drive.specs.frame_machine.contracts.scratch.Scratch.{the_row as workspace}
+use Rattle.match_drive.specs.frame_machine.contracts.scratch.Scratch.{the_row as workspace}
 use Rattle.pat_tree.specs.contracts.options.MatchOptions.{the_row as matching}
 use Rattle.pcre2_api.specs.Matched.{AreParts, IsFound, IsMatchError, search_of}
 use Rattle.pcre2_api.specs.Reserved.{as_match_error}

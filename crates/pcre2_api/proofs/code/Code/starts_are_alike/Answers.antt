@@ -1,6 +1,6 @@
 use Rattle.std.proofs.Common.{refl, subst}
 use Rattle.pat_tree.specs.Sound.{TreeRules}
-use Rattle.dfa_drive.proofs.match_drive.Both.{alike}
+use Rattle.match_drive.proofs.Both.{alike}
 use Rattle.pcre2_api.specs.Matched.{search_of}
 use Rattle.pcre2_api.proofs.Starting.{begun-text, begun-place}
 use Rattle.pcre2_api.proofs.code.Code.starts_are_alike.Goals as goal
