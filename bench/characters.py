@@ -3,7 +3,8 @@
 
 - literals: each character in a pattern without regard to case, on a text of itself, its other cases and its neighbours.
 - others: all but a character, without regard to case, for each one that has another case, on all such characters.
-- sets: each set of pcre2pattern with and without UCP, and each general category, on all characters.
+- sets: each set of pcre2pattern with and without UCP, and each general category, on all characters. With UCP the word
+  characters are those of later versions, L, N, Mn and Pc, so the C library is asked for these four.
 
 The data of the two is of different versions of Unicode. So a character that is unassigned in that of Python's unicodedata
 is left out, and Python has to know the version of the C library (`pcre2test -C`; Python 3.11 has 14.0). Prints for each
@@ -27,6 +28,8 @@ SHOWN = 10
 CATEGORIES = "Cc Cf Co Ll Lm Lo Lt Lu Mc Me Mn Nd Nl No Pc Pd Pe Pf Pi Po Ps Sc Sk Sm So Zl Zp Zs".split()
 NAMED = "alpha lower upper alnum ascii blank cntrl digit graph print punct space word xdigit".split()
 SETS = [r"\d", r"\s", r"\w", r"\h", r"\v"] + [f"[[:{name}:]]" for name in NAMED]
+WORDS = (r"\w", "[[:word:]]")
+WORDS_OF_UNICODE = r"[\p{L}\p{N}\p{Mn}\p{Pc}]"
 
 
 def assigned():
@@ -58,10 +61,12 @@ class Part:
 
     def __init__(self, name, program, folder):
         self.name, self.program, self.folder = name, program, folder
-        self.lines, self.entries, self.count, self.differ = [], 0, 0, 0
+        self.ours, self.theirs, self.entries, self.count, self.differ = [], [], 0, 0, 0
 
-    def add(self, pattern, subjects):
-        self.lines += [pattern, *[f"    {it}" for it in subjects], ""]
+    def add(self, pattern, subjects, theirs=None):
+        texts = [*[f"    {it}" for it in subjects], ""]
+        self.ours += [pattern, *texts]
+        self.theirs += [theirs or pattern, *texts]
         self.entries += 1
         if self.entries == BATCH:
             self.compare()
@@ -69,17 +74,18 @@ class Part:
     def compare(self):
         if not self.entries:
             return
-        ours, theirs = (write(it, self.folder, self.lines) for it in (self.program, THEIRS))
+        ours, theirs = write(self.program, self.folder, self.ours), write(THEIRS, self.folder, self.theirs)
         if len(ours) != len(theirs):
             print(f"{self.name}: {len(ours)} entries of output beside {len(theirs)}")
             self.differ += 1
         for got, wanted in zip(ours, theirs):
-            if got != wanted:
+            # the first line is the pattern
+            if got.partition(b"\n")[2] != wanted.partition(b"\n")[2]:
                 if self.differ < SHOWN:
                     print(f"{self.name}: {got!r:.300}\n  in place of {wanted!r:.300}")
                 self.differ += 1
         self.count += self.entries
-        self.lines, self.entries = [], 0
+        self.ours, self.theirs, self.entries = [], [], 0
 
     def end(self):
         self.compare()
@@ -104,7 +110,8 @@ def sets(part, characters):
     texts = ["".join(shown(c) for c in characters[at : at + 256]) for at in range(0, len(characters), 256)]
     for one in SETS:
         for modifiers in ("utf,global", "utf,ucp,global"):
-            part.add(f"/(?:{one})+/{modifiers}", texts)
+            theirs = WORDS_OF_UNICODE if "ucp" in modifiers and one in WORDS else one
+            part.add(f"/(?:{one})+/{modifiers}", texts, f"/(?:{theirs})+/{modifiers}")
     for category in CATEGORIES:
         part.add(f"/\\p{{{category}}}+/utf,global", texts)
 

@@ -1,8 +1,6 @@
-pub mod AlikeLemmas
 pub mod ByteLemmas
-pub mod EdgeLemmas
 pub mod FoldLemmas
 pub mod PairLemmas
-pub mod PlaceLemmas
+pub mod PartLemmas
 pub mod RunLemmas
 pub mod TableLemmas

@@ -1,25 +1,17 @@
 -- Pairs of characters that fold alike, which rise by their first characters.
-use Rattle.std.proofs.Common.{◌≡◌, ℕ, zero, suc, ◌<◌, ◌≤◌, Bool, true, false, ◌||◌, ◌&&◌, ◌==◌, nat_lt, List, [], ◌∷◌, length, get_or, refl, sym, ap, subst, ◌∙◌, arith, inl, inr, Contains}
-use Rattle.std.proofs.lemmas.Bool.{cases_lt, and_parts}
+use Rattle.std.proofs.Common.{◌≡◌, ℕ, zero, suc, ◌<◌, ◌≤◌, Bool, true, false, ◌||◌, ◌&&◌, ◌==◌, nat_lt, List, [], ◌∷◌, length, get_or, refl, sym, ap, subst, ◌∙◌, arith, Contains}
+use Rattle.std.proofs.lemmas.Bool.{and_parts}
 use Rattle.std.proofs.lemmas.Bool.Decides.{nat_tests}
-use Rattle.std.proofs.lemmas.List.{get_or_default}
-use Rattle.std.proofs.lemmas.List.Folds.{list_any_none, list_any_at}
+use Rattle.std.proofs.lemmas.List.Folds.{list_any_at}
 use Rattle.std.specs.Int.{is_in_range}
 use Rattle.std.specs.List.{list_any}
 use Rattle.std.specs.List.Sorted.{IsNonDecreasingBy}
 use Rattle.ucd_case.specs.CaseFolding.{fold_pairs}
 use Rattle.ucd_case.proofs.BoundLemmas.{pairs_rise, pairs_rise-fold_pairs}
-use Rattle.char_sets.specs.Sets.{other_has}
 
 -- the pair has c first and a character of the range after it
 abbrev pub pair_has : ℕ → ℕ → ℕ → ℕ × ℕ → Bool
 pair_has from to c pair = pair.0 == c && is_in_range from to pair.1
-
-apart : (x y : ℕ) → (x ≡ y → ⊥) → (x == y) ≡ false
-apart x y h = grind (arith, nat_tests)
-
-pub differs : (from to c : ℕ) (pair : ℕ × ℕ) → (pair.0 ≡ c → ⊥) → pair_has from to c pair ≡ false
-differs from to c pair h = ap (λ b. b && is_in_range from to pair.1) (apart pair.0 c h)
 
 first_after : (p q : ℕ × ℕ) → ((nat_lt p.0 q.0 || ((p.0 == q.0) && nat_lt p.1 q.1)) ≡ true) → p.0 ≤ q.0
 first_after p q h = grind (arith, nat_tests)
@@ -44,26 +36,6 @@ rise last (p ∷ ps) h (suc i) (suc j) d le lt = rise p ps (and_parts (nat_lt la
 
 pub fold_pairs-rise : IsNonDecreasingBy (λ (pair : ℕ × ℕ). pair.0) fold_pairs
 fold_pairs-rise = rise (0, 0) fold_pairs pairs_rise-fold_pairs
-
-module _ (pairs : List (ℕ × ℕ)) (from to c first : ℕ) (rises : IsNonDecreasingBy (λ (pair : ℕ × ℕ). pair.0) pairs) (below : (k : ℕ) (d : ℕ × ℕ) → k < first → (get_or pairs k d).0 < c) (above : (k : ℕ) (d : ℕ × ℕ) → first ≤ k → k < length pairs → c ≤ (get_or pairs k d).0) where
-  -- no pair before i is one of c and the range
-  abbrev pub NoneUpTo : ℕ → Type 0
-  NoneUpTo i = (k : ℕ) → k < i → (d : ℕ × ℕ) → pair_has from to c (get_or pairs k d) ≡ false
-
-  pub none_first : NoneUpTo first
-  none_first k lt d = differs from to c (get_or pairs k d) (λ e. omega (arith, below k d lt, e))
-
-  -- where the pair at i has another first character, none from there on is
-  pub none_at_all : (i : ℕ) (e : ℕ × ℕ) → first ≤ i → i < length pairs → ((get_or pairs i e).0 ≡ c → ⊥) → NoneUpTo i → other_has pairs from to c ≡ false
-  none_at_all i e from_first within other none = list_any_none (pair_has from to c) pairs (λ k d lt. elim (cases_lt k i) [
-    | inl before ↦ none k before d
-    | inr after ↦ differs from to c (get_or pairs k d) (λ same.
-        let same_there : (get_or pairs i d).0 ≡ (get_or pairs i e).0 = ap (λ (p : ℕ × ℕ). p.0) (get_or_default pairs i d e within) in
-        other (omega (arith, same, same_there, rises i k d (omega arith) lt, above i d from_first within)))
-  ])
-
-  pub none_left : (i : ℕ) → length pairs ≤ i → NoneUpTo i → other_has pairs from to c ≡ false
-  none_left i past none = list_any_none (pair_has from to c) pairs (λ k d lt. none k (omega arith) d)
 
 -- the pair that passes a test
 pub some_of : {X : Type 0} (p : X → Bool) (xs : List X) → list_any p xs ≡ true → (x : X) × Contains xs x × (p x ≡ true)

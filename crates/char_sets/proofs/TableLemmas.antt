@@ -9,7 +9,7 @@ use Rattle.pat_tree.specs.declared.nodes.ClassSpec.{ClassSpec}
 use Rattle.pat_tree.specs.Parts.{TreeParts}
 use Rattle.char_sets.specs.Sets.{takes, class_has, no_class}
 use Rattle.byte_lanes.specs.Sets.{has_byte}
-use Rattle.char_sets.specs.Table.{CharSet, char_in, answer_at, table_has, no_chars, IsTableOf}
+use Rattle.char_sets.specs.Table.{CharSet, char_in, table_has, no_chars, IsTableOf}
 
 -- a class that was there is found as before
 pub table_has-before : (old : List CharSet) (e : CharSet) (class c : ℕ) → class < length old → table_has (old ++ e ∷ []) class c ≡ table_has old class c
@@ -26,7 +26,7 @@ unfolding class_has
 class_has-found tree id c class is = ap (λ s. takes tree.options.utf s c) (get_or_from_slice_get tree.classes id class no_class is)
 
 no_chars-take : (c : ℕ) → char_in no_chars c ≡ false
-no_chars-take c = elim (nat_lt c 256) as (λ b. cond b (has_byte [] c) (answer_at false [] c) ≡ false) [ true ↦ refl | false ↦ refl ]
+no_chars-take c = elim (nat_lt c 256) as (λ b. cond b (has_byte [] c) false ≡ false) [ true ↦ refl | false ↦ refl ]
 
 -- a number of no class takes nothing
 table_has-past : (table : List CharSet) (class c : ℕ) → length table ≤ class → table_has table class c ≡ false

@@ -1,5 +1,6 @@
 pub mod Laws
-pub mod Places
+pub mod Named
 pub mod Rows
+pub mod Runs
 pub mod Sets
 pub mod Table

@@ -1,36 +1,33 @@
 -- What a table of classes keeps.
-use Rattle.std.specs.Prelude.{◌≡◌, ℕ, ◌<◌, Bool, false, nat_lt, nat_le, if◌then◌else◌, List, [], ◌∷◌, length, slice_index_or}
-use Rattle.std.specs.List.Sorted.{IsNonDecreasingBy}
+use Rattle.std.specs.Prelude.{◌≡◌, ℕ, Bool, false, not, nat_lt, ◌||◌, if◌then◌else◌, List, [], length, slice_index_or}
+use Rattle.std.specs.List.{list_any}
 use Rattle.byte_lanes.specs.Sets.{has_byte}
 use Rattle.pat_tree.specs.Parts.{TreeParts}
+use Rattle.char_sets.specs.Named.{set_in}
+use Rattle.char_sets.specs.Runs.{runs_have}
 use Rattle.char_sets.specs.Sets.{class_has}
-use Rattle.char_sets.specs.declared.edges.Edge.{Edge}
+use Rattle.char_sets.specs.declared.named.NamedSet.{NamedSet}
+use Rattle.char_sets.specs.declared.runs.Run.{Run}
 
--- the answer of the last edge that is not past c, or the earlier answer
-abbrev pub answer_at : Bool → List Edge → ℕ → Bool
-answer_at before [] c = before
-answer_at before (e ∷ es) c = if nat_le e.from c then answer_at e.takes es c else before
-
--- the edge at a place, with the answer of a test there
-abbrev pub edge_at : (ℕ → Bool) → ℕ → Edge
-edge_at test p = record { from = p; takes = test p }
-
--- there is an edge at 256, and the edges rise from there
-pub record IsEdges (edges : List Edge) : Type 0 where
-  pub some : 0 < length edges
-  pub first : (d : Edge) → (slice_index_or edges 0 d).from ≡ 256
-  pub rise : IsNonDecreasingBy (λ (e : Edge). e.from) edges
-
--- the characters of a class: a flag for each byte, and edges past them
+-- the characters of a class: a flag for each byte, and for the rest the runs and the sets that it takes, or negated leaves out
 pub record CharSet : Type 0 where
   pub bytes : List Bool
-  pub edges : List Edge
+  pub runs : List Run
+  pub sets : List NamedSet
+  pub negated : Bool
+
+-- some run or some set has c
+abbrev pub inside : List Run → List NamedSet → ℕ → Bool
+inside runs sets c = runs_have runs c || list_any (λ (set : NamedSet). set_in set c) sets
+
+abbrev pub turned_if : Bool → Bool → Bool
+turned_if turned b = if turned then not b else b
 
 abbrev pub char_in : CharSet → ℕ → Bool
-char_in set c = if nat_lt c 256 then has_byte set.bytes c else answer_at false set.edges c
+char_in set c = if nat_lt c 256 then has_byte set.bytes c else turned_if set.negated (inside set.runs set.sets c)
 
 abbrev pub no_chars : CharSet
-no_chars = record { bytes = []; edges = [] }
+no_chars = record { bytes = []; runs = []; sets = []; negated = false }
 
 -- whether the class of this number takes c, by the table
 unfoldable pub table_has : List CharSet → ℕ → ℕ → Bool

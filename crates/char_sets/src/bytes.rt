@@ -1,73 +1,71 @@
-// The bytes that a class takes, part by part.
-ghost use Rattle.std.specs.Prelude.{◌≡◌, ℕ, ◌<◌, ◌||◌, ◌==◌, false, not, if◌then◌else◌};
+// The bytes that a class takes, by its runs and sets.
+ghost use Rattle.std.specs.Prelude.{◌≡◌, ℕ, ◌<◌, ◌||◌, ◌==◌, false, not};
 ghost use Rattle.std.specs.Int.{is_in_range};
 ghost use Rattle.std.specs.List.{list_any};
 ghost use Rattle.byte_lanes.specs.Sets.{has_byte};
 ghost use Rattle.pat_tree.specs.declared.nodes.SetName.TheVariants.{Digit, Space, Word};
 ghost use Rattle.uni_text.specs.Ascii.{ascii_fold};
-ghost use Rattle.char_sets.specs.Sets as spec;
+ghost use Rattle.char_sets.specs.Named.{set_in};
+ghost use Rattle.char_sets.specs.Runs.{runs_have};
+ghost use Rattle.char_sets.specs.Sets.{set_has};
+ghost use Rattle.char_sets.specs.Table as spec;
 
-use crate::sets::{is_letter, part_has};
+use crate::named::{NamedSet, is_in_set};
+use crate::runs::Run;
+use crate::sets::is_letter;
 use byte_lanes::ByteSet;
-use pat_tree::{ClassSpec, Part, SetName};
+use pat_tree::SetName;
 
-/// The bytes that a class takes, in UTF or outside it.
-pub(crate) fn bytes_of(class: &ClassSpec, utf: bool) -> ByteSet
-    ensures { (k : ℕ) → k < 256 → has_byte result k ≡ spec.takes utf class.now k }
-{
-    let inside = bytes_of_parts(class.parts.as_slice(), class.caseless, utf);
-    turned_if(class.negated, inside)
-}
-
-fn bytes_of_parts(parts: &[Part], caseless: bool, utf: bool) -> ByteSet
+/// The bytes that a class of these runs and sets takes.
+pub(crate) fn bytes_of(runs: &[Run], sets: &[NamedSet], negated: bool) -> ByteSet
     ensures { (k : ℕ) → k < 256
-        → has_byte result k ≡ list_any (λ part. spec.part_has utf caseless part k) parts.now }
+        → has_byte result k ≡ spec.turned_if negated (spec.inside runs.now sets.now k) }
+{
+    let mut bytes = bytes_of_runs(runs);
+    bytes.add(&bytes_of_sets(sets));
+    turned_if(negated, bytes)
+}
+
+fn bytes_of_runs(runs: &[Run]) -> ByteSet
+    ensures { (k : ℕ) → k < 256 → has_byte result k ≡ runs_have runs.now k }
 {
     let mut bytes = ByteSet::empty();
-    for part in parts {
-        bytes.add(&bytes_of_part(part, caseless, utf));
+    for run in runs {
+        if run.from < 256 {
+            add_range(&mut bytes, run.from as u8, run.to.min(255) as u8);
+        }
     }
     bytes
 }
 
-/// The bytes that a part of a class takes. Those of ranges and of the sets that most patterns name are known; of any other
-/// part each byte is asked.
-fn bytes_of_part(part: &Part, caseless: bool, utf: bool) -> ByteSet
-    ensures { (k : ℕ) → k < 256 → has_byte result k ≡ spec.part_has utf caseless part.now k }
-{
-    match *part {
-        Part::Range { from, to } if !caseless => bytes_of_range(from, to),
-        Part::Set {
-            set: SetName::Digit,
-            not,
-            ucp: false,
-        } => turned_if(not, digits()),
-        Part::Set {
-            set: SetName::Space,
-            not,
-            ucp: false,
-        } => turned_if(not, spaces()),
-        Part::Set {
-            set: SetName::Word,
-            not,
-            ucp: false,
-        } => turned_if(not, word_bytes()),
-        _ => tested_bytes(part, caseless, utf),
-    }
-}
-
-fn bytes_of_range(from: u32, to: u32) -> ByteSet
-    ensures { (k : ℕ) → k < 256 → has_byte result k ≡ is_in_range from to k }
+fn bytes_of_sets(sets: &[NamedSet]) -> ByteSet
+    ensures { (k : ℕ) → k < 256
+        → has_byte result k ≡ list_any (λ set. set_in set k) sets.now }
 {
     let mut bytes = ByteSet::empty();
-    if from < 256 {
-        add_range(&mut bytes, from as u8, to.min(255) as u8);
+    for set in sets {
+        bytes.add(&bytes_of_set(set));
     }
     bytes
+}
+
+/// The bytes of a set. Those of the sets that most patterns name are known; of any other each byte is asked.
+fn bytes_of_set(named: &NamedSet) -> ByteSet
+    ensures { (k : ℕ) → k < 256 → has_byte result k ≡ set_in named.now k }
+{
+    if named.ucp {
+        return tested_bytes(named);
+    }
+    match named.set {
+        SetName::Digit => turned_if(named.reversed, digits()),
+        SetName::Space => turned_if(named.reversed, spaces()),
+        SetName::Word => turned_if(named.reversed, word_bytes()),
+        _ => tested_bytes(named),
+    }
 }
 
 fn digits() -> ByteSet
-    ensures { (k : ℕ) → has_byte result k ≡ spec.set_has false Digit k }
+    ensures { (k : ℕ) → has_byte result k ≡ set_has false Digit k }
 {
     let mut bytes = ByteSet::empty();
     add_range(&mut bytes, b'0', b'9');
@@ -75,7 +73,7 @@ fn digits() -> ByteSet
 }
 
 fn spaces() -> ByteSet
-    ensures { (k : ℕ) → has_byte result k ≡ spec.set_has false Space k }
+    ensures { (k : ℕ) → has_byte result k ≡ set_has false Space k }
 {
     let mut bytes = ByteSet::empty();
     add_range(&mut bytes, b'\t', b'\r');
@@ -84,7 +82,7 @@ fn spaces() -> ByteSet
 }
 
 fn word_bytes() -> ByteSet
-    ensures { (k : ℕ) → has_byte result k ≡ spec.set_has false Word k }
+    ensures { (k : ℕ) → has_byte result k ≡ set_has false Word k }
 {
     let mut bytes = digits();
     add_range(&mut bytes, b'A', b'Z');
@@ -93,13 +91,13 @@ fn word_bytes() -> ByteSet
     bytes
 }
 
-/// The bytes of which the plain test says that a part takes them.
-fn tested_bytes(part: &Part, caseless: bool, utf: bool) -> ByteSet
-    ensures { (k : ℕ) → k < 256 → has_byte result k ≡ spec.part_has utf caseless part.now k }
+/// The bytes that are found in a set one by one.
+fn tested_bytes(named: &NamedSet) -> ByteSet
+    ensures { (k : ℕ) → k < 256 → has_byte result k ≡ set_in named.now k }
 {
     let mut bytes = ByteSet::empty();
     for b in 0..256u32 {
-        if part_has(part, caseless, utf, b as u64) {
+        if is_in_set(named, b as u64) {
             bytes.insert(b as u8);
         }
     }
@@ -109,7 +107,7 @@ fn tested_bytes(part: &Part, caseless: bool, utf: bool) -> ByteSet
 /// A set, or the bytes that it lacks.
 fn turned_if(turned: bool, bytes: ByteSet) -> ByteSet
     ensures { (k : ℕ) → k < 256
-        → has_byte result k ≡ (if turned then not (has_byte bytes k) else has_byte bytes k) }
+        → has_byte result k ≡ spec.turned_if turned (has_byte bytes k) }
 {
     if turned { others(&bytes) } else { bytes }
 }

@@ -2,13 +2,13 @@
 #![tactic(auto)]
 
 mod bytes;
-mod edges;
 mod entry;
-mod folds;
 mod laws;
+mod named;
+mod ranges;
+mod runs;
 mod sets;
 mod table;
-mod unicode;
 
 pub use bytes::{add_range, both_cases};
 pub use laws::{ranges_fold, worked_rows, worked_unicode};

@@ -1,4 +1,4 @@
-// Whether a class takes one character, from its parts. Characters are numbers of 64 bits here, so that the number after the
+// Whether a set with a name has one character. Characters are numbers of 64 bits here, so that the number after the
 // greatest end of a range is one too.
 ghost use Rattle.std.specs.Prelude.{◌≡◌, true, false};
 ghost use Rattle.std.specs.Int.{is_in_range};
@@ -8,60 +8,8 @@ ghost use Rattle.uni_text.specs.Properties as properties;
 ghost use Rattle.uni_text.specs.Sets as named;
 ghost use Rattle.char_sets.specs.Sets as spec;
 
-use crate::folds::other_has;
-use pat_tree::{ClassSpec, Part, SetName};
+use pat_tree::SetName;
 use uni_text::{GeneralCategory, GeneralCategoryGroup, Prop};
-
-/// Whether the class takes `c`, in UTF or outside it.
-pub(crate) fn takes(class: &ClassSpec, utf: bool, c: u64) -> bool
-    ensures { result ≡ spec.takes utf class.now c }
-{
-    let inside = some_part_has(class.parts.as_slice(), class.caseless, utf, c);
-    inside != class.negated
-}
-
-fn some_part_has(parts: &[Part], caseless: bool, utf: bool, c: u64) -> bool
-    ensures { result ≡ list_any (λ part. spec.part_has utf caseless part c) parts.now }
-{
-    parts.iter().any(|part| part_has(part, caseless, utf, c))
-}
-
-/// Whether a part of a class takes `c`.
-pub(crate) fn part_has(part: &Part, caseless: bool, utf: bool, c: u64) -> bool
-    ensures { result ≡ spec.part_has utf caseless part.now c }
-{
-    match *part {
-        Part::Range { from, to } => range_has(from, to, caseless, utf, c),
-        Part::Set { set, not, ucp } => {
-            let inside = set_has(if caseless { any_case(set) } else { set }, ucp, c);
-            inside != not
-        }
-    }
-}
-
-fn range_has(from: u32, to: u32, caseless: bool, utf: bool, c: u64) -> bool
-    ensures { result ≡ spec.range_has utf caseless from to c }
-{
-    if caseless {
-        folded_has(from, to, utf, c)
-    } else {
-        is_within(from, to, c)
-    }
-}
-
-/// Whether some character with the folding of `c` lies in the range.
-fn folded_has(from: u32, to: u32, utf: bool, c: u64) -> bool
-    ensures { result ≡ spec.folded_has utf from to c }
-{
-    if utf {
-        return is_within(from, to, c) || other_has(from, to, c);
-    }
-    if is_letter(c) {
-        let small = c % 32 + 96;
-        return is_within(from, to, small) || is_within(from, to, small - 32);
-    }
-    is_within(from, to, c)
-}
 
 pub(crate) fn is_within(from: u32, to: u32, c: u64) -> bool
     ensures { result ≡ is_in_range from to c }
@@ -70,7 +18,7 @@ pub(crate) fn is_within(from: u32, to: u32, c: u64) -> bool
 }
 
 /// The set that stands for one in a class that takes any case.
-fn any_case(set: SetName) -> SetName
+pub(crate) fn any_case(set: SetName) -> SetName
     ensures { result ≡ spec.any_case set }
 {
     match set {
@@ -79,7 +27,8 @@ fn any_case(set: SetName) -> SetName
     }
 }
 
-fn set_has(set: SetName, ucp: bool, c: u64) -> bool
+/// Whether a set has `c`, with UCP or without.
+pub(crate) fn set_has(set: SetName, ucp: bool, c: u64) -> bool
     ensures { result ≡ spec.set_has ucp set c }
 {
     if ucp {

@@ -39,6 +39,8 @@ odd_set = record {
         ∷ [];
   } ∷ [];
   refused = [];
+  others = [];
+  closed = [];
 }
 
 abbrev pub worked_set : Contents

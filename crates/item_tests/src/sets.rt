@@ -268,7 +268,9 @@ const UCP_EDGES: &[(SetName, Edges)] = &[
             (0x5F, true, true),
             (0xE9, false, true),
             (0x2160, false, true),
-            (0x301, false, false),
+            (0x301, false, true),
+            (0x203F, false, true),
+            (0x20DD, false, false),
         ],
     ),
     (

@@ -262,8 +262,8 @@ const LAST: AnchorKind = AnchorKind::EndOrNewline;
 
 const ANCHORS: &[Anchors] = &[
     (WORDS, Newline::Lf, WORD, EDGES, b"++++.E"),
-    (WORDS, Newline::Lf, WORD_OF_UNICODE, EDGES, b"+++++*"),
-    (WORDS, Newline::Lf, INSIDE_OF_UNICODE, EDGES, b".....E"),
+    (WORDS, Newline::Lf, WORD_OF_UNICODE, EDGES, b"+..++*"),
+    (WORDS, Newline::Lf, INSIDE_OF_UNICODE, EDGES, b".++..E"),
     (LETTERS, Newline::Lf, WORD_OF_UNICODE, &[0, 2, 4], b"+.*"),
     (LINES, Newline::Any, LINE_START, ENDS, b"+.+.."),
     (LINES, Newline::Any, LINE_END, ENDS, b".+.+*"),

@@ -1,5 +1,6 @@
 //! Replacements, with what they write or why they are refused. The rows are those of
-//! pcre2_substitute of 10.42.
+//! pcre2_substitute of 10.42, but for names, of which it has none of more than 32 bytes,
+//! and in UTF none with characters past ASCII.
 ghost use Rattle.std.specs.Prelude.{◌∷◌, [], Some, None, codes};
 
 use std::alloc::Global;
@@ -93,6 +94,18 @@ const REFERENCES: &[&str] = &[
     "x ${*MARK:-x} => !MissingBrace",
     "- ${*} => !BadReplacement",
     "- $* => !BadReplacement",
+    "- $\u{c3}\u{a9} => !BadReplacement",
+    "u $\u{c3}\u{a9} => !NoGroup",
+    "u ${\u{c3}\u{a9}} => !NoGroup",
+    "u $one\u{c3}\u{a9} => !NoGroup",
+    "- $one\u{c3}\u{a9} => wO\u{c3}\u{a9}",
+    "u ${one}\u{c3}\u{a9} => wO\u{c3}\u{a9}",
+    "u $1\u{c3}\u{a9} => wO\u{c3}\u{a9}",
+    "u $\u{d9}\u{a3} => !NoGroup",
+    "u $\u{cc}\u{81} => !BadReplacement",
+    "u $one\u{cc}\u{81} => wO\u{cc}\u{81}",
+    "- $*MARK\u{c3}\u{a9} => Tag\u{c3}\u{a9}",
+    "u $*MARK\u{c3}\u{a9} => !BadReplacement",
     "- ${ => !BadReplacement",
     "- ${} => !BadReplacement",
     "- ${1 => !MissingBrace",
@@ -102,10 +115,14 @@ const REFERENCES: &[&str] = &[
     "- ${ one} => !BadReplacement",
     "- ${$} => !BadReplacement",
     "- ${-1} => !BadReplacement",
-    "- $aaaaaaaaaaaaaaaaaaaaaaaaaaaaaaaa => !NoGroup",
-    "- $aaaaaaaaaaaaaaaaaaaaaaaaaaaaaaaaa => !BadReplacement",
-    "- ${aaaaaaaaaaaaaaaaaaaaaaaaaaaaaaaa} => !NoGroup",
-    "- ${aaaaaaaaaaaaaaaaaaaaaaaaaaaaaaaaa} => !BadReplacement",
+    "- $a23456789012345678901234567890123456789012345678901234567890123456789012345678901\
+     23456789012345678901234567890123456789012345678 => !NoGroup",
+    "- $a23456789012345678901234567890123456789012345678901234567890123456789012345678901\
+     234567890123456789012345678901234567890123456789 => !BadReplacement",
+    "- ${a2345678901234567890123456789012345678901234567890123456789012345678901234567890\
+     123456789012345678901234567890123456789012345678} => !NoGroup",
+    "- ${a2345678901234567890123456789012345678901234567890123456789012345678901234567890\
+     1234567890123456789012345678901234567890123456789} => !BadReplacement",
 ];
 
 /// Inner texts.

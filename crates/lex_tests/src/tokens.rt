@@ -262,7 +262,13 @@ const NAMED_GROUPS: &[NameRow] = &[
     ("(?<ab>", OfGroup, 3, 5),
     ("(?'ab'", OfGroup, 3, 5),
     ("(?P<ab>", OfGroup, 4, 6),
-    ("(?<a2345678901234567890123456789012>", OfGroup, 3, 35),
+    (
+        "(?<a23456789012345678901234567890123456789012345678901234567890123456789012345678901\
+         23456789012345678901234567890123456789012345678>",
+        OfGroup,
+        3,
+        131,
+    ),
 ];
 
 #[test]
@@ -675,10 +681,11 @@ const NAMES_IN_UTF: &[NameRow] = &[
         13,
     ),
     (
-        "(?<_\u{E9}\u{E9}\u{E9}\u{E9}\u{E9}\u{E9}\u{E9}\u{E9}\u{E9}\u{E9}\u{E9}\u{E9}\u{E9}\u{E9}\u{E9}a>",
+        "(?<\u{E9}a23456789012345678901234567890123456789012345678901234567890123456789012345\
+         678901234567890123456789012345678901234567890123456>",
         OfGroup,
         3,
-        35,
+        131,
     ),
     ("\\k<\u{E9}>", Referring, 3, 5),
     ("\\g{\u{E9}}", Referring, 3, 5),
@@ -714,7 +721,7 @@ const CONDITIONS_IN_UTF: &[Condition] = &[
     ),
 ];
 
-/// In UTF names have letters, decimal digits and underscores of Unicode, at most 32 bytes of them.
+/// In UTF names have letters, decimal digits and underscores of Unicode, at most 128 bytes of them.
 #[test]
 fn names_in_utf(rt: HostRuntime) {
     all_named(&rt, UTF, NAMES_IN_UTF);
@@ -737,7 +744,8 @@ const FAULTS_IN_UTF: &[(i32, &str)] = &[
     ),
     (
         148,
-        "(?<__\u{E9}\u{E9}\u{E9}\u{E9}\u{E9}\u{E9}\u{E9}\u{E9}\u{E9}\u{E9}\u{E9}\u{E9}\u{E9}\u{E9}\u{E9}a>",
+        "(?<\u{E9}a23456789012345678901234567890123456789012345678901234567890123456789012345\
+         6789012345678901234567890123456789012345678901234567>",
     ),
 ];
 

@@ -1,4 +1,4 @@
-//! Tables of what the machine answers at one place.
+//! Tables of what the machine answers at one place, and of the stack of records that it works on.
 #![tactic(auto)]
 
 #[cfg(test)]
@@ -9,6 +9,8 @@ mod partial;
 mod places;
 #[cfg(test)]
 mod rows;
+#[cfg(test)]
+mod store;
 #[cfg(test)]
 mod trees;
 #[cfg(test)]

@@ -15,6 +15,7 @@ use pat_grammar::callouts::{AUTOMATIC, Called, NextItem, is_item};
 use pat_grammar::error::ReadError;
 use pat_lex::Token;
 use pat_tree::{Memory, Node};
+use token_parts::LEFT_OUT;
 
 /// Whether a callout stands before this place.
 fn is_called(called: Option<usize>, at: usize) -> bool
@@ -87,7 +88,7 @@ impl<'a> Machine<'a> {
             self.begin_callout(called, item, after)?;
             return Ok(());
         }
-        Err(self.fault(195))
+        Err(self.fault(LEFT_OUT))
     }
 
     /// Whether AUTO_CALLOUT has a callout before a token at the place.

@@ -14,6 +14,10 @@ ghost use Rattle.pat_build.specs.Machine.{Means, Ready, IsNext, Begins, Took, Sa
 ghost use Rattle.pat_grammar.specs.Places.{Refuses};
 ghost use Rattle.pat_nodes.specs.Nodes.{form_of};
 
+use crate::faults::{
+    ALTERNATIVES_OF_DEFINE, KEEP_OUT_IN_LOOKAROUND, NOTHING_TO_REPEAT, TOO_MANY_ALTERNATIVES,
+    UNOPENED_GROUP,
+};
 use crate::machine::Machine;
 use pat_grammar::alternatives::{Bars, Numbering};
 use pat_grammar::cursor::Assertion;
@@ -65,8 +69,8 @@ impl<'a> Machine<'a> {
         match self.bars {
             Bars::Free => Ok(Bars::Free),
             Bars::First => Ok(Bars::Second),
-            Bars::Second => Err(self.fault(127)),
-            Bars::Define => Err(self.fault(154)),
+            Bars::Second => Err(self.fault(TOO_MANY_ALTERNATIVES)),
+            Bars::Define => Err(self.fault(ALTERNATIVES_OF_DEFINE)),
         }
     }
 
@@ -168,7 +172,7 @@ impl<'a> Machine<'a> {
         ensures bad { IfErr result (Refuses (whole_of self.old)) }
     {
         if self.looking {
-            return Err(self.fault(199));
+            return Err(self.fault(KEEP_OUT_IN_LOOKAROUND));
         }
         let id = self.draft.add(Node::KeepOut, self.at as u32)?;
         self.level.parts.push(id)?;
@@ -328,7 +332,7 @@ impl<'a> Machine<'a> {
         ) = self.stack.pop()
         else {
             return Err(ReadError::Bad {
-                number: 122,
+                number: UNOPENED_GROUP,
                 at: self.at,
             });
         };
@@ -366,7 +370,10 @@ impl<'a> Machine<'a> {
     {
         let at = self.at;
         let Some(atom) = self.waiting else {
-            return Err(ReadError::Bad { number: 109, at });
+            return Err(ReadError::Bad {
+                number: NOTHING_TO_REPEAT,
+                at,
+            });
         };
         let ungreedy = self.options.ungreedy;
         let id = repeated(self.alloc, &mut self.draft, min, max, mode, ungreedy, atom)?;

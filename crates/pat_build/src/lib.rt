@@ -3,6 +3,7 @@
 
 mod callouts;
 mod calls;
+mod faults;
 mod handlers;
 mod laws;
 mod machine;

@@ -13,6 +13,7 @@ ghost use Rattle.pat_build.specs.Machine.{Ready, Begins, Took, TestsNone, state_
 ghost use Rattle.pat_grammar.specs.Places.{Refuses};
 ghost use Rattle.pat_nodes.specs.Nodes.{form_of, test_of};
 
+use crate::faults::{GROUPS_TOO_DEEP, NAME_IS_TAKEN, OTHER_NAME_OF_NUMBER};
 use crate::machine::Machine;
 use pat_grammar::alternatives::Numbering;
 use pat_grammar::error::ReadError;
@@ -22,6 +23,7 @@ use pat_nodes::frames::{Form, Inside, Test};
 use pat_nodes::names::{Name, groups_of, is_elsewhere, is_given, is_other, one_group};
 use pat_nodes::nodes::plain;
 use pat_tree::{GroupList, Memory, Options};
+use token_parts::{GROUP_NUMBER_TOO_BIG, MALFORMED_CONDITION};
 
 /// The most parentheses that may be open.
 const DEEPEST: usize = 250;
@@ -46,7 +48,7 @@ impl<'a> Machine<'a> {
         ensures bad { IfErr result (Refuses (whole_of self.old)) }
     {
         if self.stack.len() >= DEEPEST {
-            return Err(self.fault(119));
+            return Err(self.fault(GROUPS_TOO_DEEP));
         }
         let inside = Inside {
             options,
@@ -64,10 +66,10 @@ impl<'a> Machine<'a> {
         ensures bad { IfErr result (Refuses (whole_of self.old)) }
     {
         if self.stack.len() >= DEEPEST {
-            return Err(self.fault(119));
+            return Err(self.fault(GROUPS_TOO_DEEP));
         }
         if self.groups >= GREATEST {
-            return Err(self.fault(161));
+            return Err(self.fault(GROUP_NUMBER_TOO_BIG));
         }
         let number = self.groups + 1;
         let form = Form::Group {
@@ -98,18 +100,18 @@ impl<'a> Machine<'a> {
         ensures bad { IfErr result (Refuses (whole_of self.old)) }
     {
         if self.stack.len() >= DEEPEST {
-            return Err(self.fault(119));
+            return Err(self.fault(GROUPS_TOO_DEEP));
         }
         if self.groups >= GREATEST {
-            return Err(self.fault(161));
+            return Err(self.fault(GROUP_NUMBER_TOO_BIG));
         }
         let number = self.groups + 1;
         let called = &self.text[from..to];
         if self.is_taken(called, number) {
-            return Err(self.fault(143));
+            return Err(self.fault(NAME_IS_TAKEN));
         }
         if is_other(self.draft.names(), called, number) {
-            return Err(self.fault(165));
+            return Err(self.fault(OTHER_NAME_OF_NUMBER));
         }
         let name = Name {
             from,
@@ -134,7 +136,7 @@ impl<'a> Machine<'a> {
         ensures bad { IfErr result (Refuses (whole_of self.old)) }
     {
         if self.stack.len() >= DEEPEST {
-            return Err(self.fault(119));
+            return Err(self.fault(GROUPS_TOO_DEEP));
         }
         let inside = Inside {
             numbering: Numbering::Reset {
@@ -262,7 +264,7 @@ impl<'a> Machine<'a> {
                 Ok(Form::Condition(named_call(groups)))
             }
             CondText::Define => Ok(Form::Define),
-            CondText::Lookaround => Err(self.fault(128)),
+            CondText::Lookaround => Err(self.fault(MALFORMED_CONDITION)),
         }
     }
 
@@ -301,13 +303,13 @@ impl<'a> Machine<'a> {
         ensures bad { IfErr result (Refuses (whole_of self.old)) }
     {
         if self.stack.len() >= DEEPEST {
-            return Err(self.fault(119));
+            return Err(self.fault(GROUPS_TOO_DEEP));
         }
         let cursor = self.cursor(after);
         let test = cursor.assertion(self.alloc, self.at, self.calling)?;
         if self.stack.len() + 1 >= DEEPEST {
             return Err(ReadError::Bad {
-                number: 119,
+                number: GROUPS_TOO_DEEP,
                 at: test.here.at,
             });
         }
@@ -349,7 +351,7 @@ impl<'a> Machine<'a> {
         ensures bad { IfErr result (Refuses (whole_of self.old)) }
     {
         if self.stack.len() >= DEEPEST {
-            return Err(self.fault(119));
+            return Err(self.fault(GROUPS_TOO_DEEP));
         }
         let form = self.form(cond, from, to)?;
         let beyond = self.beyond_after(cond, from, to);
@@ -379,7 +381,7 @@ impl<'a> Machine<'a> {
             Target::Plus(n) => {
                 let group = groups + n;
                 if group > u32::from(GREATEST) {
-                    return Err(self.fault(161));
+                    return Err(self.fault(GROUP_NUMBER_TOO_BIG));
                 }
                 Ok(one_group(self.alloc, group as u16)?)
             }

@@ -15,6 +15,7 @@ ghost use Rattle.pat_build.specs.Machine.{Means, HasRoom, Ends, Same, state_of, 
 ghost use Rattle.pat_grammar.specs.Places.{Refuses};
 ghost use Rattle.pat_nodes.specs.Nodes.{parsed_of};
 
+use crate::faults::{NO_SUCH_GROUP, NOT_UTF8};
 use crate::machine::Machine;
 use pat_grammar::alternatives::{Bars, Numbering};
 use pat_grammar::error::ReadError;
@@ -26,6 +27,7 @@ use pat_nodes::nodes::{group, plain};
 use pat_tree::{Draft, Kids, NameEntry, NodeId, Options, Tree};
 use std::alloc::Global;
 use std::mem;
+use token_parts::{GROUP_NUMBER_TOO_BIG, PATTERN_TOO_LARGE, UNCLOSED_GROUP};
 use uni_text::check;
 
 impl<'a> Machine<'a> {
@@ -125,7 +127,7 @@ impl<'a> Machine<'a> {
         self.settle(Token::End)?;
         if !self.stack.is_empty() {
             return Err(ReadError::Bad {
-                number: 114,
+                number: UNCLOSED_GROUP,
                 at: self.text.len(),
             });
         }
@@ -173,7 +175,10 @@ fn none_beyond(beyond: Option<usize>) -> Result<(), ReadError>
 {
     match beyond {
         None => Ok(()),
-        Some(at) => Err(ReadError::Bad { number: 161, at }),
+        Some(at) => Err(ReadError::Bad {
+            number: GROUP_NUMBER_TOO_BIG,
+            at,
+        }),
     }
 }
 
@@ -205,7 +210,7 @@ fn tree_of(
     match draft.finish(root) {
         Ok(tree) => Ok(tree),
         Err(bad) => Err(ReadError::Bad {
-            number: 115,
+            number: NO_SUCH_GROUP,
             at: bad.at as usize,
         }),
     }
@@ -225,7 +230,7 @@ fn in_utf8(text: &[u8], utf: bool) -> Result<(), ReadError>
     match check(text) {
         Ok(()) => Ok(()),
         Err(bad) => Err(ReadError::Bad {
-            number: -3,
+            number: NOT_UTF8,
             at: bad.at,
         }),
     }
@@ -260,7 +265,10 @@ fn read_with(alloc: Global, text: &[u8], options: Options, calling: bool) -> Res
     ensures bad { IfErr result (Refuses (read_with calling options text.now)) }
 {
     if text.len() > 65536 {
-        return Err(ReadError::Bad { number: 120, at: 0 });
+        return Err(ReadError::Bad {
+            number: PATTERN_TOO_LARGE,
+            at: 0,
+        });
     }
     if options.literal {
         in_utf8(text, options.utf)?;

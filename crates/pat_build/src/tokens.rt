@@ -11,10 +11,11 @@ use pat_grammar::brackets::read_class;
 use pat_grammar::error::ReadError;
 use pat_grammar::options::with_setting;
 use pat_grammar::properties::property_part;
-use pat_lex::{OptionMask, Token};
+use pat_lex::{OptionMask, Token, UNKNOWN_VERB};
 use pat_nodes::items::{any_or_line, boundary, class_of};
 use pat_nodes::nodes::plain;
 use pat_tree::{AnchorKind, Item, Memory, Part, SetName};
+use token_parts::LEFT_OUT;
 
 impl<'a> Machine<'a> {
     /// A type outside a class is a class of its own.
@@ -162,8 +163,8 @@ impl<'a> Machine<'a> {
             Token::Bar => self.bar(after),
             Token::CondStart { cond, from, to } => self.condition(cond, from, to, after),
             Token::Close => self.close(after),
-            Token::Start(_) => Err(self.fault(160)),
-            _ => Err(self.fault(195)),
+            Token::Start(_) => Err(self.fault(UNKNOWN_VERB)),
+            _ => Err(self.fault(LEFT_OUT)),
         }
     }
 

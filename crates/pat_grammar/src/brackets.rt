@@ -8,22 +8,12 @@ ghost use Rattle.pat_grammar.specs.Places.{Always, AlwaysFromStart, GivesPart, G
 
 use crate::cursor::{Cursor, Place, Spot};
 use crate::error::ReadError;
+use crate::faults::{NO_RANGE, RANGE_OUT_OF_ORDER, UNCLOSED_CLASS};
 use crate::properties::property_part;
 use pat_lex::{Fault, Token};
 use pat_tree::{ClassSpec, Part, PartList};
 use std::alloc::Global;
-
-/// The class isn't closed.
-const UNCLOSED_CLASS: i32 = 106;
-
-/// A range ends before it begins.
-const RANGE_OUT_OF_ORDER: i32 = 108;
-
-/// A hyphen stands beside a set and isn't last.
-const NO_RANGE: i32 = 150;
-
-/// What a class has nowhere.
-const LEFT_OUT: i32 = 195;
+use token_parts::LEFT_OUT;
 
 /// The character that a token stands for where a range may end.
 fn character(token: Token) -> Option<u32>

@@ -14,6 +14,7 @@ use crate::options::with_setting;
 use pat_lex::Token;
 use pat_tree::Memory;
 use std::alloc::Global;
+use token_parts::{LEFT_OUT, MALFORMED_CONDITION};
 
 /// The number of an automatic callout.
 pub const AUTOMATIC: u8 = 255;
@@ -228,7 +229,10 @@ impl<'a> Cursor<'a> {
     {
         let lead = self.written_lead(alloc, called, after)?;
         let Ok(spot) = self.item(after, false) else {
-            return Err(ReadError::Bad { number: 128, at });
+            return Err(ReadError::Bad {
+                number: MALFORMED_CONDITION,
+                at,
+            });
         };
         let look = self.look_by(at, Some(lead), spot)?;
         Ok(look)
@@ -246,7 +250,10 @@ impl<'a> Cursor<'a> {
         ensures small { IfOk result (λ a. IfSome a.lead (IsWithin (length self.now.text.now))) }
     {
         let Ok(spot) = self.item(self.place, false) else {
-            return Err(ReadError::Bad { number: 128, at });
+            return Err(ReadError::Bad {
+                number: MALFORMED_CONDITION,
+                at,
+            });
         };
         if let Token::CalloutItem {
             number,
@@ -256,7 +263,7 @@ impl<'a> Cursor<'a> {
         {
             if !calling {
                 return Err(ReadError::Bad {
-                    number: 195,
+                    number: LEFT_OUT,
                     at: spot.here.at,
                 });
             }

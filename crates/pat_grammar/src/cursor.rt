@@ -11,6 +11,7 @@ ghost use Rattle.pat_grammar.specs.Leads.{LookIs, LookFails};
 use crate::callouts::Lead;
 use pat_lex::{Fault, LexFlags, OpenKind, Token, next_token};
 use pat_tree::Options;
+use token_parts::MALFORMED_CONDITION;
 
 /// A place in the text, and whether it is between `\Q` and `\E`.
 #[derive(Clone, Copy, Debug, PartialEq, Eq)]
@@ -175,9 +176,15 @@ impl<'a> Cursor<'a> {
                     after: spot.after,
                     lead,
                 }),
-                None => Err(Fault { number: 128, at }),
+                None => Err(Fault {
+                    number: MALFORMED_CONDITION,
+                    at,
+                }),
             },
-            _ => Err(Fault { number: 128, at }),
+            _ => Err(Fault {
+                number: MALFORMED_CONDITION,
+                at,
+            }),
         }
     }
 }

@@ -7,6 +7,7 @@ pub mod brackets;
 pub mod callouts;
 pub mod cursor;
 pub mod error;
+mod faults;
 pub mod options;
 pub mod properties;
 pub mod start;

@@ -2,12 +2,10 @@
 ghost use Rattle.std.specs.Prelude.{◌≡◌};
 ghost use Rattle.pat_grammar.specs.Classes.{property_part};
 
+use crate::faults::UNKNOWN_PROPERTY;
 use pat_lex::Fault;
 use pat_tree::{Part, SetName};
 use uni_text::Prop;
-
-/// No property has the name.
-const UNKNOWN_PROPERTY: i32 = 147;
 
 /// The property of a name as a part of a class. It stands at a place, where an unknown name is told.
 pub fn property_part(name: &[u8], not: bool, ucp: bool, at: usize) -> Result<Part, Fault>

@@ -12,6 +12,12 @@ use pat_tree::{Memory, Node, NodeId, Tree};
 use std::alloc::Global;
 use std::marker::Model;
 
+/// A branch of a lookbehind isn't of one length.
+const NO_ONE_LENGTH: i32 = 125;
+
+/// A branch of a lookbehind is too long.
+const BRANCH_TOO_LONG: i32 = 187;
+
 /// A lookbehind is refused, with the number of the fault and the place of its parenthesis.
 #[derive(Clone, Copy, Debug, PartialEq, Eq)]
 pub struct LengthFault {
@@ -79,13 +85,22 @@ fn fault_of(at: u32, span: Option<Span>) -> Option<LengthFault>
         },
     ) = span
     else {
-        return Some(LengthFault { number: 125, at });
+        return Some(LengthFault {
+            number: NO_ONE_LENGTH,
+            at,
+        });
     };
     if least != most {
-        return Some(LengthFault { number: 125, at });
+        return Some(LengthFault {
+            number: NO_ONE_LENGTH,
+            at,
+        });
     }
     if most > 65535 {
-        return Some(LengthFault { number: 187, at });
+        return Some(LengthFault {
+            number: BRANCH_TOO_LONG,
+            at,
+        });
     }
     None
 }

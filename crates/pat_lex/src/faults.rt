@@ -1,5 +1,8 @@
 //! The numbers of the faults that this crate tells itself.
 
+/// A verb or a start item isn't known, or isn't well written.
+pub const UNKNOWN_VERB: i32 = 160;
+
 pub(crate) const BACKSLASH_AT_END: i32 = 101;
 
 pub(crate) const UNKNOWN_ESCAPE: i32 = 103;
@@ -17,8 +20,6 @@ pub(crate) const COLLATING_ELEMENT: i32 = 113;
 pub(crate) const UNKNOWN_POSIX_NAME: i32 = 130;
 
 pub(crate) const MALFORMED_PROPERTY: i32 = 146;
-
-pub(crate) const UNKNOWN_VERB: i32 = 160;
 
 pub(crate) const MARK_WITHOUT_NAME: i32 = 166;
 

@@ -11,6 +11,7 @@ mod lexer;
 mod quantifiers;
 mod verbs;
 
+pub use faults::UNKNOWN_VERB;
 pub use laws::{
     class_bytes_stand_for_themselves, literals_are_characters, plain_bytes_stand_for_themselves,
     quoted_bytes_stand_for_themselves, worked_rows,

@@ -5,9 +5,9 @@ use Rattle.std.proofs.lemmas.Bool.{eqb-true, eq-eqb}
 use Rattle.std.proofs.lemmas.List.Folds.{list_any-append}
 use Rattle.std.proofs.lemmas.Slice.Eq.{bytes_eq-Decides}
 use denote.Ref.{Bor}
-use Rattle.pcre_io.specs.Files.{File, Directory, entries_in, is_file, is_among, kind_of, listed_entries}
+use Rattle.pcre_io.specs.Files.{File, Directory, Contents, entries_in, is_file, is_among, kind_of, listed_entries}
 use Rattle.pcre_io.specs.declared.entries.Kind.TheVariants as kind
-use Rattle.pcre_io.specs.MemTree.{below, before_slashes, entries_below, held_files, is_slash, tree_of}
+use Rattle.pcre_io.specs.MemTree.{below, before_slashes, entries_below, held_by, is_slash, tree_of}
 use Rattle.pcre_io.specs.declared.entries.DirEntry.{DirEntry}
 
 -- What follows a directory's name.
@@ -110,24 +110,33 @@ module _ (files : List File) (d : List ℕ) (free : is_file d files ≡ false) w
   pub entries-tree : entries_in d (tree_of files) ≡ found (list_any (λ (file : File). is_some (below d file.name)) files)
   entries-tree = entries-of (flat_map (λ (file : File). before_slashes file.name) files) ∙ ap found (any-directory d files)
 
--- the kind of a name that is neither refused nor a file's
-pub kind-held : (files : List File) (refused : List (List ℕ)) (name : List ℕ) (has : Bool) → is_among name refused ≡ false → is_file name files ≡ false → list_any (λ (file : File). is_some (below name file.name)) files ≡ has
-    → kind_of name (held_files files refused) ≡ (if has then Some kind.Dir else None)
-kind-held files refused name has unrefused free is = rw (unrefused, free, entries-tree files name free, is) (by_has has)
-  where
-    by_has : (b : Bool) → (if is_some (if b then Some (entries_below name files) else None) then Some kind.Dir else None) ≡ (if b then Some kind.Dir else None)
-    by_has true = refl
-    by_has false = refl
+-- what is held, where these names are refused, of kind Other, or closed
+module _ (files : List File) (refused others closed : List (List ℕ)) (name : List ℕ) where
+  abbrev held : Contents
+  held = held_by files refused others closed
 
-listed-by : (barred file has : Bool) (listed : Option (List DirEntry)) (entries : List DirEntry) → (file ≡ false → listed ≡ (if has then Some entries else None))
-    → (if barred then None else if file then Some kind.File else if is_some listed then Some kind.Dir else None) ≡ Some kind.Dir
-    → (if barred then None else if file then None else listed) ≡ Some entries
-listed-by true file has listed entries tree is = absurd (let no : None ≡ Some kind.Dir = is in cc)
-listed-by false true has listed entries tree is = absurd (let no : Some kind.File ≡ Some kind.Dir = is in cc)
-listed-by false false true listed entries tree is = tree refl
-listed-by false false false None entries tree is = absurd (let no : None ≡ Some kind.Dir = is in cc)
-listed-by false false false (Some l) entries tree is = absurd (let no : Some l ≡ None = tree refl in cc)
+  abbrev has_below : Bool
+  has_below = list_any (λ (file : File). is_some (below name file.name)) files
 
--- a directory's entries
-pub listed-held : (files : List File) (refused : List (List ℕ)) (name : List ℕ) → kind_of name (held_files files refused) ≡ Some kind.Dir → listed_entries name (held_files files refused) ≡ Some (entries_below name files)
-listed-held files refused name is = listed-by (is_among name refused) (is_file name files) (list_any (λ (file : File). is_some (below name file.name)) files) (entries_in name (tree_of files)) (entries_below name files) (λ free. entries-tree files name free) is
+  -- the kind of a name that is neither refused nor of kind Other nor a file's
+  pub kind-held : (has : Bool) → is_among name refused ≡ false → is_among name others ≡ false → is_file name files ≡ false → has_below ≡ has → kind_of name held ≡ (if has then Some kind.Dir else None)
+  kind-held has unrefused known free is = rw (unrefused, known, free, entries-tree files name free, is) (by_has has)
+    where
+      by_has : (b : Bool) → (if is_some (if b then Some (entries_below name files) else None) then Some kind.Dir else None) ≡ (if b then Some kind.Dir else None)
+      by_has true = refl
+      by_has false = refl
+
+  -- a directory's entries
+  pub listed-held : is_some (listed_entries name held) ≡ true → listed_entries name held ≡ Some (entries_below name files)
+  listed-held is = listed-by (is_among name refused) (is_among name closed) (is_among name others) (is_file name files) has_below (entries_in name (tree_of files)) (λ free. entries-tree files name free) is
+    where
+      listed-by : (barred shut odd file has : Bool) (listed : Option (List DirEntry)) → (file ≡ false → listed ≡ (if has then Some (entries_below name files) else None))
+          → is_some (if barred then None else if shut then None else if odd then None else if file then None else listed) ≡ true
+          → (if barred then None else if shut then None else if odd then None else if file then None else listed) ≡ Some (entries_below name files)
+      listed-by true shut odd file has listed tree is = absurd (let no : false ≡ true = is in cc)
+      listed-by false true odd file has listed tree is = absurd (let no : false ≡ true = is in cc)
+      listed-by false false true file has listed tree is = absurd (let no : false ≡ true = is in cc)
+      listed-by false false false true has listed tree is = absurd (let no : false ≡ true = is in cc)
+      listed-by false false false false true listed tree is = tree refl
+      listed-by false false false false false None tree is = absurd (let no : false ≡ true = is in cc)
+      listed-by false false false false false (Some l) tree is = absurd (let no : Some l ≡ None = tree refl in cc)

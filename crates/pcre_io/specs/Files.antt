@@ -17,11 +17,14 @@ pub record Directory : Type 0 where
   pub name : List ℕ
   pub entries : List DirEntry
 
--- what a set holds: its files, its directories, and the names that it refuses
+-- what a set holds: its files, its directories, the names that it refuses, those that are neither a file's nor a directory's,
+-- and those of which it tells the kind alone, so that they are neither opened nor listed
 pub record Contents : Type 0 where
   pub files : List File
   pub tree : List Directory
   pub refused : List (List ℕ)
+  pub others : List (List ℕ)
+  pub closed : List (List ℕ)
 
 -- what a set tells: what it holds, and its faults
 pub record Filed : Type 0 where
@@ -44,19 +47,25 @@ is_among name names = list_any (λ n. bytes_eq n name) names
 
 -- the file that a name opens
 abbrev pub opened_file : List ℕ → Contents → Option File
-opened_file name set = if is_among name set.refused then None else file_of name set.files
+opened_file name set =
+    if is_among name set.refused then None
+    else if is_among name set.closed then None
+    else file_of name set.files
 
--- the entries that are listed of a name; a file has none
+-- the entries that are listed of a name; what isn't a directory has none
 abbrev pub listed_entries : List ℕ → Contents → Option (List DirEntry)
 listed_entries name set =
     if is_among name set.refused then None
+    else if is_among name set.closed then None
+    else if is_among name set.others then None
     else if is_file name set.files then None
     else entries_in name set.tree
 
--- the kind of a name: a file or a directory, and not both
+-- the kind of a name: a file, a directory, or neither
 abbrev pub kind_of : List ℕ → Contents → Option Kind
 kind_of name set =
     if is_among name set.refused then None
+    else if is_among name set.others then Some kind.Other
     else if is_file name set.files then Some kind.File
     else if is_some (entries_in name set.tree) then Some kind.Dir
     else None
@@ -74,9 +83,14 @@ abbrev pub IsMissing : Option Contents → List ℕ → Type 0
 IsMissing None name = ⊤
 IsMissing (Some set) name = opened_file name set ≡ None
 
+-- a name has a kind: that of an entry without a readable name is no name's
+abbrev pub IsOfName : Option Kind → Type 0
+IsOfName (Some kind.Unnamed) = ⊥
+IsOfName _ = ⊤
+
 -- the kind that a set tells of a name, if any
 abbrev pub HasKind : Option Contents → List ℕ → Option Kind → Type 0
-HasKind None name answer = ⊤
+HasKind None name answer = IsOfName answer
 HasKind (Some set) name answer = kind_of name set ≡ answer
 
 -- the entries that a set tells of a name, if any

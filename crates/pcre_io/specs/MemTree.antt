@@ -64,14 +64,44 @@ tree_of files =
     let names = filter (λ name. not (is_file name files)) (flat_map (λ (file : File). before_slashes file.name) files) in
     map (λ name. record { name = name; entries = entries_below name files }) names
 
--- what files in memory hold
+-- what files in memory hold, where these names are refused, of kind Other, or closed
+abbrev pub held_by : List File → List (List ℕ) → List (List ℕ) → List (List ℕ) → Contents
+held_by files refused others closed =
+    record { files = files; tree = tree_of files; refused = refused; others = others; closed = closed }
+
+-- the same, where names are at most refused
 abbrev pub held_files : List File → List (List ℕ) → Contents
-held_files files refused = record { files = files; tree = tree_of files; refused = refused }
+held_files files refused = held_by files refused [] []
 
--- the set tells the same, but for one file that was added
+abbrev pub adding : File → Contents → Contents
+adding file set =
+    let files = with_file file set.files in record set { files = files; tree = tree_of files }
+
+abbrev pub refusing : List ℕ → Contents → Contents
+refusing name set = record set { refused = set.refused ++ name ∷ [] }
+
+abbrev pub making_other : List ℕ → Contents → Contents
+making_other name set = record set { others = set.others ++ name ∷ [] }
+
+abbrev pub closing : List ℕ → Contents → Contents
+closing name set = record set { closed = set.closed ++ name ∷ [] }
+
+-- the set tells the same, but for one change of what it holds
+abbrev pub Becomes : (Contents → Contents) → Filed → Filed → Type 0
+Becomes change old new = (new.contents ≡ option_map change old.contents) × (new.faults ≡ old.faults)
+
+-- but for one file that was added
 abbrev pub Adds : File → Filed → Filed → Type 0
-Adds file old new = (new.contents ≡ option_map (λ (set : Contents). held_files (with_file file set.files) set.refused) old.contents) × (new.faults ≡ old.faults)
+Adds file old new = Becomes (adding file) old new
 
--- the set tells the same, but for one name that it refuses
+-- but for one name that it refuses
 abbrev pub Refuses : List ℕ → Filed → Filed → Type 0
-Refuses name old new = (new.contents ≡ option_map (λ (set : Contents). record set { refused = set.refused ++ name ∷ [] }) old.contents) × (new.faults ≡ old.faults)
+Refuses name old new = Becomes (refusing name) old new
+
+-- but for one name that is of kind Other
+abbrev pub MakesOther : List ℕ → Filed → Filed → Type 0
+MakesOther name old new = Becomes (making_other name) old new
+
+-- but for one name that it doesn't open or list
+abbrev pub Closes : List ℕ → Filed → Filed → Type 0
+Closes name old new = Becomes (closing name) old new

@@ -13,7 +13,7 @@ pub enum Kind {
     File,
     /// A directory, which can be listed.
     Dir,
-    /// Neither: a link, a device, a pipe.
+    /// Neither: a link, a device, a pipe, or an entry at which the system lets nobody look.
     Other,
     /// An entry whose name isn't text; it is told under the empty name.
     Unnamed,

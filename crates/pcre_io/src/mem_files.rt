@@ -1,8 +1,8 @@
 //! Files in memory.
-ghost use Rattle.std.specs.Prelude.{◌≡◌, ◌≤◌, [], map, MatchOption, None, Some, OnErr, OnOk, IfOk, Err, string_bytes, option_map};
-ghost use Rattle.pcre_io.specs.Files.{file_of, is_file, opened_file, is_among, kind_of};
+ghost use Rattle.std.specs.Prelude.{◌≡◌, ◌≤◌, [], map, MatchOption, None, Some, OnErr, OnOk, IfOk, Err, is_some, string_bytes, option_map};
+ghost use Rattle.pcre_io.specs.Files.{file_of, is_file, opened_file, is_among, kind_of, listed_entries};
 ghost use Rattle.pcre_io.specs.Causes.{Rose};
-ghost use Rattle.pcre_io.specs.MemTree.{Adds, Refuses, file_view, held_files, place_of};
+ghost use Rattle.pcre_io.specs.MemTree.{Adds, Closes, MakesOther, Refuses, file_view, held_by, held_files, place_of};
 
 use crate::entries::{Kind, Listing};
 use crate::file_set::FileSet;
@@ -27,6 +27,8 @@ pub struct MemFile {
 pub struct MemFiles {
     files: Vec<MemFile>,
     refused: NameList,
+    others: NameList,
+    closed: NameList,
     faults: u64,
 }
 
@@ -39,6 +41,8 @@ impl MemFiles {
         MemFiles {
             files: Vec::new(alloc),
             refused: NameList::new(alloc),
+            others: NameList::new(alloc),
+            closed: NameList::new(alloc),
             faults: 0,
         }
     }
@@ -78,13 +82,39 @@ impl MemFiles {
         self.refused.push(Name::of(name))
     }
 
+    /// This name is of kind Other from now on: it is opened where it is a file's, and never listed. The set is unchanged
+    /// after a refusal, which is for want of memory alone.
+    pub fn make_other(&mut self, name: String) -> Result<(), Memory>
+        ensures ok { OnOk result
+            (MakesOther (string_bytes name) (⟦<MemFiles as FileSet>⟧.tells self.old)
+            (⟦<MemFiles as FileSet>⟧.tells self.new)) }
+        ensures refused { OnErr result
+            (⟦<MemFiles as FileSet>⟧.tells self.new ≡ ⟦<MemFiles as FileSet>⟧.tells self.old) }
+    {
+        self.others.push(Name::of(name))
+    }
+
+    /// Opening and listing this name fail from now on, and its kind is still told. The set is unchanged after a refusal,
+    /// which is for want of memory alone.
+    pub fn close(&mut self, name: String) -> Result<(), Memory>
+        ensures ok { OnOk result
+            (Closes (string_bytes name) (⟦<MemFiles as FileSet>⟧.tells self.old)
+            (⟦<MemFiles as FileSet>⟧.tells self.new)) }
+        ensures refused { OnErr result
+            (⟦<MemFiles as FileSet>⟧.tells self.new ≡ ⟦<MemFiles as FileSet>⟧.tells self.old) }
+    {
+        self.closed.push(Name::of(name))
+    }
+
     // The kind of a name, if it is known.
     fn kind_of(&self, name: &str) -> Option<Kind>
-        ensures { result
-            ≡ kind_of name.now (held_files (map file_view self.now.files.items) self.now.refused) }
+        ensures { result ≡ kind_of name.now (held_by (map file_view self.now.files.items)
+            self.now.refused self.now.others self.now.closed) }
     {
         if is_among(name, self.refused.as_slice()) {
             None
+        } else if is_among(name, self.others.as_slice()) {
+            Some(Kind::Other)
         } else if has_file(self.files.as_slice(), name) {
             Some(Kind::File)
         } else if has_below(self.files.as_slice(), name) {
@@ -97,13 +127,25 @@ impl MemFiles {
     // The file that a name opens, if there is one.
     fn opened(&self, name: &str) -> Option<&MemFile>
         ensures { option_map (λ f. file_view f.now) result
-            ≡ opened_file name.now
-            (held_files (map file_view self.now.files.items) self.now.refused) }
+            ≡ opened_file name.now (held_by (map file_view self.now.files.items)
+            self.now.refused self.now.others self.now.closed) }
     {
-        if is_among(name, self.refused.as_slice()) {
+        if is_among(name, self.refused.as_slice()) || is_among(name, self.closed.as_slice()) {
             None
         } else {
             find(self.files.as_slice(), name)
+        }
+    }
+
+    // Whether a name is listed.
+    fn is_listed(&self, name: &str) -> bool
+        ensures { result
+            ≡ is_some (listed_entries name.now (held_by (map file_view self.now.files.items)
+            self.now.refused self.now.others self.now.closed)) }
+    {
+        match self.kind_of(name) {
+            Some(Kind::Dir) => !is_among(name, self.closed.as_slice()),
+            _ => false,
         }
     }
 
@@ -112,7 +154,8 @@ impl MemFiles {
         ensures later { self.old.faults ≤ self.new.faults }
         ensures counts { Rose self.old.faults self.new.faults }
         ensures failed { result ≡ IoError.Failed }
-        ensures same { (self.new.files ≡ self.old.files) × (self.new.refused ≡ self.old.refused) }
+        ensures same { (self.new.files ≡ self.old.files) × (self.new.refused ≡ self.old.refused)
+            × (self.new.others ≡ self.old.others) × (self.new.closed ≡ self.old.closed) }
     {
         self.faults = self.faults.saturating_add(1);
         IoError::Failed
@@ -193,7 +236,7 @@ fn source_of(alloc: Global, file: &MemFile) -> Result<MemSource, IoError>
 impl FileSet for MemFiles {
     type Src = MemSource;
 
-    ghost tells = { λ s. record { contents = Some (held_files (map file_view s.files.items) s.refused); faults = s.faults } };
+    ghost tells = { λ s. record { contents = Some (held_by (map file_view s.files.items) s.refused s.others s.closed); faults = s.faults } };
 
     fn open_file(&mut self, alloc: Global, name: &str) -> Result<MemSource, IoError> {
         match self.opened(name) {
@@ -210,9 +253,10 @@ impl FileSet for MemFiles {
     }
 
     fn list(&mut self, alloc: Global, name: &str) -> Result<Listing, IoError> {
-        match self.kind_of(name) {
-            Some(Kind::Dir) => entries_below(alloc, name, self.files.as_slice()),
-            _ => Err(self.fail()),
+        if self.is_listed(name) {
+            entries_below(alloc, name, self.files.as_slice())
+        } else {
+            Err(self.fail())
         }
     }
 }

@@ -1,6 +1,7 @@
 //! The files of the system as a set of files.
-ghost use Rattle.std.specs.Prelude.{◌≡◌, ◌≤◌, None};
+ghost use Rattle.std.specs.Prelude.{◌≡◌, ◌≤◌, None, Some, IfOk};
 ghost use Rattle.pcre_io.specs.Causes.{Rose};
+ghost use Rattle.pcre_io.specs.Files.{IsOfName};
 
 use crate::entries::{DirEntry, Kind, Listing};
 use crate::file_set::FileSet;
@@ -51,7 +52,9 @@ fn cause_of(error: &io::Error) -> IoError {
     }
 }
 
-fn kind_by(file_type: FileType) -> Kind {
+fn kind_by(file_type: FileType) -> Kind
+    ensures { IsOfName (Some result) }
+{
     if file_type.is_file() {
         Kind::File
     } else if file_type.is_dir() {
@@ -62,7 +65,9 @@ fn kind_by(file_type: FileType) -> Kind {
 }
 
 // The kind of a name's file. A link is followed.
-fn kind_at<R: Files>(files: &R, name: &str) -> Result<Kind, IoError> {
+fn kind_at<R: Files>(files: &R, name: &str) -> Result<Kind, IoError>
+    ensures { IfOk result (λ kind. IsOfName (Some kind)) }
+{
     match fs::metadata(files, name) {
         Ok(metadata) => Ok(kind_by(metadata.file_type())),
         Err(e) => Err(cause_of(&e)),
@@ -76,24 +81,41 @@ fn name_from(alloc: Global, text: &str) -> Result<Name, IoError> {
     }
 }
 
-// An entry as it was read. A link in a directory isn't followed. An entry whose name isn't UTF-8 is told under the empty
-// name.
+// The kind of an entry, where it is still there. One that the system won't look at is neither a file nor a directory.
+fn kind_seen(seen: io::Result<FileType>) -> Result<Option<Kind>, IoError> {
+    match seen {
+        Ok(file_type) => Ok(Some(kind_by(file_type))),
+        Err(e) if e.kind() == ErrorKind::NotFound => Ok(None),
+        Err(e) => match cause_of(&e) {
+            IoError::Memory => Err(IoError::Memory),
+            IoError::Failed => Ok(Some(Kind::Other)),
+        },
+    }
+}
+
+// An entry of this name. A link in a directory isn't followed.
+fn entry_named<R: Files + Drop>(
+    alloc: Global,
+    entry: &fs::DirEntry<R, Global>,
+) -> Result<Option<DirEntry>, IoError> {
+    let Some(kind) = kind_seen(entry.file_type())? else {
+        return Ok(None);
+    };
+    let name = name_from(alloc, entry.file_name())?;
+    Ok(Some(DirEntry { name, kind }))
+}
+
+// An entry as it was read, unless it is gone since. One whose name isn't UTF-8 is told under the empty name.
 fn entry_from<R: Files + Drop>(
     alloc: Global,
     entry: io::Result<fs::DirEntry<R, Global>>,
-) -> Result<DirEntry, IoError> {
+) -> Result<Option<DirEntry>, IoError> {
     match entry {
-        Ok(entry) => match entry.file_type() {
-            Ok(file_type) => Ok(DirEntry {
-                name: name_from(alloc, entry.file_name())?,
-                kind: kind_by(file_type),
-            }),
-            Err(e) => Err(cause_of(&e)),
-        },
-        Err(e) if e.kind() == ErrorKind::InvalidFilename => Ok(DirEntry {
+        Ok(entry) => entry_named(alloc, &entry),
+        Err(e) if e.kind() == ErrorKind::InvalidFilename => Ok(Some(DirEntry {
             name: name_from(alloc, "")?,
             kind: Kind::Unnamed,
-        }),
+        })),
         Err(e) => Err(cause_of(&e)),
     }
 }
@@ -108,7 +130,9 @@ fn entries_at<R: Files + AllocGlobal + Clone + Drop>(
     match fs::read_dir(files, name) {
         Ok(entries) => {
             for entry in entries {
-                push_entry(&mut listing, entry_from(alloc, entry)?)?;
+                if let Some(entry) = entry_from(alloc, entry)? {
+                    push_entry(&mut listing, entry)?;
+                }
             }
             Ok(listing)
         }

@@ -9,9 +9,10 @@ use Rattle.token_parts.specs.declared.token.Token.{Token}
 use Rattle.token_parts.specs.declared.token.Token.TheVariants.{Literal}
 use Rattle.token_parts.specs.declared.token.LexFlags.{LexFlags}
 use Rattle.pat_tree.specs.declared.options.Newline.TheVariants.{Lf}
-use Rattle.token_parts.specs.Bytes.{◌∈◌, is_word_byte, is_at, begins, run_end, digits_end, numeral}
+use Rattle.token_parts.specs.Bytes.{◌∈◌, is_at, begins, run_end, digits_end, numeral}
+use Rattle.token_parts.specs.Names.{word_end}
 use Rattle.token_parts.specs.Codes.{coded}
-use Rattle.token_parts.specs.Tell.{Lexed}
+use Rattle.token_parts.specs.Tell.{Lexed, longest_name}
 use Rattle.subst_plan.specs.declared.faults.PlanError.{PlanError}
 use Rattle.subst_plan.specs.declared.faults.PlanError.TheVariants.{BadReplacement, BadEscape, MissingBrace, BadSyntax}
 use Rattle.subst_plan.specs.declared.pieces.Key.{Key}
@@ -106,22 +107,22 @@ quoted_len [] = 0
 quoted_len (c ∷ rest) = if begins (c ∷ rest) "\\E" 0 then 0 else suc (quoted_len rest)
 
 module _ (text : List ℕ) where
-  -- a number, with all its digits, or a name of at most 32 bytes
-  unfoldable pub key_at : ℕ → Read Key
-  key_at at =
+  -- a number, with all its digits, or a name of at most 128 bytes: letters, digits and underscores as in names of groups
+  unfoldable pub key_at : Bool → ℕ → Read Key
+  key_at utf at =
       let digits = digits_end text 10 at in
-      let word = run_end text is_word_byte at in
+      let word = word_end text utf at in
       if nat_lt at digits then Ok (key_of (numeral text 10 at digits), digits)
-      else if nat_lt at word && nat_le (word - at) 32 then Ok (Name at word, word)
+      else if nat_lt at word && nat_le (word - at) longest_name then Ok (Name at word, word)
       else Err BadReplacement
 
   -- whether `*MARK` stands at a place, as a whole word
-  unfoldable pub is_mark : ℕ → Bool
-  is_mark at = begins text "*MARK" at && run_end text is_word_byte (at + 1) == at + 5
+  unfoldable pub is_mark : Bool → ℕ → Bool
+  is_mark utf at = begins text "*MARK" at && word_end text utf (at + 1) == at + 5
 
   -- `$x`, from the place after `$`
-  unfoldable pub bare : ℕ → Read Piece
-  bare at = if is_mark at then Ok (Mark, at + 5) else key_at at >>= λ key. Ok (Group key.0, key.1)
+  unfoldable pub bare : Bool → ℕ → Read Piece
+  bare utf at = if is_mark utf at then Ok (Mark, at + 5) else key_at utf at >>= λ key. Ok (Group key.0, key.1)
 
   -- a `}` after a reference
   abbrev pub closed : Piece → ℕ → Read Piece
@@ -137,17 +138,17 @@ module _ (text : List ℕ) where
       else closed (Group key) to
 
   -- `${x`, from the place after the brace
-  unfoldable pub braced : Bool → ℕ → Read Piece
-  braced extended at =
-      if is_mark at then closed Mark (at + 5)
-      else key_at at >>= λ key. after_key extended key.0 key.1
+  unfoldable pub braced : Bool → Bool → ℕ → Read Piece
+  braced extended utf at =
+      if is_mark utf at then closed Mark (at + 5)
+      else key_at utf at >>= λ key. after_key extended key.0 key.1
 
   -- a dollar at a place
-  unfoldable pub reference : Bool → ℕ → Read Piece
-  reference extended at =
+  unfoldable pub reference : Bool → Bool → ℕ → Read Piece
+  reference extended utf at =
       if is_at text "$" (at + 1) then Ok (Text (at + 1) (at + 2), at + 2)
-      else if is_at text "{" (at + 1) then braced extended (at + 2)
-      else bare (at + 1)
+      else if is_at text "{" (at + 1) then braced extended utf (at + 2)
+      else bare utf (at + 1)
 
   -- the text from a place to `\E` or to the end
   unfoldable pub quote_end : ℕ → ℕ
@@ -180,7 +181,7 @@ module _ (text : List ℕ) where
   -- the piece that begins with this byte at a place, in the text that is open
   unfoldable pub piece_at : Bool → Bool → Option Inner → ℕ → ℕ → Read Piece
   piece_at extended utf inner c at =
-      if c ∈ "$" then reference extended at
+      if c ∈ "$" then reference extended utf at
       else if extended && c ∈ "\\" then escape utf at
       else if parts inner c then Ok (Else, at + 1)
       else if closes inner c then Ok (Close, at + 1)

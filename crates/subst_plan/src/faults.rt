@@ -8,7 +8,7 @@ use std::alloc::{AllocError, AllocFailed};
 /// Why a text is no replacement, with PCRE2's numbers.
 #[derive(Clone, Copy, Debug, PartialEq, Eq)]
 pub enum PlanError {
-    /// -35: `$` or `${` without a number, a name or `*MARK`, or a name of more than 32 bytes.
+    /// -35: `$` or `${` without a number, a name or `*MARK`, or a name of more than 128 bytes.
     BadReplacement,
     /// -57: an escape that there isn't, a code that no character has, or a backslash last.
     BadEscape,

@@ -30,7 +30,8 @@ impl Model for Plan {
 
 impl Plan {
     /// Reads a replacement (pcre2api, "Creating a new string with substitutions"), of any bytes:
-    /// with `extended` by the extended syntax, and with `utf` codes above 127 are written in UTF-8.
+    /// with `extended` by the extended syntax, and with `utf` codes above 127 are written in UTF-8 and names have
+    /// letters and digits of Unicode.
     /// Refused is the first fault.
     pub fn read(alloc: Global, bytes: &[u8], extended: bool, utf: bool) -> Result<Plan, PlanError>
         ensures plan { IfOk result (λ plan. plan_of extended utf bytes.now ≡ Ok plan) }

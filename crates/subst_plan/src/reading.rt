@@ -65,7 +65,7 @@ fn piece_at(
 {
     let c = text[at];
     if c == b'$' {
-        reference(text, extended, at)
+        reference(text, extended, utf, at)
     } else if extended && c == b'\\' {
         escape(text, utf, at)
     } else if parts(inner, c) {

@@ -6,13 +6,10 @@ ghost use Rattle.subst_plan.specs.Plans.{IsKeyIn, IsIn, IsAfter};
 
 use crate::faults::PlanError;
 use crate::pieces::{Key, Piece};
-use token_parts::{Run, numeral, run_end, stands};
+use token_parts::{LONGEST_NAME, Run, numeral, run_end, stands, word_end};
 
 /// The greatest number of a group.
 const GREATEST_GROUP: u64 = 65_535;
-
-/// The greatest length of a name in bytes.
-const LONGEST_NAME: usize = 32;
 
 fn key_of(number: u64) -> Key
     ensures { result ≡ key_of number }
@@ -26,14 +23,14 @@ fn key_of(number: u64) -> Key
 
 /// A number, with all its digits, or a name, and the place after it.
 #[tactic(auto, unfolding(crate::specs::Reading::key_at))]
-fn key_at(text: &[u8], at: usize) -> Result<(Key, usize), PlanError>
+fn key_at(text: &[u8], utf: bool, at: usize) -> Result<(Key, usize), PlanError>
     requires { at ≤ length text.now }
-    ensures value { result ≡ key_at text.now at }
+    ensures value { result ≡ key_at text.now utf at }
     ensures within { IfOk result (λ key. IsKeyIn text.now key.0) }
     ensures place { IfOk result (λ key. (at < key.1) × (key.1 ≤ length text.now)) }
 {
     let digits = run_end(text, Run::Digits(10), at);
-    let word = run_end(text, Run::Word, at);
+    let word = word_end(text, utf, at);
     if at < digits {
         Ok((key_of(numeral(text, 10, at, digits)), digits))
     } else if at < word && word - at <= LONGEST_NAME {
@@ -54,25 +51,25 @@ fn begins_mark(text: &[u8], at: usize) -> bool
 
 /// Whether `*MARK` stands at a place, as a whole word.
 #[tactic(auto, unfolding(crate::specs::Reading::is_mark))]
-fn is_mark(text: &[u8], at: usize) -> bool
+fn is_mark(text: &[u8], utf: bool, at: usize) -> bool
     requires { at ≤ length text.now }
-    ensures value { result ≡ is_mark text.now at }
+    ensures value { result ≡ is_mark text.now utf at }
     ensures within { IsTrue result → at + 5 ≤ length text.now }
 {
-    begins_mark(text, at) && run_end(text, Run::Word, at + 1) == at + 5
+    begins_mark(text, at) && word_end(text, utf, at + 1) == at + 5
 }
 
 /// `$x`, from the place after the dollar.
 #[tactic(auto, unfolding(crate::specs::Reading::bare))]
-fn bare(text: &[u8], at: usize) -> Result<(Piece, usize), PlanError>
+fn bare(text: &[u8], utf: bool, at: usize) -> Result<(Piece, usize), PlanError>
     requires { at ≤ length text.now }
-    ensures value { result ≡ bare text.now at }
+    ensures value { result ≡ bare text.now utf at }
     ensures place { IfOk result (IsAfter text.now at) }
 {
-    if is_mark(text, at) {
+    if is_mark(text, utf, at) {
         return Ok((Piece::Mark, at + 5));
     }
-    match key_at(text, at) {
+    match key_at(text, utf, at) {
         Ok((key, to)) => Ok((Piece::Group(key), to)),
         Err(e) => Err(e),
     }
@@ -112,15 +109,15 @@ fn after_key(text: &[u8], extended: bool, key: Key, to: usize) -> Result<(Piece,
 
 /// `${x`, from the place after the brace.
 #[tactic(auto, using(crate::proofs::After::later), unfolding(crate::specs::Reading::braced))]
-fn braced(text: &[u8], extended: bool, at: usize) -> Result<(Piece, usize), PlanError>
+fn braced(text: &[u8], extended: bool, utf: bool, at: usize) -> Result<(Piece, usize), PlanError>
     requires { at ≤ length text.now }
-    ensures value { result ≡ braced text.now extended at }
+    ensures value { result ≡ braced text.now extended utf at }
     ensures place { IfOk result (IsAfter text.now at) }
 {
-    if is_mark(text, at) {
+    if is_mark(text, utf, at) {
         return closed(text, Piece::Mark, at + 5);
     }
-    match key_at(text, at) {
+    match key_at(text, utf, at) {
         Ok((key, to)) => after_key(text, extended, key, to),
         Err(e) => Err(e),
     }
@@ -128,9 +125,14 @@ fn braced(text: &[u8], extended: bool, at: usize) -> Result<(Piece, usize), Plan
 
 /// A dollar at a place: what it begins, and the place after that.
 #[tactic(auto, using(crate::proofs::After::later), unfolding(crate::specs::Reading::reference))]
-pub fn reference(text: &[u8], extended: bool, at: usize) -> Result<(Piece, usize), PlanError>
+pub fn reference(
+    text: &[u8],
+    extended: bool,
+    utf: bool,
+    at: usize,
+) -> Result<(Piece, usize), PlanError>
     requires { at < length text.now }
-    ensures value { result ≡ reference text.now extended at }
+    ensures value { result ≡ reference text.now extended utf at }
     ensures place { IfOk result (IsAfter text.now at) }
 {
     if stands(text, b'$', at + 1) {
@@ -140,8 +142,8 @@ pub fn reference(text: &[u8], extended: bool, at: usize) -> Result<(Piece, usize
         };
         Ok((piece, at + 2))
     } else if stands(text, b'{', at + 1) {
-        braced(text, extended, at + 2)
+        braced(text, extended, utf, at + 2)
     } else {
-        bare(text, at + 1)
+        bare(text, utf, at + 1)
     }
 }

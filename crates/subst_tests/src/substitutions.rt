@@ -1,5 +1,6 @@
 //! Substitutions. The rows are those of pcre2test 10.42, but that the faults of a replacement come
-//! before any search, that an empty replacement is one, and that CRLF is no newline under NUL.
+//! before any search, that an empty replacement is one, that CRLF is no newline under NUL, and that a
+//! name may have 128 bytes, in UTF of letters past ASCII.
 ghost use Rattle.std.specs.Prelude.{◌<◌, length};
 
 use pcre2_api::{
@@ -69,6 +70,10 @@ const FIRST: &[Line] = &[
     "(?J)(?<n>a)|(?<n>b)|c :: - :: <$n> :: c :: Unset",
     "(?J)(?<n>a)|(?<n>b)|c :: e :: <$n> :: c :: 1 <>",
     r"(?i)b :: x :: \l$0\u$0 :: aBc :: 1 abBc",
+    "(?<a23456789012345678901234567890123456789012345678901234567890123456789012345678901\
+     23456789012345678901234567890123456789012345678>b) :: - :: <${a234567890123456789012\
+     345678901234567890123456789012345678901234567890123456789012345678901234567890123456\
+     7890123456789012345678}> :: abc :: 1 a<b>c",
 ];
 
 /// All matches, among them empty ones.
@@ -292,6 +297,10 @@ const IN_UTF: &[Line] = &[
     "(*UTF)x* :: g :: - :: éx€ :: 4 -é--€-",
     "(*UTF). :: g :: <$0> :: éx :: 2 <é><x>",
     "(*UTF)a :: - :: $ :: a :: BadReplacement",
+    "(*UTF)(?<é>.) :: g :: $é; :: xé :: 2 x;é;",
+    "(*UTF)(?<é>.) :: gx :: ${é:+<${é}>:} :: xé :: 2 <x><é>",
+    "(*UTF)(?<é>.) :: - :: $éa :: x :: NoGroup",
+    "(*UTF)(?<a>.) :: - :: $a\u{301} :: x :: 1 x\u{301}",
 ];
 
 #[test]

@@ -63,7 +63,7 @@ fn without_utf_a_character_is_a_byte(rt: HostRuntime) {
     }
 }
 
-// Whether a number is a word character without UCP and with it, by perl 5.36 at the latter.
+// Whether a number is a word character without UCP and with it, by the categories of Python's unicodedata at the latter.
 const WORDS: &[(u32, bool, bool)] = &[
     (0x2F, false, false),
     (0x30, true, true),
@@ -74,9 +74,11 @@ const WORDS: &[(u32, bool, bool)] = &[
     (0xAA, false, true),
     (0xB2, false, true),
     (0xD7, false, false),
-    (0x301, false, false),
+    (0x301, false, true),
     (0x660, false, true),
-    (0x203F, false, false),
+    (0x903, false, false),
+    (0x203F, false, true),
+    (0x20DD, false, false),
     (0x2160, false, true),
     (0x4E00, false, true),
     (0xD800, false, false),

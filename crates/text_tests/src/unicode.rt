@@ -1,13 +1,13 @@
 // Tables of the tests.
 
-// Each property by its name, with a character that has it and a number that hasn't, in hexadecimal. They are perl's answers, of Unicode 14.0, and for the
-// scripts of later versions the first character of the script's block in the code charts. That of ProtoCuneiform isn't here.
+// Each property by its name, with a character that has it and a number that hasn't, in hexadecimal. They are perl's answers, of Unicode 14.0, for Xwd
+// the manual's, and for the scripts of later versions the first character of the script's block in the code charts. That of ProtoCuneiform isn't here.
 pub const PROPERTIES: &str = "\
 Any 0 D800
 Xan 30 3A
 Xsp 9 E
 Xps 9 E
-Xwd 30 3A
+Xwd 301 20DD
 C 0 20
 L 41 5B
 L& 41 5B

@@ -6,7 +6,7 @@ use Rattle.token_parts.specs.declared.fault.Fault.{Fault}
 use Rattle.token_parts.specs.Bytes.{is_word_byte, passes_at, stands, run_end}
 use Rattle.token_parts.specs.Characters.{wide}
 use Rattle.token_parts.specs.Comments.{skip}
-use Rattle.token_parts.specs.Tell.{fault}
+use Rattle.token_parts.specs.Tell.{fault, longest_name}
 
 -- what names have in UTF: Unicode's letters and decimal digits, its categories L and Nd, and the underscore, which is 95
 abbrev pub is_of_names : ℕ → Bool
@@ -31,11 +31,11 @@ module _ (text : List ℕ) where
   begins_digit true i = elim (slice_get text i) [ None ↦ false | Some c ↦ digit true (wide text c i).0 ]
 
   -- Where the name that begins at a place ends, with this character after it: letters, digits and underscores that don't
-  -- begin with a digit, at most 32 bytes of them.
+  -- begin with a digit, at most 128 bytes of them.
   unfoldable pub name_end : Bool → ℕ → ℕ → ℕ → Result ℕ Fault
   name_end utf at from close =
       let to = word_end utf from in
       if to == from || begins_digit utf from then fault 144 at
-      else if nat_lt 32 (to - from) then fault 148 at
+      else if nat_lt longest_name (to - from) then fault 148 at
       else if stands text close to then Ok to
       else fault 142 at

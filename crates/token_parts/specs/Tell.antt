@@ -71,9 +71,13 @@ is_end _ = false
 abbrev pub IsPart : List ℕ → ℕ → ℕ → Type 0
 IsPart text from to = (from ≤ to) × (to ≤ length text)
 
--- places between which a name of a group stands: 1 to 32 bytes of the text
+-- the greatest length of a group's name in bytes
+abbrev pub longest_name : ℕ
+longest_name = 128
+
+-- places between which a name of a group stands: 1 to 128 bytes of the text
 abbrev pub IsName : List ℕ → ℕ → ℕ → Type 0
-IsName text from to = (from < to) × (to ≤ from + 32) × (to ≤ length text)
+IsName text from to = (from < to) × (to ≤ from + longest_name) × (to ≤ length text)
 
 -- The number of a group is one that a group can have, and a relative one is not 0.
 abbrev pub IsTarget : List ℕ → Target → Type 0

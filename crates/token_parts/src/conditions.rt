@@ -1,6 +1,6 @@
 //! The tests of conditional groups (pcre2pattern, "Conditional groups").
 ghost use Rattle.std.specs.Prelude.{◌≡◌, ◌+◌, ◌<◌, ◌≤◌, length};
-ghost use Rattle.token_parts.specs.Tell.{IsSound, IsTest};
+ghost use Rattle.token_parts.specs.Tell.{longest_name, IsSound, IsTest};
 ghost use Rattle.token_parts.specs.Conditions.{named_test, test_closed, quoted_test, call_test, bare_test, numbered_test, plain_test, condition};
 
 use crate::bytes::{Run, begins, byte, numeral, run_end, stands};
@@ -14,7 +14,7 @@ use crate::token::{CondText, Lexed, Target, Token};
 fn named_test(text: &[u8], from: usize, to: usize) -> CondText
     requires order { from < to }
     requires within { to ≤ length text.now }
-    requires short { to ≤ from + 32 }
+    requires short { to ≤ from + longest_name }
     ensures value { result ≡ named_test text.now from to }
     ensures well { IsTest text.now result }
 {

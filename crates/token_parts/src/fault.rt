@@ -28,15 +28,20 @@ pub const UNKNOWN_GROUP: i32 = 111;
 /// A form that the manual has and that is left out by name.
 pub const LEFT_OUT: i32 = 195;
 
+/// A pattern is too long.
+pub const PATTERN_TOO_LARGE: i32 = 120;
+
+/// What a conditional group tests isn't well written.
+pub const MALFORMED_CONDITION: i32 = 128;
+
+/// A number is greater than that of any group.
+pub const GROUP_NUMBER_TOO_BIG: i32 = 161;
+
 pub(crate) const BAD_CONTROL: i32 = 102;
 
 pub(crate) const UNCLOSED_COMMENT: i32 = 118;
 
-pub(crate) const PATTERN_TOO_LARGE: i32 = 120;
-
 pub(crate) const RELATIVE_ZERO: i32 = 126;
-
-pub(crate) const MALFORMED_CONDITION: i32 = 128;
 
 pub(crate) const CODE_TOO_LARGE: i32 = 134;
 
@@ -51,8 +56,6 @@ pub(crate) const UNCLOSED_NAME: i32 = 142;
 pub(crate) const EMPTY_NAME: i32 = 144;
 
 pub(crate) const NAME_TOO_LONG: i32 = 148;
-
-pub(crate) const GROUP_NUMBER_TOO_BIG: i32 = 161;
 
 pub(crate) const MALFORMED_REFERENCE: i32 = 169;
 

@@ -20,8 +20,11 @@ pub use characters::character;
 pub use codes::{coded, octal};
 pub use comments::{blank_end, blanks_end, comment, is_extended};
 pub use conditions::condition;
-pub use fault::{Fault, LEFT_OUT, UNCLOSED_GROUP, UNKNOWN_GROUP};
-pub use names::name_end;
+pub use fault::{
+    Fault, GROUP_NUMBER_TOO_BIG, LEFT_OUT, MALFORMED_CONDITION, PATTERN_TOO_LARGE, UNCLOSED_GROUP,
+    UNKNOWN_GROUP,
+};
+pub use names::{LONGEST_NAME, name_end, word_end};
 pub use settings::setting;
 pub use targets::{
     begins_number, group_escape, name_escape, named_call, named_reference, numbered_call,

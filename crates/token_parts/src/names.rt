@@ -1,7 +1,7 @@
 //! Names of groups (pcre2pattern, "Named capture groups").
 ghost use Rattle.std.specs.Prelude.{◌≡◌, ◌+◌, ◌<◌, ◌≤◌, true, length, IfOk, IfErr};
 ghost use Rattle.uni_text.specs.Sets.{digit};
-ghost use Rattle.token_parts.specs.Tell.{IsTold};
+ghost use Rattle.token_parts.specs.Tell.{longest_name, IsTold};
 ghost use Rattle.token_parts.specs.Names.{begins_digit, is_of_names, letter_end, name_end, word_end};
 
 use crate::bytes::{Run, byte, is_digit, run_end, stands};
@@ -9,8 +9,8 @@ use crate::characters::character;
 use crate::fault::{EMPTY_NAME, Fault, NAME_TOO_LONG, UNCLOSED_NAME};
 use uni_text::{GeneralCategory, GeneralCategoryGroup, Prop, has_prop};
 
-/// The greatest length of a name in bytes.
-const LONGEST_NAME: usize = 32;
+/// The greatest length of a group's name in bytes.
+pub const LONGEST_NAME: usize = 128;
 
 /// Whether it is a decimal digit of Unicode.
 fn is_number(c: u32) -> bool
@@ -60,8 +60,9 @@ fn letters_end(text: &[u8], from: usize) -> usize
     i
 }
 
-/// Where the letters, digits and underscores end that begin at the place.
-fn word_end(text: &[u8], utf: bool, from: usize) -> usize
+/// Where the letters, digits and underscores end that begin at the place: those of ASCII, in UTF those of Unicode's categories
+/// L and Nd, and the underscore.
+pub fn word_end(text: &[u8], utf: bool, from: usize) -> usize
     requires { from ≤ length text.now }
     ensures value { result ≡ word_end text.now utf from }
     ensures past { from ≤ result }
@@ -87,7 +88,7 @@ fn begins_digit(text: &[u8], utf: bool, i: usize) -> bool
     }
 }
 
-/// Where the name that begins at `from` ends: 1 to 32 bytes of letters, digits and underscores, in UTF those of Unicode's
+/// Where the name that begins at `from` ends: 1 to 128 bytes of letters, digits and underscores, in UTF those of Unicode's
 /// categories L and Nd, with a character after it that closes it. Faults, told at `at`: 144 empty or a digit first, 148 too
 /// long, 142 not closed.
 #[tactic(auto, unfolding(crate::specs::Names::name_end))]
@@ -95,7 +96,7 @@ pub fn name_end(text: &[u8], utf: bool, at: usize, from: usize, close: u8) -> Re
     requires at { at ≤ length text.now }
     requires from { from ≤ length text.now }
     ensures value { result ≡ name_end text.now utf at from close }
-    ensures found { IfOk result (λ to. (from < to) × (to ≤ from + 32) × (to < length text.now)) }
+    ensures found { IfOk result (λ to. (from < to) × (to ≤ from + longest_name) × (to < length text.now)) }
     ensures told { IfErr result (IsTold text.now) }
 {
     let to = word_end(text, utf, from);

@@ -1,8 +1,12 @@
-//! Tables of words, targets, inputs and scripts.
+//! Tables of words, targets, inputs, scripts and generated lines.
 #![tactic(auto)]
 
 #[cfg(test)]
+mod generated;
+#[cfg(test)]
 mod inputs;
+#[cfg(test)]
+mod long_words;
 #[cfg(test)]
 mod scripts;
 #[cfg(test)]

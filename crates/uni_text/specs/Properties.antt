@@ -3,6 +3,8 @@ use Rattle.std.specs.Prelude.{ℕ, ◌+◌, Bool, true, not, ◌&&◌, ◌||◌,
 use Rattle.std.specs.Option.{option_map}
 use Rattle.std.specs.Char.{to_ascii_lowercase}
 use Rattle.std.specs.Int.{is_in_range}
+use Rattle.ucd_category.specs.declared.GeneralCategory.{GeneralCategory}
+use Rattle.ucd_category.specs.declared.GeneralCategory.TheVariants.{NonspacingMark, ConnectorPunctuation}
 use Rattle.ucd_category.specs.declared.GeneralCategoryGroup.{GeneralCategoryGroup}
 use Rattle.ucd_category.specs.declared.GeneralCategoryGroup.TheVariants.{Other, Letter, CasedLetter, Mark, Number, Punctuation, Symbol, Separator}
 use Rattle.ucd_category.specs.GeneralCategory.{general_category, general_category_number, general_category_eq}
@@ -28,6 +30,10 @@ is_vertical c = is_in_range 0xA 0xD c || c == 0x85 || c == 0x2028 || c == 0x2029
 abbrev pub is_in : GeneralCategoryGroup → ℕ → Bool
 is_in group c = in_group group (general_category c)
 
+-- a category alone
+abbrev pub is_of : GeneralCategory → ℕ → Bool
+is_of category c = general_category_eq (general_category c) category
+
 -- letters and numbers
 abbrev pub is_alnum : ℕ → Bool
 is_alnum c = is_in Letter c || is_in Number c
@@ -36,9 +42,9 @@ is_alnum c = is_in Letter c || is_in Number c
 abbrev pub is_space : ℕ → Bool
 is_space c = is_in Separator c || is_horizontal c || is_vertical c
 
--- `\w` with UCP: a letter, a number or the underscore
+-- `\w` with UCP: a letter, a number, a mark without a place of its own (Mn), or what connects words as the underscore does (Pc)
 abbrev pub is_word_of_unicode : ℕ → Bool
-is_word_of_unicode c = is_in Letter c || is_in Number c || c == 95
+is_word_of_unicode c = is_in Letter c || is_in Number c || (is_of NonspacingMark c || is_of ConnectorPunctuation c)
 
 -- what a property asks of a character
 abbrev pub prop_holds : Prop → ℕ → Bool
@@ -48,7 +54,7 @@ prop_holds Xsp c = is_space c
 prop_holds Xps c = is_space c
 prop_holds Xwd c = is_word_of_unicode c
 prop_holds (Group group) c = is_in group c
-prop_holds (Category category) c = general_category_eq (general_category c) category
+prop_holds (Category category) c = is_of category c
 prop_holds (Script value) c = script_eq (script c) value
 
 -- the number c is a character with the property. A number that is no character, as a surrogate, has none

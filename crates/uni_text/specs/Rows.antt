@@ -55,6 +55,9 @@ pub record FoldingRows : Type 0 where
   pub digit_of_ascii : digit false 0x660 ≡ false
   pub next_line : space true 0x85 ≡ true
   pub next_byte : space false 0x85 ≡ false
-  pub accent_alone : word true 0x301 ≡ false
+  pub accent_alone : word true 0x301 ≡ true
+  pub circle_around : word true 0x20DD ≡ false
+  pub undertie : word true 0x203F ≡ true
+  pub undertie_of_ascii : word false 0x203F ≡ false
   pub dollar : punct true 0x24 ≡ true
   pub euro : punct true 0x20AC ≡ false

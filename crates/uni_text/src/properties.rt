@@ -17,7 +17,7 @@ pub enum Prop {
     Xsp,
     /// The same as `Xsp`.
     Xps,
-    /// A letter, a number or the underscore.
+    /// A letter, a number, a nonspacing mark or a connector, as the underscore is: L, N, Mn and Pc.
     Xwd,
     /// Some categories together, as L or `L&`.
     Group(GeneralCategoryGroup),
@@ -92,8 +92,7 @@ pub fn has_prop(p: Prop, c: u32) -> bool
         Prop::Xsp | Prop::Xps => is_space(c),
         Prop::Xwd => is_word_of_unicode(c),
         Prop::Group(group) => is_in(group, c),
-        // Compared by their numbers, as the definition does.
-        Prop::Category(category) => GeneralCategory::for_char(c).number() == category.number(),
+        Prop::Category(category) => is_of(category, c),
         Prop::Script(script) => Script::for_char(c).number() == script.number(),
     }
 }
@@ -103,6 +102,14 @@ fn is_in(group: GeneralCategoryGroup, c: char) -> bool
     ensures { result ≡ spec.is_in group c }
 {
     group.contains(GeneralCategory::for_char(c))
+}
+
+#[inline]
+fn is_of(category: GeneralCategory, c: char) -> bool
+    ensures { result ≡ spec.is_of category c }
+{
+    // Compared by their numbers, as the definition does.
+    GeneralCategory::for_char(c).number() == category.number()
 }
 
 /// `\s` with UCP.
@@ -117,7 +124,10 @@ fn is_space(c: char) -> bool
 fn is_word_of_unicode(c: char) -> bool
     ensures { result ≡ spec.is_word_of_unicode c }
 {
-    is_in(GeneralCategoryGroup::Letter, c) || is_in(GeneralCategoryGroup::Number, c) || c == '_'
+    is_in(GeneralCategoryGroup::Letter, c)
+        || is_in(GeneralCategoryGroup::Number, c)
+        || is_of(GeneralCategory::NonspacingMark, c)
+        || is_of(GeneralCategory::ConnectorPunctuation, c)
 }
 
 /// Whether `\h` takes the character of number `c` (pcre2pattern, "Generic character types").
