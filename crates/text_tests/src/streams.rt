@@ -158,6 +158,15 @@ const HIDDEN: &[(&str, &str)] = &[
     ("h/", "d i:f"),
 ];
 
+// A file and a directory that are closed, and two of kind Other.
+const CLOSED: &[(&str, &str)] = &[
+    ("dd", "f !"),
+    ("d/sub", "d !"),
+    ("d", "o !"),
+    ("e", "o !"),
+    ("h", "d :d"),
+];
+
 #[test]
 fn directories_in_memory_come_from_names(rt: HostRuntime) -> Result<(), Fail> {
     let alloc = rt.alloc();
@@ -170,7 +179,16 @@ fn directories_in_memory_come_from_names(rt: HostRuntime) -> Result<(), Fail> {
     show_all(&rt, alloc, &mut files, DIRECTORIES)?;
     add_empty(alloc, &mut files, &["d", "e/f/g", "/top", "h//i"])?;
     files.refuse(String::from_str(alloc, "e/f")?)?;
-    show_all(&rt, alloc, &mut files, HIDDEN)
+    show_all(&rt, alloc, &mut files, HIDDEN)?;
+    for name in ["dd", "d/sub"] {
+        files.close(String::from_str(alloc, name)?)?;
+    }
+    for name in ["d", "e"] {
+        files.make_other(String::from_str(alloc, name)?)?;
+    }
+    reads(&rt, alloc, &mut files, "dd", None)?;
+    reads(&rt, alloc, &mut files, "d", Some(b""))?;
+    show_all(&rt, alloc, &mut files, CLOSED)
 }
 
 #[test]
