@@ -1,5 +1,5 @@
 -- The targets that words may stand for: each stands below its word, and over files that are told they are among them.
-use Rattle.std.proofs.Common.{◌≡◌, ◌≢◌, ℕ, zero, suc, Bool, true, false, if◌then◌else◌, bytes_eq, codes, List, [], ◌∷◌, ◌++◌, flat_map, fold, All, Option, Some, None, refl, ap, sym, subst, ◌∙◌, append_assoc, append-nil, Less, Equal, Greater}
+use Rattle.std.proofs.Common.{◌≡◌, ◌≢◌, ℕ, zero, suc, Bool, true, false, if◌then◌else◌, bytes_eq, codes, List, [], ◌∷◌, ◌++◌, flat_map, All, Option, Some, None, refl, ap, sym, ◌∙◌, append_assoc, append-nil, Less, Equal, Greater}
 use Rattle.std.proofs.lemmas.List.Elements.{All-append, All-cons, All-head, All-nil, All-same, All-tail}
 use Rattle.std.proofs.lemmas.Slice.Eq.{bytes_eq-Decides}
 use Rattle.std.specs.declared.cmp.Ordering.{Ordering}
@@ -14,8 +14,8 @@ use Rattle.tool_io.specs.declared.target.Target.{Target}
 use Rattle.tool_io.specs.declared.target.Target.TheVariants.{Input, File, NoOpen, NoList, TooDeep, Unnamed}
 use Rattle.grep_targets.specs.Filters.{Filter}
 use Rattle.grep_targets.specs.Paths.{ItemParts, item_cmp, item_of, items_in, has_unnamed, with_items, word_path}
-use Rattle.grep_targets.specs.Targets.{allows_directory, allows_file, as_item, directory_targets, file_targets, item_targets, kind_targets, listed_targets, path_targets, targets, unnamed_targets, word_levels, word_targets}
-use Rattle.grep_targets.specs.Stands.{AreIf, AreOfDirectory, AreOfEach, AreOfItem, AreOfKind, AreOfListed, AreOfName, AreOfPath, AreOfWord, AreOfWordBy, AreOfWords}
+use Rattle.grep_targets.specs.Targets.{allows_directory, allows_file, as_item, directory_targets, file_targets, item_targets, kind_targets, listed_targets, path_targets, unnamed_targets, word_levels, word_targets}
+use Rattle.grep_targets.specs.Stands.{AreIf, AreOfDirectory, AreOfEach, AreOfItem, AreOfKind, AreOfListed, AreOfName, AreOfPath, AreOfWord, AreOfWordBy}
 use Rattle.grep_targets.specs.Laws.{IsAtOrBelow, IsNothingOrBelow, IsOf, StandBelow, ToldMayStand}
 
 -- Paths at or below a path.
