@@ -1,8 +1,10 @@
 -- From the words of a run to the search of its targets.
-use Rattle.std.proofs.Common.{◌≡◌, refl, sym, ap, subst, ◌∙◌, arith, ℕ, ◌-◌, ◌≤◌, min, IsTrue, Bool, true, false, List, [], ◌∷◌, ◌++◌, length, map, take, drop, Option, Some, None, IfSome, Result, Ok, Err}
+use Rattle.std.proofs.Common.{◌≡◌, refl, sym, ap, subst, ◌∙◌, arith, ℕ, ◌-◌, ◌≤◌, min, IsTrue, Bool, true, false, ◌||◌, if◌then◌else◌, bytes_eq, codes, List, [], ◌∷◌, ◌++◌, length, map, take, drop, Option, Some, None, IfSome, Result, Ok, Err}
 use Rattle.std.proofs.lemmas.Bool.{false≢true}
+use Rattle.std.proofs.lemmas.List.Folds.{list_any-append}
 use Rattle.std.proofs.lemmas.List.{take_at, drop_at, take_all, length-drop, drop_min, drop-map, length-map}
 use Rattle.pcre_io.specs.Causes.{Rose}
+use Rattle.pcre_io.specs.declared.entries.Kind.TheVariants as kind
 use Rattle.pcre_io.specs.Told.{Told, Kept}
 use Rattle.pcre_io.specs.Files.{Contents, Filed}
 use Rattle.line_feed.specs.Rows.{Input}
@@ -10,9 +12,12 @@ use Rattle.grep_args.specs.declared.plan.GrepPlan.{GrepPlan}
 use Rattle.grep_args.specs.declared.plan.HelpKind.{HelpKind}
 use Rattle.grep_args.specs.Words.{Fault, Reads, plan_of}
 use Rattle.tool_io.specs.declared.target.Target.{Target}
+use Rattle.tool_io.specs.declared.target.Target.TheVariants as target
 use Rattle.grep_targets.specs.Filters.{Filter, BadFilter, filter_of}
-use Rattle.grep_targets.specs.Targets.{targets}
-use Rattle.grep_targets.specs.Walks.{has_failed}
+use Rattle.grep_targets.specs.Paths.{word_path}
+use Rattle.grep_targets.specs.Targets.{allows_file, file_targets, targets}
+use Rattle.grep_targets.specs.Stands.{AreOfEach, AreOfName, AreOfWord, AreOfWordBy, AreOfWords}
+use Rattle.grep_targets.specs.Walks.{has_failed, is_failed}
 use Rattle.grep_output.specs.declared.ended.Stop.{Stop}
 use Rattle.grep_output.specs.declared.ended.Stop.TheVariants.{Memory}
 use Rattle.tool_io.specs.Absent.{AbsentBy}
@@ -26,7 +31,7 @@ use Rattle.grep_main.specs.Refusals.{refusal, pattern_message, filter_message, u
 use Rattle.grep_main.specs.PatternFiles.{FileTexts, texts_in_files}
 use Rattle.grep_main.specs.Reports.{reports}
 use Rattle.grep_main.specs.ToolText.{outcome_of, with_names, targets_of, text_by_filter, text_by_patterns, text_by_texts, text_by_plan, text_by_help, text_of}
-use Rattle.grep_main.specs.Asks.{Lists, AsksUnless, AsksBy, AsksFor, asked_by_plan, filtered, targets_by}
+use Rattle.grep_main.specs.Asks.{Lists, AsksUnless, AsksBy, AsksFor, MayStandFor, asked_by_plan, filtered, targets_by}
 use Rattle.tool_io.specs.Takes.{Takes, TakesAll}
 use Rattle.grep_main.specs.Adds.{AddsTo, AddsAllFrom}
 use Rattle.grep_main.specs.RunsBy.{RunsBy}
@@ -49,22 +54,59 @@ rose_before first mid last later rose = omega (arith, rose, later)
 -- What words for files stand for.
 
 pub lists-told : (contents : Option Contents) (first last : ℕ) (plan : GrepPlan) (words : List (List ℕ)) (list : List Target) (filter : Filter) → filter_of plan ≡ Ok filter
-    → IfSome contents (λ set. list ≡ targets filter set words plan.recursive) → (IsTrue (has_failed list) → Rose first last) → Lists contents first last plan words list
-lists-told (Some set) first last plan words list filter is told causes = told ∙ sym (ap (λ f. filtered f plan set words) is)
-lists-told None first last plan words list filter is told causes = causes
+    → IfSome contents (λ set. list ≡ targets filter set words plan.recursive) → AreOfWords plan.recursive filter words list → (IsTrue (has_failed list) → Rose first last) → Lists contents first last plan words list
+lists-told (Some set) first last plan words list filter is told stands causes = told ∙ sym (ap (λ f. filtered f plan set words) is)
+lists-told None first last plan words list filter is told stands causes = (subst (λ f. MayStandFor f plan.recursive words list) (sym is) stands, causes)
 
 pub lists-later : (contents : Option Contents) (first mid last : ℕ) (plan : GrepPlan) (words : List (List ℕ)) (list : List Target) → mid ≤ last → Lists contents first mid plan words list → Lists contents first last plan words list
 lists-later (Some set) first mid last plan words list later h = h
-lists-later None first mid last plan words list later h = λ some. rose_later first mid last (h some) later
+lists-later None first mid last plan words list later h = (h.0, λ some. rose_later first mid last (h.1 some) later)
 
 lists-before : (contents : Option Contents) (first mid last : ℕ) (plan : GrepPlan) (words : List (List ℕ)) (list : List Target) → first ≤ mid → Lists contents mid last plan words list → Lists contents first last plan words list
 lists-before (Some set) first mid last plan words list later h = h
-lists-before None first mid last plan words list later h = λ some. rose_before first mid last later (h some)
+lists-before None first mid last plan words list later h = (h.0, λ some. rose_before first mid last later (h.1 some))
 
--- nobody looked
+-- Nobody looked: each name may be a file's.
+module _ (recursive : Bool) (filter : Filter) where
+  abbrev Unfailed : (List Target → Type 0) → Type 0
+  Unfailed Are = (list : List Target) × Are list × (has_failed list ≡ false)
+
+  file-unfailed : (path : List ℕ) → has_failed (file_targets filter path) ≡ false
+  file-unfailed path = by_test (allows_file filter path)
+    where
+      by_test : (b : Bool) → has_failed (if b then target.File path ∷ [] else []) ≡ false
+      by_test true = refl
+      by_test false = refl
+
+  name-any : (r : Bool) (path : List ℕ) → AreOfName r filter path (file_targets filter path)
+  name-any true path = (Some kind.File, refl)
+  name-any false path = refl
+
+  word-any : (word : List ℕ) → Unfailed (AreOfWord recursive filter word)
+  word-any word = by_test (bytes_eq word (codes "-"))
+    where
+      by_test : (b : Bool) → Unfailed (AreOfWordBy b recursive filter word)
+      by_test true = (target.Input ∷ [], refl, refl)
+      by_test false = let path = word_path word in (file_targets filter path, name-any recursive path, file-unfailed path)
+
+  each-any : (words : List (List ℕ)) → Unfailed (AreOfEach (AreOfWord recursive filter) words)
+  each-any [] = ([], refl, refl)
+  each-any (word ∷ words) =
+      let a = word-any word in
+      let b = each-any words in
+      (a.0 ++ b.0, (a.0, b.0, refl, a.1, b.1), list_any-append is_failed a.0 b.0 ∙ ap (λ x. x || has_failed b.0) a.2 ∙ b.2)
+
+  words-any : (words : List (List ℕ)) → Unfailed (AreOfWords recursive filter words)
+  words-any [] = (target.Input ∷ [], refl, refl)
+  words-any (word ∷ words) = each-any (word ∷ words)
+
 lists-any : (contents : Option Contents) (first last : ℕ) (plan : GrepPlan) (words : List (List ℕ)) → (list : List Target) × Lists contents first last plan words list
 lists-any (Some set) first last plan words = (targets_by plan set words, refl)
-lists-any None first last plan words = ([], λ some. absurd (false≢true some))
+lists-any None first last plan words = let h = by_filter (filter_of plan) in (h.0, (h.1, λ some. absurd (false≢true (sym h.2 ∙ some))))
+  where
+    by_filter : (found : Result Filter BadFilter) → (list : List Target) × MayStandFor found plan.recursive words list × (has_failed list ≡ false)
+    by_filter (Err bad) = ([], refl, refl)
+    by_filter (Ok filter) = words-any plan.recursive filter words
 
 stand-targets : (contents : Option Contents) (standard : Input) (list : List Target) (given : List Asked) → StandFor contents standard list given → targets_of given ≡ list
 stand-targets contents standard [] [] h = refl

@@ -1,5 +1,5 @@
 -- The targets that a run asks for: words → plan → files of patterns, and then what the words for files stand for.
-use Rattle.std.specs.Prelude.{◌≡◌, ℕ, IsTrue, List, [], ◌++◌, drop, map, Option, Some, None, Result, Ok, Err}
+use Rattle.std.specs.Prelude.{◌≡◌, ℕ, Bool, IsTrue, List, [], ◌++◌, drop, map, Option, Some, None, Result, Ok, Err}
 use Rattle.pcre_io.specs.Causes.{Rose}
 use Rattle.pcre_io.specs.Files.{Contents}
 use Rattle.grep_args.specs.declared.plan.GrepPlan.{GrepPlan}
@@ -8,6 +8,7 @@ use Rattle.grep_args.specs.Words.{Reads, plan_of}
 use Rattle.tool_io.specs.declared.target.Target.{Target}
 use Rattle.grep_targets.specs.Filters.{Filter, BadFilter, filter_of}
 use Rattle.grep_targets.specs.Targets.{targets}
+use Rattle.grep_targets.specs.Stands.{AreOfWords}
 use Rattle.grep_targets.specs.Walks.{has_failed}
 use Rattle.tool_io.specs.Asked.{named_target}
 
@@ -41,10 +42,17 @@ asked_targets set words = elim (plan_of words) [
 
 -- Over any files, whose count of faults rose from `first` to `last`.
 
+-- targets that words for files may stand for, whatever a set answers
+abbrev pub MayStandFor : Result Filter BadFilter → Bool → List (List ℕ) → List Target → Type 0
+MayStandFor (Err bad) recursive words list = list ≡ []
+MayStandFor (Ok filter) recursive words list = AreOfWords recursive filter words list
+
 -- the words for files stand for these targets: of files that aren't told one has failed only where a fault was counted
 abbrev pub Lists : Option Contents → ℕ → ℕ → GrepPlan → List (List ℕ) → List Target → Type 0
 Lists (Some set) first last plan words list = list ≡ targets_by plan set words
-Lists None first last plan words list = IsTrue (has_failed list) → Rose first last
+Lists None first last plan words list =
+    MayStandFor (filter_of plan) plan.recursive words list
+    × (IsTrue (has_failed list) → Rose first last)
 
 abbrev pub AsksUnless : Option HelpKind → Option Contents → ℕ → ℕ → GrepPlan → List (List ℕ)
     → List Target → Type 0

@@ -2,3 +2,5 @@ mod Naming
 mod Filtering
 mod Placing
 mod Walking
+mod Standing
+mod StandLaws

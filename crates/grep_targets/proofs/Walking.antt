@@ -12,7 +12,7 @@ use Rattle.tool_io.specs.declared.target.Target.TheVariants.{TooDeep}
 use Rattle.grep_targets.specs.Filters.{Filter}
 use Rattle.grep_targets.specs.Paths.{ItemParts, items_in}
 use Rattle.grep_targets.specs.Targets.{allows_directory, item_targets, directory_targets, file_targets, listed_targets, unnamed_targets}
-use Rattle.grep_targets.specs.Walks.{PendingParts, at_levels, pending_targets, stack_targets, stack_weight, weight, has_failed, walking, HasCauses, Steps, Walk}
+use Rattle.grep_targets.specs.Walks.{PendingParts, at_levels, pending_targets, stack_targets, stack_weight, weight, has_failed, walking, Grows, HasCauses, Steps, Walk}
 
 -- faults that were counted before or after
 
@@ -164,3 +164,14 @@ directory_item filter below item is allowed = rw (is, allowed) refl
 
 pub barred_item : (filter : Filter) (below : List ℕ → List Target) (item : ItemParts) → item.is_directory ≡ true → allows_directory filter item.path ≡ false → [] ≡ item_targets filter below item
 barred_item filter below item is barred = rw (is, barred) refl
+
+-- words
+
+pub words-on : (contents contents' : Option Contents) (f : Contents → List ℕ → List Target) (words rest : List (List ℕ)) (word : List ℕ) (told more : List Target) → contents' ≡ contents
+    → IfSome contents (λ set. told ++ flat_map (f set) (word ∷ rest) ≡ flat_map (f set) words) → Grows contents' (λ set. f set word) told more
+    → IfSome contents (λ set. more ++ flat_map (f set) rest ≡ flat_map (f set) words)
+words-on contents contents' f words rest word told more same so_far grown = over contents so_far (subst (λ c. Grows c (λ set. f set word) told more) same grown)
+  where
+    over : (c : Option Contents) → IfSome c (λ set. told ++ flat_map (f set) (word ∷ rest) ≡ flat_map (f set) words) → Grows c (λ set. f set word) told more → IfSome c (λ set. more ++ flat_map (f set) rest ≡ flat_map (f set) words)
+    over None h k = tt
+    over (Some set) h k = ap (λ l. l ++ flat_map (f set) rest) k ∙ append_assoc told (f set word) (flat_map (f set) rest) ∙ h

@@ -9,6 +9,7 @@ use Rattle.grep_targets.specs.declared.walk.Pending.{Pending}
 use Rattle.grep_targets.specs.Filters.{Filter}
 use Rattle.grep_targets.specs.Paths.{ItemParts, item_parts}
 use Rattle.grep_targets.specs.Targets.{item_targets, directory_targets}
+use Rattle.grep_targets.specs.Stands.{AreOfDirectory, AreOfEach, AreOfItem}
 
 -- a target of which a fault was counted
 abbrev pub is_failed : Target → Bool
@@ -22,6 +23,10 @@ has_failed targets = list_any is_failed targets
 -- over a told set the list grows by these targets
 abbrev pub Grows : Option Contents → (Contents → List Target) → List Target → List Target → Type 0
 Grows contents wanted before after = IfSome contents (λ set. after ≡ before ++ wanted set)
+
+-- over any set it grows by such targets
+abbrev pub GrowsBy : (List Target → Type 0) → List Target → List Target → Type 0
+GrowsBy Are before after = (part : List Target) × (after ≡ before ++ part) × Are part
 
 -- where a failed target was added, the count of faults rose
 abbrev pub HasCauses : List Target → List Target → ℕ → ℕ → Type 0
@@ -69,3 +74,21 @@ pub record Steps (filter : Filter) (contents : Option Contents) (wanted : Conten
   pub exact : IfSome contents (λ set.
       new.told ++ stack_targets filter set new.stack ≡ old.told ++ wanted set ++ stack_targets filter set old.stack)
   pub lighter : stack_weight new.stack < stack_weight old.stack + heavy
+
+-- The same over any set of files.
+
+-- such targets may an item stand for
+abbrev pub AreOfPending : Filter → PendingParts → List Target → Type 0
+AreOfPending filter p list = AreOfItem filter (AreOfDirectory filter p.levels) p.item list
+
+-- and what is on a stack, from its top on
+abbrev pub AreOfStack : Filter → List PendingParts → List Target → Type 0
+AreOfStack filter stack list = AreOfEach (AreOfPending filter) (reverse stack) list
+
+-- A step of a walk: whatever the stack stands for now, it follows what was told by such targets and by what the stack stood
+-- for.
+abbrev pub Goes : Filter → (List Target → Type 0) → Walk → Walk → Type 0
+Goes filter Are old new =
+    (rest : List Target) → AreOfStack filter new.stack rest
+    → (part : List Target) × (more : List Target) × Are part × AreOfStack filter old.stack more
+    × (new.told ++ rest ≡ old.told ++ part ++ more)

@@ -24,7 +24,7 @@ worked_files =
 abbrev pub entry_of : List ℕ → Kind → DirEntry
 entry_of name kind = record { name = name; kind = kind }
 
--- a directory with a file that is listed twice, a link and two entries without names
+-- a directory with a file that is listed twice, a link and two entries without names, and one that isn't listed
 abbrev pub odd_set : Contents
 odd_set = record {
   files = [];
@@ -37,10 +37,10 @@ odd_set = record {
         ∷ entry_of [] kind.Unnamed
         ∷ entry_of (codes "b") kind.File
         ∷ [];
-  } ∷ [];
+  } ∷ record { name = codes "e"; entries = [] } ∷ [];
   refused = [];
-  others = [];
-  closed = [];
+  others = codes "d/a" ∷ [];
+  closed = codes "e" ∷ [];
 }
 
 abbrev pub worked_set : Contents

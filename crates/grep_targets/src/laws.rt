@@ -1,6 +1,7 @@
-//! Laws on the definitions: worked rows.
+//! Laws on the definitions, and worked rows.
 ghost use Rattle.std.specs.Prelude.{◌≡◌, [], ◌∷◌, false, true, codes};
 ghost use Rattle.tool_io.specs.declared.target.Target.TheVariants.{Input, File, NoOpen, NoList, TooDeep, Unnamed};
+ghost use Rattle.grep_targets.specs.Laws.{StandBelow, ToldMayStand};
 ghost use Rattle.grep_targets.specs.Paths.{name_of, word_path};
 ghost use Rattle.grep_targets.specs.Targets.{directory_targets, targets};
 ghost use Rattle.grep_targets.specs.Worked.{any_name, odd_set, refused_set, worked_set};
@@ -39,4 +40,17 @@ pub fn worked_directories()
         ∷ File (codes "d/sub-x") ∷ [] }
     ensures odd { targets any_name odd_set (codes "d" ∷ []) true
         ≡ Unnamed (codes "d") ∷ File (codes "d/b") ∷ [] }
+    ensures closed { targets any_name odd_set (codes "e" ∷ codes "d/a" ∷ []) true
+        ≡ NoList (codes "e") ∷ File (codes "d/a") ∷ [] }
+{}
+
+/// Over any set of files the word `-` stands for standard input alone, and each target of another word has the path of
+/// that word or one below it.
+pub fn targets_stand_below_their_words()
+    ensures { StandBelow }
+{}
+
+/// Over files that are told, words may stand for what they do stand for.
+pub fn told_targets_may_stand()
+    ensures { ToldMayStand }
 {}

@@ -4,7 +4,8 @@ ghost use Rattle.pcre_io.specs.Files.{Contents};
 ghost use Rattle.grep_targets.specs.Filters.{Filter, filter_in};
 ghost use Rattle.grep_targets.specs.Paths.{item_parts};
 ghost use Rattle.grep_targets.specs.Targets.{as_item, directory_targets, file_targets, item_targets, listed_targets, unnamed_targets};
-ghost use Rattle.grep_targets.specs.Walks.{at_levels, has_failed, pending_parts, pending_targets, weight, Grows, HasCauses, Steps, walking};
+ghost use Rattle.grep_targets.specs.Stands.{AreOfDirectory, AreOfItem, AreOfListed};
+ghost use Rattle.grep_targets.specs.Walks.{AreOfPending, at_levels, has_failed, pending_parts, pending_targets, weight, Goes, Grows, GrowsBy, HasCauses, Steps, walking};
 
 use crate::filters::NameFilter;
 use crate::items::{Item, has_unnamed, items_in};
@@ -77,6 +78,10 @@ fn take_entries(
         (Some entries.now))
         (weight (suc levels)) (walking (map pending_parts stack.old.items) told.old)
         (walking (map pending_parts stack.new.items) told.new)) }
+    ensures goes { OnOk result ((filter : Filter) → Goes filter
+        (AreOfListed filter (AreOfDirectory filter levels) path.now (Some entries.now))
+        (walking (map pending_parts stack.old.items) told.old)
+        (walking (map pending_parts stack.new.items) told.new)) }
     ensures unfailed { OnOk result (has_failed told.new ≡ has_failed told.old) }
 {
     let items = items_in(alloc, path, entries.as_slice())?;
@@ -97,6 +102,10 @@ fn list_directory<F: FileSet>(
         → Steps filter (F.tells files.old).contents
         (λ set. directory_targets filter set (suc levels) (string_bytes path))
         (weight (suc levels)) (walking (map pending_parts stack.old.items) told.old)
+        (walking (map pending_parts stack.new.items) told.new)) }
+    ensures goes { OnOk result ((filter : Filter) → Goes filter
+        (AreOfDirectory filter (suc levels) (string_bytes path))
+        (walking (map pending_parts stack.old.items) told.old)
         (walking (map pending_parts stack.new.items) told.new)) }
     ensures causes { OnOk result (HasCauses told.old told.new
         (F.tells files.old).faults (F.tells files.new).faults) }
@@ -123,6 +132,10 @@ fn take_directory<F: FileSet>(
         → Steps filter (F.tells files.old).contents
         (λ set. directory_targets filter set levels (string_bytes path))
         (weight levels) (walking (map pending_parts stack.old.items) told.old)
+        (walking (map pending_parts stack.new.items) told.new)) }
+    ensures goes { OnOk result ((filter : Filter) → Goes filter
+        (AreOfDirectory filter levels (string_bytes path))
+        (walking (map pending_parts stack.old.items) told.old)
         (walking (map pending_parts stack.new.items) told.new)) }
     ensures causes { OnOk result (HasCauses told.old told.new
         (F.tells files.old).faults (F.tells files.new).faults) }
@@ -166,6 +179,10 @@ fn take<F: FileSet>(
         (λ set. pending_targets (filter_in filter.now) set (pending_parts pending))
         (weight pending.levels) (walking (map pending_parts stack.old.items) told.old)
         (walking (map pending_parts stack.new.items) told.new)) }
+    ensures goes { OnOk result (Goes (filter_in filter.now)
+        (AreOfPending (filter_in filter.now) (pending_parts pending))
+        (walking (map pending_parts stack.old.items) told.old)
+        (walking (map pending_parts stack.new.items) told.new)) }
     ensures causes { OnOk result (HasCauses told.old told.new
         (F.tells files.old).faults (F.tells files.new).faults) }
     ensures same { (F.tells files.new).contents ≡ (F.tells files.old).contents }
@@ -195,6 +212,9 @@ pub fn walk<F: FileSet>(
         (λ set. item_targets (filter_in filter.now)
         (directory_targets (filter_in filter.now) set levels)
         (as_item (string_bytes path) true))
+        told.old told.new) }
+    ensures stands { OnOk result (GrowsBy (AreOfItem (filter_in filter.now)
+        (AreOfDirectory (filter_in filter.now) levels) (as_item (string_bytes path) true))
         told.old told.new) }
     ensures causes { OnOk result (HasCauses told.old told.new
         (F.tells files.old).faults (F.tells files.new).faults) }

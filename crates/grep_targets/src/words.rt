@@ -3,7 +3,8 @@ ghost use Rattle.std.specs.Prelude.{◌≡◌, ◌≤◌, IsTrue, Some, true, fl
 ghost use Rattle.pcre_io.specs.Causes.{Rose};
 ghost use Rattle.grep_targets.specs.Filters.{filter_in};
 ghost use Rattle.grep_targets.specs.Targets.{kind_targets, path_targets, targets, word_targets};
-ghost use Rattle.grep_targets.specs.Walks.{has_failed, Grows, HasCauses};
+ghost use Rattle.grep_targets.specs.Stands.{AreOfEach, AreOfKind, AreOfName, AreOfWord, AreOfWords};
+ghost use Rattle.grep_targets.specs.Walks.{has_failed, Grows, GrowsBy, HasCauses};
 
 use crate::filters::NameFilter;
 use crate::lists::TargetList;
@@ -27,6 +28,8 @@ fn take_kind<F: FileSet>(
 ) -> Result<(), Memory>
     ensures grows { OnOk result (Grows (F.tells files.old).contents
         (λ set. kind_targets (filter_in filter.now) set path.now (Some kind)) told.old told.new) }
+    ensures stands { OnOk result (GrowsBy (AreOfKind (filter_in filter.now) path.now (Some kind))
+        told.old told.new) }
     ensures causes { OnOk result (HasCauses told.old told.new
         (F.tells files.old).faults (F.tells files.new).faults) }
     ensures same { (F.tells files.new).contents ≡ (F.tells files.old).contents }
@@ -49,6 +52,8 @@ fn take_path<F: FileSet>(
 ) -> Result<(), Memory>
     ensures grows { OnOk result (Grows (F.tells files.old).contents
         (λ set. path_targets (filter_in filter.now) set true path.now) told.old told.new) }
+    ensures stands { OnOk result (GrowsBy (AreOfName true (filter_in filter.now) path.now)
+        told.old told.new) }
     ensures causes { OnOk result (HasCauses told.old told.new
         (F.tells files.old).faults (F.tells files.new).faults) }
     ensures same { (F.tells files.new).contents ≡ (F.tells files.old).contents }
@@ -72,6 +77,8 @@ fn take_word<F: FileSet>(
 ) -> Result<(), Memory>
     ensures grows { OnOk result (Grows (F.tells files.old).contents
         (λ set. word_targets (filter_in filter.now) set recursive word.now) told.old told.new) }
+    ensures stands { OnOk result (GrowsBy (AreOfWord recursive (filter_in filter.now) word.now)
+        told.old told.new) }
     ensures causes { OnOk result (HasCauses told.old told.new
         (F.tells files.old).faults (F.tells files.new).faults) }
     ensures same { (F.tells files.new).contents ≡ (F.tells files.old).contents }
@@ -97,6 +104,8 @@ fn take_words<F: FileSet>(
     ensures told { IfOk result (λ list. IfSome (F.tells files.old).contents (λ set.
         list ≡ flat_map (word_targets (filter_in filter.now) set recursive)
         (map string_bytes words.now))) }
+    ensures stands { IfOk result (AreOfEach (AreOfWord recursive (filter_in filter.now))
+        (map string_bytes words.now)) }
     ensures causes { IfOk result (λ list. IsTrue (has_failed list)
         → Rose (F.tells files.old).faults (F.tells files.new).faults) }
     ensures same { (F.tells files.new).contents ≡ (F.tells files.old).contents }
@@ -116,8 +125,9 @@ fn take_words<F: FileSet>(
 /// What words stand for (pcre2grep, "DESCRIPTION" and "OPTIONS", `-r`): `-` is standard input, which is also scanned
 /// without words; another word is a file where its name is allowed; under `-r` a directory is gone through.
 ///
-/// Over a set of files that tells what it holds the list is known. Over any other a name that can't be opened, or a
-/// directory that can't be listed, is in the list only where a fault was counted. Memory may be wanting.
+/// Over a set of files that tells what it holds the list is known. Over any set the words stand for their targets in
+/// order: without `-r` these are known, and with it they are those that some answers of a set give. A name that can't be
+/// opened, or a directory that can't be listed, is in the list only where a fault was counted. Memory may be wanting.
 pub fn targets<F: FileSet>(
     alloc: Global,
     filter: &NameFilter,
@@ -127,6 +137,8 @@ pub fn targets<F: FileSet>(
 ) -> Result<TargetList, Memory>
     ensures told { IfOk result (λ list. IfSome (F.tells files.old).contents (λ set.
         list ≡ targets (filter_in filter.now) set (map string_bytes words.now) recursive)) }
+    ensures stands { IfOk result (AreOfWords recursive (filter_in filter.now)
+        (map string_bytes words.now)) }
     ensures causes { IfOk result (λ list. IsTrue (has_failed list)
         → Rose (F.tells files.old).faults (F.tells files.new).faults) }
     ensures same { (F.tells files.new).contents ≡ (F.tells files.old).contents }

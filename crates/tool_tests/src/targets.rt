@@ -8,9 +8,10 @@ use std::process::Abort;
 use std::test::Fail;
 use tool_io::Target;
 
-const FILES: &str = "d/a.c d/b.h d/sub/c.c d/sub-x.c d/.hidden/.c top.c e/f/g h/i";
+const FILES: &str = "d/a.c d/b.h d/sub/c.c d/sub-x.c d/.hidden/.c top.c e/f/g h/i p q/r s";
 
-/// The filter's options and the words of a row, then what the words stand for. Directory `h` is refused.
+/// The filter's options and the words of a row, then what the words stand for. Directory `h` is refused, `p` is of kind
+/// Other, and `q` and `s` are closed.
 const RECURSIVE: &str = "\
 d | File:d/.hidden/.c File:d/a.c File:d/b.h File:d/sub/c.c File:d/sub-x.c
 d/// | File:d/.hidden/.c File:d/a.c File:d/b.h File:d/sub/c.c File:d/sub-x.c
@@ -32,6 +33,9 @@ top.c nope | File:top.c NoOpen:nope
 - top.c - | Input File:top.c Input
 e e/ | File:e/f/g File:e/f/g
 h | NoOpen:h
+p | File:p
+exclude=p p s | File:p File:s
+q exclude=r | NoList:q
 ";
 
 const PLAIN: &str = "\
@@ -83,6 +87,9 @@ fn files_of(alloc: Global) -> Result<MemFiles, Fail> {
         files.add(String::from_str(alloc, name)?, Vec::new(alloc), None)?;
     }
     files.refuse(String::from_str(alloc, "h")?)?;
+    files.make_other(String::from_str(alloc, "p")?)?;
+    files.close(String::from_str(alloc, "q")?)?;
+    files.close(String::from_str(alloc, "s")?)?;
     Ok(files)
 }
 

@@ -36,7 +36,7 @@ returns-clause-runs g c =
     let new = printed (g.O.Sink.tells c.grep_list.new.out) (g.E.Sink.tells c.grep_list.new.err) in
     let list = c.in_ok-list.list in
     let named : GrepPlan = record plan { names = c.names_for-plan.result } in
-    let told = lists-told files.contents files.faults files_mid.faults plan words list filter c.requires.filter c.in_ok-list.ensures.told c.in_ok-list.ensures.causes in
+    let told = lists-told files.contents files.faults files_mid.faults plan words list filter c.requires.filter c.in_ok-list.ensures.told c.in_ok-list.ensures.stands c.in_ok-list.ensures.causes in
     let lists = lists-later files.contents files.faults files_mid.faults files_new.faults plan words list c.grep_list.ensures.later told in
     let names : named ≡ with_names words list plan = search rules in
     let runs = c.grep_list.ensures.runs in
