@@ -15,6 +15,7 @@ use Rattle.grep_output.specs.declared.ended.Stop.{Stop}
 use Rattle.grep_main.specs.Asks.{AsksFor, Lists, asked_by_plan}
 use Rattle.grep_main.specs.Leaves.{Ties, Unless, LeavesBy, LeavesPlan, LeavesInput}
 use Rattle.grep_main.specs.RunsBy.{RunsBy}
+use Rattle.grep_main.specs.declared.streams.Streams.{Streams as Lent}
 use Rattle.grep_main.specs.ToolText.{text_by_patterns, text_by_plan, text_of}
 
 -- what a run's files and its standard input tell, and what was printed
@@ -25,6 +26,12 @@ pub record Streams : Type 0 where
 
 abbrev pub streams : Filed → Told → Printed → Streams
 streams files input printed = record { files = files; input = input; printed = printed }
+
+-- they are the same streams, whatever was read of them and written to them
+abbrev pub AreSame : {F S O E : Type 0} → Lent F S O E → Lent F S O E → Type 0
+AreSame old new =
+    (new.files.ghost_name ≡ old.files.ghost_name) × (new.input.ghost_name ≡ old.input.ghost_name)
+    × (new.out.ghost_name ≡ old.out.ghost_name) × (new.err.ghost_name ≡ old.err.ghost_name)
 
 -- what is searched for: these patterns, by a plan, in what these words stand for
 pub record Sought : Type 0 where

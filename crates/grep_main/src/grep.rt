@@ -13,7 +13,7 @@ ghost use Rattle.grep_main.specs.Refusals.{refusal, usage_message, help_text};
 ghost use Rattle.grep_main.specs.Reports.{reports};
 ghost use Rattle.grep_main.specs.ToolText.{outcome_of, is_below, names_for, shows_names};
 ghost use Rattle.tool_io.specs.Takes.{TakesAll};
-ghost use Rattle.grep_main.specs.Stages.{RunsOn, SearchesBy, SearchesFor, sought, streams};
+ghost use Rattle.grep_main.specs.Stages.{AreSame, RunsOn, SearchesBy, SearchesFor, sought, streams};
 ghost use Rattle.grep_main.specs.Sums.{SumsTo};
 ghost use Rattle.grep_main.specs.RunsBy.{RunsBy};
 ghost use Rattle.tool_io.specs.Printed.{printed};
@@ -21,6 +21,7 @@ ghost use Rattle.tool_io.specs.Printed.{printed};
 use crate::inputs::grep_target;
 use crate::messages::{write_bad_filter, write_bad_pattern, write_help, write_usage};
 use crate::pattern_files::{add_files, own_texts};
+use crate::streams::Streams;
 use crate::sum::{Sum, added, status_of, write_last};
 use grep_args::{ArgError, GrepPlan, HelpKind, NameMode, UsageKind, read};
 use grep_core::{GrepState, PatternError, Patterns, Stop};
@@ -31,28 +32,26 @@ use std::alloc::Global;
 use tool_io::Target;
 
 // Searches these targets, in order.
-fn grep_each<F: FileSet, S: Source, O: Sink, E: Sink>(
+fn sum_listed<F: FileSet, S: Source, O: Sink, E: Sink>(
     alloc: Global,
     patterns: &Patterns,
     plan: &GrepPlan,
     list: &[Target],
-    files: &mut F,
-    input: &mut S,
-    is_used: &mut bool,
-    out: &mut O,
-    err: &mut E,
+    io: &mut Streams<F, S, O, E>,
 ) -> Result<Sum, Stop>
     requires { IsWithinLimits plan.now }
-    ensures sums { let before = F.tells files.old in let after = F.tells files.new in
-        (given : List Asked) × TakesAll is_used.old (S.tells input.old) (S.tells input.new)
-        before.contents list.now given
+    ensures sums { let before = F.tells io.old.files.now in let after = F.tells io.new.files.now in
+        (given : List Asked) × TakesAll io.old.is_used (S.tells io.old.input.now)
+        (S.tells io.new.input.now) before.contents list.now given
         × SumsTo plan.now (reports plan.now (patterns_in patterns.now) given first_state)
-        (printed (O.tells out.old) (E.tells err.old))
-        (printed (O.tells out.new) (E.tells err.new)) result
-        × Ties before after given result (Unless is_used.old (LeavesAll (S.tells input.old)
-        (S.tells input.new) plan.now (patterns_in patterns.now) given first_state)) }
-    ensures files { (F.tells files.new).contents ≡ (F.tells files.old).contents }
-    ensures later { (F.tells files.old).faults ≤ (F.tells files.new).faults }
+        (printed (O.tells io.old.out.now) (E.tells io.old.err.now))
+        (printed (O.tells io.new.out.now) (E.tells io.new.err.now)) result
+        × Ties before after given result (Unless io.old.is_used (LeavesAll
+        (S.tells io.old.input.now) (S.tells io.new.input.now) plan.now (patterns_in patterns.now)
+        given first_state)) }
+    ensures streams { AreSame io.old io.new }
+    ensures files { (F.tells io.new.files.now).contents ≡ (F.tells io.old.files.now).contents }
+    ensures later { (F.tells io.old.files.now).faults ≤ (F.tells io.new.files.now).faults }
 {
     let mut state = GrepState::new(alloc);
     let mut sum = Sum {
@@ -61,41 +60,37 @@ fn grep_each<F: FileSet, S: Source, O: Sink, E: Sink>(
         total: 0,
     };
     for target in list {
-        let end = grep_target(
-            alloc, patterns, plan, target, files, input, is_used, out, err, &mut state,
-        )?;
+        let end = grep_target(alloc, patterns, plan, target, io, &mut state)?;
         sum = added(plan, sum, end);
     }
     Ok(sum)
 }
 
 // Searches these targets, and writes the total.
-fn grep_list<F: FileSet, S: Source, O: Sink, E: Sink>(
+fn grep_listed<F: FileSet, S: Source, O: Sink, E: Sink>(
     alloc: Global,
     patterns: &Patterns,
     plan: &GrepPlan,
     list: &[Target],
-    files: &mut F,
-    input: &mut S,
-    is_used: &mut bool,
-    out: &mut O,
-    err: &mut E,
+    io: &mut Streams<F, S, O, E>,
 ) -> Result<u8, Stop>
     requires { IsWithinLimits plan.now }
-    ensures runs { let before = F.tells files.old in let after = F.tells files.new in
-        (given : List Asked) × TakesAll is_used.old (S.tells input.old) (S.tells input.new)
-        before.contents list.now given
+    ensures runs { let before = F.tells io.old.files.now in let after = F.tells io.new.files.now in
+        (given : List Asked) × TakesAll io.old.is_used (S.tells io.old.input.now)
+        (S.tells io.new.input.now) before.contents list.now given
         × RunsBy (outcome_of plan.now (reports plan.now (patterns_in patterns.now)
         given first_state))
-        (printed (O.tells out.old) (E.tells err.old))
-        (printed (O.tells out.new) (E.tells err.new)) result
-        × Ties before after given result (Unless is_used.old (LeavesAll (S.tells input.old)
-        (S.tells input.new) plan.now (patterns_in patterns.now) given first_state)) }
-    ensures files { (F.tells files.new).contents ≡ (F.tells files.old).contents }
-    ensures later { (F.tells files.old).faults ≤ (F.tells files.new).faults }
+        (printed (O.tells io.old.out.now) (E.tells io.old.err.now))
+        (printed (O.tells io.new.out.now) (E.tells io.new.err.now)) result
+        × Ties before after given result (Unless io.old.is_used (LeavesAll
+        (S.tells io.old.input.now) (S.tells io.new.input.now) plan.now (patterns_in patterns.now)
+        given first_state)) }
+    ensures streams { AreSame io.old io.new }
+    ensures files { (F.tells io.new.files.now).contents ≡ (F.tells io.old.files.now).contents }
+    ensures later { (F.tells io.old.files.now).faults ≤ (F.tells io.new.files.now).faults }
 {
-    let sum = grep_each(alloc, patterns, plan, list, files, input, is_used, out, err)?;
-    write_last(out, plan, sum)?;
+    let sum = sum_listed(alloc, patterns, plan, list, io)?;
+    write_last(io.out, plan, sum)?;
     Ok(status_of(sum))
 }
 
@@ -154,65 +149,49 @@ fn names_for(words: &[String], list: &[Target], names: NameMode) -> NameMode
 }
 
 // Searches what these words stand for, where their names are allowed.
-fn grep_allowed<F: FileSet, S: Source, O: Sink, E: Sink>(
+fn grep_by_filter<F: FileSet, S: Source, O: Sink, E: Sink>(
     alloc: Global,
     patterns: &Patterns,
     filter: &NameFilter,
     mut plan: GrepPlan,
     words: &[String],
-    files: &mut F,
-    input: &mut S,
-    is_used: &mut bool,
-    out: &mut O,
-    err: &mut E,
+    io: &mut Streams<F, S, O, E>,
 ) -> Result<u8, Stop>
     requires limits { IsWithinLimits plan }
     requires filter { filter_of plan ≡ Ok (filter_in filter.now) }
     ensures runs { SearchesFor (sought plan (Ok (patterns_in patterns.now))
-        (map string_bytes words.now)) is_used.old
-        (streams (F.tells files.old) (S.tells input.old)
-        (printed (O.tells out.old) (E.tells err.old)))
-        (streams (F.tells files.new) (S.tells input.new)
-        (printed (O.tells out.new) (E.tells err.new))) result }
-    ensures files { (F.tells files.new).contents ≡ (F.tells files.old).contents }
-    ensures later { (F.tells files.old).faults ≤ (F.tells files.new).faults }
+        (map string_bytes words.now)) io.old.is_used
+        (streams (F.tells io.old.files.now) (S.tells io.old.input.now)
+        (printed (O.tells io.old.out.now) (E.tells io.old.err.now)))
+        (streams (F.tells io.new.files.now) (S.tells io.new.input.now)
+        (printed (O.tells io.new.out.now) (E.tells io.new.err.now))) result }
+    ensures streams { AreSame io.old io.new }
+    ensures files { (F.tells io.new.files.now).contents ≡ (F.tells io.old.files.now).contents }
+    ensures later { (F.tells io.old.files.now).faults ≤ (F.tells io.new.files.now).faults }
 {
-    let list = targets(alloc, filter, words, plan.recursive, files)?;
+    let list = targets(alloc, filter, words, plan.recursive, io.files)?;
     plan.names = names_for(words, list.as_slice(), plan.names);
-    grep_list(
-        alloc,
-        patterns,
-        &plan,
-        list.as_slice(),
-        files,
-        input,
-        is_used,
-        out,
-        err,
-    )
+    grep_listed(alloc, patterns, &plan, list.as_slice(), io)
 }
 
 // Compiles the patterns for names, and searches what these words stand for.
-fn grep_filtered<F: FileSet, S: Source, O: Sink, E: Sink>(
+fn grep_by_patterns<F: FileSet, S: Source, O: Sink, E: Sink>(
     alloc: Global,
     patterns: &Patterns,
     plan: GrepPlan,
     words: &[String],
-    files: &mut F,
-    input: &mut S,
-    is_used: &mut bool,
-    out: &mut O,
-    err: &mut E,
+    io: &mut Streams<F, S, O, E>,
 ) -> Result<u8, Stop>
     requires { IsWithinLimits plan }
     ensures runs { SearchesFor (sought plan (Ok (patterns_in patterns.now))
-        (map string_bytes words.now)) is_used.old
-        (streams (F.tells files.old) (S.tells input.old)
-        (printed (O.tells out.old) (E.tells err.old)))
-        (streams (F.tells files.new) (S.tells input.new)
-        (printed (O.tells out.new) (E.tells err.new))) result }
-    ensures files { (F.tells files.new).contents ≡ (F.tells files.old).contents }
-    ensures later { (F.tells files.old).faults ≤ (F.tells files.new).faults }
+        (map string_bytes words.now)) io.old.is_used
+        (streams (F.tells io.old.files.now) (S.tells io.old.input.now)
+        (printed (O.tells io.old.out.now) (E.tells io.old.err.now)))
+        (streams (F.tells io.new.files.now) (S.tells io.new.input.now)
+        (printed (O.tells io.new.out.now) (E.tells io.new.err.now))) result }
+    ensures streams { AreSame io.old io.new }
+    ensures files { (F.tells io.new.files.now).contents ≡ (F.tells io.old.files.now).contents }
+    ensures later { (F.tells io.old.files.now).faults ≤ (F.tells io.new.files.now).faults }
 {
     let filter = match NameFilter::build(alloc, &plan) {
         Ok(filter) => filter,
@@ -224,37 +203,32 @@ fn grep_filtered<F: FileSet, S: Source, O: Sink, E: Sink>(
                 at,
             },
         ) => {
-            write_bad_filter(err, option, index, number, at)?;
+            write_bad_filter(io.err, option, index, number, at)?;
             return Ok(2);
         }
         Err(FilterError::Memory) => return Err(Stop::Memory),
     };
-    grep_allowed(
-        alloc, patterns, &filter, plan, words, files, input, is_used, out, err,
-    )
+    grep_by_filter(alloc, patterns, &filter, plan, words, io)
 }
 
 // Compiles the patterns, and searches what these words stand for.
-fn grep_for<F: FileSet, S: Source, O: Sink, E: Sink>(
+fn grep_by_texts<F: FileSet, S: Source, O: Sink, E: Sink>(
     alloc: Global,
     plan: GrepPlan,
     texts: &TextList,
     words: &[String],
-    files: &mut F,
-    input: &mut S,
-    is_used: &mut bool,
-    out: &mut O,
-    err: &mut E,
+    io: &mut Streams<F, S, O, E>,
 ) -> Result<u8, Stop>
     requires { IsWithinLimits plan }
     ensures runs { SearchesFor (sought plan (patterns_of plan texts.now)
-        (map string_bytes words.now)) is_used.old
-        (streams (F.tells files.old) (S.tells input.old)
-        (printed (O.tells out.old) (E.tells err.old)))
-        (streams (F.tells files.new) (S.tells input.new)
-        (printed (O.tells out.new) (E.tells err.new))) result }
-    ensures files { (F.tells files.new).contents ≡ (F.tells files.old).contents }
-    ensures later { (F.tells files.old).faults ≤ (F.tells files.new).faults }
+        (map string_bytes words.now)) io.old.is_used
+        (streams (F.tells io.old.files.now) (S.tells io.old.input.now)
+        (printed (O.tells io.old.out.now) (E.tells io.old.err.now)))
+        (streams (F.tells io.new.files.now) (S.tells io.new.input.now)
+        (printed (O.tells io.new.out.now) (E.tells io.new.err.now))) result }
+    ensures streams { AreSame io.old io.new }
+    ensures files { (F.tells io.new.files.now).contents ≡ (F.tells io.old.files.now).contents }
+    ensures later { (F.tells io.old.files.now).faults ≤ (F.tells io.new.files.now).faults }
 {
     let patterns = match Patterns::build(alloc, &plan, texts) {
         Ok(patterns) => patterns,
@@ -265,18 +239,16 @@ fn grep_for<F: FileSet, S: Source, O: Sink, E: Sink>(
                 at,
             },
         ) => {
-            write_bad_pattern(err, pattern, number, at)?;
+            write_bad_pattern(io.err, pattern, number, at)?;
             return Ok(2);
         }
         Err(PatternError::Memory) => return Err(Stop::Memory),
     };
-    grep_filtered(
-        alloc, &patterns, plan, words, files, input, is_used, out, err,
-    )
+    grep_by_patterns(alloc, &patterns, plan, words, io)
 }
 
 // Searches by a plan what these words stand for.
-fn grep_by<F: FileSet, S: Source, O: Sink, E: Sink>(
+fn grep_by_plan<F: FileSet, S: Source, O: Sink, E: Sink>(
     alloc: Global,
     plan: GrepPlan,
     words: &[String],
@@ -298,17 +270,14 @@ fn grep_by<F: FileSet, S: Source, O: Sink, E: Sink>(
     if !add_files(alloc, &plan, files, input, &mut is_used, err, &mut texts)? {
         return Ok(2);
     }
-    grep_for(
-        alloc,
-        plan,
-        &texts,
-        words,
+    let mut io = Streams {
         files,
         input,
-        &mut is_used,
+        is_used,
         out,
         err,
-    )
+    };
+    grep_by_texts(alloc, plan, &texts, words, &mut io)
 }
 
 // Writes the text that is asked for in place of a search.
@@ -356,5 +325,5 @@ pub fn grep<F: FileSet, S: Source, O: Sink, E: Sink>(
         return help(out, kind);
     }
     let from = plan.files_from.min(words.len());
-    grep_by(alloc, plan, &words[from..], files, input, out, err)
+    grep_by_plan(alloc, plan, &words[from..], files, input, out, err)
 }

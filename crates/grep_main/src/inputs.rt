@@ -14,9 +14,11 @@ ghost use Rattle.grep_main.specs.Leaves.{LeavesScan};
 ghost use Rattle.grep_main.specs.Reports.{missing, report_on};
 ghost use Rattle.tool_io.specs.Takes.{IsLeft, inputs};
 ghost use Rattle.grep_main.specs.Searches.{IsReady, ReportsTo, ReportsTarget, searching};
+ghost use Rattle.grep_main.specs.Stages.{AreSame};
 ghost use Rattle.tool_io.specs.Printed.{printed};
 ghost use Rattle.tool_io.specs.Texts.{text_if};
 
+use crate::streams::Streams;
 use grep_args::GrepPlan;
 use grep_core::{FileEnd, GrepState, Patterns, Stop, grep_file, write_message};
 use pcre_io::{FileSet, IoError, MemSource, Sink, Source};
@@ -111,39 +113,54 @@ pub fn grep_target<F: FileSet, S: Source, O: Sink, E: Sink>(
     patterns: &Patterns,
     plan: &GrepPlan,
     target: &Target,
-    files: &mut F,
-    input: &mut S,
-    is_used: &mut bool,
-    out: &mut O,
-    err: &mut E,
+    io: &mut Streams<F, S, O, E>,
     state: &mut GrepState,
 ) -> Result<Option<FileEnd>, Stop>
     requires { IsReady plan.now state.old }
     ensures reports { ReportsTarget plan.now (patterns_in patterns.now) target.now
-        (searching (inputs (F.tells files.old) (S.tells input.old) is_used.old) state.old
-        (printed (O.tells out.old) (E.tells err.old)))
-        (searching (inputs (F.tells files.new) (S.tells input.new) is_used.new) state.new
-        (printed (O.tells out.new) (E.tells err.new)))
+        (searching (inputs (F.tells io.old.files.now) (S.tells io.old.input.now) io.old.is_used)
+        state.old (printed (O.tells io.old.out.now) (E.tells io.old.err.now)))
+        (searching (inputs (F.tells io.new.files.now) (S.tells io.new.input.now) io.new.is_used)
+        state.new (printed (O.tells io.new.out.now) (E.tells io.new.err.now)))
         result }
-    ensures files { (F.tells files.new).contents ≡ (F.tells files.old).contents }
-    ensures later { (F.tells files.old).faults ≤ (F.tells files.new).faults }
+    ensures streams { AreSame io.old io.new }
+    ensures files { (F.tells io.new.files.now).contents ≡ (F.tells io.old.files.now).contents }
+    ensures later { (F.tells io.old.files.now).faults ≤ (F.tells io.new.files.now).faults }
 {
     match target {
         Target::Input => {
-            let end = grep_standard(alloc, patterns, plan, input, is_used, out, err, state)?;
+            let end = grep_standard(
+                alloc,
+                patterns,
+                plan,
+                io.input,
+                &mut io.is_used,
+                io.out,
+                io.err,
+                state,
+            )?;
             Ok(Some(end))
         }
         Target::File(name) => {
-            grep_named(alloc, patterns, plan, name.as_str(), files, out, err, state)
+            grep_named(
+                alloc,
+                patterns,
+                plan,
+                name.as_str(),
+                io.files,
+                io.out,
+                io.err,
+                state,
+            )
         }
-        Target::NoOpen(name) => pass_over(plan, name.as_str(), b"cannot be opened", err),
-        Target::NoList(name) => pass_over(plan, name.as_str(), b"cannot be listed", err),
-        Target::TooDeep(name) => pass_over(plan, name.as_str(), b"too deep", err),
+        Target::NoOpen(name) => pass_over(plan, name.as_str(), b"cannot be opened", io.err),
+        Target::NoList(name) => pass_over(plan, name.as_str(), b"cannot be listed", io.err),
+        Target::TooDeep(name) => pass_over(plan, name.as_str(), b"too deep", io.err),
         Target::Unnamed(name) => pass_over(
             plan,
             name.as_str(),
             b"an entry has no readable name",
-            err,
+            io.err,
         ),
     }
 }

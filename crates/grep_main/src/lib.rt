@@ -7,6 +7,7 @@ mod laws;
 mod messages;
 mod pattern_files;
 mod status;
+mod streams;
 mod sum;
 
 pub use laws::{sound_runs_end_well, told_words_ask_for_one_list, worked_rows};

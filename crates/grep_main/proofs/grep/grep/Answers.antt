@@ -26,10 +26,10 @@ pub returns-clause-runs : goal.returns-clause-runs
 returns-clause-runs g c =
     let plan = c.in-Ok.plan in
     let files = g.F.FileSet.tells c.args.files.now in
-    let files_new = g.F.FileSet.tells c.grep_by.new.files in
+    let files_new = g.F.FileSet.tells c.grep_by_plan.new.files in
     let before = g.S.Source.tells c.args.input.now in
-    let after = g.S.Source.tells c.grep_by.new.input in
+    let after = g.S.Source.tells c.grep_by_plan.new.input in
     let old = printed (g.O.Sink.tells c.args.out.now) (g.E.Sink.tells c.args.err.now) in
-    let new = printed (g.O.Sink.tells c.grep_by.new.out) (g.E.Sink.tells c.grep_by.new.err) in
-    on-plan (map string_bytes c.args.words.now) files files_new before after old new c.grep_by.result plan c.in-Ok.ensures.plan c.in_default.is
-    (by-rest string_bytes c.args.words.now plan.files_from c.min-from.result (λ ws. SearchesBy plan ws (streams files before old) (streams files_new after new) c.grep_by.result) c.min-from.ensures c.grep_by.ensures.runs)
+    let new = printed (g.O.Sink.tells c.grep_by_plan.new.out) (g.E.Sink.tells c.grep_by_plan.new.err) in
+    on-plan (map string_bytes c.args.words.now) files files_new before after old new c.grep_by_plan.result plan c.in-Ok.ensures.plan c.in_default.is
+    (by-rest string_bytes c.args.words.now plan.files_from c.min-from.result (λ ws. SearchesBy plan ws (streams files before old) (streams files_new after new) c.grep_by_plan.result) c.min-from.ensures c.grep_by_plan.ensures.runs)
