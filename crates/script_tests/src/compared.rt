@@ -33,6 +33,33 @@ fn after_wanted<'a>(rest: &'a str, wanted: &str) -> Option<&'a str> {
     }
 }
 
+/// What is left of the written text, and whether it was left behind at a difference.
+#[derive(Clone, Copy)]
+struct Rest<'a> {
+    text: &'a str,
+    lost: bool,
+}
+
+// Whether a line that is wanted comes next. After a difference none is.
+fn is_next(rest: Rest<'_>, wanted: &str) -> bool {
+    !rest.lost && after_wanted(rest.text, wanted).is_some()
+}
+
+// What is left after a line of a transcript. A line of the script is looked for where it doesn't come next.
+fn after<'a>(rest: Rest<'a>, kind: Kind, wanted: &str) -> Rest<'a> {
+    let found = if is_next(rest, wanted) {
+        after_wanted(rest.text, wanted)
+    } else if kind == Kind::Answer {
+        None
+    } else {
+        after_line(rest.text, wanted)
+    };
+    match found {
+        Some(text) => Rest { text, lost: false },
+        None => Rest { lost: true, ..rest },
+    }
+}
+
 /// Counts the lines of the script as rows, and tells each difference. After one, lines are compared again from the next
 /// line of the script on.
 ///
@@ -44,28 +71,25 @@ pub fn compare(
     written: &str,
     report: &mut Report,
 ) -> Result<(), AllocError> {
-    let mut rest = Some(written);
-    let mut last = written;
+    let mut rest = Rest {
+        text: written,
+        lost: false,
+    };
     for (i, line) in section.body.split('\n').enumerate() {
         let (kind, wanted) = marked(line);
         if kind != Kind::Answer {
             report.count_row();
         }
-        let next = rest.and_then(|text| after_wanted(text, wanted));
-        if rest.is_some() && next.is_none() {
-            report.tell_difference(section.place(i), wanted, first_of(last))?;
+        if !rest.lost && !is_next(rest, wanted) {
+            report.tell_difference(section.place(i), wanted, first_of(rest.text))?;
         }
-        rest = match next {
-            None if kind != Kind::Answer => after_line(last, wanted),
-            next => next,
-        };
-        last = rest.unwrap_or(last);
+        rest = after(rest, kind, wanted);
     }
-    if rest.is_some() && !last.is_empty() {
+    if !rest.lost && !rest.text.is_empty() {
         report.tell_difference(
             section.place(section.last()),
             "nothing more",
-            first_of(last),
+            first_of(rest.text),
         )?;
     }
     Ok(())
