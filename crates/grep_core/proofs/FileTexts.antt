@@ -1,5 +1,5 @@
 -- What is written of an input, piece by piece, to the output and to the messages.
-use Rattle.std.proofs.Common.{◌≡◌, ◌≢◌, ℕ, ◌+◌, ◌≤◌, Bool, true, false, ◌&&◌, not, ◌||◌, List, [], ◌++◌, length, take, flat_map, Option, Result, Ok, Err, refl, sym, ap, subst, ◌∙◌, arith, inl, inr, ◌⊎◌, append-nil, nat_eq, codes}
+use Rattle.std.proofs.Common.{◌≡◌, ◌≢◌, ℕ, ◌+◌, ◌≤◌, Bool, true, false, ◌&&◌, ◌||◌, List, [], ◌++◌, length, take, flat_map, Option, Result, Ok, Err, refl, sym, ap, subst, ◌∙◌, arith, inl, inr, ◌⊎◌, append-nil, nat_eq, codes}
 use Rattle.std.specs.List.{list_any}
 use Rattle.std.specs.Io.KnownBytes.{Appends}
 use Rattle.pcre_io.specs.Told.{Told, Kept, AppendsPrefix}
@@ -35,15 +35,17 @@ use Rattle.grep_output.specs.Scans as meant
 use Rattle.grep_output.specs.Scans.{Scan, at_finish, early, too_many_errors, scan, scan_of_rows, selected_in}
 use Rattle.grep_output.specs.InputText.{Written, input_text, written_by, out_text, shown_out, end_out, state_by}
 use Rattle.grep_output.specs.Course.{scan_so_far, AreNumbered}
-use Rattle.grep_output.specs.Lines.{is_nul, lines, treatment, treatment_by}
+use Rattle.grep_output.specs.Lines.{lines, treatment, treatment_by}
 use Rattle.grep_output.specs.Ends.{stop_of, ended_of}
 use Rattle.tool_io.specs.Writes.{Writes}
 use Rattle.tool_io.specs.Prints.{Wrote, Breaks}
 use Rattle.grep_core.specs.Work.{Work, work_on, standing}
+use Rattle.grep_core.specs.FirstBytes.{looks_first, scanned_as}
 use Rattle.grep_core.specs.WholeScans.{Stood, StopsIn, ScansTo, ScansInput, left_by, AtLeastOne, IsJob, LeavesRest, StopsSoon}
 use Rattle.grep_output.specs.LittlePast.{TakesLittlePast}
 use Rattle.grep_output.specs.Refused.{RefusesSoon, WhereRefused}
 use Rattle.grep_core.specs.OneInput.{IsNew, is_skipped, WritesBoth, CountsPart, ScansAs, ScansSo, LeavesTo, Greps, GrepsTo, Treats}
+use Rattle.grep_core.proofs.FirstBytes.{as-treated, told-alike, scan-alike, refused-alike}
 use Rattle.grep_core.proofs.ScansRows.{stood-little, rows-numbered}
 use Rattle.grep_core.proofs.ScansTexts.{grew-part}
 use Rattle.grep_core.proofs.Refusing.{refuses-soon, refuses-ended}
@@ -80,23 +82,23 @@ breaks-out text err_text old new err fault w = printing.breaks-out text err_text
 pub breaks-err : (out_text text : List ℕ) (out old new : Kept) (fault : IoError) → Writes {T = Unit {0}} text old new (Err fault) → Breaks out_text text (printed out old) (printed out new) (stop_of fault ≡ SinkFault)
 breaks-err out_text text out old new fault w = printing.breaks-err out_text text out old new fault (stop_of fault ≡ SinkFault) (told-by fault) w
 
--- what stood so for a feed that gave nothing stands for an input that is treated so
+-- what stood so for a feed that gave nothing stands for an input that is scanned so
 pub record Treated (plan : GrepPlan) (before after : Told) (treated : Treatment) : Type 0 where
   pub heard : Input
   pub hears : Hears before after heard
-  pub treats : treatment plan heard ≡ treated
+  pub treats : scanned_as plan heard ≡ treated
 
 pub treated-of : (plan : GrepPlan) (treated : Treatment) (before now : Told) (f : Feed) → Stood plan treated before now f [] → Treated plan before now treated
 treated-of plan treated before now f (inl h) =
     let begun = HasBegun-given before now f [] h.2 in
-    record { heard = begun.input; hears = begun.hears; treats = ap (λ b. treatment_by (not b && list_any (nat_eq 0) (take 1024 begun.input.bytes)) plan.binary) h.0 ∙ sym h.1 }
+    record { heard = begun.input; hears = begun.hears; treats = ap (λ b. treatment_by (b && list_any (nat_eq 0) (take 1024 begun.input.bytes)) plan.binary) h.0 ∙ sym h.1 }
 treated-of plan treated before now f (inr h) =
     let begun = HasShown-begun before now f [] h.1.0 h.1.1 in
     let input = begun.0.input in
     record {
       heard = input;
       hears = begun.0.hears;
-      treats = ap (λ b. treatment_by (not b && list_any (nat_eq 0) (take 1024 input.bytes)) plan.binary) h.0 ∙ ap (λ l. treatment_by (list_any (nat_eq 0) l) plan.binary) (sym begun.1) ∙ h.1.2;
+      treats = ap (λ b. treatment_by (b && list_any (nat_eq 0) (take 1024 input.bytes)) plan.binary) h.0 ∙ ap (λ l. treatment_by (list_any (nat_eq 0) l) plan.binary) (sym begun.1) ∙ h.1.2;
     }
 
 pub skipped-is : (treated : Treatment) → is_skipped treated ≡ true → treated ≡ Skipped
@@ -211,10 +213,10 @@ module _ (work : Work) (s : State) where
     }
 
 -- the first bytes were looked at
-pub treats-shown : (plan : GrepPlan) (treated : Treatment) (is_zero : Bool) (before after : Told) (f g : Feed) (shown : List ℕ) → IsNew f → is_nul plan.newline ≡ false → Shows f g before after shown
+pub treats-shown : (plan : GrepPlan) (treated : Treatment) (is_zero : Bool) (before after : Told) (f g : Feed) (shown : List ℕ) → IsNew f → looks_first plan (mode plan) ≡ true → Shows f g before after shown
     → is_zero ≡ list_any (nat_eq 0) shown → treated ≡ treatment_by is_zero plan.binary → Treats plan f g before after treated
-treats-shown plan treated is_zero before after f g shown new other shows zero by = record {
-  stood = inr (other, (shown, HasShown-shows before before after f g shown (HasGiven-none before f new.held new.number new.offset new.phase) new.offset shows, ap (λ b. treatment_by b plan.binary) (sym zero) ∙ sym by));
+treats-shown plan treated is_zero before after f g shown new looks shows zero by = record {
+  stood = inr (looks, (shown, HasShown-shows before before after f g shown (HasGiven-none before f new.held new.number new.offset new.phase) new.offset shows, ap (λ b. treatment_by b plan.binary) (sym zero) ∙ sym by));
   live = shows.live;
   number = shows.moves.number ∙ new.number;
   near = let few = shows.few in let none = ap length new.held in omega arith;
@@ -229,7 +231,7 @@ hears-lacks before after f g new lacks =
     (begun.input, begun.hears)
 
 -- no byte was looked at
-pub treats-none : (plan : GrepPlan) (t : Told) (f : Feed) → IsNew f → is_nul plan.newline ≡ true → Treats plan f f t t AsText
+pub treats-none : (plan : GrepPlan) (t : Told) (f : Feed) → IsNew f → looks_first plan (mode plan) ≡ false → Treats plan f f t t AsText
 treats-none plan t f new is = record {
   stood = inl (is, refl, HasGiven-none t f new.held new.number new.offset new.phase);
   live = λ shut. absurd (open-closed (sym new.phase ∙ shut));
@@ -331,6 +333,18 @@ module _ {plan : GrepPlan} {patterns : List Pattern} {name : List ℕ} {s : Stat
   stopped found Memory other b left = (b, left, tt)
   stopped found TooManyErrors other b left = absurd (other refl)
 
+  -- what is told of the input as it is scanned is told of it as it is treated
+  treated-so : (new : Printed) (heard : Input) (result : Result FileEnd Stop)
+      → (let x : Scan = scan plan patterns s.errors (scanned_as plan heard) (lines plan heard) in tells_so (scanned_as plan heard) (written_by plan name (is_told plan (scanned_as plan heard)) s x) x new result)
+      → (let x : Scan = scan plan patterns s.errors (treatment plan heard) (lines plan heard) in tells_so (treatment plan heard) (written_by plan name (is_told plan (treatment plan heard)) s x) x new result)
+  treated-so new heard result =
+      let at_told = λ (b : Bool) (x : Scan).
+      GrepsTo (written_by plan name b s x) s_new old new result × LeavesTo (work_on plan patterns name (show_in b (mode plan))) s (written_by plan name b s x) x s_new result
+      × LeavesRest {T = FileEnd} (written_by plan name b s x).ended (written_by plan name b s x).within before after result in
+      as-treated plan heard (λ t. at_told (is_told plan t) (scan plan patterns s.errors t (lines plan heard)))
+      (λ untold so. subst (λ b. at_told b (scan plan patterns s.errors AsBinary (lines plan heard))) (told-alike plan patterns untold)
+      (subst (at_told (is_told plan AsText)) (scan-alike plan patterns untold s.errors (lines plan heard)) so))
+
   grep-by : {new : Printed} (came : Result FileEnd Stop) → met ≡ came → (result : Result FileEnd Stop)
       → ((found : Scan) → ScansSo on s found s_new old mid came → LeavesRest found.ended found.within before after came → tells_so treated (text_of found) found new result)
       → ((found : Rows) → AreNumbered 1 found.rows → ScansSo on s (scan plan patterns s.errors treated found) s_new old mid came
@@ -341,18 +355,20 @@ module _ {plan : GrepPlan} {patterns : List Pattern} {name : List ℕ} {s : Stat
   grep-by {new} came is result goes soon =
       let so = scanned-so in
       let found = scan plan patterns s.errors treated (lines plan so.heard) in
-      let both = subst (λ t. let x : Scan = scan plan patterns s.errors t (lines plan so.heard) in tells_so t (written_by plan name (is_told plan t) s x) x new result) (sym so.treats)
-      (goes found (subst (ScansSo on s found s_new old mid) is so.scans) (subst (LeavesRest {T = FileEnd} found.ended found.within before after) is so.rest)) in
+      let both = treated-so new so.heard result (subst (λ t. let x : Scan = scan plan patterns s.errors t (lines plan so.heard) in tells_so t (written_by plan name (is_told plan t) s x) x new result) (sym so.treats)
+      (goes found (subst (ScansSo on s found s_new old mid) is so.scans) (subst (LeavesRest {T = FileEnd} found.ended found.within before after) is so.rest))) in
       record {
         heard = so.heard;
         hears = so.hears;
         greps = both.0;
         left = both.1;
         rest = both.2;
-        refused = subst (λ t. WhereRefused result (RefusesSoon plan patterns name s t (lines plan so.heard).rows before after old.out new.out)) (sym so.treats)
+        refused = as-treated plan so.heard (λ t. WhereRefused result (RefusesSoon plan patterns name s t (lines plan so.heard).rows before after old.out new.out))
+            (λ untold. refused-alike plan patterns untold name s result (lines plan so.heard).rows before after old.out new.out)
+            (subst (λ t. WhereRefused result (RefusesSoon plan patterns name s t (lines plan so.heard).rows before after old.out new.out)) (sym so.treats)
             (soon (lines plan so.heard) (rows-numbered (line_end plan) plan.max_buffer_size so.heard) (subst (ScansSo on s found s_new old mid) is so.scans)
             (subst (LeavesRest {T = FileEnd} found.ended found.within before after) is so.rest)
-            (subst (λ r. WhereRefused r (StopsSoon on treated s (lines plan so.heard) before after old.out mid.out)) is so.refused));
+            (subst (λ r. WhereRefused r (StopsSoon on treated s (lines plan so.heard) before after old.out mid.out)) is so.refused)));
       }
 
   at_least : AtLeastOne (greatest_selected plan treated)

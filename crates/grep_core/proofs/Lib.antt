@@ -11,6 +11,7 @@ pub mod Steps
 pub mod Halting
 pub mod Taking
 pub mod Refusing
+pub mod FirstBytes
 pub mod FileTexts
 pub mod Unseen
 pub mod Ahead

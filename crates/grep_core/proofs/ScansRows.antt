@@ -1,5 +1,5 @@
 -- The rows of an input are numbered, and what a feed has given of the input that its source stands for.
-use Rattle.std.proofs.Common.{◌≡◌, ℕ, zero, suc, ◌+◌, ◌≤◌, true, false, ◌&&◌, not, List, [], ◌∷◌, ◌++◌, length, take, drop, cond, slice_range, refl, sym, ap, subst, arith, length-append, ◌∙◌, inl, inr}
+use Rattle.std.proofs.Common.{◌≡◌, ℕ, zero, suc, ◌+◌, ◌≤◌, true, false, ◌&&◌, List, [], ◌∷◌, ◌++◌, length, take, drop, cond, slice_range, refl, sym, ap, subst, arith, length-append, ◌∙◌, inl, inr}
 use Rattle.std.specs.Prelude.{nat_lt, nat_eq}
 use Rattle.std.specs.List.{list_any}
 use Rattle.std.proofs.lemmas.Bool.{cond_both}
@@ -22,8 +22,10 @@ use Rattle.grep_output.specs.declared.ended.Ended.{Ended}
 use Rattle.grep_output.specs.Ends.{ended_of}
 use Rattle.grep_output.specs.Scans.{at_finish}
 use Rattle.grep_match.specs.PatternTexts.{line_end}
-use Rattle.grep_output.specs.Lines.{is_nul, lines, treatment, treatment_by}
+use Rattle.grep_output.specs.Lines.{lines, treatment_by}
 use Rattle.grep_output.specs.Course.{AreNumbered}
+use Rattle.grep_match.specs.Modes.{mode}
+use Rattle.grep_core.specs.FirstBytes.{looks_first, scanned_as}
 use Rattle.grep_core.specs.WholeScans.{Stood, BeginsWith, EndsWith}
 
 Numbers : ℕ → Rows → Type 0
@@ -92,12 +94,12 @@ module _ (plan : GrepPlan) (treated : Treatment) (before : Told) where
   stood-little now f given (inl h) near whole = little-past before now f given h.2 near whole
   stood-little now f given (inr h) near whole = little-past before now f given h.1.1.given_so near whole
 
-  treats-nul : (input : Input) → is_nul plan.newline ≡ true → treated ≡ AsText → treatment plan input ≡ treated
-  treats-nul input nul is = ap (λ b. treatment_by (not b && list_any (nat_eq 0) (take 1024 input.bytes)) plan.binary) nul ∙ sym is
+  treats-unseen : (input : Input) → looks_first plan (mode plan) ≡ false → treated ≡ AsText → scanned_as plan input ≡ treated
+  treats-unseen input unseen is = ap (λ b. treatment_by (b && list_any (nat_eq 0) (take 1024 input.bytes)) plan.binary) unseen ∙ sym is
 
-  treats-shown : (input : Input) (shown : List ℕ) → is_nul plan.newline ≡ false → treatment_by (list_any (nat_eq 0) shown) plan.binary ≡ treated → shown ≡ take 1024 input.bytes → treatment plan input ≡ treated
-  treats-shown input shown nul is first =
-      ap (λ b. treatment_by (not b && list_any (nat_eq 0) (take 1024 input.bytes)) plan.binary) nul
+  treats-shown : (input : Input) (shown : List ℕ) → looks_first plan (mode plan) ≡ true → treatment_by (list_any (nat_eq 0) shown) plan.binary ≡ treated → shown ≡ take 1024 input.bytes → scanned_as plan input ≡ treated
+  treats-shown input shown looks is first =
+      ap (λ b. treatment_by (b && list_any (nat_eq 0) (take 1024 input.bytes)) plan.binary) looks
       ∙ ap (λ l. treatment_by (list_any (nat_eq 0) l) plan.binary) (sym first) ∙ is
 
   module _ (now : Told) (f : Feed) (given : List Row) (kind : f.kind ≡ line_end plan) (max : f.max ≡ plan.max_buffer_size) where
@@ -110,7 +112,7 @@ module _ (plan : GrepPlan) (treated : Treatment) (before : Told) where
         let begun = HasBegun-given before now f given h.2 in record {
           heard = begun.input;
           hears = begun.hears;
-          treats = treats-nul begun.input h.0 h.1;
+          treats = treats-unseen begun.input h.0 h.1;
           more = begun.more;
           all = ap (λ r. r.rows) (lines-are begun.input) ∙ begun.all;
         }
@@ -130,7 +132,7 @@ module _ (plan : GrepPlan) (treated : Treatment) (before : Told) where
         let heard = HasHeard-stops before now f given finish h.2 none in record {
           heard = heard.input;
           hears = heard.hears;
-          treats = treats-nul heard.input h.0 h.1;
+          treats = treats-unseen heard.input h.0 h.1;
           finish = finish;
           all = lines-are heard.input ∙ heard.all;
           ended_so = is;

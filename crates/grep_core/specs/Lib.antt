@@ -14,6 +14,7 @@ pub use Rattle.grep_match.specs.pcre2_api as pcre2_api
 pub use Rattle.grep_match.specs as grep_match
 pub mod Work
 pub mod Turns
+pub mod FirstBytes
 pub mod WholeScans
 pub mod Follows
 pub mod Sending

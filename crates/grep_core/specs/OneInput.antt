@@ -26,6 +26,7 @@ use Rattle.grep_output.specs.Course.{scan_so_far}
 use Rattle.grep_output.specs.Ends.{ended_of, stop_of}
 use Rattle.tool_io.specs.Prints.{Wrote, Breaks}
 use Rattle.grep_output.specs.Refused.{RefusesSoon, WhereRefused}
+use Rattle.grep_core.specs.FirstBytes.{scanned_as}
 use Rattle.grep_core.specs.WholeScans.{Stood, LeavesRest, StopsSoon}
 use Rattle.tool_io.specs.Printed.{Printed}
 use Rattle.grep_core.specs.Work.{Work, work_on, Standing}
@@ -41,7 +42,7 @@ pub record IsNew (f : Feed) : Type 0 where
   pub offset : f.offset ≡ 0
   pub phase : f.phase ≡ Open
 
--- the feed looked at the first bytes at most, and by them the input is treated so
+-- the feed looked at the first bytes at most, and the input is scanned so
 pub record Treats (plan : GrepPlan) (f g : Feed) (before after : Told) (treated : Treatment)
     : Type 0 where
   pub stood : Stood plan treated before after g []
@@ -64,7 +65,7 @@ WritesBoth out_text err_text old new (Ok _) = Wrote out_text err_text old new
 WritesBoth out_text err_text old new (Err fault) =
     Breaks out_text err_text old new (stop_of fault ≡ SinkFault)
 
--- an input was scanned as it is treated
+-- an input was scanned
 module _ (work : Work) (s : State) where
   -- what is shown of a scan, and what the scan leaves
   abbrev pub shown_text : Scan → List ℕ
@@ -101,12 +102,12 @@ module _ (work : Work) (s : State) where
   LeavesTo w found s_new (Err TooManyErrors) = ⊤
   LeavesTo w found s_new (Err stop) = (s_new ≡ w.state) ⊎ CountsPart found s_new
 
--- the scan of an input that is treated so
+-- the scan of an input, as that of one that is treated so
 pub record ScansAs (work : Work) (treated : Treatment) (old new : Standing)
     (result : Result FileEnd Stop) : Type 0 where
   pub heard : Input
   pub hears : Hears old.source new.source heard
-  pub treats : treatment work.plan heard ≡ treated
+  pub treats : scanned_as work.plan heard ≡ treated
   pub scans : ScansSo work old.state
       (scan work.plan work.patterns old.state.errors treated (lines work.plan heard))
       new.state old.printed new.printed result

@@ -16,7 +16,7 @@ use Rattle.grep_output.specs.declared.ended.Stop.TheVariants.{SinkFault, TooMany
 use Rattle.grep_match.specs.PatternTexts.{line_end}
 use Rattle.grep_output.specs.Shows.{is_told, show_in, greatest_selected, lines_after}
 use Rattle.grep_match.specs.Modes.{mode}
-use Rattle.grep_output.specs.Lines.{is_nul, lines, treatment, treatment_by}
+use Rattle.grep_output.specs.Lines.{lines, treatment_by}
 use Rattle.grep_match.specs.Matches.{Tried, tried_row, is_selected}
 use Rattle.grep_output.specs.Scans as meant
 use Rattle.grep_output.specs.Scans.{Scan, IsBelow, scan_of_rows, selected_in, errors_in, too_many_errors}
@@ -27,15 +27,17 @@ use Rattle.grep_output.specs.Course.{scan_so_far}
 use Rattle.grep_output.specs.LittlePast.{bytes_in, TakesLittlePast}
 use Rattle.grep_output.specs.Refused.{GrewBy, WhereRefused}
 use Rattle.grep_output.specs.Ends.{ended_of}
+use Rattle.grep_core.specs.FirstBytes.{looks_first, scanned_as}
 use Rattle.grep_core.specs.Work.{Work, Standing, Position, stands_at}
 use Rattle.tool_io.specs.Printed.{Printed}
 use Rattle.tool_io.specs.Prints.{Wrote, Breaks}
 
--- Since the source stood so, the feed has given these rows; and the input is treated so, by its first bytes.
+-- Since the source stood so, the feed has given these rows; and the input is scanned so, by its first bytes where they
+-- were looked at.
 abbrev pub Stood : GrepPlan → Treatment → Told → Told → Feed → List Row → Type 0
 Stood plan treated before now f given =
-    ((is_nul plan.newline ≡ true) × (treated ≡ AsText) × HasGiven before now f given)
-    ⊎ ((is_nul plan.newline ≡ false) × ((shown : List ℕ) × HasShown before now f given shown
+    ((looks_first plan (mode plan) ≡ false) × (treated ≡ AsText) × HasGiven before now f given)
+    ⊎ ((looks_first plan (mode plan) ≡ true) × ((shown : List ℕ) × HasShown before now f given shown
     × (treatment_by (list_any (nat_eq 0) shown) plan.binary ≡ treated)))
 
 -- A scan that ends before its input does leaves the rest: at most 65,536 bytes past its last line, or its last line of
@@ -106,7 +108,7 @@ pub record ScansInput (work : Work) (treated : Treatment) (old new : Standing) (
     (result : Result Ended Stop) : Type 0 where
   pub heard : Input
   pub hears : Hears old.source new.source heard
-  pub treats : treatment work.plan heard ≡ treated
+  pub treats : scanned_as work.plan heard ≡ treated
   pub scans : ScansTo work treated old.state
       (scan_of work treated old.state (lines work.plan heard)) selected new.state
       old.printed new.printed result
@@ -141,7 +143,7 @@ pub record BeginsWith (plan : GrepPlan) (treated : Treatment) (before after : To
     (given : List Row) : Type 0 where
   pub heard : Input
   pub hears : Hears before after heard
-  pub treats : treatment plan heard ≡ treated
+  pub treats : scanned_as plan heard ≡ treated
   pub more : List Row
   pub all : (lines plan heard).rows ≡ given ++ more
 
@@ -150,7 +152,7 @@ pub record EndsWith (plan : GrepPlan) (treated : Treatment) (before after : Told
     (ended : Ended) : Type 0 where
   pub heard : Input
   pub hears : Hears before after heard
-  pub treats : treatment plan heard ≡ treated
+  pub treats : scanned_as plan heard ≡ treated
   pub finish : Finish
   pub all : lines plan heard ≡ record { rows = given; finish = finish }
   pub ended_so : ended_of ended ≡ meant.at_finish finish

@@ -5,10 +5,12 @@ ghost use Rattle.pcre_io.specs.Told.{Told};
 ghost use Rattle.line_feed.specs.declared.phase.Phase.TheVariants.{Closed};
 ghost use Rattle.grep_output.specs.declared.shows.Treatment.TheVariants.{Skipped};
 ghost use Rattle.grep_match.specs.Compiled.{patterns_in};
+ghost use Rattle.grep_match.specs.Modes as modes;
 ghost use Rattle.grep_output.specs.Ends.{ended_of};
 ghost use Rattle.grep_output.specs.InputText.{end_out};
 ghost use Rattle.grep_output.specs.Lines.{is_nul};
 ghost use Rattle.grep_output.specs.Messages.{ended_message};
+ghost use Rattle.grep_core.specs.FirstBytes.{is_shown_otherwise, looks_first};
 ghost use Rattle.grep_core.specs.WholeScans.{AtLeastOne, IsJob, Stood};
 ghost use Rattle.grep_core.specs.OneInput.{Greps, IsNew, is_skipped, TreatsTo, WritesBoth, ScansAs};
 ghost use Rattle.grep_core.specs.Work.{standing, work_of};
@@ -16,7 +18,7 @@ ghost use Rattle.tool_io.specs.Printed.{printed};
 
 use crate::scan::{Course, Job, scan};
 use crate::state::GrepState;
-use grep_args::GrepPlan;
+use grep_args::{BinaryMode, GrepPlan};
 use grep_match::{Mode, Patterns, Workspace, line_end, mode_of};
 use grep_output::{
     EarlierLines, Ended, FileEnd, State, Stop, Treatment, most_selected, show_in, tells_binary,
@@ -40,16 +42,37 @@ fn has_zero(bytes: &[u8]) -> bool
     bytes.iter().any(|byte| *byte == 0)
 }
 
-// How an input is treated. It is binary where a zero byte stands in its first bytes, unless a zero byte ends a line.
+// Whether another text is written of a binary input than of a text with these lines.
+fn is_shown_otherwise(binary: BinaryMode, mode: Mode) -> bool
+    ensures { result ≡ is_shown_otherwise binary mode }
+{
+    match binary {
+        BinaryMode::Binary => tells_binary(Treatment::AsBinary, mode),
+        BinaryMode::Text => false,
+        BinaryMode::WithoutMatch => true,
+    }
+}
+
+// Whether what is written of an input can depend on its first bytes.
+fn looks_first(plan: &GrepPlan, mode: Mode) -> bool
+    ensures { result ≡ looks_first plan.now mode }
+{
+    !is_nul(plan.newline) && is_shown_otherwise(plan.binary, mode)
+}
+
+// How an input is scanned. It is binary where a zero byte stands in its first bytes, unless a zero byte ends a line.
+// They are waited for only where they count: an input that comes slowly may end long after the answer is known.
 fn treatment_of<S: Source>(
     plan: &GrepPlan,
+    mode: Mode,
     feed: &mut LineFeed,
     source: &mut S,
 ) -> Result<Treatment, Stop>
-    requires { IsNew feed.old }
+    requires new { IsNew feed.old }
+    requires mode { mode ≡ modes.mode plan.now }
     ensures { TreatsTo plan.now feed.old feed.new (S.tells source.old) (S.tells source.new) result }
 {
-    if is_nul(plan.newline) {
+    if !looks_first(plan, mode) {
         return Ok(Treatment::AsText);
     }
     match feed.front(source) {
@@ -174,8 +197,8 @@ pub fn grep_file<S: Source, O: Sink, E: Sink>(
 {
     let kind = line_end(plan);
     state.feed.restart(kind, plan.max_buffer_size as usize);
-    let treatment = treatment_of(plan, &mut state.feed, source)?;
     let mode = mode_of(plan);
+    let treatment = treatment_of(plan, mode, &mut state.feed, source)?;
     let is_told = tells_binary(treatment, mode);
     let job = Job {
         alloc: state.alloc,

@@ -178,12 +178,15 @@ fn ends_well(alloc: Global, line: &str, source: &mut MemSource) -> Result<bool, 
     Ok(matches!(found, Some((Ok(_), _))))
 }
 
-// How many bytes of a long input are taken, or more than all where the run doesn't end well.
-fn taken_by(rt: &impl Abort, alloc: Global, row: &str) -> Result<usize, Fail> {
+// How many bytes of a long input are taken, of which a read gives so many at most; or more than all where the run doesn't
+// end well.
+fn taken_by(rt: &impl Abort, alloc: Global, row: &str, piece: u32) -> Result<usize, Fail>
+    requires some { 1 ≤ piece }
+{
     let (line, first) = run_of(row);
     let mut bytes = first.as_bytes().to_vec(alloc)?;
     bytes.resize(LONG, b'\n')?;
-    let mut source = MemSource::new(bytes, None, 1_000_000);
+    let mut source = MemSource::new(bytes, None, piece);
     if !ends_well(alloc, line, &mut source)? {
         return Ok(usize::MAX);
     }
@@ -210,8 +213,41 @@ fn the_rest_of_an_input_is_left(rt: HostRuntime) -> Result<(), Fail> {
     ];
     for (row, end) in &ROWS {
         let end = end.saturating_add(65_536);
-        let taken = taken_by(&rt, rt.alloc(), row)?;
+        let taken = taken_by(&rt, rt.alloc(), row, 1_000_000)?;
         assert!(rt; taken <= end);
+    }
+    Ok(())
+}
+
+#[test]
+fn no_bytes_are_waited_for_that_change_nothing(rt: HostRuntime) -> Result<(), Fail> {
+    // Words, the first lines of a long input that comes byte by byte, and how many of these bytes are asked for: up to the
+    // line that decides, or the first 1,024 where something else is written of a binary input.
+    static ROWS: [(Row, usize); 20] = [
+        ("-q x < b\nx\nc\n", 4),
+        ("-q x < b\nx\0\n", 5),
+        ("-q -v x < x\nb\n", 4),
+        ("-L x < b\nx\nc\n", 4),
+        ("-c -m 1 x < b\nx\nx\n", 4),
+        ("-c -m 1 x < b\nx\0\n", 5),
+        ("-c -l -m 1 x < b\nx\nx\n", 4),
+        ("-t -m 1 x < b\nx\nx\n", 4),
+        ("-a -m 1 x < b\nx\nx\n", 4),
+        ("-a -m 1 -A 1 x < b\nx\nd\ne\n", 6),
+        ("-a -o -m 1 x < b\nx\nx\n", 4),
+        ("-a -l x < b\nx\nc\n", 4),
+        ("--binary-files=text -m 1 x < b\nx\nx\n", 4),
+        ("-N NUL -m 1 x < b\0x\0x\0", 4),
+        ("-m 1 x < b\nx\nx\n", 1_024),
+        ("-o -m 1 x < b\nx\nx\n", 1_024),
+        ("-l x < b\nx\nc\n", 1_024),
+        ("-I -q x < b\nx\nc\n", 1_024),
+        ("-I -L x < b\nx\nc\n", 1_024),
+        ("-I -c -m 1 x < b\nx\nx\n", 1_024),
+    ];
+    for (row, end) in &ROWS {
+        let taken = taken_by(&rt, rt.alloc(), row, 1)?;
+        assert!(rt; taken == *end);
     }
     Ok(())
 }
