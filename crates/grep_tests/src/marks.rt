@@ -12,6 +12,17 @@ pub enum Limit {
     Messages,
 }
 
+/// What a name is, beside what the files say.
+#[derive(Clone, Copy)]
+pub enum Manner {
+    /// Neither a file nor a directory.
+    Other,
+    /// Neither opened nor listed.
+    Closed,
+    /// Nor asked for its kind.
+    Refused,
+}
+
 /// A line of a data file.
 #[derive(Clone, Copy)]
 pub enum Line<'a> {
@@ -19,6 +30,8 @@ pub enum Line<'a> {
     Nothing,
     /// The name of a file, and after how many bytes every read of it fails.
     File(&'a str, Option<u64>),
+    /// A name of this manner.
+    Named(Manner, &'a str),
     /// A line of a file, so many times.
     Content(&'a str, usize),
     /// The words of a row.
@@ -96,10 +109,26 @@ fn file_line(text: &str) -> Result<Line<'_>, Wrong> {
     }
 }
 
+// A line that says of a name what it is.
+fn named(line: &str) -> Option<Line<'_>> {
+    if let Some(name) = line.strip_prefix("other ") {
+        Some(Line::Named(Manner::Other, name))
+    } else if let Some(name) = line.strip_prefix("closed ") {
+        Some(Line::Named(Manner::Closed, name))
+    } else if let Some(name) = line.strip_prefix("refused ") {
+        Some(Line::Named(Manner::Refused, name))
+    } else {
+        None
+    }
+}
+
 // A line that sets what a run is made over.
 fn setting(line: &str) -> Result<Option<Line<'_>>, Wrong> {
     if let Some(text) = line.strip_prefix("file ") {
         return Ok(Some(file_line(text)?));
+    }
+    if let Some(line) = named(line) {
+        return Ok(Some(line));
     }
     if let Some(text) = line.strip_prefix("input fails after ") {
         return Ok(Some(Line::Limited(Limit::Input, number(text)?)));

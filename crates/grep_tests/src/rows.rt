@@ -1,5 +1,5 @@
 //! Rows, as the lines of a section make them.
-use crate::marks::{Limit, Line, line_from};
+use crate::marks::{Limit, Line, Manner, line_from};
 use crate::runs::Piece;
 use crate::words::words_of;
 use crate::wrong::Wrong;
@@ -14,6 +14,13 @@ pub struct File {
     pub fail_at: Option<u64>,
 }
 
+/// A name that is no file's to open, or no directory's to list.
+#[derive(Drop)]
+pub struct Named {
+    pub manner: Manner,
+    pub name: String,
+}
+
 /// A run, and what it is to write and answer.
 #[derive(Drop)]
 pub struct Row {
@@ -22,6 +29,8 @@ pub struct Row {
     pub words: Vec<String>,
     /// Files of this row alone.
     pub files: Vec<File>,
+    /// Names of a manner in this row alone.
+    pub names: Vec<Named>,
     /// The input, where the row has one of its own.
     pub input: Option<Vec<u8>>,
     /// After how many bytes every read of the input fails.
@@ -43,6 +52,7 @@ impl Row {
             line,
             words,
             files: Vec::new(alloc),
+            names: Vec::new(alloc),
             input: None,
             fail_at: None,
             room: None,
@@ -118,6 +128,17 @@ fn add_file(
     Ok(())
 }
 
+fn add_name(
+    alloc: Global,
+    names: &mut Vec<Named>,
+    manner: Manner,
+    name: &str,
+) -> Result<(), Wrong> {
+    let name = String::from_str(alloc, name)?;
+    names.push(Named { manner, name })?;
+    Ok(())
+}
+
 // Adds a line to the last file.
 fn add_content(
     alloc: Global,
@@ -131,12 +152,13 @@ fn add_content(
     }
 }
 
-/// A section as far as it was read: the files and the input of its rows, and the row that has no
-/// status yet.
+/// A section as far as it was read: the files, the names of a manner and the input of its rows, and
+/// the row that has no status yet.
 #[derive(Drop)]
 pub struct Reading {
     alloc: Global,
     pub files: Vec<File>,
+    pub names: Vec<Named>,
     pub input: Vec<u8>,
     // whether a line of the input goes on with it
     goes_on: bool,
@@ -148,6 +170,7 @@ impl Reading {
         Reading {
             alloc,
             files: Vec::new(alloc),
+            names: Vec::new(alloc),
             input: Vec::new(alloc),
             goes_on: false,
             row: None,
@@ -212,6 +235,7 @@ impl Reading {
     fn take_outside(&mut self, line: Line<'_>) -> Result<(), Wrong> {
         match line {
             Line::File(name, fail_at) => add_file(self.alloc, &mut self.files, name, fail_at),
+            Line::Named(manner, name) => add_name(self.alloc, &mut self.names, manner, name),
             Line::Content(text, times) => add_content(self.alloc, &mut self.files, text, times),
             Line::Input(text, times) => {
                 if !self.goes_on {
@@ -229,6 +253,7 @@ impl Reading {
 fn take_in_row(alloc: Global, row: &mut Row, line: Line<'_>) -> Result<(), Wrong> {
     match line {
         Line::File(name, fail_at) => add_file(alloc, &mut row.files, name, fail_at),
+        Line::Named(manner, name) => add_name(alloc, &mut row.names, manner, name),
         Line::Content(text, times) => add_content(alloc, &mut row.files, text, times),
         Line::Input(text, times) => row.add_input(alloc, text, times),
         Line::Output(text) => append(alloc, &mut row.out, text, 1),

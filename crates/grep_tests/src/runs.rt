@@ -1,7 +1,8 @@
 //! Runs of pcre2grep over streams and files in memory.
 ghost use Rattle.std.specs.Prelude.{◌≤◌};
 
-use crate::rows::{File, Reading, Row};
+use crate::marks::Manner;
+use crate::rows::{File, Named, Reading, Row};
 use grep_main::run_grep;
 use pcre_io::{MemFiles, MemSink, MemSource};
 use std::alloc::{AllocError, Global};
@@ -46,10 +47,27 @@ fn add_all(alloc: Global, set: &mut MemFiles, files: &[File]) -> Result<(), Allo
     Ok(())
 }
 
+fn name_all(alloc: Global, set: &mut MemFiles, names: &[Named]) -> Result<(), AllocError> {
+    for named in names {
+        let name = String::from_str(alloc, named.name.as_str())?;
+        let done = match named.manner {
+            Manner::Other => set.make_other(name),
+            Manner::Closed => set.close(name),
+            Manner::Refused => set.refuse(name),
+        };
+        if done.is_err() {
+            return Err(AllocError);
+        }
+    }
+    Ok(())
+}
+
 fn run(alloc: Global, section: &Reading, row: &Row, piece: Piece) -> Result<Written, AllocError> {
     let mut files = MemFiles::new(alloc);
     add_all(alloc, &mut files, section.files.as_slice())?;
     add_all(alloc, &mut files, row.files.as_slice())?;
+    name_all(alloc, &mut files, section.names.as_slice())?;
+    name_all(alloc, &mut files, row.names.as_slice())?;
     let input = row.input.as_ref().unwrap_or(&section.input);
     let mut input = MemSource::new(input.as_slice().to_vec(alloc)?, row.fail_at, piece.bytes);
     let mut out = MemSink::new(alloc, row.room, piece.bytes);

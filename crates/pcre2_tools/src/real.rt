@@ -16,8 +16,11 @@ const NO_MEMORY: u8 = 3;
 // A write failed.
 const NO_WRITE: u8 = 4;
 
-// The words can't be read: one of them isn't UTF-8.
+// A word of pcre2grep isn't UTF-8.
 const BAD_WORDS: u8 = 2;
+
+// A word of pcre2test isn't, so that its arguments are bad.
+const BAD_ARGUMENTS: u8 = 1;
 
 // Linux starts no program by a path of more bytes.
 const LONGEST_PATH: usize = 4096;
@@ -63,12 +66,22 @@ fn asked_tool(rt: &HostRuntime) -> &'static str {
     "pcre2grep"
 }
 
-// Says which word isn't UTF-8.
+// Says which word of pcre2grep isn't UTF-8.
 fn say_bad_word(rt: &HostRuntime) {
-    let tool = asked_tool(rt);
     let number = first_bad_word(rt).unwrap_or(0);
-    if let Ok(line) = format!(in rt.alloc(); "{tool}: word {number} is not UTF-8\n") {
+    if let Ok(line) = format!(in rt.alloc(); "pcre2grep: word {number} is not UTF-8\n") {
         let _ = rt.stderr().write_all(line.as_bytes());
+    }
+}
+
+// Refuses words of which one isn't UTF-8, and answers the status.
+fn refuse_words(rt: &HostRuntime) -> u8 {
+    if asked_tool(rt) == "pcre2test" {
+        let _ = rt.stderr().write_all(b"pcre2test: bad arguments\n");
+        BAD_ARGUMENTS
+    } else {
+        say_bad_word(rt);
+        BAD_WORDS
     }
 }
 
@@ -104,9 +117,6 @@ pub fn run_real(rt: &HostRuntime) -> ExitCode {
     match arguments(rt) {
         Ok(args) => ExitCode::from(run_started(rt, args)),
         Err(e) if e.kind() == io::ErrorKind::OutOfMemory => ExitCode::from(NO_MEMORY),
-        Err(_) => {
-            say_bad_word(rt);
-            ExitCode::from(BAD_WORDS)
-        }
+        Err(_) => ExitCode::from(refuse_words(rt)),
     }
 }

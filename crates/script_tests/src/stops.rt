@@ -102,6 +102,24 @@ fn a_replacement_in_utf_is_utf8(rt: HostRuntime) -> Result<(), Fail> {
 }
 
 #[test]
+fn a_line_has_2_to_the_20_bytes_at_most(rt: HostRuntime) -> Result<(), Fail> {
+    let mut input = Vec::from_slice(rt.alloc(), b"# ")?;
+    for _ in 2..1_048_576 {
+        input.push(b'a')?;
+    }
+    input.extend_from_slice(b"\n/a/\na\n")?;
+    let mut source = MemSource::new(input, None, 65_536);
+    let mut out = MemSink::new(rt.alloc(), None, 65_536);
+    assert_eq!(rt;
+        run_script(rt.alloc(), &plain(), &mut source, &mut out),
+        Ok(())
+    );
+    assert!(rt; out.bytes().len() == 1_048_577 + 12);
+    assert!(rt; out.bytes().ends_with(b"a\n/a/\na\n 0: a\n"));
+    Ok(())
+}
+
+#[test]
 fn a_line_may_be_too_long(rt: HostRuntime) -> Result<(), Fail> {
     let mut input = Vec::from_slice(rt.alloc(), b"# a\n")?;
     for _ in 0..1_048_577 {
