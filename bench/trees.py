@@ -13,11 +13,11 @@ a user that isn't root: where the script is run by root it gives its rights up f
 Run ./build first.
 """
 import argparse
-import multiprocessing
 import os
 import pwd
 import re
 import shutil
+import signal
 import subprocess
 import sys
 import tempfile
@@ -57,14 +57,20 @@ def remove(path, kind):
         os.remove(path)
 
 
-def move(top, count, stop):
-    """Makes and removes names until it is told to stop."""
+def move(top, count):
+    """Makes and removes names, by a process of its own, which is answered."""
     names = [(os.path.join(top, place, f"moving{i}"), i % 3) for i in range(count) for place in ("", "sub")]
-    while not stop.is_set():
-        for path, kind in names:
-            make(path, kind)
-        for path, kind in names:
-            remove(path, kind)
+    mover = os.fork()
+    if mover:
+        return mover
+    try:
+        while True:
+            for path, kind in names:
+                make(path, kind)
+            for path, kind in names:
+                remove(path, kind)
+    finally:
+        os._exit(1)
 
 
 def grep(program, folder, *words):
@@ -97,9 +103,7 @@ def search_moving(program, folder, runs, files, moving):
             write(os.path.join(top, f"{place}stays{i:03}"), "found here\nand no more\n")
             stay.append(f"top/{place}stays{i:03}:found here".encode())
     stay.sort()
-    stop = multiprocessing.Event()
-    mover = multiprocessing.Process(target=move, args=(top, moving, stop))
-    mover.start()
+    mover = move(top, moving)
     lost, spoken = 0, 0
     try:
         for i in range(runs):
@@ -110,8 +114,8 @@ def search_moving(program, folder, runs, files, moving):
                 lost += 1
                 print(f"run {i}: {fault}")
     finally:
-        stop.set()
-        mover.join()
+        os.kill(mover, signal.SIGKILL)
+        os.waitpid(mover, 0)
     print(f"{runs} runs over {2 * files} files that stay and {2 * moving} names that come and go: {lost} wrong, "
           f"{spoken} that spoke of a name that went")
     return lost
