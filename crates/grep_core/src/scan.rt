@@ -688,6 +688,7 @@ fn take_lines<S: Source, O: Sink, E: Sink>(
         (position (fed feed.new (S.tells source.new))
         (progress course.new state.new (printed (O.tells out.new) (E.tells err.new)))) result }
 {
+    // A number behind a reference is known to be of its type once it was read: so no count up to it wraps.
     prove!(job.plan.after_context <= u32::MAX);
     let mut watch = Watch::new(job.plan, job.patterns);
     'line: loop {
