@@ -25,7 +25,7 @@ pub struct Watch {
     pub quiet: usize,
 }
 
-// So each of them is a byte.
+// Each of them is a byte, which is known of a slice once it was read.
 fn are_bytes(bytes: &[u8])
     ensures { (k : ℕ) → k < length bytes.now → slice_index bytes.now k < 256 }
 {
