@@ -162,6 +162,7 @@ fn names_of(
     let none: [NameEntry; 0] = [];
     let mut machine = Machine::new(alloc, &none, text, start, options, calling);
     machine.run()?;
+    // The root serves nobody yet, but a text that has none is refused here.
     let _root = machine.end()?;
     let draft = mem::replace(&mut machine.draft, Draft::new(alloc, options));
     Ok(draft)
