@@ -123,6 +123,7 @@ impl Tree {
     pub fn is_sound(&self)
         ensures { TreeRules self.now }
     {
+        // What is kept of a value is known once one of its fields was read.
         let _root = &self.root;
     }
 
