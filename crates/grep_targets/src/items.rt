@@ -69,6 +69,7 @@ pub fn items_in(alloc: Global, path: &str, entries: &[DirEntry]) -> Result<BTree
     let mut rest = entries;
     'entry: loop {
         let [entry, more @ ..] = rest else {
+            // A length that was read is known to be a number of the machine.
             let _count = items.len();
             return Ok(items);
         };
