@@ -1,5 +1,5 @@
 -- Rows that are passed over.
-use Rattle.std.proofs.Common.{◌≡◌, ◌≢◌, ℕ, zero, suc, ◌+◌, ◌-◌, ◌^◌, ◌<◌, ◌≤◌, Bool, false, cond, eqb, max, List, [], ◌∷◌, ◌++◌, length, take, drop, slice_range, get_or, count_by, refl, sym, ap, subst, ◌∙◌, arith, ⊎_elim, length-drop, length-take-le}
+use Rattle.std.proofs.Common.{◌≡◌, ◌≢◌, ℕ, zero, suc, ◌+◌, ◌-◌, ◌^◌, ◌<◌, ◌≤◌, Bool, false, ◌&&◌, cond, eqb, max, List, [], ◌∷◌, ◌++◌, length, take, drop, slice_range, get_or, count_by, refl, sym, ap, subst, ◌∙◌, arith, ⊎_elim, length-drop, length-take-le}
 use Rattle.std.proofs.lemmas.Bool.{cases_lt, cases_eq, both_ways, eq-eqb, ne_eqb}
 use Rattle.std.specs.List.{All}
 use Rattle.std.proofs.lemmas.List.{drop-drop, get_or-drop}
@@ -9,7 +9,7 @@ use Rattle.std.proofs.Math.Seq.{take-add}
 use Rattle.pcre_io.specs.Told.{Told}
 use Rattle.byte_lanes.specs.declared.line_end.EndKind.{EndKind}
 use Rattle.byte_lanes.specs.declared.line_end.EndKind.TheVariants.{Lf}
-use Rattle.byte_lanes.specs.Newlines.{newline_len}
+use Rattle.byte_lanes.specs.Newlines.{longest, newline_len}
 use Rattle.byte_lanes.proofs.lemmas.NewlineLemmas.{longest-head, stands_here, stands_nil}
 use Rattle.line_feed.specs.declared.look.Run.{Run}
 use Rattle.line_feed.specs.declared.feed.LineFeed.TheInside.{Inside}
@@ -19,7 +19,7 @@ use Rattle.line_feed.specs.View.{Feed, given, next_row}
 use Rattle.line_feed.specs.Inside.{IsWhole, IsNear, view_of}
 use Rattle.line_feed.specs.Steps.{FirstEnd, EndsRow}
 use Rattle.line_feed.specs.Answers.{Gives}
-use Rattle.line_feed.specs.Passes.{GivesAll, Passes, HasRun, HoldsLines, GivesLine, skipped}
+use Rattle.line_feed.specs.Passes.{GivesAll, IsNewlineByte, Passes, HasRun, HoldsLines, GivesLine, skipped}
 use Rattle.line_feed.proofs.RowLemmas.{IsFirst, first-least}
 use Rattle.line_feed.proofs.Looking.{next-whole, cuts-next}
 use Rattle.line_feed.proofs.Insides.{held-long, near-drop}
@@ -184,48 +184,54 @@ run-row f k len most longest all s first ends room short fits =
       few = omega arith;
     }
 
--- rows that LF ends
-abbrev is_lf : ℕ → Bool
-is_lf b = eqb b 10
+-- rows that one byte ends
+abbrev is_byte : ℕ → ℕ → Bool
+is_byte byte b = eqb b byte
 
-lf-len : (bytes : List ℕ) (k : ℕ) → k < length bytes → get_or bytes k 0 ≡ 10 → 1 ≡ newline_len Lf bytes k
-lf-len bytes k l is = sym (ap (λ q. max (cond q 1 0) 0) (stands_here 10 [] bytes k l is ∙ stands_nil bytes (k + 1)))
-
-lf-at : (bytes : List ℕ) (k : ℕ) → 0 < newline_len Lf bytes k → get_or bytes k 0 ≡ 10
-lf-at bytes k there = longest-head (λ b. b ≡ 10) ((10 ∷ []) ∷ []) bytes k (refl, tt) there
-
-no-lf : (bytes : List ℕ) (k i : ℕ) → IsFirst Lf bytes k → i ≤ k → count_by is_lf (take i bytes) ≡ 0
-no-lf bytes k zero first le = refl
-no-lf bytes k (suc i) first le =
-    let high = first.high in
-    let other : eqb (get_or bytes i 0) 10 ≡ false =
-    ⊎_elim (λ is. absurd (first.before i (omega arith) (omega arith) (let one = lf-len bytes i (omega arith) is in omega arith))) (λ ne. ne_eqb (get_or bytes i 0) 10 ne) (cases_eq (get_or bytes i 0) 10) in
-    ap (λ q. count_by is_lf (take q bytes)) {x = suc i} {y = i + 1} (omega arith) ∙ count_by_more_no is_lf bytes i 0 (omega arith) other ∙ no-lf bytes k i first (omega arith)
-
--- the first LF of bytes whose n-th is one
-record FirstLf (kind : EndKind) (bytes : List ℕ) (n : ℕ) : Type 0 where
+-- the first newline of bytes whose n-th is one
+record FirstByte (kind : EndKind) (byte : ℕ) (bytes : List ℕ) (n : ℕ) : Type 0 where
   k : ℕ
   first : IsFirst kind bytes k
   one : 1 ≡ newline_len kind bytes k
   before : k < n
-  count : count_by is_lf (take (k + 1) bytes) ≡ 1
+  count : count_by (is_byte byte) (take (k + 1) bytes) ≡ 1
   shut : ends_open kind bytes ≡ false
 
-first-lf : (bytes : List ℕ) (n : ℕ) → 0 < n → n ≤ length bytes → get_or bytes (n - 1) 0 ≡ 10 → FirstLf Lf bytes n
-first-lf bytes n some within is =
-    let k = first_newline Lf bytes in
-    let first = first-least Lf bytes in
-    let there = lf-len bytes (n - 1) (omega arith) is in
-    let before : k < n = ⊎_elim (λ l. l) (λ past. absurd (first.before (n - 1) (omega arith) (omega arith) (omega arith))) (cases_lt k n) in
-    let at = lf-at bytes k (first.holds (omega arith)) in
-    record {
-      k = k;
-      first = first;
-      one = lf-len bytes k (omega arith) at;
-      before = before;
-      count = count_by_more_yes is_lf bytes k 0 (omega arith) (eq-eqb _ _ at) ∙ ap (λ m. m + 1) (no-lf bytes k k first (omega arith));
-      shut = refl;
-    }
+module _ (kind : EndKind) (byte : ℕ) (each : IsNewlineByte kind byte) where
+  byte-len : (bytes : List ℕ) (k : ℕ) → k < length bytes → get_or bytes k 0 ≡ byte → 1 ≡ newline_len kind bytes k
+  byte-len bytes k l is =
+      sym (ap (λ texts. longest texts bytes k) each.0 ∙ ap (λ q. max (cond q 1 0) 0) (stands_here byte [] bytes k l is ∙ stands_nil bytes (k + 1)))
+
+  byte-at : (bytes : List ℕ) (k : ℕ) → 0 < newline_len kind bytes k → get_or bytes k 0 ≡ byte
+  byte-at bytes k there =
+      longest-head (λ b. b ≡ byte) ((byte ∷ []) ∷ []) bytes k (refl, tt) (subst (λ texts. 0 < longest texts bytes k) each.0 there)
+
+  no-byte : (bytes : List ℕ) (k i : ℕ) → IsFirst kind bytes k → i ≤ k → count_by (is_byte byte) (take i bytes) ≡ 0
+  no-byte bytes k zero first le = refl
+  no-byte bytes k (suc i) first le =
+      let high = first.high in
+      let other : eqb (get_or bytes i 0) byte ≡ false =
+      ⊎_elim (λ is. absurd (first.before i (omega arith) (omega arith) (let one = byte-len bytes i (omega arith) is in omega arith))) (λ ne. ne_eqb (get_or bytes i 0) byte ne) (cases_eq (get_or bytes i 0) byte) in
+      ap (λ q. count_by (is_byte byte) (take q bytes)) {x = suc i} {y = i + 1} (omega arith) ∙ count_by_more_no (is_byte byte) bytes i 0 (omega arith) other ∙ no-byte bytes k i first (omega arith)
+
+  count-first : (bytes : List ℕ) (k : ℕ) → IsFirst kind bytes k → k < length bytes → count_by (is_byte byte) (take (k + 1) bytes) ≡ 1
+  count-first bytes k first within =
+      count_by_more_yes (is_byte byte) bytes k 0 within (eq-eqb _ _ (byte-at bytes k (first.holds within))) ∙ ap (λ m. m + 1) (no-byte bytes k k first (omega arith))
+
+  first-byte : (bytes : List ℕ) (n : ℕ) → 0 < n → n ≤ length bytes → get_or bytes (n - 1) 0 ≡ byte → FirstByte kind byte bytes n
+  first-byte bytes n some within is =
+      let k = first_newline kind bytes in
+      let first = first-least kind bytes in
+      let there = byte-len bytes (n - 1) (omega arith) is in
+      let before : k < n = ⊎_elim (λ l. l) (λ past. absurd (first.before (n - 1) (omega arith) (omega arith) (omega arith))) (cases_lt k n) in
+      record {
+        k = k;
+        first = first;
+        one = byte-len bytes k (omega arith) (byte-at bytes k (first.holds (omega arith)));
+        before = before;
+        count = count-first bytes k first (omega arith);
+        shut = ap (λ b. b && eqb (get_or bytes (length bytes - 1) 0) 13) each.1;
+      }
 
 -- passed over in two steps
 skipped-twice : (f : Feed) (k m : ℕ) (n rows : ℕ) → k + 1 + m ≡ n → skipped (given f k 1) m rows ≡ skipped f n (rows + 1)
@@ -235,16 +241,16 @@ skipped-twice f k m n rows is =
     let offset : f.offset + (k + 1) + m ≡ f.offset + n = omega arith in
     λ i. record f { row = row_with [] [] (number i) (offset i); held = rest i; number = number i; offset = offset i }
 
--- the rows of bytes that end in LF
-all-lf : (fuel : ℕ) (f : Feed) (n most longest : ℕ) → n ≤ fuel → f.kind ≡ Lf → IsSound f → 0 < n → n ≤ length f.held → get_or f.held (n - 1) 0 ≡ 10 → n ≤ f.max → n ≤ longest → n ≤ most
-    → (rows : List Row) × ((now : Told) → GivesAll now most longest f (skipped f n (count_by is_lf (take n f.held))) rows) × All HasEnd rows
-all-lf zero f n most longest few kind s some within is room short fits = absurd (omega arith)
-all-lf (suc fuel) f n most longest few kind s some within is room short fits =
-    let lf = subst (λ q. FirstLf q f.held n) (sym kind) (first-lf f.held n some within is) in
-    let k = lf.k in
-    let before = lf.before in
-    let first : FirstEnd f k 1 = record { least = lf.first; long = lf.one } in
-    let ends : EndsRow f k 1 = record { some = omega arith; settled = λ going opened. absurd (both_ways _ lf.shut opened) } in
+-- the rows of bytes that end in such a byte
+all-byte : (byte fuel : ℕ) (f : Feed) (n most longest : ℕ) → n ≤ fuel → IsNewlineByte f.kind byte → IsSound f → 0 < n → n ≤ length f.held → get_or f.held (n - 1) 0 ≡ byte → n ≤ f.max → n ≤ longest → n ≤ most
+    → (rows : List Row) × ((now : Told) → GivesAll now most longest f (skipped f n (count_by (is_byte byte) (take n f.held))) rows) × All HasEnd rows
+all-byte byte zero f n most longest few each s some within is room short fits = absurd (omega arith)
+all-byte byte (suc fuel) f n most longest few each s some within is room short fits =
+    let end = first-byte f.kind byte each f.held n some within is in
+    let k = end.k in
+    let before = end.before in
+    let first : FirstEnd f k 1 = record { least = end.first; long = end.one } in
+    let ends : EndsRow f k 1 = record { some = omega arith; settled = λ going opened. absurd (both_ways _ end.shut opened) } in
     let m = n - (k + 1) in
     let all : k + 1 + m ≡ n = omega arith in
     let rest = drop (k + 1) f.held in
@@ -252,38 +258,38 @@ all-lf (suc fuel) f n most longest few kind s some within is room short fits =
     let front : length (take k f.held) ≡ k = length-take-le k f.held (omega arith) in
     let back = row-back f k 1 (omega (arith, before, within)) in
     let one : HasEnd (next_row f k 1) = omega (arith, back) in
-    let count : count_by is_lf (take n f.held) ≡ count_by is_lf (take m rest) + 1 =
-    ap (λ q. count_by is_lf (take q f.held)) (sym all)
-    ∙ ap (count_by is_lf) (take-add (k + 1) m f.held)
-    ∙ sum_by-append (λ b. cond (is_lf b) 1 0) (take (k + 1) f.held) (take m rest)
-    ∙ ap (λ q. q + count_by is_lf (take m rest)) lf.count
+    let count : count_by (is_byte byte) (take n f.held) ≡ count_by (is_byte byte) (take m rest) + 1 =
+    ap (λ q. count_by (is_byte byte) (take q f.held)) (sym all)
+    ∙ ap (count_by (is_byte byte)) (take-add (k + 1) m f.held)
+    ∙ sum_by-append (λ b. cond (is_byte byte b) 1 0) (take (k + 1) f.held) (take m rest)
+    ∙ ap (λ q. q + count_by (is_byte byte) (take m rest)) end.count
     ∙ omega arith in
-    let same : skipped (given f k 1) m (count_by is_lf (take m rest)) ≡ skipped f n (count_by is_lf (take n f.held)) = skipped-twice f k m n _ all ∙ ap (skipped f n) (sym count) in
+    let same : skipped (given f k 1) m (count_by (is_byte byte) (take m rest)) ≡ skipped f n (count_by (is_byte byte) (take n f.held)) = skipped-twice f k m n _ all ∙ ap (skipped f n) (sym count) in
     ⊎_elim (λ (more : 0 < m).
-    let last : get_or rest (m - 1) 0 ≡ 10 = get_or-drop (k + 1) f.held (m - 1) 0 ∙ ap (λ q. get_or f.held q 0) {x = k + 1 + (m - 1)} {y = n - 1} (omega arith) ∙ is in
-    let then = all-lf fuel (given f k 1) m (most - (k + 1)) longest (omega arith) kind (sound-given f k 1 s (omega arith)) more (omega arith) last (omega arith) (omega arith) (omega arith) in (
+    let last : get_or rest (m - 1) 0 ≡ byte = get_or-drop (k + 1) f.held (m - 1) 0 ∙ ap (λ q. get_or f.held q 0) {x = k + 1 + (m - 1)} {y = n - 1} (omega arith) ∙ is in
+    let then = all-byte byte fuel (given f k 1) m (most - (k + 1)) longest (omega arith) each (sound-given f k 1 s (omega arith)) more (omega arith) last (omega arith) (omega arith) (omega arith) in (
       next_row f k 1 ∷ then.0,
       λ now.
           let fact = subst (λ v. GivesAll now (most - (k + 1)) longest (given f k 1) v then.0) same (then.1 now) in
           let left : most - (k + 1) ≡ most - (length (take k f.held) + length (slice_range f.held k (k + 1))) = omega arith in
-          (omega arith, omega arith, (given f k 1, gives-next f k 1 (next_row f k 1) now s first ends (omega arith), subst (λ q. GivesAll now q longest (given f k 1) (skipped f n (count_by is_lf (take n f.held))) then.0) left fact)),
+          (omega arith, omega arith, (given f k 1, gives-next f k 1 (next_row f k 1) now s first ends (omega arith), subst (λ q. GivesAll now q longest (given f k 1) (skipped f n (count_by (is_byte byte) (take n f.held))) then.0) left fact)),
       All-cons HasEnd (next_row f k 1) then.0 one then.2,
     ))
     (λ none.
     let nothing : m ≡ 0 = omega arith in
-    let at : skipped f (k + 1) 1 ≡ skipped f n (count_by is_lf (take n f.held)) =
-    (λ i. skipped f (let e : k + 1 ≡ n = omega arith in e i) (let e : 1 ≡ count_by is_lf (take n f.held) = sym (count ∙ ap (λ q. count_by is_lf (take q rest) + 1) nothing) in e i)) in (
+    let at : skipped f (k + 1) 1 ≡ skipped f n (count_by (is_byte byte) (take n f.held)) =
+    (λ i. skipped f (let e : k + 1 ≡ n = omega arith in e i) (let e : 1 ≡ count_by (is_byte byte) (take n f.held) = sym (count ∙ ap (λ q. count_by (is_byte byte) (take q rest) + 1) nothing) in e i)) in (
       next_row f k 1 ∷ [],
       λ now. (omega arith, omega arith, (skipped f (k + 1) 1, gives-next f k 1 (row_with [] [] (f.number + 1) (f.offset + (k + 1))) now s first ends (omega arith), sym at)),
       All-cons HasEnd (next_row f k 1) [] one (All-nil HasEnd),
     ))
     (cases_lt 0 m)
 
-pub run-lf : (f : Feed) (n most longest : ℕ) (whole : Bool) → f.kind ≡ Lf → IsSound f → 0 < n → n ≤ length f.held → n ≤ f.max → n ≤ longest → n ≤ most → get_or f.held (n - 1) 0 ≡ 10
-    → HasRun f most longest (record { bytes = n; rows = count_by is_lf (take n f.held); is_all = whole })
-run-lf f n most longest whole kind s some within room short fits is =
-    let all = all-lf n f n most longest (omega arith) kind s some within is room short fits in
-    let few = count_by-le-length is_lf (take n f.held) in
+pub run-byte : (byte : ℕ) (f : Feed) (n most longest : ℕ) (whole : Bool) → IsNewlineByte f.kind byte → IsSound f → 0 < n → n ≤ length f.held → n ≤ f.max → n ≤ longest → n ≤ most → get_or f.held (n - 1) 0 ≡ byte
+    → HasRun f most longest (record { bytes = n; rows = count_by (is_byte byte) (take n f.held); is_all = whole })
+run-byte byte f n most longest whole each s some within room short fits is =
+    let all = all-byte byte n f n most longest (omega arith) each s some within is room short fits in
+    let few = count_by-le-length (is_byte byte) (take n f.held) in
     let long = length-take-le n f.held (omega arith) in
     record {
       passes = record { rows = all.0; gives = all.1; offset = refl };
@@ -296,28 +302,28 @@ run-lf f n most longest whole kind s some within room short fits is =
 -- Lines that end in LF, of which some are held.
 
 -- behind the first LF there is one less
-count-behind : (bytes : List ℕ) (k n : ℕ) → count_by is_lf (take (k + 1) bytes) ≡ 1 → k < n → count_by is_lf (take n bytes) ≡ count_by is_lf (take (n - (k + 1)) (drop (k + 1) bytes)) + 1
+count-behind : (bytes : List ℕ) (k n : ℕ) → count_by (is_byte 10) (take (k + 1) bytes) ≡ 1 → k < n → count_by (is_byte 10) (take n bytes) ≡ count_by (is_byte 10) (take (n - (k + 1)) (drop (k + 1) bytes)) + 1
 count-behind bytes k n one before =
     let m = n - (k + 1) in
     let rest = drop (k + 1) bytes in
-    ap (λ q. count_by is_lf (take q bytes)) {x = n} {y = k + 1 + m} (omega arith)
-    ∙ ap (count_by is_lf) (take-add (k + 1) m bytes)
-    ∙ sum_by-append (λ b. cond (is_lf b) 1 0) (take (k + 1) bytes) (take m rest)
-    ∙ ap (λ q. q + count_by is_lf (take m rest)) one
+    ap (λ q. count_by (is_byte 10) (take q bytes)) {x = n} {y = k + 1 + m} (omega arith)
+    ∙ ap (count_by (is_byte 10)) (take-add (k + 1) m bytes)
+    ∙ sum_by-append (λ b. cond (is_byte 10 b) 1 0) (take (k + 1) bytes) (take m rest)
+    ∙ ap (λ q. q + count_by (is_byte 10) (take m rest)) one
     ∙ omega arith
 
 module _ (f : Feed) (k len : ℕ) (first : FirstEnd f k len) where
   line-before : (within lines : ℕ) → HoldsLines f within (lines + 1) → k < within
   line-before within lines held =
       let many = held.many in
-      ⊎_elim (λ l. l) (λ (past : within ≤ k). absurd (let none = no-lf f.held k within (subst (λ q. IsFirst q f.held k) held.kind first.least) past in omega arith)) (cases_lt k within)
+      ⊎_elim (λ l. l) (λ (past : within ≤ k). absurd (let none = no-byte Lf 10 (refl, refl) f.held k within (subst (λ q. IsFirst q f.held k) held.kind first.least) past in omega arith)) (cases_lt k within)
 
-  line-one : f.kind ≡ Lf → k < length f.held → (len ≡ 1) × (count_by is_lf (take (k + 1) f.held) ≡ 1)
+  line-one : f.kind ≡ Lf → k < length f.held → (len ≡ 1) × (count_by (is_byte 10) (take (k + 1) f.held) ≡ 1)
   line-one kind within =
       let least = subst (λ q. IsFirst q f.held k) kind first.least in
-      let at = lf-at f.held k (least.holds within) in (
-        first.long ∙ ap (λ q. newline_len q f.held k) kind ∙ sym (lf-len f.held k within at),
-        count_by_more_yes is_lf f.held k 0 within (eq-eqb _ _ at) ∙ ap (λ m. m + 1) (no-lf f.held k k least (omega arith)),
+      let at = byte-at Lf 10 (refl, refl) f.held k (least.holds within) in (
+        first.long ∙ ap (λ q. newline_len q f.held k) kind ∙ sym (byte-len Lf 10 (refl, refl) f.held k within at),
+        count-first Lf 10 (refl, refl) f.held k least within,
       )
 
   line-holds : (within lines : ℕ) → HoldsLines f within (lines + 1) → HoldsLines (given f k len) (within - (k + len)) lines

@@ -1,8 +1,10 @@
 -- Whole rows of the bytes held that are given all at once.
-use Rattle.std.specs.Prelude.{◌≡◌, ℕ, ◌+◌, ◌-◌, ◌≤◌, ◌<◌, ◌==◌, min, List, [], ◌∷◌, length, take, drop, count_by}
+use Rattle.std.specs.Prelude.{◌≡◌, ℕ, ◌+◌, ◌-◌, ◌≤◌, ◌<◌, ◌==◌, false, min, List, [], ◌∷◌, length, take, drop, count_by}
 use Rattle.std.specs.List.{All}
 use Rattle.pcre_io.specs.Told.{Told}
+use Rattle.byte_lanes.specs.declared.line_end.EndKind.{EndKind}
 use Rattle.byte_lanes.specs.declared.line_end.EndKind.TheVariants.{Lf}
+use Rattle.byte_lanes.specs.Newlines.{newline_texts, has_crlf}
 use Rattle.line_feed.specs.declared.look.Run.{Run}
 use Rattle.line_feed.specs.Rows.{Row, row_with}
 use Rattle.line_feed.specs.View.{Feed}
@@ -31,6 +33,10 @@ skipped f bytes rows = record f {
   number = f.number + rows;
   offset = f.offset + bytes;
 }
+
+-- each newline of the kind is this byte
+abbrev pub IsNewlineByte : EndKind → ℕ → Type 0
+IsNewlineByte kind byte = (newline_texts kind ≡ (byte ∷ []) ∷ []) × (has_crlf kind ≡ false)
 
 -- the bytes held begin with such rows, which have at most so many bytes in all, and each of them has a newline
 pub record HasRun (f : Feed) (most longest : ℕ) (run : Run) : Type 0 where

@@ -1,5 +1,5 @@
 use Rattle.std.proofs.Common.{◌≤◌}
-use Rattle.line_feed.proofs.feed.behind_lf.Given as goal
+use Rattle.line_feed.proofs.feed.behind_byte.Given as goal
 
 abbrev pub invariant-loop-end : goal.invariant-loop-end
 invariant-loop-end l = l.end ≤ l.most
