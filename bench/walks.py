@@ -168,17 +168,19 @@ class Line:
             self.words = ["-"]
 
     def word(self):
+        """A word for a file. Where names are filtered, none for which both sides go by another name or order than this."""
         choice, tree = self.choice, self.tree
+        filtered = any(self.filters.values())
         kind = choice.randrange(12)
-        if kind < 5:
+        if kind < 5 and (self.recursive or not filtered):
             path = choice.choice(tree.folders)
             return choice.choice(["", "./"]) + path + choice.choice(["", "", "/", "//"])
         if kind < 8 and tree.files:
             return choice.choice(["", "./"]) + choice.choice(tree.files)
         if kind < 10:
-            return "../links/" + choice.choice(["file", "folder", "none"])
-        # Under -r a name that is nothing's is told whatever the filters say, which theirs passes over.
-        if kind == 10 and not any(self.filters.values()):
+            links = ["file"] + ["folder"] * (self.recursive or not filtered) + ["none"] * (not self.recursive or not filtered)
+            return "../links/" + choice.choice(links)
+        if kind == 10 and not filtered:
             return "gone"
         return "-"
 
