@@ -125,7 +125,8 @@ class Tree:
 
     def link(self):
         """Links that are words: to a file, to a folder, and to nothing."""
-        to = {"file": self.choice.choice(self.files) if self.files else "none", "folder": self.choice.choice(self.folders), "none": "gone"}
+        file = self.choice.choice(self.files) if self.files else "none"
+        to = {"file": file, "folder": self.choice.choice(self.folders), "none": "gone"}
         for name, target in to.items():
             for side in (self.whole, self.plain):
                 os.symlink(os.path.join("..", "top", target), os.path.join(os.path.dirname(side), "links", name))
