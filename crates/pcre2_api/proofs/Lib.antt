@@ -12,5 +12,6 @@ pub mod Rewriting
 pub mod SubstitutionRows
 pub mod DfaMatching
 pub mod Needing
+pub mod Shaping
 mod LendingSteps
 mod Lending

@@ -32,7 +32,7 @@ use Rattle.pcre2_api.proofs.Starting.{stands}
 use Rattle.pcre2_api.specs.Needed.{FindsNone}
 use Rattle.pcre2_api.specs.Starts.{start_fault}
 
-class_told : (tree : TreeParts) → class_has tree ≡ (λ n c. class_holds tree.options.utf (slice_get tree.classes n) c)
+pub class_told : (tree : TreeParts) → class_has tree ≡ (λ n c. class_holds tree.options.utf (slice_get tree.classes n) c)
 class_told tree = fun_ext (λ n. fun_ext (λ c. class_is tree n c))
 
 -- the sets of a text are those of its like
@@ -55,7 +55,7 @@ outside subject between = elim (cases_lt (slice_index subject 0) 128) [
   ]
 ]
 
-begins : (utf : Bool) (subject : List ℕ) → IsChecked utf subject → start_fault utf subject 0 ≡ None
+pub begins : (utf : Bool) (subject : List ℕ) → IsChecked utf subject → start_fault utf subject 0 ≡ None
 begins utf subject checked = elim (cases_Bool utf) [
   | inl on ↦ stands utf subject 0 (omega arith) checked (rw (on, outside subject (IsCharBoundary-start subject (checked on))) refl)
   | inr off ↦ stands utf subject 0 (omega arith) checked (rw off refl)

@@ -14,5 +14,6 @@ pub mod Substituted
 pub mod WorkedSubstitutions
 pub mod DfaMatched
 pub mod Needed
+pub mod Shapes
 pub mod Reserved
 pub mod Holding

@@ -20,11 +20,13 @@ ghost use Rattle.uni_text.specs.Characters.{IsChecked};
 ghost use Rattle.pcre2_api.specs.Matched.{search_of, shown_by, AreParts, IsFound, IsMatchError, HasShown};
 ghost use Rattle.pat_needs.specs.Texts.{sets_of};
 ghost use Rattle.pcre2_api.specs.Needed.{FindsNone};
+ghost use Rattle.regex_hir.specs.Meaning.{meaning};
+ghost use Rattle.pcre2_api.specs.Shapes.{MissesLines};
 ghost use Rattle.pcre2_api.specs.Starts.{start_fault};
 ghost use Rattle.match_drive.specs.Starts.{AreAlike};
 
 use crate::found::{Found, Text, found_of};
-use crate::need::is_within;
+use crate::need::{is_length, is_within};
 use crate::seek::{seek, seek_again};
 use crate::starts::test_start;
 use char_sets::ClassTable;
@@ -34,9 +36,11 @@ use pat_build::read;
 use pat_check::{Facts, check};
 use pat_lengths::first_refused_is_leftmost;
 use pat_needs::ByteText;
-use pat_tree::{MatchOptions, NameTable, Options, Tree};
+use pat_shape::line_shape;
+use pat_tree::{MatchOptions, Memory, NameTable, Options, Tree};
 use pcre_io::Callouts;
 use pcre2_errors::{CompileError, MatchError};
+use regex_hir::Hir;
 use std::alloc::Global;
 use std::marker::Model;
 
@@ -288,6 +292,26 @@ impl Code {
             return None;
         }
         Some(need.text.copied())
+    }
+
+    /// An expression of the kit's for lines of at most `most` bytes without LF: such a line in which no match of it
+    /// begins, searched for in the line or in a text that holds the line, has no match, and a search of it from its begin
+    /// passes no limit of `options`. Who has many lines need not search such ones; in UTF they must be UTF-8. None where
+    /// no such expression is known.
+    pub fn shape(
+        &self,
+        alloc: Global,
+        most: u32,
+        options: &MatchOptions,
+    ) -> Result<Option<Hir>, Memory>
+        requires { options.now.«partial» ≡ Off }
+        ensures { IfOk result (λ o. IfSome o (λ hir.
+            MissesLines self.now options.now most (meaning hir))) }
+    {
+        if !is_length(most) {
+            return Ok(None);
+        }
+        line_shape(alloc, &self.tree, &self.classes, most, options)
     }
 
     /// A law: what is told of the code is told of what its pattern is read as.

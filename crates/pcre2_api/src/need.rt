@@ -33,3 +33,10 @@ pub(crate) fn is_within(need: &Need, most: u32, options: &Options, matching: &Ma
     bound.units.is_within(size, matching.frame_limit)
         && bound.steps.is_within(size, match_limit(options, matching))
 }
+
+/// Whether a subject may have so many bytes. None has as many as the greatest number says.
+pub(crate) fn is_length(most: u32) -> bool
+    ensures { IsTrue result → most < 4294967295 }
+{
+    most < u32::MAX
+}

@@ -12,6 +12,8 @@ mod partial;
 #[cfg(test)]
 mod searching;
 #[cfg(test)]
+mod shapes;
+#[cfg(test)]
 mod shown;
 #[cfg(test)]
 mod texts;

@@ -1,0 +1,12 @@
+pub mod Turns
+pub mod OnlyStreams
+pub mod WideSearch
+pub mod Composed
+pub mod Items
+pub mod Anchors
+pub mod Looks
+pub mod Slices
+pub mod NoMatch
+pub mod Ranges
+pub mod Kept
+pub mod LineShapes

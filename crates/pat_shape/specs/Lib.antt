@@ -1,0 +1,4 @@
+pub mod Looks
+pub mod Wide
+pub mod IsShape
+pub mod Lines

@@ -1,0 +1,22 @@
+//! Laws on searches for patterns whose matches a wider expression matches.
+ghost use Rattle.pat_shape.specs.Wide.{FirstLaw, LineLaw, NoMatchLaw, PlaceLaw};
+
+/// A place from which the shape matches nothing fails, no limit is passed, and nothing is told.
+pub fn place_without_shape()
+    ensures { PlaceLaw }
+{}
+
+/// Where the shape isn't found there is no match.
+pub fn no_match_without_shape()
+    ensures { NoMatchLaw }
+{}
+
+/// The places before the one where the shape is first found fail.
+pub fn no_match_before_shape()
+    ensures { FirstLaw }
+{}
+
+/// A line that ends in a text before the place where the shape is first found has no match.
+pub fn no_match_in_lines_before()
+    ensures { LineLaw }
+{}
