@@ -4,3 +4,4 @@ pub mod PairLemmas
 pub mod PartLemmas
 pub mod RunLemmas
 pub mod TableLemmas
+pub mod UnicodeBytes

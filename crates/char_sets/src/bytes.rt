@@ -1,5 +1,5 @@
 // The bytes that a class takes, by its runs and sets.
-ghost use Rattle.std.specs.Prelude.{◌≡◌, ℕ, ◌<◌, ◌||◌, ◌==◌, false, not};
+ghost use Rattle.std.specs.Prelude.{◌≡◌, ℕ, ◌<◌, ◌||◌, ◌==◌, true, false, not};
 ghost use Rattle.std.specs.Int.{is_in_range};
 ghost use Rattle.std.specs.List.{list_any};
 ghost use Rattle.byte_lanes.specs.Sets.{has_byte};
@@ -54,7 +54,7 @@ fn bytes_of_set(named: &NamedSet) -> ByteSet
     ensures { (k : ℕ) → k < 256 → has_byte result k ≡ set_in named.now k }
 {
     if named.ucp {
-        return tested_bytes(named);
+        return bytes_with_ucp(named);
     }
     match named.set {
         SetName::Digit => turned_if(named.reversed, digits()),
@@ -88,6 +88,52 @@ fn word_bytes() -> ByteSet
     add_range(&mut bytes, b'A', b'Z');
     bytes.insert(b'_');
     add_range(&mut bytes, b'a', b'z');
+    bytes
+}
+
+/// The same with UCP.
+fn bytes_with_ucp(named: &NamedSet) -> ByteSet
+    requires { named.now.ucp ≡ true }
+    ensures { (k : ℕ) → k < 256 → has_byte result k ≡ set_in named.now k }
+{
+    match named.set {
+        SetName::Digit => turned_if(named.reversed, unicode_digits()),
+        SetName::Space => turned_if(named.reversed, unicode_spaces()),
+        SetName::Word => turned_if(named.reversed, unicode_words()),
+        _ => tested_bytes(named),
+    }
+}
+
+/// Past ASCII no byte is a decimal digit.
+fn unicode_digits() -> ByteSet
+    ensures { (k : ℕ) → k < 256 → has_byte result k ≡ set_has true Digit k }
+{
+    digits()
+}
+
+/// Past ASCII, NEL and the space without a break.
+fn unicode_spaces() -> ByteSet
+    ensures { (k : ℕ) → k < 256 → has_byte result k ≡ set_has true Space k }
+{
+    let mut bytes = spaces();
+    bytes.insert(0x85);
+    bytes.insert(0xA0);
+    bytes
+}
+
+/// Past ASCII, the letters, and numbers that are raised or are fractions.
+fn unicode_words() -> ByteSet
+    ensures { (k : ℕ) → k < 256 → has_byte result k ≡ set_has true Word k }
+{
+    let mut bytes = word_bytes();
+    bytes.insert(0xAA);
+    add_range(&mut bytes, 0xB2, 0xB3);
+    bytes.insert(0xB5);
+    add_range(&mut bytes, 0xB9, 0xBA);
+    add_range(&mut bytes, 0xBC, 0xBE);
+    add_range(&mut bytes, 0xC0, 0xD6);
+    add_range(&mut bytes, 0xD8, 0xF6);
+    add_range(&mut bytes, 0xF8, 0xFF);
     bytes
 }
 

@@ -68,6 +68,8 @@ impl Entry {
         self.has_past(c)
     }
 
+    // Out of line, so that the test of a byte stays short where `has` is written out.
+    #[inline(never)]
     fn has_past(&self, c: u32) -> bool
         ensures { result ≡ turned_if self.now.negated (inside self.now.runs self.now.sets c) }
     {

@@ -45,7 +45,7 @@ impl Backs {
     pub fn of_spans(alloc: Global, spans: &[Option<Span>]) -> Result<Backs, Memory>
         ensures { (tree : TreeParts) → AreBranches tree spans.now → IfOk result (AreBacks tree) }
     {
-        let mut lengths = Vec::new(alloc);
+        let mut lengths = Vec::with_capacity(alloc, spans.len())?;
         for span in spans {
             lengths.push(length_of(*span))?;
         }

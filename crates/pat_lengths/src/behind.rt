@@ -48,7 +48,7 @@ fn freed(alloc: Global, spans: &[Option<Span>], free: &[bool]) -> Result<Vec<Opt
         → span_at freed.items k
         ≡ (if flagged free.now k then kept lengths.any_length else span_at spans.now k)) }
 {
-    let mut freed = Vec::new(alloc);
+    let mut freed = Vec::with_capacity(alloc, spans.len())?;
     for (k, span) in spans.iter().enumerate() {
         freed.push(if free[k] { any_length() } else { *span })?;
     }
@@ -62,7 +62,7 @@ fn leads_back(alloc: Global, tree: &Tree, groups: &Groups) -> Result<Vec<bool>, 
         (n : ℕ) → flagged back.items n ≡ lengths.leads_back (tree_of tree.now) n) }
 {
     let names = node_answers(alloc, tree, Question::Names, &[])?;
-    let mut back = Vec::new(alloc);
+    let mut back = Vec::with_capacity(alloc, groups.places.len())?;
     for target in 0..groups.places.len() {
         back.push(leads_to_itself(alloc, tree, groups, &names, target)?)?;
     }
@@ -142,7 +142,7 @@ fn next_round(
         (d : ℕ) → AreBehind tree.now any d of.now → AreBehind tree.now any (suc d) next.items) }
 {
     let spans = spans_of(alloc, tree, any, of)?;
-    let mut next = Vec::new(alloc);
+    let mut next = Vec::with_capacity(alloc, groups.places.len())?;
     for (number, place) in groups.places.iter().enumerate() {
         next.push(span_in(&spans, *place, has_flag(back, number)))?;
     }
@@ -183,7 +183,7 @@ fn accepts_of(alloc: Global, tree: &Tree) -> Result<Vec<bool>, Memory>
     ensures count { IfOk result (λ accepts. length accepts.items ≡ tree.now.root + 1) }
     ensures kept { IfOk result (λ accepts. KeepAccepts (trees tree.now.nodes) accepts.items) }
 {
-    let mut accepts = Vec::new(alloc);
+    let mut accepts = Vec::with_capacity(alloc, tree.root() as usize + 1)?;
     for id in 0..tree.root() as u64 + 1 {
         let accept = node_accepts(tree.node(id as u32), &accepts);
         accepts.push(accept)?;

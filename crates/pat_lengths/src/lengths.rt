@@ -23,7 +23,7 @@ pub(crate) fn spans_of(
         → KeepGroups unset whole of_group any groups.now
         → KeepSpans (lengths unset whole of_group) (trees tree.now.nodes) spans.items) }
 {
-    let mut spans = Vec::new(alloc);
+    let mut spans = Vec::with_capacity(alloc, tree.root() as usize + 1)?;
     for id in 0..tree.root() as u64 + 1 {
         let span = node_span(tree.node(id as u32), any, groups, &spans);
         spans.push(span)?;

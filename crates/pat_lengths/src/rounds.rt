@@ -63,7 +63,7 @@ fn next_round(
         → AreRounds question (tree_of tree.now) (suc d) next.items) }
 {
     let answers = node_answers(alloc, tree, question, of)?;
-    let mut next = Vec::new(alloc);
+    let mut next = Vec::with_capacity(alloc, places.len())?;
     for place in places {
         next.push(flag_at(&answers, *place))?;
     }
@@ -90,7 +90,7 @@ pub(crate) fn node_answers(
     ensures kept { IfOk result (λ answers.
         KeepAnswers question of.now (trees tree.now.nodes) answers.items) }
 {
-    let mut answers = Vec::new(alloc);
+    let mut answers = Vec::with_capacity(alloc, tree.root() as usize + 1)?;
     for id in 0..tree.root() as u64 + 1 {
         let answer = node_answer(tree.node(id as u32), question, of, &answers);
         answers.push(answer)?;

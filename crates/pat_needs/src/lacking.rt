@@ -9,7 +9,7 @@ ghost use Rattle.pat_bounds.specs.Bounds as spec;
 ghost use Rattle.pat_bounds.specs.BoundTables.{Refines, KeepBounds};
 ghost use Rattle.pat_needs.specs.NeedTables.{may_of, IsNeed, IsRun, KeepNeeds, AreNeeds, IsEarly, IsLacking};
 
-use crate::needs::{Wanted, copy_of, only_parts, run_from};
+use crate::needs::{Wanted, copy_below, copy_of, only_parts, run_from};
 use crate::weights::rate;
 use char_sets::ClassTable;
 use pat_bounds::{Bound, in_turn};
@@ -103,13 +103,15 @@ fn rarest_early(parts: &[NodeId], needs: &[Option<Wanted>]) -> Option<Early>
         let need = &needs[parts[i] as usize];
         let count = parts.len() - i;
         run = run_from(need, &run);
-        best = rarer_early(best, early_part(need, count), early_run(&run, count));
+        let limit = weighed_early(&best);
+        let part = early_part(need, count, limit);
+        best = rarer_early(best, part, early_run(&run, count, limit));
     }
     best
 }
 
-/// What is needed of the first of so many parts.
-fn early_part(need: &Option<Wanted>, count: usize) -> Option<Early>
+/// What is needed of the first of so many parts, where it is rarer than so.
+fn early_part(need: &Option<Wanted>, count: usize, limit: u64) -> Option<Early>
     requires { 0 < count }
     ensures behind { IfSome result (λ early. early.behind ≤ count) }
     ensures takes { (may : Item → ℕ → Bool) (utf : Bool) → (t : Nested) (ts : List Nested)
@@ -117,19 +119,19 @@ fn early_part(need: &Option<Wanted>, count: usize) -> Option<Early>
         → IsNeed may utf true t need.now → IsEarly may utf (t ∷ ts) result }
 {
     Some(Early {
-        wanted: copy_of(need)?,
+        wanted: copy_below(need, limit)?,
         behind: count - 1,
     })
 }
 
-/// A text that items take with which so many parts begin.
-fn early_run(run: &Option<Wanted>, count: usize) -> Option<Early>
+/// A text that items take with which so many parts begin, where it is rarer than so.
+fn early_run(run: &Option<Wanted>, count: usize, limit: u64) -> Option<Early>
     ensures behind { IfSome result (λ early. early.behind ≤ count) }
     ensures takes { (may : Item → ℕ → Bool) (utf : Bool) → (t : Nested) (ts : List Nested)
         → length (t ∷ ts) ≡ count
         → IsRun may utf (row (t ∷ ts)) run.now → IsEarly may utf (t ∷ ts) result }
 {
-    let wanted = copy_of(run)?;
+    let wanted = copy_below(run, limit)?;
     let behind = count.saturating_sub(wanted.text.count());
     Some(Early { wanted, behind })
 }

@@ -18,8 +18,8 @@ ghost use Rattle.pat_needs.specs.declared.needs.Distant.{Distant};
 use crate::lacking::{Lacking, lacking_of};
 use crate::text::ByteText;
 use crate::weights::{
-    ANY, COMMON, both_weights, commonness, least_weights, rarest_place, rate, repeated_weight,
-    weight_of,
+    ANY, COMMON, both_weights, commonness, rarest_place, rate, repeated_weight, weight_of,
+    weight_of_cases, weights_of,
 };
 use byte_lanes::ByteSet;
 use char_sets::{ClassTable, add_range, both_cases};
@@ -396,10 +396,10 @@ fn letter_need(c: u32) -> Option<Taken>
         → (b : ℕ) → 128 ≤ b → b < 256 → may_begin true c b ≡ false) }
 {
     match c {
-        0x4B | 0x6B => if_rare(with_byte(both_cases(c), 0xE2), false),
-        0x53 | 0x73 => if_rare(with_byte(both_cases(c), 0xC5), false),
+        0x4B | 0x6B => cased(with_byte(both_cases(c), 0xE2), c, false),
+        0x53 | 0x73 => cased(with_byte(both_cases(c), 0xC5), c, false),
         0x212A | 0x17F => None,
-        0..=0x7F => if_rare(both_cases(c), true),
+        0..=0x7F => cased(both_cases(c), c, true),
         _ => Some(past_ascii()),
     }
 }
@@ -434,7 +434,7 @@ fn byte_need(classes: &ClassTable, item: &Item) -> Option<Taken>
 {
     match item {
         Item::Char { c, caseless: false } => one_byte(*c),
-        Item::Char { c, caseless: true } => if_rare(both_cases(*c), true),
+        Item::Char { c, caseless: true } => cased(both_cases(*c), *c, true),
         Item::Class(class) => if_rare(classes.bytes(*class).copied(), true),
         _ => None,
     }
@@ -454,6 +454,18 @@ fn one_byte(c: u32) -> Option<Taken>
         bytes,
         weight: commonness(c as u8),
         is_short: c < 128,
+    })
+}
+
+/// The bytes of a character's cases, with one past ASCII unless they are short.
+fn cased(bytes: ByteSet, c: u32, is_short: bool) -> Option<Taken>
+    ensures bytes { IfSome result (λ taken. taken.bytes ≡ bytes) }
+    ensures short { IfSome result (λ taken. taken.is_short ≡ is_short) }
+{
+    Some(Taken {
+        bytes,
+        weight: weight_of_cases(c, is_short),
+        is_short,
     })
 }
 
@@ -493,7 +505,9 @@ fn rarest(parts: &[NodeId], needs: &[Option<Wanted>], anywhere: bool) -> Option<
         i -= 1;
         let need = &needs[parts[i] as usize];
         run = run_from(need, &run);
-        best = rarer(kept_if(anywhere, best), copy_of(need), copy_of(&run));
+        let earlier = kept_if(anywhere, best);
+        let limit = limit_if(anywhere || i == 0, &earlier);
+        best = rarer(earlier, copy_below(need, limit), copy_below(&run, limit));
     }
     best
 }
@@ -502,6 +516,11 @@ fn kept_if(anywhere: bool, behind: Option<Wanted>) -> Option<Wanted>
     ensures { result ≡ (if anywhere then behind else None) }
 {
     if anywhere { behind } else { None }
+}
+
+/// How rare a text must be to be taken, where it counts at all.
+fn limit_if(counts: bool, best: &Option<Wanted>) -> u64 {
+    if counts { weighed(best) } else { 0 }
 }
 
 /// The rarest text at a distance from where a match of a pattern begins that is one sequence.
@@ -555,8 +574,9 @@ fn rarest_behind(tree: &Tree, parts: &[NodeId], begins: &[Option<Wanted>]) -> Op
         let part = parts[i];
         let need = &begins[part as usize];
         run = run_from(need, &run);
-        let here = rarer(None, copy_of(need), copy_of(&run));
         let far = behind(best, length_of(tree.node(part), utf));
+        let limit = weighed_at(&far);
+        let here = rarer(None, copy_below(need, limit), copy_below(&run, limit));
         best = nearer(far, at_once(here));
     }
     best
@@ -716,6 +736,20 @@ pub(crate) fn copy_of(need: &Option<Wanted>) -> Option<Wanted>
     }
 }
 
+/// The same, where the text is rarer than so: another is never taken, and isn't worth a copy.
+pub(crate) fn copy_below(need: &Option<Wanted>, limit: u64) -> Option<Wanted>
+    ensures item { IfSome result (λ w. w.is_item ≡ false) }
+    ensures some { (wanted : Wanted) → need.now ≡ Some wanted
+        → IfSome result (λ w. sets_of w.text ≡ sets_of wanted.text) }
+    ensures none { need.now ≡ None → result ≡ None }
+{
+    if weighed(need) < limit {
+        copy_of(need)
+    } else {
+        None
+    }
+}
+
 /// A text that one of these branches needs, whichever it is.
 fn each_of(branches: &[NodeId], needs: &[Option<Wanted>]) -> Option<Wanted>
     requires { All (λ k. k < length needs.now) branches.now }
@@ -734,16 +768,16 @@ fn each_of(branches: &[NodeId], needs: &[Option<Wanted>]) -> Option<Wanted>
         i -= 1;
         whole = joined(&needs[branches[i] as usize], whole);
     }
-    if_useful(whole)
+    if_useful(whole, branches.len())
 }
 
-/// The text of several branches, where it is rare enough. The same byte in two branches counts once.
-fn if_useful(whole: Option<Wanted>) -> Option<Wanted>
+/// The text of so many branches, where it is rare enough. The same byte in two of them counts once.
+fn if_useful(whole: Option<Wanted>, branches: usize) -> Option<Wanted>
     ensures { (may : Item → ℕ → Bool) (utf anywhere : Bool) → (ts : Row)
         → AreAllNeeds may utf anywhere ts whole → AreAllNeeds may utf anywhere ts result }
 {
     let mut told = whole?;
-    told.weights = least_weights(&told.weights, &told.text);
+    told.weights = weights_of(&told.weights, &told.text, branches);
     if rate(&told.weights) > u64::from(COMMON * ANY * ANY) {
         None
     } else {

@@ -10,12 +10,35 @@ pub(crate) const COMMON: u32 = 100;
 
 /// How common the bytes of a set are, where they are rare enough.
 pub(crate) fn weight_of(bytes: &ByteSet) -> Option<u32> {
-    let weight = share_of(bytes);
-    if weight > COMMON { None } else { Some(weight) }
+    let mut weight = 0u32;
+    for b in 0..256u32 {
+        if bytes.has(b as u8) {
+            weight = weight.saturating_add(commonness(b as u8));
+        }
+        if weight > COMMON {
+            return None;
+        }
+    }
+    Some(weight)
+}
+
+/// How common the two cases of a character are, with a byte past ASCII unless they are short.
+pub(crate) fn weight_of_cases(c: u32, is_short: bool) -> u32 {
+    if c >= 256 {
+        return 0;
+    }
+    let byte = c as u8;
+    let past = if is_short { 0 } else { commonness(0xFF) };
+    let own = commonness(byte).saturating_add(past);
+    if byte.is_ascii_alphabetic() {
+        own.saturating_add(commonness(byte ^ 0x20))
+    } else {
+        own
+    }
 }
 
 /// How common the bytes of a set are.
-pub(crate) fn share_of(bytes: &ByteSet) -> u32 {
+fn share_of(bytes: &ByteSet) -> u32 {
     let mut weight = 0u32;
     for b in 0..256u32 {
         if bytes.has(b as u8) {
@@ -49,8 +72,17 @@ fn share_of_next(set: &Option<ByteSet>) -> u32 {
     }
 }
 
+/// How common the bytes of each place are, in so many branches whose weights were added up.
+pub(crate) fn weights_of(weights: &[u32; 3], text: &ByteText, branches: usize) -> [u32; 3] {
+    if branches > 1 {
+        least_weights(weights, text)
+    } else {
+        *weights
+    }
+}
+
 /// How common the bytes of each place are: no more than those of the set there.
-pub(crate) fn least_weights(weights: &[u32; 3], text: &ByteText) -> [u32; 3] {
+fn least_weights(weights: &[u32; 3], text: &ByteText) -> [u32; 3] {
     [
         weights[0].min(share_of(&text.first)),
         weights[1].min(share_of_next(&text.second)),

@@ -14,7 +14,7 @@ loop-i-preserved c =
     let first = c.index-needs-parts.result in
     let run = c.run_from-run.result in
     let best = c.loop-i.best in
-    let one = c.early_part.result in
+    let one = c.early_part-part.result in
     let other = c.early_run.result in
     let next = c.rarer_early-best.result in
     let chosen = c.rarer_early-best.ensures in
@@ -24,7 +24,7 @@ loop-i-preserved c =
       within = omega (arith, c.loop-i.invariant.within);
       behind = early_of_three (λ o. IfSome o (λ early. early.behind ≤ length xs))
           best one other next chosen c.loop-i.invariant.behind
-          (behind_fewer (length xs - (i - 1)) (length xs) one few c.early_part.ensures.behind)
+          (behind_fewer (length xs - (i - 1)) (length xs) one few c.early_part-part.ensures.behind)
           (behind_fewer (length xs - (i - 1)) (length xs) other few c.early_run.ensures.behind);
       is = λ may utf of.
           early_back may utf of needs xs i first
@@ -38,7 +38,7 @@ loop-i-preserved c =
             begun,
             early_of_three (IsEarly may utf (t ∷ ts)) best one other next chosen
                 (early_later may utf t ts best had.1)
-                (c.early_part.ensures.takes may utf t ts long need)
+                (c.early_part-part.ensures.takes may utf t ts long need)
                 (c.early_run.ensures.takes may utf t ts long begun),
           ));
     }

@@ -12,7 +12,7 @@ loop-i-preserved c =
     let first = c.index-needs-parts.result in
     let run = c.run_from-run.result in
     let anywhere = c.args.anywhere in
-    let earlier = c.kept_if.result in
+    let earlier = c.kept_if-earlier.result in
     let below : i - 1 < length xs = omega (arith, c.loop-i.invariant.within, c.loop-i-test.true) in
     record {
       within = omega (arith, c.loop-i.invariant.within);
@@ -23,10 +23,10 @@ loop-i-preserved c =
           (λ t ts need had.
           let begun = c.run_from-run.ensures may utf anywhere t ts need had.0 in (
             begun,
-            some_of_three may utf anywhere (tree.more t ts) earlier c.copy_of.result c.copy_of-in-loop-i.result c.rarer-best.result c.rarer-best.ensures
-                (some_later may utf anywhere t ts c.loop-i.best earlier c.kept_if.ensures had.1)
-                (some_part may utf anywhere t ts first c.copy_of.result need c.copy_of.ensures.item c.copy_of.ensures.some c.copy_of.ensures.none)
-                (some_run may utf anywhere t ts run c.copy_of-in-loop-i.result begun c.copy_of-in-loop-i.ensures.item c.copy_of-in-loop-i.ensures.some c.copy_of-in-loop-i.ensures.none),
+            some_of_three may utf anywhere (tree.more t ts) earlier c.copy_below.result c.copy_below-in-loop-i.result c.rarer-best.result c.rarer-best.ensures
+                (some_later may utf anywhere t ts c.loop-i.best earlier c.kept_if-earlier.ensures had.1)
+                (some_part may utf anywhere t ts first c.copy_below.result need c.copy_below.ensures.item c.copy_below.ensures.some c.copy_below.ensures.none)
+                (some_run may utf anywhere t ts run c.copy_below-in-loop-i.result begun c.copy_below-in-loop-i.ensures.item c.copy_below-in-loop-i.ensures.some c.copy_below-in-loop-i.ensures.none),
           ));
     }
 

@@ -35,9 +35,9 @@ loop-i-preserved c =
             either_distant may utf (tree.more part ts) c.behind-far.result c.at_once.result c.nearer-best.result c.nearer-best.ensures
                 (c.behind-far.ensures may utf part ts takes had.1)
                 (at_none may utf (tree.more part ts) c.rarer-here.result c.at_once.result
-                (some_of_three may utf false (tree.more part ts) None c.copy_of.result c.copy_of-in-loop-i.result c.rarer-here.result c.rarer-here.ensures tt
-                (some_part may utf false part ts first c.copy_of.result need c.copy_of.ensures.item c.copy_of.ensures.some c.copy_of.ensures.none)
-                (some_run may utf false part ts run c.copy_of-in-loop-i.result begun c.copy_of-in-loop-i.ensures.item c.copy_of-in-loop-i.ensures.some c.copy_of-in-loop-i.ensures.none))
+                (some_of_three may utf false (tree.more part ts) None c.copy_below.result c.copy_below-in-loop-i.result c.rarer-here.result c.rarer-here.ensures tt
+                (some_part may utf false part ts first c.copy_below.result need c.copy_below.ensures.item c.copy_below.ensures.some c.copy_below.ensures.none)
+                (some_run may utf false part ts run c.copy_below-in-loop-i.result begun c.copy_below-in-loop-i.ensures.item c.copy_below-in-loop-i.ensures.some c.copy_below-in-loop-i.ensures.none))
                 c.at_once.ensures),
           ));
     }
