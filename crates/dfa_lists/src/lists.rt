@@ -13,7 +13,7 @@ ghost use Rattle.dfa_lists.specs.Lists.{IsVisited, closure, progress, waiting, w
 use crate::reaching::{break_reaches, item_reaches, looks_back, tell};
 use char_sets::ClassTable;
 use dfa_paths::Node;
-use match_items::{Taken, View, places_stand, step, text_anchor, text_back, text_break_step};
+use match_items::{Taken, View, anchor, break_step, places_stand, step, text_back};
 use pat_tree::{ListOf, Memory, Steps};
 use std::alloc::Global;
 use std::mem::swap;
@@ -316,7 +316,7 @@ fn visit_plain(
             lists.leaves.push(state)?;
         }
         Node::Anchor { kind, next } => {
-            let held = text_anchor(view, kind, at);
+            let held = anchor(view, kind, at);
             let tells = counts || looks_back(kind) && !view.subject.is_empty();
             tell(&mut lists.told, held.at_end && tells);
             if held.holds {
@@ -412,7 +412,7 @@ fn land<L: Ledger>(
 {
     let taken = match node {
         Node::One { item, .. } => step(view, classes, &item, at, steps),
-        Node::Break { .. } => text_break_step(view, at),
+        Node::Break { .. } => break_step(view, at),
         _ => Taken::No,
     };
     match taken {

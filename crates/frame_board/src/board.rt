@@ -15,7 +15,7 @@ use crate::counted::{longest, place_of, taken, wide};
 use crate::reaches::{break_reaches, item_reaches, ref_reaches};
 use char_sets::ClassTable;
 use frame_state::searchable::{Run, Searchable};
-use match_items::{View, text_anchor, text_back, text_before, text_break_step, text_ref_step};
+use match_items::{View, anchor, break_step, ref_step, text_back, text_before};
 use pat_check::Facts;
 use pat_tree::{AnchorKind, Item, MatchOptions, Node, Options, PartialMode, Tree};
 use pcre_io::Callouts;
@@ -139,7 +139,7 @@ impl<C: Callouts> Searchable for Board<'_, C> {
     }
 
     fn take_break(&self, at: u64) -> Option<u64> {
-        place_of(text_break_step(&self.view(), at as usize))
+        place_of(break_step(&self.view(), at as usize))
     }
 
     fn refer(&self, from: u64, to: u64, caseless: bool, at: u64) -> Option<u64> {
@@ -148,11 +148,11 @@ impl<C: Callouts> Searchable for Board<'_, C> {
             return Some(at);
         }
         let view = self.view();
-        place_of(text_ref_step(&view, from as usize, to as usize, caseless, at as usize))
+        place_of(ref_step(&view, from as usize, to as usize, caseless, at as usize))
     }
 
     fn holds(&self, kind: AnchorKind, at: u64) -> bool {
-        text_anchor(&self.view(), kind, at as usize).holds
+        anchor(&self.view(), kind, at as usize).holds
     }
 
     fn earliest(&self, kind: AnchorKind, at: u64, early: u64) -> u64 {
@@ -201,7 +201,7 @@ impl<C: Callouts> Searchable for Board<'_, C> {
         if self.is_off() {
             return false;
         }
-        text_anchor(&self.view(), kind, at as usize).at_end
+        anchor(&self.view(), kind, at as usize).at_end
     }
 
     fn before(&self, at: u64) -> u64 {

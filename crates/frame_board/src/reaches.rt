@@ -4,7 +4,7 @@ ghost use Rattle.match_items.specs.Subjects.{IsText, IsTextPlace};
 ghost use Rattle.match_items.specs.Items as items;
 ghost use Rattle.match_items.specs.Views.{bare_text};
 
-use match_items::{Taken, View, text_ref_step};
+use match_items::{Taken, View, ref_step};
 use pat_tree::{Item, Newline};
 
 /// Whether a CR stands at a place, and is the last byte.
@@ -55,5 +55,5 @@ pub(crate) fn ref_reaches(
     if to < from {
         return false;
     }
-    matches!(text_ref_step(view, from, to, caseless, at), Taken::AtEnd)
+    matches!(ref_step(view, from, to, caseless, at), Taken::AtEnd)
 }

@@ -1,7 +1,6 @@
 //! Items, `\R`, references and assertions on bytes.
 ghost use Rattle.std.specs.Prelude.{◌≡◌, ◌<◌, false, All, length, IsTrue};
 ghost use Rattle.pat_tree.specs.Rules.{class_in};
-ghost use Rattle.match_items.specs.Views.{asks_ucp};
 
 use crate::letters;
 use crate::sets::{class, table_of};
@@ -58,15 +57,6 @@ fn newline_sequences_are_taken_whole(rt: HostRuntime) {
 /// The start given is 2.
 type Anchors = (&'static [u8], Newline, bool, AnchorKind, &'static [u8]);
 
-fn is_ascii(kind: AnchorKind) -> bool
-    ensures { IsTrue result → asks_ucp kind ≡ false }
-{
-    !matches!(
-        kind,
-        AnchorKind::Word { ucp: true } | AnchorKind::NotWord { ucp: true }
-    )
-}
-
 fn anchors(rt: &impl Abort, row: &Anchors) {
     let (subject, newline, closed, kind, answers) = *row;
     let options = options_of(newline, Bsr::Unicode);
@@ -81,7 +71,7 @@ fn anchors(rt: &impl Abort, row: &Anchors) {
         options: &options,
         matching: &matching,
     };
-    assert!(rt; subject.len() < 100 && answers.len() == subject.len() + 1 && is_ascii(kind));
+    assert!(rt; subject.len() < 100 && answers.len() == subject.len() + 1);
     for at in 0..answers.len() {
         assert!(rt; letters::held(anchor(&view, kind, at)) == answers[at]);
     }

@@ -5,9 +5,7 @@ use crate::items::{ItemRow, fits};
 use crate::letters;
 use crate::sets::{class, table_of};
 use char_sets::ClassTable;
-use match_items::{
-    ItemRun, Taken, View, run_len, step, text_anchor, text_back, text_break_step, text_ref_step,
-};
+use match_items::{ItemRun, Taken, View, anchor, break_step, ref_step, run_len, step, text_back};
 use pat_tree::{AnchorKind, Bsr, Item, MatchOptions, Newline, Options, Part, Steps};
 use std::marker::Brand;
 use std::process::Abort;
@@ -172,7 +170,7 @@ fn breaks(rt: &impl Abort, bsr: Bsr, answers: &[u8; 7]) {
     for i in 0..7usize {
         let at = BREAKS[i];
         assert!(rt; text.is_char_boundary(at) && text.len() < 100);
-        assert!(rt; letters::taken(text_break_step(&view, at), at) == answers[i]);
+        assert!(rt; letters::taken(break_step(&view, at), at) == answers[i]);
     }
 }
 
@@ -209,7 +207,7 @@ fn texts_stand_again_by_characters(rt: HostRuntime) {
         let view = view_of(text, &UTF);
         assert!(rt; text.len() < 100 && text.is_char_boundary(0));
         assert!(rt; text.is_char_boundary(*to) && text.is_char_boundary(*at));
-        assert!(rt; text_ref_step(&view, 0, *to, *caseless, *at) == *answer);
+        assert!(rt; ref_step(&view, 0, *to, *caseless, *at) == *answer);
     }
 }
 
@@ -230,7 +228,7 @@ fn anchors(rt: &impl Abort, row: &Anchors) {
     for i in 0..places.len() {
         let at = places[i];
         assert!(rt; text.is_char_boundary(at));
-        assert!(rt; letters::held(text_anchor(&view, kind, at)) == answers[i]);
+        assert!(rt; letters::held(anchor(&view, kind, at)) == answers[i]);
     }
 }
 

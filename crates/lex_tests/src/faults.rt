@@ -39,7 +39,7 @@ const FAULTS: &[(i32, &str)] = &[
     (166, "(*MARK) (*MARK:) (*:)"),
     (169, "\\g \\ga \\g{-} \\g<+ \\g{1 \\k \\ka"),
     (195, "\\C \\X \\L \\l \\U \\u \\N{U+41} \\N{,} \\N{\t}"),
-    (195, "(*sr: (*asr: (*test_main: (*atomic_script_run:"),
+    (195, "(*sr: (*asr: (*script_run: (*atomic_script_run:"),
     (195, "(?(VERSION=1) (?(VERSION>=1)"),
 ];
 

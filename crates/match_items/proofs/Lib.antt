@@ -1,4 +1,3 @@
-pub mod ByteScenes
 pub mod Folds
 pub mod ItemRuns
 pub mod Longest

@@ -7,12 +7,12 @@ use Rattle.match_items.specs.declared.view.View.{View}
 use Rattle.match_items.specs.Scene.{Scene}
 use Rattle.match_items.specs.Subjects.{IsText, IsTextPlace}
 use Rattle.match_items.specs.Items.{after_item, after_break, after_ref, place_before}
-use Rattle.match_items.specs.Views.{scene_of}
+use Rattle.match_items.specs.Views.{text_scene}
 use Rattle.pat_tree.specs.declared.nodes.Item.{Item}
 
 -- seen through a tree's table, a class holds of what the tree's class takes
 abbrev pub TablesShowClasses : Type 0
-TablesShowClasses = (tree : TreeParts) (table : List CharSet) (view : View) → IsTableOf tree table → scene_of view table ≡ record (scene_of view table) { class_has = class_has tree }
+TablesShowClasses = (tree : TreeParts) (table : List CharSet) (view : View) → IsTableOf tree table → text_scene view table ≡ record (text_scene view table) { class_has = class_has tree }
 
 -- In a subject that can be looked at, what takes characters goes from place to place: an item
 -- forward by one character, which the place before its end is the begin of; `\R` and references by

@@ -13,8 +13,7 @@ pub record IsTextPlace (options : Options) (bytes : List ℕ) (p : ℕ) : Type 0
   pub within : p ≤ length bytes
   pub between : IsTrue options.utf → IsCharBoundary bytes p
 
--- The bytes can be searched under these options, each being a character. For now no other
--- subject is searched.
+-- The bytes can be searched under these options, and each of them is a character.
 pub record IsSubject (options : Options) (bytes : List ℕ) : Type 0 where
   pub short : length bytes < 4294967295
   pub no_utf : options.utf ≡ false

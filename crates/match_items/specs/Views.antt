@@ -2,9 +2,7 @@
 use Rattle.std.specs.Prelude.{◌≡◌, ℕ, ◌+◌, ◌-◌, Bool, true, false, ◌==◌, ◌&&◌, ◌||◌, nat_lt, length, if◌then◌else◌, List, [], ◌∷◌, Option, Some, None, slice_index}
 use Rattle.pat_tree.specs.declared.nodes.Item.{Item}
 use Rattle.pat_tree.specs.declared.nodes.Item.TheVariants.{Class, AnyAll, NotNewline}
-use Rattle.pat_tree.specs.declared.nodes.AnchorKind.{AnchorKind}
-use Rattle.pat_tree.specs.declared.nodes.AnchorKind.TheVariants.{Word, NotWord}
-use Rattle.uni_text.specs.Ascii.{ascii_fold, is_word_char}
+use Rattle.uni_text.specs.Ascii.{ascii_fold}
 use Rattle.uni_text.specs.Folding as unicode
 use Rattle.uni_text.specs.Sets.{word}
 use Rattle.char_sets.specs.Table.{CharSet, table_has}
@@ -39,21 +37,6 @@ text_scene view table = record {
 abbrev pub bare_text : View → Scene
 bare_text view = text_scene view []
 
--- Where each character is a byte, folding and word characters are those of ASCII.
-abbrev pub scene_of : View → List CharSet → Scene
-scene_of view table = record {
-  options = view.options.now;
-  matching = view.matching.now;
-  subject = view.subject.now;
-  start = view.start;
-  class_has = table_has table;
-  fold = ascii_fold;
-  is_word = is_word_char;
-}
-
-abbrev pub bare_scene : View → Scene
-bare_scene view = scene_of view []
-
 -- the place after what is taken, else whether the end is reached
 abbrev pub told : Option ℕ → Bool → Taken
 told (Some q) reaches = Took q
@@ -87,12 +70,6 @@ step_tests g _ p = 0
 unfoldable pub run_tests : Scene → Item → Option ℕ → ℕ → List ℕ → ℕ
 run_tests g item most p [] = if is_none_left most then 0 else step_tests g item p
 run_tests g item most p (q ∷ qs) = step_tests g item p + run_tests g item (one_less most) q qs
-
--- the assertion asks for the word characters of Unicode
-abbrev pub asks_ucp : AnchorKind → Bool
-asks_ucp (Word ucp) = ucp
-asks_ucp (NotWord ucp) = ucp
-asks_ucp _ = false
 
 -- the tests of a class between two places, and at the second one where it is before the limit
 abbrev pub span_tests : Item → ℕ → ℕ → ℕ → ℕ

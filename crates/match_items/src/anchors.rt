@@ -15,7 +15,7 @@ use uni_text::{char_at, char_before, is_word};
 ///
 /// Needs a subject of fewer than 4,294,967,295 bytes and a place in it; in UTF the subject must be
 /// UTF-8, and a character must begin at the place.
-pub fn text_break_step(view: &View<'_>, at: usize) -> Taken
+pub fn break_step(view: &View<'_>, at: usize) -> Taken
     requires subject { IsText view.now.options.now view.now.subject.now }
     requires place { IsTextPlace view.now.options.now view.now.subject.now at }
     ensures { let g = bare_text view.now in result ≡ told (after_break g at) (break_reaches g at) }
@@ -47,7 +47,7 @@ fn break_len(view: &View<'_>, at: usize) -> usize
 ///
 /// Needs a subject of fewer than 4,294,967,295 bytes and a place in it; in UTF the subject must be
 /// UTF-8, and a character must begin at the place.
-pub fn text_anchor(view: &View<'_>, kind: AnchorKind, at: usize) -> Held
+pub fn anchor(view: &View<'_>, kind: AnchorKind, at: usize) -> Held
     requires subject { IsText view.now.options.now view.now.subject.now }
     requires place { IsTextPlace view.now.options.now view.now.subject.now at }
     ensures holds { result.holds ≡ holds (bare_text view.now) kind at }

@@ -4,7 +4,6 @@
 
 mod anchors;
 mod backward;
-mod bytes;
 mod items;
 mod laws;
 mod references;
@@ -13,12 +12,11 @@ mod uncounted;
 mod view;
 mod walks;
 
-pub use anchors::{text_anchor, text_break_step};
+pub use anchors::{anchor, break_step};
 pub use backward::{text_back, text_before};
-pub use bytes::{anchor, break_step, ref_step};
 pub use items::step;
 pub use laws::{places_stand, tables_show_classes, worked_rows};
-pub use references::text_ref_step;
+pub use references::ref_step;
 pub use runs::run_len;
 pub use uncounted::{item_run, item_step};
 pub use view::{Held, ItemRun, Taken, View};

@@ -16,7 +16,7 @@ use uni_text::char_at;
 ///
 /// Needs a subject of fewer than 4,294,967,295 bytes, and places in it of which `from` is at most
 /// `to`; in UTF the subject must be UTF-8, and a character must begin at each place.
-pub fn text_ref_step(view: &View<'_>, from: usize, to: usize, caseless: bool, at: usize) -> Taken
+pub fn ref_step(view: &View<'_>, from: usize, to: usize, caseless: bool, at: usize) -> Taken
     requires subject { IsText view.now.options.now view.now.subject.now }
     requires from { IsTextPlace view.now.options.now view.now.subject.now from }
     requires to { IsTextPlace view.now.options.now view.now.subject.now to }

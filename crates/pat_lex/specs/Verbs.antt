@@ -73,7 +73,7 @@ group_word word =
 unfoldable pub is_script_run : List ℕ → Bool
 is_script_run word =
     bytes_eq word (codes "sr")
-    || (bytes_eq word (codes "test_main") || (bytes_eq word (codes "asr") || bytes_eq word (codes "atomic_script_run")))
+    || (bytes_eq word (codes "script_run") || (bytes_eq word (codes "asr") || bytes_eq word (codes "atomic_script_run")))
 
 module _ (text : List ℕ) where
   -- a verb's name, up to the next `)`: at most 255 bytes, and MARK needs one

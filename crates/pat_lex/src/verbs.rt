@@ -128,7 +128,7 @@ fn is_script_run(word: &[u8]) -> bool
     ensures { result ≡ is_script_run word.now }
 {
     word == b"sr".as_slice()
-        || (word == b"test_main".as_slice()
+        || (word == b"script_run".as_slice()
             || (word == b"asr".as_slice() || word == b"atomic_script_run".as_slice()))
 }
 

@@ -11,7 +11,7 @@ pub returns : goal.returns
 returns g c =
     let bare = bare_text c.view-view.result in
     c.place_of.ensures
-    ∙ ap place_in c.text_ref_step.ensures
+    ∙ ap place_in c.ref_step.ensures
     ∙ place_told (after_ref bare c.args.from c.args.to c.args.caseless c.args.at) (ref_reaches bare c.args.from c.args.to c.args.caseless c.args.at)
     ∙ ap (λ (s : Scene). after_ref s c.args.from c.args.to c.args.caseless c.args.at) c.view-view.ensures.scene
 

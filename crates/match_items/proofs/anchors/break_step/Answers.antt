@@ -1,7 +1,7 @@
 use Rattle.std.proofs.Common.{arith}
 use Rattle.match_items.specs.Views.{bare_text}
 use Rattle.match_items.proofs.OneItem.{told_no_break, told_break_end}
-use Rattle.match_items.proofs.anchors.text_break_step.Goals as goal
+use Rattle.match_items.proofs.anchors.break_step.Goals as goal
 
 pub returns-then-at-view : goal.returns-then-at-view
 returns-then-at-view c = told_break_end (bare_text c.args.view.now) c.args.at (omega (arith, c.if-at-view.true))

@@ -4,7 +4,7 @@ use Rattle.uni_text.proofs.CharLemmas.{IsUtf8-from}
 use Rattle.match_items.specs.Items.{after_ref, text_reaches}
 use Rattle.match_items.specs.Views.{bare_text, told}
 use Rattle.match_items.proofs.TextRefs.{after_ref-text, ref_reaches-text}
-use Rattle.match_items.proofs.references.text_ref_step.Goals as goal
+use Rattle.match_items.proofs.references.ref_step.Goals as goal
 
 pub text_step-requires-clause-text : goal.text_step-requires-clause-text
 text_step-requires-clause-text c =
