@@ -1,6 +1,6 @@
 mod Naming
 mod Filtering
-mod Placing
+mod InOrder
 mod Walking
 mod Standing
 mod StandLaws

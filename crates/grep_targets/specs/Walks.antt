@@ -1,5 +1,5 @@
 -- What the calls of a walk tell, and what it has yet to look at.
-use Rattle.std.specs.Prelude.{◌≡◌, ℕ, zero, suc, ◌*◌, ◌+◌, ◌<◌, Bool, true, false, IsTrue, List, ◌++◌, flat_map, reverse, Option, IfSome}
+use Rattle.std.specs.Prelude.{◌≡◌, ℕ, zero, suc, ◌*◌, ◌+◌, ◌<◌, Bool, true, false, IsTrue, List, ◌++◌, flat_map, reverse, string_bytes, Option, IfSome}
 use Rattle.std.specs.List.{list_any, sum_by}
 use Rattle.pcre_io.specs.Causes.{Rose}
 use Rattle.pcre_io.specs.Files.{Contents}
@@ -7,7 +7,7 @@ use Rattle.tool_io.specs.declared.target.Target.{Target}
 use Rattle.tool_io.specs.declared.target.Target.TheVariants.{NoOpen, NoList}
 use Rattle.grep_targets.specs.declared.walk.Pending.{Pending}
 use Rattle.grep_targets.specs.Filters.{Filter}
-use Rattle.grep_targets.specs.Paths.{ItemParts, item_parts}
+use Rattle.grep_targets.specs.Paths.{ItemParts}
 use Rattle.grep_targets.specs.Targets.{item_targets, directory_targets}
 use Rattle.grep_targets.specs.Stands.{AreOfDirectory, AreOfEach, AreOfItem}
 
@@ -38,7 +38,10 @@ pub record PendingParts : Type 0 where
   pub levels : ℕ
 
 abbrev pub pending_parts : Pending → PendingParts
-pending_parts p = record { item = item_parts p.item; levels = p.levels }
+pending_parts p = record {
+  item = record { path = string_bytes p.path; is_directory = p.is_directory };
+  levels = p.levels;
+}
 
 abbrev pub at_levels : ℕ → ItemParts → PendingParts
 at_levels levels item = record { item = item; levels = levels }

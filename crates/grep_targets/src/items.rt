@@ -1,12 +1,13 @@
 //! The entries of a directory as files and directories, in order.
-ghost use Rattle.std.specs.Prelude.{◌≡◌, ◌<◌, ◌∷◌, [], length, map, IfOk, OnOk};
-ghost use Rattle.pcre_io.specs.MemTree.{joined};
-ghost use Rattle.grep_targets.specs.Paths.{has_unnamed, item_of, item_parts, items_in, with_items};
+ghost use Rattle.std.specs.Prelude.{◌≡◌, ◌<◌, ◌++◌, true, length, map, flat_map, All, Contains, IfOk, OnOk};
+ghost use Rattle.std.specs.List.{Any};
+ghost use Rattle.std.specs.List.Sorted.{IsPermutation, IsStrictlySortedBy};
+ghost use Rattle.std.specs.Ordering.{eq_by_cmp};
+ghost use Rattle.grep_targets.specs.Paths.{has_unnamed, item_of, item_parts, items_in};
 
 use crate::paths::joined;
-use pcre_io::{DirEntry, Kind, Memory};
+use pcre_io::{DirEntry, Kind, Listing, Memory};
 use std::alloc::Global;
-use std::collections::BTreeSet;
 
 /// A file or a directory at a path.
 #[derive(Debug, PartialEq, Eq, PartialOrd, Ord, Drop)]
@@ -31,24 +32,15 @@ pub fn has_unnamed(entries: &[DirEntry]) -> bool
     }
 }
 
-// Adds an item, unless it is there.
-fn insert(items: &mut BTreeSet<Item>, item: Item) -> Result<(), Memory>
-    ensures { OnOk result (map item_parts items.new.keys
-        ≡ with_items (map item_parts items.old.keys) (item_parts item ∷ [])) }
-{
-    items.insert(item)?;
-    Ok(())
-}
-
 // Adds what an entry of a directory stands for.
 fn add_entry(
     alloc: Global,
     path: &str,
     entry: &DirEntry,
-    items: &mut BTreeSet<Item>,
+    items: &mut Vec<Item>,
 ) -> Result<(), Memory>
-    ensures { OnOk result (map item_parts items.new.keys
-        ≡ with_items (map item_parts items.old.keys) (item_of path.now entry.now)) }
+    ensures { OnOk result (map item_parts items.new.items
+        ≡ map item_parts items.old.items ++ item_of path.now entry.now) }
 {
     let is_directory = match entry.kind {
         Kind::File => false,
@@ -56,24 +48,46 @@ fn add_entry(
         Kind::Other | Kind::Unnamed => return Ok(()),
     };
     let path = joined(alloc, path, entry.name.as_str())?;
-    insert(items, Item { path, is_directory })
+    items.push(Item { path, is_directory })?;
+    Ok(())
 }
 
-/// The files and directories among the entries of a directory.
-pub fn items_in(alloc: Global, path: &str, entries: &[DirEntry]) -> Result<BTreeSet<Item>, Memory>
-    ensures items { IfOk result
-        (λ items. map item_parts items.keys ≡ items_in path.now entries.now) }
-    ensures few { IfOk result (λ items. length items.keys < 18446744073709551616) }
+// What the entries of a directory stand for, from the last one on. Each of them goes when it was read, since there may
+// be very many.
+fn parts_of(alloc: Global, path: &str, entries: Listing) -> Result<Vec<Item>, Memory>
+    ensures { IfOk result (λ items. IsPermutation
+        (flat_map (item_of path.now) entries) (map item_parts items.items)) }
 {
-    let mut items = BTreeSet::new(alloc);
-    let mut rest = entries;
+    let mut items = Vec::new(alloc);
+    let mut rest = entries.into_vec();
     'entry: loop {
-        let [entry, more @ ..] = rest else {
-            // A length that was read is known to be a number of the machine.
-            let _count = items.len();
+        let Some(entry) = rest.pop() else {
             return Ok(items);
         };
-        add_entry(alloc, path, entry, &mut items)?;
-        rest = more;
+        add_entry(alloc, path, &entry, &mut items)?;
     }
+}
+
+// Puts them in order, each once.
+fn put_in_order<T: Ord + Drop>(list: &mut Vec<T>)
+    ensures ordered { IsStrictlySortedBy T.cmp list.new.items }
+    ensures kept { All (λ x. Any (λ y. eq_by_cmp T.cmp x y ≡ true) list.new.items)
+        list.old.items }
+    ensures none_new { All (Contains list.old.items) list.new.items }
+{
+    list.sort_unstable();
+    list.dedup();
+}
+
+/// The files and directories among the entries of a directory, in order and each once.
+pub fn items_in(alloc: Global, path: &str, entries: Listing) -> Result<Vec<Item>, Memory>
+    ensures items { IfOk result
+        (λ items. map item_parts items.items ≡ items_in path.now entries) }
+    ensures few { IfOk result (λ items. length items.items < 18446744073709551616) }
+{
+    let mut items = parts_of(alloc, path, entries)?;
+    put_in_order(&mut items);
+    // A length that was read is known to be a number of the machine.
+    let _count = items.len();
+    Ok(items)
 }

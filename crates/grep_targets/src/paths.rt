@@ -20,11 +20,12 @@ pub fn name_from(alloc: Global, text: &str) -> Result<Name, Memory>
     Ok(Name::of(text_from(alloc, text)?))
 }
 
-/// The path of an entry of a directory.
+/// The path of an entry of a directory, in no more room than it needs.
 pub fn joined(alloc: Global, directory: &str, name: &str) -> Result<String, Memory>
     ensures { IfOk result (λ s. string_bytes s ≡ joined directory.now name.now) }
 {
-    let mut path = text_from(alloc, directory)?;
+    let mut path = String::with_capacity(alloc, directory.len() + 1 + name.len())?;
+    path.push_str(directory)?;
     path.push_str("/")?;
     path.push_str(name)?;
     Ok(path)

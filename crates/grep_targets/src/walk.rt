@@ -13,13 +13,13 @@ use crate::lists::TargetList;
 use crate::paths::name_from;
 use pcre_io::{DirEntry, FileSet, IoError, Listing, Memory, Name};
 use std::alloc::Global;
-use std::collections::BTreeSet;
 use tool_io::Target;
 
 /// An item that is to be looked at.
 #[derive(Drop)]
 pub struct Pending {
-    pub item: Item,
+    pub path: String,
+    pub is_directory: bool,
     /// How many levels may be listed from it on.
     pub levels: u32,
 }
@@ -29,18 +29,23 @@ fn push(stack: &mut Vec<Pending>, item: Item, levels: u32) -> Result<(), Memory>
     ensures { OnOk result (map pending_parts stack.new.items
         ≡ map pending_parts stack.old.items ++ at_levels levels (item_parts item) ∷ []) }
 {
-    stack.push(Pending { item, levels })?;
+    let Item { path, is_directory } = item;
+    stack.push(Pending {
+        path,
+        is_directory,
+        levels,
+    })?;
     Ok(())
 }
 
 // Adds items to the stack, so that the first of them is its top.
-fn push_all(stack: &mut Vec<Pending>, mut items: BTreeSet<Item>, levels: u32) -> Result<(), Memory>
+fn push_all(stack: &mut Vec<Pending>, mut items: Vec<Item>, levels: u32) -> Result<(), Memory>
     ensures { OnOk result (map pending_parts stack.new.items
         ≡ map pending_parts stack.old.items
-        ++ reverse (map (at_levels levels) (map item_parts items.keys))) }
+        ++ reverse (map (at_levels levels) (map item_parts items.items))) }
 {
     'item: loop {
-        let Some(item) = items.pop_last() else {
+        let Some(item) = items.pop() else {
             return Ok(());
         };
         push(stack, item, levels)?;
@@ -68,24 +73,24 @@ fn take_entries(
     alloc: Global,
     path: &str,
     levels: u32,
-    entries: &Listing,
+    entries: Listing,
     stack: &mut Vec<Pending>,
     told: &mut TargetList,
 ) -> Result<(), Memory>
     ensures steps { OnOk result ((filter : Filter) (contents : Option Contents)
         → Steps filter contents
         (λ set. listed_targets filter (directory_targets filter set levels) path.now
-        (Some entries.now))
+        (Some entries))
         (weight (suc levels)) (walking (map pending_parts stack.old.items) told.old)
         (walking (map pending_parts stack.new.items) told.new)) }
     ensures goes { OnOk result ((filter : Filter) → Goes filter
-        (AreOfListed filter (AreOfDirectory filter levels) path.now (Some entries.now))
+        (AreOfListed filter (AreOfDirectory filter levels) path.now (Some entries))
         (walking (map pending_parts stack.old.items) told.old)
         (walking (map pending_parts stack.new.items) told.new)) }
     ensures unfailed { OnOk result (has_failed told.new ≡ has_failed told.old) }
 {
-    let items = items_in(alloc, path, entries.as_slice())?;
     tell_unnamed(alloc, path, entries.as_slice(), told)?;
+    let items = items_in(alloc, path, entries)?;
     push_all(stack, items, levels)
 }
 
@@ -113,7 +118,7 @@ fn list_directory<F: FileSet>(
     ensures later { (F.tells files.old).faults ≤ (F.tells files.new).faults }
 {
     match files.list(alloc, path.as_str()) {
-        Ok(entries) => take_entries(alloc, path.as_str(), levels, &entries, stack, told),
+        Ok(entries) => take_entries(alloc, path.as_str(), levels, entries, stack, told),
         Err(IoError::Failed) => told.push(Target::NoList(Name::of(path))),
         Err(IoError::Memory) => Err(Memory),
     }
@@ -188,8 +193,11 @@ fn take<F: FileSet>(
     ensures same { (F.tells files.new).contents ≡ (F.tells files.old).contents }
     ensures later { (F.tells files.old).faults ≤ (F.tells files.new).faults }
 {
-    let Pending { item, levels } = pending;
-    let Item { path, is_directory } = item;
+    let Pending {
+        path,
+        is_directory,
+        levels,
+    } = pending;
     if !is_directory {
         take_file(alloc, filter, path, told)
     } else if filter.allows_directory(alloc, path.as_str())? {
