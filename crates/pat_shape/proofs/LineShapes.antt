@@ -12,7 +12,7 @@ use Rattle.char_sets.specs.Sets.{class_has}
 use Rattle.pat_bounds.specs.declared.bounds.Bound.{Bound}
 use Rattle.pat_bounds.specs.declared.bounds.Growth.{Growth}
 use Rattle.pat_bounds.specs.Bounds.{at, bound}
-use Rattle.ordered_search.specs.Setting.{Setting, lower_of}
+use Rattle.ordered_search.specs.Setting.{lower_of}
 use Rattle.ordered_search.specs.Run.{run}
 use Rattle.regex_hir.specs.Re.{Re}
 use Rattle.regex_hir.specs.Matches.{Matches}
@@ -20,7 +20,7 @@ use Rattle.regex_hir.specs.Meaning.{meaning}
 use Rattle.regex_hir.specs.declared.hir.Hir.{Hir}
 use Rattle.pat_shape.specs.Wide.{Only}
 use Rattle.pat_shape.specs.IsShape.{IsShape}
-use Rattle.pat_shape.specs.Lines.{IsLineSearch, IsLineShape}
+use Rattle.pat_shape.specs.Lines.{IsLineShape}
 use Rattle.pat_shape.proofs.NoMatch.{none_at_all}
 
 -- a shorter subject costs no more

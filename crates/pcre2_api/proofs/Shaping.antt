@@ -1,5 +1,5 @@
 -- Where the shape of a compiled pattern matches nothing in a line, nothing is found.
-use Rattle.std.proofs.Common.{◌≡◌, ◌∙◌, ℕ, ◌+◌, ◌<◌, ◌≤◌, length, Option, Some, None, refl, sym, ap, arith}
+use Rattle.std.proofs.Common.{◌∙◌, ℕ, ◌+◌, ◌<◌, length, Option, Some, None, refl, sym, ap, arith}
 use Rattle.std.specs.Prelude.{IfOk, IfSome, Result, Ok, Err}
 use Rattle.std.proofs.lemmas.Str.{IsCharBoundary-start}
 use Rattle.pat_tree.specs.declared.options.MatchOptions.{MatchOptions}
