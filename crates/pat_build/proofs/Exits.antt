@@ -48,6 +48,16 @@ opened_is groups n h k = grind (arith, nat_tests)
 pub names_stand : (table : List NameEntry) (ps : List Placed) (groups : ℕ) → All (IsGiven groups) table → ((n : ℕ) → has_group ps n ≡ is_opened groups n) → All (λ entry. has_group ps entry.group ≡ true) table
 names_stand table ps groups given same = All-weaker (IsGiven groups) (λ entry. has_group ps entry.group ≡ true) (λ e h. same e.group ∙ opened_is groups e.group h.1 h.0) table given
 
+-- what is read, by the first reading, which finds the names
+module _ (calling : Bool) (text : List ℕ) (st : State) where
+  pub first_refuses : (e : ReadError) → Refuses (reading (record { names = []; calling = calling }) text st) e → Refuses (read_from calling text st) e
+  unfolding read_from
+  first_refuses e h = refuses_on (reading (record { names = []; calling = calling }) text st) _ e h
+
+  pub from_is : (first : Nested × State) → reading (record { names = []; calling = calling }) text st ≡ Ok first → read_from calling text st ≡ tree_with (record { names = first.1.names; calling = calling }) text st
+  unfolding read_from
+  from_is first h = rw (read_from, h) refl
+
 -- the whole reading
 module _ (calling : Bool) (options : Options) (text : List ℕ) where
   pub read_long : 65536 < length text → read_with calling options text ≡ fault 120 0
@@ -92,13 +102,5 @@ module _ (calling : Bool) (options : Options) (text : List ℕ) where
         utf_refuses bad = read_begun ∙ rw bad refl
 
         module _ (good : (st.options.utf && not (is_utf8 text)) ≡ false) where
-          read_good : read_with calling options text ≡ read_from calling text st
+          pub read_good : read_with calling options text ≡ read_from calling text st
           read_good = read_begun ∙ rw good refl
-
-          pub names_refuse : (e : ReadError) → Refuses (reading (record { names = []; calling = calling }) text st) e → Refuses (read_with calling options text) e
-          unfolding read_from
-          names_refuse e h = subst (λ r. Refuses r e) (sym read_good) (refuses_on (reading (record { names = []; calling = calling }) text st) _ e h)
-
-          pub read_is : (first : Nested × State) → reading (record { names = []; calling = calling }) text st ≡ Ok first → read_with calling options text ≡ tree_with (record { names = first.1.names; calling = calling }) text st
-          unfolding read_from
-          read_is first h = read_good ∙ rw (read_from, h) refl

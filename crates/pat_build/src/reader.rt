@@ -1,19 +1,21 @@
 //! The reader of a pattern.
-ghost use Rattle.std.specs.Prelude.{◌≡◌, ◌&&◌, not, ℕ, pos, negsuc, ◌<◌, ◌≤◌, false, true, [], length, Some, None, Ok, OnOk, IfOk, IfErr};
+ghost use Rattle.std.specs.Prelude.{◌≡◌, ◌&&◌, not, ℕ, pos, negsuc, ◌<◌, ◌≤◌, false, true, List, [], All, length, Some, None, Ok, OnOk, IfOk, IfErr};
 ghost use Rattle.std.specs.Str.{is_utf8};
 ghost use Rattle.std.specs.Str.Lossy.{utf8_valid_len};
-ghost use Rattle.pat_tree.specs.Nested.{Nested};
+ghost use Rattle.pat_tree.specs.Nested.{tree_at, trees};
+ghost use Rattle.pat_tree.specs.Refs.{refs, has_group};
 ghost use Rattle.pat_tree.specs.Growing.{AllUnder};
 ghost use Rattle.pat_tree.specs.Closing.{StandInTurn};
 ghost use Rattle.token_parts.specs.declared.token.Token.TheVariants.{End};
 ghost use Rattle.token_parts.specs.Tell.{IsWell, Moves};
 ghost use Rattle.pat_lex.specs.Tokens.{token_at};
-ghost use Rattle.pat_grammar.specs.State.{State, flags_of};
+ghost use Rattle.pat_grammar.specs.State.{State, Known, flags_of};
+ghost use Rattle.pat_grammar.specs.Groups.{is_opened, places_named};
 ghost use Rattle.uni_text.specs.Characters.{IsChecked};
-ghost use Rattle.pat_grammar.specs.Reading.{read, read_with, reading, state_from};
-ghost use Rattle.pat_build.specs.Machine.{Means, HasRoom, Ends, Same, state_of, whole_of, tree_with};
+ghost use Rattle.pat_grammar.specs.Reading.{read, read_from, read_with, reading, state_from};
+ghost use Rattle.pat_build.specs.Machine.{Means, HasRoom, Ends, IsGiven, Same, state_of, whole_of, tree_with};
 ghost use Rattle.pat_grammar.specs.Places.{Refuses};
-ghost use Rattle.pat_nodes.specs.Nodes.{parsed_of};
+ghost use Rattle.pat_nodes.specs.Nodes.{parsed_of, references_of};
 
 use crate::faults::{NO_SUCH_GROUP, NOT_UTF8};
 use crate::machine::Machine;
@@ -139,33 +141,39 @@ impl<'a> Machine<'a> {
         let id = group(&mut self.draft, plain(), level, 0)?;
         Ok(id)
     }
-}
 
-/// A draft that has the names of the pattern.
-fn names_of(
-    alloc: Global,
-    text: &[u8],
-    start: usize,
-    options: Options,
-    calling: bool,
-) -> Result<Draft, ReadError>
-    requires within { start ≤ length text.now }
-    requires short { length text.now ≤ 65536 }
-    ensures ok { IfOk result
-        (λ draft. (first : Nested × State)
-        × (reading (record { names = []; calling = calling }) text.now (state_from start options)
-        ≡ Ok first) × (first.1.names ≡ draft.names)) }
-    ensures bad { IfErr result
-        (Refuses (reading (record { names = []; calling = calling }) text.now
-        (state_from start options))) }
-{
-    let none: [NameEntry; 0] = [];
-    let mut machine = Machine::new(alloc, &none, text, start, options, calling);
-    machine.run()?;
-    // The root serves nobody yet, but a text that has none is refused here.
-    let _root = machine.end()?;
-    let draft = mem::replace(&mut machine.draft, Draft::new(alloc, options));
-    Ok(draft)
+    /// The tree of a text that was read to its end, with this root.
+    fn finish(&mut self, root: NodeId) -> Result<Tree, ReadError>
+        requires root { root < length self.old.draft.nodes }
+        requires groups { (n : ℕ)
+            → has_group self.old.draft.nodes n ≡ is_opened self.old.groups n }
+        requires references { refs self.old.draft.nodes
+            ≡ places_named (references_of self.old.draft.nodes) }
+        requires named { All (IsGiven self.old.groups) self.old.draft.names }
+        requires under { AllUnder self.old.draft.nodes root }
+        requires turns { StandInTurn self.old.draft.nodes }
+        ensures ok { (known : Known) (text : List ℕ) (st : State)
+            → st.options ≡ self.old.draft.options
+            → reading known text st
+            ≡ Ok (tree_at (trees self.old.draft.nodes) root, state_of self.old)
+            → IfOk result (λ tree. tree_with known text st ≡ Ok (parsed_of tree)) }
+        ensures under { IfOk result (λ tree. AllUnder tree.nodes tree.root) }
+        ensures turns { IfOk result (λ tree. StandInTurn tree.nodes) }
+        ensures bad { (known : Known) (text : List ℕ) (st : State)
+            → reading known text st
+            ≡ Ok (tree_at (trees self.old.draft.nodes) root, state_of self.old)
+            → IfErr result (Refuses (tree_with known text st)) }
+    {
+        none_beyond(self.beyond)?;
+        let draft = mem::replace(&mut self.draft, Draft::new(self.alloc, self.options));
+        match draft.finish(root) {
+            Ok(tree) => Ok(tree),
+            Err(bad) => Err(ReadError::Bad {
+                number: NO_SUCH_GROUP,
+                at: bad.at as usize,
+            }),
+        }
+    }
 }
 
 /// No test may ask for a call of a group whose number is too big.
@@ -206,15 +214,41 @@ fn tree_of(
     let mut machine = Machine::new(alloc, known, text, start, options, calling);
     machine.run()?;
     let root = machine.end()?;
-    none_beyond(machine.beyond)?;
-    let draft = mem::replace(&mut machine.draft, Draft::new(alloc, options));
-    match draft.finish(root) {
-        Ok(tree) => Ok(tree),
-        Err(bad) => Err(ReadError::Bad {
-            number: NO_SUCH_GROUP,
-            at: bad.at as usize,
-        }),
+    machine.finish(root)
+}
+
+/// The tree of the pattern. The text is read again where a group has a name, since a reference may
+/// stand before the group: the first reading finds the names.
+fn tree_from(
+    alloc: Global,
+    text: &[u8],
+    start: usize,
+    options: Options,
+    calling: bool,
+) -> Result<Tree, ReadError>
+    requires within { start ≤ length text.now }
+    requires short { length text.now ≤ 65536 }
+    ensures ok { IfOk result
+        (λ tree. read_from calling text.now (state_from start options) ≡ Ok (parsed_of tree)) }
+    ensures under { IfOk result (λ tree. AllUnder tree.nodes tree.root) }
+    ensures turns { IfOk result (λ tree. StandInTurn tree.nodes) }
+    ensures bad { IfErr result (Refuses (read_from calling text.now (state_from start options))) }
+{
+    let none: [NameEntry; 0] = [];
+    let mut machine = Machine::new(alloc, &none, text, start, options, calling);
+    machine.run()?;
+    let root = machine.end()?;
+    if is_nameless(&machine.draft) {
+        return machine.finish(root);
     }
+    let first = mem::replace(&mut machine.draft, Draft::new(alloc, options));
+    tree_of(alloc, first.names(), text, start, options, calling)
+}
+
+fn is_nameless(draft: &Draft) -> bool
+    ensures { result ≡ true → draft.now.names ≡ [] }
+{
+    draft.names().is_empty()
 }
 
 /// In UTF the text must be UTF-8 (pcre2unicode, "Validity of UTF strings"): fault -3 where the
@@ -278,7 +312,6 @@ fn read_with(alloc: Global, text: &[u8], options: Options, calling: bool) -> Res
     }
     let (start, begun) = started(text, options)?;
     in_utf8(text, begun.utf)?;
-    let first = names_of(alloc, text, start, begun, calling)?;
-    let tree = tree_of(alloc, first.names(), text, start, begun, calling)?;
+    let tree = tree_from(alloc, text, start, begun, calling)?;
     Ok(tree)
 }

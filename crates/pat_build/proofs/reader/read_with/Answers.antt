@@ -3,8 +3,7 @@ use Rattle.std.proofs.lemmas.Result.{err_from_is_err_and}
 use Rattle.token_parts.specs.declared.fault.Fault.{Fault}
 use Rattle.pat_grammar.specs.Reading.{Parsed, read_with, state_from}
 use Rattle.pat_grammar.specs.Places.{Refuses}
-use Rattle.pat_build.specs.Machine.{tree_with}
-use Rattle.pat_build.proofs.Exits.{read_long, read_literal, read_literal_bad, start_refuses, utf_refuses, names_refuse, read_is}
+use Rattle.pat_build.proofs.Exits.{read_long, read_literal, read_literal_bad, start_refuses, utf_refuses, read_good}
 use Rattle.pat_build.proofs.reader.read_with.Goals as goal
 
 pub returns-then-text-gt65536-clause-bad : goal.returns-then-text-gt65536-clause-bad
@@ -20,29 +19,18 @@ returns-in_err-start-clause-bad c =
     let p = err_from_is_err_and c.from_residual-in_err-start.result c.from_residual-in_err-start.ensures.1 in
     rw (p.1, p.2) (start_refuses c.args.calling c.args.options c.args.text.now c.if-text-gt65536.false c.if-options.false c.in_err-start.field-0.0 c.in_err-start.ensures.bad)
 
-pub returns-in_err-first-clause-bad : goal.returns-in_err-first-clause-bad
-returns-in_err-first-clause-bad c =
-    let p = err_from_is_err_and c.from_residual-in_err-first.result c.from_residual-in_err-first.ensures.1 in
-    rw (p.1, p.2) (names_refuse c.args.calling c.args.options c.args.text.now c.if-text-gt65536.false c.if-options.false
-    (state_from c.in_ok-start.start c.in_ok-start.begun) c.in_ok-start.ensures.ok c.in_ok-in_utf8-2.ensures.ok c.in_err-first.field-0.0 c.in_err-first.ensures.bad)
-
 pub returns-in_err-tree-2-clause-bad : goal.returns-in_err-tree-2-clause-bad
 returns-in_err-tree-2-clause-bad c =
     let p = err_from_is_err_and c.from_residual-in_err-tree-2.result c.from_residual-in_err-tree-2.ensures.1 in
-    let named = c.in_ok-first.ensures.ok in
-    let text = c.args.text.now in
-    let st = state_from c.in_ok-start.start c.in_ok-start.begun in
-    let is = read_is c.args.calling c.args.options text c.if-text-gt65536.false c.if-options.false st c.in_ok-start.ensures.ok c.in_ok-in_utf8-2.ensures.ok named.0 named.1
-    ∙ ap (λ names. tree_with (record { names = names; calling = c.args.calling }) text st) (named.2 ∙ sym c.names.ensures) in
+    let is = read_good c.args.calling c.args.options c.args.text.now c.if-text-gt65536.false c.if-options.false
+    (state_from c.in_ok-start.start c.in_ok-start.begun) c.in_ok-start.ensures.ok c.in_ok-in_utf8-2.ensures.ok in
     rw (p.1, p.2) (subst (λ r. Refuses r c.in_err-tree-2.field-0.0) (sym is) c.in_err-tree-2.ensures.bad)
 
 pub returns-clause-ok : goal.returns-clause-ok
 returns-clause-ok c =
-    let named = c.in_ok-first.ensures.ok in
-    let text = c.args.text.now in
-    let st = state_from c.in_ok-start.start c.in_ok-start.begun in
-    read_is c.args.calling c.args.options text c.if-text-gt65536.false c.if-options.false st c.in_ok-start.ensures.ok c.in_ok-in_utf8-2.ensures.ok named.0 named.1
-    ∙ ap (λ names. tree_with (record { names = names; calling = c.args.calling }) text st) (named.2 ∙ sym c.names.ensures) ∙ c.in_ok-tree-2.ensures.ok
+    read_good c.args.calling c.args.options c.args.text.now c.if-text-gt65536.false c.if-options.false
+    (state_from c.in_ok-start.start c.in_ok-start.begun) c.in_ok-start.ensures.ok c.in_ok-in_utf8-2.ensures.ok
+    ∙ c.in_ok-tree-2.ensures.ok
 
 pub returns-in_err-in_utf8-clause-bad : goal.returns-in_err-in_utf8-clause-bad
 returns-in_err-in_utf8-clause-bad c =
